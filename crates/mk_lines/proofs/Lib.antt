@@ -1,0 +1,3 @@
+pub mod PartLemmas
+pub mod PrefixLemmas
+pub mod SpanLemmas

@@ -1,0 +1,17 @@
+//! The lines of a makefile, and the devices that its bytes come from and go to.
+//!
+//! - [`fault`]: why a call gave up.
+//! - [`source`]: where bytes come from, and a whole text from there.
+//! - [`sink`]: where bytes go to, and a whole text or some parts to there.
+//! - [`split`]: a text as its lines.
+#![tactic(auto)]
+
+pub mod fault;
+pub mod sink;
+pub mod source;
+pub mod split;
+
+pub use fault::Fault;
+pub use sink::{ByteSink, StdSink};
+pub use source::{ByteSource, StdSource};
+pub use split::Span;

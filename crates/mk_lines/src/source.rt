@@ -1,0 +1,114 @@
+//! Where bytes come from.
+ghost use Rattle.std.specs.Prelude.{◌≡◌, ◌≢◌, ◌||◌, ◌≤◌, ◌<◌, ℕ, Bool, List, Option, None, true, false, is_err, length, vec_len, IfOk, IfErr, IfSome};
+ghost use Rattle.std.specs.Io.KnownBytes.{ReadConsumes};
+ghost use Rattle.mk_lines.specs.Device.{IsReadingFault};
+
+use crate::fault::Fault;
+use std::alloc::Allocator;
+use std::io::{ErrorKind, Read};
+
+/// The most bytes of a text: 2^24. This project's profile.
+pub const TEXT_LIMIT: usize = 16_777_216;
+
+const CHUNK: usize = 8192;
+
+/// Gives bytes, a few at a time.
+pub trait ByteSource {
+    // The bytes that are left, where the source tells them. The default tells nothing.
+    ghost remaining: { Self → Option (List ℕ) } = { λ _. None };
+
+    // Whether a call has answered a fault.
+    ghost failed: { Self → Bool };
+
+    /// Puts some of the bytes that are left at the front of `buf`, and says how many.
+    ///
+    /// 0 for a `buf` that is not empty says that no bytes are left. The only fault is
+    /// [`Fault::Read`]; a call that answers it moves no byte.
+    fn read(&mut self, buf: &mut [u8]) -> Result<usize, Fault>
+        ensures bound { IfOk result (λ n. n ≤ length buf.new) }
+        ensures bytes { ReadConsumes (remaining self.old) (remaining self.new) result buf.new }
+        ensures fault { IfErr result (λ e. e ≡ Fault.Read) }
+        ensures failed { failed self.new ≡ (failed self.old || is_err result) };
+
+    /// Whether a call has answered a fault.
+    fn failed(&self) -> bool
+        ensures { result ≡ failed self.now };
+}
+
+/// A reader of std as a source.
+///
+/// It tells the bytes that the reader tells. A read that a signal interrupted, which has moved no
+/// byte, is made again; any other error is [`Fault::Read`].
+#[derive(Drop)]
+pub struct StdSource<R> {
+    inner: R,
+    is_failed: bool,
+}
+
+impl<R: Read> StdSource<R> {
+    /// A source of the reader's bytes, which has not failed. It reads nothing yet.
+    pub fn new(inner: R) -> StdSource<R>
+        ensures works { result.is_failed ≡ false }
+        ensures inner { result.inner ≡ inner }
+    {
+        StdSource {
+            inner,
+            is_failed: false,
+        }
+    }
+}
+
+impl<R: Read> ByteSource for StdSource<R> {
+    ghost remaining = { λ source. R.remaining source.inner };
+
+    ghost failed = { λ source. source.is_failed };
+
+    fn read(&mut self, buf: &mut [u8]) -> Result<usize, Fault> {
+        for _ in 0..u64::MAX {
+            match self.inner.read(buf) {
+                Ok(count) => return Ok(count),
+                Err(error) if error.kind() == ErrorKind::Interrupted => {}
+                Err(_) => break,
+            }
+        }
+        self.is_failed = true;
+        Err(Fault::Read)
+    }
+
+    fn failed(&self) -> bool {
+        self.is_failed
+    }
+}
+
+/// Reads a source to its end, which gives a text of at most [`TEXT_LIMIT`] bytes.
+///
+/// The source is left as soon as more bytes than that have come.
+///
+/// # Errors
+///
+/// - [`Fault::TooLong`] where the source has more bytes.
+/// - [`Fault::Read`] where a call of the source answered it.
+/// - [`Fault::NoMemory`] where the text could not grow. Whether more bytes would have been too
+///   many, or the source would have failed, is then not known.
+pub fn read_all<A: Allocator, R: ByteSource>(alloc: A, source: &mut R) -> Result<Vec<u8, A>, Fault>
+    requires { R.failed source.old ≡ false }
+    ensures bytes { IfOk result (λ text. IfSome (R.remaining source.old) (λ bytes. text.items ≡ bytes)) }
+    ensures within { IfOk result (λ text. vec_len text ≤ TEXT_LIMIT) }
+    ensures too_long { IfSome (R.remaining source.old) (λ bytes. result ≡ Err Fault.TooLong → TEXT_LIMIT < length bytes) }
+    ensures read { result ≡ Err Fault.Read → R.failed source.new ≡ true }
+    ensures works { result ≢ Err Fault.Read → R.failed source.new ≡ false }
+    ensures few { IfErr result IsReadingFault }
+{
+    let mut text = Vec::new(alloc);
+    let mut chunk = [0u8; CHUNK];
+    loop {
+        let count = source.read(&mut chunk)?;
+        if count == 0 {
+            return Ok(text);
+        }
+        if count > TEXT_LIMIT - text.len() {
+            return Err(Fault::TooLong);
+        }
+        text.extend_from_slice(&chunk[..count])?;
+    }
+}
