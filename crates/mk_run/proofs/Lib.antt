@@ -1,0 +1,5 @@
+pub mod CutLemmas
+pub mod FrontLemmas
+pub mod ScriptLemmas
+pub mod TextLemmas
+pub mod ThinLemmas

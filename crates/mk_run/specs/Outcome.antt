@@ -1,0 +1,71 @@
+-- How a run ends: its status, its message, and which devices have failed.
+use Rattle.std.specs.Prelude.{◌≡◌, ◌⊎◌, ℕ, Bool, true, false, List, [], ◌++◌, codes, decimal}
+use Rattle.mk_lines.specs.declared.fault.Fault as f
+use Rattle.mk_lines.specs.declared.fault.Fault.TheVariants as fault
+use Rattle.mk_run.specs.declared.outcome.Outcome as o
+use Rattle.mk_run.specs.declared.outcome.Outcome.TheVariants as outcome
+
+-- the outcome of a run that a fault ends
+abbrev pub outcome_of : f.Fault → o.Outcome
+outcome_of fault.NoMemory = outcome.NoMemory
+outcome_of fault.TooLong = outcome.TooLong
+outcome_of fault.TooDeep = outcome.TooDeep
+outcome_of fault.BadDepth = outcome.BadDepth
+outcome_of fault.Read = outcome.Read
+outcome_of fault.Write = outcome.Write
+
+-- 0 done; 1 a command was refused; 2 a bad depth or script; 3 a fault of reading, writing, a limit or memory
+abbrev pub status_of : o.Outcome → ℕ
+status_of outcome.Done = 0
+status_of (outcome.Refused count) = 1
+status_of (outcome.NotACommand line) = 2
+status_of outcome.BadDepth = 2
+status_of outcome.TooLong = 3
+status_of outcome.TooDeep = 3
+status_of outcome.Read = 3
+status_of outcome.Write = 3
+status_of outcome.NoMemory = 3
+
+-- the message on a line that is no command
+abbrev pub not_a_command_message : ℕ → List ℕ
+not_a_command_message line = codes "mkedit: script line " ++ (decimal line ++ codes " is not a command\n")
+
+-- the message on an outcome, with its line feed, or nothing
+abbrev pub message_of : o.Outcome → List ℕ
+message_of outcome.Done = []
+message_of (outcome.Refused count) = []
+message_of (outcome.NotACommand line) = not_a_command_message line
+message_of outcome.BadDepth = codes "mkedit: bad depth\n"
+message_of outcome.TooLong = codes "mkedit: too long\n"
+message_of outcome.TooDeep = codes "mkedit: too deep\n"
+message_of outcome.Read = codes "mkedit: read fault\n"
+message_of outcome.Write = codes "mkedit: write fault\n"
+message_of outcome.NoMemory = codes "mkedit: no memory\n"
+
+-- no device has failed
+abbrev pub AllWork : Bool → Bool → Bool → Type 0
+AllWork makefile script report = (makefile ≡ false) × (script ≡ false) × (report ≡ false)
+
+-- the commands stopped: with Write where the report failed, and else for a refusal or for want of memory
+abbrev pub StopsCommands : o.Outcome → Bool → Type 0
+StopsCommands outcome.Done report = ⊥
+StopsCommands (outcome.Refused count) report = (count ≡ 1) × (report ≡ false)
+StopsCommands (outcome.NotACommand line) report = ⊥
+StopsCommands outcome.BadDepth report = ⊥
+StopsCommands outcome.TooLong report = ⊥
+StopsCommands outcome.TooDeep report = ⊥
+StopsCommands outcome.Read report = ⊥
+StopsCommands outcome.Write report = report ≡ true
+StopsCommands outcome.NoMemory report = report ≡ false
+
+-- the run stopped before its text went out: with Read where a reader failed, with Write where the report did
+abbrev pub StopsEdits : o.Outcome → Bool → Bool → Bool → Type 0
+StopsEdits outcome.Done makefile script report = ⊥
+StopsEdits (outcome.Refused count) makefile script report = (count ≡ 1) × AllWork makefile script report
+StopsEdits (outcome.NotACommand line) makefile script report = AllWork makefile script report
+StopsEdits outcome.BadDepth makefile script report = ⊥
+StopsEdits outcome.TooLong makefile script report = AllWork makefile script report
+StopsEdits outcome.TooDeep makefile script report = ⊥
+StopsEdits outcome.Read makefile script report = ((makefile ≡ true) ⊎ (script ≡ true)) × (report ≡ false)
+StopsEdits outcome.Write makefile script report = (makefile ≡ false) × (script ≡ false) × (report ≡ true)
+StopsEdits outcome.NoMemory makefile script report = AllWork makefile script report

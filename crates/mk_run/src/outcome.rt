@@ -1,0 +1,103 @@
+//! How a run ends.
+ghost use Rattle.std.specs.Prelude.{◌≡◌, true, false, OnOk, IfErr};
+ghost use Rattle.std.specs.Io.KnownBytes.{Appends};
+ghost use Rattle.mk_lines.specs.Device.{AppendsPrefix};
+ghost use Rattle.mk_run.specs.Outcome.{message_of, not_a_command_message, outcome_of, status_of};
+
+use mk_lines::sink::{write_all, write_parts};
+use mk_lines::{ByteSink, Fault};
+
+/// How a run ended.
+#[derive(Clone, Copy, Debug, PartialEq, Eq)]
+pub enum Outcome {
+    /// Every command was done, and the text is out.
+    Done,
+    /// So many commands were refused. Where the run keeps going, the text is out; else the run
+    /// ended at the first refusal, and nothing is.
+    Refused(u64),
+    /// The script's line of this number, counted from 1, is no command. Nothing is out.
+    NotACommand(u64),
+    /// The depth is not from 1 to 10,000. Nothing was read.
+    BadDepth,
+    /// The script or the makefile has more than 16,777,216 bytes.
+    TooLong,
+    /// The makefile has a 257th open conditional.
+    TooDeep,
+    /// The script or the makefile could not be read.
+    Read,
+    /// The text or the report could not be written or flushed. A prefix of it is out.
+    Write,
+    /// A growth was refused.
+    NoMemory,
+}
+
+impl From<Fault> for Outcome {
+    ghost from_gives = { λ fault outcome. outcome ≡ outcome_of fault };
+
+    fn from(fault: Fault) -> Outcome {
+        match fault {
+            Fault::NoMemory => Outcome::NoMemory,
+            Fault::TooLong => Outcome::TooLong,
+            Fault::TooDeep => Outcome::TooDeep,
+            Fault::BadDepth => Outcome::BadDepth,
+            Fault::Read => Outcome::Read,
+            Fault::Write => Outcome::Write,
+        }
+    }
+}
+
+/// The status that the program ends with: 0 done; 1 a command was refused; 2 a bad depth or
+/// script; 3 a fault of reading, writing, a limit or memory. This project's profile.
+pub fn status(outcome: &Outcome) -> u8
+    ensures { result ≡ status_of outcome.now }
+{
+    match outcome {
+        Outcome::Done => 0,
+        Outcome::Refused(_) => 1,
+        Outcome::NotACommand(_) | Outcome::BadDepth => 2,
+        Outcome::TooLong | Outcome::TooDeep | Outcome::Read | Outcome::Write | Outcome::NoMemory =>
+            3,
+    }
+}
+
+// The message on the line of this number, which is no command.
+fn write_not_a_command<W: ByteSink>(out: &mut W, line: u64) -> Result<(), Fault>
+    requires { W.failed out.old ≡ false }
+    ensures whole { OnOk result (Appends (W.contents out.old) (W.contents out.new) (not_a_command_message line)) }
+    ensures prefix { AppendsPrefix (W.contents out.old) (W.contents out.new) (not_a_command_message line) }
+    ensures works { OnOk result (W.failed out.new ≡ false) }
+    ensures fault { IfErr result (λ e. (e ≡ Fault.Write) × (W.failed out.new ≡ true)) }
+{
+    let mut digits = itoa::Buffer::new();
+    let line = digits.format(line).as_bytes();
+    write_parts(
+        out,
+        &[b"mkedit: script line ", line, b" is not a command\n"],
+    )
+}
+
+/// Writes the message on an outcome, a line: `mkedit: ` and what went wrong. There is none for
+/// Done, and none for Refused, on which the report has said all.
+///
+/// # Errors
+///
+/// [`Fault::Write`] where the sink failed. A prefix of the message is out then.
+pub fn message<W: ByteSink>(outcome: &Outcome, out: &mut W) -> Result<(), Fault>
+    requires { W.failed out.old ≡ false }
+    ensures whole { OnOk result (Appends (W.contents out.old) (W.contents out.new) (message_of outcome.now)) }
+    ensures prefix { AppendsPrefix (W.contents out.old) (W.contents out.new) (message_of outcome.now) }
+    ensures works { OnOk result (W.failed out.new ≡ false) }
+    ensures fault { IfErr result (λ e. (e ≡ Fault.Write) × (W.failed out.new ≡ true)) }
+{
+    let text: &[u8] = match outcome {
+        Outcome::NotACommand(line) => return write_not_a_command(out, *line),
+        Outcome::Done | Outcome::Refused(_) => b"",
+        Outcome::BadDepth => b"mkedit: bad depth\n",
+        Outcome::TooLong => b"mkedit: too long\n",
+        Outcome::TooDeep => b"mkedit: too deep\n",
+        Outcome::Read => b"mkedit: read fault\n",
+        Outcome::Write => b"mkedit: write fault\n",
+        Outcome::NoMemory => b"mkedit: no memory\n",
+    };
+    write_all(out, text)
+}

@@ -1,0 +1,46 @@
+//! The lines on refused commands.
+ghost use Rattle.std.specs.Prelude.{◌≡◌, true, false, OnOk, IfErr};
+ghost use Rattle.std.specs.Io.KnownBytes.{Appends};
+ghost use Rattle.mk_lines.specs.Device.{AppendsPrefix};
+ghost use Rattle.mk_run.specs.Report.{report_line};
+
+use crate::refusal::{Detail, Refusal};
+use mk_lines::sink::write_parts;
+use mk_lines::{ByteSink, Fault};
+
+/// Writes the line on the refusal of the command in the script's line of this number.
+///
+/// # Errors
+///
+/// [`Fault::Write`] where the sink failed. A prefix of the line is out then.
+pub fn report_refusal<W: ByteSink>(out: &mut W, line: u64, refusal: Refusal) -> Result<(), Fault>
+    requires { W.failed out.old ≡ false }
+    ensures whole { OnOk result (Appends (W.contents out.old) (W.contents out.new) (report_line line refusal)) }
+    ensures prefix { AppendsPrefix (W.contents out.old) (W.contents out.new) (report_line line refusal) }
+    ensures works { OnOk result (W.failed out.new ≡ false) }
+    ensures fault { IfErr result (λ e. (e ≡ Fault.Write) × (W.failed out.new ≡ true)) }
+{
+    let mut line_digits = itoa::Buffer::new();
+    let mut number_digits = itoa::Buffer::new();
+    let mut count_digits = itoa::Buffer::new();
+    let line = line_digits.format(line).as_bytes();
+    let number = number_digits.format(refusal.number()).as_bytes();
+    let name = refusal.name().as_bytes();
+    match refusal.detail() {
+        Detail::Count(count) => {
+            let count = count_digits.format(count).as_bytes();
+            write_parts(
+                out,
+                &[line, b": refused ", number, b" ", name, b" ", count, b"\n"],
+            )
+        }
+        Detail::Field(field) => {
+            let field = field.name().as_bytes();
+            write_parts(
+                out,
+                &[line, b": refused ", number, b" ", name, b" ", field, b"\n"],
+            )
+        }
+        Detail::Nothing => write_parts(out, &[line, b": refused ", number, b" ", name, b"\n"]),
+    }
+}
