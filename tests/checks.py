@@ -1,0 +1,134 @@
+"""What the tests of the program share: one run of it, what the run gave, and a tally of checks."""
+
+import os
+import resource
+import shutil
+import subprocess
+import tempfile
+from pathlib import Path
+from typing import NamedTuple
+
+# No run here needs more than a second or so; one that takes this long hangs.
+SECONDS = 60
+NOBODY = 65534
+
+
+class Outcome(NamedTuple):
+    """The bytes on a run's two outputs, and its exit status: below 0 the signal that ended it."""
+
+    stdout: bytes
+    stderr: bytes
+    status: int
+
+
+HANGS = Outcome(b"", b"(no end)", -9)
+
+
+def brief(value):
+    """A value in one line, cut in its middle where it is long."""
+    text = repr(value[:200] + b" .. " + value[-50:] if isinstance(value, bytes) and len(value) > 300 else value)
+    return f"{text} ({len(value)} bytes)" if isinstance(value, bytes) and len(value) > 300 else text
+
+
+def differences(got, wanted):
+    """Says what differs between two outcomes: nothing where they are equal."""
+    pairs = zip(("standard output", "standard error", "status"), got, wanted)
+    return [f"{what} is {brief(a)}, wanted {brief(b)}" for what, a, b in pairs if a != b]
+
+
+class Tally:
+    """Counts checks, and prints a line for each that fails."""
+
+    def __init__(self):
+        self.passed = 0
+        self.failed = 0
+
+    def add(self, name, problems):
+        if problems:
+            self.failed += 1
+            print(f"FAILED {name}: {'; '.join(problems)}", flush=True)
+        else:
+            self.passed += 1
+
+    def __str__(self):
+        return f"{self.passed} passed, {self.failed} failed"
+
+
+class Program:
+    """The built program."""
+
+    def __init__(self, path):
+        self.path = path
+
+    def is_there(self):
+        return os.access(self.path, os.X_OK) and self.path.is_file()
+
+    def run(self, words, folder, stdout=subprocess.PIPE, stderr=subprocess.PIPE, closed=(), memory=None, nobody=False, meanwhile=None):
+        """Runs the program in a folder, with nothing on standard input.
+
+        closed: the descriptors, 1 or 2, that it starts without. memory: the bytes that it may have
+        mapped. nobody: run as the user nobody, where this process is root. meanwhile: is called with
+        the process once it has started.
+        """
+
+        def prepare():
+            for descriptor in closed:
+                os.close(descriptor)
+            if memory:
+                resource.setrlimit(resource.RLIMIT_AS, (memory, memory))
+            if nobody and os.geteuid() == 0:
+                os.setgroups([])
+                os.setgid(NOBODY)
+                os.setuid(NOBODY)
+
+        process = subprocess.Popen(
+            [self.path, *words], cwd=folder, stdin=subprocess.DEVNULL, stdout=stdout, stderr=stderr, preexec_fn=prepare
+        )
+        try:
+            if meanwhile:
+                meanwhile(process)
+            out, err = process.communicate(timeout=SECONDS)
+        except subprocess.TimeoutExpired:
+            process.kill()
+            process.communicate()
+            return HANGS
+        return Outcome(out or b"", err or b"", process.returncode)
+
+
+class Room:
+    """A folder for one check. It knows what was written there, and whether that still stands."""
+
+    def __init__(self, program):
+        self.program = program
+        self.folder = Path(tempfile.mkdtemp(prefix="mkedit-test-"))
+        self.folder.chmod(0o711)
+        self.written = {}
+
+    def __enter__(self):
+        return self
+
+    def __exit__(self, *_):
+        shutil.rmtree(self.folder, ignore_errors=True)
+
+    def write(self, name, content, mode=0o644):
+        """Writes a file; changed() will compare it with what it holds now."""
+        path = self.folder / name
+        path.write_bytes(content)
+        path.chmod(mode)
+        self.written[name] = (content, path.stat().st_mtime_ns)
+
+    def changed(self):
+        """Says which of the files written here have other bytes, or were written to, since."""
+        found = []
+        for name, (content, time) in self.written.items():
+            path = self.folder / name
+            if path.read_bytes() != content or path.stat().st_mtime_ns != time:
+                found.append(f"the file {name} was written to")
+        return found
+
+    def run(self, *words, **how):
+        return self.program.run(words, self.folder, **how)
+
+    def differs(self, wanted, *words, **how):
+        """Runs the program, and says how the outcome differs from the one that is wanted."""
+        return differences(self.run(*words, **how), wanted)
