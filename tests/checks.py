@@ -26,8 +26,9 @@ HANGS = Outcome(b"", b"(no end)", -9)
 
 def brief(value):
     """A value in one line, cut in its middle where it is long."""
-    text = repr(value[:200] + b" .. " + value[-50:] if isinstance(value, bytes) and len(value) > 300 else value)
-    return f"{text} ({len(value)} bytes)" if isinstance(value, bytes) and len(value) > 300 else text
+    if isinstance(value, bytes) and len(value) > 300:
+        return f"{value[:200]!r} .. {value[-50:]!r} ({len(value)} bytes)"
+    return repr(value)
 
 
 def differences(got, wanted):
@@ -63,12 +64,13 @@ class Program:
     def is_there(self):
         return os.access(self.path, os.X_OK) and self.path.is_file()
 
-    def run(self, words, folder, stdout=subprocess.PIPE, stderr=subprocess.PIPE, closed=(), memory=None, nobody=False, meanwhile=None):
+    def run(self, words, folder, closed=(), memory=None, nobody=False, meanwhile=None, **streams):
         """Runs the program in a folder, with nothing on standard input.
 
-        closed: the descriptors, 1 or 2, that it starts without. memory: the bytes that it may have
-        mapped. nobody: run as the user nobody, where this process is root. meanwhile: is called with
-        the process once it has started.
+        closed: the descriptors, 1 or 2, that it starts without. memory: the bytes that it may
+        have mapped. nobody: run as the user nobody, where this process is root. meanwhile: what
+        is called with the process once it has started. streams: another stdout or stderr, which
+        the outcome then shows as empty.
         """
 
         def prepare():
@@ -81,9 +83,9 @@ class Program:
                 os.setgid(NOBODY)
                 os.setuid(NOBODY)
 
-        process = subprocess.Popen(
-            [self.path, *words], cwd=folder, stdin=subprocess.DEVNULL, stdout=stdout, stderr=stderr, preexec_fn=prepare
-        )
+        streams = {"stdout": subprocess.PIPE, "stderr": subprocess.PIPE, **streams}
+        streams["stdin"] = subprocess.DEVNULL
+        process = subprocess.Popen([self.path, *words], cwd=folder, preexec_fn=prepare, **streams)
         try:
             if meanwhile:
                 meanwhile(process)

@@ -45,8 +45,11 @@ def run(program, tally):
             room.write("empty", b"")
             room.write("undo", b"undo\n")
             room.write("bad", b"frobnicate\n")
-            problems = list(function(room))
-            tally.add(function.__name__.replace("_", "-"), problems + room.changed())
+            try:
+                problems = list(function(room)) + room.changed()
+            except (OSError, subprocess.SubprocessError) as fault:
+                problems = [f"not run: {fault}"]
+            tally.add(function.__name__.replace("_", "-"), problems)
 
 
 # Files.
@@ -99,8 +102,11 @@ def a_bad_script_is_told_before_the_file_is_read(room):
     return room.differs(NO_COMMAND, "edit", "bad", ".")
 
 
-def as_nobody(room):
-    """Has the room's program run as the user nobody, who reads no file of mode 0, as root does."""
+def copy_program(room):
+    """Has the room run a copy of the program in its own folder, where the user nobody gets at it.
+
+    Root reads files of mode 0, so the checks on them run as nobody.
+    """
     copy = room.folder / "mkedit"
     copy.write_bytes(room.program.path.read_bytes())
     copy.chmod(0o755)
@@ -109,25 +115,26 @@ def as_nobody(room):
 
 @check
 def an_unreadable_file_cannot_be_opened(room):
-    as_nobody(room)
+    copy_program(room)
     (room.folder / "locked").touch(mode=0)
     return room.differs(cannot_open("locked"), "edit", "script", "locked", nobody=True)
 
 
 @check
 def an_unreadable_script_cannot_be_opened(room):
-    as_nobody(room)
+    copy_program(room)
     (room.folder / "locked").touch(mode=0)
     return room.differs(cannot_open("locked"), "edit", "locked", "Makefile", nobody=True)
 
 
 @check
 def a_file_in_a_closed_folder_cannot_be_opened(room):
-    as_nobody(room)
+    copy_program(room)
     (room.folder / "closed").mkdir()
     (room.folder / "closed/Makefile").write_bytes(TEXT)
     (room.folder / "closed").chmod(0)
-    wrong = room.differs(cannot_open("closed/Makefile"), "edit", "script", "closed/Makefile", nobody=True)
+    words = ["edit", "script", "closed/Makefile"]
+    wrong = room.differs(cannot_open("closed/Makefile"), *words, nobody=True)
     (room.folder / "closed").chmod(0o700)
     return wrong
 
@@ -140,9 +147,8 @@ def a_name_that_is_not_utf_8_gets_a_message(room):
     except OSError:
         return []  # this file system has no such names
     got = room.run("edit", "script", name)
-    if got == EDITED or (not got.stdout and got.stderr.startswith(b"mkedit: ") and got.status in (2, 3)):
-        return []
-    return [f"neither edited nor told: {got}"]
+    is_told = not got.stdout and got.stderr.startswith(b"mkedit: ") and got.status in (2, 3)
+    return [] if got == EDITED or is_told else [f"neither edited nor told: {got}"]
 
 
 @check
@@ -160,7 +166,7 @@ def a_file_may_be_its_own_script(room):
 
 
 def feed(path, content, pause=0.0, stop=None):
-    """Returns what writes a fifo byte by byte, and in its middle stops the reading process for a while."""
+    """Returns what writes a fifo byte by byte, and if asked stops the reader half way for a time."""
 
     def meanwhile(process):
         until = time.monotonic() + 10
@@ -325,7 +331,8 @@ def too_little_memory_is_told(room):
 def helps(room, *words):
     got = room.run(*words)
     shown = got.stdout.decode(errors="replace")
-    wrong = [f"the help does not show {it!r}" for it in ("Usage", "Example", "mkedit edit") if it not in shown]
+    lacking = [it for it in ("Usage", "Example", "mkedit edit") if it not in shown]
+    wrong = [f"the help does not show {it!r}" for it in lacking]
     return wrong + differences(got._replace(stdout=b""), Outcome(b"", b"", 0))
 
 
@@ -361,6 +368,6 @@ def a_bad_command_line_is_told(room):
 @check
 def the_demo_shows_what_its_file_says(room):
     environment = {**os.environ, "MKEDIT": str(room.program.path)}
-    ran = subprocess.run([TOP / "examples/demo"], env=environment, stdout=subprocess.PIPE, stderr=subprocess.PIPE)
+    ran = subprocess.run([TOP / "examples/demo"], env=environment, capture_output=True)
     wanted = (TOP / "examples/demo.txt").read_bytes()
     return differences((ran.stdout, ran.stderr, ran.returncode), (wanted, b"", 0))

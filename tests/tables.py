@@ -2,11 +2,13 @@
 
 A table is a file of lines with columns between tabs; its first line names the columns.
 
-    runs      name makefile script flags stdout stderr status   `mkedit edit FLAGS script Makefile`
-    queries   name query makefile stdout                        `mkedit QUERY Makefile`: status 0, no standard error
+    name makefile script flags stdout stderr status     `mkedit edit FLAGS script Makefile`
+    name query makefile stdout                          `mkedit QUERY Makefile`, with status 0
+                                                        and nothing on standard error
 
-In a column \\\\, \\t, \\n, \\r and \\xHH stand for a backslash, a tab, a line end, a return and the byte
-HH; every other byte is itself. Flags have blanks between them. Each name stands once in all tables.
+In a column \\\\, \\t, \\n, \\r and \\xHH stand for a backslash, a tab, a line end, a return and
+the byte HH; every other byte is itself. Flags have blanks between them. Each name stands once in
+all tables.
 
 tests/cases/later has a name on each line; lines that are empty or begin with # say nothing.
 """
@@ -37,9 +39,14 @@ def unescape(text):
     pieces = PIECE.findall(text)
     if "".join(pieces) != text:
         raise ValueError(f"a bad escape in {text!r}")
-    return b"".join(
-        ESCAPES.get(it) or (bytes.fromhex(it[2:]) if it.startswith("\\x") else it.encode()) for it in pieces
-    )
+    return b"".join(map(bytes_of, pieces))
+
+
+def bytes_of(piece):
+    """The bytes that one piece of a column stands for."""
+    if piece.startswith("\\x"):
+        return bytes.fromhex(piece[2:])
+    return ESCAPES.get(piece, piece.encode())
 
 
 def case_of(row):
@@ -50,7 +57,8 @@ def case_of(row):
         return Case(row["name"], files, [row["query"], "Makefile"], Outcome(out, b"", 0))
     files["script"] = unescape(row["script"])
     words = ["edit", *row["flags"].split(), "script", "Makefile"]
-    return Case(row["name"], files, words, Outcome(out, unescape(row["stderr"]), int(row["status"])))
+    wanted = Outcome(out, unescape(row["stderr"]), int(row["status"]))
+    return Case(row["name"], files, words, wanted)
 
 
 def lines_of(path):
@@ -85,9 +93,9 @@ def failing(program):
 
 
 def run(program, tally):
-    """Runs every case and returns how many stand in the list `later` and fail, as they have to."""
+    """Runs every case, and returns how many stand in the list `later` and fail, as they have to."""
     later = [it for it in lines_of(LATER) if it and not it.startswith("#")]
-    waiting, seen = set(later), set()
+    waiting, seen, failing_yet = set(later), set(), 0
     for name in sorted({it for it in later if later.count(it) > 1}):
         tally.add(name, ["stands twice in tests/cases/later"])
     try:
@@ -98,10 +106,12 @@ def run(program, tally):
             problems = problems_of(program, case)
             if case.name not in waiting:
                 tally.add(case.name, problems)
-            elif not problems:
+            elif problems:
+                failing_yet += 1
+            else:
                 tally.add(case.name, ["passes: take its name out of tests/cases/later"])
     except ValueError as fault:
         tally.add("tables", [str(fault)])
     for name in sorted(waiting - seen):
         tally.add(name, ["stands in tests/cases/later, and is no case"])
-    return len(waiting & seen)
+    return failing_yet
