@@ -2,10 +2,7 @@
 
 import os
 import resource
-import shutil
 import subprocess
-import tempfile
-from pathlib import Path
 from typing import NamedTuple
 
 # No run here needs more than a second or so; one that takes this long hangs.
@@ -95,42 +92,3 @@ class Program:
             process.communicate()
             return HANGS
         return Outcome(out or b"", err or b"", process.returncode)
-
-
-class Room:
-    """A folder for one check. It knows what was written there, and whether that still stands."""
-
-    def __init__(self, program):
-        self.program = program
-        self.folder = Path(tempfile.mkdtemp(prefix="mkedit-test-"))
-        self.folder.chmod(0o711)
-        self.written = {}
-
-    def __enter__(self):
-        return self
-
-    def __exit__(self, *_):
-        shutil.rmtree(self.folder, ignore_errors=True)
-
-    def write(self, name, content, mode=0o644):
-        """Writes a file; changed() will compare it with what it holds now."""
-        path = self.folder / name
-        path.write_bytes(content)
-        path.chmod(mode)
-        self.written[name] = (content, path.stat().st_mtime_ns)
-
-    def changed(self):
-        """Says which of the files written here have other bytes, or were written to, since."""
-        found = []
-        for name, (content, time) in self.written.items():
-            path = self.folder / name
-            if path.read_bytes() != content or path.stat().st_mtime_ns != time:
-                found.append(f"the file {name} was written to")
-        return found
-
-    def run(self, *words, **how):
-        return self.program.run(words, self.folder, **how)
-
-    def differs(self, wanted, *words, **how):
-        """Runs the program, and says how the outcome differs from the one that is wanted."""
-        return differences(self.run(*words, **how), wanted)

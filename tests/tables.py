@@ -17,7 +17,8 @@ import re
 from pathlib import Path
 from typing import NamedTuple
 
-from checks import Outcome, Room, differences
+from checks import Outcome, differences
+from rooms import Room
 
 CASES = Path(__file__).resolve().parent / "cases"
 LATER = CASES / "later"
