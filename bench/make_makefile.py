@@ -109,7 +109,7 @@ class Writer:
         return f"-include build/{self.name()}.d\n"
 
     def block(self):
-        """A few lines that belong together, and mostly a blank line."""
+        """A few lines that belong together, and at times a blank line."""
         parts = [self.variable] * 8 + [self.rule] * 9 + [self.comment] * 3 + [self.sources] * 2
         parts += [self.goal, self.conditional, self.conditional, self.define, self.include]
         return self.pick(parts)() + ("\n" if self.below(3) == 0 else "")
