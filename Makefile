@@ -1,0 +1,43 @@
+# Builds, shows, tests, installs and measures mkedit. The toolchain's command, rt, proves and
+# builds the crates; this file says what is made from what.
+#
+#   make            proves and builds the program, where a source has changed
+#   make demo       shows one script at work, and one that is refused
+#   make check      the whole test: the merge gate (rt ci) and tests/program over what it built;
+#                   the last line is 'N passed, M failed', the sum of both
+#   make install    puts the program into $(DESTDIR)$(PREFIX)/bin
+#   make bench      compares its processor time and memory with those of cat and sed
+#   make clean      removes all that was made, and what rt keeps between two checks
+#
+# It is written for POSIX.1-2024 make, which GNU make 4 reads as well.
+.POSIX:
+.PHONY: all demo check install bench clean
+
+PREFIX ?= /usr/local
+PROGRAM = crates/mkedit/out/mkedit
+SOURCES != find crates -name out -prune -o '(' -name '*.rt' -o -name '*.antt' ')' -print
+
+all: $(PROGRAM)
+
+# rt run is the one command of rt that leaves a linked program, and it always runs it too.
+# Where only another crate has changed it leaves the program as it was, hence the touch.
+$(PROGRAM): crates.txt HANDLES $(SOURCES)
+	cd crates/mkedit && rt run -- --help >/dev/null
+	touch $@
+
+demo: $(PROGRAM)
+	@MKEDIT=$(PROGRAM) examples/demo
+
+# Needs no program: the gate proves and builds its own, from nothing.
+check:
+	@tests/check
+
+install: $(PROGRAM)
+	install -d "$(DESTDIR)$(PREFIX)/bin"
+	install -m 755 $(PROGRAM) "$(DESTDIR)$(PREFIX)/bin/mkedit"
+
+bench: $(PROGRAM)
+	@bench/run $(PROGRAM)
+
+clean:
+	rm -rf crates/*/out bench/data

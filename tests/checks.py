@@ -1,0 +1,94 @@
+"""What the tests of the program share: one run of it, what the run gave, and a tally of checks."""
+
+import os
+import resource
+import subprocess
+from typing import NamedTuple
+
+# No run here needs more than a second or so; one that takes this long hangs.
+SECONDS = 60
+NOBODY = 65534
+
+
+class Outcome(NamedTuple):
+    """The bytes on a run's two outputs, and its exit status: below 0 the signal that ended it."""
+
+    stdout: bytes
+    stderr: bytes
+    status: int
+
+
+HANGS = Outcome(b"", b"(no end)", -9)
+
+
+def brief(value):
+    """A value in one line, cut in its middle where it is long."""
+    if isinstance(value, bytes) and len(value) > 300:
+        return f"{value[:200]!r} .. {value[-50:]!r} ({len(value)} bytes)"
+    return repr(value)
+
+
+def differences(got, wanted):
+    """Says what differs between two outcomes: nothing where they are equal."""
+    pairs = zip(("standard output", "standard error", "status"), got, wanted)
+    return [f"{what} is {brief(a)}, wanted {brief(b)}" for what, a, b in pairs if a != b]
+
+
+class Tally:
+    """Counts checks, and prints a line for each that fails."""
+
+    def __init__(self):
+        self.passed = 0
+        self.failed = 0
+
+    def add(self, name, problems):
+        if problems:
+            self.failed += 1
+            print(f"FAILED {name}: {'; '.join(problems)}", flush=True)
+        else:
+            self.passed += 1
+
+    def __str__(self):
+        return f"{self.passed} passed, {self.failed} failed"
+
+
+class Program:
+    """The built program."""
+
+    def __init__(self, path):
+        self.path = path
+
+    def is_there(self):
+        return os.access(self.path, os.X_OK) and self.path.is_file()
+
+    def run(self, words, folder, closed=(), memory=None, nobody=False, meanwhile=None, **streams):
+        """Runs the program in a folder, with nothing on standard input.
+
+        closed: the descriptors, 1 or 2, that it starts without. memory: the bytes that it may
+        have mapped. nobody: run as the user nobody, where this process is root. meanwhile: what
+        is called with the process once it has started. streams: another stdout or stderr, which
+        the outcome then shows as empty.
+        """
+
+        def prepare():
+            for descriptor in closed:
+                os.close(descriptor)
+            if memory:
+                resource.setrlimit(resource.RLIMIT_AS, (memory, memory))
+            if nobody and os.geteuid() == 0:
+                os.setgroups([])
+                os.setgid(NOBODY)
+                os.setuid(NOBODY)
+
+        streams = {"stdout": subprocess.PIPE, "stderr": subprocess.PIPE, **streams}
+        streams["stdin"] = subprocess.DEVNULL
+        process = subprocess.Popen([self.path, *words], cwd=folder, preexec_fn=prepare, **streams)
+        try:
+            if meanwhile:
+                meanwhile(process)
+            out, err = process.communicate(timeout=SECONDS)
+        except subprocess.TimeoutExpired:
+            process.kill()
+            process.communicate()
+            return HANGS
+        return Outcome(out or b"", err or b"", process.returncode)

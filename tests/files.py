@@ -1,0 +1,115 @@
+"""Checks on files: those that are missing, cannot be read, or are not what they seem."""
+
+import os
+
+from checks import Outcome, Program
+from rooms import EDITED, NO_COMMAND, READ_FAULT, TEXT, Checks, cannot_open, silent
+
+check = Checks()
+
+
+@check
+def a_missing_file_cannot_be_opened(room):
+    return room.differs(cannot_open("absent"), "edit", "script", "absent")
+
+
+@check
+def a_missing_script_cannot_be_opened(room):
+    return room.differs(cannot_open("absent"), "edit", "absent", "Makefile")
+
+
+@check
+def the_script_is_opened_first(room):
+    return room.differs(cannot_open("absent"), "edit", "absent", "missing")
+
+
+@check
+def a_missing_file_is_told_before_a_bad_script(room):
+    return room.differs(cannot_open("absent"), "edit", "bad", "absent")
+
+
+@check
+def an_empty_name_cannot_be_opened(room):
+    return room.differs(cannot_open(""), "edit", "script", "")
+
+
+@check
+def a_dash_is_the_name_of_a_file(room):
+    wrong = room.differs(cannot_open("-"), "edit", "script", "-")
+    room.write("-", TEXT)
+    return wrong + room.differs(EDITED, "edit", "script", "-")
+
+
+@check
+def a_directory_as_file_is_a_read_fault(room):
+    return room.differs(READ_FAULT, "edit", "script", ".")
+
+
+@check
+def a_directory_as_script_is_a_read_fault(room):
+    return room.differs(READ_FAULT, "edit", ".", "Makefile")
+
+
+@check
+def a_bad_script_is_told_before_the_file_is_read(room):
+    return room.differs(NO_COMMAND, "edit", "bad", ".")
+
+
+def copy_program(room):
+    """Has the room run a copy of the program in its own folder, where the user nobody gets at it.
+
+    Root reads files of mode 0, so the checks on them run as nobody.
+    """
+    copy = room.folder / "mkedit"
+    copy.write_bytes(room.program.path.read_bytes())
+    copy.chmod(0o755)
+    room.program = Program(copy)
+
+
+@check
+def an_unreadable_file_cannot_be_opened(room):
+    copy_program(room)
+    (room.folder / "locked").touch(mode=0)
+    return room.differs(cannot_open("locked"), "edit", "script", "locked", nobody=True)
+
+
+@check
+def an_unreadable_script_cannot_be_opened(room):
+    copy_program(room)
+    (room.folder / "locked").touch(mode=0)
+    return room.differs(cannot_open("locked"), "edit", "locked", "Makefile", nobody=True)
+
+
+@check
+def a_file_in_a_closed_folder_cannot_be_opened(room):
+    copy_program(room)
+    (room.folder / "closed").mkdir()
+    (room.folder / "closed/Makefile").write_bytes(TEXT)
+    (room.folder / "closed").chmod(0)
+    words = ["edit", "script", "closed/Makefile"]
+    wrong = room.differs(cannot_open("closed/Makefile"), *words, nobody=True)
+    (room.folder / "closed").chmod(0o700)
+    return wrong
+
+
+@check
+def a_name_that_is_not_utf_8_gets_a_message(room):
+    name = b"bad\xff"
+    try:
+        (room.folder / os.fsdecode(name)).write_bytes(TEXT)
+    except OSError:
+        return []  # this file system has no such names
+    got = room.run("edit", "script", name)
+    is_told = not got.stdout and got.stderr.startswith(b"mkedit: ") and got.status in (2, 3)
+    return [] if got == EDITED or is_told else [f"neither edited nor told: {got}"]
+
+
+@check
+def empty_files_give_an_empty_text(room):
+    return room.differs(silent(0), "edit", "empty", "empty")
+
+
+@check
+def a_file_may_be_its_own_script(room):
+    room.write("both", b"# set CC clang\n")
+    return room.differs(Outcome(b"# set CC clang\n", b"", 0), "edit", "both", "both")
