@@ -35,27 +35,27 @@ impl MemorySink {
         }
     }
 
-    /// The same sink, whose write of this number, counted from 1, fails.
-    pub fn failing_at(mut self, write: u64) -> MemorySink
+    /// The same sink, whose write of this number, counted from 1, fails, if there is one.
+    pub fn failing_at(mut self, write: Option<u64>) -> MemorySink
         ensures { result.is_failed ≡ self.is_failed }
     {
-        self.fails_at = Some(write);
+        self.fails_at = write;
         self
     }
 
-    /// The same sink, whose write of this number, counted from 1, takes nothing.
-    pub fn taking_nothing_at(mut self, write: u64) -> MemorySink
+    /// The same sink, whose write of this number, counted from 1, takes nothing, if there is one.
+    pub fn taking_nothing_at(mut self, write: Option<u64>) -> MemorySink
         ensures { result.is_failed ≡ self.is_failed }
     {
-        self.takes_nothing_at = Some(write);
+        self.takes_nothing_at = write;
         self
     }
 
-    /// The same sink, whose flushes fail.
-    pub fn failing_flush(mut self) -> MemorySink
+    /// The same sink, whose flushes fail, or not.
+    pub fn with_flush_failing(mut self, flush_fails: bool) -> MemorySink
         ensures { result.is_failed ≡ self.is_failed }
     {
-        self.flush_fails = true;
+        self.flush_fails = flush_fails;
         self
     }
 

@@ -30,12 +30,12 @@ impl<'a> MemorySource<'a> {
         }
     }
 
-    /// The same source, which fails at the call of this number, counted from 1.
-    pub fn failing_at(mut self, call: u64) -> MemorySource<'a>
+    /// The same source, which fails at the call of this number, counted from 1, if there is one.
+    pub fn failing_at(mut self, call: Option<u64>) -> MemorySource<'a>
         ensures works { result.is_failed ≡ self.entry.is_failed }
         ensures bytes { result.rest.now ≡ self.entry.rest.now }
     {
-        self.fails_at = Some(call);
+        self.fails_at = call;
         self
     }
 

@@ -1,0 +1,169 @@
+use crate::std_devices::{End, ListReader, ListWriter};
+use mk_lines::sink::{write_all, write_parts};
+use mk_lines::source::{TEXT_LIMIT, read_all};
+use mk_lines::split::split;
+use mk_lines::{ByteSink, ByteSource, Fault, Span, StdSink, StdSource};
+use refusing::Refusing;
+use std::test::Fail;
+use test_devices::{MemorySink, MemorySource};
+
+#[test]
+fn faults_have_their_texts(rt: HostRuntime) -> Result<(), Fail> {
+    for (fault, text) in [
+        (Fault::NoMemory, "no memory"),
+        (Fault::TooLong, "too long"),
+        (Fault::TooDeep, "too deep"),
+        (Fault::BadDepth, "bad depth"),
+        (Fault::Read, "read fault"),
+        (Fault::Write, "write fault"),
+    ] {
+        let shown = format!(in rt.alloc(); "{fault}")?;
+        assert_eq!(rt; shown.as_str(), text);
+    }
+    Ok(())
+}
+
+#[test]
+fn an_interrupted_read_is_made_again(rt: HostRuntime) -> Result<(), Fail> {
+    let ends = [
+        End::Interrupted,
+        End::Moves(2),
+        End::Interrupted,
+        End::Interrupted,
+        End::Moves(3),
+    ];
+    let mut source = StdSource::new(ListReader {
+        ends: ends.as_slice(),
+    });
+    let text = read_all(rt.alloc(), &mut source)?;
+    assert_eq!(rt; text.as_slice(), b"xxxxx".as_slice());
+    assert!(rt; !source.failed());
+    Ok(())
+}
+
+#[test]
+fn a_failed_read_is_a_fault(rt: HostRuntime) {
+    let ends = [End::Moves(2), End::Interrupted, End::Fails];
+    let mut source = StdSource::new(ListReader {
+        ends: ends.as_slice(),
+    });
+    let answer = read_all(rt.alloc(), &mut source);
+    assert!(rt; matches!(answer, Err(Fault::Read)));
+    assert!(rt; source.failed());
+}
+
+#[test]
+fn an_interrupted_write_and_flush_are_made_again(rt: HostRuntime) -> Result<(), Fail> {
+    let ends = [
+        End::Moves(2),
+        End::Interrupted,
+        End::Moves(3),
+        End::Interrupted,
+        End::Moves(0),
+    ];
+    let mut writer = ListWriter {
+        ends: ends.as_slice(),
+        bytes: Vec::new(rt.alloc()),
+        flushes: 0,
+    };
+    let mut sink = StdSink::new(&mut writer);
+    write_all(&mut sink, b"hello")?;
+    sink.flush()?;
+    assert!(rt; !sink.failed());
+    assert_eq!(rt; writer.bytes.as_slice(), b"hello".as_slice());
+    assert_eq!(rt; writer.flushes, 1);
+    Ok(())
+}
+
+#[test]
+fn a_failed_write_or_flush_is_a_fault(rt: HostRuntime) {
+    for (ends, taken) in [
+        ([End::Moves(2), End::Fails], b"he".as_slice()),
+        ([End::Moves(3), End::Moves(0)], b"hel".as_slice()),
+        ([End::Moves(5), End::Fails], b"hello".as_slice()),
+    ] {
+        let mut writer = ListWriter {
+            ends: ends.as_slice(),
+            bytes: Vec::new(rt.alloc()),
+            flushes: 0,
+        };
+        let mut sink = StdSink::new(&mut writer);
+        let written = write_all(&mut sink, b"hello");
+        if written == Ok(()) {
+            assert_eq!(rt; sink.flush(), Err(Fault::Write));
+        } else {
+            assert_eq!(rt; written, Err(Fault::Write));
+        }
+        assert!(rt; sink.failed());
+        assert_eq!(rt; writer.bytes.as_slice(), taken);
+    }
+}
+
+#[test]
+fn a_text_is_read_up_to_the_limit(rt: HostRuntime) -> Result<(), Fail> {
+    let text = vec![in rt.alloc(); b'#'; 16_777_217]?;
+    assert_eq!(rt; text.len(), TEXT_LIMIT + 1);
+    let mut source = MemorySource::new(&text[1..], 1_000_000);
+    let whole = read_all(rt.alloc(), &mut source)?;
+    assert_eq!(rt; whole.as_slice(), &text[1..]);
+    let mut source = MemorySource::new(text.as_slice(), 1_000_000);
+    let answer = read_all(rt.alloc(), &mut source);
+    assert!(rt; matches!(answer, Err(Fault::TooLong)));
+    Ok(())
+}
+
+#[test]
+fn reading_meets_each_refused_growth(rt: HostRuntime) {
+    let text = [b'x'; 20_000];
+    for admitted in 0..100 {
+        let heap = Refusing::after(rt.alloc(), admitted);
+        let mut source = MemorySource::new(text.as_slice(), 100);
+        let answer = read_all(&heap, &mut source);
+        if !heap.has_refused() {
+            assert!(rt; admitted > 0 && answer.is_ok());
+            break;
+        }
+        assert!(rt; matches!(answer, Err(Fault::NoMemory)));
+        assert!(rt; !source.failed());
+    }
+}
+
+#[test]
+fn parts_are_written_as_one_text(rt: HostRuntime) {
+    for step in 1..10usize {
+        let mut out = MemorySink::new(Vec::new(rt.alloc()), step);
+        let answer = write_parts(&mut out, &[b"1: ", b"", b"refused", b"\n"]);
+        assert_eq!(rt; answer, Ok(()));
+        assert_eq!(rt; out.bytes(), b"1: refused\n".as_slice());
+        assert_eq!(rt; out.flushes(), 0);
+    }
+}
+
+#[test]
+fn lines_end_after_their_line_feeds(rt: HostRuntime) -> Result<(), Fail> {
+    let none = split(rt.alloc(), b"")?;
+    assert!(rt; none.is_empty());
+    let lines = split(rt.alloc(), b"a\n\nbc\r\nd")?;
+    let wanted = [
+        Span { start: 0, end: 2 },
+        Span { start: 2, end: 3 },
+        Span { start: 3, end: 7 },
+        Span { start: 7, end: 8 },
+    ];
+    assert_eq!(rt; lines.as_slice(), wanted.as_slice());
+    Ok(())
+}
+
+#[test]
+fn splitting_meets_each_refused_growth(rt: HostRuntime) {
+    let text = [b'\n'; 100];
+    for admitted in 0..100 {
+        let heap = Refusing::after(rt.alloc(), admitted);
+        let answer = split(&heap, text.as_slice());
+        if !heap.has_refused() {
+            assert!(rt; admitted > 0 && answer.is_ok());
+            break;
+        }
+        assert!(rt; matches!(answer, Err(Fault::NoMemory)));
+    }
+}

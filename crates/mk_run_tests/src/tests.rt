@@ -1,0 +1,250 @@
+use crate::bench::{Answer, moving, run_row};
+use crate::rows::{ROWS, Row};
+use mk_run::{Outcome, message, run, status};
+use refusing::Refusing;
+use std::process::Abort;
+use std::test::Fail;
+use test_devices::{EndlessSource, MemorySink, MemorySource};
+
+// More bytes than any device of a row moves.
+const ALL: usize = 1000;
+
+fn assert_is(rt: &impl Abort, row: &Row, answer: &Answer) {
+    assert_eq!(rt; answer.outcome, row.outcome);
+    assert_eq!(rt; status(&answer.outcome), row.status);
+    assert_eq!(rt; answer.out.bytes(), row.out);
+    assert_eq!(rt; answer.report.bytes(), row.report);
+    assert_eq!(rt; answer.out.flushes() == 1, row.writes());
+}
+
+#[test]
+fn rows_at_any_step(rt: HostRuntime) {
+    for row in &ROWS {
+        for step in 1..20usize {
+            assert_is(&rt, row, &run_row(&rt, rt.alloc(), row, moving(step)));
+        }
+    }
+}
+
+#[test]
+fn each_growth_refused_in_turn(rt: HostRuntime) {
+    for row in &ROWS {
+        for admitted in 0..1000 {
+            let heap = Refusing::after(rt.alloc(), admitted);
+            let answer = run_row(&rt, &heap, row, moving(ALL));
+            if !heap.has_refused() {
+                assert_is(&rt, row, &answer);
+                // Every run but one that reads nothing takes some memory.
+                assert!(rt;
+                    admitted > 0 || row.makefile.is_empty() || row.outcome == Outcome::BadDepth
+                );
+                break;
+            }
+            assert_eq!(rt; answer.outcome, Outcome::NoMemory);
+            assert_eq!(rt; status(&answer.outcome), 3);
+            assert!(rt; answer.out_is_untouched());
+            assert!(rt; row.report.starts_with(answer.report.bytes()));
+        }
+    }
+}
+
+#[test]
+fn each_read_fails_in_turn(rt: HostRuntime) {
+    for row in &ROWS {
+        for call in 1..200 {
+            let mut plan = moving(1);
+            plan.makefile_fails_at = Some(call);
+            let answer = run_row(&rt, rt.alloc(), row, plan);
+            if answer.makefile_calls < call {
+                assert_is(&rt, row, &answer);
+                break;
+            }
+            assert_eq!(rt; answer.outcome, Outcome::Read);
+            assert!(rt; answer.out_is_untouched());
+            assert_eq!(rt; answer.report.writes(), 0);
+        }
+    }
+}
+
+#[test]
+fn each_read_of_the_script_fails_in_turn(rt: HostRuntime) {
+    for row in &ROWS {
+        for call in 1..200 {
+            let mut plan = moving(1);
+            plan.script_fails_at = Some(call);
+            let answer = run_row(&rt, rt.alloc(), row, plan);
+            if answer.script_calls < call {
+                assert_is(&rt, row, &answer);
+                break;
+            }
+            assert_eq!(rt; answer.outcome, Outcome::Read);
+            assert!(rt; answer.out_is_untouched());
+            assert_eq!(rt; answer.makefile_calls, 0);
+        }
+    }
+}
+
+#[test]
+fn each_write_fails_in_turn(rt: HostRuntime) {
+    for row in &ROWS {
+        for call in 1..200 {
+            let mut fails = moving(3);
+            fails.out_fails_at = Some(call);
+            let mut takes_nothing = moving(3);
+            takes_nothing.out_takes_nothing_at = Some(call);
+            let mut met = false;
+            for plan in [fails, takes_nothing] {
+                let answer = run_row(&rt, rt.alloc(), row, plan);
+                if answer.out.writes() < call {
+                    assert_is(&rt, row, &answer);
+                    continue;
+                }
+                met = true;
+                assert_eq!(rt; answer.outcome, Outcome::Write);
+                assert_eq!(rt; status(&answer.outcome), 3);
+                assert!(rt; row.out.starts_with(answer.out.bytes()));
+                assert_eq!(rt; answer.out.flushes(), 0);
+            }
+            if !met {
+                break;
+            }
+        }
+    }
+}
+
+#[test]
+fn a_failed_flush_is_no_success(rt: HostRuntime) {
+    for row in &ROWS {
+        let mut plan = moving(ALL);
+        plan.flush_fails = true;
+        let answer = run_row(&rt, rt.alloc(), row, plan);
+        if row.writes() && answer.out.flushes() == 1 {
+            assert_eq!(rt; answer.outcome, Outcome::Write);
+            assert_eq!(rt; answer.out.bytes(), row.out);
+        } else {
+            assert_is(&rt, row, &answer);
+        }
+    }
+}
+
+#[test]
+fn a_failed_report_ends_the_run(rt: HostRuntime) {
+    for row in &ROWS {
+        for call in 1..200 {
+            let mut plan = moving(5);
+            plan.report_fails_at = Some(call);
+            let answer = run_row(&rt, rt.alloc(), row, plan);
+            if answer.report.writes() < call {
+                assert_is(&rt, row, &answer);
+                break;
+            }
+            assert_eq!(rt; answer.outcome, Outcome::Write);
+            assert!(rt; answer.out_is_untouched());
+            assert!(rt; row.report.starts_with(answer.report.bytes()));
+        }
+    }
+}
+
+#[test]
+fn an_endless_makefile_is_left(rt: HostRuntime) {
+    let mut makefile = EndlessSource { byte: b'#' };
+    let mut script = MemorySource::new(b"", 1);
+    let mut out = MemorySink::new(Vec::new(rt.alloc()), ALL);
+    let mut report = MemorySink::new(Vec::new(rt.alloc()), ALL);
+    let outcome = run(
+        rt.alloc(),
+        &mut makefile,
+        &mut script,
+        100,
+        false,
+        &mut out,
+        &mut report,
+    );
+    assert_eq!(rt; outcome, Outcome::TooLong);
+    assert_eq!(rt; (out.writes(), out.flushes()), (0, 0));
+}
+
+#[test]
+fn an_endless_script_is_left(rt: HostRuntime) {
+    let mut makefile = MemorySource::new(b"X=1\n", 1);
+    let mut script = EndlessSource { byte: b'\n' };
+    let mut out = MemorySink::new(Vec::new(rt.alloc()), ALL);
+    let mut report = MemorySink::new(Vec::new(rt.alloc()), ALL);
+    let outcome = run(
+        rt.alloc(),
+        &mut makefile,
+        &mut script,
+        100,
+        false,
+        &mut out,
+        &mut report,
+    );
+    assert_eq!(rt; outcome, Outcome::TooLong);
+    assert_eq!(rt; makefile.calls(), 0);
+}
+
+// A text at the limit: `set` may not make it longer, and may keep its length.
+#[test]
+fn a_text_at_the_limit_grows_no_more(rt: HostRuntime) -> Result<(), Fail> {
+    let mut text = vec![in rt.alloc(); b'#'; 16_777_216]?;
+    assert!(rt; text.len() > 4);
+    text[0] = b'X';
+    text[1] = b'=';
+    text[2] = b'1';
+    text[3] = b'\n';
+    for (script, outcome) in [
+        (b"set X 2".as_slice(), Outcome::Done),
+        (b"set X 23".as_slice(), Outcome::Refused(1)),
+    ] {
+        let mut makefile = MemorySource::new(text.as_slice(), 100_000);
+        let mut script = MemorySource::new(script, ALL);
+        let mut out = MemorySink::new(Vec::new(rt.alloc()), 1_000_000);
+        let mut report = MemorySink::new(Vec::new(rt.alloc()), ALL);
+        let ended = run(
+            rt.alloc(),
+            &mut makefile,
+            &mut script,
+            1,
+            false,
+            &mut out,
+            &mut report,
+        );
+        assert_eq!(rt; ended, outcome);
+        let reported = if outcome == Outcome::Done {
+            b"".as_slice()
+        } else {
+            b"1: refused 15 TooLong\n".as_slice()
+        };
+        assert_eq!(rt; report.bytes(), reported);
+    }
+    Ok(())
+}
+
+#[test]
+fn messages_and_statuses(rt: HostRuntime) {
+    for (outcome, text, code) in [
+        (Outcome::Done, b"".as_slice(), 0),
+        (Outcome::Refused(3), b"".as_slice(), 1),
+        (
+            Outcome::NotACommand(1),
+            b"mkedit: script line 1 is not a command\n".as_slice(),
+            2,
+        ),
+        (
+            Outcome::NotACommand(u64::MAX),
+            b"mkedit: script line 18446744073709551615 is not a command\n".as_slice(),
+            2,
+        ),
+        (Outcome::BadDepth, b"mkedit: bad depth\n".as_slice(), 2),
+        (Outcome::TooLong, b"mkedit: too long\n".as_slice(), 3),
+        (Outcome::TooDeep, b"mkedit: too deep\n".as_slice(), 3),
+        (Outcome::Read, b"mkedit: read fault\n".as_slice(), 3),
+        (Outcome::Write, b"mkedit: write fault\n".as_slice(), 3),
+        (Outcome::NoMemory, b"mkedit: no memory\n".as_slice(), 3),
+    ] {
+        let mut out = MemorySink::new(Vec::new(rt.alloc()), 7);
+        assert_eq!(rt; message(&outcome, &mut out), Ok(()));
+        assert_eq!(rt; out.bytes(), text);
+        assert_eq!(rt; status(&outcome), code);
+    }
+}
