@@ -1,3 +1,4 @@
+mod WorkedRows
 pub mod PartLemmas
 pub mod PrefixLemmas
 pub mod SpanLemmas

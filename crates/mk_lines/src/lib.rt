@@ -4,13 +4,16 @@
 //! - [`source`]: where bytes come from, and a whole text from there.
 //! - [`sink`]: where bytes go to, and a whole text or some parts to there.
 //! - [`split`]: a text as its lines.
+//! - [`ends`]: how a line ends.
 #![tactic(auto)]
 
+pub mod ends;
 pub mod fault;
 pub mod sink;
 pub mod source;
 pub mod split;
 
+pub use ends::End;
 pub use fault::Fault;
 pub use sink::{ByteSink, StdSink};
 pub use source::{ByteSource, StdSource};
