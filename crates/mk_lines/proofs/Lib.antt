@@ -1,3 +1,4 @@
+mod RandomRows
 mod WorkedRows
 pub mod PartLemmas
 pub mod PrefixLemmas
