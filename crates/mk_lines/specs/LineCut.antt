@@ -127,7 +127,7 @@ drop_carriage_return-state (b ∷ r) = go (byte_kind b) refl (line_state_backwar
     go Ordinary e AfterOddRunCr h = rw e refl
 
 -- a physical line is continued where the state before its line end goes on
-is_continued-state : (p : List ℕ) (b : ℕ) → byte_kind b ≡ LineFeed → is_continued (p ++ b ∷ []) ≡ is_continued_state (line_state_after InLine p)
+pub is_continued-state : (p : List ℕ) (b : ℕ) → byte_kind b ≡ LineFeed → is_continued (p ++ b ∷ []) ≡ is_continued_state (line_state_after InLine p)
 is_continued-state p b e = rw (reverse-append p (b ∷ []), e, reverse-reverse (drop_carriage_return (reverse p)), line_state_after-reverse p) (drop_carriage_return-state (reverse p))
 
 -- ---- the physical lines in groups are the pieces
