@@ -96,11 +96,11 @@ odd_run-step Ordinary InLine o h = refl
 odd_run-step Ordinary AfterOddRun o h = refl
 odd_run-step Ordinary AfterOddRunCr o h = refl
 
-odd_run-state : (r : List ℕ) → starts_with_odd_run r ≡ is_after_odd_run (line_state_backwards r)
+pub odd_run-state : (r : List ℕ) → starts_with_odd_run r ≡ is_after_odd_run (line_state_backwards r)
 odd_run-state [] = refl
 odd_run-state (b ∷ r) = odd_run-step (byte_kind b) (line_state_backwards r) (starts_with_odd_run r) (odd_run-state r)
 
-drop_carriage_return-state : (r : List ℕ) → starts_with_odd_run (drop_carriage_return r) ≡ is_continued_state (line_state_backwards r)
+pub drop_carriage_return-state : (r : List ℕ) → starts_with_odd_run (drop_carriage_return r) ≡ is_continued_state (line_state_backwards r)
 drop_carriage_return-state [] = refl
 drop_carriage_return-state (b ∷ r) = go (byte_kind b) refl (line_state_backwards r) (odd_run-state r)
   where
@@ -172,7 +172,7 @@ onto_first-twice : (m q : List ℕ) (ls : List (List ℕ)) → onto_first m (ont
 onto_first-twice m q [] = refl
 onto_first-twice m q (l ∷ ls) = ap (λ x. x ∷ ls) (sym (append_assoc m q l))
 
-next-not_start : (s : LineState) (k : ByteKind) → (k ≡ LineFeed → ⊥) → is_at_start (next_line_state s k) ≡ false
+pub next-not_start : (s : LineState) (k : ByteKind) → (k ≡ LineFeed → ⊥) → is_at_start (next_line_state s k) ≡ false
 next-not_start s LineFeed h = absurd (h refl)
 next-not_start AfterOddRun CarriageReturn h = refl
 next-not_start AtStart CarriageReturn h = refl
@@ -242,7 +242,7 @@ grouped-line_feed b t e g = record { fresh = fresh; within = within }
         (let l : before_first p (before_lines (byte_kind b) b (physical_lines t)) ≡ (p ++ b ∷ []) ∷ physical_lines t = rw e (before_first-line p (b ∷ []) (physical_lines t)) in
         rw (l, is_continued-state p b e) (by-place (line_state_after InLine p) m p (line_state_after-not_start InLine p h refl)))
 
-next-start : (k : ByteKind) → next_line_state AtStart k ≡ next_line_state InLine k
+pub next-start : (k : ByteKind) → next_line_state AtStart k ≡ next_line_state InLine k
 next-start LineFeed = refl
 next-start CarriageReturn = refl
 next-start Backslash = refl
