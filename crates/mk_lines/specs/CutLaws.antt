@@ -1,5 +1,5 @@
 -- Laws of a list cut into pieces by a machine.
-use Rattle.std.proofs.Common.{◌≡◌, refl, sym, ap, List, [], ◌∷◌, ◌++◌, Bool, true, false, append_assoc, cond}
+use Rattle.std.proofs.Common.{◌≡◌, refl, sym, ap, List, [], ◌∷◌, ◌++◌, Bool, true, false, append_assoc, cond, length, drop, map}
 use Rattle.mk_lines.specs.Lists.{concat}
 use Rattle.mk_lines.specs.Cut.{state_after, continuation, pieces}
 
@@ -175,3 +175,42 @@ module _ {A S : Type 0} (step : S → A → S) (begins : S → A → Bool) where
               → pieces step begins start (concat Q) ≡ Q
           go true k i j = i (cc)
           go false k i j = j k
+
+    module _ (step-again : (s : S) (x : A) → begins s x ≡ true → step s x ≡ step start x) where
+      -- the pieces that begin in a list are those of what the piece before leaves of it
+      pub pieces-after_continuation : (s : S) (t : List A) → pieces step begins s t ≡ pieces step begins start (drop (length (continuation step begins s t)) t)
+      pieces-after_continuation s [] = refl
+      pieces-after_continuation s (x ∷ t) = go (begins s x) refl (pieces-after_continuation (step s x) t)
+        where
+          go : (c : Bool) → begins s x ≡ c → pieces step begins (step s x) t ≡ pieces step begins start (drop (length (continuation step begins (step s x) t)) t)
+              → cond c ((x ∷ continuation step begins (step s x) t) ∷ pieces step begins (step s x) t) (pieces step begins (step s x) t)
+              ≡ pieces step begins start (drop (length (cond c [] (x ∷ continuation step begins (step s x) t))) (x ∷ t))
+          go true e ih = rw (begins-always x, step-again s x e) refl
+          go false e ih = ih
+
+-- ---- a list that is the image of another
+
+pub state_after-map : {A B S : Type 0} (f : A → B) (step : S → B → S) (s : S) (t : List A) → state_after step s (map f t) ≡ state_after (λ z x. step z (f x)) s t
+state_after-map f step s [] = refl
+state_after-map f step s (x ∷ t) = state_after-map f step (step s (f x)) t
+
+module _ {A B S : Type 0} (f : A → B) (step : S → B → S) (begins : S → B → Bool) where
+  pub continuation-map : (s : S) (t : List A) → continuation step begins s (map f t) ≡ map f (continuation (λ z x. step z (f x)) (λ z x. begins z (f x)) s t)
+  continuation-map s [] = refl
+  continuation-map s (x ∷ t) = rw (continuation-map (step s (f x)) t) (go (begins s (f x)))
+    where
+      go : (c : Bool) → cond c [] (f x ∷ map f (continuation (λ z y. step z (f y)) (λ z y. begins z (f y)) (step s (f x)) t))
+          ≡ map f (cond c [] (x ∷ continuation (λ z y. step z (f y)) (λ z y. begins z (f y)) (step s (f x)) t))
+      go true = refl
+      go false = refl
+
+  -- the pieces of an image are the images of the pieces
+  pub pieces-map : (s : S) (t : List A) → pieces step begins s (map f t) ≡ map (map f) (pieces (λ z x. step z (f x)) (λ z x. begins z (f x)) s t)
+  pieces-map s [] = refl
+  pieces-map s (x ∷ t) =
+      rw (continuation-map (step s (f x)) t, pieces-map (step s (f x)) t)
+      (go (begins s (f x)) (x ∷ continuation (λ z y. step z (f y)) (λ z y. begins z (f y)) (step s (f x)) t) (pieces (λ z y. step z (f y)) (λ z y. begins z (f y)) (step s (f x)) t))
+    where
+      go : (c : Bool) (u : List A) (us : List (List A)) → cond c (map f u ∷ map (map f) us) (map (map f) us) ≡ map (map f) (cond c (u ∷ us) us)
+      go true u us = refl
+      go false u us = refl
