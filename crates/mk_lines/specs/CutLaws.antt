@@ -1,5 +1,5 @@
 -- Laws of a list cut into pieces by a machine.
-use Rattle.std.proofs.Common.{◌≡◌, refl, sym, ap, List, [], ◌∷◌, ◌++◌, Bool, true, false, append_assoc, cond, length, drop, map}
+use Rattle.std.proofs.Common.{◌≡◌, refl, ap, List, [], ◌∷◌, ◌++◌, Bool, true, false, cond, length, drop, map}
 use Rattle.mk_lines.specs.Lists.{concat}
 use Rattle.mk_lines.specs.Cut.{state_after, continuation, pieces}
 

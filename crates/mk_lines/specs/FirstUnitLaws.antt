@@ -207,11 +207,16 @@ module _ {A : Type 0} (byte : A → ℕ) (inside : ℕ → UnitState) (opens clo
           → ((next_unit_state (inside n) (byte_mark (byte x)) ≡ Between) × ((mark_count byte opens (t ++ x ∷ []) == mark_count byte closes (t ++ x ∷ [])) ≡ true))
           ⊎ ((k : ℕ) × (next_unit_state (inside n) (byte_mark (byte x)) ≡ inside k) × HasOpen (t ++ x ∷ []) k)
       by_tests n h true e b f =
-          inr (suc n, laws.at_open n (byte_mark (byte x)) e,
-          one_more _ _ n _ _ h (mark_count-one byte opens t x true e) (mark_count-one byte closes t x false (laws.apart (byte_mark (byte x)) e)))
+          inr (
+            suc n,
+            laws.at_open n (byte_mark (byte x)) e,
+            one_more _ _ n _ _ h (mark_count-one byte opens t x true e) (mark_count-one byte closes t x false (laws.apart (byte_mark (byte x)) e)),
+          )
       by_tests zero h false e true f =
-          inl (laws.at_last (byte_mark (byte x)) f,
-          equal_numbers _ _ (last_one _ _ _ _ h (mark_count-one byte opens t x false e) (mark_count-one byte closes t x true f)))
+          inl (
+            laws.at_last (byte_mark (byte x)) f,
+            equal_numbers _ _ (last_one _ _ _ _ h (mark_count-one byte opens t x false e) (mark_count-one byte closes t x true f)),
+          )
       by_tests (suc n) h false e true f =
           inr (n, laws.at_close n (byte_mark (byte x)) f, one_less _ _ n _ _ h (mark_count-one byte opens t x false e) (mark_count-one byte closes t x true f))
       by_tests n h false e false f =

@@ -1,14 +1,12 @@
 -- Laws of line ends: a line is its text and its line end, and a text ends a line where it has one and is not continued.
-use Rattle.std.proofs.Common.{◌≡◌, refl, sym, ap, ◌∙◌, ℕ, List, [], ◌∷◌, ◌++◌, Bool, true, false, not, ◌&&◌, append_assoc, reverse}
+use Rattle.std.proofs.Common.{◌≡◌, refl, sym, ap, ◌∙◌, ℕ, List, [], ◌∷◌, ◌++◌, Bool, true, false, not, ◌&&◌, reverse}
 use Rattle.std.proofs.lemmas.List.{append-nil, reverse-append, reverse-reverse}
 use Rattle.mk_lines.specs.Bytes.{ByteKind, byte_kind, LineFeed, CarriageReturn, Backslash, Blank, Ordinary}
 use Rattle.mk_lines.specs.ByteLaws.{line_feed-byte, carriage_return-byte}
 use Rattle.mk_lines.specs.PhysicalLines.{line_end, line_end_backwards, line_end_at, line_end_by, line_end_bytes, without_line_end, drop_line_end, drop_line_end_at, drop_carriage_return, drop_carriage_return_at, is_carriage_return_first}
-use Rattle.mk_lines.specs.LogicalLines.{starts_with_odd_run, is_continued, has_no_line_end}
-use Rattle.mk_lines.specs.LineCut.{LineState, AtStart, InLine, AfterOddRun, AfterOddRunCr, next_line_state, is_at_start, is_continued_state, line_state_backwards, line_step, line_state_after, line_state_after-reverse, drop_carriage_return-state, next-start, next-not_start}
-use Rattle.mk_lines.specs.LineLaws.{Ends, ends_line}
-use Rattle.mk_lines.specs.declared.ends.End.{End}
-use Rattle.mk_lines.specs.declared.ends.End.TheVariants.{None, Lf, CrLf}
+use Rattle.mk_lines.specs.LogicalLines.{starts_with_odd_run, has_no_line_end, ends_line}
+use Rattle.mk_lines.specs.LineCut.{LineState, AtStart, InLine, AfterOddRun, AfterOddRunCr, next_line_state, is_at_start, is_continued_state, line_state_backwards, line_state_after, line_state_after-reverse, drop_carriage_return-state, next-start, next-not_start}
+use Rattle.mk_lines.specs.LineLaws.{Ends}
 
 -- ---- a line is its text and its line end
 

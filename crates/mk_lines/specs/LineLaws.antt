@@ -1,12 +1,10 @@
 -- Logical lines among others: lines are taken apart and put together by lists, and a run of them is replaced.
-use Rattle.std.proofs.Common.{◌≡◌, refl, sym, ap, ◌∙◌, subst, ℕ, List, [], ◌∷◌, ◌++◌, Bool, true, false, not, ◌&&◌, ◌||◌, reverse}
-use Rattle.std.proofs.lemmas.List.{append-nil, reverse-append, reverse-reverse}
+use Rattle.std.proofs.Common.{◌≡◌, refl, sym, ap, ◌∙◌, subst, ℕ, List, [], ◌∷◌, ◌++◌, true}
+use Rattle.std.proofs.lemmas.List.{append-nil}
 use Rattle.mk_lines.specs.Lists.{concat}
-use Rattle.mk_lines.specs.Bytes.{ByteKind, byte_kind, LineFeed, CarriageReturn, Backslash, Blank, Ordinary}
-use Rattle.mk_lines.specs.PhysicalLines.{line_end, line_end_at, line_end_by, is_carriage_return_first}
-use Rattle.mk_lines.specs.LogicalLines.{logical_lines, is_continued, has_no_line_end}
-use Rattle.mk_lines.specs.CutLaws.{recut-first, recut-last, begins-at_piece, pieces-not_empty, pieces-append, concat-pieces_from_start, state_after-append}
-use Rattle.mk_lines.specs.LineCut.{LineState, AtStart, InLine, AfterOddRun, AfterOddRunCr, next_line_state, is_at_start, is_continued_state, line_step, line_begins, line_pieces, line_continuation, line_state_after, logical_lines-pieces, is_continued-state}
+use Rattle.mk_lines.specs.LogicalLines.{logical_lines}
+use Rattle.mk_lines.specs.CutLaws.{recut-first, recut-last, begins-at_piece, pieces-not_empty, pieces-append, concat-pieces_from_start}
+use Rattle.mk_lines.specs.LineCut.{LineState, AtStart, InLine, AfterOddRun, AfterOddRunCr, is_at_start, line_step, line_begins, line_pieces, line_continuation, line_state_after, logical_lines-pieces}
 
 -- each byte begins a line at the start of one, and then leads where it leads from there
 pub begins-always : (b : ℕ) → line_begins AtStart b ≡ true
@@ -160,10 +158,3 @@ pub replace-line : (t : List ℕ) (X : List (List ℕ)) (l m : List ℕ) (Y : Li
     → OneLine m → EndsBefore m Y → logical_lines (concat X ++ (m ++ concat Y)) ≡ X ++ m ∷ Y
 replace-line t X l m Y h o e =
     replace-run t X (l ∷ []) Y m h (λ x. cc) e ∙ ap (λ z. X ++ (z ++ Y)) (OneLine-logical m o)
-
--- ---- where a text ends a line
-
--- whether a text ends a line: it is empty, or it has a line end and is not continued
-abbrev pub ends_line : List ℕ → Bool
-ends_line [] = true
-ends_line (b ∷ t) = not (has_no_line_end (line_end (b ∷ t))) && not (is_continued (b ∷ t))

@@ -46,3 +46,9 @@ has_no_line_end CrLf = false
 -- line end and its last byte is a carriage return
 abbrev pub is_open : List ℕ → Bool
 is_open l = is_continued l || (has_no_line_end (line_end l) && ends_with_carriage_return l)
+
+-- whether a text ends a line, so that what follows it begins a new one: it is empty, or it has a line end and is not
+-- continued
+abbrev pub ends_line : List ℕ → Bool
+ends_line [] = true
+ends_line (b ∷ t) = not (has_no_line_end (line_end (b ∷ t))) && not (is_continued (b ∷ t))

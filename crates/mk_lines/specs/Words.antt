@@ -1,5 +1,5 @@
 -- Words: the maximal runs of units that are not single blanks.
-use Rattle.std.specs.Prelude.{ℕ, Bool, true, false, List, [], ◌∷◌}
+use Rattle.std.specs.Prelude.{ℕ, ◌≡◌, Bool, true, false, List, [], ◌∷◌, ◌++◌}
 use Rattle.mk_lines.specs.Lists.{concat}
 use Rattle.mk_lines.specs.Bytes.{byte_kind, is_blank_kind}
 use Rattle.mk_lines.specs.Units.{units}
@@ -21,6 +21,17 @@ token_words [] = []
 token_words (Gap u ∷ ts) = token_words ts
 token_words (Word w ∷ ts) = concat w ∷ token_words ts
 
+-- the units of tokens
+abbrev pub token_units : {A : Type 0} → List (Token A) → List (List A)
+token_units [] = []
+token_units (Gap u ∷ ts) = u ∷ token_units ts
+token_units (Word w ∷ ts) = w ++ token_units ts
+
+-- whether a word stands first
+abbrev pub is_word_first : {A : Type 0} → List (Token A) → Bool
+is_word_first (Word w ∷ ts) = true
+is_word_first ts = false
+
 module _ {A : Type 0} (byte : A → ℕ) where
   -- whether a unit is a single blank
   abbrev pub is_gap : List A → Bool
@@ -36,3 +47,15 @@ module _ {A : Type 0} (byte : A → ℕ) where
   -- the words of a text
   abbrev pub words : List A → List (List A)
   words t = token_words (tokens (units byte t))
+
+  -- the units of a word: at least one, and none is a single blank
+  abbrev pub IsWord : List (List A) → Type 0
+  IsWord [] = ⊥
+  IsWord (u ∷ []) = is_gap u ≡ false
+  IsWord (u ∷ v ∷ w) = (is_gap u ≡ false) × IsWord (v ∷ w)
+
+  -- tokens as they are cut: a gap is a single blank, and no word stands directly after another
+  abbrev pub AreTokens : List (Token A) → Type 0
+  AreTokens [] = Unit {0}
+  AreTokens (Gap u ∷ ts) = (is_gap u ≡ true) × AreTokens ts
+  AreTokens (Word w ∷ ts) = IsWord w × (is_word_first ts ≡ false) × AreTokens ts

@@ -5,10 +5,12 @@
 //! - [`sink`]: where bytes go to, and a whole text or some parts to there.
 //! - [`split`]: a text as its lines.
 //! - [`ends`]: how a line ends.
+//! - [`laws`]: theorems on the definitions of lines, cells, units and words.
 #![tactic(auto)]
 
 pub mod ends;
 pub mod fault;
+pub mod laws;
 pub mod sink;
 pub mod source;
 pub mod split;
