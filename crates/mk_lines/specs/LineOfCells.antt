@@ -2,15 +2,17 @@
 use Rattle.std.proofs.Common.{◌≡◌, refl, ap, ◌∙◌, ℕ, List, [], ◌∷◌, ◌++◌, Bool, true, false, ◌&&◌, ◌||◌, cond}
 use Rattle.std.proofs.lemmas.List.{append-nil}
 use Rattle.mk_lines.specs.Lists.{after_leading}
-use Rattle.mk_lines.specs.Bytes.{ByteKind, byte_kind, LineFeed, CarriageReturn, Backslash, Blank, Ordinary, is_blank_kind}
+use Rattle.mk_lines.specs.Bytes.{ByteKind, byte_kind, LineFeed, CarriageReturn, Backslash, Blank, Ordinary, is_blank_kind, is_backslash_kind}
 use Rattle.mk_lines.specs.Cells.{Cell, Byte, Fold, LfEnd, CrLfEnd, joined_byte, raw_bytes, is_blank_cell, prepend, cells}
-use Rattle.mk_lines.specs.Bytes.{is_backslash_kind}
+use Rattle.mk_lines.specs.PhysicalLines.{line_end_bytes}
 use Rattle.mk_lines.specs.CellFaults.{has_bad_fold, is_fold_first}
 use Rattle.mk_lines.specs.ListLaws.{Each}
 use Rattle.mk_lines.specs.CutLaws.{one-piece, continues-append}
-use Rattle.mk_lines.specs.LineCut.{LineState, AtStart, InLine, AfterOddRun, AfterOddRunCr, next_line_state, is_at_start, line_step, line_begins, line_continuation, line_state_after}
+use Rattle.mk_lines.specs.LineCut.{LineState, AtStart, InLine, AfterOddRun, AfterOddRunCr, next_line_state, is_at_start, line_step, line_begins, line_continuation, line_state_after, next-start, next-not_start}
 use Rattle.mk_lines.specs.CellLaws.{NoLineEnds, IsCell}
 use Rattle.mk_lines.specs.LineLaws.{OneLine, begins-always}
+use Rattle.mk_lines.specs.declared.ends.End.{End}
+use Rattle.mk_lines.specs.declared.ends.End.TheVariants.{None, Lf, CrLf}
 
 -- no line end among cells, and no fold directly after a backslash
 abbrev pub IsClean : List Cell → Type 0
@@ -281,23 +283,12 @@ state_after-reset AfterOddRunCr (Fold r) D h v o = state_after-fold r r v ∙ st
 state_after-reset s (LfEnd r) D h v o = cc
 state_after-reset s (CrLfEnd r) D h v o = cc
 
--- ---- a line's end
+-- ---- the line
 
-pub data IsLineEnd : List ℕ → Type 0 where
-  none : IsLineEnd []
-  lf : (b : ℕ) → byte_kind b ≡ LineFeed → IsLineEnd (b ∷ [])
-  crlf : (c b : ℕ) → byte_kind c ≡ CarriageReturn → byte_kind b ≡ LineFeed → IsLineEnd (c ∷ b ∷ [])
-
-continuation-line_end : (s : LineState) (e : List ℕ) → IsLineEnd e → is_at_start s ≡ false → line_continuation s e ≡ e
-continuation-line_end s _ none h = refl
-continuation-line_end s _ (lf b k) h = rw h refl
-continuation-line_end s _ (crlf c b k l) h = rw (h, k) (go s)
-  where
-    go : (s : LineState) → c ∷ cond (is_at_start (next_line_state s CarriageReturn)) [] (b ∷ []) ≡ c ∷ b ∷ []
-    go AtStart = refl
-    go InLine = refl
-    go AfterOddRun = refl
-    go AfterOddRunCr = refl
+continuation-line_end : (s : LineState) (e : End) → is_at_start s ≡ false → line_continuation s (line_end_bytes e) ≡ line_end_bytes e
+continuation-line_end s None h = refl
+continuation-line_end s Lf h = rw h refl
+continuation-line_end s CrLf h = rw (h, next-not_start s CarriageReturn (λ k. cc)) refl
 
 IsCleanAfter-not_start : (s : LineState) → IsCleanAfter s [] → is_at_start s ≡ false
 IsCleanAfter-not_start AtStart h = absurd h
@@ -305,22 +296,16 @@ IsCleanAfter-not_start InLine h = refl
 IsCleanAfter-not_start AfterOddRun h = refl
 IsCleanAfter-not_start AfterOddRunCr h = refl
 
-next-start : (k : ByteKind) → next_line_state AtStart k ≡ next_line_state InLine k
-next-start LineFeed = refl
-next-start CarriageReturn = refl
-next-start Backslash = refl
-next-start Blank = refl
-next-start Ordinary = refl
-
 pub state_after-start : (b : ℕ) (t : List ℕ) → line_state_after AtStart (b ∷ t) ≡ line_state_after InLine (b ∷ t)
 state_after-start b t = rw (next-start (byte_kind b)) refl
 
--- good cells and a line end make one line
-pub one_line-of_cells : (x e : List ℕ) (b : ℕ) (r : List ℕ) → IsClean (cells x) → IsLineEnd e → x ++ e ≡ b ∷ r → OneLine (x ++ e)
+-- a text with clean cells and a line end are one line, if they are not empty
+pub one_line-of_cells : (x : List ℕ) (e : End) (b : ℕ) (r : List ℕ) → IsClean (cells x) → x ++ line_end_bytes e ≡ b ∷ r → OneLine (x ++ line_end_bytes e)
 unfolding OneLine
-one_line-of_cells x e b r g k h =
+one_line-of_cells x e b r g h =
     let n : IsCleanAfter (line_state_after InLine x) (cells []) = IsCleanAfter-state_after InLine x [] (rw (append-nil x) g) in
-    let i : line_continuation InLine (x ++ e) ≡ x ++ e = continues-append line_step line_begins InLine x e (continuation-clean InLine x g) (continuation-line_end (line_state_after InLine x) e k (IsCleanAfter-not_start (line_state_after InLine x) n)) in
+    let i : line_continuation InLine (x ++ line_end_bytes e) ≡ x ++ line_end_bytes e =
+    continues-append line_step line_begins InLine x (line_end_bytes e) (continuation-clean InLine x g) (continuation-line_end (line_state_after InLine x) e (IsCleanAfter-not_start (line_state_after InLine x) n)) in
     let j : line_continuation InLine (b ∷ r) ≡ b ∷ r = rw h at i in
     let l : line_continuation (next_line_state InLine (byte_kind b)) r ≡ r = cc in
     rw h (one-piece line_step line_begins AtStart begins-always b r (rw (next-start (byte_kind b)) l))
