@@ -4,6 +4,7 @@ use Rattle.mk_lines.specs.Lists.{concat}
 use Rattle.mk_lines.specs.PhysicalLines.{line_end, line_end_bytes, without_line_end}
 use Rattle.mk_lines.specs.LogicalLines.{logical_lines, ends_line}
 use Rattle.mk_lines.specs.Cells.{joined_byte, joined_text, raw_text, line_cells}
+use Rattle.mk_lines.specs.CellLaws.{NoLineEnds}
 use Rattle.mk_lines.specs.Units.{units, is_closed}
 use Rattle.mk_lines.specs.FirstUnit.{first_unit, after_first_unit, leaves_open}
 use Rattle.mk_lines.specs.Words.{tokens, token_units, AreTokens, words}
@@ -37,6 +38,10 @@ LinesAreLocal = (text new : List ℕ) (above run below : List (List ℕ)) → lo
 -- a line is the raw bytes of its cells and then its line end
 abbrev pub CellsJoined : Type 0
 CellsJoined = (line : List ℕ) → (raw_text (line_cells line) ≡ without_line_end line) × (raw_text (line_cells line) ++ line_end_bytes (line_end line) ≡ line)
+
+-- the cells of a logical line are bytes and folds: its text has no line end but in its folds
+abbrev pub CellsAreBytesOrFolds : Type 0
+CellsAreBytesOrFolds = (line : List ℕ) → logical_lines line ≡ line ∷ [] → NoLineEnds (line_cells line)
 
 -- ---- units
 

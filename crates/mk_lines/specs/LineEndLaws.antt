@@ -43,7 +43,7 @@ without_line_end-line_end l = text-line_end_backwards (reverse l) ∙ reverse-re
 
 -- ---- where a text ends a line
 
-line_end_by-some : (c : Bool) → has_no_line_end (line_end_by c) ≡ false
+pub line_end_by-some : (c : Bool) → has_no_line_end (line_end_by c) ≡ false
 line_end_by-some true = refl
 line_end_by-some false = refl
 
@@ -102,7 +102,7 @@ KeepsApart None r = FirstIsNot LineFeed r
 KeepsApart Lf r = FirstIsNot CarriageReturn r
 KeepsApart CrLf r = Unit {0}
 
-drop_line_end-none : (r : List ℕ) → FirstIsNot LineFeed r → drop_line_end r ≡ r
+pub drop_line_end-none : (r : List ℕ) → FirstIsNot LineFeed r → drop_line_end r ≡ r
 drop_line_end-none [] h = refl
 drop_line_end-none (b ∷ r) h = go (byte_kind b) h
   where

@@ -299,13 +299,18 @@ IsCleanAfter-not_start AfterOddRunCr h = refl
 pub state_after-start : (b : ℕ) (t : List ℕ) → line_state_after AtStart (b ∷ t) ≡ line_state_after InLine (b ∷ t)
 state_after-start b t = rw (next-start (byte_kind b)) refl
 
--- a text with clean cells and a line end are one line, if they are not empty
-pub one_line-of_cells : (x : List ℕ) (e : End) (b : ℕ) (r : List ℕ) → IsClean (cells x) → x ++ line_end_bytes e ≡ b ∷ r → OneLine (x ++ line_end_bytes e)
+-- a text in which no line begins, and which does not end one, is one line with a line end, if that is not empty
+pub one_line-of_text : (x : List ℕ) (e : End) (b : ℕ) (r : List ℕ) → line_continuation InLine x ≡ x → is_at_start (line_state_after InLine x) ≡ false → x ++ line_end_bytes e ≡ b ∷ r
+    → OneLine (x ++ line_end_bytes e)
 unfolding OneLine
-one_line-of_cells x e b r g h =
-    let n : IsCleanAfter (line_state_after InLine x) (cells []) = IsCleanAfter-state_after InLine x [] (rw (append-nil x) g) in
-    let i : line_continuation InLine (x ++ line_end_bytes e) ≡ x ++ line_end_bytes e =
-    continues-append line_step line_begins InLine x (line_end_bytes e) (continuation-clean InLine x g) (continuation-line_end (line_state_after InLine x) e (IsCleanAfter-not_start (line_state_after InLine x) n)) in
+one_line-of_text x e b r g n h =
+    let i : line_continuation InLine (x ++ line_end_bytes e) ≡ x ++ line_end_bytes e = continues-append line_step line_begins InLine x (line_end_bytes e) g (continuation-line_end (line_state_after InLine x) e n) in
     let j : line_continuation InLine (b ∷ r) ≡ b ∷ r = rw h at i in
     let l : line_continuation (next_line_state InLine (byte_kind b)) r ≡ r = cc in
     rw h (one-piece line_step line_begins AtStart begins-always b r (rw (next-start (byte_kind b)) l))
+
+-- a text with clean cells and a line end are one line, if they are not empty
+pub one_line-of_cells : (x : List ℕ) (e : End) (b : ℕ) (r : List ℕ) → IsClean (cells x) → x ++ line_end_bytes e ≡ b ∷ r → OneLine (x ++ line_end_bytes e)
+one_line-of_cells x e b r g h =
+    let n : IsCleanAfter (line_state_after InLine x) (cells []) = IsCleanAfter-state_after InLine x [] (rw (append-nil x) g) in
+    one_line-of_text x e b r (continuation-clean InLine x g) (IsCleanAfter-not_start (line_state_after InLine x) n) h

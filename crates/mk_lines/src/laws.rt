@@ -1,6 +1,6 @@
 //! Laws of lines, cells, units and words: each contract is a theorem on the definitions that the
 //! calls of this crate are specified by. The functions do nothing.
-ghost use Rattle.mk_lines.specs.Laws.{CellsJoined, ClosedByUnits, JoinedUnits, LinesAreLocal, LinesAreSingle, LinesJoined, UnitsAreFirstUnits, UnitsJoined, UnitsOfClosed, WordsAreRuns};
+ghost use Rattle.mk_lines.specs.Laws.{CellsAreBytesOrFolds, CellsJoined, ClosedByUnits, JoinedUnits, LinesAreLocal, LinesAreSingle, LinesJoined, UnitsAreFirstUnits, UnitsJoined, UnitsOfClosed, WordsAreRuns};
 
 /// The logical lines of a text, joined, are the text.
 pub fn lines_joined()
@@ -25,6 +25,11 @@ pub fn lines_are_local()
 /// The raw bytes of a line's cells, joined, are the line without its line end.
 pub fn cells_joined()
     ensures { CellsJoined }
+{}
+
+/// The cells of a logical line are bytes and folds: its text has no line end but in its folds.
+pub fn cells_are_bytes_or_folds()
+    ensures { CellsAreBytesOrFolds }
 {}
 
 /// The units of a text, joined, are the text.
