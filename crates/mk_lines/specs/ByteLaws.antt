@@ -35,6 +35,7 @@ unfolding after_blank after_backslash
 blank_or_ordinary b k m n h =
     n (other_taken (b == 9) Blank Ordinary k m (other_taken (b == 32) Blank (after_blank b) k m h))
 
+-- the only line feed is 10
 pub line_feed-byte : (b : ℕ) → byte_kind b ≡ LineFeed → b ≡ 10
 unfolding after_blank after_backslash after_carriage_return after_line_feed
 line_feed-byte b h =
@@ -43,6 +44,7 @@ line_feed-byte b h =
     (λ k. blank_or_ordinary b LineFeed (λ x. cc) (λ x. cc)
     (other_taken (b == 92) Backslash (after_backslash b) LineFeed (λ x. cc) (other_taken (b == 13) CarriageReturn (after_carriage_return b) LineFeed (λ x. cc) k))) h)
 
+-- the only carriage return is 13
 pub carriage_return-byte : (b : ℕ) → byte_kind b ≡ CarriageReturn → b ≡ 13
 unfolding after_blank after_backslash after_carriage_return after_line_feed
 carriage_return-byte b h =
@@ -51,6 +53,7 @@ carriage_return-byte b h =
     (λ k. blank_or_ordinary b CarriageReturn (λ x. cc) (λ x. cc) (other_taken (b == 92) Backslash (after_backslash b) CarriageReturn (λ x. cc) k))
     (other_taken (b == 10) LineFeed (after_line_feed b) CarriageReturn (λ x. cc) h))
 
+-- the only backslash is 92
 pub backslash-byte : (b : ℕ) → byte_kind b ≡ Backslash → b ≡ 92
 unfolding after_blank after_backslash after_carriage_return after_line_feed
 backslash-byte b h =
@@ -59,6 +62,7 @@ backslash-byte b h =
     (other_taken (b == 13) CarriageReturn (after_carriage_return b) Backslash (λ x. cc)
     (other_taken (b == 10) LineFeed (after_line_feed b) Backslash (λ x. cc) h)))
 
+-- a blank is a space or a tab
 pub blank-byte : (b : ℕ) → byte_kind b ≡ Blank → (b ≡ 32) ⊎ (b ≡ 9)
 unfolding after_blank after_backslash after_carriage_return after_line_feed
 blank-byte b h =

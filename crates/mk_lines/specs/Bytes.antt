@@ -19,14 +19,17 @@ byte_kind b =
     if b == 9 then Blank else
     Ordinary
 
+-- whether a byte of this kind is a blank
 abbrev pub is_blank_kind : ByteKind → Bool
 is_blank_kind Blank = true
 is_blank_kind k = false
 
+-- whether a byte of this kind is a backslash
 abbrev pub is_backslash_kind : ByteKind → Bool
 is_backslash_kind Backslash = true
 is_backslash_kind k = false
 
+-- whether a byte of this kind is a carriage return
 abbrev pub is_carriage_return_kind : ByteKind → Bool
 is_carriage_return_kind CarriageReturn = true
 is_carriage_return_kind k = false

@@ -1,14 +1,17 @@
 -- Laws of cells: a list of cells that fit is read again from its raw bytes.
 use Rattle.std.proofs.Common.{◌≡◌, refl, sym, ap, ◌∙◌, ℕ, List, [], ◌∷◌, ◌++◌, map, Bool, true, false, not, append_assoc}
+use Rattle.std.proofs.lemmas.List.{append-nil}
 use Rattle.mk_lines.specs.Lists.{leading, after_leading}
 use Rattle.mk_lines.specs.Bytes.{ByteKind, byte_kind, LineFeed, CarriageReturn, Backslash, Blank, Ordinary, is_blank_kind}
 use Rattle.mk_lines.specs.Cells.{Cell, Byte, Fold, LfEnd, CrLfEnd, raw_bytes, raw_text, is_blank_cell, prepend, cells}
 use Rattle.mk_lines.specs.ListLaws.{FirstFails, Each, leading-after_leading, leading-each, after_leading-first_fails, leading-append_all, after_leading-append_all, leading-append, after_leading-append}
 
+-- the raw bytes of two lists of cells
 pub raw_text-append : (a b : List Cell) → raw_text (a ++ b) ≡ raw_text a ++ raw_text b
 raw_text-append [] b = refl
 raw_text-append (c ∷ a) b = rw (raw_text-append a b) (sym (append_assoc (raw_bytes c) (raw_text a) (raw_text b)))
 
+-- bytes as cells are their own raw bytes
 pub raw_text-bytes : (v : List ℕ) → raw_text (map Byte v) ≡ v
 raw_text-bytes [] = refl
 raw_text-bytes (b ∷ v) = ap (λ l. b ∷ l) (raw_text-bytes v)
@@ -39,6 +42,7 @@ raw_text-cells (b ∷ t) = raw_text-prepend (byte_kind b) b (cells t) ∙ ap (λ
 
 -- ---- cells that fit
 
+-- whether a byte of this kind stays as it is before a cell, and is not joined with it
 abbrev pub byte_fits_before : ByteKind → Cell → Bool
 byte_fits_before Blank (Fold r) = false
 byte_fits_before CarriageReturn (LfEnd r) = false
@@ -53,34 +57,41 @@ fits_before (Fold r) d = not (is_blank_cell d)
 fits_before (LfEnd r) d = not (is_blank_cell d)
 fits_before (CrLfEnd r) d = not (is_blank_cell d)
 
+-- a cell stays as it is before the cells that follow it
 abbrev pub FitsBefore : Cell → List Cell → Type 0
 FitsBefore c [] = Unit {0}
 FitsBefore c (d ∷ ds) = fits_before c d ≡ true
 
+-- a cell as it is read: a byte that is no line feed, or what its raw bytes are read as
 abbrev pub IsCell : Cell → Type 0
 IsCell (Byte b) = byte_kind b ≡ LineFeed → ⊥
 IsCell (Fold r) = cells r ≡ Fold r ∷ []
 IsCell (LfEnd r) = cells r ≡ LfEnd r ∷ []
 IsCell (CrLfEnd r) = cells r ≡ CrLfEnd r ∷ []
 
+-- cells as they are read: each is one, and each stays as it is before the next
 abbrev pub AreCells : List Cell → Type 0
 AreCells [] = Unit {0}
 AreCells (c ∷ cs) = IsCell c × FitsBefore c cs × AreCells cs
 
+-- whether a cell is a line end by itself
 abbrev pub is_line_end : Cell → Bool
 is_line_end (LfEnd r) = true
 is_line_end (CrLfEnd r) = true
 is_line_end c = false
 
+-- no cell is a line end by itself
 abbrev pub NoLineEnds : List Cell → Type 0
 NoLineEnds cs = Each (λ c. not (is_line_end c)) cs
 
+-- whether a cell is a byte that is no blank
 abbrev pub is_solid : Cell → Bool
 is_solid (Byte b) = not (is_blank_kind (byte_kind b))
 is_solid (Fold r) = false
 is_solid (LfEnd r) = false
 is_solid (CrLfEnd r) = false
 
+-- the first cell, where there is one, is a byte that is no blank
 abbrev pub FirstSolid : List Cell → Type 0
 FirstSolid [] = Unit {0}
 FirstSolid (d ∷ ds) = is_solid d ≡ true
@@ -158,6 +169,7 @@ FitsBefore-solid r (Fold s ∷ cs) f n = f
 FitsBefore-solid r (LfEnd s ∷ cs) f n = cc
 FitsBefore-solid r (CrLfEnd s ∷ cs) f n = cc
 
+-- cells as they are read, without line ends, are read again from their raw bytes
 pub cells-raw_text : (cs : List Cell) → AreCells cs → NoLineEnds cs → cells (raw_text cs) ≡ cs
 cells-raw_text [] f n = refl
 cells-raw_text (Byte b ∷ cs) f n = rw (cells-raw_text cs f.2 n.1) (prepend-byte (byte_kind b) b cs refl f.0 f.1)
@@ -170,11 +182,13 @@ cells-raw_text (CrLfEnd r ∷ cs) f n = cc
 
 -- ---- the cells of a text fit
 
+-- the first of such cells are such cells
 pub AreCells-left : (a b : List Cell) → AreCells (a ++ b) → AreCells a
 AreCells-left [] b f = tt
 AreCells-left (c ∷ []) b f = (f.0, tt, tt)
 AreCells-left (c ∷ d ∷ a) b f = (f.0, f.1, AreCells-left (d ∷ a) b f.2)
 
+-- the last of such cells are such cells
 pub AreCells-right : (a b : List Cell) → AreCells (a ++ b) → AreCells b
 AreCells-right [] b f = f
 AreCells-right (c ∷ a) b f = AreCells-right a b f.2
@@ -185,11 +199,13 @@ Meets [] b = Unit {0}
 Meets (c ∷ []) b = FitsBefore c b
 Meets (c ∷ d ∷ a) b = Meets (d ∷ a) b
 
+-- two lists of such cells, where they meet, are such cells
 pub AreCells-append : (a b : List Cell) → AreCells a → AreCells b → Meets a b → AreCells (a ++ b)
 AreCells-append [] b f g m = g
 AreCells-append (c ∷ []) b f g m = (f.0, m, g)
 AreCells-append (c ∷ d ∷ a) b f g m = (f.0, f.1, AreCells-append (d ∷ a) b f.2 g m)
 
+-- such cells taken apart meet
 pub AreCells-meets : (a b : List Cell) → AreCells (a ++ b) → Meets a b
 AreCells-meets [] b f = tt
 AreCells-meets (c ∷ []) b f = f.1
@@ -220,6 +236,7 @@ solid-fits_before (LfEnd r) (CrLfEnd s) h = cc
 solid-fits_before (CrLfEnd r) (LfEnd s) h = cc
 solid-fits_before (CrLfEnd r) (CrLfEnd s) h = cc
 
+-- any cells meet a byte that is no blank
 pub solid-meets : (a : List Cell) (d : Cell) (b : List Cell) → is_solid d ≡ true → Meets a (d ∷ b)
 solid-meets [] d b h = tt
 solid-meets (c ∷ []) d b h = solid-fits_before c d h
@@ -242,15 +259,11 @@ line_end-fits_before r (d ∷ cs) h = rw h refl
 prepend-byte_are_cells : (k : ByteKind) (b : ℕ) (cs : List Cell) → byte_kind b ≡ k → prepend k b cs ≡ Byte b ∷ cs → (k ≡ LineFeed → ⊥) → AreCells cs → FitsBefore (Byte b) cs → AreCells (prepend k b cs)
 prepend-byte_are_cells k b cs e p h f g = rw p ((λ l. h (sym e ∙ l)), g, f)
 
-append-nil_cells : (xs : List Cell) → xs ++ [] ≡ xs
-append-nil_cells [] = refl
-append-nil_cells (x ∷ xs) = ap (λ l. x ∷ l) (append-nil_cells xs)
-
 leading-leading : (cs : List Cell) → leading is_blank_cell (leading is_blank_cell cs) ≡ leading is_blank_cell cs
-leading-leading cs = rw (append-nil_cells (leading is_blank_cell cs)) at (leading-append_all is_blank_cell (leading is_blank_cell cs) [] (leading-each is_blank_cell cs) tt)
+leading-leading cs = rw (append-nil (leading is_blank_cell cs)) at (leading-append_all is_blank_cell (leading is_blank_cell cs) [] (leading-each is_blank_cell cs) tt)
 
 after_leading-leading : (cs : List Cell) → after_leading is_blank_cell (leading is_blank_cell cs) ≡ []
-after_leading-leading cs = rw (append-nil_cells (leading is_blank_cell cs)) at (after_leading-append_all is_blank_cell (leading is_blank_cell cs) [] (leading-each is_blank_cell cs) tt)
+after_leading-leading cs = rw (append-nil (leading is_blank_cell cs)) at (after_leading-append_all is_blank_cell (leading is_blank_cell cs) [] (leading-each is_blank_cell cs) tt)
 
 prepend-line_feed_are_cells : (b : ℕ) (cs : List Cell) → byte_kind b ≡ LineFeed → AreCells cs → AreCells (prepend LineFeed b cs)
 prepend-line_feed_are_cells b cs e f =
@@ -300,6 +313,7 @@ prepend-are_cells Ordinary b (Fold r ∷ cs) e f = ((λ l. cc), rw e refl, f)
 prepend-are_cells Ordinary b (LfEnd r ∷ cs) e f = ((λ l. cc), rw e refl, f)
 prepend-are_cells Ordinary b (CrLfEnd r ∷ cs) e f = ((λ l. cc), rw e refl, f)
 
+-- the cells of a text are such cells
 pub cells-are_cells : (t : List ℕ) → AreCells (cells t)
 cells-are_cells [] = tt
 cells-are_cells (b ∷ t) = prepend-are_cells (byte_kind b) b (cells t) refl (cells-are_cells t)

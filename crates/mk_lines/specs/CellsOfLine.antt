@@ -1,15 +1,13 @@
 -- The cells of a logical line are bytes and folds: the text of one line has no line end but in its folds.
-use Rattle.std.proofs.Common.{◌≡◌, refl, sym, ap, ◌∙◌, subst, ℕ, List, [], ◌∷◌, ◌++◌, Bool, true, false, not, cond, reverse}
-use Rattle.std.proofs.lemmas.List.{append-nil}
+use Rattle.std.proofs.Common.{◌≡◌, refl, sym, ap, ◌∙◌, ℕ, List, [], ◌∷◌, ◌++◌, Bool, true, false, cond, reverse}
 use Rattle.mk_lines.specs.Lists.{after_leading}
 use Rattle.mk_lines.specs.Bytes.{ByteKind, byte_kind, LineFeed, CarriageReturn, Backslash, Blank, Ordinary}
 use Rattle.mk_lines.specs.PhysicalLines.{line_end, line_end_bytes, without_line_end}
 use Rattle.mk_lines.specs.Cells.{Cell, Byte, Fold, LfEnd, CrLfEnd, is_blank_cell, prepend, cells, line_cells}
 use Rattle.mk_lines.specs.CellFaults.{has_bad_fold}
-use Rattle.mk_lines.specs.ListLaws.{Each}
-use Rattle.mk_lines.specs.CutLaws.{continues-left, continues-right, state_after-append}
+use Rattle.mk_lines.specs.CutLaws.{continues-left, continues-right}
 use Rattle.mk_lines.specs.LineCut.{LineState, AtStart, InLine, AfterOddRun, AfterOddRunCr, next_line_state, is_at_start, line_step, line_begins, line_continuation, line_state_after, line_state_backwards, line_state_after-reverse, next-start, next-not_start}
-use Rattle.mk_lines.specs.CellLaws.{NoLineEnds, is_line_end}
+use Rattle.mk_lines.specs.CellLaws.{NoLineEnds}
 use Rattle.mk_lines.specs.LineLaws.{OneLine}
 use Rattle.mk_lines.specs.LineEndLaws.{KeepsApart, FirstIsNot, without_line_end-line_end, line_end-keeps_apart}
 use Rattle.mk_lines.specs.LineCells.{AreLineCells, cells-are_line_cells}
@@ -139,6 +137,7 @@ one_line-continues b r h =
     let e : line_continuation (next_line_state AtStart (byte_kind b)) r ≡ r = cc in
     ap (λ z. b ∷ z) (ap (λ s. line_continuation s r) (sym (next-start (byte_kind b))) ∙ e)
 
+-- after a text whose last byte is no line feed no line begins
 pub last-not_at_start : (r : List ℕ) → FirstIsNot LineFeed r → is_at_start (line_state_backwards r) ≡ false
 last-not_at_start [] h = refl
 last-not_at_start (b ∷ r) h = next-not_start (line_state_backwards r) (byte_kind b) h

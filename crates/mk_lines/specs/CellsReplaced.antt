@@ -1,6 +1,6 @@
 -- Some cells of a line replaced by a text, or taken out: the line is one line of the new cells, with the same line end.
 use Rattle.std.proofs.Common.{◌≡◌, refl, sym, ap, ◌∙◌, subst, ℕ, List, [], ◌∷◌, ◌++◌, map, Bool, true, false, not, append_assoc, reverse}
-use Rattle.std.proofs.lemmas.List.{append-nil}
+use Rattle.std.proofs.lemmas.List.{append-nil, map-append}
 use Rattle.mk_lines.specs.Bytes.{ByteKind, byte_kind, LineFeed, CarriageReturn, Backslash, Blank, Ordinary, is_blank_kind}
 use Rattle.mk_lines.specs.PhysicalLines.{line_end, line_end_bytes}
 use Rattle.mk_lines.specs.Cells.{Cell, Byte, Fold, raw_text, line_cells}
@@ -8,11 +8,12 @@ use Rattle.mk_lines.specs.CellLaws.{raw_text-append, raw_text-bytes, is_solid}
 use Rattle.mk_lines.specs.LineLaws.{OneLine, EndsBefore}
 use Rattle.mk_lines.specs.LineEndLaws.{KeepsApart}
 use Rattle.mk_lines.specs.LineOfCells.{is_reset, is_reset_kind}
-use Rattle.mk_lines.specs.LineCells.{AreLineCells, AreLineCells-left, AreLineCells-right, AreLineCells-append, AreLineCells-joins, Joins, Joins-nothing, Joins-solid, Joins-ordinary, HasNoLineEnd, bytes-are_line_cells, EndLineBefore, IsLineOf, line-of_cells, line-ends, line-keeps_apart, EndLineBefore-tail, EndLineBefore-last, EndLineBefore-none, KeepsApart-tail, KeepsApart-last}
+use Rattle.mk_lines.specs.LineCells.{AreLineCells, AreLineCells-left, AreLineCells-right, AreLineCells-append, Joins, Joins-nothing, Joins-solid, Joins-ordinary, HasNoLineEnd, bytes-are_line_cells, EndLineBefore, IsLineOf, line-of_cells, line-ends, line-keeps_apart, EndLineBefore-tail, EndLineBefore-last, KeepsApart-tail, KeepsApart-last}
 use Rattle.mk_lines.specs.declared.ends.End.{End}
 
 -- ---- texts that can stand anywhere among cells
 
+-- whether a byte of this kind is ordinary
 abbrev pub is_ordinary_kind : ByteKind → Bool
 is_ordinary_kind Ordinary = true
 is_ordinary_kind k = false
@@ -47,15 +48,11 @@ ends_ordinary-split [] h = cc
 ends_ordinary-split (b ∷ []) h = ([], b, refl, is_ordinary_kind-is (byte_kind b) h)
 ends_ordinary-split (b ∷ c ∷ v) h = let s = ends_ordinary-split (c ∷ v) h in (b ∷ s.0, s.1, ap (λ z. b ∷ z) s.2, s.3)
 
-bytes-append : (a b : List ℕ) → map Byte (a ++ b) ≡ map Byte a ++ map Byte b
-bytes-append [] b = refl
-bytes-append (x ∷ a) b = ap (λ z. Byte x ∷ z) (bytes-append a b)
-
 -- its bytes join whatever follows
 pub ends_ordinary-joins : (v : List ℕ) (cs : List Cell) → ends_ordinary v ≡ true → Joins (map Byte v) cs
 ends_ordinary-joins v cs h =
     let s = ends_ordinary-split v h in
-    subst (λ z. Joins z cs) (sym (ap (map Byte) s.2 ∙ bytes-append s.0 (s.1 ∷ []))) (Joins-ordinary (map Byte s.0) s.1 cs s.3)
+    subst (λ z. Joins z cs) (sym (ap (map Byte) s.2 ∙ map-append Byte s.0 (s.1 ∷ []))) (Joins-ordinary (map Byte s.0) s.1 cs s.3)
 
 -- whatever stands before joins them
 pub begins_solid-joins : (a : List Cell) (v : List ℕ) (cs : List Cell) → begins_solid v ≡ true → Joins a (map Byte v ++ cs)
@@ -93,7 +90,7 @@ replaced-are_line_cells P W Q v h p =
 
 last_of_replaced : (P : List Cell) (v front : List ℕ) (last : ℕ) → v ≡ front ++ last ∷ [] → P ++ (map Byte v ++ []) ≡ (P ++ map Byte front) ++ Byte last ∷ []
 last_of_replaced P v front last h =
-    ap (λ z. P ++ z) (append-nil (map Byte v) ∙ (ap (map Byte) h ∙ bytes-append front (last ∷ []))) ∙ sym (append_assoc P (map Byte front) (Byte last ∷ []))
+    ap (λ z. P ++ z) (append-nil (map Byte v) ∙ (ap (map Byte) h ∙ map-append Byte front (last ∷ []))) ∙ sym (append_assoc P (map Byte front) (Byte last ∷ []))
 
 reset-ordinary : (b : ℕ) → byte_kind b ≡ Ordinary → is_reset (Byte b) ≡ true
 reset-ordinary b h = ap is_reset_kind h
@@ -113,9 +110,9 @@ replaced-ends l below P W (d ∷ D) v r h p k n =
     let after : P ++ (map Byte v ++ (d ∷ D)) ≡ (P ++ map Byte v) ++ (d ∷ D) = sym (append_assoc P (map Byte v) (d ∷ D)) in
     let tail : AreLineCells (d ∷ D) = AreLineCells-right W (d ∷ D) (AreLineCells-right P (W ++ (d ∷ D)) h) in (
       subst (λ z. KeepsApart (line_end l) (reverse (raw_text z))) (sym after)
-      (KeepsApart-tail (line_end l) (P ++ W) (P ++ map Byte v) d D r tail.are_cells.0 (subst (λ z. KeepsApart (line_end l) (reverse (raw_text z))) before k)),
+          (KeepsApart-tail (line_end l) (P ++ W) (P ++ map Byte v) d D r tail.are_cells.0 (subst (λ z. KeepsApart (line_end l) (reverse (raw_text z))) before k)),
       subst (λ z. EndLineBefore (line_end l) z below) (sym after)
-      (EndLineBefore-tail (line_end l) (P ++ W) (P ++ map Byte v) d D below r (subst AreLineCells before h) (subst AreLineCells after (replaced-are_line_cells P W (d ∷ D) v h p)) (subst (λ z. EndLineBefore (line_end l) z below) before n)),
+          (EndLineBefore-tail (line_end l) (P ++ W) (P ++ map Byte v) d D below r (subst AreLineCells before h) (subst AreLineCells after (replaced-are_line_cells P W (d ∷ D) v h p)) (subst (λ z. EndLineBefore (line_end l) z below) before n)),
     )
 
 -- a line with the cells W replaced by a plain text

@@ -30,6 +30,7 @@ module _ {A S : Type 0} (step : S → A → S) (begins : S → A → Bool) where
       go true k ih = cc
       go false k ih = ap (λ l. x ∷ l) (ih (cc))
 
+  -- nor does one begin in the second
   pub continues-right : (s : S) (a b : List A) → continuation step begins s (a ++ b) ≡ a ++ b → continuation step begins (state_after step s a) b ≡ b
   continues-right s [] b h = h
   continues-right s (x ∷ a) b h = go (begins s x) h (λ k. continues-right (step s x) a b k)
@@ -128,10 +129,12 @@ module _ {A S : Type 0} (step : S → A → S) (begins : S → A → Bool) where
       go false k i j = j k
 
   module _ (start : S) (begins-always : (x : A) → begins start x ≡ true) where
+    -- in the start state nothing continues
     pub continuation-start : (b : List A) → continuation step begins start b ≡ []
     continuation-start [] = refl
     continuation-start (x ∷ b) = rw begins-always refl
 
+    -- what continues a piece is the same whatever follows the start state
     pub continuation-append : (s : S) (a b : List A) → state_after step s a ≡ start → continuation step begins s (a ++ b) ≡ continuation step begins s a
     continuation-append s [] b h = rw h (continuation-start b)
     continuation-append s (x ∷ a) b h = ap (cond (begins s x) []) (ap (λ l. x ∷ l) (continuation-append (step s x) a b h))
@@ -190,11 +193,13 @@ module _ {A S : Type 0} (step : S → A → S) (begins : S → A → Bool) where
 
 -- ---- a list that is the image of another
 
+-- the state after an image
 pub state_after-map : {A B S : Type 0} (f : A → B) (step : S → B → S) (s : S) (t : List A) → state_after step s (map f t) ≡ state_after (λ z x. step z (f x)) s t
 state_after-map f step s [] = refl
 state_after-map f step s (x ∷ t) = state_after-map f step (step s (f x)) t
 
 module _ {A B S : Type 0} (f : A → B) (step : S → B → S) (begins : S → B → Bool) where
+  -- what continues a piece, in an image
   pub continuation-map : (s : S) (t : List A) → continuation step begins s (map f t) ≡ map f (continuation (λ z x. step z (f x)) (λ z x. begins z (f x)) s t)
   continuation-map s [] = refl
   continuation-map s (x ∷ t) = rw (continuation-map (step s (f x)) t) (go (begins s (f x)))

@@ -11,18 +11,22 @@ least_prefix_after p seen (x ∷ t) = if p (seen ++ x ∷ []) then seen ++ x ∷
 abbrev pub least_prefix : {A : Type 0} → (List A → Bool) → List A → List A
 least_prefix p t = least_prefix_after p [] t
 
+-- whether a mark is `(`
 abbrev pub is_open_paren : Mark → Bool
 is_open_paren OpenParen = true
 is_open_paren m = false
 
+-- whether a mark is `)`
 abbrev pub is_close_paren : Mark → Bool
 is_close_paren CloseParen = true
 is_close_paren m = false
 
+-- whether a mark is `{`
 abbrev pub is_open_brace : Mark → Bool
 is_open_brace OpenBrace = true
 is_open_brace m = false
 
+-- whether a mark is `}`
 abbrev pub is_close_brace : Mark → Bool
 is_close_brace CloseBrace = true
 is_close_brace m = false
@@ -37,6 +41,7 @@ module _ {A : Type 0} (byte : A → ℕ) where
   abbrev pub has_level_parens : List A → Bool
   has_level_parens t = mark_count is_open_paren t == mark_count is_close_paren t
 
+  -- whether a text has as many `{` as `}`
   abbrev pub has_level_braces : List A → Bool
   has_level_braces t = mark_count is_open_brace t == mark_count is_close_brace t
 
@@ -47,6 +52,7 @@ module _ {A : Type 0} (byte : A → ℕ) where
   dollar_unit_at OpenBrace d x t = d ∷ least_prefix has_level_braces (x ∷ t)
   dollar_unit_at m d x t = d ∷ x ∷ []
 
+  -- the unit of a dollar before a text
   abbrev pub dollar_unit : A → List A → List A
   dollar_unit d [] = d ∷ []
   dollar_unit d (x ∷ t) = dollar_unit_at (byte_mark (byte x)) d x t
@@ -56,6 +62,7 @@ module _ {A : Type 0} (byte : A → ℕ) where
   backslash_unit_at Dollar b x = b ∷ []
   backslash_unit_at m b x = b ∷ x ∷ []
 
+  -- the unit of a backslash before a text
   abbrev pub backslash_unit : A → List A → List A
   backslash_unit b [] = b ∷ []
   backslash_unit b (x ∷ t) = backslash_unit_at (byte_mark (byte x)) b x
@@ -77,11 +84,13 @@ module _ {A : Type 0} (byte : A → ℕ) where
 
   -- ---- units that leave a text open
 
+  -- whether the rest of a dollar unit, which begins with a byte of this mark, is a reference whose brackets are not level
   abbrev pub is_unclosed_at : Mark → (rest : List A) → Bool
   is_unclosed_at OpenParen r = not (has_level_parens r)
   is_unclosed_at OpenBrace r = not (has_level_braces r)
   is_unclosed_at m r = false
 
+  -- whether a unit that begins with a byte of this mark is a lone dollar or an unclosed reference
   abbrev pub is_unclosed_by : Mark → List A → Bool
   is_unclosed_by Dollar [] = true
   is_unclosed_by Dollar (x ∷ t) = is_unclosed_at (byte_mark (byte x)) (x ∷ t)
@@ -92,6 +101,7 @@ module _ {A : Type 0} (byte : A → ℕ) where
   is_unclosed_unit [] = false
   is_unclosed_unit (x ∷ t) = is_unclosed_by (byte_mark (byte x)) t
 
+  -- whether a mark is a backslash
   abbrev pub is_backslash_mark : Mark → Bool
   is_backslash_mark Escape = true
   is_backslash_mark m = false

@@ -1,5 +1,5 @@
 -- Laws of lines, cells, units and words, each the contract of a public function.
-use Rattle.std.specs.Prelude.{◌≡◌, ℕ, List, [], ◌∷◌, ◌++◌, map, true, not}
+use Rattle.std.specs.Prelude.{◌≡◌, ℕ, List, [], ◌∷◌, ◌++◌, map, true, not, take, drop}
 use Rattle.mk_lines.specs.Lists.{concat}
 use Rattle.mk_lines.specs.PhysicalLines.{line_end, line_end_bytes, without_line_end}
 use Rattle.mk_lines.specs.LogicalLines.{logical_lines, ends_line}
@@ -7,6 +7,7 @@ use Rattle.mk_lines.specs.Cells.{joined_byte, joined_text, raw_text, line_cells}
 use Rattle.mk_lines.specs.CellLaws.{NoLineEnds}
 use Rattle.mk_lines.specs.Units.{units, is_closed}
 use Rattle.mk_lines.specs.FirstUnit.{first_unit, after_first_unit, leaves_open}
+use Rattle.mk_lines.specs.Ranges.{text_at, line_ranges, unit_ranges, word_ranges, raw_place}
 use Rattle.mk_lines.specs.Words.{tokens, token_units, AreTokens, words}
 
 -- ---- lines
@@ -75,3 +76,18 @@ JoinedUnits = (line : List ℕ) →
 -- is a single blank, a word has at least one unit and no such blank, and no word stands directly after another.
 abbrev pub WordsAreRuns : Type 0
 WordsAreRuns = (us : List (List ℕ)) → (token_units (tokens (λ b. b) us) ≡ us) × AreTokens (λ b. b) (tokens (λ b. b) us)
+
+-- ---- ranges
+
+-- the ranges of a text's lines, units and words cut them out of it
+abbrev pub RangesCut : Type 0
+RangesCut = (text : List ℕ) →
+    (map (text_at text) (line_ranges text) ≡ logical_lines text)
+    × (map (text_at text) (unit_ranges text) ≡ units (λ b. b) text)
+    × (map (text_at text) (word_ranges text) ≡ words (λ b. b) text)
+
+-- a raw place cuts a line, without its line end, into the raw bytes of the cells before the place and of those from it on
+abbrev pub RawPlacesCut : Type 0
+RawPlacesCut = (line : List ℕ) (place : ℕ) →
+    (take (raw_place (line_cells line) place) (without_line_end line) ≡ raw_text (take place (line_cells line)))
+    × (drop (raw_place (line_cells line) place) (without_line_end line) ≡ raw_text (drop place (line_cells line)))

@@ -1,15 +1,15 @@
 -- Cells that a line may have: they are read again from their raw bytes, and with a line end they are one line. Lists of them
 -- are taken apart and put together at seams.
-use Rattle.std.proofs.Common.{◌≡◌, refl, sym, ap, ◌∙◌, subst, ℕ, List, [], ◌∷◌, ◌++◌, map, Bool, true, false, not, ◌&&◌, ◌||◌, append_assoc, reverse}
+use Rattle.std.proofs.Common.{◌≡◌, refl, sym, ap, ◌∙◌, subst, ℕ, List, [], ◌∷◌, ◌++◌, map, Bool, true, false, not, ◌&&◌, ◌||◌, reverse}
 use Rattle.std.proofs.lemmas.List.{append-nil, reverse-append, reverse-reverse}
 use Rattle.mk_lines.specs.Bytes.{ByteKind, byte_kind, LineFeed, CarriageReturn, Backslash, Blank, Ordinary, is_blank_kind}
 use Rattle.mk_lines.specs.PhysicalLines.{line_end, line_end_bytes, without_line_end}
 use Rattle.mk_lines.specs.Cells.{Cell, Byte, Fold, LfEnd, CrLfEnd, raw_bytes, raw_text, cells, line_cells}
-use Rattle.mk_lines.specs.CellFaults.{has_bad_fold, is_fold, is_fold_first, is_backslash_cell}
+use Rattle.mk_lines.specs.CellFaults.{has_bad_fold, is_fold_first, is_backslash_cell}
 use Rattle.mk_lines.specs.ListLaws.{Each, Each-append, Each-left, Each-right}
 use Rattle.mk_lines.specs.CutLaws.{state_after-append}
-use Rattle.mk_lines.specs.LineCut.{LineState, AtStart, InLine, AfterOddRun, AfterOddRunCr, next_line_state, line_step, line_state_after}
-use Rattle.mk_lines.specs.CellLaws.{AreCells, AreCells-left, AreCells-right, AreCells-append, AreCells-meets, IsCell, NoLineEnds, is_line_end, is_solid, Meets, FitsBefore, byte_fits_before, cells-are_cells, cells-raw_text, raw_text-append, raw_text-bytes, raw_text-cells, solid-meets}
+use Rattle.mk_lines.specs.LineCut.{LineState, AtStart, InLine, AfterOddRun, AfterOddRunCr, line_step, line_state_after}
+use Rattle.mk_lines.specs.CellLaws.{AreCells, AreCells-left, AreCells-right, AreCells-append, IsCell, NoLineEnds, is_line_end, Meets, FitsBefore, byte_fits_before, cells-are_cells, cells-raw_text, raw_text-append, raw_text-cells, solid-meets}
 use Rattle.mk_lines.specs.LineLaws.{OneLine, Ends, EndsBefore}
 use Rattle.mk_lines.specs.LineEndLaws.{KeepsApart, FirstIsNot, without_line_end-append, line_end-append, line_end-keeps_apart, without_line_end-line_end}
 use Rattle.mk_lines.specs.LineOfCells.{IsClean, IsCleanAfter, IsCleanAfter-state_after, state_after-reset, is_reset, is_reset_kind, one_line-of_cells, state_after-start}
@@ -41,6 +41,7 @@ Joins [] b = Unit {0}
 Joins (c ∷ []) b = FitsBefore c b × (is_bad_before c b ≡ false)
 Joins (c ∷ d ∷ a) b = Joins (d ∷ a) b
 
+-- laws of `||`
 pub or-both_false : (a b : Bool) → a ≡ false → b ≡ false → (a || b) ≡ false
 or-both_false true b h k = cc
 or-both_false false b h k = k
@@ -89,9 +90,11 @@ bad_fold-joins (c ∷ d ∷ a) b f h = bad_fold-joins (d ∷ a) b f.2 (or-right_
 pub AreLineCells-left : (a b : List Cell) → AreLineCells (a ++ b) → AreLineCells a
 AreLineCells-left a b h = record { are_cells = AreCells-left a b h.are_cells; clean = (Each-left (λ c. not (is_line_end c)) a b h.clean.0, bad_fold-left a b h.clean.1) }
 
+-- the last of such cells are such cells
 pub AreLineCells-right : (a b : List Cell) → AreLineCells (a ++ b) → AreLineCells b
 AreLineCells-right a b h = record { are_cells = AreCells-right a b h.are_cells; clean = (Each-right (λ c. not (is_line_end c)) a b h.clean.0, bad_fold-right a b h.clean.1) }
 
+-- and the two parts join
 pub AreLineCells-joins : (a b : List Cell) → AreLineCells (a ++ b) → Joins a b
 AreLineCells-joins a b h = bad_fold-joins a b h.are_cells h.clean.1
 
@@ -102,6 +105,7 @@ AreLineCells-append a b h k j = record {
   clean = (Each-append (λ c. not (is_line_end c)) a b h.clean.0 k.clean.0, bad_fold-append a b h.clean.1 k.clean.1 j);
 }
 
+-- no cells are such cells
 pub AreLineCells-none : AreLineCells []
 AreLineCells-none = record { are_cells = tt; clean = (tt, refl) }
 
@@ -131,11 +135,13 @@ ordinary-fits_before b (d ∷ cs) h = rw h refl
 ordinary-not_bad : (b : ℕ) (cs : List Cell) → byte_kind b ≡ Ordinary → is_bad_before (Byte b) cs ≡ false
 ordinary-not_bad b cs h = rw h refl
 
+-- what ends in an ordinary byte joins anything
 pub Joins-ordinary : (a : List Cell) (b : ℕ) (cs : List Cell) → byte_kind b ≡ Ordinary → Joins (a ++ Byte b ∷ []) cs
 Joins-ordinary a b cs h = Joins-last a (Byte b) cs (ordinary-fits_before b cs h) (ordinary-not_bad b cs h)
 
 -- ---- bytes as cells
 
+-- whether a byte of this kind is neither a line feed nor a carriage return
 abbrev pub is_no_line_end_kind : ByteKind → Bool
 is_no_line_end_kind LineFeed = false
 is_no_line_end_kind CarriageReturn = false
@@ -249,6 +255,7 @@ state_after-tail p d D r h =
     ∙ (state_after-append line_step (line_state_after InLine (raw_text p)) (raw_bytes d) (raw_text D)
     ∙ ap (λ s. line_state_after s (raw_text D)) (state_after-reset (line_state_after InLine (raw_text p)) d D r tail.are_cells.0 after)))
 
+-- cells end a line where others do that end in the same cells
 pub EndLineBefore-tail : (e : End) (p q : List Cell) (d : Cell) (D : List Cell) (below : List (List ℕ)) → is_reset d ≡ true → AreLineCells (p ++ d ∷ D) → AreLineCells (q ++ d ∷ D)
     → EndLineBefore e (p ++ d ∷ D) below → EndLineBefore e (q ++ d ∷ D) below
 unfolding EndLine
@@ -281,6 +288,7 @@ followed-line_end e cs h n =
     line_end-from_in_line e (line_state_after InLine (raw_text cs)) (IsCleanAfter-state_after InLine (raw_text cs) [] clean)
     (sym (state_after-append line_step InLine (raw_text cs) (line_end_bytes e)) ∙ n)
 
+-- cells that end in a blank, a fold or an ordinary byte end a line where any do
 pub EndLineBefore-last : (e : End) (cs p : List Cell) (d : Cell) (below : List (List ℕ)) → is_reset d ≡ true → AreLineCells cs → AreLineCells (p ++ d ∷ [])
     → EndLineBefore e cs below → EndLineBefore e (p ++ d ∷ []) below
 unfolding EndLine
@@ -354,6 +362,7 @@ KeepsApart-last e p b h =
     subst (KeepsApart e) (sym (ap reverse (raw_text-append p (Byte b ∷ [])) ∙ reverse-append (raw_text p) (b ∷ [])))
     (reset-no_line_end e (byte_kind b) b (reverse (raw_text p)) refl h)
 
+-- a line end stays apart from nothing
 pub KeepsApart-none : (e : End) → KeepsApart e []
 KeepsApart-none None = tt
 KeepsApart-none Lf = tt

@@ -28,28 +28,34 @@ next_line_state AfterOddRun Backslash = InLine
 next_line_state s Backslash = AfterOddRun
 next_line_state s k = InLine
 
+-- whether a text stands at the start of a line
 abbrev pub is_at_start : LineState → Bool
 is_at_start AtStart = true
 is_at_start s = false
 
--- the machine over bytes: its step, whether a byte begins a line, and what it cuts
+-- the state after one more byte of a text
 abbrev pub line_step : LineState → ℕ → LineState
 line_step s b = next_line_state s (byte_kind b)
 
+-- whether a byte begins a line
 abbrev pub line_begins : LineState → ℕ → Bool
 line_begins s b = is_at_start s
 
+-- the lines that begin in a text
 abbrev pub line_pieces : LineState → List ℕ → List (List ℕ)
 line_pieces s t = pieces line_step line_begins s t
 
+-- what at the front of a text continues the line before it
 abbrev pub line_continuation : LineState → List ℕ → List ℕ
 line_continuation s t = continuation line_step line_begins s t
 
+-- the state after a text
 abbrev pub line_state_after : LineState → List ℕ → LineState
 line_state_after s t = state_after line_step s t
 
 -- ---- the state after a text, from the text read backwards
 
+-- the state after a text that is read backwards and stands in a line
 abbrev pub line_state_backwards : List ℕ → LineState
 line_state_backwards [] = InLine
 line_state_backwards (b ∷ r) = next_line_state (line_state_backwards r) (byte_kind b)
@@ -58,6 +64,7 @@ line_state_after-backwards : (r p : List ℕ) → line_state_after (line_state_b
 line_state_after-backwards r [] = refl
 line_state_after-backwards r (b ∷ p) = rw (reverse-append (b ∷ []) p, append_assoc (reverse p) (b ∷ []) r) (line_state_after-backwards (b ∷ r) p)
 
+-- the two agree
 pub line_state_after-reverse : (p : List ℕ) → line_state_after InLine p ≡ line_state_backwards (reverse p)
 line_state_after-reverse p = rw (append-nil (reverse p)) at (line_state_after-backwards [] p)
 
@@ -66,6 +73,7 @@ abbrev pub is_after_odd_run : LineState → Bool
 is_after_odd_run AfterOddRun = true
 is_after_odd_run s = false
 
+-- whether a line feed continues the line
 abbrev pub is_continued_state : LineState → Bool
 is_continued_state AfterOddRun = true
 is_continued_state AfterOddRunCr = true
@@ -96,10 +104,12 @@ odd_run-step Ordinary InLine o h = refl
 odd_run-step Ordinary AfterOddRun o h = refl
 odd_run-step Ordinary AfterOddRunCr o h = refl
 
+-- an odd run of backslashes, by the state after a text
 pub odd_run-state : (r : List ℕ) → starts_with_odd_run r ≡ is_after_odd_run (line_state_backwards r)
 odd_run-state [] = refl
 odd_run-state (b ∷ r) = odd_run-step (byte_kind b) (line_state_backwards r) (starts_with_odd_run r) (odd_run-state r)
 
+-- the same of a text without a carriage return at its end
 pub drop_carriage_return-state : (r : List ℕ) → starts_with_odd_run (drop_carriage_return r) ≡ is_continued_state (line_state_backwards r)
 drop_carriage_return-state [] = refl
 drop_carriage_return-state (b ∷ r) = go (byte_kind b) refl (line_state_backwards r) (odd_run-state r)
@@ -172,6 +182,7 @@ onto_first-twice : (m q : List ℕ) (ls : List (List ℕ)) → onto_first m (ont
 onto_first-twice m q [] = refl
 onto_first-twice m q (l ∷ ls) = ap (λ x. x ∷ ls) (sym (append_assoc m q l))
 
+-- only after a line feed a line begins
 pub next-not_start : (s : LineState) (k : ByteKind) → (k ≡ LineFeed → ⊥) → is_at_start (next_line_state s k) ≡ false
 next-not_start s LineFeed h = absurd (h refl)
 next-not_start AfterOddRun CarriageReturn h = refl
@@ -242,6 +253,7 @@ grouped-line_feed b t e g = record { fresh = fresh; within = within }
         (let l : before_first p (before_lines (byte_kind b) b (physical_lines t)) ≡ (p ++ b ∷ []) ∷ physical_lines t = rw e (before_first-line p (b ∷ []) (physical_lines t)) in
         rw (l, is_continued-state p b e) (by-place (line_state_after InLine p) m p (line_state_after-not_start InLine p h refl)))
 
+-- a line feed apart, the start of a line is as any place in it
 pub next-start : (k : ByteKind) → next_line_state AtStart k ≡ next_line_state InLine k
 next-start LineFeed = refl
 next-start CarriageReturn = refl

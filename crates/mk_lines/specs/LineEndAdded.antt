@@ -1,5 +1,5 @@
 -- A last line that is not open, and a line end put after it: one line of the same text, after which a new one begins.
-use Rattle.std.proofs.Common.{◌≡◌, refl, sym, ap, ◌∙◌, subst, ℕ, List, [], ◌∷◌, ◌++◌, Bool, true, false, not, ◌&&◌, ◌||◌, reverse}
+use Rattle.std.proofs.Common.{◌≡◌, refl, sym, ap, ◌∙◌, ℕ, List, [], ◌∷◌, ◌++◌, Bool, true, false, not, ◌&&◌, reverse}
 use Rattle.std.proofs.lemmas.List.{reverse-reverse}
 use Rattle.mk_lines.specs.Bytes.{ByteKind, byte_kind, LineFeed, CarriageReturn, Backslash, Blank, Ordinary, is_carriage_return_kind}
 use Rattle.mk_lines.specs.PhysicalLines.{line_end, line_end_backwards, line_end_at, line_end_by, line_end_bytes, without_line_end, drop_line_end, is_carriage_return_first, ends_with_carriage_return}
@@ -7,10 +7,10 @@ use Rattle.mk_lines.specs.LogicalLines.{starts_with_odd_run, is_continued, has_n
 use Rattle.mk_lines.specs.CutLaws.{state_after-append}
 use Rattle.mk_lines.specs.LineCut.{LineState, AtStart, InLine, AfterOddRun, AfterOddRunCr, next_line_state, is_at_start, is_after_odd_run, line_state_backwards, line_step, line_state_after, line_state_after-reverse, odd_run-state}
 use Rattle.mk_lines.specs.LineLaws.{OneLine, Ends}
-use Rattle.mk_lines.specs.LineEndLaws.{KeepsApart, FirstIsNot, drop_line_end-none, line_end_by-some, without_line_end-append, line_end-append}
+use Rattle.mk_lines.specs.LineEndLaws.{KeepsApart, FirstIsNot, drop_line_end-none, without_line_end-append, line_end-append}
 use Rattle.mk_lines.specs.LineCells.{or-left_false, or-right_false}
 use Rattle.mk_lines.specs.LineOfCells.{one_line-of_text, state_after-start}
-use Rattle.mk_lines.specs.CellsOfLine.{one_line-continues, last-not_at_start}
+use Rattle.mk_lines.specs.CellsOfLine.{one_line-continues}
 use Rattle.mk_lines.specs.declared.ends.End.{End}
 use Rattle.mk_lines.specs.declared.ends.End.TheVariants.{None, Lf, CrLf}
 

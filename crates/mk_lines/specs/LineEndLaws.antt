@@ -43,6 +43,7 @@ without_line_end-line_end l = text-line_end_backwards (reverse l) ∙ reverse-re
 
 -- ---- where a text ends a line
 
+-- a line end that has a line feed is one
 pub line_end_by-some : (c : Bool) → has_no_line_end (line_end_by c) ≡ false
 line_end_by-some true = refl
 line_end_by-some false = refl
@@ -80,6 +81,7 @@ is_at_start-is InLine h = cc
 is_at_start-is AfterOddRun h = cc
 is_at_start-is AfterOddRunCr h = cc
 
+-- a text that ends a line ends, and the other way round
 pub ends_line-ends : (t : List ℕ) → ends_line t ≡ true → Ends t
 unfolding Ends
 ends_line-ends t h = is_at_start-is (line_state_after AtStart t) (sym (ends_line-state t) ∙ h)
@@ -102,6 +104,7 @@ KeepsApart None r = FirstIsNot LineFeed r
 KeepsApart Lf r = FirstIsNot CarriageReturn r
 KeepsApart CrLf r = Unit {0}
 
+-- a text without a line feed at its end has no line end
 pub drop_line_end-none : (r : List ℕ) → FirstIsNot LineFeed r → drop_line_end r ≡ r
 drop_line_end-none [] h = refl
 drop_line_end-none (b ∷ r) h = go (byte_kind b) h
@@ -152,6 +155,7 @@ without_line_end-append x None h = rw (append-nil x, drop_line_end-none (reverse
 without_line_end-append x Lf h = rw (reverse-append x (10 ∷ []), drop_carriage_return-none (reverse x) h, reverse-reverse x) refl
 without_line_end-append x CrLf h = rw (reverse-append x (13 ∷ 10 ∷ []), reverse-reverse x) refl
 
+-- and this line end
 pub line_end-append : (x : List ℕ) (e : End) → KeepsApart e (reverse x) → line_end (x ++ line_end_bytes e) ≡ e
 line_end-append x None h = rw (append-nil x) (line_end-none (reverse x) h)
 line_end-append x Lf h = rw (reverse-append x (10 ∷ []), carriage_return-none (reverse x) h) refl

@@ -49,14 +49,17 @@ abbrev pub EndsBefore : List ℕ → List (List ℕ) → Type 0
 EndsBefore t [] = Unit {0}
 EndsBefore t (l ∷ ls) = Ends t
 
+-- a text that ends does so before any lines
 pub EndsBefore-any : (t : List ℕ) (ls : List (List ℕ)) → Ends t → EndsBefore t ls
 EndsBefore-any t [] h = tt
 EndsBefore-any t (l ∷ ls) h = h
 
+-- the logical lines of a text are lines
 pub logical_lines-are_lines : (t : List ℕ) → AreLines (logical_lines t)
 unfolding AreLines
 logical_lines-are_lines t = ap (line_pieces AtStart) (concat-logical_lines t) ∙ sym (logical_lines-pieces t)
 
+-- lines are the logical lines of their text, and the other way round
 pub AreLines-logical : (ls : List (List ℕ)) → AreLines ls → logical_lines (concat ls) ≡ ls
 unfolding AreLines
 AreLines-logical ls h = logical_lines-pieces (concat ls) ∙ h
@@ -74,6 +77,7 @@ pub OneLine-of : (l : List ℕ) → logical_lines l ≡ l ∷ [] → OneLine l
 unfolding OneLine
 OneLine-of l h = sym (logical_lines-pieces l) ∙ h
 
+-- one line is a list of lines, and the other way round
 pub OneLine-are_lines : (l : List ℕ) → OneLine l → AreLines (l ∷ [])
 unfolding OneLine AreLines
 OneLine-are_lines l h = rw (append-nil l) h
@@ -88,6 +92,7 @@ pub record AreApart (P Q : List (List ℕ)) : Type 0 where
   pub second : AreLines Q
   pub ends : EndsBefore (concat P) Q
 
+-- the lines of a text taken apart
 pub lines-apart : (t : List ℕ) (P Q : List (List ℕ)) → logical_lines t ≡ P ++ Q → AreApart P Q
 unfolding AreLines Ends
 lines-apart t P Q h =
@@ -147,6 +152,7 @@ pub record Among (X : List (List ℕ)) (l : List ℕ) (Y : List (List ℕ)) : Ty
   pub one : OneLine l
   pub ends : EndsBefore l Y
 
+-- what is known of a line of a text
 pub among : (t : List ℕ) (X : List (List ℕ)) (l : List ℕ) (Y : List (List ℕ)) → logical_lines t ≡ X ++ l ∷ Y → Among X l Y
 among t X l Y h =
     let a : AreApart X (l ∷ Y) = lines-apart t X (l ∷ Y) h in

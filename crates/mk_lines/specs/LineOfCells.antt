@@ -22,6 +22,7 @@ or-right_false : (a b : Bool) → (a || b) ≡ false → b ≡ false
 or-right_false true b h = cc
 or-right_false false b h = h
 
+-- clean cells without the first are clean
 pub IsClean-tail : (c : Cell) (cs : List Cell) → IsClean (c ∷ cs) → IsClean cs
 IsClean-tail c cs h = (h.0.1, or-right_false (is_backslash_kind (byte_kind (joined_byte c)) && is_fold_first cs) (has_bad_fold cs) h.1)
 
@@ -136,6 +137,7 @@ continuation-clean InLine (b ∷ t) h = ap (λ l. b ∷ l) (continuation-clean (
 continuation-clean AfterOddRun (b ∷ t) h = ap (λ l. b ∷ l) (continuation-clean (next_line_state AfterOddRun (byte_kind b)) t (IsCleanAfter-step AfterOddRun (byte_kind b) b (cells t) refl h))
 continuation-clean AfterOddRunCr (b ∷ t) h = ap (λ l. b ∷ l) (continuation-clean (next_line_state AfterOddRunCr (byte_kind b)) t (IsCleanAfter-step AfterOddRunCr (byte_kind b) b (cells t) refl h))
 
+-- the state after a text, and the cells that the rest may have there
 pub IsCleanAfter-state_after : (s : LineState) (a t : List ℕ) → IsCleanAfter s (cells (a ++ t)) → IsCleanAfter (line_state_after s a) (cells t)
 IsCleanAfter-state_after s [] t h = h
 IsCleanAfter-state_after s (b ∷ a) t h = IsCleanAfter-state_after (next_line_state s (byte_kind b)) a t (IsCleanAfter-step s (byte_kind b) b (cells (a ++ t)) refl h)
@@ -256,11 +258,13 @@ is_reset_kind Blank = true
 is_reset_kind Ordinary = true
 is_reset_kind k = false
 
+-- whether after a cell it is the same what stood before it: a blank, a fold or an ordinary byte
 abbrev pub is_reset : Cell → Bool
 is_reset (Byte b) = is_reset_kind (byte_kind b)
 is_reset (Fold r) = true
 is_reset c = false
 
+-- after such a cell a text stands in a line
 pub state_after-reset : (s : LineState) (d : Cell) (D : List Cell) → is_reset d ≡ true → IsCell d → IsCleanAfter s (d ∷ D) → line_state_after s (raw_bytes d) ≡ InLine
 state_after-reset s (Byte b) D h v o = go s (byte_kind b) h
   where
@@ -296,6 +300,7 @@ IsCleanAfter-not_start InLine h = refl
 IsCleanAfter-not_start AfterOddRun h = refl
 IsCleanAfter-not_start AfterOddRunCr h = refl
 
+-- a text that is not empty leads from the start of a line where it leads in one
 pub state_after-start : (b : ℕ) (t : List ℕ) → line_state_after AtStart (b ∷ t) ≡ line_state_after InLine (b ∷ t)
 state_after-start b t = rw (next-start (byte_kind b)) refl
 

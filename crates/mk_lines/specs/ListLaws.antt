@@ -18,6 +18,7 @@ concat-append [] b = refl
 concat-append (x ∷ a) b = rw (concat-append a b) (sym (append_assoc x (concat a) (concat b)))
 
 module _ {A : Type 0} (p : A → Bool) where
+  -- the leading elements and those after them are the list
   pub leading-after_leading : (xs : List A) → leading p xs ++ after_leading p xs ≡ xs
   leading-after_leading [] = refl
   leading-after_leading (x ∷ xs) = go (p x) (leading-after_leading xs)
@@ -26,6 +27,7 @@ module _ {A : Type 0} (p : A → Bool) where
       go true e = ap (λ l. x ∷ l) e
       go false e = refl
 
+  -- each leading element passes the test
   pub leading-each : (xs : List A) → Each p (leading p xs)
   leading-each [] = tt
   leading-each (x ∷ xs) = go (p x) refl (leading-each xs)
@@ -34,6 +36,7 @@ module _ {A : Type 0} (p : A → Bool) where
       go true e h = (e, h)
       go false e h = tt
 
+  -- the first element after the leading ones fails it
   pub after_leading-first_fails : (xs : List A) → FirstFails p (after_leading p xs)
   after_leading-first_fails [] = tt
   after_leading-first_fails (x ∷ xs) = go (p x) refl (after_leading-first_fails xs)
@@ -42,11 +45,13 @@ module _ {A : Type 0} (p : A → Bool) where
       go true e h = h
       go false e h = e
 
+  -- the leading elements where all of one list pass and the first of the next fails
   pub leading-append_all : (xs ys : List A) → Each p xs → FirstFails p ys → leading p (xs ++ ys) ≡ xs
   leading-append_all [] [] h k = refl
   leading-append_all [] (y ∷ ys) h k = rw k refl
   leading-append_all (x ∷ xs) ys h k = rw (h.0, leading-append_all xs ys h.1 k) refl
 
+  -- and what comes after them
   pub after_leading-append_all : (xs ys : List A) → Each p xs → FirstFails p ys → after_leading p (xs ++ ys) ≡ ys
   after_leading-append_all [] [] h k = refl
   after_leading-append_all [] (y ∷ ys) h k = rw k refl
@@ -67,6 +72,7 @@ module _ {A : Type 0} (p : A → Bool) where
       go true = refl
       go false = refl
 
+  -- each element of two lists
   pub Each-append : (xs ys : List A) → Each p xs → Each p ys → Each p (xs ++ ys)
   Each-append [] ys h k = k
   Each-append (x ∷ xs) ys h k = (h.0, Each-append xs ys h.1 k)
@@ -81,6 +87,7 @@ module _ {A : Type 0} (p : A → Bool) where
 
   -- ---- trimming the end
 
+  -- a list trimmed and its trailing elements are the list
   pub trim_end-trailing : (xs : List A) → trim_end p xs ++ trailing p xs ≡ xs
   trim_end-trailing [] = refl
   trim_end-trailing (x ∷ xs) = go (p x) (trim_end p xs) (trailing p xs) (trim_end-trailing xs)
@@ -90,6 +97,7 @@ module _ {A : Type 0} (p : A → Bool) where
       go true (y ∷ t) r e = ap (λ l. x ∷ l) e
       go false t r e = ap (λ l. x ∷ l) e
 
+  -- each trailing element passes the test
   pub trailing-each : (xs : List A) → Each p (trailing p xs)
   trailing-each [] = tt
   trailing-each (x ∷ xs) = go (p x) refl (trim_end p xs) (trailing-each xs)
@@ -113,6 +121,7 @@ module _ {A : Type 0} (p : A → Bool) where
   trailing-all [] h = refl
   trailing-all (x ∷ xs) h = rw (h.0, trim_end-all xs h.1, trailing-all xs h.1) refl
 
+  -- what is trimmed of a list whose last element fails before elements that pass
   pub trim_end-append : (xs ys : List A) → LastFails xs → Each p ys → trim_end p (xs ++ ys) ≡ xs
   trim_end-append [] ys h k = trim_end-all ys k
   trim_end-append (x ∷ []) ys h k = rw (h, trim_end-all ys k) refl
@@ -131,6 +140,7 @@ module _ {A : Type 0} (p : A → Bool) where
       go true = refl
       go false = refl
 
+  -- the last element of a trimmed list fails the test
   pub trim_end-last_fails : (xs : List A) → LastFails (trim_end p xs)
   trim_end-last_fails [] = tt
   trim_end-last_fails (x ∷ xs) = go (p x) refl (trim_end p xs) (trim_end-last_fails xs)

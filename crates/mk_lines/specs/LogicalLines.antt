@@ -6,6 +6,7 @@ use Rattle.mk_lines.specs.PhysicalLines.{physical_lines, line_end, without_line_
 use Rattle.mk_lines.specs.declared.ends.End.{End}
 use Rattle.mk_lines.specs.declared.ends.End.TheVariants.{None, Lf, CrLf}
 
+-- the same of a text that begins with a byte of this kind, `rest` saying it of what follows
 abbrev pub starts_with_odd_run_at : ByteKind → (rest : Bool) → Bool
 starts_with_odd_run_at Backslash rest = not rest
 starts_with_odd_run_at k rest = false
@@ -24,6 +25,7 @@ ends_with_odd_run t = starts_with_odd_run (reverse t)
 abbrev pub is_continued : List ℕ → Bool
 is_continued l = ends_with_odd_run (without_line_end l)
 
+-- a line, continued or not, before the groups of those after it
 abbrev pub before_group : (continued : Bool) → List ℕ → List (List ℕ) → List (List ℕ)
 before_group true l ls = onto_first l ls
 before_group false l ls = l ∷ ls
@@ -37,6 +39,7 @@ grouped (l ∷ ls) = before_group (is_continued l) l (grouped ls)
 abbrev pub logical_lines : List ℕ → List (List ℕ)
 logical_lines t = grouped (physical_lines t)
 
+-- whether a line end is none
 abbrev pub has_no_line_end : End → Bool
 has_no_line_end None = true
 has_no_line_end Lf = false

@@ -17,6 +17,7 @@ physical_lines (b ∷ t) = before_lines (byte_kind b) b (physical_lines t)
 
 -- ---- the line end, of a text that is read backwards
 
+-- a text that begins with a byte of this kind, without that byte where it is a carriage return
 abbrev pub drop_carriage_return_at : ByteKind → ℕ → List ℕ → List ℕ
 drop_carriage_return_at CarriageReturn b t = t
 drop_carriage_return_at k b t = b ∷ t
@@ -26,6 +27,7 @@ abbrev pub drop_carriage_return : List ℕ → List ℕ
 drop_carriage_return [] = []
 drop_carriage_return (b ∷ t) = drop_carriage_return_at (byte_kind b) b t
 
+-- a line read backwards that begins with a byte of this kind, without its line end
 abbrev pub drop_line_end_at : ByteKind → ℕ → List ℕ → List ℕ
 drop_line_end_at LineFeed b t = drop_carriage_return t
 drop_line_end_at k b t = b ∷ t
@@ -35,14 +37,17 @@ abbrev pub drop_line_end : List ℕ → List ℕ
 drop_line_end [] = []
 drop_line_end (b ∷ t) = drop_line_end_at (byte_kind b) b t
 
+-- whether the first byte is a carriage return
 abbrev pub is_carriage_return_first : List ℕ → Bool
 is_carriage_return_first [] = false
 is_carriage_return_first (b ∷ t) = is_carriage_return_kind (byte_kind b)
 
+-- the line end of a line feed, before which a carriage return stands or not
 abbrev pub line_end_by : Bool → End
 line_end_by true = CrLf
 line_end_by false = Lf
 
+-- the line end of a line read backwards that begins with a byte of this kind
 abbrev pub line_end_at : ByteKind → List ℕ → End
 line_end_at LineFeed t = line_end_by (is_carriage_return_first t)
 line_end_at k t = None

@@ -1,26 +1,16 @@
 -- Laws of pieces: a text with the replacements of pieces made is the text that the pieces say, and a line with some of its
 -- cells replaced is one line of the new cells.
-use Rattle.std.proofs.Common.{◌≡◌, refl, sym, ap, ◌∙◌, subst, ℕ, List, [], ◌∷◌, ◌++◌, map, false, arith, append_assoc, length, take, drop, reverse, ◌-◌, ◌+◌, length-append}
+use Rattle.std.proofs.Common.{◌≡◌, refl, sym, ap, ◌∙◌, subst, ℕ, List, [], ◌∷◌, ◌++◌, map, arith, append_assoc, length, take, drop, reverse, ◌-◌, ◌+◌, length-append}
 use Rattle.std.proofs.lemmas.List.{append-nil}
-use Rattle.mk_lines.specs.Bytes.{byte_kind}
+use Rattle.std.proofs.Math.Seq.{take-append_seam, drop-append_seam}
 use Rattle.mk_lines.specs.PhysicalLines.{line_end, line_end_bytes}
-use Rattle.mk_lines.specs.Cells.{Cell, Byte, raw_text, line_cells}
-use Rattle.mk_lines.specs.CellLaws.{raw_text-append, raw_text-bytes, IsCell}
-use Rattle.mk_lines.specs.LineLaws.{OneLine, EndsBefore}
+use Rattle.mk_lines.specs.Cells.{Cell, Byte, raw_text}
+use Rattle.mk_lines.specs.CellLaws.{raw_text-append, raw_text-bytes}
 use Rattle.mk_lines.specs.LineEndLaws.{KeepsApart}
 use Rattle.mk_lines.specs.LineCells.{AreLineCells, AreLineCells-left, AreLineCells-right, AreLineCells-append, AreLineCells-none, Joins, HasNoLineEnd, bytes-are_line_cells, EndLineBefore, IsLineOf, line-of_cells}
-use Rattle.mk_lines.specs.Pieces.{Replacement, replaced, Piece, Keep, Replace, old_cells, new_cells, old_bytes, new_bytes, replacements}
-use Rattle.mk_lines.specs.declared.ends.End.{End}
+use Rattle.mk_lines.specs.Pieces.{replaced, Piece, Keep, Replace, old_cells, new_cells, old_bytes, new_bytes, replacements}
 
 -- ---- places
-
-pub take-length : (p q : List ℕ) → take (length p) (p ++ q) ≡ p
-take-length [] q = refl
-take-length (x ∷ p) q = ap (λ z. x ∷ z) (take-length p q)
-
-pub drop-length : (p q : List ℕ) → drop (length p) (p ++ q) ≡ q
-drop-length [] q = refl
-drop-length (x ∷ p) q = drop-length p q
 
 minus_zero : (n : ℕ) → n - 0 ≡ n
 minus_zero n = omega arith
@@ -33,8 +23,8 @@ pub replaced-one : (t p w q v : List ℕ) (s e : ℕ) → t ≡ p ++ (w ++ q) �
     → replaced 0 t (record { start = s; end = e; new = v } ∷ []) ≡ p ++ (v ++ q)
 replaced-one t p w q v s e h i j =
     let a : e ≡ length (p ++ w) = j ∙ (ap (λ z. z + length w) i ∙ sym (length-append p w)) in
-    let x : take (s - 0) t ≡ p = rw (minus_zero s, i, h) (take-length p (w ++ q)) in
-    let y : drop (e - 0) t ≡ q = rw (minus_zero e, a, h, ← append_assoc p w q) (drop-length (p ++ w) q) in
+    let x : take (s - 0) t ≡ p = rw (minus_zero s, i, h) (take-append_seam p (w ++ q)) in
+    let y : drop (e - 0) t ≡ q = rw (minus_zero e, a, h, ← append_assoc p w q) (drop-append_seam (p ++ w) q) in
     rw (x, y) refl
 
 replaced-from : (a : ℕ) (k : List ℕ) (ps : List Piece) (rest : List ℕ) → replaced a (k ++ (old_bytes ps ++ rest)) (replacements (a + length k) ps) ≡ k ++ (new_bytes ps ++ rest)
@@ -48,10 +38,10 @@ replaced-from a k (Keep cs ∷ ps) rest =
 replaced-from a k (Replace cs v ∷ ps) rest =
     let T = k ++ ((raw_text cs ++ old_bytes ps) ++ rest) in
     let t : T ≡ (k ++ raw_text cs) ++ (old_bytes ps ++ rest) = simp append_assoc in
-    let x : take (a + length k - a) T ≡ k = ap (λ z. take z T) (minus_front a (length k)) ∙ take-length k ((raw_text cs ++ old_bytes ps) ++ rest) in
+    let x : take (a + length k - a) T ≡ k = ap (λ z. take z T) (minus_front a (length k)) ∙ take-append_seam k ((raw_text cs ++ old_bytes ps) ++ rest) in
     let n : a + length k + length (raw_text cs) - a ≡ length (k ++ raw_text cs) = omega (arith, length-append k (raw_text cs)) in
     let y : drop (a + length k + length (raw_text cs) - a) T ≡ old_bytes ps ++ rest =
-    ap (λ z. drop z T) n ∙ (ap (drop (length (k ++ raw_text cs))) t ∙ drop-length (k ++ raw_text cs) (old_bytes ps ++ rest)) in
+    ap (λ z. drop z T) n ∙ (ap (drop (length (k ++ raw_text cs))) t ∙ drop-append_seam (k ++ raw_text cs) (old_bytes ps ++ rest)) in
     let e : a + length k + length (raw_text cs) ≡ a + length k + length (raw_text cs) + 0 = omega arith in
     let z : replaced (a + length k + length (raw_text cs)) (old_bytes ps ++ rest) (replacements (a + length k + length (raw_text cs)) ps) ≡ new_bytes ps ++ rest =
     ap (λ q. replaced (a + length k + length (raw_text cs)) (old_bytes ps ++ rest) (replacements q ps)) e ∙ replaced-from (a + length k + length (raw_text cs)) [] ps rest in
@@ -65,6 +55,7 @@ replaced-pieces p ps q = let e : length p ≡ 0 + length p = omega arith in ap (
 
 -- ---- cells and bytes
 
+-- the bytes of pieces are those of their cells
 pub raw_text-old_cells : (ps : List Piece) → raw_text (old_cells ps) ≡ old_bytes ps
 raw_text-old_cells [] = refl
 raw_text-old_cells (Keep cs ∷ ps) = raw_text-append cs (old_cells ps) ∙ ap (λ z. raw_text cs ++ z) (raw_text-old_cells ps)
@@ -76,6 +67,7 @@ raw_text-new_cells (Keep cs ∷ ps) = raw_text-append cs (new_cells ps) ∙ ap (
 raw_text-new_cells (Replace cs v ∷ ps) =
     raw_text-append (map Byte v) (new_cells ps) ∙ (ap (λ z. z ++ raw_text (new_cells ps)) (raw_text-bytes v) ∙ ap (λ z. v ++ z) (raw_text-new_cells ps))
 
+-- cells and bytes of two lists of pieces
 pub old_cells-append : (ps qs : List Piece) → old_cells (ps ++ qs) ≡ old_cells ps ++ old_cells qs
 old_cells-append [] qs = refl
 old_cells-append (Keep cs ∷ ps) qs = ap (λ z. cs ++ z) (old_cells-append ps qs) ∙ sym (append_assoc cs (old_cells ps) (old_cells qs))
@@ -104,6 +96,7 @@ SeamsJoin [] n = Unit {0}
 SeamsJoin (Keep cs ∷ ps) n = Joins cs (new_cells ps ++ n) × SeamsJoin ps n
 SeamsJoin (Replace cs v ∷ ps) n = HasNoLineEnd v × Joins (map Byte v) (new_cells ps ++ n) × SeamsJoin ps n
 
+-- the seams of two lists of pieces
 pub SeamsJoin-append : (ps qs : List Piece) (n : List Cell) → SeamsJoin ps (new_cells qs ++ n) → SeamsJoin qs n → SeamsJoin (ps ++ qs) n
 SeamsJoin-append [] qs n h k = k
 SeamsJoin-append (Keep cs ∷ ps) qs n h k =

@@ -1,11 +1,15 @@
 -- Places by lengths: the ranges of pieces that follow one another, of words, and of the raw bytes of joined ones.
-use Rattle.std.specs.Prelude.{ℕ, ◌+◌, List, [], ◌∷◌, length, take}
+use Rattle.std.specs.Prelude.{ℕ, ◌+◌, List, [], ◌∷◌, length, take, slice_range}
 use Rattle.mk_lines.specs.Lists.{concat}
 use Rattle.mk_lines.specs.LogicalLines.{logical_lines}
 use Rattle.mk_lines.specs.Cells.{Cell, raw_text}
 use Rattle.mk_lines.specs.Units.{units}
 use Rattle.mk_lines.specs.Words.{Token, Gap, Word, tokens}
 use Rattle.mk_lines.specs.declared.split.Span.{Span}
+
+-- the elements of a text in a range
+abbrev pub text_at : {A : Type 0} → List A → Span → List A
+text_at t s = slice_range t s.start s.end
 
 -- the ranges of pieces, the first of which begins at a place
 abbrev pub piece_ranges : {A : Type 0} → ℕ → List (List A) → List Span

@@ -1,5 +1,6 @@
 -- Laws of words: tokens are the units, cut at the blanks, and tokens that are apart are read again from their units.
-use Rattle.std.proofs.Common.{◌≡◌, refl, ap, ◌∙◌, ℕ, List, [], ◌∷◌, ◌++◌, map, Bool, true, false, append_assoc}
+use Rattle.std.proofs.Common.{◌≡◌, refl, sym, ap, ◌∙◌, ℕ, List, [], ◌∷◌, ◌++◌, map, Bool, true, false, append_assoc}
+use Rattle.std.proofs.lemmas.List.{map-append}
 use Rattle.mk_lines.specs.Lists.{concat}
 use Rattle.mk_lines.specs.Units.{units}
 use Rattle.mk_lines.specs.UnitLaws.{units-map}
@@ -36,6 +37,7 @@ module _ {A : Type 0} (byte : A → ℕ) where
   before-are_tokens false u (Word [] ∷ ts) e h = absurd h.0
   before-are_tokens false u (Word (x ∷ w) ∷ ts) e h = ((e, h.0), h.1, h.2)
 
+  -- the tokens of units are apart
   pub tokens-are_tokens : (us : List (List A)) → AreTokens byte (tokens byte us)
   tokens-are_tokens [] = tt
   tokens-are_tokens (u ∷ us) = before-are_tokens (is_gap byte u) u (tokens byte us) refl (tokens-are_tokens us)
@@ -64,17 +66,14 @@ module _ {A : Type 0} (byte : A → ℕ) where
 
 -- ---- the tokens of an image are the images of the tokens
 
+-- the image of a token
 abbrev pub map_token : {A B : Type 0} → (A → B) → Token A → Token B
 map_token f (Gap u) = Gap (map f u)
 map_token f (Word w) = Word (map (map f) w)
 
 concat-map : {A B : Type 0} (f : A → B) (us : List (List A)) → concat (map (map f) us) ≡ map f (concat us)
 concat-map f [] = refl
-concat-map f (u ∷ us) = ap (λ z. map f u ++ z) (concat-map f us) ∙ join u
-  where
-    join : (u : List _) → map f u ++ map f (concat us) ≡ map f (u ++ concat us)
-    join [] = refl
-    join (x ∷ u) = ap (λ z. f x ∷ z) (join u)
+concat-map f (u ∷ us) = ap (λ z. map f u ++ z) (concat-map f us) ∙ sym (map-append f u (concat us))
 
 module _ {A B : Type 0} (f : A → B) (byte : B → ℕ) where
   is_gap-map : (u : List A) → is_gap byte (map f u) ≡ is_gap (λ x. byte (f x)) u
@@ -88,6 +87,7 @@ module _ {A B : Type 0} (f : A → B) (byte : B → ℕ) where
   before-map false u (Gap x ∷ ts) = refl
   before-map false u (Word w ∷ ts) = refl
 
+  -- the tokens of the images of units are the images of the tokens
   pub tokens-map : (us : List (List A)) → tokens byte (map (map f) us) ≡ map (map_token f) (tokens (λ x. byte (f x)) us)
   tokens-map [] = refl
   tokens-map (u ∷ us) =

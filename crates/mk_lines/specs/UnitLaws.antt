@@ -52,6 +52,7 @@ module _ {A : Type 0} (byte : A → ℕ) where
   pub is_closed-between : (t : List A) → is_closed byte t ≡ true → state_after (unit_step byte) Between t ≡ Between
   is_closed-between t h = is_between-is (state_after (unit_step byte) Between t) h
 
+  -- and a text that ends so is closed
   pub between-is_closed : (t : List A) → state_after (unit_step byte) Between t ≡ Between → is_closed byte t ≡ true
   between-is_closed t h = ap is_between h
 
@@ -86,6 +87,7 @@ module _ {A : Type 0} (byte : A → ℕ) where
   EndsPlain (u ∷ []) = IsPlainUnit u
   EndsPlain (u ∷ v ∷ us) = EndsPlain (v ∷ us)
 
+  -- whatever stands before such units
   pub EndsPlain-append : (us : List (List A)) (u : List A) (vs : List (List A)) → EndsPlain (u ∷ vs) → EndsPlain (us ++ (u ∷ vs))
   EndsPlain-append [] u vs h = h
   EndsPlain-append (x ∷ []) u vs h = h
@@ -126,5 +128,6 @@ module _ {A : Type 0} (byte : A → ℕ) where
 pub units-map : {A B : Type 0} (f : A → B) (byte : B → ℕ) (t : List A) → units byte (map f t) ≡ map (map f) (units (λ x. byte (f x)) t)
 units-map f byte t = pieces-map f (unit_step byte) (unit_begins byte) Between t
 
+-- an image is closed where the text is
 pub is_closed-map : {A B : Type 0} (f : A → B) (byte : B → ℕ) (t : List A) → is_closed byte (map f t) ≡ is_closed (λ x. byte (f x)) t
 is_closed-map f byte t = ap is_between (state_after-map f (unit_step byte) Between t)

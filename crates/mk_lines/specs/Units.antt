@@ -58,11 +58,13 @@ begins_unit Between m = true
 begins_unit AfterBackslash Dollar = true
 begins_unit s m = false
 
+-- whether a text stands between two units
 abbrev pub is_between : UnitState → Bool
 is_between Between = true
 is_between s = false
 
 module _ {A : Type 0} (byte : A → ℕ) where
+  -- the state after one more element, and whether an element begins a unit
   abbrev pub unit_step : UnitState → A → UnitState
   unit_step s x = next_unit_state s (byte_mark (byte x))
 

@@ -1,6 +1,6 @@
 //! Laws of lines, cells, units and words: each contract is a theorem on the definitions that the
 //! calls of this crate are specified by. The functions do nothing.
-ghost use Rattle.mk_lines.specs.Laws.{CellsAreBytesOrFolds, CellsJoined, ClosedByUnits, JoinedUnits, LinesAreLocal, LinesAreSingle, LinesJoined, UnitsAreFirstUnits, UnitsJoined, UnitsOfClosed, WordsAreRuns};
+ghost use Rattle.mk_lines.specs.Laws.{CellsAreBytesOrFolds, CellsJoined, ClosedByUnits, JoinedUnits, LinesAreLocal, LinesAreSingle, LinesJoined, RangesCut, RawPlacesCut, UnitsAreFirstUnits, UnitsJoined, UnitsOfClosed, WordsAreRuns};
 
 /// The logical lines of a text, joined, are the text.
 pub fn lines_joined()
@@ -65,4 +65,15 @@ pub fn joined_units()
 /// Words are the maximal runs of units that are not single blanks.
 pub fn words_are_runs()
     ensures { WordsAreRuns }
+{}
+
+/// The ranges of a text's logical lines, units and words cut them out of it.
+pub fn ranges_cut()
+    ensures { RangesCut }
+{}
+
+/// A raw place cuts a line, without its line end, into the raw bytes of the cells before the place
+/// and of those from it on.
+pub fn raw_places_cut()
+    ensures { RawPlacesCut }
 {}
