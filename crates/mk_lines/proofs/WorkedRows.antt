@@ -1,8 +1,8 @@
 -- Worked rows: the definitions of lines, cells, units and words, computed on texts whose answers are known.
 use Rattle.std.proofs.Common.{◌≡◌, refl, [], ◌∷◌, map, true, false}
 use Rattle.std.specs.Prelude.{codes}
-use Rattle.mk_lines.specs.PhysicalLines.{physical_lines, line_end, without_line_end}
-use Rattle.mk_lines.specs.LogicalLines.{logical_lines, is_open}
+use Rattle.mk_lines.specs.PhysicalLines.{physical_lines, line_end, without_line_end, file_line_end}
+use Rattle.mk_lines.specs.LogicalLines.{logical_lines, is_open, ends_line}
 use Rattle.mk_lines.specs.Cells.{joined_byte, raw_bytes, raw_text, joined_text, line_cells}
 use Rattle.mk_lines.specs.CellFaults.{has_bad_fold, has_stray}
 use Rattle.mk_lines.specs.Units.{units, is_closed}
@@ -81,6 +81,29 @@ open_bare_backslash = refl
 open_after_dollar : is_open (codes "X = a$\\\n") ≡ true
 open_after_dollar = refl
 
+-- the line end of new lines is that of the first physical line, also where that line is continued
+file_end_crlf : file_line_end (codes "A=\\\r\n1\nB=2\n") ≡ CrLf
+file_end_crlf = refl
+
+file_end_lf : file_line_end (codes "A=1\nB=2\r\n") ≡ Lf
+file_end_lf = refl
+
+file_end_bare : file_line_end (codes "A=1") ≡ Lf
+file_end_bare = refl
+
+file_end_empty : file_line_end [] ≡ Lf
+file_end_empty = refl
+
+-- where a line ends, for a text put after it
+ends_by_line_feed : ends_line (codes "a \\\nb\n") ≡ true
+ends_by_line_feed = refl
+
+ends_not_continued : ends_line (codes "a \\\n") ≡ false
+ends_not_continued = refl
+
+ends_not_bare : ends_line (codes "a") ≡ false
+ends_not_bare = refl
+
 -- ---- cells
 
 fold_joined : joined_text (line_cells (codes "F = a \\\n    b\n")) ≡ codes "F = a b"
@@ -117,6 +140,13 @@ fold_before_tab = refl
 
 inline_recipe_raw : raw_text (line_cells (codes "a: ; \\\n c\n")) ≡ codes "a: ; \\\n c"
 inline_recipe_raw = refl
+
+fold_before_comment : joined_text (line_cells (codes "X = a \\\n # c\n")) ≡ codes "X = a # c"
+fold_before_comment = refl
+
+-- a fold at the end of a line stays a space
+fold_at_end : joined_text (line_cells (codes "X = a \\\n\n")) ≡ codes "X = a "
+fold_at_end = refl
 
 -- a value that is not there has its place after the whole fold
 place_after_fold : raw_place (line_cells (codes "X = \\\n # c\n")) 4 ≡ 7
@@ -178,6 +208,15 @@ dollar_takes_backslash_is_closed = refl
 
 dollar_takes_hash : units (λ b. b) (codes "a$# b") ≡ codes "a" ∷ codes "$#" ∷ codes " " ∷ codes "b" ∷ []
 dollar_takes_hash = refl
+
+dollar_takes_blank : units (λ b. b) (codes "a$ # c") ≡ codes "a" ∷ codes "$ " ∷ codes "#" ∷ codes " " ∷ codes "c" ∷ []
+dollar_takes_blank = refl
+
+backslash_takes_blank : units (λ b. b) (codes "a\\  b") ≡ codes "a" ∷ codes "\\ " ∷ codes " " ∷ codes "b" ∷ []
+backslash_takes_blank = refl
+
+two_backslashes : units (λ b. b) (codes "a\\\\ b") ≡ codes "a" ∷ codes "\\\\" ∷ codes " " ∷ codes "b" ∷ []
+two_backslashes = refl
 
 unclosed_reference : units (λ b. b) (codes "$(foo ${)}") ≡ codes "$(foo ${)" ∷ codes "}" ∷ []
 unclosed_reference = refl

@@ -76,3 +76,20 @@ line_end_bytes CrLf = 13 ∷ 10 ∷ []
 -- whether the last byte is a carriage return
 abbrev pub ends_with_carriage_return : List ℕ → Bool
 ends_with_carriage_return t = is_carriage_return_first (reverse t)
+
+-- ---- the line end of new lines
+
+-- a line end, LF where there is none
+abbrev pub line_end_or_lf : End → End
+line_end_or_lf None = Lf
+line_end_or_lf Lf = Lf
+line_end_or_lf CrLf = CrLf
+
+-- the line end of the first of some lines, LF where there is none
+abbrev pub first_line_end : List (List ℕ) → End
+first_line_end [] = Lf
+first_line_end (l ∷ ls) = line_end_or_lf (line_end l)
+
+-- the line end that new lines of a text have: that of its first physical line, LF where it has none
+abbrev pub file_line_end : List ℕ → End
+file_line_end t = first_line_end (physical_lines t)
