@@ -1,5 +1,5 @@
 -- Logical lines are the pieces that a machine of four states cuts, one byte after the other.
-use Rattle.std.proofs.Common.{◌≡◌, refl, sym, ap, ℕ, List, [], ◌∷◌, ◌++◌, Bool, true, false, not, append_assoc, reverse}
+use Rattle.std.proofs.Common.{◌≡◌, refl, sym, ap, ◌∙◌, ℕ, List, [], ◌∷◌, ◌++◌, Bool, true, false, not, append_assoc, reverse}
 use Rattle.std.proofs.lemmas.List.{reverse-append, reverse-reverse, append-nil}
 use mathlib.Core.Logic.{◌⊎◌, inl, inr}
 use Rattle.mk_lines.specs.Cut.{state_after, continuation, pieces}
@@ -178,7 +178,8 @@ unfolding before_first
 before_first-none b [] = refl
 before_first-none b (c ∷ p) = rw (before_first-none c p) refl
 
-onto_first-twice : (m q : List ℕ) (ls : List (List ℕ)) → onto_first m (onto_first q ls) ≡ onto_first (m ++ q) ls
+-- two texts put in front of lines, one after the other
+pub onto_first-twice : (m q : List ℕ) (ls : List (List ℕ)) → onto_first m (onto_first q ls) ≡ onto_first (m ++ q) ls
 onto_first-twice m q [] = refl
 onto_first-twice m q (l ∷ ls) = ap (λ x. x ∷ ls) (sym (append_assoc m q l))
 
@@ -253,7 +254,7 @@ grouped-line_feed b t e g = record { fresh = fresh; within = within }
         (let l : before_first p (before_lines (byte_kind b) b (physical_lines t)) ≡ (p ++ b ∷ []) ∷ physical_lines t = rw e (before_first-line p (b ∷ []) (physical_lines t)) in
         rw (l, is_continued-state p b e) (by-place (line_state_after InLine p) m p (line_state_after-not_start InLine p h refl)))
 
--- a line feed apart, the start of a line is as any place in it
+-- each byte leads from the start of a line where it leads from within one
 pub next-start : (k : ByteKind) → next_line_state AtStart k ≡ next_line_state InLine k
 next-start LineFeed = refl
 next-start CarriageReturn = refl
@@ -287,3 +288,19 @@ is_grouped (b ∷ t) = elim (line_feed_or_not (byte_kind b)) [ inl e ↦ grouped
 -- the logical lines of a text are what the machine cuts
 pub logical_lines-pieces : (t : List ℕ) → logical_lines t ≡ line_pieces AtStart t
 logical_lines-pieces t = (is_grouped t).fresh
+
+-- ---- the lines of a text, one physical line after the other
+
+-- the logical lines of a text that begins with a physical line: this line, by itself or in one group with the next
+pub logical_lines-line : (p : List ℕ) (b : ℕ) (t : List ℕ) → NoLineFeed p → byte_kind b ≡ LineFeed → logical_lines (p ++ b ∷ t) ≡ before_group (is_continued (p ++ b ∷ [])) (p ++ b ∷ []) (logical_lines t)
+logical_lines-line p b t h e =
+    ap grouped (physical_lines-append p (b ∷ t) h ∙ (ap (λ k. before_first p (before_lines k b (physical_lines t))) e ∙ before_first-line p (b ∷ []) (physical_lines t)))
+
+-- the logical lines of a text without line feed: itself, where it is not empty
+pub logical_lines-last : (b : ℕ) (p : List ℕ) → NoLineFeed (b ∷ p) → logical_lines (b ∷ p) ≡ (b ∷ p) ∷ []
+logical_lines-last b p h =
+    ap logical_lines (sym (append-nil (b ∷ p))) ∙ (ap grouped (physical_lines-append (b ∷ p) [] h ∙ before_first-none b p) ∙ alone (is_continued (b ∷ p)))
+  where
+    alone : (c : Bool) → before_group c (b ∷ p) [] ≡ (b ∷ p) ∷ []
+    alone true = refl
+    alone false = refl
