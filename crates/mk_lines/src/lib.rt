@@ -4,13 +4,18 @@
 //! - [`source`]: where bytes come from, and a whole text from there.
 //! - [`sink`]: where bytes go to, and a whole text or some parts to there.
 //! - [`split`]: a text as its lines.
+//! - [`ends`]: how a line ends.
+//! - [`laws`]: theorems on the definitions of lines, cells, units and words.
 #![tactic(auto)]
 
+pub mod ends;
 pub mod fault;
+pub mod laws;
 pub mod sink;
 pub mod source;
 pub mod split;
 
+pub use ends::End;
 pub use fault::Fault;
 pub use sink::{ByteSink, StdSink};
 pub use source::{ByteSource, StdSource};

@@ -1,7 +1,9 @@
-//! A text as its lines.
-ghost use Rattle.std.specs.Prelude.{◌<◌, ◌≤◌, IfOk, length, IsOkUnless};
-ghost use Rattle.mk_lines.specs.Spans.{Tiles};
+//! A text as its logical lines.
+ghost use Rattle.std.specs.Prelude.{◌≡◌, ◌<◌, IfOk, IsOkUnless, length};
+ghost use Rattle.mk_lines.specs.Ranges.{line_ranges};
+ghost use Rattle.mk_lines.specs.Splitting.{IsFirstLine};
 
+use crate::ends::is_continued;
 use crate::fault::Fault;
 use memchr::memchr;
 use std::alloc::Allocator;
@@ -13,37 +15,44 @@ pub struct Span {
     pub end: usize,
 }
 
-/// The lines of a text: it is cut after each line feed, and a last line may have none.
+/// The logical lines of a text, in order: each a physical line with all that continue it.
 ///
-/// The spans follow one another and cover the text, and none is empty. That a backslash at a
-/// line's end continues the line is not read yet.
+/// A physical line ends after each LF; the last may have none. A line is continued by the next,
+/// where there is one, if the run of backslashes directly before its line end (LF, or CR LF) has
+/// odd length. The spans follow one another and cover the text; the empty text has none.
+///
+/// POSIX.1-2024 make, Makefile Syntax ("an escaped newline"); GNU make manual, "Splitting Long
+/// Lines".
 ///
 /// # Errors
 ///
 /// [`Fault::NoMemory`] where the list could not grow.
 pub fn split<A: Allocator>(alloc: A, text: &[u8]) -> Result<Vec<Span, A>, Fault>
-    ensures covers { IfOk result (λ spans. Tiles spans.items 0 (length text.now)) }
+    ensures lines { IfOk result (λ spans. spans.items ≡ line_ranges text.now) }
     ensures fault { IsOkUnless result Fault.NoMemory }
 {
     let mut spans = Vec::new(alloc);
     let mut start = 0;
-    while start < text.len() {
-        let end = next_line(text, start);
-        spans.push(Span { start, end })?;
-        start = end;
+    let mut rest = text;
+    'lines: while !rest.is_empty() {
+        let (line, after) = first_physical_line(rest);
+        if after.is_empty() || !is_continued(line) {
+            let end = text.len() - after.len();
+            spans.push(Span { start, end })?;
+            start = end;
+        }
+        rest = after;
     }
     Ok(spans)
 }
 
-/// The byte at which the line after that of `start` begins: behind the first line feed from
-/// `start` on, and the text's length where there is none.
-pub fn next_line(text: &[u8], start: usize) -> usize
-    requires { start < length text.now }
-    ensures after { start < result }
-    ensures within { result ≤ length text.now }
+// The first physical line of a text that is not empty, and the text after it.
+fn first_physical_line(text: &[u8]) -> (&[u8], &[u8])
+    requires { 0 < length text.now }
+    ensures { IsFirstLine text.now result.0.now result.1.now }
 {
-    match memchr(b'\n', &text[start..]) {
-        Some(at) => start + at + 1,
-        None => text.len(),
+    match memchr(b'\n', text) {
+        Some(at) => text.split_at(at + 1),
+        None => text.split_at(text.len()),
     }
 }

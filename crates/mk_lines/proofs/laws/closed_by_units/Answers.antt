@@ -1,0 +1,5 @@
+use Rattle.mk_lines.specs.FirstUnitLaws.{is_closed-leaves_open}
+use Rattle.mk_lines.proofs.laws.closed_by_units.Goals as goal
+
+pub returns : goal.returns
+returns c = is_closed-leaves_open (λ b. b)

@@ -1,0 +1,5 @@
+use Rattle.mk_lines.specs.LineLaws.{among, OneLine-logical}
+use Rattle.mk_lines.proofs.laws.lines_are_single.Goals as goal
+
+pub returns : goal.returns
+returns c text line above below h = OneLine-logical line ((among text above line below h).one)

@@ -1,0 +1,86 @@
+//! How a line ends, and whether the next one continues it.
+ghost use Rattle.std.specs.Prelude.{◌≡◌, ◌==◌};
+ghost use Rattle.std.specs.List.{suffix_len};
+ghost use Rattle.mk_lines.specs.PhysicalLines.{ends_with_carriage_return, line_end, without_line_end};
+ghost use Rattle.mk_lines.specs.LogicalLines.{ends_with_odd_run, is_continued, is_open};
+
+/// The line end of a line: the bytes that separate it from the next.
+///
+/// GNU make reads LF alone; that a CR directly before it belongs to the line end is this project's
+/// profile.
+#[derive(Clone, Copy, Debug, PartialEq, Eq)]
+pub enum End {
+    /// The line has no line feed: it is the last of its text.
+    None,
+    /// A line feed, with no carriage return before it.
+    Lf,
+    /// A carriage return and a line feed.
+    CrLf,
+}
+
+/// How a line, physical or logical, ends. Takes no memory.
+pub fn line_end(line: &[u8]) -> End
+    ensures { result ≡ line_end line.now }
+{
+    match line {
+        [.., b'\r', b'\n'] => End::CrLf,
+        [.., b'\n'] => End::Lf,
+        _ => End::None,
+    }
+}
+
+/// The text of a line before its line end. Takes no memory.
+pub fn without_line_end(line: &[u8]) -> &[u8]
+    ensures { result.now ≡ without_line_end line.now }
+{
+    match line {
+        [text @ .., b'\r', b'\n'] => text,
+        [text @ .., b'\n'] => text,
+        _ => line,
+    }
+}
+
+// Whether a text ends with a run of backslashes of odd length.
+fn ends_with_odd_run(text: &[u8]) -> bool
+    ensures { result ≡ ends_with_odd_run text.now }
+{
+    let run = backslashes_after(text);
+    run % 2 == 1
+}
+
+// How many backslashes a text ends with.
+fn backslashes_after(text: &[u8]) -> usize
+    ensures { result ≡ suffix_len (λ b. b == 92) text.now }
+{
+    text.iter()
+        .rev()
+        .take_while(|byte| **byte == b'\\')
+        .count()
+}
+
+/// Whether the next physical line, where there is one, continues this one: its text before the
+/// line end closes with a run of backslashes of odd length.
+///
+/// POSIX.1-2024 make, Makefile Syntax ("an escaped newline"); GNU make manual, "Splitting Long
+/// Lines". That a backslash before a backslash escapes it is what GNU make does.
+pub fn is_continued(line: &[u8]) -> bool
+    ensures { result ≡ is_continued line.now }
+{
+    ends_with_odd_run(without_line_end(line))
+}
+
+/// Whether a text put after this line, the last of its text, could become a part of it: the line
+/// would be continued, or it has no line end and its last byte is a CR. Takes no memory.
+///
+/// This project's profile: no line is added after such a line.
+pub fn is_open(line: &[u8]) -> bool
+    ensures { result ≡ is_open line.now }
+{
+    is_continued(line) || (line_end(line) == End::None && ends_with_carriage_return(line))
+}
+
+fn ends_with_carriage_return(text: &[u8]) -> bool
+    ensures { result ≡ ends_with_carriage_return text.now }
+{
+    matches!(text, [.., b'\r'])
+}
