@@ -2,5 +2,4 @@ mod RandomRows
 mod WorkedRows
 pub mod PartLemmas
 pub mod PrefixLemmas
-pub mod SpanLemmas
 pub mod SplitLemmas

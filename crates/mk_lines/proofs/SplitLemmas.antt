@@ -127,9 +127,9 @@ SplitUpTo-line text spans start rest line after h first ends =
       place = omega arith;
       closed = λ _. refl;
       ranges = h.ranges ∙ ap (λ ls. spans ++ piece_ranges start (with_begun h.begun ls)) (closes rest line after first ends)
-      ∙ ap (λ ls. spans ++ piece_ranges start ls) (with_begun-cons h.begun line (logical_lines after))
-      ∙ ap (λ e. spans ++ (record { start = start; end = e } ∷ piece_ranges e (logical_lines after))) end
-      ∙ sym (append_assoc spans (record { start = start; end = length text - length after } ∷ []) (piece_ranges (length text - length after) (logical_lines after)));
+          ∙ ap (λ ls. spans ++ piece_ranges start ls) (with_begun-cons h.begun line (logical_lines after))
+          ∙ ap (λ e. spans ++ (record { start = start; end = e } ∷ piece_ranges e (logical_lines after))) end
+          ∙ sym (append_assoc spans (record { start = start; end = length text - length after } ∷ []) (piece_ranges (length text - length after) (logical_lines after)));
     }
 
 -- a line that the next continues
@@ -143,7 +143,7 @@ SplitUpTo-continued text spans start rest line after h first more continued =
       place = omega (arith, length-append h.begun line);
       closed = λ none. let empty : length after ≡ 0 = ap length none in absurd (omega arith);
       ranges = h.ranges ∙ ap (λ ls. spans ++ piece_ranges start (with_begun h.begun ls)) (group first.lines)
-      ∙ ap (λ ls. spans ++ piece_ranges start ls) (with_begun-onto h.begun line (logical_lines after) first.some);
+          ∙ ap (λ ls. spans ++ piece_ranges start ls) (with_begun-onto h.begun line (logical_lines after) first.some);
     }
   where
     group : (logical_lines rest ≡ before_group (is_continued line) line (logical_lines after)) ⊎ ((after ≡ []) × (logical_lines rest ≡ line ∷ [])) → logical_lines rest ≡ onto_first line (logical_lines after)

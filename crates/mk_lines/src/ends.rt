@@ -52,10 +52,7 @@ fn ends_with_odd_run(text: &[u8]) -> bool
 fn backslashes_after(text: &[u8]) -> usize
     ensures { result ≡ suffix_len (λ b. b == 92) text.now }
 {
-    text.iter()
-        .rev()
-        .take_while(|byte| **byte == b'\\')
-        .count()
+    text.iter().rev().take_while(|byte| **byte == b'\\').count()
 }
 
 /// Whether the next physical line, where there is one, continues this one: its text before the

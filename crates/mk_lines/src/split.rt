@@ -1,6 +1,7 @@
 //! A text as its logical lines.
 ghost use Rattle.std.specs.Prelude.{◌≡◌, ◌<◌, IfOk, IsOkUnless, length};
 ghost use Rattle.mk_lines.specs.Ranges.{line_ranges};
+ghost use Rattle.mk_lines.specs.Spans.{Tiles};
 ghost use Rattle.mk_lines.specs.Splitting.{IsFirstLine};
 
 use crate::ends::is_continued;
@@ -29,6 +30,7 @@ pub struct Span {
 /// [`Fault::NoMemory`] where the list could not grow.
 pub fn split<A: Allocator>(alloc: A, text: &[u8]) -> Result<Vec<Span, A>, Fault>
     ensures lines { IfOk result (λ spans. spans.items ≡ line_ranges text.now) }
+    ensures covers { IfOk result (λ spans. Tiles spans.items 0 (length text.now)) }
     ensures fault { IsOkUnless result Fault.NoMemory }
 {
     let mut spans = Vec::new(alloc);
