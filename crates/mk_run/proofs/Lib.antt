@@ -1,3 +1,4 @@
+pub mod CountLemmas
 pub mod CutLemmas
 pub mod FrontLemmas
 pub mod ScriptLemmas

@@ -7,6 +7,7 @@ use Rattle.mk_run.specs.Script.{Meaning, Skipped, Asks, NotACommand, request_of}
 use Rattle.mk_run.specs.declared.thin.ThinLine as t
 use Rattle.mk_run.specs.declared.thin.ThinLine.TheVariants as thin
 use Rattle.mk_run.specs.Assignment.{StandsAt, is_line_feed}
+use Rattle.mk_run.specs.ThinFile.{LineKind, Idle, Assigns, NotThin}
 
 -- what a line of a script that was read is
 abbrev pub meaning_of_line : s.ScriptLine → Meaning
@@ -20,3 +21,9 @@ IsThinLine thin.Idle text = Unit {0}
 IsThinLine (thin.Assignment name start end) text =
     (start ≤ end) × (end ≤ length text) × (list_all (λ b. not (is_line_feed b)) text ≡ true → StandsAt name.now text start end)
 IsThinLine thin.Other text = Unit {0}
+
+-- what a line that was read is
+abbrev pub kind_of_line : t.ThinLine → LineKind
+kind_of_line thin.Idle = Idle
+kind_of_line (thin.Assignment name start end) = Assigns name.now
+kind_of_line thin.Other = NotThin

@@ -5,10 +5,12 @@
 //! blanks, and perhaps a comment from the first `#` on. This is the part of the makefile language
 //! that the program edits until it reads all of it; no line of it can be a rule or a directive, or
 //! continue on the next line.
-ghost use Rattle.std.specs.Prelude.{◌≡◌, ◌<◌, ◌≤◌, ◌==◌, IfOk, length};
-ghost use Rattle.std.specs.List.{before_first, after_first, prefix_len};
+ghost use Rattle.std.specs.Prelude.{◌≡◌, ◌<◌, ◌≤◌, ◌==◌, not, IfOk, length};
+ghost use Rattle.std.specs.List.{before_first, after_first, list_all, prefix_len};
+ghost use Rattle.memchr.specs.Find.{is_byte3};
 ghost use Rattle.mk_run.specs.Assignment.{StandsAt, is_name, is_name_byte};
-ghost use Rattle.mk_run.specs.Reading.{IsThinLine};
+ghost use Rattle.mk_run.specs.Reading.{IsThinLine, kind_of_line};
+ghost use Rattle.mk_run.specs.ThinFile.{AnswersCount, assignments, is_plain, is_plain_value, kind_of};
 
 use crate::blanks::{after_blanks, without_last_blanks};
 use crate::refusal::Refusal;
@@ -56,8 +58,24 @@ pub fn is_name(text: &[u8]) -> bool
 }
 
 /// Whether a text is a value that `set` writes into a thin file.
-pub fn is_thin_value(value: &[u8]) -> bool {
-    memchr3(b'$', b'#', b'\\', value).is_none() && memchr3(b'\r', 0, b'\n', value).is_none()
+pub fn is_thin_value(value: &[u8]) -> bool
+    ensures { result ≡ is_plain_value value.now }
+{
+    has_none_of(b'$', b'#', b'\\', value) && has_none_of(b'\r', 0, b'\n', value)
+}
+
+// Whether a text holds none of three bytes.
+fn has_none_of(a: u8, b: u8, c: u8, text: &[u8]) -> bool
+    ensures { result ≡ list_all (λ x. not (is_byte3 a b c x)) text.now }
+{
+    memchr3(a, b, c, text).is_none()
+}
+
+// Whether a text holds no byte that no thin file has.
+fn is_plain(text: &[u8]) -> bool
+    ensures { result ≡ is_plain text.now }
+{
+    has_none_of(b'$', b'\\', b'\r', text) && memchr(0, text).is_none()
 }
 
 // The text before the first byte that is `end`, or all of it, and the text after that byte.
@@ -74,7 +92,8 @@ fn cut_at(end: u8, text: &[u8]) -> (&[u8], &[u8])
 
 // A line without its line feed.
 fn read_line(line: &[u8]) -> ThinLine<'_>
-    ensures { IsThinLine result line.now }
+    ensures kind { kind_of_line result ≡ kind_of line.now }
+    ensures value { IsThinLine result line.now }
 {
     let (cut, _) = cut_at(b'#', line);
     let (name, rest) = cut.split_at(name_len(cut));
@@ -102,11 +121,12 @@ fn read_line(line: &[u8]) -> ThinLine<'_>
 /// - [`Refusal::NoSuch`] where the text is not thin, or has no assignment of the name.
 /// - [`Refusal::Ambiguous`] with the count where it has more than one.
 pub fn find_value(text: &[u8], name: &[u8]) -> Result<Span, Refusal>
+    ensures count { AnswersCount result (assignments name.now text.now) }
     ensures found { IfOk result (λ span. StandsAt name.now text.now span.start span.end) }
     ensures order { IfOk result (λ span. span.start ≤ span.end) }
     ensures within { IfOk result (λ span. span.end ≤ length text.now) }
 {
-    if memchr3(b'$', b'\\', b'\r', text).is_some() || memchr(0, text).is_some() {
+    if !is_plain(text) {
         return Err(Refusal::NoSuch);
     }
     let mut found = None;
@@ -115,19 +135,20 @@ pub fn find_value(text: &[u8], name: &[u8]) -> Result<Span, Refusal>
     'lines: while !rest.is_empty() {
         let (line, after) = cut_at(b'\n', rest);
         match read_line(line) {
+            ThinLine::Idle => {}
             ThinLine::Assignment {
                 name: other,
                 start,
                 end,
             } if other == name => {
                 let at = text.len() - rest.len();
-                count = count.saturating_add(1);
+                count += 1;
                 found = Some(Span {
                     start: at + start,
                     end: at + end,
                 });
             }
-            ThinLine::Idle | ThinLine::Assignment { .. } => {}
+            ThinLine::Assignment { .. } => {}
             ThinLine::Other => return Err(Refusal::NoSuch),
         }
         rest = after;

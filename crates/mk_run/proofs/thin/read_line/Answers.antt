@@ -10,8 +10,8 @@ first-and-rest (x ∷ text) b some first =
     let n : length (x ∷ text) - 1 ≡ length text = omega arith in
     ap (λ y. y ∷ text) first ∙ ap (λ l. b ∷ l) (sym (take-length text) ∙ ap (λ k. take k text) (sym n))
 
-pub returns : goal.returns
-returns c =
+pub returns-clause-value : goal.returns-clause-value
+returns-clause-value c =
     let xs = c.after_blanks.result.now in
     assignment-line c.args.line.now c.cut_at.result.0.now c.split_at.result.0.now c.split_at.result.1.now (take (length xs - 1) (drop 1 xs))
     c.after_blanks-rest.result.now c.without_last_blanks-value.result.now c.cut_at.ensures.before
