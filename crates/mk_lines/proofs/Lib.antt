@@ -3,3 +3,4 @@ mod WorkedRows
 pub mod PartLemmas
 pub mod PrefixLemmas
 pub mod SplitLemmas
+pub mod UnitWalkLemmas

@@ -5,18 +5,27 @@
 //! - [`sink`]: where bytes go to, and a whole text or some parts to there.
 //! - [`split`]: a text as its lines.
 //! - [`ends`]: how a line ends.
+//! - [`unit`]: the units of a text, and whether it is closed.
+//! - [`word`]: the words of a text.
+//! - [`iter`]: the iterators over units and words.
 //! - [`laws`]: theorems on the definitions of lines, cells, units and words.
 #![tactic(auto)]
 
 pub mod ends;
 pub mod fault;
+pub mod iter;
 pub mod laws;
 pub mod sink;
 pub mod source;
 pub mod split;
+pub mod unit;
+pub mod word;
 
 pub use ends::End;
 pub use fault::Fault;
+pub use iter::{Units, Words};
 pub use sink::{ByteSink, StdSink};
 pub use source::{ByteSource, StdSource};
 pub use split::Span;
+pub use unit::{is_closed, units};
+pub use word::words;

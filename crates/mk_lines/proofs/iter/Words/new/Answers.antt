@@ -1,0 +1,6 @@
+use Rattle.std.proofs.Common.{length}
+use Rattle.mk_lines.proofs.UnitWalkLemmas.{words_left-count}
+use Rattle.mk_lines.proofs.iter.Words.new.Goals as goal
+
+pub returns-clause-count : goal.returns-clause-count
+returns-clause-count c = words_left-count (length c.args.text.now) c.args.text.now

@@ -1,0 +1,92 @@
+//! Units: what a text is cut into before anything else is read in it.
+//!
+//! A makefile's text is cut from the left, byte by byte, so that what stands inside a variable
+//! reference, or after a backslash, is not taken for a blank, a colon or a comment:
+//!
+//! - `$(` begins a reference, which ends where its `(` and `)` are level. Only these two count
+//!   inside it, and nothing in it is escaped. `${` begins one in the same way with `{` and `}`. A
+//!   reference that is not closed runs to the end of the text.
+//! - `$` and any other byte are one unit, as in `$@` or `$$`.
+//! - A backslash and the byte after it are one unit, unless that byte is a `$`, which keeps its
+//!   meaning: then the backslash is a unit by itself.
+//! - Each other byte is a unit, and so is a `$` or a backslash at the end of the text.
+//!
+//! References are those of the GNU make manual, "How to Use Variables: Basics of Variable
+//! References". How a backslash is read, and that an unclosed reference takes the rest, is this
+//! project's profile.
+ghost use Rattle.std.specs.Prelude.{◌≡◌, ◌<◌, ◌≤◌, [], Some, None, false, length, MatchOption};
+ghost use Rattle.mk_lines.specs.Units.{is_closed};
+ghost use Rattle.mk_lines.specs.FirstUnit.{after_first_unit};
+ghost use Rattle.mk_lines.specs.Ranges.{unit_ranges};
+ghost use Rattle.mk_lines.specs.UnitWalk.{after_close};
+
+use crate::iter::Units;
+
+/// The units of a text, from its front to its end, each as the range of its bytes.
+///
+/// The ranges follow one another and cover the text; the module says what a unit is. To go through
+/// all of them takes time linear in the bytes of the text, and no memory.
+pub fn units(text: &[u8]) -> Units<'_>
+    ensures units { result ≡ unit_ranges text.now }
+    ensures count { length result ≤ length text.now }
+{
+    Units::new(text)
+}
+
+/// Whether a text is closed: what is written after it does not become part of its last unit.
+///
+/// Not closed is a text whose last unit is an unclosed reference, a lone `$` or a lone backslash.
+/// The empty text is closed. The test takes time linear in the bytes of the text, and no memory.
+pub fn is_closed(text: &[u8]) -> bool
+    ensures { result ≡ is_closed (λ b. b) text.now }
+{
+    let mut rest = text;
+    while !rest.is_empty() {
+        match after_unit(rest) {
+            Some(after) => rest = after,
+            None => return false,
+        }
+    }
+    true
+}
+
+/// What follows the unit at the front of a text.
+///
+/// It is `None` where this unit is a lone `$`, a lone backslash at the end or an unclosed
+/// reference: it runs to the end of the text then, and leaves it open.
+pub(crate) fn after_unit(text: &[u8]) -> Option<&[u8]>
+    requires { 0 < length text.now }
+    ensures after { MatchOption result (after_first_unit (λ b. b) text.now ≡ []) (λ rest. rest.now ≡ after_first_unit (λ b. b) text.now) }
+    ensures closed { MatchOption result (is_closed (λ b. b) text.now ≡ false) (λ rest. is_closed (λ b. b) text.now ≡ is_closed (λ b. b) rest.now) }
+{
+    match text {
+        [b'$', b'(', rest @ ..] => after_close(rest, b'(', b')'),
+        [b'$', b'{', rest @ ..] => after_close(rest, b'{', b'}'),
+        [b'$', _, rest @ ..] => Some(rest),
+        [b'\\', b'$', ..] => Some(&text[1..]),
+        [b'\\', _, rest @ ..] => Some(rest),
+        [b'$'] | [b'\\'] | [] => None,
+        [_, rest @ ..] => Some(rest),
+    }
+}
+
+/// What follows the bracket that closes a reference whose opening bracket stands before the text,
+/// and `None` where none does.
+fn after_close(text: &[u8], opening: u8, closing: u8) -> Option<&[u8]>
+    ensures { MatchOption result (after_close opening closing 0 text.now ≡ None) (λ rest. after_close opening closing 0 text.now ≡ Some rest.now) }
+{
+    let mut rest = text;
+    let mut depth = 0usize;
+    while let [byte, after @ ..] = rest {
+        rest = after;
+        if *byte == opening {
+            depth += 1;
+        } else if *byte == closing {
+            if depth == 0 {
+                return Some(rest);
+            }
+            depth -= 1;
+        }
+    }
+    None
+}

@@ -1,0 +1,62 @@
+//! Words: the maximal runs of units that are not single blanks.
+//!
+//! A blank is a space or a tab. A blank inside a reference, as in `$(subst x y,z,w)`, or after a
+//! backslash belongs to a larger unit, and so it ends no word.
+//!
+//! Where make cuts words it has expanded the text first; that they are cut before any expansion,
+//! by units, is this project's profile.
+ghost use Rattle.std.specs.Prelude.{◌≡◌, ◌≤◌, length};
+ghost use Rattle.mk_lines.specs.Lists.{after_leading};
+ghost use Rattle.mk_lines.specs.Ranges.{word_ranges};
+ghost use Rattle.mk_lines.specs.UnitWalk.{is_blank_byte, after_word};
+
+use crate::iter::Words;
+use crate::unit::after_unit;
+
+/// The words of a text, from its front to its end, each as the range of its bytes.
+///
+/// The module says what a word is. To go through all of them takes time linear in the bytes of the
+/// text, and no memory.
+pub fn words(text: &[u8]) -> Words<'_>
+    ensures words { result ≡ word_ranges text.now }
+    ensures count { length result ≤ length text.now }
+{
+    Words::new(text)
+}
+
+/// What follows the blanks at the front of a text.
+pub(crate) fn after_blanks(text: &[u8]) -> &[u8]
+    ensures rest { result.now ≡ after_leading is_blank_byte text.now }
+    ensures within { length result.now ≤ length text.now }
+{
+    let mut rest = text;
+    while let [first, after @ ..] = rest {
+        if !is_blank(*first) {
+            break;
+        }
+        rest = after;
+    }
+    rest
+}
+
+/// What follows the word at the front of a text: the text from its first unit on that is a blank.
+pub(crate) fn after_word(text: &[u8]) -> &[u8]
+    ensures rest { result.now ≡ after_word text.now }
+    ensures within { length result.now ≤ length text.now }
+{
+    let mut rest = text;
+    while let [first, ..] = rest {
+        if is_blank(*first) {
+            break;
+        }
+        rest = after_unit(rest).unwrap_or_default();
+    }
+    rest
+}
+
+/// Whether a byte is a blank.
+fn is_blank(byte: u8) -> bool
+    ensures { result ≡ is_blank_byte byte }
+{
+    matches!(byte, b' ' | b'\t')
+}
