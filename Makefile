@@ -6,7 +6,8 @@
 #   make check      the whole test: the merge gate (rt ci) and tests/program over what it built;
 #                   the last line is 'N passed, M failed', the sum of both
 #   make install    puts the program into $(DESTDIR)$(PREFIX)/bin
-#   make bench      compares its processor time and memory with those of cat and sed
+#   make bench      compares its processor time and memory with those of cat and sed, and measures
+#                   the reading of lines
 #   make clean      removes all that was made, and what rt keeps between two checks
 #
 # It is written for POSIX.1-2024 make, which GNU make 4 reads as well.
@@ -15,6 +16,7 @@
 
 PREFIX ?= /usr/local
 PROGRAM = crates/mkedit/out/mkedit
+LINE_BENCH = crates/line_bench/out/line_bench
 SOURCES != find crates -name out -prune -o '(' -name '*.rt' -o -name '*.antt' ')' -print
 
 all: $(PROGRAM)
@@ -36,8 +38,14 @@ install: $(PROGRAM)
 	install -d "$(DESTDIR)$(PREFIX)/bin"
 	install -m 755 $(PROGRAM) "$(DESTDIR)$(PREFIX)/bin/mkedit"
 
-bench: $(PROGRAM)
+# Without a file to measure, line_bench says how to use it and fails, but it is linked then.
+$(LINE_BENCH): crates.txt HANDLES $(SOURCES)
+	cd crates/line_bench && { rt run >/dev/null 2>&1 || test -x out/line_bench; }
+	touch $@
+
+bench: $(PROGRAM) $(LINE_BENCH)
 	@bench/run $(PROGRAM)
+	@bench/lines $(LINE_BENCH)
 
 clean:
 	rm -rf crates/*/out bench/data

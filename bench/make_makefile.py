@@ -9,8 +9,12 @@ settings  variables, comments and blank lines alone
 blank     one variable and then empty lines
 line      one variable with one long value
 
-Each text has one line that begins with `CC = `, and its last line is a comment (but in the last
-two kinds) that fills it up. No conditional or define is left open.
+and, for the reading of lines, texts of one byte or two over and over:
+
+backslashes, references   `\\` and `$(`
+
+Each text but those two has one line that begins with `CC = `, and its last line is a comment (but in the kinds from
+`blank` on) that fills it up. No conditional or define is left open.
 """
 
 import argparse
@@ -32,7 +36,7 @@ RECIPE_LINES = (
     "@echo built $@ # of $< and what it includes",
     "$(STRIP) --strip-unneeded $@ \\\n\t  || echo $@ stays as it is",
 )
-KINDS = ["makefile", "settings", "blank", "line"]
+KINDS = ("makefile", "settings", "blank", "line", "backslashes", "references")
 COMMENT = "# How the {0} of {1} is built, and what {2} needs of it.\n"
 
 
@@ -122,6 +126,12 @@ def texts(kind, seed, size):
     """The pieces of a text of the kind and size."""
     if kind == "line":
         yield b"CC = " + b"x" * (size - 6) + b"\n"
+        return
+    if kind == "backslashes":
+        yield b"\\" * size
+        return
+    if kind == "references":
+        yield b"$(" * (size // 2)
         return
     writer = Writer(seed)
     head = "CC = gcc\n"

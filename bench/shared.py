@@ -1,0 +1,59 @@
+"""What the benches share: the texts, which they make where they are not there yet, and the cost of a command."""
+
+import os
+import subprocess
+from pathlib import Path
+
+BENCH = Path(__file__).resolve().parent
+DATA = BENCH / "data"
+SEED = 1
+# The largest leaves an edit room below mkedit's limit, 16,777,216 bytes.
+LARGE, QUARTER, SMALL = 16_000_000, 4_000_000, 300_000
+GREATEST_RATIO = 5
+# sed and cat are fastest, so hardest to keep up with, where a character is a byte.
+ENVIRONMENT = {**os.environ, "LC_ALL": "C"}
+SED = ["sed", "s/^CC = .*/CC = clang/"]
+
+
+def text_of(kind, size):
+    """The file with the text, made where it is not there yet, or made by an older generator.
+
+    Another process makes it, so that this one stays small: see cost().
+    """
+    path = DATA / f"{kind}-{size}"
+    made_by = BENCH / "make_makefile.py"
+    if not path.exists() or path.stat().st_mtime < made_by.stat().st_mtime:
+        new = DATA / "new-text"
+        with open(new, "wb") as out:
+            subprocess.run([made_by, "--kind", kind, str(SEED), str(size)], stdout=out, check=True)
+        new.replace(path)
+    return path
+
+
+def cost(words):
+    """Runs a command, and returns its processor time in seconds and its peak of memory in bytes.
+
+    The kernel counts into the peak what this process had resident when it started the command,
+    some 10 MB, so the peak is only told of the large texts.
+    """
+    null = [(os.POSIX_SPAWN_OPEN, 1, os.devnull, os.O_WRONLY, 0)]
+    words = [str(it) for it in words]
+    pid = os.posix_spawnp(words[0], words, ENVIRONMENT, file_actions=null)
+    _, status, used = os.wait4(pid, 0)
+    if status:
+        raise SystemExit(f"{' '.join(words)} ended with the wait status {status}")
+    return used.ru_utime + used.ru_stime, used.ru_maxrss * 1024
+
+
+def best(commands, rounds):
+    """The least time and the greatest peak of each command, over rounds in which each runs once."""
+    runs = [[cost(it) for it in commands] for _ in range(rounds)]
+    return [(min(time for time, _ in each), max(peak for _, peak in each)) for each in zip(*runs)]
+
+
+def milliseconds(seconds):
+    return f"{seconds * 1000:.1f}"
+
+
+def row(*columns):
+    print(f"| {' | '.join(columns)} |", flush=True)

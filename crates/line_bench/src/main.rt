@@ -1,0 +1,50 @@
+//! Measures the lines of a file: `line_bench FILE` reads it, and prints the processor time of
+//! splitting it, of the cells of its lines, and of its units and words, in microseconds, with how
+//! many of them there are. `bench/lines` runs it.
+#![tactic(auto)]
+
+use anyhow::Context;
+use mk_lines::cells::cells;
+use mk_lines::source::read_all;
+use mk_lines::split::split;
+use mk_lines::{StdSource, units, words};
+use std::fs::File;
+use std::time::{CpuClock, Duration};
+
+// The microseconds of processor time since `start`.
+fn micros_since(rt: &HostRuntime, start: Duration) -> anyhow::Result<u128> {
+    let now = rt.process_cpu_time()?;
+    Ok(now.saturating_sub(start).as_micros())
+}
+
+fn measure(rt: &HostRuntime, text: &[u8]) -> anyhow::Result<()> {
+    let start = rt.process_cpu_time()?;
+    let lines = split(rt.alloc(), text)?;
+    println!(rt; "split {} {}", micros_since(rt, start)?, lines.len())?;
+
+    let start = rt.process_cpu_time()?;
+    let mut joined = 0usize;
+    for line in lines.as_slice() {
+        let line = text.get(line.start..line.end).unwrap_or_default();
+        let cells = cells(rt.alloc(), line)?;
+        joined = joined.saturating_add(cells.text(line).len());
+    }
+    println!(rt; "cells {} {joined}", micros_since(rt, start)?)?;
+
+    let start = rt.process_cpu_time()?;
+    let count = units(text).count();
+    println!(rt; "units {} {count}", micros_since(rt, start)?)?;
+
+    let start = rt.process_cpu_time()?;
+    let count = words(text).count();
+    println!(rt; "words {} {count}", micros_since(rt, start)?)?;
+    Ok(())
+}
+
+fn main(rt: HostRuntime) -> anyhow::Result<()> {
+    let words = std::env::args(&rt)?.collect::<Vec<String>>(rt.alloc())?;
+    let name = words.get(1).context("usage: line_bench FILE")?;
+    let mut source = StdSource::new(File::open(&rt, name.as_str())?);
+    let text = read_all(rt.alloc(), &mut source)?;
+    measure(&rt, text.as_slice())
+}
