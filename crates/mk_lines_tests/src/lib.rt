@@ -6,3 +6,5 @@
 mod std_devices;
 #[cfg(test)]
 mod tests;
+#[cfg(test)]
+mod unit_tests;

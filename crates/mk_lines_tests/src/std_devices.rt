@@ -6,7 +6,7 @@ use std::io::{ErrorKind, Read, Write};
 
 /// How one call ends.
 #[derive(Clone, Copy)]
-pub enum End {
+pub enum CallEnd {
     /// It moves at most so many bytes.
     Moves(usize),
     /// A signal interrupts it before it has moved a byte.
@@ -18,7 +18,7 @@ pub enum End {
 /// Gives `x`s as the list of ends says, and then nothing.
 #[derive(Drop)]
 pub struct ListReader<'a> {
-    pub ends: &'a [End],
+    pub ends: &'a [CallEnd],
 }
 
 impl<'a> Read for ListReader<'a> {
@@ -28,13 +28,13 @@ impl<'a> Read for ListReader<'a> {
         };
         self.ends = rest;
         match end {
-            End::Moves(count) => {
+            CallEnd::Moves(count) => {
                 let count = (*count).min(buf.len());
                 buf[..count].fill(b'x');
                 Ok(count)
             }
-            End::Interrupted => Err(io::Error::from(ErrorKind::Interrupted)),
-            End::Fails => Err(io::Error::from(ErrorKind::Other)),
+            CallEnd::Interrupted => Err(io::Error::from(ErrorKind::Interrupted)),
+            CallEnd::Fails => Err(io::Error::from(ErrorKind::Other)),
         }
     }
 }
@@ -42,15 +42,15 @@ impl<'a> Read for ListReader<'a> {
 /// Takes bytes as the list of ends says, and then none. A flush takes an end too.
 #[derive(Drop)]
 pub struct ListWriter<'a> {
-    pub ends: &'a [End],
+    pub ends: &'a [CallEnd],
     pub bytes: Vec<u8>,
     pub flushes: u64,
 }
 
 impl<'a> ListWriter<'a> {
-    fn next_end(&mut self) -> End {
+    fn next_end(&mut self) -> CallEnd {
         let [end, rest @ ..] = self.ends else {
-            return End::Moves(0);
+            return CallEnd::Moves(0);
         };
         self.ends = rest;
         *end
@@ -60,24 +60,24 @@ impl<'a> ListWriter<'a> {
 impl<'a> Write for ListWriter<'a> {
     fn write(&mut self, buf: &[u8]) -> io::Result<usize> {
         match self.next_end() {
-            End::Moves(count) => {
+            CallEnd::Moves(count) => {
                 let count = count.min(buf.len());
                 self.bytes.extend_from_slice(&buf[..count])?;
                 Ok(count)
             }
-            End::Interrupted => Err(io::Error::from(ErrorKind::Interrupted)),
-            End::Fails => Err(io::Error::from(ErrorKind::Other)),
+            CallEnd::Interrupted => Err(io::Error::from(ErrorKind::Interrupted)),
+            CallEnd::Fails => Err(io::Error::from(ErrorKind::Other)),
         }
     }
 
     fn flush(&mut self) -> io::Result<()> {
         match self.next_end() {
-            End::Moves(_) => {
+            CallEnd::Moves(_) => {
                 self.flushes = self.flushes.saturating_add(1);
                 Ok(())
             }
-            End::Interrupted => Err(io::Error::from(ErrorKind::Interrupted)),
-            End::Fails => Err(io::Error::from(ErrorKind::Other)),
+            CallEnd::Interrupted => Err(io::Error::from(ErrorKind::Interrupted)),
+            CallEnd::Fails => Err(io::Error::from(ErrorKind::Other)),
         }
     }
 }

@@ -1,8 +1,9 @@
-use crate::std_devices::{End, ListReader, ListWriter};
+use crate::std_devices::{CallEnd, ListReader, ListWriter};
+use mk_lines::ends::{is_open, line_end, without_line_end};
 use mk_lines::sink::{write_all, write_parts};
 use mk_lines::source::{TEXT_LIMIT, read_all};
 use mk_lines::split::split;
-use mk_lines::{ByteSink, ByteSource, Fault, Span, StdSink, StdSource};
+use mk_lines::{ByteSink, ByteSource, End, Fault, Span, StdSink, StdSource};
 use refusing::Refusing;
 use std::test::Fail;
 use test_devices::{MemorySink, MemorySource};
@@ -26,11 +27,11 @@ fn faults_have_their_texts(rt: HostRuntime) -> Result<(), Fail> {
 #[test]
 fn an_interrupted_read_is_made_again(rt: HostRuntime) -> Result<(), Fail> {
     let ends = [
-        End::Interrupted,
-        End::Moves(2),
-        End::Interrupted,
-        End::Interrupted,
-        End::Moves(3),
+        CallEnd::Interrupted,
+        CallEnd::Moves(2),
+        CallEnd::Interrupted,
+        CallEnd::Interrupted,
+        CallEnd::Moves(3),
     ];
     let mut source = StdSource::new(ListReader {
         ends: ends.as_slice(),
@@ -43,7 +44,7 @@ fn an_interrupted_read_is_made_again(rt: HostRuntime) -> Result<(), Fail> {
 
 #[test]
 fn a_failed_read_is_a_fault(rt: HostRuntime) {
-    let ends = [End::Moves(2), End::Interrupted, End::Fails];
+    let ends = [CallEnd::Moves(2), CallEnd::Interrupted, CallEnd::Fails];
     let mut source = StdSource::new(ListReader {
         ends: ends.as_slice(),
     });
@@ -55,11 +56,11 @@ fn a_failed_read_is_a_fault(rt: HostRuntime) {
 #[test]
 fn an_interrupted_write_and_flush_are_made_again(rt: HostRuntime) -> Result<(), Fail> {
     let ends = [
-        End::Moves(2),
-        End::Interrupted,
-        End::Moves(3),
-        End::Interrupted,
-        End::Moves(0),
+        CallEnd::Moves(2),
+        CallEnd::Interrupted,
+        CallEnd::Moves(3),
+        CallEnd::Interrupted,
+        CallEnd::Moves(0),
     ];
     let mut writer = ListWriter {
         ends: ends.as_slice(),
@@ -78,9 +79,9 @@ fn an_interrupted_write_and_flush_are_made_again(rt: HostRuntime) -> Result<(), 
 #[test]
 fn a_failed_write_or_flush_is_a_fault(rt: HostRuntime) {
     for (ends, taken) in [
-        ([End::Moves(2), End::Fails], b"he".as_slice()),
-        ([End::Moves(3), End::Moves(0)], b"hel".as_slice()),
-        ([End::Moves(5), End::Fails], b"hello".as_slice()),
+        ([CallEnd::Moves(2), CallEnd::Fails], b"he".as_slice()),
+        ([CallEnd::Moves(3), CallEnd::Moves(0)], b"hel".as_slice()),
+        ([CallEnd::Moves(5), CallEnd::Fails], b"hello".as_slice()),
     ] {
         let mut writer = ListWriter {
             ends: ends.as_slice(),
@@ -140,18 +141,43 @@ fn parts_are_written_as_one_text(rt: HostRuntime) {
 }
 
 #[test]
-fn lines_end_after_their_line_feeds(rt: HostRuntime) -> Result<(), Fail> {
-    let none = split(rt.alloc(), b"")?;
-    assert!(rt; none.is_empty());
-    let lines = split(rt.alloc(), b"a\n\nbc\r\nd")?;
-    let wanted = [
-        Span { start: 0, end: 2 },
-        Span { start: 2, end: 3 },
-        Span { start: 3, end: 7 },
-        Span { start: 7, end: 8 },
-    ];
-    assert_eq!(rt; lines.as_slice(), wanted.as_slice());
+fn lines_are_physical_lines_with_those_that_continue_them(rt: HostRuntime) -> Result<(), Fail> {
+    for (text, ends) in [
+        (b"".as_slice(), [].as_slice()),
+        (b"a\n\nbc\r\nd".as_slice(), [2, 3, 7, 8].as_slice()),
+        (b"A \\\nB\nC".as_slice(), [6, 7].as_slice()),
+        (b"A \\\\\nB".as_slice(), [5, 6].as_slice()),
+        (b"A \\\r\nB\\\n\\".as_slice(), [9].as_slice()),
+        (b"A \\\n".as_slice(), [4].as_slice()),
+    ] {
+        let lines = split(rt.alloc(), text)?;
+        assert_eq!(rt; lines.len(), ends.len());
+        let mut start = 0;
+        for (line, end) in lines.iter().zip(ends) {
+            assert_eq!(rt; *line, Span { start, end: *end });
+            start = *end;
+        }
+    }
     Ok(())
+}
+
+#[test]
+fn lines_end_in_lf_or_cr_lf(rt: HostRuntime) {
+    for (line, end, text, open) in [
+        (b"".as_slice(), End::None, b"".as_slice(), false),
+        (b"x".as_slice(), End::None, b"x".as_slice(), false),
+        (b"x\n".as_slice(), End::Lf, b"x".as_slice(), false),
+        (b"x\r\n".as_slice(), End::CrLf, b"x".as_slice(), false),
+        (b"x\r\r\n".as_slice(), End::CrLf, b"x\r".as_slice(), false),
+        (b"x\\\n".as_slice(), End::Lf, b"x\\".as_slice(), true),
+        (b"x\\\\\n".as_slice(), End::Lf, b"x\\\\".as_slice(), false),
+        (b"x\r".as_slice(), End::None, b"x\r".as_slice(), true),
+        (b"x\\".as_slice(), End::None, b"x\\".as_slice(), true),
+    ] {
+        assert_eq!(rt; line_end(line), end);
+        assert_eq!(rt; without_line_end(line), text);
+        assert_eq!(rt; is_open(line), open);
+    }
 }
 
 #[test]

@@ -1,6 +1,6 @@
 -- How many assignments of a name the lines of a text have, counted line by line.
-use Rattle.std.proofs.Common.{◌≡◌, ℕ, zero, suc, ◌+◌, ◌<◌, ◌≤◌, Bool, true, false, List, [], ◌∷◌, ◌++◌, length, get_or, take, drop, None, Some, refl, sym, ap, ◌∙◌, subst, arith, ltb-true, ltb-false}
-use Rattle.std.specs.Prelude.{Option, is_some, cond, not, ◌==◌, ◌&&◌, nat_lt, if◌then◌else◌}
+use Rattle.std.proofs.Common.{◌≡◌, ℕ, zero, suc, ◌+◌, ◌≤◌, Bool, true, false, List, [], ◌∷◌, length, take, drop, None, Some, refl, sym, ap, ◌∙◌, arith, ltb-true, ltb-false}
+use Rattle.std.specs.Prelude.{Option, is_some, not, ◌&&◌, nat_lt, if◌then◌else◌}
 use Rattle.std.specs.List.{list_all, slice_split, before_first, after_first, position_or_len}
 use Rattle.std.specs.Str.{bytes_eq}
 use Rattle.std.proofs.lemmas.List.Splits.{slice_split_first, slice_split_none}

@@ -1,6 +1,6 @@
 -- Commands that are read one after the other.
 use Rattle.std.proofs.Common.{◌≡◌, ℕ, ◌+◌, List, [], ◌∷◌, ◌++◌, Result, Ok, Err, refl, sym, ap, ◌∙◌, append_assoc}
-use Rattle.mk_run.specs.Script.{Request, Meaning, Asks, NumberedRequest, preceded, with_line, requests_from, meaning_of}
+use Rattle.mk_run.specs.Script.{Request, Asks, NumberedRequest, preceded, with_line, requests_from, meaning_of}
 
 preceded-preceded : (first more : List NumberedRequest) (rest : Result (List NumberedRequest) ℕ) → preceded first (preceded more rest) ≡ preceded (first ++ more) rest
 preceded-preceded first more (Ok requests) = ap Ok (sym (append_assoc first more requests))

@@ -7,7 +7,6 @@ use Rattle.std.proofs.lemmas.Option.{slice_get-map}
 use Rattle.circular_buffer.specs.Buffer.{keep_last, last_item}
 use Rattle.mk_run.specs.declared.script.NumberedCommand.{NumberedCommand}
 use Rattle.mk_run.specs.Script.{Request, SetValue, UndoLast, NumberedRequest, numbered_request, request_of}
-use Rattle.mk_run.specs.Assignment.{SetsValue}
 use Rattle.mk_run.specs.Texts.{Texts, texts, Does, DoesAll, sets_of, sets, undos_of, undos, Makes, UndoesAllItSets}
 
 -- ---- the bytes of texts, of which only some are kept

@@ -1,12 +1,12 @@
 -- Where the value of an assignment stands in its line, and in the text of that line.
-use Rattle.std.proofs.Common.{◌≡◌, ℕ, suc, ◌+◌, ◌-◌, ◌≤◌, ◌<◌, Bool, true, false, List, [], ◌∷◌, ◌++◌, length, take, drop, get_or, eqb-true, refl, sym, ap, ◌∙◌, subst, inl, inr, arith, append_assoc, append-nil}
-use Rattle.std.specs.Prelude.{cond, not, ◌==◌, ◌&&◌, ◌||◌, ◌⊎◌, nat_lt}
+use Rattle.std.proofs.Common.{◌≡◌, ℕ, ◌+◌, ◌-◌, ◌≤◌, ◌<◌, Bool, true, false, List, [], ◌∷◌, ◌++◌, length, take, drop, get_or, eqb-true, refl, sym, ap, ◌∙◌, subst, inl, inr, arith, append_assoc, append-nil}
+use Rattle.std.specs.Prelude.{cond, not, ◌==◌, ◌||◌}
 use Rattle.std.specs.List.{list_all, prefix_len, suffix_len, before_first, after_first, position_or_len}
 use Rattle.std.proofs.lemmas.List.{take-append-drop, length-append, length-drop, length-take, take_more}
 use Rattle.std.proofs.Math.Seq.{take-append_seam, drop-append_seam}
 use Rattle.std.proofs.lemmas.List.Sums.{prefix_len_stops}
 use Rattle.mk_run.specs.Blanks.{is_blank_byte, after_blanks, without_last_blanks}
-use Rattle.mk_run.specs.Assignment.{is_name_byte, is_line_feed, is_hash, is_value_byte, EndsLine, IsHead, IsValue, StopsValue, IsTail, IsAssigned, StandsAt, SetsValue}
+use Rattle.mk_run.specs.Assignment.{is_name_byte, is_line_feed, is_hash, is_value_byte, EndsLine, StopsValue, StandsAt, SetsValue}
 use Rattle.mk_run.proofs.FrontLemmas.{list_all-parts, list_all-both, front-of, back-of, prefix_len-front}
 
 -- ---- in a line

@@ -2,7 +2,7 @@
 use Rattle.std.specs.Prelude.{◌≡◌, ℕ, ◌+◌, Bool, true, false, not, ◌==◌, ◌&&◌, ◌||◌, List, [], ◌∷◌, if◌then◌else◌, codes, map, Result, Ok, Err, ◌++◌}
 use Rattle.std.specs.Str.{bytes_eq}
 use Rattle.bstr.specs.Text.{lines_of, without_terminator}
-use Rattle.mk_run.specs.Blanks.{field, from_field}
+use Rattle.mk_run.specs.Blanks.{field}
 use Rattle.mk_run.specs.declared.script.Command.{Command}
 use Rattle.mk_run.specs.declared.script.Command.TheVariants.{Set, Undo}
 use Rattle.mk_run.specs.declared.script.NumberedCommand.{NumberedCommand}

@@ -1,5 +1,5 @@
 -- Thin files: which lines they have, and how many of them assign a name.
-use Rattle.std.specs.Prelude.{◌≡◌, ◌⊎◌, ◌<◌, ℕ, ◌+◌, Bool, true, false, not, ◌==◌, ◌&&◌, ◌||◌, List, [], ◌∷◌, if◌then◌else◌, take, drop, codes, Option, Some, None, Result, Ok, Err}
+use Rattle.std.specs.Prelude.{◌≡◌, ◌⊎◌, ◌<◌, ℕ, ◌+◌, Bool, not, ◌==◌, ◌&&◌, ◌||◌, List, [], ◌∷◌, if◌then◌else◌, take, drop, codes, Option, Some, None, Result, Ok, Err}
 use Rattle.std.specs.List.{list_all, before_first, prefix_len, slice_split}
 use Rattle.std.specs.Str.{bytes_eq}
 use Rattle.memchr.specs.Find.{is_byte, is_byte3}

@@ -1,4 +1,4 @@
-use Rattle.std.proofs.Common.{◌≡◌, sym, ◌∙◌, rules}
+use Rattle.std.proofs.Common.{sym, ◌∙◌, rules}
 use Rattle.mk_run.proofs.TextLemmas.{commands-more}
 use Rattle.mk_run.proofs.engine.execute_all.Goals as goal
 use Rattle.mk_run.proofs.engine.execute_all.Goals.{in-Ok, in-Err+in_ok-report_refusal-in-Err+else-not-keep_going}

@@ -1,4 +1,4 @@
-use Rattle.std.proofs.Common.{◌≡◌, take, drop, refl, sym, ap, rules, arith}
+use Rattle.std.proofs.Common.{refl, arith}
 use Rattle.std.proofs.lemmas.Grind.{common_steps}
 use Rattle.mk_run.proofs.CutLemmas.{position-found, position-missing}
 use Rattle.mk_run.proofs.thin.cut_at.Goals as goal

@@ -1,6 +1,6 @@
-use Rattle.std.proofs.Common.{◌≡◌, ℕ, ◌<◌, Bool, None, inl, ◌∙◌, List, length, take, true, sym, ap, subst, rules, arith}
+use Rattle.std.proofs.Common.{◌≡◌, ℕ, ◌<◌, Bool, None, inl, ◌∙◌, List, length, true, sym, ap, subst, rules, arith}
 use Rattle.std.specs.Prelude.{not, if◌then◌else◌}
-use Rattle.std.specs.List.{list_all, position_or_len, before_first, slice_split}
+use Rattle.std.specs.List.{list_all, position_or_len, slice_split}
 use Rattle.std.proofs.lemmas.List.{length-take}
 use Rattle.mk_run.specs.Assignment.{StandsAt, is_line_feed}
 use Rattle.mk_run.specs.ThinFile.{Idle, Assigns, NotThin, count_in, is_plain}
