@@ -5,9 +5,11 @@
 //! - [`sink`]: where bytes go to, and a whole text or some parts to there.
 //! - [`split`]: a text as its lines.
 //! - [`ends`]: how a line ends.
+//! - [`cells`]: a logical line with its folds made spaces.
 //! - [`laws`]: theorems on the definitions of lines, cells, units and words.
 #![tactic(auto)]
 
+pub mod cells;
 pub mod ends;
 pub mod fault;
 pub mod laws;
@@ -15,6 +17,7 @@ pub mod sink;
 pub mod source;
 pub mod split;
 
+pub use cells::Cells;
 pub use ends::End;
 pub use fault::Fault;
 pub use sink::{ByteSink, StdSink};
