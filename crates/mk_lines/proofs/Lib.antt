@@ -1,6 +1,9 @@
+mod KeptRows
 mod RandomRows
 mod WorkedRows
+pub mod KeptLemmas
 pub mod PartLemmas
 pub mod PrefixLemmas
 pub mod SplitLemmas
 pub mod UnitWalkLemmas
+pub mod StackLemmas

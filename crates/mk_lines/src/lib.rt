@@ -8,9 +8,11 @@
 //! - [`unit`]: the units of a text, and whether it is closed.
 //! - [`word`]: the words of a text.
 //! - [`iter`]: the iterators over units and words.
+//! - [`cells`]: a logical line with its folds made spaces.
 //! - [`laws`]: theorems on the definitions of lines, cells, units and words.
 #![tactic(auto)]
 
+pub mod cells;
 pub mod ends;
 pub mod fault;
 pub mod iter;
@@ -21,6 +23,7 @@ pub mod split;
 pub mod unit;
 pub mod word;
 
+pub use cells::Cells;
 pub use ends::End;
 pub use fault::Fault;
 pub use iter::{Units, Words};

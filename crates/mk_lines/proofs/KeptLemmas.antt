@@ -1,0 +1,296 @@
+-- Lemmas on what is kept of the cells of a line.
+use Rattle.std.proofs.Common.{◌≡◌, refl, sym, ap, ◌∙◌, subst, ℕ, zero, suc, ◌+◌, ◌-◌, ◌<◌, ◌≤◌, Bool, true, false, cond, List, [], ◌∷◌, ◌++◌, map, reverse, length, take, ◌^◌, length-append, zero-add, get_or, arith}
+use Rattle.std.proofs.lemmas.List.{length-map, reverse-reverse}
+use Rattle.std.specs.Prelude.{nat_lt, ◌==◌, ◌&&◌, ◌||◌, All}
+use Rattle.std.specs.List.{list_any}
+use Rattle.std.specs.List.Sorted.{IsNonDecreasingBy, IsPartitionPoint}
+use Rattle.std.proofs.lemmas.List.Elements.{All-nil, All-cons, All-push, All-weaker, All-head, All-tail}
+use Rattle.std.proofs.lemmas.List.Sorted.{IsNonDecreasingBy-short, IsNonDecreasingBy-push}
+use Rattle.std.proofs.lemmas.Bool.Decides.{nat_tests}
+use Rattle.mk_lines.specs.Bytes.{ByteKind, LineFeed, CarriageReturn, Backslash, Blank, Ordinary, byte_kind, is_backslash_kind}
+use Rattle.mk_lines.specs.ByteLaws.{line_feed-byte}
+use Rattle.mk_lines.specs.PhysicalLines.{without_line_end}
+use Rattle.mk_lines.specs.Cells.{Cell, Byte, Fold, LfEnd, CrLfEnd, raw_text, raw_bytes, joined_byte, joined_text, prepend, cells, line_cells}
+use Rattle.mk_lines.specs.CellFaults.{has_bad_fold, is_fold_first, has_stray, is_stray, is_stray_by}
+use Rattle.mk_lines.specs.Ranges.{raw_place}
+use Rattle.mk_lines.specs.CellLaws.{AreCells, IsCell, cells-are_cells, raw_text-cells}
+use Rattle.mk_lines.specs.KeptCells.{KeptCells, AreCellsOf, AreInOrder, fold_ends, kept_cells, kept_text, kept_place, place_by_ends}
+use Rattle.mk_lines.specs.declared.cells.kept.FoldEnd.{FoldEnd}
+
+-- ---- raw places
+
+place_by_ends-append : (es fs : List FoldEnd) (after place : ℕ) → place_by_ends (es ++ fs) after place ≡ place_by_ends es after (place_by_ends fs after place)
+place_by_ends-append [] fs after place = refl
+place_by_ends-append (e ∷ es) fs after place = ap (λ z. cond (nat_lt e.after after) z (e.raw_end + (e.after - after))) (place_by_ends-append es fs after place)
+
+-- by one end
+one_end : (end after place : ℕ) (many : ℕ) → many < after → place_by_ends (record { after = many; raw_end = end } ∷ []) after place ≡ place
+one_end end after place many h = grind (arith, nat_tests)
+
+one_end_before : (end after place : ℕ) (many : ℕ) → after ≤ many → place_by_ends (record { after = many; raw_end = end } ∷ []) after place ≡ end + (many - after)
+one_end_before end after place many h = grind (arith, nat_tests)
+
+-- no fold ends before the first cell
+one_more_first : (end : ℕ) (cs : List Cell) (after place : ℕ) → suc (length cs) ≤ after → place_by_ends (fold_ends end cs) after place ≡ place
+    → place_by_ends (fold_ends end cs ++ record { after = length cs; raw_end = end } ∷ []) after place ≡ place
+one_more_first end cs after place h i =
+    place_by_ends-append (fold_ends end cs) (record { after = length cs; raw_end = end } ∷ []) after place
+    ∙ (ap (place_by_ends (fold_ends end cs) after) (one_end end after place (length cs) (omega arith)) ∙ i)
+
+before_first : (at : ℕ) (cs : List Cell) (after place : ℕ) → length cs ≤ after → place_by_ends (fold_ends at cs) after place ≡ place
+before_first at [] after place h = refl
+before_first at (Byte b ∷ cs) after place h = before_first (at + 1) cs after place (omega arith)
+before_first at (Fold r ∷ cs) after place h = one_more_first (at + length r) cs after place h (before_first (at + length r) cs after place (omega arith))
+before_first at (LfEnd r ∷ cs) after place h = one_more_first (at + length r) cs after place h (before_first (at + length r) cs after place (omega arith))
+before_first at (CrLfEnd r ∷ cs) after place h = one_more_first (at + length r) cs after place h (before_first (at + length r) cs after place (omega arith))
+
+-- a place behind the first cell, where that is no byte
+behind_fold : (at : ℕ) (r : List ℕ) (cs : List Cell) (n : ℕ) → n ≤ length cs → place_by_ends (fold_ends (at + length r) cs) (length cs - n) (at + length r + n) ≡ at + length r + raw_place cs n
+    → place_by_ends (fold_ends (at + length r) cs ++ record { after = length cs; raw_end = at + length r } ∷ []) (suc (length cs) - suc n) (at + suc n) ≡ at + length (r ++ raw_text (take n cs))
+behind_fold at r cs n h i =
+    let a : suc (length cs) - suc n ≡ length cs - n = omega arith in
+    let e : place_by_ends (record { after = length cs; raw_end = at + length r } ∷ []) (length cs - n) (at + suc n) ≡ at + length r + n =
+    one_end_before (at + length r) (length cs - n) (at + suc n) (length cs) (omega arith) ∙ omega arith in
+    let l : at + length r + raw_place cs n ≡ at + length (r ++ raw_text (take n cs)) = omega (arith, length-append r (raw_text (take n cs))) in
+    ap (λ z. place_by_ends (fold_ends (at + length r) cs ++ record { after = length cs; raw_end = at + length r } ∷ []) z (at + suc n)) a
+    ∙ (place_by_ends-append (fold_ends (at + length r) cs) (record { after = length cs; raw_end = at + length r } ∷ []) (length cs - n) (at + suc n)
+    ∙ (ap (place_by_ends (fold_ends (at + length r) cs) (length cs - n)) e ∙ (i ∙ l)))
+
+-- The folds' ends give the raw places. The first of the cells begins at `at`.
+pub place_by_fold_ends : (at : ℕ) (cs : List Cell) (n : ℕ) → n ≤ length cs → place_by_ends (fold_ends at cs) (length cs - n) (at + n) ≡ at + raw_place cs n
+place_by_fold_ends at [] zero h = refl
+place_by_fold_ends at [] (suc n) h = absurd (omega arith)
+place_by_fold_ends at (c ∷ cs) zero h = before_first at (c ∷ cs) (length (c ∷ cs) - 0) (at + 0) (omega arith)
+place_by_fold_ends at (Byte b ∷ cs) (suc n) h =
+    let i : place_by_ends (fold_ends (at + 1) cs) (length cs - n) (at + 1 + n) ≡ at + 1 + raw_place cs n = place_by_fold_ends (at + 1) cs n (omega arith) in
+    let a : length (Byte b ∷ cs) - suc n ≡ length cs - n = omega arith in
+    let p : at + suc n ≡ at + 1 + n = omega arith in
+    let l : at + 1 + raw_place cs n ≡ at + suc (raw_place cs n) = omega arith in
+    ap (λ z. place_by_ends (fold_ends (at + 1) cs) z (at + suc n)) a
+    ∙ (ap (place_by_ends (fold_ends (at + 1) cs) (length cs - n)) p ∙ (i ∙ l))
+place_by_fold_ends at (Fold r ∷ cs) (suc n) h = behind_fold at r cs n (omega arith) (place_by_fold_ends (at + length r) cs n (omega arith))
+place_by_fold_ends at (LfEnd r ∷ cs) (suc n) h = behind_fold at r cs n (omega arith) (place_by_fold_ends (at + length r) cs n (omega arith))
+place_by_fold_ends at (CrLfEnd r ∷ cs) (suc n) h = behind_fold at r cs n (omega arith) (place_by_fold_ends (at + length r) cs n (omega arith))
+
+-- ---- the folds' ends stand in order
+
+-- a fold's end has fewer joined bytes after it than there are cells
+below_push : (end : ℕ) (cs : List Cell) → All (λ e. e.after < length cs) (fold_ends end cs) → All (λ e. e.after < suc (length cs)) (fold_ends end cs ++ record { after = length cs; raw_end = end } ∷ [])
+below_push end cs h =
+    All-push (λ e. e.after < suc (length cs)) (fold_ends end cs) (record { after = length cs; raw_end = end })
+    (All-weaker (λ e. e.after < length cs) (λ e. e.after < suc (length cs)) (λ e k. omega arith) (fold_ends end cs) h) (omega arith)
+
+ends_below : (at : ℕ) (cs : List Cell) → All (λ e. e.after < length cs) (fold_ends at cs)
+ends_below at [] = All-nil (λ e. e.after < 0)
+ends_below at (Byte b ∷ cs) = All-weaker (λ e. e.after < length cs) (λ e. e.after < suc (length cs)) (λ e h. omega arith) (fold_ends (at + 1) cs) (ends_below (at + 1) cs)
+ends_below at (Fold r ∷ cs) = below_push (at + length r) cs (ends_below (at + length r) cs)
+ends_below at (LfEnd r ∷ cs) = below_push (at + length r) cs (ends_below (at + length r) cs)
+ends_below at (CrLfEnd r ∷ cs) = below_push (at + length r) cs (ends_below (at + length r) cs)
+
+rising_push : (end : ℕ) (cs : List Cell) → IsNonDecreasingBy (λ e. e.after) (fold_ends end cs) → IsNonDecreasingBy (λ e. e.after) (fold_ends end cs ++ record { after = length cs; raw_end = end } ∷ [])
+rising_push end cs h =
+    let below : All (λ e. e.after < length cs) (fold_ends end cs) = ends_below end cs in
+    IsNonDecreasingBy-push (λ e. e.after) (fold_ends end cs) (record { after = length cs; raw_end = end }) h
+    (λ d k. let l : length (fold_ends end cs) - 1 < length (fold_ends end cs) = omega arith in let m = below (length (fold_ends end cs) - 1) d l in omega (arith, m))
+
+pub ends_rise : (at : ℕ) (cs : List Cell) → IsNonDecreasingBy (λ e. e.after) (fold_ends at cs)
+ends_rise at [] = IsNonDecreasingBy-short (λ e. e.after) [] (omega arith)
+ends_rise at (Byte b ∷ cs) = ends_rise (at + 1) cs
+ends_rise at (Fold r ∷ cs) = rising_push (at + length r) cs (ends_rise (at + length r) cs)
+ends_rise at (LfEnd r ∷ cs) = rising_push (at + length r) cs (ends_rise (at + length r) cs)
+ends_rise at (CrLfEnd r ∷ cs) = rising_push (at + length r) cs (ends_rise (at + length r) cs)
+
+-- ---- cells have raw bytes
+
+filled : (c : Cell) → IsCell c → 0 < length (raw_bytes c)
+filled (Byte b) h = omega arith
+filled (Fold []) h = absurd (let g : [] ≡ Fold [] ∷ [] = h in cc)
+filled (Fold (b ∷ r)) h = omega arith
+filled (LfEnd []) h = absurd (let g : [] ≡ LfEnd [] ∷ [] = h in cc)
+filled (LfEnd (b ∷ r)) h = omega arith
+filled (CrLfEnd []) h = absurd (let g : [] ≡ CrLfEnd [] ∷ [] = h in cc)
+filled (CrLfEnd (b ∷ r)) h = omega arith
+
+-- there are no more cells than raw bytes
+pub length-raw_text : (cs : List Cell) → AreCells cs → length cs ≤ length (raw_text cs)
+length-raw_text [] h = omega arith
+length-raw_text (c ∷ cs) h = omega (arith, filled c h.0, length-raw_text cs h.2, length-append (raw_bytes c) (raw_text cs))
+
+within_push : (at : ℕ) (r : List ℕ) (cs : List Cell) (limit : ℕ) → at + length (r ++ raw_text cs) ≤ limit → length cs ≤ length (raw_text cs)
+    → All (λ e. e.raw_end + e.after ≤ limit) (fold_ends (at + length r) cs) → All (λ e. e.raw_end + e.after ≤ limit) (fold_ends (at + length r) cs ++ record { after = length cs; raw_end = at + length r } ∷ [])
+within_push at r cs limit h k i =
+    All-push (λ e. e.raw_end + e.after ≤ limit) (fold_ends (at + length r) cs) (record { after = length cs; raw_end = at + length r }) i (omega (arith, length-append r (raw_text cs)))
+
+-- the numbers of the folds' ends lie within the raw bytes
+pub ends_within : (at : ℕ) (cs : List Cell) (limit : ℕ) → AreCells cs → at + length (raw_text cs) ≤ limit → All (λ e. e.raw_end + e.after ≤ limit) (fold_ends at cs)
+ends_within at [] limit f h = All-nil (λ e. e.raw_end + e.after ≤ limit)
+ends_within at (Byte b ∷ cs) limit f h = ends_within (at + 1) cs limit f.2 (omega arith)
+ends_within at (Fold r ∷ cs) limit f h = within_push at r cs limit h (length-raw_text cs f.2) (ends_within (at + length r) cs limit f.2 (omega (arith, length-append r (raw_text cs))))
+ends_within at (LfEnd r ∷ cs) limit f h = within_push at r cs limit h (length-raw_text cs f.2) (ends_within (at + length r) cs limit f.2 (omega (arith, length-append r (raw_text cs))))
+ends_within at (CrLfEnd r ∷ cs) limit f h = within_push at r cs limit h (length-raw_text cs f.2) (ends_within (at + length r) cs limit f.2 (omega (arith, length-append r (raw_text cs))))
+
+-- ---- cells without folds
+
+snoc-not_empty : {A : Type 0} (xs : List A) (x : A) → xs ++ x ∷ [] ≡ [] → ⊥
+snoc-not_empty [] x h = cc
+snoc-not_empty (y ∷ xs) x h = cc
+
+-- the joined text of cells without folds is their raw text
+pub joined_text-no_ends : (at : ℕ) (cs : List Cell) → fold_ends at cs ≡ [] → joined_text cs ≡ raw_text cs
+joined_text-no_ends at [] h = refl
+joined_text-no_ends at (Byte b ∷ cs) h = ap (λ z. b ∷ z) (joined_text-no_ends (at + 1) cs h)
+joined_text-no_ends at (Fold r ∷ cs) h = absurd (snoc-not_empty (fold_ends (at + length r) cs) (record { after = length cs; raw_end = at + length r }) h)
+joined_text-no_ends at (LfEnd r ∷ cs) h = absurd (snoc-not_empty (fold_ends (at + length r) cs) (record { after = length cs; raw_end = at + length r }) h)
+joined_text-no_ends at (CrLfEnd r ∷ cs) h = absurd (snoc-not_empty (fold_ends (at + length r) cs) (record { after = length cs; raw_end = at + length r }) h)
+
+not_ten : (b : ℕ) → (byte_kind b ≡ LineFeed → ⊥) → b ≡ 10 → ⊥
+not_ten b h e = h (ap byte_kind e)
+
+-- they have no line feed
+pub no_ends-no_line_feed : (at : ℕ) (cs : List Cell) → AreCells cs → fold_ends at cs ≡ [] → All (λ b. b ≡ 10 → ⊥) (raw_text cs)
+no_ends-no_line_feed at [] f h = All-nil (λ b. b ≡ 10 → ⊥)
+no_ends-no_line_feed at (Byte b ∷ cs) f h = All-cons (λ b. b ≡ 10 → ⊥) b (raw_text cs) (not_ten b f.0) (no_ends-no_line_feed (at + 1) cs f.2 h)
+no_ends-no_line_feed at (Fold r ∷ cs) f h = absurd (snoc-not_empty (fold_ends (at + length r) cs) (record { after = length cs; raw_end = at + length r }) h)
+no_ends-no_line_feed at (LfEnd r ∷ cs) f h = absurd (snoc-not_empty (fold_ends (at + length r) cs) (record { after = length cs; raw_end = at + length r }) h)
+no_ends-no_line_feed at (CrLfEnd r ∷ cs) f h = absurd (snoc-not_empty (fold_ends (at + length r) cs) (record { after = length cs; raw_end = at + length r }) h)
+
+-- each byte of a text without a line feed stands for itself
+prepend-bytes : (k : ByteKind) (b : ℕ) (t : List ℕ) → (k ≡ LineFeed → ⊥) → prepend k b (map Byte t) ≡ Byte b ∷ map Byte t
+prepend-bytes LineFeed b t h = absurd (h refl)
+prepend-bytes CarriageReturn b [] h = refl
+prepend-bytes CarriageReturn b (x ∷ t) h = refl
+prepend-bytes Backslash b [] h = refl
+prepend-bytes Backslash b (x ∷ t) h = refl
+prepend-bytes Blank b [] h = refl
+prepend-bytes Blank b (x ∷ t) h = refl
+prepend-bytes Ordinary b t h = refl
+
+pub cells-no_line_feed : (t : List ℕ) → All (λ b. b ≡ 10 → ⊥) t → cells t ≡ map Byte t
+cells-no_line_feed [] h = refl
+cells-no_line_feed (b ∷ t) h =
+    ap (prepend (byte_kind b) b) (cells-no_line_feed t (All-tail (λ b. b ≡ 10 → ⊥) b t h))
+    ∙ prepend-bytes (byte_kind b) b t (λ e. All-head (λ b. b ≡ 10 → ⊥) b t h (line_feed-byte b e))
+
+pub fold_ends-bytes : (at : ℕ) (t : List ℕ) → fold_ends at (map Byte t) ≡ []
+fold_ends-bytes at [] = refl
+fold_ends-bytes at (b ∷ t) = fold_ends-bytes (at + 1) t
+
+pub has_bad_fold-bytes : (t : List ℕ) → has_bad_fold (map Byte t) ≡ false
+has_bad_fold-bytes [] = refl
+has_bad_fold-bytes (b ∷ t) = go t (is_backslash_kind (byte_kind b)) (has_bad_fold-bytes t)
+  where
+    go : (t : List ℕ) (c : Bool) → has_bad_fold (map Byte t) ≡ false → ((c && is_fold_first (map Byte t)) || has_bad_fold (map Byte t)) ≡ false
+    go [] true h = refl
+    go [] false h = refl
+    go (x ∷ t) true h = h
+    go (x ∷ t) false h = h
+
+-- ---- stray bytes
+
+-- whether cells have a stray byte is told by their joined text
+pub has_stray-joined_text : (cs : List Cell) → has_stray cs ≡ list_any (λ b. is_stray_by (byte_kind b) (b == 0)) (joined_text cs)
+has_stray-joined_text [] = refl
+has_stray-joined_text (c ∷ cs) = ap (λ z. is_stray c || z) (has_stray-joined_text cs)
+
+-- ---- the readers
+
+-- a fold's end that a search finds
+pub found-not_below : (es : List FoldEnd) (after i : ℕ) → IsPartitionPoint (λ e. nat_lt e.after after ≡ true) (λ e. nat_lt e.after after ≡ false) es i
+    → (e : FoldEnd) → i < length es → e ≡ get_or es i e → after ≤ e.after
+found-not_below es after i h e l k =
+    let n : nat_lt e.after after ≡ false = ap (λ z. nat_lt z.after after) k ∙ h.1 i e (omega arith) l in
+    grind (arith, nat_tests)
+
+no_items : {A : Type 0} (xs : List A) → length xs ≡ 0 → xs ≡ []
+no_items [] h = refl
+no_items (x ∷ xs) h = absurd (omega arith)
+
+-- without folds the joined text is the line's own text
+pub plain-text : (kept : KeptCells) (line : List ℕ) → AreCellsOf kept line → length kept.ends ≡ 0 → without_line_end line ≡ joined_text (line_cells line)
+plain-text kept line h e =
+    let none : fold_ends 0 (line_cells line) ≡ [] = sym (ap (λ k. k.ends) h.same) ∙ no_items kept.ends e in
+    sym (joined_text-no_ends 0 (line_cells line) none ∙ raw_text-cells (without_line_end line))
+
+pub plain-count : (kept : KeptCells) (line : List ℕ) → AreCellsOf kept line → length kept.ends ≡ 0 → length (without_line_end line) ≡ kept.count
+plain-count kept line h e = ap length (plain-text kept line h e) ∙ (length-map (line_cells line) joined_byte ∙ sym (ap (λ k. k.count) h.same))
+
+-- the raw places of a line by what is kept
+pub kept_place-raw_place : (kept : KeptCells) (line : List ℕ) (n : ℕ) → AreCellsOf kept line → n ≤ kept.count → kept_place kept n ≡ raw_place (line_cells line) n
+kept_place-raw_place kept line n h k =
+    let cs = line_cells line in
+    let c : kept.count ≡ length cs = ap (λ z. z.count) h.same in
+    let l : n ≤ length cs = omega arith in
+    ap (λ z. kept_place z n) h.same
+    ∙ (ap (place_by_ends (fold_ends 0 cs) (length cs - n)) (sym (zero-add n)) ∙ (place_by_fold_ends 0 cs n l ∙ zero-add (raw_place cs n)))
+
+-- the raw place that a search of the folds' ends finds
+pub place_by_ends-found : (es : List FoldEnd) (after place i : ℕ) → IsPartitionPoint (λ e. nat_lt e.after after ≡ true) (λ e. nat_lt e.after after ≡ false) es i
+    → (e : FoldEnd) → i < length es → e ≡ get_or es i e → e.raw_end + (e.after - after) ≡ place_by_ends es after place
+place_by_ends-found [] after place i h e l k = absurd (omega arith)
+place_by_ends-found (f ∷ es) after place zero h e l k =
+    let n : nat_lt f.after after ≡ false = h.1 0 f (omega arith) (omega arith) in rw (n, k) refl
+place_by_ends-found (f ∷ es) after place (suc i) h e l k =
+    let n : nat_lt f.after after ≡ true = h.0 0 f (omega arith) (omega arith) in
+    rw n
+    (place_by_ends-found es after place i ((λ k d a b. h.0 (suc k) d (omega arith) (omega arith)), (λ k d a b. h.1 (suc k) d (omega arith) (omega arith))) e (omega arith) k)
+
+pub place_by_ends-none : (es : List FoldEnd) (after place i : ℕ) → IsPartitionPoint (λ e. nat_lt e.after after ≡ true) (λ e. nat_lt e.after after ≡ false) es i
+    → length es ≤ i → place ≡ place_by_ends es after place
+place_by_ends-none [] after place i h l = refl
+place_by_ends-none (f ∷ es) after place zero h l = absurd (omega arith)
+place_by_ends-none (f ∷ es) after place (suc i) h l =
+    let n : nat_lt f.after after ≡ true = h.0 0 f (omega arith) (omega arith) in
+    rw n
+    (place_by_ends-none es after place i ((λ k d a b. h.0 (suc k) d (omega arith) (omega arith)), (λ k d a b. h.1 (suc k) d (omega arith) (omega arith))) (omega arith))
+
+-- ---- what `cells` makes
+
+kept_same : (m n : ℕ) (j k : List ℕ) (d e : List FoldEnd) (a b x y : Bool) → m ≡ n → j ≡ k → d ≡ e → a ≡ b → x ≡ y
+    → ◌≡◌ {A = KeptCells} (record { count = m; joined = j; ends = d; bad_fold = a; stray = x }) (record { count = n; joined = k; ends = e; bad_fold = b; stray = y })
+kept_same m n j k d e a b x y p q r s t = rw (p, q, r, s, t) refl
+
+joined_text-bytes : (t : List ℕ) → joined_text (map Byte t) ≡ t
+joined_text-bytes [] = refl
+joined_text-bytes (b ∷ t) = ap (λ z. b ∷ z) (joined_text-bytes t)
+
+kept_text-none : (es : List FoldEnd) (cs : List Cell) → es ≡ [] → kept_text es cs ≡ []
+kept_text-none [] cs h = refl
+kept_text-none (e ∷ es) cs h = cc
+
+kept_text-some : (es : List FoldEnd) (cs : List Cell) → (es ≡ [] → ⊥) → kept_text es cs ≡ joined_text cs
+kept_text-some [] cs h = absurd (h refl)
+kept_text-some (e ∷ es) cs h = refl
+
+-- of a text without a line feed
+pub plain_kept : (t : List ℕ) → All (λ b. b ≡ 10 → ⊥) t → (j : List ℕ) (e : List FoldEnd) (s : Bool) → j ≡ [] → e ≡ [] → s ≡ list_any (λ b. is_stray_by (byte_kind b) (b == 0)) t
+    → ◌≡◌ {A = KeptCells} (record { count = length t; joined = j; ends = e; bad_fold = false; stray = s }) (kept_cells (cells t))
+plain_kept t h j e s p q r =
+    let c : cells t ≡ map Byte t = cells-no_line_feed t h in
+    let f : fold_ends 0 (map Byte t) ≡ [] = fold_ends-bytes 0 t in
+    ap (λ z. record { count = length t; joined = j; ends = e; bad_fold = false; stray = z }) r
+    ∙ (kept_same (length t) (length (map Byte t)) j (kept_text (fold_ends 0 (map Byte t)) (map Byte t)) e (fold_ends 0 (map Byte t)) false (has_bad_fold (map Byte t))
+    (list_any (λ b. is_stray_by (byte_kind b) (b == 0)) t) (has_stray (map Byte t))
+    (sym (length-map t Byte)) (p ∙ sym (kept_text-none (fold_ends 0 (map Byte t)) (map Byte t) f)) (q ∙ sym f) (sym (has_bad_fold-bytes t))
+    (ap (list_any (λ b. is_stray_by (byte_kind b) (b == 0))) (sym (joined_text-bytes t)) ∙ sym (has_stray-joined_text (map Byte t)))
+    ∙ ap kept_cells (sym c))
+
+-- of a text with a line feed
+pub folded_kept : (t : List ℕ) → (All (λ b. b ≡ 10 → ⊥) t → ⊥) → (n : ℕ) (j : List ℕ) (e : List FoldEnd) (b s : Bool)
+    → n ≡ length j → j ≡ reverse (reverse (joined_text (cells t))) → e ≡ fold_ends 0 (cells t) → b ≡ has_bad_fold (cells t) → s ≡ list_any (λ b. is_stray_by (byte_kind b) (b == 0)) j
+    → ◌≡◌ {A = KeptCells} (record { count = n; joined = j; ends = e; bad_fold = b; stray = s }) (kept_cells (cells t))
+folded_kept t h n j e b s p q r u v =
+    let k : j ≡ joined_text (cells t) = q ∙ reverse-reverse (joined_text (cells t)) in
+    let some : fold_ends 0 (cells t) ≡ [] → ⊥ = λ z. h (subst (All (λ b. b ≡ 10 → ⊥)) (raw_text-cells t) (no_ends-no_line_feed 0 (cells t) (cells-are_cells t) z)) in
+    kept_same n (length (cells t)) j (kept_text (fold_ends 0 (cells t)) (cells t)) e (fold_ends 0 (cells t)) b (has_bad_fold (cells t)) s (has_stray (cells t))
+    (p ∙ (ap length k ∙ length-map (cells t) joined_byte)) (k ∙ sym (kept_text-some (fold_ends 0 (cells t)) (cells t) some)) r u
+    (v ∙ (ap (list_any (λ b. is_stray_by (byte_kind b) (b == 0))) k ∙ sym (has_stray-joined_text (cells t))))
+
+-- the folds' ends of a text whose length is a number of the machine
+pub text_in_order : (t : List ℕ) (e : List FoldEnd) → length t < 2 ^ 64 → e ≡ fold_ends 0 (cells t) → AreInOrder e
+text_in_order t e h p =
+    let r : 0 + length (raw_text (cells t)) ≤ length t = omega (arith, ap length (raw_text-cells t)) in
+    let w : All (λ e. e.raw_end + e.after ≤ length t) (fold_ends 0 (cells t)) = ends_within 0 (cells t) (length t) (cells-are_cells t) r in
+    subst AreInOrder (sym p) (record {
+      rising = ends_rise 0 (cells t);
+      within = All-weaker (λ e. e.raw_end + e.after ≤ length t) (λ e. e.raw_end + e.after < 2 ^ 64) (λ e k. omega arith) (fold_ends 0 (cells t)) w;
+    })

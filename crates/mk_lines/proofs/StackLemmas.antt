@@ -1,0 +1,308 @@
+-- Lemmas on the stack of cells, and on the bytes that make cells.
+use Rattle.std.proofs.Common.{◌≡◌, refl, sym, ap, ◌∙◌, ℕ, zero, suc, ◌+◌, ◌-◌, ◌<◌, ◌≤◌, Bool, true, false, cond, not, ◌⊎◌, inl, inr, List, [], ◌∷◌, ◌++◌, map, reverse, length, take, drop, length-append, length-drop, get_or, arith, Option, None, Some, is_some}
+use Rattle.std.specs.Prelude.{◌==◌, ◌&&◌, ◌||◌, All}
+use Rattle.std.specs.List.{list_any, prefix_len}
+use Rattle.std.proofs.lemmas.List.{append-nil, reverse-append, length-reverse}
+use Rattle.std.proofs.lemmas.List.Elements.{All-from_get_or}
+use Rattle.std.proofs.lemmas.Bool.Decides.{Decides-eqb}
+use Rattle.std.proofs.Math.Seq.{take-append_seam, take-length}
+use Rattle.memchr.specs.Find.{IsFirstByte, is_byte, is_byte3}
+use Rattle.mk_lines.specs.Lists.{leading, after_leading}
+use Rattle.mk_lines.specs.Bytes.{ByteKind, LineFeed, CarriageReturn, Backslash, Blank, Ordinary, byte_kind, is_blank_kind, is_backslash_kind}
+use Rattle.mk_lines.specs.ByteLaws.{line_feed-byte, carriage_return-byte, blank-byte}
+use Rattle.mk_lines.specs.Cells.{Cell, Byte, Fold, LfEnd, CrLfEnd, raw_text, joined_byte, joined_text, is_blank_cell, prepend, cells}
+use Rattle.mk_lines.specs.CellFaults.{has_bad_fold, is_fold_first, is_stray_by}
+use Rattle.mk_lines.specs.ListLaws.{FirstFails, leading-after_leading, leading-append_all, after_leading-append_all}
+use Rattle.mk_lines.specs.CellLaws.{AreCells, FitsBefore, raw_text-bytes}
+use Rattle.mk_lines.specs.KeptCells.{fold_ends}
+use Rattle.mk_lines.specs.CellStack.{CellStack, top_of, stack_of}
+use Rattle.mk_lines.specs.declared.cells.kept.FoldEnd.{FoldEnd}
+use Rattle.mk_lines.specs.declared.cells.stack.Top.{Top}
+use Rattle.mk_lines.specs.declared.cells.stack.Top.TheVariants as top
+
+-- ---- bytes
+
+equal : (b n : ℕ) → (b == n) ≡ true → b ≡ n
+equal b n h = (Decides-eqb b n).0 h
+
+different : (b n : ℕ) → (b == n) ≡ false → b ≡ n → ⊥
+different b n h e = let g : (b == n) ≡ true = (Decides-eqb b n).1 e in cc
+
+-- a blank is a space or a tab
+blank_test : (b : ℕ) → is_blank_kind (byte_kind b) ≡ (b == 32 || b == 9)
+blank_test b = split (b == 32) refl (b == 9) refl
+  where
+    other : (k : ByteKind) → byte_kind b ≡ k → (b ≡ 32 → ⊥) → (b ≡ 9 → ⊥) → is_blank_kind k ≡ false
+    other LineFeed h m n = refl
+    other CarriageReturn h m n = refl
+    other Backslash h m n = refl
+    other Ordinary h m n = refl
+    other Blank h m n = go (blank-byte b h)
+      where
+        go : (b ≡ 32) ⊎ (b ≡ 9) → true ≡ false
+        go (inl e) = absurd (m e)
+        go (inr e) = absurd (n e)
+
+    split : (c : Bool) → (b == 32) ≡ c → (d : Bool) → (b == 9) ≡ d → is_blank_kind (byte_kind b) ≡ (c || d)
+    split true e d f = ap (λ z. is_blank_kind (byte_kind z)) (equal b 32 e)
+    split false e true f = ap (λ z. is_blank_kind (byte_kind z)) (equal b 9 f)
+    split false e false f = other (byte_kind b) refl (different b 32 e) (different b 9 f)
+
+-- how many blanks a text begins with
+pub prefix_len-blanks : (t : List ℕ) → prefix_len (λ b. b == 32 || b == 9) t ≡ length (leading (λ b. is_blank_kind (byte_kind b)) t)
+prefix_len-blanks [] = refl
+prefix_len-blanks (b ∷ t) =
+    ap (λ c. cond c (1 + prefix_len (λ b. b == 32 || b == 9) t) 0) (sym (blank_test b)) ∙ go (is_blank_kind (byte_kind b)) (leading (λ b. is_blank_kind (byte_kind b)) t) (prefix_len-blanks t)
+  where
+    go : (c : Bool) (l : List ℕ) → prefix_len (λ b. b == 32 || b == 9) t ≡ length l → cond c (1 + prefix_len (λ b. b == 32 || b == 9) t) 0 ≡ length (cond c (b ∷ l) [])
+    go true l h = omega (arith, h)
+    go false l h = refl
+
+-- as a function that reads the text from a place on counts them
+pub counted-blanks : (text : List ℕ) (k n : ℕ) → n ≡ prefix_len (λ b. b == 32 || b == 9) (take (length text - k) (drop k text)) → n ≡ length (leading (λ b. is_blank_kind (byte_kind b)) (drop k text))
+counted-blanks text k n h =
+    let w : take (length text - k) (drop k text) ≡ drop k text = ap (λ m. take m (drop k text)) (sym (length-drop k text)) ∙ take-length (drop k text) in
+    h ∙ (ap (prefix_len (λ b. b == 32 || b == 9)) w ∙ prefix_len-blanks (drop k text))
+
+-- no more than it has bytes
+pub length-blanks : (t : List ℕ) → length (leading (λ b. is_blank_kind (byte_kind b)) t) ≤ length t
+length-blanks [] = omega arith
+length-blanks (b ∷ t) = go (is_blank_kind (byte_kind b)) (leading (λ b. is_blank_kind (byte_kind b)) t) (length-blanks t)
+  where
+    go : (c : Bool) (l : List ℕ) → length l ≤ length t → length (cond c (b ∷ l) []) ≤ suc (length t)
+    go true l h = omega arith
+    go false l h = omega arith
+
+-- a stray byte is a NUL, a line feed or a carriage return
+stray_test : (b : ℕ) → is_stray_by (byte_kind b) (b == 0) ≡ is_byte3 0 10 13 b
+stray_test b = split (b == 10) refl (b == 13) refl
+  where
+    or_false : (z : Bool) → z ≡ ((z || false) || false)
+    or_false true = refl
+    or_false false = refl
+
+    other : (k : ByteKind) → byte_kind b ≡ k → (b ≡ 10 → ⊥) → (b ≡ 13 → ⊥) → is_stray_by k (b == 0) ≡ ((b == 0 || false) || false)
+    other LineFeed h m n = absurd (m (line_feed-byte b h))
+    other CarriageReturn h m n = absurd (n (carriage_return-byte b h))
+    other Backslash h m n = or_false (b == 0)
+    other Ordinary h m n = or_false (b == 0)
+    other Blank h m n = or_false (b == 0)
+
+    split : (c : Bool) → (b == 10) ≡ c → (d : Bool) → (b == 13) ≡ d → is_stray_by (byte_kind b) (b == 0) ≡ ((b == 0 || c) || d)
+    split true e d f = rw (equal b 10 e) refl
+    split false e true f = rw (equal b 13 f) refl
+    split false e false f = other (byte_kind b) refl (different b 10 e) (different b 13 f)
+
+any_none : (test : ℕ → Bool) (t : List ℕ) → ((k : ℕ) → k < length t → test (get_or t k 0) ≡ true → ⊥) → list_any test t ≡ false
+any_none test [] h = refl
+any_none test (x ∷ t) h = go (test x) refl (any_none test t (λ k l. h (suc k) (omega arith)))
+  where
+    go : (c : Bool) → test x ≡ c → list_any test t ≡ false → (c || list_any test t) ≡ false
+    go true e i = absurd (h 0 (omega arith) e)
+    go false e i = i
+
+any_some : (test : ℕ → Bool) (t : List ℕ) (k : ℕ) → k < length t → test (get_or t k 0) ≡ true → list_any test t ≡ true
+any_some test [] k l h = absurd (omega arith)
+any_some test (x ∷ t) zero l h = rw h refl
+any_some test (x ∷ t) (suc k) l h = go (test x) (any_some test t k (omega arith) h)
+  where
+    go : (c : Bool) → list_any test t ≡ true → (c || list_any test t) ≡ true
+    go true i = refl
+    go false i = i
+
+any_same : (p q : ℕ → Bool) → ((b : ℕ) → p b ≡ q b) → (t : List ℕ) → list_any p t ≡ list_any q t
+any_same p q h [] = refl
+any_same p q h (b ∷ t) = rw (h b, any_same p q h t) refl
+
+-- a search finds a byte where there is one
+search-any : (test : ℕ → Bool) (t : List ℕ) (r : Option ℕ) → IsFirstByte test t r → is_some r ≡ list_any test t
+search-any test t None h = sym (any_none test t (λ k l. h k (omega arith) l))
+search-any test t (Some k) h = sym (any_some test t k h.0.high h.1)
+
+-- a search for stray bytes
+pub search-stray : (t : List ℕ) (r : Option ℕ) → IsFirstByte (is_byte3 0 10 13) t r → is_some r ≡ list_any (λ b. is_stray_by (byte_kind b) (b == 0)) t
+search-stray t r h = search-any (is_byte3 0 10 13) t r h ∙ any_same (is_byte3 0 10 13) (λ b. is_stray_by (byte_kind b) (b == 0)) (λ b. sym (stray_test b)) t
+
+-- a search that finds no line feed, and one that does
+pub search-no_line_feed : (t : List ℕ) → IsFirstByte (is_byte 10) t None → All (λ b. b ≡ 10 → ⊥) t
+search-no_line_feed t h = All-from_get_or (λ b. b ≡ 10 → ⊥) t 0 (λ k l e. h k (omega arith) l ((Decides-eqb (get_or t k 0) 10).1 e))
+
+pub search-line_feed : (t : List ℕ) (k : ℕ) → IsFirstByte (is_byte 10) t (Some k) → All (λ b. b ≡ 10 → ⊥) t → ⊥
+search-line_feed t k h all = all k 0 h.0.high (equal (get_or t k 0) 10 h.1)
+
+-- ---- the stack
+
+-- what is known of a stack whose first cell becomes another
+pub record IsReplaced (old : CellStack) (byte : ℕ) (first : Top) (new : CellStack) : Type 0 where
+  pub before : List ℕ
+  pub last : ℕ
+  pub was : old.joined ≡ before ++ last ∷ []
+  pub is : ◌≡◌ {A = CellStack} (record { joined = before ++ byte ∷ []; ends = old.ends; top = first; bad_fold = old.bad_fold }) new
+
+-- stacks with the same parts
+same_stack : (j k : List ℕ) (d e : List FoldEnd) (t : Top) (b c : Bool) → j ≡ k → d ≡ e → b ≡ c
+    → ◌≡◌ {A = CellStack} (record { joined = j; ends = d; top = t; bad_fold = b }) (record { joined = k; ends = e; top = t; bad_fold = c })
+same_stack j k d e t b c p q r = rw (p, q, r) refl
+
+push-reverse : (b : ℕ) (t : List ℕ) → reverse (b ∷ t) ≡ reverse t ++ b ∷ []
+push-reverse b t = reverse-append (b ∷ []) t
+
+ends_at : (m n : ℕ) (cs : List Cell) → m ≡ n → fold_ends m cs ++ record { after = length cs; raw_end = m } ∷ [] ≡ fold_ends n cs ++ record { after = length cs; raw_end = n } ∷ []
+ends_at m n cs e = ap (λ z. fold_ends z cs ++ record { after = length cs; raw_end = z } ∷ []) e
+
+-- a first cell with these raw bytes becomes another with one raw byte more
+replaced : (place : ℕ) (r : List ℕ) (cs : List Cell) (was byte : ℕ) (first second : Top)
+    → IsReplaced (record { joined = reverse (was ∷ joined_text cs); ends = fold_ends (place + 1 + length r) cs ++ record { after = length cs; raw_end = place + 1 + length r } ∷ []; top = first; bad_fold = has_bad_fold cs }) byte second
+    (record { joined = reverse (byte ∷ joined_text cs); ends = fold_ends (place + suc (length r)) cs ++ record { after = length cs; raw_end = place + suc (length r) } ∷ []; top = second; bad_fold = has_bad_fold cs })
+replaced place r cs was byte first second = record {
+  before = reverse (joined_text cs);
+  last = was;
+  was = push-reverse was (joined_text cs);
+  is = same_stack (reverse (joined_text cs) ++ byte ∷ []) (reverse (byte ∷ joined_text cs))
+      (fold_ends (place + 1 + length r) cs ++ record { after = length cs; raw_end = place + 1 + length r } ∷ []) (fold_ends (place + suc (length r)) cs ++ record { after = length cs; raw_end = place + suc (length r) } ∷ [])
+      second (has_bad_fold cs) (has_bad_fold cs) (sym (push-reverse byte (joined_text cs))) (ends_at (place + 1 + length r) (place + suc (length r)) cs (omega arith)) refl;
+}
+
+-- a backslash makes a fold of a line end
+pub backslash-line_end : (place : ℕ) (cs : List Cell) → (top_of cs ≡ top.Lf) ⊎ (top_of cs ≡ top.CrLf) → IsReplaced (stack_of (place + 1) cs) 32 top.Fold (stack_of place (prepend Backslash 92 cs))
+backslash-line_end place [] (inl e) = cc
+backslash-line_end place [] (inr e) = cc
+backslash-line_end place (Byte b ∷ cs) (inl e) = cc
+backslash-line_end place (Byte b ∷ cs) (inr e) = cc
+backslash-line_end place (Fold r ∷ cs) (inl e) = cc
+backslash-line_end place (Fold r ∷ cs) (inr e) = cc
+backslash-line_end place (LfEnd r ∷ cs) h = replaced place r cs 10 32 top.Lf top.Fold
+backslash-line_end place (CrLfEnd r ∷ cs) h = replaced place r cs 10 32 top.CrLf top.Fold
+
+fits-first_fails : (r : List ℕ) (cs : List Cell) → FitsBefore (Fold r) cs → FirstFails is_blank_cell cs
+fits-first_fails r [] h = tt
+fits-first_fails r (d ∷ cs) h = go (is_blank_cell d) h
+  where
+    go : (c : Bool) → not c ≡ true → c ≡ false
+    go true e = cc
+    go false e = refl
+
+-- a line feed takes a fold directly after it
+pub line_feed-fold : (place : ℕ) (cs : List Cell) → AreCells cs → top_of cs ≡ top.Fold → IsReplaced (stack_of (place + 1) cs) 10 top.Lf (stack_of place (prepend LineFeed 10 cs))
+line_feed-fold place [] f e = cc
+line_feed-fold place (Byte b ∷ cs) f e = cc
+line_feed-fold place (LfEnd r ∷ cs) f e = cc
+line_feed-fold place (CrLfEnd r ∷ cs) f e = cc
+line_feed-fold place (Fold r ∷ cs) f e =
+    let l : leading is_blank_cell cs ≡ [] = leading-append_all is_blank_cell [] cs tt (fits-first_fails r cs f.1) in
+    let a : after_leading is_blank_cell cs ≡ cs = after_leading-append_all is_blank_cell [] cs tt (fits-first_fails r cs f.1) in
+    let s : r ++ [] ≡ r = append-nil r in
+    rw (l, a, s) (replaced place r cs 32 10 top.Fold top.Lf)
+
+-- ---- a line feed before blanks
+
+-- where the first cell is no fold, the blanks and folds at the front are the blanks of the text
+leading-blanks : (t : List ℕ) → (top_of (cells t) ≡ top.Fold → ⊥) → leading is_blank_cell (cells t) ≡ map Byte (leading (λ b. is_blank_kind (byte_kind b)) t)
+leading-blanks [] h = refl
+leading-blanks (b ∷ t) h = go (byte_kind b) refl (cells t) (leading (λ b. is_blank_kind (byte_kind b)) t) h (λ n. leading-blanks t n)
+  where
+    stays : (k : ByteKind) (cs : List Cell) (l : List ℕ) → byte_kind b ≡ k → is_blank_kind k ≡ false → leading is_blank_cell (Byte b ∷ cs) ≡ map Byte (cond (is_blank_kind (byte_kind b)) (b ∷ l) [])
+    stays k cs l e h = rw (e, h) refl
+
+    line_end : (k : ByteKind) (l : List ℕ) → byte_kind b ≡ k → is_blank_kind k ≡ false → [] ≡ map Byte (cond (is_blank_kind (byte_kind b)) (b ∷ l) [])
+    line_end k l e h = rw (e, h) refl
+
+    blank : (cs : List Cell) (l : List ℕ) → byte_kind b ≡ Blank → leading is_blank_cell cs ≡ map Byte l → leading is_blank_cell (Byte b ∷ cs) ≡ map Byte (cond (is_blank_kind (byte_kind b)) (b ∷ l) [])
+    blank cs l e h = rw (e, h) refl
+
+    go : (k : ByteKind) → byte_kind b ≡ k → (cs : List Cell) (l : List ℕ) → (top_of (prepend k b cs) ≡ top.Fold → ⊥) → ((top_of cs ≡ top.Fold → ⊥) → leading is_blank_cell cs ≡ map Byte l)
+        → leading is_blank_cell (prepend k b cs) ≡ map Byte (cond (is_blank_kind (byte_kind b)) (b ∷ l) [])
+    go LineFeed e cs l h i = line_end LineFeed l e refl
+    go CarriageReturn e [] l h i = stays CarriageReturn [] l e refl
+    go CarriageReturn e (Byte x ∷ cs) l h i = stays CarriageReturn (Byte x ∷ cs) l e refl
+    go CarriageReturn e (Fold r ∷ cs) l h i = stays CarriageReturn (Fold r ∷ cs) l e refl
+    go CarriageReturn e (LfEnd r ∷ cs) l h i = line_end CarriageReturn l e refl
+    go CarriageReturn e (CrLfEnd r ∷ cs) l h i = stays CarriageReturn (CrLfEnd r ∷ cs) l e refl
+    go Backslash e [] l h i = stays Backslash [] l e refl
+    go Backslash e (Byte x ∷ cs) l h i = stays Backslash (Byte x ∷ cs) l e refl
+    go Backslash e (Fold r ∷ cs) l h i = stays Backslash (Fold r ∷ cs) l e refl
+    go Backslash e (LfEnd r ∷ cs) l h i = absurd (h refl)
+    go Backslash e (CrLfEnd r ∷ cs) l h i = absurd (h refl)
+    go Blank e [] l h i = blank [] l e (i (λ x. cc))
+    go Blank e (Byte x ∷ cs) l h i = blank (Byte x ∷ cs) l e (i (λ x. cc))
+    go Blank e (Fold r ∷ cs) l h i = absurd (h refl)
+    go Blank e (LfEnd r ∷ cs) l h i = blank (LfEnd r ∷ cs) l e (i (λ x. cc))
+    go Blank e (CrLfEnd r ∷ cs) l h i = blank (CrLfEnd r ∷ cs) l e (i (λ x. cc))
+    go Ordinary e cs l h i = stays Ordinary cs l e refl
+
+bad_fold-after_leading : (cs : List Cell) → has_bad_fold (after_leading is_blank_cell cs) ≡ has_bad_fold cs
+bad_fold-after_leading [] = refl
+bad_fold-after_leading (c ∷ cs) = go (byte_kind (joined_byte c)) refl (bad_fold-after_leading cs)
+  where
+    go : (k : ByteKind) → byte_kind (joined_byte c) ≡ k → has_bad_fold (after_leading is_blank_cell cs) ≡ has_bad_fold cs
+        → has_bad_fold (cond (is_blank_kind k) (after_leading is_blank_cell cs) (c ∷ cs)) ≡ ((is_backslash_kind k && is_fold_first cs) || has_bad_fold cs)
+    go Blank e i = i
+    go LineFeed e i = rw e refl
+    go CarriageReturn e i = rw e refl
+    go Backslash e i = rw e refl
+    go Ordinary e i = rw e refl
+
+joined_text-blanks : (v : List ℕ) (cs : List Cell) → joined_text (map Byte v ++ cs) ≡ v ++ joined_text cs
+joined_text-blanks [] cs = refl
+joined_text-blanks (b ∷ v) cs = ap (λ z. b ∷ z) (joined_text-blanks v cs)
+
+fold_ends-blanks : (at : ℕ) (v : List ℕ) (cs : List Cell) → fold_ends at (map Byte v ++ cs) ≡ fold_ends (at + length v) cs
+fold_ends-blanks at [] cs = ap (λ z. fold_ends z cs) (omega arith)
+fold_ends-blanks at (b ∷ v) cs = fold_ends-blanks (at + 1) v cs ∙ ap (λ z. fold_ends z cs) (omega arith)
+
+length-joined_text : (cs : List Cell) → length (joined_text cs) ≡ length cs
+length-joined_text [] = refl
+length-joined_text (c ∷ cs) = ap suc (length-joined_text cs)
+
+-- the joined bytes on the stack that stay under a line feed
+kept_joined : (v : List ℕ) (cs : List Cell) → take (length (reverse (joined_text (map Byte v ++ cs))) - length v) (reverse (joined_text (map Byte v ++ cs))) ≡ reverse (joined_text cs)
+kept_joined v cs =
+    let s : reverse (joined_text (map Byte v ++ cs)) ≡ reverse (joined_text cs) ++ reverse v = ap reverse (joined_text-blanks v cs) ∙ reverse-append v (joined_text cs) in
+    let n : length (reverse (joined_text cs) ++ reverse v) - length v ≡ length (reverse (joined_text cs)) = omega (arith, length-append (reverse (joined_text cs)) (reverse v), length-reverse v) in
+    ap (λ z. take (length z - length v) z) s ∙ (ap (λ z. take z (reverse (joined_text cs) ++ reverse v)) n ∙ take-append_seam (reverse (joined_text cs)) (reverse v))
+
+-- there are at least as many cells on the stack as blanks at the front of the text
+pub blanks-stacked : (t : List ℕ) → (top_of (cells t) ≡ top.Fold → ⊥) → length (leading (λ b. is_blank_kind (byte_kind b)) t) ≤ length (reverse (joined_text (cells t)))
+blanks-stacked t h =
+    let v = leading (λ b. is_blank_kind (byte_kind b)) t in
+    let R = after_leading is_blank_cell (cells t) in
+    let e : cells t ≡ map Byte v ++ R = sym (leading-after_leading is_blank_cell (cells t)) ∙ ap (λ z. z ++ R) (leading-blanks t h) in
+    let j : joined_text (cells t) ≡ v ++ joined_text R = ap joined_text e ∙ joined_text-blanks v R in
+    omega (arith, length-reverse (joined_text (cells t)), ap length j, length-append v (joined_text R))
+
+-- a line feed before cells whose first is no fold
+line_feed-blanks : (place : ℕ) (t : List ℕ) → (top_of (cells t) ≡ top.Fold → ⊥) → (joined : List ℕ) (n : ℕ) → n ≡ length (leading (λ b. is_blank_kind (byte_kind b)) t)
+    → joined ≡ take (length (reverse (joined_text (cells t))) - n) (reverse (joined_text (cells t)))
+    → ◌≡◌ {A = CellStack} (record { joined = joined ++ 10 ∷ []; ends = fold_ends (place + 1) (cells t) ++ record { after = length joined; raw_end = place + 1 + n } ∷ []; top = top.Lf; bad_fold = has_bad_fold (cells t) })
+    (stack_of place (prepend LineFeed 10 (cells t)))
+line_feed-blanks place t h joined n m j =
+    let v = leading (λ b. is_blank_kind (byte_kind b)) t in
+    let R = after_leading is_blank_cell (cells t) in
+    let L : leading is_blank_cell (cells t) ≡ map Byte v = leading-blanks t h in
+    let e : cells t ≡ map Byte v ++ R = sym (leading-after_leading is_blank_cell (cells t)) ∙ ap (λ z. z ++ R) L in
+    let k : joined ≡ reverse (joined_text R) = j ∙ (ap (λ z. take (length (reverse (joined_text (cells t))) - z) (reverse (joined_text (cells t)))) m ∙ (ap (λ z. take (length (reverse (joined_text z)) - length v) (reverse (joined_text z))) e ∙ kept_joined v R)) in
+    let w : length (raw_text (leading is_blank_cell (cells t))) ≡ n = ap (λ z. length (raw_text z)) L ∙ (ap length (raw_text-bytes v) ∙ sym m) in
+    let p : place + 1 + n ≡ place + suc (length (raw_text (leading is_blank_cell (cells t)))) = omega (arith, w) in
+    let c : length joined ≡ length R = ap length k ∙ (length-reverse (joined_text R) ∙ length-joined_text R) in
+    let f : fold_ends (place + 1) (cells t) ≡ fold_ends (place + 1 + n) R = ap (fold_ends (place + 1)) e ∙ (fold_ends-blanks (place + 1) v R ∙ ap (λ z. fold_ends (place + 1 + z) R) (sym m)) in
+    let x : fold_ends (place + 1) (cells t) ++ record { after = length joined; raw_end = place + 1 + n } ∷ [] ≡ fold_ends (place + 1 + n) R ++ record { after = length R; raw_end = place + 1 + n } ∷ [] =
+    ap (λ z. z ++ record { after = length joined; raw_end = place + 1 + n } ∷ []) f ∙ ap (λ z. fold_ends (place + 1 + n) R ++ record { after = z; raw_end = place + 1 + n } ∷ []) c in
+    let q = place + suc (length (raw_text (leading is_blank_cell (cells t)))) in
+    same_stack (joined ++ 10 ∷ []) (reverse (10 ∷ joined_text R))
+    (fold_ends (place + 1) (cells t) ++ record { after = length joined; raw_end = place + 1 + n } ∷ []) (fold_ends q R ++ record { after = length R; raw_end = q } ∷ [])
+    top.Lf (has_bad_fold (cells t)) (has_bad_fold R)
+    (ap (λ z. z ++ 10 ∷ []) k ∙ sym (push-reverse 10 (joined_text R)))
+    (x ∙ ends_at (place + 1 + n) q R p)
+    (sym (bad_fold-after_leading (cells t)))
+
+-- the same, with the parts of the stack after it
+pub line_feed-pushed : (place : ℕ) (t : List ℕ) → (top_of (cells t) ≡ top.Fold → ⊥) → (n : ℕ) (cut joined : List ℕ) (ends : List FoldEnd) (bad : Bool)
+    → n ≡ length (leading (λ b. is_blank_kind (byte_kind b)) t)
+    → cut ≡ take (length (reverse (joined_text (cells t))) - n) (reverse (joined_text (cells t)))
+    → joined ≡ cut ++ 10 ∷ []
+    → ends ≡ fold_ends (place + 1) (cells t) ++ record { after = length cut; raw_end = place + 1 + n } ∷ []
+    → bad ≡ has_bad_fold (cells t)
+    → ◌≡◌ {A = CellStack} (record { joined = joined; ends = ends; top = top.Lf; bad_fold = bad }) (stack_of place (prepend LineFeed 10 (cells t)))
+line_feed-pushed place t h n cut joined ends bad m c j e b =
+    same_stack joined (cut ++ 10 ∷ []) ends (fold_ends (place + 1) (cells t) ++ record { after = length cut; raw_end = place + 1 + n } ∷ []) top.Lf bad (has_bad_fold (cells t)) j e b
+    ∙ line_feed-blanks place t h cut n m c

@@ -1,0 +1,27 @@
+-- Cells as a stack: those of the text behind a place, the first cell on top.
+use Rattle.std.specs.Prelude.{ℕ, Bool, List, [], ◌∷◌, reverse}
+use Rattle.mk_lines.specs.Cells.{Cell, Byte, Fold, LfEnd, CrLfEnd, joined_text}
+use Rattle.mk_lines.specs.CellFaults.{has_bad_fold}
+use Rattle.mk_lines.specs.KeptCells.{fold_ends}
+use Rattle.mk_lines.specs.declared.cells.kept.FoldEnd.{FoldEnd}
+use Rattle.mk_lines.specs.declared.cells.stack.Top.{Top}
+use Rattle.mk_lines.specs.declared.cells.stack.Top.TheVariants as top
+
+-- the joined bytes and the folds' ends, each the last first, what the first cell is, and whether there is a bad fold
+pub record CellStack : Type 0 where
+  pub joined : List ℕ
+  pub ends : List FoldEnd
+  pub top : Top
+  pub bad_fold : Bool
+
+-- what the first cell is: a byte also where there is none
+abbrev pub top_of : List Cell → Top
+top_of [] = top.Byte
+top_of (Byte b ∷ cs) = top.Byte
+top_of (Fold r ∷ cs) = top.Fold
+top_of (LfEnd r ∷ cs) = top.Lf
+top_of (CrLfEnd r ∷ cs) = top.CrLf
+
+-- the stack of cells, the first of which begins at this raw place
+abbrev pub stack_of : (place : ℕ) → List Cell → CellStack
+stack_of place cs = record { joined = reverse (joined_text cs); ends = fold_ends place cs; top = top_of cs; bad_fold = has_bad_fold cs }

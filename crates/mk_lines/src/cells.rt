@@ -1,0 +1,93 @@
+//! The cells of a logical line: its text before the line end with each fold made one space, and
+//! for each byte of that joined text the raw bytes of the line that it stands for.
+//!
+//! A *fold* is a backslash with the line end that it escapes (LF or CR LF), the blanks before the
+//! backslash, and the blanks and folds after the line end; a blank is a space or a tab. It is read
+//! as one space, and every other byte stands for itself. POSIX.1-2024 make, Makefile Syntax ("an
+//! escaped newline"); GNU make manual, "Splitting Long Lines".
+//!
+//! Two marks keep a line from being read as it stands, both this project's profile:
+//!
+//! - A *bad fold* has a backslash directly before its whole run of bytes, as after `a\\ \` and a
+//!   line end: read as text, that backslash would stand before a space and escape it.
+//! - A *stray byte* is a NUL, or a CR that is no part of a line end.
+ghost use Rattle.std.specs.Prelude.{◌≡◌, ◌==◌, ◌≢◌, All, IfOk, IsOk, IsOkUnless};
+ghost use Rattle.std.specs.List.{list_any};
+ghost use Rattle.mk_lines.specs.Bytes.{byte_kind};
+ghost use Rattle.mk_lines.specs.PhysicalLines.{without_line_end};
+ghost use Rattle.mk_lines.specs.Cells.{cells};
+ghost use Rattle.mk_lines.specs.CellFaults.{is_stray_by};
+ghost use Rattle.mk_lines.specs.KeptCells.{AreCellsOf, kept_cells};
+
+mod kept;
+mod stack;
+
+use crate::ends::without_line_end;
+use crate::fault::Fault;
+pub use kept::Cells;
+use memchr::{memchr, memchr3};
+use stack::stack_of_text;
+use std::alloc::Allocator;
+
+/// The cells of a logical line, without its line end.
+///
+/// What is given is one logical line: [`split`](crate::split::split) of it gives one span. Of other
+/// bytes the answer is what the definition of cells says, where a line end that no backslash
+/// escapes is read as LF and is a stray byte.
+///
+/// A line without folds takes no memory. The time is linear in the line's bytes.
+///
+/// # Errors
+///
+/// [`Fault::NoMemory`] where the joined text of a line with folds, or the list of its folds, could
+/// not grow.
+pub fn cells<A: Allocator + Copy>(alloc: A, line: &[u8]) -> Result<Cells<A>, Fault>
+    ensures cells { IfOk result (λ kept. AreCellsOf kept line.now) }
+    ensures plain { All (λ b. b ≢ 10) (without_line_end line.now) → IsOk result }
+    ensures fault { IsOkUnless result Fault.NoMemory }
+{
+    let text = without_line_end(line);
+    match memchr(b'\n', text) {
+        None => Ok(plain_cells(alloc, text)),
+        Some(_) => folded_cells(alloc, text),
+    }
+}
+
+// The cells of a text without a line feed: each byte stands for itself.
+fn plain_cells<A: Allocator + Copy>(alloc: A, text: &[u8]) -> Cells<A>
+    requires { All (λ b. b ≢ 10) text.now }
+    ensures { result ≡ kept_cells (cells text.now) }
+{
+    Cells {
+        count: text.len(),
+        joined: Vec::new(alloc),
+        ends: Vec::new(alloc),
+        bad_fold: false,
+        stray: has_stray_byte(text),
+    }
+}
+
+// The cells of a text with a line feed.
+fn folded_cells<A: Allocator + Copy>(alloc: A, text: &[u8]) -> Result<Cells<A>, Fault>
+    requires { All (λ b. b ≢ 10) text.now → ⊥ }
+    ensures cells { IfOk result (λ kept. kept ≡ kept_cells (cells text.now)) }
+    ensures fault { IsOkUnless result Fault.NoMemory }
+{
+    let stack = stack_of_text(alloc, text)?;
+    let mut joined = stack.joined;
+    joined.reverse();
+    Ok(Cells {
+        count: joined.len(),
+        stray: has_stray_byte(&joined),
+        joined,
+        ends: stack.ends,
+        bad_fold: stack.bad_fold,
+    })
+}
+
+// Whether a joined text has a stray byte.
+fn has_stray_byte(joined: &[u8]) -> bool
+    ensures { result ≡ list_any (λ b. is_stray_by (byte_kind b) (b == 0)) joined.now }
+{
+    memchr3(b'\0', b'\n', b'\r', joined).is_some()
+}

@@ -1,0 +1,195 @@
+//! The cells of a text, read from its last byte to its first.
+//!
+//! Cells are defined from the end: a line feed takes the blanks and folds after it, a carriage
+//! return and then a backslash directly before it join it, and a blank joins a fold directly after
+//! it. So one pass backwards over a stack makes them, whose top is the first cell so far.
+ghost use Rattle.std.specs.Prelude.{◌≡◌, ◌≢◌, ◌==◌, ◌||◌, ◌+◌, ◌<◌, ℕ, List, [], ◌∷◌, ◌++◌, length, drop, OnOk, IfOk, IsOkUnless};
+ghost use Rattle.std.specs.List.{prefix_len};
+ghost use Rattle.mk_lines.specs.Bytes.{LineFeed, CarriageReturn, Backslash, Blank, byte_kind};
+ghost use Rattle.mk_lines.specs.Cells.{Cell, cells, prepend};
+ghost use Rattle.mk_lines.specs.CellStack.{stack_of};
+
+use super::kept::FoldEnd;
+use crate::fault::Fault;
+use std::alloc::Allocator;
+use std::marker::Model;
+
+/// What the first of some cells is.
+#[derive(Clone, Copy, Debug, PartialEq, Eq)]
+pub enum Top {
+    /// A byte that stands for itself, or nothing.
+    Byte,
+    /// A fold.
+    Fold,
+    /// A line feed and the blanks after it, which may be the end of a fold.
+    Lf,
+    /// The same with a carriage return before the line feed.
+    CrLf,
+}
+
+/// The cells of the bytes that were read, the last cell first.
+#[derive(Drop)]
+pub struct Stack<A: Allocator> {
+    /// The joined bytes, the last first.
+    pub joined: Vec<u8, A>,
+    /// The ends of the folds, the last first.
+    pub ends: Vec<FoldEnd, A>,
+    /// What the first cell is.
+    top: Top,
+    /// Whether a backslash stands directly before a fold.
+    pub bad_fold: bool,
+}
+
+impl<A: Allocator> Model for Stack<A> {
+    ghost use Rattle.mk_lines.specs.CellStack.{CellStack};
+
+    ghost Value = { CellStack };
+
+    ghost view = { λ s. record { joined = s.joined.items; ends = s.ends.items; top = s.top; bad_fold = s.bad_fold } };
+}
+
+/// Reads a text from its last byte to its first. Only the blanks after a line feed are looked at
+/// twice.
+///
+/// # Errors
+///
+/// [`Fault::NoMemory`] where a list could not grow.
+pub fn stack_of_text<A: Allocator + Copy>(alloc: A, text: &[u8]) -> Result<Stack<A>, Fault>
+    ensures stack { IfOk result (λ stack. stack ≡ stack_of 0 (cells text.now)) }
+    ensures fault { IsOkUnless result Fault.NoMemory }
+{
+    let mut stack = Stack {
+        joined: Vec::with_capacity(alloc, text.len())?,
+        ends: Vec::new(alloc),
+        top: Top::Byte,
+        bad_fold: false,
+    };
+    let mut place = text.len();
+    while place > 0 {
+        place -= 1;
+        stack.prepend(text, place)?;
+    }
+    Ok(stack)
+}
+
+impl<A: Allocator> Stack<A> {
+    // Reads the byte before those that were read.
+    fn prepend(&mut self, text: &[u8], place: usize) -> Result<(), Fault>
+        requires place { place < length text.now }
+        requires stack { self.old ≡ stack_of (place + 1) (cells (drop (place + 1) text.now)) }
+        ensures stack { OnOk result (self.new ≡ stack_of place (cells (drop place text.now))) }
+        ensures fault { IsOkUnless result Fault.NoMemory }
+    {
+        match text[place] {
+            b'\n' => self.push_line_feed(text, place),
+            b'\r' => self.push_carriage_return(),
+            b'\\' => self.push_backslash(),
+            b' ' => self.push_blank(b' '),
+            b'\t' => self.push_blank(b'\t'),
+            byte => self.push_byte(byte),
+        }
+    }
+
+    // A line feed takes the blanks and folds after it: a fold that is there, or blanks alone.
+    fn push_line_feed(&mut self, text: &[u8], place: usize) -> Result<(), Fault>
+        requires place { place < length text.now }
+        requires stack { self.old ≡ stack_of (place + 1) (cells (drop (place + 1) text.now)) }
+        ensures stack { OnOk result (self.new ≡ stack_of place (prepend LineFeed 10 (cells (drop (place + 1) text.now)))) }
+        ensures fault { IsOkUnless result Fault.NoMemory }
+    {
+        match self.top {
+            Top::Fold => self.replace_top(b'\n', Top::Lf),
+            _ => self.push_line_end(text, place),
+        }
+    }
+
+    // A line feed that has no fold directly after it takes blanks alone.
+    fn push_line_end(&mut self, text: &[u8], place: usize) -> Result<(), Fault>
+        requires place { place < length text.now }
+        requires stack { self.old ≡ stack_of (place + 1) (cells (drop (place + 1) text.now)) }
+        requires no_fold { self.old.top ≢ Top.Fold }
+        ensures stack { OnOk result (self.new ≡ stack_of place (prepend LineFeed 10 (cells (drop (place + 1) text.now)))) }
+        ensures fault { IsOkUnless result Fault.NoMemory }
+    {
+        let blanks = count_blanks(&text[place + 1..]);
+        self.joined.truncate(self.joined.len() - blanks);
+        self.ends.push(FoldEnd {
+            after: self.joined.len(),
+            raw_end: place + 1 + blanks,
+        })?;
+        self.joined.push(b'\n')?;
+        self.top = Top::Lf;
+        Ok(())
+    }
+
+    // A carriage return joins a line feed directly after it.
+    fn push_carriage_return(&mut self) -> Result<(), Fault>
+        ensures stack { OnOk result ((place : ℕ) (cs : List Cell) → self.old ≡ stack_of (place + 1) cs → self.new ≡ stack_of place (prepend CarriageReturn 13 cs)) }
+        ensures fault { IsOkUnless result Fault.NoMemory }
+    {
+        match self.top {
+            Top::Lf => {
+                self.top = Top::CrLf;
+                Ok(())
+            }
+            Top::Byte | Top::Fold | Top::CrLf => self.push_byte(b'\r'),
+        }
+    }
+
+    // A backslash makes a fold of a line end directly after it, and a fold directly after it bad.
+    fn push_backslash(&mut self) -> Result<(), Fault>
+        ensures stack { OnOk result ((place : ℕ) (cs : List Cell) → self.old ≡ stack_of (place + 1) cs → self.new ≡ stack_of place (prepend Backslash 92 cs)) }
+        ensures fault { IsOkUnless result Fault.NoMemory }
+    {
+        match self.top {
+            Top::Lf | Top::CrLf => self.replace_top(b' ', Top::Fold),
+            Top::Fold => {
+                self.bad_fold = true;
+                self.push_byte(b'\\')
+            }
+            Top::Byte => self.push_byte(b'\\'),
+        }
+    }
+
+    // A blank joins a fold directly after it.
+    fn push_blank(&mut self, blank: u8) -> Result<(), Fault>
+        requires { byte_kind blank ≡ Blank }
+        ensures stack { OnOk result ((place : ℕ) (cs : List Cell) → self.old ≡ stack_of (place + 1) cs → self.new ≡ stack_of place (prepend Blank blank cs)) }
+        ensures fault { IsOkUnless result Fault.NoMemory }
+    {
+        match self.top {
+            Top::Fold => Ok(()),
+            Top::Byte | Top::Lf | Top::CrLf => self.push_byte(blank),
+        }
+    }
+
+    // A byte that stands for itself.
+    fn push_byte(&mut self, byte: u8) -> Result<(), Fault>
+        ensures stack { OnOk result (self.new ≡ record self.old { joined = self.old.joined ++ byte ∷ []; top = Top.Byte }) }
+        ensures fault { IsOkUnless result Fault.NoMemory }
+    {
+        self.joined.push(byte)?;
+        self.top = Top::Byte;
+        Ok(())
+    }
+
+    // The first cell becomes another.
+    fn replace_top(&mut self, byte: u8, top: Top) -> Result<(), Fault>
+        ensures stack { OnOk result ((before : List ℕ) (last : ℕ) → self.old.joined ≡ before ++ last ∷ [] → self.new ≡ record self.old { joined = before ++ byte ∷ []; top = top }) }
+        ensures fault { IsOkUnless result Fault.NoMemory }
+    {
+        self.joined.pop();
+        self.joined.push(byte)?;
+        self.top = top;
+        Ok(())
+    }
+}
+
+// How many blanks a text begins with.
+fn count_blanks(text: &[u8]) -> usize
+    ensures { result ≡ prefix_len (λ b. b == 32 || b == 9) text.now }
+{
+    text.iter()
+        .take_while(|byte| **byte == b' ' || **byte == b'\t')
+        .count()
+}
