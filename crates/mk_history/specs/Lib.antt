@@ -1,0 +1,6 @@
+pub mod Chain
+pub mod ChainLaws
+pub mod Machine
+pub mod Shown
+pub mod Stacks
+pub mod Steps
