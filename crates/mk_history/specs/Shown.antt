@@ -1,6 +1,7 @@
 -- What is seen of a session, and the session machine as it is seen.
 use Rattle.std.specs.Prelude.{ℕ, zero, suc, ◌+◌, ◌-◌, List, [], ◌∷◌, length, map, take, Option, Some, None, Result, Ok, Err, option_map}
 use Rattle.mk_history.specs.Chain.{states}
+use Rattle.mk_history.specs.Stacks.{Stacks}
 use Rattle.mk_history.specs.Machine.{Command, Apply, Undo, Redo, Begin, End, Cancel, Refusal, EditRefused, NothingToUndo, NothingToRedo, GroupOpen, NoGroup, Machine, text, settled, text_of, replay}
 
 -- The depth; the text; the texts that undoing leads back through, and those that redoing leads through, the nearest of
@@ -78,18 +79,19 @@ module _ {E T R : Type 0} (act : E → T → Result T R) where
 
 -- ---- what is seen of a history
 
--- Of a state and the changes that can be undone and redone, no group being open: `text` is the text that a state shows.
-abbrev pub shown_history : {C S T : Type 0} → (after : C → S → S) → (text : S → T) → (depth : ℕ) → (done undone : List C) → S → Shown T
-shown_history after text depth done undone state = record {
-  depth = depth;
+-- Of a state with its history, no group being open. `text` is the text that a state shows.
+abbrev pub shown_history : {C S T : Type 0} → (after : C → S → S) → (text : S → T) → Stacks C → S → Shown T
+shown_history after text h state = record {
+  depth = h.depth;
   text = text state;
-  back = map text (states after done state);
-  forward = map text (states after undone state);
+  back = map text (states after h.done state);
+  forward = map text (states after h.undone state);
   begun = None;
   pending = 0;
 }
 
--- With a group open that has made `pending` changes, which led from the state `begun` to `state`.
-abbrev pub shown_group : {C S T : Type 0} → (after : C → S → S) → (text : S → T) → (depth : ℕ) → (done undone : List C) → (begun : S) → (pending : ℕ) → S → Shown T
-shown_group after text depth done undone begun pending state =
-    record (shown_history after text depth done undone begun) { text = text state; begun = Some (text begun); pending = pending }
+-- With a group open that has made `pending` changes, which led from the state `begun` to `state`. The history is that of
+-- `begun`.
+abbrev pub shown_group : {C S T : Type 0} → (after : C → S → S) → (text : S → T) → Stacks C → (begun : S) → (pending : ℕ) → S → Shown T
+shown_group after text h begun pending state =
+    record (shown_history after text h begun) { text = text state; begun = Some (text begun); pending = pending }

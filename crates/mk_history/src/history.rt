@@ -66,8 +66,9 @@ impl<C: Change + Drop, A: Allocator> History<C, A> {
         if depth < 1 || depth > MAX_DEPTH {
             return Err(Fault::BadDepth);
         }
-        let done = HeapCircularBuffer::with_capacity(alloc, depth as usize)?;
-        let undone = HeapCircularBuffer::with_capacity(alloc, depth as usize)?;
+        let room = depth as usize;
+        let done = HeapCircularBuffer::with_capacity(alloc, room)?;
+        let undone = HeapCircularBuffer::with_capacity(alloc, room)?;
         Ok(History { done, undone })
     }
 
@@ -76,11 +77,9 @@ impl<C: Change + Drop, A: Allocator> History<C, A> {
     /// Where there are more than the depth the oldest is dropped. Nothing can be redone any more.
     /// It takes no memory.
     pub fn push(&mut self, inverse: C)
-        ensures done { self.new.done ≡ take self.old.depth (inverse ∷ self.old.done) }
-        ensures undone { self.new.undone ≡ [] }
-        ensures depth { self.new.depth ≡ self.old.depth }
+        ensures { self.new ≡ record self.old { done = take self.old.depth (inverse ∷ self.old.done); undone = [] } }
     {
-        self.undone.clear();
+        self.forget();
         self.done.push_front(inverse);
     }
 

@@ -1,0 +1,3 @@
+//! Undo and redo of single bytes of a text of four.
+mod editor;
+mod sure;
