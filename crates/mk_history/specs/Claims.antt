@@ -1,11 +1,11 @@
 -- What is promised of the session machine, of what is seen of it, and of a history as it is seen.
-use Rattle.std.specs.Prelude.{◌≡◌, ◌↔◌, ◌⊎◌, ℕ, zero, suc, ◌+◌, ◌≤◌, List, [], ◌∷◌, ◌++◌, length, map, take, reverse, replicate, Option, Some, None, Result, Ok, Err, OnOk, OnErr, IfErr}
+use Rattle.std.specs.Prelude.{◌≡◌, ◌↔◌, ◌⊎◌, ℕ, ◌+◌, ◌≤◌, ◌<◌, List, [], ◌∷◌, ◌++◌, length, map, take, reverse, replicate, Option, Some, None, Result, Ok, Err, OnOk, OnErr, IfErr}
 use Rattle.mk_history.specs.declared.history.HistoryError.{HistoryError}
 use Rattle.mk_history.specs.declared.history.HistoryError.TheVariants as error
 use Rattle.mk_history.specs.Chain.{Moves}
-use Rattle.mk_history.specs.Stacks.{Stacks}
-use Rattle.mk_history.specs.Machine.{Command, Apply, Undo, Redo, Begin, End, Cancel, Refusal, NothingToUndo, NothingToRedo, Machine, opened, answer, next, after_calls, text, settled, replay}
-use Rattle.mk_history.specs.Shown.{Shown, shown, shown_opened, shown_answer, shown_edited, shown_history, shown_group}
+use Rattle.mk_history.specs.Stacks.{Stacks, Several, after_in_turn}
+use Rattle.mk_history.specs.Machine.{Command, Apply, Undo, Redo, Begin, End, Cancel, Refusal, NothingToUndo, NothingToRedo, GroupOpen, NoGroup, Machine, opened, answer, next, after_calls, text, settled, replay}
+use Rattle.mk_history.specs.Shown.{Shown, shown, shown_opened, shown_answer, shown_history, shown_session}
 use Rattle.mk_history.specs.Steps.{Reply, Granted, Refused, NoMemory, IsStep, IsRun}
 
 -- the members' edits, one after the other
@@ -119,29 +119,44 @@ module _ {C S E T R : Type 0} (fits : C → S → Type 0) (after : C → S → S
       → OnErr result ((new ≡ h) × (new_state ≡ state))
       → IsStep (shown_answer act) Redo (history_reply result) (shown_history after text h state) (shown_history after text new new_state)
 
+-- ---- a history with groups, as it is seen
+
+-- `after` is that of the changes, of which a member of the history has several.
+module _ {C S E T R : Type 0} (after : C → S → S) (text : S → T) (act : E → T → Result T R) where
+  -- An edit in a group, whose inverse comes first in it, and after which nothing can be redone.
+  abbrev pub GroupEditSteps : Type 0
+  GroupEditSteps = (e : E) (h : Stacks (Several C)) (g new_g : Several C) (inverse : C) (old new : S)
+      → act e (text old) ≡ Ok (text new) → after inverse new ≡ old → new_g.changes ≡ inverse ∷ g.changes
+      → IsStep (shown_answer act) (Apply e) Granted (shown_session after text h (Some g) old)
+      (shown_session after text (record h { undone = [] }) (Some new_g) new)
+
   -- The beginning of a group.
   abbrev pub BeginSteps : Type 0
-  BeginSteps = (h : Stacks C) (state : S)
-      → IsStep (shown_answer act) Begin Granted (shown_history after text h state) (shown_group after text h state 0 state)
+  BeginSteps = (h : Stacks (Several C)) (g : Several C) (state : S) → g.changes ≡ []
+      → IsStep (shown_answer act) Begin Granted (shown_session after text h None state) (shown_session after text h (Some g) state)
 
-  -- An edit in a group, after which what could be redone was forgotten.
-  abbrev pub GroupEditSteps : Type 0
-  GroupEditSteps = (e : E) (h : Stacks C) (begun : S) (pending : ℕ) (old new : S) → act e (text old) ≡ Ok (text new)
-      → IsStep (shown_answer act) (Apply e) Granted (shown_group after text h begun pending old)
-      (shown_group after text (record h { undone = [] }) begun (pending + 1) new)
-
-  -- The end of a group that has edits, whose inverses were pushed as one change.
+  -- The end of a group that has edits, whose changes are pushed as one.
   abbrev pub EndSteps : Type 0
-  EndSteps = (h : Stacks C) (begun : S) (pending : ℕ) (inverse : C) (state : S) → h.undone ≡ [] → after inverse state ≡ begun
-      → IsStep (shown_answer act) End Granted (shown_group after text h begun (pending + 1) state)
-      (shown_history after text (record h { done = take h.depth (inverse ∷ h.done); undone = [] }) state)
+  EndSteps = (h : Stacks (Several C)) (g : Several C) (state : S) → 0 < length g.changes → h.undone ≡ []
+      → IsStep (shown_answer act) End Granted (shown_session after text h (Some g) state)
+      (shown_session after text (record h { done = take h.depth (g ∷ h.done); undone = [] }) None state)
 
   -- The end of a group that has no edit.
   abbrev pub EmptyEndSteps : Type 0
-  EmptyEndSteps = (h : Stacks C) (state : S)
-      → IsStep (shown_answer act) End Granted (shown_group after text h state 0 state) (shown_history after text h state)
+  EmptyEndSteps = (h : Stacks (Several C)) (g : Several C) (state : S) → g.changes ≡ []
+      → IsStep (shown_answer act) End Granted (shown_session after text h (Some g) state) (shown_session after text h None state)
 
-  -- A group that is cancelled.
+  -- A group that is cancelled, whose changes are made.
   abbrev pub CancelSteps : Type 0
-  CancelSteps = (h : Stacks C) (begun : S) (pending : ℕ) (state : S)
-      → IsStep (shown_answer act) Cancel Granted (shown_group after text h begun pending state) (shown_history after text h begun)
+  CancelSteps = (h : Stacks (Several C)) (g : Several C) (state : S)
+      → IsStep (shown_answer act) Cancel Granted (shown_session after text h (Some g) state)
+      (shown_session after text h None (after_in_turn after g state))
+
+  -- With a group open nothing is undone or redone, and no group is begun; without one none is ended or cancelled.
+  abbrev pub GroupRefuses : Type 0
+  GroupRefuses = (h : Stacks (Several C)) (g : Several C) (state : S)
+      → (shown_answer act Undo (shown_session after text h (Some g) state) ≡ Err GroupOpen)
+      × (shown_answer act Redo (shown_session after text h (Some g) state) ≡ Err GroupOpen)
+      × (shown_answer act Begin (shown_session after text h (Some g) state) ≡ Err GroupOpen)
+      × (shown_answer act End (shown_session after text h None state) ≡ Err NoGroup)
+      × (shown_answer act Cancel (shown_session after text h None state) ≡ Err NoGroup)

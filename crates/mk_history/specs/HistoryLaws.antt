@@ -1,15 +1,13 @@
 -- A history, as it is seen, makes the steps of what is seen of the session machine, for the crates above too.
-use Rattle.std.proofs.Common.{◌≡◌, refl, sym, ap, ◌∙◌, ℕ, zero, suc, ◌+◌, List, [], ◌∷◌, map, take, inl, inr, add-one}
-use Rattle.std.specs.Prelude.{Result, Ok, Err, ◌↔◌, ◌⊎◌, OnOk, OnErr, IfErr}
-use Rattle.mk_history.specs.declared.history.HistoryError.{HistoryError}
+use Rattle.std.proofs.Common.{◌≡◌, refl, sym, ap, ◌∙◌, ℕ, zero, suc, ◌<◌, List, [], ◌∷◌, length, map, take, Some, inl, inr, add-one, arith}
+use Rattle.std.specs.Prelude.{Result, Ok, Err}
 use Rattle.mk_history.specs.declared.history.HistoryError.TheVariants as error
-use Rattle.mk_history.specs.Chain.{states, Moves}
+use Rattle.mk_history.specs.Chain.{after_all, states}
 use Rattle.mk_history.specs.ChainLaws.{states-take}
-use Rattle.mk_history.specs.Stacks.{Stacks}
-use Rattle.mk_history.specs.Machine.{Command, Apply, Undo, Redo, Begin, End, Cancel, NothingToUndo, NothingToRedo}
-use Rattle.mk_history.specs.Shown.{Shown, shown_answer, shown_edited, shown_history, shown_group}
-use Rattle.mk_history.specs.Steps.{Reply, Granted, Refused, NoMemory, IsStep}
-use Rattle.mk_history.specs.Claims.{history_reply, EditSteps, UndoSteps, RedoSteps, BeginSteps, GroupEditSteps, EndSteps, EmptyEndSteps, CancelSteps}
+use Rattle.mk_history.specs.Stacks.{Stacks, Several, after_in_turn}
+use Rattle.mk_history.specs.Machine.{Apply, Undo, Redo, Begin, End, NothingToUndo, NothingToRedo}
+use Rattle.mk_history.specs.Shown.{Shown, shown_answer, shown_edited, shown_history}
+use Rattle.mk_history.specs.Claims.{EditSteps, UndoSteps, RedoSteps, BeginSteps, GroupEditSteps, EndSteps, EmptyEndSteps, CancelSteps, GroupRefuses}
 
 map-take : {A B : Type 0} (f : A → B) (n : ℕ) (xs : List A) → map f (take n xs) ≡ take n (map f xs)
 map-take f zero xs = refl
@@ -82,23 +80,50 @@ module _ {C S E T R : Type 0} (fits : C → S → Type 0) (after : C → S → S
   redo-steps h new state new_state (Err error.NothingToUndo) moves depth nothing errors same = absurd (elim errors [ inl e ↦ cc | inr e ↦ cc ])
   redo-steps h new state new_state (Err error.NoMemory) moves depth nothing errors same = unchanged h new state new_state same
 
-  pub begin-steps : BeginSteps fits after text act
-  begin-steps h state = refl
+module _ {C S E T R : Type 0} (after : C → S → S) (text : S → T) (act : E → T → Result T R) where
+  -- what is seen with a group open, by its changes
+  abbrev opened_group : Stacks (Several C) → List C → S → Shown T
+  opened_group h changes state =
+      record (shown_history (after_in_turn after) text h (after_all after changes state)) { text = text state; begun = Some (text (after_all after changes state)); pending = length changes }
 
-  pub group-edit-steps : GroupEditSteps fits after text act
-  group-edit-steps e h begun pending old new accepted = answer-edited e (shown_group after text h begun pending old) (text new) accepted
+  edit-in-group : (h : Stacks (Several C)) (changes new_changes : List C) (inverse : C) (old new : S)
+      → after inverse new ≡ old → new_changes ≡ inverse ∷ changes
+      → shown_edited (text new) (opened_group h changes old) ≡ opened_group (record h { undone = [] }) new_changes new
+  edit-in-group h changes new_changes inverse old new e c = rw (c, e, add-one (length changes)) refl
 
-  end-parts : (depth : ℕ) (done undone : List C) (begun : S) (pending : ℕ) (inverse : C) (state : S) → undone ≡ [] → after inverse state ≡ begun
-      → shown_answer act End (shown_group after text (stacks depth done undone) begun (suc pending) state)
-      ≡ Ok (shown_history after text (stacks depth (take depth (inverse ∷ done)) []) state)
-  end-parts depth done undone begun pending inverse state u e =
-      rw (u, back-pushed depth done inverse begun state e) refl
+  pub group-edit-steps : GroupEditSteps after text act
+  group-edit-steps e h g new_g inverse old new accepted leads_back c =
+      rw (accepted, shown_answer) (ap (λ s. Ok s) (edit-in-group h g.changes new_g.changes inverse old new leads_back c))
 
-  pub end-steps : EndSteps fits after text act
-  end-steps h begun pending inverse state u e = rw (add-one pending) (end-parts h.depth h.done h.undone begun pending inverse state u e)
+  begin-parts : (h : Stacks (Several C)) (changes : List C) (state : S) → changes ≡ []
+      → shown_answer act Begin (shown_history (after_in_turn after) text h state) ≡ Ok (opened_group h changes state)
+  begin-parts h changes state e = rw e refl
 
-  pub empty-end-steps : EmptyEndSteps fits after text act
-  empty-end-steps h state = refl
+  pub begin-steps : BeginSteps after text act
+  begin-steps h g state e = begin-parts h g.changes state e
 
-  pub cancel-steps : CancelSteps fits after text act
-  cancel-steps h begun pending state = refl
+  end-parts : (h : Stacks (Several C)) (g : Several C) (undone : List (Several C)) (changes : List C) (state : S) → 0 < length changes → undone ≡ []
+      → g.changes ≡ changes
+      → shown_answer act End (opened_group (record h { undone = undone }) changes state)
+      ≡ Ok (shown_history (after_in_turn after) text (record h { done = take h.depth (g ∷ h.done); undone = [] }) state)
+  end-parts h g undone [] state some u c = absurd (omega (arith, some))
+  end-parts h g undone (change ∷ changes) state some u c =
+      let begun = after_all after (change ∷ changes) state in
+      let leads_back : after_in_turn after g state ≡ begun = rw c refl in
+      rw (u, back-pushed (λ _ _. Unit {0}) (after_in_turn after) text act h.depth h.done g begun state leads_back) refl
+
+  pub end-steps : EndSteps after text act
+  end-steps h g state some u = end-parts h g h.undone g.changes state some u refl
+
+  empty-end-parts : (h : Stacks (Several C)) (changes : List C) (state : S) → changes ≡ []
+      → shown_answer act End (opened_group h changes state) ≡ Ok (shown_history (after_in_turn after) text h state)
+  empty-end-parts h changes state e = rw e refl
+
+  pub empty-end-steps : EmptyEndSteps after text act
+  empty-end-steps h g state e = empty-end-parts h g.changes state e
+
+  pub cancel-steps : CancelSteps after text act
+  cancel-steps h g state = refl
+
+  pub group-refuses : GroupRefuses after text act
+  group-refuses h g state = (refl, refl, refl, refl, refl)

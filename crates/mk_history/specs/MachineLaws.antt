@@ -3,7 +3,7 @@ use Rattle.std.proofs.Common.{◌≡◌, refl, sym, ap, ◌∙◌, ℕ, suc, ◌
 use Rattle.std.specs.Prelude.{Result, Ok, Err, nat_lt}
 use Rattle.std.proofs.lemmas.List.{append-nil, reverse-append}
 use Rattle.std.proofs.lemmas.List.Sums.{fold-append}
-use Rattle.mk_history.specs.Machine.{Command, Apply, Undo, Redo, Begin, End, Cancel, Refusal, EditRefused, NothingToUndo, Machine, answer, next, after_calls, text, text_of, replay, edited, accepted, closed}
+use Rattle.mk_history.specs.Machine.{Command, Apply, Undo, Redo, Begin, End, Cancel, Refusal, NothingToUndo, Machine, answer, next, after_calls, text, text_of, replay, edited, accepted, closed}
 use Rattle.mk_history.specs.Steps.{Granted, IsRun}
 use Rattle.mk_history.specs.Claims.{UndoesAll, RedoesUndo, Cancels, Ends, Stands, Accepts, IsFresh, IsWithin, StaysWithin, flat}
 

@@ -1,7 +1,7 @@
 -- What is seen of a session, and the session machine as it is seen.
-use Rattle.std.specs.Prelude.{ℕ, zero, suc, ◌+◌, ◌-◌, List, [], ◌∷◌, length, map, take, Option, Some, None, Result, Ok, Err, option_map}
-use Rattle.mk_history.specs.Chain.{states}
-use Rattle.mk_history.specs.Stacks.{Stacks}
+use Rattle.std.specs.Prelude.{◌≡◌, ◌<◌, ℕ, zero, suc, ◌+◌, ◌-◌, List, [], ◌∷◌, length, map, take, Option, Some, None, Result, Ok, Err, option_map}
+use Rattle.mk_history.specs.Chain.{IsChain, states}
+use Rattle.mk_history.specs.Stacks.{Stacks, Several, FitInTurn, after_in_turn}
 use Rattle.mk_history.specs.Machine.{Command, Apply, Undo, Redo, Begin, End, Cancel, Refusal, EditRefused, NothingToUndo, NothingToRedo, GroupOpen, NoGroup, Machine, text, settled, text_of, replay}
 
 -- The depth; the text; the texts that undoing leads back through, and those that redoing leads through, the nearest of
@@ -77,9 +77,9 @@ module _ {E T R : Type 0} (act : E → T → Result T R) where
   shown_answer End s = elim s.begun [ Some b ↦ Ok (shown_ended b s.pending s) | None ↦ Err NoGroup ]
   shown_answer Cancel s = elim s.begun [ Some b ↦ Ok (record s { text = b; begun = None; pending = 0 }) | None ↦ Err NoGroup ]
 
--- ---- what is seen of a history
+-- ---- what is seen of a state with its history
 
--- Of a state with its history, no group being open. `text` is the text that a state shows.
+-- No group is open. `text` is the text that a state shows.
 abbrev pub shown_history : {C S T : Type 0} → (after : C → S → S) → (text : S → T) → Stacks C → S → Shown T
 shown_history after text h state = record {
   depth = h.depth;
@@ -90,8 +90,22 @@ shown_history after text h state = record {
   pending = 0;
 }
 
--- With a group open that has made `pending` changes, which led from the state `begun` to `state`. The history is that of
--- `begun`.
-abbrev pub shown_group : {C S T : Type 0} → (after : C → S → S) → (text : S → T) → Stacks C → (begun : S) → (pending : ℕ) → S → Shown T
-shown_group after text h begun pending state =
-    record (shown_history after text h begun) { text = text state; begun = Some (text begun); pending = pending }
+-- A group may be open. Its changes take back what was done in it, the newest first, so they lead to the state at its
+-- beginning, whose history this is.
+abbrev pub shown_session : {C S T : Type 0} → (after : C → S → S) → (text : S → T) → Stacks (Several C) → (group : Option (Several C)) → S → Shown T
+shown_session after text h None state = shown_history (after_in_turn after) text h state
+shown_session after text h (Some g) state =
+    let begun = after_in_turn after g state in
+    record (shown_history (after_in_turn after) text h begun) { text = text state; begun = Some (text begun); pending = length g.changes }
+
+-- What a session keeps. The history's lists are chains from the state, or from that at the beginning of the open group, to
+-- which the group's changes are a chain; and once the group has a change, nothing can be redone.
+abbrev pub IsConsistent : {C S : Type 0} → (fits : C → S → Type 0) → (after : C → S → S) → Stacks (Several C) → (group : Option (Several C)) → S → Type 0
+IsConsistent fits after h None state =
+    IsChain (FitInTurn fits after) (after_in_turn after) h.done state × IsChain (FitInTurn fits after) (after_in_turn after) h.undone state
+IsConsistent fits after h (Some g) state =
+    let begun = after_in_turn after g state in
+    FitInTurn fits after g state
+    × IsChain (FitInTurn fits after) (after_in_turn after) h.done begun
+    × IsChain (FitInTurn fits after) (after_in_turn after) h.undone begun
+    × (0 < length g.changes → h.undone ≡ [])

@@ -6,7 +6,7 @@ use Rattle.std.proofs.lemmas.List.Sums.{fold-append}
 use Rattle.std.proofs.Math.Seq.{take-nil}
 use Rattle.std.proofs.lemmas.Bool.Decides.{leb_tells}
 use Rattle.mk_history.specs.Machine.{Command, Apply, Undo, Redo, Begin, End, Cancel, Refusal, EditRefused, NothingToUndo, Machine, opened, answer, next, text, text_of, replay, edited, accepted}
-use Rattle.mk_history.specs.Shown.{Shown, shown, shown_opened, shown_answer, shown_edited, shown_back, texts_before}
+use Rattle.mk_history.specs.Shown.{Shown, shown, shown_answer, shown_edited, shown_back, texts_before}
 use Rattle.mk_history.specs.Steps.{Reply, Granted, Refused, NoMemory, IsStep, IsRun}
 use Rattle.mk_history.specs.Claims.{IsWithin, IsSeen, Follows, FollowsOpened, shown_result}
 use Rattle.mk_history.specs.MachineLaws.{of_parts, stays-within-call}

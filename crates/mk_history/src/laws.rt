@@ -9,7 +9,7 @@
 //!
 //! Proofs cite the same laws from `specs/MachineLaws`, `specs/ShownLaws` and `specs/HistoryLaws`.
 ghost use Rattle.std.specs.Prelude.{Result};
-ghost use Rattle.mk_history.specs.Claims.{UndoesAll, RedoesUndo, Accepts, Cancels, Ends, Stands, StaysWithin, IsSeen, Follows, FollowsOpened, EditSteps, UndoSteps, RedoSteps, BeginSteps, GroupEditSteps, EndSteps, EmptyEndSteps, CancelSteps};
+ghost use Rattle.mk_history.specs.Claims.{UndoesAll, RedoesUndo, Accepts, Cancels, Ends, Stands, StaysWithin, IsSeen, Follows, FollowsOpened, EditSteps, UndoSteps, RedoSteps, BeginSteps, GroupEditSteps, EndSteps, EmptyEndSteps, CancelSteps, GroupRefuses};
 
 use crate::change::Change;
 
@@ -45,15 +45,21 @@ pub fn what_is_seen_is_the_machine<E, T, R>()
 {}
 
 /// A state with its [`History`](crate::History) makes the steps of what is seen: an edit whose
-/// inverse is pushed, an undo and a redo by what the history promises, and a group that is begun,
-/// gets edits, and is ended or cancelled.
+/// inverse is pushed, and an undo and a redo by what the history promises.
 pub fn history_makes_the_steps<C: Change, E, T, R>()
     ensures edit { (text : C.State → T) (act : E → T → Result T R) → EditSteps C.fits C.after text act }
     ensures undo { (text : C.State → T) (act : E → T → Result T R) → UndoSteps C.fits C.after text act }
     ensures redo { (text : C.State → T) (act : E → T → Result T R) → RedoSteps C.fits C.after text act }
-    ensures begin { (text : C.State → T) (act : E → T → Result T R) → BeginSteps C.fits C.after text act }
-    ensures group_edit { (text : C.State → T) (act : E → T → Result T R) → GroupEditSteps C.fits C.after text act }
-    ensures end { (text : C.State → T) (act : E → T → Result T R) → EndSteps C.fits C.after text act }
-    ensures empty_end { (text : C.State → T) (act : E → T → Result T R) → EmptyEndSteps C.fits C.after text act }
-    ensures cancel { (text : C.State → T) (act : E → T → Result T R) → CancelSteps C.fits C.after text act }
+{}
+
+/// So do groups: one that is begun is an empty [`Sequence`](crate::Sequence), gets the inverse of
+/// each edit in front, and is pushed at its end or made where it is cancelled. Its edits forget
+/// what could be redone.
+pub fn groups_make_the_steps<C: Change, E, T, R>()
+    ensures edit { (text : C.State → T) (act : E → T → Result T R) → GroupEditSteps C.after text act }
+    ensures begin { (text : C.State → T) (act : E → T → Result T R) → BeginSteps C.after text act }
+    ensures end { (text : C.State → T) (act : E → T → Result T R) → EndSteps C.after text act }
+    ensures empty_end { (text : C.State → T) (act : E → T → Result T R) → EmptyEndSteps C.after text act }
+    ensures cancel { (text : C.State → T) (act : E → T → Result T R) → CancelSteps C.after text act }
+    ensures refused { (text : C.State → T) (act : E → T → Result T R) → GroupRefuses C.after text act }
 {}

@@ -142,11 +142,11 @@ impl<C: SureChange + Drop, A: Allocator> Change for Sequence<C, A> {
     type State = C::State;
 
     ghost use Rattle.std.specs.Prelude.{true};
-    ghost use Rattle.mk_history.specs.Chain.{IsChain, after_all};
+    ghost use Rattle.mk_history.specs.Stacks.{FitInTurn, after_in_turn};
 
-    ghost fits = { λ s state. IsChain C.fits C.after s.changes state };
+    ghost fits = { FitInTurn C.fits C.after };
 
-    ghost after = { λ s state. after_all C.after s.changes state };
+    ghost after = { after_in_turn C.after };
 
     ghost sure = { true };
 

@@ -11,9 +11,9 @@ use std::test::Fail;
 
 /// Sets a byte.
 #[derive(Clone, Copy, Drop)]
-struct SetByte {
-    at: usize,
-    byte: u8,
+pub(super) struct SetByte {
+    pub at: usize,
+    pub byte: u8,
 }
 
 impl Change for SetByte {
