@@ -1,14 +1,11 @@
 -- Steps of a text of bytes with its history, by what its calls know.
-use Rattle.std.proofs.Common.{◌≡◌, ℕ, zero, suc, ◌<◌, Bool, false, List, [], ◌∷◌, length, take, Option, Some, None, Ok, Result, sym, ap, subst, arith}
+use Rattle.std.proofs.Common.{◌≡◌, ℕ, zero, suc, ◌<◌, Bool, false, List, [], ◌∷◌, length, take, Option, Some, None, Ok, sym, ap, subst, arith}
 use Rattle.std.specs.Prelude.{slice_set, ◌==◌}
 use Rattle.mk_history.specs.Machine.{Apply, End}
 use Rattle.mk_history.specs.Stacks.{Stacks, Several, after_in_turn}
+use Rattle.mk_history.specs.SetBytes.{set_act}
 use Rattle.mk_history.specs.Shown.{Shown, shown_answer, shown_session, IsConsistent}
 use Rattle.mk_history.specs.HistoryLaws.{edit-steps, end-steps}
-
--- an edit sets a byte
-abbrev pub set_act : ℕ × ℕ → List ℕ → Result (List ℕ) ℕ
-set_act e text = Ok (slice_set text e.0 e.1)
 
 pub some-if-not-empty : (n : ℕ) (b : Bool) → b ≡ (n == 0) → b ≡ false → 0 < n
 some-if-not-empty zero b e f = absurd (cc)
@@ -27,7 +24,8 @@ module _ {C : Type 0} (fits : C → List ℕ → Type 0) (after : C → List ℕ
 
   -- the end of a group that has edits
   pub end-of-some : (h new_h : Stacks (Several C)) (group new_group : Option (Several C)) (member : Several C) (text : List ℕ) (s : Shown (List ℕ))
-      → shown_session after (λ t. t) h group text ≡ s → IsConsistent fits after h group text → group ≡ Some member → new_group ≡ None
+      → shown_session after (λ t. t) h group text ≡ s → IsConsistent fits after h group text → group ≡ Some member
+      → new_group ≡ None
       → 0 < length member.changes
       → new_h ≡ record h { done = take h.depth (member ∷ h.done); undone = [] }
       → shown_answer set_act End s ≡ Ok (shown_session after (λ t. t) new_h new_group text)

@@ -30,7 +30,8 @@ module _ {C S E T R : Type 0} (fits : C → S → Type 0) (after : C → S → S
       → shown_edited (text new) (shown_history after text h old) ≡ shown_history after text (record h { done = take h.depth (inverse ∷ h.done); undone = [] }) new
   shown-pushed h inverse old new e = rw (back-pushed h.depth h.done inverse old new e) refl
 
-  answer-edited : (e : E) (s : Shown T) (t : T) → act e s.text ≡ Ok t → shown_answer act (Apply e) s ≡ Ok (shown_edited t s)
+  answer-edited : (e : E) (s : Shown T) (t : T) → act e s.text ≡ Ok t
+      → shown_answer act (Apply e) s ≡ Ok (shown_edited t s)
   answer-edited e s t h = rw (h, shown_answer) refl
 
   pub edit-steps : EditSteps fits after text act
@@ -39,14 +40,16 @@ module _ {C S E T R : Type 0} (fits : C → S → Type 0) (after : C → S → S
       ∙ ap (λ s. Ok s) (shown-pushed h inverse old new leads_back)
 
   undo-moves : (depth new_depth : ℕ) (done undone new_done new_undone : List C) (state new_state : S) (change inverse : C)
-      → done ≡ change ∷ new_done → new_undone ≡ inverse ∷ undone → new_state ≡ after change state → after inverse new_state ≡ state → new_depth ≡ depth
+      → done ≡ change ∷ new_done → new_undone ≡ inverse ∷ undone → new_state ≡ after change state
+      → after inverse new_state ≡ state → new_depth ≡ depth
       → shown_answer act Undo (shown_history after text (stacks depth done undone) state) ≡ Ok (shown_history after text (stacks new_depth new_done new_undone) new_state)
   undo-moves depth new_depth done undone new_done new_undone state new_state change inverse d u s b n =
       let back : after inverse (after change state) ≡ state = ap (λ x. after inverse x) (sym s) ∙ b in
       rw (d, u, s, n, back) refl
 
   redo-moves : (depth new_depth : ℕ) (done undone new_done new_undone : List C) (state new_state : S) (change inverse : C)
-      → undone ≡ change ∷ new_undone → new_done ≡ inverse ∷ done → new_state ≡ after change state → after inverse new_state ≡ state → new_depth ≡ depth
+      → undone ≡ change ∷ new_undone → new_done ≡ inverse ∷ done → new_state ≡ after change state
+      → after inverse new_state ≡ state → new_depth ≡ depth
       → shown_answer act Redo (shown_history after text (stacks depth done undone) state) ≡ Ok (shown_history after text (stacks new_depth new_done new_undone) new_state)
   redo-moves depth new_depth done undone new_done new_undone state new_state change inverse d u s b n =
       let back : after inverse (after change state) ≡ state = ap (λ x. after inverse x) (sym s) ∙ b in
@@ -102,7 +105,8 @@ module _ {C S E T R : Type 0} (after : C → S → S) (text : S → T) (act : E 
   pub begin-steps : BeginSteps after text act
   begin-steps h g state e = begin-parts h g.changes state e
 
-  end-parts : (h : Stacks (Several C)) (g : Several C) (undone : List (Several C)) (changes : List C) (state : S) → 0 < length changes → undone ≡ []
+  end-parts : (h : Stacks (Several C)) (g : Several C) (undone : List (Several C)) (changes : List C) (state : S)
+      → 0 < length changes → undone ≡ []
       → g.changes ≡ changes
       → shown_answer act End (opened_group (record h { undone = undone }) changes state)
       ≡ Ok (shown_history (after_in_turn after) text (record h { done = take h.depth (g ∷ h.done); undone = [] }) state)

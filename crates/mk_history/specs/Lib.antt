@@ -4,6 +4,7 @@ pub mod Claims
 pub mod HistoryLaws
 pub mod Machine
 pub mod MachineLaws
+pub mod SetBytes
 pub mod Shown
 pub mod ShownLaws
 pub mod Stacks

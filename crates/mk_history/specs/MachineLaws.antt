@@ -41,7 +41,8 @@ module _ {E T R : Type 0} (act : E → T → Result T R) where
       go floor group f g = rw (f, g) (undoes-parts depth m.first m.done m.undone)
 
   redoes-parts : (depth : ℕ) (t : T) (done undone : List (List E)) (floor : ℕ) (group : Option (List E)) (n : Machine E T)
-      → answer act depth Undo (of_parts t done undone floor group) ≡ Ok n → answer act depth Redo n ≡ Ok (of_parts t done undone floor group)
+      → answer act depth Undo (of_parts t done undone floor group) ≡ Ok n
+      → answer act depth Redo n ≡ Ok (of_parts t done undone floor group)
   redoes-parts depth t done undone floor (Some es) n h = absurd (cc)
   redoes-parts depth t [] undone floor None n h = absurd (cc)
   redoes-parts depth t (es ∷ done) undone floor None n h = go (nat_lt floor (length (es ∷ done))) refl h
@@ -93,10 +94,12 @@ module _ {E T R : Type 0} (act : E → T → Result T R) where
   text-accepted depth e t done undone floor None = refl
   text-accepted depth e t done undone floor (Some es) = fold-append (edited act) (text_of act t done) es (e ∷ [])
 
-  pub next-accepted : (depth : ℕ) (e : E) (m : Machine E T) (t : T) → act e (text act m) ≡ Ok t → next act depth (Apply e) m ≡ accepted depth e m
+  pub next-accepted : (depth : ℕ) (e : E) (m : Machine E T) (t : T) → act e (text act m) ≡ Ok t
+      → next act depth (Apply e) m ≡ accepted depth e m
   next-accepted depth e m t h = rw (h, next, answer) refl
 
-  pub next-refused : (depth : ℕ) (e : E) (m : Machine E T) (r : R) → act e (text act m) ≡ Err r → next act depth (Apply e) m ≡ m
+  pub next-refused : (depth : ℕ) (e : E) (m : Machine E T) (r : R) → act e (text act m) ≡ Err r
+      → next act depth (Apply e) m ≡ m
   next-refused depth e m r h = rw (h, next, answer) refl
 
   edited-accepted : (e : E) (t n : T) → act e t ≡ Ok n → edited act t e ≡ n
@@ -149,7 +152,8 @@ module _ {E T R : Type 0} (act : E → T → Result T R) where
       some n floor depth h = Prim.grind (arith, h)
 
   within-accepted : (depth : ℕ) (e : E) (t : T) (done undone : List (List E)) (floor : ℕ) (group : Option (List E))
-      → IsWithin depth (of_parts t done undone floor group) → IsWithin depth (accepted depth e (of_parts t done undone floor group))
+      → IsWithin depth (of_parts t done undone floor group)
+      → IsWithin depth (accepted depth e (of_parts t done undone floor group))
   within-accepted depth e t done undone floor None h = within-closed depth (e ∷ []) t done floor h.some
   within-accepted depth e t done undone floor (Some es) h = record { few = omega (arith, h.few); some = h.some; fresh = fresh es }
     where
@@ -165,7 +169,8 @@ module _ {E T R : Type 0} (act : E → T → Result T R) where
       go (Err r) k = subst (λ (n : Machine E T). IsWithin depth n) (sym (next-refused depth e m r k)) h
 
   within-undo : (depth : ℕ) (t : T) (done undone : List (List E)) (floor : ℕ) (group : Option (List E))
-      → IsWithin depth (of_parts t done undone floor group) → IsWithin depth (next act depth Undo (of_parts t done undone floor group))
+      → IsWithin depth (of_parts t done undone floor group)
+      → IsWithin depth (next act depth Undo (of_parts t done undone floor group))
   within-undo depth t done undone floor (Some es) h = h
   within-undo depth t [] undone floor None h = h
   within-undo depth t (es ∷ done) undone floor None h = go (nat_lt floor (length (es ∷ done))) refl
@@ -176,7 +181,8 @@ module _ {E T R : Type 0} (act : E → T → Result T R) where
       go false k = h
 
   within-next : (depth : ℕ) (c : Command E) (t : T) (done undone : List (List E)) (floor : ℕ) (group : Option (List E))
-      → IsWithin depth (of_parts t done undone floor group) → IsWithin depth (next act depth c (of_parts t done undone floor group))
+      → IsWithin depth (of_parts t done undone floor group)
+      → IsWithin depth (next act depth c (of_parts t done undone floor group))
   within-next depth (Apply e) t done undone floor group h = within-apply depth e (of_parts t done undone floor group) h
   within-next depth Undo t done undone floor group h = within-undo depth t done undone floor group h
   within-next depth Redo t done undone floor (Some es) h = h
@@ -191,7 +197,8 @@ module _ {E T R : Type 0} (act : E → T → Result T R) where
   within-next depth Cancel t done undone floor None h = h
   within-next depth Cancel t done undone floor (Some es) h = record { few = h.few; some = h.some; fresh = tt }
 
-  pub stays-within-call : (depth : ℕ) (c : Command E) (m : Machine E T) → IsWithin depth m → IsWithin depth (next act depth c m)
+  pub stays-within-call : (depth : ℕ) (c : Command E) (m : Machine E T) → IsWithin depth m
+      → IsWithin depth (next act depth c m)
   stays-within-call depth c m h = within-next depth c m.first m.done m.undone m.floor m.group h
 
   pub stays-within : StaysWithin act

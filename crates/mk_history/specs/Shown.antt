@@ -92,7 +92,8 @@ shown_history after text h state = record {
 
 -- A group may be open. Its changes take back what was done in it, the newest first, so they lead to the state at its
 -- beginning, whose history this is.
-abbrev pub shown_session : {C S T : Type 0} → (after : C → S → S) → (text : S → T) → Stacks (Several C) → (group : Option (Several C)) → S → Shown T
+abbrev pub shown_session : {C S T : Type 0} → (after : C → S → S) → (text : S → T) → Stacks (Several C)
+    → (group : Option (Several C)) → S → Shown T
 shown_session after text h None state = shown_history (after_in_turn after) text h state
 shown_session after text h (Some g) state =
     let begun = after_in_turn after g state in
@@ -100,7 +101,8 @@ shown_session after text h (Some g) state =
 
 -- What a session keeps. The history's lists are chains from the state, or from that at the beginning of the open group, to
 -- which the group's changes are a chain; and once the group has a change, nothing can be redone.
-abbrev pub IsConsistent : {C S : Type 0} → (fits : C → S → Type 0) → (after : C → S → S) → Stacks (Several C) → (group : Option (Several C)) → S → Type 0
+abbrev pub IsConsistent : {C S : Type 0} → (fits : C → S → Type 0) → (after : C → S → S) → Stacks (Several C)
+    → (group : Option (Several C)) → S → Type 0
 IsConsistent fits after h None state =
     IsChain (FitInTurn fits after) (after_in_turn after) h.done state × IsChain (FitInTurn fits after) (after_in_turn after) h.undone state
 IsConsistent fits after h (Some g) state =

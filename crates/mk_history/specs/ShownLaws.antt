@@ -18,7 +18,8 @@ take-over (suc d) (suc k) [] h = refl
 take-over (suc d) (suc k) (x ∷ xs) h = ap (λ l. x ∷ l) (take-over d k xs (omega (arith, h)))
 
 -- one more in front of the texts above the floor
-one-more : {A : Type 0} (n floor : ℕ) (x : A) (xs : List A) → floor ≤ n → take (suc n - floor) (x ∷ xs) ≡ x ∷ take (n - floor) xs
+one-more : {A : Type 0} (n floor : ℕ) (x : A) (xs : List A) → floor ≤ n
+    → take (suc n - floor) (x ∷ xs) ≡ x ∷ take (n - floor) xs
 one-more n floor x xs h = let e : suc n - floor ≡ suc (n - floor) = omega (arith, h) in rw e refl
 
 -- a new member, which lifts the floor where there are more than the depth
@@ -109,7 +110,8 @@ module _ {E T R : Type 0} (act : E → T → Result T R) where
   -- ---- any calls
 
   -- a machine that a call leads to is within the bounds
-  within-answer : (depth : ℕ) (c : Command E) (m n : Machine E T) → IsWithin depth m → answer act depth c m ≡ Ok n → IsWithin depth n
+  within-answer : (depth : ℕ) (c : Command E) (m n : Machine E T) → IsWithin depth m → answer act depth c m ≡ Ok n
+      → IsWithin depth n
   within-answer depth c m n w h =
       let same : next act depth c m ≡ n = rw (h, next) refl in
       subst (λ (k : Machine E T). IsWithin depth k) same (stays-within-call act depth c m w)

@@ -43,10 +43,13 @@ impl<C, A: Allocator> Model for History<C, A> {
 
     ghost Value = { Stacks C };
 
-    ghost view = { λ h. record { depth = h.done.capacity; done = h.done.items; undone = h.undone.items } };
+    ghost view = { λ h.
+        record { depth = h.done.capacity; done = h.done.items; undone = h.undone.items } };
 
     // Together they are no more than the depth, so only a new change can drop one.
-    ghost invariant = { λ h. (h.undone.capacity ≡ h.done.capacity) × (length h.done.items + length h.undone.items ≤ h.done.capacity) };
+    ghost invariant = { λ h.
+        (h.undone.capacity ≡ h.done.capacity)
+        × (length h.done.items + length h.undone.items ≤ h.done.capacity) };
 }
 
 impl<C: Change + Drop, A: Allocator> History<C, A> {
@@ -77,7 +80,8 @@ impl<C: Change + Drop, A: Allocator> History<C, A> {
     /// Where there are more than the depth the oldest is dropped. Nothing can be redone any more.
     /// It takes no memory.
     pub fn push(&mut self, inverse: C)
-        ensures { self.new ≡ record self.old { done = take self.old.depth (inverse ∷ self.old.done); undone = [] } }
+        ensures { self.new ≡
+            record self.old { done = take self.old.depth (inverse ∷ self.old.done); undone = [] } }
     {
         self.forget();
         self.done.push_front(inverse);
@@ -100,12 +104,14 @@ impl<C: Change + Drop, A: Allocator> History<C, A> {
     pub fn undo(&mut self, state: &mut C::State) -> Result<(), HistoryError>
         requires done { IsChain C.fits C.after self.old.done state.old }
         requires undone { IsChain C.fits C.after self.old.undone state.old }
-        ensures step { OnOk result (Moves C.fits C.after self.old.done self.old.undone state.old self.new.done self.new.undone state.new) }
+        ensures step { OnOk result (Moves C.fits C.after
+            self.old.done self.old.undone state.old self.new.done self.new.undone state.new) }
         ensures done { IsChain C.fits C.after self.new.done state.new }
         ensures undone { IsChain C.fits C.after self.new.undone state.new }
         ensures depth { self.new.depth ≡ self.old.depth }
         ensures nothing { (result ≡ Err HistoryError.NothingToUndo) ↔ (self.old.done ≡ []) }
-        ensures error { IfErr result (λ e. (e ≡ HistoryError.NothingToUndo) ⊎ (e ≡ HistoryError.NoMemory)) }
+        ensures error { IfErr result (λ e.
+            (e ≡ HistoryError.NothingToUndo) ⊎ (e ≡ HistoryError.NoMemory)) }
         ensures same { OnErr result ((self.new ≡ self.old) × (state.new ≡ state.old)) }
         ensures sure { C.sure ≡ true → 0 < length self.old.done → IsOk result }
     {
@@ -134,12 +140,14 @@ impl<C: Change + Drop, A: Allocator> History<C, A> {
     pub fn redo(&mut self, state: &mut C::State) -> Result<(), HistoryError>
         requires done { IsChain C.fits C.after self.old.done state.old }
         requires undone { IsChain C.fits C.after self.old.undone state.old }
-        ensures step { OnOk result (Moves C.fits C.after self.old.undone self.old.done state.old self.new.undone self.new.done state.new) }
+        ensures step { OnOk result (Moves C.fits C.after
+            self.old.undone self.old.done state.old self.new.undone self.new.done state.new) }
         ensures done { IsChain C.fits C.after self.new.done state.new }
         ensures undone { IsChain C.fits C.after self.new.undone state.new }
         ensures depth { self.new.depth ≡ self.old.depth }
         ensures nothing { (result ≡ Err HistoryError.NothingToRedo) ↔ (self.old.undone ≡ []) }
-        ensures error { IfErr result (λ e. (e ≡ HistoryError.NothingToRedo) ⊎ (e ≡ HistoryError.NoMemory)) }
+        ensures error { IfErr result (λ e.
+            (e ≡ HistoryError.NothingToRedo) ⊎ (e ≡ HistoryError.NoMemory)) }
         ensures same { OnErr result ((self.new ≡ self.old) × (state.new ≡ state.old)) }
         ensures sure { C.sure ≡ true → 0 < length self.old.undone → IsOk result }
     {

@@ -47,19 +47,28 @@ pub fn what_is_seen_is_the_machine<E, T, R>()
 /// A state with its [`History`](crate::History) makes the steps of what is seen: an edit whose
 /// inverse is pushed, and an undo and a redo by what the history promises.
 pub fn history_makes_the_steps<C: Change, E, T, R>()
-    ensures edit { (text : C.State → T) (act : E → T → Result T R) → EditSteps C.fits C.after text act }
-    ensures undo { (text : C.State → T) (act : E → T → Result T R) → UndoSteps C.fits C.after text act }
-    ensures redo { (text : C.State → T) (act : E → T → Result T R) → RedoSteps C.fits C.after text act }
+    ensures edit { (text : C.State → T) (act : E → T → Result T R) →
+        EditSteps C.fits C.after text act }
+    ensures undo { (text : C.State → T) (act : E → T → Result T R) →
+        UndoSteps C.fits C.after text act }
+    ensures redo { (text : C.State → T) (act : E → T → Result T R) →
+        RedoSteps C.fits C.after text act }
 {}
 
 /// So do groups: one that is begun is an empty [`Sequence`](crate::Sequence), gets the inverse of
 /// each edit in front, and is pushed at its end or made where it is cancelled. Its edits forget
 /// what could be redone.
 pub fn groups_make_the_steps<C: Change, E, T, R>()
-    ensures edit { (text : C.State → T) (act : E → T → Result T R) → GroupEditSteps C.after text act }
-    ensures begin { (text : C.State → T) (act : E → T → Result T R) → BeginSteps C.after text act }
-    ensures end { (text : C.State → T) (act : E → T → Result T R) → EndSteps C.after text act }
-    ensures empty_end { (text : C.State → T) (act : E → T → Result T R) → EmptyEndSteps C.after text act }
-    ensures cancel { (text : C.State → T) (act : E → T → Result T R) → CancelSteps C.after text act }
-    ensures refused { (text : C.State → T) (act : E → T → Result T R) → GroupRefuses C.after text act }
+    ensures edit { (text : C.State → T) (act : E → T → Result T R) →
+        GroupEditSteps C.after text act }
+    ensures begin { (text : C.State → T) (act : E → T → Result T R) →
+        BeginSteps C.after text act }
+    ensures end { (text : C.State → T) (act : E → T → Result T R) →
+        EndSteps C.after text act }
+    ensures empty_end { (text : C.State → T) (act : E → T → Result T R) →
+        EmptyEndSteps C.after text act }
+    ensures cancel { (text : C.State → T) (act : E → T → Result T R) →
+        CancelSteps C.after text act }
+    ensures refused { (text : C.State → T) (act : E → T → Result T R) →
+        GroupRefuses C.after text act }
 {}

@@ -27,9 +27,13 @@ impl<C, A: Allocator> Model for Sequence<C, A> {
 
     ghost Value = { Several C };
 
-    ghost view = { λ s. record { changes = s.waiting.items; room = min s.waiting.capacity s.taken.capacity } };
+    ghost view = { λ s.
+        record { changes = s.waiting.items; room = min s.waiting.capacity s.taken.capacity } };
 
-    ghost invariant = { λ s. (s.taken.items ≡ []) × (length s.waiting.items ≤ s.waiting.capacity) × (length s.waiting.items ≤ s.taken.capacity) };
+    ghost invariant = { λ s.
+        (s.taken.items ≡ [])
+        × (length s.waiting.items ≤ s.waiting.capacity)
+        × (length s.waiting.items ≤ s.taken.capacity) };
 }
 
 // Makes each change that waits, and keeps what takes it back, the last in front.
@@ -43,7 +47,8 @@ fn make_all<C: SureChange + Drop, A: Allocator>(
     requires room { length waiting.old.items ≤ taken.old.capacity }
     ensures waiting { waiting.new.items ≡ [] }
     ensures count { length taken.new.items ≡ length waiting.old.items }
-    ensures room { (waiting.new.capacity ≡ waiting.old.capacity) × (taken.new.capacity ≡ taken.old.capacity) }
+    ensures waiting_room { waiting.new.capacity ≡ waiting.old.capacity }
+    ensures taken_room { taken.new.capacity ≡ taken.old.capacity }
     ensures after { state.new ≡ after_all C.after waiting.old.items state.old }
     ensures fits_back { IsChain C.fits C.after taken.new.items state.new }
     ensures leads_back { after_all C.after taken.new.items state.new ≡ state.old }

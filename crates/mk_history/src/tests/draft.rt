@@ -1,7 +1,8 @@
 //! A text whose bytes are set alone or in groups, as a session stands on a history.
-ghost use Rattle.std.specs.Prelude.{◌≡◌, ◌<◌, ℕ, List, Ok, Err, IfOk, OnOk, OnErr, slice_set};
+ghost use Rattle.std.specs.Prelude.{◌≡◌, ◌<◌, Ok, Err, IfOk, OnOk, OnErr};
 ghost use Rattle.mk_history.specs.Machine.{Apply, Undo, Redo, Begin, End, Cancel, GroupOpen, NoGroup, NothingToUndo, NothingToRedo};
-ghost use Rattle.mk_history.specs.Shown.{shown_answer, shown_opened};
+ghost use Rattle.mk_history.specs.SetBytes.{set_answer};
+ghost use Rattle.mk_history.specs.Shown.{shown_opened};
 
 use super::sure::SetByte;
 use crate::change::Change;
@@ -36,9 +37,13 @@ impl<A: Allocator> Model for Draft<A> {
 
     ghost Value = { Shown (List ℕ) };
 
-    ghost view = { λ d. shown_session (λ change text. slice_set text change.at change.byte) (λ text. text) d.history d.group d.text };
+    ghost view = { λ d.
+        shown_session (λ change text. slice_set text change.at change.byte) (λ text. text)
+        d.history d.group d.text };
 
-    ghost invariant = { λ d. IsConsistent (λ change text. change.at < 4) (λ change text. slice_set text change.at change.byte) d.history d.group d.text };
+    ghost invariant = { λ d.
+        IsConsistent (λ change text. change.at < 4)
+        (λ change text. slice_set text change.at change.byte) d.history d.group d.text };
 }
 
 impl<A: Allocator + Copy> Draft<A> {
@@ -63,8 +68,9 @@ impl<A: Allocator + Copy> Draft<A> {
     #[tactic(auto, using(crate::specs::ChainLaws::chains))]
     fn set(&mut self, at: usize, byte: u8) -> Result<(), DraftError>
         requires { at < 4 }
-        ensures done { OnOk result (shown_answer {E = ℕ × ℕ} {T = List ℕ} {R = ℕ} (λ e text. Ok (slice_set text e.0 e.1)) (Apply (at, byte)) self.old ≡ Ok self.new) }
-        ensures same { OnErr result ((self.new ≡ self.old) × (result ≡ Err DraftError.NoMemory)) }
+        ensures done { OnOk result (set_answer (Apply (at, byte)) self.old ≡ Ok self.new) }
+        ensures same { OnErr result (self.new ≡ self.old) }
+        ensures memory { OnErr result (result ≡ Err DraftError.NoMemory) }
     {
         let change = SetByte { at, byte };
         match self.group.take() {
@@ -95,9 +101,9 @@ impl<A: Allocator + Copy> Draft<A> {
     }
 
     fn undo(&mut self) -> Result<(), DraftError>
-        ensures done { OnOk result (shown_answer {E = ℕ × ℕ} {T = List ℕ} {R = ℕ} (λ e text. Ok (slice_set text e.0 e.1)) Undo self.old ≡ Ok self.new) }
-        ensures open { result ≡ Err DraftError.GroupOpen → shown_answer {E = ℕ × ℕ} {T = List ℕ} {R = ℕ} (λ e text. Ok (slice_set text e.0 e.1)) Undo self.old ≡ Err GroupOpen }
-        ensures nothing { result ≡ Err DraftError.NothingToUndo → shown_answer {E = ℕ × ℕ} {T = List ℕ} {R = ℕ} (λ e text. Ok (slice_set text e.0 e.1)) Undo self.old ≡ Err NothingToUndo }
+        ensures done { OnOk result (set_answer Undo self.old ≡ Ok self.new) }
+        ensures open { result ≡ Err DraftError.GroupOpen → set_answer Undo self.old ≡ Err GroupOpen }
+        ensures nothing { result ≡ Err DraftError.NothingToUndo → set_answer Undo self.old ≡ Err NothingToUndo }
         ensures same { OnErr result (self.new ≡ self.old) }
     {
         if self.group.is_some() {
@@ -110,9 +116,9 @@ impl<A: Allocator + Copy> Draft<A> {
     }
 
     fn redo(&mut self) -> Result<(), DraftError>
-        ensures done { OnOk result (shown_answer {E = ℕ × ℕ} {T = List ℕ} {R = ℕ} (λ e text. Ok (slice_set text e.0 e.1)) Redo self.old ≡ Ok self.new) }
-        ensures open { result ≡ Err DraftError.GroupOpen → shown_answer {E = ℕ × ℕ} {T = List ℕ} {R = ℕ} (λ e text. Ok (slice_set text e.0 e.1)) Redo self.old ≡ Err GroupOpen }
-        ensures nothing { result ≡ Err DraftError.NothingToRedo → shown_answer {E = ℕ × ℕ} {T = List ℕ} {R = ℕ} (λ e text. Ok (slice_set text e.0 e.1)) Redo self.old ≡ Err NothingToRedo }
+        ensures done { OnOk result (set_answer Redo self.old ≡ Ok self.new) }
+        ensures open { result ≡ Err DraftError.GroupOpen → set_answer Redo self.old ≡ Err GroupOpen }
+        ensures nothing { result ≡ Err DraftError.NothingToRedo → set_answer Redo self.old ≡ Err NothingToRedo }
         ensures same { OnErr result (self.new ≡ self.old) }
     {
         if self.group.is_some() {
@@ -125,8 +131,8 @@ impl<A: Allocator + Copy> Draft<A> {
     }
 
     fn begin(&mut self) -> Result<(), DraftError>
-        ensures done { OnOk result (shown_answer {E = ℕ × ℕ} {T = List ℕ} {R = ℕ} (λ e text. Ok (slice_set text e.0 e.1)) Begin self.old ≡ Ok self.new) }
-        ensures open { result ≡ Err DraftError.GroupOpen → shown_answer {E = ℕ × ℕ} {T = List ℕ} {R = ℕ} (λ e text. Ok (slice_set text e.0 e.1)) Begin self.old ≡ Err GroupOpen }
+        ensures done { OnOk result (set_answer Begin self.old ≡ Ok self.new) }
+        ensures open { result ≡ Err DraftError.GroupOpen → set_answer Begin self.old ≡ Err GroupOpen }
         ensures same { OnErr result (self.new ≡ self.old) }
     {
         if self.group.is_some() {
@@ -141,8 +147,8 @@ impl<A: Allocator + Copy> Draft<A> {
 
     #[tactic(auto, using(crate::specs::ChainLaws::chains))]
     fn end(&mut self) -> Result<(), DraftError>
-        ensures done { OnOk result (shown_answer {E = ℕ × ℕ} {T = List ℕ} {R = ℕ} (λ e text. Ok (slice_set text e.0 e.1)) End self.old ≡ Ok self.new) }
-        ensures none { OnErr result ((shown_answer {E = ℕ × ℕ} {T = List ℕ} {R = ℕ} (λ e text. Ok (slice_set text e.0 e.1)) End self.old ≡ Err NoGroup) × (self.new ≡ self.old)) }
+        ensures done { OnOk result (set_answer End self.old ≡ Ok self.new) }
+        ensures none { OnErr result ((set_answer End self.old ≡ Err NoGroup) × (self.new ≡ self.old)) }
     {
         let Some(group) = self.group.take() else {
             return Err(DraftError::NoGroup);
@@ -154,8 +160,8 @@ impl<A: Allocator + Copy> Draft<A> {
     }
 
     fn cancel(&mut self) -> Result<(), DraftError>
-        ensures done { OnOk result (shown_answer {E = ℕ × ℕ} {T = List ℕ} {R = ℕ} (λ e text. Ok (slice_set text e.0 e.1)) Cancel self.old ≡ Ok self.new) }
-        ensures none { OnErr result ((shown_answer {E = ℕ × ℕ} {T = List ℕ} {R = ℕ} (λ e text. Ok (slice_set text e.0 e.1)) Cancel self.old ≡ Err NoGroup) × (self.new ≡ self.old)) }
+        ensures done { OnOk result (set_answer Cancel self.old ≡ Ok self.new) }
+        ensures none { OnErr result ((set_answer Cancel self.old ≡ Err NoGroup) × (self.new ≡ self.old)) }
     {
         let Some(group) = self.group.take() else {
             return Err(DraftError::NoGroup);

@@ -1,8 +1,9 @@
 //! A text whose bytes are set one at a time, each of which may find no memory.
-ghost use Rattle.std.specs.Prelude.{◌≡◌, ◌<◌, [], ℕ, List, Ok, IfOk, slice_set};
+ghost use Rattle.std.specs.Prelude.{◌≡◌, ◌<◌, [], IfOk};
 ghost use Rattle.mk_history.specs.Claims.{history_reply};
 ghost use Rattle.mk_history.specs.Machine.{Apply, Undo, Redo};
-ghost use Rattle.mk_history.specs.Shown.{shown_answer, shown_opened};
+ghost use Rattle.mk_history.specs.SetBytes.{set_answer};
+ghost use Rattle.mk_history.specs.Shown.{shown_opened};
 ghost use Rattle.mk_history.specs.Steps.{IsStep};
 
 use crate::change::Change;
@@ -66,11 +67,15 @@ impl<A: Allocator> Model for Editor<A> {
 
     ghost Value = { Shown (List ℕ) };
 
-    ghost view = { λ e. shown_history (λ change text. slice_set text change.at change.byte) (λ text. text) e.history e.text };
+    ghost view = { λ e.
+        shown_history (λ change text. slice_set text change.at change.byte) (λ text. text)
+        e.history e.text };
 
     ghost invariant = { λ e.
-        IsChain (λ change text. change.at < 4) (λ change text. slice_set text change.at change.byte) e.history.done e.text
-        × IsChain (λ change text. change.at < 4) (λ change text. slice_set text change.at change.byte) e.history.undone e.text };
+        IsChain (λ change text. change.at < 4)
+        (λ change text. slice_set text change.at change.byte) e.history.done e.text
+        × IsChain (λ change text. change.at < 4)
+        (λ change text. slice_set text change.at change.byte) e.history.undone e.text };
 }
 
 impl<A: Allocator + Copy> Editor<A> {
@@ -90,7 +95,7 @@ impl<A: Allocator + Copy> Editor<A> {
     #[tactic(auto, using(crate::specs::ChainLaws::chains))]
     fn set(&mut self, alloc: A, at: usize, byte: u8) -> Result<(), HistoryError>
         requires { at < 4 }
-        ensures { IsStep (shown_answer {E = ℕ × ℕ} {T = List ℕ} {R = ℕ} (λ e text. Ok (slice_set text e.0 e.1))) (Apply (at, byte)) (history_reply result) self.old self.new }
+        ensures { IsStep set_answer (Apply (at, byte)) (history_reply result) self.old self.new }
     {
         let change = SetByte { alloc, at, byte };
         let Ok(inverse) = change.apply(&mut self.text) else {
@@ -101,13 +106,13 @@ impl<A: Allocator + Copy> Editor<A> {
     }
 
     fn undo(&mut self) -> Result<(), HistoryError>
-        ensures { IsStep (shown_answer {E = ℕ × ℕ} {T = List ℕ} {R = ℕ} (λ e text. Ok (slice_set text e.0 e.1))) Undo (history_reply result) self.old self.new }
+        ensures { IsStep set_answer Undo (history_reply result) self.old self.new }
     {
         self.history.undo(&mut self.text)
     }
 
     fn redo(&mut self) -> Result<(), HistoryError>
-        ensures { IsStep (shown_answer {E = ℕ × ℕ} {T = List ℕ} {R = ℕ} (λ e text. Ok (slice_set text e.0 e.1))) Redo (history_reply result) self.old self.new }
+        ensures { IsStep set_answer Redo (history_reply result) self.old self.new }
     {
         self.history.redo(&mut self.text)
     }
