@@ -1,0 +1,3 @@
+mod AppendingSession
+pub mod DraftLemmas
+mod SessionRows

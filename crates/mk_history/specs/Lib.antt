@@ -1,0 +1,11 @@
+pub mod Chain
+pub mod ChainLaws
+pub mod Claims
+pub mod HistoryLaws
+pub mod Machine
+pub mod MachineLaws
+pub mod SetBytes
+pub mod Shown
+pub mod ShownLaws
+pub mod Stacks
+pub mod Steps

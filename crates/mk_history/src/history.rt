@@ -1,0 +1,168 @@
+//! What can be undone and redone, up to a depth.
+ghost use Rattle.std.specs.Prelude.{◌≡◌, ◌<◌, ◌⊎◌, ◌↔◌, true, [], ◌∷◌, length, take, IfOk, OnOk, OnErr, IfErr, IsOk, Err};
+ghost use Rattle.mk_history.specs.Chain.{IsChain, Moves};
+
+use crate::change::Change;
+use circular_buffer::HeapCircularBuffer;
+use mk_lines::Fault;
+use std::alloc::{Allocator, Global};
+use std::marker::Model;
+use thiserror::Error;
+
+/// The greatest depth of a history. This project's profile.
+pub const MAX_DEPTH: u32 = 10_000;
+
+/// Why nothing was undone or redone. Nothing has changed then.
+#[derive(Clone, Copy, Debug, PartialEq, Eq, Error)]
+pub enum HistoryError {
+    /// No change is left to undo, or none within the depth.
+    #[error("nothing to undo")]
+    NothingToUndo,
+    /// No change is left to redo.
+    #[error("nothing to redo")]
+    NothingToRedo,
+    /// The change found no memory.
+    #[error("no memory")]
+    NoMemory,
+}
+
+/// The changes that can be undone and those that can be redone, the nearest of each first.
+///
+/// No more than a certain number, the depth, are kept. A change of either list is the inverse of
+/// one that was made: what undoing gets back from the change goes first on what can be redone, and
+/// the other way round.
+#[derive(Drop)]
+pub struct History<C, A: Allocator = Global> {
+    done: HeapCircularBuffer<C, A>,
+    undone: HeapCircularBuffer<C, A>,
+}
+
+impl<C, A: Allocator> Model for History<C, A> {
+    ghost use Rattle.std.specs.Prelude.{◌≡◌, ◌+◌, ◌≤◌, length};
+    ghost use Rattle.mk_history.specs.Stacks.{Stacks};
+
+    ghost Value = { Stacks C };
+
+    ghost view = { λ h.
+        record { depth = h.done.capacity; done = h.done.items; undone = h.undone.items } };
+
+    // Together they are no more than the depth, so only a new change can drop one.
+    ghost invariant = { λ h.
+        (h.undone.capacity ≡ h.done.capacity)
+        × (length h.done.items + length h.undone.items ≤ h.done.capacity) };
+}
+
+impl<C: Change + Drop, A: Allocator> History<C, A> {
+    /// A history of a depth, in which nothing can be undone or redone.
+    ///
+    /// # Errors
+    ///
+    /// - [`Fault::BadDepth`] where the depth is not from 1 to 10,000 ([`MAX_DEPTH`]).
+    /// - [`Fault::NoMemory`] where there is no room for so many changes.
+    pub fn new(alloc: A, depth: u32) -> Result<History<C, A>, Fault>
+    where
+        A: Copy,
+        ensures empty { IfOk result (λ h. h ≡ record { depth = depth; done = []; undone = [] }) }
+        ensures bad_depth { (result ≡ Err Fault.BadDepth) ↔ ((depth < 1) ⊎ (MAX_DEPTH < depth)) }
+        ensures fault { IfErr result (λ e. (e ≡ Fault.BadDepth) ⊎ (e ≡ Fault.NoMemory)) }
+    {
+        if depth < 1 || depth > MAX_DEPTH {
+            return Err(Fault::BadDepth);
+        }
+        let room = depth as usize;
+        let done = HeapCircularBuffer::with_capacity(alloc, room)?;
+        let undone = HeapCircularBuffer::with_capacity(alloc, room)?;
+        Ok(History { done, undone })
+    }
+
+    /// Notes a change that was made, by the change that takes it back. It can be undone next.
+    ///
+    /// Where there are more than the depth the oldest is dropped. Nothing can be redone any more.
+    /// It takes no memory.
+    pub fn push(&mut self, inverse: C)
+        ensures { self.new ≡
+            record self.old { done = take self.old.depth (inverse ∷ self.old.done); undone = [] } }
+    {
+        self.forget();
+        self.done.push_front(inverse);
+    }
+
+    /// Drops all that can be redone, and leaves what can be undone. It takes no memory.
+    pub fn forget(&mut self)
+        ensures { self.new ≡ record self.old { undone = [] } }
+    {
+        self.undone.clear();
+    }
+
+    /// Undoes the newest change that can be undone. It can be redone next.
+    ///
+    /// # Errors
+    ///
+    /// - [`HistoryError::NothingToUndo`] where there is none.
+    /// - [`HistoryError::NoMemory`] where the change was refused, which stays the next to be
+    ///   undone. A change of a type that is `sure` is never refused.
+    pub fn undo(&mut self, state: &mut C::State) -> Result<(), HistoryError>
+        requires done { IsChain C.fits C.after self.old.done state.old }
+        requires undone { IsChain C.fits C.after self.old.undone state.old }
+        ensures step { OnOk result (Moves C.fits C.after
+            self.old.done self.old.undone state.old self.new.done self.new.undone state.new) }
+        ensures done { IsChain C.fits C.after self.new.done state.new }
+        ensures undone { IsChain C.fits C.after self.new.undone state.new }
+        ensures depth { self.new.depth ≡ self.old.depth }
+        ensures nothing { (result ≡ Err HistoryError.NothingToUndo) ↔ (self.old.done ≡ []) }
+        ensures error { IfErr result (λ e.
+            (e ≡ HistoryError.NothingToUndo) ⊎ (e ≡ HistoryError.NoMemory)) }
+        ensures same { OnErr result ((self.new ≡ self.old) × (state.new ≡ state.old)) }
+        ensures sure { C.sure ≡ true → 0 < length self.old.done → IsOk result }
+    {
+        let Some(change) = self.done.pop_front() else {
+            return Err(HistoryError::NothingToUndo);
+        };
+        match change.apply(state) {
+            Ok(inverse) => {
+                self.undone.push_front(inverse);
+                Ok(())
+            }
+            Err((change, _)) => {
+                self.done.push_front(change);
+                Err(HistoryError::NoMemory)
+            }
+        }
+    }
+
+    /// Makes the change again that was undone last and not redone since. It can be undone next.
+    ///
+    /// # Errors
+    ///
+    /// - [`HistoryError::NothingToRedo`] where there is none.
+    /// - [`HistoryError::NoMemory`] where the change was refused, which stays the next to be
+    ///   redone. A change of a type that is `sure` is never refused.
+    pub fn redo(&mut self, state: &mut C::State) -> Result<(), HistoryError>
+        requires done { IsChain C.fits C.after self.old.done state.old }
+        requires undone { IsChain C.fits C.after self.old.undone state.old }
+        ensures step { OnOk result (Moves C.fits C.after
+            self.old.undone self.old.done state.old self.new.undone self.new.done state.new) }
+        ensures done { IsChain C.fits C.after self.new.done state.new }
+        ensures undone { IsChain C.fits C.after self.new.undone state.new }
+        ensures depth { self.new.depth ≡ self.old.depth }
+        ensures nothing { (result ≡ Err HistoryError.NothingToRedo) ↔ (self.old.undone ≡ []) }
+        ensures error { IfErr result (λ e.
+            (e ≡ HistoryError.NothingToRedo) ⊎ (e ≡ HistoryError.NoMemory)) }
+        ensures same { OnErr result ((self.new ≡ self.old) × (state.new ≡ state.old)) }
+        ensures sure { C.sure ≡ true → 0 < length self.old.undone → IsOk result }
+    {
+        let Some(change) = self.undone.pop_front() else {
+            return Err(HistoryError::NothingToRedo);
+        };
+        match change.apply(state) {
+            Ok(inverse) => {
+                self.done.push_front(inverse);
+                Ok(())
+            }
+            Err((change, _)) => {
+                self.undone.push_front(change);
+                Err(HistoryError::NoMemory)
+            }
+        }
+    }
+}

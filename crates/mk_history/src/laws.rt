@@ -1,0 +1,74 @@
+//! Laws that hold of every list of calls, each as the contract of a function that does nothing.
+//!
+//! A session is a text with a history, opened on a text and changed by edits, undos, redos and
+//! groups of edits. The definitions of `specs/` give the session machine: the first text, the edits
+//! that stand, those that were undone, and what each call answers; and what is seen of it: its
+//! text, the texts back and forward, and the text at the beginning of an open group. `E` are the
+//! edits, `T` the texts, `R` the causes for which an edit is refused, and `act` says what an edit
+//! makes of a text.
+//!
+//! Proofs cite the same laws from `specs/MachineLaws`, `specs/ShownLaws` and `specs/HistoryLaws`.
+ghost use Rattle.std.specs.Prelude.{Result};
+ghost use Rattle.mk_history.specs.Claims.{UndoesAll, RedoesUndo, Accepts, Cancels, Ends, Stands, StaysWithin, IsSeen, Follows, FollowsOpened, EditSteps, UndoSteps, RedoSteps, BeginSteps, GroupEditSteps, EndSteps, EmptyEndSteps, CancelSteps, GroupRefuses};
+
+use crate::change::Change;
+
+/// While no edit is beyond recall, as many undos as edits or groups stand bring back the first
+/// text; a redo after an undo gives back what was before; and the text is the first one after the
+/// edits that stand, in the order in which they were made.
+pub fn undo_brings_back<E, T, R>()
+    ensures all { (act : E → T → Result T R) → UndoesAll act }
+    ensures redo { (act : E → T → Result T R) → RedoesUndo act }
+    ensures stands { (act : E → T → Result T R) → Stands act }
+{}
+
+/// An accepted edit leads to the text that it makes, in a group or not; a group that is cancelled
+/// leaves the text of its beginning, and the end of a group leaves the text.
+pub fn groups_are_one_edit<E, T, R>()
+    ensures accepted { (act : E → T → Result T R) → Accepts act }
+    ensures cancelled { (act : E → T → Result T R) → Cancels act }
+    ensures ended { (act : E → T → Result T R) → Ends act }
+{}
+
+/// After any calls, no more edits or groups can be undone and redone than the depth.
+pub fn depth_bounds<E, T, R>()
+    ensures { (act : E → T → Result T R) → StaysWithin act }
+{}
+
+/// Over any calls, each of which may find no memory, what is seen is what the machine shows: what
+/// is seen of a call's answer follows from what was seen before it, so whatever shows a machine at
+/// first and makes these steps shows the machine after the same calls with the same replies.
+pub fn what_is_seen_is_the_machine<E, T, R>()
+    ensures call { (act : E → T → Result T R) → IsSeen act }
+    ensures calls { (act : E → T → Result T R) → Follows act }
+    ensures opened { (act : E → T → Result T R) → FollowsOpened act }
+{}
+
+/// A state with its [`History`](crate::History) makes the steps of what is seen: an edit whose
+/// inverse is pushed, and an undo and a redo by what the history promises.
+pub fn history_makes_the_steps<C: Change, E, T, R>()
+    ensures edit { (text : C.State → T) (act : E → T → Result T R) →
+        EditSteps C.fits C.after text act }
+    ensures undo { (text : C.State → T) (act : E → T → Result T R) →
+        UndoSteps C.fits C.after text act }
+    ensures redo { (text : C.State → T) (act : E → T → Result T R) →
+        RedoSteps C.fits C.after text act }
+{}
+
+/// So do groups: one that is begun is an empty [`Sequence`](crate::Sequence), gets the inverse of
+/// each edit in front, and is pushed at its end or made where it is cancelled. Its edits forget
+/// what could be redone.
+pub fn groups_make_the_steps<C: Change, E, T, R>()
+    ensures edit { (text : C.State → T) (act : E → T → Result T R) →
+        GroupEditSteps C.after text act }
+    ensures begin { (text : C.State → T) (act : E → T → Result T R) →
+        BeginSteps C.after text act }
+    ensures end { (text : C.State → T) (act : E → T → Result T R) →
+        EndSteps C.after text act }
+    ensures empty_end { (text : C.State → T) (act : E → T → Result T R) →
+        EmptyEndSteps C.after text act }
+    ensures cancel { (text : C.State → T) (act : E → T → Result T R) →
+        CancelSteps C.after text act }
+    ensures refused { (text : C.State → T) (act : E → T → Result T R) →
+        GroupRefuses C.after text act }
+{}

@@ -1,0 +1,5 @@
+//! Undo and redo of single bytes of a text of four.
+mod called;
+mod draft;
+mod editor;
+mod sure;

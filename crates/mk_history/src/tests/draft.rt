@@ -1,0 +1,221 @@
+//! A text whose bytes are set alone or in groups, as a session stands on a history.
+ghost use Rattle.std.specs.Prelude.{◌≡◌, ◌<◌, Ok, Err, IfOk, OnOk, OnErr};
+ghost use Rattle.mk_history.specs.Machine.{Apply, Undo, Redo, Begin, End, Cancel, GroupOpen, NoGroup, NothingToUndo, NothingToRedo};
+ghost use Rattle.mk_history.specs.SetBytes.{set_answer};
+ghost use Rattle.mk_history.specs.Shown.{shown_opened};
+
+use super::sure::SetByte;
+use crate::change::Change;
+use crate::history::{History, HistoryError};
+use crate::sequence::Sequence;
+use mk_lines::Fault;
+use refusing::Refusing;
+use std::alloc::Allocator;
+use std::marker::Model;
+use std::test::Fail;
+
+#[derive(Clone, Copy, Debug, PartialEq, Eq)]
+enum DraftError {
+    NothingToUndo,
+    NothingToRedo,
+    GroupOpen,
+    NoGroup,
+    NoMemory,
+}
+
+#[derive(Drop)]
+struct Draft<A: Allocator> {
+    alloc: A,
+    text: [u8; 4],
+    history: History<Sequence<SetByte, A>, A>,
+    group: Option<Sequence<SetByte, A>>,
+}
+
+impl<A: Allocator> Model for Draft<A> {
+    ghost use Rattle.std.specs.Prelude.{◌<◌, ℕ, List, slice_set};
+    ghost use Rattle.mk_history.specs.Shown.{Shown, shown_session, IsConsistent};
+
+    ghost Value = { Shown (List ℕ) };
+
+    ghost view = { λ d.
+        shown_session (λ change text. slice_set text change.at change.byte) (λ text. text)
+        d.history d.group d.text };
+
+    ghost invariant = { λ d.
+        IsConsistent (λ change text. change.at < 4)
+        (λ change text. slice_set text change.at change.byte) d.history d.group d.text };
+}
+
+impl<A: Allocator + Copy> Draft<A> {
+    fn open(alloc: A, text: [u8; 4], depth: u32) -> Result<Draft<A>, Fault>
+        ensures { IfOk result (λ d. d ≡ shown_opened depth text) }
+    {
+        let history = History::new(alloc, depth)?;
+        Ok(Draft {
+            alloc,
+            text,
+            history,
+            group: None,
+        })
+    }
+
+    fn text(&self) -> [u8; 4]
+        ensures { result ≡ self.now.text }
+    {
+        self.text
+    }
+
+    #[tactic(auto, using(crate::specs::ChainLaws::chains))]
+    fn set(&mut self, at: usize, byte: u8) -> Result<(), DraftError>
+        requires { at < 4 }
+        ensures done { OnOk result (set_answer (Apply (at, byte)) self.old ≡ Ok self.new) }
+        ensures same { OnErr result (self.new ≡ self.old) }
+        ensures memory { OnErr result (result ≡ Err DraftError.NoMemory) }
+    {
+        let change = SetByte { at, byte };
+        match self.group.take() {
+            Some(mut group) => {
+                if group.reserve(1).is_err() {
+                    self.group = Some(group);
+                    return Err(DraftError::NoMemory);
+                }
+                let Ok(inverse) = change.apply(&mut self.text) else {
+                    unreachable!()
+                };
+                group.push_front(inverse);
+                self.group = Some(group);
+                self.history.forget();
+            }
+            None => {
+                let Ok(mut member) = Sequence::with_capacity(self.alloc, 1) else {
+                    return Err(DraftError::NoMemory);
+                };
+                let Ok(inverse) = change.apply(&mut self.text) else {
+                    unreachable!()
+                };
+                member.push_front(inverse);
+                self.history.push(member);
+            }
+        }
+        Ok(())
+    }
+
+    fn undo(&mut self) -> Result<(), DraftError>
+        ensures done { OnOk result (set_answer Undo self.old ≡ Ok self.new) }
+        ensures open { result ≡ Err DraftError.GroupOpen → set_answer Undo self.old ≡ Err GroupOpen }
+        ensures nothing { result ≡ Err DraftError.NothingToUndo → set_answer Undo self.old ≡ Err NothingToUndo }
+        ensures same { OnErr result (self.new ≡ self.old) }
+    {
+        if self.group.is_some() {
+            return Err(DraftError::GroupOpen);
+        }
+        match self.history.undo(&mut self.text) {
+            Ok(()) => Ok(()),
+            Err(_) => Err(DraftError::NothingToUndo),
+        }
+    }
+
+    fn redo(&mut self) -> Result<(), DraftError>
+        ensures done { OnOk result (set_answer Redo self.old ≡ Ok self.new) }
+        ensures open { result ≡ Err DraftError.GroupOpen → set_answer Redo self.old ≡ Err GroupOpen }
+        ensures nothing { result ≡ Err DraftError.NothingToRedo → set_answer Redo self.old ≡ Err NothingToRedo }
+        ensures same { OnErr result (self.new ≡ self.old) }
+    {
+        if self.group.is_some() {
+            return Err(DraftError::GroupOpen);
+        }
+        match self.history.redo(&mut self.text) {
+            Ok(()) => Ok(()),
+            Err(_) => Err(DraftError::NothingToRedo),
+        }
+    }
+
+    fn begin(&mut self) -> Result<(), DraftError>
+        ensures done { OnOk result (set_answer Begin self.old ≡ Ok self.new) }
+        ensures open { result ≡ Err DraftError.GroupOpen → set_answer Begin self.old ≡ Err GroupOpen }
+        ensures same { OnErr result (self.new ≡ self.old) }
+    {
+        if self.group.is_some() {
+            return Err(DraftError::GroupOpen);
+        }
+        let Ok(group) = Sequence::with_capacity(self.alloc, 1) else {
+            return Err(DraftError::NoMemory);
+        };
+        self.group = Some(group);
+        Ok(())
+    }
+
+    #[tactic(auto, using(crate::specs::ChainLaws::chains))]
+    fn end(&mut self) -> Result<(), DraftError>
+        ensures done { OnOk result (set_answer End self.old ≡ Ok self.new) }
+        ensures none { OnErr result ((set_answer End self.old ≡ Err NoGroup) × (self.new ≡ self.old)) }
+    {
+        let Some(group) = self.group.take() else {
+            return Err(DraftError::NoGroup);
+        };
+        if !group.is_empty() {
+            self.history.push(group);
+        }
+        Ok(())
+    }
+
+    fn cancel(&mut self) -> Result<(), DraftError>
+        ensures done { OnOk result (set_answer Cancel self.old ≡ Ok self.new) }
+        ensures none { OnErr result ((set_answer Cancel self.old ≡ Err NoGroup) × (self.new ≡ self.old)) }
+    {
+        let Some(group) = self.group.take() else {
+            return Err(DraftError::NoGroup);
+        };
+        let Ok(_) = group.apply(&mut self.text) else {
+            unreachable!()
+        };
+        Ok(())
+    }
+}
+
+#[test]
+fn a_group_counts_as_one(rt: HostRuntime) -> Result<(), Fail> {
+    let Ok(mut draft) = Draft::open(rt.alloc(), *b"abcd", 1) else {
+        return Ok(());
+    };
+    assert_eq!(rt; draft.end(), Err(DraftError::NoGroup));
+    assert_eq!(rt; draft.cancel(), Err(DraftError::NoGroup));
+    assert_eq!(rt; draft.set(0, b'x'), Ok(()));
+    assert_eq!(rt; draft.begin(), Ok(()));
+    assert_eq!(rt; draft.begin(), Err(DraftError::GroupOpen));
+    assert_eq!(rt; draft.undo(), Err(DraftError::GroupOpen));
+    assert_eq!(rt; draft.redo(), Err(DraftError::GroupOpen));
+    for byte in [b'1', b'2', b'3'] {
+        assert_eq!(rt; draft.set(1, byte), Ok(()));
+    }
+    assert_eq!(rt; draft.set(2, b'4'), Ok(()));
+    assert_eq!(rt; draft.end(), Ok(()));
+    assert_eq!(rt; draft.text(), *b"x34d");
+    assert_eq!(rt; draft.undo(), Ok(()));
+    assert_eq!(rt; draft.text(), *b"xbcd");
+    assert_eq!(rt; draft.undo(), Err(DraftError::NothingToUndo));
+    assert_eq!(rt; draft.redo(), Ok(()));
+    assert_eq!(rt; draft.text(), *b"x34d");
+    Ok(())
+}
+
+#[test]
+fn an_empty_group_leaves_nothing_and_a_cancelled_one_no_redo(rt: HostRuntime) -> Result<(), Fail> {
+    let Ok(mut draft) = Draft::open(rt.alloc(), *b"abcd", 9) else {
+        return Ok(());
+    };
+    assert_eq!(rt; draft.set(0, b'x'), Ok(()));
+    assert_eq!(rt; draft.undo(), Ok(()));
+    assert_eq!(rt; draft.begin(), Ok(()));
+    assert_eq!(rt; draft.end(), Ok(()));
+    assert_eq!(rt; draft.redo(), Ok(()));
+    assert_eq!(rt; draft.text(), *b"xbcd");
+    assert_eq!(rt; draft.undo(), Ok(()));
+    assert_eq!(rt; draft.begin(), Ok(()));
+    assert_eq!(rt; draft.set(0, b'y'), Ok(()));
+    assert_eq!(rt; draft.set(0, b'z'), Ok(()));
+    assert_eq!(rt; draft.cancel(), Ok(()));
+    assert_eq!(rt; draft.text(), *b"abcd");
+    assert_eq!(rt; draft.redo(), Err(DraftError::NothingToRedo));
+    Ok(())
+}

@@ -1,0 +1,91 @@
+//! Bytes that are set one after the other, as one change.
+ghost use Rattle.std.specs.Prelude.{◌≡◌, ◌<◌, [], ◌∷◌, IfOk};
+ghost use Rattle.mk_history.specs.Chain.{after_all};
+
+use crate::change::{Change, SureChange};
+use crate::sequence::Sequence;
+use mk_lines::Fault;
+use refusing::Refusing;
+use std::alloc::{AllocError, Allocator};
+use std::test::Fail;
+
+/// Sets a byte.
+#[derive(Clone, Copy, Drop)]
+pub(super) struct SetByte {
+    pub at: usize,
+    pub byte: u8,
+}
+
+impl Change for SetByte {
+    type State = [u8; 4];
+
+    ghost use Rattle.std.specs.Prelude.{◌<◌, true, slice_set};
+
+    ghost fits = { λ change text. change.at < 4 };
+
+    ghost after = { λ change text. slice_set text change.at change.byte };
+
+    ghost sure = { true };
+
+    fn apply(self, text: &mut [u8; 4]) -> Result<SetByte, (SetByte, Fault)> {
+        let byte = text[self.at];
+        text[self.at] = self.byte;
+        Ok(SetByte { at: self.at, byte })
+    }
+}
+
+impl SureChange for SetByte {
+    ghost use Rattle.std.specs.Prelude.{refl};
+
+    ghost is_sure = { refl };
+}
+
+// The first byte is set twice, and the second once.
+fn three_sets<A: Allocator + Copy>(alloc: A) -> Result<Sequence<SetByte, A>, AllocError>
+    ensures { IfOk result (λ s. s.changes
+        ≡ record { at = 0; byte = 1 } ∷ record { at = 0; byte = 2 } ∷ record { at = 1; byte = 3 } ∷ []) }
+{
+    let mut sets = Sequence::with_capacity(alloc, 1)?;
+    sets.push_back(SetByte { at: 0, byte: 2 });
+    sets.reserve(2)?;
+    sets.push_back(SetByte { at: 1, byte: 3 });
+    sets.push_front(SetByte { at: 0, byte: 1 });
+    Ok(sets)
+}
+
+#[test]
+fn a_sequence_is_made_in_order_and_taken_back_in_reverse(rt: HostRuntime) -> Result<(), Fail> {
+    let mut text = [7; 4];
+    let sets = three_sets(rt.alloc())?;
+    assert_eq!(rt; sets.len(), 3);
+    assert!(rt; sets.room() >= 3 && !sets.is_empty());
+    let Ok(inverse) = sets.apply(&mut text) else {
+        unreachable!()
+    };
+    assert_eq!(rt; text, [2, 3, 7, 7]);
+    let Ok(again) = inverse.apply(&mut text) else {
+        unreachable!()
+    };
+    assert_eq!(rt; text, [7; 4]);
+    let Ok(_) = again.apply(&mut text) else {
+        unreachable!()
+    };
+    assert_eq!(rt; text, [2, 3, 7, 7]);
+    Ok(())
+}
+
+#[test]
+fn a_sequence_takes_memory_only_for_room(rt: HostRuntime) -> Result<(), Fail> {
+    for growth in 0..5 {
+        let heap = Refusing::after(rt.alloc(), growth);
+        assert_eq!(rt; three_sets(&heap).is_err(), growth < 4);
+    }
+    let heap = Refusing::after(rt.alloc(), 4);
+    let sets = three_sets(&heap)?;
+    let mut text = [7; 4];
+    let Ok(_) = sets.apply(&mut text) else {
+        unreachable!()
+    };
+    assert!(rt; !heap.has_refused());
+    Ok(())
+}
