@@ -1,0 +1,2 @@
+mod WorkedRows
+pub mod Readings

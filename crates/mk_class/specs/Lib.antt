@@ -1,0 +1,13 @@
+pub mod Lists
+pub mod Texts
+pub mod Symbols
+pub mod CutTexts
+pub mod Assignments
+pub mod Separators
+pub mod Headers
+pub mod Keywords
+pub mod Classes
+pub mod RecipePrefix
+pub mod Contexts
+pub mod ClassTable
+pub mod Arguments
