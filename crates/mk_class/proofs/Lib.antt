@@ -1,2 +1,4 @@
-mod WorkedRows
 pub mod Readings
+mod WorkedReadings
+mod RandomReadings
+mod WorkedRows
