@@ -112,15 +112,31 @@ def rows_of(table):
         yield columns["name"], text, ast.literal_eval(unescape(columns["reading"]))
 
 
-HEAD = """-- Texts and their readings. Made by `tests/definitions/reading_rows.py tests/cases/readings/{table}`.
-use Rattle.std.proofs.Common.{{◌≡◌, refl, [], ◌∷◌, Some, None}}
-use Rattle.std.specs.Prelude.{{codes}}
-use Rattle.mk_class.specs.declared.assignment.Flavor.TheVariants.{{Recursive, Simple, PosixSimple, Immediate, Conditional, Append, Shell}}
-use Rattle.mk_class.specs.declared.assignment.Modifier.TheVariants.{{Override, Export, Private}}
-use Rattle.mk_class.specs.declared.rule.Separator.TheVariants.{{SingleColon, DoubleColon, GroupedColon, GroupedDoubleColon}}
-use Rattle.mk_class.proofs.Readings.{{reading, Sets}}
-use Rattle.mk_class.proofs.Readings.Item.{{Assign, TargetAssign, Header, Recipe, Endef, Body, Opaque, DefineHead, If, Else, Endif, Directive, Rough}}
-"""
+# The modules that a file may need, and their names; it imports those that it has.
+IMPORTS = [
+    ("Rattle.std.proofs.Common", ["◌≡◌", "refl", "[]", "◌∷◌", "Some", "None"]),
+    ("Rattle.std.specs.Prelude", ["codes"]),
+    ("Rattle.mk_class.specs.declared.assignment.Flavor.TheVariants", list(FLAVORS.values())),
+    ("Rattle.mk_class.specs.declared.assignment.Modifier.TheVariants", list(MODIFIERS.values())),
+    ("Rattle.mk_class.specs.declared.rule.Separator.TheVariants", list(SEPARATORS.values())),
+    ("Rattle.mk_class.proofs.Readings", ["reading", "Sets"]),
+    (
+        "Rattle.mk_class.proofs.Readings.Item",
+        ["Assign", "TargetAssign", "Header", "Recipe", "Endef", "Body", "Opaque", "DefineHead", "If", "Else", "Endif"]
+        + ["Directive", "Rough"],
+    ),
+]
+
+
+def head_of(table, body):
+    """The first lines of a file with this body."""
+    lines = [f"-- Texts and their readings. Made by `tests/definitions/reading_rows.py tests/cases/readings/{table.name}`."]
+    bare = re.sub(r'"[^"\\]*(?:\\.[^"\\]*)*"', "", body)
+    for module, names in IMPORTS:
+        used = [name for name in names if not name.isalpha() or re.search(rf"(?<!\w){name}(?!\w)", bare)]
+        if used:
+            lines.append(f"use {module}.{{{', '.join(used)}}}")
+    return "\n".join(lines) + "\n"
 
 
 def main():
@@ -130,11 +146,12 @@ def main():
     rows = list(rows_of(table))
     if len(sys.argv) == 3:
         rows = rows[: int(sys.argv[2])]
-    print(HEAD.format(table=table.name), end="")
+    body = ""
     for name, text, reading in rows:
         row = "row_" + name.replace("-", "_")
         items = " ∷ ".join([antt_item(item) for item in reading] + ["[]"])
-        print(f"\n{row} : reading {antt_text(text)} ≡ {items}\n{row} = refl")
+        body += f"\n{row} : reading {antt_text(text)} ≡ {items}\n{row} = refl\n"
+    print(head_of(table, body) + body, end="")
 
 
 if __name__ == "__main__":

@@ -1,4 +1,5 @@
-pub mod Readings
+mod WorkedRows
 mod WorkedReadings
 mod RandomReadings
-mod WorkedRows
+mod RandomArguments
+pub mod Readings
