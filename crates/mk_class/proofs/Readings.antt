@@ -2,7 +2,6 @@
 use Rattle.std.specs.Prelude.{ℕ, List, [], ◌∷◌, ◌++◌, map, drop, Option, Some, None, codes}
 use Rattle.mk_lines.specs.Lists.{concat}
 use Rattle.mk_lines.specs.PhysicalLines.{without_line_end}
-use Rattle.mk_lines.specs.LogicalLines.{logical_lines}
 use Rattle.mk_lines.specs.Cells.{Cell, joined_byte, raw_text}
 use Rattle.mk_class.specs.Texts.{unit_text, word_texts}
 use Rattle.mk_class.specs.Assignments.{Assignment}
@@ -10,7 +9,7 @@ use Rattle.mk_class.specs.Headers.{inline_recipe}
 use Rattle.mk_class.specs.Headers
 use Rattle.mk_class.specs.Classes.{Class}
 use Rattle.mk_class.specs.Contexts.{Context, start, context_after}
-use Rattle.mk_class.specs.ClassTable.{class_of}
+use Rattle.mk_class.specs.ClassedLines.{ClassedLine, classed_lines}
 use Rattle.mk_class.specs.declared.assignment.Flavor.{Flavor}
 use Rattle.mk_class.specs.declared.assignment.Modifier.{Modifier}
 use Rattle.mk_class.specs.declared.rule.Separator.{Separator}
@@ -67,28 +66,23 @@ items_of_line Class.Endif l = Endif (without_line_end l) ∷ []
 items_of_line Class.Directive l = Directive (without_line_end l) ∷ []
 items_of_line Class.Rough l = Rough (without_line_end l) ∷ []
 
--- the items of lines, the first of which stands in a context
-abbrev pub items_from : Context → List (List ℕ) → List Item
-items_from c [] = []
-items_from c (l ∷ ls) = let k = class_of c l in items_of_line k l ++ items_from (context_after c k) ls
+-- the items of lines
+abbrev pub items : List ClassedLine → List Item
+items [] = []
+items (l ∷ ls) = items_of_line l.class l.bytes ++ items ls
 
 -- the reading of a text
 abbrev pub reading : List ℕ → List Item
-reading t = items_from start (logical_lines t)
+reading t = items (classed_lines t)
 
--- the classes of lines, the first of which stands in a context
-abbrev pub classes_from : Context → List (List ℕ) → List Class
-classes_from c [] = []
-classes_from c (l ∷ ls) = let k = class_of c l in k ∷ classes_from (context_after c k) ls
-
--- the contexts after each of some lines
-abbrev pub contexts_from : Context → List (List ℕ) → List Context
+-- the contexts after each of some lines, the first of which stands in a context
+abbrev pub contexts_from : Context → List ClassedLine → List Context
 contexts_from c [] = []
-contexts_from c (l ∷ ls) = let d = context_after c (class_of c l) in d ∷ contexts_from d ls
+contexts_from c (l ∷ ls) = let d = context_after c l.class in d ∷ contexts_from d ls
 
 -- the contexts after each line of a text
 abbrev pub contexts : List ℕ → List Context
-contexts t = contexts_from start (logical_lines t)
+contexts t = contexts_from start (classed_lines t)
 
 -- the classes of a text by their names
 abbrev class_name : Class → List ℕ
@@ -110,4 +104,4 @@ class_name (Class.Header h) = codes "Header"
 
 -- the names of the classes of a text's lines
 abbrev pub class_names : List ℕ → List (List ℕ)
-class_names t = map class_name (classes_from start (logical_lines t))
+class_names t = map (λ l. class_name l.class) (classed_lines t)

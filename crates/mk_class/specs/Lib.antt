@@ -11,3 +11,10 @@ pub mod RecipePrefix
 pub mod Contexts
 pub mod ClassTable
 pub mod Arguments
+pub mod SymbolLaws
+pub mod AssignmentsAtEquals
+pub mod AssignmentEqualsLaws
+pub mod ClassedLines
+pub mod AssignmentLaws
+pub mod FlagLaws
+pub mod Laws

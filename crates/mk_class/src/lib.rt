@@ -4,10 +4,12 @@
 //! - [`assignment`]: the flavors and modifiers of assignments.
 //! - [`rule`]: the separators of rules.
 //! - [`context`]: what the lines before a line leave for it.
+//! - [`laws`]: theorems on the definitions of assignments and classes.
 #![tactic(auto)]
 
 pub mod assignment;
 pub mod context;
+pub mod laws;
 pub mod rule;
 
 pub use assignment::{Flavor, Modifier};
