@@ -1,5 +1,5 @@
 -- Laws of assignments: the parts of one are the cut text, and its modifiers, name and flavor do not depend on its value.
-use Rattle.std.proofs.Common.{◌≡◌, refl, sym, ap, ◌∙◌, subst, ℕ, List, [], ◌∷◌, ◌++◌, map, Bool, true, false, not, cond, Option, Some, None, append_assoc}
+use Rattle.std.proofs.Common.{◌≡◌, refl, sym, ap, ◌∙◌, subst, ℕ, List, [], ◌∷◌, ◌++◌, map, Bool, true, false, not, Option, Some, None, append_assoc}
 use Rattle.std.proofs.lemmas.List.{append-nil}
 use Rattle.mk_lines.specs.Lists.{concat, leading, after_leading, trim_end, trailing}
 use Rattle.mk_lines.specs.ListLaws.{Each, FirstFails, LastFails, leading-after_leading, leading-each, after_leading-first_fails, leading-append_all, after_leading-append_all, trim_end-trailing, trailing-each, trim_end-last_fails, trim_end-append, trailing-append}
@@ -8,6 +8,7 @@ use Rattle.mk_lines.specs.UnitLaws.{EndsPlain, EndsPlain-append, EndsPlain-close
 use Rattle.mk_lines.specs.Words.{Token, Gap, Word, tokens, token_units, is_gap}
 use Rattle.mk_lines.specs.TokenLaws.{token_units-tokens}
 use Rattle.mk_class.specs.Lists.{until, from}
+use Rattle.mk_class.specs.ListLaws.{until-from}
 use Rattle.mk_class.specs.Symbols.{symbol, is_equals}
 use Rattle.mk_class.specs.SymbolLaws.{equals-plain, gap-plain}
 use Rattle.mk_class.specs.Assignments.{Assignment, after_blanks, blanks, modifier_of, assignment}
@@ -19,14 +20,6 @@ use Rattle.mk_class.specs.declared.assignment.Modifier.{Modifier}
 -- the parts of an assignment, which follow one another
 abbrev pub assignment_units : {A : Type 0} → Assignment A → List (List A)
 assignment_units a = a.before ++ (a.name ++ (a.operator ++ (a.value ++ a.after)))
-
-until-from : {A : Type 0} (p : List A → Bool) (xs : List A) → until p xs ++ from p xs ≡ xs
-until-from p [] = refl
-until-from p (x ∷ xs) = go (p (x ∷ xs)) (until-from p xs)
-  where
-    go : (c : Bool) → until p xs ++ from p xs ≡ xs → cond c [] (x ∷ until p xs) ++ cond c (x ∷ xs) (from p xs) ≡ x ∷ xs
-    go true e = refl
-    go false e = ap (λ z. x ∷ z) e
 
 module _ {A : Type 0} (byte : A → ℕ) where
   -- ---- the parts of a front

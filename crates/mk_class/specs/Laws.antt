@@ -1,5 +1,5 @@
 -- Laws of classes and assignments, each the contract of a public function.
-use Rattle.std.specs.Prelude.{◌≡◌, ℕ, List, [], ◌++◌, Some, true, false}
+use Rattle.std.specs.Prelude.{◌≡◌, ℕ, ◌+◌, List, [], ◌++◌, Some, true, false}
 use Rattle.mk_lines.specs.Lists.{concat}
 use Rattle.mk_lines.specs.ListLaws.{Each, FirstFails, LastFails}
 use Rattle.mk_lines.specs.Units.{units, is_closed}
@@ -7,9 +7,13 @@ use Rattle.mk_lines.specs.Words.{is_gap}
 use Rattle.mk_class.specs.Assignments.{Assignment, assignment}
 use Rattle.mk_class.specs.AssignmentsAtEquals.{assignment_at_equals}
 use Rattle.mk_class.specs.RecipePrefix.{is_prefix_led}
-use Rattle.mk_class.specs.Contexts.{Context}
+use Rattle.mk_class.specs.Contexts.{Context, start}
 use Rattle.mk_class.specs.ClassTable.{class_of}
 use Rattle.mk_class.specs.ClassedLines.{classed, context_after_lines, is_led_first}
+use Rattle.mk_class.specs.ContextsOfLines.{flag_after_lines, prefix_after_lines, class_count, opens_define, closes_define, opens_conditional, closes_conditional}
+use Rattle.mk_class.specs.ClassLaws.{FitsCounts}
+use Rattle.mk_class.specs.Headers.{header}
+use Rattle.mk_class.specs.HeaderLaws.{header_units}
 use Rattle.mk_class.specs.declared.context.Flag.{Flag}
 
 -- ---- classes
@@ -26,6 +30,26 @@ ClassesLookUp = (context : Context) (above below : List (List ℕ)) → classed 
 -- that sets the flag, does not begin with the prefix
 abbrev pub FlagIsForFirstLines : Type 0
 FlagIsForFirstLines = (context : Context) (flag : Flag) (lines : List (List ℕ)) → is_led_first context.prefix (classed context lines) ≡ false → classed (record context { flag = flag }) lines ≡ classed context lines
+
+-- The context after the lines of a text: its flag is that of the last line which does not leave it, its prefix that of the last
+-- line which sets it, and the open defines and conditionals are those that lines open less those that lines close.
+abbrev pub ContextsOfAllLines : Type 0
+ContextsOfAllLines = (lines : List (List ℕ)) →
+    ((context_after_lines start (classed start lines)).flag ≡ flag_after_lines (classed start lines))
+    × ((context_after_lines start (classed start lines)).prefix ≡ prefix_after_lines (classed start lines))
+    × ((context_after_lines start (classed start lines)).defines + class_count closes_define (classed start lines) ≡ class_count opens_define (classed start lines))
+    × ((context_after_lines start (classed start lines)).conditionals + class_count closes_conditional (classed start lines) ≡ class_count opens_conditional (classed start lines))
+
+-- A class says of the open defines and conditionals: an Endef ends the only define, a Body stands in one, and in two where it
+-- closes one, each other line stands in none, and an Else or Endif in a conditional.
+abbrev pub ClassesFitCounts : Type 0
+ClassesFitCounts = (context : Context) (line : List ℕ) → FitsCounts context.defines context.conditionals (class_of context line)
+
+-- ---- headers
+
+-- the parts of a header's line follow one another and are the line
+abbrev pub HeadersAreWhole : Type 0
+HeadersAreWhole = (line : List (List ℕ)) → header_units (header (λ b. b) line) ≡ line
 
 -- ---- assignments
 

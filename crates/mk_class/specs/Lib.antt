@@ -11,10 +11,16 @@ pub mod RecipePrefix
 pub mod Contexts
 pub mod ClassTable
 pub mod Arguments
+pub mod ListLaws
 pub mod SymbolLaws
 pub mod AssignmentsAtEquals
 pub mod AssignmentEqualsLaws
 pub mod ClassedLines
 pub mod AssignmentLaws
 pub mod FlagLaws
+pub mod ClassLaws
+pub mod HeaderLaws
+pub mod ContextsOfLines
+pub mod ContextLaws
+pub mod HeadersAgain
 pub mod Laws
