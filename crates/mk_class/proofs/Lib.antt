@@ -1,0 +1,5 @@
+mod WorkedRows
+mod WorkedReadings
+mod RandomReadings
+mod RandomArguments
+pub mod Readings

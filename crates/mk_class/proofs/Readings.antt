@@ -1,0 +1,107 @@
+-- The reading of a text, for checks by computation: the items of its lines in order. The document defines it for good.
+use Rattle.std.specs.Prelude.{ℕ, List, [], ◌∷◌, ◌++◌, map, drop, Option, Some, None, codes}
+use Rattle.mk_lines.specs.Lists.{concat}
+use Rattle.mk_lines.specs.PhysicalLines.{without_line_end}
+use Rattle.mk_lines.specs.Cells.{Cell, joined_byte, raw_text}
+use Rattle.mk_class.specs.Texts.{unit_text, word_texts}
+use Rattle.mk_class.specs.Assignments.{Assignment}
+use Rattle.mk_class.specs.Headers.{inline_recipe}
+use Rattle.mk_class.specs.Headers
+use Rattle.mk_class.specs.Classes.{Class}
+use Rattle.mk_class.specs.Contexts.{Context, start, context_after}
+use Rattle.mk_class.specs.ClassedLines.{ClassedLine, classed_lines}
+use Rattle.mk_class.specs.declared.assignment.Flavor.{Flavor}
+use Rattle.mk_class.specs.declared.assignment.Modifier.{Modifier}
+use Rattle.mk_class.specs.declared.rule.Separator.{Separator}
+
+-- what an assignment reads as
+pub data Assigned : Type 0 where
+  Sets : List Modifier → (name : List ℕ) → Flavor → (value : List ℕ) → Assigned
+
+-- What a line reads as. Of an assignment its parts; of a target assignment the targets and the separator too; of a header the
+-- targets, the separator, the pattern, the normal and the order-only prerequisites and the inline recipe; of a recipe line the
+-- text after its first byte; of any other its class and its text. Texts are without line end.
+pub data Item : Type 0 where
+  Assign : Assigned → Item
+  TargetAssign : (targets : List (List ℕ)) → Separator → Assigned → Item
+  Header : (targets : List (List ℕ)) → Separator → (pattern normal order_only : List (List ℕ)) → Option (List ℕ) → Item
+  Recipe : List ℕ → Item
+  Endef : List ℕ → Item
+  Body : List ℕ → Item
+  Opaque : List ℕ → Item
+  DefineHead : List ℕ → Item
+  If : List ℕ → Item
+  Else : List ℕ → Item
+  Endif : List ℕ → Item
+  Directive : List ℕ → Item
+  Rough : List ℕ → Item
+
+abbrev pub assigned : Assignment Cell → Assigned
+assigned a = Sets a.modifiers (unit_text joined_byte a.name) a.flavor (unit_text joined_byte a.value)
+
+abbrev pub raw_units : Option (List (List Cell)) → Option (List ℕ)
+raw_units None = None
+raw_units (Some us) = Some (raw_text (concat us))
+
+abbrev pub header_item : Headers.Header Cell → Item
+header_item h =
+    Header (word_texts joined_byte h.targets) h.separator (word_texts joined_byte h.pattern) (word_texts joined_byte h.normal) (word_texts joined_byte h.order_only)
+    (raw_units (inline_recipe joined_byte h))
+
+-- the item of a line, or none
+abbrev pub items_of_line : Class → List ℕ → List Item
+items_of_line Class.Blank l = []
+items_of_line Class.Comment l = []
+items_of_line (Class.Assign a p) l = Assign (assigned a) ∷ []
+items_of_line (Class.TargetAssign t) l = TargetAssign (word_texts joined_byte t.targets) t.separator (assigned t.assigned) ∷ []
+items_of_line (Class.Header h) l = header_item h ∷ []
+items_of_line Class.Recipe l = Recipe (drop 1 (without_line_end l)) ∷ []
+items_of_line Class.Endef l = Endef (without_line_end l) ∷ []
+items_of_line (Class.Body n) l = Body (without_line_end l) ∷ []
+items_of_line Class.Opaque l = Opaque (without_line_end l) ∷ []
+items_of_line (Class.DefineHead p) l = DefineHead (without_line_end l) ∷ []
+items_of_line Class.If l = If (without_line_end l) ∷ []
+items_of_line Class.Else l = Else (without_line_end l) ∷ []
+items_of_line Class.Endif l = Endif (without_line_end l) ∷ []
+items_of_line Class.Directive l = Directive (without_line_end l) ∷ []
+items_of_line Class.Rough l = Rough (without_line_end l) ∷ []
+
+-- the items of lines
+abbrev pub items : List ClassedLine → List Item
+items [] = []
+items (l ∷ ls) = items_of_line l.class l.bytes ++ items ls
+
+-- the reading of a text
+abbrev pub reading : List ℕ → List Item
+reading t = items (classed_lines t)
+
+-- the contexts after each of some lines, the first of which stands in a context
+abbrev pub contexts_from : Context → List ClassedLine → List Context
+contexts_from c [] = []
+contexts_from c (l ∷ ls) = let d = context_after c l.class in d ∷ contexts_from d ls
+
+-- the contexts after each line of a text
+abbrev pub contexts : List ℕ → List Context
+contexts t = contexts_from start (classed_lines t)
+
+-- the classes of a text by their names
+abbrev class_name : Class → List ℕ
+class_name Class.Endef = codes "Endef"
+class_name (Class.Body n) = codes "Body"
+class_name Class.Recipe = codes "Recipe"
+class_name Class.Opaque = codes "Opaque"
+class_name Class.Blank = codes "Blank"
+class_name Class.Comment = codes "Comment"
+class_name (Class.Assign a p) = codes "Assign"
+class_name (Class.DefineHead p) = codes "DefineHead"
+class_name Class.If = codes "If"
+class_name Class.Else = codes "Else"
+class_name Class.Endif = codes "Endif"
+class_name Class.Directive = codes "Directive"
+class_name (Class.TargetAssign t) = codes "TargetAssign"
+class_name Class.Rough = codes "Rough"
+class_name (Class.Header h) = codes "Header"
+
+-- the names of the classes of a text's lines
+abbrev pub class_names : List ℕ → List (List ℕ)
+class_names t = map (λ l. class_name l.class) (classed_lines t)

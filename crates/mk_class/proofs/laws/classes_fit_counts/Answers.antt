@@ -1,0 +1,5 @@
+use Rattle.mk_class.specs.ClassLaws.{class_of-counts}
+use Rattle.mk_class.proofs.laws.classes_fit_counts.Goals as goal
+
+pub returns : goal.returns
+returns c = class_of-counts

@@ -1,0 +1,5 @@
+use Rattle.mk_class.specs.FlagLaws.{classed-append}
+use Rattle.mk_class.proofs.laws.classes_look_up.Goals as goal
+
+pub returns : goal.returns
+returns c = classed-append

@@ -1,0 +1,5 @@
+use Rattle.mk_class.specs.AssignmentEqualsLaws.{assignment-at_equals}
+use Rattle.mk_class.proofs.laws.first_equals_decides.Goals as goal
+
+pub returns : goal.returns
+returns c = assignment-at_equals (λ b. b)

@@ -1,0 +1,60 @@
+-- First words that say what a line is.
+use Rattle.std.specs.Prelude.{ℕ, if◌then◌else◌, Bool, List, [], ◌∷◌, codes}
+use Rattle.mk_lines.specs.Lists.{after_leading}
+use Rattle.mk_class.specs.Texts.{is_same_text, is_one_of}
+
+-- what a first word says
+pub data Keyword : Type 0 where
+  DefineWord : Keyword
+  EndefWord : Keyword
+  IfWord : Keyword
+  ElseWord : Keyword
+  EndifWord : Keyword
+  DirectiveWord : Keyword
+  UndefineWord : Keyword
+  NoKeyword : Keyword
+
+-- the words that open a conditional
+abbrev pub if_words : List (List ℕ)
+if_words = codes "ifeq" ∷ codes "ifneq" ∷ codes "ifdef" ∷ codes "ifndef" ∷ []
+
+-- the words of the other directives, but for `undefine`, before which modifiers may stand
+abbrev pub directive_words : List (List ℕ)
+directive_words =
+    codes "include" ∷ codes "-include" ∷ codes "sinclude" ∷ codes "export" ∷ codes "unexport" ∷ codes "vpath" ∷ codes "load" ∷ codes "-load" ∷ []
+
+-- the modifiers
+abbrev pub modifier_words : List (List ℕ)
+modifier_words = codes "override" ∷ codes "export" ∷ codes "private" ∷ []
+
+-- what a word says as the first of a line
+abbrev pub keyword : List ℕ → Keyword
+keyword w =
+    if is_same_text w (codes "define") then DefineWord else
+    if is_same_text w (codes "endef") then EndefWord else
+    if is_one_of w if_words then IfWord else
+    if is_same_text w (codes "else") then ElseWord else
+    if is_same_text w (codes "endif") then EndifWord else
+    if is_one_of w directive_words then DirectiveWord else
+    if is_same_text w (codes "undefine") then UndefineWord else
+    NoKeyword
+
+-- what the first of some words says
+abbrev pub first_keyword : List (List ℕ) → Keyword
+first_keyword [] = NoKeyword
+first_keyword (w ∷ ws) = keyword w
+
+-- the words after the modifiers at the front
+abbrev pub after_modifiers : List (List ℕ) → List (List ℕ)
+after_modifiers ws = after_leading (λ w. is_one_of w modifier_words) ws
+
+-- the words that no target may be: those of directives and of conditionals, and the modifiers
+abbrev pub reserved_words : List (List ℕ)
+reserved_words =
+    codes "ifeq" ∷ codes "ifneq" ∷ codes "ifdef" ∷ codes "ifndef" ∷ codes "else" ∷ codes "endif" ∷ codes "define"
+    ∷ codes "endef" ∷ codes "undefine" ∷ codes "include" ∷ codes "-include" ∷ codes "sinclude" ∷ codes "load"
+    ∷ codes "-load" ∷ codes "export" ∷ codes "unexport" ∷ codes "override" ∷ codes "private" ∷ codes "vpath" ∷ []
+
+-- whether a word is one of them
+abbrev pub is_reserved_word : List ℕ → Bool
+is_reserved_word w = is_one_of w reserved_words

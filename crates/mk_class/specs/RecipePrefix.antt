@@ -1,0 +1,45 @@
+-- The recipe prefix: the byte that begins recipe lines, and the assignments that set it.
+use Rattle.std.specs.Prelude.{ℕ, ◌==◌, if◌then◌else◌, Bool, true, false, not, ◌&&◌, ◌||◌, nat_le, List, [], ◌∷◌, Option, Some, None, codes}
+use Rattle.mk_class.specs.Lists.{is_empty}
+use Rattle.mk_class.specs.Texts.{is_same_text, unit_text}
+use Rattle.mk_class.specs.Assignments.{Assignment}
+use Rattle.mk_class.specs.declared.assignment.Flavor.{Flavor}
+use Rattle.mk_class.specs.declared.assignment.Flavor.TheVariants.{Recursive, Simple, PosixSimple}
+
+-- a tab, which is the prefix where none is set
+abbrev pub tab : ℕ
+tab = 9
+
+-- whether a line begins with the prefix
+abbrev pub is_prefix_led : (prefix : ℕ) → List ℕ → Bool
+is_prefix_led p [] = false
+is_prefix_led p (b ∷ l) = b == p
+
+-- whether a variable's name is `.RECIPEPREFIX`
+abbrev pub is_prefix_name : List ℕ → Bool
+is_prefix_name n = is_same_text n (codes ".RECIPEPREFIX")
+
+-- whether an assignment of this flavor may set the prefix: `=`, `:=` or `::=`
+abbrev pub may_set_prefix : Flavor → Bool
+may_set_prefix Recursive = true
+may_set_prefix Simple = true
+may_set_prefix PosixSimple = true
+may_set_prefix f = false
+
+-- whether a byte may be a prefix: printable ASCII without the blank, other than `$` and backslash
+abbrev pub may_be_prefix : ℕ → Bool
+may_be_prefix b = (nat_le 33 b && nat_le b 126) && not ((b == 36) || (b == 92))
+
+-- the prefix that a value says: a tab where it is empty, its first byte where that may be one
+abbrev pub prefix_of_value : List ℕ → Option ℕ
+prefix_of_value [] = Some tab
+prefix_of_value (b ∷ v) = if may_be_prefix b then Some b else None
+
+module _ {A : Type 0} (byte : A → ℕ) where
+  -- whether an assignment is one of the prefix that is read: without modifiers, with no conditional open, of such a flavor
+  abbrev pub is_read_for_prefix : (in_conditional : Bool) → Assignment A → Bool
+  is_read_for_prefix c a = is_prefix_name (unit_text byte a.name) && (is_empty a.modifiers && (not c && may_set_prefix a.flavor))
+
+  -- the prefix that an assignment sets, where it sets one
+  abbrev pub prefix_set_by : (in_conditional : Bool) → Assignment A → Option ℕ
+  prefix_set_by c a = if is_read_for_prefix c a then prefix_of_value (unit_text byte a.value) else None

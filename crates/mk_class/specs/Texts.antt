@@ -1,0 +1,28 @@
+-- Texts compared, and the text of units and of words.
+use Rattle.std.specs.Prelude.{ℕ, ◌==◌, Bool, true, false, ◌&&◌, ◌||◌, List, [], ◌∷◌, map}
+use Rattle.mk_lines.specs.Lists.{concat}
+use Rattle.mk_lines.specs.Words.{tokens, token_words}
+
+-- whether two texts are the same
+abbrev pub is_same_text : List ℕ → List ℕ → Bool
+is_same_text [] [] = true
+is_same_text (x ∷ xs) (y ∷ ys) = (x == y) && is_same_text xs ys
+is_same_text xs ys = false
+
+-- whether a text is one of these
+abbrev pub is_one_of : List ℕ → List (List ℕ) → Bool
+is_one_of t [] = false
+is_one_of t (x ∷ xs) = is_same_text t x || is_one_of t xs
+
+module _ {A : Type 0} (byte : A → ℕ) where
+  -- the text of some units
+  abbrev pub unit_text : List (List A) → List ℕ
+  unit_text us = map byte (concat us)
+
+  -- the words among some units
+  abbrev pub words_of : List (List A) → List (List A)
+  words_of us = token_words (tokens byte us)
+
+  -- the texts of the words among some units
+  abbrev pub word_texts : List (List A) → List (List ℕ)
+  word_texts us = map (map byte) (words_of us)

@@ -1,0 +1,62 @@
+//! Laws of classes and assignments: each contract is a theorem on the definitions that the calls of
+//! this crate are specified by. The functions do nothing.
+ghost use Rattle.mk_class.specs.Laws.{AssignmentsAreWhole, ClassesFitCounts, ClassesLookUp, ContextsOfAllLines, FirstEqualsDecides, FlagIsForFirstLines, FlagIsForLedLines, HeadersAreWhole, ValueIsFree, ValueTextIsFree};
+
+/// A line that does not begin with the recipe prefix has the same class under each flag.
+pub fn flag_is_for_led_lines()
+    ensures { FlagIsForLedLines }
+{}
+
+/// The classes of lines do not depend on the lines below them.
+pub fn classes_look_up()
+    ensures { ClassesLookUp }
+{}
+
+/// Under another flag lines keep their classes, unless one that begins with the recipe prefix comes
+/// before each other that sets the flag.
+pub fn flag_is_for_first_lines()
+    ensures { FlagIsForFirstLines }
+{}
+
+/// The context after the lines of a text: its flag is that of the last line which does not leave it,
+/// its prefix that of the last line which sets it, and its open defines and conditionals are counts.
+pub fn contexts_of_all_lines()
+    ensures { ContextsOfAllLines }
+{}
+
+/// What a class says of the open defines and conditionals: an Endef ends the only define, a Body
+/// stands in one, and in two where it closes one, each other line stands in none, and an Else or
+/// Endif in a conditional.
+pub fn classes_fit_counts()
+    ensures { ClassesFitCounts }
+{}
+
+/// The parts of a header's line, in order, are the line: the targets, the separator, the pattern and
+/// the second `:`, the normal prerequisites, the `|`, the order-only ones, and what follows.
+pub fn headers_are_whole()
+    ensures { HeadersAreWhole }
+{}
+
+/// The parts of an assignment, in order, are its text: what stands before the name, the name, the
+/// operator, the value, and the blanks after the value.
+pub fn assignments_are_whole()
+    ensures { AssignmentsAreWhole }
+{}
+
+/// The modifiers, the name and the flavor of an assignment do not depend on its value.
+pub fn value_is_free()
+    ensures { ValueIsFree }
+{}
+
+/// An assignment's text with the value replaced by a closed text, which begins and ends with no
+/// blank, is the same assignment with that value.
+pub fn value_text_is_free()
+    ensures { ValueTextIsFree }
+{}
+
+/// An assignment is what stands before its first `=`, which ends the operator, and what follows it.
+///
+/// The definition takes the longest operator that stands after the name; both say the same.
+pub fn first_equals_decides()
+    ensures { FirstEqualsDecides }
+{}

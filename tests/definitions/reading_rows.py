@@ -1,0 +1,158 @@
+#!/usr/bin/env python3
+"""Readings of texts as equations that the checker computes.
+
+Turns a table of texts and their readings into a file of equations, by which the checker computes the
+definitions of `crates/mk_class/specs` (the reading itself is put together in
+`crates/mk_class/proofs/Readings.antt`). Where the file checks, the definitions give each reading.
+
+    reading_rows.py TABLE [COUNT] > crates/mk_class/proofs/NAME.antt
+
+With COUNT only the first COUNT rows are taken. The crate keeps two files, made by
+
+    reading_rows.py tests/cases/readings/worked.tsv > crates/mk_class/proofs/WorkedReadings.antt
+    reading_rows.py tests/cases/readings/random.tsv > crates/mk_class/proofs/RandomReadings.antt
+
+A table has the columns name, makefile and reading, between tabs. In a column \\\\, \\t, \\n, \\r and
+\\xHH stand for a backslash, a tab, a line end, a return and the byte HH. A reading is a Python tuple
+of items, one for each line that is neither blank nor a comment:
+
+    Assign          modifiers, name, operator, value
+    TargetAssign    targets, separator, modifiers, name, operator, value
+    Header          targets, separator, pattern or None, normal prerequisites, order-only ones,
+                    inline recipe or None
+    Recipe          the text after the first byte
+    and any other class with the text of its line
+"""
+
+import ast
+import re
+import sys
+from pathlib import Path
+
+ESCAPES = {"\\\\": "\\", "\\t": "\t", "\\n": "\n", "\\r": "\r"}
+ESCAPE = re.compile(r"\\x[0-9A-Fa-f]{2}|\\[\\tnr]")
+
+FLAVORS = {
+    b"=": "Recursive",
+    b":=": "Simple",
+    b"::=": "PosixSimple",
+    b":::=": "Immediate",
+    b"?=": "Conditional",
+    b"+=": "Append",
+    b"!=": "Shell",
+}
+SEPARATORS = {
+    b":": "SingleColon",
+    b"::": "DoubleColon",
+    b"&:": "GroupedColon",
+    b"&::": "GroupedDoubleColon",
+}
+MODIFIERS = {b"override": "Override", b"export": "Export", b"private": "Private"}
+
+
+def unescape(column):
+    """The text that a column stands for, a byte as the character of its number."""
+    return ESCAPE.sub(lambda found: ESCAPES.get(found.group()) or chr(int(found.group()[2:], 16)), column)
+
+
+def antt_text(text):
+    """A text as a term."""
+    if not text:
+        return "[]"
+    escapes = {0: "\\0", 9: "\\t", 10: "\\n", 13: "\\r", 34: '\\"', 92: "\\\\"}
+    return '(codes "' + "".join(escapes.get(byte, chr(byte)) for byte in text) + '")'
+
+
+def antt_list(terms):
+    """A list of terms as a term."""
+    return "(" + " ∷ ".join(terms + ["[]"]) + ")" if terms else "[]"
+
+
+def antt_texts(texts):
+    """A list of texts as a term."""
+    return antt_list([antt_text(text) for text in texts])
+
+
+def antt_assigned(modifiers, name, operator, value):
+    """The parts of an assignment as a term."""
+    terms = [antt_list([MODIFIERS[it] for it in modifiers]), antt_text(name), FLAVORS[operator], antt_text(value)]
+    return "(Sets " + " ".join(terms) + ")"
+
+
+def antt_item(item):
+    """An item of a reading as a term."""
+    kind, *fields = item
+    if kind == "Assign":
+        terms = [antt_assigned(*fields)]
+    elif kind == "TargetAssign":
+        targets, separator, *assigned = fields
+        terms = [antt_texts(targets), SEPARATORS[separator], antt_assigned(*assigned)]
+    elif kind == "Header":
+        targets, separator, pattern, normal, order_only, inline = fields
+        terms = [
+            antt_texts(targets),
+            SEPARATORS[separator],
+            antt_texts([] if pattern is None else [pattern]),
+            antt_texts(normal),
+            antt_texts(order_only),
+            "None" if inline is None else f"(Some {antt_text(inline)})",
+        ]
+    else:
+        (text,) = fields
+        terms = [antt_text(text)]
+    return " ".join([kind, *terms])
+
+
+def rows_of(table):
+    """The names, texts and readings of a table."""
+    head, *rows = [line.split("\t") for line in table.read_text().rstrip("\n").split("\n")]
+    for row in rows:
+        columns = dict(zip(head, row, strict=True))
+        text = unescape(columns["makefile"]).encode("latin-1")
+        yield columns["name"], text, ast.literal_eval(unescape(columns["reading"]))
+
+
+# The modules that a file may need, and their names; it imports those that it has.
+IMPORTS = [
+    ("Rattle.std.proofs.Common", ["◌≡◌", "refl", "[]", "◌∷◌", "Some", "None"]),
+    ("Rattle.std.specs.Prelude", ["codes"]),
+    ("Rattle.mk_class.specs.declared.assignment.Flavor.TheVariants", list(FLAVORS.values())),
+    ("Rattle.mk_class.specs.declared.assignment.Modifier.TheVariants", list(MODIFIERS.values())),
+    ("Rattle.mk_class.specs.declared.rule.Separator.TheVariants", list(SEPARATORS.values())),
+    ("Rattle.mk_class.proofs.Readings", ["reading", "Sets"]),
+    (
+        "Rattle.mk_class.proofs.Readings.Item",
+        ["Assign", "TargetAssign", "Header", "Recipe", "Endef", "Body", "Opaque", "DefineHead", "If", "Else", "Endif"]
+        + ["Directive", "Rough"],
+    ),
+]
+
+
+def head_of(table, body):
+    """The first lines of a file with this body."""
+    lines = [f"-- Texts and their readings. Made by `tests/definitions/reading_rows.py tests/cases/readings/{table.name}`."]
+    bare = re.sub(r'"[^"\\]*(?:\\.[^"\\]*)*"', "", body)
+    for module, names in IMPORTS:
+        used = [name for name in names if not name.isalpha() or re.search(rf"(?<!\w){name}(?!\w)", bare)]
+        if used:
+            lines.append(f"use {module}.{{{', '.join(used)}}}")
+    return "\n".join(lines) + "\n"
+
+
+def main():
+    if len(sys.argv) not in (2, 3):
+        sys.exit("usage: reading_rows.py TABLE [COUNT]")
+    table = Path(sys.argv[1])
+    rows = list(rows_of(table))
+    if len(sys.argv) == 3:
+        rows = rows[: int(sys.argv[2])]
+    body = ""
+    for name, text, reading in rows:
+        row = "row_" + name.replace("-", "_")
+        items = " ∷ ".join([antt_item(item) for item in reading] + ["[]"])
+        body += f"\n{row} : reading {antt_text(text)} ≡ {items}\n{row} = refl\n"
+    print(head_of(table, body) + body, end="")
+
+
+if __name__ == "__main__":
+    main()
