@@ -1,19 +1,17 @@
 -- The parts of a header's line fit: they are read again from their units, also where some are replaced.
-use Rattle.std.proofs.Common.{◌≡◌, refl, sym, ap, ◌∙◌, subst, ℕ, List, [], ◌∷◌, ◌++◌, map, Bool, true, false, not, ◌&&◌, ◌||◌, cond, append_assoc, take, drop}
+use Rattle.std.proofs.Common.{◌≡◌, refl, sym, ap, ◌∙◌, subst, ℕ, List, [], ◌∷◌, ◌++◌, map, Bool, true, false, not, ◌&&◌, ◌||◌, cond, take, drop}
 use Rattle.std.proofs.lemmas.List.{take-append-drop, take-map, drop-map}
 use Rattle.mk_lines.specs.Lists.{leading, after_leading}
 use Rattle.mk_lines.specs.ListLaws.{Each, FirstFails, leading-after_leading, leading-each, after_leading-first_fails}
 use Rattle.mk_lines.specs.LineCells.{or-left_false, or-right_false}
-use Rattle.mk_class.specs.Lists.{is_empty, any, until, from, first_passes, last_passes}
+use Rattle.mk_class.specs.Lists.{is_empty, until, from, first_passes, last_passes}
 use Rattle.mk_class.specs.Symbols.{Symbol, symbol, is_colon, is_bar, is_ampersand, is_colon_symbol, is_ampersand_symbol}
 use Rattle.mk_class.specs.Symbols.Symbol.{Hash, Colon, Semicolon, Equals, Plus, Question, Exclamation, Bar, Ampersand, NoSymbol}
 use Rattle.mk_class.specs.CutTexts.{head, after_head, is_in_head}
 use Rattle.mk_class.specs.Separators.{Separated, separated, separator_at, separator_length, begins_separator, has_colon, is_single_colon}
 use Rattle.mk_class.specs.Headers.{Header, header, header_parts, with_prerequisites, is_no_bar, is_no_colon, has_unreadable, has_colon_after_other, has_third_separator, has_bar_amiss, has_second_bar, has_pattern_amiss, is_rough}
 use Rattle.mk_class.specs.HeaderLaws.{separated_units, separated-whole}
-use Rattle.mk_class.specs.HeadersAgain.{separator_symbols, prerequisite_units, after_separator, head_units, FitsPattern, FitsBar, FitsHeader}
-use Rattle.mk_class.specs.declared.rule.Separator.{Separator}
-use Rattle.mk_class.specs.declared.rule.Separator.TheVariants.{SingleColon, DoubleColon, GroupedColon, GroupedDoubleColon}
+use Rattle.mk_class.specs.HeadersAgain.{separator_symbols, FitsPattern, FitsBar, FitsHeader}
 
 -- ---- symbols
 

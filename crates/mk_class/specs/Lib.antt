@@ -26,4 +26,5 @@ pub mod HeadersAgain
 pub mod NoAssignmentLaws
 pub mod ValueLaws
 pub mod HeaderFitsLaws
+pub mod AssignmentLineLaws
 pub mod Laws

@@ -1,10 +1,10 @@
 -- Where there is no assignment: a text whose head has no `=` is none, since a `;` before the first `=` ends the name and is no part
 -- of an operator.
-use Rattle.std.proofs.Common.{◌≡◌, refl, sym, ap, ◌∙◌, subst, ℕ, List, [], ◌∷◌, ◌++◌, map, Bool, true, false, not, ◌||◌, cond, Option, Some, None, append_assoc}
+use Rattle.std.proofs.Common.{◌≡◌, refl, sym, ap, ◌∙◌, ℕ, List, [], ◌∷◌, ◌++◌, map, Bool, true, false, not, ◌||◌, cond, Option, Some, None, append_assoc}
 use Rattle.std.proofs.lemmas.List.{append-nil, map-append}
 use Rattle.std.specs.Prelude.{codes}
 use Rattle.mk_lines.specs.Lists.{concat, leading, after_leading}
-use Rattle.mk_lines.specs.ListLaws.{Each, FirstFails, Each-append, leading-after_leading, leading-each, after_leading-first_fails, concat-append}
+use Rattle.mk_lines.specs.ListLaws.{Each, FirstFails, Each-append, leading-after_leading, leading-each, after_leading-first_fails}
 use Rattle.mk_lines.specs.Words.{Token, Gap, Word, tokens, token_units, is_gap, AreTokens}
 use Rattle.mk_lines.specs.TokenLaws.{token_units-tokens, tokens-are_tokens}
 use Rattle.mk_class.specs.Lists.{any, until, from, is_empty}
@@ -13,7 +13,7 @@ use Rattle.mk_class.specs.Symbols.{Symbol, symbol, is_equals, is_semicolon, is_s
 use Rattle.mk_class.specs.Symbols.Symbol.{Hash, Colon, Semicolon, Equals, Plus, Question, Exclamation, Bar, Ampersand, NoSymbol}
 use Rattle.mk_class.specs.SymbolLaws.{symbol-unit, gap-no_symbol}
 use Rattle.mk_class.specs.Assignments.{ends_name_by, after_blanks, blanks, modifier_of, assignment}
-use Rattle.mk_class.specs.AssignmentsAtEquals.{Front, flavor_before_equals, ends_name_before_equals, front_by, front_after_blanks, definition_front, front_after_units, front_after_modifier, front_of, with_value, is_no_equals}
+use Rattle.mk_class.specs.AssignmentsAtEquals.{flavor_before_equals, ends_name_before_equals, front_by, definition_front, front_after_units, front_after_modifier, front_of, with_value, is_no_equals}
 use Rattle.mk_class.specs.AssignmentEqualsLaws.{assignment-equals, no_assignment, not_same, or_front, front_of-word}
 use Rattle.mk_class.specs.declared.assignment.Flavor.{Flavor}
 use Rattle.mk_class.specs.declared.assignment.Modifier.{Modifier}

@@ -1,12 +1,12 @@
 -- Values: what a text that may be a value is among the cells of a line.
-use Rattle.std.proofs.Common.{◌≡◌, refl, sym, ap, ◌∙◌, subst, ℕ, List, [], ◌∷◌, ◌++◌, map, Bool, true, false, not, ◌&&◌, ◌||◌, ◌==◌, cond}
+use Rattle.std.proofs.Common.{◌≡◌, refl, sym, ap, ◌∙◌, subst, ℕ, List, [], ◌∷◌, ◌++◌, map, Bool, true, false, not, ◌||◌, ◌==◌}
 use Rattle.std.proofs.lemmas.Bool.{and_parts, not-true}
 use Rattle.mk_lines.specs.Lists.{concat}
 use Rattle.mk_lines.specs.ListLaws.{Each, FirstFails, LastFails}
 use Rattle.mk_lines.specs.Bytes.{ByteKind, byte_kind, is_blank_kind, is_backslash_kind}
 use Rattle.mk_lines.specs.Bytes.ByteKind.{LineFeed, CarriageReturn, Backslash, Blank, Ordinary}
 use Rattle.mk_lines.specs.Cells.{Cell, Byte, joined_byte}
-use Rattle.mk_lines.specs.CellFaults.{has_stray, is_stray, is_stray_by}
+use Rattle.mk_lines.specs.CellFaults.{has_stray, is_stray_by}
 use Rattle.mk_lines.specs.LineCells.{HasNoLineEnd, is_no_line_end_kind, or-left_false, or-right_false}
 use Rattle.mk_lines.specs.CellsReplaced.{IsPlainText, ends_ordinary, is_ordinary_kind}
 use Rattle.mk_lines.specs.Cut.{continuation}
