@@ -449,6 +449,7 @@ module _ {A : Type 0} (byte : A → ℕ) where
   or_front None (Some m) w rest = front_after_modifier byte m w rest
   or_front None None w rest = None
 
+  -- the front of a word and what follows it
   pub front_of-word : (w : List (List A)) (ts : List (Token A)) → front_of byte (Word w ∷ ts) ≡ or_front (definition_front byte (w ++ token_units ts)) (modifier_of byte w) w (front_of byte ts)
   front_of-word w ts = go (definition_front byte (w ++ token_units ts)) (modifier_of byte w)
     where

@@ -135,6 +135,7 @@ pub record AssignParts (l : List ℕ) (a : Assignment Cell) : Type 0 where
   pub are_line_cells : AreLineCells (concat (before_value a) ++ (concat a.value ++ concat (a.after ++ rest)))
   pub is : IsAssignment joined_byte (cut_text joined_byte (units joined_byte (line_cells l))) a
 
+-- each line that is an assignment has such parts
 pub assign_parts : (l : List ℕ) (a : Assignment Cell) → IsAssignLine (line_cells l) (units joined_byte (line_cells l)) a → AssignParts l a
 assign_parts l a h =
     let us = units joined_byte (line_cells l) in
@@ -197,9 +198,11 @@ pub record IsLineWith (c : Context) (l : List ℕ) (below : List (List ℕ)) (a 
   pub line : IsLineOf (line_with a parts.rest v (line_end_bytes (line_end l))) (concat (before_value a) ++ (map Byte v ++ concat (a.after ++ parts.rest))) (line_end l) below
   pub class : class_of c (line_with a parts.rest v (line_end_bytes (line_end l))) ≡ Assign (with_text a v) (prefix_set_by joined_byte (nat_lt 0 c.conditionals) (with_text a v))
 
+-- the class of cells in a context, as prefix-led or not
 abbrev read : Context → Bool → List Cell → Class
 read c led cs = class_at led c.defines c.flag (nat_lt 0 c.conditionals) cs (units joined_byte cs)
 
+-- a line of class Assign with its value replaced by a text that may be one
 pub line-with_value : (c : Context) (l : List ℕ) (below : List (List ℕ)) (a : Assignment Cell) (sets : Option ℕ) (v : List ℕ) → IsValueText v → class_of c l ≡ Assign a sets
     → OneLine l → EndsBefore l below → IsLineWith c l below a v
 line-with_value c l below a sets v t h o n =
