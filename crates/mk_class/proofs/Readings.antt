@@ -36,13 +36,16 @@ pub data Item : Type 0 where
   Directive : List ℕ → Item
   Rough : List ℕ → Item
 
+-- the parts of an assignment that are read
 abbrev pub assigned : Assignment Cell → Assigned
 assigned a = Sets a.modifiers (unit_text joined_byte a.name) a.flavor (unit_text joined_byte a.value)
 
+-- the raw bytes of an inline recipe, where there is one
 abbrev pub raw_units : Option (List (List Cell)) → Option (List ℕ)
 raw_units None = None
 raw_units (Some us) = Some (raw_text (concat us))
 
+-- the item of a header
 abbrev pub header_item : Headers.Header Cell → Item
 header_item h =
     Header (word_texts joined_byte h.targets) h.separator (word_texts joined_byte h.pattern) (word_texts joined_byte h.normal) (word_texts joined_byte h.order_only)

@@ -336,7 +336,7 @@ module _ {A : Type 0} (byte : A → ℕ) where
 -- ---- a word with a `=` is no modifier
 
 -- a text with a byte that another has not is not the same
-not_same : (n : ℕ) (a c k : List ℕ) → any (λ b. n == b) k ≡ false → is_same_text (a ++ n ∷ c) k ≡ false
+pub not_same : (n : ℕ) (a c k : List ℕ) → any (λ b. n == b) k ≡ false → is_same_text (a ++ n ∷ c) k ≡ false
 not_same n [] c [] h = refl
 not_same n [] c (y ∷ k) h = go (n == y) h
   where
@@ -443,12 +443,14 @@ module _ {A : Type 0} (byte : A → ℕ) where
       go None (Some m) = refl
       go None None = refl
 
-  abbrev or_front : Option (Front A) → Option Modifier → List (List A) → Option (Front A) → Option (Front A)
+  -- a front, or else a modifier and a front
+  abbrev pub or_front : Option (Front A) → Option Modifier → List (List A) → Option (Front A) → Option (Front A)
   or_front (Some f) o w rest = Some f
   or_front None (Some m) w rest = front_after_modifier byte m w rest
   or_front None None w rest = None
 
-  front_of-word : (w : List (List A)) (ts : List (Token A)) → front_of byte (Word w ∷ ts) ≡ or_front (definition_front byte (w ++ token_units ts)) (modifier_of byte w) w (front_of byte ts)
+  -- the front of a word and what follows it
+  pub front_of-word : (w : List (List A)) (ts : List (Token A)) → front_of byte (Word w ∷ ts) ≡ or_front (definition_front byte (w ++ token_units ts)) (modifier_of byte w) w (front_of byte ts)
   front_of-word w ts = go (definition_front byte (w ++ token_units ts)) (modifier_of byte w)
     where
       go : (d : Option (Front A)) (m : Option Modifier)

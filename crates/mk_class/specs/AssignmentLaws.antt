@@ -24,6 +24,7 @@ assignment_units a = a.before ++ (a.name ++ (a.operator ++ (a.value ++ a.after))
 module _ {A : Type 0} (byte : A → ℕ) where
   -- ---- the parts of a front
 
+  -- the parts of a front are these units
   abbrev IsWhole : List (List A) → Option (Front A) → Type 0
   IsWhole us None = Unit {0}
   IsWhole us (Some f) = f.before ++ (f.name ++ f.operator) ≡ us

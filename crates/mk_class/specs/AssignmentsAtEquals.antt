@@ -35,11 +35,13 @@ module _ {A : Type 0} (byte : A → ℕ) where
   ends_name_before_equals [] = false
   ends_name_before_equals (u ∷ us) = is_gap byte u || ends_name_by (symbol byte u) (is_empty us)
 
+  -- a front of the flavor, what stands before the name, the name, and what follows it
   abbrev pub front_by : Option Flavor → (before name operator : List (List A)) → Option (Front A)
   front_by None b n o = None
   front_by (Some f) b [] o = None
   front_by (Some f) b (u ∷ n) o = Some (record { modifiers = []; flavor = f; before = b; name = u ∷ n; operator = o })
 
+  -- the front of blanks, a name, blanks, and the symbols of an operator before its `=`
   abbrev pub front_after_blanks : (before named : List (List A)) → Option (Front A)
   front_after_blanks b us =
       let rest = from ends_name_before_equals us in front_by (flavor_before_equals (map (symbol byte) (after_blanks byte rest))) b (until ends_name_before_equals us) rest
@@ -48,10 +50,12 @@ module _ {A : Type 0} (byte : A → ℕ) where
   abbrev pub definition_front : List (List A) → Option (Front A)
   definition_front us = front_after_blanks (blanks byte us) (after_blanks byte us)
 
+  -- a front with some units before it
   abbrev pub front_after_units : List (List A) → Option (Front A) → Option (Front A)
   front_after_units us None = None
   front_after_units us (Some f) = Some (record f { before = us ++ f.before })
 
+  -- a front with a modifier before it
   abbrev pub front_after_modifier : Modifier → List (List A) → Option (Front A) → Option (Front A)
   front_after_modifier m w None = None
   front_after_modifier m w (Some f) = Some (record f { modifiers = m ∷ f.modifiers; before = w ++ f.before })

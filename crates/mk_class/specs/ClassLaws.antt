@@ -354,6 +354,7 @@ not_assign-define DirectiveWord n a p h = cc
 not_assign-define UndefineWord n a p h = cc
 not_assign-define NoKeyword n a p h = cc
 
+-- so it is of each line of class Assign
 pub class_at-assign : (led : Bool) (n : ℕ) (f : Flag) (c : Bool) (cs : List Cell) (us : List (List Cell)) (a : Assignment Cell) (p : Option ℕ)
     → class_at led n f c cs us ≡ Assign a p → IsReadOutside led n f c cs us a p
 class_at-assign true (suc n) f c cs us a p h = absurd (cc)
@@ -388,10 +389,12 @@ has_stray-append [] b h k = k
 has_stray-append (c ∷ a) b h k =
     or-both_false (is_stray c) (has_stray (a ++ b)) (or-left_false (is_stray c) (has_stray a) h) (has_stray-append a b (or-right_false (is_stray c) (has_stray a) h) k)
 
+-- the first of cells without stray bytes have none
 pub has_stray-left : (a b : List Cell) → has_stray (a ++ b) ≡ false → has_stray a ≡ false
 has_stray-left [] b h = refl
 has_stray-left (c ∷ a) b h = or-both_false (is_stray c) (has_stray a) (or-left_false (is_stray c) (has_stray (a ++ b)) h) (has_stray-left a b (or-right_false (is_stray c) (has_stray (a ++ b)) h))
 
+-- and the last have none
 pub has_stray-right : (a b : List Cell) → has_stray (a ++ b) ≡ false → has_stray b ≡ false
 has_stray-right [] b h = h
 has_stray-right (c ∷ a) b h = has_stray-right a b (or-right_false (is_stray c) (has_stray (a ++ b)) h)
@@ -415,6 +418,7 @@ blanks-no_equals (u ∷ us) h = go (is_gap joined_byte u) refl h (λ k. blanks-n
     go true e h k = (ap (λ s. not (is_equals_symbol s)) (gap-no_symbol joined_byte u e), k h)
     go false e h k = absurd (cc)
 
+-- an assignment is not all blanks
 pub assignment-filled : (us : List (List Cell)) (a : Assignment Cell) → assignment joined_byte us ≡ Some a → is_all_blanks us ≡ false
 assignment-filled us a h = go (after_leading (is_gap joined_byte) us) refl
   where

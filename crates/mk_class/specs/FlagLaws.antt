@@ -50,7 +50,7 @@ flag_after-set f g (TargetAssign t) h = refl
 flag_after-set f g Rough h = refl
 flag_after-set f g (Header x) h = refl
 
--- a line that leaves the flag leaves the prefix too
+-- a line that leaves the flag leaves it as it is
 pub flag_after-left : (f : Flag) (k : Class) → leaves_flag k ≡ true → flag_after f k ≡ f
 flag_after-left f Endef h = cc
 flag_after-left f (Body n) h = cc
@@ -68,6 +68,7 @@ flag_after-left f (TargetAssign t) h = cc
 flag_after-left f Rough h = cc
 flag_after-left f (Header x) h = cc
 
+-- and it leaves the prefix too
 pub prefix_after-left : (p : ℕ) (k : Class) → leaves_flag k ≡ true → prefix_after p k ≡ p
 prefix_after-left p Endef h = refl
 prefix_after-left p (Body n) h = refl

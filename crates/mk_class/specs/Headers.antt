@@ -33,9 +33,11 @@ pub record TargetAssignment (A : Type 0) : Type 0 where
   pub assigned : Assignment A
 
 module _ {A : Type 0} (byte : A → ℕ) where
+  -- whether a unit is no `:`
   abbrev pub is_no_colon : List A → Bool
   is_no_colon u = not (is_colon byte u)
 
+  -- whether a unit is no `|`
   abbrev pub is_no_bar : List A → Bool
   is_no_bar u = not (is_bar byte u)
 

@@ -1,18 +1,22 @@
 -- Laws of classes and assignments, each the contract of a public function.
-use Rattle.std.specs.Prelude.{◌≡◌, ℕ, ◌+◌, List, [], ◌++◌, Some, true, false}
+use Rattle.std.specs.Prelude.{◌≡◌, ℕ, ◌+◌, List, [], ◌++◌, Some, None, true, false}
 use Rattle.mk_lines.specs.Lists.{concat}
 use Rattle.mk_lines.specs.ListLaws.{Each, FirstFails, LastFails}
 use Rattle.mk_lines.specs.Units.{units, is_closed}
 use Rattle.mk_lines.specs.Words.{is_gap}
 use Rattle.mk_class.specs.Assignments.{Assignment, assignment}
-use Rattle.mk_class.specs.AssignmentsAtEquals.{assignment_at_equals}
+use Rattle.mk_class.specs.AssignmentsAtEquals.{assignment_at_equals, is_no_equals}
 use Rattle.mk_class.specs.RecipePrefix.{is_prefix_led}
 use Rattle.mk_class.specs.Contexts.{Context, start}
 use Rattle.mk_class.specs.ClassTable.{class_of}
 use Rattle.mk_class.specs.ClassedLines.{classed, context_after_lines, is_led_first}
 use Rattle.mk_class.specs.ContextsOfLines.{flag_after_lines, prefix_after_lines, class_count, opens_define, closes_define, opens_conditional, closes_conditional}
 use Rattle.mk_class.specs.ClassLaws.{FitsCounts}
-use Rattle.mk_class.specs.Headers.{header}
+use Rattle.mk_class.specs.CutTexts.{head}
+use Rattle.mk_class.specs.Separators.{has_colon}
+use Rattle.mk_class.specs.Headers.{Header, header, is_rough}
+use Rattle.mk_class.specs.HeadersAgain.{FitsHeader}
+use Rattle.mk_class.specs.NoAssignmentLaws.{FollowsHead}
 use Rattle.mk_class.specs.HeaderLaws.{header_units}
 use Rattle.mk_class.specs.declared.context.Flag.{Flag}
 
@@ -51,7 +55,19 @@ ClassesFitCounts = (context : Context) (line : List ℕ) → FitsCounts context.
 abbrev pub HeadersAreWhole : Type 0
 HeadersAreWhole = (line : List (List ℕ)) → header_units (header (λ b. b) line) ≡ line
 
+-- the parts of a header's line fit, so that they are read again from their units
+abbrev pub HeadersFit : Type 0
+HeadersFit = (line : List (List ℕ)) → has_colon (λ b. b) (head (λ b. b) line) ≡ true → is_rough (λ b. b) (head (λ b. b) line) (header (λ b. b) line) ≡ false → FitsHeader (λ b. b) (header (λ b. b) line)
+
+-- parts that fit are read again from their units, whatever words they have
+abbrev pub HeadersAreReadAgain : Type 0
+HeadersAreReadAgain = (parts : Header ℕ) → FitsHeader (λ b. b) parts → header (λ b. b) (header_units parts) ≡ parts
+
 -- ---- assignments
+
+-- a text whose head has no `=` is no assignment
+abbrev pub HeadsDecideAssignments : Type 0
+HeadsDecideAssignments = (front rest : List (List ℕ)) → Each (is_no_equals (λ b. b)) front → FollowsHead (λ b. b) rest → assignment (λ b. b) (front ++ rest) ≡ None
 
 -- the parts of an assignment follow one another and are the cut text
 abbrev pub AssignmentsAreWhole : Type 0

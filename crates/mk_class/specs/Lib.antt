@@ -23,4 +23,8 @@ pub mod HeaderLaws
 pub mod ContextsOfLines
 pub mod ContextLaws
 pub mod HeadersAgain
+pub mod NoAssignmentLaws
+pub mod ValueLaws
+pub mod HeaderFitsLaws
+pub mod AssignmentLineLaws
 pub mod Laws

@@ -109,13 +109,15 @@ module _ {A : Type 0} (byte : A → ℕ) where
   symbol-unit (x ∷ []) s n h = (x, refl, byte_symbol-byte (byte x) s n h)
   symbol-unit (x ∷ y ∷ u) s n h = absurd (n h)
 
-  -- a `=` is one byte, which means nothing to units, and no gap
+  -- a unit `=` has this symbol
   pub equals-symbol : (u : List A) → is_equals byte u ≡ true → symbol byte u ≡ Equals
   equals-symbol u h = equals_symbol-is (symbol byte u) h
 
+  -- it is no gap
   pub equals-no_gap : (u : List A) → is_equals byte u ≡ true → is_gap byte u ≡ false
   equals-no_gap u h = symbol-no_gap u (λ e. let k : NoSymbol ≡ Equals = sym e ∙ equals-symbol u h in cc)
 
+  -- it is one byte, which means nothing to units
   pub equals-plain : (u : List A) → is_equals byte u ≡ true → IsPlainUnit byte u
   equals-plain [] h = cc
   equals-plain (x ∷ []) h = rw (byte_symbol-byte (byte x) Equals (λ e. cc) (equals-symbol (x ∷ []) h)) refl

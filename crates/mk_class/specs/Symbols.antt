@@ -42,6 +42,11 @@ abbrev pub is_colon_symbol : Symbol → Bool
 is_colon_symbol Colon = true
 is_colon_symbol s = false
 
+-- whether a symbol is `;`
+abbrev pub is_semicolon_symbol : Symbol → Bool
+is_semicolon_symbol Semicolon = true
+is_semicolon_symbol s = false
+
 -- whether a symbol is `=`
 abbrev pub is_equals_symbol : Symbol → Bool
 is_equals_symbol Equals = true
@@ -80,6 +85,10 @@ module _ {A : Type 0} (byte : A → ℕ) where
   -- whether a unit is `:`
   abbrev pub is_colon : List A → Bool
   is_colon u = is_colon_symbol (symbol u)
+
+  -- whether a unit is `;`
+  abbrev pub is_semicolon : List A → Bool
+  is_semicolon u = is_semicolon_symbol (symbol u)
 
   -- whether a unit is `=`
   abbrev pub is_equals : List A → Bool

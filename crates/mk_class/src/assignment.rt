@@ -13,7 +13,7 @@ pub enum Flavor {
     PosixSimple,
     /// `:::=`: the value is expanded at once, and the result again when the variable is.
     Immediate,
-    /// `?=`: as `=`, where the variable has no value yet.
+    /// `?=`: as `=`, where the variable is not yet defined.
     Conditional,
     /// `+=`: the value goes after the one that the variable has.
     Append,

@@ -1,6 +1,6 @@
 //! Laws of classes and assignments: each contract is a theorem on the definitions that the calls of
 //! this crate are specified by. The functions do nothing.
-ghost use Rattle.mk_class.specs.Laws.{AssignmentsAreWhole, ClassesFitCounts, ClassesLookUp, ContextsOfAllLines, FirstEqualsDecides, FlagIsForFirstLines, FlagIsForLedLines, HeadersAreWhole, ValueIsFree, ValueTextIsFree};
+ghost use Rattle.mk_class.specs.Laws.{AssignmentsAreWhole, ClassesFitCounts, ClassesLookUp, ContextsOfAllLines, FirstEqualsDecides, FlagIsForFirstLines, FlagIsForLedLines, HeadersAreReadAgain, HeadersAreWhole, HeadersFit, HeadsDecideAssignments, ValueIsFree, ValueTextIsFree};
 
 /// A line that does not begin with the recipe prefix has the same class under each flag.
 pub fn flag_is_for_led_lines()
@@ -35,6 +35,23 @@ pub fn classes_fit_counts()
 /// the second `:`, the normal prerequisites, the `|`, the order-only ones, and what follows.
 pub fn headers_are_whole()
     ensures { HeadersAreWhole }
+{}
+
+/// The parts of a header's line fit each other: the targets have no `:`, the separator is one, a
+/// pattern stands before a second `:`, and so on.
+pub fn headers_fit()
+    ensures { HeadersFit }
+{}
+
+/// Parts that fit each other are read again from their units, so that words of a header's line may
+/// be replaced, added and removed.
+pub fn headers_are_read_again()
+    ensures { HeadersAreReadAgain }
+{}
+
+/// A text whose head, the units before its first `;`, has no `=` is no assignment.
+pub fn heads_decide_assignments()
+    ensures { HeadsDecideAssignments }
 {}
 
 /// The parts of an assignment, in order, are its text: what stands before the name, the name, the

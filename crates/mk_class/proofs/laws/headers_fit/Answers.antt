@@ -1,0 +1,5 @@
+use Rattle.mk_class.specs.HeaderFitsLaws.{header-fits}
+use Rattle.mk_class.proofs.laws.headers_fit.Goals as goal
+
+pub returns : goal.returns
+returns c = header-fits (λ b. b)
