@@ -3,6 +3,8 @@
 #![tactic(auto)]
 
 #[cfg(test)]
+mod cell_tests;
+#[cfg(test)]
 mod std_devices;
 #[cfg(test)]
 mod tests;

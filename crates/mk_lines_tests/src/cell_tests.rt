@@ -1,0 +1,104 @@
+//! The cells of lines, and their readers.
+use mk_lines::cells::cells;
+use mk_lines::{Fault, Span};
+use refusing::Refusing;
+use std::test::Fail;
+
+#[test]
+fn a_fold_is_one_space_with_the_raw_range_of_its_run(rt: HostRuntime) -> Result<(), Fail> {
+    let line = b"F = a \\\n    b\n".as_slice();
+    let kept = cells(rt.alloc(), line)?;
+    let text = kept.text(line);
+    assert_eq!(rt; text, b"F = a b".as_slice());
+    assert_eq!(rt; text.len(), 7);
+    assert_eq!(rt; kept.raw_range(5, 6), Span { start: 5, end: 12 });
+    assert_eq!(rt; kept.raw_range(4, 7), Span { start: 4, end: 13 });
+    Ok(())
+}
+
+#[test]
+fn a_line_without_folds_is_its_own_text(rt: HostRuntime) -> Result<(), Fail> {
+    let line = b"X = 1\\ 2\r\n".as_slice();
+    let kept = cells(rt.alloc(), line)?;
+    let text = kept.text(line);
+    assert_eq!(rt; text, b"X = 1\\ 2".as_slice());
+    assert_eq!(rt; text.len(), 8);
+    assert_eq!(rt; kept.raw_range(2, 8), Span { start: 2, end: 8 });
+    Ok(())
+}
+
+#[test]
+fn folds_that_follow_one_another_are_one_space(rt: HostRuntime) -> Result<(), Fail> {
+    let line = b"a\\\nb \\\r\n\t\\\n c\\\n".as_slice();
+    let kept = cells(rt.alloc(), line)?;
+    let text = kept.text(line);
+    assert_eq!(rt; text, b"a b c\\".as_slice());
+    assert_eq!(rt; text.len(), 6);
+    assert_eq!(rt; kept.raw_range(0, 2), Span { start: 0, end: 3 });
+    assert_eq!(rt; kept.raw_range(2, 4), Span { start: 3, end: 12 });
+    assert_eq!(rt; kept.raw_range(5, 6), Span { start: 13, end: 14 });
+    assert_eq!(rt; kept.raw_range(4, 4), Span { start: 12, end: 12 });
+    Ok(())
+}
+
+#[test]
+fn a_fold_is_bad_after_a_backslash(rt: HostRuntime) -> Result<(), Fail> {
+    for (line, is_bad) in [
+        (b"a\\\\\\\nb".as_slice(), true),
+        (b"X = a\\\\ \\\n b\n".as_slice(), true),
+        (b"X = a\\\\\n".as_slice(), false),
+        (b"X = a \\\n \\\n b\n".as_slice(), false),
+        (b"\\\nX = \\\n".as_slice(), false),
+    ] {
+        let kept = cells(rt.alloc(), line)?;
+        assert_eq!(rt; kept.has_bad_fold(), is_bad);
+    }
+    Ok(())
+}
+
+#[test]
+fn a_nul_and_a_lone_carriage_return_are_stray(rt: HostRuntime) -> Result<(), Fail> {
+    for (line, is_stray) in [
+        (b"# a\0\n".as_slice(), true),
+        (b"\r\r\n".as_slice(), true),
+        (b"a\r\\\n b\n".as_slice(), true),
+        (b"a\\\n \0b\n".as_slice(), true),
+        (b"X = 1\r".as_slice(), true),
+        (b"a\\\r\n b\r\n".as_slice(), false),
+        (b"\tX = 1\r\n".as_slice(), false),
+        (b"".as_slice(), false),
+    ] {
+        let kept = cells(rt.alloc(), line)?;
+        assert_eq!(rt; kept.has_stray(), is_stray);
+    }
+    Ok(())
+}
+
+#[test]
+fn cells_meet_each_refused_growth(rt: HostRuntime) -> Result<(), Fail> {
+    let mut line = Vec::new(rt.alloc());
+    for _ in 0..20 {
+        line.extend_from_slice(b"a \\\n b".as_slice())?;
+    }
+    for admitted in 0..100 {
+        let heap = Refusing::after(rt.alloc(), admitted);
+        let answer = cells(&heap, &line);
+        if !heap.has_refused() {
+            // the joined text, and the folds' ends at least once
+            assert!(rt; admitted > 1 && answer.is_ok());
+            break;
+        }
+        assert!(rt; matches!(answer, Err(Fault::NoMemory)));
+    }
+    Ok(())
+}
+
+#[test]
+fn a_line_without_folds_takes_no_memory(rt: HostRuntime) -> Result<(), Fail> {
+    let line = b"sources = main.c lexer.c parser.c # in order\n".as_slice();
+    let heap = Refusing::after(rt.alloc(), 0);
+    let kept = cells(&heap, line)?;
+    assert!(rt; !heap.has_refused());
+    assert_eq!(rt; kept.text(line).len(), 44);
+    Ok(())
+}
