@@ -8,8 +8,10 @@ pub mod Headers
 pub mod Keywords
 pub mod Classes
 pub mod RecipePrefix
+pub mod ClassPlaces
 pub mod Contexts
 pub mod ClassTable
+pub mod TextClasses
 pub mod Arguments
 pub mod ListLaws
 pub mod SymbolLaws

@@ -1,4 +1,4 @@
-//! The separators of rules.
+//! Rules: their separators, and where the parts of their lines stand.
 
 /// What stands between the targets and the prerequisites of a rule.
 ///
@@ -14,4 +14,32 @@ pub enum Separator {
     GroupedColon,
     /// `&::`: both.
     GroupedDoubleColon,
+}
+
+/// Where the parts of a header, the line of a rule, stand, as places in the line's joined text.
+///
+/// They follow one another: the targets, the separator, a pattern and a second `:` where there are
+/// these, the normal prerequisites, a `|` and the order-only prerequisites where there is a `|`,
+/// and after the head a `;` with an inline recipe, or a `#` with a comment, or nothing.
+///
+/// POSIX.1-2024 make, Makefile Syntax ("Target Rules"); GNU make manual, "Rule Syntax", "Static
+/// Pattern Rules", "Types of Prerequisites".
+#[derive(Clone, Copy, Debug, PartialEq, Eq)]
+pub struct Header {
+    /// What ends the targets.
+    pub separator: Separator,
+    /// Whether a pattern and a second `:` stand after the separator.
+    pub has_pattern: bool,
+    /// Whether a `|` stands after the normal prerequisites.
+    pub has_order_only: bool,
+    /// Whether a `;` ends the head, and an inline recipe follows it, which may be empty.
+    pub has_recipe: bool,
+    /// The end of the targets, which begin at 0: the place of the separator.
+    pub targets_end: usize,
+    /// The start of the normal prerequisites: the end of the separator, or of the second `:`.
+    pub normal_start: usize,
+    /// The end of the normal prerequisites: the place of the `|`, where there is one.
+    pub normal_end: usize,
+    /// The end of the head: the place of a `;` or `#`, or the length of the joined text.
+    pub head_end: usize,
 }

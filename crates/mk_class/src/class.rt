@@ -1,0 +1,43 @@
+//! The classes of lines.
+
+use crate::assignment::{Assignment, TargetAssignment};
+use crate::context::Nesting;
+use crate::rule::Header;
+
+/// What a logical line is. The places are those of its joined text, in bytes.
+///
+/// The first that fits, in the order of the table in docs/LANGUAGE.md, which says of each what it
+/// is and where that comes from.
+#[derive(Clone, Copy, Debug, PartialEq, Eq)]
+pub enum Class {
+    /// The line `endef` that ends a define.
+    Endef,
+    /// A line in a define, which is kept raw.
+    Body(Nesting),
+    /// A recipe line, whose first byte is the recipe prefix.
+    Recipe,
+    /// A line that is kept and not read inside.
+    Opaque,
+    /// A line of blanks, or of nothing.
+    Blank,
+    /// A line of blanks and a comment.
+    Comment,
+    /// An assignment, with the recipe prefix that it sets where it sets one.
+    Assign(Assignment, Option<u8>),
+    /// The line that begins a define, and whether that is of the recipe prefix.
+    DefineHead(bool),
+    /// A line that opens a conditional: `ifeq`, `ifneq`, `ifdef` or `ifndef`.
+    If,
+    /// An `else` in a conditional.
+    Else,
+    /// The line `endif` that ends a conditional.
+    Endif,
+    /// Another directive, such as `include`.
+    Directive,
+    /// An assignment for targets.
+    TargetAssign(TargetAssignment),
+    /// The line of a rule that is not read inside.
+    Rough,
+    /// The line of a rule.
+    Header(Header),
+}
