@@ -1,5 +1,3 @@
 mod WorkedRows
-mod WorkedReadings
-mod RandomReadings
 mod RandomArguments
-pub mod Readings
+mod ClassNames

@@ -4,8 +4,9 @@ use Rattle.std.specs.Prelude.{codes}
 use Rattle.mk_class.specs.declared.assignment.Flavor.TheVariants.{Recursive}
 use Rattle.mk_class.specs.declared.assignment.Modifier.TheVariants.{Override}
 use Rattle.mk_class.specs.declared.rule.Separator.TheVariants.{SingleColon, GroupedColon}
-use Rattle.mk_class.proofs.Readings.{reading, Sets}
-use Rattle.mk_class.proofs.Readings.Item.{Assign, TargetAssign, Header, Recipe, Endef, Body, Opaque, DefineHead, If, Endif, Rough}
+use Rattle.mk_tree.specs.Readings.{reading}
+use Rattle.mk_tree.specs.Items.{Sets}
+use Rattle.mk_tree.specs.Items.Item.{Assign, TargetAssign, Header, Recipe, Endef, Body, Opaque, DefineHead, If, Endif, Rough}
 
 row_a_value_folded_twice : reading (codes "X = a \\\n \\\n b\n") ≡ Assign (Sets [] (codes "X") Recursive (codes "a b")) ∷ []
 row_a_value_folded_twice = refl

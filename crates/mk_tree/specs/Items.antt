@@ -1,5 +1,5 @@
--- The reading of a text, for checks by computation: the items of its lines in order. The document defines it for good.
-use Rattle.std.specs.Prelude.{ℕ, List, [], ◌∷◌, ◌++◌, map, drop, Option, Some, None, codes}
+-- What lines read as: the items of a makefile, which an edit changes one of and keeps the others.
+use Rattle.std.specs.Prelude.{ℕ, List, [], ◌∷◌, ◌++◌, drop, Option, Some, None}
 use Rattle.mk_lines.specs.Lists.{concat}
 use Rattle.mk_lines.specs.PhysicalLines.{without_line_end}
 use Rattle.mk_lines.specs.Cells.{Cell, joined_byte, raw_text}
@@ -8,8 +8,7 @@ use Rattle.mk_class.specs.Assignments.{Assignment}
 use Rattle.mk_class.specs.Headers.{inline_recipe}
 use Rattle.mk_class.specs.Headers
 use Rattle.mk_class.specs.Classes.{Class}
-use Rattle.mk_class.specs.Contexts.{Context, start, context_after}
-use Rattle.mk_class.specs.ClassedLines.{ClassedLine, classed_lines}
+use Rattle.mk_class.specs.ClassedLines.{ClassedLine}
 use Rattle.mk_class.specs.declared.assignment.Flavor.{Flavor}
 use Rattle.mk_class.specs.declared.assignment.Modifier.{Modifier}
 use Rattle.mk_class.specs.declared.rule.Separator.{Separator}
@@ -73,38 +72,3 @@ items_of_line Class.Rough l = Rough (without_line_end l) ∷ []
 abbrev pub items : List ClassedLine → List Item
 items [] = []
 items (l ∷ ls) = items_of_line l.class l.bytes ++ items ls
-
--- the reading of a text
-abbrev pub reading : List ℕ → List Item
-reading t = items (classed_lines t)
-
--- the contexts after each of some lines, the first of which stands in a context
-abbrev pub contexts_from : Context → List ClassedLine → List Context
-contexts_from c [] = []
-contexts_from c (l ∷ ls) = let d = context_after c l.class in d ∷ contexts_from d ls
-
--- the contexts after each line of a text
-abbrev pub contexts : List ℕ → List Context
-contexts t = contexts_from start (classed_lines t)
-
--- the classes of a text by their names
-abbrev class_name : Class → List ℕ
-class_name Class.Endef = codes "Endef"
-class_name (Class.Body n) = codes "Body"
-class_name Class.Recipe = codes "Recipe"
-class_name Class.Opaque = codes "Opaque"
-class_name Class.Blank = codes "Blank"
-class_name Class.Comment = codes "Comment"
-class_name (Class.Assign a p) = codes "Assign"
-class_name (Class.DefineHead p) = codes "DefineHead"
-class_name Class.If = codes "If"
-class_name Class.Else = codes "Else"
-class_name Class.Endif = codes "Endif"
-class_name Class.Directive = codes "Directive"
-class_name (Class.TargetAssign t) = codes "TargetAssign"
-class_name Class.Rough = codes "Rough"
-class_name (Class.Header h) = codes "Header"
-
--- the names of the classes of a text's lines
-abbrev pub class_names : List ℕ → List (List ℕ)
-class_names t = map (λ l. class_name l.class) (classed_lines t)

@@ -4,8 +4,9 @@ use Rattle.std.specs.Prelude.{codes}
 use Rattle.mk_class.specs.declared.assignment.Flavor.TheVariants.{Recursive, Simple, PosixSimple, Immediate, Conditional, Append, Shell}
 use Rattle.mk_class.specs.declared.assignment.Modifier.TheVariants.{Override, Export, Private}
 use Rattle.mk_class.specs.declared.rule.Separator.TheVariants.{SingleColon, DoubleColon, GroupedColon, GroupedDoubleColon}
-use Rattle.mk_class.proofs.Readings.{reading, Sets}
-use Rattle.mk_class.proofs.Readings.Item.{Assign, TargetAssign, Header, Recipe, Endef, Body, Opaque, DefineHead, If, Else, Endif, Directive, Rough}
+use Rattle.mk_tree.specs.Readings.{reading}
+use Rattle.mk_tree.specs.Items.{Sets}
+use Rattle.mk_tree.specs.Items.Item.{Assign, TargetAssign, Header, Recipe, Endef, Body, Opaque, DefineHead, If, Else, Endif, Directive, Rough}
 
 row_random_001 : reading (codes "$(f {): : \t \n\ta \\\n\tb\n>q\t:= \t%.o\\\\$(s\\) \n #\\\\\n$(a b): : \\\r\n $(q:;=|):| \na: \n\ta\\\ntt: u") ≡ Rough (codes "$(f {): : \t ") ∷ Recipe (codes "a \\\n\tb") ∷ Assign (Sets [] (codes ">q") Simple (codes "%.o\\\\$(s\\)")) ∷ Rough (codes "$(a b): : \\\r\n $(q:;=|):| ") ∷ Header ((codes "a") ∷ []) SingleColon [] [] [] None ∷ Recipe (codes "a\\\ntt: u") ∷ []
 row_random_001 = refl

@@ -1,0 +1,3 @@
+mod WorkedReadings
+mod RandomReadings
+mod WorkedRows
