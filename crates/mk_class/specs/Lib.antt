@@ -34,4 +34,5 @@ pub mod SymbolMaps
 pub mod AssignmentMaps
 pub mod HeaderMaps
 pub mod PlaceMaps
+pub mod TextClassLaws
 pub mod Laws
