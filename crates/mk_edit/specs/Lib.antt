@@ -1,0 +1,17 @@
+pub mod Edits
+pub mod Spots
+pub mod Addresses
+pub mod Stretches
+pub mod NewLines
+pub mod ValueSpans
+pub mod WordPieces
+pub mod Spans
+pub mod Causes
+pub mod ArgumentCauses
+pub mod AddressCauses
+pub mod RuleCauses
+pub mod LineCauses
+pub mod Refusals
+pub mod RefusalTexts
+pub mod Changes
+pub mod Costs
