@@ -13,6 +13,7 @@ pub mod Contexts
 pub mod ContextPlaces
 pub mod ClassTable
 pub mod TextClasses
+pub mod FirstWords
 pub mod Arguments
 pub mod ListLaws
 pub mod SymbolLaws
