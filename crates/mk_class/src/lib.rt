@@ -18,6 +18,8 @@ mod keyword;
 pub mod laws;
 pub mod meter;
 pub mod rule;
+#[cfg(test)]
+mod tests;
 
 pub use argument::{is_command, is_name, is_target, is_value, is_word};
 pub use assignment::{Assignment, Flavor, Modifier, TargetAssignment};
