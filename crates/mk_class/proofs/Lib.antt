@@ -1,3 +1,6 @@
 mod WorkedRows
 mod RandomArguments
 mod ClassNames
+pub mod Readings
+pub mod WordLemmas
+pub mod ArgumentLemmas

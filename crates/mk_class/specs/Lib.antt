@@ -10,8 +10,10 @@ pub mod Classes
 pub mod RecipePrefix
 pub mod ClassPlaces
 pub mod Contexts
+pub mod ContextPlaces
 pub mod ClassTable
 pub mod TextClasses
+pub mod FirstWords
 pub mod Arguments
 pub mod ListLaws
 pub mod SymbolLaws
