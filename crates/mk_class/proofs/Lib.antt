@@ -1,3 +1,4 @@
+mod ScanLemmas
 mod WorkedRows
 mod WorkedReadings
 mod RandomReadings

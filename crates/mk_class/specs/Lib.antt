@@ -12,6 +12,7 @@ pub mod ClassPlaces
 pub mod Contexts
 pub mod ClassTable
 pub mod TextClasses
+pub mod Scans
 pub mod Arguments
 pub mod ListLaws
 pub mod SymbolLaws

@@ -13,6 +13,7 @@ pub mod class;
 pub mod context;
 pub mod laws;
 pub mod rule;
+mod scan;
 
 pub use assignment::{Assignment, Flavor, Modifier, TargetAssignment};
 pub use class::Class;
