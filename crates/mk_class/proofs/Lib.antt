@@ -1,3 +1,4 @@
+mod AssignmentLemmas
 mod ScanLemmas
 mod WorkedRows
 mod WorkedReadings
