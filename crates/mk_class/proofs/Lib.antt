@@ -5,3 +5,5 @@ mod WorkedReadings
 mod RandomReadings
 mod RandomArguments
 pub mod Readings
+pub mod WordLemmas
+pub mod ArgumentLemmas

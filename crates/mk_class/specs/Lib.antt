@@ -10,9 +10,11 @@ pub mod Classes
 pub mod RecipePrefix
 pub mod ClassPlaces
 pub mod Contexts
+pub mod ContextPlaces
 pub mod ClassTable
 pub mod TextClasses
 pub mod Scans
+pub mod FirstWords
 pub mod Arguments
 pub mod ListLaws
 pub mod SymbolLaws
