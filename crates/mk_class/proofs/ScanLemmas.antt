@@ -7,7 +7,11 @@ use Rattle.std.proofs.Common.{◌≡◌, refl, sym, ap, ◌∙◌, subst, ℕ, s
 use Rattle.std.proofs.Math.Seq.{take-append_seam}
 use Rattle.std.proofs.lemmas.Bool.{eqb-true}
 use Rattle.mk_lines.specs.Lists.{concat, leading, after_leading, trailing, trim_end, trim_end_before, trailing_before}
-use Rattle.mk_lines.specs.ListLaws.{FirstFails, after_leading-first_fails, concat-append}
+use Rattle.mk_lines.specs.ListLaws.{FirstFails, after_leading-first_fails, concat-append, leading-after_leading, trim_end-trailing}
+use Rattle.std.proofs.lemmas.List.{take-append-drop}
+use Rattle.mk_class.specs.Lists.{until, from}
+use Rattle.mk_class.specs.ListLaws.{until-from}
+use Rattle.mk_class.specs.ClassPlaces.{width}
 use Rattle.mk_lines.specs.Bytes.{byte_kind, is_blank_kind, ByteKind}
 use Rattle.mk_lines.specs.Units.{Mark, byte_mark, units, unit_step, unit_begins}
 use Rattle.mk_lines.specs.Units.Mark.{Unmarked}
@@ -268,3 +272,46 @@ blanks_at_end-step rest (x ∷ t) r1 r2 h k e f =
 pub blanks_at_end-whole : (rest word : List ℕ) → units itself word ≡ after_leading (is_gap itself) (units itself rest) → (length word == 0) ≡ true → units itself rest ≡ trailing (is_gap itself) (units itself rest)
 blanks_at_end-whole rest [] h k = sym (trailing-whole (is_gap itself) (units itself rest) (sym h))
 blanks_at_end-whole rest (x ∷ t) h k = absurd (let z : (suc (length t) == 0) ≡ false = zero_other (length t) in cc)
+
+-- ---- how many bytes there are
+
+-- the units before a rest have the bytes before it
+pub width-before : (t r : List ℕ) (front : List (List ℕ)) → units itself t ≡ front ++ units itself r → length t ≡ width front + length r
+width-before t r front h =
+    ap length (sym (concat-units itself t) ∙ (ap concat h ∙ concat-append front (units itself r)))
+    ∙ (length-append (concat front) (concat (units itself r)) ∙ ap (λ z. width front + length z) (concat-units itself r))
+
+-- the units of a text have its bytes
+pub width-units : (t : List ℕ) → width (units itself t) ≡ length t
+width-units t = ap length (concat-units itself t)
+
+pub width-append : (a b : List (List ℕ)) → width (a ++ b) ≡ width a + width b
+width-append a b = ap length (concat-append a b) ∙ length-append (concat a) (concat b)
+
+-- a text is what stands at its front and what is left of it
+pub leading-before : (p : List ℕ → Bool) (t r : List ℕ) → units itself r ≡ after_leading p (units itself t) → units itself t ≡ leading p (units itself t) ++ units itself r
+leading-before p t r h = sym (leading-after_leading p (units itself t)) ∙ ap (λ z. leading p (units itself t) ++ z) (sym h)
+
+pub until-before : (p : List (List ℕ) → Bool) (t r : List ℕ) → units itself r ≡ from p (units itself t) → units itself t ≡ until p (units itself t) ++ units itself r
+until-before p t r h = sym (until-from p (units itself t)) ∙ ap (λ z. until p (units itself t) ++ z) (sym h)
+
+pub trim_end-before : (p : List ℕ → Bool) (t r : List ℕ) → units itself r ≡ trailing p (units itself t) → units itself t ≡ trim_end p (units itself t) ++ units itself r
+trim_end-before p t r h = sym (trim_end-trailing p (units itself t)) ∙ ap (λ z. trim_end p (units itself t) ++ z) (sym h)
+
+pub take-before : (n : ℕ) (t r : List ℕ) → units itself r ≡ drop n (units itself t) → units itself t ≡ take n (units itself t) ++ units itself r
+take-before n t r h = sym (take-append-drop n (units itself t)) ∙ ap (λ z. take n (units itself t) ++ z) (sym h)
+
+-- where nothing stands before the place, the text has as many bytes from there on
+cut-none : (c : Bool) (x : ℕ) (m : List ℕ) (u : List ℕ) (us : List (List ℕ)) → u ≡ x ∷ m → width (cond c [] (u ∷ us)) ≡ 0 → cond c [] (u ∷ us) ≡ []
+cut-none true x m u us e z = refl
+cut-none false x m u us e z = absurd (let n : suc (length (m ++ concat us)) ≡ 0 = ap (λ w. width (w ∷ us)) (sym e) ∙ z in omega (arith, n))
+
+pub until-none : (p : List (List ℕ) → Bool) (t r : List ℕ) → units itself r ≡ from p (units itself t) → length r ≡ length t → until p (units itself t) ≡ []
+until-none p [] r h k = refl
+until-none p (x ∷ t) r h k =
+    let u = first_unit itself (x ∷ t) in
+    let us = units itself (after_first_unit itself (x ∷ t)) in
+    let n : length (x ∷ t) ≡ width (until p (units itself (x ∷ t))) + length r = width-before (x ∷ t) r (until p (units itself (x ∷ t))) (until-before p (x ∷ t) r h) in
+    let z : width (until p (units itself (x ∷ t))) ≡ 0 = omega (arith, n, k) in
+    let cut : units itself (x ∷ t) ≡ u ∷ us = units-first_unit itself x t in
+    ap (until p) cut ∙ cut-none (p (u ∷ us)) x _ u (until p us) (first_unit-begins x t) (ap (λ w. width (until p w)) (sym cut) ∙ z)

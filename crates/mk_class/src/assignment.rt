@@ -4,12 +4,14 @@ ghost use Rattle.std.specs.Prelude.{◌≡◌, ◌≤◌, ◌-◌, ◌∷◌, []
 ghost use Rattle.mk_lines.specs.Units.{units};
 ghost use Rattle.mk_class.specs.Lists.{first_passes, from};
 ghost use Rattle.mk_class.specs.Symbols.{Colon, is_colon, is_equals, symbol};
-ghost use Rattle.mk_class.specs.Assignments.{ends_name, operator_at};
+ghost use Rattle.mk_class.specs.Assignments.{assignment, definition, ends_name, operator_at};
 ghost use Rattle.mk_class.specs.TextClasses.{itself};
 ghost use Rattle.mk_class.specs.Scans.{IsOperatorAt};
+ghost use Rattle.mk_class.specs.AssignmentPlaces.{placed};
 
+use crate::keyword::modifier_of;
 use crate::rule::Separator;
-use crate::scan::after_blanks;
+use crate::scan::{after_blanks, before, blanks_at_end, from_any};
 use mk_lines::after_first_unit;
 use mk_lines::split::Span;
 
@@ -78,6 +80,60 @@ pub struct TargetAssignment {
     pub targets_end: usize,
     /// The assignment, its places in the whole joined text.
     pub assignment: Assignment,
+}
+
+/// The assignment that a cut text is, which is a line's text before a comment.
+///
+/// The time is linear in the bytes of the text, and no memory is taken.
+pub(crate) fn read_assignment(cut: &[u8]) -> Option<Assignment>
+    ensures { result ≡ placed 0 (assignment itself (units itself cut.now)) }
+{
+    assignment_at_end(cut, cut.len())
+}
+
+/// The assignment that the end of a cut text of `len` bytes is, with its places in the whole.
+pub(crate) fn assignment_at_end(text: &[u8], len: usize) -> Option<Assignment>
+    requires { length text.now ≤ len }
+    ensures { result ≡ placed (len - length text.now) (assignment itself (units itself text.now)) }
+{
+    let mut rest = text;
+    loop {
+        let definition = read_definition(rest, len);
+        if definition.is_some() {
+            return definition;
+        }
+        let word = after_blanks(rest);
+        let after = from_any(word, b" \t");
+        modifier_of(before(word, after))?;
+        rest = after;
+    }
+}
+
+/// The assignment without modifiers that the end of a cut text of `len` bytes is.
+fn read_definition(text: &[u8], len: usize) -> Option<Assignment>
+    requires { length text.now ≤ len }
+    ensures { result ≡ placed (len - length text.now) (definition itself (units itself text.now)) }
+{
+    let named = after_blanks(text);
+    let after_name = after_name(named);
+    let (flavor, operand) = read_operator(after_blanks(after_name))?;
+    if after_name.len() == named.len() {
+        return None;
+    }
+    let value = after_blanks(operand);
+    let after_value = blanks_at_end(value);
+    Some(Assignment {
+        flavor,
+        name: Span {
+            start: len - named.len(),
+            end: len - after_name.len(),
+        },
+        value: Span {
+            start: len - value.len(),
+            end: len - after_value.len(),
+        },
+        end: len,
+    })
 }
 
 /// What follows the name at the front of a text.

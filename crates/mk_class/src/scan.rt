@@ -2,7 +2,7 @@
 //!
 //! Each call answers what is left of the text, as a part of it; its units are those of the text that
 //! are left. All take time linear in the bytes that they pass over, and no memory.
-ghost use Rattle.std.specs.Prelude.{◌≡◌, ◌≤◌, ◌++◌, List, ℕ, length};
+ghost use Rattle.std.specs.Prelude.{◌≡◌, ◌≤◌, ◌+◌, ◌++◌, List, ℕ, length};
 ghost use Rattle.mk_lines.specs.Lists.{after_leading, trailing};
 ghost use Rattle.mk_lines.specs.Units.{units};
 ghost use Rattle.mk_lines.specs.Words.{is_gap};
@@ -55,7 +55,8 @@ pub(crate) fn from_any<'a>(text: &'a [u8], stops: &[u8]) -> &'a [u8]
 /// What stands in a text before a rest of it.
 pub(crate) fn before<'a>(text: &'a [u8], rest: &[u8]) -> &'a [u8]
     requires { length rest.now ≤ length text.now }
-    ensures { (front : List (List ℕ)) → units itself text.now ≡ front ++ units itself rest.now → units itself result.now ≡ front }
+    ensures units { (front : List (List ℕ)) → units itself text.now ≡ front ++ units itself rest.now → units itself result.now ≡ front }
+    ensures length { length result.now + length rest.now ≡ length text.now }
 {
     &text[..text.len() - rest.len()]
 }
