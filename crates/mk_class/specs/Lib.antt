@@ -13,6 +13,8 @@ pub mod Contexts
 pub mod ContextPlaces
 pub mod ClassTable
 pub mod TextClasses
+pub mod Scans
+pub mod AssignmentPlaces
 pub mod FirstWords
 pub mod Arguments
 pub mod ListLaws

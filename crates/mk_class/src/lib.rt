@@ -18,6 +18,7 @@ mod keyword;
 pub mod laws;
 pub mod meter;
 pub mod rule;
+mod scan;
 #[cfg(test)]
 mod tests;
 

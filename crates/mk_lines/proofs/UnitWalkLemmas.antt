@@ -426,6 +426,16 @@ words_left-none n s (x ∷ t) e h k = absurd (let z : (suc (length t) == 0) ≡ 
 pub after_first_unit-length : (s : List ℕ) → length (after_first_unit (λ b. b) s) ≤ length s
 after_first_unit-length s = omega (arith, length-drop (length (first_unit (λ b. b) s)) s)
 
+-- what follows the first unit of a text that is not empty is shorter
+pub after_first_unit-less : (s r : List ℕ) → r ≡ after_first_unit (λ b. b) s → 0 < length s → length r < length s
+after_first_unit-less [] r e h = absurd (omega arith)
+after_first_unit-less (x ∷ t) r e h = omega (arith, ap length e, after_first_unit-shorter x t)
+
+-- the empty text has no unit to follow
+pub after_first_unit-empty : (s : List ℕ) → (length s == 0) ≡ true → s ≡ after_first_unit (λ b. b) s
+after_first_unit-empty [] h = refl
+after_first_unit-empty (x ∷ t) h = absurd (let z : (suc (length t) == 0) ≡ false = other_byte (suc (length t)) 0 (λ i. absurd (omega arith)) in cc)
+
 -- ---- the first of a text cut off
 
 -- a text cut where so much of it is left as follows its first part

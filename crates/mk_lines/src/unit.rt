@@ -66,6 +66,21 @@ pub fn is_closed(text: &[u8]) -> bool
     true
 }
 
+/// What follows the first unit of a text, which is nothing where there is none.
+///
+/// So a text is read from its front, one unit at a time; what is left has the other units. The time
+/// is linear in the bytes of the first unit.
+pub fn after_first_unit(text: &[u8]) -> &[u8]
+    ensures rest { result.now ≡ after_first_unit (λ b. b) text.now }
+    ensures shorter { 0 < length text.now → length result.now < length text.now }
+    ensures within { length result.now ≤ length text.now }
+{
+    if text.is_empty() {
+        return text;
+    }
+    after_unit(text).unwrap_or_default()
+}
+
 /// What follows the unit at the front of a text.
 ///
 /// It is `None` where this unit is a lone `$`, a lone backslash at the end or an unclosed
