@@ -3,4 +3,8 @@ pub mod Readings
 pub mod RecipeLines
 pub mod Documents
 pub mod DocumentLaws
+pub mod LinePlaces
+pub mod Leaning
+pub mod LeaningLaws
+pub mod RunsReplaced
 pub mod Laws
