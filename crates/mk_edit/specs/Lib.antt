@@ -19,3 +19,6 @@ pub mod Accepted
 pub mod SpotLaws
 pub mod BlankAdded
 pub mod ValueLines
+pub mod RuleStretches
+pub mod Removals
+pub mod BlockLaws
