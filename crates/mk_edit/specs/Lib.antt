@@ -15,3 +15,10 @@ pub mod Refusals
 pub mod RefusalTexts
 pub mod Changes
 pub mod Costs
+pub mod Accepted
+pub mod SpotLaws
+pub mod BlankAdded
+pub mod ValueLines
+pub mod RuleStretches
+pub mod Removals
+pub mod BlockLaws

@@ -2,10 +2,12 @@
 //! reading, and why it may be refused.
 //!
 //! - [`edit`]: the words of edits.
+//! - [`laws`]: theorems on the definitions of edits.
 //! - [`refusal`]: why an edit is refused.
 #![tactic(auto)]
 
 pub mod edit;
+pub mod laws;
 pub mod refusal;
 
 pub use edit::Colons;

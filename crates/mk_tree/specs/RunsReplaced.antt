@@ -15,7 +15,9 @@ use Rattle.mk_class.specs.ClassTable.{class_of}
 use Rattle.mk_class.specs.ClassedLines.{ClassedLine, classed, classed_lines, context_after_lines}
 use Rattle.mk_class.specs.FlagLaws.{classed-append}
 use Rattle.mk_tree.specs.Documents.{text_of, context_of}
-use Rattle.mk_tree.specs.LinePlaces.{bytes_of, bytes_of-append, text_of-bytes, context_of-append, AreClassed, AreClassed-cons, RunPlace, located-run}
+use Rattle.mk_tree.specs.Items.{items}
+use Rattle.mk_tree.specs.Readings.{reading}
+use Rattle.mk_tree.specs.LinePlaces.{reading-two, bytes_of, bytes_of-append, text_of-bytes, context_of-append, AreClassed, AreClassed-cons, RunPlace, located-run}
 use Rattle.mk_tree.specs.Leaning.{AgreeButForFlag, leans}
 use Rattle.mk_tree.specs.LeaningLaws.{agrees-back, agrees-same, leans-back, leans-same, classed-unless_leans}
 
@@ -125,6 +127,14 @@ run-removed t above run below h agree free =
     starts : (ls : List (List ℕ)) → EndsBefore [] ls
     starts [] = tt
     starts (l ∷ ls) = refl
+
+-- A run of lines taken out by its span: the reading loses its items, and no other item changes.
+pub reading-run_removed : (t : List ℕ) (above run below : List ClassedLine) → classed_lines t ≡ above ++ (run ++ below)
+    → AgreeButForFlag (context_of above) (context_of (above ++ run))
+    → leans (context_of above).prefix (context_of above).flag (context_of (above ++ run)).flag below ≡ false
+    → reading (replaced 0 t (record { start = length (text_of above); end = length (text_of above) + length (text_of run); new = [] } ∷ [])) ≡ items above ++ items below
+reading-run_removed t above run below h agree free =
+    ap reading (text-run_replaced t above run below [] h) ∙ reading-two (text_of above ++ text_of below) above below (run-removed t above run below h agree free)
 
 -- A line replaced by another line, after which the context is the same.
 pub line-replaced : (t : List ℕ) (above : List ClassedLine) (l : ClassedLine) (below : List ClassedLine) (m : List ℕ) (k : Class) → classed_lines t ≡ above ++ l ∷ below
