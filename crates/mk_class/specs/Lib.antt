@@ -32,3 +32,4 @@ pub mod ValueLaws
 pub mod HeaderFitsLaws
 pub mod AssignmentLineLaws
 pub mod Laws
+pub mod StepLaws
