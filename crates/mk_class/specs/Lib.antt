@@ -40,3 +40,4 @@ pub mod HeaderMaps
 pub mod PlaceMaps
 pub mod TextClassLaws
 pub mod Laws
+pub mod StepLaws

@@ -1,7 +1,7 @@
 //! The contexts after lines, and the count of lines.
 use crate::assignment::{Assignment, Flavor};
 use crate::class::Class;
-use crate::context::{Context, Flag, Nesting};
+use crate::context::{Context, Flag, MAX_CONDITIONALS, Nesting};
 use crate::meter::Meter;
 use mk_lines::Span;
 
@@ -42,7 +42,7 @@ fn defines_nest(rt: HostRuntime) {
 fn conditionals_are_counted_up_to_their_limit(rt: HostRuntime) {
     let mut context = Context::start();
     for _ in 0..300 {
-        if context.conds() < 256 {
+        if context.conds() < MAX_CONDITIONALS {
             context = context.step(&Class::If);
         }
     }
