@@ -35,7 +35,7 @@ pub struct FoldEnd {
 /// They are kept beside their line and do not hold it: a second copy of each line would double the
 /// memory of a document. So [`text`](Cells::text) is given the line again. None of the readers
 /// takes memory.
-#[derive(Drop)]
+#[derive(Debug, Drop)]
 pub struct Cells<A: Allocator> {
     /// How many cells there are, which is how many bytes the joined text has.
     count: usize,
@@ -45,7 +45,7 @@ pub struct Cells<A: Allocator> {
 }
 
 /// What is kept of a line with folds alone.
-#[derive(Drop)]
+#[derive(Debug, Drop)]
 pub(super) struct Folded<A: Allocator> {
     /// The joined text.
     pub(super) joined: Vec<u8, A>,
