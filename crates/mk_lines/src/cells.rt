@@ -65,6 +65,7 @@ fn folded_cells<A: Allocator + Copy>(alloc: A, text: &[u8]) -> Result<Cells<A>, 
     let mut joined = stack.joined;
     joined.reverse();
     let folded = Folded {
+        stray: has_stray_byte(&joined),
         joined,
         ends: stack.ends,
         bad_fold: stack.bad_fold,

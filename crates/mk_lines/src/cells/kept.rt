@@ -17,8 +17,9 @@ use crate::ends::without_line_end;
 use crate::fault::Fault;
 use crate::split::Span;
 use memchr::memchr3;
-use std::alloc::Allocator;
+use std::alloc::{Allocator, Global};
 use std::marker::Model;
+use std::mem::size_of;
 
 /// Where a fold ends. A line end that no backslash escapes, of which one logical line has none,
 /// counts as a fold.
@@ -35,34 +36,43 @@ pub struct FoldEnd {
 /// They are kept beside their line and do not hold it: a second copy of each line would double the
 /// memory of a document. So [`text`](Cells::text) is given the line again. None of the readers
 /// takes memory.
-#[derive(Drop)]
+#[derive(Debug, Drop)]
 pub struct Cells<A: Allocator> {
     /// How many cells there are, which is how many bytes the joined text has.
     count: usize,
-    stray: bool,
-    /// What is kept of a line with folds.
-    folded: Option<Box<Folded<A>, A>>,
+    rest: Rest<A>,
 }
 
-/// What is kept of a line with folds alone.
-#[derive(Drop)]
+// A document keeps one of each of its lines.
+const _: () = prove!(size_of::<Cells<Global>>() == 24);
+
+/// What is kept beside the count: a few bytes of most lines.
+#[derive(Debug, Drop)]
+pub(super) enum Rest<A: Allocator> {
+    /// Of a line without folds, whether it has a stray byte.
+    Plain(bool),
+    Folded(Box<Folded<A>, A>),
+}
+
+/// What is kept of a line with folds.
+#[derive(Debug, Drop)]
 pub(super) struct Folded<A: Allocator> {
     /// The joined text.
     pub(super) joined: Vec<u8, A>,
     /// The ends of the folds, the last fold first.
     pub(super) ends: Vec<FoldEnd, A>,
     pub(super) bad_fold: bool,
+    pub(super) stray: bool,
 }
 
 impl<A: Allocator> Model for Cells<A> {
-    ghost use Rattle.std.specs.Prelude.{◌≢◌, [], false, IfSome};
-    ghost use Rattle.mk_lines.specs.KeptCells.{KeptCells, AreInOrder, read_or};
+    ghost use Rattle.mk_lines.specs.KeptCells.{KeptCells, AreInOrder, ends_kept, joined_kept, has_bad_fold_kept, has_stray_kept, HasFoldsKept};
 
     ghost Value = { KeptCells };
 
-    ghost view = { λ c. record { count = c.count; joined = read_or [] (λ f. f.value.joined.items) c.folded; ends = read_or [] (λ f. f.value.ends.items) c.folded; bad_fold = read_or false (λ f. f.value.bad_fold) c.folded; stray = c.stray } };
+    ghost view = { λ c. record { count = c.count; joined = joined_kept c.rest; ends = ends_kept c.rest; bad_fold = has_bad_fold_kept c.rest; stray = has_stray_kept c.rest } };
 
-    ghost invariant = { λ c. AreInOrder (read_or [] (λ f. f.value.ends.items) c.folded) × IfSome c.folded (λ f. f.value.ends.items ≢ []) };
+    ghost invariant = { λ c. AreInOrder (ends_kept c.rest) × HasFoldsKept c.rest };
 }
 
 impl<A: Allocator> Cells<A> {
@@ -74,8 +84,7 @@ impl<A: Allocator> Cells<A> {
     {
         Cells {
             count: text.len(),
-            stray,
-            folded: None,
+            rest: Rest::Plain(stray),
         }
     }
 
@@ -85,13 +94,13 @@ impl<A: Allocator> Cells<A> {
         requires joined { folded.joined.items ≡ joined_text (cells text.now) }
         requires ends { folded.ends.items ≡ fold_ends 0 (cells text.now) }
         requires bad_fold { folded.bad_fold ≡ has_bad_fold (cells text.now) }
+        requires stray { folded.stray ≡ list_any (λ b. is_stray_by (byte_kind b) (b == 0)) folded.joined.items }
         ensures cells { IfOk result (λ kept. kept ≡ kept_cells (cells text.now)) }
         ensures fault { IsOkUnless result Fault.NoMemory }
     {
         Ok(Cells {
             count: folded.joined.len(),
-            stray: has_stray_byte(&folded.joined),
-            folded: Some(Box::new(alloc, folded)?),
+            rest: Rest::Folded(Box::new(alloc, folded)?),
         })
     }
 
@@ -104,9 +113,9 @@ impl<A: Allocator> Cells<A> {
         ensures text { result.now ≡ joined_text (line_cells line.now) }
         ensures length { length result.now ≡ self.now.count }
     {
-        match &self.folded {
-            None => without_line_end(line),
-            Some(folded) => &folded.joined,
+        match &self.rest {
+            Rest::Plain(_) => without_line_end(line),
+            Rest::Folded(folded) => &folded.joined,
         }
     }
 
@@ -129,9 +138,9 @@ impl<A: Allocator> Cells<A> {
         requires { place ≤ self.now.count }
         ensures { result ≡ kept_place self.now place }
     {
-        match &self.folded {
-            None => place,
-            Some(folded) => place_by_ends(&folded.ends, self.count - place, place),
+        match &self.rest {
+            Rest::Plain(_) => place,
+            Rest::Folded(folded) => place_by_ends(&folded.ends, self.count - place, place),
         }
     }
 
@@ -140,9 +149,9 @@ impl<A: Allocator> Cells<A> {
     pub fn has_bad_fold(&self) -> bool
         ensures { (line : List ℕ) → AreCellsOf self.now line → result ≡ has_bad_fold (line_cells line) }
     {
-        match &self.folded {
-            None => false,
-            Some(folded) => folded.bad_fold,
+        match &self.rest {
+            Rest::Plain(_) => false,
+            Rest::Folded(folded) => folded.bad_fold,
         }
     }
 
@@ -151,7 +160,10 @@ impl<A: Allocator> Cells<A> {
     pub fn has_stray(&self) -> bool
         ensures { (line : List ℕ) → AreCellsOf self.now line → result ≡ has_stray (line_cells line) }
     {
-        self.stray
+        match &self.rest {
+            Rest::Plain(stray) => *stray,
+            Rest::Folded(folded) => folded.stray,
+        }
     }
 }
 

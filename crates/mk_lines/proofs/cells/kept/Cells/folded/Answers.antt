@@ -18,9 +18,9 @@ pub returns-clause-cells : goal.returns-clause-cells
 returns-clause-cells g c =
     let is = c.in_ok-new.ensures.ok in
     let joined : c.in_ok-new.field-0.value.joined.items ≡ c.args.folded.joined.items = ap (λ f. f.joined.items) is in
-    folded_kept c.args.text.now c.requires.some c.len.result c.in_ok-new.field-0.value.joined.items c.in_ok-new.field-0.value.ends.items c.in_ok-new.field-0.value.bad_fold c.has_stray_byte.result
+    folded_kept c.args.text.now c.requires.some c.len.result c.in_ok-new.field-0.value.joined.items c.in_ok-new.field-0.value.ends.items c.in_ok-new.field-0.value.bad_fold c.in_ok-new.field-0.value.stray
     (c.len.ensures ∙ (c.args.folded.joined.ok.0 ∙ ap length (sym joined)))
     (joined ∙ c.requires.joined)
     (ap (λ f. f.ends.items) is ∙ c.requires.ends)
     (ap (λ f. f.bad_fold) is ∙ c.requires.bad_fold)
-    (c.has_stray_byte.ensures ∙ ap (list_any (λ b. is_stray_by (byte_kind b) (b == 0))) (c.deref.ensures.value ∙ sym joined))
+    (ap (λ f. f.stray) is ∙ (c.requires.stray ∙ ap (list_any (λ b. is_stray_by (byte_kind b) (b == 0))) (sym joined)))
