@@ -10,4 +10,5 @@ pub mod RunsReplaced
 pub mod NewLines
 pub mod NewLineLaws
 pub mod SpansInLines
+pub mod EachReplaced
 pub mod Laws
