@@ -11,4 +11,6 @@ pub mod NewLines
 pub mod NewLineLaws
 pub mod SpansInLines
 pub mod EachReplaced
+pub mod ConditionalLaws
+pub mod RecipeRunLaws
 pub mod Laws
