@@ -1,6 +1,7 @@
 pub mod Items
 pub mod Readings
 pub mod RecipeLines
+pub mod LineTexts
 pub mod Documents
 pub mod DocumentLaws
 pub mod LinePlaces
@@ -12,5 +13,5 @@ pub mod NewLineLaws
 pub mod SpansInLines
 pub mod EachReplaced
 pub mod ConditionalLaws
-pub mod RecipeRunLaws
+pub mod ChangeLaws
 pub mod Laws
