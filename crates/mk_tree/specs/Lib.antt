@@ -1,6 +1,7 @@
 pub mod Items
 pub mod Readings
 pub mod RecipeLines
+pub mod LineTexts
 pub mod Documents
 pub mod DocumentLaws
 pub mod LinePlaces
@@ -10,4 +11,7 @@ pub mod RunsReplaced
 pub mod NewLines
 pub mod NewLineLaws
 pub mod SpansInLines
+pub mod EachReplaced
+pub mod ConditionalLaws
+pub mod ChangeLaws
 pub mod Laws
