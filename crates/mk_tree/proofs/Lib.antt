@@ -1,3 +1,4 @@
 mod WorkedReadings
 mod RandomReadings
 mod WorkedRows
+mod ChangeRows
