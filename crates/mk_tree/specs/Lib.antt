@@ -4,3 +4,6 @@ pub mod RecipeLines
 pub mod Documents
 pub mod DocumentLaws
 pub mod Laws
+pub mod PlacedLines
+pub mod Contents
+pub mod Trees
