@@ -29,4 +29,10 @@ pub mod NoAssignmentLaws
 pub mod ValueLaws
 pub mod HeaderFitsLaws
 pub mod AssignmentLineLaws
+pub mod ListMaps
+pub mod SymbolMaps
+pub mod AssignmentMaps
+pub mod HeaderMaps
+pub mod PlaceMaps
+pub mod TextClassLaws
 pub mod Laws
