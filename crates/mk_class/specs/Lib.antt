@@ -10,6 +10,7 @@ pub mod Classes
 pub mod RecipePrefix
 pub mod ClassPlaces
 pub mod Contexts
+pub mod ContextPlaces
 pub mod ClassTable
 pub mod TextClasses
 pub mod Arguments

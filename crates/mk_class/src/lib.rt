@@ -5,6 +5,7 @@
 //! - [`assignment`]: assignments, their flavors and modifiers.
 //! - [`rule`]: rules and their separators.
 //! - [`context`]: what the lines before a line leave for it.
+//! - [`meter`]: a count of the lines that were classified.
 //! - [`laws`]: theorems on the definitions of assignments and classes.
 #![tactic(auto)]
 
@@ -12,9 +13,11 @@ pub mod assignment;
 pub mod class;
 pub mod context;
 pub mod laws;
+pub mod meter;
 pub mod rule;
 
 pub use assignment::{Assignment, Flavor, Modifier, TargetAssignment};
 pub use class::Class;
-pub use context::{Flag, Nesting};
+pub use context::{Context, Flag, Nesting};
+pub use meter::Meter;
 pub use rule::{Header, Separator};
