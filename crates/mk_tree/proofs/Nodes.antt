@@ -1,7 +1,7 @@
 -- A line put between two trees: what its counts say.
 use Rattle.std.proofs.Common.{◌≡◌, ℕ, ◌+◌, ◌≤◌, ◌<◌, ◌^◌, max, arith, List, ◌∷◌, ◌++◌, length, length-append}
-use Rattle.mk_tree.specs.PlacedLines.{PlacedLine}
-use Rattle.mk_tree.specs.Trees.{DifferByAtMost, AreFew, IsNode, fewest_lines, size_of}
+use Rattle.mk_tree.specs.PlacedLines.{PlacedLine, size_of}
+use Rattle.mk_tree.specs.Trees.{DifferByAtMost, AreFew, IsNode, fewest_lines}
 use Rattle.mk_tree.proofs.Heights.{fewest_lines-join, fewest_lines-low}
 use Rattle.mk_tree.proofs.Places.{size_of-append}
 

@@ -3,8 +3,7 @@ use Rattle.std.proofs.Common.{◌≡◌, ℕ, zero, suc, ◌+◌, ◌-◌, ◌<�
 use Rattle.std.specs.Prelude.{slice_get}
 use Rattle.std.proofs.lemmas.List.{take-append-le, drop-append-le}
 use Rattle.std.proofs.Math.Seq.{take-append-add, drop-append-add, take-append_seam}
-use Rattle.mk_tree.specs.PlacedLines.{PlacedLine}
-use Rattle.mk_tree.specs.Trees.{size_of}
+use Rattle.mk_tree.specs.PlacedLines.{PlacedLine, size_of}
 
 pub get_left : {X : Type 0} (l m : List X) (at : ℕ) → at < length l → slice_get (l ++ m) at ≡ slice_get l at
 get_left [] m at h = absurd (omega arith)

@@ -1,9 +1,9 @@
 pub mod Items
 pub mod Readings
 pub mod RecipeLines
+pub mod PlacedLines
 pub mod Documents
 pub mod DocumentLaws
 pub mod Laws
-pub mod PlacedLines
 pub mod Contents
 pub mod Trees

@@ -1,20 +1,10 @@
 -- What a tree of lines is seen as, and what holds of it.
 use Rattle.std.specs.Prelude.{◌≡◌, ℕ, suc, zero, ◌+◌, ◌^◌, ◌≤◌, max, List, [], ◌∷◌, ◌++◌, length, Option, Some, None}
-use Rattle.mk_tree.specs.PlacedLines.{PlacedLine}
+use Rattle.mk_tree.specs.PlacedLines.{PlacedLine, size_of}
 use Rattle.mk_tree.specs.declared.tree.Counts.{Counts}
 use Rattle.mk_tree.specs.declared.tree.Line.{Line}
 use Rattle.mk_tree.specs.declared.tree.Link.{Link}
 use Rattle.mk_tree.specs.declared.tree.Link.TheVariants.{Empty, Full}
-
--- how many bytes lines have
-abbrev pub size_of : List PlacedLine → ℕ
-size_of [] = 0
-size_of (l ∷ ls) = length l.bytes + size_of ls
-
--- how many bytes a line has, where there is one
-abbrev pub size_of_line : Option PlacedLine → ℕ
-size_of_line None = 0
-size_of_line (Some l) = length l.bytes
 
 -- what a line says, whatever stands left and right of it in a tree
 abbrev pub line_view : {A : _} → Line A → PlacedLine

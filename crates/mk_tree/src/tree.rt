@@ -5,7 +5,8 @@
 //! A tree is changed by value: [`Tree::unlink`] takes it apart at its top, and [`Tree::join`] puts
 //! two trees and a line between them together.
 ghost use Rattle.std.specs.Prelude.{◌≡◌, ◌+◌, ◌^◌, ◌<◌, ◌≤◌, max, [], ◌∷◌, ◌++◌, length, Some, IfOk, MatchOption, slice_get, take, drop};
-ghost use Rattle.mk_tree.specs.Trees.{size_of, size_of_line, line_view, lines_and_height, DifferByAtMost, AreFew, IsUnlinked, IsHeightAfter};
+ghost use Rattle.mk_tree.specs.PlacedLines.{size_of, size_of_line};
+ghost use Rattle.mk_tree.specs.Trees.{line_view, lines_and_height, DifferByAtMost, AreFew, IsUnlinked, IsHeightAfter};
 
 use crate::content::Content;
 use std::alloc::{AllocFailed, Allocator, Global};
