@@ -4,3 +4,6 @@ mod WorkedRows
 pub mod Places
 pub mod Heights
 pub mod Nodes
+pub mod Changes
+pub mod WalkLemmas
+pub mod Prefixes

@@ -7,3 +7,5 @@ pub mod DocumentLaws
 pub mod Laws
 pub mod Contents
 pub mod Trees
+pub mod Walks
+pub mod Printing

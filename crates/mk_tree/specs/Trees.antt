@@ -1,5 +1,5 @@
 -- What a tree of lines is seen as, and what holds of it.
-use Rattle.std.specs.Prelude.{◌≡◌, ℕ, suc, zero, ◌+◌, ◌^◌, ◌≤◌, max, List, [], ◌∷◌, ◌++◌, length, Option, Some, None}
+use Rattle.std.specs.Prelude.{◌≡◌, ℕ, suc, zero, ◌+◌, ◌^◌, ◌≤◌, max, List, [], ◌∷◌, ◌++◌, length}
 use Rattle.mk_tree.specs.PlacedLines.{PlacedLine, size_of}
 use Rattle.mk_tree.specs.declared.tree.Counts.{Counts}
 use Rattle.mk_tree.specs.declared.tree.Line.{Line}
@@ -52,6 +52,10 @@ pub record IsUnlinked (whole left : List PlacedLine × ℕ) (line : PlacedLine) 
   pub height : whole.1 ≡ max left.1 right.1 + 1
   pub balanced : DifferByAtMost 1 left.1 right.1
   pub few : AreFew whole.0 whole.1
+
+-- a tree is this line, with what stands before and after it below it
+abbrev pub IsTop : {A : _} → List PlacedLine × ℕ → Line A → Type 0
+IsTop whole l = IsUnlinked whole l.node.value.left (line_view l) l.node.value.right
 
 -- the height of what two sides and a line between them are joined to
 abbrev pub IsHeightAfter : ℕ → ℕ → ℕ → Type 0

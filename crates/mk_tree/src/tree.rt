@@ -5,13 +5,19 @@
 //! A tree is changed by value: [`Tree::unlink`] takes it apart at its top, and [`Tree::join`] puts
 //! two trees and a line between them together.
 ghost use Rattle.std.specs.Prelude.{◌≡◌, ◌+◌, ◌^◌, ◌<◌, ◌≤◌, max, [], ◌∷◌, ◌++◌, length, Some, IfOk, MatchOption, slice_get, take, drop};
+ghost use Rattle.mk_lines.specs.KeptCells.{AreCellsOf};
 ghost use Rattle.mk_tree.specs.PlacedLines.{size_of, size_of_line};
-ghost use Rattle.mk_tree.specs.Trees.{line_view, lines_and_height, DifferByAtMost, AreFew, IsUnlinked, IsHeightAfter};
+ghost use Rattle.mk_tree.specs.Trees.{line_view, lines_and_height, DifferByAtMost, AreFew, IsUnlinked, IsTop, IsHeightAfter};
 
 use crate::content::Content;
+use mk_class::Class;
+use mk_lines::Cells;
 use std::alloc::{AllocFailed, Allocator, Global};
 use std::marker::Model;
 use std::mem;
+
+/// No tree of at most 16,777,216 lines is higher than this.
+pub(crate) const HEIGHT_LIMIT: usize = 34;
 
 /// Some lines in order, as a tree.
 #[cycle(tree)]
@@ -97,10 +103,40 @@ impl<A: Allocator> Line<A> {
         }
     }
 
-    pub(crate) fn content(&self) -> &Content<A>
-        ensures { result.now ≡ line_view self.now }
+    /// The bytes, with the line end where there is one. Takes no memory.
+    pub fn bytes(&self) -> &[u8]
+        ensures bytes { result.now ≡ (line_view self.now).bytes }
+        ensures some_bytes { 0 < length result.now }
     {
-        &self.node.content
+        self.node.content.bytes()
+    }
+
+    /// What the line is, with the places of its parts in the joined text. Takes no memory.
+    pub fn class(&self) -> &Class
+        ensures { result.now ≡ (line_view self.now).class }
+    {
+        self.node.content.class()
+    }
+
+    /// The cells of the bytes. Takes no memory.
+    pub fn cells(&self) -> &Cells<A>
+        ensures { AreCellsOf result.now (line_view self.now).bytes }
+    {
+        self.node.content.cells()
+    }
+
+    /// What stands before the line in its tree, below it.
+    pub(crate) fn before(&self) -> &Tree<A>
+        ensures { result.now ≡ self.now.node.value.left }
+    {
+        &self.node.left
+    }
+
+    /// What stands after the line in its tree, below it.
+    pub(crate) fn after(&self) -> &Tree<A>
+        ensures { result.now ≡ self.now.node.value.right }
+    {
+        &self.node.right
     }
 }
 
@@ -159,6 +195,16 @@ impl<A: Allocator> Tree<A> {
         ensures few { AreFew self.now.0 self.now.1 }
     {
         self.bytes() as usize
+    }
+
+    /// The line at the top.
+    pub(crate) fn top(&self) -> Option<&Line<A>>
+        ensures top { MatchOption result (self.now ≡ ([], 0)) (λ line. IsTop self.now line.now) }
+    {
+        match &self.link {
+            Link::Empty => None,
+            Link::Full(_, line) => Some(line),
+        }
     }
 
     /// The line at a place, the first being at 0.
