@@ -7,3 +7,5 @@ pub mod Nodes
 pub mod Changes
 pub mod WalkLemmas
 pub mod Prefixes
+pub mod AdmissionLemmas
+pub mod Lowness

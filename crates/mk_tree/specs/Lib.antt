@@ -9,3 +9,4 @@ pub mod Contents
 pub mod Trees
 pub mod Walks
 pub mod Printing
+pub mod Admissions

@@ -1,5 +1,5 @@
 -- What a tree of lines is seen as, and what holds of it.
-use Rattle.std.specs.Prelude.{◌≡◌, ℕ, suc, zero, ◌+◌, ◌^◌, ◌≤◌, max, List, [], ◌∷◌, ◌++◌, length}
+use Rattle.std.specs.Prelude.{◌≡◌, ℕ, suc, zero, ◌+◌, ◌*◌, ◌^◌, ◌<◌, ◌≤◌, max, List, [], ◌∷◌, ◌++◌, length}
 use Rattle.mk_tree.specs.PlacedLines.{PlacedLine, size_of}
 use Rattle.mk_tree.specs.declared.tree.Counts.{Counts}
 use Rattle.mk_tree.specs.declared.tree.Line.{Line}
@@ -56,6 +56,10 @@ pub record IsUnlinked (whole left : List PlacedLine × ℕ) (line : PlacedLine) 
 -- a tree is this line, with what stands before and after it below it
 abbrev pub IsTop : {A : _} → List PlacedLine × ℕ → Line A → Type 0
 IsTop whole l = IsUnlinked whole l.node.value.left (line_view l) l.node.value.right
+
+-- a tree of so many lines is as low as one of its lines can be
+abbrev pub IsLowest : (lines height : ℕ) → Type 0
+IsLowest n h = (n < 2 ^ h) × (2 ^ h ≤ max (2 * n) 1)
 
 -- the height of what two sides and a line between them are joined to
 abbrev pub IsHeightAfter : ℕ → ℕ → ℕ → Type 0

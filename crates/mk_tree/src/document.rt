@@ -19,7 +19,7 @@ use std::mem;
 /// that change lines do what they are told.
 #[derive(Drop)]
 pub struct Doc<A: Allocator = Global> {
-    tree: Tree<A>,
+    pub(crate) tree: Tree<A>,
 }
 
 impl<A: Allocator> Model for Doc<A> {

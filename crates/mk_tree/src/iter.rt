@@ -1,5 +1,5 @@
 //! The lines of a tree in order.
-ghost use Rattle.std.specs.Prelude.{◌≡◌, ◌+◌, ◌≤◌, ◌++◌, length};
+ghost use Rattle.std.specs.Prelude.{◌≡◌, ◌+◌, ◌^◌, ◌≤◌, ◌++◌, length};
 ghost use Rattle.arrayvec.specs.ArrayVec.{array_vec_len};
 ghost use Rattle.mk_tree.specs.Walks.{lines_ahead, AreWithin};
 
@@ -36,7 +36,8 @@ impl<'a, A: Allocator> Model for Lines<'a, A> {
 impl<'a, A: Allocator> Lines<'a, A> {
     /// The lines of a tree.
     pub(crate) fn new(tree: &'a Tree<A>) -> Lines<'a, A>
-        ensures { result ≡ tree.now.0 }
+        ensures lines { result ≡ tree.now.0 }
+        ensures few { length result ≤ 2 ^ 24 }
     {
         let mut passed = ArrayVec::new();
         if tree.len() > 0 {

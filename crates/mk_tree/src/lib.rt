@@ -7,6 +7,7 @@
 #![tactic(auto)]
 
 mod content;
+mod contexts;
 pub mod document;
 pub mod iter;
 pub mod laws;
