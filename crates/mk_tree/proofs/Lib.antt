@@ -9,3 +9,4 @@ pub mod WalkLemmas
 pub mod Prefixes
 pub mod AdmissionLemmas
 pub mod Lowness
+pub mod Ends

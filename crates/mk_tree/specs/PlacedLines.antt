@@ -29,10 +29,27 @@ abbrev pub size_of : List PlacedLine → ℕ
 size_of [] = 0
 size_of (l ∷ ls) = length l.bytes + size_of ls
 
+-- the bytes of a line, where there is one
+abbrev pub bytes_of_line : Option PlacedLine → List ℕ
+bytes_of_line None = []
+bytes_of_line (Some l) = l.bytes
+
 -- how many bytes a line has, where there is one
 abbrev pub size_of_line : Option PlacedLine → ℕ
 size_of_line None = 0
 size_of_line (Some l) = length l.bytes
+
+-- the last of some lines, where there is one
+abbrev pub last_line : List PlacedLine → Option PlacedLine
+last_line [] = None
+last_line (l ∷ []) = Some l
+last_line (l ∷ k ∷ ls) = last_line (k ∷ ls)
+
+-- some lines with other bytes for the last
+abbrev pub with_last_bytes : List ℕ → List PlacedLine → List PlacedLine
+with_last_bytes bytes [] = []
+with_last_bytes bytes (l ∷ []) = record l { bytes = bytes } ∷ []
+with_last_bytes bytes (l ∷ k ∷ ls) = l ∷ with_last_bytes bytes (k ∷ ls)
 
 -- the context after some lines, the first of which stands in a context
 abbrev pub context_after_placed : Context → List PlacedLine → Context

@@ -1,11 +1,13 @@
 //! What a document keeps of a line.
 ghost use Rattle.std.specs.Prelude.{◌≡◌, ◌<◌, length};
 ghost use Rattle.mk_lines.specs.KeptCells.{AreCellsOf};
+ghost use Rattle.mk_lines.specs.PhysicalLines.{without_line_end};
 
 use mk_class::Class;
 use mk_lines::Cells;
 use std::alloc::{Allocator, Global};
 use std::marker::Model;
+use std::mem;
 
 /// The bytes of a line, of which there is at least one, with its cells and its class.
 #[derive(Drop)]
@@ -57,5 +59,16 @@ impl<A: Allocator> Content<A> {
         ensures { AreCellsOf result.now self.now.bytes }
     {
         &self.cells
+    }
+
+    /// Puts other bytes of the same joined text in the place of the line's, which are handed out.
+    pub(crate) fn swap_bytes(&mut self, bytes: Vec<u8, A>) -> Vec<u8, A>
+        requires some_bytes { 0 < length bytes.items }
+        requires same_text { without_line_end bytes.items ≡ without_line_end self.old.bytes }
+        ensures old { result.items ≡ self.old.bytes }
+        ensures bytes { self.new.bytes ≡ bytes.items }
+        ensures class { self.new.class ≡ self.old.class }
+    {
+        mem::replace(&mut self.bytes, bytes)
     }
 }

@@ -1,6 +1,7 @@
 //! The document: the list of its lines.
 ghost use Rattle.std.specs.Prelude.{◌≡◌, ◌+◌, ◌^◌, ◌<◌, ◌≤◌, ◌↔◌, [], ◌∷◌, ◌++◌, IsTrue, IfSome, IsOk, false, length, slice_get, take, drop};
-ghost use Rattle.mk_tree.specs.PlacedLines.{size_of, size_of_line, is_conditional_places};
+ghost use Rattle.mk_lines.specs.PhysicalLines.{without_line_end};
+ghost use Rattle.mk_tree.specs.PlacedLines.{bytes_of_line, is_conditional_places, last_line, size_of, size_of_line, with_last_bytes};
 ghost use Rattle.mk_tree.specs.Trees.{line_view};
 
 use crate::iter::Lines;
@@ -118,6 +119,27 @@ impl<A: Allocator> Doc<A> {
     {
         let tree = mem::replace(&mut self.tree, Tree::new());
         let (tree, old) = tree.replace(at, line);
+        self.tree = tree;
+        old
+    }
+
+    /// Puts other bytes in the place of the last line's, which are handed out; the class stays. Takes
+    /// no memory.
+    ///
+    /// It serves a line end put after the last line, or taken from it. It asks that there is a line,
+    /// that the bytes are some and equal its own but for the line end, and that the size stays
+    /// within the limit.
+    #[tactic(auto, using(crate::proofs::Ends::sizes))]
+    pub fn swap_end(&mut self, bytes: Vec<u8, A>) -> Vec<u8, A>
+        requires some_lines { 0 < length self.old }
+        requires some_bytes { 0 < length bytes.items }
+        requires same_text { without_line_end bytes.items ≡ without_line_end (bytes_of_line (last_line self.old)) }
+        requires fits { size_of (with_last_bytes bytes.items self.old) ≤ 2 ^ 24 }
+        ensures lines { self.new ≡ with_last_bytes bytes.items self.old }
+        ensures old { result.items ≡ bytes_of_line (last_line self.old) }
+    {
+        let tree = mem::replace(&mut self.tree, Tree::new());
+        let (tree, old) = tree.swap_end(bytes);
         self.tree = tree;
         old
     }

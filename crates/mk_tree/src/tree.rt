@@ -6,7 +6,8 @@
 //! two trees and a line between them together.
 ghost use Rattle.std.specs.Prelude.{◌≡◌, ◌+◌, ◌^◌, ◌<◌, ◌≤◌, max, [], ◌∷◌, ◌++◌, length, Some, IfOk, MatchOption, slice_get, take, drop};
 ghost use Rattle.mk_lines.specs.KeptCells.{AreCellsOf};
-ghost use Rattle.mk_tree.specs.PlacedLines.{size_of, size_of_line};
+ghost use Rattle.mk_lines.specs.PhysicalLines.{without_line_end};
+ghost use Rattle.mk_tree.specs.PlacedLines.{bytes_of_line, last_line, size_of, size_of_line, with_last_bytes};
 ghost use Rattle.mk_tree.specs.Trees.{line_view, lines_and_height, DifferByAtMost, AreFew, IsUnlinked, IsTop, IsHeightAfter};
 
 use crate::content::Content;
@@ -303,6 +304,22 @@ impl<A: Allocator> Tree<A> {
                 }
             }
         }
+    }
+
+    /// Puts other bytes of the same joined text in the place of the last line's, which are handed
+    /// out.
+    pub(crate) fn swap_end(self, bytes: Vec<u8, A>) -> (Tree<A>, Vec<u8, A>)
+        requires some_lines { 0 < length self.0 }
+        requires some_bytes { 0 < length bytes.items }
+        requires same_text { without_line_end bytes.items ≡ without_line_end (bytes_of_line (last_line self.0)) }
+        requires fits { size_of self.0 + length bytes.items ≤ 2 ^ 24 + size_of_line (last_line self.0) }
+        ensures lines { result.0.0 ≡ with_last_bytes bytes.items self.0 }
+        ensures old { result.1.items ≡ bytes_of_line (last_line self.0) }
+    {
+        let at = self.len() - 1;
+        let (rest, mut line) = self.remove(at);
+        let old = line.node.content.swap_bytes(bytes);
+        (rest.insert(at, line), old)
     }
 
     // What stands before the line at the top, this line, and what stands after it.
