@@ -1,3 +1,7 @@
+mod AssignmentLemmas
+mod ScanLemmas
 mod WorkedRows
 mod RandomArguments
 mod ClassNames
+pub mod WordLemmas
+pub mod ArgumentLemmas

@@ -1,8 +1,8 @@
 -- The context after a line whose class is as the code has it, with places, and what such a line asks of the context before it.
-use Rattle.std.specs.Prelude.{ℕ, suc, ◌-◌, ◌<◌, ◌^◌, ◌≡◌, refl, Option, Some, None}
+use Rattle.std.specs.Prelude.{ℕ, suc, ◌-◌, ◌<◌, ◌^◌, ◌≡◌, refl, Some, None}
 use Rattle.mk_class.specs.Classes.{Class}
 use Rattle.mk_class.specs.ClassPlaces.{class_places}
-use Rattle.mk_class.specs.Contexts.{Context, flag_after, defines_after, conditionals_after, prefix_after, context_after}
+use Rattle.mk_class.specs.Contexts.{Context, context_after}
 use Rattle.mk_class.specs.declared.context.Flag.{Flag}
 use Rattle.mk_class.specs.declared.context.Flag.TheVariants.{Off, Rule, Unknown}
 use Rattle.mk_class.specs.declared.context.Nesting.TheVariants.{Opens, Closes, Keeps}

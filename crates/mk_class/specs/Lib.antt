@@ -13,6 +13,9 @@ pub mod Contexts
 pub mod ContextPlaces
 pub mod ClassTable
 pub mod TextClasses
+pub mod Scans
+pub mod AssignmentPlaces
+pub mod FirstWords
 pub mod Arguments
 pub mod ListLaws
 pub mod SymbolLaws

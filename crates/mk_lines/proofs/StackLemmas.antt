@@ -1,9 +1,9 @@
 -- Lemmas on the stack of cells, and on the bytes that make cells.
-use Rattle.std.proofs.Common.{◌≡◌, refl, sym, ap, ◌∙◌, ℕ, zero, suc, ◌+◌, ◌-◌, ◌<◌, ◌≤◌, Bool, true, false, cond, not, ◌⊎◌, inl, inr, List, [], ◌∷◌, ◌++◌, map, reverse, length, take, drop, length-append, length-drop, get_or, arith, Option, None, Some, is_some}
+use Rattle.std.proofs.Common.{◌≡◌, refl, sym, ap, ◌∙◌, subst, ℕ, zero, suc, ◌+◌, ◌-◌, ◌<◌, ◌≤◌, Bool, true, false, cond, not, ◌⊎◌, inl, inr, List, [], ◌∷◌, ◌++◌, map, reverse, length, take, drop, length-append, length-drop, get_or, arith, Option, None, Some, is_some}
 use Rattle.std.specs.Prelude.{◌==◌, ◌&&◌, ◌||◌, All}
 use Rattle.std.specs.List.{list_any, prefix_len}
-use Rattle.std.proofs.lemmas.List.{append-nil, reverse-append, length-reverse}
-use Rattle.std.proofs.lemmas.List.Elements.{All-from_get_or}
+use Rattle.std.proofs.lemmas.List.{append-nil, reverse-append, length-reverse, drop-drop, take-append-drop, get_or-take, get_or-drop, length-take-le}
+use Rattle.std.proofs.lemmas.List.Elements.{All-from_get_or, All-head, All-tail}
 use Rattle.std.proofs.lemmas.Bool.Decides.{Decides-eqb}
 use Rattle.std.proofs.Math.Seq.{take-append_seam, take-length}
 use Rattle.memchr.specs.Find.{IsFirstByte, is_byte, is_byte3}
@@ -122,6 +122,15 @@ search-any test t (Some k) h = sym (any_some test t k h.0.high h.1)
 -- a search for stray bytes
 pub search-stray : (t : List ℕ) (r : Option ℕ) → IsFirstByte (is_byte3 0 10 13) t r → is_some r ≡ list_any (λ b. is_stray_by (byte_kind b) (b == 0)) t
 search-stray t r h = search-any (is_byte3 0 10 13) t r h ∙ any_same (is_byte3 0 10 13) (λ b. is_stray_by (byte_kind b) (b == 0)) (λ b. sym (stray_test b)) t
+
+-- a text without stray bytes has no line feed
+pub none_stray-no_line_feed : (t : List ℕ) → list_any (λ b. is_stray_by (byte_kind b) (b == 0)) t ≡ false → All (λ b. b ≡ 10 → ⊥) t
+none_stray-no_line_feed t h =
+    All-from_get_or (λ b. b ≡ 10 → ⊥) t 0
+    (λ k l e. let yes : list_any (λ b. is_stray_by (byte_kind b) (b == 0)) t ≡ true = any_some (λ b. is_stray_by (byte_kind b) (b == 0)) t k l (feed (get_or t k 0) e) in cc)
+  where
+    feed : (b : ℕ) → b ≡ 10 → is_stray_by (byte_kind b) (b == 0) ≡ true
+    feed b e = rw e refl
 
 -- a search that finds no line feed, and one that does
 pub search-no_line_feed : (t : List ℕ) → IsFirstByte (is_byte 10) t None → All (λ b. b ≡ 10 → ⊥) t
@@ -306,3 +315,67 @@ pub line_feed-pushed : (place : ℕ) (t : List ℕ) → (top_of (cells t) ≡ to
 line_feed-pushed place t h n cut joined ends bad m c j e b =
     same_stack joined (cut ++ 10 ∷ []) ends (fold_ends (place + 1) (cells t) ++ record { after = length cut; raw_end = place + 1 + n } ∷ []) top.Lf bad (has_bad_fold (cells t)) j e b
     ∙ line_feed-blanks place t h cut n m c
+
+-- ---- a run of bytes that stand for themselves
+
+-- before a byte that stands for itself each byte but a line feed does
+prepend-byte : (k : ByteKind) (b : ℕ) (cs : List Cell) → (k ≡ LineFeed → ⊥) → top_of cs ≡ top.Byte → prepend k b cs ≡ Byte b ∷ cs
+prepend-byte LineFeed b cs h e = absurd (h refl)
+prepend-byte k b (Fold r ∷ cs) h e = cc
+prepend-byte k b (LfEnd r ∷ cs) h e = cc
+prepend-byte k b (CrLfEnd r ∷ cs) h e = cc
+prepend-byte CarriageReturn b [] h e = refl
+prepend-byte CarriageReturn b (Byte c ∷ cs) h e = refl
+prepend-byte Backslash b [] h e = refl
+prepend-byte Backslash b (Byte c ∷ cs) h e = refl
+prepend-byte Blank b [] h e = refl
+prepend-byte Blank b (Byte c ∷ cs) h e = refl
+prepend-byte Ordinary b [] h e = refl
+prepend-byte Ordinary b (Byte c ∷ cs) h e = refl
+
+top_of-run : (p : List ℕ) (cs : List Cell) → top_of cs ≡ top.Byte → top_of (map Byte p ++ cs) ≡ top.Byte
+top_of-run [] cs e = e
+top_of-run (b ∷ p) cs e = refl
+
+cells-run : (p t : List ℕ) → All (λ b. b ≡ 10 → ⊥) p → top_of (cells t) ≡ top.Byte → cells (p ++ t) ≡ map Byte p ++ cells t
+cells-run [] t h e = refl
+cells-run (b ∷ p) t h e =
+    ap (prepend (byte_kind b) b) (cells-run p t (All-tail (λ b. b ≡ 10 → ⊥) b p h) e)
+    ∙ prepend-byte (byte_kind b) b (map Byte p ++ cells t) (λ k. All-head (λ b. b ≡ 10 → ⊥) b p h (line_feed-byte b k)) (top_of-run p (cells t) e)
+
+bad_fold-run : (p : List ℕ) (cs : List Cell) → top_of cs ≡ top.Byte → has_bad_fold (map Byte p ++ cs) ≡ has_bad_fold cs
+bad_fold-run [] cs e = refl
+bad_fold-run (b ∷ p) cs e = go (is_backslash_kind (byte_kind b)) (map Byte p ++ cs) (top_of-run p cs e) (bad_fold-run p cs e)
+  where
+    go : (c : Bool) (ds : List Cell) → top_of ds ≡ top.Byte → has_bad_fold ds ≡ has_bad_fold cs → ((c && is_fold_first ds) || has_bad_fold ds) ≡ has_bad_fold cs
+    go false ds f i = i
+    go true [] f i = i
+    go true (Byte d ∷ ds) f i = i
+    go true (Fold r ∷ ds) f i = cc
+    go true (LfEnd r ∷ ds) f i = i
+    go true (CrLfEnd r ∷ ds) f i = i
+
+-- the stack with a run of bytes on it
+pub run-stacked : (text : List ℕ) (start place : ℕ) → start < place → place ≤ length text → top_of (cells (drop place text)) ≡ top.Byte
+    → ((k : ℕ) → start ≤ k → k < place → get_or text k 0 ≡ 10 → ⊥)
+    → ◌≡◌ {A = CellStack} (record { joined = reverse (joined_text (cells (drop place text))) ++ reverse (take (place - start) (drop start text)); ends = fold_ends place (cells (drop place text)); top = top.Byte; bad_fold = has_bad_fold (cells (drop place text)) })
+    (stack_of start (cells (drop start text)))
+run-stacked text start place some within first none =
+    let n = place - start in
+    let p = take n (drop start text) in
+    let t = drop place text in
+    let cs = cells t in
+    let seam : drop n (drop start text) ≡ t = drop-drop n start text ∙ ap (λ k. drop k text) (omega arith) in
+    let whole : drop start text ≡ p ++ t = sym (take-append-drop n (drop start text)) ∙ ap (λ z. p ++ z) seam in
+    let long : length p ≡ n = length-take-le n (drop start text) (omega (arith, length-drop start text)) in
+    let all : All (λ b. b ≡ 10 → ⊥) p =
+    All-from_get_or (λ b. b ≡ 10 → ⊥) p 0 (λ k l e. none (start + k) (omega arith) (omega arith) (sym (get_or-take n (drop start text) k 0 (omega arith) ∙ get_or-drop start text k 0) ∙ e)) in
+    let is : cells (drop start text) ≡ map Byte p ++ cs = ap cells whole ∙ cells-run p t all first in
+    let joined : reverse (joined_text (map Byte p ++ cs)) ≡ reverse (joined_text cs) ++ reverse p = ap reverse (joined_text-blanks p cs) ∙ reverse-append p (joined_text cs) in
+    let ends : fold_ends start (map Byte p ++ cs) ≡ fold_ends place cs = fold_ends-blanks start p cs ∙ ap (λ z. fold_ends z cs) (omega (arith, long)) in
+    subst (λ ds. ◌≡◌ {A = CellStack} (record { joined = reverse (joined_text cs) ++ reverse p; ends = fold_ends place cs; top = top.Byte; bad_fold = has_bad_fold cs }) (stack_of start ds)) (sym is)
+    (run_parts (reverse (joined_text cs) ++ reverse p) (fold_ends place cs) (has_bad_fold cs) start (map Byte p ++ cs) (sym joined) (sym ends) (sym (top_of-run p cs first)) (sym (bad_fold-run p cs first)))
+  where
+    run_parts : (j : List ℕ) (e : List FoldEnd) (b : Bool) (start : ℕ) (ds : List Cell) → j ≡ reverse (joined_text ds) → e ≡ fold_ends start ds → top.Byte ≡ top_of ds → b ≡ has_bad_fold ds
+        → ◌≡◌ {A = CellStack} (record { joined = j; ends = e; top = top.Byte; bad_fold = b }) (stack_of start ds)
+    run_parts j e b start ds p q r s = rw (p, q, sym r, s) refl

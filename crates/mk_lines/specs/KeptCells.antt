@@ -1,5 +1,5 @@
 -- What is kept of the cells of a line beside the line itself.
-use Rattle.std.specs.Prelude.{◌≡◌, ℕ, ◌+◌, ◌-◌, ◌^◌, ◌<◌, nat_lt, if◌then◌else◌, Bool, List, [], ◌∷◌, ◌++◌, length, All}
+use Rattle.std.specs.Prelude.{◌≡◌, ℕ, ◌+◌, ◌-◌, ◌^◌, ◌<◌, nat_lt, if◌then◌else◌, Bool, List, [], ◌∷◌, ◌++◌, length, All, Option, None, Some}
 use Rattle.std.specs.List.Sorted.{IsNonDecreasingBy}
 use Rattle.mk_lines.specs.Cells.{Cell, Byte, Fold, LfEnd, CrLfEnd, joined_text, line_cells}
 use Rattle.mk_lines.specs.CellFaults.{has_bad_fold, has_stray}
@@ -26,6 +26,11 @@ pub record KeptCells : Type 0 where
   pub ends : List FoldEnd
   pub bad_fold : Bool
   pub stray : Bool
+
+-- what is read of something that is kept only of a line with folds, and what stands for it where there is none
+abbrev pub read_or : {A B : Type 0} → (none : B) → (A → B) → Option A → B
+read_or none read None = none
+read_or none read (Some kept) = read kept
 
 -- what is kept of cells
 abbrev pub kept_cells : List Cell → KeptCells

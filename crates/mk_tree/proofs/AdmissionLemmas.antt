@@ -11,7 +11,7 @@ use Rattle.mk_class.specs.ClassedLines.{ClassedLine, classed, classed_lines, con
 use Rattle.mk_class.specs.ContextPlaces.{context_after_places, context_after_places-class_places, conditionals_after_places, FitsDefines, Admits}
 use Rattle.mk_class.specs.declared.class.Class as class
 use Rattle.mk_class.specs.declared.context.Nesting.TheVariants.{Opens, Closes, Keeps}
-use Rattle.mk_tree.specs.PlacedLines.{PlacedLine, placed_line, placed_lines, text_of, AreConditionalsFit, context_after_placed}
+use Rattle.mk_tree.specs.PlacedLines.{PlacedLine, placed_line, placed_lines, placed_text, AreConditionalsFit, context_after_placed}
 use Rattle.mk_tree.specs.Documents.{IsFaithful}
 use Rattle.mk_tree.specs.Admissions.{AreAdmitted}
 
@@ -73,7 +73,7 @@ length-classed c (l ∷ ls) = ap suc (length-classed (context_after c (class_of 
 -- the lines of a faithful document are admitted
 pub admitted-faithful : (ls : List PlacedLine) → IsFaithful ls → AreConditionalsFit 0 ls → length ls ≤ 2 ^ 24 → AreAdmitted start ls
 admitted-faithful ls e h few =
-    let own = logical_lines (text_of ls) in
+    let own = logical_lines (placed_text ls) in
     let n : 0 + length own ≤ 2 ^ 24 = omega (arith, few, ap length e, length-classed start own) in
     subst (AreAdmitted start) (sym e) (admitted-classed start own (subst (AreConditionalsFit 0) e h) n)
 
@@ -124,14 +124,14 @@ placed_lines-take (suc n) [] = refl
 placed_lines-take (suc n) (l ∷ ls) = ap (λ z. placed_line l ∷ z) (placed_lines-take n ls)
 
 -- the context after some lines of a faithful document
-pub context-faithful : (ls : List PlacedLine) (n : ℕ) → IsFaithful ls → context_after_placed start (take n ls) ≡ context_after_lines start (take n (classed_lines (text_of ls)))
+pub context-faithful : (ls : List PlacedLine) (n : ℕ) → IsFaithful ls → context_after_placed start (take n ls) ≡ context_after_lines start (take n (classed_lines (placed_text ls)))
 context-faithful ls n e =
-    let own = classed_lines (text_of ls) in
+    let own = classed_lines (placed_text ls) in
     ap (λ z. context_after_placed start (take n z)) e ∙ (ap (context_after_placed start) (placed_lines-take n own) ∙ context_after_placed-lines start (take n own))
 
 -- the context after all of them
-pub context-faithful_end : (ls : List PlacedLine) → IsFaithful ls → context_after_placed start ls ≡ context_after_lines start (classed_lines (text_of ls))
-context-faithful_end ls e = ap (context_after_placed start) e ∙ context_after_placed-lines start (classed_lines (text_of ls))
+pub context-faithful_end : (ls : List PlacedLine) → IsFaithful ls → context_after_placed start ls ≡ context_after_lines start (classed_lines (placed_text ls))
+context-faithful_end ls e = ap (context_after_placed start) e ∙ context_after_placed-lines start (classed_lines (placed_text ls))
 
 take-whole : (ls : List PlacedLine) → take (length ls) ls ≡ ls
 take-whole [] = refl

@@ -6,7 +6,7 @@ use Rattle.std.proofs.KnownBytes.{Appends-nil, Appends-trans}
 use Rattle.std.proofs.Math.Seq.{take-append-add, take-append_seam}
 use Rattle.std.proofs.lemmas.List.{take-append-le}
 use Rattle.mk_lines.specs.Device.{AppendsPrefix}
-use Rattle.mk_tree.specs.PlacedLines.{PlacedLine, text_of}
+use Rattle.mk_tree.specs.PlacedLines.{PlacedLine, placed_text}
 use Rattle.mk_tree.specs.Printing.{AppendsSoFar}
 
 -- a prefix of the first piece is one of the whole
@@ -62,10 +62,10 @@ gather-prefix a b c held out more f first then = AppendsPrefix-more a b c held m
 -- ---- a line of a document
 
 -- one more line goes to what is out or held back
-pub line-step : (front bytes whole : List ℕ) (x : PlacedLine) (ahead left : List PlacedLine) → ahead ≡ x ∷ left → bytes ≡ x.bytes → front ++ text_of ahead ≡ whole → (front ++ bytes) ++ text_of left ≡ whole
+pub line-step : (front bytes whole : List ℕ) (x : PlacedLine) (ahead left : List PlacedLine) → ahead ≡ x ∷ left → bytes ≡ x.bytes → front ++ placed_text ahead ≡ whole → (front ++ bytes) ++ placed_text left ≡ whole
 line-step front bytes whole x ahead left e f h =
-    append_assoc front bytes (text_of left) ∙ (ap (λ z. front ++ (z ++ text_of left)) f ∙ (ap (λ z. front ++ text_of z) (sym e) ∙ h))
+    append_assoc front bytes (placed_text left) ∙ (ap (λ z. front ++ (z ++ placed_text left)) f ∙ (ap (λ z. front ++ placed_text z) (sym e) ∙ h))
 
 -- no line is left
-pub line-end : (front whole : List ℕ) (ahead : List PlacedLine) → ahead ≡ [] → front ++ text_of ahead ≡ whole → front ≡ whole
-line-end front whole ahead e h = sym (append-nil front) ∙ (ap (λ z. front ++ text_of z) (sym e) ∙ h)
+pub line-end : (front whole : List ℕ) (ahead : List PlacedLine) → ahead ≡ [] → front ++ placed_text ahead ≡ whole → front ≡ whole
+line-end front whole ahead e h = sym (append-nil front) ∙ (ap (λ z. front ++ placed_text z) (sym e) ∙ h)

@@ -2,8 +2,7 @@
 use Rattle.std.proofs.Common.{◌≡◌, refl, ℕ, List, [], ◌∷◌, map}
 use Rattle.std.specs.Prelude.{codes, drop}
 use Rattle.mk_class.specs.ClassedLines.{ClassedLine, classed_lines}
-use Rattle.mk_tree.specs.PlacedLines.{text_of}
-use Rattle.mk_tree.specs.Documents.{document_lines, most_conditionals}
+use Rattle.mk_tree.specs.Documents.{text_of, most_conditionals}
 use Rattle.mk_tree.specs.RecipeLines.{recipe_lines, recipe_run, after_recipe}
 
 -- the texts of some lines
@@ -45,7 +44,7 @@ recipe_lines_under_another_prefix = refl
 
 -- ---- documents
 
-the_text_of_its_lines : text_of (document_lines (codes "A = \\\n1\r\n\nfoo:\n\tx")) ≡ codes "A = \\\n1\r\n\nfoo:\n\tx"
+the_text_of_its_lines : text_of (classed_lines (codes "A = \\\n1\r\n\nfoo:\n\tx")) ≡ codes "A = \\\n1\r\n\nfoo:\n\tx"
 the_text_of_its_lines = refl
 
 conditionals_side_by_side : most_conditionals 0 (classed_lines (codes "ifdef A\nendif\nifdef B\nendif\n")) ≡ 1

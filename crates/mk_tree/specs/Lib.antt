@@ -4,6 +4,13 @@ pub mod RecipeLines
 pub mod PlacedLines
 pub mod Documents
 pub mod DocumentLaws
+pub mod LinePlaces
+pub mod Leaning
+pub mod LeaningLaws
+pub mod RunsReplaced
+pub mod NewLines
+pub mod NewLineLaws
+pub mod SpansInLines
 pub mod Laws
 pub mod Contents
 pub mod Trees

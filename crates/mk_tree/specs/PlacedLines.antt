@@ -20,9 +20,9 @@ abbrev pub placed_lines : List ClassedLine → List PlacedLine
 placed_lines ls = map placed_line ls
 
 -- the text of some lines: their bytes joined
-abbrev pub text_of : List PlacedLine → List ℕ
-text_of [] = []
-text_of (l ∷ ls) = l.bytes ++ text_of ls
+abbrev pub placed_text : List PlacedLine → List ℕ
+placed_text [] = []
+placed_text (l ∷ ls) = l.bytes ++ placed_text ls
 
 -- how many bytes some lines have
 abbrev pub size_of : List PlacedLine → ℕ

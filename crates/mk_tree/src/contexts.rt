@@ -2,7 +2,7 @@
 ghost use Rattle.std.specs.Prelude.{◌≡◌, ◌≤◌, length, take};
 ghost use Rattle.mk_class.specs.Contexts.{start};
 ghost use Rattle.mk_class.specs.ClassedLines.{classed_lines, context_after_lines};
-ghost use Rattle.mk_tree.specs.PlacedLines.{AreConditionalsFit, context_after_placed, text_of};
+ghost use Rattle.mk_tree.specs.PlacedLines.{AreConditionalsFit, context_after_placed, placed_text};
 ghost use Rattle.mk_tree.specs.Documents.{IsFaithful};
 
 use crate::document::Doc;
@@ -19,7 +19,7 @@ impl<A: Allocator> Doc<A> {
     pub fn context(&self, at: usize) -> Context
         requires in_range { at ≤ length self.now }
         requires faithful { IsFaithful self.now }
-        ensures context { result ≡ context_after_lines start (take at (classed_lines (text_of self.now))) }
+        ensures context { result ≡ context_after_lines start (take at (classed_lines (placed_text self.now))) }
         ensures placed { result ≡ context_after_placed start (take at self.now) }
     {
         context_before(&self.tree, at)
@@ -30,7 +30,7 @@ impl<A: Allocator> Doc<A> {
     /// It asks for a faithful document.
     pub fn end_context(&self) -> Context
         requires { IsFaithful self.now }
-        ensures context { result ≡ context_after_lines start (classed_lines (text_of self.now)) }
+        ensures context { result ≡ context_after_lines start (classed_lines (placed_text self.now)) }
         ensures placed { result ≡ context_after_placed start self.now }
     {
         context_before(&self.tree, self.tree.len())

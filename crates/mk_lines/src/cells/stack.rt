@@ -3,7 +3,7 @@
 //! Cells are defined from the end: a line feed takes the blanks and folds after it, a carriage
 //! return and then a backslash directly before it join it, and a blank joins a fold directly after
 //! it. So one pass backwards over a stack makes them, whose top is the first cell so far.
-ghost use Rattle.std.specs.Prelude.{◌≡◌, ◌≢◌, ◌==◌, ◌||◌, ◌+◌, ◌<◌, ℕ, List, [], ◌∷◌, ◌++◌, length, drop, OnOk, IfOk, IsOkUnless};
+ghost use Rattle.std.specs.Prelude.{◌≡◌, ◌≢◌, ◌==◌, ◌||◌, ◌+◌, ◌-◌, ◌≤◌, ◌<◌, ℕ, List, [], ◌∷◌, ◌++◌, length, drop, reverse, slice_index, OnOk, IfOk, IsOkUnless};
 ghost use Rattle.std.specs.List.{prefix_len};
 ghost use Rattle.mk_lines.specs.Bytes.{LineFeed, CarriageReturn, Backslash, Blank, byte_kind};
 ghost use Rattle.mk_lines.specs.Cells.{Cell, cells, prepend};
@@ -11,6 +11,7 @@ ghost use Rattle.mk_lines.specs.CellStack.{stack_of};
 
 use super::kept::FoldEnd;
 use crate::fault::Fault;
+use memchr::memrchr;
 use std::alloc::Allocator;
 use std::marker::Model;
 
@@ -48,8 +49,8 @@ impl<A: Allocator> Model for Stack<A> {
     ghost view = { λ s. record { joined = s.joined.items; ends = s.ends.items; top = s.top; bad_fold = s.bad_fold } };
 }
 
-/// Reads a text from its last byte to its first. Only the blanks after a line feed are looked at
-/// twice.
+/// Reads a text from its last byte to its first: at a fold byte by byte, and else the bytes back to
+/// a line feed together.
 ///
 /// # Errors
 ///
@@ -66,13 +67,58 @@ pub fn stack_of_text<A: Allocator + Copy>(alloc: A, text: &[u8]) -> Result<Stack
     };
     let mut place = text.len();
     while place > 0 {
-        place -= 1;
-        stack.prepend(text, place)?;
+        place = stack.prepend_some(text, place)?;
     }
     Ok(stack)
 }
 
+// Where the bytes before a place begin that are no line feeds.
+fn run_start(text: &[u8], place: usize) -> usize
+    requires some { 0 < place }
+    requires place { place ≤ length text.now }
+    requires last { slice_index text.now (place - 1) ≢ 10 }
+    ensures some { result < place }
+    ensures run { (k : ℕ) → result ≤ k → k < place → slice_index text.now k ≢ 10 }
+{
+    match memrchr(b'\n', &text[..place]) {
+        Some(at) => at + 1,
+        None => 0,
+    }
+}
+
 impl<A: Allocator> Stack<A> {
+    // Reads one byte or more before a place, and says where they begin. Before a byte that stands
+    // for itself all do, back to a line feed.
+    fn prepend_some(&mut self, text: &[u8], place: usize) -> Result<usize, Fault>
+        requires some { 0 < place }
+        requires place { place ≤ length text.now }
+        requires stack { self.old ≡ stack_of place (cells (drop place text.now)) }
+        ensures some { IfOk result (λ start. start < place) }
+        ensures stack { IfOk result (λ start. self.new ≡ stack_of start (cells (drop start text.now))) }
+        ensures fault { IsOkUnless result Fault.NoMemory }
+    {
+        if self.top == Top::Byte && text[place - 1] != b'\n' {
+            let start = run_start(text, place);
+            self.push_run(&text[start..place])?;
+            Ok(start)
+        } else {
+            self.prepend(text, place - 1)?;
+            Ok(place - 1)
+        }
+    }
+
+    // Bytes that stand for themselves.
+    fn push_run(&mut self, run: &[u8]) -> Result<(), Fault>
+        ensures stack { OnOk result (self.new ≡ record self.old { joined = self.old.joined ++ reverse run.now; top = Top.Byte }) }
+        ensures fault { IsOkUnless result Fault.NoMemory }
+    {
+        let before = self.joined.len();
+        self.joined.extend_from_slice(run)?;
+        self.joined[before..].reverse();
+        self.top = Top::Byte;
+        Ok(())
+    }
+
     // Reads the byte before those that were read.
     fn prepend(&mut self, text: &[u8], place: usize) -> Result<(), Fault>
         requires place { place < length text.now }

@@ -1,17 +1,29 @@
-use Rattle.std.proofs.Common.{◌≡◌, ◌∙◌, ap, sym}
-use Rattle.std.specs.Prelude.{length, vec_len}
-use Rattle.std.proofs.lemmas.Bool.Decides.{Decides-eqb}
-use Rattle.mk_lines.proofs.KeptLemmas.{plain-text, plain-count}
+use Rattle.std.proofs.Common.{◌≡◌, ◌∙◌, ap, sym, subst, [], length}
+use Rattle.std.specs.Prelude.{◌≢◌, IfSome}
+use Rattle.mk_lines.specs.KeptCells.{read_or}
+use Rattle.mk_lines.proofs.KeptLemmas.{plain-text, plain-count, folded-text, folded-count}
 use Rattle.mk_lines.proofs.cells.kept.Cells.text.Goals as goal
 
-pub returns-then-is_empty-clause-text : goal.returns-then-is_empty-clause-text
-returns-then-is_empty-clause-text g c =
-    let none : vec_len c.self.inside.ends ≡ 0 = (Decides-eqb (vec_len c.self.inside.ends) 0).0 (sym c.is_empty.ensures ∙ c.if-is_empty.true) in
-    let ends : length c.args.self.now.ends ≡ 0 = ap (λ k. length k.ends) (sym c.self.view_is) ∙ (sym c.self.inside.ends.ok.0 ∙ none) in
-    c.without_line_end.ensures ∙ plain-text c.args.self.now c.args.line.now c.requires ends
+pub returns-in-None-clause-text : goal.returns-in-None-clause-text
+returns-in-None-clause-text g c =
+    let none : [] ≡ c.args.self.now.ends = ap (read_or [] (λ f. f.value.ends.items)) (sym c.in-None.is) ∙ ap (λ k. k.ends) c.self.view_is in
+    c.without_line_end.ensures ∙ plain-text c.args.self.now c.args.line.now c.requires none
 
-pub returns-then-is_empty-clause-length : goal.returns-then-is_empty-clause-length
-returns-then-is_empty-clause-length g c =
-    let none : vec_len c.self.inside.ends ≡ 0 = (Decides-eqb (vec_len c.self.inside.ends) 0).0 (sym c.is_empty.ensures ∙ c.if-is_empty.true) in
-    let ends : length c.args.self.now.ends ≡ 0 = ap (λ k. length k.ends) (sym c.self.view_is) ∙ (sym c.self.inside.ends.ok.0 ∙ none) in
-    ap length c.without_line_end.ensures ∙ plain-count c.args.self.now c.args.line.now c.requires ends
+pub returns-in-None-clause-length : goal.returns-in-None-clause-length
+returns-in-None-clause-length g c =
+    let none : [] ≡ c.args.self.now.ends = ap (read_or [] (λ f. f.value.ends.items)) (sym c.in-None.is) ∙ ap (λ k. k.ends) c.self.view_is in
+    ap length c.without_line_end.ensures ∙ plain-count c.args.self.now c.args.line.now c.requires none
+
+pub returns-in-Some-clause-text : goal.returns-in-Some-clause-text
+returns-in-Some-clause-text g c =
+    let ends : c.in-Some.folded.value.ends.items ≡ c.args.self.now.ends = ap (read_or [] (λ f. f.value.ends.items)) (sym c.in-Some.is) ∙ ap (λ k. k.ends) c.self.view_is in
+    let joined : c.in-Some.folded.value.joined.items ≡ c.args.self.now.joined = ap (read_or [] (λ f. f.value.joined.items)) (sym c.in-Some.is) ∙ ap (λ k. k.joined) c.self.view_is in
+    let some : c.in-Some.folded.value.ends.items ≢ [] = subst (λ o. IfSome o (λ f. f.value.ends.items ≢ [])) c.in-Some.is c.self.invariant.1 in
+    c.deref-in-Some.ensures.value ∙ (ap (λ f. f.joined.items) c.deref.ensures ∙ (joined ∙ folded-text c.args.self.now c.args.line.now c.requires (λ none. some (ends ∙ none))))
+
+pub returns-in-Some-clause-length : goal.returns-in-Some-clause-length
+returns-in-Some-clause-length g c =
+    let ends : c.in-Some.folded.value.ends.items ≡ c.args.self.now.ends = ap (read_or [] (λ f. f.value.ends.items)) (sym c.in-Some.is) ∙ ap (λ k. k.ends) c.self.view_is in
+    let joined : c.in-Some.folded.value.joined.items ≡ c.args.self.now.joined = ap (read_or [] (λ f. f.value.joined.items)) (sym c.in-Some.is) ∙ ap (λ k. k.joined) c.self.view_is in
+    let some : c.in-Some.folded.value.ends.items ≢ [] = subst (λ o. IfSome o (λ f. f.value.ends.items ≢ [])) c.in-Some.is c.self.invariant.1 in
+    ap length c.deref-in-Some.ensures.value ∙ (ap length (ap (λ f. f.joined.items) c.deref.ensures ∙ joined) ∙ folded-count c.args.self.now c.args.line.now c.requires (λ none. some (ends ∙ none)))
