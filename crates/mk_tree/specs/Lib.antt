@@ -2,6 +2,7 @@ pub mod Items
 pub mod Readings
 pub mod RecipeLines
 pub mod LineTexts
+pub mod PlacedLines
 pub mod Documents
 pub mod DocumentLaws
 pub mod LinePlaces
@@ -15,3 +16,8 @@ pub mod EachReplaced
 pub mod ConditionalLaws
 pub mod ChangeLaws
 pub mod Laws
+pub mod Contents
+pub mod Trees
+pub mod Walks
+pub mod Printing
+pub mod Admissions
