@@ -62,11 +62,10 @@ fn folded_cells<A: Allocator + Copy>(alloc: A, text: &[u8]) -> Result<Cells<A>, 
     ensures fault { IsOkUnless result Fault.NoMemory }
 {
     let stack = stack_of_text(alloc, text)?;
-    let mut joined = stack.joined;
-    joined.reverse();
     let folded = Folded {
-        stray: has_stray_byte(&joined),
-        joined,
+        stray: has_stray_byte(&stack.joined[stack.first..]),
+        joined: stack.joined,
+        first: stack.first,
         ends: stack.ends,
         bad_fold: stack.bad_fold,
     };
