@@ -55,12 +55,17 @@ impl<A: Allocator> Model for Stack<A> {
 }
 
 /// Reads a text from its last byte to its first: at a fold byte by byte, and else the bytes back to
-/// a line feed together.
+/// a line feed together. The bytes up to `feed` are known to be no line feeds.
 ///
 /// # Errors
 ///
 /// [`Fault::NoMemory`] where a list could not grow.
-pub fn stack_of_text<A: Allocator + Copy>(alloc: A, text: &[u8]) -> Result<Stack<A>, Fault>
+pub fn stack_of_text<A: Allocator + Copy>(
+    alloc: A,
+    text: &[u8],
+    feed: usize,
+) -> Result<Stack<A>, Fault>
+    requires { (k : ℕ) → k < feed → slice_index text.now k ≢ 10 }
     ensures stack { IfOk result (λ stack. stack.stack ≡ stack_of 0 (cells text.now)) }
     ensures fault { IsOkUnless result Fault.NoMemory }
 {
@@ -73,19 +78,23 @@ pub fn stack_of_text<A: Allocator + Copy>(alloc: A, text: &[u8]) -> Result<Stack
     };
     let mut place = text.len();
     while place > 0 {
-        place = stack.prepend_some(text, place)?;
+        place = stack.prepend_some(text, place, feed)?;
     }
     Ok(stack)
 }
 
-// Where the bytes before a place begin that are no line feeds.
-fn run_start(text: &[u8], place: usize) -> usize
+// Where the bytes before a place begin that are no line feeds, as those up to `feed` are known to be.
+fn run_start(text: &[u8], place: usize, feed: usize) -> usize
     requires some { 0 < place }
     requires place { place ≤ length text.now }
     requires last { slice_index text.now (place - 1) ≢ 10 }
+    requires before { (k : ℕ) → k < feed → slice_index text.now k ≢ 10 }
     ensures some { result < place }
     ensures run { (k : ℕ) → result ≤ k → k < place → slice_index text.now k ≢ 10 }
 {
+    if place <= feed {
+        return 0;
+    }
     match memrchr(b'\n', &text[..place]) {
         Some(at) => at + 1,
         None => 0,
@@ -95,7 +104,8 @@ fn run_start(text: &[u8], place: usize) -> usize
 impl<A: Allocator> Stack<A> {
     // Reads one byte or more before a place, and says where they begin. Before a byte that stands
     // for itself all do, back to a line feed.
-    fn prepend_some(&mut self, text: &[u8], place: usize) -> Result<usize, Fault>
+    fn prepend_some(&mut self, text: &[u8], place: usize, feed: usize) -> Result<usize, Fault>
+        requires before { (k : ℕ) → k < feed → slice_index text.now k ≢ 10 }
         requires some { 0 < place }
         requires place { place ≤ length text.now }
         requires stack { self.old.stack ≡ stack_of place (cells (drop place text.now)) }
@@ -106,7 +116,7 @@ impl<A: Allocator> Stack<A> {
         ensures fault { IsOkUnless result Fault.NoMemory }
     {
         if self.top == Top::Byte && text[place - 1] != b'\n' {
-            let start = run_start(text, place);
+            let start = run_start(text, place, feed);
             self.push_run(&text[start..place]);
             Ok(start)
         } else {
