@@ -1,5 +1,5 @@
 -- What is kept of the cells of a line beside the line itself.
-use Rattle.std.specs.Prelude.{◌≡◌, ◌≢◌, ℕ, ◌+◌, ◌-◌, ◌^◌, ◌<◌, nat_lt, if◌then◌else◌, Bool, List, [], ◌∷◌, ◌++◌, length, All, false, ⊤}
+use Rattle.std.specs.Prelude.{◌≡◌, ◌≢◌, ℕ, ◌+◌, ◌-◌, ◌^◌, ◌<◌, nat_lt, if◌then◌else◌, Bool, List, [], ◌∷◌, ◌++◌, drop, length, ◌≤◌, All, false, ⊤}
 use Rattle.std.specs.List.Sorted.{IsNonDecreasingBy}
 use Rattle.mk_lines.specs.Cells.{Cell, Byte, Fold, LfEnd, CrLfEnd, joined_text, line_cells}
 use Rattle.mk_lines.specs.CellFaults.{has_bad_fold, has_stray}
@@ -34,7 +34,7 @@ pub record KeptCells : Type 0 where
 -- the joined text of a line with folds
 abbrev pub joined_kept : {A : Type 0} → Rest A → List ℕ
 joined_kept (Plain stray) = []
-joined_kept (Folded f) = f.value.joined.items
+joined_kept (Folded f) = drop f.value.first f.value.joined.items
 
 -- the ends of the folds
 abbrev pub ends_kept : {A : Type 0} → Rest A → List FoldEnd
@@ -51,10 +51,10 @@ abbrev pub has_stray_kept : {A : Type 0} → Rest A → Bool
 has_stray_kept (Plain stray) = stray
 has_stray_kept (Folded f) = f.value.stray
 
--- a line that is held as one with folds has some
+-- a line that is held as one with folds has some, and its joined text begins within what is kept
 abbrev pub HasFoldsKept : {A : Type 0} → Rest A → Type 0
 HasFoldsKept (Plain stray) = ⊤
-HasFoldsKept (Folded f) = f.value.ends.items ≢ []
+HasFoldsKept (Folded f) = (f.value.ends.items ≢ []) × (f.value.first ≤ length f.value.joined.items)
 
 -- ---- what is kept, of cells
 

@@ -11,7 +11,7 @@
 //! - A *bad fold* has a backslash directly before its whole run of bytes, as after `a\\ \` and a
 //!   line end: read as text, that backslash would stand before a space and escape it.
 //! - A *stray byte* is a NUL, or a CR that is no part of a line end.
-ghost use Rattle.std.specs.Prelude.{◌≡◌, ◌≢◌, All, IfOk, IsOk, IsOkUnless};
+ghost use Rattle.std.specs.Prelude.{◌≡◌, ◌≢◌, ◌<◌, ℕ, slice_index, All, IfOk, IsOk, IsOkUnless};
 ghost use Rattle.mk_lines.specs.PhysicalLines.{without_line_end};
 ghost use Rattle.mk_lines.specs.Cells.{cells};
 ghost use Rattle.mk_lines.specs.KeptCells.{AreCellsOf, kept_cells};
@@ -51,22 +51,22 @@ pub fn cells<A: Allocator + Copy>(alloc: A, line: &[u8]) -> Result<Cells<A>, Fau
     }
     match memchr(b'\n', text) {
         None => Ok(Cells::plain(text, true)),
-        Some(_) => folded_cells(alloc, text),
+        Some(feed) => folded_cells(alloc, text, feed),
     }
 }
 
-// The cells of a text with a line feed.
-fn folded_cells<A: Allocator + Copy>(alloc: A, text: &[u8]) -> Result<Cells<A>, Fault>
-    requires { All (λ b. b ≢ 10) text.now → ⊥ }
+// The cells of a text whose first line feed is at `feed`.
+fn folded_cells<A: Allocator + Copy>(alloc: A, text: &[u8], feed: usize) -> Result<Cells<A>, Fault>
+    requires some { All (λ b. b ≢ 10) text.now → ⊥ }
+    requires before { (k : ℕ) → k < feed → slice_index text.now k ≢ 10 }
     ensures cells { IfOk result (λ kept. kept ≡ kept_cells (cells text.now)) }
     ensures fault { IsOkUnless result Fault.NoMemory }
 {
-    let stack = stack_of_text(alloc, text)?;
-    let mut joined = stack.joined;
-    joined.reverse();
+    let stack = stack_of_text(alloc, text, feed)?;
     let folded = Folded {
-        stray: has_stray_byte(&joined),
-        joined,
+        stray: has_stray_byte(&stack.joined[stack.first..]),
+        joined: stack.joined,
+        first: stack.first,
         ends: stack.ends,
         bad_fold: stack.bad_fold,
     };

@@ -3,7 +3,7 @@
 //! A line without folds is its own joined text, and each of its raw places is the joined one, so
 //! nothing is kept of it but flags. Of a line with folds the joined text is kept, and where each
 //! fold ends: a raw place is told by the nearest fold before it.
-ghost use Rattle.std.specs.Prelude.{◌≡◌, ◌≢◌, ◌==◌, ◌≤◌, ℕ, List, length, true, false, nat_lt, All, IfOk, IsOkUnless};
+ghost use Rattle.std.specs.Prelude.{◌≡◌, ◌≢◌, ◌==◌, ◌≤◌, ℕ, List, drop, length, true, false, nat_lt, All, IfOk, IsOkUnless};
 ghost use Rattle.std.specs.List.{list_any};
 ghost use Rattle.std.specs.List.Sorted.{IsNonDecreasingBy, IsPartitionPoint};
 ghost use Rattle.mk_lines.specs.Bytes.{byte_kind};
@@ -57,8 +57,10 @@ pub(super) enum Rest<A: Allocator> {
 /// What is kept of a line with folds.
 #[derive(Debug, Drop)]
 pub(super) struct Folded<A: Allocator> {
-    /// The joined text.
+    /// The joined text stands at its end: what is before it means nothing.
     pub(super) joined: Vec<u8, A>,
+    /// Where the joined text begins.
+    pub(super) first: usize,
     /// The ends of the folds, the last fold first.
     pub(super) ends: Vec<FoldEnd, A>,
     pub(super) bad_fold: bool,
@@ -91,15 +93,16 @@ impl<A: Allocator> Cells<A> {
     // Of a text with a line feed.
     pub(super) fn folded(alloc: A, text: &[u8], folded: Folded<A>) -> Result<Cells<A>, Fault>
         requires some { All (λ b. b ≢ 10) text.now → ⊥ }
-        requires joined { folded.joined.items ≡ joined_text (cells text.now) }
+        requires first { folded.first ≤ length folded.joined.items }
+        requires joined { drop folded.first folded.joined.items ≡ joined_text (cells text.now) }
         requires ends { folded.ends.items ≡ fold_ends 0 (cells text.now) }
         requires bad_fold { folded.bad_fold ≡ has_bad_fold (cells text.now) }
-        requires stray { folded.stray ≡ list_any (λ b. is_stray_by (byte_kind b) (b == 0)) folded.joined.items }
+        requires stray { folded.stray ≡ list_any (λ b. is_stray_by (byte_kind b) (b == 0)) (drop folded.first folded.joined.items) }
         ensures cells { IfOk result (λ kept. kept ≡ kept_cells (cells text.now)) }
         ensures fault { IsOkUnless result Fault.NoMemory }
     {
         Ok(Cells {
-            count: folded.joined.len(),
+            count: folded.joined.len() - folded.first,
             rest: Rest::Folded(Box::new(alloc, folded)?),
         })
     }
@@ -115,7 +118,7 @@ impl<A: Allocator> Cells<A> {
     {
         match &self.rest {
             Rest::Plain(_) => without_line_end(line),
-            Rest::Folded(folded) => &folded.joined,
+            Rest::Folded(folded) => &folded.joined[folded.first..],
         }
     }
 
