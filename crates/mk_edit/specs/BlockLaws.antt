@@ -2,7 +2,7 @@
 use Rattle.std.specs.Prelude.{◌≡◌, ℕ, List, Option, Ok}
 use Rattle.mk_lines.specs.Pieces.{Replacement}
 use Rattle.mk_tree.specs.Readings.{reading}
-use Rattle.mk_edit.specs.Edits.{Edit, RemoveAssign, RemoveRule, RemoveRecipe}
+use Rattle.mk_edit.specs.Edits.{Edit, RemoveAssign, RemoveRule, AddRecipe, SetRecipe, RemoveRecipe}
 use Rattle.mk_edit.specs.Refusals.{spans, text_after}
 use Rattle.mk_edit.specs.Changes.{change}
 
@@ -21,3 +21,11 @@ RemovedRecipesRead = (nth : Option ℕ) (target : List ℕ) (number : ℕ) → R
 -- a rule taken out
 abbrev pub RemovedRulesRead : Type 0
 RemovedRulesRead = (nth : Option ℕ) (target : List ℕ) → ReadsAsChanged (RemoveRule nth target)
+
+-- a recipe line written in the place of another
+abbrev pub SetRecipesRead : Type 0
+SetRecipesRead = (nth : Option ℕ) (target : List ℕ) (number : ℕ) (line : List ℕ) → ReadsAsChanged (SetRecipe nth target number line)
+
+-- a recipe line put after the others of its rule
+abbrev pub AddedRecipesRead : Type 0
+AddedRecipesRead = (nth : Option ℕ) (target line : List ℕ) → ReadsAsChanged (AddRecipe nth target line)

@@ -21,4 +21,6 @@ pub mod BlankAdded
 pub mod ValueLines
 pub mod RuleStretches
 pub mod Removals
+pub mod RecipeClasses
+pub mod RecipeLines
 pub mod BlockLaws

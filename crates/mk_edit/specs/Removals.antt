@@ -1,5 +1,5 @@
 -- The reading law for the edits that take out whole lines: unset, and the removal of a recipe line and of a rule.
-use Rattle.std.proofs.Common.{◌≡◌, refl, sym, ap, ◌∙◌, subst, ℕ, List, [], ◌∷◌, ◌++◌, Bool, true, false, not, ◌||◌, Option, Some, None, is_some, option_map}
+use Rattle.std.proofs.Common.{◌≡◌, refl, sym, ap, ◌∙◌, subst, ℕ, List, [], ◌∷◌, ◌++◌, Bool, true, false, ◌||◌, Option, Some, None, option_map}
 use Rattle.std.specs.Prelude.{Ok, nat_lt, option_and_then}
 use Rattle.mk_lines.specs.ListLaws.{Each}
 use Rattle.mk_lines.specs.Cells.{Cell, joined_byte, line_cells}
@@ -33,7 +33,7 @@ use Rattle.mk_edit.specs.LineCauses.{new_line_leans, removal_leans}
 use Rattle.mk_edit.specs.Refusals.{spans, text_by, text_after}
 use Rattle.mk_edit.specs.Changes.{without_items, change}
 use Rattle.mk_edit.specs.Accepted.{accepted, where_holds-none, same_text-is}
-use Rattle.mk_edit.specs.RuleStretches.{variable-found, rule-found, rule-is_header, recipe-is, run-split, run-each, recipe-spot}
+use Rattle.mk_edit.specs.RuleStretches.{variable-found, rule-found, rule-is_header, recipe-is, run-split, run-each, recipe-spot, some-found}
 
 -- ---- any lines
 
@@ -123,10 +123,6 @@ unset-law t nth n rs h =
 
 -- ---- a recipe line
 
-is-there : {A : Type 0} (o : Option A) → not (is_some o) ≡ false → (x : A) × (o ≡ Some x)
-is-there None h = absurd (cc)
-is-there (Some x) h = (x, refl)
-
 -- An accepted removal of a recipe line removes its item, and no other item changes.
 pub recipe_removed-law : (t : List ℕ) (nth : Option ℕ) (g : List ℕ) (k : ℕ) (rs : List Replacement) → spans t (RemoveRecipe nth g k) ≡ Ok rs
     → reading (text_after t (RemoveRecipe nth g k)) ≡ change t (RemoveRecipe nth g k)
@@ -135,7 +131,7 @@ recipe_removed-law t nth g k rs h =
     let ls = classed_lines t in
     let A = accepted t e rs h in
     let F = rule-found ls nth g A.is_there A.is_one in
-    let there = is-there (recipe_found ls nth g k) (where_holds-none _ _ A.not_absent) in
+    let there = some-found (recipe_found ls nth g k) (where_holds-none _ _ A.not_absent) in
     let s = there.0 in
     let at : recipe_spot k F.spot ≡ Some s = sym (ap (option_and_then (recipe_spot k)) F.same) ∙ there.1 in
     let i = recipe-spot _ ls F.spot k s F.is at in

@@ -1,5 +1,5 @@
 -- The lines of a rule: what an address means, what stands between a header and its last recipe line, and its recipe lines.
-use Rattle.std.proofs.Common.{◌≡◌, refl, sym, ap, ◌∙◌, ℕ, suc, zero, List, [], ◌∷◌, ◌++◌, map, take, drop, length, Bool, true, append_assoc, subst, not, Option, Some, None}
+use Rattle.std.proofs.Common.{◌≡◌, refl, sym, ap, ◌∙◌, ℕ, suc, zero, List, [], ◌∷◌, ◌++◌, map, take, drop, length, Bool, true, append_assoc, subst, not, false, Option, Some, None, is_some}
 use Rattle.std.proofs.Math.Seq.{drop-append_seam}
 use Rattle.mk_lines.specs.Lists.{after_leading, trailing}
 use Rattle.mk_lines.specs.ListLaws.{Each, Each-left, leading-after_leading, leading-each, trim_end-trailing}
@@ -23,6 +23,11 @@ pub record IsFound (test : ClassedLine → Bool) (ls : List ClassedLine) (o : Op
   pub spot : Spot
   pub same : o ≡ Some spot
   pub is : IsSpot test ls spot
+
+-- what is there
+pub some-found : {A : Type 0} (o : Option A) → not (is_some o) ≡ false → (x : A) × (o ≡ Some x)
+some-found None h = absurd (cc)
+some-found (Some x) h = (x, refl)
 
 -- a variable that is neither missing nor one of several
 pub variable-found : (ls : List ClassedLine) (nth : Option ℕ) (n : List ℕ) → no_such_line ls (Some (Variable nth n)) ≡ None → ambiguous_line ls (Some (Variable nth n)) ≡ None

@@ -1,5 +1,5 @@
 //! The reading law for the edits that take out, put in or replace whole lines.
-ghost use Rattle.mk_edit.specs.BlockLaws.{RemovedAssignmentsRead, RemovedRecipesRead, RemovedRulesRead};
+ghost use Rattle.mk_edit.specs.BlockLaws.{AddedRecipesRead, RemovedAssignmentsRead, RemovedRecipesRead, RemovedRulesRead, SetRecipesRead};
 
 /// Where an assignment is taken out, its item goes, and every other item stays as it is.
 pub fn removed_assignments_read()
@@ -15,4 +15,17 @@ pub fn removed_recipes_read()
 /// item stays as it is. Blank lines and comments between these lines go too; they have no items.
 pub fn removed_rules_read()
     ensures { RemovedRulesRead }
+{}
+
+/// Where the text of a recipe line is replaced, its item has the new text, and every other item
+/// stays as it is. The line may have been several physical lines; it is one then.
+pub fn set_recipes_read()
+    ensures { SetRecipesRead }
+{}
+
+/// Where a recipe line is put after the last of a rule, or after the header of one that has none,
+/// there is one item more, and every other item stays as it is. A last line without line end gets
+/// one.
+pub fn added_recipes_read()
+    ensures { AddedRecipesRead }
 {}
