@@ -15,3 +15,4 @@ pub mod Refusals
 pub mod RefusalTexts
 pub mod Changes
 pub mod Costs
+pub mod HeadUnits
