@@ -16,3 +16,6 @@ pub mod RefusalTexts
 pub mod Changes
 pub mod Costs
 pub mod HeadUnits
+pub mod LineTails
+pub mod HeadWords
+pub mod WordsRemoved
