@@ -19,3 +19,4 @@ pub mod HeadUnits
 pub mod LineTails
 pub mod HeadWords
 pub mod WordsRemoved
+pub mod DirectiveWords
