@@ -15,6 +15,11 @@ pub mod Refusals
 pub mod RefusalTexts
 pub mod Changes
 pub mod Costs
+pub mod HeadUnits
+pub mod LineTails
+pub mod HeadWords
+pub mod WordsRemoved
+pub mod DirectiveWords
 pub mod Accepted
 pub mod SpotLaws
 pub mod BlankAdded
