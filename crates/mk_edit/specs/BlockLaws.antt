@@ -2,9 +2,10 @@
 use Rattle.std.specs.Prelude.{◌≡◌, ℕ, List, Option, Ok}
 use Rattle.mk_lines.specs.Pieces.{Replacement}
 use Rattle.mk_tree.specs.Readings.{reading}
-use Rattle.mk_edit.specs.Edits.{Edit, RemoveAssign, RemoveRule, AddRecipe, SetRecipe, RemoveRecipe}
+use Rattle.mk_edit.specs.Edits.{Place, Edit, RemoveAssign, AddRule, RemoveRule, AddRecipe, SetRecipe, RemoveRecipe}
 use Rattle.mk_edit.specs.Refusals.{spans, text_after}
 use Rattle.mk_edit.specs.Changes.{change}
+use Rattle.mk_edit.specs.declared.edit.Colons.{Colons}
 
 -- of every text: where no cause refuses the edit, the text after it reads as the edit's change says
 abbrev pub ReadsAsChanged : Edit → Type 0
@@ -29,3 +30,7 @@ SetRecipesRead = (nth : Option ℕ) (target : List ℕ) (number : ℕ) (line : L
 -- a recipe line put after the others of its rule
 abbrev pub AddedRecipesRead : Type 0
 AddedRecipesRead = (nth : Option ℕ) (target line : List ℕ) → ReadsAsChanged (AddRecipe nth target line)
+
+-- a rule put in
+abbrev pub AddedRulesRead : Type 0
+AddedRulesRead = (place : Place) (targets : List ℕ) (colons : Colons) (prereqs : List ℕ) → ReadsAsChanged (AddRule place targets colons prereqs)

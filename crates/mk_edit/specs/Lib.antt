@@ -28,4 +28,7 @@ pub mod RuleStretches
 pub mod Removals
 pub mod RecipeClasses
 pub mod RecipeLines
+pub mod NewWords
+pub mod NewRuleLines
+pub mod NewRules
 pub mod BlockLaws

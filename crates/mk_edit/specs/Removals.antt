@@ -70,13 +70,13 @@ assign-prefix c l a p h =
     same p q e = cc
 
 -- the line that assigns a variable other than the prefix sets no prefix
-record IsAssigned (k : Class) (n : List ℕ) : Type 0 where
-  assignment : Assignment Cell
-  prefix : Option ℕ
-  is : k ≡ Assign assignment prefix
-  name : unit_text joined_byte assignment.name ≡ n
+pub record IsAssigned (k : Class) (n : List ℕ) : Type 0 where
+  pub assignment : Assignment Cell
+  pub prefix : Option ℕ
+  pub is : k ≡ Assign assignment prefix
+  pub name : unit_text joined_byte assignment.name ≡ n
 
-assigned-is : (n : List ℕ) (k : Class) → assigns n k ≡ true → IsAssigned k n
+pub assigned-is : (n : List ℕ) (k : Class) → assigns n k ≡ true → IsAssigned k n
 assigned-is n Endef e = absurd (cc)
 assigned-is n (Body m) e = absurd (cc)
 assigned-is n Recipe e = absurd (cc)

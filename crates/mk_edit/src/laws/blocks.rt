@@ -1,5 +1,5 @@
 //! The reading law for the edits that take out, put in or replace whole lines.
-ghost use Rattle.mk_edit.specs.BlockLaws.{AddedRecipesRead, RemovedAssignmentsRead, RemovedRecipesRead, RemovedRulesRead, SetRecipesRead};
+ghost use Rattle.mk_edit.specs.BlockLaws.{AddedRecipesRead, AddedRulesRead, RemovedAssignmentsRead, RemovedRecipesRead, RemovedRulesRead, SetRecipesRead};
 
 /// Where an assignment is taken out, its item goes, and every other item stays as it is.
 pub fn removed_assignments_read()
@@ -28,4 +28,11 @@ pub fn set_recipes_read()
 /// one.
 pub fn added_recipes_read()
     ensures { AddedRecipesRead }
+{}
+
+/// Where a rule is put in, there is one item more, a header with its targets, its separator and its
+/// prerequisites, and every other item stays as it is. A last line without line end gets one where
+/// the rule comes last.
+pub fn added_rules_read()
+    ensures { AddedRulesRead }
 {}
