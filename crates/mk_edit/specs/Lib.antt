@@ -19,3 +19,9 @@ pub mod Accepted
 pub mod SpotLaws
 pub mod BlankAdded
 pub mod ValueLines
+pub mod FoundAssignments
+pub mod ValueEdits
+pub mod SetLaws
+pub mod UnsetLaws
+pub mod AppendLaws
+pub mod Laws

@@ -1,0 +1,20 @@
+//! Laws of edits: each contract is a theorem on the definitions that the calls of this crate are
+//! specified by. The functions do nothing.
+ghost use Rattle.mk_edit.specs.Laws.{AppendReadsAsChanged, SetReadsAsChanged, UnsetReadsAsChanged};
+
+/// An accepted edit of a value, to one that is not empty, changes the reading by this value alone.
+pub fn set_reads_as_changed()
+    ensures { SetReadsAsChanged }
+{}
+
+/// An accepted edit that appends to a value changes the reading by this value alone: the old value,
+/// a space and the new text, but where the old value is empty or its last byte is a fold.
+pub fn append_reads_as_changed()
+    ensures { AppendReadsAsChanged }
+{}
+
+/// An accepted removal of an assignment removes its item from the reading, and no other item
+/// changes.
+pub fn unset_reads_as_changed()
+    ensures { UnsetReadsAsChanged }
+{}
