@@ -2,7 +2,7 @@
 use Rattle.std.specs.Prelude.{◌≡◌, ℕ, List, ◌∷◌, Option, Ok}
 use Rattle.mk_lines.specs.Pieces.{Replacement}
 use Rattle.mk_tree.specs.Readings.{reading}
-use Rattle.mk_edit.specs.Edits.{Edit, SetValue, AppendValue, RemoveAssign}
+use Rattle.mk_edit.specs.Edits.{Edit, SetValue, AppendValue, RemoveAssign, RemoveRule, RemoveRecipe}
 use Rattle.mk_edit.specs.Refusals.{spans, text_after}
 use Rattle.mk_edit.specs.Changes.{change}
 
@@ -21,3 +21,11 @@ AppendReadsAsChanged = (nth : Option ℕ) (name value : List ℕ) → ReadsAsCha
 -- an assignment removed removes its item from the reading alone
 abbrev pub UnsetReadsAsChanged : Type 0
 UnsetReadsAsChanged = (nth : Option ℕ) (name : List ℕ) → ReadsAsChanged (RemoveAssign nth name)
+
+-- a rule removed removes the items of its header and its recipe lines from the reading alone
+abbrev pub UnruleReadsAsChanged : Type 0
+UnruleReadsAsChanged = (nth : Option ℕ) (target : List ℕ) → ReadsAsChanged (RemoveRule nth target)
+
+-- a recipe line removed removes its item from the reading alone
+abbrev pub RecipeRemovedReadsAsChanged : Type 0
+RecipeRemovedReadsAsChanged = (nth : Option ℕ) (target : List ℕ) (number : ℕ) → ReadsAsChanged (RemoveRecipe nth target number)

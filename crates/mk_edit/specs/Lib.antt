@@ -24,4 +24,5 @@ pub mod ValueEdits
 pub mod SetLaws
 pub mod UnsetLaws
 pub mod AppendLaws
+pub mod RemovalLaws
 pub mod Laws
