@@ -7,4 +7,10 @@ pub mod LinePlaces
 pub mod Leaning
 pub mod LeaningLaws
 pub mod RunsReplaced
+pub mod NewLines
+pub mod NewLineLaws
+pub mod SpansInLines
+pub mod EachReplaced
+pub mod ConditionalLaws
+pub mod RecipeRunLaws
 pub mod Laws
