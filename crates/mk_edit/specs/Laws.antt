@@ -2,7 +2,7 @@
 use Rattle.std.specs.Prelude.{◌≡◌, ℕ, List, ◌∷◌, Option, Ok}
 use Rattle.mk_lines.specs.Pieces.{Replacement}
 use Rattle.mk_tree.specs.Readings.{reading}
-use Rattle.mk_edit.specs.Edits.{Edit, SetValue, AppendValue, RemoveAssign, RemoveRule, RemoveRecipe}
+use Rattle.mk_edit.specs.Edits.{Edit, SetValue, AppendValue, RemoveAssign, RemoveRule, AddRecipe, RemoveRecipe}
 use Rattle.mk_edit.specs.Refusals.{spans, text_after}
 use Rattle.mk_edit.specs.Changes.{change}
 
@@ -29,3 +29,7 @@ UnruleReadsAsChanged = (nth : Option ℕ) (target : List ℕ) → ReadsAsChanged
 -- a recipe line removed removes its item from the reading alone
 abbrev pub RecipeRemovedReadsAsChanged : Type 0
 RecipeRemovedReadsAsChanged = (nth : Option ℕ) (target : List ℕ) (number : ℕ) → ReadsAsChanged (RemoveRecipe nth target number)
+
+-- a new recipe line puts its item into the reading, after those of its rule
+abbrev pub RecipeAddedReadsAsChanged : Type 0
+RecipeAddedReadsAsChanged = (nth : Option ℕ) (target command : List ℕ) → ReadsAsChanged (AddRecipe nth target command)

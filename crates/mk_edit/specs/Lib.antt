@@ -25,4 +25,6 @@ pub mod SetLaws
 pub mod UnsetLaws
 pub mod AppendLaws
 pub mod RemovalLaws
+pub mod PrefixLaws
+pub mod RecipeLaws
 pub mod Laws

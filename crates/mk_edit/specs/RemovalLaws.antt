@@ -1,21 +1,20 @@
 -- Accepted removals of a rule and of a recipe line remove their items, and no other item changes.
-use Rattle.std.proofs.Common.{◌≡◌, refl, sym, ap, ◌∙◌, subst, ℕ, List, [], ◌∷◌, ◌++◌, Bool, true, false, not, Option, Some, length, drop, option_map, append_assoc}
-use Rattle.std.proofs.Math.Seq.{drop-append_seam}
+use Rattle.std.proofs.Common.{◌≡◌, refl, sym, ap, ◌∙◌, subst, ℕ, List, [], ◌∷◌, ◌++◌, true, false, Option, Some, option_map}
 use Rattle.std.specs.Prelude.{Ok}
-use Rattle.mk_lines.specs.Lists.{after_leading, trim_end, trailing}
-use Rattle.mk_lines.specs.ListLaws.{Each, Each-left, leading-after_leading, leading-each, trim_end-trailing}
+use Rattle.mk_lines.specs.ListLaws.{Each}
 use Rattle.mk_lines.specs.LineCells.{or-left_false, or-right_false}
 use Rattle.mk_lines.specs.Pieces.{Replacement, replaced}
 use Rattle.mk_lines.specs.Cells.{Cell}
 use Rattle.mk_class.specs.Lists.{any}
 use Rattle.mk_class.specs.Headers.{Header}
-use Rattle.mk_class.specs.Classes.{Class, is_recipe, is_conditional}
+use Rattle.mk_class.specs.Classes.{Class, is_conditional}
 use Rattle.mk_class.specs.Contexts.{Context, context_after}
 use Rattle.mk_class.specs.ClassedLines.{ClassedLine, classed_lines, context_after_lines}
 use Rattle.mk_tree.specs.Documents.{context_of}
-use Rattle.mk_tree.specs.RecipeLines.{stays_in_rule, rule_lines, recipe_run, after_recipe}
+use Rattle.mk_tree.specs.RecipeLines.{stays_in_rule, recipe_run, after_recipe}
 use Rattle.mk_tree.specs.Readings.{reading}
 use Rattle.mk_tree.specs.LinePlaces.{context_of-last, context_of-append}
+use Rattle.mk_tree.specs.RecipeRunLaws.{recipe_run-after, recipe_run-stays}
 use Rattle.mk_tree.specs.Leaning.{AgreeButForFlag}
 use Rattle.mk_tree.specs.LeaningLaws.{agrees-self, agrees-then}
 use Rattle.mk_edit.specs.Edits.{RemoveRule, RemoveRecipe}
@@ -54,25 +53,6 @@ recipe_removed-reads nth g k t rs h =
     ∙ (stretch-removed t (this_line s) F.whole (recipe-agrees s.above s.line (recipe-class s.line.class F.is_recipe_line)) leans ∙ sym z))
 
 -- ---- a rule
-
--- the recipe run of a header and what follows it
-pub recipe_run-after : (ls : List ClassedLine) → recipe_run ls ++ after_recipe ls ≡ ls
-recipe_run-after ls =
-    let R = rule_lines ls in
-    let p : ClassedLine → Bool = λ l. not (is_recipe l.class) in
-    let q : ClassedLine → Bool = λ l. stays_in_rule l.class in
-    let e : ls ≡ recipe_run ls ++ (trailing p R ++ after_leading q ls) =
-    sym (leading-after_leading q ls) ∙ (ap (λ z. z ++ after_leading q ls) (sym (trim_end-trailing p R)) ∙ append_assoc (trim_end p R) (trailing p R) (after_leading q ls)) in
-    let d : after_recipe ls ≡ trailing p R ++ after_leading q ls = ap (drop (length (recipe_run ls))) e ∙ drop-append_seam (recipe_run ls) (trailing p R ++ after_leading q ls) in
-    ap (λ z. recipe_run ls ++ z) d ∙ sym e
-
--- its lines are recipe lines, and lines that leave the flag
-pub recipe_run-stays : (ls : List ClassedLine) → Each (λ l. stays_in_rule l.class) (recipe_run ls)
-recipe_run-stays ls =
-    let R = rule_lines ls in
-    let p : ClassedLine → Bool = λ l. not (is_recipe l.class) in
-    let q : ClassedLine → Bool = λ l. stays_in_rule l.class in
-    Each-left q (trim_end p R) (trailing p R) (subst (Each q) (sym (trim_end-trailing p R)) (leading-each q ls))
 
 class-agrees : (c : Context) (k : Class) → stays_in_rule k ≡ true → is_conditional k ≡ false → AgreeButForFlag c (context_after c k)
 class-agrees c Class.Recipe h n = record { defines = refl; conditionals = refl; prefix = refl }

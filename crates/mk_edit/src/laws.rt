@@ -1,6 +1,6 @@
 //! Laws of edits: each contract is a theorem on the definitions that the calls of this crate are
 //! specified by. The functions do nothing.
-ghost use Rattle.mk_edit.specs.Laws.{AppendReadsAsChanged, RecipeRemovedReadsAsChanged, SetReadsAsChanged, UnruleReadsAsChanged, UnsetReadsAsChanged};
+ghost use Rattle.mk_edit.specs.Laws.{AppendReadsAsChanged, RecipeAddedReadsAsChanged, RecipeRemovedReadsAsChanged, SetReadsAsChanged, UnruleReadsAsChanged, UnsetReadsAsChanged};
 
 /// An accepted edit of a value, to one that is not empty, changes the reading by this value alone.
 pub fn set_reads_as_changed()
@@ -29,4 +29,10 @@ pub fn unrule_reads_as_changed()
 /// changes.
 pub fn recipe_removed_reads_as_changed()
     ensures { RecipeRemovedReadsAsChanged }
+{}
+
+/// An accepted new recipe line puts its item into the reading, after the last recipe line of its
+/// rule, and no other item changes.
+pub fn recipe_added_reads_as_changed()
+    ensures { RecipeAddedReadsAsChanged }
 {}
