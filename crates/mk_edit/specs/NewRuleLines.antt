@@ -41,7 +41,7 @@ use Rattle.mk_edit.specs.NewLines.{each_spaced, joined_by_space, colons_text}
 use Rattle.mk_edit.specs.Changes.{separator_of}
 use Rattle.mk_edit.specs.declared.edit.Colons.{Colons}
 use Rattle.mk_edit.specs.declared.edit.Colons.TheVariants.{One, Two}
-use Rattle.mk_edit.specs.RecipeLines.{IsLineText}
+use Rattle.mk_edit.specs.AddedLines.{IsLineText}
 use Rattle.mk_edit.specs.HeadWords.{last-more}
 use Rattle.mk_edit.specs.NewWords.{is_rule_unit, rule_units-bland, cell_units, cell_units-text, clean-no_stray, IsNewWord, target-no_ampersand}
 

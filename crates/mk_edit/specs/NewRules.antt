@@ -25,15 +25,15 @@ use Rattle.mk_edit.specs.Edits.{Place, Bottom, BeforeVar, AfterVar, BeforeRule, 
 use Rattle.mk_edit.specs.Addresses.{place_address}
 use Rattle.mk_edit.specs.Stretches.{Stretch, before_line, after_line, bottom, place_found, insertion, removal}
 use Rattle.mk_edit.specs.NewLines.{words_in, new_text, new_line_end}
-use Rattle.mk_edit.specs.ArgumentCauses.{names, place_targets}
+use Rattle.mk_edit.specs.ArgumentCauses.{place_names, place_targets}
 use Rattle.mk_edit.specs.AddressCauses.{no_such_line, ambiguous_line, begins_new_line}
 use Rattle.mk_edit.specs.LineCauses.{open_define_at, new_line_leans, removal_leans}
 use Rattle.mk_edit.specs.Refusals.{spans, text_after}
 use Rattle.mk_edit.specs.Changes.{separator_of, new_header, change}
 use Rattle.mk_edit.specs.Accepted.{IsAccepted, accepted, where_holds-none, three-passed}
-use Rattle.mk_edit.specs.RuleStretches.{variable-found, rule-found, rule-is_header}
-use Rattle.mk_edit.specs.Removals.{assigned-is}
-use Rattle.mk_edit.specs.RecipeLines.{addition-law}
+use Rattle.mk_edit.specs.SpotLaws.{rule-found}
+use Rattle.mk_edit.specs.FoundAssignments.{assignment-found}
+use Rattle.mk_edit.specs.AddedLines.{addition-law}
 use Rattle.mk_edit.specs.NewWords.{word-is_new}
 use Rattle.mk_edit.specs.NewRuleLines.{AreNewWords, EndInNoAmpersand, AreRuleWords, text_of_rule, new_rule, new_rule-is}
 use Rattle.mk_edit.specs.declared.edit.Colons.{Colons}
@@ -56,47 +56,44 @@ counted : (c : Context) (l : List ℕ) (k : Class) → class_of c l ≡ k → Fi
 counted c l k h = subst (FitsCounts c.defines c.conditionals) h (class_of-counts c l)
 
 -- every place that an edit may name is one
-pub place-is : (t : List ℕ) (p : Place) → no_such_line (classed_lines t) (place_address p) ≡ None → ambiguous_line (classed_lines t) (place_address p) ≡ None → open_define_at (classed_lines t) p ≡ None
+pub place-is : (t : List ℕ) (p : Place) → no_such_line (classed_lines t) (place_address p) ≡ None → ambiguous_line (classed_lines t) (place_address p) ≡ None → any is_prefix_name (place_names p) ≡ false → open_define_at (classed_lines t) p ≡ None
     → IsPlace (classed_lines t) (place_found (classed_lines t) p)
-place-is t Bottom h k d =
+place-is t Bottom h k q d =
     let ls = classed_lines t in
     record { stretch = bottom ls; same = refl; whole = sym (append-nil ls); no_define = none-open (context_of ls).defines (where_holds-none _ _ d) }
-place-is t (BeforeVar nth n) h k d =
+place-is t (BeforeVar nth n) h k q d =
     let ls = classed_lines t in
-    let F = variable-found ls nth n h k in
+    let F = assignment-found t n nth (where_holds-none _ _ h) (where_holds-none _ _ k) ((or_parts (is_prefix_name n) false q).0) in
     let s = F.spot in
-    let a = assigned-is n s.line.class F.is.passes in
     record {
       stretch = before_line s;
-      same = ap (option_map before_line) F.same;
-      whole = F.is.whole;
-      no_define = counted (context_of s.above) s.line.bytes (Assign a.assignment a.prefix) ((located t s.above s.line s.below F.is.whole).class ∙ a.is);
+      same = ap (option_map before_line) F.found_is;
+      whole = F.whole;
+      no_define = counted (context_of s.above) s.line.bytes (Assign F.assigned None) ((located t s.above s.line s.below F.whole).class ∙ F.class_is);
     }
-place-is t (AfterVar nth n) h k d =
+place-is t (AfterVar nth n) h k q d =
     let ls = classed_lines t in
-    let F = variable-found ls nth n h k in
+    let F = assignment-found t n nth (where_holds-none _ _ h) (where_holds-none _ _ k) ((or_parts (is_prefix_name n) false q).0) in
     let s = F.spot in
-    let a = assigned-is n s.line.class F.is.passes in
     let here : (context_of s.above).defines ≡ 0 =
-    counted (context_of s.above) s.line.bytes (Assign a.assignment a.prefix) ((located t s.above s.line s.below F.is.whole).class ∙ a.is) in
-    let after : context_of (s.above ++ s.line ∷ []) ≡ context_after (context_of s.above) (Assign a.assignment a.prefix) =
-    context_of-last s.above s.line ∙ ap (context_after (context_of s.above)) a.is in
+    counted (context_of s.above) s.line.bytes (Assign F.assigned None) ((located t s.above s.line s.below F.whole).class ∙ F.class_is) in
+    let after : context_of (s.above ++ s.line ∷ []) ≡ context_after (context_of s.above) (Assign F.assigned None) =
+    context_of-last s.above s.line ∙ ap (context_after (context_of s.above)) F.class_is in
     record {
       stretch = after_line s;
-      same = ap (option_map after_line) F.same;
-      whole = F.is.whole ∙ sym (append_assoc s.above (s.line ∷ []) s.below);
+      same = ap (option_map after_line) F.found_is;
+      whole = F.whole ∙ sym (append_assoc s.above (s.line ∷ []) s.below);
       no_define = ap (λ (z : Context). z.defines) after ∙ here;
     }
-place-is t (BeforeRule nth g) h k d =
+place-is t (BeforeRule nth g) h k q d =
     let ls = classed_lines t in
-    let F = rule-found ls nth g h k in
+    let F = rule-found ls nth g (where_holds-none _ _ h) (where_holds-none _ _ k) in
     let s = F.spot in
-    let a = rule-is_header g s.line.class F.is.passes in
     record {
       stretch = before_line s;
-      same = ap (option_map before_line) F.same;
-      whole = F.is.whole;
-      no_define = counted (context_of s.above) s.line.bytes (HeaderLine a.0) ((located t s.above s.line s.below F.is.whole).class ∙ a.1);
+      same = ap (option_map before_line) F.found_is;
+      whole = F.whole;
+      no_define = counted (context_of s.above) s.line.bytes (HeaderLine F.header) ((located t s.above s.line s.below F.whole).class ∙ F.class_is);
     }
 
 -- ---- the words of the arguments
@@ -132,26 +129,26 @@ rule_words t ts ws h k r =
 -- ---- the law
 
 -- An accepted new rule is one item more, with its words, and no other item changes.
-pub rule_added-law : (t : List ℕ) (p : Place) (g : List ℕ) (c : Colons) (w : List ℕ) (rs : List Replacement) → spans t (AddRule p g c w) ≡ Ok rs
+pub rule_added-reads : (p : Place) (g : List ℕ) (c : Colons) (w t : List ℕ) (rs : List Replacement) → spans t (AddRule p g c w) ≡ Ok rs
     → reading (text_after t (AddRule p g c w)) ≡ change t (AddRule p g c w)
-rule_added-law t p g c w rs h =
+rule_added-reads p g c w t rs h =
     let A = accepted t (AddRule p g c w) rs h in
     let tests = three-passed _ _ _ _ _ _ A.arguments in
     let T = and_parts (not (is_empty (words_in g))) (not (any (λ x. not (is_target x)) (words_in g))) tests.1.0 in
-    let R = or_parts (any is_prefix_name (names (AddRule p g c w))) (any is_reserved_word (words_in g ++ place_targets p)) (where_holds-none _ _ A.not_reserved) in
-    go A (words_in g) refl T.0 (not-true _ T.1) (not-true _ tests.1.1) R.1
+    let R = or_parts (any is_prefix_name (place_names p)) (any is_reserved_word (words_in g ++ place_targets p)) (where_holds-none _ _ A.not_reserved) in
+    go A (words_in g) refl T.0 (not-true _ T.1) (not-true _ tests.1.1) R.0 R.1
   where
     go : IsAccepted t (AddRule p g c w) rs → (ts : List (List ℕ)) → words_in g ≡ ts → not (is_empty ts) ≡ true → any (λ x. not (is_target x)) ts ≡ false
-        → any (λ x. not (is_word x)) (words_in w) ≡ false → any is_reserved_word (ts ++ place_targets p) ≡ false
+        → any (λ x. not (is_word x)) (words_in w) ≡ false → any is_prefix_name (place_names p) ≡ false → any is_reserved_word (ts ++ place_targets p) ≡ false
         → reading (text_after t (AddRule p g c w)) ≡ change t (AddRule p g c w)
-    go A [] e f i k r = absurd (cc)
-    go A (x ∷ ts) e f i k r =
+    go A [] e f i k q r = absurd (cc)
+    go A (x ∷ ts) e f i k q r =
         let E = AddRule p g c w in
         let ls = classed_lines t in
         let ws = words_in w in
         let W = rule_words x ts ws i k ((or_parts (is_reserved_word x) (any is_reserved_word (ts ++ place_targets p)) r).0) in
         let N = new_rule-is x ts c ws W in
-        let P = place-is t p A.is_there A.is_one A.define_closed in
+        let P = place-is t p A.is_there A.is_one q A.define_closed in
         let s = P.stretch in
         let C = context_of s.above in
         let H = new_rule x ts c ws in

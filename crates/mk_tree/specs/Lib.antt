@@ -10,4 +10,7 @@ pub mod RunsReplaced
 pub mod NewLines
 pub mod NewLineLaws
 pub mod SpansInLines
+pub mod EachReplaced
+pub mod ConditionalLaws
+pub mod RecipeRunLaws
 pub mod Laws

@@ -1,12 +1,13 @@
 -- Runs of lines of a text replaced, put in and taken out: the lines above stay, and so do those below unless they lean on the
 -- flag.
 use Rattle.std.proofs.Common.{◌≡◌, refl, sym, ap, ◌∙◌, subst, arith, ℕ, List, [], ◌∷◌, ◌++◌, false, length, ◌+◌}
-use Rattle.std.proofs.lemmas.List.{append-nil}
 use Rattle.mk_lines.specs.Lists.{concat}
 use Rattle.mk_lines.specs.LogicalLines.{logical_lines}
 use Rattle.mk_lines.specs.CutLaws.{state_after-append}
 use Rattle.mk_lines.specs.LineCut.{AtStart, line_step, line_state_after}
-use Rattle.mk_lines.specs.LineLaws.{OneLine, OneLine-logical, OneLine-are_lines, AreLines-of, Ends, EndsBefore, lines-together, replace-run}
+use Rattle.mk_lines.specs.LineLaws.{OneLine, OneLine-logical, Ends, EndsBefore, replace-run}
+use Rattle.mk_lines.specs.LineEndLaws.{ends_line-ends}
+use Rattle.mk_lines.specs.Laws.{EndsWhereFollowed}
 use Rattle.mk_lines.specs.Pieces.{replaced}
 use Rattle.mk_lines.specs.PieceLaws.{replaced-one}
 use Rattle.mk_class.specs.Classes.{Class}
@@ -15,9 +16,9 @@ use Rattle.mk_class.specs.ClassTable.{class_of}
 use Rattle.mk_class.specs.ClassedLines.{ClassedLine, classed, classed_lines, context_after_lines}
 use Rattle.mk_class.specs.FlagLaws.{classed-append}
 use Rattle.mk_tree.specs.Documents.{text_of, context_of}
-use Rattle.mk_tree.specs.Items.{items}
+use Rattle.mk_tree.specs.Items.{items, items_of_line}
 use Rattle.mk_tree.specs.Readings.{reading}
-use Rattle.mk_tree.specs.LinePlaces.{reading-two, bytes_of, bytes_of-append, text_of-bytes, context_of-append, AreClassed, AreClassed-cons, RunPlace, located-run}
+use Rattle.mk_tree.specs.LinePlaces.{reading-two, reading-line, bytes_of, bytes_of-append, text_of-bytes, context_of-append, RunPlace, located-run}
 use Rattle.mk_tree.specs.Leaning.{AgreeButForFlag, leans}
 use Rattle.mk_tree.specs.LeaningLaws.{agrees-back, agrees-same, leans-back, leans-same, classed-unless_leans}
 
@@ -144,99 +145,27 @@ pub line-replaced : (t : List ℕ) (above : List ClassedLine) (l : ClassedLine) 
 line-replaced t above l below m k h o ends q same =
     run-replaced_same t above (l ∷ []) below m (record { bytes = m; class = k } ∷ []) h (one-class (context_of above) m k o q) (λ z. cc) ends same
 
--- ---- several lines, each replaced by one
+-- and the reading has its item in the place of the old one
+pub reading-line_replaced : (t : List ℕ) (above : List ClassedLine) (l : ClassedLine) (below : List ClassedLine) (m : List ℕ) (k : Class) → classed_lines t ≡ above ++ l ∷ below
+    → OneLine m → EndsBefore m (bytes_of below) → class_of (context_of above) m ≡ k
+    → context_after (context_of above) k ≡ context_after (context_of above) l.class
+    → reading (text_of above ++ (m ++ text_of below)) ≡ items above ++ (items_of_line k m ++ items below)
+reading-line_replaced t above l below m k h o ends q same =
+    reading-line (text_of above ++ (m ++ text_of below)) above (record { bytes = m; class = k }) below (line-replaced t above l below m k h o ends q same)
 
--- What a line needs to stand in the place of another, in its context: it is one line, which ends where lines follow, and the
--- context after it is the same.
-pub record ReplacesLine (c : Context) (old new : ClassedLine) (following : List ClassedLine) : Type 0 where
-  pub one : OneLine new.bytes
-  pub ends : EndsBefore new.bytes (bytes_of following)
-  pub class : class_of c new.bytes ≡ new.class
-  pub context : context_after c new.class ≡ context_after c old.class
+-- ---- texts that end
 
--- Lines of which each can stand in the place of another.
-abbrev pub ReplaceEach : Context → (old new below : List ClassedLine) → Type 0
-ReplaceEach c [] [] below = Unit {0}
-ReplaceEach c [] (m ∷ ms) below = ⊥
-ReplaceEach c (l ∷ ls) [] below = ⊥
-ReplaceEach c (l ∷ ls) (m ∷ ms) below = ReplacesLine c l m (ls ++ below) × ReplaceEach (context_after c l.class) ls ms below
-
--- a line can stand in its own place
-pub ReplacesLine-self : (c : Context) (l : ClassedLine) (following : List ClassedLine) → OneLine l.bytes → EndsBefore l.bytes (bytes_of following) → class_of c l.bytes ≡ l.class → ReplacesLine c l l following
-ReplacesLine-self c l following o e k = record { one = o; ends = e; class = k; context = refl }
-
--- such lines have their classes
-each-classed : (c : Context) (old new below : List ClassedLine) → ReplaceEach c old new below → AreClassed c new
-each-classed c [] [] below h = refl
-each-classed c [] (m ∷ ms) below h = absurd h
-each-classed c (l ∷ ls) [] below h = absurd h
-each-classed c (l ∷ ls) (m ∷ ms) below h =
-    AreClassed-cons c m ms h.0.class (subst (λ (z : Context). AreClassed z ms) (sym h.0.context) (each-classed (context_after c l.class) ls ms below h.1))
-
--- and lead to the same context
-each-context : (c : Context) (old new below : List ClassedLine) → ReplaceEach c old new below → context_after_lines c new ≡ context_after_lines c old
-each-context c [] [] below h = refl
-each-context c [] (m ∷ ms) below h = absurd h
-each-context c (l ∷ ls) [] below h = absurd h
-each-context c (l ∷ ls) (m ∷ ms) below h =
-    ap (λ (z : Context). context_after_lines z ms) h.0.context ∙ each-context (context_after c l.class) ls ms below h.1
-
-before-first : (c : Context) (t : List ℕ) (ls ms below : List ClassedLine) → ReplaceEach c ls ms below → EndsBefore t (bytes_of (ls ++ below)) → EndsBefore t (bytes_of ms)
-before-first c t ls [] below h e = tt
-before-first c t [] (m ∷ ms) below h e = absurd h
-before-first c t (l ∷ ls) (m ∷ ms) below h e = e
-
--- their text has them as its lines
-each-lines : (c : Context) (old new below : List ClassedLine) → ReplaceEach c old new below → logical_lines (text_of new) ≡ bytes_of new
-each-lines c [] [] below h = refl
-each-lines c [] (m ∷ ms) below h = absurd h
-each-lines c (l ∷ ls) [] below h = absurd h
-each-lines c (l ∷ ls) (m ∷ ms) below h =
-    let d = context_after c l.class in
-    let ih : logical_lines (concat (bytes_of ms)) ≡ bytes_of ms = ap logical_lines (sym (text_of-bytes ms)) ∙ each-lines d ls ms below h.1 in
-    let e : EndsBefore (m.bytes ++ []) (bytes_of ms) = subst (λ z. EndsBefore z (bytes_of ms)) (sym (append-nil m.bytes)) (before-first d m.bytes ls ms below h.1 h.0.ends) in
-    ap logical_lines (ap (λ z. z ++ text_of ms) (sym (append-nil m.bytes)) ∙ ap (λ z. (m.bytes ++ []) ++ z) (text_of-bytes ms))
-    ∙ lines-together (m.bytes ∷ []) (bytes_of ms) (OneLine-are_lines m.bytes h.0.one) (AreLines-of (bytes_of ms) ih) e
+-- a text that ends a line where it is followed does so before those lines
+pub EndsBefore-followed : (t : List ℕ) (ls : List (List ℕ)) → EndsWhereFollowed t ls → EndsBefore t ls
+EndsBefore-followed t [] h = tt
+EndsBefore-followed t (l ∷ ls) h = ends_line-ends t h
 
 -- a text that ends and then one that ends do
 pub Ends-append : (a b : List ℕ) → Ends a → Ends b → Ends (a ++ b)
 unfolding Ends
 Ends-append a b h k = state_after-append line_step AtStart a b ∙ (ap (λ s. line_state_after s b) h ∙ k)
 
-Ends-nothing : Ends []
+-- and no bytes do
+pub Ends-nothing : Ends []
 unfolding Ends
 Ends-nothing = refl
-
--- and ends where lines are below
-each-ends : (c : Context) (old new : List ClassedLine) (b : ClassedLine) (below : List ClassedLine) → ReplaceEach c old new (b ∷ below) → Ends (text_of new)
-each-ends c [] [] b below h = Ends-nothing
-each-ends c [] (m ∷ ms) b below h = absurd h
-each-ends c (l ∷ ls) [] b below h = absurd h
-each-ends c (l ∷ ls) (m ∷ ms) b below h = Ends-append m.bytes (text_of ms) (first ls h.0.ends) (each-ends (context_after c l.class) ls ms b below h.1)
-  where
-    first : (ls : List ClassedLine) → EndsBefore m.bytes (bytes_of (ls ++ (b ∷ below))) → Ends m.bytes
-    first [] e = e
-    first (x ∷ xs) e = e
-
-ends-before : (c : Context) (old new below : List ClassedLine) → ReplaceEach c old new below → EndsBefore (text_of new) (bytes_of below)
-ends-before c old new [] h = tt
-ends-before c old new (b ∷ below) h = each-ends c old new b below h
-
--- Several lines, each replaced by one: the lines above and below stay, and the new ones have their classes.
-pub lines-replaced : (t : List ℕ) (above old below new : List ClassedLine) → classed_lines t ≡ above ++ (old ++ below) → ReplaceEach (context_of above) old new below
-    → classed_lines (text_of above ++ (text_of new ++ text_of below)) ≡ above ++ (new ++ below)
-lines-replaced t above old below new h e =
-    let c = context_of above in
-    run-replaced_same t above old below (text_of new) new h (ap (classed c) (each-lines c old new below e) ∙ each-classed c old new below e)
-    (nothing old new e) (ends-before c old new below e) (each-context c old new below e)
-  where
-    nothing : (old new : List ClassedLine) → ReplaceEach (context_of above) old new below → old ++ below ≡ [] → EndsBefore (text_of above) (logical_lines (text_of new))
-    nothing [] [] e z = tt
-    nothing [] (m ∷ ms) e z = absurd e
-    nothing (l ∷ ls) new e z = cc
-
--- All lines of a text, each replaced by one.
-pub all_lines-replaced : (t : List ℕ) (new : List ClassedLine) → ReplaceEach start (classed_lines t) new [] → classed_lines (text_of new) ≡ new
-all_lines-replaced t new e =
-    ap classed_lines (sym (append-nil (text_of new)))
-    ∙ (lines-replaced t [] (classed_lines t) [] new (sym (append-nil (classed_lines t))) e ∙ append-nil new)
