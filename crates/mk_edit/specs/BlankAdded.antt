@@ -1,12 +1,11 @@
 -- A space put after a text that is the front of a line: it stands for itself, but directly after a fold, which takes it in.
-use Rattle.std.proofs.Common.{◌≡◌, refl, sym, ap, ◌∙◌, subst, ℕ, List, [], ◌∷◌, ◌++◌, map, Bool, true, false, not, ◌&&◌, cond, if◌then◌else◌, append_assoc}
+use Rattle.std.proofs.Common.{◌≡◌, refl, sym, ap, ◌∙◌, subst, ℕ, List, [], ◌∷◌, ◌++◌, map, Bool, true, false, ◌&&◌, cond, if◌then◌else◌, append_assoc}
 use Rattle.std.proofs.lemmas.List.{append-nil}
 use Rattle.mk_lines.specs.Lists.{leading, after_leading}
-use Rattle.mk_lines.specs.ListLaws.{Each, leading-after_leading}
 use Rattle.mk_lines.specs.Bytes.{ByteKind, byte_kind, LineFeed, CarriageReturn, Backslash, Blank, Ordinary}
 use Rattle.mk_lines.specs.Cells.{Cell, Byte, Fold, LfEnd, CrLfEnd, joined_byte, is_blank_cell, raw_bytes, raw_text, prepend, cells}
 use Rattle.mk_lines.specs.CellFaults.{is_fold, has_stray, is_stray, has_bad_fold, is_fold_first, is_backslash_cell}
-use Rattle.mk_lines.specs.CellLaws.{raw_text-append, raw_text-cells, NoLineEnds}
+use Rattle.mk_lines.specs.CellLaws.{NoLineEnds}
 use Rattle.mk_lines.specs.LineCells.{AreLineCells, AreLineCells-cells, cells-are_line_cells, or-left_false, or-right_false, or-both_false}
 use Rattle.mk_lines.specs.LineOfCells.{IsClean}
 use Rattle.mk_class.specs.Lists.{last_passes}

@@ -1,23 +1,13 @@
--- The reading law for the edits of whole lines, each the contract of a public function.
-use Rattle.std.specs.Prelude.{◌≡◌, ℕ, List, Option, Ok}
-use Rattle.mk_lines.specs.Pieces.{Replacement}
-use Rattle.mk_tree.specs.Readings.{reading}
-use Rattle.mk_edit.specs.Edits.{Edit, RemoveAssign, RemoveRule, RemoveRecipe}
-use Rattle.mk_edit.specs.Refusals.{spans, text_after}
-use Rattle.mk_edit.specs.Changes.{change}
+-- The reading law for a recipe line that is set and for a new rule, each the contract of a public function.
+use Rattle.std.specs.Prelude.{ℕ, List, Option}
+use Rattle.mk_edit.specs.Edits.{Place, AddRule, SetRecipe}
+use Rattle.mk_edit.specs.Laws.{ReadsAsChanged}
+use Rattle.mk_edit.specs.declared.edit.Colons.{Colons}
 
--- of every text: where no cause refuses the edit, the text after it reads as the edit's change says
-abbrev pub ReadsAsChanged : Edit → Type 0
-ReadsAsChanged e = (text : List ℕ) (rs : List Replacement) → spans text e ≡ Ok rs → reading (text_after text e) ≡ change text e
+-- a command written in the place of a recipe line's text changes the reading by this item alone
+abbrev pub RecipeSetReadsAsChanged : Type 0
+RecipeSetReadsAsChanged = (nth : Option ℕ) (target : List ℕ) (number : ℕ) (command : List ℕ) → ReadsAsChanged (SetRecipe nth target number command)
 
--- an assignment taken out
-abbrev pub RemovedAssignmentsRead : Type 0
-RemovedAssignmentsRead = (nth : Option ℕ) (name : List ℕ) → ReadsAsChanged (RemoveAssign nth name)
-
--- a recipe line taken out
-abbrev pub RemovedRecipesRead : Type 0
-RemovedRecipesRead = (nth : Option ℕ) (target : List ℕ) (number : ℕ) → ReadsAsChanged (RemoveRecipe nth target number)
-
--- a rule taken out
-abbrev pub RemovedRulesRead : Type 0
-RemovedRulesRead = (nth : Option ℕ) (target : List ℕ) → ReadsAsChanged (RemoveRule nth target)
+-- a new rule puts its item into the reading at its place
+abbrev pub RuleAddedReadsAsChanged : Type 0
+RuleAddedReadsAsChanged = (place : Place) (targets : List ℕ) (colons : Colons) (prereqs : List ℕ) → ReadsAsChanged (AddRule place targets colons prereqs)

@@ -1,11 +1,9 @@
 -- An assignment's line with other cells for its value: one line, of the same assignment with that value.
-use Rattle.std.proofs.Common.{◌≡◌, refl, sym, ap, ◌∙◌, subst, ℕ, List, [], ◌∷◌, ◌++◌, map, Bool, true, false, append_assoc, reverse, Option, Some}
+use Rattle.std.proofs.Common.{◌≡◌, sym, ap, ◌∙◌, subst, ℕ, List, [], ◌∷◌, ◌++◌, map, Bool, true, false, append_assoc, reverse, Option, Some}
 use Rattle.std.proofs.lemmas.List.{append-nil, map-append}
 use Rattle.std.specs.Prelude.{nat_lt}
 use Rattle.mk_lines.specs.Lists.{concat, leading}
-use Rattle.mk_lines.specs.ListLaws.{Each, FirstFails, concat-append, Each-append, Each-left, Each-right, leading-each, leading-append_all}
-use Rattle.mk_lines.specs.Bytes.{byte_kind}
-use Rattle.mk_lines.specs.Bytes.ByteKind.{Ordinary}
+use Rattle.mk_lines.specs.ListLaws.{Each, concat-append, Each-append, Each-left, Each-right, leading-each, leading-append_all}
 use Rattle.mk_lines.specs.PhysicalLines.{line_end, line_end_bytes, without_line_end}
 use Rattle.mk_lines.specs.Cells.{Cell, Byte, joined_byte, raw_text, line_cells}
 use Rattle.mk_lines.specs.CellFaults.{has_stray}
@@ -17,7 +15,6 @@ use Rattle.mk_lines.specs.LineCells.{AreLineCells, AreLineCells-left, AreLineCel
 use Rattle.mk_lines.specs.CellsReplaced.{IsSafeTail, ends_ordinary, ends_ordinary-split}
 use Rattle.mk_lines.specs.Units.{units, is_closed}
 use Rattle.mk_lines.specs.UnitLaws.{concat-units, units-replaced}
-use Rattle.mk_lines.specs.Words.{is_gap}
 use Rattle.mk_class.specs.CutTexts.{cut_text, is_no_hash}
 use Rattle.mk_class.specs.Assignments.{Assignment, assignment}
 use Rattle.mk_class.specs.AssignmentLaws.{AreValue, assignment_units, operator-closed}
@@ -45,7 +42,7 @@ abbrev pub cells_with : (a : Assignment Cell) → (V : List Cell) → (G rest : 
 cells_with a V G R = concat (before_value a) ++ (V ++ concat (G ++ R))
 
 -- the units of a line that is an assignment, the units X of it being the value and some of the blanks after it
-parts-units : (l : List ℕ) (a : Assignment Cell) (X G : List (List Cell)) (p : AssignParts l a) → a.value ++ a.after ≡ X ++ G
+pub parts-units : (l : List ℕ) (a : Assignment Cell) (X G : List (List Cell)) (p : AssignParts l a) → a.value ++ a.after ≡ X ++ G
     → units joined_byte (line_cells l) ≡ before_value a ++ (X ++ (G ++ p.rest))
 parts-units l a X G p h =
     let s : assignment_units a ++ p.rest ≡ before_value a ++ ((a.value ++ a.after) ++ p.rest) = simp append_assoc in

@@ -2,8 +2,8 @@
 //! reading, and why it may be refused.
 //!
 //! - [`edit`]: the words of edits.
-//! - [`laws`]: theorems on the definitions of edits.
 //! - [`refusal`]: why an edit is refused.
+//! - [`laws`]: theorems on the definitions of edits.
 #![tactic(auto)]
 
 pub mod edit;

@@ -1,18 +1,15 @@
-//! The reading law for the edits that take out, put in or replace whole lines.
-ghost use Rattle.mk_edit.specs.BlockLaws.{RemovedAssignmentsRead, RemovedRecipesRead, RemovedRulesRead};
+//! The reading law for a recipe line that is set and for a new rule.
+ghost use Rattle.mk_edit.specs.BlockLaws.{RecipeSetReadsAsChanged, RuleAddedReadsAsChanged};
 
-/// Where an assignment is taken out, its item goes, and every other item stays as it is.
-pub fn removed_assignments_read()
-    ensures { RemovedAssignmentsRead }
+/// An accepted edit of a recipe line changes the text of its item, and no other item changes. The
+/// line may have been several physical lines; it is one then.
+pub fn recipe_set_reads_as_changed()
+    ensures { RecipeSetReadsAsChanged }
 {}
 
-/// Where a recipe line is taken out, its item goes, and every other item stays as it is.
-pub fn removed_recipes_read()
-    ensures { RemovedRecipesRead }
-{}
-
-/// Where a rule is taken out, the items of its header and of its recipe lines go, and every other
-/// item stays as it is. Blank lines and comments between these lines go too; they have no items.
-pub fn removed_rules_read()
-    ensures { RemovedRulesRead }
+/// An accepted new rule puts its item into the reading, a header with its targets, its separator and
+/// its prerequisites, and no other item changes. A last line without line end gets one where the
+/// rule comes last.
+pub fn rule_added_reads_as_changed()
+    ensures { RuleAddedReadsAsChanged }
 {}
