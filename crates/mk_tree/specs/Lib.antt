@@ -14,6 +14,7 @@ pub mod NewLineLaws
 pub mod SpansInLines
 pub mod EachReplaced
 pub mod ConditionalLaws
+pub mod RecipeRunLaws
 pub mod ChangeLaws
 pub mod Laws
 pub mod Contents
