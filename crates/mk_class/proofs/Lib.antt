@@ -1,3 +1,5 @@
+mod HeaderPartLemmas
+mod HeaderLemmas
 mod AssignmentLemmas
 mod ScanLemmas
 mod WorkedRows

@@ -14,6 +14,7 @@ pub mod ContextPlaces
 pub mod ClassTable
 pub mod TextClasses
 pub mod Scans
+pub mod HeaderParts
 pub mod AssignmentPlaces
 pub mod FirstWords
 pub mod Arguments

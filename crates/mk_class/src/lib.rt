@@ -14,6 +14,7 @@ pub mod argument;
 pub mod assignment;
 pub mod class;
 pub mod context;
+mod header;
 mod keyword;
 pub mod laws;
 pub mod meter;
