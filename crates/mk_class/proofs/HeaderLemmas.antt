@@ -232,3 +232,7 @@ any-same p q h (u ∷ us) = rw (h u, any-same p q h us) refl
 pub leading-same : (p q : List ℕ → Bool) → ((u : List ℕ) → p u ≡ q u) → (us : List (List ℕ)) → leading p us ≡ leading q us
 leading-same p q h [] = refl
 leading-same p q h (u ∷ us) = rw (h u, leading-same p q h us) refl
+
+-- a `#` is no first unit but `#`
+pub first-hash : (s : List ℕ) → 1 ≤ length s → get_or s 0 0 ≡ 35 → false ≡ first_passes (λ u. not (is_hash itself u)) (units itself s)
+first-hash s h e = sym (ap (first_passes (λ u. not (is_hash itself u))) (units-at s 35 refl h e))

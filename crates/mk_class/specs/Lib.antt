@@ -40,4 +40,6 @@ pub mod AssignmentMaps
 pub mod HeaderMaps
 pub mod PlaceMaps
 pub mod TextClassLaws
+pub mod LineReads
 pub mod Laws
+pub mod StepLaws

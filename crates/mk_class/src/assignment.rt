@@ -137,7 +137,7 @@ fn read_definition(text: &[u8], len: usize) -> Option<Assignment>
 }
 
 /// What follows the name at the front of a text.
-fn after_name(text: &[u8]) -> &[u8]
+pub(crate) fn after_name(text: &[u8]) -> &[u8]
     ensures rest { units itself result.now ≡ from (ends_name itself) (units itself text.now) }
     ensures within { length result.now ≤ length text.now }
 {
@@ -163,7 +163,7 @@ fn ends_name(text: &[u8]) -> bool
 }
 
 /// The longest operator at the front of a text, and what follows it.
-fn read_operator(text: &[u8]) -> Option<(Flavor, &[u8])>
+pub(crate) fn read_operator(text: &[u8]) -> Option<(Flavor, &[u8])>
     ensures found { MatchOption result (operator_at (map (symbol itself) (units itself text.now)) ≡ None) (λ found. IsOperatorAt (units itself text.now) found.0 (units itself found.1.now)) }
     ensures within { MatchOption result (0 ≤ 0) (λ found. length found.1.now ≤ length text.now) }
 {

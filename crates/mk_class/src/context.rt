@@ -10,6 +10,12 @@ ghost use Rattle.mk_class.specs.RecipePrefix.{is_prefix_led};
 use crate::class::Class;
 use std::marker::Model;
 
+/// The most conditionals that may be open at once: this project's limit.
+pub const MAX_CONDITIONALS: u16 = 256;
+
+/// The most defines that may be open at once, which no text within the limit of its bytes reaches.
+pub const MAX_DEFINES: u32 = 16_777_216;
+
 /// What the lines before a line say of recipe lines.
 ///
 /// Which lines set and which leave it is this project's profile.
@@ -87,7 +93,7 @@ impl Context {
         self.prefix
     }
 
-    /// How many defines are open, at most 16,777,216. Takes no memory.
+    /// How many defines are open, at most [`MAX_DEFINES`]. Takes no memory.
     pub fn defines(&self) -> u32
         ensures number { result ≡ self.now.defines }
         ensures few { result ≤ 2 ^ 24 }
@@ -95,7 +101,7 @@ impl Context {
         self.defines
     }
 
-    /// How many conditionals are open, at most 256. Takes no memory.
+    /// How many conditionals are open, at most [`MAX_CONDITIONALS`]. Takes no memory.
     pub fn conds(&self) -> u16
         ensures number { result ≡ self.now.conditionals }
         ensures few { result ≤ 256 }
@@ -114,8 +120,8 @@ impl Context {
     ///
     /// It asks for what a line of the class has before it: an open conditional for an `endif`, an
     /// open define for an `endef`, and two for a line in a define that closes one; and for what the
-    /// limits leave: fewer than 256 open conditionals for a line that opens one, and fewer than
-    /// 16,777,216 open defines for a line in a define that opens one.
+    /// limits leave: fewer than [`MAX_CONDITIONALS`] open for a line that opens a conditional, and
+    /// fewer than [`MAX_DEFINES`] for a line in a define that opens one.
     pub fn step(self, class: &Class) -> Context
         requires { Admits self class.now }
         ensures places { result ≡ context_after_places self class.now }

@@ -20,6 +20,8 @@ pub mod laws;
 pub mod meter;
 pub mod rule;
 mod scan;
+#[cfg(test)]
+mod tests;
 
 pub use argument::{is_command, is_name, is_target, is_value, is_word};
 pub use assignment::{Assignment, Flavor, Modifier, TargetAssignment};

@@ -11,7 +11,7 @@ ghost use Rattle.mk_class.specs.CutTexts.{after_head, cut_text, head};
 ghost use Rattle.mk_class.specs.TextClasses.{itself};
 ghost use Rattle.mk_class.specs.Scans.{AreUnmarked, IsSplitAt, is_one_byte_of, is_other};
 ghost use Rattle.mk_class.specs.Lists.{any, first_passes};
-ghost use Rattle.mk_class.specs.Symbols.{is_colon, is_equals};
+ghost use Rattle.mk_class.specs.Symbols.{is_colon, is_equals, is_hash};
 
 use mk_lines::after_first_unit;
 
@@ -83,6 +83,13 @@ pub(crate) fn before<'a>(text: &'a [u8], rest: &[u8]) -> &'a [u8]
     ensures length { length result.now + length rest.now ≡ length text.now }
 {
     &text[..text.len() - rest.len()]
+}
+
+/// Whether a text has a unit `#`.
+pub(crate) fn has_hash(text: &[u8]) -> bool
+    ensures { result ≡ any (is_hash itself) (units itself text.now) }
+{
+    has_unit(text, b'#')
 }
 
 /// The cut text of a line, which is its joined text before a comment.
