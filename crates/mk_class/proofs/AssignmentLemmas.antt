@@ -60,7 +60,7 @@ after_name-step (x ∷ t) r h k e =
 -- ---- definitions
 
 -- the parts of a definition, each of what is left after those before it
-definition-parts : (us N R O : List (List ℕ)) → N ≡ after_blanks itself us → R ≡ from (ends_name itself) N → O ≡ after_blanks itself R
+pub definition-parts : (us N R O : List (List ℕ)) → N ≡ after_blanks itself us → R ≡ from (ends_name itself) N → O ≡ after_blanks itself R
     → definition itself us ≡ defined_by itself (operator_at (map (symbol itself) O)) (blanks itself us) (until (ends_name itself) N) (blanks itself R) O
 definition-parts us N R O h k l = rw (l, k, h) refl
 
@@ -141,18 +141,18 @@ definition_unnamed at t nm an h i q =
 -- ---- modifiers
 
 -- whether a unit is no gap
-abbrev no_gap : List ℕ → Bool
+abbrev pub no_gap : List ℕ → Bool
 no_gap u = not (is_gap itself u)
 
 -- the first word of some units, and what follows it
-abbrev first_word : List (List ℕ) → List (List ℕ)
+abbrev pub first_word : List (List ℕ) → List (List ℕ)
 first_word us = leading no_gap (after_blanks itself us)
 
-abbrev after_first_word : List (List ℕ) → List (List ℕ)
+abbrev pub after_first_word : List (List ℕ) → List (List ℕ)
 after_first_word us = after_leading no_gap (after_blanks itself us)
 
 -- a definition, or else what a modifier and what follows it are
-abbrev or_modified : Option (Assignment ℕ) → Option Modifier → (gaps word : List (List ℕ)) → Option (Assignment ℕ) → Option (Assignment ℕ)
+abbrev pub or_modified : Option (Assignment ℕ) → Option Modifier → (gaps word : List (List ℕ)) → Option (Assignment ℕ) → Option (Assignment ℕ)
 or_modified (Some a) m g w o = Some a
 or_modified None None g w o = None
 or_modified None (Some m) g w o = after_units itself g (after_modifier itself m w o)
@@ -185,7 +185,7 @@ tokens-word_first u (v ∷ us) h = ap (λ g. before_tokens g u (tokens itself (v
     go false e ih = ap (before_tokens false u) (ih e)
 
 -- an assignment is a definition, or else a modifier and an assignment
-assignment-step : (us : List (List ℕ)) → assignment itself us ≡ or_modified (definition itself us) (modifier_of itself (first_word us)) (blanks itself us) (first_word us) (assignment itself (after_first_word us))
+pub assignment-step : (us : List (List ℕ)) → assignment itself us ≡ or_modified (definition itself us) (modifier_of itself (first_word us)) (blanks itself us) (first_word us) (assignment itself (after_first_word us))
 assignment-step [] = refl
 assignment-step (u ∷ us) = go (is_gap itself u) refl (assignment-step us)
   where
@@ -229,7 +229,7 @@ definition-first at us r h k = h ∙ go (definition itself us) refl (ap is_some 
     go None e z = cc
     go (Some a) e z = ap (placed at) (sym (assignment-step us ∙ ap (λ d. or_modified d (modifier_of itself (first_word us)) (blanks itself us) (first_word us) (assignment itself (after_first_word us))) e))
 
-map-itself : (xs : List ℕ) → map itself xs ≡ xs
+pub map-itself : (xs : List ℕ) → map itself xs ≡ xs
 map-itself [] = refl
 map-itself (x ∷ xs) = ap (λ z. x ∷ z) (map-itself xs)
 

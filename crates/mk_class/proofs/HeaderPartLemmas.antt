@@ -119,7 +119,7 @@ bar-width us n false o h =
     let b : width o ≡ 0 = ap width h.2 in
     omega (arith, a, b)
 
-colons-are : (us : List (List ℕ)) (s : Separator) (start rest : List (List ℕ)) → AreSeparated us s start rest → (separated itself us).colons ++ rest ≡ start
+pub colons-are : (us : List (List ℕ)) (s : Separator) (start rest : List (List ℕ)) → AreSeparated us s start rest → (separated itself us).colons ++ rest ≡ start
 colons-are us s start rest h =
     let F = from (begins_separator itself) us in
     let a : separator_at (map (symbol itself) F) ≡ s = ap (λ z. separator_at (map (symbol itself) z)) (sym h.0) ∙ h.1.0 in

@@ -1,3 +1,4 @@
+mod ReadingLemmas
 mod HeaderPartLemmas
 mod HeaderLemmas
 mod AssignmentLemmas
