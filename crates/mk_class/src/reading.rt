@@ -20,7 +20,7 @@ use crate::assignment::{
     Flavor, TargetAssignment, after_name, assignment_at_end, read_assignment, read_operator,
 };
 use crate::class::Class;
-use crate::context::{Context, Flag};
+use crate::context::{Context, Flag, MAX_CONDITIONALS};
 use crate::header::{has_colon, read_header, separate};
 use crate::keyword::{body_class, directive_class, is_text};
 use crate::meter::Meter;
@@ -36,11 +36,12 @@ use std::alloc::Allocator;
 /// the answer is a fault. A line without folds takes no memory. The time is linear in the line's
 /// bytes.
 ///
-/// It asks for fewer than 16,777,216 open defines.
+/// It asks for fewer than [`MAX_DEFINES`](crate::context::MAX_DEFINES) open defines.
 ///
 /// # Errors
 ///
-/// [`Fault::TooDeep`] where the line opens a conditional and 256 are open: this project's profile.
+/// [`Fault::TooDeep`] where the line opens a conditional and [`MAX_CONDITIONALS`] are open: this project's
+/// profile.
 /// [`Fault::NoMemory`] where the cells of a line with folds could not be kept.
 pub fn classify<A: Allocator + Copy>(
     alloc: A,
@@ -68,7 +69,8 @@ pub fn classify<A: Allocator + Copy>(
 ///
 /// # Errors
 ///
-/// [`Fault::TooDeep`] where the line opens a conditional and 256 are open: this project's profile.
+/// [`Fault::TooDeep`] where the line opens a conditional and [`MAX_CONDITIONALS`] are open: this project's
+/// profile.
 pub fn class_with_cells<A: Allocator>(
     line: &[u8],
     cells: &Cells<A>,
@@ -101,13 +103,13 @@ fn is_unreadable<A: Allocator>(cells: &Cells<A>) -> bool
     cells.has_stray() || cells.has_bad_fold()
 }
 
-/// Whether a line of this class opens a conditional where 256 are open.
+/// Whether a line of this class opens a conditional where [`MAX_CONDITIONALS`] are open.
 fn is_too_deep(class: &Class, context: Context) -> bool
     ensures deep { result ≡ true → (class.now ≡ If) × (context.conditionals ≡ 256) }
     ensures fits { result ≡ false → class.now ≡ If → context.conditionals < 256 }
 {
     match class {
-        Class::If => context.conds() == 256,
+        Class::If => context.conds() == MAX_CONDITIONALS,
         _ => false,
     }
 }
