@@ -3,3 +3,4 @@
 mod arguments;
 mod contexts;
 mod keywords;
+mod readings;
