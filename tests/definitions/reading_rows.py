@@ -2,15 +2,15 @@
 """Readings of texts as equations that the checker computes.
 
 Turns a table of texts and their readings into a file of equations, by which the checker computes the
-definitions of `crates/mk_class/specs` (the reading itself is put together in
-`crates/mk_class/proofs/Readings.antt`). Where the file checks, the definitions give each reading.
+definitions of `crates/mk_class/specs` and, of the reading itself, `crates/mk_tree/specs`. Where the
+file checks, the definitions give each reading.
 
-    reading_rows.py TABLE [COUNT] > crates/mk_class/proofs/NAME.antt
+    reading_rows.py TABLE [COUNT] > crates/mk_tree/proofs/NAME.antt
 
 With COUNT only the first COUNT rows are taken. The crate keeps two files, made by
 
-    reading_rows.py tests/cases/readings/worked.tsv > crates/mk_class/proofs/WorkedReadings.antt
-    reading_rows.py tests/cases/readings/random.tsv > crates/mk_class/proofs/RandomReadings.antt
+    reading_rows.py tests/cases/readings/worked.tsv > crates/mk_tree/proofs/WorkedReadings.antt
+    reading_rows.py tests/cases/readings/random.tsv > crates/mk_tree/proofs/RandomReadings.antt
 
 A table has the columns name, makefile and reading, between tabs. In a column \\\\, \\t, \\n, \\r and
 \\xHH stand for a backslash, a tab, a line end, a return and the byte HH. A reading is a Python tuple
@@ -119,9 +119,10 @@ IMPORTS = [
     ("Rattle.mk_class.specs.declared.assignment.Flavor.TheVariants", list(FLAVORS.values())),
     ("Rattle.mk_class.specs.declared.assignment.Modifier.TheVariants", list(MODIFIERS.values())),
     ("Rattle.mk_class.specs.declared.rule.Separator.TheVariants", list(SEPARATORS.values())),
-    ("Rattle.mk_class.proofs.Readings", ["reading", "Sets"]),
+    ("Rattle.mk_tree.specs.Readings", ["reading"]),
+    ("Rattle.mk_tree.specs.Items", ["Sets"]),
     (
-        "Rattle.mk_class.proofs.Readings.Item",
+        "Rattle.mk_tree.specs.Items.Item",
         ["Assign", "TargetAssign", "Header", "Recipe", "Endef", "Body", "Opaque", "DefineHead", "If", "Else", "Endif"]
         + ["Directive", "Rough"],
     ),

@@ -1,14 +1,17 @@
 -- Laws of classes and assignments, each the contract of a public function.
-use Rattle.std.specs.Prelude.{◌≡◌, ℕ, ◌+◌, List, [], ◌++◌, Some, None, true, false}
+use Rattle.std.specs.Prelude.{◌≡◌, ℕ, ◌+◌, nat_lt, List, [], ◌++◌, Some, None, true, false}
 use Rattle.mk_lines.specs.Lists.{concat}
 use Rattle.mk_lines.specs.ListLaws.{Each, FirstFails, LastFails}
+use Rattle.mk_lines.specs.Cells.{joined_text, line_cells}
 use Rattle.mk_lines.specs.Units.{units, is_closed}
 use Rattle.mk_lines.specs.Words.{is_gap}
 use Rattle.mk_class.specs.Assignments.{Assignment, assignment}
 use Rattle.mk_class.specs.AssignmentsAtEquals.{assignment_at_equals, is_no_equals}
 use Rattle.mk_class.specs.RecipePrefix.{is_prefix_led}
 use Rattle.mk_class.specs.Contexts.{Context, start}
-use Rattle.mk_class.specs.ClassTable.{class_of}
+use Rattle.mk_class.specs.ClassTable.{class_of, is_unreadable}
+use Rattle.mk_class.specs.ClassPlaces.{class_places}
+use Rattle.mk_class.specs.TextClasses.{text_class}
 use Rattle.mk_class.specs.ClassedLines.{classed, context_after_lines, is_led_first}
 use Rattle.mk_class.specs.ContextsOfLines.{flag_after_lines, prefix_after_lines, class_count, opens_define, closes_define, opens_conditional, closes_conditional}
 use Rattle.mk_class.specs.ClassLaws.{FitsCounts}
@@ -48,6 +51,13 @@ ContextsOfAllLines = (lines : List (List ℕ)) →
 -- closes one, each other line stands in none, and an Else or Endif in a conditional.
 abbrev pub ClassesFitCounts : Type 0
 ClassesFitCounts = (context : Context) (line : List ℕ) → FitsCounts context.defines context.conditionals (class_of context line)
+
+-- the class of a line, with places, is that of its joined text: beside the text it depends only on the context, on whether the
+-- line begins with the recipe prefix, and on whether it has a stray byte or a bad fold
+abbrev pub ClassesAreOfJoinedTexts : Type 0
+ClassesAreOfJoinedTexts = (context : Context) (line : List ℕ) →
+    class_places (class_of context line)
+    ≡ text_class (is_prefix_led context.prefix line) context.defines context.flag (nat_lt 0 context.conditionals) (is_unreadable (line_cells line)) (joined_text (line_cells line))
 
 -- ---- headers
 

@@ -71,12 +71,14 @@ abbrev pub map_token : {A B : Type 0} → (A → B) → Token A → Token B
 map_token f (Gap u) = Gap (map f u)
 map_token f (Word w) = Word (map (map f) w)
 
-concat-map : {A B : Type 0} (f : A → B) (us : List (List A)) → concat (map (map f) us) ≡ map f (concat us)
+-- images of lists joined are the image of the lists joined
+pub concat-map : {A B : Type 0} (f : A → B) (us : List (List A)) → concat (map (map f) us) ≡ map f (concat us)
 concat-map f [] = refl
 concat-map f (u ∷ us) = ap (λ z. map f u ++ z) (concat-map f us) ∙ sym (map-append f u (concat us))
 
 module _ {A B : Type 0} (f : A → B) (byte : B → ℕ) where
-  is_gap-map : (u : List A) → is_gap byte (map f u) ≡ is_gap (λ x. byte (f x)) u
+  -- the image of a unit is a gap where the unit is
+  pub is_gap-map : (u : List A) → is_gap byte (map f u) ≡ is_gap (λ x. byte (f x)) u
   is_gap-map [] = refl
   is_gap-map (x ∷ []) = refl
   is_gap-map (x ∷ y ∷ u) = refl
@@ -94,10 +96,17 @@ module _ {A B : Type 0} (f : A → B) (byte : B → ℕ) where
       ap (λ g. before_tokens g (map f u) (tokens byte (map (map f) us))) (is_gap-map u)
       ∙ (ap (before_tokens (is_gap (λ x. byte (f x)) u) (map f u)) (tokens-map us) ∙ before-map (is_gap (λ x. byte (f x)) u) u (tokens (λ x. byte (f x)) us))
 
-  token_words-map : (ts : List (Token A)) → token_words (map (map_token f) ts) ≡ map (map f) (token_words ts)
+  -- the words among the images of tokens are the images of the words
+  pub token_words-map : (ts : List (Token A)) → token_words (map (map_token f) ts) ≡ map (map f) (token_words ts)
   token_words-map [] = refl
   token_words-map (Gap u ∷ ts) = token_words-map ts
   token_words-map (Word w ∷ ts) = ap (λ z. z ∷ token_words (map (map_token f) ts)) (concat-map f w) ∙ ap (λ z. map f (concat w) ∷ z) (token_words-map ts)
+
+  -- the units of the images of tokens are the images of the units
+  pub token_units-map : (ts : List (Token A)) → token_units (map (map_token f) ts) ≡ map (map f) (token_units ts)
+  token_units-map [] = refl
+  token_units-map (Gap u ∷ ts) = ap (λ z. map f u ∷ z) (token_units-map ts)
+  token_units-map (Word w ∷ ts) = ap (λ z. map (map f) w ++ z) (token_units-map ts) ∙ sym (map-append (map f) w (token_units ts))
 
   -- the words of an image are the images of the words: so of the cells of a line and of its joined text
   pub words-map : (t : List A) → words byte (map f t) ≡ map (map f) (words (λ x. byte (f x)) t)

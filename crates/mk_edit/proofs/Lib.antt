@@ -1,0 +1,3 @@
+mod Outcomes
+mod WorkedEdits
+mod RandomEdits

@@ -1,0 +1,35 @@
+-- Spots: a line with those above and below it, so that a place is no number.
+use Rattle.std.specs.Prelude.{ℕ, suc, zero, Bool, true, false, List, [], ◌∷◌, map, Option, Some, None}
+use Rattle.mk_class.specs.ClassedLines.{ClassedLine}
+
+pub record Spot : Type 0 where
+  pub above : List ClassedLine
+  pub line : ClassedLine
+  pub below : List ClassedLine
+
+-- a spot with one more line above it
+abbrev pub under : ClassedLine → Spot → Spot
+under l s = record s { above = l ∷ s.above }
+
+-- a spot before others, where it is one
+abbrev pub spot_if : Bool → Spot → List Spot → List Spot
+spot_if true s ss = s ∷ ss
+spot_if false s ss = ss
+
+-- the spots of the lines that pass the test, in order
+abbrev pub spots : (ClassedLine → Bool) → List ClassedLine → List Spot
+spots test [] = []
+spots test (l ∷ ls) = spot_if (test l) (record { above = []; line = l; below = ls }) (map (under l) (spots test ls))
+
+-- the nth of a list, from 1
+abbrev pub nth_of : {A : Type 0} → ℕ → List A → Option A
+nth_of n [] = None
+nth_of zero (x ∷ xs) = None
+nth_of (suc zero) (x ∷ xs) = Some x
+nth_of (suc (suc n)) (x ∷ xs) = nth_of (suc n) xs
+
+-- the nth of a list, or, where no number is given, the only one
+abbrev pub picked : {A : Type 0} → Option ℕ → List A → Option A
+picked None (x ∷ []) = Some x
+picked None xs = None
+picked (Some n) xs = nth_of n xs

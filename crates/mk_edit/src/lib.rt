@@ -1,0 +1,14 @@
+//! Edits of a makefile: what each is, which spans of the text it replaces, what it does to the
+//! reading, and why it may be refused.
+//!
+//! - [`edit`]: the words of edits.
+//! - [`refusal`]: why an edit is refused.
+//! - [`laws`]: theorems on the definitions of edits.
+#![tactic(auto)]
+
+pub mod edit;
+pub mod laws;
+pub mod refusal;
+
+pub use edit::Colons;
+pub use refusal::{Field, Refusal};

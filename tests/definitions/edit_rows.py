@@ -1,0 +1,216 @@
+#!/usr/bin/env python3
+"""Edits as equations that the checker computes.
+
+Turns tables of makefiles and scripts with their answers into a file of equations, by which the checker
+computes the definitions of `crates/mk_edit/specs`. Where the file checks, the definitions give each
+answer: of an accepted edit the text after it, and that the stated change of the reading is what this
+text reads as; of a refused one the refusal.
+
+    edit_rows.py TABLE > crates/mk_edit/proofs/NAME.antt
+
+Rows whose script is not one edit alone are left out. The crate keeps two files, made by
+
+    edit_rows.py tests/cases/runs.tsv > crates/mk_edit/proofs/WorkedEdits.antt
+    edit_rows.py tests/cases/edits/random.tsv > crates/mk_edit/proofs/RandomEdits.antt
+
+A table has the columns name, makefile, script, stdout, stderr and status, and perhaps more, between
+tabs. In a column \\\\, \\t, \\n, \\r and \\xHH stand for a backslash, a tab, a line end, a return and
+the byte HH.
+"""
+
+import re
+import sys
+from pathlib import Path
+
+from reading_rows import FLAVORS, antt_text, unescape
+
+COLONS = {b":": "One", b"::": "Two"}
+
+FIELDS = {
+    "place": "Place",
+    "name": "Name",
+    "value": "Value",
+    "targets": "Targets",
+    "prereqs": "Prereqs",
+    "target": "Target",
+    "word": "Word",
+    "line": "Line",
+    "old": "Old",
+    "new": "New",
+}
+REFUSALS = {
+    1: "BadArgument",
+    2: "Reserved",
+    3: "RecipePrefix",
+    4: "NoSuch",
+    5: "Ambiguous",
+    6: "Absent",
+    7: "Already",
+    8: "Taken",
+    9: "SharedRule",
+    10: "Straddles",
+    11: "OpenValue",
+    12: "OpenLine",
+    13: "OpenDefine",
+    14: "Leans",
+    15: "TooLong",
+}
+
+
+# ---- the script
+
+
+def fields_of(line):
+    """The fields of a script's line."""
+    quoted = rb'"((?:[^"\\]|\\["\\])*)"(?=[ \t]|$)'
+    fields = []
+    at = 0
+    while line[at:].strip(b" \t"):
+        at += len(line[at:]) - len(line[at:].lstrip(b" \t"))
+        if line[at : at + 1] == b'"':
+            found = re.compile(quoted).match(line, at)
+            if found is None:
+                raise ValueError("a bad quote")
+            fields.append(re.sub(rb'\\(["\\])', rb"\1", found.group(1)))
+            at = found.end()
+        else:
+            found = re.compile(rb"[^ \t]+").match(line, at)
+            fields.append(found.group())
+            at = found.end()
+    return fields
+
+
+def commands_of(script):
+    """The commands of a script, each a list of fields."""
+    lines = script.split(b"\n")
+    lines = [line[:-1] if line.endswith(b"\r") and at < len(lines) - 1 else line for at, line in enumerate(lines)]
+    return [fields_of(line) for line in lines if line.strip(b" \t") and not line.startswith(b"#")]
+
+
+def number_of(nth):
+    """A number that may be left out, as a term."""
+    return "None" if nth is None else f"(Some {nth})"
+
+
+def place_of(nth, fields):
+    """The place at the front of fields as a term, and the fields after it."""
+    if fields[0] == b"bottom":
+        return "Bottom", fields[1:]
+    name = {b"before-var": "BeforeVar", b"after-var": "AfterVar", b"before-rule": "BeforeRule"}[fields[0]]
+    return f"({name} {number_of(nth)} {antt_text(fields[1])})", fields[2:]
+
+
+def antt_edit(fields):
+    """A command as the term of its edit, or None where it is no edit."""
+    nth = None
+    if fields[0] == b"nth":
+        nth = int(fields[1])
+        fields = fields[2:]
+    command, *rest = fields
+    text, number = antt_text, number_of(nth)
+    if command in (b"undo", b"redo", b"begin", b"end", b"cancel"):
+        return None
+    if command == b"assign":
+        place, (name, operator, value) = place_of(nth, rest)
+        return f"(AddAssign {place} {text(name)} {FLAVORS[operator]} {text(value)})"
+    if command == b"rule":
+        place, (targets, colons, prereqs) = place_of(nth, rest)
+        return f"(AddRule {place} {text(targets)} {COLONS[colons]} {text(prereqs)})"
+    if command in (b"depend", b"depend-order"):
+        order = "true" if command == b"depend-order" else "false"
+        return f"(AddPrereq {order} {number} {text(rest[0])} {text(rest[1])})"
+    if command == b"recipe-set":
+        return f"(SetRecipe {number} {text(rest[0])} {int(rest[1])} {text(rest[2])})"
+    if command == b"recipe-del":
+        return f"(RemoveRecipe {number} {text(rest[0])} {int(rest[1])})"
+    if command == b"rename":
+        return f"(RenameTarget {text(rest[0])} {text(rest[1])})"
+    name = {
+        b"set": "SetValue",
+        b"append": "AppendValue",
+        b"unset": "RemoveAssign",
+        b"unrule": "RemoveRule",
+        b"undepend": "RemovePrereq",
+        b"recipe": "AddRecipe",
+    }[command]
+    return f"({name} {number} " + " ".join(text(field) for field in rest) + ")"
+
+
+# ---- the answers
+
+
+def antt_refusal(report):
+    """The refusal of a report line as a term."""
+    number, _, *detail = report.rstrip("\n").split(": refused ")[1].split(" ")
+    name = REFUSALS[int(number)]
+    if name == "BadArgument":
+        return f"(BadArgument field.{FIELDS[detail[0]]})"
+    return f"({name} {detail[0]})" if detail else name
+
+
+def equations_of(row):
+    """The equations of a row; none where its script is not one edit or the whole run fails."""
+    if row["status"] not in ("0", "1"):
+        return []
+    commands = commands_of(unescape(row["script"]).encode("latin-1"))
+    if len(commands) != 1:
+        return []
+    edit = antt_edit(commands[0])
+    if edit is None:
+        return []
+    text = antt_text(unescape(row["makefile"]).encode("latin-1"))
+    report = unescape(row["stderr"])
+    if report:
+        return [f"outcome {text} {edit} ≡ Err {antt_refusal(report)}"]
+    after = antt_text(unescape(row["stdout"]).encode("latin-1"))
+    return [f"outcome {text} {edit} ≡ Ok {after}", f"reads_as_changed {text} {edit} {after} ≡ true"]
+
+
+# ---- the file
+
+# The modules that a file may need, and their names; it imports those that it has.
+IMPORTS = [
+    ("Rattle.std.proofs.Common", ["◌≡◌", "refl", "[]", "Some", "None", "true", "false"]),
+    ("Rattle.std.specs.Prelude", ["codes", "Ok", "Err"]),
+    ("Rattle.mk_class.specs.declared.assignment.Flavor.TheVariants", list(FLAVORS.values())),
+    ("Rattle.mk_edit.specs.declared.edit.Colons.TheVariants", list(COLONS.values())),
+    ("Rattle.mk_edit.specs.declared.refusal.Refusal.TheVariants", list(REFUSALS.values())),
+    ("Rattle.mk_edit.specs.Edits", ["Bottom", "BeforeVar", "AfterVar", "BeforeRule"]),
+    (
+        "Rattle.mk_edit.specs.Edits",
+        ["SetValue", "AppendValue", "AddAssign", "RemoveAssign", "AddRule", "RemoveRule", "AddPrereq", "RemovePrereq"]
+        + ["AddRecipe", "SetRecipe", "RemoveRecipe", "RenameTarget"],
+    ),
+    ("Rattle.mk_edit.proofs.Outcomes", ["outcome", "reads_as_changed"]),
+]
+
+
+def head_of(table, body):
+    """The first lines of a file with this body."""
+    lines = [f"-- Edits with their answers. Made by `tests/definitions/edit_rows.py {table}`."]
+    bare = re.sub(r'"[^"\\]*(?:\\.[^"\\]*)*"', "", body)
+    for module, names in IMPORTS:
+        used = [name for name in names if not name.isidentifier() or re.search(rf"(?<![\w.]){name}(?!\w)", bare)]
+        if used:
+            lines.append(f"use {module}.{{{', '.join(used)}}}")
+    if re.search(r"(?<!\w)field\.", bare):
+        lines.append("use Rattle.mk_edit.specs.declared.refusal.Field.TheVariants as field")
+    return "\n".join(lines) + "\n"
+
+
+def main():
+    if len(sys.argv) != 2:
+        sys.exit("usage: edit_rows.py TABLE")
+    table = sys.argv[1]
+    head, *rows = [line.split("\t") for line in Path(table).read_text().rstrip("\n").split("\n")]
+    body = ""
+    for row in [dict(zip(head, row, strict=True)) for row in rows]:
+        name = "row_" + row["name"].replace("-", "_")
+        for at, equation in enumerate(equations_of(row)):
+            it = name + ("_reading" if at else "")
+            body += f"\n{it} : {equation}\n{it} = refl\n"
+    print(head_of(table, body) + body, end="")
+
+
+if __name__ == "__main__":
+    main()
