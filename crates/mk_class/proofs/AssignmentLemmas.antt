@@ -28,7 +28,7 @@ use Rattle.mk_class.specs.Scans.{is_other}
 use Rattle.mk_class.proofs.ScanLemmas.{after_leading-same, other-gap, units-unmarked, width-before, width-append, width-units, leading-before, until-before, trim_end-before, take-before, until-none}
 
 -- a text that begins with a byte that means nothing to units
-units-at : (s : List ℕ) (b : ℕ) → byte_mark b ≡ Unmarked → 1 ≤ length s → get_or s 0 0 ≡ b → units itself s ≡ (b ∷ []) ∷ units itself (take (length s - 1) (drop 1 s))
+pub units-at : (s : List ℕ) (b : ℕ) → byte_mark b ≡ Unmarked → 1 ≤ length s → get_or s 0 0 ≡ b → units itself s ≡ (b ∷ []) ∷ units itself (take (length s - 1) (drop 1 s))
 units-at [] b m h e = absurd (omega arith)
 units-at (x ∷ t) b m h e =
     let n : suc (length t) - 1 ≡ length t = omega arith in
@@ -60,7 +60,7 @@ after_name-step (x ∷ t) r h k e =
 -- ---- definitions
 
 -- the parts of a definition, each of what is left after those before it
-definition-parts : (us N R O : List (List ℕ)) → N ≡ after_blanks itself us → R ≡ from (ends_name itself) N → O ≡ after_blanks itself R
+pub definition-parts : (us N R O : List (List ℕ)) → N ≡ after_blanks itself us → R ≡ from (ends_name itself) N → O ≡ after_blanks itself R
     → definition itself us ≡ defined_by itself (operator_at (map (symbol itself) O)) (blanks itself us) (until (ends_name itself) N) (blanks itself R) O
 definition-parts us N R O h k l = rw (l, k, h) refl
 
@@ -94,8 +94,8 @@ defined-places len f b (u ∷ n) g r t nm an o op v av h a i c d e j k q =
     let V = width (trim_end (is_gap itself) (after_blanks itself R)) in
     let A = width (trailing (is_gap itself) (after_blanks itself R)) in
     ap Some (
-      made-places f len t nm an o op v av (width b) (width (u ∷ n)) (width g) (width (take (operator_length f) r)) (width (blanks itself R)) V A h a i c d e j k
-      ∙ ap (λ z. made f ((len - t) + width b) at (at + z) ((at + z) + V) (((at + z) + V) + A)) w
+    made-places f len t nm an o op v av (width b) (width (u ∷ n)) (width g) (width (take (operator_length f) r)) (width (blanks itself R)) V A h a i c d e j k
+    ∙ ap (λ z. made f ((len - t) + width b) at (at + z) ((at + z) + V) (((at + z) + V) + A)) w
     )
 
 -- a definition that is read
@@ -121,8 +121,8 @@ definition_read len t nm an o op v av f l h i j k m n q =
     (width-before v av _ (trim_end-before (is_gap itself) v av n) ∙ ap (λ z. width (trim_end (is_gap itself) z) + length av) V)
     (sym (width-units av) ∙ ap width A) q
     ∙ ap (placed (len - length t)) (sym (
-      definition-parts (units itself t) (units itself nm) (units itself an) (units itself o) h i j
-      ∙ ap (λ z. defined_by itself z (blanks itself (units itself t)) (until (ends_name itself) (units itself nm)) (blanks itself (units itself an)) (units itself o)) k.0
+    definition-parts (units itself t) (units itself nm) (units itself an) (units itself o) h i j
+    ∙ ap (λ z. defined_by itself z (blanks itself (units itself t)) (until (ends_name itself) (units itself nm)) (blanks itself (units itself an)) (units itself o)) k.0
     ))
 
 no_name : (o : Option Flavor) (b n g r : List (List ℕ)) → n ≡ [] → defined_by itself o b n g r ≡ None
@@ -134,25 +134,25 @@ pub definition_unnamed : (at : ℕ) (t nm an : List ℕ) → units itself nm ≡
     → length an ≡ length nm → None ≡ placed at (definition itself (units itself t))
 definition_unnamed at t nm an h i q =
     ap (placed at) (sym (
-      definition-parts (units itself t) (units itself nm) (units itself an) (after_blanks itself (units itself an)) h i refl
-      ∙ no_name (operator_at (map (symbol itself) (after_blanks itself (units itself an)))) _ _ _ _ (until-none (ends_name itself) nm an i q)
+    definition-parts (units itself t) (units itself nm) (units itself an) (after_blanks itself (units itself an)) h i refl
+    ∙ no_name (operator_at (map (symbol itself) (after_blanks itself (units itself an)))) _ _ _ _ (until-none (ends_name itself) nm an i q)
     ))
 
 -- ---- modifiers
 
 -- whether a unit is no gap
-abbrev no_gap : List ℕ → Bool
+abbrev pub no_gap : List ℕ → Bool
 no_gap u = not (is_gap itself u)
 
 -- the first word of some units, and what follows it
-abbrev first_word : List (List ℕ) → List (List ℕ)
+abbrev pub first_word : List (List ℕ) → List (List ℕ)
 first_word us = leading no_gap (after_blanks itself us)
 
-abbrev after_first_word : List (List ℕ) → List (List ℕ)
+abbrev pub after_first_word : List (List ℕ) → List (List ℕ)
 after_first_word us = after_leading no_gap (after_blanks itself us)
 
 -- a definition, or else what a modifier and what follows it are
-abbrev or_modified : Option (Assignment ℕ) → Option Modifier → (gaps word : List (List ℕ)) → Option (Assignment ℕ) → Option (Assignment ℕ)
+abbrev pub or_modified : Option (Assignment ℕ) → Option Modifier → (gaps word : List (List ℕ)) → Option (Assignment ℕ) → Option (Assignment ℕ)
 or_modified (Some a) m g w o = Some a
 or_modified None None g w o = None
 or_modified None (Some m) g w o = after_units itself g (after_modifier itself m w o)
@@ -185,7 +185,7 @@ tokens-word_first u (v ∷ us) h = ap (λ g. before_tokens g u (tokens itself (v
     go false e ih = ap (before_tokens false u) (ih e)
 
 -- an assignment is a definition, or else a modifier and an assignment
-assignment-step : (us : List (List ℕ)) → assignment itself us ≡ or_modified (definition itself us) (modifier_of itself (first_word us)) (blanks itself us) (first_word us) (assignment itself (after_first_word us))
+pub assignment-step : (us : List (List ℕ)) → assignment itself us ≡ or_modified (definition itself us) (modifier_of itself (first_word us)) (blanks itself us) (first_word us) (assignment itself (after_first_word us))
 assignment-step [] = refl
 assignment-step (u ∷ us) = go (is_gap itself u) refl (assignment-step us)
   where
@@ -202,17 +202,17 @@ assignment-step (u ∷ us) = go (is_gap itself u) refl (assignment-step us)
         let N = after_blanks itself us in
         let R = from (ends_name itself) N in
         rw e (
-          ap (after_units itself (u ∷ [])) ih
-          ∙ (modified-after (definition itself us) (modifier_of itself (first_word us)) u (blanks itself us) (first_word us) (assignment itself (after_first_word us))
-          ∙ ap (λ d. or_modified d (modifier_of itself (first_word us)) (u ∷ blanks itself us) (first_word us) (assignment itself (after_first_word us)))
-          (sym (defined-after (operator_at (map (symbol itself) (after_blanks itself R))) u (blanks itself us) (until (ends_name itself) N) (blanks itself R) (after_blanks itself R))))
+        ap (after_units itself (u ∷ [])) ih
+        ∙ (modified-after (definition itself us) (modifier_of itself (first_word us)) u (blanks itself us) (first_word us) (assignment itself (after_first_word us))
+        ∙ ap (λ d. or_modified d (modifier_of itself (first_word us)) (u ∷ blanks itself us) (first_word us) (assignment itself (after_first_word us)))
+        (sym (defined-after (operator_at (map (symbol itself) (after_blanks itself R))) u (blanks itself us) (until (ends_name itself) N) (blanks itself R) (after_blanks itself R))))
         )
     go false e ih =
         let W = u ∷ leading no_gap us in
         let ts = tokens itself (after_leading no_gap us) in
         let whole : W ++ token_units ts ≡ u ∷ us = ap (λ z. W ++ z) (token_units-tokens itself (after_leading no_gap us)) ∙ ap (λ z. u ∷ z) (leading-after_leading no_gap us) in
         let goal_of : or_modified (definition itself (u ∷ us)) (modifier_of itself W) [] W (assignment_of itself ts)
-            ≡ or_modified (definition itself (u ∷ us)) (modifier_of itself (first_word (u ∷ us))) (blanks itself (u ∷ us)) (first_word (u ∷ us)) (assignment itself (after_first_word (u ∷ us))) = rw (e, e) refl in
+        ≡ or_modified (definition itself (u ∷ us)) (modifier_of itself (first_word (u ∷ us))) (blanks itself (u ∷ us)) (first_word (u ∷ us)) (assignment itself (after_first_word (u ∷ us))) = rw (e, e) refl in
         ap (assignment_of itself) (tokens-word_first u us e)
         ∙ (ap (λ z. elim (definition itself z) [ Some a ↦ Some a | None ↦ elim (modifier_of itself W) [ Some k ↦ after_modifier itself k W (assignment_of itself ts) | None ↦ None ] ]) whole
         ∙ (of_word (definition itself (u ∷ us)) (modifier_of itself W) W ts ∙ goal_of))
@@ -229,7 +229,7 @@ definition-first at us r h k = h ∙ go (definition itself us) refl (ap is_some 
     go None e z = cc
     go (Some a) e z = ap (placed at) (sym (assignment-step us ∙ ap (λ d. or_modified d (modifier_of itself (first_word us)) (blanks itself us) (first_word us) (assignment itself (after_first_word us))) e))
 
-map-itself : (xs : List ℕ) → map itself xs ≡ xs
+pub map-itself : (xs : List ℕ) → map itself xs ≡ xs
 map-itself [] = refl
 map-itself (x ∷ xs) = ap (λ z. x ∷ z) (map-itself xs)
 
@@ -263,9 +263,9 @@ pub assignment-none : (at : ℕ) (rest word after w : List ℕ) (r : Option plac
 assignment-none at rest word after w r h k f d z m =
     let us = units itself rest in
     ap (placed at) (sym (
-      assignment-step us
-      ∙ (ap (λ e. or_modified e (modifier_of itself (first_word us)) (blanks itself us) (first_word us) (assignment itself (after_first_word us))) (placed-none at (definition itself us) r d z)
-      ∙ ap (λ e. or_modified None e (blanks itself us) (first_word us) (assignment itself (after_first_word us))) (modifier-word w (first_word us) (f (first_word us) (word-before rest word after h k)) ∙ m))
+    assignment-step us
+    ∙ (ap (λ e. or_modified e (modifier_of itself (first_word us)) (blanks itself us) (first_word us) (assignment itself (after_first_word us))) (placed-none at (definition itself us) r d z)
+    ∙ ap (λ e. or_modified None e (blanks itself us) (first_word us) (assignment itself (after_first_word us))) (modifier-word w (first_word us) (f (first_word us) (word-before rest word after h k)) ∙ m))
     ))
 
 -- over one modifier
@@ -284,7 +284,7 @@ assignment-next len rest word after w r m l h k f d z e =
     let b : length word ≡ width (first_word us) + length after = width-before word after (first_word us) (word-before rest word after h k) in
     let n : len - length after ≡ (at + width (blanks itself us)) + width (first_word us) = omega (arith, a, b) in
     sym (
-      ap (placed at) step
-      ∙ (placed-after at m (blanks itself us) (first_word us) (assignment itself (after_first_word us))
-      ∙ (ap (λ i. placed i (assignment itself (after_first_word us))) (sym n) ∙ ap (λ i. placed (len - length after) (assignment itself i)) (sym (after_word-is rest word after h k))))
+    ap (placed at) step
+    ∙ (placed-after at m (blanks itself us) (first_word us) (assignment itself (after_first_word us))
+    ∙ (ap (λ i. placed i (assignment itself (after_first_word us))) (sym n) ∙ ap (λ i. placed (len - length after) (assignment itself i)) (sym (after_word-is rest word after h k))))
     )

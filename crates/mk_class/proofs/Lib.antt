@@ -1,3 +1,6 @@
+mod ReadingLemmas
+mod HeaderPartLemmas
+mod HeaderLemmas
 mod AssignmentLemmas
 mod ScanLemmas
 mod WorkedRows

@@ -3,13 +3,13 @@ use mathlib.Core.Logic.{inl, inr}
 use Rattle.std.specs.Prelude.{◌⊎◌}
 use Rattle.mk_lines.specs.Bytes.ByteKind.{LineFeed, CarriageReturn, Backslash, Blank, Ordinary}
 use Rattle.mk_lines.specs.ByteLaws.{blank-byte}
-use Rattle.std.proofs.Common.{◌≡◌, refl, sym, ap, ◌∙◌, subst, ℕ, suc, ◌+◌, ◌-◌, ◌≤◌, ◌<◌, List, [], ◌∷◌, ◌++◌, Bool, true, false, not, ◌||◌, ◌==◌, cond, length, take, drop, get_or, length-append, arith}
+use Rattle.std.proofs.Common.{◌≡◌, refl, sym, ap, ◌∙◌, subst, ℕ, suc, ◌+◌, ◌-◌, ◌≤◌, ◌<◌, List, [], ◌∷◌, ◌++◌, Bool, true, false, not, ◌||◌, ◌&&◌, ◌==◌, cond, length, take, drop, get_or, length-append, arith}
 use Rattle.std.proofs.Math.Seq.{take-append_seam}
 use Rattle.std.proofs.lemmas.Bool.{eqb-true}
 use Rattle.mk_lines.specs.Lists.{concat, leading, after_leading, trailing, trim_end, trim_end_before, trailing_before}
 use Rattle.mk_lines.specs.ListLaws.{FirstFails, after_leading-first_fails, concat-append, leading-after_leading, trim_end-trailing}
 use Rattle.std.proofs.lemmas.List.{take-append-drop}
-use Rattle.mk_class.specs.Lists.{until, from}
+use Rattle.mk_class.specs.Lists.{any, first_passes, last_passes, until, from, is_empty}
 use Rattle.mk_class.specs.ListLaws.{until-from}
 use Rattle.mk_class.specs.ClassPlaces.{width}
 use Rattle.mk_lines.specs.Bytes.{byte_kind, is_blank_kind, ByteKind}
@@ -27,7 +27,7 @@ use Rattle.mk_class.specs.Symbols.{Symbol, byte_symbol, symbol}
 use Rattle.mk_class.specs.Symbols.Symbol.{Hash, Colon, Semicolon, Equals, Plus, Question, Exclamation, Bar, Ampersand, NoSymbol}
 use Rattle.mk_class.specs.SymbolLaws.{symbol_byte, byte_symbol-byte, blank-unmarked}
 use Rattle.mk_class.specs.TextClasses.{itself}
-use Rattle.mk_class.specs.Scans.{AreUnmarked, is_one_byte_of, is_other}
+use Rattle.mk_class.specs.Scans.{AreUnmarked, IsSplitAt, is_one_byte_of, is_other}
 
 zero_other : (n : ℕ) → (suc n == 0) ≡ false
 zero_other n = go (suc n == 0) refl
@@ -315,3 +315,91 @@ until-none p (x ∷ t) r h k =
     let z : width (until p (units itself (x ∷ t))) ≡ 0 = omega (arith, n, k) in
     let cut : units itself (x ∷ t) ≡ u ∷ us = units-first_unit itself x t in
     ap (until p) cut ∙ cut-none (p (u ∷ us)) x _ u (until p us) (first_unit-begins x t) (ap (λ w. width (until p w)) (sym cut) ∙ z)
+
+-- ---- tests of all units
+
+-- a text is empty where it has no unit
+pub empty-units : (r : List ℕ) → is_empty (units itself r) ≡ (length r == 0)
+empty-units [] = refl
+empty-units (x ∷ t) = sym (zero_other (length t))
+
+-- some unit passes the test where something is left from there on
+pub any-left : (p : List ℕ → Bool) (us : List (List ℕ)) → any p us ≡ not (is_empty (after_leading (λ u. not (p u)) us))
+any-left p [] = refl
+any-left p (u ∷ us) = go (p u) (any-left p us)
+  where
+    go : (c : Bool) → any p us ≡ not (is_empty (after_leading (λ v. not (p v)) us)) → (c || any p us) ≡ not (is_empty (cond (not c) (after_leading (λ v. not (p v)) us) (u ∷ us)))
+    go true ih = refl
+    go false ih = ih
+
+-- units split at one that is a byte
+pub split_at_unit-some : (byte : ℕ) (t rest front after : List ℕ) → byte_mark byte ≡ Unmarked → units itself rest ≡ after_leading (is_other (byte ∷ [])) (units itself t) → (length rest == 0) ≡ false
+    → ((p : List (List ℕ)) → units itself t ≡ p ++ units itself rest → units itself front ≡ p) → after ≡ after_first_unit itself rest
+    → IsSplitAt byte (units itself t) (units itself front) (units itself after)
+split_at_unit-some byte t [] front after m h k f e = cc
+split_at_unit-some byte t (x ∷ s) front after m h k f e =
+    let p = is_other (byte ∷ []) in
+    let u = first_unit itself (x ∷ s) in
+    let cut : units itself (x ∷ s) ≡ u ∷ units itself (after_first_unit itself (x ∷ s)) = units-first_unit itself x s in
+    let fails : p u ≡ false = subst (FirstFails p) (sym h ∙ cut) (after_leading-first_fails p (units itself t)) in
+    let test : not (list_any (λ b. b == x) (byte ∷ [])) ≡ false = sym (first_unit-other (byte ∷ []) x s (m, tt)) ∙ fails in
+    let same : byte ≡ x = of (byte == x) refl test in
+    let whole : u ≡ byte ∷ [] = first_unit-unmarked x s (ap byte_mark (sym same) ∙ m) ∙ ap (λ z. z ∷ []) (sym same) in
+    (sym (f (leading p (units itself t)) (leading-before p t (x ∷ s) h)), sym h ∙ (cut ∙ (ap (λ z. z ∷ units itself (after_first_unit itself (x ∷ s))) whole ∙ ap (λ z. (byte ∷ []) ∷ units itself z) (sym e))))
+  where
+    of : (c : Bool) → (byte == x) ≡ c → not (c || false) ≡ false → byte ≡ x
+    of true e h = eqb-true byte x e
+    of false e h = cc
+
+pub split_at_unit-none : (byte : ℕ) (t rest : List ℕ) → units itself rest ≡ after_leading (is_other (byte ∷ [])) (units itself t) → (length rest == 0) ≡ true → after_leading (is_other (byte ∷ [])) (units itself t) ≡ []
+split_at_unit-none byte t [] h k = sym h
+split_at_unit-none byte t (x ∷ s) h k = absurd (let z : (suc (length s) == 0) ≡ false = zero_other (length s) in cc)
+
+pub has_unit-left : (byte : ℕ) (t rest : List ℕ) → units itself rest ≡ after_leading (is_other (byte ∷ [])) (units itself t) → not (length rest == 0) ≡ any (is_one_byte_of (byte ∷ [])) (units itself t)
+has_unit-left byte t rest h = ap not (sym (empty-units rest) ∙ ap is_empty h) ∙ sym (any-left (is_one_byte_of (byte ∷ [])) (units itself t))
+
+-- over the first unit of a text that is not empty
+pub any-over : (p : List ℕ → Bool) (s r : List ℕ) → (length s == 0) ≡ false → first_passes p (units itself s) ≡ false → r ≡ after_first_unit itself s → any p (units itself r) ≡ any p (units itself s)
+any-over p [] r h k e = cc
+any-over p (x ∷ t) r h k e =
+    let us = units itself (after_first_unit itself (x ∷ t)) in
+    let cut : units itself (x ∷ t) ≡ first_unit itself (x ∷ t) ∷ us = units-first_unit itself x t in
+    ap (λ z. any p (units itself z)) e ∙ sym (ap (any p) cut ∙ ap (λ c. c || any p us) (ap (first_passes p) (sym cut) ∙ k))
+
+pub from-over : (p : List (List ℕ) → Bool) (s r : List ℕ) → (length s == 0) ≡ false → p (units itself s) ≡ false → r ≡ after_first_unit itself s → from p (units itself r) ≡ from p (units itself s)
+from-over p [] r h k e = cc
+from-over p (x ∷ t) r h k e =
+    let us = units itself (after_first_unit itself (x ∷ t)) in
+    let cut : units itself (x ∷ t) ≡ first_unit itself (x ∷ t) ∷ us = units-first_unit itself x t in
+    ap (λ z. from p (units itself z)) e ∙ sym (ap (from p) cut ∙ ap (λ c. cond c (first_unit itself (x ∷ t) ∷ us) (from p us)) (ap p (sym cut) ∙ k))
+
+-- the last unit is no gap where no blanks are trailing
+pub last-no_gap : (us : List (List ℕ)) → last_passes (λ u. not (is_gap itself u)) us ≡ (not (is_empty us) && is_empty (trailing (is_gap itself) us))
+last-no_gap [] = refl
+last-no_gap (u ∷ []) = go (is_gap itself u)
+  where
+    go : (c : Bool) → not c ≡ is_empty (trailing_before c u [] [])
+    go true = refl
+    go false = refl
+last-no_gap (u ∷ v ∷ us) = last-no_gap (v ∷ us) ∙ go (is_gap itself u) (trim_end (is_gap itself) (v ∷ us)) refl (trailing (is_gap itself) (v ∷ us)) refl
+  where
+    all_trailing : (t : List (List ℕ)) → [] ≡ t → t ++ trailing (is_gap itself) (v ∷ us) ≡ v ∷ us → trailing (is_gap itself) (v ∷ us) ≡ v ∷ us
+    all_trailing t e h = ap (λ z. z ++ trailing (is_gap itself) (v ∷ us)) e ∙ h
+
+    go : (c : Bool) (t : List (List ℕ)) → trim_end (is_gap itself) (v ∷ us) ≡ t → (r : List (List ℕ)) → trailing (is_gap itself) (v ∷ us) ≡ r → is_empty r ≡ is_empty (trailing_before c u t r)
+    go true [] e [] f = absurd (let z : trailing (is_gap itself) (v ∷ us) ≡ v ∷ us = all_trailing (trim_end (is_gap itself) (v ∷ us)) (sym e) (trim_end-trailing (is_gap itself) (v ∷ us)) in cc)
+    go true [] e (x ∷ r) f = refl
+    go true (y ∷ t) e r f = refl
+    go false t e r f = refl
+
+pub ends_in_word-left : (t b : List ℕ) → (length t == 0) ≡ false → units itself b ≡ trailing (is_gap itself) (units itself t) → (length b == 0) ≡ last_passes (λ u. not (is_gap itself u)) (units itself t)
+ends_in_word-left t b h k =
+    sym (
+    last-no_gap (units itself t)
+    ∙ (ap (λ z. not z && is_empty (trailing (is_gap itself) (units itself t))) (empty-units t ∙ h) ∙ (ap is_empty (sym k) ∙ empty-units b))
+    )
+
+-- the first unit is no gap where the first byte is no blank
+pub first-no_gap : (s : List ℕ) → 1 ≤ length s → not (is_blank_byte (get_or s 0 0)) ≡ first_passes (λ u. not (is_gap itself u)) (units itself s)
+first-no_gap [] h = absurd (omega arith)
+first-no_gap (x ∷ t) h = ap not (sym (first_unit-gap x t)) ∙ sym (ap (first_passes (λ u. not (is_gap itself u))) (units-first_unit itself x t))

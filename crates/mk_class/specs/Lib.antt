@@ -14,6 +14,7 @@ pub mod ContextPlaces
 pub mod ClassTable
 pub mod TextClasses
 pub mod Scans
+pub mod HeaderParts
 pub mod AssignmentPlaces
 pub mod FirstWords
 pub mod Arguments
@@ -39,5 +40,6 @@ pub mod AssignmentMaps
 pub mod HeaderMaps
 pub mod PlaceMaps
 pub mod TextClassLaws
+pub mod LineReads
 pub mod Laws
 pub mod StepLaws

@@ -1,9 +1,9 @@
 //! Assignments: their flavors, their modifiers, and where their parts stand.
 
-ghost use Rattle.std.specs.Prelude.{◌≡◌, ◌≤◌, ◌-◌, ◌∷◌, [], length, map, false, None, MatchOption};
+ghost use Rattle.std.specs.Prelude.{◌≡◌, ◌≤◌, ◌-◌, ◌∷◌, [], length, map, None, MatchOption};
 ghost use Rattle.mk_lines.specs.Units.{units};
-ghost use Rattle.mk_class.specs.Lists.{first_passes, from};
-ghost use Rattle.mk_class.specs.Symbols.{Colon, is_colon, is_equals, symbol};
+ghost use Rattle.mk_class.specs.Lists.{from};
+ghost use Rattle.mk_class.specs.Symbols.{Colon, symbol};
 ghost use Rattle.mk_class.specs.Assignments.{assignment, definition, ends_name, operator_at};
 ghost use Rattle.mk_class.specs.TextClasses.{itself};
 ghost use Rattle.mk_class.specs.Scans.{IsOperatorAt};
@@ -11,7 +11,7 @@ ghost use Rattle.mk_class.specs.AssignmentPlaces.{placed};
 
 use crate::keyword::modifier_of;
 use crate::rule::Separator;
-use crate::scan::{after_blanks, before, blanks_at_end, from_any};
+use crate::scan::{after_blanks, after_colon, after_equals, before, blanks_at_end, from_any};
 use mk_lines::after_first_unit;
 use mk_lines::split::Span;
 
@@ -137,7 +137,7 @@ fn read_definition(text: &[u8], len: usize) -> Option<Assignment>
 }
 
 /// What follows the name at the front of a text.
-fn after_name(text: &[u8]) -> &[u8]
+pub(crate) fn after_name(text: &[u8]) -> &[u8]
     ensures rest { units itself result.now ≡ from (ends_name itself) (units itself text.now) }
     ensures within { length result.now ≤ length text.now }
 {
@@ -163,7 +163,7 @@ fn ends_name(text: &[u8]) -> bool
 }
 
 /// The longest operator at the front of a text, and what follows it.
-fn read_operator(text: &[u8]) -> Option<(Flavor, &[u8])>
+pub(crate) fn read_operator(text: &[u8]) -> Option<(Flavor, &[u8])>
     ensures found { MatchOption result (operator_at (map (symbol itself) (units itself text.now)) ≡ None) (λ found. IsOperatorAt (units itself text.now) found.0 (units itself found.1.now)) }
     ensures within { MatchOption result (0 ≤ 0) (λ found. length found.1.now ≤ length text.now) }
 {
@@ -194,26 +194,4 @@ fn read_colon_operator(text: &[u8]) -> Option<(Flavor, &[u8])>
     }
     let rest = after_equals(after_colon(text)?)?;
     Some((Flavor::Immediate, rest))
-}
-
-/// What follows a `=` at the front of a text.
-fn after_equals(text: &[u8]) -> Option<&[u8]>
-    ensures found { MatchOption result (first_passes (is_equals itself) (units itself text.now) ≡ false) (λ rest. units itself text.now ≡ (61 ∷ []) ∷ units itself rest.now) }
-    ensures within { MatchOption result (0 ≤ 0) (λ rest. length rest.now ≤ length text.now) }
-{
-    match text {
-        [b'=', rest @ ..] => Some(rest),
-        _ => None,
-    }
-}
-
-/// What follows a `:` at the front of a text.
-fn after_colon(text: &[u8]) -> Option<&[u8]>
-    ensures found { MatchOption result (first_passes (is_colon itself) (units itself text.now) ≡ false) (λ rest. units itself text.now ≡ (58 ∷ []) ∷ units itself rest.now) }
-    ensures within { MatchOption result (0 ≤ 0) (λ rest. length rest.now ≤ length text.now) }
-{
-    match text {
-        [b':', rest @ ..] => Some(rest),
-        _ => None,
-    }
 }

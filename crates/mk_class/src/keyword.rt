@@ -180,7 +180,7 @@ fn is_directive_word(word: &[u8]) -> bool
 }
 
 /// Whether two texts are the same.
-fn is_text(word: &[u8], text: &[u8]) -> bool
+pub(crate) fn is_text(word: &[u8], text: &[u8]) -> bool
     ensures { result ≡ is_same_text word.now text.now }
 {
     word == text

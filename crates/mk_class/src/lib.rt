@@ -2,6 +2,7 @@
 //! read inside; and the context that it stands in.
 //!
 //! - [`class`]: the classes of lines.
+//! - [`reading`]: the class of a line in its context.
 //! - [`assignment`]: assignments, their flavors and modifiers.
 //! - [`rule`]: rules and their separators.
 //! - [`context`]: what the lines before a line leave for it.
@@ -14,9 +15,11 @@ pub mod argument;
 pub mod assignment;
 pub mod class;
 pub mod context;
+mod header;
 mod keyword;
 pub mod laws;
 pub mod meter;
+pub mod reading;
 pub mod rule;
 mod scan;
 #[cfg(test)]
@@ -28,4 +31,5 @@ pub use class::Class;
 pub use context::{Context, Flag, Nesting};
 pub use keyword::is_reserved_word;
 pub use meter::Meter;
+pub use reading::{class_with_cells, classify};
 pub use rule::{Header, Separator};
