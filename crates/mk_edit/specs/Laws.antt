@@ -1,8 +1,9 @@
 -- Laws of edits, each the contract of a public function.
 use Rattle.std.specs.Prelude.{◌≡◌, ℕ, List, ◌∷◌, Option, Ok}
 use Rattle.mk_lines.specs.Pieces.{Replacement}
+use Rattle.mk_class.specs.declared.assignment.Flavor.{Flavor}
 use Rattle.mk_tree.specs.Readings.{reading}
-use Rattle.mk_edit.specs.Edits.{Edit, SetValue, AppendValue, RemoveAssign, RemoveRule, AddRecipe, RemoveRecipe}
+use Rattle.mk_edit.specs.Edits.{Place, Edit, SetValue, AppendValue, AddAssign, RemoveAssign, RemoveRule, AddRecipe, SetRecipe, RemoveRecipe}
 use Rattle.mk_edit.specs.Refusals.{spans, text_after}
 use Rattle.mk_edit.specs.Changes.{change}
 
@@ -33,3 +34,11 @@ RecipeRemovedReadsAsChanged = (nth : Option ℕ) (target : List ℕ) (number : �
 -- a new recipe line puts its item into the reading, after those of its rule
 abbrev pub RecipeAddedReadsAsChanged : Type 0
 RecipeAddedReadsAsChanged = (nth : Option ℕ) (target command : List ℕ) → ReadsAsChanged (AddRecipe nth target command)
+
+-- a new assignment puts its item into the reading at its place
+abbrev pub AssignReadsAsChanged : Type 0
+AssignReadsAsChanged = (place : Place) (name : List ℕ) (flavor : Flavor) (value : List ℕ) → ReadsAsChanged (AddAssign place name flavor value)
+
+-- a recipe line changed has its new text in the reading
+abbrev pub RecipeSetReadsAsChanged : Type 0
+RecipeSetReadsAsChanged = (nth : Option ℕ) (target : List ℕ) (number : ℕ) (command : List ℕ) → ReadsAsChanged (SetRecipe nth target number command)

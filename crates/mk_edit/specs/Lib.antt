@@ -26,5 +26,9 @@ pub mod UnsetLaws
 pub mod AppendLaws
 pub mod RemovalLaws
 pub mod PrefixLaws
+pub mod RecipeClassLaws
 pub mod RecipeLaws
+pub mod NewPlaces
+pub mod NameLaws
+pub mod NewAssignLaws
 pub mod Laws

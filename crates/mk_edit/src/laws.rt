@@ -1,6 +1,6 @@
 //! Laws of edits: each contract is a theorem on the definitions that the calls of this crate are
 //! specified by. The functions do nothing.
-ghost use Rattle.mk_edit.specs.Laws.{AppendReadsAsChanged, RecipeAddedReadsAsChanged, RecipeRemovedReadsAsChanged, SetReadsAsChanged, UnruleReadsAsChanged, UnsetReadsAsChanged};
+ghost use Rattle.mk_edit.specs.Laws.{AppendReadsAsChanged, AssignReadsAsChanged, RecipeAddedReadsAsChanged, RecipeRemovedReadsAsChanged, RecipeSetReadsAsChanged, SetReadsAsChanged, UnruleReadsAsChanged, UnsetReadsAsChanged};
 
 /// An accepted edit of a value, to one that is not empty, changes the reading by this value alone.
 pub fn set_reads_as_changed()
@@ -35,4 +35,15 @@ pub fn recipe_removed_reads_as_changed()
 /// rule, and no other item changes.
 pub fn recipe_added_reads_as_changed()
     ensures { RecipeAddedReadsAsChanged }
+{}
+
+/// An accepted new assignment puts its item into the reading at its place, and no other item
+/// changes.
+pub fn assign_reads_as_changed()
+    ensures { AssignReadsAsChanged }
+{}
+
+/// An accepted edit of a recipe line changes its text in the reading, and nothing else.
+pub fn recipe_set_reads_as_changed()
+    ensures { RecipeSetReadsAsChanged }
 {}
