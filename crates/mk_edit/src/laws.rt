@@ -1,14 +1,16 @@
 //! Laws of edits: each contract is a theorem on the definitions that the calls of this crate are
 //! specified by. The functions do nothing.
-//!
-//! - [`blocks`]: the law for a recipe line that is set and for a new rule.
-ghost use Rattle.mk_edit.specs.Laws.{AppendReadsAsChanged, RecipeAddedReadsAsChanged, RecipeRemovedReadsAsChanged, SetReadsAsChanged, UnruleReadsAsChanged, UnsetReadsAsChanged};
-
-pub mod blocks;
+ghost use Rattle.mk_edit.specs.Laws.{AppendReadsAsChanged, AssignReadsAsChanged, RecipeAddedReadsAsChanged, RecipeRemovedReadsAsChanged, RecipeSetReadsAsChanged, RuleAddedReadsAsChanged, SetReadsAsChanged, SetToNothingReadsAsChanged, UnruleReadsAsChanged, UnsetReadsAsChanged};
 
 /// An accepted edit of a value, to one that is not empty, changes the reading by this value alone.
 pub fn set_reads_as_changed()
     ensures { SetReadsAsChanged }
+{}
+
+/// An accepted edit of a value to nothing changes the reading by this value alone, where no fold is
+/// left at the end of the text, without its next line.
+pub fn set_to_nothing_reads_as_changed()
+    ensures { SetToNothingReadsAsChanged }
 {}
 
 /// An accepted edit that appends to a value changes the reading by this value alone: the old value,
@@ -39,4 +41,22 @@ pub fn recipe_removed_reads_as_changed()
 /// rule, and no other item changes.
 pub fn recipe_added_reads_as_changed()
     ensures { RecipeAddedReadsAsChanged }
+{}
+
+/// An accepted new assignment puts its item into the reading at its place, and no other item
+/// changes.
+pub fn assign_reads_as_changed()
+    ensures { AssignReadsAsChanged }
+{}
+
+/// An accepted edit of a recipe line changes its text in the reading, and nothing else.
+pub fn recipe_set_reads_as_changed()
+    ensures { RecipeSetReadsAsChanged }
+{}
+
+/// An accepted new rule puts its item into the reading, a header with its targets, its separator and
+/// its prerequisites, and no other item changes. A last line without line end gets one where the
+/// rule comes last.
+pub fn rule_added_reads_as_changed()
+    ensures { RuleAddedReadsAsChanged }
 {}

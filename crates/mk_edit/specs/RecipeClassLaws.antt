@@ -1,5 +1,5 @@
--- What it takes to be a recipe line.
-use Rattle.std.proofs.Common.{◌≡◌, refl, sym, ap, ◌∙◌, ℕ, suc, zero, List, Bool, true, false, not, ◌||◌, cond, Option, Some, None}
+-- A line of class Recipe begins with the prefix and stands in a rule, outside defines.
+use Rattle.std.proofs.Common.{◌≡◌, refl, sym, ◌∙◌, ℕ, List, Bool, true, false, not, ◌||◌, cond, Option, Some, None, zero, suc}
 use Rattle.std.specs.Prelude.{nat_lt}
 use Rattle.mk_lines.specs.Cells.{Cell, joined_byte, line_cells}
 use Rattle.mk_lines.specs.Units.{units}
@@ -9,10 +9,10 @@ use Rattle.mk_class.specs.Symbols.{is_hash}
 use Rattle.mk_class.specs.CutTexts.{cut_text, head}
 use Rattle.mk_class.specs.Assignments.{Assignment, assignment}
 use Rattle.mk_class.specs.Separators.{Separated, separated, has_colon, takes_assignment}
-use Rattle.mk_class.specs.Headers
+use Rattle.mk_class.specs.Headers.{header, is_rough}
 use Rattle.mk_class.specs.Keywords.{Keyword, DefineWord, EndefWord, IfWord, ElseWord, EndifWord, DirectiveWord, UndefineWord, NoKeyword, first_keyword, after_modifiers}
 use Rattle.mk_class.specs.Classes.{Class, is_recipe}
-use Rattle.mk_class.specs.Classes.Class.{Recipe, Opaque, Blank as BlankLine, Comment, Rough, Header}
+use Rattle.mk_class.specs.Classes.Class.{Opaque, Blank, Comment, Rough, Header}
 use Rattle.mk_class.specs.RecipePrefix.{is_prefix_led}
 use Rattle.mk_class.specs.Contexts.{Context}
 use Rattle.mk_class.specs.ClassTable.{class_of, class_at, define_class, directive_by, header_class, target_class, rule_class, assign_class, or_class, is_all_blanks, is_unreadable, plain_class}
@@ -33,8 +33,8 @@ not_recipe-target s (Some a) k h = refl
 
 not_recipe-rule : (us : List (List Cell)) → is_recipe (rule_class us) ≡ false
 not_recipe-rule us =
+    let h : is_recipe (header_class us) ≡ false = not_recipe-cond (is_rough joined_byte (head joined_byte us) (header joined_byte us)) Rough (Header (header joined_byte us)) refl refl in
     let s = separated joined_byte (cut_text joined_byte us) in
-    let h : is_recipe (header_class us) ≡ false = not_recipe-cond (Headers.is_rough joined_byte (head joined_byte us) (Headers.header joined_byte us)) Rough (Header (Headers.header joined_byte us)) refl refl in
     not_recipe-cond (takes_assignment s.separator) (target_class s (assignment joined_byte s.rest) (header_class us)) (header_class us) (not_recipe-target s (assignment joined_byte s.rest) (header_class us) h) h
 
 not_recipe-directive : (k b : Keyword) (c : Bool) (ws : List (List ℕ)) (x : Class) → is_recipe x ≡ false → is_recipe (or_class (directive_by k b c ws) x) ≡ false
@@ -120,16 +120,17 @@ not_recipe-directive NoKeyword NoKeyword c ws x h = h
 not_recipe-plain : (led c : Bool) (cs : List Cell) (us : List (List Cell)) → is_recipe (plain_class led c cs us) ≡ false
 not_recipe-plain led c cs us =
     let ws = word_texts joined_byte (cut_text joined_byte us) in
-    not_recipe-cond (is_all_blanks (cut_text joined_byte us)) _ _ (not_recipe-cond (any (is_hash joined_byte) us) Comment BlankLine refl refl) (
+    not_recipe-cond (is_all_blanks (cut_text joined_byte us)) _ _ (not_recipe-cond (any (is_hash joined_byte) us) Comment Blank refl refl) (
     not_recipe-cond (is_unreadable cs) Opaque _ refl (
     not_recipe-assign c (assignment joined_byte (cut_text joined_byte us)) _ (
     not_recipe-directive (first_keyword ws) (first_keyword (after_modifiers ws)) c (after_modifiers ws) _ (
     not_recipe-cond (led || not (has_colon joined_byte (head joined_byte us))) Opaque (rule_class us) refl (not_recipe-rule us)))))
 
-not_recipe-define : (k : Keyword) (n : ℕ) → is_recipe (define_class k (suc n)) ≡ false
+not_recipe-define : (k : Keyword) (n : ℕ) → is_recipe (define_class k n) ≡ false
 not_recipe-define DefineWord n = refl
 not_recipe-define EndefWord zero = refl
-not_recipe-define EndefWord (suc n) = refl
+not_recipe-define EndefWord (suc zero) = refl
+not_recipe-define EndefWord (suc (suc n)) = refl
 not_recipe-define IfWord n = refl
 not_recipe-define ElseWord n = refl
 not_recipe-define EndifWord n = refl
@@ -137,22 +138,25 @@ not_recipe-define DirectiveWord n = refl
 not_recipe-define UndefineWord n = refl
 not_recipe-define NoKeyword n = refl
 
--- what is known of a recipe line: it begins with the prefix, no define is open, and the flag is Rule
-pub record IsRecipeThere (led : Bool) (defines : ℕ) (f : Flag) : Type 0 where
-  pub begins : led ≡ true
+-- what a line of class Recipe says of its context
+pub record StandsInRule (led : Bool) (defines : ℕ) (f : Flag) : Type 0 where
+  pub is_led : led ≡ true
   pub no_define : defines ≡ 0
-  pub flag : f ≡ Rule
+  pub in_rule : f ≡ Rule
 
-class_at-recipe : (led : Bool) (n : ℕ) (f : Flag) (c : Bool) (cs : List Cell) (us : List (List Cell)) → is_recipe (class_at led n f c cs us) ≡ true → IsRecipeThere led n f
-class_at-recipe true (suc n) f c cs us h = absurd (cc)
-class_at-recipe false (suc n) f c cs us h = absurd (let e : false ≡ true = sym (not_recipe-define (first_keyword (word_texts joined_byte us)) n) ∙ h in cc)
-class_at-recipe true zero Rule c cs us h = record { begins = refl; no_define = refl; flag = refl }
-class_at-recipe true zero Unknown c cs us h = absurd (cc)
-class_at-recipe true zero Off c cs us h = absurd (let e : false ≡ true = sym (not_recipe-plain true c cs us) ∙ h in cc)
-class_at-recipe false zero Off c cs us h = absurd (let e : false ≡ true = sym (not_recipe-plain false c cs us) ∙ h in cc)
-class_at-recipe false zero Rule c cs us h = absurd (let e : false ≡ true = sym (not_recipe-plain false c cs us) ∙ h in cc)
-class_at-recipe false zero Unknown c cs us h = absurd (let e : false ≡ true = sym (not_recipe-plain false c cs us) ∙ h in cc)
+at-recipe : (led : Bool) (n : ℕ) (f : Flag) (c : Bool) (cs : List Cell) (us : List (List Cell)) → is_recipe (class_at led n f c cs us) ≡ true → StandsInRule led n f
+at-recipe true zero Rule c cs us h = record { is_led = refl; no_define = refl; in_rule = refl }
+at-recipe true zero Unknown c cs us h = absurd (cc)
+at-recipe true zero Off c cs us h = absurd (let e : true ≡ false = sym h ∙ not_recipe-plain true c cs us in cc)
+at-recipe false zero f c cs us h = absurd (plain f h)
+  where
+    plain : (f : Flag) → is_recipe (class_at false zero f c cs us) ≡ true → ⊥
+    plain Off h = let e : true ≡ false = sym h ∙ not_recipe-plain false c cs us in cc
+    plain Rule h = let e : true ≡ false = sym h ∙ not_recipe-plain false c cs us in cc
+    plain Unknown h = let e : true ≡ false = sym h ∙ not_recipe-plain false c cs us in cc
+at-recipe true (suc n) f c cs us h = absurd (cc)
+at-recipe false (suc n) f c cs us h = absurd (let e : true ≡ false = sym h ∙ not_recipe-define (first_keyword (word_texts joined_byte us)) (suc n) in cc)
 
--- so it is of each line of class Recipe
-pub class_of-recipe : (c : Context) (l : List ℕ) → class_of c l ≡ Recipe → IsRecipeThere (is_prefix_led c.prefix l) c.defines c.flag
-class_of-recipe c l h = class_at-recipe (is_prefix_led c.prefix l) c.defines c.flag (nat_lt 0 c.conditionals) (line_cells l) (units joined_byte (line_cells l)) (ap is_recipe h)
+-- so it is of each such line
+pub recipe-stands : (c : Context) (l : List ℕ) → is_recipe (class_of c l) ≡ true → StandsInRule (is_prefix_led c.prefix l) c.defines c.flag
+recipe-stands c l h = at-recipe (is_prefix_led c.prefix l) c.defines c.flag (nat_lt 0 c.conditionals) (line_cells l) (units joined_byte (line_cells l)) h
