@@ -1,10 +1,13 @@
 -- Laws of edits, each the contract of a public function.
-use Rattle.std.specs.Prelude.{◌≡◌, ℕ, List, [], ◌∷◌, Option, Ok, false}
+use Rattle.std.specs.Prelude.{◌≡◌, ℕ, List, [], ◌∷◌, ◌++◌, Option, Some, Ok, Err, false}
 use Rattle.mk_lines.specs.Pieces.{Replacement}
 use Rattle.mk_class.specs.declared.assignment.Flavor.{Flavor}
 use Rattle.mk_tree.specs.Readings.{reading}
 use Rattle.mk_edit.specs.Edits.{Place, Edit, SetValue, AppendValue, AddAssign, RemoveAssign, RemoveRule, AddRecipe, SetRecipe, RemoveRecipe}
+use Rattle.mk_class.specs.ClassedLines.{classed_lines}
+use Rattle.mk_edit.specs.Stretches.{Stretch, removal}
 use Rattle.mk_edit.specs.Refusals.{spans, text_after}
+use Rattle.mk_edit.specs.declared.refusal.Refusal.{Refusal}
 use Rattle.mk_edit.specs.Changes.{change, leaves_fold_last}
 
 -- The reading law of an edit: where no cause refuses it, the text after it reads as the stated change says.
@@ -47,3 +50,12 @@ AssignReadsAsChanged = (place : Place) (name : List ℕ) (flavor : Flavor) (valu
 -- a recipe line changed has its new text in the reading
 abbrev pub RecipeSetReadsAsChanged : Type 0
 RecipeSetReadsAsChanged = (nth : Option ℕ) (target : List ℕ) (number : ℕ) (command : List ℕ) → ReadsAsChanged (SetRecipe nth target number command)
+
+-- an accepted edit that takes lines out leaves the lines above and below them, each with its class
+abbrev pub OtherLinesStay : Type 0
+OtherLinesStay = (edit : Edit) (text : List ℕ) (replacements : List Replacement) (stretch : Stretch) → spans text edit ≡ Ok replacements → removal (classed_lines text) edit ≡ Some stretch
+    → classed_lines (text_after text edit) ≡ stretch.above ++ stretch.below
+
+-- a refused edit changes nothing
+abbrev pub RefusedChangesNothing : Type 0
+RefusedChangesNothing = (edit : Edit) (text : List ℕ) (refusal : Refusal) → spans text edit ≡ Err refusal → text_after text edit ≡ text

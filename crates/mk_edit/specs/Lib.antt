@@ -22,6 +22,7 @@ pub mod ValueLines
 pub mod FoundAssignments
 pub mod ValueEdits
 pub mod SetLaws
+pub mod FoldEnds
 pub mod SetEmptyLaws
 pub mod UnsetLaws
 pub mod AppendLaws

@@ -1,6 +1,6 @@
 //! Laws of edits: each contract is a theorem on the definitions that the calls of this crate are
 //! specified by. The functions do nothing.
-ghost use Rattle.mk_edit.specs.Laws.{AppendReadsAsChanged, AssignReadsAsChanged, RecipeAddedReadsAsChanged, RecipeRemovedReadsAsChanged, RecipeSetReadsAsChanged, SetReadsAsChanged, SetToNothingReadsAsChanged, UnruleReadsAsChanged, UnsetReadsAsChanged};
+ghost use Rattle.mk_edit.specs.Laws.{AppendReadsAsChanged, AssignReadsAsChanged, OtherLinesStay, RecipeAddedReadsAsChanged, RecipeRemovedReadsAsChanged, RecipeSetReadsAsChanged, RefusedChangesNothing, SetReadsAsChanged, SetToNothingReadsAsChanged, UnruleReadsAsChanged, UnsetReadsAsChanged};
 
 /// An accepted edit of a value, to one that is not empty, changes the reading by this value alone.
 pub fn set_reads_as_changed()
@@ -52,4 +52,15 @@ pub fn assign_reads_as_changed()
 /// An accepted edit of a recipe line changes its text in the reading, and nothing else.
 pub fn recipe_set_reads_as_changed()
     ensures { RecipeSetReadsAsChanged }
+{}
+
+/// An accepted edit that takes lines out leaves the lines above and below them, each with its
+/// class.
+pub fn other_lines_stay()
+    ensures { OtherLinesStay }
+{}
+
+/// A refused edit changes nothing.
+pub fn refused_changes_nothing()
+    ensures { RefusedChangesNothing }
 {}
