@@ -5,7 +5,11 @@ use Rattle.mk_class.specs.declared.assignment.Flavor.{Flavor}
 use Rattle.mk_tree.specs.Readings.{reading}
 use Rattle.mk_edit.specs.Edits.{Place, Edit, SetValue, AppendValue, AddAssign, RemoveAssign, RemoveRule, AddRecipe, SetRecipe, RemoveRecipe}
 use Rattle.mk_class.specs.ClassedLines.{classed_lines}
-use Rattle.mk_edit.specs.Stretches.{Stretch, removal}
+use Rattle.mk_edit.specs.Stretches.{Stretch, place_found, removal}
+use Rattle.mk_edit.specs.NewLines.{assign_text}
+use Rattle.mk_lines.specs.PhysicalLines.{line_end_bytes, file_line_end}
+use Rattle.mk_class.specs.Classes.{Class}
+use Rattle.mk_tree.specs.NewLines.{above_ended}
 use Rattle.mk_edit.specs.Refusals.{spans, text_after}
 use Rattle.mk_edit.specs.declared.refusal.Refusal.{Refusal}
 use Rattle.mk_edit.specs.Changes.{change, leaves_fold_last}
@@ -59,3 +63,11 @@ OtherLinesStay = (edit : Edit) (text : List ℕ) (replacements : List Replacemen
 -- a refused edit changes nothing
 abbrev pub RefusedChangesNothing : Type 0
 RefusedChangesNothing = (edit : Edit) (text : List ℕ) (refusal : Refusal) → spans text edit ≡ Err refusal → text_after text edit ≡ text
+
+-- After an accepted new assignment its line, with the file's line end, stands at its place. The lines below it stay, each with its
+-- class, and so do those above it, but for the line end that a last line without one gets.
+abbrev pub NewAssignmentsStand : Type 0
+NewAssignmentsStand = (place : Place) (name : List ℕ) (flavor : Flavor) (value text : List ℕ) (replacements : List Replacement) (stretch : Stretch)
+    → spans text (AddAssign place name flavor value) ≡ Ok replacements → place_found (classed_lines text) place ≡ Some stretch
+    → (class : Class) × (classed_lines (text_after text (AddAssign place name flavor value))
+    ≡ above_ended (file_line_end text) stretch.above stretch.below ++ record { bytes = assign_text name flavor value ++ line_end_bytes (file_line_end text); class = class } ∷ stretch.below)

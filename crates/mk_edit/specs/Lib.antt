@@ -32,5 +32,6 @@ pub mod RecipeClassLaws
 pub mod RecipeLaws
 pub mod NewPlaces
 pub mod NameLaws
+pub mod NewLineStands
 pub mod NewAssignLaws
 pub mod Laws
