@@ -27,6 +27,7 @@ pub mod ValueLines
 pub mod FoundAssignments
 pub mod ValueEdits
 pub mod SetLaws
+pub mod FoldEnds
 pub mod SetEmptyLaws
 pub mod UnsetLaws
 pub mod AppendLaws
@@ -36,6 +37,7 @@ pub mod RecipeClassLaws
 pub mod RecipeLaws
 pub mod NewPlaces
 pub mod NameLaws
+pub mod NewLineStands
 pub mod NewAssignLaws
 pub mod Laws
 pub mod AddedLines
