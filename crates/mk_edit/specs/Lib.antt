@@ -20,3 +20,4 @@ pub mod LineTails
 pub mod HeadWords
 pub mod WordsRemoved
 pub mod DirectiveWords
+pub mod HeaderLines
