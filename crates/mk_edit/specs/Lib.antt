@@ -21,3 +21,4 @@ pub mod HeadWords
 pub mod WordsRemoved
 pub mod DirectiveWords
 pub mod HeaderLines
+pub mod HeaderParts
