@@ -1,13 +1,9 @@
 -- What a document is: a list of lines, each its bytes and its class. It is faithful to a text where its lines are those of the
 -- text, each with its class in the context of those before it.
-use Rattle.std.specs.Prelude.{◌≡◌, ℕ, ◌<◌, max, List, [], ◌∷◌, ◌++◌, length, sum_by}
-use Rattle.mk_class.specs.Contexts.{Context, start, conditionals_after}
-use Rattle.mk_class.specs.ClassedLines.{ClassedLine, classed_lines, context_after_lines}
-
--- the text of some lines: their bytes joined
-abbrev pub text_of : List ClassedLine → List ℕ
-text_of [] = []
-text_of (l ∷ ls) = l.bytes ++ text_of ls
+use Rattle.std.specs.Prelude.{◌≡◌, ℕ, ◌<◌, max, List, [], ◌∷◌, length, sum_by}
+use Rattle.mk_class.specs.Contexts.{conditionals_after}
+use Rattle.mk_class.specs.ClassedLines.{ClassedLine, classed_lines}
+pub use Rattle.mk_tree.specs.LineTexts.{text_of, context_of}
 
 -- how many bytes some lines have
 abbrev pub size_of : List ClassedLine → ℕ
@@ -20,10 +16,6 @@ IsFaithfulTo ls t = ls ≡ classed_lines t
 -- the lines are those of their own text
 abbrev pub IsFaithful : List ClassedLine → Type 0
 IsFaithful ls = IsFaithfulTo ls (text_of ls)
-
--- the context after some lines from the start of a text
-abbrev pub context_of : List ClassedLine → Context
-context_of ls = context_after_lines start ls
 
 -- the most conditionals that are open before, between or after some lines, the first of which stands in `open` of them
 abbrev pub most_conditionals : (open_before : ℕ) → List ClassedLine → ℕ

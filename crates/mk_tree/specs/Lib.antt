@@ -1,6 +1,17 @@
 pub mod Items
 pub mod Readings
 pub mod RecipeLines
+pub mod LineTexts
 pub mod Documents
 pub mod DocumentLaws
+pub mod LinePlaces
+pub mod Leaning
+pub mod LeaningLaws
+pub mod RunsReplaced
+pub mod NewLines
+pub mod NewLineLaws
+pub mod SpansInLines
+pub mod EachReplaced
+pub mod ConditionalLaws
+pub mod ChangeLaws
 pub mod Laws

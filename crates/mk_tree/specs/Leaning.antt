@@ -1,0 +1,24 @@
+-- Whether lines lean on the flag: whether another flag before them could change what they are.
+use Rattle.std.specs.Prelude.{◌≡◌, ℕ, Bool, true, false, not, ◌&&◌, List}
+use Rattle.mk_class.specs.Contexts.{Context}
+use Rattle.mk_class.specs.ClassedLines.{ClassedLine, is_led_first}
+use Rattle.mk_class.specs.declared.context.Flag.{Flag}
+use Rattle.mk_class.specs.declared.context.Flag.TheVariants.{Off, Rule, Unknown}
+
+-- whether two flags are the same
+abbrev pub is_same_flag : Flag → Flag → Bool
+is_same_flag Off Off = true
+is_same_flag Rule Rule = true
+is_same_flag Unknown Unknown = true
+is_same_flag f g = false
+
+-- Whether lines lean on two flags: these differ, and of the lines that begin with the prefix or are of a class that sets the
+-- flag the first begins with the prefix.
+abbrev pub leans : (prefix : ℕ) → (before after : Flag) → (rest : List ClassedLine) → Bool
+leans p f g ls = not (is_same_flag f g) && is_led_first p ls
+
+-- Contexts that are the same but perhaps for the flag.
+pub record AgreeButForFlag (c d : Context) : Type 0 where
+  pub defines : c.defines ≡ d.defines
+  pub conditionals : c.conditionals ≡ d.conditionals
+  pub prefix : c.prefix ≡ d.prefix
