@@ -45,7 +45,8 @@ some_bytes (LfEnd (b ∷ r)) v = (b, r, refl)
 some_bytes (CrLfEnd []) v = absurd (let g : [] ≡ CrLfEnd [] ∷ [] = v in cc)
 some_bytes (CrLfEnd (b ∷ r)) v = (b, r, refl)
 
-some_raw : (cs : List Cell) (d : Cell) (D : List Cell) → cs ≡ d ∷ D → AreLineCells cs → (x : ℕ) × (y : List ℕ) × (raw_text cs ≡ x ∷ y)
+-- cells of a line have raw bytes
+pub some_raw : (cs : List Cell) (d : Cell) (D : List Cell) → cs ≡ d ∷ D → AreLineCells cs → (x : ℕ) × (y : List ℕ) × (raw_text cs ≡ x ∷ y)
 some_raw [] d D e h = cc
 some_raw (c ∷ cs) d D e h = let s = some_bytes c h.are_cells.0 in (s.0, s.1 ++ raw_text cs, ap (λ z. z ++ raw_text cs) s.2)
 
@@ -54,7 +55,7 @@ some_cell [] b x = (x, b, refl)
 some_cell (c ∷ a) b x = (c, a ++ x ∷ b, refl)
 
 -- the units before a value are not nothing
-cells-before : (a : Assignment Cell) → EndsPlain joined_byte a.operator → (d : Cell) × (D : List Cell) × (concat (before_value a) ≡ d ∷ D)
+pub cells-before : (a : Assignment Cell) → EndsPlain joined_byte a.operator → (d : Cell) × (D : List Cell) × (concat (before_value a) ≡ d ∷ D)
 cells-before a p =
     let s = EndsPlain-split joined_byte a.operator p in
     let F = a.before ++ (a.name ++ s.0) in
@@ -63,7 +64,8 @@ cells-before a p =
     let k = some_cell (concat F) [] s.1 in
     (k.0, k.1, c ∙ k.2)
 
-led-same : (prefix : ℕ) (a p q : List ℕ) (x : ℕ) (y : List ℕ) → a ≡ x ∷ y → is_prefix_led prefix (a ++ p) ≡ is_prefix_led prefix (a ++ q)
+-- whether a line begins with the prefix does not depend on what follows its first byte
+pub led-same : (prefix : ℕ) (a p q : List ℕ) (x : ℕ) (y : List ℕ) → a ≡ x ∷ y → is_prefix_led prefix (a ++ p) ≡ is_prefix_led prefix (a ++ q)
 led-same prefix [] p q x y h = cc
 led-same prefix (z ∷ a) p q x y h = refl
 
@@ -119,7 +121,7 @@ hash-safe u us h = go u (is-hash (is_hash joined_byte u) h)
     go (c ∷ d ∷ u) e = cc
 
 -- what follows a value begins with a blank, a fold or a comment
-safe-after : (after rest : List (List Cell)) → Each (is_gap joined_byte) after → FirstFails (is_no_hash joined_byte) rest → IsSafeTail (concat (after ++ rest))
+pub safe-after : (after rest : List (List Cell)) → Each (is_gap joined_byte) after → FirstFails (is_no_hash joined_byte) rest → IsSafeTail (concat (after ++ rest))
 safe-after [] [] g s = tt
 safe-after [] (u ∷ rest) g s = hash-safe u rest s
 safe-after (u ∷ after) rest g s = gap-safe u (after ++ rest) g.0

@@ -1,7 +1,8 @@
 -- What an accepted edit does to the reading.
 use Rattle.std.specs.Prelude.{ℕ, ◌&&◌, ◌==◌, if◌then◌else◌, Bool, true, false, not, List, [], ◌∷◌, ◌++◌, map, take, drop, filter, length, None}
 use Rattle.mk_lines.specs.Lists.{concat}
-use Rattle.mk_lines.specs.Cells.{Cell, joined_byte, Byte, Fold, LfEnd, CrLfEnd}
+use Rattle.mk_lines.specs.Cells.{Cell, joined_byte}
+use Rattle.mk_lines.specs.CellFaults.{is_fold}
 use Rattle.mk_lines.specs.Pieces.{Replacement}
 use Rattle.mk_class.specs.Lists.{is_empty, last_passes}
 use Rattle.mk_class.specs.Texts.{is_same_text, unit_text}
@@ -59,13 +60,6 @@ leaves_fold_last t r = last_passes (λ b. b == 10) (take r.start t) && is_empty 
 -- The value that is set. Where it is empty and what stays of a fold has no next line, the value is one lone backslash.
 abbrev pub value_set : (text value : List ℕ) → (line_start : ℕ) → Assignment Cell → List ℕ
 value_set t v at a = if is_empty v && leaves_fold_last t (set_value_span v at a) then 92 ∷ [] else v
-
--- whether a cell is a fold
-abbrev pub is_fold : Cell → Bool
-is_fold (Byte b) = false
-is_fold (Fold r) = true
-is_fold (LfEnd r) = false
-is_fold (CrLfEnd r) = false
 
 -- The value with a text appended: the old one, a space and the text. There is no space where the old value is empty, or its
 -- last byte is a fold, which takes the space in.

@@ -22,3 +22,14 @@ pub mod WordsRemoved
 pub mod DirectiveWords
 pub mod HeaderLines
 pub mod HeaderParts
+pub mod Accepted
+pub mod SpotLaws
+pub mod BlankAdded
+pub mod ValueLines
+pub mod FoundAssignments
+pub mod ValueEdits
+pub mod SetLaws
+pub mod UnsetLaws
+pub mod AppendLaws
+pub mod RemovalLaws
+pub mod Laws

@@ -1,5 +1,5 @@
 -- The causes that the lines round a change decide, and its size: OpenValue, OpenLine, OpenDefine, Leans and TooLong.
-use Rattle.std.specs.Prelude.{ℕ, Bool, true, false, not, ◌&&◌, ◌||◌, nat_lt, List, ◌++◌, length, Option, Some, None}
+use Rattle.std.specs.Prelude.{ℕ, Bool, false, not, ◌&&◌, ◌||◌, nat_lt, List, ◌++◌, length, Option, Some, None}
 use Rattle.mk_lines.specs.Lists.{concat}
 use Rattle.mk_lines.specs.LogicalLines.{is_open}
 use Rattle.mk_lines.specs.Cells.{joined_byte}
@@ -8,13 +8,14 @@ use Rattle.mk_lines.specs.Pieces.{Replacement, replaced}
 use Rattle.mk_class.specs.Lists.{is_empty, last_passes}
 use Rattle.mk_class.specs.Classes.{Class}
 use Rattle.mk_class.specs.Classes.Class.{Assign}
-use Rattle.mk_class.specs.ClassedLines.{ClassedLine, is_led_first}
+use Rattle.mk_class.specs.ClassedLines.{ClassedLine}
 use Rattle.mk_class.specs.declared.context.Flag.{Flag}
-use Rattle.mk_class.specs.declared.context.Flag.TheVariants.{Off, Rule, Unknown}
+use Rattle.mk_class.specs.declared.context.Flag.TheVariants.{Off, Rule}
 use Rattle.mk_edit.specs.Edits.{Place, Bottom, Edit, AppendValue, AddAssign, AddRule}
 use Rattle.mk_edit.specs.Addresses.{Variable, found}
 use Rattle.mk_edit.specs.Stretches.{Stretch, insertion, removal}
 use Rattle.mk_tree.specs.Documents.{context_of}
+use Rattle.mk_tree.specs.Leaning.{leans}
 use Rattle.mk_edit.specs.RuleCauses.{class_found}
 use Rattle.mk_edit.specs.Causes.{where_holds}
 use Rattle.mk_edit.specs.declared.refusal.Refusal.{Refusal}
@@ -53,18 +54,6 @@ open_define ls (AddRule p ts c ws) = open_define_at ls p
 open_define ls e = None
 
 -- ---- Leans: the flag below the change differs, and the next line that counts begins with the recipe prefix
-
--- whether two flags are the same
-abbrev pub is_same_flag : Flag → Flag → Bool
-is_same_flag Off Off = true
-is_same_flag Rule Rule = true
-is_same_flag Unknown Unknown = true
-is_same_flag f g = false
-
--- Whether lines lean on two flags: these differ, and of the lines that begin with the prefix or are of a class that sets the
--- flag the first begins with the prefix.
-abbrev pub leans : (prefix : ℕ) → Flag → Flag → List ClassedLine → Bool
-leans p f g ls = not (is_same_flag f g) && is_led_first p ls
 
 -- the flag below a new line
 abbrev pub flag_below_new : Edit → Flag

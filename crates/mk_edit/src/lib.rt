@@ -3,9 +3,11 @@
 //!
 //! - [`edit`]: the words of edits.
 //! - [`refusal`]: why an edit is refused.
+//! - [`laws`]: theorems on the definitions of edits.
 #![tactic(auto)]
 
 pub mod edit;
+pub mod laws;
 pub mod refusal;
 
 pub use edit::Colons;

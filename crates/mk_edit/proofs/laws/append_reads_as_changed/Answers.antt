@@ -1,0 +1,5 @@
+use Rattle.mk_edit.specs.AppendLaws.{append-reads}
+use Rattle.mk_edit.proofs.laws.append_reads_as_changed.Goals as goal
+
+pub returns : goal.returns
+returns c = append-reads

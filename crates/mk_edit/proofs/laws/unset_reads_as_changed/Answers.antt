@@ -1,0 +1,5 @@
+use Rattle.mk_edit.specs.UnsetLaws.{unset-reads}
+use Rattle.mk_edit.proofs.laws.unset_reads_as_changed.Goals as goal
+
+pub returns : goal.returns
+returns c = unset-reads
