@@ -77,7 +77,8 @@ no-each p (u ∷ us) h = ap (λ z. z || any p us) (is (p u) h.0) ∙ no-each p u
 
 -- ---- a `:` and a `|`
 
-one_byte : (c : Cell) (b : ℕ) → joined_byte c ≡ b → (b ≡ 32 → ⊥) → (b ≡ 10 → ⊥) → c ≡ Byte b
+-- a cell of a byte other than a space and a line feed
+pub one_byte : (c : Cell) (b : ℕ) → joined_byte c ≡ b → (b ≡ 32 → ⊥) → (b ≡ 10 → ⊥) → c ≡ Byte b
 one_byte (Byte x) b h n m = ap Byte h
 one_byte (Fold r) b h n m = absurd (n (sym h))
 one_byte (LfEnd r) b h n m = absurd (m (sym h))

@@ -22,6 +22,7 @@ pub mod WordsRemoved
 pub mod DirectiveWords
 pub mod HeaderLines
 pub mod HeaderParts
+pub mod HeaderChanges
 pub mod Accepted
 pub mod SpotLaws
 pub mod BlankAdded
