@@ -23,6 +23,7 @@ pub mod DirectiveWords
 pub mod HeaderLines
 pub mod HeaderParts
 pub mod HeaderChanges
+pub mod HeaderEdits
 pub mod Accepted
 pub mod SpotLaws
 pub mod BlankAdded
@@ -33,4 +34,6 @@ pub mod SetLaws
 pub mod UnsetLaws
 pub mod AppendLaws
 pub mod RemovalLaws
+pub mod UndependLaws
 pub mod Laws
+pub mod WordLaws

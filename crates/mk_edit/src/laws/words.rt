@@ -1,0 +1,8 @@
+//! Laws of the edits of words in a rule's line.
+ghost use Rattle.mk_edit.specs.WordLaws.{UndependReadsAsChanged};
+
+/// An accepted removal of a prerequisite removes each word that is it from the normal and the
+/// order-only prerequisites of the header, and no other item changes.
+pub fn undepend_reads_as_changed()
+    ensures { UndependReadsAsChanged }
+{}
