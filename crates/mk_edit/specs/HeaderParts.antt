@@ -60,14 +60,16 @@ part-any_bar : (us : List (List Cell)) → AllAre IsPartUnit us → any (is_bar 
 part-any_bar [] h = refl
 part-any_bar (u ∷ us) h = ap (λ z. z || any (is_bar joined_byte) us) h.0.no_bar ∙ part-any_bar us h.1
 
-parts-of : (us : List (List Cell)) → AllAre IsHeadUnit us → has_colon joined_byte us ≡ false → any (is_bar joined_byte) us ≡ false → AllAre IsPartUnit us
+-- units of a head without a `:` and a `|`
+pub parts-of : (us : List (List Cell)) → AllAre IsHeadUnit us → has_colon joined_byte us ≡ false → any (is_bar joined_byte) us ≡ false → AllAre IsPartUnit us
 parts-of [] h c b = tt
 parts-of (u ∷ us) h c b =
     let p = or_parts (is_colon joined_byte u) (has_colon joined_byte us) c in
     let q = or_parts (is_bar joined_byte u) (any (is_bar joined_byte) us) b in
     (record { head = h.0; no_colon = p.0; no_bar = q.0 }, parts-of us h.1 p.1 q.1)
 
-no-each : (p : List Cell → Bool) (us : List (List Cell)) → Each (λ u. not (p u)) us → any p us ≡ false
+-- none of units that do not pass passes
+pub no-each : (p : List Cell → Bool) (us : List (List Cell)) → Each (λ u. not (p u)) us → any p us ≡ false
 no-each p [] h = refl
 no-each p (u ∷ us) h = ap (λ z. z || any p us) (is (p u) h.0) ∙ no-each p us h.1
   where

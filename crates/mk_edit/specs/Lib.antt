@@ -24,6 +24,8 @@ pub mod HeaderLines
 pub mod HeaderParts
 pub mod HeaderChanges
 pub mod HeaderEdits
+pub mod NewWords
+pub mod WordsAdded
 pub mod Accepted
 pub mod SpotLaws
 pub mod BlankAdded
@@ -35,5 +37,6 @@ pub mod UnsetLaws
 pub mod AppendLaws
 pub mod RemovalLaws
 pub mod UndependLaws
+pub mod DependLaws
 pub mod Laws
 pub mod WordLaws

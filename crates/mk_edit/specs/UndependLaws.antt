@@ -38,7 +38,7 @@ use Rattle.mk_edit.specs.WordsRemoved.{kept_tokens, removed-new_cells, removed-o
 use Rattle.mk_edit.specs.DirectiveWords.{alike-itself}
 use Rattle.mk_edit.specs.HeaderParts.{IsPartUnit, part-head, HeaderKnown, is_bar_glued, is_no_gap, FitIn, with_parts, bar-is, bar-solid}
 use Rattle.mk_edit.specs.HeaderChanges.{middle_units, header-cells, FitAsCells, HeaderHere, header-here, same-not_led}
-use Rattle.mk_edit.specs.HeaderEdits.{header_pieces-new, header_pieces-whole, kept-old, kept-new, reading-pieces_replaced}
+use Rattle.mk_edit.specs.HeaderEdits.{header_pieces-new, header_pieces-whole, kept-old, kept-new, reading-pieces_replaced, fits-bar_again, lists-end, list-cells, word_spans-header, with_header-header}
 use Rattle.mk_edit.specs.declared.refusal.Refusal.TheVariants.{NoSuch}
 
 -- ---- a list of prerequisites
@@ -98,23 +98,6 @@ glued-apart : (N N' B O O' : List (List Cell)) → (last_passes is_no_gap N ≡ 
 glued-apart N N' [] O O' f g h = refl
 glued-apart N N' (b ∷ B) O O' f g h = let p = or_parts (last_passes is_no_gap N) (first_passes is_no_gap O) h in rw (f p.0, g p.1) refl
 
--- order-only prerequisites in the place of others, where both are none without a `|`
-pub fits-bar_again : (B O O' : List (List Cell)) → FitsBar joined_byte B O → (O ≡ [] → O' ≡ []) → FitsBar joined_byte B O'
-fits-bar_again [] O O' f e = e f
-fits-bar_again (b ∷ []) O O' f e = f
-fits-bar_again (b ∷ c ∷ B) O O' f e = absurd f
-
--- how the prerequisites end, where each list ends as the old one did
-pub lists-end : (N N' B O O' : List (List Cell)) → FitsBar joined_byte B O → (O ≡ [] → O' ≡ []) → EndsAs (concat N') (concat N) → EndsAs (concat O') (concat O)
-    → EndsAs (concat N' ++ (concat B ++ concat O')) (concat N ++ (concat B ++ concat O))
-lists-end N N' [] O O' f e n o = rw (e f, f, append-nil (concat N'), append-nil (concat N)) n
-lists-end N N' (b ∷ []) O O' f e n o =
-    let s : EndsSolid (concat N' ++ concat (b ∷ [])) = EndsSolid-after (concat N') (concat (b ∷ [])) (subst (λ z. EndsSolid (concat (z ∷ []))) (sym (bar-is b f)) bar-solid.ends) in
-    subst (λ z. EndsAs z (concat N ++ (concat (b ∷ []) ++ concat O))) (append_assoc (concat N') (concat (b ∷ [])) (concat O'))
-    (subst (EndsAs ((concat N' ++ concat (b ∷ [])) ++ concat O')) (append_assoc (concat N) (concat (b ∷ [])) (concat O))
-    (EndsAs-after (concat N' ++ concat (b ∷ [])) (concat N ++ concat (b ∷ [])) (concat O') (concat O) s o))
-lists-end N N' (b ∷ c ∷ B) O O' f e n o = absurd f
-
 none-removed : (w : List ℕ) (O : List (List Cell)) → O ≡ [] → removed_units w O ≡ []
 none-removed w O e = ap (removed_units w) e
 
@@ -133,25 +116,6 @@ removed-fit c cs h w k = record {
   alike = alike-itself (tokens joined_byte h.targets);
 }
 
--- the cells of the lists of a header are such that a line may have
-pub record ListCells (h : Headers.Header Cell) : Type 0 where
-  pub targets : AreLineCells (concat h.targets)
-  pub normal : AreLineCells (concat h.normal)
-  pub order_only : AreLineCells (concat h.order_only)
-
-pub list-cells : (c : Bool) (cs : List Cell) (h : Headers.Header Cell) → HeaderKnown c cs h → ListCells h
-list-cells c cs h k =
-    let M = concat (middle_units h) in
-    let X = concat h.order_only ++ concat h.tail in
-    let Y = concat h.normal ++ (concat h.bar ++ X) in
-    let all : AreLineCells (concat h.targets ++ (M ++ Y)) = subst AreLineCells (header-cells h) k.are_line_cells in
-    let pre : AreLineCells Y = AreLineCells-right M Y (AreLineCells-right (concat h.targets) (M ++ Y) all) in
-    record {
-      targets = AreLineCells-left (concat h.targets) (M ++ Y) all;
-      normal = AreLineCells-left (concat h.normal) (concat h.bar ++ X) pre;
-      order_only = AreLineCells-left (concat h.order_only) (concat h.tail) (AreLineCells-right (concat h.bar) X (AreLineCells-right (concat h.normal) (concat h.bar ++ X) pre));
-    }
-
 removed-fit_cells : (c : Bool) (cs : List Cell) (h : Headers.Header Cell) (w : List ℕ) → HeaderKnown c cs h → FitAsCells h h.targets (removed_units w h.normal) h.bar (removed_units w h.order_only)
 removed-fit_cells c cs h w k =
     let a = list-cells c cs h k in
@@ -159,7 +123,7 @@ removed-fit_cells c cs h w k =
       targets = a.targets;
       normal = removed-cells w h.normal k.normal a.normal;
       order_only = removed-cells w h.order_only k.order_only a.order_only;
-      ends = lists-end h.normal (removed_units w h.normal) h.bar h.order_only (removed_units w h.order_only) k.fits.bar_fits (none-removed w h.order_only) (removed-end w h.normal k.normal) (removed-end w h.order_only k.order_only);
+      ends = lists-end h.normal (removed_units w h.normal) h.bar h.order_only (removed_units w h.order_only) k.fits.bar_fits (none-removed w h.order_only) (λ x. removed-end w h.normal k.normal) (removed-end w h.order_only k.order_only);
     }
 
 removed-pieces_new : (h : Headers.Header Cell) (w : List ℕ) → new_cells (remove_pieces w h) ≡ concat (header_units (without w h))
@@ -186,13 +150,6 @@ undepend-line t A l B h w e k =
     (removed-pieces_new h w) (removed-fit cond (line_cells l.bytes) h w H.known) (removed-fit_cells cond (line_cells l.bytes) h w H.known)
     (same-not_led c l.bytes h (removed_units w h.normal) h.bar (removed_units w h.order_only) H)
     ∙ ap (λ z. items A ++ z ∷ items B) (removed-item h w)
-
--- what an edit of a header's words replaces, and what it changes, where the header is found
-pub word_spans-header : (f : Headers.Header Cell → List Piece) (s : Spot) (h : Headers.Header Cell) → s.line.class ≡ Header h → word_spans f s ≡ replacements (length (text_of s.above)) (f h)
-word_spans-header f s h e = ap (header_spans f (length (text_of s.above))) e
-
-pub with_header-header : (f : Item → Item) (s : Spot) (h : Headers.Header Cell) → s.line.class ≡ Header h → with_header f s ≡ items s.above ++ f (header_item h) ∷ items s.below
-with_header-header f s h e = ap (λ k. items s.above ++ (header_items f k ++ items s.below)) e
 
 -- the law of the removal of a prerequisite
 pub undepend-reads : (nth : Option ℕ) (g w t : List ℕ) (rs : List Replacement) → spans t (RemovePrereq nth g w) ≡ Ok rs → reading (text_after t (RemovePrereq nth g w)) ≡ change t (RemovePrereq nth g w)
