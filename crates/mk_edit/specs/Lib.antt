@@ -26,6 +26,7 @@ pub mod HeaderChanges
 pub mod HeaderEdits
 pub mod NewWords
 pub mod WordsAdded
+pub mod WordsRenamed
 pub mod Accepted
 pub mod SpotLaws
 pub mod BlankAdded

@@ -93,7 +93,8 @@ module _ (w : List ℕ) (us : List (List Cell)) where
 
 -- ---- the header
 
-glued-apart : (N N' B O O' : List (List Cell)) → (last_passes is_no_gap N ≡ false → last_passes is_no_gap N' ≡ false) → (first_passes is_no_gap O ≡ false → first_passes is_no_gap O' ≡ false)
+-- a `|` stays a word by itself, where the lists before and after it end and begin in gaps as before
+pub glued-apart : (N N' B O O' : List (List Cell)) → (last_passes is_no_gap N ≡ false → last_passes is_no_gap N' ≡ false) → (first_passes is_no_gap O ≡ false → first_passes is_no_gap O' ≡ false)
     → is_bar_glued N B O ≡ false → is_bar_glued N' B O' ≡ false
 glued-apart N N' [] O O' f g h = refl
 glued-apart N N' (b ∷ B) O O' f g h = let p = or_parts (last_passes is_no_gap N) (first_passes is_no_gap O) h in rw (f p.0, g p.1) refl
