@@ -39,5 +39,6 @@ pub mod AppendLaws
 pub mod RemovalLaws
 pub mod UndependLaws
 pub mod DependLaws
+pub mod RenamedHeaders
 pub mod Laws
 pub mod WordLaws
