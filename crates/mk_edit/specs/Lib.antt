@@ -40,5 +40,6 @@ pub mod RemovalLaws
 pub mod UndependLaws
 pub mod DependLaws
 pub mod RenamedHeaders
+pub mod RenamedTexts
 pub mod Laws
 pub mod WordLaws
