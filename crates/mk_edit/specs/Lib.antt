@@ -41,5 +41,6 @@ pub mod UndependLaws
 pub mod DependLaws
 pub mod RenamedHeaders
 pub mod RenamedTexts
+pub mod TargetFronts
 pub mod Laws
 pub mod WordLaws
