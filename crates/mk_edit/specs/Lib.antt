@@ -42,5 +42,6 @@ pub mod DependLaws
 pub mod RenamedHeaders
 pub mod RenamedTexts
 pub mod TargetFronts
+pub mod TargetUnits
 pub mod Laws
 pub mod WordLaws
