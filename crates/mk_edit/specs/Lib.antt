@@ -42,3 +42,8 @@ pub mod AddedLines
 pub mod NewWords
 pub mod NewRuleLines
 pub mod NewRules
+pub mod RisingSpans
+pub mod OutsideLaws
+pub mod EditPlaces
+pub mod ClassParts
+pub mod SpansRise

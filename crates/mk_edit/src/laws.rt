@@ -2,6 +2,8 @@
 //! specified by. The functions do nothing.
 ghost use Rattle.mk_edit.specs.Laws.{AppendReadsAsChanged, AssignReadsAsChanged, RecipeAddedReadsAsChanged, RecipeRemovedReadsAsChanged, RecipeSetReadsAsChanged, RuleAddedReadsAsChanged, SetReadsAsChanged, SetToNothingReadsAsChanged, UnruleReadsAsChanged, UnsetReadsAsChanged};
 
+pub mod outside;
+
 /// An accepted edit of a value, to one that is not empty, changes the reading by this value alone.
 pub fn set_reads_as_changed()
     ensures { SetReadsAsChanged }
