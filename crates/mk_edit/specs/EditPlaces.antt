@@ -57,10 +57,10 @@ before-stretch ls s h = h
 after-stretch : (ls : List ClassedLine) (s : Spot) → IsSpotOf ls s → IsStretchOf ls (after_line s)
 after-stretch ls s h = h ∙ sym (append_assoc s.above (s.line ∷ []) s.below)
 
-rule-stretch : (ls : List ClassedLine) (s : Spot) → IsSpotOf ls s → IsStretchOf ls (whole_rule s)
+pub rule-stretch : (ls : List ClassedLine) (s : Spot) → IsSpotOf ls s → IsStretchOf ls (whole_rule s)
 rule-stretch ls s h = h ∙ ap (λ z. s.above ++ s.line ∷ z) (sym (recipe_run-after s.below))
 
-after_rule-stretch : (ls : List ClassedLine) (s : Spot) → IsSpotOf ls s → IsStretchOf ls (after_rule s)
+pub after_rule-stretch : (ls : List ClassedLine) (s : Spot) → IsSpotOf ls s → IsStretchOf ls (after_rule s)
 after_rule-stretch ls s h =
     rule-stretch ls s h ∙ sym (append_assoc s.above (s.line ∷ recipe_run s.below) (after_recipe s.below))
 

@@ -47,3 +47,5 @@ pub mod OutsideLaws
 pub mod EditPlaces
 pub mod ClassParts
 pub mod SpansRise
+pub mod KeptLines
+pub mod KeptByEdits
