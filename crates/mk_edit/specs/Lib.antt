@@ -49,3 +49,4 @@ pub mod ClassParts
 pub mod SpansRise
 pub mod KeptLines
 pub mod KeptByEdits
+pub mod TouchedLines

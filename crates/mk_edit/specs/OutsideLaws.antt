@@ -4,12 +4,17 @@ use Rattle.std.specs.Prelude.{◌≡◌, ℕ, List, ◌∷◌, Option, Ok}
 use Rattle.mk_lines.specs.Pieces.{Replacement}
 use Rattle.mk_edit.specs.Edits.{Edit, SetValue, RemoveAssign, RemoveRule, AddRecipe, RemoveRecipe}
 use Rattle.mk_edit.specs.RisingSpans.{IsReplacedAt}
+use Rattle.mk_edit.specs.TouchedLines.{IsOfOnePlace, TouchFew}
 use Rattle.mk_edit.specs.KeptLines.{AreOthersKept}
 use Rattle.mk_edit.specs.Refusals.{spans, text_after}
 
 -- the spans of an edit rise within the text and do not overlap, and the bytes outside them are as before
 abbrev pub OnlySpansAreReplaced : Type 0
 OnlySpansAreReplaced = (text : List ℕ) (e : Edit) (replacements : List Replacement) → spans text e ≡ Ok replacements → IsReplacedAt text (text_after text e) replacements
+
+-- the spans of an edit other than a rename stand within a stretch of at most so many lines as its size says
+abbrev pub SpansTouchFewLines : Type 0
+SpansTouchFewLines = (text : List ℕ) (e : Edit) (replacements : List Replacement) → IsOfOnePlace e → spans text e ≡ Ok replacements → TouchFew text e replacements
 
 -- an edit leaves the lines that its spans do not touch, touches few, and opens no conditional
 abbrev pub KeepsOthers : Edit → Type 0

@@ -212,10 +212,10 @@ header-length h t n o i j k =
 rename-length : (o n : List ℕ) (h : Headers.Header Cell) → old_length (rename_pieces o n h) ≡ raw_length (header_units h)
 rename-length o n h = header-length h (renamed_words o n h.targets) (renamed_words o n h.normal) (renamed_words o n h.order_only) (renamed-length o n h.targets) (renamed-length o n h.normal) (renamed-length o n h.order_only)
 
-remove-length : (w : List ℕ) (h : Headers.Header Cell) → old_length (remove_pieces w h) ≡ raw_length (header_units h)
+pub remove-length : (w : List ℕ) (h : Headers.Header Cell) → old_length (remove_pieces w h) ≡ raw_length (header_units h)
 remove-length w h = header-length h (kept h.targets) (removed_words w h.normal) (removed_words w h.order_only) (kept-length h.targets) (removed-length w h.normal) (removed-length w h.order_only)
 
-add-length : (order : Bool) (w : List ℕ) (h : Headers.Header Cell) → old_length (add_pieces order w h) ≡ raw_length (header_units h)
+pub add-length : (order : Bool) (w : List ℕ) (h : Headers.Header Cell) → old_length (add_pieces order w h) ≡ raw_length (header_units h)
 add-length false w h = header-length h (kept h.targets) (put_last (prerequisite_text w h) h.normal) (kept h.order_only) (kept-length h.targets) (put_last-length (prerequisite_text w h) h.normal) (kept-length h.order_only)
 add-length true w h = go (is_empty h.bar)
   where
@@ -223,7 +223,7 @@ add-length true w h = go (is_empty h.bar)
     go true = header-length h (kept h.targets) (put_last (codes " | " ++ w) h.normal) (kept h.order_only) (kept-length h.targets) (put_last-length (codes " | " ++ w) h.normal) (kept-length h.order_only)
     go false = header-length h (kept h.targets) (kept h.normal) (put_last (32 ∷ w) h.order_only) (kept-length h.targets) (kept-length h.normal) (put_last-length (32 ∷ w) h.order_only)
 
-rise-header : (f : Headers.Header Cell → List Piece) → ((h : Headers.Header Cell) → old_length (f h) ≡ raw_length (header_units h)) → RisesInLine (header_spans f)
+pub rise-header : (f : Headers.Header Cell → List Piece) → ((h : Headers.Header Cell) → old_length (f h) ≡ raw_length (header_units h)) → RisesInLine (header_spans f)
 rise-header f g at n (Header x) h = Rise-until at (at + old_length (f x)) (at + n) (replacements at (f x)) (Rise-pieces at (f x)) (omega (arith, g x, h))
 rise-header f g at n Endef h = omega arith
 rise-header f g at n (Body d) h = omega arith

@@ -1,10 +1,16 @@
 //! What an edit leaves as it was: the bytes outside its spans, and the lines that these do not touch.
-ghost use Rattle.mk_edit.specs.OutsideLaws.{OnlySpansAreReplaced, RecipeAddedKeepsOthers, RecipeRemovedKeepsOthers, SetKeepsOthers, UnruleKeepsOthers, UnsetKeepsOthers};
+ghost use Rattle.mk_edit.specs.OutsideLaws.{OnlySpansAreReplaced, RecipeAddedKeepsOthers, RecipeRemovedKeepsOthers, SetKeepsOthers, SpansTouchFewLines, UnruleKeepsOthers, UnsetKeepsOthers};
 
 /// The spans of an accepted edit stand in the text in order and apart, and the bytes outside them
 /// are as before: the text after it is the text with each span replaced.
 pub fn only_spans_are_replaced()
     ensures { OnlySpansAreReplaced }
+{}
+
+/// The spans of an accepted edit, other than a rename, stand within lines that follow one another, of
+/// which there are at most as many as the edit's size says.
+pub fn spans_touch_few_lines()
+    ensures { SpansTouchFewLines }
 {}
 
 /// An accepted edit of a value, to one that is not empty, touches one line. The lines above and
