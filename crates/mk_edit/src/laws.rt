@@ -4,6 +4,8 @@ pub mod words;
 
 ghost use Rattle.mk_edit.specs.Laws.{AppendReadsAsChanged, AssignReadsAsChanged, NewAssignmentsStand, OtherLinesStay, RecipeAddedReadsAsChanged, RecipeRemovedReadsAsChanged, RecipeSetReadsAsChanged, RefusedChangesNothing, RuleAddedReadsAsChanged, SetReadsAsChanged, SetToNothingReadsAsChanged, UnruleReadsAsChanged, UnsetReadsAsChanged};
 
+pub mod outside;
+
 /// An accepted edit of a value, to one that is not empty, changes the reading by this value alone.
 pub fn set_reads_as_changed()
     ensures { SetReadsAsChanged }
