@@ -35,10 +35,10 @@ use Rattle.mk_class.specs.declared.assignment.Flavor.TheVariants.{Recursive, Sim
 use Rattle.mk_tree.specs.Documents.{context_of}
 use Rattle.mk_tree.specs.Items.{items, Assign, Sets}
 use Rattle.mk_tree.specs.Readings.{reading}
-use Rattle.mk_tree.specs.NewLineLaws.{file_line_end-some, new_line-clean, clean-no_line_end, reading-line_added}
+use Rattle.mk_tree.specs.NewLineLaws.{file_line_end-some, new_line-clean, clean-no_line_end}
 use Rattle.mk_tree.specs.RecipeRunLaws.{assign-agrees}
 use Rattle.mk_edit.specs.Edits.{Place, AddAssign}
-use Rattle.mk_edit.specs.Stretches.{Stretch}
+use Rattle.mk_edit.specs.Stretches.{Stretch, place_found}
 use Rattle.mk_edit.specs.ArgumentCauses.{is_place, place_names}
 use Rattle.mk_edit.specs.AddressCauses.{begins_new_line}
 use Rattle.mk_edit.specs.NewLines.{spaced, operator_text, assign_text, new_line_span}
@@ -49,7 +49,9 @@ use Rattle.mk_edit.specs.Changes.{change, with_item, new_assign}
 use Rattle.mk_edit.specs.Accepted.{accepted, where_holds-none, three-passed}
 use Rattle.mk_edit.specs.FoundAssignments.{no_prefix-set}
 use Rattle.mk_edit.specs.SetLaws.{bytes-joined, unit_text-units}
-use Rattle.mk_edit.specs.NewPlaces.{new-place}
+use Rattle.mk_edit.specs.NewPlaces.{IsNewPlace, new-place}
+use Rattle.mk_edit.specs.NewLineStands.{StandsAt, with_line, stands-reading, stands-lines}
+use Rattle.mk_tree.specs.NewLines.{above_ended}
 use Rattle.mk_edit.specs.NameLaws.{AreNameBytes, name-bytes_are, name-clean, AreUnmarked, name-unmarked, unmarked-append, singles, singles-append, unit_text-singles, unmarked-closed, unmarked-units}
 use Rattle.mk_edit.specs.declared.refusal.Field.TheVariants as field
 use Rattle.mk_edit.specs.declared.refusal.Refusal.TheVariants.{RecipePrefix, OpenLine, Leans, Reserved}
@@ -338,11 +340,11 @@ new-class c b n f v m d h k e p =
 
 -- ---- the law
 
-assign-added : (t : List ℕ) (s : Stretch) (p : Place) (b : ℕ) (n : List ℕ) (f : Flavor) (v : List ℕ) → classed_lines t ≡ s.above ++ s.below → (context_of s.above).defines ≡ 0
+assign-stands : (t : List ℕ) (s : Stretch) (p : Place) (b : ℕ) (n : List ℕ) (f : Flavor) (v : List ℕ) → classed_lines t ≡ s.above ++ s.below → (context_of s.above).defines ≡ 0
     → is_name (b ∷ n) ≡ true → is_value v ≡ true → is_prefix_name (b ∷ n) ≡ false → begins_new_line (AddAssign p (b ∷ n) f v) (Some s) ≡ false
     → follows_open_line (Some s) ≡ false → new_line_leans (AddAssign p (b ∷ n) f v) (Some s) ≡ false
-    → reading (replaced 0 t (new_line_span t (AddAssign p (b ∷ n) f v) s)) ≡ with_item (new_assign (b ∷ n) f v) s
-assign-added t s p b n f v whole d h k named led unopened leans =
+    → StandsAt t s (assign_text (b ∷ n) f v) (Class.Assign (new_assignment (b ∷ n) f v) None)
+assign-stands t s p b n f v whole d h k named led unopened leans =
     let c = context_of s.above in
     let e = file_line_end t in
     let x = assign_text (b ∷ n) f v in
@@ -351,25 +353,35 @@ assign-added t s p b n f v whole d h k named led unopened leans =
     let a = new_assignment (b ∷ n) f v in
     let unbarred = line-unbarred (b ∷ n) f v N V in
     let clean = not-false (any is_barred_byte x) unbarred in
-    let some = file_line_end-some t in
-    let ended : IsEnded x e = new_line-clean x e clean (line-no_backslash (b ∷ n) f v k) some in
+    let ended : IsEnded x e = new_line-clean x e clean (line-no_backslash (b ∷ n) f v k) (file_line_end-some t) in
     let same : line_cells (x ++ line_end_bytes e) ≡ map Byte x =
     ap cells (ended.same_text ∙ sym (raw_text-bytes x)) ∙ AreLineCells-cells (map Byte x) (bytes-are_line_cells x (clean-no_line_end x clean)) in
-    let text : unit_text joined_byte (singles (b ∷ n)) ≡ b ∷ n = unit_text-singles (b ∷ n) in
-    let none : prefix_set_by joined_byte (nat_lt 0 c.conditionals) a ≡ None = no_prefix-set (nat_lt 0 c.conditionals) a (subst (λ z. is_prefix_name z ≡ false) (sym text) named) in
-    let class : class_of c (x ++ line_end_bytes e) ≡ Class.Assign a None = new-class c b n f v (x ++ line_end_bytes e) d N V same led ∙ ap (Class.Assign a) none in
-    reading-line_added t s.above s.below x e (Class.Assign a None) whole unopened some ended class (assign-agrees c a) leans
-    ∙ (ap (λ z. items s.above ++ Assign (Sets [] z f (unit_text joined_byte (units joined_byte (map Byte v)))) ∷ items s.below) text
+    let none : prefix_set_by joined_byte (nat_lt 0 c.conditionals) a ≡ None =
+    no_prefix-set (nat_lt 0 c.conditionals) a (subst (λ z. is_prefix_name z ≡ false) (sym (unit_text-singles (b ∷ n))) named) in
+    record {
+      whole = whole;
+      not_open = unopened;
+      ended = ended;
+      class = new-class c b n f v (x ++ line_end_bytes e) d N V same led ∙ ap (Class.Assign a) none;
+      agrees = assign-agrees c a;
+      not_leaning = leans;
+    }
+
+assign-item : (t : List ℕ) (s : Stretch) (b : ℕ) (n : List ℕ) (f : Flavor) (v : List ℕ) → StandsAt t s (assign_text (b ∷ n) f v) (Class.Assign (new_assignment (b ∷ n) f v) None)
+    → reading (with_line t s (assign_text (b ∷ n) f v)) ≡ with_item (new_assign (b ∷ n) f v) s
+assign-item t s b n f v h =
+    stands-reading t s (assign_text (b ∷ n) f v) (Class.Assign (new_assignment (b ∷ n) f v) None) h
+    ∙ (ap (λ z. items s.above ++ Assign (Sets [] z f (unit_text joined_byte (units joined_byte (map Byte v)))) ∷ items s.below) (unit_text-singles (b ∷ n))
     ∙ ap (λ z. items s.above ++ Assign (Sets [] (b ∷ n) f z) ∷ items s.below) (unit_text-units (map Byte v) ∙ bytes-joined v))
 
--- the law
-pub assign-reads : (p : Place) (n : List ℕ) (f : Flavor) (v t : List ℕ) (rs : List Replacement) → spans t (AddAssign p n f v) ≡ Ok rs
-    → reading (text_after t (AddAssign p n f v)) ≡ change t (AddAssign p n f v)
-assign-reads p [] f v t rs h =
-    let A = accepted t (AddAssign p [] f v) rs h in
-    let u = three-passed field.Place field.Name field.Value (is_place p) (is_name []) (is_value v) A.arguments in
-    absurd (let q : false ≡ true = u.1.0 in cc)
-assign-reads p (b ∷ n) f v t rs h =
+-- where an accepted one stands
+record AssignStands (t : List ℕ) (p : Place) (b : ℕ) (n : List ℕ) (f : Flavor) (v : List ℕ) (rs : List Replacement) : Type 0 where
+  place : IsNewPlace t p
+  stands : StandsAt t place.stretch (assign_text (b ∷ n) f v) (Class.Assign (new_assignment (b ∷ n) f v) None)
+  spans_are : new_line_span t (AddAssign p (b ∷ n) f v) place.stretch ≡ rs
+
+accepted-stands : (t : List ℕ) (p : Place) (b : ℕ) (n : List ℕ) (f : Flavor) (v : List ℕ) (rs : List Replacement) → spans t (AddAssign p (b ∷ n) f v) ≡ Ok rs → AssignStands t p b n f v rs
+accepted-stands t p b n f v rs h =
     let e = AddAssign p (b ∷ n) f v in
     let A = accepted t e rs h in
     let u = three-passed field.Place field.Name field.Value (is_place p) (is_name (b ∷ n)) (is_value v) A.arguments in
@@ -379,8 +391,43 @@ assign-reads p (b ∷ n) f v t rs h =
     let led : begins_new_line e (Some s) ≡ false = subst (λ (z : Option Stretch). begins_new_line e z ≡ false) P.found_is (where_holds-none _ RecipePrefix A.not_led) in
     let unopened : follows_open_line (Some s) ≡ false = subst (λ (z : Option Stretch). follows_open_line z ≡ false) P.found_is (where_holds-none _ OpenLine A.line_closed) in
     let leans : new_line_leans e (Some s) ≡ false = subst (λ (z : Option Stretch). new_line_leans e z ≡ false) P.found_is (or-left_false _ _ (where_holds-none _ Leans A.not_leaning)) in
-    let y : new_line_span t e s ≡ rs = subst (λ (z : Option Stretch). where_found (new_line_span t e) z ≡ rs) P.found_is A.spans_are in
-    let z : change t e ≡ with_item (new_assign (b ∷ n) f v) s = ap (where_found (with_item (new_assign (b ∷ n) f v))) P.found_is in
+    record {
+      place = P;
+      stands = assign-stands t s p b n f v P.whole P.no_define u.1.0 u.1.1 (or-left_false (is_prefix_name (b ∷ n)) (any is_prefix_name (place_names p)) r) led unopened leans;
+      spans_are = subst (λ (z : Option Stretch). where_found (new_line_span t e) z ≡ rs) P.found_is A.spans_are;
+    }
+
+no_name : (p : Place) (f : Flavor) (v t : List ℕ) (rs : List Replacement) → spans t (AddAssign p [] f v) ≡ Ok rs → ⊥
+no_name p f v t rs h =
+    let A = accepted t (AddAssign p [] f v) rs h in
+    let u = three-passed field.Place field.Name field.Value (is_place p) (is_name []) (is_value v) A.arguments in
+    let q : false ≡ true = u.1.0 in cc
+
+-- the law
+pub assign-reads : (p : Place) (n : List ℕ) (f : Flavor) (v t : List ℕ) (rs : List Replacement) → spans t (AddAssign p n f v) ≡ Ok rs
+    → reading (text_after t (AddAssign p n f v)) ≡ change t (AddAssign p n f v)
+assign-reads p [] f v t rs h = absurd (no_name p f v t rs h)
+assign-reads p (b ∷ n) f v t rs h =
+    let S = accepted-stands t p b n f v rs h in
+    let z : change t (AddAssign p (b ∷ n) f v) ≡ with_item (new_assign (b ∷ n) f v) S.place.stretch = ap (where_found (with_item (new_assign (b ∷ n) f v))) S.place.found_is in
     ap (λ q. reading (text_by t q)) h
-    ∙ (ap (λ q. reading (replaced 0 t q)) (sym y)
-    ∙ (assign-added t s p b n f v P.whole P.no_define u.1.0 u.1.1 (or-left_false (is_prefix_name (b ∷ n)) (any is_prefix_name (place_names p)) r) led unopened leans ∙ sym z))
+    ∙ (ap (λ q. reading (replaced 0 t q)) (sym S.spans_are) ∙ (assign-item t S.place.stretch b n f v S.stands ∙ sym z))
+
+some-same : {A : Type 0} (x y : A) → Some x ≡ Some y → x ≡ y
+some-same x y h = cc
+
+-- the lines after it
+pub assign-lines : (p : Place) (n : List ℕ) (f : Flavor) (v t : List ℕ) (rs : List Replacement) (s : Stretch) → spans t (AddAssign p n f v) ≡ Ok rs → place_found (classed_lines t) p ≡ Some s
+    → (k : Class) × (classed_lines (text_after t (AddAssign p n f v)) ≡ above_ended (file_line_end t) s.above s.below ++ record { bytes = assign_text n f v ++ line_end_bytes (file_line_end t); class = k } ∷ s.below)
+assign-lines p [] f v t rs s h e = absurd (no_name p f v t rs h)
+assign-lines p (b ∷ n) f v t rs s h e =
+    let S = accepted-stands t p b n f v rs h in
+    let i : S.place.stretch ≡ s = some-same S.place.stretch s (sym S.place.found_is ∙ e) in
+    let x = assign_text (b ∷ n) f v in
+    let k = Class.Assign (new_assignment (b ∷ n) f v) None in (
+      k,
+      ap (λ q. classed_lines (text_by t q)) h
+          ∙ (ap (λ q. classed_lines (replaced 0 t q)) (sym S.spans_are)
+          ∙ (stands-lines t S.place.stretch x k S.stands
+          ∙ ap (λ (z : Stretch). above_ended (file_line_end t) z.above z.below ++ record { bytes = x ++ line_end_bytes (file_line_end t); class = k } ∷ z.below) i)),
+    )

@@ -1,6 +1,10 @@
 //! Laws of edits: each contract is a theorem on the definitions that the calls of this crate are
 //! specified by. The functions do nothing.
-ghost use Rattle.mk_edit.specs.Laws.{AppendReadsAsChanged, AssignReadsAsChanged, RecipeAddedReadsAsChanged, RecipeRemovedReadsAsChanged, RecipeSetReadsAsChanged, RuleAddedReadsAsChanged, SetReadsAsChanged, SetToNothingReadsAsChanged, UnruleReadsAsChanged, UnsetReadsAsChanged};
+pub mod words;
+
+ghost use Rattle.mk_edit.specs.Laws.{AppendReadsAsChanged, AssignReadsAsChanged, NewAssignmentsStand, OtherLinesStay, RecipeAddedReadsAsChanged, RecipeRemovedReadsAsChanged, RecipeSetReadsAsChanged, RefusedChangesNothing, RuleAddedReadsAsChanged, SetReadsAsChanged, SetToNothingReadsAsChanged, UnruleReadsAsChanged, UnsetReadsAsChanged};
+
+pub mod outside;
 
 /// An accepted edit of a value, to one that is not empty, changes the reading by this value alone.
 pub fn set_reads_as_changed()
@@ -59,4 +63,22 @@ pub fn recipe_set_reads_as_changed()
 /// rule comes last.
 pub fn rule_added_reads_as_changed()
     ensures { RuleAddedReadsAsChanged }
+{}
+
+/// An accepted edit that takes lines out leaves the lines above and below them, each with its
+/// class.
+pub fn other_lines_stay()
+    ensures { OtherLinesStay }
+{}
+
+/// A refused edit changes nothing.
+pub fn refused_changes_nothing()
+    ensures { RefusedChangesNothing }
+{}
+
+/// After an accepted new assignment its line stands at its place. The lines below it stay, each
+/// with its class, and so do those above it, but for the line end that a last line without one
+/// gets.
+pub fn new_assignments_stand()
+    ensures { NewAssignmentsStand }
 {}
