@@ -2,7 +2,6 @@ mod KeptRows
 mod RandomRows
 mod WorkedRows
 pub mod KeptLemmas
-pub mod MarkLemmas
 pub mod PartLemmas
 pub mod PrefixLemmas
 pub mod SplitLemmas

@@ -1,13 +1,12 @@
 //! A text as its logical lines.
-ghost use Rattle.std.specs.Prelude.{◌≡◌, IfOk, IsOkUnless, length};
+ghost use Rattle.std.specs.Prelude.{◌≡◌, ◌<◌, IfOk, IsOkUnless, length};
 ghost use Rattle.mk_lines.specs.Ranges.{line_ranges};
 ghost use Rattle.mk_lines.specs.Spans.{Tiles};
-
-mod marks;
+ghost use Rattle.mk_lines.specs.Splitting.{IsFirstLine};
 
 use crate::ends::is_continued;
 use crate::fault::Fault;
-use marks::{Marks, first_line_end};
+use memchr::memchr;
 use std::alloc::Allocator;
 
 /// A stretch of a text, in bytes: from `start`, which is its first, up to `end`, which is not in it.
@@ -36,16 +35,26 @@ pub fn split<A: Allocator>(alloc: A, text: &[u8]) -> Result<Vec<Span, A>, Fault>
 {
     let mut spans = Vec::new(alloc);
     let mut start = 0;
-    let mut place = 0;
-    let mut marks = Marks::new();
-    'lines: while place < text.len() {
-        let (end, left) = first_line_end(text, place, marks);
-        if end == text.len() || !is_continued(&text[place..end]) {
+    let mut rest = text;
+    'lines: while !rest.is_empty() {
+        let (line, after) = first_physical_line(rest);
+        if after.is_empty() || !is_continued(line) {
+            let end = text.len() - after.len();
             spans.push(Span { start, end })?;
             start = end;
         }
-        place = end;
-        marks = left;
+        rest = after;
     }
     Ok(spans)
+}
+
+// The first physical line of a text that is not empty, and the text after it.
+fn first_physical_line(text: &[u8]) -> (&[u8], &[u8])
+    requires { 0 < length text.now }
+    ensures { IsFirstLine text.now result.0.now result.1.now }
+{
+    match memchr(b'\n', text) {
+        Some(at) => text.split_at(at + 1),
+        None => text.split_at(text.len()),
+    }
 }

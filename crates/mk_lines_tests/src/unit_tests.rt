@@ -1,5 +1,7 @@
 //! The units and words of texts, and whether a text is closed.
-use mk_lines::{Span, is_closed, split_first_unit, split_first_word, units, words};
+use mk_lines::{
+    Span, after_first_unit, is_closed, split_first_unit, split_first_word, units, words,
+};
 use std::test::Fail;
 
 #[test]
@@ -96,6 +98,19 @@ fn the_first_unit_is_cut_off(rt: HostRuntime) {
         (b"$(a".as_slice(), Some((b"$(a".as_slice(), b"".as_slice()))),
     ] {
         assert_eq!(rt; split_first_unit(text), want);
+    }
+}
+
+#[test]
+fn what_follows_the_first_unit_is_left(rt: HostRuntime) {
+    for (text, want) in [
+        (b"".as_slice(), b"".as_slice()),
+        (b"$(a(b))x".as_slice(), b"x".as_slice()),
+        (br"\$x".as_slice(), b"$x".as_slice()),
+        (br"\# a".as_slice(), b" a".as_slice()),
+        (b"$(a".as_slice(), b"".as_slice()),
+    ] {
+        assert_eq!(rt; after_first_unit(text), want);
     }
 }
 

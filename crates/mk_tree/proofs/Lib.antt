@@ -11,3 +11,5 @@ pub mod Prefixes
 pub mod AdmissionLemmas
 pub mod Lowness
 pub mod Ends
+pub mod Building
+pub mod Reading

@@ -22,3 +22,5 @@ pub mod Trees
 pub mod Walks
 pub mod Printing
 pub mod Admissions
+pub mod Faults
+pub mod Parsing

@@ -339,7 +339,7 @@ impl<A: Allocator> Tree<A> {
 
     // The line between two trees of almost the same height.
     #[tactic(auto, using(crate::proofs::Places::sizes))]
-    fn join(left: Tree<A>, mut line: Line<A>, right: Tree<A>) -> Tree<A>
+    pub(crate) fn join(left: Tree<A>, mut line: Line<A>, right: Tree<A>) -> Tree<A>
         requires balanced { DifferByAtMost 1 left.1 right.1 }
         requires fits { size_of left.0 + length (line_view line).bytes + size_of right.0 ≤ 2 ^ 24 }
         ensures lines { result.0 ≡ left.0 ++ line_view line ∷ right.0 }

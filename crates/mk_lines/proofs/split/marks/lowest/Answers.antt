@@ -1,8 +1,0 @@
-use Rattle.std.proofs.Common.{arith, w64}
-use Rattle.std.proofs.lemmas.Nat.Bits.{bit_at-trailing_zeros}
-use Rattle.mk_lines.proofs.split.marks.lowest.Goals as goal
-
-pub returns : goal.returns
-returns c =
-    let h = bit_at-trailing_zeros w64 c.args.bits (omega (arith, c.requires)) c.ranges.bits.fits in
-    record { bound = h.0; set = h.1; below = h.2 }
