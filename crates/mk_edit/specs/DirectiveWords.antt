@@ -16,17 +16,18 @@ use Rattle.mk_class.specs.AssignmentEqualsLaws.{not_same}
 use Rattle.mk_class.specs.Keywords.{Keyword, DefineWord, EndefWord, IfWord, ElseWord, EndifWord, DirectiveWord, UndefineWord, NoKeyword, keyword, first_keyword, after_modifiers, if_words, directive_words, modifier_words, is_reserved_word, reserved_words}
 use Rattle.mk_class.specs.Headers
 use Rattle.mk_class.specs.Classes.{Class}
-use Rattle.mk_class.specs.Classes.Class.{DefineHead, If, Else, Endif, Directive, Header}
+use Rattle.mk_class.specs.Classes.Class.{DefineHead, If, Else, Endif, Directive, TargetAssign, Header}
 use Rattle.mk_class.specs.ClassTable.{directive_by, directive, defines_prefix}
 
 -- ---- what decides a directive
 
--- a class that is no Header
+-- a class that is neither a Header nor a target assignment
 abbrev pub IsNoHeader : Class → Type 0
 IsNoHeader (Header h) = ⊥
+IsNoHeader (TargetAssign a) = ⊥
 IsNoHeader k = Unit {0}
 
--- keywords alone say whether a line is a directive, and none is a Header
+-- keywords alone say whether a line is a directive, and none is one of these
 directive-cases : (k b : Keyword) (c : Bool) (ws ws' : List (List ℕ)) → ((directive_by k b c ws ≡ None) × (directive_by k b c ws' ≡ None)) ⊎ ((x : Class) × (directive_by k b c ws ≡ Some x) × IsNoHeader x)
 directive-cases DefineWord DefineWord c ws ws' = inr (DefineHead (defines_prefix ws), refl, tt)
 directive-cases DefineWord EndefWord c ws ws' = inl (refl, refl)
@@ -107,7 +108,7 @@ directive-cases NoKeyword DirectiveWord c ws ws' = inl (refl, refl)
 directive-cases NoKeyword UndefineWord c ws ws' = inr (Directive, refl, tt)
 directive-cases NoKeyword NoKeyword c ws ws' = inl (refl, refl)
 
--- a directive is no Header
+-- a directive is neither
 pub directive-no_header : (c : Bool) (ws : List (List ℕ)) (x : Class) → directive c ws ≡ Some x → IsNoHeader x
 directive-no_header c ws x h = go (directive-cases (first_keyword ws) (first_keyword (after_modifiers ws)) c (after_modifiers ws) [])
   where

@@ -116,7 +116,8 @@ class_at-header false zero Unknown c cs us h k = record { here = plain_class-hea
 
 -- ---- parts that make such a line
 
-any-after : {A : Type 0} (p : A → Bool) (a b : List A) → any p b ≡ true → any p (a ++ b) ≡ true
+-- some of the last units passes
+pub any-after : {A : Type 0} (p : A → Bool) (a b : List A) → any p b ≡ true → any p (a ++ b) ≡ true
 any-after p [] b h = h
 any-after p (x ∷ a) b h = ap (λ z. p x || z) (any-after p a b h) ∙ go (p x)
   where
@@ -132,7 +133,8 @@ any-before p (x ∷ a) b h = go (p x) h (λ k. any-before p a b k)
     go true e i = refl
     go false e i = i e
 
-leading-all : {A : Type 0} (p : A → Bool) (xs ys : List A) → Each p xs → leading p (xs ++ ys) ≡ xs ++ leading p ys
+-- the leading elements where all of the first list pass
+pub leading-all : {A : Type 0} (p : A → Bool) (xs ys : List A) → Each p xs → leading p (xs ++ ys) ≡ xs ++ leading p ys
 leading-all p [] ys h = refl
 leading-all p (x ∷ xs) ys h = rw (h.0, leading-all p xs ys h.1) refl
 
@@ -151,7 +153,7 @@ pub separator-has_colon : (us : List (List Cell)) (s : Separator) → map (symbo
 separator-has_colon us s h = sym (colon-symbols us) ∙ (ap (any is_colon_symbol) h ∙ separator-colon s)
 
 -- units with a `:` are not all blanks
-colon-filled : (us : List (List Cell)) → has_colon joined_byte us ≡ true → is_all_blanks us ≡ false
+pub colon-filled : (us : List (List Cell)) → has_colon joined_byte us ≡ true → is_all_blanks us ≡ false
 colon-filled [] h = cc
 colon-filled (u ∷ us) h = go (is_gap joined_byte u) refl (λ k. colon-filled us k)
   where

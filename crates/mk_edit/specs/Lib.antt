@@ -43,5 +43,7 @@ pub mod RenamedHeaders
 pub mod RenamedTexts
 pub mod TargetFronts
 pub mod TargetUnits
+pub mod TargetLines
+pub mod TargetNames
 pub mod Laws
 pub mod WordLaws

@@ -111,11 +111,13 @@ module _ (o n : List ℕ) (new : IsNewTarget o n) (us : List (List Cell)) where
 abbrev pub header_renamed : (old new : List ℕ) → Headers.Header Cell → Headers.Header Cell
 header_renamed o n h = with_parts h (renamed_units o n h.targets) (renamed_units o n h.normal) h.bar (renamed_units o n h.order_only)
 
-and-right : (a b : Bool) → (a && b) ≡ false → (b ≡ true → a ≡ false)
+-- of two tests that do not both pass, the first fails where the second passes
+pub and-right : (a b : Bool) → (a && b) ≡ false → (b ≡ true → a ≡ false)
 and-right true b h e = let k : true ≡ false = sym e ∙ h in cc
 and-right false b h e = refl
 
-and-of : (a b : Bool) → (b ≡ true → a ≡ false) → (a && b) ≡ false
+-- and so they do not both pass
+pub and-of : (a b : Bool) → (b ≡ true → a ≡ false) → (a && b) ≡ false
 and-of true true h = h refl
 and-of true false h = refl
 and-of false b h = refl
