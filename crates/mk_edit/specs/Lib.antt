@@ -45,5 +45,7 @@ pub mod TargetFronts
 pub mod TargetUnits
 pub mod TargetLines
 pub mod TargetNames
+pub mod RenamedTargets
+pub mod RenameLaws
 pub mod Laws
 pub mod WordLaws
