@@ -140,6 +140,19 @@ some_cell : (a b : List Cell) (x : Cell) → (d : Cell) × (D : List Cell) × (a
 some_cell [] b x = (x, b, refl)
 some_cell (c ∷ a) b x = (c, a ++ x ∷ b, refl)
 
+-- a line with other cells before a `:`: one line of these cells, with the same line end
+line-before_colon : (l : List ℕ) (below : List (List ℕ)) (a b D : List Cell) → line_cells l ≡ a ++ Byte 58 ∷ D → AreLineCells (a ++ Byte 58 ∷ D) → AreLineCells (b ++ Byte 58 ∷ D) → OneLine l → EndsBefore l below
+    → IsLineOf (raw_text (b ++ Byte 58 ∷ D) ++ line_end_bytes (line_end l)) (b ++ Byte 58 ∷ D) (line_end l) below
+line-before_colon l below a b D e old new one ends =
+    let end = line_end l in
+    let cs = b ++ Byte 58 ∷ D in
+    let tail : AreLineCells (Byte 58 ∷ D) = AreLineCells-right a (Byte 58 ∷ D) old in
+    let apart : KeepsApart end (reverse (raw_text cs)) = KeepsApart-tail end a b (Byte 58) D refl tail.are_cells.0 (subst (λ z. KeepsApart end (reverse (raw_text z))) e (line-keeps_apart l)) in
+    let stops : EndLineBefore end cs below = EndLineBefore-tail end a b (Byte 58) D below refl old new (subst (λ z. EndLineBefore end z below) e (line-ends l below one ends)) in
+    let cell = some_cell b D (Byte 58) in
+    let byte = some_raw cs cell.0 cell.1 cell.2 new in
+    line-of_cells cs end below byte.0 (byte.1 ++ line_end_bytes end) new apart stops (ap (λ z. z ++ line_end_bytes end) byte.2)
+
 -- ---- the line
 
 -- the class of cells in a context, as prefix-led or not
@@ -176,14 +189,8 @@ target-renamed o n new i j a c l below e one ends starts =
     ∙ (ap (λ z. units joined_byte (z ++ concat X)) (concat-token_units (tokens_renamed o n ts))
     ∙ units-renamed o n new.word ts cs [] X (tokens-are_tokens joined_byte T) (p.units_are ∙ ap (λ z. z ++ X) (sym (token_units-tokens joined_byte T))) (λ q. refl)) in
     let end = line_end_bytes (line_end l) in
-    let apart : KeepsApart (line_end l) (reverse (raw_text new_cs)) =
-    KeepsApart-tail (line_end l) (concat T) (concat T') (Byte 58) D refl tail.are_cells.0 (subst (λ z. KeepsApart (line_end l) (reverse (raw_text z))) cells_are (line-keeps_apart l)) in
-    let stops : EndLineBefore (line_end l) new_cs below =
-    EndLineBefore-tail (line_end l) (concat T) (concat T') (Byte 58) D below refl old cells (subst (λ z. EndLineBefore (line_end l) z below) cells_are (line-ends l below one ends)) in
-    let cell = some_cell (concat T') D (Byte 58) in
-    let byte = some_raw new_cs cell.0 cell.1 cell.2 cells in
     let m = raw_text new_cs ++ end in
-    let line : IsLineOf m new_cs (line_end l) below = line-of_cells new_cs (line_end l) below byte.0 (byte.1 ++ end) cells apart stops (ap (λ z. z ++ end) byte.2) in
+    let line : IsLineOf m new_cs (line_end l) below = line-before_colon l below (concat T) (concat T') D cells_are old cells one ends in
     let ps = renamed_words o n T in
     let rest = raw_text Y ++ end in
     let split : (z : List Cell) → raw_text (z ++ Y) ++ end ≡ raw_text z ++ rest = λ z. ap (λ y. y ++ end) (raw_text-append z Y) ∙ append_assoc (raw_text z) (raw_text Y) end in
