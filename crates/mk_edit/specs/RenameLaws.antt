@@ -1,12 +1,11 @@
 -- The reading law of a rename: each target and prerequisite that is the old word is the new one, and no other item changes.
-use Rattle.std.proofs.Common.{◌≡◌, refl, sym, ap, ◌∙◌, ℕ, List, Bool, true, false, not, ◌||◌}
+use Rattle.std.proofs.Common.{◌≡◌, sym, ap, ◌∙◌, ℕ, List, false, not, ◌||◌}
 use Rattle.std.proofs.lemmas.Bool.{and_parts, or_parts, not-true}
 use Rattle.std.specs.Prelude.{Ok}
 use Rattle.mk_lines.specs.Pieces.{Replacement, replaced}
 use Rattle.mk_class.specs.Lists.{last_passes}
 use Rattle.mk_class.specs.Keywords.{is_reserved_word}
 use Rattle.mk_class.specs.Arguments.{is_word, is_target, is_ampersand_byte}
-use Rattle.mk_class.specs.ClassedLines.{classed_lines}
 use Rattle.mk_tree.specs.Readings.{reading}
 use Rattle.mk_edit.specs.Edits.{RenameTarget}
 use Rattle.mk_edit.specs.Refusals.{spans, text_by, text_after}

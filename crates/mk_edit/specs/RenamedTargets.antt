@@ -1,6 +1,6 @@
 -- A target assignment's line after a rename stands in the place of the old one: a line of class TargetAssign with the new word for
 -- each target that was the old.
-use Rattle.std.proofs.Common.{◌≡◌, refl, sym, ap, ◌∙◌, subst, ℕ, List, [], ◌∷◌, ◌++◌, map, Bool, true, false, not, ◌&&◌, ◌||◌, cond, Option, None, append_assoc, reverse}
+use Rattle.std.proofs.Common.{◌≡◌, refl, sym, ap, ◌∙◌, subst, ℕ, List, [], ◌∷◌, ◌++◌, map, Bool, true, false, cond, append_assoc, reverse}
 use Rattle.std.specs.Prelude.{nat_lt}
 use Rattle.mk_lines.specs.Lists.{concat}
 use Rattle.mk_lines.specs.ListLaws.{Each, Each-append, Each-left, Each-right, concat-append}
@@ -11,7 +11,7 @@ use Rattle.mk_lines.specs.CellLaws.{raw_text-append, raw_text-cells}
 use Rattle.mk_lines.specs.LineLaws.{OneLine, EndsBefore}
 use Rattle.mk_lines.specs.LineEndLaws.{KeepsApart, without_line_end-line_end}
 use Rattle.mk_lines.specs.LineCells.{AreLineCells, AreLineCells-left, AreLineCells-right, EndLineBefore, EndLineBefore-tail, KeepsApart-tail, IsLineOf, line-of_cells, line-ends, line-keeps_apart, or-left_false, or-both_false}
-use Rattle.mk_lines.specs.Pieces.{Piece, Keep, Replace, old_bytes, new_bytes}
+use Rattle.mk_lines.specs.Pieces.{Keep, Replace, old_bytes, new_bytes}
 use Rattle.mk_lines.specs.PieceLaws.{raw_text-old_cells, raw_text-new_cells}
 use Rattle.mk_lines.specs.Units.{units}
 use Rattle.mk_lines.specs.UnitLaws.{concat-units}
@@ -19,7 +19,7 @@ use Rattle.mk_lines.specs.Words.{Token, Gap, Word, tokens, token_units, AreToken
 use Rattle.mk_lines.specs.TokenLaws.{token_text, token_units-tokens, token_text-tokens, tokens-are_tokens}
 use Rattle.mk_class.specs.Lists.{any, is_empty, last_passes}
 use Rattle.mk_class.specs.Texts.{word_texts}
-use Rattle.mk_class.specs.Symbols.{symbol, is_colon, is_ampersand}
+use Rattle.mk_class.specs.Symbols.{is_colon, is_ampersand}
 use Rattle.mk_class.specs.CutTexts.{is_in_head, is_no_hash}
 use Rattle.mk_class.specs.Arguments.{is_word}
 use Rattle.mk_class.specs.Assignments.{assignment}
@@ -42,8 +42,7 @@ use Rattle.mk_edit.specs.HeaderParts.{colon-is, colons-begin}
 use Rattle.mk_edit.specs.NewWords.{IsNewWord, cell_units, clean-no_stray, rule_units-bland}
 use Rattle.mk_edit.specs.WordsRenamed.{tokens_renamed, renamed_word, renamed-are_tokens, renamed-alike}
 use Rattle.mk_edit.specs.RenamedHeaders.{IsNewTarget, renamed_units, renamed-cells, renamed-last_ampersand, renamed-old, renamed-new, and-right, and-of, none-replaced, renamed-not_led}
-use Rattle.mk_edit.specs.RenamedTexts.{IsRenamed, AreRenamed, targets_renamed}
-use Rattle.mk_edit.specs.TargetFronts.{is_name_unit}
+use Rattle.mk_edit.specs.RenamedTexts.{AreRenamed, targets_renamed}
 use Rattle.mk_edit.specs.TargetUnits.{free-apart, free-no_colon, units-renamed}
 use Rattle.mk_edit.specs.TargetLines.{TargetParts, IsTargetRead, class_at-target, target-parts, FitAsTargets, target-again}
 use Rattle.mk_edit.specs.TargetNames.{new-names, old-names, renamed-unassigned}

@@ -1,7 +1,6 @@
 -- Lines of class TargetAssign: what the class says of a line, its parts, and which targets make a line of that class again.
 use Rattle.std.proofs.Common.{◌≡◌, refl, sym, ap, ◌∙◌, subst, ℕ, zero, suc, List, [], ◌∷◌, ◌++◌, map, Bool, true, false, not, ◌&&◌, ◌||◌, cond, drop, Option, Some, None, append_assoc}
 use Rattle.std.proofs.lemmas.Bool.{not-true}
-use Rattle.mk_lines.specs.Lists.{leading}
 use Rattle.mk_lines.specs.ListLaws.{Each, FirstFails, Each-left, Each-right, leading-each, leading-append_all, leading-after_leading, after_leading-first_fails}
 use Rattle.mk_lines.specs.Cells.{Cell, joined_byte}
 use Rattle.mk_class.specs.Lists.{any, first_passes, last_passes, until, from}

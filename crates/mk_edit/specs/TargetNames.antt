@@ -22,7 +22,7 @@ use Rattle.mk_class.specs.AssignmentEqualsLaws.{assignment-at_equals}
 use Rattle.mk_edit.specs.WordPieces.{is_word_of}
 use Rattle.mk_edit.specs.Accepted.{same_text-is}
 use Rattle.mk_edit.specs.HeaderLines.{leading-all}
-use Rattle.mk_edit.specs.NewWords.{IsNewWord, cell_units, cell_units-text, rule_units-bland}
+use Rattle.mk_edit.specs.NewWords.{cell_units, cell_units-text, rule_units-bland}
 use Rattle.mk_edit.specs.WordsRenamed.{tokens_renamed, renamed_word}
 use Rattle.mk_edit.specs.RenamedHeaders.{IsNewTarget}
 use Rattle.mk_edit.specs.TargetFronts.{is_name_unit, Sealed, OldAreNames, front-none}
