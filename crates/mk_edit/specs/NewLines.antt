@@ -1,15 +1,13 @@
 -- New lines: their text, and the span that puts one in.
-use Rattle.std.specs.Prelude.{ℕ, if◌then◌else◌, Bool, ◌&&◌, List, [], ◌∷◌, ◌++◌, map, drop, length}
+use Rattle.std.specs.Prelude.{ℕ, List, [], ◌∷◌, ◌++◌, map, drop, length}
 use Rattle.mk_lines.specs.Lists.{concat}
-use Rattle.mk_lines.specs.PhysicalLines.{line_end, line_end_bytes, file_line_end}
-use Rattle.mk_lines.specs.LogicalLines.{has_no_line_end}
+use Rattle.mk_lines.specs.PhysicalLines.{line_end_bytes, file_line_end}
 use Rattle.mk_lines.specs.Pieces.{Replacement}
 use Rattle.mk_lines.specs.Words.{words}
-use Rattle.mk_class.specs.Lists.{is_empty, last_passes}
-use Rattle.mk_class.specs.ClassedLines.{ClassedLine}
 use Rattle.mk_class.specs.declared.assignment.Flavor.{Flavor}
 use Rattle.mk_class.specs.declared.assignment.Flavor.TheVariants.{Recursive, Simple, PosixSimple, Immediate, Conditional, Append, Shell}
 use Rattle.mk_tree.specs.Documents.{text_of, context_of}
+use Rattle.mk_tree.specs.NewLines.{missing_line_end}
 use Rattle.mk_edit.specs.Edits.{Edit, AddAssign, AddRule, AddRecipe}
 use Rattle.mk_edit.specs.Stretches.{Stretch}
 use Rattle.mk_edit.specs.declared.edit.Colons.{Colons}
@@ -72,17 +70,9 @@ new_text p e = []
 abbrev pub new_line_end : (text : List ℕ) → List ℕ
 new_line_end t = line_end_bytes (file_line_end t)
 
--- whether a line has no line end
-abbrev pub lacks_line_end : ClassedLine → Bool
-lacks_line_end l = has_no_line_end (line_end l.bytes)
-
--- the file's line end, where the stretch is at the end of the text and the last line has none
-abbrev pub missing_line_end : (text : List ℕ) → Stretch → List ℕ
-missing_line_end t s = if is_empty s.below && last_passes lacks_line_end s.above then new_line_end t else []
-
 -- the span of a new line: an empty range at its place; the new bytes are the line with the file's line end, after the line end
 -- that the last line lacks
 abbrev pub new_line_span : (text : List ℕ) → Edit → Stretch → List Replacement
 new_line_span t e s =
     let at = length (text_of s.above) in
-    record { start = at; end = at; new = missing_line_end t s ++ (new_text (context_of s.above).prefix e ++ new_line_end t) } ∷ []
+    record { start = at; end = at; new = missing_line_end (file_line_end t) s.above s.below ++ (new_text (context_of s.above).prefix e ++ new_line_end t) } ∷ []

@@ -7,7 +7,7 @@ use Rattle.mk_class.specs.Assignments.{Assignment}
 use Rattle.mk_class.specs.Contexts.{context_after}
 use Rattle.mk_class.specs.Classes.Class.{Assign}
 use Rattle.mk_class.specs.ClassedLines.{ClassedLine, classed_lines}
-use Rattle.mk_tree.specs.Documents.{text_of, context_of}
+use Rattle.mk_tree.specs.Documents.{context_of}
 use Rattle.mk_tree.specs.Readings.{reading}
 use Rattle.mk_tree.specs.LinePlaces.{context_of-last, reading-two}
 use Rattle.mk_tree.specs.Leaning.{leans, AgreeButForFlag}
@@ -25,16 +25,22 @@ use Rattle.mk_edit.specs.FoundAssignments.{FoundAssignment, assignment-found}
 use Rattle.mk_edit.specs.SetLaws.{not_prefix}
 use Rattle.mk_edit.specs.declared.refusal.Refusal.TheVariants.{NoSuch, Leans}
 
--- a stretch of lines taken out: the other lines keep their items
+-- a stretch of lines taken out: the other lines keep their classes
+pub stretch-lines : (t : List ℕ) (s : Stretch) → classed_lines t ≡ s.above ++ (s.lines ++ s.below)
+    → AgreeButForFlag (context_of s.above) (context_of (s.above ++ s.lines))
+    → leans (context_of s.above).prefix (context_of s.above).flag (context_of (s.above ++ s.lines)).flag s.below ≡ false
+    → classed_lines (replaced 0 t (removed_span s)) ≡ s.above ++ s.below
+stretch-lines t s h agree free = ap classed_lines (text-run_replaced t s.above s.lines s.below [] h) ∙ run-removed t s.above s.lines s.below h agree free
+
+-- and their items
 pub stretch-removed : (t : List ℕ) (s : Stretch) → classed_lines t ≡ s.above ++ (s.lines ++ s.below)
     → AgreeButForFlag (context_of s.above) (context_of (s.above ++ s.lines))
     → leans (context_of s.above).prefix (context_of s.above).flag (context_of (s.above ++ s.lines)).flag s.below ≡ false
     → reading (replaced 0 t (removed_span s)) ≡ without_items s
-stretch-removed t s h agree free =
-    ap reading (text-run_replaced t s.above s.lines s.below [] h)
-    ∙ reading-two (text_of s.above ++ text_of s.below) s.above s.below (run-removed t s.above s.lines s.below h agree free)
+stretch-removed t s h agree free = reading-two (replaced 0 t (removed_span s)) s.above s.below (stretch-lines t s h agree free)
 
-assignment-agrees : (A : List ClassedLine) (l : ClassedLine) (a : Assignment Cell) → l.class ≡ Assign a None → AgreeButForFlag (context_of A) (context_of (A ++ l ∷ []))
+-- an assignment that sets no prefix leaves the context, but for the flag
+pub assignment-agrees : (A : List ClassedLine) (l : ClassedLine) (a : Assignment Cell) → l.class ≡ Assign a None → AgreeButForFlag (context_of A) (context_of (A ++ l ∷ []))
 assignment-agrees A l a h =
     let c = context_of A in
     let e : context_of (A ++ l ∷ []) ≡ context_after c (Assign a None) = context_of-last A l ∙ ap (context_after c) h in

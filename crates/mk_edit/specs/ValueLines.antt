@@ -11,7 +11,7 @@ use Rattle.mk_lines.specs.CellLaws.{raw_text-append, raw_text-cells}
 use Rattle.mk_lines.specs.LineLaws.{OneLine, EndsBefore}
 use Rattle.mk_lines.specs.LineEndLaws.{KeepsApart, without_line_end-line_end}
 use Rattle.mk_lines.specs.LineOfCells.{is_reset, is_reset_kind}
-use Rattle.mk_lines.specs.LineCells.{AreLineCells, AreLineCells-left, AreLineCells-right, EndLineBefore, EndLineBefore-tail, EndLineBefore-last, KeepsApart-tail, KeepsApart-last, line-of_cells}
+use Rattle.mk_lines.specs.LineCells.{AreLineCells, AreLineCells-left, AreLineCells-right, EndLineBefore, EndLineBefore-tail, EndLineBefore-last, KeepsApart-tail, KeepsApart-last, IsLineOf, line-of_cells}
 use Rattle.mk_lines.specs.CellsReplaced.{IsSafeTail, ends_ordinary, ends_ordinary-split}
 use Rattle.mk_lines.specs.Units.{units, is_closed}
 use Rattle.mk_lines.specs.UnitLaws.{concat-units, units-replaced}
@@ -99,11 +99,12 @@ pub record IsValueLine (c : Context) (l : List ℕ) (below : List (List ℕ)) (a
 abbrev read : Context → Bool → List Cell → Class
 read c led cs = class_at led c.defines c.flag (nat_lt 0 c.conditionals) cs (units joined_byte cs)
 
-pub value-line : (c : Context) (l : List ℕ) (below : List (List ℕ)) (a : Assignment Cell) (sets : Option ℕ) (V : List Cell) (X G : List (List Cell)) → class_of c l ≡ Assign a sets
+-- so it is where its bytes are a line of these cells
+pub value-line_of : (c : Context) (l : List ℕ) (below : List (List ℕ)) (a : Assignment Cell) (sets : Option ℕ) (V : List Cell) (X G : List (List Cell)) → class_of c l ≡ Assign a sets
     → (p : AssignParts l a) → a.value ++ a.after ≡ X ++ G → IsValue V G → AreLineCells (cells_with a V G p.rest)
-    → KeepsApart (line_end l) (reverse (raw_text (cells_with a V G p.rest))) → EndLineBefore (line_end l) (cells_with a V G p.rest) below
+    → IsLineOf (line_of (cells_with a V G p.rest) (line_end_bytes (line_end l))) (cells_with a V G p.rest) (line_end l) below
     → IsValueLine c l below a V G p.rest
-value-line c l below a sets V X G h p x v g k n =
+value-line_of c l below a sets V X G h p x v g line =
     let led = is_prefix_led c.prefix l in
     let r = class_at-assign led c.defines c.flag (nat_lt 0 c.conditionals) (line_cells l) (units joined_byte (line_cells l)) a sets h in
     let i = plain_class-assign led (nat_lt 0 c.conditionals) (line_cells l) (units joined_byte (line_cells l)) a sets r.here in
@@ -121,8 +122,6 @@ value-line c l below a sets V X G h p x v g k n =
     let new : m ≡ raw_text P ++ (raw_text (V ++ Q) ++ end) = ap (λ z. z ++ end) (raw_text-append P (V ++ Q)) ∙ append_assoc (raw_text P) (raw_text (V ++ Q)) end in
     let same : is_prefix_led c.prefix m ≡ led =
     ap (is_prefix_led c.prefix) new ∙ (led-same c.prefix (raw_text P) (raw_text (V ++ Q) ++ end) (raw_text (concat X ++ Q) ++ end) s.0 s.1 s.2 ∙ sym (ap (is_prefix_led c.prefix) whole)) in
-    let some : m ≡ s.0 ∷ (s.1 ++ (raw_text (V ++ Q) ++ end)) = new ∙ ap (λ z. z ++ (raw_text (V ++ Q) ++ end)) s.2 in
-    let line = line-of_cells C (line_end l) below s.0 (s.1 ++ (raw_text (V ++ Q) ++ end)) g k n some in
     record {
       one = line.one;
       ends = line.ends;
@@ -132,6 +131,25 @@ value-line c l below a sets V X G h p x v g k n =
           ∙ (r.also C (units joined_byte C)
           ∙ assign-plain_class led (nat_lt 0 c.conditionals) C (units joined_byte C) (with_cells a V G) (assign_line-with l a V X G p x v can)));
     }
+
+-- its bytes begin with those before the value
+pub line_of-some : (l : List ℕ) (a : Assignment Cell) (V : List Cell) (G : List (List Cell)) (p : AssignParts l a) (end : List ℕ) → AreLineCells (cells_with a V G p.rest)
+    → (b : ℕ) × (r : List ℕ) × (line_of (cells_with a V G p.rest) end ≡ b ∷ r)
+line_of-some l a V G p end g =
+    let P = concat (before_value a) in
+    let R = V ++ concat (G ++ p.rest) in
+    let b = cells-before a p.is.operator_ends in
+    let s = some_raw P b.0 b.1 b.2 (AreLineCells-left P R g) in
+    (s.0, s.1 ++ (raw_text R ++ end), ap (λ z. z ++ end) (raw_text-append P R) ∙ (append_assoc (raw_text P) (raw_text R) end ∙ ap (λ z. z ++ (raw_text R ++ end)) s.2))
+
+-- and so it is where a line end stays apart from the cells, and ends them before other lines
+pub value-line : (c : Context) (l : List ℕ) (below : List (List ℕ)) (a : Assignment Cell) (sets : Option ℕ) (V : List Cell) (X G : List (List Cell)) → class_of c l ≡ Assign a sets
+    → (p : AssignParts l a) → a.value ++ a.after ≡ X ++ G → IsValue V G → AreLineCells (cells_with a V G p.rest)
+    → KeepsApart (line_end l) (reverse (raw_text (cells_with a V G p.rest))) → EndLineBefore (line_end l) (cells_with a V G p.rest) below
+    → IsValueLine c l below a V G p.rest
+value-line c l below a sets V X G h p x v g k n =
+    let s = line_of-some l a V G p (line_end_bytes (line_end l)) g in
+    value-line_of c l below a sets V X G h p x v g (line-of_cells (cells_with a V G p.rest) (line_end l) below s.0 s.1 g k n s.2)
 
 -- ---- line ends
 

@@ -2,11 +2,19 @@
 //! specified by. The functions do nothing.
 pub mod words;
 
-ghost use Rattle.mk_edit.specs.Laws.{AppendReadsAsChanged, RecipeRemovedReadsAsChanged, SetReadsAsChanged, UnruleReadsAsChanged, UnsetReadsAsChanged};
+ghost use Rattle.mk_edit.specs.Laws.{AppendReadsAsChanged, AssignReadsAsChanged, NewAssignmentsStand, OtherLinesStay, RecipeAddedReadsAsChanged, RecipeRemovedReadsAsChanged, RecipeSetReadsAsChanged, RefusedChangesNothing, RuleAddedReadsAsChanged, SetReadsAsChanged, SetToNothingReadsAsChanged, UnruleReadsAsChanged, UnsetReadsAsChanged};
+
+pub mod outside;
 
 /// An accepted edit of a value, to one that is not empty, changes the reading by this value alone.
 pub fn set_reads_as_changed()
     ensures { SetReadsAsChanged }
+{}
+
+/// An accepted edit of a value to nothing changes the reading by this value alone, where no fold is
+/// left at the end of the text, without its next line.
+pub fn set_to_nothing_reads_as_changed()
+    ensures { SetToNothingReadsAsChanged }
 {}
 
 /// An accepted edit that appends to a value changes the reading by this value alone: the old value,
@@ -31,4 +39,46 @@ pub fn unrule_reads_as_changed()
 /// changes.
 pub fn recipe_removed_reads_as_changed()
     ensures { RecipeRemovedReadsAsChanged }
+{}
+
+/// An accepted new recipe line puts its item into the reading, after the last recipe line of its
+/// rule, and no other item changes.
+pub fn recipe_added_reads_as_changed()
+    ensures { RecipeAddedReadsAsChanged }
+{}
+
+/// An accepted new assignment puts its item into the reading at its place, and no other item
+/// changes.
+pub fn assign_reads_as_changed()
+    ensures { AssignReadsAsChanged }
+{}
+
+/// An accepted edit of a recipe line changes its text in the reading, and nothing else.
+pub fn recipe_set_reads_as_changed()
+    ensures { RecipeSetReadsAsChanged }
+{}
+
+/// An accepted new rule puts its item into the reading, a header with its targets, its separator and
+/// its prerequisites, and no other item changes. A last line without line end gets one where the
+/// rule comes last.
+pub fn rule_added_reads_as_changed()
+    ensures { RuleAddedReadsAsChanged }
+{}
+
+/// An accepted edit that takes lines out leaves the lines above and below them, each with its
+/// class.
+pub fn other_lines_stay()
+    ensures { OtherLinesStay }
+{}
+
+/// A refused edit changes nothing.
+pub fn refused_changes_nothing()
+    ensures { RefusedChangesNothing }
+{}
+
+/// After an accepted new assignment its line stands at its place. The lines below it stay, each
+/// with its class, and so do those above it, but for the line end that a last line without one
+/// gets.
+pub fn new_assignments_stand()
+    ensures { NewAssignmentsStand }
 {}

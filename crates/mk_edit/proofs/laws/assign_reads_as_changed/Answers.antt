@@ -1,0 +1,5 @@
+use Rattle.mk_edit.specs.NewAssignLaws.{assign-reads}
+use Rattle.mk_edit.proofs.laws.assign_reads_as_changed.Goals as goal
+
+pub returns : goal.returns
+returns c = assign-reads

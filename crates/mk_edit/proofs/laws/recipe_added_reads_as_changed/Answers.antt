@@ -1,0 +1,5 @@
+use Rattle.mk_edit.specs.RecipeLaws.{recipe_added-reads}
+use Rattle.mk_edit.proofs.laws.recipe_added_reads_as_changed.Goals as goal
+
+pub returns : goal.returns
+returns c = recipe_added-reads

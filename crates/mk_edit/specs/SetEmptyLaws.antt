@@ -1,0 +1,305 @@
+-- An accepted `set` to the empty value changes the reading by this value alone, where no fold is left without its next line.
+use Rattle.std.proofs.Common.{◌≡◌, refl, sym, ap, ◌∙◌, subst, ℕ, List, [], ◌∷◌, ◌++◌, Bool, true, false, not, ◌&&◌, ◌==◌, Option, None, length, take, drop, ◌+◌, arith, append_assoc, reverse, length-append, cond}
+use Rattle.std.proofs.lemmas.List.{append-nil, reverse-append, reverse-reverse}
+use Rattle.std.proofs.Math.Seq.{take-append_seam, drop-append_seam}
+use Rattle.std.specs.Prelude.{nat_lt, Ok}
+use Rattle.mk_lines.specs.Lists.{concat}
+use Rattle.mk_lines.specs.ListLaws.{FirstFails, concat-append}
+use Rattle.mk_lines.specs.Bytes.{ByteKind, byte_kind}
+use Rattle.mk_lines.specs.Bytes.ByteKind.{LineFeed, CarriageReturn, Backslash, Blank, Ordinary}
+use Rattle.mk_lines.specs.ByteLaws.{line_feed-byte, carriage_return-byte, backslash-byte}
+use Rattle.mk_lines.specs.PhysicalLines.{line_end, line_end_bytes, without_line_end}
+use Rattle.mk_lines.specs.LogicalLines.{has_no_line_end, is_continued, ends_line}
+use Rattle.mk_lines.specs.declared.ends.End.{End}
+use Rattle.mk_lines.specs.declared.ends.End.TheVariants as ends
+use Rattle.mk_lines.specs.Cells.{Cell, Byte, Fold, LfEnd, CrLfEnd, joined_byte, raw_text, cells, line_cells}
+use Rattle.mk_lines.specs.CellFaults.{has_stray, is_stray, is_stray_by}
+use Rattle.mk_lines.specs.CellLaws.{cells-append, raw_text-append, raw_text-cells}
+use Rattle.mk_lines.specs.LineLaws.{OneLine, EndsBefore}
+use Rattle.mk_lines.specs.LineEndLaws.{KeepsApart, FirstIsNot, Ends-ends_line, without_line_end-line_end}
+use Rattle.mk_lines.specs.LineOfCells.{is_reset, is_reset_kind}
+use Rattle.mk_lines.specs.LineCells.{AreLineCells, AreLineCells-left, AreLineCells-right, AreLineCells-cells, KeepsApart-tail, KeepsApart-last, line-keeps_apart, or-left_false}
+use Rattle.mk_lines.specs.CellsReplaced.{IsSolidTail, EndsReset, removed-are_line_cells, cells-removed}
+use Rattle.mk_lines.specs.Units.{units, byte_mark}
+use Rattle.mk_lines.specs.Units.Mark.{Unmarked}
+use Rattle.mk_lines.specs.UnitLaws.{EndsPlain, EndsPlain-split}
+use Rattle.mk_lines.specs.Pieces.{Replacement, replaced}
+use Rattle.mk_class.specs.Lists.{is_empty, last_passes}
+use Rattle.mk_class.specs.Texts.{unit_text}
+use Rattle.mk_class.specs.Symbols.{Symbol, byte_symbol, is_hash, is_hash_symbol}
+use Rattle.mk_class.specs.Symbols.Symbol.{Hash, Colon, Semicolon, Equals, Plus, Question, Exclamation, Bar, Ampersand, NoSymbol}
+use Rattle.mk_class.specs.SymbolLaws.{byte_symbol-byte}
+use Rattle.mk_class.specs.CutTexts.{is_no_hash}
+use Rattle.mk_class.specs.Assignments.{Assignment}
+use Rattle.mk_class.specs.AssignmentLineLaws.{before_value, AssignParts, assign_parts}
+use Rattle.mk_class.specs.RecipePrefix.{is_prefix_led, is_prefix_name}
+use Rattle.mk_class.specs.Classes.{Class}
+use Rattle.mk_class.specs.Classes.Class.{Assign}
+use Rattle.mk_class.specs.Contexts.{Context}
+use Rattle.mk_class.specs.ClassTable.{class_of}
+use Rattle.mk_class.specs.ClassLaws.{plain_class-assign, class_at-assign, has_stray-left, has_stray-right, readable-are_line_cells}
+use Rattle.mk_class.specs.ClassedLines.{ClassedLine, classed_lines}
+use Rattle.mk_tree.specs.Documents.{text_of, context_of}
+use Rattle.mk_tree.specs.Items.{items}
+use Rattle.mk_tree.specs.Readings.{reading}
+use Rattle.mk_tree.specs.LinePlaces.{located, bytes_of}
+use Rattle.mk_edit.specs.Edits.{SetValue}
+use Rattle.mk_edit.specs.Spots.{Spot}
+use Rattle.mk_edit.specs.ValueSpans.{set_value_span, value_span, assignment_span, raw_length, value_start, blanks_end}
+use Rattle.mk_edit.specs.Spans.{where_found}
+use Rattle.mk_edit.specs.Refusals.{spans, text_by, text_after}
+use Rattle.mk_edit.specs.Changes.{change, item_with_value, leaves_fold_last, value_set}
+use Rattle.mk_edit.specs.Accepted.{accepted, where_holds-none}
+use Rattle.mk_edit.specs.ValueLines.{IsValue, IsValueLine, with_cells, cells_with, line_of, parts-cells, value-line_of, line_of-some}
+use Rattle.mk_edit.specs.FoundAssignments.{assignment-found, no_prefix-set}
+use Rattle.mk_edit.specs.ValueEdits.{text-replaced_in_line, reading-value_replaced}
+use Rattle.mk_edit.specs.SetLaws.{value-found, not_prefix}
+use Rattle.mk_edit.specs.declared.refusal.Refusal.TheVariants.{NoSuch}
+
+-- ---- what stays after the value
+
+hash_byte : (b : ℕ) → is_hash_symbol (byte_symbol b) ≡ true → b ≡ 35
+hash_byte b h = byte_symbol-byte b Hash (λ x. cc) (go (byte_symbol b) h)
+  where
+    go : (s : Symbol) → is_hash_symbol s ≡ true → s ≡ Hash
+    go Hash e = refl
+    go Colon e = cc
+    go Semicolon e = cc
+    go Equals e = cc
+    go Plus e = cc
+    go Question e = cc
+    go Exclamation e = cc
+    go Bar e = cc
+    go Ampersand e = cc
+    go NoSymbol e = cc
+
+hash-solid : (rest : List (List Cell)) → FirstFails (is_no_hash joined_byte) rest → IsSolidTail (concat rest)
+hash-solid [] h = tt
+hash-solid (u ∷ us) h = go u (is (is_hash joined_byte u) h)
+  where
+    is : (c : Bool) → not c ≡ false → c ≡ true
+    is true e = refl
+    is false e = cc
+
+    go : (u : List Cell) → is_hash joined_byte u ≡ true → IsSolidTail (concat (u ∷ us))
+    go [] e = cc
+    go (Byte b ∷ []) e = let k : b ≡ 35 = hash_byte b e in (rw k refl, rw k refl)
+    go (Fold r ∷ []) e = cc
+    go (LfEnd r ∷ []) e = cc
+    go (CrLfEnd r ∷ []) e = cc
+    go (c ∷ d ∷ u) e = cc
+
+-- ---- what stays before the value
+
+reset-unmarked : (b : ℕ) → byte_mark b ≡ Unmarked → is_stray (Byte b) ≡ false → is_reset_kind (byte_kind b) ≡ true
+reset-unmarked b m h = go (byte_kind b) refl h
+  where
+    go : (k : ByteKind) → byte_kind b ≡ k → is_stray_by k (b == 0) ≡ false → is_reset_kind k ≡ true
+    go LineFeed e s = cc
+    go CarriageReturn e s = cc
+    go Backslash e s = absurd (let x : b ≡ 92 = backslash-byte b e in let y : byte_mark 92 ≡ Unmarked = ap byte_mark (sym x) ∙ m in cc)
+    go Blank e s = refl
+    go Ordinary e s = refl
+
+cell-reset : (c : Cell) → byte_mark (joined_byte c) ≡ Unmarked → is_stray c ≡ false → is_reset c ≡ true
+cell-reset (Byte b) m h = reset-unmarked b m h
+cell-reset (Fold r) m h = refl
+cell-reset (LfEnd r) m h = cc
+cell-reset (CrLfEnd r) m h = cc
+
+before-resets : (a : Assignment Cell) → EndsPlain joined_byte a.operator → has_stray (concat (before_value a)) ≡ false → EndsReset (concat (before_value a))
+before-resets a p h =
+    let s = EndsPlain-split joined_byte a.operator p in
+    let F = a.before ++ (a.name ++ s.0) in
+    let e : before_value a ≡ F ++ ((s.1 ∷ []) ∷ []) = ap (λ z. a.before ++ (a.name ++ z)) s.2 ∙ simp append_assoc in
+    let c : concat (before_value a) ≡ concat F ++ s.1 ∷ [] = ap concat e ∙ concat-append F ((s.1 ∷ []) ∷ []) in
+    let stray : has_stray (s.1 ∷ []) ≡ false = has_stray-right (concat F) (s.1 ∷ []) (subst (λ z. has_stray z ≡ false) c h) in
+    record { front = concat F; last = s.1; is = c; resets = cell-reset s.1 s.3 (or-left_false (is_stray s.1) false stray) }
+
+-- ---- the line end
+
+last-same : {A : Type 0} (a b : List A) (x y : A) → a ++ x ∷ [] ≡ b ++ y ∷ [] → x ≡ y
+last-same a b x y h =
+    let e : x ∷ reverse a ≡ y ∷ reverse b = sym (reverse-append a (x ∷ [])) ∙ (ap reverse h ∙ reverse-append b (y ∷ [])) in
+    cc
+
+last_of_reverse : (x : List ℕ) (b : ℕ) (y : List ℕ) → reverse x ≡ b ∷ y → x ≡ reverse y ++ b ∷ []
+last_of_reverse x b y h = sym (reverse-reverse x) ∙ (ap reverse h ∙ reverse-append (b ∷ []) y)
+
+-- cells whose last is a fold have no carriage return at their end
+fold-no_carriage_return : (P front : List Cell) (r : List ℕ) → AreLineCells P → P ≡ front ++ Fold r ∷ [] → FirstIsNot CarriageReturn (reverse (raw_text P))
+fold-no_carriage_return P front r g h = go (reverse (raw_text P)) refl
+  where
+    go : (x : List ℕ) → reverse (raw_text P) ≡ x → FirstIsNot CarriageReturn x
+    go [] e = tt
+    go (b ∷ y) e = λ k.
+        let n : b ≡ 13 = carriage_return-byte b k in
+        let w : raw_text P ≡ reverse y ++ 13 ∷ [] = last_of_reverse (raw_text P) b y e ∙ ap (λ z. reverse y ++ z ∷ []) n in
+        let c : P ≡ cells (reverse y) ++ Byte 13 ∷ [] = sym (AreLineCells-cells P g) ∙ (ap cells w ∙ cells-append (reverse y) (13 ∷ []) refl) in
+        let s : Fold r ≡ Byte 13 = last-same front (cells (reverse y)) (Fold r) (Byte 13) (sym h ∙ c) in
+        cc
+
+-- what stays keeps the line end apart, where no line feed comes last in a line without line end
+removed-keeps_apart : (e : End) (P W Q : List Cell) → AreLineCells (P ++ (W ++ Q)) → IsSolidTail Q → EndsReset P → KeepsApart e (reverse (raw_text (P ++ (W ++ Q))))
+    → (has_no_line_end e ≡ true → Q ≡ [] → FirstIsNot LineFeed (reverse (raw_text P))) → KeepsApart e (reverse (raw_text (P ++ Q)))
+removed-keeps_apart e P W (d ∷ D) g t r k free =
+    let tail : AreLineCells (d ∷ D) = AreLineCells-right W (d ∷ D) (AreLineCells-right P (W ++ (d ∷ D)) g) in
+    KeepsApart-tail e (P ++ W) P d D t.1 tail.are_cells.0 (subst (λ z. KeepsApart e (reverse (raw_text z))) (sym (append_assoc P W (d ∷ D))) k)
+removed-keeps_apart e P W [] g t r k free = subst (λ z. KeepsApart e (reverse (raw_text z))) (sym (append-nil P)) (by_last r.last r.is r.resets e (λ x. free x refl))
+  where
+    by_last : (c : Cell) → P ≡ r.front ++ c ∷ [] → is_reset c ≡ true → (e : End) → (has_no_line_end e ≡ true → FirstIsNot LineFeed (reverse (raw_text P))) → KeepsApart e (reverse (raw_text P))
+    by_last (Byte b) h s e f = subst (λ z. KeepsApart e (reverse (raw_text z))) (sym h) (KeepsApart-last e r.front b s)
+    by_last (Fold x) h s ends.None f = f refl
+    by_last (Fold x) h s ends.Lf f = fold-no_carriage_return P r.front x (AreLineCells-left P (W ++ []) g) h
+    by_last (Fold x) h s ends.CrLf f = tt
+    by_last (LfEnd x) h s e f = absurd (let z : false ≡ true = s in cc)
+    by_last (CrLfEnd x) h s e f = absurd (let z : false ≡ true = s in cc)
+
+-- ---- the line
+
+no-value : IsValue [] []
+no-value = record { closed = refl; no_hash = tt; are_value = record { begins = tt; ends = tt; blanks_after = tt; empty = λ e. refl }; no_stray = refl }
+
+-- what the line without its value is
+record IsEmptiedLine (c : Context) (l : List ℕ) (below : List (List ℕ)) (a : Assignment Cell) : Type 0 where
+  parts : AssignParts l a
+  cells_are : line_cells l ≡ concat (before_value a) ++ (concat (a.value ++ a.after) ++ concat parts.rest)
+  line : (has_no_line_end (line_end l) ≡ true → concat parts.rest ≡ [] → FirstIsNot LineFeed (reverse (raw_text (concat (before_value a))))) → IsValueLine c l below a [] [] parts.rest
+
+line-emptied : (c : Context) (l : List ℕ) (below : List (List ℕ)) (a : Assignment Cell) (sets : Option ℕ) → class_of c l ≡ Assign a sets → OneLine l → EndsBefore l below → IsEmptiedLine c l below a
+line-emptied c l below a sets h o n =
+    let led = is_prefix_led c.prefix l in
+    let r = class_at-assign led c.defines c.flag (nat_lt 0 c.conditionals) (line_cells l) (units joined_byte (line_cells l)) a sets h in
+    let i = plain_class-assign led (nat_lt 0 c.conditionals) (line_cells l) (units joined_byte (line_cells l)) a sets r.here in
+    let p = assign_parts l a i in
+    let X = a.value ++ a.after in
+    let P = concat (before_value a) in
+    let W = concat X in
+    let Q = concat p.rest in
+    let x : a.value ++ a.after ≡ X ++ [] = sym (append-nil X) in
+    let cells : line_cells l ≡ P ++ (W ++ Q) = parts-cells l a X [] p x in
+    let old : AreLineCells (P ++ (W ++ Q)) = subst AreLineCells cells (readable-are_line_cells l i.readable) in
+    let stray : has_stray P ≡ false = has_stray-left P (W ++ Q) (subst (λ z. has_stray z ≡ false) cells (or-left_false (has_stray (line_cells l)) _ i.readable)) in
+    let solid = hash-solid p.rest p.stops in
+    let resets = before-resets a p.is.operator_ends stray in
+    let new : AreLineCells (P ++ Q) = removed-are_line_cells P W Q old solid in
+    let keeps : KeepsApart (line_end l) (reverse (raw_text (P ++ (W ++ Q)))) = subst (λ z. KeepsApart (line_end l) (reverse (raw_text z))) cells (line-keeps_apart l) in
+    let s = line_of-some l a [] [] p (line_end_bytes (line_end l)) new in
+    record {
+      parts = p;
+      cells_are = cells;
+      line = λ free.
+          value-line_of c l below a sets [] X [] h p x no-value new
+          (cells-removed l below P W Q s.0 s.1 cells old solid resets (removed-keeps_apart (line_end l) P W Q old solid resets keeps free) o n s.2);
+    }
+
+-- ---- the text
+
+last-append : (p : ℕ → Bool) (a : List ℕ) (x : ℕ) (b : List ℕ) → last_passes p (a ++ x ∷ b) ≡ last_passes p (x ∷ b)
+last-append p [] x b = refl
+last-append p (y ∷ []) x b = refl
+last-append p (y ∷ z ∷ a) x b = last-append p (z ∷ a) x b
+
+-- a text whose last byte is no line feed
+no_line_feed-last : (f x : List ℕ) → last_passes (λ b. b == 10) (f ++ x) ≡ false → FirstIsNot LineFeed (reverse x)
+no_line_feed-last f x h = go (reverse x) refl
+  where
+    go : (r : List ℕ) → reverse x ≡ r → FirstIsNot LineFeed r
+    go [] e = tt
+    go (b ∷ y) e = λ k.
+        let n : b ≡ 10 = line_feed-byte b k in
+        let w : x ≡ reverse y ++ 10 ∷ [] = last_of_reverse x b y e ∙ ap (λ z. reverse y ++ z ∷ []) n in
+        let s : last_passes (λ b. b == 10) (f ++ x) ≡ true =
+        ap (λ z. last_passes (λ b. b == 10) (f ++ z)) w ∙ (ap (last_passes (λ b. b == 10)) (sym (append_assoc f (reverse y) (10 ∷ []))) ∙ last-append (λ b. b == 10) (f ++ reverse y) 10 []) in
+        let q : true ≡ false = sym s ∙ h in cc
+
+-- a line without line end is the last
+last-line : (l : List ℕ) (b : ℕ) (r : List ℕ) (B : List ClassedLine) → l ≡ b ∷ r → has_no_line_end (line_end l) ≡ true → EndsBefore l (bytes_of B) → B ≡ []
+last-line l b r [] h n e = refl
+last-line l b r (x ∷ B) h n e =
+    absurd (both (has_no_line_end (line_end (b ∷ r))) (is_continued (b ∷ r)) (ap ends_line (sym h) ∙ Ends-ends_line l e) (ap (λ z. has_no_line_end (line_end z)) (sym h) ∙ n))
+  where
+    both : (u v : Bool) → (not u && not v) ≡ true → u ≡ true → ⊥
+    both true v x y = cc
+    both false v x y = cc
+
+no_end-nothing : (e : End) → has_no_line_end e ≡ true → line_end_bytes e ≡ []
+no_end-nothing ends.None h = refl
+no_end-nothing ends.Lf h = cc
+no_end-nothing ends.CrLf h = cc
+
+take-front : (t p r : List ℕ) (n : ℕ) → t ≡ p ++ r → n ≡ length p → take n t ≡ p
+take-front t p r n h i = rw (i, h) (take-append_seam p r)
+
+drop-front : (t p w r : List ℕ) (n : ℕ) → t ≡ p ++ (w ++ r) → n ≡ length (p ++ w) → drop n t ≡ r
+drop-front t p w r n h i = rw (i, h, ← append_assoc p w r) (drop-append_seam (p ++ w) r)
+
+set-emptied : (t : List ℕ) (A : List ClassedLine) (l : ClassedLine) (B : List ClassedLine) (a : Assignment Cell)
+    → classed_lines t ≡ A ++ l ∷ B → l.class ≡ Assign a None → is_prefix_name (unit_text joined_byte a.name) ≡ false → leaves_fold_last t (set_value_span [] (length (text_of A)) a) ≡ false
+    → reading (replaced 0 t (set_value_span [] (length (text_of A)) a ∷ [])) ≡ items A ++ item_with_value a [] ∷ items B
+set-emptied t A l B a h k f n =
+    let c = context_of A in
+    let L = located t A l B h in
+    let M = line-emptied c l.bytes (bytes_of B) a None (L.class ∙ k) L.one L.ends in
+    let at = length (text_of A) in
+    let P = concat (before_value a) in
+    let W = concat (a.value ++ a.after) in
+    let Q = concat M.parts.rest in
+    let e = line_end l.bytes in
+    let w : raw_text W ≡ raw_text (concat a.value) ++ raw_text (concat a.after) = ap raw_text (concat-append a.value a.after) ∙ raw_text-append (concat a.value) (concat a.after) in
+    let size : length (raw_text W) ≡ raw_length a.value + raw_length a.after = ap length w ∙ length-append (raw_text (concat a.value)) (raw_text (concat a.after)) in
+    let stop : blanks_end at a ≡ value_start at a + length (raw_text W) = omega (arith, size) in
+    let text = text-replaced_in_line t A l B P W Q [] (value_start at a) (blanks_end at a) h M.cells_are refl stop in
+    let m = line_of (cells_with a [] [] M.parts.rest) (line_end_bytes e) in
+    let line_is : l.bytes ≡ (raw_text P ++ (raw_text W ++ raw_text Q)) ++ line_end_bytes e =
+    sym (without_line_end-line_end l.bytes)
+    ∙ ap (λ z. z ++ line_end_bytes e) (sym (raw_text-cells (without_line_end l.bytes)) ∙ (ap raw_text M.cells_are ∙ (raw_text-append P (W ++ Q) ∙ ap (λ z. raw_text P ++ z) (raw_text-append W Q)))) in
+    let whole : t ≡ (text_of A ++ raw_text P) ++ (raw_text W ++ (raw_text Q ++ (line_end_bytes e ++ text_of B))) = L.text ∙ (ap (λ z. text_of A ++ (z ++ text_of B)) line_is ∙ simp append_assoc) in
+    let start_is : value_start at a ≡ length (text_of A ++ raw_text P) = sym (length-append (text_of A) (raw_text P)) in
+    let stop_is : blanks_end at a ≡ length ((text_of A ++ raw_text P) ++ raw_text W) = stop ∙ (ap (λ z. z + length (raw_text W)) start_is ∙ sym (length-append (text_of A ++ raw_text P) (raw_text W))) in
+    let front : take (value_start at a) t ≡ text_of A ++ raw_text P = take-front t (text_of A ++ raw_text P) (raw_text W ++ (raw_text Q ++ (line_end_bytes e ++ text_of B))) (value_start at a) whole start_is in
+    let back : drop (blanks_end at a) t ≡ raw_text Q ++ (line_end_bytes e ++ text_of B) = drop-front t (text_of A ++ raw_text P) (raw_text W) (raw_text Q ++ (line_end_bytes e ++ text_of B)) (blanks_end at a) whole stop_is in
+    let corner : (last_passes (λ b. b == 10) (text_of A ++ raw_text P) && is_empty (raw_text Q ++ (line_end_bytes e ++ text_of B))) ≡ false =
+    subst (λ z. (last_passes (λ b. b == 10) (text_of A ++ raw_text P) && is_empty z) ≡ false) back (subst (λ z. (last_passes (λ b. b == 10) z && is_empty (drop (blanks_end at a) t)) ≡ false) front n) in
+    let some = line_of-some l.bytes a (concat (a.value ++ a.after)) [] M.parts (line_end_bytes e) (subst AreLineCells M.cells_are (readable l.bytes a (L.class ∙ k))) in
+    let same : l.bytes ≡ line_of (cells_with a (concat (a.value ++ a.after)) [] M.parts.rest) (line_end_bytes e) =
+    sym (without_line_end-line_end l.bytes) ∙ ap (λ z. z ++ line_end_bytes e) (sym (raw_text-cells (without_line_end l.bytes)) ∙ ap raw_text M.cells_are) in
+    let free : has_no_line_end e ≡ true → Q ≡ [] → FirstIsNot LineFeed (reverse (raw_text P)) = λ x y.
+    let b : B ≡ [] = last-line l.bytes some.0 some.1 B (same ∙ some.2) x L.ends in
+    let z : raw_text Q ++ (line_end_bytes e ++ text_of B) ≡ [] = ap (λ q. raw_text q ++ (line_end_bytes e ++ text_of B)) y ∙ (ap (λ q. q ++ text_of B) (no_end-nothing e x) ∙ ap text_of b) in
+    let g : last_passes (λ b. b == 10) (text_of A ++ raw_text P) ≡ false = go (last_passes (λ b. b == 10) (text_of A ++ raw_text P)) (subst (λ q. (last_passes (λ b. b == 10) (text_of A ++ raw_text P) && is_empty q) ≡ false) z corner) in
+    no_line_feed-last (text_of A) (raw_text P) g in
+    let line = M.line free in
+    let bytes : (raw_text P ++ raw_text Q) ++ line_end_bytes e ≡ m = ap (λ z. z ++ line_end_bytes e) (sym (raw_text-append P Q)) in
+    ap reading (text ∙ ap (λ z. text_of A ++ (z ++ text_of B)) bytes)
+    ∙ reading-value_replaced t A l B a m [] [] [] h k line.one line.ends
+    (line.class ∙ ap (Assign (with_cells a [] [])) (no_prefix-set (nat_lt 0 c.conditionals) (with_cells a [] []) f)) refl
+  where
+    go : (b : Bool) → (b && true) ≡ false → b ≡ false
+    go true e = cc
+    go false e = refl
+
+    readable : (x : List ℕ) (a : Assignment Cell) → class_of (context_of A) x ≡ Assign a None → AreLineCells (line_cells x)
+    readable x a q =
+        let c = context_of A in
+        let led = is_prefix_led c.prefix x in
+        let r = class_at-assign led c.defines c.flag (nat_lt 0 c.conditionals) (line_cells x) (units joined_byte (line_cells x)) a None q in
+        let i = plain_class-assign led (nat_lt 0 c.conditionals) (line_cells x) (units joined_byte (line_cells x)) a None r.here in
+        readable-are_line_cells x i.readable
+
+-- the law, of the empty value
+pub set-nothing : (t n : List ℕ) (nth : Option ℕ) (r : Replacement) → spans t (SetValue nth n []) ≡ Ok (r ∷ []) → leaves_fold_last t r ≡ false
+    → reading (text_after t (SetValue nth n [])) ≡ change t (SetValue nth n [])
+set-nothing t n nth r h k =
+    let A = accepted t (SetValue nth n []) (r ∷ []) h in
+    let F = assignment-found t n nth (where_holds-none _ NoSuch A.is_there) (where_holds-none _ _ A.is_one) (not_prefix n A.not_reserved) in
+    let s = F.spot in
+    let at = length (text_of s.above) in
+    let x : assignment_span (set_value_span []) at s.line.class ≡ r ∷ [] = subst (λ (z : Option Spot). where_found (value_span (set_value_span [])) z ≡ r ∷ []) F.found_is A.spans_are in
+    let y : set_value_span [] at F.assigned ∷ [] ≡ r ∷ [] = subst (λ (z : Class). assignment_span (set_value_span []) at z ≡ r ∷ []) F.class_is x in
+    let q : set_value_span [] at F.assigned ≡ r = cc in
+    let free : leaves_fold_last t (set_value_span [] at F.assigned) ≡ false = subst (λ (z : Replacement). leaves_fold_last t z ≡ false) (sym q) k in
+    let value : value_set t [] at F.assigned ≡ [] = ap (λ b. cond b (92 ∷ []) []) free in
+    ap (λ z. reading (text_by t z)) h
+    ∙ value-found t n nth (r ∷ []) (set_value_span []) (value_set t []) F
+    (set-emptied t s.above s.line s.below F.assigned F.whole F.class_is F.no_prefix free ∙ ap (λ z. items s.above ++ item_with_value F.assigned z ∷ items s.below) (sym value)) A.spans_are
