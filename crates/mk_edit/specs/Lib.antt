@@ -55,6 +55,10 @@ pub mod RenamedHeaders
 pub mod RenamedTexts
 pub mod TargetFronts
 pub mod TargetUnits
+pub mod TargetLines
+pub mod TargetNames
+pub mod RenamedTargets
+pub mod RenameLaws
 pub mod RisingSpans
 pub mod OutsideLaws
 pub mod EditPlaces
