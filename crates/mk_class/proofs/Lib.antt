@@ -1,3 +1,10 @@
+mod ReadingLemmas
+mod HeaderPartLemmas
+mod HeaderLemmas
+mod AssignmentLemmas
+mod ScanLemmas
 mod WorkedRows
 mod RandomArguments
 mod ClassNames
+pub mod WordLemmas
+pub mod ArgumentLemmas

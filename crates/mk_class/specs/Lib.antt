@@ -10,8 +10,13 @@ pub mod Classes
 pub mod RecipePrefix
 pub mod ClassPlaces
 pub mod Contexts
+pub mod ContextPlaces
 pub mod ClassTable
 pub mod TextClasses
+pub mod Scans
+pub mod HeaderParts
+pub mod AssignmentPlaces
+pub mod FirstWords
 pub mod Arguments
 pub mod ListLaws
 pub mod SymbolLaws
@@ -35,4 +40,6 @@ pub mod AssignmentMaps
 pub mod HeaderMaps
 pub mod PlaceMaps
 pub mod TextClassLaws
+pub mod LineReads
 pub mod Laws
+pub mod StepLaws

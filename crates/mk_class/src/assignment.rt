@@ -1,6 +1,18 @@
 //! Assignments: their flavors, their modifiers, and where their parts stand.
 
+ghost use Rattle.std.specs.Prelude.{◌≡◌, ◌≤◌, ◌-◌, ◌∷◌, [], length, map, None, MatchOption};
+ghost use Rattle.mk_lines.specs.Units.{units};
+ghost use Rattle.mk_class.specs.Lists.{from};
+ghost use Rattle.mk_class.specs.Symbols.{Colon, symbol};
+ghost use Rattle.mk_class.specs.Assignments.{assignment, definition, ends_name, operator_at};
+ghost use Rattle.mk_class.specs.TextClasses.{itself};
+ghost use Rattle.mk_class.specs.Scans.{IsOperatorAt};
+ghost use Rattle.mk_class.specs.AssignmentPlaces.{placed};
+
+use crate::keyword::modifier_of;
 use crate::rule::Separator;
+use crate::scan::{after_blanks, after_colon, after_equals, before, blanks_at_end, from_any};
+use mk_lines::after_first_unit;
 use mk_lines::split::Span;
 
 /// The flavor of an assignment, which its operator says.
@@ -68,4 +80,118 @@ pub struct TargetAssignment {
     pub targets_end: usize,
     /// The assignment, its places in the whole joined text.
     pub assignment: Assignment,
+}
+
+/// The assignment that a cut text is, which is a line's text before a comment.
+///
+/// The time is linear in the bytes of the text, and no memory is taken.
+pub(crate) fn read_assignment(cut: &[u8]) -> Option<Assignment>
+    ensures { result ≡ placed 0 (assignment itself (units itself cut.now)) }
+{
+    assignment_at_end(cut, cut.len())
+}
+
+/// The assignment that the end of a cut text of `len` bytes is, with its places in the whole.
+pub(crate) fn assignment_at_end(text: &[u8], len: usize) -> Option<Assignment>
+    requires { length text.now ≤ len }
+    ensures { result ≡ placed (len - length text.now) (assignment itself (units itself text.now)) }
+{
+    let mut rest = text;
+    loop {
+        let definition = read_definition(rest, len);
+        if definition.is_some() {
+            return definition;
+        }
+        let word = after_blanks(rest);
+        let after = from_any(word, b" \t");
+        modifier_of(before(word, after))?;
+        rest = after;
+    }
+}
+
+/// The assignment without modifiers that the end of a cut text of `len` bytes is.
+fn read_definition(text: &[u8], len: usize) -> Option<Assignment>
+    requires { length text.now ≤ len }
+    ensures { result ≡ placed (len - length text.now) (definition itself (units itself text.now)) }
+{
+    let named = after_blanks(text);
+    let after_name = after_name(named);
+    let (flavor, operand) = read_operator(after_blanks(after_name))?;
+    if after_name.len() == named.len() {
+        return None;
+    }
+    let value = after_blanks(operand);
+    let after_value = blanks_at_end(value);
+    Some(Assignment {
+        flavor,
+        name: Span {
+            start: len - named.len(),
+            end: len - after_name.len(),
+        },
+        value: Span {
+            start: len - value.len(),
+            end: len - after_value.len(),
+        },
+        end: len,
+    })
+}
+
+/// What follows the name at the front of a text.
+pub(crate) fn after_name(text: &[u8]) -> &[u8]
+    ensures rest { units itself result.now ≡ from (ends_name itself) (units itself text.now) }
+    ensures within { length result.now ≤ length text.now }
+{
+    let mut rest = text;
+    while !rest.is_empty() && !ends_name(rest) {
+        rest = after_first_unit(rest);
+    }
+    rest
+}
+
+/// Whether a name ends at the front of a text.
+fn ends_name(text: &[u8]) -> bool
+    ensures { result ≡ ends_name itself (units itself text.now) }
+{
+    let [first, rest @ ..] = text else {
+        return false;
+    };
+    match first {
+        b' ' | b'\t' | b':' | b'=' | b';' => true,
+        b'+' | b'?' | b'!' => after_equals(rest).is_some(),
+        _ => false,
+    }
+}
+
+/// The longest operator at the front of a text, and what follows it.
+pub(crate) fn read_operator(text: &[u8]) -> Option<(Flavor, &[u8])>
+    ensures found { MatchOption result (operator_at (map (symbol itself) (units itself text.now)) ≡ None) (λ found. IsOperatorAt (units itself text.now) found.0 (units itself found.1.now)) }
+    ensures within { MatchOption result (0 ≤ 0) (λ found. length found.1.now ≤ length text.now) }
+{
+    let [first, rest @ ..] = text else {
+        return None;
+    };
+    match first {
+        b'=' => Some((Flavor::Recursive, rest)),
+        b'?' => Some((Flavor::Conditional, after_equals(rest)?)),
+        b'+' => Some((Flavor::Append, after_equals(rest)?)),
+        b'!' => Some((Flavor::Shell, after_equals(rest)?)),
+        b':' => read_colon_operator(rest),
+        _ => None,
+    }
+}
+
+/// The longest operator that a `:` before a text begins, and what follows it.
+fn read_colon_operator(text: &[u8]) -> Option<(Flavor, &[u8])>
+    ensures found { MatchOption result (operator_at (Colon ∷ map (symbol itself) (units itself text.now)) ≡ None) (λ found. IsOperatorAt ((58 ∷ []) ∷ units itself text.now) found.0 (units itself found.1.now)) }
+    ensures within { MatchOption result (0 ≤ 0) (λ found. length found.1.now ≤ length text.now) }
+{
+    if let Some(rest) = after_equals(text) {
+        return Some((Flavor::Simple, rest));
+    }
+    let text = after_colon(text)?;
+    if let Some(rest) = after_equals(text) {
+        return Some((Flavor::PosixSimple, rest));
+    }
+    let rest = after_equals(after_colon(text)?)?;
+    Some((Flavor::Immediate, rest))
 }

@@ -1,6 +1,7 @@
 //! Laws of classes and assignments: each contract is a theorem on the definitions that the calls of
 //! this crate are specified by. The functions do nothing.
 ghost use Rattle.mk_class.specs.Laws.{AssignmentsAreWhole, ClassesAreOfJoinedTexts, ClassesFitCounts, ClassesLookUp, ContextsOfAllLines, FirstEqualsDecides, FlagIsForFirstLines, FlagIsForLedLines, HeadersAreReadAgain, HeadersAreWhole, HeadersFit, HeadsDecideAssignments, ValueIsFree, ValueTextIsFree};
+ghost use Rattle.mk_class.specs.StepLaws.{PrefixesAreMarks};
 
 /// A line that does not begin with the recipe prefix has the same class under each flag.
 pub fn flag_is_for_led_lines()
@@ -37,6 +38,12 @@ pub fn classes_fit_counts()
 /// and on whether it has a stray byte or a bad fold.
 pub fn classes_are_of_joined_texts()
     ensures { ClassesAreOfJoinedTexts }
+{}
+
+/// The recipe prefix in force is a tab, or a printable byte of ASCII other than the blank, `$` and
+/// the backslash.
+pub fn prefixes_are_marks()
+    ensures { PrefixesAreMarks }
 {}
 
 /// The parts of a header's line, in order, are the line: the targets, the separator, the pattern and

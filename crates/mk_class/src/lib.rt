@@ -2,19 +2,34 @@
 //! read inside; and the context that it stands in.
 //!
 //! - [`class`]: the classes of lines.
+//! - [`reading`]: the class of a line in its context.
 //! - [`assignment`]: assignments, their flavors and modifiers.
 //! - [`rule`]: rules and their separators.
 //! - [`context`]: what the lines before a line leave for it.
+//! - [`meter`]: a count of the lines that were classified.
+//! - [`argument`]: what an edit may write.
 //! - [`laws`]: theorems on the definitions of assignments and classes.
 #![tactic(auto)]
 
+pub mod argument;
 pub mod assignment;
 pub mod class;
 pub mod context;
+mod header;
+mod keyword;
 pub mod laws;
+pub mod meter;
+pub mod reading;
 pub mod rule;
+mod scan;
+#[cfg(test)]
+mod tests;
 
+pub use argument::{is_command, is_name, is_target, is_value, is_word};
 pub use assignment::{Assignment, Flavor, Modifier, TargetAssignment};
 pub use class::Class;
-pub use context::{Flag, Nesting};
+pub use context::{Context, Flag, Nesting};
+pub use keyword::is_reserved_word;
+pub use meter::Meter;
+pub use reading::{class_with_cells, classify};
 pub use rule::{Header, Separator};

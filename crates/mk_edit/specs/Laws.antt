@@ -3,7 +3,8 @@ use Rattle.std.specs.Prelude.{◌≡◌, ℕ, List, [], ◌∷◌, ◌++◌, Opt
 use Rattle.mk_lines.specs.Pieces.{Replacement}
 use Rattle.mk_class.specs.declared.assignment.Flavor.{Flavor}
 use Rattle.mk_tree.specs.Readings.{reading}
-use Rattle.mk_edit.specs.Edits.{Place, Edit, SetValue, AppendValue, AddAssign, RemoveAssign, RemoveRule, AddRecipe, SetRecipe, RemoveRecipe}
+use Rattle.mk_edit.specs.Edits.{Place, Edit, SetValue, AppendValue, AddAssign, RemoveAssign, AddRule, RemoveRule, AddRecipe, SetRecipe, RemoveRecipe}
+use Rattle.mk_edit.specs.declared.edit.Colons.{Colons}
 use Rattle.mk_class.specs.ClassedLines.{classed_lines}
 use Rattle.mk_edit.specs.Stretches.{Stretch, place_found, removal}
 use Rattle.mk_edit.specs.NewLines.{assign_text}
@@ -71,3 +72,7 @@ NewAssignmentsStand = (place : Place) (name : List ℕ) (flavor : Flavor) (value
     → spans text (AddAssign place name flavor value) ≡ Ok replacements → place_found (classed_lines text) place ≡ Some stretch
     → (class : Class) × (classed_lines (text_after text (AddAssign place name flavor value))
     ≡ above_ended (file_line_end text) stretch.above stretch.below ++ record { bytes = assign_text name flavor value ++ line_end_bytes (file_line_end text); class = class } ∷ stretch.below)
+
+-- a new rule puts its item into the reading at its place
+abbrev pub RuleAddedReadsAsChanged : Type 0
+RuleAddedReadsAsChanged = (place : Place) (targets : List ℕ) (colons : Colons) (prereqs : List ℕ) → ReadsAsChanged (AddRule place targets colons prereqs)

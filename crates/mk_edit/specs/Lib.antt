@@ -15,6 +15,11 @@ pub mod Refusals
 pub mod RefusalTexts
 pub mod Changes
 pub mod Costs
+pub mod HeadUnits
+pub mod LineTails
+pub mod HeadWords
+pub mod WordsRemoved
+pub mod DirectiveWords
 pub mod Accepted
 pub mod SpotLaws
 pub mod BlankAdded
@@ -35,3 +40,7 @@ pub mod NameLaws
 pub mod NewLineStands
 pub mod NewAssignLaws
 pub mod Laws
+pub mod AddedLines
+pub mod NewWords
+pub mod NewRuleLines
+pub mod NewRules

@@ -1,6 +1,6 @@
 //! Laws of edits: each contract is a theorem on the definitions that the calls of this crate are
 //! specified by. The functions do nothing.
-ghost use Rattle.mk_edit.specs.Laws.{AppendReadsAsChanged, AssignReadsAsChanged, NewAssignmentsStand, OtherLinesStay, RecipeAddedReadsAsChanged, RecipeRemovedReadsAsChanged, RecipeSetReadsAsChanged, RefusedChangesNothing, SetReadsAsChanged, SetToNothingReadsAsChanged, UnruleReadsAsChanged, UnsetReadsAsChanged};
+ghost use Rattle.mk_edit.specs.Laws.{AppendReadsAsChanged, AssignReadsAsChanged, NewAssignmentsStand, OtherLinesStay, RecipeAddedReadsAsChanged, RecipeRemovedReadsAsChanged, RecipeSetReadsAsChanged, RefusedChangesNothing, RuleAddedReadsAsChanged, SetReadsAsChanged, SetToNothingReadsAsChanged, UnruleReadsAsChanged, UnsetReadsAsChanged};
 
 /// An accepted edit of a value, to one that is not empty, changes the reading by this value alone.
 pub fn set_reads_as_changed()
@@ -70,4 +70,11 @@ pub fn refused_changes_nothing()
 /// gets.
 pub fn new_assignments_stand()
     ensures { NewAssignmentsStand }
+{}
+
+/// An accepted new rule puts its item into the reading, a header with its targets, its separator and
+/// its prerequisites, and no other item changes. A last line without line end gets one where the
+/// rule comes last.
+pub fn rule_added_reads_as_changed()
+    ensures { RuleAddedReadsAsChanged }
 {}

@@ -1,6 +1,6 @@
 -- Lemmas on what is kept of the cells of a line.
-use Rattle.std.proofs.Common.{◌≡◌, refl, sym, ap, ◌∙◌, subst, ℕ, zero, suc, ◌+◌, ◌-◌, ◌<◌, ◌≤◌, Bool, true, false, cond, List, [], ◌∷◌, ◌++◌, map, reverse, length, take, ◌^◌, length-append, zero-add, get_or, arith}
-use Rattle.std.proofs.lemmas.List.{length-map, reverse-reverse}
+use Rattle.std.proofs.Common.{◌≡◌, refl, sym, ap, ◌∙◌, subst, ℕ, zero, suc, ◌+◌, ◌-◌, ◌<◌, ◌≤◌, Bool, true, false, cond, List, [], ◌∷◌, ◌++◌, map, length, take, ◌^◌, length-append, zero-add, get_or, arith}
+use Rattle.std.proofs.lemmas.List.{length-map}
 use Rattle.std.specs.Prelude.{nat_lt, ◌==◌, ◌&&◌, ◌||◌, All}
 use Rattle.std.specs.List.{list_any}
 use Rattle.std.specs.List.Sorted.{IsNonDecreasingBy, IsPartitionPoint}
@@ -194,6 +194,10 @@ has_stray-joined_text (c ∷ cs) = ap (λ z. is_stray c || z) (has_stray-joined_
 
 -- ---- the readers
 
+kept_text-some : (es : List FoldEnd) (cs : List Cell) → (es ≡ [] → ⊥) → kept_text es cs ≡ joined_text cs
+kept_text-some [] cs h = absurd (h refl)
+kept_text-some (e ∷ es) cs h = refl
+
 -- a fold's end that a search finds
 pub found-not_below : (es : List FoldEnd) (after i : ℕ) → IsPartitionPoint (λ e. nat_lt e.after after ≡ true) (λ e. nat_lt e.after after ≡ false) es i
     → (e : FoldEnd) → i < length es → e ≡ get_or es i e → after ≤ e.after
@@ -201,18 +205,22 @@ found-not_below es after i h e l k =
     let n : nat_lt e.after after ≡ false = ap (λ z. nat_lt z.after after) k ∙ h.1 i e (omega arith) l in
     grind (arith, nat_tests)
 
-no_items : {A : Type 0} (xs : List A) → length xs ≡ 0 → xs ≡ []
-no_items [] h = refl
-no_items (x ∷ xs) h = absurd (omega arith)
-
 -- without folds the joined text is the line's own text
-pub plain-text : (kept : KeptCells) (line : List ℕ) → AreCellsOf kept line → length kept.ends ≡ 0 → without_line_end line ≡ joined_text (line_cells line)
+pub plain-text : (kept : KeptCells) (line : List ℕ) → AreCellsOf kept line → [] ≡ kept.ends → without_line_end line ≡ joined_text (line_cells line)
 plain-text kept line h e =
-    let none : fold_ends 0 (line_cells line) ≡ [] = sym (ap (λ k. k.ends) h.same) ∙ no_items kept.ends e in
+    let none : fold_ends 0 (line_cells line) ≡ [] = sym (e ∙ ap (λ k. k.ends) h.same) in
     sym (joined_text-no_ends 0 (line_cells line) none ∙ raw_text-cells (without_line_end line))
 
-pub plain-count : (kept : KeptCells) (line : List ℕ) → AreCellsOf kept line → length kept.ends ≡ 0 → length (without_line_end line) ≡ kept.count
+pub plain-count : (kept : KeptCells) (line : List ℕ) → AreCellsOf kept line → [] ≡ kept.ends → length (without_line_end line) ≡ kept.count
 plain-count kept line h e = ap length (plain-text kept line h e) ∙ (length-map (line_cells line) joined_byte ∙ sym (ap (λ k. k.count) h.same))
+
+-- with folds it is the one that is kept
+pub folded-text : (kept : KeptCells) (line : List ℕ) → AreCellsOf kept line → (kept.ends ≡ [] → ⊥) → kept.joined ≡ joined_text (line_cells line)
+folded-text kept line h some =
+    ap (λ k. k.joined) h.same ∙ kept_text-some (fold_ends 0 (line_cells line)) (line_cells line) (λ none. some (ap (λ k. k.ends) h.same ∙ none))
+
+pub folded-count : (kept : KeptCells) (line : List ℕ) → AreCellsOf kept line → (kept.ends ≡ [] → ⊥) → length kept.joined ≡ kept.count
+folded-count kept line h some = ap length (folded-text kept line h some) ∙ (length-map (line_cells line) joined_byte ∙ sym (ap (λ k. k.count) h.same))
 
 -- the raw places of a line by what is kept
 pub kept_place-raw_place : (kept : KeptCells) (line : List ℕ) (n : ℕ) → AreCellsOf kept line → n ≤ kept.count → kept_place kept n ≡ raw_place (line_cells line) n
@@ -257,10 +265,6 @@ kept_text-none : (es : List FoldEnd) (cs : List Cell) → es ≡ [] → kept_tex
 kept_text-none [] cs h = refl
 kept_text-none (e ∷ es) cs h = cc
 
-kept_text-some : (es : List FoldEnd) (cs : List Cell) → (es ≡ [] → ⊥) → kept_text es cs ≡ joined_text cs
-kept_text-some [] cs h = absurd (h refl)
-kept_text-some (e ∷ es) cs h = refl
-
 -- of a text without a line feed
 pub plain_kept : (t : List ℕ) → All (λ b. b ≡ 10 → ⊥) t → (j : List ℕ) (e : List FoldEnd) (s : Bool) → j ≡ [] → e ≡ [] → s ≡ list_any (λ b. is_stray_by (byte_kind b) (b == 0)) t
     → ◌≡◌ {A = KeptCells} (record { count = length t; joined = j; ends = e; bad_fold = false; stray = s }) (kept_cells (cells t))
@@ -274,15 +278,17 @@ plain_kept t h j e s p q r =
     (ap (list_any (λ b. is_stray_by (byte_kind b) (b == 0))) (sym (joined_text-bytes t)) ∙ sym (has_stray-joined_text (map Byte t)))
     ∙ ap kept_cells (sym c))
 
+-- a text with a line feed has the end of a fold
+pub fold_ends-some : (t : List ℕ) → (All (λ b. b ≡ 10 → ⊥) t → ⊥) → fold_ends 0 (cells t) ≡ [] → ⊥
+fold_ends-some t h none = h (subst (All (λ b. b ≡ 10 → ⊥)) (raw_text-cells t) (no_ends-no_line_feed 0 (cells t) (cells-are_cells t) none))
+
 -- of a text with a line feed
 pub folded_kept : (t : List ℕ) → (All (λ b. b ≡ 10 → ⊥) t → ⊥) → (n : ℕ) (j : List ℕ) (e : List FoldEnd) (b s : Bool)
-    → n ≡ length j → j ≡ reverse (reverse (joined_text (cells t))) → e ≡ fold_ends 0 (cells t) → b ≡ has_bad_fold (cells t) → s ≡ list_any (λ b. is_stray_by (byte_kind b) (b == 0)) j
+    → n ≡ length j → j ≡ joined_text (cells t) → e ≡ fold_ends 0 (cells t) → b ≡ has_bad_fold (cells t) → s ≡ list_any (λ b. is_stray_by (byte_kind b) (b == 0)) j
     → ◌≡◌ {A = KeptCells} (record { count = n; joined = j; ends = e; bad_fold = b; stray = s }) (kept_cells (cells t))
-folded_kept t h n j e b s p q r u v =
-    let k : j ≡ joined_text (cells t) = q ∙ reverse-reverse (joined_text (cells t)) in
-    let some : fold_ends 0 (cells t) ≡ [] → ⊥ = λ z. h (subst (All (λ b. b ≡ 10 → ⊥)) (raw_text-cells t) (no_ends-no_line_feed 0 (cells t) (cells-are_cells t) z)) in
+folded_kept t h n j e b s p k r u v =
     kept_same n (length (cells t)) j (kept_text (fold_ends 0 (cells t)) (cells t)) e (fold_ends 0 (cells t)) b (has_bad_fold (cells t)) s (has_stray (cells t))
-    (p ∙ (ap length k ∙ length-map (cells t) joined_byte)) (k ∙ sym (kept_text-some (fold_ends 0 (cells t)) (cells t) some)) r u
+    (p ∙ (ap length k ∙ length-map (cells t) joined_byte)) (k ∙ sym (kept_text-some (fold_ends 0 (cells t)) (cells t) (fold_ends-some t h))) r u
     (v ∙ (ap (list_any (λ b. is_stray_by (byte_kind b) (b == 0))) k ∙ sym (has_stray-joined_text (cells t))))
 
 -- the folds' ends of a text whose length is a number of the machine

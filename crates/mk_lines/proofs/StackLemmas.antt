@@ -1,11 +1,11 @@
 -- Lemmas on the stack of cells, and on the bytes that make cells.
-use Rattle.std.proofs.Common.{◌≡◌, refl, sym, ap, ◌∙◌, ℕ, zero, suc, ◌+◌, ◌-◌, ◌<◌, ◌≤◌, Bool, true, false, cond, not, ◌⊎◌, inl, inr, List, [], ◌∷◌, ◌++◌, map, reverse, length, take, drop, length-append, length-drop, get_or, arith, Option, None, Some, is_some}
+use Rattle.std.proofs.Common.{◌≡◌, refl, sym, ap, ◌∙◌, subst, ℕ, zero, suc, ◌+◌, ◌-◌, ◌<◌, ◌≤◌, Bool, true, false, cond, not, ◌⊎◌, inl, inr, List, [], ◌∷◌, ◌++◌, map, length, take, drop, length-append, length-drop, get_or, arith, Option, None, Some, is_some}
 use Rattle.std.specs.Prelude.{◌==◌, ◌&&◌, ◌||◌, All}
 use Rattle.std.specs.List.{list_any, prefix_len}
-use Rattle.std.proofs.lemmas.List.{append-nil, reverse-append, length-reverse}
-use Rattle.std.proofs.lemmas.List.Elements.{All-from_get_or}
+use Rattle.std.proofs.lemmas.List.{append-nil, drop-drop, take-append-drop, get_or-take, get_or-drop, length-take-le}
+use Rattle.std.proofs.lemmas.List.Elements.{All-from_get_or, All-head, All-tail}
 use Rattle.std.proofs.lemmas.Bool.Decides.{Decides-eqb}
-use Rattle.std.proofs.Math.Seq.{take-append_seam, take-length}
+use Rattle.std.proofs.Math.Seq.{drop-append_seam, take-length}
 use Rattle.memchr.specs.Find.{IsFirstByte, is_byte, is_byte3}
 use Rattle.mk_lines.specs.Lists.{leading, after_leading}
 use Rattle.mk_lines.specs.Bytes.{ByteKind, LineFeed, CarriageReturn, Backslash, Blank, Ordinary, byte_kind, is_blank_kind, is_backslash_kind}
@@ -123,6 +123,15 @@ search-any test t (Some k) h = sym (any_some test t k h.0.high h.1)
 pub search-stray : (t : List ℕ) (r : Option ℕ) → IsFirstByte (is_byte3 0 10 13) t r → is_some r ≡ list_any (λ b. is_stray_by (byte_kind b) (b == 0)) t
 search-stray t r h = search-any (is_byte3 0 10 13) t r h ∙ any_same (is_byte3 0 10 13) (λ b. is_stray_by (byte_kind b) (b == 0)) (λ b. sym (stray_test b)) t
 
+-- a text without stray bytes has no line feed
+pub none_stray-no_line_feed : (t : List ℕ) → list_any (λ b. is_stray_by (byte_kind b) (b == 0)) t ≡ false → All (λ b. b ≡ 10 → ⊥) t
+none_stray-no_line_feed t h =
+    All-from_get_or (λ b. b ≡ 10 → ⊥) t 0
+    (λ k l e. let yes : list_any (λ b. is_stray_by (byte_kind b) (b == 0)) t ≡ true = any_some (λ b. is_stray_by (byte_kind b) (b == 0)) t k l (feed (get_or t k 0) e) in cc)
+  where
+    feed : (b : ℕ) → b ≡ 10 → is_stray_by (byte_kind b) (b == 0) ≡ true
+    feed b e = rw e refl
+
 -- a search that finds no line feed, and one that does
 pub search-no_line_feed : (t : List ℕ) → IsFirstByte (is_byte 10) t None → All (λ b. b ≡ 10 → ⊥) t
 search-no_line_feed t h = All-from_get_or (λ b. b ≡ 10 → ⊥) t 0 (λ k l e. h k (omega arith) l ((Decides-eqb (get_or t k 0) 10).1 e))
@@ -136,31 +145,28 @@ search-line_feed t k h all = all k 0 h.0.high (equal (get_or t k 0) 10 h.1)
 pub record IsReplaced (old : CellStack) (byte : ℕ) (first : Top) (new : CellStack) : Type 0 where
   pub before : List ℕ
   pub last : ℕ
-  pub was : old.joined ≡ before ++ last ∷ []
-  pub is : ◌≡◌ {A = CellStack} (record { joined = before ++ byte ∷ []; ends = old.ends; top = first; bad_fold = old.bad_fold }) new
+  pub was : old.joined ≡ last ∷ before
+  pub is : ◌≡◌ {A = CellStack} (record { joined = byte ∷ before; ends = old.ends; top = first; bad_fold = old.bad_fold }) new
 
 -- stacks with the same parts
 same_stack : (j k : List ℕ) (d e : List FoldEnd) (t : Top) (b c : Bool) → j ≡ k → d ≡ e → b ≡ c
     → ◌≡◌ {A = CellStack} (record { joined = j; ends = d; top = t; bad_fold = b }) (record { joined = k; ends = e; top = t; bad_fold = c })
 same_stack j k d e t b c p q r = rw (p, q, r) refl
 
-push-reverse : (b : ℕ) (t : List ℕ) → reverse (b ∷ t) ≡ reverse t ++ b ∷ []
-push-reverse b t = reverse-append (b ∷ []) t
-
 ends_at : (m n : ℕ) (cs : List Cell) → m ≡ n → fold_ends m cs ++ record { after = length cs; raw_end = m } ∷ [] ≡ fold_ends n cs ++ record { after = length cs; raw_end = n } ∷ []
 ends_at m n cs e = ap (λ z. fold_ends z cs ++ record { after = length cs; raw_end = z } ∷ []) e
 
 -- a first cell with these raw bytes becomes another with one raw byte more
 replaced : (place : ℕ) (r : List ℕ) (cs : List Cell) (was byte : ℕ) (first second : Top)
-    → IsReplaced (record { joined = reverse (was ∷ joined_text cs); ends = fold_ends (place + 1 + length r) cs ++ record { after = length cs; raw_end = place + 1 + length r } ∷ []; top = first; bad_fold = has_bad_fold cs }) byte second
-    (record { joined = reverse (byte ∷ joined_text cs); ends = fold_ends (place + suc (length r)) cs ++ record { after = length cs; raw_end = place + suc (length r) } ∷ []; top = second; bad_fold = has_bad_fold cs })
+    → IsReplaced (record { joined = was ∷ joined_text cs; ends = fold_ends (place + 1 + length r) cs ++ record { after = length cs; raw_end = place + 1 + length r } ∷ []; top = first; bad_fold = has_bad_fold cs }) byte second
+    (record { joined = byte ∷ joined_text cs; ends = fold_ends (place + suc (length r)) cs ++ record { after = length cs; raw_end = place + suc (length r) } ∷ []; top = second; bad_fold = has_bad_fold cs })
 replaced place r cs was byte first second = record {
-  before = reverse (joined_text cs);
+  before = joined_text cs;
   last = was;
-  was = push-reverse was (joined_text cs);
-  is = same_stack (reverse (joined_text cs) ++ byte ∷ []) (reverse (byte ∷ joined_text cs))
+  was = refl;
+  is = same_stack (byte ∷ joined_text cs) (byte ∷ joined_text cs)
       (fold_ends (place + 1 + length r) cs ++ record { after = length cs; raw_end = place + 1 + length r } ∷ []) (fold_ends (place + suc (length r)) cs ++ record { after = length cs; raw_end = place + suc (length r) } ∷ [])
-      second (has_bad_fold cs) (has_bad_fold cs) (sym (push-reverse byte (joined_text cs))) (ends_at (place + 1 + length r) (place + suc (length r)) cs (omega arith)) refl;
+      second (has_bad_fold cs) (has_bad_fold cs) refl (ends_at (place + 1 + length r) (place + suc (length r)) cs (omega arith)) refl;
 }
 
 -- a backslash makes a fold of a line end
@@ -254,55 +260,116 @@ length-joined_text : (cs : List Cell) → length (joined_text cs) ≡ length cs
 length-joined_text [] = refl
 length-joined_text (c ∷ cs) = ap suc (length-joined_text cs)
 
--- the joined bytes on the stack that stay under a line feed
-kept_joined : (v : List ℕ) (cs : List Cell) → take (length (reverse (joined_text (map Byte v ++ cs))) - length v) (reverse (joined_text (map Byte v ++ cs))) ≡ reverse (joined_text cs)
-kept_joined v cs =
-    let s : reverse (joined_text (map Byte v ++ cs)) ≡ reverse (joined_text cs) ++ reverse v = ap reverse (joined_text-blanks v cs) ∙ reverse-append v (joined_text cs) in
-    let n : length (reverse (joined_text cs) ++ reverse v) - length v ≡ length (reverse (joined_text cs)) = omega (arith, length-append (reverse (joined_text cs)) (reverse v), length-reverse v) in
-    ap (λ z. take (length z - length v) z) s ∙ (ap (λ z. take z (reverse (joined_text cs) ++ reverse v)) n ∙ take-append_seam (reverse (joined_text cs)) (reverse v))
+-- the joined bytes that stay behind a line feed
+kept_joined : (v : List ℕ) (cs : List Cell) → drop (length v) (joined_text (map Byte v ++ cs)) ≡ joined_text cs
+kept_joined v cs = ap (drop (length v)) (joined_text-blanks v cs) ∙ drop-append_seam v (joined_text cs)
 
 -- there are at least as many cells on the stack as blanks at the front of the text
-pub blanks-stacked : (t : List ℕ) → (top_of (cells t) ≡ top.Fold → ⊥) → length (leading (λ b. is_blank_kind (byte_kind b)) t) ≤ length (reverse (joined_text (cells t)))
+pub blanks-stacked : (t : List ℕ) → (top_of (cells t) ≡ top.Fold → ⊥) → length (leading (λ b. is_blank_kind (byte_kind b)) t) ≤ length (joined_text (cells t))
 blanks-stacked t h =
     let v = leading (λ b. is_blank_kind (byte_kind b)) t in
     let R = after_leading is_blank_cell (cells t) in
     let e : cells t ≡ map Byte v ++ R = sym (leading-after_leading is_blank_cell (cells t)) ∙ ap (λ z. z ++ R) (leading-blanks t h) in
     let j : joined_text (cells t) ≡ v ++ joined_text R = ap joined_text e ∙ joined_text-blanks v R in
-    omega (arith, length-reverse (joined_text (cells t)), ap length j, length-append v (joined_text R))
+    omega (arith, ap length j, length-append v (joined_text R))
 
 -- a line feed before cells whose first is no fold
 line_feed-blanks : (place : ℕ) (t : List ℕ) → (top_of (cells t) ≡ top.Fold → ⊥) → (joined : List ℕ) (n : ℕ) → n ≡ length (leading (λ b. is_blank_kind (byte_kind b)) t)
-    → joined ≡ take (length (reverse (joined_text (cells t))) - n) (reverse (joined_text (cells t)))
-    → ◌≡◌ {A = CellStack} (record { joined = joined ++ 10 ∷ []; ends = fold_ends (place + 1) (cells t) ++ record { after = length joined; raw_end = place + 1 + n } ∷ []; top = top.Lf; bad_fold = has_bad_fold (cells t) })
+    → joined ≡ drop n (joined_text (cells t))
+    → ◌≡◌ {A = CellStack} (record { joined = 10 ∷ joined; ends = fold_ends (place + 1) (cells t) ++ record { after = length joined; raw_end = place + 1 + n } ∷ []; top = top.Lf; bad_fold = has_bad_fold (cells t) })
     (stack_of place (prepend LineFeed 10 (cells t)))
 line_feed-blanks place t h joined n m j =
     let v = leading (λ b. is_blank_kind (byte_kind b)) t in
     let R = after_leading is_blank_cell (cells t) in
     let L : leading is_blank_cell (cells t) ≡ map Byte v = leading-blanks t h in
     let e : cells t ≡ map Byte v ++ R = sym (leading-after_leading is_blank_cell (cells t)) ∙ ap (λ z. z ++ R) L in
-    let k : joined ≡ reverse (joined_text R) = j ∙ (ap (λ z. take (length (reverse (joined_text (cells t))) - z) (reverse (joined_text (cells t)))) m ∙ (ap (λ z. take (length (reverse (joined_text z)) - length v) (reverse (joined_text z))) e ∙ kept_joined v R)) in
+    let k : joined ≡ joined_text R = j ∙ (ap (λ z. drop z (joined_text (cells t))) m ∙ (ap (λ z. drop (length v) (joined_text z)) e ∙ kept_joined v R)) in
     let w : length (raw_text (leading is_blank_cell (cells t))) ≡ n = ap (λ z. length (raw_text z)) L ∙ (ap length (raw_text-bytes v) ∙ sym m) in
     let p : place + 1 + n ≡ place + suc (length (raw_text (leading is_blank_cell (cells t)))) = omega (arith, w) in
-    let c : length joined ≡ length R = ap length k ∙ (length-reverse (joined_text R) ∙ length-joined_text R) in
+    let c : length joined ≡ length R = ap length k ∙ length-joined_text R in
     let f : fold_ends (place + 1) (cells t) ≡ fold_ends (place + 1 + n) R = ap (fold_ends (place + 1)) e ∙ (fold_ends-blanks (place + 1) v R ∙ ap (λ z. fold_ends (place + 1 + z) R) (sym m)) in
     let x : fold_ends (place + 1) (cells t) ++ record { after = length joined; raw_end = place + 1 + n } ∷ [] ≡ fold_ends (place + 1 + n) R ++ record { after = length R; raw_end = place + 1 + n } ∷ [] =
     ap (λ z. z ++ record { after = length joined; raw_end = place + 1 + n } ∷ []) f ∙ ap (λ z. fold_ends (place + 1 + n) R ++ record { after = z; raw_end = place + 1 + n } ∷ []) c in
     let q = place + suc (length (raw_text (leading is_blank_cell (cells t)))) in
-    same_stack (joined ++ 10 ∷ []) (reverse (10 ∷ joined_text R))
+    same_stack (10 ∷ joined) (10 ∷ joined_text R)
     (fold_ends (place + 1) (cells t) ++ record { after = length joined; raw_end = place + 1 + n } ∷ []) (fold_ends q R ++ record { after = length R; raw_end = q } ∷ [])
     top.Lf (has_bad_fold (cells t)) (has_bad_fold R)
-    (ap (λ z. z ++ 10 ∷ []) k ∙ sym (push-reverse 10 (joined_text R)))
+    (ap (λ z. 10 ∷ z) k)
     (x ∙ ends_at (place + 1 + n) q R p)
     (sym (bad_fold-after_leading (cells t)))
 
 -- the same, with the parts of the stack after it
 pub line_feed-pushed : (place : ℕ) (t : List ℕ) → (top_of (cells t) ≡ top.Fold → ⊥) → (n : ℕ) (cut joined : List ℕ) (ends : List FoldEnd) (bad : Bool)
     → n ≡ length (leading (λ b. is_blank_kind (byte_kind b)) t)
-    → cut ≡ take (length (reverse (joined_text (cells t))) - n) (reverse (joined_text (cells t)))
-    → joined ≡ cut ++ 10 ∷ []
+    → cut ≡ drop n (joined_text (cells t))
+    → joined ≡ 10 ∷ cut
     → ends ≡ fold_ends (place + 1) (cells t) ++ record { after = length cut; raw_end = place + 1 + n } ∷ []
     → bad ≡ has_bad_fold (cells t)
     → ◌≡◌ {A = CellStack} (record { joined = joined; ends = ends; top = top.Lf; bad_fold = bad }) (stack_of place (prepend LineFeed 10 (cells t)))
 line_feed-pushed place t h n cut joined ends bad m c j e b =
-    same_stack joined (cut ++ 10 ∷ []) ends (fold_ends (place + 1) (cells t) ++ record { after = length cut; raw_end = place + 1 + n } ∷ []) top.Lf bad (has_bad_fold (cells t)) j e b
+    same_stack joined (10 ∷ cut) ends (fold_ends (place + 1) (cells t) ++ record { after = length cut; raw_end = place + 1 + n } ∷ []) top.Lf bad (has_bad_fold (cells t)) j e b
     ∙ line_feed-blanks place t h cut n m c
+
+-- ---- a run of bytes that stand for themselves
+
+-- before a byte that stands for itself each byte but a line feed does
+prepend-byte : (k : ByteKind) (b : ℕ) (cs : List Cell) → (k ≡ LineFeed → ⊥) → top_of cs ≡ top.Byte → prepend k b cs ≡ Byte b ∷ cs
+prepend-byte LineFeed b cs h e = absurd (h refl)
+prepend-byte k b (Fold r ∷ cs) h e = cc
+prepend-byte k b (LfEnd r ∷ cs) h e = cc
+prepend-byte k b (CrLfEnd r ∷ cs) h e = cc
+prepend-byte CarriageReturn b [] h e = refl
+prepend-byte CarriageReturn b (Byte c ∷ cs) h e = refl
+prepend-byte Backslash b [] h e = refl
+prepend-byte Backslash b (Byte c ∷ cs) h e = refl
+prepend-byte Blank b [] h e = refl
+prepend-byte Blank b (Byte c ∷ cs) h e = refl
+prepend-byte Ordinary b [] h e = refl
+prepend-byte Ordinary b (Byte c ∷ cs) h e = refl
+
+top_of-run : (p : List ℕ) (cs : List Cell) → top_of cs ≡ top.Byte → top_of (map Byte p ++ cs) ≡ top.Byte
+top_of-run [] cs e = e
+top_of-run (b ∷ p) cs e = refl
+
+cells-run : (p t : List ℕ) → All (λ b. b ≡ 10 → ⊥) p → top_of (cells t) ≡ top.Byte → cells (p ++ t) ≡ map Byte p ++ cells t
+cells-run [] t h e = refl
+cells-run (b ∷ p) t h e =
+    ap (prepend (byte_kind b) b) (cells-run p t (All-tail (λ b. b ≡ 10 → ⊥) b p h) e)
+    ∙ prepend-byte (byte_kind b) b (map Byte p ++ cells t) (λ k. All-head (λ b. b ≡ 10 → ⊥) b p h (line_feed-byte b k)) (top_of-run p (cells t) e)
+
+bad_fold-run : (p : List ℕ) (cs : List Cell) → top_of cs ≡ top.Byte → has_bad_fold (map Byte p ++ cs) ≡ has_bad_fold cs
+bad_fold-run [] cs e = refl
+bad_fold-run (b ∷ p) cs e = go (is_backslash_kind (byte_kind b)) (map Byte p ++ cs) (top_of-run p cs e) (bad_fold-run p cs e)
+  where
+    go : (c : Bool) (ds : List Cell) → top_of ds ≡ top.Byte → has_bad_fold ds ≡ has_bad_fold cs → ((c && is_fold_first ds) || has_bad_fold ds) ≡ has_bad_fold cs
+    go false ds f i = i
+    go true [] f i = i
+    go true (Byte d ∷ ds) f i = i
+    go true (Fold r ∷ ds) f i = cc
+    go true (LfEnd r ∷ ds) f i = i
+    go true (CrLfEnd r ∷ ds) f i = i
+
+-- the stack with a run of bytes on it
+pub run-stacked : (text : List ℕ) (start place : ℕ) → start < place → place ≤ length text → top_of (cells (drop place text)) ≡ top.Byte
+    → ((k : ℕ) → start ≤ k → k < place → get_or text k 0 ≡ 10 → ⊥)
+    → ◌≡◌ {A = CellStack} (record { joined = take (place - start) (drop start text) ++ joined_text (cells (drop place text)); ends = fold_ends place (cells (drop place text)); top = top.Byte; bad_fold = has_bad_fold (cells (drop place text)) })
+    (stack_of start (cells (drop start text)))
+run-stacked text start place some within first none =
+    let n = place - start in
+    let p = take n (drop start text) in
+    let t = drop place text in
+    let cs = cells t in
+    let seam : drop n (drop start text) ≡ t = drop-drop n start text ∙ ap (λ k. drop k text) (omega arith) in
+    let whole : drop start text ≡ p ++ t = sym (take-append-drop n (drop start text)) ∙ ap (λ z. p ++ z) seam in
+    let long : length p ≡ n = length-take-le n (drop start text) (omega (arith, length-drop start text)) in
+    let all : All (λ b. b ≡ 10 → ⊥) p =
+    All-from_get_or (λ b. b ≡ 10 → ⊥) p 0 (λ k l e. none (start + k) (omega arith) (omega arith) (sym (get_or-take n (drop start text) k 0 (omega arith) ∙ get_or-drop start text k 0) ∙ e)) in
+    let is : cells (drop start text) ≡ map Byte p ++ cs = ap cells whole ∙ cells-run p t all first in
+    let joined : joined_text (map Byte p ++ cs) ≡ p ++ joined_text cs = joined_text-blanks p cs in
+    let ends : fold_ends start (map Byte p ++ cs) ≡ fold_ends place cs = fold_ends-blanks start p cs ∙ ap (λ z. fold_ends z cs) (omega (arith, long)) in
+    subst (λ ds. ◌≡◌ {A = CellStack} (record { joined = p ++ joined_text cs; ends = fold_ends place cs; top = top.Byte; bad_fold = has_bad_fold cs }) (stack_of start ds)) (sym is)
+    (run_parts (p ++ joined_text cs) (fold_ends place cs) (has_bad_fold cs) start (map Byte p ++ cs) (sym joined) (sym ends) (sym (top_of-run p cs first)) (sym (bad_fold-run p cs first)))
+  where
+    run_parts : (j : List ℕ) (e : List FoldEnd) (b : Bool) (start : ℕ) (ds : List Cell) → j ≡ joined_text ds → e ≡ fold_ends start ds → top.Byte ≡ top_of ds → b ≡ has_bad_fold ds
+        → ◌≡◌ {A = CellStack} (record { joined = j; ends = e; top = top.Byte; bad_fold = b }) (stack_of start ds)
+    run_parts j e b start ds p q r s = rw (p, q, sym r, s) refl

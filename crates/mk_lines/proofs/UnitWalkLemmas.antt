@@ -3,7 +3,7 @@ use Rattle.std.proofs.Common.{◌≡◌, ◌≢◌, refl, sym, ap, ◌∙◌, su
 use Rattle.std.specs.Prelude.{◌==◌, Option, Some, None, MatchOption}
 use Rattle.std.specs.Option.{UnwrapsOrElse}
 use Rattle.std.proofs.lemmas.Bool.Decides.{Decides-eqb}
-use Rattle.std.proofs.Math.Seq.{take-length}
+use Rattle.std.proofs.Math.Seq.{take-length, take-append_seam, drop-append_seam}
 use Rattle.mk_lines.specs.Lists.{concat, leading, after_leading}
 use Rattle.mk_lines.specs.ListLaws.{FirstFails, leading-after_leading, after_leading-first_fails, concat-append}
 use Rattle.mk_lines.specs.Cut.{state_after, continuation, pieces}
@@ -17,7 +17,7 @@ use Rattle.mk_lines.specs.Units.UnitState.{Between, AfterDollar, InParens, InBra
 use Rattle.mk_lines.specs.UnitLaws.{begins-always, concat-units, units-last}
 use Rattle.mk_lines.specs.FirstUnit.{first_unit, after_first_unit}
 use Rattle.mk_lines.specs.FirstUnitLaws.{units-first_unit}
-use Rattle.mk_lines.specs.Words.{Token, Gap, Word, tokens, before_tokens, is_gap}
+use Rattle.mk_lines.specs.Words.{Token, Gap, Word, tokens, token_words, words, before_tokens, is_gap}
 use Rattle.mk_lines.specs.Ranges.{piece_ranges, word_token_ranges}
 use Rattle.mk_lines.specs.UnitWalk.{after_close, is_blank_byte, after_word, units_left, words_left}
 use Rattle.mk_lines.specs.declared.split.Span.{Span}
@@ -425,3 +425,72 @@ words_left-none n s (x ∷ t) e h k = absurd (let z : (suc (length t) == 0) ≡ 
 -- what follows the first unit is no longer than the text
 pub after_first_unit-length : (s : List ℕ) → length (after_first_unit (λ b. b) s) ≤ length s
 after_first_unit-length s = omega (arith, length-drop (length (first_unit (λ b. b) s)) s)
+
+-- what follows the first unit of a text that is not empty is shorter
+pub after_first_unit-less : (s r : List ℕ) → r ≡ after_first_unit (λ b. b) s → 0 < length s → length r < length s
+after_first_unit-less [] r e h = absurd (omega arith)
+after_first_unit-less (x ∷ t) r e h = omega (arith, ap length e, after_first_unit-shorter x t)
+
+-- the empty text has no unit to follow
+pub after_first_unit-empty : (s : List ℕ) → (length s == 0) ≡ true → s ≡ after_first_unit (λ b. b) s
+after_first_unit-empty [] h = refl
+after_first_unit-empty (x ∷ t) h = absurd (let z : (suc (length t) == 0) ≡ false = other_byte (suc (length t)) 0 (λ i. absurd (omega arith)) in cc)
+
+-- ---- the first of a text cut off
+
+-- a text cut where so much of it is left as follows its first part
+cut_after : (t u a f r : List ℕ) (n : ℕ) → u ++ a ≡ t → n ≡ length t - length a → f ≡ take n t → r ≡ drop n t → (f ≡ u) × (r ≡ a)
+cut_after t u a f r n h e i j =
+    let k : n ≡ length u = omega (arith, ap length h, length-append u a) in (
+      i ∙ (ap (take n) (sym h) ∙ (ap (λ m. take m (u ++ a)) k ∙ take-append_seam u a)),
+      j ∙ (ap (drop n) (sym h) ∙ (ap (λ m. drop m (u ++ a)) k ∙ drop-append_seam u a)),
+    )
+
+-- the first unit of a text that is not empty, and the units of what follows it
+pub units-cut : (t a f r : List ℕ) → (length t == 0) ≡ false → a ≡ after_first_unit (λ b. b) t → f ≡ take (length t - length a) t → r ≡ drop (length t - length a) t
+    → units (λ b. b) t ≡ f ∷ units (λ b. b) r
+units-cut [] a f r h e i j = cc
+units-cut (x ∷ t) a f r h e i j =
+    let u = first_unit (λ b. b) (x ∷ t) in
+    let p = cut_after (x ∷ t) u a f r (length (x ∷ t) - length a) (ap (λ z. u ++ z) e ∙ first_unit-after x t) refl i j in
+    units-first_unit (λ b. b) x t ∙ (ap (λ z. z ∷ units (λ b. b) (after_first_unit (λ b. b) (x ∷ t))) (sym p.0) ∙ ap (λ z. f ∷ units (λ b. b) z) (sym (p.1 ∙ e)))
+
+words-blank : (x : ℕ) (t : List ℕ) → is_blank_byte x ≡ true → words (λ b. b) (x ∷ t) ≡ words (λ b. b) t
+words-blank x t h =
+    ap (λ us. token_words (tokens (λ b. b) us)) (units-blank x t h)
+    ∙ ap (λ g. token_words (before_tokens g (x ∷ []) (tokens (λ b. b) (units (λ b. b) t)))) h
+
+-- blanks at the front change no word
+words-blanks : (t : List ℕ) → words (λ b. b) t ≡ words (λ b. b) (after_leading is_blank_byte t)
+words-blanks [] = refl
+words-blanks (x ∷ t) = go (is_blank_byte x) refl (words-blanks t)
+  where
+    go : (c : Bool) → is_blank_byte x ≡ c → words (λ b. b) t ≡ words (λ b. b) (after_leading is_blank_byte t)
+        → words (λ b. b) (x ∷ t) ≡ words (λ b. b) (cond c (after_leading is_blank_byte t) (x ∷ t))
+    go true e ih = words-blank x t e ∙ ih
+    go false e ih = refl
+
+-- a text of blanks has no word
+pub words-none : (s w : List ℕ) → w ≡ after_leading is_blank_byte s → (length w == 0) ≡ true → words (λ b. b) s ≡ []
+words-none s [] e h = words-blanks s ∙ ap (words (λ b. b)) (sym e)
+words-none s (x ∷ t) e h = absurd (let z : (suc (length t) == 0) ≡ false = other_byte (suc (length t)) 0 (λ i. absurd (omega arith)) in cc)
+
+-- the first word of a text that has one, and the words of what follows it
+pub words-cut : (s w a f r : List ℕ) → w ≡ after_leading is_blank_byte s → (length w == 0) ≡ false → a ≡ after_word w → f ≡ take (length w - length a) w → r ≡ drop (length w - length a) w
+    → words (λ b. b) s ≡ f ∷ words (λ b. b) r
+words-cut s [] a f r e h k i j = cc
+words-cut s (x ∷ t) a f r e h k i j =
+    let u = concat (leading (λ v. not (is_gap (λ b. b) v)) (units (λ b. b) (x ∷ t))) in
+    let p = cut_after (x ∷ t) u a f r (length (x ∷ t) - length a) (ap (λ z. u ++ z) k ∙ after_word-split (x ∷ t)) refl i j in
+    words-blanks s
+    ∙ (ap (words (λ b. b)) (sym e)
+    ∙ (ap token_words (tokens-word_first x t (subst (FirstFails is_blank_byte) (sym e) (after_leading-first_fails is_blank_byte s)))
+    ∙ (ap (λ z. z ∷ words (λ b. b) (after_word (x ∷ t))) (sym p.0) ∙ ap (λ z. f ∷ words (λ b. b) z) (sym (p.1 ∙ k)))))
+
+-- what follows a word is shorter than the text
+pub after_word-shorter : (s w a : List ℕ) → w ≡ after_leading is_blank_byte s → (length w == 0) ≡ false → a ≡ after_word w → length a < length w
+after_word-shorter s [] a e h k = cc
+after_word-shorter s (x ∷ t) a e h k =
+    let i : a ≡ after_word (after_first_unit (λ b. b) (x ∷ t)) =
+    k ∙ after_word-step x t (after_first_unit (λ b. b) (x ∷ t)) (subst (FirstFails is_blank_byte) (sym e) (after_leading-first_fails is_blank_byte s)) refl in
+    omega (arith, ap length i, after_word-length (after_first_unit (λ b. b) (x ∷ t)), after_first_unit-shorter x t)

@@ -1,5 +1,5 @@
 -- Cells as a stack: those of the text behind a place, the first cell on top.
-use Rattle.std.specs.Prelude.{ℕ, Bool, List, [], ◌∷◌, reverse}
+use Rattle.std.specs.Prelude.{ℕ, Bool, List, [], ◌∷◌}
 use Rattle.mk_lines.specs.Cells.{Cell, Byte, Fold, LfEnd, CrLfEnd, joined_text}
 use Rattle.mk_lines.specs.CellFaults.{has_bad_fold}
 use Rattle.mk_lines.specs.KeptCells.{fold_ends}
@@ -7,7 +7,7 @@ use Rattle.mk_lines.specs.declared.cells.kept.FoldEnd.{FoldEnd}
 use Rattle.mk_lines.specs.declared.cells.stack.Top.{Top}
 use Rattle.mk_lines.specs.declared.cells.stack.Top.TheVariants as top
 
--- the joined bytes and the folds' ends, each the last first, what the first cell is, and whether there is a bad fold
+-- the joined bytes, the folds' ends, the last first, what the first cell is, and whether there is a bad fold
 pub record CellStack : Type 0 where
   pub joined : List ℕ
   pub ends : List FoldEnd
@@ -24,4 +24,9 @@ top_of (CrLfEnd r ∷ cs) = top.CrLf
 
 -- the stack of cells, the first of which begins at this raw place
 abbrev pub stack_of : (place : ℕ) → List Cell → CellStack
-stack_of place cs = record { joined = reverse (joined_text cs); ends = fold_ends place cs; top = top_of cs; bad_fold = has_bad_fold cs }
+stack_of place cs = record { joined = joined_text cs; ends = fold_ends place cs; top = top_of cs; bad_fold = has_bad_fold cs }
+
+-- a stack with room for so many joined bytes more
+pub record StackWithRoom : Type 0 where
+  pub stack : CellStack
+  pub room : ℕ

@@ -1,9 +1,11 @@
 -- What is kept of the cells of a line beside the line itself.
-use Rattle.std.specs.Prelude.{◌≡◌, ℕ, ◌+◌, ◌-◌, ◌^◌, ◌<◌, nat_lt, if◌then◌else◌, Bool, List, [], ◌∷◌, ◌++◌, length, All}
+use Rattle.std.specs.Prelude.{◌≡◌, ◌≢◌, ℕ, ◌+◌, ◌-◌, ◌^◌, ◌<◌, nat_lt, if◌then◌else◌, Bool, List, [], ◌∷◌, ◌++◌, drop, length, ◌≤◌, All, false, ⊤}
 use Rattle.std.specs.List.Sorted.{IsNonDecreasingBy}
 use Rattle.mk_lines.specs.Cells.{Cell, Byte, Fold, LfEnd, CrLfEnd, joined_text, line_cells}
 use Rattle.mk_lines.specs.CellFaults.{has_bad_fold, has_stray}
 use Rattle.mk_lines.specs.declared.cells.kept.FoldEnd.{FoldEnd}
+use Rattle.mk_lines.specs.declared.cells.kept.Rest.{Rest}
+use Rattle.mk_lines.specs.declared.cells.kept.Rest.TheVariants.{Plain, Folded}
 
 -- The ends of the folds among cells, the first of which begins at this raw place; the last fold comes first. A line end by
 -- itself counts as a fold.
@@ -26,6 +28,35 @@ pub record KeptCells : Type 0 where
   pub ends : List FoldEnd
   pub bad_fold : Bool
   pub stray : Bool
+
+-- ---- what is kept, as the program holds it
+
+-- the joined text of a line with folds
+abbrev pub joined_kept : {A : Type 0} → Rest A → List ℕ
+joined_kept (Plain stray) = []
+joined_kept (Folded f) = drop f.value.first f.value.joined.items
+
+-- the ends of the folds
+abbrev pub ends_kept : {A : Type 0} → Rest A → List FoldEnd
+ends_kept (Plain stray) = []
+ends_kept (Folded f) = f.value.ends.items
+
+-- whether there is a bad fold
+abbrev pub has_bad_fold_kept : {A : Type 0} → Rest A → Bool
+has_bad_fold_kept (Plain stray) = false
+has_bad_fold_kept (Folded f) = f.value.bad_fold
+
+-- whether there is a stray byte
+abbrev pub has_stray_kept : {A : Type 0} → Rest A → Bool
+has_stray_kept (Plain stray) = stray
+has_stray_kept (Folded f) = f.value.stray
+
+-- a line that is held as one with folds has some, and its joined text begins within what is kept
+abbrev pub HasFoldsKept : {A : Type 0} → Rest A → Type 0
+HasFoldsKept (Plain stray) = ⊤
+HasFoldsKept (Folded f) = (f.value.ends.items ≢ []) × (f.value.first ≤ length f.value.joined.items)
+
+-- ---- what is kept, of cells
 
 -- what is kept of cells
 abbrev pub kept_cells : List Cell → KeptCells

@@ -11,12 +11,9 @@
 //! - A *bad fold* has a backslash directly before its whole run of bytes, as after `a\\ \` and a
 //!   line end: read as text, that backslash would stand before a space and escape it.
 //! - A *stray byte* is a NUL, or a CR that is no part of a line end.
-ghost use Rattle.std.specs.Prelude.{◌≡◌, ◌==◌, ◌≢◌, All, IfOk, IsOk, IsOkUnless};
-ghost use Rattle.std.specs.List.{list_any};
-ghost use Rattle.mk_lines.specs.Bytes.{byte_kind};
+ghost use Rattle.std.specs.Prelude.{◌≡◌, ◌≢◌, ◌<◌, ℕ, slice_index, All, IfOk, IsOk, IsOkUnless};
 ghost use Rattle.mk_lines.specs.PhysicalLines.{without_line_end};
 ghost use Rattle.mk_lines.specs.Cells.{cells};
-ghost use Rattle.mk_lines.specs.CellFaults.{is_stray_by};
 ghost use Rattle.mk_lines.specs.KeptCells.{AreCellsOf, kept_cells};
 
 mod kept;
@@ -25,7 +22,8 @@ mod stack;
 use crate::ends::without_line_end;
 use crate::fault::Fault;
 pub use kept::Cells;
-use memchr::{memchr, memchr3};
+use kept::{Folded, has_stray_byte};
+use memchr::memchr;
 use stack::stack_of_text;
 use std::alloc::Allocator;
 
@@ -39,55 +37,38 @@ use std::alloc::Allocator;
 ///
 /// # Errors
 ///
-/// [`Fault::NoMemory`] where the joined text of a line with folds, or the list of its folds, could
-/// not grow.
+/// [`Fault::NoMemory`] where a line has folds, and there was no memory for its joined text, the list
+/// of its folds or the two together.
 pub fn cells<A: Allocator + Copy>(alloc: A, line: &[u8]) -> Result<Cells<A>, Fault>
     ensures cells { IfOk result (λ kept. AreCellsOf kept line.now) }
     ensures plain { All (λ b. b ≢ 10) (without_line_end line.now) → IsOk result }
     ensures fault { IsOkUnless result Fault.NoMemory }
 {
     let text = without_line_end(line);
+    // A line feed counts as a stray byte: most lines have none of the two, and are read once.
+    if !has_stray_byte(text) {
+        return Ok(Cells::plain(text, false));
+    }
     match memchr(b'\n', text) {
-        None => Ok(plain_cells(alloc, text)),
-        Some(_) => folded_cells(alloc, text),
+        None => Ok(Cells::plain(text, true)),
+        Some(feed) => folded_cells(alloc, text, feed),
     }
 }
 
-// The cells of a text without a line feed: each byte stands for itself.
-fn plain_cells<A: Allocator + Copy>(alloc: A, text: &[u8]) -> Cells<A>
-    requires { All (λ b. b ≢ 10) text.now }
-    ensures { result ≡ kept_cells (cells text.now) }
-{
-    Cells {
-        count: text.len(),
-        joined: Vec::new(alloc),
-        ends: Vec::new(alloc),
-        bad_fold: false,
-        stray: has_stray_byte(text),
-    }
-}
-
-// The cells of a text with a line feed.
-fn folded_cells<A: Allocator + Copy>(alloc: A, text: &[u8]) -> Result<Cells<A>, Fault>
-    requires { All (λ b. b ≢ 10) text.now → ⊥ }
+// The cells of a text whose first line feed is at `feed`.
+fn folded_cells<A: Allocator + Copy>(alloc: A, text: &[u8], feed: usize) -> Result<Cells<A>, Fault>
+    requires some { All (λ b. b ≢ 10) text.now → ⊥ }
+    requires before { (k : ℕ) → k < feed → slice_index text.now k ≢ 10 }
     ensures cells { IfOk result (λ kept. kept ≡ kept_cells (cells text.now)) }
     ensures fault { IsOkUnless result Fault.NoMemory }
 {
-    let stack = stack_of_text(alloc, text)?;
-    let mut joined = stack.joined;
-    joined.reverse();
-    Ok(Cells {
-        count: joined.len(),
-        stray: has_stray_byte(&joined),
-        joined,
+    let stack = stack_of_text(alloc, text, feed)?;
+    let folded = Folded {
+        stray: has_stray_byte(&stack.joined[stack.first..]),
+        joined: stack.joined,
+        first: stack.first,
         ends: stack.ends,
         bad_fold: stack.bad_fold,
-    })
-}
-
-// Whether a joined text has a stray byte.
-fn has_stray_byte(joined: &[u8]) -> bool
-    ensures { result ≡ list_any (λ b. is_stray_by (byte_kind b) (b == 0)) joined.now }
-{
-    memchr3(b'\0', b'\n', b'\r', joined).is_some()
+    };
+    Cells::folded(alloc, text, folded)
 }

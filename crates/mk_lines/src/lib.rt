@@ -30,5 +30,5 @@ pub use iter::{Units, Words};
 pub use sink::{ByteSink, StdSink};
 pub use source::{ByteSource, StdSource};
 pub use split::Span;
-pub use unit::{is_closed, units};
-pub use word::words;
+pub use unit::{after_first_unit, is_closed, split_first_unit, units};
+pub use word::{split_first_word, words};

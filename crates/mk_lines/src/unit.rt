@@ -14,8 +14,8 @@
 //! References are those of the GNU make manual, "How to Use Variables: Basics of Variable
 //! References". How a backslash is read, and that an unclosed reference takes the rest, is this
 //! project's profile.
-ghost use Rattle.std.specs.Prelude.{◌≡◌, ◌<◌, ◌≤◌, [], Some, None, false, length, MatchOption};
-ghost use Rattle.mk_lines.specs.Units.{is_closed};
+ghost use Rattle.std.specs.Prelude.{◌≡◌, ◌<◌, ◌≤◌, [], ◌∷◌, ◌++◌, Some, None, false, length, IfSome, MatchOption};
+ghost use Rattle.mk_lines.specs.Units.{is_closed, units};
 ghost use Rattle.mk_lines.specs.FirstUnit.{after_first_unit};
 ghost use Rattle.mk_lines.specs.Ranges.{unit_ranges};
 ghost use Rattle.mk_lines.specs.UnitWalk.{after_close};
@@ -33,6 +33,22 @@ pub fn units(text: &[u8]) -> Units<'_>
     Units::new(text)
 }
 
+/// The unit at the front of a text and what follows it, or `None` where the text is empty.
+///
+/// Called again on what follows, it gives the units one after the other, as [`units`] gives their
+/// ranges. Takes no memory.
+pub fn split_first_unit(text: &[u8]) -> Option<(&[u8], &[u8])>
+    ensures units { MatchOption result (text.now ≡ []) (λ parts. units (λ b. b) text.now ≡ parts.0.now ∷ units (λ b. b) parts.1.now) }
+    ensures joined { IfSome result (λ parts. parts.0.now ++ parts.1.now ≡ text.now) }
+    ensures shorter { IfSome result (λ parts. length parts.1.now < length text.now) }
+{
+    if text.is_empty() {
+        return None;
+    }
+    let after = after_unit(text).unwrap_or_default();
+    Some(text.split_at(text.len() - after.len()))
+}
+
 /// Whether a text is closed: what is written after it does not become part of its last unit.
 ///
 /// Not closed is a text whose last unit is an unclosed reference, a lone `$` or a lone backslash.
@@ -48,6 +64,21 @@ pub fn is_closed(text: &[u8]) -> bool
         }
     }
     true
+}
+
+/// What follows the first unit of a text, which is nothing where there is none.
+///
+/// So a text is read from its front, one unit at a time; what is left has the other units. The time
+/// is linear in the bytes of the first unit.
+pub fn after_first_unit(text: &[u8]) -> &[u8]
+    ensures rest { result.now ≡ after_first_unit (λ b. b) text.now }
+    ensures shorter { 0 < length text.now → length result.now < length text.now }
+    ensures within { length result.now ≤ length text.now }
+{
+    if text.is_empty() {
+        return text;
+    }
+    after_unit(text).unwrap_or_default()
 }
 
 /// What follows the unit at the front of a text.

@@ -5,9 +5,10 @@
 //!
 //! Where make cuts words it has expanded the text first; that they are cut before any expansion,
 //! by units, is this project's profile.
-ghost use Rattle.std.specs.Prelude.{◌≡◌, ◌≤◌, length};
+ghost use Rattle.std.specs.Prelude.{◌≡◌, ◌<◌, ◌≤◌, [], ◌∷◌, ◌++◌, length, IfSome, MatchOption};
 ghost use Rattle.mk_lines.specs.Lists.{after_leading};
 ghost use Rattle.mk_lines.specs.Ranges.{word_ranges};
+ghost use Rattle.mk_lines.specs.Words.{words};
 ghost use Rattle.mk_lines.specs.UnitWalk.{is_blank_byte, after_word};
 
 use crate::iter::Words;
@@ -22,6 +23,24 @@ pub fn words(text: &[u8]) -> Words<'_>
     ensures count { length result ≤ length text.now }
 {
     Words::new(text)
+}
+
+/// The word at the front of a text, after any blanks, and what follows it, or `None` where the text
+/// has no word.
+///
+/// Called again on what follows, it gives the words one after the other, as [`words`] gives their
+/// ranges. Takes no memory.
+pub fn split_first_word(text: &[u8]) -> Option<(&[u8], &[u8])>
+    ensures words { MatchOption result (words (λ b. b) text.now ≡ []) (λ parts. words (λ b. b) text.now ≡ parts.0.now ∷ words (λ b. b) parts.1.now) }
+    ensures joined { IfSome result (λ parts. parts.0.now ++ parts.1.now ≡ after_leading is_blank_byte text.now) }
+    ensures shorter { IfSome result (λ parts. length parts.1.now < length text.now) }
+{
+    let words = after_blanks(text);
+    if words.is_empty() {
+        return None;
+    }
+    let after = after_word(words);
+    Some(words.split_at(words.len() - after.len()))
 }
 
 /// What follows the blanks at the front of a text.

@@ -84,8 +84,8 @@ fn cells_meet_each_refused_growth(rt: HostRuntime) -> Result<(), Fail> {
         let heap = Refusing::after(rt.alloc(), admitted);
         let answer = cells(&heap, &line);
         if !heap.has_refused() {
-            // the joined text, and the folds' ends at least once
-            assert!(rt; admitted > 1 && answer.is_ok());
+            // the joined text, the folds' ends at least once, and the box of the two
+            assert!(rt; admitted > 2 && answer.is_ok());
             break;
         }
         assert!(rt; matches!(answer, Err(Fault::NoMemory)));

@@ -1,5 +1,7 @@
 //! The units and words of texts, and whether a text is closed.
-use mk_lines::{Span, is_closed, units, words};
+use mk_lines::{
+    Span, after_first_unit, is_closed, split_first_unit, split_first_word, units, words,
+};
 use std::test::Fail;
 
 #[test]
@@ -77,5 +79,55 @@ fn units_and_words_are_taken_one_by_one(rt: HostRuntime) {
     assert_eq!(rt; words(text).nth(2), Some(Span { start: 4, end: 10 }));
     for unit in units(text) {
         assert!(rt; unit.start < unit.end);
+    }
+}
+
+#[test]
+fn the_first_unit_is_cut_off(rt: HostRuntime) {
+    for (text, want) in [
+        (b"".as_slice(), None),
+        (
+            b"$(a(b))x".as_slice(),
+            Some((b"$(a(b))".as_slice(), b"x".as_slice())),
+        ),
+        (
+            br"\$x".as_slice(),
+            Some((br"\".as_slice(), b"$x".as_slice())),
+        ),
+        (b" a".as_slice(), Some((b" ".as_slice(), b"a".as_slice()))),
+        (b"$(a".as_slice(), Some((b"$(a".as_slice(), b"".as_slice()))),
+    ] {
+        assert_eq!(rt; split_first_unit(text), want);
+    }
+}
+
+#[test]
+fn what_follows_the_first_unit_is_left(rt: HostRuntime) {
+    for (text, want) in [
+        (b"".as_slice(), b"".as_slice()),
+        (b"$(a(b))x".as_slice(), b"x".as_slice()),
+        (br"\$x".as_slice(), b"$x".as_slice()),
+        (br"\# a".as_slice(), b" a".as_slice()),
+        (b"$(a".as_slice(), b"".as_slice()),
+    ] {
+        assert_eq!(rt; after_first_unit(text), want);
+    }
+}
+
+#[test]
+fn the_first_word_is_cut_off(rt: HostRuntime) {
+    for (text, want) in [
+        (b"".as_slice(), None),
+        (b" \t".as_slice(), None),
+        (
+            b" a$(b c) d".as_slice(),
+            Some((b"a$(b c)".as_slice(), b" d".as_slice())),
+        ),
+        (
+            br"a\ b".as_slice(),
+            Some((br"a\ b".as_slice(), b"".as_slice())),
+        ),
+    ] {
+        assert_eq!(rt; split_first_word(text), want);
     }
 }

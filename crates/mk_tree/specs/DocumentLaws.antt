@@ -8,7 +8,8 @@ use Rattle.mk_class.specs.Classes.Class.{Endef, Body, Recipe, Opaque, Blank, Com
 use Rattle.mk_class.specs.Contexts.{Context, start, context_after}
 use Rattle.mk_class.specs.ClassTable.{class_of}
 use Rattle.mk_class.specs.ClassedLines.{ClassedLine, classed, classed_lines}
-use Rattle.mk_tree.specs.Documents.{text_of, IsFaithful, IsFaithfulTo}
+use Rattle.mk_tree.specs.PlacedLines.{PlacedLine, placed_lines, placed_text}
+use Rattle.mk_tree.specs.Documents.{text_of, document_lines, IsFaithful, IsFaithfulTo}
 use Rattle.mk_tree.specs.RecipeLines.{stays_in_rule, ends_rule, rule_lines}
 
 -- the text of lines is that of their bytes
@@ -20,12 +21,18 @@ text_of-classed c (l ∷ ls) = ap (λ z. l ++ z) (text_of-classed (context_after
 pub text_of-classed_lines : (t : List ℕ) → text_of (classed_lines t) ≡ t
 text_of-classed_lines t = text_of-classed start (logical_lines t) ∙ concat-logical_lines t
 
--- lines that are those of a text are those of their own text, which it is
-pub faithful-to : (ls : List ClassedLine) (t : List ℕ) → IsFaithfulTo ls t → text_of ls ≡ t
-faithful-to ls t h = ap text_of h ∙ text_of-classed_lines t
+-- the text of lines as a document shows them is theirs
+pub placed_text-placed_lines : (ls : List ClassedLine) → placed_text (placed_lines ls) ≡ text_of ls
+placed_text-placed_lines [] = refl
+placed_text-placed_lines (l ∷ ls) = ap (λ z. l.bytes ++ z) (placed_text-placed_lines ls)
 
-pub faithful-of : (ls : List ClassedLine) (t : List ℕ) → IsFaithfulTo ls t → IsFaithful ls
-faithful-of ls t h = h ∙ ap classed_lines (sym (faithful-to ls t h))
+-- the text of a document that is faithful to a text is that text
+pub faithful-text : (ls : List PlacedLine) (t : List ℕ) → IsFaithfulTo ls t → placed_text ls ≡ t
+faithful-text ls t h = ap placed_text h ∙ (placed_text-placed_lines (classed_lines t) ∙ text_of-classed_lines t)
+
+-- and it is faithful to its own text
+pub faithful-own : (ls : List PlacedLine) (t : List ℕ) → IsFaithfulTo ls t → IsFaithful ls
+faithful-own ls t h = h ∙ ap document_lines (sym (faithful-text ls t h))
 
 -- a line stays in a rule exactly where it does not end it
 stays-not_ends : (k : Class) → stays_in_rule k ≡ not (ends_rule k)

@@ -1,29 +1,22 @@
 -- What a document is: a list of lines, each its bytes and its class. It is faithful to a text where its lines are those of the
 -- text, each with its class in the context of those before it.
-use Rattle.std.specs.Prelude.{◌≡◌, ℕ, ◌<◌, max, List, [], ◌∷◌, ◌++◌, length, sum_by}
-use Rattle.mk_class.specs.Contexts.{Context, start, conditionals_after}
-use Rattle.mk_class.specs.ClassedLines.{ClassedLine, classed_lines, context_after_lines}
+use Rattle.std.specs.Prelude.{◌≡◌, ℕ, ◌<◌, max, List, [], ◌∷◌}
+use Rattle.mk_class.specs.Contexts.{conditionals_after}
+use Rattle.mk_class.specs.ClassedLines.{ClassedLine, classed_lines}
+pub use Rattle.mk_tree.specs.LineTexts.{text_of, context_of}
+use Rattle.mk_tree.specs.PlacedLines.{PlacedLine, placed_lines, placed_text}
 
--- the text of some lines: their bytes joined
-abbrev pub text_of : List ClassedLine → List ℕ
-text_of [] = []
-text_of (l ∷ ls) = l.bytes ++ text_of ls
-
--- how many bytes some lines have
-abbrev pub size_of : List ClassedLine → ℕ
-size_of ls = sum_by (λ l. length l.bytes) ls
+-- the lines of a text as a document shows them
+abbrev pub document_lines : List ℕ → List PlacedLine
+document_lines t = placed_lines (classed_lines t)
 
 -- the lines are those of a text
-abbrev pub IsFaithfulTo : List ClassedLine → List ℕ → Type 0
-IsFaithfulTo ls t = ls ≡ classed_lines t
+abbrev pub IsFaithfulTo : List PlacedLine → List ℕ → Type 0
+IsFaithfulTo ls t = ls ≡ document_lines t
 
 -- the lines are those of their own text
-abbrev pub IsFaithful : List ClassedLine → Type 0
-IsFaithful ls = IsFaithfulTo ls (text_of ls)
-
--- the context after some lines from the start of a text
-abbrev pub context_of : List ClassedLine → Context
-context_of ls = context_after_lines start ls
+abbrev pub IsFaithful : List PlacedLine → Type 0
+IsFaithful ls = IsFaithfulTo ls (placed_text ls)
 
 -- the most conditionals that are open before, between or after some lines, the first of which stands in `open` of them
 abbrev pub most_conditionals : (open_before : ℕ) → List ClassedLine → ℕ

@@ -9,11 +9,10 @@ use Rattle.mk_class.specs.Classes.{Class}
 use Rattle.mk_class.specs.Contexts.{Context, start, context_after}
 use Rattle.mk_class.specs.ClassTable.{class_of}
 use Rattle.mk_class.specs.ClassedLines.{ClassedLine, classed, classed_lines, context_after_lines}
-use Rattle.mk_tree.specs.Documents.{text_of, context_of}
+use Rattle.mk_tree.specs.LineTexts.{text_of, context_of, bytes_of}
 use Rattle.mk_tree.specs.Items.{items}
 use Rattle.mk_tree.specs.Readings.{reading}
-use Rattle.mk_tree.specs.DocumentLaws.{text_of-classed_lines}
-use Rattle.mk_tree.specs.LinePlaces.{bytes_of, bytes_of-classed, text_of-bytes, AreClassed, AreClassed-cons, AreClassed-class, AreClassed-tail, AreClassed-classed}
+use Rattle.mk_tree.specs.LinePlaces.{text_of-classed_lines, bytes_of-classed, text_of-bytes, AreClassed, AreClassed-cons, AreClassed-class, AreClassed-tail, AreClassed-classed}
 use Rattle.mk_tree.specs.RunsReplaced.{Ends-append, Ends-nothing, run-replaced_same}
 use Rattle.mk_tree.specs.SpansInLines.{after_pieces, BeginWithPieces, line_replacements, replaced_text, text-all_lines_replaced}
 

@@ -10,7 +10,7 @@ use Rattle.mk_class.specs.ClassedLines.{ClassedLine, classed, classed_lines, con
 use Rattle.mk_class.specs.FlagLaws.{classed-flag, classed-append, flag_after-set, flag_after-left}
 use Rattle.mk_class.specs.declared.context.Flag.{Flag}
 use Rattle.mk_class.specs.declared.context.Flag.TheVariants.{Off, Rule, Unknown}
-use Rattle.mk_tree.specs.Documents.{context_of}
+use Rattle.mk_tree.specs.LineTexts.{context_of}
 use Rattle.mk_tree.specs.Leaning.{is_same_flag, leans, AgreeButForFlag}
 
 -- ---- flags

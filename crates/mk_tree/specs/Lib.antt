@@ -1,6 +1,8 @@
 pub mod Items
 pub mod Readings
 pub mod RecipeLines
+pub mod LineTexts
+pub mod PlacedLines
 pub mod Documents
 pub mod DocumentLaws
 pub mod LinePlaces
@@ -13,4 +15,12 @@ pub mod SpansInLines
 pub mod EachReplaced
 pub mod ConditionalLaws
 pub mod RecipeRunLaws
+pub mod ChangeLaws
 pub mod Laws
+pub mod Contents
+pub mod Trees
+pub mod Walks
+pub mod Printing
+pub mod Admissions
+pub mod Faults
+pub mod Parsing

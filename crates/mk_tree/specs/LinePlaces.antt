@@ -3,23 +3,18 @@ use Rattle.std.proofs.Common.{◌≡◌, refl, sym, ap, ◌∙◌, subst, ℕ, L
 use Rattle.std.proofs.lemmas.List.{append-nil}
 use Rattle.mk_lines.specs.Lists.{concat}
 use Rattle.mk_lines.specs.LogicalLines.{logical_lines}
-use Rattle.mk_lines.specs.LineLaws.{OneLine, Ends, EndsBefore, Among, among}
+use Rattle.mk_lines.specs.LineLaws.{concat-logical_lines, OneLine, Ends, EndsBefore, Among, among}
 use Rattle.mk_class.specs.Classes.{Class}
 use Rattle.mk_class.specs.Contexts.{Context, start, context_after}
 use Rattle.mk_class.specs.ClassTable.{class_of}
 use Rattle.mk_class.specs.ClassedLines.{ClassedLine, classed, classed_lines, context_after_lines}
 use Rattle.mk_class.specs.FlagLaws.{context_after_lines-append}
-use Rattle.mk_tree.specs.Documents.{text_of, context_of}
+use Rattle.mk_tree.specs.LineTexts.{text_of, context_of}
+pub use Rattle.mk_tree.specs.LineTexts.{bytes_of}
 use Rattle.mk_tree.specs.Items.{items, items_of_line}
 use Rattle.mk_tree.specs.Readings.{reading}
-use Rattle.mk_tree.specs.DocumentLaws.{text_of-classed_lines}
 
 -- ---- lines and their bytes
-
--- the bytes of each line
-abbrev pub bytes_of : List ClassedLine → List (List ℕ)
-bytes_of [] = []
-bytes_of (l ∷ ls) = l.bytes ∷ bytes_of ls
 
 -- a line with the class that it has in a context
 abbrev pub line_in : Context → List ℕ → ClassedLine
@@ -38,6 +33,10 @@ bytes_of-classed c (l ∷ ls) = ap (λ z. l ∷ z) (bytes_of-classed (context_af
 pub text_of-bytes : (ls : List ClassedLine) → text_of ls ≡ concat (bytes_of ls)
 text_of-bytes [] = refl
 text_of-bytes (l ∷ ls) = ap (λ z. l.bytes ++ z) (text_of-bytes ls)
+
+-- so the text of a text's lines is that text
+pub text_of-classed_lines : (t : List ℕ) → text_of (classed_lines t) ≡ t
+text_of-classed_lines t = text_of-bytes (classed_lines t) ∙ (ap concat (bytes_of-classed start (logical_lines t)) ∙ concat-logical_lines t)
 
 pub text_of-append : (a b : List ClassedLine) → text_of (a ++ b) ≡ text_of a ++ text_of b
 text_of-append [] b = refl

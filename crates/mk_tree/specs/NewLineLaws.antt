@@ -24,7 +24,7 @@ use Rattle.mk_class.specs.RecipePrefix.{is_prefix_led}
 use Rattle.mk_class.specs.Contexts.{Context, context_after, flag_after}
 use Rattle.mk_class.specs.ClassTable.{class_of, class_at}
 use Rattle.mk_class.specs.ClassedLines.{ClassedLine, classed_lines}
-use Rattle.mk_tree.specs.Documents.{text_of, context_of}
+use Rattle.mk_tree.specs.LineTexts.{text_of, context_of}
 use Rattle.mk_tree.specs.Items.{items, items_of_line}
 use Rattle.mk_tree.specs.Readings.{reading}
 use Rattle.mk_tree.specs.Leaning.{AgreeButForFlag, leans}

@@ -15,10 +15,10 @@ use Rattle.mk_class.specs.Contexts.{Context, start, context_after, flag_after}
 use Rattle.mk_class.specs.ClassTable.{class_of}
 use Rattle.mk_class.specs.ClassedLines.{ClassedLine, classed, classed_lines, context_after_lines}
 use Rattle.mk_class.specs.FlagLaws.{classed-append}
-use Rattle.mk_tree.specs.Documents.{text_of, context_of}
+use Rattle.mk_tree.specs.LineTexts.{text_of, context_of, bytes_of}
 use Rattle.mk_tree.specs.Items.{items, items_of_line}
 use Rattle.mk_tree.specs.Readings.{reading}
-use Rattle.mk_tree.specs.LinePlaces.{reading-two, reading-line, bytes_of, bytes_of-append, text_of-bytes, context_of-append, RunPlace, located-run}
+use Rattle.mk_tree.specs.LinePlaces.{reading-two, reading-line, bytes_of-append, text_of-bytes, context_of-append, RunPlace, located-run}
 use Rattle.mk_tree.specs.Leaning.{AgreeButForFlag, leans}
 use Rattle.mk_tree.specs.LeaningLaws.{agrees-back, agrees-same, leans-back, leans-same, classed-unless_leans}
 

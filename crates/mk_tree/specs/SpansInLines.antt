@@ -7,7 +7,7 @@ use Rattle.mk_lines.specs.CellLaws.{raw_text-bytes}
 use Rattle.mk_lines.specs.Pieces.{Replacement, replaced, Piece, Keep, Replace, old_bytes, new_bytes, replacements}
 use Rattle.mk_lines.specs.PieceLaws.{replaced-one, replaced-pieces, old_bytes-append, new_bytes-append}
 use Rattle.mk_class.specs.ClassedLines.{ClassedLine, classed_lines}
-use Rattle.mk_tree.specs.Documents.{text_of}
+use Rattle.mk_tree.specs.LineTexts.{text_of}
 use Rattle.mk_tree.specs.LinePlaces.{located}
 
 -- ---- one span inside a line

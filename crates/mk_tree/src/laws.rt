@@ -1,6 +1,7 @@
 //! Laws of documents: each contract is a theorem on the definitions that the calls of this crate
 //! are specified by. The functions do nothing.
-ghost use Rattle.mk_tree.specs.Laws.{ContextsBelowAgree, LinesAreReplacedEach, LinesAreTheText, LinesBelowKeepTheirClasses, NewLinesStand, RulesEndByFlag, RunsAreReplaced, SpansStayInLines};
+ghost use Rattle.mk_tree.specs.ChangeLaws.{ContextsBelowAgree, LinesAreReplacedEach, LinesBelowKeepTheirClasses, NewLinesStand, RunsAreReplaced, SpansStayInLines};
+ghost use Rattle.mk_tree.specs.Laws.{LinesAreTheText, RulesEndByFlag};
 
 /// The lines of a text, joined, are the text.
 pub fn lines_are_the_text()

@@ -1,6 +1,23 @@
 //! The document: a makefile as the list of its lines, each with its bytes and its class.
 //!
+//! - [`document`]: the document, and the calls that change its lines.
+//! - [`parse`]: a text as a document.
+//! - [`iter`]: the lines of a document in order.
+//! - [`tree`]: the balanced tree that the lines stand in, and a line by itself.
 //! - [`laws`]: theorems on the definitions of documents.
 #![tactic(auto)]
 
+mod build;
+mod content;
+mod contexts;
+pub mod document;
+pub mod iter;
 pub mod laws;
+pub mod parse;
+mod print;
+mod read;
+pub mod tree;
+
+pub use document::Doc;
+pub use iter::Lines;
+pub use tree::Line;

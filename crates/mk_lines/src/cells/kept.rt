@@ -3,18 +3,23 @@
 //! A line without folds is its own joined text, and each of its raw places is the joined one, so
 //! nothing is kept of it but flags. Of a line with folds the joined text is kept, and where each
 //! fold ends: a raw place is told by the nearest fold before it.
-ghost use Rattle.std.specs.Prelude.{◌≡◌, ◌≤◌, ℕ, List, length, true, false, nat_lt};
+ghost use Rattle.std.specs.Prelude.{◌≡◌, ◌≢◌, ◌==◌, ◌≤◌, ℕ, List, drop, length, true, false, nat_lt, All, IfOk, IsOkUnless};
+ghost use Rattle.std.specs.List.{list_any};
 ghost use Rattle.std.specs.List.Sorted.{IsNonDecreasingBy, IsPartitionPoint};
-ghost use Rattle.mk_lines.specs.Cells.{joined_text, line_cells};
-ghost use Rattle.mk_lines.specs.CellFaults.{has_bad_fold, has_stray};
-ghost use Rattle.mk_lines.specs.KeptCells.{AreCellsOf, kept_place};
+ghost use Rattle.mk_lines.specs.Bytes.{byte_kind};
+ghost use Rattle.mk_lines.specs.Cells.{cells, joined_text, line_cells};
+ghost use Rattle.mk_lines.specs.CellFaults.{has_bad_fold, has_stray, is_stray_by};
+ghost use Rattle.mk_lines.specs.KeptCells.{AreCellsOf, AreInOrder, fold_ends, kept_cells, kept_place, place_by_ends};
 ghost use Rattle.mk_lines.specs.Ranges.{raw_range};
 ghost use Rattle.mk_lines.specs.declared.cells.kept.FoldEnd.{FoldEnd};
 
 use crate::ends::without_line_end;
+use crate::fault::Fault;
 use crate::split::Span;
-use std::alloc::Allocator;
+use memchr::memchr3;
+use std::alloc::{Allocator, Global};
 use std::marker::Model;
+use std::mem::size_of;
 
 /// Where a fold ends. A line end that no backslash escapes, of which one logical line has none,
 /// counts as a fold.
@@ -31,12 +36,31 @@ pub struct FoldEnd {
 /// They are kept beside their line and do not hold it: a second copy of each line would double the
 /// memory of a document. So [`text`](Cells::text) is given the line again. None of the readers
 /// takes memory.
-#[derive(Drop)]
+#[derive(Debug, Drop)]
 pub struct Cells<A: Allocator> {
     /// How many cells there are, which is how many bytes the joined text has.
-    pub(super) count: usize,
-    /// The joined text of a line with folds, else nothing.
+    count: usize,
+    rest: Rest<A>,
+}
+
+// A document keeps one of each of its lines.
+const _: () = prove!(size_of::<Cells<Global>>() == 24);
+
+/// What is kept beside the count: a few bytes of most lines.
+#[derive(Debug, Drop)]
+pub(super) enum Rest<A: Allocator> {
+    /// Of a line without folds, whether it has a stray byte.
+    Plain(bool),
+    Folded(Box<Folded<A>, A>),
+}
+
+/// What is kept of a line with folds.
+#[derive(Debug, Drop)]
+pub(super) struct Folded<A: Allocator> {
+    /// The joined text stands at its end: what is before it means nothing.
     pub(super) joined: Vec<u8, A>,
+    /// Where the joined text begins.
+    pub(super) first: usize,
     /// The ends of the folds, the last fold first.
     pub(super) ends: Vec<FoldEnd, A>,
     pub(super) bad_fold: bool,
@@ -44,16 +68,45 @@ pub struct Cells<A: Allocator> {
 }
 
 impl<A: Allocator> Model for Cells<A> {
-    ghost use Rattle.mk_lines.specs.KeptCells.{KeptCells, AreInOrder};
+    ghost use Rattle.mk_lines.specs.KeptCells.{KeptCells, AreInOrder, ends_kept, joined_kept, has_bad_fold_kept, has_stray_kept, HasFoldsKept};
 
     ghost Value = { KeptCells };
 
-    ghost view = { λ c. record { count = c.count; joined = c.joined.items; ends = c.ends.items; bad_fold = c.bad_fold; stray = c.stray } };
+    ghost view = { λ c. record { count = c.count; joined = joined_kept c.rest; ends = ends_kept c.rest; bad_fold = has_bad_fold_kept c.rest; stray = has_stray_kept c.rest } };
 
-    ghost invariant = { λ c. AreInOrder c.ends.items };
+    ghost invariant = { λ c. AreInOrder (ends_kept c.rest) × HasFoldsKept c.rest };
 }
 
 impl<A: Allocator> Cells<A> {
+    // Of a text without a line feed: each byte stands for itself.
+    pub(super) fn plain(text: &[u8], stray: bool) -> Cells<A>
+        requires no_line_feed { All (λ b. b ≢ 10) text.now }
+        requires stray { stray ≡ list_any (λ b. is_stray_by (byte_kind b) (b == 0)) text.now }
+        ensures { result ≡ kept_cells (cells text.now) }
+    {
+        Cells {
+            count: text.len(),
+            rest: Rest::Plain(stray),
+        }
+    }
+
+    // Of a text with a line feed.
+    pub(super) fn folded(alloc: A, text: &[u8], folded: Folded<A>) -> Result<Cells<A>, Fault>
+        requires some { All (λ b. b ≢ 10) text.now → ⊥ }
+        requires first { folded.first ≤ length folded.joined.items }
+        requires joined { drop folded.first folded.joined.items ≡ joined_text (cells text.now) }
+        requires ends { folded.ends.items ≡ fold_ends 0 (cells text.now) }
+        requires bad_fold { folded.bad_fold ≡ has_bad_fold (cells text.now) }
+        requires stray { folded.stray ≡ list_any (λ b. is_stray_by (byte_kind b) (b == 0)) (drop folded.first folded.joined.items) }
+        ensures cells { IfOk result (λ kept. kept ≡ kept_cells (cells text.now)) }
+        ensures fault { IsOkUnless result Fault.NoMemory }
+    {
+        Ok(Cells {
+            count: folded.joined.len() - folded.first,
+            rest: Rest::Folded(Box::new(alloc, folded)?),
+        })
+    }
+
     /// The joined text: the line without its line end, with each fold made one space.
     ///
     /// `line` is the line that these are the cells of. Without folds the answer is a part of it,
@@ -63,10 +116,9 @@ impl<A: Allocator> Cells<A> {
         ensures text { result.now ≡ joined_text (line_cells line.now) }
         ensures length { length result.now ≡ self.now.count }
     {
-        if self.ends.is_empty() {
-            without_line_end(line)
-        } else {
-            &self.joined
+        match &self.rest {
+            Rest::Plain(_) => without_line_end(line),
+            Rest::Folded(folded) => &folded.joined[folded.first..],
         }
     }
 
@@ -89,11 +141,9 @@ impl<A: Allocator> Cells<A> {
         requires { place ≤ self.now.count }
         ensures { result ≡ kept_place self.now place }
     {
-        let after = self.count - place;
-        let behind = count_folds_behind(&self.ends, after);
-        match self.ends.get(behind) {
-            Some(end) => end.raw_end + (end.after - after),
-            None => place,
+        match &self.rest {
+            Rest::Plain(_) => place,
+            Rest::Folded(folded) => place_by_ends(&folded.ends, self.count - place, place),
         }
     }
 
@@ -102,7 +152,10 @@ impl<A: Allocator> Cells<A> {
     pub fn has_bad_fold(&self) -> bool
         ensures { (line : List ℕ) → AreCellsOf self.now line → result ≡ has_bad_fold (line_cells line) }
     {
-        self.bad_fold
+        match &self.rest {
+            Rest::Plain(_) => false,
+            Rest::Folded(folded) => folded.bad_fold,
+        }
     }
 
     /// Whether there is a stray byte: a NUL, or a CR that is no part of a line end. This project's
@@ -110,7 +163,22 @@ impl<A: Allocator> Cells<A> {
     pub fn has_stray(&self) -> bool
         ensures { (line : List ℕ) → AreCellsOf self.now line → result ≡ has_stray (line_cells line) }
     {
-        self.stray
+        match &self.rest {
+            Rest::Plain(stray) => *stray,
+            Rest::Folded(folded) => folded.stray,
+        }
+    }
+}
+
+// The raw place of a joined one, behind which so many joined bytes stand: the nearest fold before it
+// tells it.
+fn place_by_ends(ends: &[FoldEnd], after: usize, place: usize) -> usize
+    requires { AreInOrder ends.now }
+    ensures { result ≡ place_by_ends ends.now after place }
+{
+    match ends.get(count_folds_behind(ends, after)) {
+        Some(end) => end.raw_end + (end.after - after),
+        None => place,
     }
 }
 
@@ -120,4 +188,11 @@ fn count_folds_behind(ends: &[FoldEnd], after: usize) -> usize
     ensures { IsPartitionPoint (λ (e : FoldEnd). nat_lt e.after after ≡ true) (λ (e : FoldEnd). nat_lt e.after after ≡ false) ends.now result }
 {
     ends.partition_point(|end| end.after < after)
+}
+
+// Whether a joined text has a stray byte.
+pub(super) fn has_stray_byte(joined: &[u8]) -> bool
+    ensures { result ≡ list_any (λ b. is_stray_by (byte_kind b) (b == 0)) joined.now }
+{
+    memchr3(b'\0', b'\n', b'\r', joined).is_some()
 }

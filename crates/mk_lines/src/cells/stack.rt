@@ -3,7 +3,7 @@
 //! Cells are defined from the end: a line feed takes the blanks and folds after it, a carriage
 //! return and then a backslash directly before it join it, and a blank joins a fold directly after
 //! it. So one pass backwards over a stack makes them, whose top is the first cell so far.
-ghost use Rattle.std.specs.Prelude.{◌≡◌, ◌≢◌, ◌==◌, ◌||◌, ◌+◌, ◌<◌, ℕ, List, [], ◌∷◌, ◌++◌, length, drop, OnOk, IfOk, IsOkUnless};
+ghost use Rattle.std.specs.Prelude.{◌≡◌, ◌≢◌, ◌==◌, ◌||◌, ◌+◌, ◌-◌, ◌≤◌, ◌<◌, ℕ, List, [], ◌∷◌, ◌++◌, length, drop, slice_index, OnOk, IfOk, IsOkUnless};
 ghost use Rattle.std.specs.List.{prefix_len};
 ghost use Rattle.mk_lines.specs.Bytes.{LineFeed, CarriageReturn, Backslash, Blank, byte_kind};
 ghost use Rattle.mk_lines.specs.Cells.{Cell, cells, prepend};
@@ -11,6 +11,7 @@ ghost use Rattle.mk_lines.specs.CellStack.{stack_of};
 
 use super::kept::FoldEnd;
 use crate::fault::Fault;
+use memchr::memrchr;
 use std::alloc::Allocator;
 use std::marker::Model;
 
@@ -27,11 +28,13 @@ pub enum Top {
     CrLf,
 }
 
-/// The cells of the bytes that were read, the last cell first.
+/// The cells of the bytes that were read.
 #[derive(Drop)]
 pub struct Stack<A: Allocator> {
-    /// The joined bytes, the last first.
+    /// The joined bytes stand at its end, behind room for those of the bytes not read yet.
     pub joined: Vec<u8, A>,
+    /// Where the joined bytes begin.
+    pub first: usize,
     /// The ends of the folds, the last first.
     pub ends: Vec<FoldEnd, A>,
     /// What the first cell is.
@@ -41,64 +44,133 @@ pub struct Stack<A: Allocator> {
 }
 
 impl<A: Allocator> Model for Stack<A> {
-    ghost use Rattle.mk_lines.specs.CellStack.{CellStack};
+    ghost use Rattle.std.specs.Prelude.{◌≤◌, drop, length};
+    ghost use Rattle.mk_lines.specs.CellStack.{StackWithRoom};
 
-    ghost Value = { CellStack };
+    ghost Value = { StackWithRoom };
 
-    ghost view = { λ s. record { joined = s.joined.items; ends = s.ends.items; top = s.top; bad_fold = s.bad_fold } };
+    ghost view = { λ s. record { stack = record { joined = drop s.first s.joined.items; ends = s.ends.items; top = s.top; bad_fold = s.bad_fold }; room = s.first } };
+
+    ghost invariant = { λ s. s.first ≤ length s.joined.items };
 }
 
-/// Reads a text from its last byte to its first. Only the blanks after a line feed are looked at
-/// twice.
+/// Reads a text from its last byte to its first: at a fold byte by byte, and else the bytes back to
+/// a line feed together. The bytes up to `feed` are known to be no line feeds.
 ///
 /// # Errors
 ///
 /// [`Fault::NoMemory`] where a list could not grow.
-pub fn stack_of_text<A: Allocator + Copy>(alloc: A, text: &[u8]) -> Result<Stack<A>, Fault>
-    ensures stack { IfOk result (λ stack. stack ≡ stack_of 0 (cells text.now)) }
+pub fn stack_of_text<A: Allocator + Copy>(
+    alloc: A,
+    text: &[u8],
+    feed: usize,
+) -> Result<Stack<A>, Fault>
+    requires { (k : ℕ) → k < feed → slice_index text.now k ≢ 10 }
+    ensures stack { IfOk result (λ stack. stack.stack ≡ stack_of 0 (cells text.now)) }
     ensures fault { IsOkUnless result Fault.NoMemory }
 {
     let mut stack = Stack {
-        joined: Vec::with_capacity(alloc, text.len())?,
+        joined: vec![in alloc; 0; text.len()]?,
+        first: text.len(),
         ends: Vec::new(alloc),
         top: Top::Byte,
         bad_fold: false,
     };
     let mut place = text.len();
     while place > 0 {
-        place -= 1;
-        stack.prepend(text, place)?;
+        place = stack.prepend_some(text, place, feed)?;
     }
     Ok(stack)
 }
 
+// Where the bytes before a place begin that are no line feeds, as those up to `feed` are known to be.
+fn run_start(text: &[u8], place: usize, feed: usize) -> usize
+    requires some { 0 < place }
+    requires place { place ≤ length text.now }
+    requires last { slice_index text.now (place - 1) ≢ 10 }
+    requires before { (k : ℕ) → k < feed → slice_index text.now k ≢ 10 }
+    ensures some { result < place }
+    ensures run { (k : ℕ) → result ≤ k → k < place → slice_index text.now k ≢ 10 }
+{
+    if place <= feed {
+        return 0;
+    }
+    match memrchr(b'\n', &text[..place]) {
+        Some(at) => at + 1,
+        None => 0,
+    }
+}
+
 impl<A: Allocator> Stack<A> {
+    // Reads one byte or more before a place, and says where they begin. Before a byte that stands
+    // for itself all do, back to a line feed.
+    fn prepend_some(&mut self, text: &[u8], place: usize, feed: usize) -> Result<usize, Fault>
+        requires before { (k : ℕ) → k < feed → slice_index text.now k ≢ 10 }
+        requires some { 0 < place }
+        requires place { place ≤ length text.now }
+        requires stack { self.old.stack ≡ stack_of place (cells (drop place text.now)) }
+        requires room { place ≤ self.old.room }
+        ensures some { IfOk result (λ start. start < place) }
+        ensures room { IfOk result (λ start. start ≤ self.new.room) }
+        ensures stack { IfOk result (λ start. self.new.stack ≡ stack_of start (cells (drop start text.now))) }
+        ensures fault { IsOkUnless result Fault.NoMemory }
+    {
+        if self.top == Top::Byte && text[place - 1] != b'\n' {
+            let start = run_start(text, place, feed);
+            self.push_run(&text[start..place]);
+            Ok(start)
+        } else {
+            self.prepend(text, place - 1)?;
+            Ok(place - 1)
+        }
+    }
+
+    // Bytes that stand for themselves.
+    fn push_run(&mut self, run: &[u8])
+        requires { length run.now ≤ self.old.room }
+        ensures stack { self.new.stack ≡ record self.old.stack { joined = run.now ++ self.old.stack.joined; top = Top.Byte } }
+        ensures room { self.new.room + length run.now ≡ self.old.room }
+    {
+        let first = self.first - run.len();
+        self.joined[first..self.first].copy_from_slice(run);
+        self.first = first;
+        self.top = Top::Byte;
+    }
+
     // Reads the byte before those that were read.
     fn prepend(&mut self, text: &[u8], place: usize) -> Result<(), Fault>
         requires place { place < length text.now }
-        requires stack { self.old ≡ stack_of (place + 1) (cells (drop (place + 1) text.now)) }
-        ensures stack { OnOk result (self.new ≡ stack_of place (cells (drop place text.now))) }
+        requires room { place < self.old.room }
+        requires stack { self.old.stack ≡ stack_of (place + 1) (cells (drop (place + 1) text.now)) }
+        ensures room { OnOk result (place ≤ self.new.room) }
+        ensures stack { OnOk result (self.new.stack ≡ stack_of place (cells (drop place text.now))) }
         ensures fault { IsOkUnless result Fault.NoMemory }
     {
         match text[place] {
-            b'\n' => self.push_line_feed(text, place),
+            b'\n' => return self.push_line_feed(text, place),
             b'\r' => self.push_carriage_return(),
             b'\\' => self.push_backslash(),
             b' ' => self.push_blank(b' '),
             b'\t' => self.push_blank(b'\t'),
             byte => self.push_byte(byte),
         }
+        Ok(())
     }
 
     // A line feed takes the blanks and folds after it: a fold that is there, or blanks alone.
     fn push_line_feed(&mut self, text: &[u8], place: usize) -> Result<(), Fault>
         requires place { place < length text.now }
-        requires stack { self.old ≡ stack_of (place + 1) (cells (drop (place + 1) text.now)) }
-        ensures stack { OnOk result (self.new ≡ stack_of place (prepend LineFeed 10 (cells (drop (place + 1) text.now)))) }
+        requires room { place < self.old.room }
+        requires stack { self.old.stack ≡ stack_of (place + 1) (cells (drop (place + 1) text.now)) }
+        ensures room { OnOk result (place ≤ self.new.room) }
+        ensures stack { OnOk result (self.new.stack ≡ stack_of place (prepend LineFeed 10 (cells (drop (place + 1) text.now)))) }
         ensures fault { IsOkUnless result Fault.NoMemory }
     {
         match self.top {
-            Top::Fold => self.replace_top(b'\n', Top::Lf),
+            Top::Fold => {
+                self.replace_top(b'\n', Top::Lf);
+                Ok(())
+            }
             _ => self.push_line_end(text, place),
         }
     }
@@ -106,40 +178,42 @@ impl<A: Allocator> Stack<A> {
     // A line feed that has no fold directly after it takes blanks alone.
     fn push_line_end(&mut self, text: &[u8], place: usize) -> Result<(), Fault>
         requires place { place < length text.now }
-        requires stack { self.old ≡ stack_of (place + 1) (cells (drop (place + 1) text.now)) }
-        requires no_fold { self.old.top ≢ Top.Fold }
-        ensures stack { OnOk result (self.new ≡ stack_of place (prepend LineFeed 10 (cells (drop (place + 1) text.now)))) }
+        requires room { place < self.old.room }
+        requires stack { self.old.stack ≡ stack_of (place + 1) (cells (drop (place + 1) text.now)) }
+        requires no_fold { self.old.stack.top ≢ Top.Fold }
+        ensures room { OnOk result (place ≤ self.new.room) }
+        ensures stack { OnOk result (self.new.stack ≡ stack_of place (prepend LineFeed 10 (cells (drop (place + 1) text.now)))) }
         ensures fault { IsOkUnless result Fault.NoMemory }
     {
         let blanks = count_blanks(&text[place + 1..]);
-        self.joined.truncate(self.joined.len() - blanks);
+        self.first += blanks;
         self.ends.push(FoldEnd {
-            after: self.joined.len(),
+            after: self.joined.len() - self.first,
             raw_end: place + 1 + blanks,
         })?;
-        self.joined.push(b'\n')?;
+        self.push_byte(b'\n');
         self.top = Top::Lf;
         Ok(())
     }
 
     // A carriage return joins a line feed directly after it.
-    fn push_carriage_return(&mut self) -> Result<(), Fault>
-        ensures stack { OnOk result ((place : ℕ) (cs : List Cell) → self.old ≡ stack_of (place + 1) cs → self.new ≡ stack_of place (prepend CarriageReturn 13 cs)) }
-        ensures fault { IsOkUnless result Fault.NoMemory }
+    fn push_carriage_return(&mut self)
+        requires { 0 < self.old.room }
+        ensures stack { (place : ℕ) (cs : List Cell) → self.old.stack ≡ stack_of (place + 1) cs → self.new.stack ≡ stack_of place (prepend CarriageReturn 13 cs) }
+        ensures room { self.old.room ≤ self.new.room + 1 }
     {
         match self.top {
-            Top::Lf => {
-                self.top = Top::CrLf;
-                Ok(())
-            }
+            Top::Lf => self.top = Top::CrLf,
             Top::Byte | Top::Fold | Top::CrLf => self.push_byte(b'\r'),
         }
     }
 
     // A backslash makes a fold of a line end directly after it, and a fold directly after it bad.
-    fn push_backslash(&mut self) -> Result<(), Fault>
-        ensures stack { OnOk result ((place : ℕ) (cs : List Cell) → self.old ≡ stack_of (place + 1) cs → self.new ≡ stack_of place (prepend Backslash 92 cs)) }
-        ensures fault { IsOkUnless result Fault.NoMemory }
+    fn push_backslash(&mut self)
+        requires room { 0 < self.old.room }
+        requires some { self.old.stack.top ≢ Top.Byte → 0 < length self.old.stack.joined }
+        ensures stack { (place : ℕ) (cs : List Cell) → self.old.stack ≡ stack_of (place + 1) cs → self.new.stack ≡ stack_of place (prepend Backslash 92 cs) }
+        ensures room { self.old.room ≤ self.new.room + 1 }
     {
         match self.top {
             Top::Lf | Top::CrLf => self.replace_top(b' ', Top::Fold),
@@ -152,36 +226,37 @@ impl<A: Allocator> Stack<A> {
     }
 
     // A blank joins a fold directly after it.
-    fn push_blank(&mut self, blank: u8) -> Result<(), Fault>
-        requires { byte_kind blank ≡ Blank }
-        ensures stack { OnOk result ((place : ℕ) (cs : List Cell) → self.old ≡ stack_of (place + 1) cs → self.new ≡ stack_of place (prepend Blank blank cs)) }
-        ensures fault { IsOkUnless result Fault.NoMemory }
+    fn push_blank(&mut self, blank: u8)
+        requires blank { byte_kind blank ≡ Blank }
+        requires room { 0 < self.old.room }
+        ensures stack { (place : ℕ) (cs : List Cell) → self.old.stack ≡ stack_of (place + 1) cs → self.new.stack ≡ stack_of place (prepend Blank blank cs) }
+        ensures room { self.old.room ≤ self.new.room + 1 }
     {
         match self.top {
-            Top::Fold => Ok(()),
+            Top::Fold => {}
             Top::Byte | Top::Lf | Top::CrLf => self.push_byte(blank),
         }
     }
 
     // A byte that stands for itself.
-    fn push_byte(&mut self, byte: u8) -> Result<(), Fault>
-        ensures stack { OnOk result (self.new ≡ record self.old { joined = self.old.joined ++ byte ∷ []; top = Top.Byte }) }
-        ensures fault { IsOkUnless result Fault.NoMemory }
+    fn push_byte(&mut self, byte: u8)
+        requires { 0 < self.old.room }
+        ensures stack { self.new.stack ≡ record self.old.stack { joined = byte ∷ self.old.stack.joined; top = Top.Byte } }
+        ensures room { self.new.room + 1 ≡ self.old.room }
     {
-        self.joined.push(byte)?;
+        self.first -= 1;
+        self.joined[self.first] = byte;
         self.top = Top::Byte;
-        Ok(())
     }
 
     // The first cell becomes another.
-    fn replace_top(&mut self, byte: u8, top: Top) -> Result<(), Fault>
-        ensures stack { OnOk result ((before : List ℕ) (last : ℕ) → self.old.joined ≡ before ++ last ∷ [] → self.new ≡ record self.old { joined = before ++ byte ∷ []; top = top }) }
-        ensures fault { IsOkUnless result Fault.NoMemory }
+    fn replace_top(&mut self, byte: u8, top: Top)
+        requires { 0 < length self.old.stack.joined }
+        ensures stack { (before : List ℕ) (last : ℕ) → self.old.stack.joined ≡ last ∷ before → self.new.stack ≡ record self.old.stack { joined = byte ∷ before; top = top } }
+        ensures room { self.new.room ≡ self.old.room }
     {
-        self.joined.pop();
-        self.joined.push(byte)?;
+        self.joined[self.first] = byte;
         self.top = top;
-        Ok(())
     }
 }
 

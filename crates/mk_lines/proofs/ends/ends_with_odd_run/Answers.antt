@@ -1,4 +1,4 @@
-use Rattle.std.proofs.Common.{◌≡◌, sym, ap, ◌∙◌}
+use Rattle.std.proofs.Common.{sym, ap, ◌∙◌}
 use Rattle.std.specs.Prelude.{◌%◌, ◌==◌, reverse}
 use Rattle.mk_lines.proofs.SplitLemmas.{odd-run}
 use Rattle.mk_lines.proofs.ends.ends_with_odd_run.Goals as goal

@@ -1,5 +1,5 @@
 -- What came is in `text`, and the source has the rest.
-use Rattle.std.proofs.Common.{◌≡◌, ◌≤◌, ◌-◌, ◌+◌, length, vec_len, false}
+use Rattle.std.proofs.Common.{◌≡◌, ◌≤◌, ◌-◌, vec_len, false}
 use Rattle.std.specs.Io.KnownBytes.{Consumes}
 use Rattle.mk_lines.proofs.source.read_all.Given as goal
 

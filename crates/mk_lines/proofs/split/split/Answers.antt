@@ -1,5 +1,5 @@
-use Rattle.std.proofs.Common.{◌≡◌, ◌<◌, ◌+◌, ◌-◌, refl, length, List, ℕ, [], ◌∷◌, false, true, ap, sym, subst, inl, inr, arith, rules, length-append}
-use Rattle.std.specs.Prelude.{◌⊎◌, ◌==◌}
+use Rattle.std.proofs.Common.{◌≡◌, ◌<◌, ◌-◌, refl, length, List, ℕ, [], ◌∷◌, false, true, ap, sym, subst, inl, inr, arith, rules, length-append}
+use Rattle.std.specs.Prelude.{◌⊎◌}
 use Rattle.mk_lines.specs.LogicalLines.{is_continued}
 use Rattle.mk_lines.specs.RangeLaws.{line_ranges-tiles}
 use Rattle.mk_lines.specs.Ranges.{line_ranges}

@@ -2,9 +2,9 @@ use Rattle.std.proofs.Common.{◌≡◌, refl, subst, ◌++◌, false}
 use Rattle.mk_lines.specs.LogicalLines.{logical_lines}
 use Rattle.mk_class.specs.Contexts.{Context}
 use Rattle.mk_class.specs.ClassedLines.{classed, context_after_lines}
-use Rattle.mk_tree.specs.Documents.{text_of, context_of}
+use Rattle.mk_tree.specs.LineTexts.{text_of, context_of, bytes_of}
 use Rattle.mk_tree.specs.Leaning.{AgreeButForFlag, leans}
-use Rattle.mk_tree.specs.LinePlaces.{bytes_of, context_of-append, reading-three}
+use Rattle.mk_tree.specs.LinePlaces.{context_of-append, reading-three}
 use Rattle.mk_tree.specs.RunsReplaced.{EndsBefore-followed, run-replaced_keeping}
 use Rattle.mk_tree.proofs.laws.runs_are_replaced.Goals as goal
 

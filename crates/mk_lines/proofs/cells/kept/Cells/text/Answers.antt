@@ -1,17 +1,46 @@
-use Rattle.std.proofs.Common.{◌≡◌, ◌∙◌, ap, sym}
-use Rattle.std.specs.Prelude.{length, vec_len}
-use Rattle.std.proofs.lemmas.Bool.Decides.{Decides-eqb}
-use Rattle.mk_lines.proofs.KeptLemmas.{plain-text, plain-count}
+use Rattle.std.proofs.Common.{◌≡◌, ◌∙◌, ℕ, ◌-◌, ◌≤◌, List, ap, sym, subst, [], take, drop, length, length-drop}
+use Rattle.std.proofs.Math.Seq.{take-length}
+use Rattle.std.specs.Prelude.{◌≢◌}
+use Rattle.mk_lines.specs.KeptCells.{joined_kept, ends_kept, HasFoldsKept}
+use Rattle.mk_lines.proofs.KeptLemmas.{plain-text, plain-count, folded-text, folded-count}
 use Rattle.mk_lines.proofs.cells.kept.Cells.text.Goals as goal
 
-pub returns-then-is_empty-clause-text : goal.returns-then-is_empty-clause-text
-returns-then-is_empty-clause-text g c =
-    let none : vec_len c.self.inside.ends ≡ 0 = (Decides-eqb (vec_len c.self.inside.ends) 0).0 (sym c.is_empty.ensures ∙ c.if-is_empty.true) in
-    let ends : length c.args.self.now.ends ≡ 0 = ap (λ k. length k.ends) (sym c.self.view_is) ∙ (sym c.self.inside.ends.ok.0 ∙ none) in
-    c.without_line_end.ensures ∙ plain-text c.args.self.now c.args.line.now c.requires ends
+pub returns-in-Plain-clause-text : goal.returns-in-Plain-clause-text
+returns-in-Plain-clause-text g c =
+    let none : [] ≡ c.args.self.now.ends = ap ends_kept (sym c.in-Plain.is) ∙ ap (λ k. k.ends) c.self.view_is in
+    c.without_line_end.ensures ∙ plain-text c.args.self.now c.args.line.now c.requires none
 
-pub returns-then-is_empty-clause-length : goal.returns-then-is_empty-clause-length
-returns-then-is_empty-clause-length g c =
-    let none : vec_len c.self.inside.ends ≡ 0 = (Decides-eqb (vec_len c.self.inside.ends) 0).0 (sym c.is_empty.ensures ∙ c.if-is_empty.true) in
-    let ends : length c.args.self.now.ends ≡ 0 = ap (λ k. length k.ends) (sym c.self.view_is) ∙ (sym c.self.inside.ends.ok.0 ∙ none) in
-    ap length c.without_line_end.ensures ∙ plain-count c.args.self.now c.args.line.now c.requires ends
+pub returns-in-Plain-clause-length : goal.returns-in-Plain-clause-length
+returns-in-Plain-clause-length g c =
+    let none : [] ≡ c.args.self.now.ends = ap ends_kept (sym c.in-Plain.is) ∙ ap (λ k. k.ends) c.self.view_is in
+    ap length c.without_line_end.ensures ∙ plain-count c.args.self.now c.args.line.now c.requires none
+
+-- the slice from a place on
+whole : (n : ℕ) (xs : List ℕ) → take (length xs - n) (drop n xs) ≡ drop n xs
+whole n xs = ap (λ m. take m (drop n xs)) (sym (length-drop n xs)) ∙ take-length (drop n xs)
+
+pub returns-in-Folded-clause-text : goal.returns-in-Folded-clause-text
+returns-in-Folded-clause-text g c =
+    let f = c.in-Folded.folded.value in
+    let items = c.deref-in-Folded.result.now in
+    let ends : f.ends.items ≡ c.args.self.now.ends = ap ends_kept (sym c.in-Folded.is) ∙ ap (λ k. k.ends) c.self.view_is in
+    let joined : drop f.first f.joined.items ≡ c.args.self.now.joined = ap joined_kept (sym c.in-Folded.is) ∙ ap (λ k. k.joined) c.self.view_is in
+    let some : (f.ends.items ≢ []) × (f.first ≤ length f.joined.items) = subst HasFoldsKept c.in-Folded.is c.self.invariant.1 in
+    whole c.deref-in-Folded-2.result.now.first items
+    ∙ (ap (λ z. drop z.first items) c.deref-in-Folded-2.ensures
+    ∙ (ap (drop f.first) (c.deref-in-Folded.ensures.value ∙ ap (λ z. z.joined.items) c.deref.ensures)
+    ∙ (joined ∙ folded-text c.args.self.now c.args.line.now c.requires (λ none. some.0 (ends ∙ none)))))
+
+pub returns-in-Folded-clause-length : goal.returns-in-Folded-clause-length
+returns-in-Folded-clause-length g c =
+    let f = c.in-Folded.folded.value in
+    let items = c.deref-in-Folded.result.now in
+    let ends : f.ends.items ≡ c.args.self.now.ends = ap ends_kept (sym c.in-Folded.is) ∙ ap (λ k. k.ends) c.self.view_is in
+    let joined : drop f.first f.joined.items ≡ c.args.self.now.joined = ap joined_kept (sym c.in-Folded.is) ∙ ap (λ k. k.joined) c.self.view_is in
+    let some : (f.ends.items ≢ []) × (f.first ≤ length f.joined.items) = subst HasFoldsKept c.in-Folded.is c.self.invariant.1 in
+    ap length
+    (whole c.deref-in-Folded-2.result.now.first items
+    ∙ (ap (λ z. drop z.first items) c.deref-in-Folded-2.ensures
+    ∙ (ap (drop f.first) (c.deref-in-Folded.ensures.value ∙ ap (λ z. z.joined.items) c.deref.ensures)
+    ∙ joined)))
+    ∙ folded-count c.args.self.now c.args.line.now c.requires (λ none. some.0 (ends ∙ none))

@@ -1,5 +1,4 @@
 use Rattle.std.proofs.Common.{◌≡◌, ◌∙◌, ◌+◌, sym, ap, subst, drop}
-use Rattle.std.proofs.lemmas.Result.{on_ok_weaker}
 use Rattle.mk_lines.specs.Cells.{prepend, cells}
 use Rattle.mk_lines.specs.Bytes.{LineFeed}
 use Rattle.mk_lines.specs.CellStack.{top_of, stack_of}
@@ -11,7 +10,7 @@ use Rattle.mk_lines.proofs.cells.stack.Stack.push_line_feed.Goals as goal
 pub returns-in-Fold-clause-stack : goal.returns-in-Fold-clause-stack
 returns-in-Fold-clause-stack g c =
     let cs = cells (drop (c.args.place + 1) c.args.text.now) in
-    let first : top_of cs ≡ top.Fold = sym (ap (λ s. s.top) (c.self.view_is ∙ c.requires.stack)) ∙ c.in-Fold.is in
-    let r : IsReplaced c.args.self.now 10 top.Lf (stack_of c.args.place (prepend LineFeed 10 cs)) =
+    let first : top_of cs ≡ top.Fold = sym (ap (λ s. s.top) (ap (λ s. s.stack) c.self.view_is ∙ c.requires.stack)) ∙ c.in-Fold.is in
+    let r : IsReplaced c.args.self.now.stack 10 top.Lf (stack_of c.args.place (prepend LineFeed 10 cs)) =
     subst (λ s. IsReplaced s 10 top.Lf (stack_of c.args.place (prepend LineFeed 10 cs))) (sym c.requires.stack) (line_feed-fold c.args.place cs (cells-are_cells (drop (c.args.place + 1) c.args.text.now)) first) in
-    on_ok_weaker c.replace_top.result (λ h. h r.before r.last r.was ∙ r.is) c.replace_top.ensures.stack
+    c.replace_top.ensures.stack r.before r.last r.was ∙ r.is

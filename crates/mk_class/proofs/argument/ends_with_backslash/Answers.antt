@@ -1,0 +1,7 @@
+use Rattle.std.proofs.Common.{sym, ◌∙◌}
+use Rattle.mk_class.specs.Arguments.{is_backslash_byte}
+use Rattle.mk_class.proofs.ArgumentLemmas.{last_passes-at}
+use Rattle.mk_class.proofs.argument.ends_with_backslash.Goals as goal
+
+pub returns-in-len1-up : goal.returns-in-len1-up
+returns-in-len1-up c = c.is_backslash_byte.ensures ∙ sym (last_passes-at is_backslash_byte c.args.text.now c.in-len1-up.len_at_least)

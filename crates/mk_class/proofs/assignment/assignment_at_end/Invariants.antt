@@ -1,0 +1,16 @@
+-- The assignment that the text is, is the one that what is left is.
+use Rattle.std.proofs.Common.{◌≡◌, ◌≤◌, ◌-◌, length}
+use Rattle.mk_lines.specs.Units.{units}
+use Rattle.mk_class.specs.Assignments.{assignment}
+use Rattle.mk_class.specs.AssignmentPlaces.{placed}
+use Rattle.mk_class.specs.TextClasses.{itself}
+use Rattle.mk_class.proofs.assignment.assignment_at_end.Given as goal
+
+abbrev pub invariant-loop-rest : goal.invariant-loop-rest
+invariant-loop-rest l = record {
+  same : placed (l.len - length l.rest) (assignment itself (units itself l.rest)) ≡ placed (l.len - length l.text) (assignment itself (units itself l.text));
+  within : length l.rest ≤ length l.text;
+}
+
+abbrev pub decreases-loop-rest : goal.decreases-loop-rest
+decreases-loop-rest l = length l.rest

@@ -1,0 +1,15 @@
+use Rattle.std.proofs.Common.{◌∙◌, ◌∷◌, [], ap, not}
+use Rattle.mk_lines.specs.Lists.{leading, after_leading}
+use Rattle.mk_lines.specs.Units.{units}
+use Rattle.mk_class.specs.CutTexts.{is_no_hash}
+use Rattle.mk_class.specs.Scans.{is_other}
+use Rattle.mk_class.specs.TextClasses.{itself}
+use Rattle.mk_class.proofs.ScanLemmas.{after_leading-same, leading-before}
+use Rattle.mk_class.proofs.HeaderLemmas.{is_hash-byte}
+use Rattle.mk_class.proofs.scan.cut_text.Goals as goal
+
+pub returns : goal.returns
+returns c =
+    c.before-2.ensures.units (leading (is_no_hash itself) (units itself c.args.text.now))
+    (leading-before (is_no_hash itself) c.args.text.now c.from_any.result.now
+    (c.from_any.ensures.rest ∙ after_leading-same (is_other (35 ∷ [])) (is_no_hash itself) (λ u. ap not (is_hash-byte u)) (units itself c.args.text.now)))

@@ -1,0 +1,16 @@
+-- The first such unit of the text is that of what is left.
+use Rattle.std.proofs.Common.{◌≡◌, ◌≤◌, length}
+use Rattle.mk_lines.specs.Lists.{after_leading}
+use Rattle.mk_lines.specs.Units.{units}
+use Rattle.mk_class.specs.TextClasses.{itself}
+use Rattle.mk_class.specs.Scans.{is_other}
+use Rattle.mk_class.proofs.scan.from_any.Given as goal
+
+abbrev pub invariant-loop-rest : goal.invariant-loop-rest
+invariant-loop-rest l = record {
+  same : after_leading (is_other l.stops) (units itself l.rest) ≡ after_leading (is_other l.stops) (units itself l.text);
+  within : length l.rest ≤ length l.text;
+}
+
+abbrev pub decreases-loop-rest : goal.decreases-loop-rest
+decreases-loop-rest l = length l.rest

@@ -1,0 +1,58 @@
+//! A count of the lines that were classified.
+ghost use Rattle.std.specs.Prelude.{◌≡◌, ◌+◌, ◌-◌, ◌^◌, ◌<◌, min};
+
+use std::marker::Model;
+
+/// How many lines were classified. Contracts see the number.
+///
+/// Each call that gives a line its class is handed a meter and adds one to it, so a meter bounds
+/// the work of a call that reads lines anew. It can be neither copied nor set back.
+#[derive(Debug, Drop)]
+pub struct Meter {
+    count: u64,
+}
+
+impl Model for Meter {
+    ghost use Rattle.std.specs.Prelude.{ℕ};
+
+    ghost Value = { ℕ };
+
+    ghost view = { λ meter. meter.count };
+}
+
+impl Meter {
+    /// A meter that has counted no line. Takes no memory.
+    pub fn new() -> Meter
+        ensures { result ≡ 0 }
+    {
+        Meter { count: 0 }
+    }
+
+    /// How many lines were counted; at the greatest `u64` there may have been more. Takes no
+    /// memory.
+    pub fn count(&self) -> u64
+        ensures { result ≡ self.now }
+    {
+        self.count
+    }
+
+    /// Counts one more line. At the greatest `u64` the count stays.
+    pub(crate) fn add(&mut self)
+        ensures counted { self.new ≡ min (self.old + 1) (2 ^ 64 - 1) }
+        ensures within { self.old < 2 ^ 64 }
+    {
+        self.count = self.count.saturating_add(1);
+    }
+}
+
+#[cfg(test)]
+mod tests {
+    use super::*;
+
+    #[test]
+    fn a_meter_stays_at_the_greatest_number(rt: HostRuntime) {
+        let mut meter = Meter { count: u64::MAX };
+        meter.add();
+        assert_eq!(rt; meter.count(), u64::MAX);
+    }
+}

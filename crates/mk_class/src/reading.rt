@@ -1,0 +1,236 @@
+//! The class of a line in its context.
+//!
+//! A line is read once, from its front, by the units of its joined text. The first class that fits
+//! is the line's, in the order of the table in docs/LANGUAGE.md.
+ghost use Rattle.std.specs.Prelude.{◌≡◌, ◌⊎◌, ◌<◌, ◌≢◌, ◌+◌, ◌-◌, ◌^◌, ℕ, List, true, false, All, IfErr, IfOk, Some, min, nat_lt};
+ghost use Rattle.mk_lines.specs.Units.{units};
+ghost use Rattle.mk_lines.specs.KeptCells.{AreCellsOf};
+ghost use Rattle.mk_lines.specs.PhysicalLines.{without_line_end};
+ghost use Rattle.mk_class.specs.Assignments.{Assignment, assignment};
+ghost use Rattle.mk_lines.specs.Cells.{line_cells};
+ghost use Rattle.mk_class.specs.ClassTable.{is_unreadable};
+ghost use Rattle.mk_class.specs.declared.class.Class.TheVariants.{If};
+ghost use Rattle.mk_class.specs.LineReads.{IsRead, IsTooDeep};
+ghost use Rattle.mk_class.specs.CutTexts.{cut_text};
+ghost use Rattle.mk_class.specs.RecipePrefix.{may_be_prefix, may_set_prefix, prefix_of_value, prefix_set_by};
+ghost use Rattle.mk_class.specs.Separators.{takes_assignment};
+ghost use Rattle.mk_class.specs.TextClasses.{itself, plain_text_class, rule_text_class, text_class};
+
+use crate::assignment::{
+    Flavor, TargetAssignment, after_name, assignment_at_end, read_assignment, read_operator,
+};
+use crate::class::Class;
+use crate::context::{Context, Flag, MAX_CONDITIONALS};
+use crate::header::{has_colon, read_header, separate};
+use crate::keyword::{body_class, directive_class, is_text};
+use crate::meter::Meter;
+use crate::rule::Separator;
+use crate::scan::{after_blanks, before, blanks_at_end, cut_text, has_hash, split_head};
+use mk_lines::cells::cells;
+use mk_lines::{Cells, Fault};
+use std::alloc::Allocator;
+
+/// The class of a line in its context, and the context of the next line.
+///
+/// What is given is one logical line, with its line end. Counts the line in the meter, also where
+/// the answer is a fault. A line without folds takes no memory. The time is linear in the line's
+/// bytes.
+///
+/// It asks for fewer than [`MAX_DEFINES`](crate::context::MAX_DEFINES) open defines.
+///
+/// # Errors
+///
+/// [`Fault::TooDeep`] where the line opens a conditional and [`MAX_CONDITIONALS`] are open: this project's
+/// profile.
+/// [`Fault::NoMemory`] where the cells of a line with folds could not be kept.
+pub fn classify<A: Allocator + Copy>(
+    alloc: A,
+    line: &[u8],
+    context: Context,
+    meter: &mut Meter,
+) -> Result<(Class, Context), Fault>
+    requires { context.defines < 2 ^ 24 }
+    ensures class { IfOk result (λ read. IsRead context line.now read.0 read.1) }
+    ensures fault { IfErr result (λ fault. (fault ≡ Fault.NoMemory) ⊎ ((fault ≡ Fault.TooDeep) × IsTooDeep context line.now)) }
+    ensures plain { All (λ b. b ≢ 10) (without_line_end line.now) → IfErr result (λ fault. fault ≡ Fault.TooDeep) }
+    ensures meter { meter.new ≡ min (meter.old + 1) (2 ^ 64 - 1) }
+{
+    match cells(alloc, line) {
+        Ok(cells) => class_with_cells(line, &cells, context, meter),
+        Err(fault) => {
+            meter.add();
+            Err(fault)
+        }
+    }
+}
+
+/// The class of a line in its context, and the context of the next line, where the line's cells are
+/// at hand. Takes no memory; otherwise as [`classify`].
+///
+/// # Errors
+///
+/// [`Fault::TooDeep`] where the line opens a conditional and [`MAX_CONDITIONALS`] are open: this project's
+/// profile.
+pub fn class_with_cells<A: Allocator>(
+    line: &[u8],
+    cells: &Cells<A>,
+    context: Context,
+    meter: &mut Meter,
+) -> Result<(Class, Context), Fault>
+    requires cells { AreCellsOf cells.now line.now }
+    requires defines { context.defines < 2 ^ 24 }
+    ensures class { IfOk result (λ read. IsRead context line.now read.0 read.1) }
+    ensures fault { IfErr result (λ fault. (fault ≡ Fault.TooDeep) × IsTooDeep context line.now) }
+    ensures meter { meter.new ≡ min (meter.old + 1) (2 ^ 64 - 1) }
+{
+    meter.add();
+    let class = text_class(
+        cells.text(line),
+        context.leads(line),
+        context,
+        is_unreadable(cells),
+    );
+    if is_too_deep(&class, context) {
+        return Err(Fault::TooDeep);
+    }
+    Ok((class, context.step(&class)))
+}
+
+/// Whether a line has a stray byte or a bad fold.
+fn is_unreadable<A: Allocator>(cells: &Cells<A>) -> bool
+    ensures { (line : List ℕ) → AreCellsOf cells.now line → result ≡ is_unreadable (line_cells line) }
+{
+    cells.has_stray() || cells.has_bad_fold()
+}
+
+/// Whether a line of this class opens a conditional where [`MAX_CONDITIONALS`] are open.
+fn is_too_deep(class: &Class, context: Context) -> bool
+    ensures deep { result ≡ true → (class.now ≡ If) × (context.conditionals ≡ 256) }
+    ensures fits { result ≡ false → class.now ≡ If → context.conditionals < 256 }
+{
+    match class {
+        Class::If => context.conds() == MAX_CONDITIONALS,
+        _ => false,
+    }
+}
+
+/// The class of a joined text in a context: `is_led` says whether the line begins with the recipe
+/// prefix, and `is_unreadable` whether it has a stray byte or a bad fold.
+fn text_class(text: &[u8], is_led: bool, context: Context, is_unreadable: bool) -> Class
+    ensures { result ≡ text_class is_led context.defines context.flag (nat_lt 0 context.conditionals) is_unreadable text.now }
+{
+    let defines = context.defines();
+    if defines > 0 {
+        return body_class(text, is_led, defines);
+    }
+    match context.flag() {
+        Flag::Rule if is_led => Class::Recipe,
+        Flag::Unknown if is_led => Class::Opaque,
+        _ => plain_class(text, is_led, context.conds() > 0, is_unreadable),
+    }
+}
+
+/// The class of a joined text outside defines and recipes.
+fn plain_class(text: &[u8], is_led: bool, in_conditional: bool, is_unreadable: bool) -> Class
+    ensures { result ≡ plain_text_class is_led in_conditional is_unreadable (units itself text.now) }
+{
+    let cut = cut_text(text);
+    if after_blanks(cut).is_empty() {
+        return if has_hash(text) {
+            Class::Comment
+        } else {
+            Class::Blank
+        };
+    }
+    if is_unreadable {
+        return Class::Opaque;
+    }
+    if let Some(assignment) = read_assignment(cut) {
+        return Class::Assign(assignment, prefix_set_by(cut, in_conditional));
+    }
+    if let Some(class) = directive_class(cut, in_conditional) {
+        return class;
+    }
+    if is_led {
+        return Class::Opaque;
+    }
+    if !has_colon(split_head(text).0) {
+        return Class::Opaque;
+    }
+    rule_class(text, cut)
+}
+
+/// The class of a joined text whose head has a `:`, with its cut text.
+fn rule_class(text: &[u8], cut: &[u8]) -> Class
+    requires { units itself cut.now ≡ cut_text itself (units itself text.now) }
+    ensures { result ≡ rule_text_class (units itself text.now) }
+{
+    let (separator, from, rest) = separate(cut);
+    if takes_assignment(separator) {
+        if let Some(assignment) = assignment_at_end(rest, cut.len()) {
+            return Class::TargetAssign(TargetAssignment {
+                separator,
+                targets_end: cut.len() - from.len(),
+                assignment,
+            });
+        }
+    }
+    read_header(text)
+}
+
+/// Whether an assignment may stand after a separator.
+fn takes_assignment(separator: Separator) -> bool
+    ensures { result ≡ takes_assignment separator }
+{
+    matches!(separator, Separator::SingleColon | Separator::DoubleColon)
+}
+
+/// The recipe prefix that an assignment sets, of its cut text, where it sets one.
+fn prefix_set_by(cut: &[u8], in_conditional: bool) -> Option<u8>
+    ensures { (a : Assignment ℕ) → assignment itself (units itself cut.now) ≡ Some a → result ≡ prefix_set_by itself in_conditional a }
+{
+    let named = after_blanks(cut);
+    let after_name = after_name(named);
+    if in_conditional {
+        return None;
+    }
+    if !is_text(before(named, after_name), b".RECIPEPREFIX") {
+        return None;
+    }
+    let (flavor, operand) = read_operator(after_blanks(after_name))?;
+    if !may_set_prefix(flavor) {
+        return None;
+    }
+    let value = after_blanks(operand);
+    prefix_of_value(before(value, blanks_at_end(value)))
+}
+
+/// Whether an assignment of this flavor may set the recipe prefix.
+fn may_set_prefix(flavor: Flavor) -> bool
+    ensures { result ≡ may_set_prefix flavor }
+{
+    matches!(
+        flavor,
+        Flavor::Recursive | Flavor::Simple | Flavor::PosixSimple
+    )
+}
+
+/// The recipe prefix that a value says: its first byte where that may be one, and a tab where it is
+/// empty.
+fn prefix_of_value(value: &[u8]) -> Option<u8>
+    ensures { result ≡ prefix_of_value value.now }
+{
+    match value {
+        [] => Some(b'\t'),
+        [first, ..] if may_be_prefix(*first) => Some(*first),
+        _ => None,
+    }
+}
+
+/// Whether a byte may be the recipe prefix: a printable byte of ASCII other than the blank, `$` and
+/// the backslash.
+fn may_be_prefix(byte: u8) -> bool
+    ensures { result ≡ may_be_prefix byte }
+{
+    byte.is_ascii_graphic() && byte != b'$' && byte != b'\\'
+}

@@ -1,0 +1,146 @@
+//! A text read from its front, one unit at a time.
+//!
+//! Each call answers what is left of the text, as a part of it; its units are those of the text that
+//! are left. All take time linear in the bytes that they pass over, and no memory.
+ghost use Rattle.std.specs.Prelude.{◌≡◌, ◌≤◌, ◌+◌, ◌++◌, List, [], ◌∷◌, ℕ, false, length, MatchOption};
+ghost use Rattle.mk_lines.specs.Lists.{after_leading, trailing};
+ghost use Rattle.mk_lines.specs.Units.{byte_mark, units, Unmarked};
+ghost use Rattle.mk_lines.specs.Words.{is_gap};
+ghost use Rattle.mk_lines.specs.UnitWalk.{is_blank_byte};
+ghost use Rattle.mk_class.specs.CutTexts.{after_head, cut_text, head};
+ghost use Rattle.mk_class.specs.TextClasses.{itself};
+ghost use Rattle.mk_class.specs.Scans.{AreUnmarked, IsSplitAt, is_one_byte_of, is_other};
+ghost use Rattle.mk_class.specs.Lists.{any, first_passes};
+ghost use Rattle.mk_class.specs.Symbols.{is_colon, is_equals, is_hash};
+
+use mk_lines::after_first_unit;
+
+/// What follows the blanks at the front of a text.
+pub(crate) fn after_blanks(text: &[u8]) -> &[u8]
+    ensures rest { units itself result.now ≡ after_leading (is_gap itself) (units itself text.now) }
+    ensures within { length result.now ≤ length text.now }
+{
+    let mut rest = text;
+    while let [first, after @ ..] = rest {
+        if !is_blank(*first) {
+            break;
+        }
+        rest = after;
+    }
+    rest
+}
+
+/// Whether a byte is a blank: a space or a tab.
+pub(crate) fn is_blank(byte: u8) -> bool
+    ensures { result ≡ is_blank_byte byte }
+{
+    matches!(byte, b' ' | b'\t')
+}
+
+/// A text from its first unit on that is one of these bytes, and nothing where none is.
+///
+/// None of the bytes may be `$` or a backslash, which begin longer units.
+pub(crate) fn from_any<'a>(text: &'a [u8], stops: &[u8]) -> &'a [u8]
+    requires { AreUnmarked stops.now }
+    ensures rest { units itself result.now ≡ after_leading (is_other stops.now) (units itself text.now) }
+    ensures within { length result.now ≤ length text.now }
+{
+    let mut rest = text;
+    while let [first, ..] = rest {
+        if stops.contains(first) {
+            break;
+        }
+        rest = after_first_unit(rest);
+    }
+    rest
+}
+
+/// A text split at its first unit that is this byte, which is neither `$` nor a backslash: what stands
+/// before it and what follows it. It is `None` where no unit is the byte.
+pub(crate) fn split_at_unit(text: &[u8], byte: u8) -> Option<(&[u8], &[u8])>
+    requires { byte_mark byte ≡ Unmarked }
+    ensures { MatchOption result (after_leading (is_other (byte ∷ [])) (units itself text.now) ≡ []) (λ parts. IsSplitAt byte (units itself text.now) (units itself parts.0.now) (units itself parts.1.now)) }
+{
+    let rest = from_any(text, &[byte]);
+    if rest.is_empty() {
+        return None;
+    }
+    Some((before(text, rest), after_first_unit(rest)))
+}
+
+/// Whether some unit of a text is this byte, which is neither `$` nor a backslash.
+pub(crate) fn has_unit(text: &[u8], byte: u8) -> bool
+    requires { byte_mark byte ≡ Unmarked }
+    ensures { result ≡ any (is_one_byte_of (byte ∷ [])) (units itself text.now) }
+{
+    !from_any(text, &[byte]).is_empty()
+}
+
+/// What stands in a text before a rest of it.
+pub(crate) fn before<'a>(text: &'a [u8], rest: &[u8]) -> &'a [u8]
+    requires { length rest.now ≤ length text.now }
+    ensures units { (front : List (List ℕ)) → units itself text.now ≡ front ++ units itself rest.now → units itself result.now ≡ front }
+    ensures length { length result.now + length rest.now ≡ length text.now }
+{
+    &text[..text.len() - rest.len()]
+}
+
+/// Whether a text has a unit `#`.
+pub(crate) fn has_hash(text: &[u8]) -> bool
+    ensures { result ≡ any (is_hash itself) (units itself text.now) }
+{
+    has_unit(text, b'#')
+}
+
+/// The cut text of a line, which is its joined text before a comment.
+pub(crate) fn cut_text(text: &[u8]) -> &[u8]
+    ensures { units itself result.now ≡ cut_text itself (units itself text.now) }
+{
+    before(text, from_any(text, b"#"))
+}
+
+/// The head of a rule's line, which is its joined text before a `;` or a comment, and what follows it.
+pub(crate) fn split_head(text: &[u8]) -> (&[u8], &[u8])
+    ensures head { units itself result.0.now ≡ head itself (units itself text.now) }
+    ensures tail { units itself result.1.now ≡ after_head itself (units itself text.now) }
+{
+    let tail = from_any(text, b";#");
+    (before(text, tail), tail)
+}
+
+/// The blanks at the end of a text.
+pub(crate) fn blanks_at_end(text: &[u8]) -> &[u8]
+    ensures rest { units itself result.now ≡ trailing (is_gap itself) (units itself text.now) }
+    ensures within { length result.now ≤ length text.now }
+{
+    let mut rest = text;
+    loop {
+        let word = after_blanks(rest);
+        if word.is_empty() {
+            return rest;
+        }
+        rest = from_any(after_first_unit(word), b" \t");
+    }
+}
+
+/// What follows a `=` at the front of a text.
+pub(crate) fn after_equals(text: &[u8]) -> Option<&[u8]>
+    ensures found { MatchOption result (first_passes (is_equals itself) (units itself text.now) ≡ false) (λ rest. units itself text.now ≡ (61 ∷ []) ∷ units itself rest.now) }
+    ensures within { MatchOption result (0 ≤ 0) (λ rest. length rest.now ≤ length text.now) }
+{
+    match text {
+        [b'=', rest @ ..] => Some(rest),
+        _ => None,
+    }
+}
+
+/// What follows a `:` at the front of a text.
+pub(crate) fn after_colon(text: &[u8]) -> Option<&[u8]>
+    ensures found { MatchOption result (first_passes (is_colon itself) (units itself text.now) ≡ false) (λ rest. units itself text.now ≡ (58 ∷ []) ∷ units itself rest.now) }
+    ensures within { MatchOption result (0 ≤ 0) (λ rest. length rest.now ≤ length text.now) }
+{
+    match text {
+        [b':', rest @ ..] => Some(rest),
+        _ => None,
+    }
+}

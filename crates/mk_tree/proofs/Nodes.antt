@@ -1,0 +1,46 @@
+-- A line put between two trees: what its counts say.
+use Rattle.std.proofs.Common.{◌≡◌, ℕ, ◌+◌, ◌≤◌, ◌<◌, ◌^◌, max, arith, List, ◌∷◌, ◌++◌, length, length-append, refl, subst}
+use Rattle.mk_tree.specs.PlacedLines.{PlacedLine, size_of}
+use Rattle.mk_tree.specs.Trees.{DifferByAtMost, AreFew, IsNode, IsBalanced, IsTop, IsUnlinked, fewest_lines, lines_and_height}
+use Rattle.mk_tree.specs.declared.tree.Counts.{Counts}
+use Rattle.mk_tree.specs.declared.tree.Line.{Line}
+use Rattle.mk_tree.specs.declared.tree.Link.{Link}
+use Rattle.mk_tree.specs.declared.tree.Link.TheVariants.{Empty, Full}
+use Rattle.mk_tree.proofs.Heights.{fewest_lines-join, fewest_lines-low}
+use Rattle.mk_tree.proofs.Places.{size_of-append, size_of-whole}
+
+-- what a line between two trees of almost the same height counts
+pub node-join : (l r : List PlacedLine × ℕ) (x : PlacedLine) (higher own lines_left lines_right bytes_left bytes_right : ℕ) → DifferByAtMost 1 l.1 r.1 → AreFew l.0 l.1 → AreFew r.0 r.1 → 0 < length x.bytes
+    → size_of l.0 + length x.bytes + size_of r.0 ≤ 2 ^ 24 → higher ≡ max l.1 r.1 → own ≡ length x.bytes → lines_left ≡ length l.0 → lines_right ≡ length r.0 → bytes_left ≡ size_of l.0 → bytes_right ≡ size_of r.0
+    → IsNode l x r (record { height = higher + 1; lines = lines_left + 1 + lines_right; bytes = bytes_left + own + bytes_right })
+node-join l r x higher own lines_left lines_right bytes_left bytes_right near a b some fits h o m n p q =
+    let count : length (l.0 ++ x ∷ r.0) ≡ length l.0 + 1 + length r.0 = grind (arith, length-append) in
+    let total : size_of (l.0 ++ x ∷ r.0) ≡ size_of l.0 + (length x.bytes + size_of r.0) = size_of-append l.0 (x ∷ r.0) in
+    let height : higher + 1 ≡ max l.1 r.1 + 1 = omega (arith, h) in
+    let enough : fewest_lines (higher + 1) ≤ length (l.0 ++ x ∷ r.0) = rw (height, count) (fewest_lines-join l.1 r.1 (length l.0) (length r.0) near a.enough b.enough) in
+    let some_bytes : length (l.0 ++ x ∷ r.0) ≤ size_of (l.0 ++ x ∷ r.0) = omega (arith, count, total, a.some_bytes, b.some_bytes, some) in
+    let few_bytes : size_of (l.0 ++ x ∷ r.0) ≤ 2 ^ 24 = omega (arith, total, fits) in
+    record {
+      height_is = height;
+      balanced = near;
+      lines_are = omega (arith, count, m, n);
+      bytes_are = omega (arith, total, o, p, q);
+      few = record {
+        enough = enough;
+        some_bytes = some_bytes;
+        few_bytes = few_bytes;
+        low = fewest_lines-low (higher + 1) (length (l.0 ++ x ∷ r.0)) enough (omega (arith, some_bytes, few_bytes));
+      };
+    }
+
+-- what a node of a tree says of the tree
+unlinked-of_node : (l r : List PlacedLine × ℕ) (x : PlacedLine) (counts : Counts) → IsNode l x r counts → IsUnlinked (l.0 ++ x ∷ r.0, counts.height) l x r
+unlinked-of_node l r x counts h = record { lines = refl; size = size_of-whole l.0 r.0 x; height = h.height_is; balanced = h.balanced; few = h.few }
+
+-- the top of a tree, with what stands before and after it
+pub top-of_link : {A : _} (link : Link A) (counts : Counts) (l : Line A) (whole : List PlacedLine × ℕ) → link ≡ Full counts l → IsBalanced link → lines_and_height link ≡ whole → IsTop whole l
+top-of_link Empty counts l whole e h v = cc
+top-of_link (Full c x) counts l whole e h v =
+    let same : x ≡ l = cc in
+    let here : IsTop (lines_and_height (Full c x)) x = unlinked-of_node x.node.value.left x.node.value.right x.node.value.content c h in
+    subst (λ z. IsTop whole z) same (subst (λ w. IsTop w x) v here)

@@ -1,0 +1,71 @@
+-- A text that goes out in parts, the end of what there is of it so far being held back.
+use Rattle.std.proofs.Common.{◌≡◌, ℕ, ◌+◌, List, [], ◌∷◌, ◌++◌, length, take, sym, ap, ◌∙◌, subst, arith, length-append, append_assoc, append-nil}
+use Rattle.std.specs.Prelude.{Option}
+use Rattle.std.specs.Io.KnownBytes.{Appends}
+use Rattle.std.proofs.KnownBytes.{Appends-nil, Appends-trans}
+use Rattle.std.proofs.Math.Seq.{take-append-add, take-append_seam}
+use Rattle.std.proofs.lemmas.List.{take-append-le}
+use Rattle.mk_lines.specs.Device.{AppendsPrefix}
+use Rattle.mk_tree.specs.PlacedLines.{PlacedLine, placed_text}
+use Rattle.mk_tree.specs.Printing.{AppendsSoFar}
+
+-- a prefix of the first piece is one of the whole
+pub AppendsPrefix-front : (a b : Option (List ℕ)) (x y : List ℕ) → AppendsPrefix a b x → AppendsPrefix a b (x ++ y)
+AppendsPrefix-front a b x y (k, within, out) =
+    (k, omega (arith, length-append x y), subst (Appends a b) (sym (take-append-le k x y within)) out)
+
+-- the first piece is out, and a prefix of the rest
+pub AppendsPrefix-more : (a b c : Option (List ℕ)) (x y : List ℕ) → Appends a b x → AppendsPrefix b c y → AppendsPrefix a c (x ++ y)
+AppendsPrefix-more a b c x y whole (k, within, out) =
+    (length x + k, omega (arith, length-append x y), subst (Appends a c) (sym (take-append-add x y k)) (Appends-trans a b c x (take k y) whole out))
+
+-- the whole is a prefix
+pub AppendsPrefix-whole : (a b : Option (List ℕ)) (x : List ℕ) → Appends a b x → AppendsPrefix a b x
+AppendsPrefix-whole a b x out =
+    let e : take (length x) x ≡ x = ap (λ z. take (length x) z) (sym (append-nil x)) ∙ take-append_seam x [] in
+    (length x, omega arith, subst (Appends a b) (sym e) out)
+
+-- nothing is out, and nothing is held back
+pub so_far-start : (a : Option (List ℕ)) (held : List ℕ) → held ≡ [] → AppendsSoFar a a [] held
+so_far-start a held e = ([], e, Appends-nil a)
+
+-- more goes out, and other bytes are held back
+pub so_far-more : (a b c : Option (List ℕ)) (text held more held' : List ℕ) → AppendsSoFar a b text held → AppendsSoFar b c (held ++ more) held' → AppendsSoFar a c (text ++ more) held'
+so_far-more a b c text held more held' (w, e, out) (w', e', out') =
+    (w ++ w', append_assoc w w' held' ∙ (ap (λ z. w ++ z) e' ∙ (sym (append_assoc w held more) ∙ ap (λ z. z ++ more) e)), Appends-trans a b c w w' out out')
+
+-- what was held back goes out
+pub so_far-whole : (a b c : Option (List ℕ)) (text held : List ℕ) → AppendsSoFar a b text held → Appends b c held → Appends a c text
+so_far-whole a b c text held (w, e, out) rest = subst (Appends a c) e (Appends-trans a b c w held out rest)
+
+-- a prefix of what was held back, and of what follows it, goes out
+pub so_far-prefix : (a b c : Option (List ℕ)) (text held more : List ℕ) → AppendsSoFar a b text held → AppendsPrefix b c (held ++ more) → AppendsPrefix a c (text ++ more)
+so_far-prefix a b c text held more (w, e, out) rest =
+    subst (AppendsPrefix a c) (sym (append_assoc w held more) ∙ ap (λ z. z ++ more) e) (AppendsPrefix-more a b c w (held ++ more) out rest)
+
+-- a prefix of what was held back goes out
+pub so_far-end : (a b c : Option (List ℕ)) (text held : List ℕ) → AppendsSoFar a b text held → AppendsPrefix b c held → AppendsPrefix a c text
+so_far-end a b c text held so rest =
+    subst (AppendsPrefix a c) (append-nil text) (so_far-prefix a b c text held [] so (subst (AppendsPrefix b c) (sym (append-nil held)) rest))
+
+-- ---- bytes that find no room behind those that are held back
+
+-- what is held back goes out, and then the bytes
+pub gather-whole : (a b c : Option (List ℕ)) (held out more held' : List ℕ) → out ≡ held → held' ≡ [] → Appends a b out → Appends b c more → AppendsSoFar a c (held ++ more) held'
+gather-whole a b c held out more held' f e first then =
+    (held ++ more, ap (λ z. (held ++ more) ++ z) e ∙ append-nil (held ++ more), Appends-trans a b c held more (subst (Appends a b) f first) then)
+
+-- what is held back goes out, and then a prefix of the bytes
+pub gather-prefix : (a b c : Option (List ℕ)) (held out more : List ℕ) → out ≡ held → Appends a b out → AppendsPrefix b c more → AppendsPrefix a c (held ++ more)
+gather-prefix a b c held out more f first then = AppendsPrefix-more a b c held more (subst (Appends a b) f first) then
+
+-- ---- a line of a document
+
+-- one more line goes to what is out or held back
+pub line-step : (front bytes whole : List ℕ) (x : PlacedLine) (ahead left : List PlacedLine) → ahead ≡ x ∷ left → bytes ≡ x.bytes → front ++ placed_text ahead ≡ whole → (front ++ bytes) ++ placed_text left ≡ whole
+line-step front bytes whole x ahead left e f h =
+    append_assoc front bytes (placed_text left) ∙ (ap (λ z. front ++ (z ++ placed_text left)) f ∙ (ap (λ z. front ++ placed_text z) (sym e) ∙ h))
+
+-- no line is left
+pub line-end : (front whole : List ℕ) (ahead : List PlacedLine) → ahead ≡ [] → front ++ placed_text ahead ≡ whole → front ≡ whole
+line-end front whole ahead e h = sym (append-nil front) ∙ (ap (λ z. front ++ placed_text z) (sym e) ∙ h)

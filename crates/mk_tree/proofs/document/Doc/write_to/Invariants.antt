@@ -1,0 +1,11 @@
+-- What is out and what is held back, with the text of the lines that are left, is the whole text.
+use Rattle.std.proofs.Common.{◌≡◌, ◌++◌, false, ℕ, List}
+use Rattle.mk_tree.specs.PlacedLines.{placed_text}
+use Rattle.mk_tree.specs.Printing.{AppendsSoFar}
+use Rattle.mk_tree.proofs.document.Doc.write_to.Given as goal
+
+abbrev pub invariant-lines : goal.invariant-lines
+invariant-lines g l =
+    (goal.iterator-lines g).can_next l.line-iterator × (goal.iterator-lines g).is_finite l.line-iterator
+    × (g.W.ByteSink.failed l.out ≡ false)
+    × ((front : List ℕ) × (front ++ placed_text l.line-iterator ≡ placed_text l.self) × AppendsSoFar (g.W.ByteSink.contents l.initial.out) (g.W.ByteSink.contents l.out) front l.gathered.items)

@@ -1,0 +1,13 @@
+-- The lines of the tree that is left and those ahead of the lines passed are those to be ahead.
+use Rattle.std.proofs.Common.{◌≡◌, ◌+◌, ◌≤◌, ◌++◌}
+use Rattle.arrayvec.specs.ArrayVec.{array_vec_len}
+use Rattle.mk_tree.specs.Walks.{lines_ahead, AreWithin}
+use Rattle.mk_tree.proofs.iter.pass_left.Given as goal
+
+abbrev pub invariant-down : goal.invariant-down
+invariant-down g l =
+    (array_vec_len l.passed + l.tree.1 ≤ 34) × AreWithin 0 l.passed.items
+    × (l.tree.0 ++ lines_ahead l.passed.items ≡ l.initial.tree.0 ++ lines_ahead l.initial.passed.items)
+
+abbrev pub decreases-down : goal.decreases-down
+decreases-down g l = l.tree.1

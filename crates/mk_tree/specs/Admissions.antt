@@ -1,0 +1,10 @@
+-- Lines that each may stand in the context of those before it.
+use Rattle.std.specs.Prelude.{List, [], ◌∷◌}
+use Rattle.mk_class.specs.Contexts.{Context}
+use Rattle.mk_class.specs.ContextPlaces.{context_after_places, Admits}
+use Rattle.mk_tree.specs.PlacedLines.{PlacedLine}
+
+-- each of some lines, the first of which stands in a context, is admitted where it stands
+abbrev pub AreAdmitted : Context → List PlacedLine → Type 0
+AreAdmitted c [] = Unit {0}
+AreAdmitted c (l ∷ ls) = Admits c l.class × AreAdmitted (context_after_places c l.class) ls

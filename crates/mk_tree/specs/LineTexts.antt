@@ -1,0 +1,18 @@
+-- The text of lines with their classes, and the context after them.
+use Rattle.std.specs.Prelude.{ℕ, List, [], ◌∷◌, ◌++◌}
+use Rattle.mk_class.specs.Contexts.{Context, start}
+use Rattle.mk_class.specs.ClassedLines.{ClassedLine, context_after_lines}
+
+-- the text of some lines: their bytes joined
+abbrev pub text_of : List ClassedLine → List ℕ
+text_of [] = []
+text_of (l ∷ ls) = l.bytes ++ text_of ls
+
+-- the bytes of each line
+abbrev pub bytes_of : List ClassedLine → List (List ℕ)
+bytes_of [] = []
+bytes_of (l ∷ ls) = l.bytes ∷ bytes_of ls
+
+-- the context after some lines from the start of a text
+abbrev pub context_of : List ClassedLine → Context
+context_of ls = context_after_lines start ls

@@ -1,0 +1,23 @@
+-- A walk over the lines of a tree, from the first on.
+use Rattle.std.specs.Prelude.{◌≡◌, ℕ, ◌+◌, ◌<◌, List, [], ◌∷◌, ◌++◌, Option, Some, None, MatchOption}
+use Rattle.std.specs.Borrow.{Bor}
+use Rattle.mk_tree.specs.PlacedLines.{PlacedLine}
+use Rattle.mk_tree.specs.Trees.{line_view}
+use Rattle.mk_tree.specs.declared.tree.Line.{Line}
+
+-- The lines that a walk has ahead of it: of each line that it has passed on its left side, from the last on, this line and
+-- those right of it.
+abbrev pub lines_ahead : {A : _} → List (Option (Bor (Line A))) → List PlacedLine
+lines_ahead [] = []
+lines_ahead (None ∷ passed) = lines_ahead passed
+lines_ahead (Some l ∷ passed) = lines_ahead passed ++ line_view l.now ∷ l.now.node.value.right.0
+
+-- there is room for each way down from the lines that were passed, the first of which stands so far down
+abbrev pub AreWithin : {A : _} → ℕ → List (Option (Bor (Line A))) → Type 0
+AreWithin depth [] = Unit {0}
+AreWithin depth (None ∷ passed) = ⊥
+AreWithin depth (Some l ∷ passed) = (depth + l.now.node.value.right.1 < 34) × AreWithin (depth + 1) passed
+
+-- the first of the lines that are ahead is handed out, and the others stay ahead
+abbrev pub GivesLine : {A : _} → List PlacedLine → Option (Bor (Line A)) → List PlacedLine → Type 0
+GivesLine ahead given left = MatchOption given ((ahead ≡ []) × (left ≡ [])) (λ line. ahead ≡ line_view line.now ∷ left)

@@ -1,0 +1,74 @@
+//! What a document keeps of a line.
+ghost use Rattle.std.specs.Prelude.{◌≡◌, ◌<◌, length};
+ghost use Rattle.mk_lines.specs.KeptCells.{AreCellsOf};
+ghost use Rattle.mk_lines.specs.PhysicalLines.{without_line_end};
+
+use mk_class::Class;
+use mk_lines::Cells;
+use std::alloc::{Allocator, Global};
+use std::marker::Model;
+use std::mem;
+
+/// The bytes of a line, of which there is at least one, with its cells and its class.
+#[derive(Drop)]
+pub(crate) struct Content<A: Allocator = Global> {
+    bytes: Vec<u8, A>,
+    cells: Cells<A>,
+    class: Class,
+}
+
+impl<A: Allocator> Model for Content<A> {
+    ghost use Rattle.mk_tree.specs.PlacedLines.{PlacedLine};
+    ghost use Rattle.mk_tree.specs.Contents.{IsContent};
+
+    ghost Value = { PlacedLine };
+
+    ghost view = { λ c. record { bytes = c.bytes.items; class = c.class } };
+
+    ghost invariant = { λ c. IsContent c.bytes.items c.cells };
+}
+
+impl<A: Allocator> Content<A> {
+    pub(crate) fn new(bytes: Vec<u8, A>, cells: Cells<A>, class: Class) -> Content<A>
+        requires some_bytes { 0 < length bytes.items }
+        requires cells { AreCellsOf cells bytes.items }
+        ensures bytes { result.bytes ≡ bytes.items }
+        ensures class { result.class ≡ class }
+    {
+        Content {
+            bytes,
+            cells,
+            class,
+        }
+    }
+
+    pub(crate) fn bytes(&self) -> &[u8]
+        ensures bytes { result.now ≡ self.now.bytes }
+        ensures some_bytes { 0 < length self.now.bytes }
+    {
+        &self.bytes
+    }
+
+    pub(crate) fn class(&self) -> &Class
+        ensures { result.now ≡ self.now.class }
+    {
+        &self.class
+    }
+
+    pub(crate) fn cells(&self) -> &Cells<A>
+        ensures { AreCellsOf result.now self.now.bytes }
+    {
+        &self.cells
+    }
+
+    /// Puts other bytes of the same joined text in the place of the line's, which are handed out.
+    pub(crate) fn swap_bytes(&mut self, bytes: Vec<u8, A>) -> Vec<u8, A>
+        requires some_bytes { 0 < length bytes.items }
+        requires same_text { without_line_end bytes.items ≡ without_line_end self.old.bytes }
+        ensures old { result.items ≡ self.old.bytes }
+        ensures bytes { self.new.bytes ≡ bytes.items }
+        ensures class { self.new.class ≡ self.old.class }
+    {
+        mem::replace(&mut self.bytes, bytes)
+    }
+}

@@ -1,0 +1,56 @@
+//! The context of a document's lines.
+ghost use Rattle.std.specs.Prelude.{◌≡◌, ◌≤◌, length, take};
+ghost use Rattle.mk_class.specs.Contexts.{start};
+ghost use Rattle.mk_class.specs.ClassedLines.{classed_lines, context_after_lines};
+ghost use Rattle.mk_tree.specs.PlacedLines.{AreConditionalsFit, context_after_placed, placed_text};
+ghost use Rattle.mk_tree.specs.Documents.{IsFaithful};
+
+use crate::document::Doc;
+use crate::iter::Lines;
+use crate::tree::Tree;
+use mk_class::Context;
+use std::alloc::Allocator;
+
+impl<A: Allocator> Doc<A> {
+    /// The context of the line at a place, or at the end: what the lines before it leave. Takes no
+    /// memory. It walks over those lines.
+    ///
+    /// It asks for a faithful document.
+    pub fn context(&self, at: usize) -> Context
+        requires in_range { at ≤ length self.now }
+        requires faithful { IsFaithful self.now }
+        ensures context { result ≡ context_after_lines start (take at (classed_lines (placed_text self.now))) }
+        ensures placed { result ≡ context_after_placed start (take at self.now) }
+    {
+        context_before(&self.tree, at)
+    }
+
+    /// The context after all lines. Takes no memory. It walks over them.
+    ///
+    /// It asks for a faithful document.
+    pub fn end_context(&self) -> Context
+        requires { IsFaithful self.now }
+        ensures context { result ≡ context_after_lines start (classed_lines (placed_text self.now)) }
+        ensures placed { result ≡ context_after_placed start self.now }
+    {
+        context_before(&self.tree, self.tree.len())
+    }
+}
+
+// The context after so many lines of a tree.
+fn context_before<A: Allocator>(tree: &Tree<A>, count: usize) -> Context
+    requires in_range { count ≤ length tree.now.0 }
+    requires faithful { IsFaithful tree.now.0 }
+    requires conditionals { AreConditionalsFit 0 tree.now.0 }
+    ensures { result ≡ context_after_placed start (take count tree.now.0) }
+{
+    let mut context = Context::start();
+    let mut lines = Lines::new(tree);
+    'lines: for place in 0..count {
+        let Some(line) = lines.next() else {
+            unreachable!()
+        };
+        context = context.step(line.class());
+    }
+    context
+}

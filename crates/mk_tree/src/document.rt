@@ -1,0 +1,146 @@
+//! The document: the list of its lines.
+ghost use Rattle.std.specs.Prelude.{◌≡◌, ◌+◌, ◌^◌, ◌<◌, ◌≤◌, ◌↔◌, [], ◌∷◌, ◌++◌, IsTrue, IfSome, IsOk, false, length, slice_get, take, drop};
+ghost use Rattle.mk_lines.specs.PhysicalLines.{without_line_end};
+ghost use Rattle.mk_tree.specs.PlacedLines.{bytes_of_line, is_conditional_places, last_line, size_of, size_of_line, with_last_bytes};
+ghost use Rattle.mk_tree.specs.Trees.{line_view};
+
+use crate::iter::Lines;
+use crate::tree::{Line, Tree};
+use mk_lines::Fault;
+use std::alloc::{Allocator, Global};
+use std::marker::Model;
+use std::mem;
+
+/// A makefile as the list of its lines. Contracts see the list, each line with its bytes and its
+/// class, and nothing else.
+///
+/// A document has at most 16,777,216 bytes, no line is empty, and at most 256 conditionals are open
+/// at once. It is *faithful* where its lines are those of their own text: each is one logical line
+/// of it, with its class in the context of those before it. [`Doc::parse`] makes it so; the calls
+/// that change lines do what they are told.
+#[derive(Drop)]
+pub struct Doc<A: Allocator = Global> {
+    pub(crate) tree: Tree<A>,
+}
+
+impl<A: Allocator> Model for Doc<A> {
+    ghost use Rattle.std.specs.Prelude.{List};
+    ghost use Rattle.mk_tree.specs.PlacedLines.{PlacedLine, AreConditionalsFit};
+
+    ghost Value = { List PlacedLine };
+
+    ghost view = { λ d. d.tree.0 };
+
+    ghost invariant = { λ d. AreConditionalsFit 0 d.tree.0 };
+}
+
+impl<A: Allocator> Doc<A> {
+    /// How many lines there are. Takes no memory.
+    pub fn len(&self) -> usize
+        ensures number { result ≡ length self.now }
+        ensures few { length self.now ≤ 2 ^ 24 }
+    {
+        self.tree.len()
+    }
+
+    /// Whether there is no line. Takes no memory.
+    pub fn is_empty(&self) -> bool
+        ensures { IsTrue result ↔ (self.now ≡ []) }
+    {
+        self.tree.len() == 0
+    }
+
+    /// How many bytes the lines have together. Takes no memory.
+    pub fn size(&self) -> usize
+        ensures number { result ≡ size_of self.now }
+        ensures few { size_of self.now ≤ 2 ^ 24 }
+        ensures some_bytes { length self.now ≤ size_of self.now }
+    {
+        self.tree.size()
+    }
+
+    /// The line at a place, the first being at 0. Takes no memory.
+    pub fn line(&self, at: usize) -> &Line<A>
+        requires { at < length self.now }
+        ensures { Some (line_view result.now) ≡ slice_get self.now at }
+    {
+        self.tree.line(at)
+    }
+
+    /// The lines in order. It copies nothing and takes no memory; a walk over all of them takes time
+    /// linear in their number.
+    pub fn iter(&self) -> Lines<'_, A>
+        ensures { result ≡ self.now }
+    {
+        Lines::new(&self.tree)
+    }
+
+    /// Puts a line before the one at a place, or at the end. Takes no memory and is never refused.
+    ///
+    /// It asks for a line of no conditional, and that the size stays within the limit.
+    pub fn insert(&mut self, at: usize, line: Line<A>) -> Result<(), (Line<A>, Fault)>
+        requires in_range { at ≤ length self.old }
+        requires plain { is_conditional_places (line_view line).class ≡ false }
+        requires fits { size_of self.old + length (line_view line).bytes ≤ 2 ^ 24 }
+        ensures done { IsOk result }
+        ensures lines { self.new ≡ take at self.old ++ line_view line ∷ drop at self.old }
+    {
+        let tree = mem::replace(&mut self.tree, Tree::new());
+        self.tree = tree.insert(at, line);
+        Ok(())
+    }
+
+    /// Takes the line at a place out. Takes no memory.
+    ///
+    /// It asks for a line of no conditional.
+    pub fn remove(&mut self, at: usize) -> Line<A>
+        requires in_range { at < length self.old }
+        requires plain { IfSome (slice_get self.old at) (λ line. is_conditional_places line.class ≡ false) }
+        ensures line { Some (line_view result) ≡ slice_get self.old at }
+        ensures lines { self.new ≡ take at self.old ++ drop (at + 1) self.old }
+    {
+        let tree = mem::replace(&mut self.tree, Tree::new());
+        let (tree, line) = tree.remove(at);
+        self.tree = tree;
+        line
+    }
+
+    /// Puts a line in the place of another, which is handed out. Takes no memory.
+    ///
+    /// It asks that neither is a line of a conditional, and that the size stays within the limit.
+    #[tactic(auto, using(crate::proofs::Changes::sizes))]
+    pub fn replace(&mut self, at: usize, line: Line<A>) -> Line<A>
+        requires in_range { at < length self.old }
+        requires old_plain { IfSome (slice_get self.old at) (λ old. is_conditional_places old.class ≡ false) }
+        requires plain { is_conditional_places (line_view line).class ≡ false }
+        requires fits { size_of (take at self.old ++ line_view line ∷ drop (at + 1) self.old) ≤ 2 ^ 24 }
+        ensures line { Some (line_view result) ≡ slice_get self.old at }
+        ensures lines { self.new ≡ take at self.old ++ line_view line ∷ drop (at + 1) self.old }
+    {
+        let tree = mem::replace(&mut self.tree, Tree::new());
+        let (tree, old) = tree.replace(at, line);
+        self.tree = tree;
+        old
+    }
+
+    /// Puts other bytes in the place of the last line's, which are handed out; the class stays. Takes
+    /// no memory.
+    ///
+    /// It serves a line end put after the last line, or taken from it. It asks that there is a line,
+    /// that the bytes are some and equal its own but for the line end, and that the size stays
+    /// within the limit.
+    #[tactic(auto, using(crate::proofs::Ends::sizes))]
+    pub fn swap_end(&mut self, bytes: Vec<u8, A>) -> Vec<u8, A>
+        requires some_lines { 0 < length self.old }
+        requires some_bytes { 0 < length bytes.items }
+        requires same_text { without_line_end bytes.items ≡ without_line_end (bytes_of_line (last_line self.old)) }
+        requires fits { size_of (with_last_bytes bytes.items self.old) ≤ 2 ^ 24 }
+        ensures lines { self.new ≡ with_last_bytes bytes.items self.old }
+        ensures old { result.items ≡ bytes_of_line (last_line self.old) }
+    {
+        let tree = mem::replace(&mut self.tree, Tree::new());
+        let (tree, old) = tree.swap_end(bytes);
+        self.tree = tree;
+        old
+    }
+}

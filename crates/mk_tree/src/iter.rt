@@ -1,0 +1,85 @@
+//! The lines of a tree in order.
+ghost use Rattle.std.specs.Prelude.{◌≡◌, ◌+◌, ◌^◌, ◌≤◌, ◌++◌, length};
+ghost use Rattle.arrayvec.specs.ArrayVec.{array_vec_len};
+ghost use Rattle.mk_tree.specs.Walks.{lines_ahead, AreWithin};
+
+use crate::tree::{HEIGHT_LIMIT, Line, Tree};
+use arrayvec::ArrayVec;
+use std::alloc::{Allocator, Global};
+use std::marker::Model;
+
+/// The lines that a way down has passed on their left side: each comes before what stands right of
+/// it, and the last before those in front of it.
+type Passed<'a, A> = ArrayVec<Option<&'a Line<A>>, HEIGHT_LIMIT>;
+
+/// The lines of a document from some line on, in order.
+///
+/// It borrows the document and takes no memory: it keeps the lines on the way down to the next one,
+/// of which there are at most 34, since a document has at most 16,777,216 lines in a balanced tree.
+#[derive(Drop)]
+pub struct Lines<'a, A: Allocator = Global> {
+    passed: Passed<'a, A>,
+}
+
+impl<'a, A: Allocator> Model for Lines<'a, A> {
+    ghost use Rattle.std.specs.Prelude.{List};
+    ghost use Rattle.mk_tree.specs.PlacedLines.{PlacedLine};
+    ghost use Rattle.mk_tree.specs.Walks.{lines_ahead, AreWithin};
+
+    ghost Value = { List PlacedLine };
+
+    ghost view = { λ i. lines_ahead i.passed.items };
+
+    ghost invariant = { λ i. AreWithin 0 i.passed.items };
+}
+
+impl<'a, A: Allocator> Lines<'a, A> {
+    /// The lines of a tree.
+    pub(crate) fn new(tree: &'a Tree<A>) -> Lines<'a, A>
+        ensures lines { result ≡ tree.now.0 }
+        ensures few { length result ≤ 2 ^ 24 }
+    {
+        let mut passed = ArrayVec::new();
+        if tree.len() > 0 {
+            pass_left(&mut passed, tree);
+        }
+        Lines { passed }
+    }
+}
+
+// Goes down to the first line of a tree, past the lines on the way.
+fn pass_left<'a, A: Allocator>(passed: &mut Passed<'a, A>, tree: &'a Tree<A>)
+    requires room { array_vec_len passed.old + tree.now.1 ≤ 34 }
+    requires within { AreWithin 0 passed.old.items }
+    ensures ahead { lines_ahead passed.new.items ≡ tree.now.0 ++ lines_ahead passed.old.items }
+    ensures within { AreWithin 0 passed.new.items }
+{
+    let mut tree = tree;
+    'down: while let Some(line) = tree.top() {
+        passed.push(Some(line));
+        tree = line.before();
+    }
+}
+
+impl<'a, A: Allocator> Iterator for Lines<'a, A> {
+    type Item = &'a Line<A>;
+
+    ghost use Rattle.std.specs.Prelude.{length};
+    ghost use Rattle.std.specs.Iterator.{at_most};
+    ghost use Rattle.mk_tree.specs.Walks.{GivesLine};
+
+    ghost next_gives = { GivesLine };
+
+    ghost remaining = { λ rest. at_most (length rest) };
+
+    fn next(&mut self) -> Option<&'a Line<A>> {
+        match self.passed.pop() {
+            Some(Some(line)) => {
+                pass_left(&mut self.passed, line.after());
+                Some(line)
+            }
+            Some(None) => unreachable!(),
+            None => None,
+        }
+    }
+}

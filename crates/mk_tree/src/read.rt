@@ -1,0 +1,65 @@
+//! Lines as they are read: with their class and their cells.
+ghost use Rattle.std.specs.Prelude.{◌≡◌, ◌+◌, ◌-◌, ◌^◌, ◌<◌, ◌≤◌, [], ◌∷◌, IfErr, IfOk, OnOk, min};
+ghost use Rattle.mk_lines.specs.LogicalLines.{logical_lines};
+ghost use Rattle.mk_class.specs.Classes.Class.{If};
+ghost use Rattle.mk_class.specs.ClassTable.{class_of};
+ghost use Rattle.mk_class.specs.ClassPlaces.{class_places};
+ghost use Rattle.mk_class.specs.LineReads.{IsRead, IsTooDeep};
+ghost use Rattle.mk_tree.specs.Faults.{IsReadingFault};
+ghost use Rattle.mk_tree.specs.Trees.{line_view};
+
+use crate::content::Content;
+use crate::tree::Line;
+use mk_class::{Context, Meter, class_with_cells};
+use mk_lines::Fault;
+use mk_lines::cells::cells;
+use std::alloc::Allocator;
+
+impl<A: Allocator + Copy> Line<A> {
+    /// One logical line, with its class in a context and its cells. It adds one to the meter.
+    ///
+    /// What is given is one logical line: [`split`](mk_lines::split::split) of it gives one span.
+    ///
+    /// # Errors
+    ///
+    /// - [`Fault::TooDeep`] where the line opens a conditional and 256 are open.
+    /// - [`Fault::NoMemory`] where a growth was refused.
+    pub fn read(
+        alloc: A,
+        bytes: Vec<u8, A>,
+        context: Context,
+        meter: &mut Meter,
+    ) -> Result<Line<A>, Fault>
+        requires line { logical_lines bytes.items ≡ bytes.items ∷ [] }
+        requires defines { context.defines < 2 ^ 24 }
+        ensures line { IfOk result (λ line. line_view line ≡ record { bytes = bytes.items; class = class_places (class_of context bytes.items) }) }
+        ensures shallow { IfOk result (λ _. class_of context bytes.items ≡ If → context.conditionals < 256) }
+        ensures fault { IfErr result (λ fault. IsReadingFault (IsTooDeep context bytes.items) fault) }
+        ensures counted { OnOk result (meter.new ≡ min (meter.old + 1) (2 ^ 64 - 1)) }
+        ensures once { meter.new ≤ meter.old + 1 }
+    {
+        let (line, _) = read_line(alloc, bytes, context, meter)?;
+        Ok(line)
+    }
+}
+
+/// One logical line, as [`Line::read`] gives it, and the context after it.
+pub(crate) fn read_line<A: Allocator + Copy>(
+    alloc: A,
+    bytes: Vec<u8, A>,
+    context: Context,
+    meter: &mut Meter,
+) -> Result<(Line<A>, Context), Fault>
+    requires line { logical_lines bytes.items ≡ bytes.items ∷ [] }
+    requires defines { context.defines < 2 ^ 24 }
+    ensures bytes { IfOk result (λ r. (line_view r.0).bytes ≡ bytes.items) }
+    ensures read { IfOk result (λ r. IsRead context bytes.items (line_view r.0).class r.1) }
+    ensures fault { IfErr result (λ fault. IsReadingFault (IsTooDeep context bytes.items) fault) }
+    ensures counted { OnOk result (meter.new ≡ min (meter.old + 1) (2 ^ 64 - 1)) }
+    ensures once { meter.new ≤ meter.old + 1 }
+{
+    let cells = cells(alloc, &bytes)?;
+    let (class, after) = class_with_cells(&bytes, &cells, context, meter)?;
+    let line = Line::new(alloc, Content::new(bytes, cells, class))?;
+    Ok((line, after))
+}

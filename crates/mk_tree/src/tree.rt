@@ -1,0 +1,426 @@
+//! A balanced tree of lines: one boxed node for each line, in the order of the lines.
+//!
+//! The heights of two siblings differ by at most one (Adelson-Velsky and Landis, 1962). The box of
+//! a node is the line itself, so that a line which stands alone is put into a tree without memory.
+//! A tree is changed by value: [`Tree::unlink`] takes it apart at its top, and [`Tree::join`] puts
+//! two trees and a line between them together.
+ghost use Rattle.std.specs.Prelude.{◌≡◌, ◌+◌, ◌^◌, ◌<◌, ◌≤◌, max, [], ◌∷◌, ◌++◌, length, Some, IfOk, MatchOption, slice_get, take, drop};
+ghost use Rattle.mk_lines.specs.KeptCells.{AreCellsOf};
+ghost use Rattle.mk_lines.specs.PhysicalLines.{without_line_end};
+ghost use Rattle.mk_tree.specs.PlacedLines.{bytes_of_line, last_line, size_of, size_of_line, with_last_bytes};
+ghost use Rattle.mk_tree.specs.Trees.{line_view, lines_and_height, DifferByAtMost, AreFew, IsUnlinked, IsTop, IsHeightAfter};
+
+use crate::content::Content;
+use mk_class::Class;
+use mk_lines::Cells;
+use std::alloc::{AllocFailed, Allocator, Global};
+use std::marker::Model;
+use std::mem;
+
+/// No tree of at most 16,777,216 lines is higher than this.
+pub(crate) const HEIGHT_LIMIT: usize = 34;
+
+/// Some lines in order, as a tree.
+#[cycle(tree)]
+#[derive(Drop)]
+pub(crate) struct Tree<A: Allocator = Global> {
+    link: Link<A>,
+}
+
+#[cycle(tree)]
+#[derive(Drop)]
+enum Link<A: Allocator> {
+    Empty,
+    Full(Counts, Line<A>),
+}
+
+/// What is counted of a tree that is not empty. It stands beside the pointer to the top, so that a
+/// way down reads no node but those on it.
+#[derive(Clone, Copy, Debug, PartialEq, Eq)]
+struct Counts {
+    height: u32,
+    lines: u32,
+    bytes: u32,
+}
+
+/// A line of a makefile, in a box of its own. In a document the box also holds what stands before
+/// and after the line.
+#[cycle(tree)]
+#[derive(Drop)]
+pub struct Line<A: Allocator = Global> {
+    node: Box<Node<A>, A>,
+}
+
+#[cycle(tree)]
+#[derive(Drop)]
+struct Node<A: Allocator> {
+    content: Content<A>,
+    left: Tree<A>,
+    right: Tree<A>,
+}
+
+impl<A: Allocator> Model for Tree<A> {
+    ghost use Rattle.std.specs.Prelude.{ℕ, List, length};
+    ghost use Rattle.mk_tree.specs.PlacedLines.{PlacedLine};
+
+    ghost Value = { List PlacedLine × ℕ };
+
+    ghost use Rattle.mk_tree.specs.Trees.{lines_and_height, IsBalanced};
+
+    ghost view = { λ t. lines_and_height t.link };
+
+    ghost invariant = { λ t. IsBalanced t.link };
+
+    ghost size = { λ v. length v.0 };
+
+    ghost use Rattle.std.proofs.Common.{arith, length-append};
+
+    ghost size_decreases = { λ t h. Prim.grind (arith, length-append) };
+}
+
+impl<A: Allocator> Node<A> {
+    fn into_content(self) -> Content<A>
+        ensures { result ≡ self.content }
+    {
+        self.content
+    }
+}
+
+impl<A: Allocator> Line<A> {
+    /// A line that stands alone. Where no memory is found the content comes back.
+    pub(crate) fn new(alloc: A, content: Content<A>) -> Result<Line<A>, AllocFailed<Content<A>>>
+        ensures ok { IfOk result (λ line. line_view line ≡ content) }
+    {
+        let node = Node {
+            content,
+            left: Tree::new(),
+            right: Tree::new(),
+        };
+        match Box::new(alloc, node) {
+            Ok(node) => Ok(Line { node }),
+            Err(failed) => Err(AllocFailed {
+                value: failed.value.into_content(),
+            }),
+        }
+    }
+
+    /// The bytes, with the line end where there is one. Takes no memory.
+    pub fn bytes(&self) -> &[u8]
+        ensures bytes { result.now ≡ (line_view self.now).bytes }
+        ensures some_bytes { 0 < length result.now }
+    {
+        self.node.content.bytes()
+    }
+
+    /// What the line is, with the places of its parts in the joined text. Takes no memory.
+    pub fn class(&self) -> &Class
+        ensures { result.now ≡ (line_view self.now).class }
+    {
+        self.node.content.class()
+    }
+
+    /// The cells of the bytes. Takes no memory.
+    pub fn cells(&self) -> &Cells<A>
+        ensures { AreCellsOf result.now (line_view self.now).bytes }
+    {
+        self.node.content.cells()
+    }
+
+    /// What stands before the line in its tree, below it.
+    pub(crate) fn before(&self) -> &Tree<A>
+        ensures { result.now ≡ self.now.node.value.left }
+    {
+        &self.node.left
+    }
+
+    /// What stands after the line in its tree, below it.
+    pub(crate) fn after(&self) -> &Tree<A>
+        ensures { result.now ≡ self.now.node.value.right }
+    {
+        &self.node.right
+    }
+}
+
+impl<A: Allocator> Tree<A> {
+    /// No lines.
+    pub(crate) fn new() -> Tree<A>
+        ensures empty { result ≡ ([], 0) }
+    {
+        Tree { link: Link::Empty }
+    }
+
+    // How many lines stand on the longest way down.
+    fn height(&self) -> u32
+        ensures height { result ≡ self.now.1 }
+        ensures few { AreFew self.now.0 self.now.1 }
+    {
+        match &self.link {
+            Link::Empty => 0,
+            Link::Full(counts, _) => counts.height,
+        }
+    }
+
+    // How many lines there are.
+    fn lines(&self) -> u32
+        ensures lines { result ≡ length self.now.0 }
+        ensures few { AreFew self.now.0 self.now.1 }
+    {
+        match &self.link {
+            Link::Empty => 0,
+            Link::Full(counts, _) => counts.lines,
+        }
+    }
+
+    // How many bytes the lines have.
+    fn bytes(&self) -> u32
+        ensures bytes { result ≡ size_of self.now.0 }
+        ensures few { AreFew self.now.0 self.now.1 }
+    {
+        match &self.link {
+            Link::Empty => 0,
+            Link::Full(counts, _) => counts.bytes,
+        }
+    }
+
+    /// How many lines there are.
+    pub(crate) fn len(&self) -> usize
+        ensures len { result ≡ length self.now.0 }
+        ensures few { AreFew self.now.0 self.now.1 }
+    {
+        self.lines() as usize
+    }
+
+    /// How many bytes the lines have.
+    pub(crate) fn size(&self) -> usize
+        ensures size { result ≡ size_of self.now.0 }
+        ensures few { AreFew self.now.0 self.now.1 }
+    {
+        self.bytes() as usize
+    }
+
+    /// The line at the top.
+    pub(crate) fn top(&self) -> Option<&Line<A>>
+        ensures top { MatchOption result (self.now ≡ ([], 0)) (λ line. IsTop self.now line.now) }
+    {
+        match &self.link {
+            Link::Empty => None,
+            Link::Full(_, line) => Some(line),
+        }
+    }
+
+    /// The line at a place, the first being at 0.
+    pub(crate) fn line(&self, at: usize) -> &Line<A>
+        requires in_range { at < length self.now.0 }
+        ensures line { Some (line_view result.now) ≡ slice_get self.now.0 at }
+    {
+        match &self.link {
+            Link::Empty => unreachable!(),
+            Link::Full(_, line) => {
+                let before = line.node.left.len();
+                if at < before {
+                    line.node.left.line(at)
+                } else if at == before {
+                    line
+                } else {
+                    line.node.right.line(at - before - 1)
+                }
+            }
+        }
+    }
+
+    /// Puts a line before the one at a place, or at the end, without memory.
+    #[tactic(auto, using(crate::proofs::Places::places))]
+    pub(crate) fn insert(self, at: usize, line: Line<A>) -> Tree<A>
+        requires in_range { at ≤ length self.0 }
+        requires fits { size_of self.0 + length (line_view line).bytes ≤ 2 ^ 24 }
+        ensures lines { result.0 ≡ take at self.0 ++ line_view line ∷ drop at self.0 }
+        ensures size { size_of result.0 ≡ size_of self.0 + length (line_view line).bytes }
+        ensures height { (self.1 ≤ result.1) × (result.1 ≤ self.1 + 1) }
+    {
+        match self.unlink() {
+            None => Tree::join(Tree::new(), line, Tree::new()),
+            Some((left, top, right)) => {
+                let before = left.len();
+                if at <= before {
+                    Tree::balance(left.insert(at, line), top, right)
+                } else {
+                    Tree::balance(left, top, right.insert(at - before - 1, line))
+                }
+            }
+        }
+    }
+
+    /// Takes the line at a place out.
+    #[tactic(auto, using(crate::proofs::Places::places))]
+    pub(crate) fn remove(self, at: usize) -> (Tree<A>, Line<A>)
+        requires in_range { at < length self.0 }
+        ensures line { Some (line_view result.1) ≡ slice_get self.0 at }
+        ensures lines { result.0.0 ≡ take at self.0 ++ drop (at + 1) self.0 }
+        ensures size { size_of self.0 ≡ size_of result.0.0 + length (line_view result.1).bytes }
+        ensures height { (result.0.1 ≤ self.1) × (self.1 ≤ result.0.1 + 1) }
+    {
+        match self.unlink() {
+            None => unreachable!(),
+            Some((left, top, right)) => {
+                let before = left.len();
+                if at < before {
+                    let (left, line) = left.remove(at);
+                    (Tree::balance(left, top, right), line)
+                } else if at > before {
+                    let (right, line) = right.remove(at - before - 1);
+                    (Tree::balance(left, top, right), line)
+                } else if right.len() == 0 {
+                    (left, top)
+                } else {
+                    let (right, next) = right.remove(0);
+                    (Tree::balance(left, next, right), top)
+                }
+            }
+        }
+    }
+
+    /// Puts a line in the place of another, which is handed out.
+    #[tactic(auto, using(crate::proofs::Places::places))]
+    pub(crate) fn replace(self, at: usize, line: Line<A>) -> (Tree<A>, Line<A>)
+        requires in_range { at < length self.0 }
+        requires fits { size_of self.0 + length (line_view line).bytes ≤ 2 ^ 24 + size_of_line (slice_get self.0 at) }
+        ensures line { Some (line_view result.1) ≡ slice_get self.0 at }
+        ensures lines { result.0.0 ≡ take at self.0 ++ line_view line ∷ drop (at + 1) self.0 }
+        ensures size { size_of result.0.0 + size_of_line (slice_get self.0 at) ≡ size_of self.0 + length (line_view line).bytes }
+        ensures height { result.0.1 ≡ self.1 }
+    {
+        match self.unlink() {
+            None => unreachable!(),
+            Some((left, top, right)) => {
+                let before = left.len();
+                if at < before {
+                    let (left, old) = left.replace(at, line);
+                    (Tree::join(left, top, right), old)
+                } else if at > before {
+                    let (right, old) = right.replace(at - before - 1, line);
+                    (Tree::join(left, top, right), old)
+                } else {
+                    (Tree::join(left, line, right), top)
+                }
+            }
+        }
+    }
+
+    /// Puts other bytes of the same joined text in the place of the last line's, which are handed
+    /// out.
+    pub(crate) fn swap_end(self, bytes: Vec<u8, A>) -> (Tree<A>, Vec<u8, A>)
+        requires some_lines { 0 < length self.0 }
+        requires some_bytes { 0 < length bytes.items }
+        requires same_text { without_line_end bytes.items ≡ without_line_end (bytes_of_line (last_line self.0)) }
+        requires fits { size_of self.0 + length bytes.items ≤ 2 ^ 24 + size_of_line (last_line self.0) }
+        ensures lines { result.0.0 ≡ with_last_bytes bytes.items self.0 }
+        ensures old { result.1.items ≡ bytes_of_line (last_line self.0) }
+    {
+        let at = self.len() - 1;
+        let (rest, mut line) = self.remove(at);
+        let old = line.node.content.swap_bytes(bytes);
+        (rest.insert(at, line), old)
+    }
+
+    // What stands before the line at the top, this line, and what stands after it.
+    #[tactic(auto, using(crate::proofs::Places::sizes))]
+    fn unlink(self) -> Option<(Tree<A>, Line<A>, Tree<A>)>
+        ensures { MatchOption result (self ≡ ([], 0)) (λ parts. IsUnlinked self parts.0 (line_view parts.1) parts.2) }
+    {
+        match self.link {
+            Link::Empty => None,
+            Link::Full(_, mut line) => {
+                let left = mem::replace(&mut line.node.left, Tree::new());
+                let right = mem::replace(&mut line.node.right, Tree::new());
+                Some((left, line, right))
+            }
+        }
+    }
+
+    // The line between two trees of almost the same height.
+    #[tactic(auto, using(crate::proofs::Places::sizes))]
+    pub(crate) fn join(left: Tree<A>, mut line: Line<A>, right: Tree<A>) -> Tree<A>
+        requires balanced { DifferByAtMost 1 left.1 right.1 }
+        requires fits { size_of left.0 + length (line_view line).bytes + size_of right.0 ≤ 2 ^ 24 }
+        ensures lines { result.0 ≡ left.0 ++ line_view line ∷ right.0 }
+        ensures size { size_of result.0 ≡ size_of left.0 + length (line_view line).bytes + size_of right.0 }
+        ensures height { result.1 ≡ max left.1 right.1 + 1 }
+    {
+        let node = &mut *line.node;
+        let counts = Counts {
+            height: left.height().max(right.height()) + 1,
+            lines: left.lines() + 1 + right.lines(),
+            bytes: left.bytes() + node.content.bytes().len() as u32 + right.bytes(),
+        };
+        node.left = left;
+        node.right = right;
+        Tree {
+            link: Link::Full(counts, line),
+        }
+    }
+
+    // The line between two trees whose heights differ by at most two.
+    fn balance(left: Tree<A>, line: Line<A>, right: Tree<A>) -> Tree<A>
+        requires near { DifferByAtMost 2 left.1 right.1 }
+        requires fits { size_of left.0 + length (line_view line).bytes + size_of right.0 ≤ 2 ^ 24 }
+        ensures lines { result.0 ≡ left.0 ++ line_view line ∷ right.0 }
+        ensures size { size_of result.0 ≡ size_of left.0 + length (line_view line).bytes + size_of right.0 }
+        ensures height { IsHeightAfter left.1 right.1 result.1 }
+    {
+        if left.height() > right.height() + 1 {
+            Tree::lean_left(left, line, right)
+        } else if right.height() > left.height() + 1 {
+            Tree::lean_right(left, line, right)
+        } else {
+            Tree::join(left, line, right)
+        }
+    }
+
+    // The left tree is two higher.
+    fn lean_left(left: Tree<A>, line: Line<A>, right: Tree<A>) -> Tree<A>
+        requires two_higher { left.1 ≡ right.1 + 2 }
+        requires fits { size_of left.0 + length (line_view line).bytes + size_of right.0 ≤ 2 ^ 24 }
+        ensures lines { result.0 ≡ left.0 ++ line_view line ∷ right.0 }
+        ensures size { size_of result.0 ≡ size_of left.0 + length (line_view line).bytes + size_of right.0 }
+        ensures height { (left.1 ≤ result.1) × (result.1 ≤ left.1 + 1) }
+    {
+        let Some((outer, top, inner)) = left.unlink() else {
+            unreachable!()
+        };
+        if outer.height() >= inner.height() {
+            return Tree::join(outer, top, Tree::join(inner, line, right));
+        }
+        let Some((before, middle, after)) = inner.unlink() else {
+            unreachable!()
+        };
+        Tree::join(
+            Tree::join(outer, top, before),
+            middle,
+            Tree::join(after, line, right),
+        )
+    }
+
+    // The right tree is two higher.
+    fn lean_right(left: Tree<A>, line: Line<A>, right: Tree<A>) -> Tree<A>
+        requires two_higher { right.1 ≡ left.1 + 2 }
+        requires fits { size_of left.0 + length (line_view line).bytes + size_of right.0 ≤ 2 ^ 24 }
+        ensures lines { result.0 ≡ left.0 ++ line_view line ∷ right.0 }
+        ensures size { size_of result.0 ≡ size_of left.0 + length (line_view line).bytes + size_of right.0 }
+        ensures height { (right.1 ≤ result.1) × (result.1 ≤ right.1 + 1) }
+    {
+        let Some((inner, top, outer)) = right.unlink() else {
+            unreachable!()
+        };
+        if outer.height() >= inner.height() {
+            return Tree::join(Tree::join(left, line, inner), top, outer);
+        }
+        let Some((before, middle, after)) = inner.unlink() else {
+            unreachable!()
+        };
+        Tree::join(
+            Tree::join(left, line, before),
+            middle,
+            Tree::join(after, top, outer),
+        )
+    }
+}
