@@ -29,6 +29,7 @@ pub mod ValueEdits
 pub mod SetLaws
 pub mod FoldEnds
 pub mod SetEmptyLaws
+pub mod LastFoldLaws
 pub mod UnsetLaws
 pub mod AppendLaws
 pub mod RemovalLaws
