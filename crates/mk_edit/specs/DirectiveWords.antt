@@ -154,7 +154,8 @@ colon-keyword x h =
       not_same 58 a c (codes "undefine") refl,
     ) refl)
 
-colon-no_modifier : (x : List ℕ) → HasColon x → is_modifier x ≡ false
+-- a word with a `:` is no modifier
+pub colon-no_modifier : (x : List ℕ) → HasColon x → is_modifier x ≡ false
 colon-no_modifier x h = ap is_modifier h.2 ∙ not_one_of h.0 h.1 modifier_words refl
 
 same-first : (ws ws' : List (List ℕ)) → SaySame ws ws' → first_keyword ws ≡ first_keyword ws'
@@ -208,12 +209,13 @@ pub record BeginsWithColon (us : List (List Cell)) : Type 0 where
   pub colon : HasColon (map joined_byte (concat word))
 
 -- a word before such units is put before their first word
-word-glued : (w us : List (List Cell)) (v : List (List Cell)) (ts : List (Token Cell)) → IsWord joined_byte w → tokens joined_byte us ≡ Word v ∷ ts → tokens joined_byte (w ++ us) ≡ Word (w ++ v) ∷ ts
+pub word-glued : (w us : List (List Cell)) (v : List (List Cell)) (ts : List (Token Cell)) → IsWord joined_byte w → tokens joined_byte us ≡ Word v ∷ ts → tokens joined_byte (w ++ us) ≡ Word (w ++ v) ∷ ts
 word-glued [] us v ts h e = absurd h
 word-glued (u ∷ []) us v ts h e = ap (before_tokens (is_gap joined_byte u) u) e ∙ ap (λ z. before_tokens z u (Word v ∷ ts)) h
 word-glued (u ∷ x ∷ w) us v ts h e = ap (before_tokens (is_gap joined_byte u) u) (word-glued (x ∷ w) us v ts h.1 e) ∙ ap (λ z. before_tokens z u (Word ((x ∷ w) ++ v) ∷ ts)) h.0
 
-glued-colon : (w v : List (List Cell)) → HasColon (map joined_byte (concat v)) → HasColon (map joined_byte (concat (w ++ v)))
+-- and has a `:` where it has
+pub glued-colon : (w v : List (List Cell)) → HasColon (map joined_byte (concat v)) → HasColon (map joined_byte (concat (w ++ v)))
 glued-colon w v h = (
   map joined_byte (concat w) ++ h.0,
   h.1,

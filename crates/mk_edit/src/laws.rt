@@ -1,5 +1,7 @@
 //! Laws of edits: each contract is a theorem on the definitions that the calls of this crate are
 //! specified by. The functions do nothing.
+pub mod words;
+
 ghost use Rattle.mk_edit.specs.Laws.{AppendReadsAsChanged, AssignReadsAsChanged, NewAssignmentsStand, OtherLinesStay, RecipeAddedReadsAsChanged, RecipeRemovedReadsAsChanged, RecipeSetReadsAsChanged, RefusedChangesNothing, RuleAddedReadsAsChanged, SetReadsAsChanged, UnruleReadsAsChanged, UnsetReadsAsChanged};
 
 /// An accepted edit of a value changes the reading by this value alone. Where the new value is empty

@@ -1,0 +1,12 @@
+-- The reading law for the edits of words in a rule's line, each the contract of a public function.
+use Rattle.std.specs.Prelude.{ℕ, Bool, List, Option}
+use Rattle.mk_edit.specs.Edits.{AddPrereq, RemovePrereq}
+use Rattle.mk_edit.specs.Laws.{ReadsAsChanged}
+
+-- a new prerequisite stands last in its list, and no other item changes
+abbrev pub DependReadsAsChanged : Type 0
+DependReadsAsChanged = (order : Bool) (nth : Option ℕ) (target word : List ℕ) → ReadsAsChanged (AddPrereq order nth target word)
+
+-- a prerequisite removed goes from both lists of its header, and no other item changes
+abbrev pub UndependReadsAsChanged : Type 0
+UndependReadsAsChanged = (nth : Option ℕ) (target word : List ℕ) → ReadsAsChanged (RemovePrereq nth target word)
