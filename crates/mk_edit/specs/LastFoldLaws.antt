@@ -252,11 +252,12 @@ record IsLeftLine (c : Context) (a : Assignment Cell) : Type 0 where
   one : OneLine (raw_text (concat (before_value a)))
   class : class_of c (raw_text (concat (before_value a))) ≡ Assign (with_backslash a operator) (prefix_set_by joined_byte (nat_lt 0 c.conditionals) (with_backslash a operator))
 
--- the class of a line with other cells, which begins with the same byte
-class-of_cells : (c : Context) (led : Bool) (m : List ℕ) (C : List Cell) (b : Assignment Cell) → is_prefix_led c.prefix m ≡ led → line_cells m ≡ C → read c led C ≡ plain_class led (nat_lt 0 c.conditionals) C (units joined_byte C)
-    → IsAssignLine C (units joined_byte C) b → class_of c m ≡ Assign b (prefix_set_by joined_byte (nat_lt 0 c.conditionals) b)
-class-of_cells c led m C b h k also is =
-    ap (λ z. read c z (line_cells m)) h ∙ (ap (λ z. read c led z) k ∙ (also ∙ assign-plain_class led (nat_lt 0 c.conditionals) C (units joined_byte C) b is))
+-- the class of a line of other cells, which begins with the same byte
+class-of_cells : (c : Context) (led : Bool) (l m : List ℕ) (C : List Cell) (b : Assignment Cell) → l ≡ m → is_prefix_led c.prefix m ≡ led → line_cells m ≡ C
+    → read c led C ≡ plain_class led (nat_lt 0 c.conditionals) C (units joined_byte C) → IsAssignLine C (units joined_byte C) b
+    → class_of c l ≡ Assign b (prefix_set_by joined_byte (nat_lt 0 c.conditionals) b)
+class-of_cells c led l m C b e h k also is =
+    ap (class_of c) e ∙ (ap (λ z. read c z (line_cells m)) h ∙ (ap (λ z. read c led z) k ∙ (also ∙ assign-plain_class led (nat_lt 0 c.conditionals) C (units joined_byte C) b is)))
 
 line-left : (c : Context) (l : List ℕ) (a : Assignment Cell) (sets : Option ℕ) (y : List ℕ) → class_of c l ≡ Assign a sets → raw_text (concat (before_value a)) ≡ y ++ 10 ∷ [] → IsLeftLine c a
 line-left c l a sets y h n =
@@ -306,7 +307,7 @@ line-left c l a sets y h n =
         record {
           operator = g.0;
           one = subst OneLine (sym text) line.one;
-          class = ap (class_of c) text ∙ class-of_cells c (is_prefix_led c.prefix l) m C (with_backslash a g.0) same line.same_cells (also C) is;
+          class = class-of_cells c (is_prefix_led c.prefix l) (raw_text P) m C (with_backslash a g.0) text same line.same_cells (also C) is;
         }
 
 -- ---- the text
