@@ -1,5 +1,5 @@
 -- Lemmas of the readers of assignments.
-use Rattle.std.proofs.Common.{◌≡◌, refl, sym, ap, ◌∙◌, subst, ℕ, suc, ◌+◌, ◌-◌, ◌≤◌, ◌<◌, List, [], ◌∷◌, ◌++◌, map, Bool, true, false, not, ◌||◌, ◌==◌, cond, length, take, drop, get_or, length-append, arith, Option, Some, None, Bor}
+use Rattle.std.proofs.Common.{◌≡◌, refl, sym, ap, ◌∙◌, subst, ℕ, suc, ◌+◌, ◌-◌, ◌≤◌, List, [], ◌∷◌, ◌++◌, map, Bool, true, false, not, ◌==◌, cond, length, take, drop, get_or, arith, Option, Some, None, Bor}
 use Rattle.std.specs.Prelude.{MatchOption}
 use Rattle.std.proofs.Math.Seq.{take-length}
 use Rattle.mk_lines.specs.Lists.{concat, leading, after_leading, trim_end, trailing}
@@ -7,18 +7,18 @@ use Rattle.mk_lines.specs.Units.{units, byte_mark}
 use Rattle.mk_lines.specs.Units.Mark.{Unmarked}
 use Rattle.mk_lines.specs.FirstUnit.{first_unit, after_first_unit}
 use Rattle.mk_lines.specs.FirstUnitLaws.{units-first_unit}
-use Rattle.mk_lines.specs.Words.{Token, Gap, Word, tokens, token_units, before_tokens, is_gap}
+use Rattle.mk_lines.specs.Words.{Token, Word, tokens, token_units, before_tokens, is_gap}
 use Rattle.mk_lines.specs.TokenLaws.{token_units-tokens}
 use Rattle.mk_lines.specs.ListLaws.{leading-after_leading}
-use Rattle.mk_class.specs.Lists.{first_passes, until, from}
-use Rattle.mk_class.specs.Symbols.{Symbol, symbol}
+use Rattle.mk_class.specs.Lists.{until, from}
+use Rattle.mk_class.specs.Symbols.{symbol}
 use Rattle.mk_class.specs.Symbols.Symbol.{Colon}
-use Rattle.mk_class.specs.Assignments.{Assignment, operator_at, operator_length, ends_name, after_blanks, blanks, defined_by, definition, definition_of, modifier_of, after_units, after_modifier, assignment, assignment_of}
+use Rattle.mk_class.specs.Assignments.{Assignment, operator_at, operator_length, ends_name, after_blanks, blanks, defined_by, definition, modifier_of, after_units, after_modifier, assignment, assignment_of}
 use Rattle.mk_class.specs.TextClasses.{itself}
 use Rattle.mk_class.specs.Scans.{IsOperatorAt}
 use Rattle.mk_class.specs.declared.assignment.Flavor.{Flavor}
 use Rattle.mk_class.specs.declared.assignment.Modifier.{Modifier}
-use Rattle.mk_class.specs.ClassPlaces.{width, assignment_places}
+use Rattle.mk_class.specs.ClassPlaces.{width}
 use Rattle.mk_class.specs.AssignmentPlaces.{placed}
 use Rattle.mk_class.specs.declared.assignment.Assignment as places
 use Rattle.std.specs.Option.{is_some}

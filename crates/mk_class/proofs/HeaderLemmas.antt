@@ -1,16 +1,16 @@
 -- Lemmas of the readers of headers.
-use Rattle.std.proofs.Common.{◌≡◌, refl, sym, ap, ◌∙◌, ℕ, List, [], ◌∷◌, ◌++◌, Bool, true, false, not, ◌||◌, ◌&&◌}
+use Rattle.std.proofs.Common.{◌≡◌, refl, sym, ap, ◌∙◌, ℕ, List, [], ◌∷◌, Bool, true, false, not, ◌||◌}
 use Rattle.std.specs.Prelude.{MatchOption, Option}
-use Rattle.std.proofs.Common.{subst, length, take, drop, get_or, ◌-◌, ◌+◌, ◌≤◌, ◌==◌, cond, map, eq-eqb, Bor, arith, Some, None}
+use Rattle.std.proofs.Common.{subst, length, take, drop, get_or, ◌-◌, ◌≤◌, ◌==◌, cond, eq-eqb, Bor}
 use Rattle.std.proofs.lemmas.Bool.{eqb-true}
-use Rattle.mk_lines.specs.Lists.{leading, after_leading, concat}
+use Rattle.mk_lines.specs.Lists.{leading}
 use Rattle.mk_lines.specs.Units.Mark.{Dollar, Escape, OpenParen, CloseParen, OpenBrace, CloseBrace, Unmarked}
-use Rattle.mk_class.specs.Lists.{first_passes, until, from, is_empty}
-use Rattle.mk_class.specs.Symbols.{Symbol, symbol, byte_symbol, is_hash, is_colon, is_bar, is_hash_symbol, is_colon_symbol, is_semicolon_symbol, is_bar_symbol}
+use Rattle.mk_class.specs.Lists.{first_passes}
+use Rattle.mk_class.specs.Symbols.{Symbol, byte_symbol, is_hash, is_colon, is_bar, is_hash_symbol, is_colon_symbol, is_semicolon_symbol, is_bar_symbol}
 use Rattle.mk_class.specs.Symbols.Symbol.{Hash, Colon, Semicolon, Equals, Plus, Question, Exclamation, Bar, Ampersand, NoSymbol}
 use Rattle.mk_class.specs.SymbolLaws.{symbol_byte, byte_symbol-byte}
-use Rattle.mk_class.specs.CutTexts.{is_head_end_symbol, is_in_head, head, after_head}
-use Rattle.mk_class.specs.Separators.{begins_separator, separated}
+use Rattle.mk_class.specs.CutTexts.{is_head_end_symbol, is_in_head}
+use Rattle.mk_class.specs.Separators.{begins_separator}
 use Rattle.mk_class.specs.Scans.{IsSeparatorAt, is_one_byte_of, is_other}
 use Rattle.mk_class.specs.declared.rule.Separator.{Separator}
 use Rattle.mk_class.proofs.AssignmentLemmas.{units-at}

@@ -1,14 +1,14 @@
 -- Lemmas of the parts of a head: they make its header, and have its places.
 use Rattle.std.proofs.Common.{◌≡◌, refl, sym, ap, ◌∙◌, ℕ, ◌+◌, ◌-◌, List, [], ◌∷◌, ◌++◌, map, Bool, true, false, not, ◌||◌, cond, length, take, drop, arith}
-use Rattle.std.specs.Prelude.{if◌then◌else◌, Option, Some, None}
+use Rattle.std.specs.Prelude.{if◌then◌else◌, Some, None}
 use Rattle.std.proofs.lemmas.List.{append-nil, take-append-drop}
-use Rattle.mk_lines.specs.Lists.{leading, after_leading, concat}
+use Rattle.mk_lines.specs.Lists.{leading, after_leading}
 use Rattle.mk_lines.specs.ListLaws.{leading-after_leading}
 use Rattle.mk_lines.specs.Units.{units}
-use Rattle.mk_class.specs.Lists.{any, first_passes, until, from, is_empty}
+use Rattle.mk_class.specs.Lists.{first_passes, until, from, is_empty}
 use Rattle.mk_class.specs.ListLaws.{until-from}
-use Rattle.mk_class.specs.Symbols.{symbol, is_colon, is_bar, is_hash}
-use Rattle.mk_class.specs.CutTexts.{head, after_head, is_in_head}
+use Rattle.mk_class.specs.Symbols.{symbol, is_colon, is_hash}
+use Rattle.mk_class.specs.CutTexts.{head, after_head}
 use Rattle.mk_class.specs.Separators.{Separated, separated, separator_at, separator_length, begins_separator, has_colon}
 use Rattle.mk_class.specs.Headers.{Header, header, header_parts, with_prerequisites, is_no_colon, is_no_bar, has_unreadable, is_rough, inline_recipe}
 use Rattle.mk_class.specs.Scans.{IsSplitAt, AreSeparated, is_one_byte_of, is_other}
@@ -75,17 +75,23 @@ parts-made s false p q n has_bar o t h k =
     ∙ (ap (λ z. with_prerequisites itself s p [] z t) (sym h.2)
     ∙ prerequisites-made s p [] q n has_bar o t k))
 
--- what a head is separated into
-separated-is : (us : List (List ℕ)) (s : Separator) (start rest targets : List (List ℕ)) → AreSeparated us s start rest → ((front : List (List ℕ)) → us ≡ front ++ start → targets ≡ front)
-    → separated itself us ≡ record { separator = s; targets = targets; colons = (separated itself us).colons; rest = rest }
-separated-is us s start rest targets h f =
+-- what units are separated into
+pub separated-parts : (us : List (List ℕ)) (s : Separator) (start rest : List (List ℕ)) → AreSeparated us s start rest
+    → separated itself us ≡ record { separator = s; targets = until (begins_separator itself) us; colons = (separated itself us).colons; rest = rest }
+separated-parts us s start rest h =
     let F = from (begins_separator itself) us in
     let a : separator_at (map (symbol itself) F) ≡ s = ap (λ z. separator_at (map (symbol itself) z)) (sym h.0) ∙ h.1.0 in
     let b : drop (separator_length (separator_at (map (symbol itself) F))) F ≡ rest = ap (λ k. drop (separator_length k) F) a ∙ (ap (drop (separator_length s)) (sym h.0) ∙ sym h.1.1) in
+    let S : Separator → List (List ℕ) → Separated ℕ = λ x z. record { separator = x; targets = until (begins_separator itself) us; colons = (separated itself us).colons; rest = z } in
+    ap (λ x. S x (drop (separator_length (separator_at (map (symbol itself) F))) F)) a ∙ ap (λ z. S s z) b
+
+-- the same, with the targets as they were cut off
+separated-is : (us : List (List ℕ)) (s : Separator) (start rest targets : List (List ℕ)) → AreSeparated us s start rest → ((front : List (List ℕ)) → us ≡ front ++ start → targets ≡ front)
+    → separated itself us ≡ record { separator = s; targets = targets; colons = (separated itself us).colons; rest = rest }
+separated-is us s start rest targets h f =
     let c : until (begins_separator itself) us ≡ targets = sym (f (until (begins_separator itself) us) (sym (until-from (begins_separator itself) us) ∙ ap (λ z. until (begins_separator itself) us ++ z) (sym h.0))) in
-    let S : Separator → List (List ℕ) → List (List ℕ) → Separated ℕ = λ x y z. record { separator = x; targets = y; colons = (separated itself us).colons; rest = z } in
-    ap (λ x. S x (until (begins_separator itself) us) (drop (separator_length (separator_at (map (symbol itself) F))) F)) a
-    ∙ (ap (λ y. S s y (drop (separator_length (separator_at (map (symbol itself) F))) F)) c ∙ ap (λ z. S s targets z) b)
+    let S : List (List ℕ) → Separated ℕ = λ y. record { separator = s; targets = y; colons = (separated itself us).colons; rest = rest } in
+    separated-parts us s start rest h ∙ ap S c
 
 -- the header of the parts of a head
 pub head_parts-made : (us : List (List ℕ)) (s : Separator) (start rest targets : List (List ℕ)) (has_pattern : Bool) (p q n : List (List ℕ)) (has_bar : Bool) (o t : List (List ℕ))

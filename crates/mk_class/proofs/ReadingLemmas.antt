@@ -10,9 +10,9 @@ use Rattle.mk_class.specs.Lists.{any, until, from, is_empty}
 use Rattle.mk_class.specs.Texts.{unit_text, word_texts}
 use Rattle.mk_class.specs.Symbols.{symbol, is_hash}
 use Rattle.mk_class.specs.CutTexts.{cut_text, head}
-use Rattle.mk_class.specs.Assignments.{Assignment, operator_at, operator_length, ends_name, after_blanks, blanks, defined_by, definition, modifier_of, assignment}
+use Rattle.mk_class.specs.Assignments.{Assignment, operator_at, operator_length, ends_name, after_blanks, blanks, defined_by, modifier_of, assignment}
 use Rattle.mk_class.specs.RecipePrefix.{is_prefix_name, may_set_prefix, prefix_of_value, prefix_set_by, is_prefix_led}
-use Rattle.mk_class.specs.Separators.{Separated, separated, separator_at, separator_length, begins_separator, takes_assignment, has_colon}
+use Rattle.mk_class.specs.Separators.{Separated, separated, begins_separator, takes_assignment, has_colon}
 use Rattle.mk_class.specs.Classes.{Class}
 use Rattle.mk_class.specs.ClassTable.{directive, class_of, is_unreadable}
 use Rattle.mk_class.specs.ClassPlaces.{width, assignment_places, class_places}
@@ -32,7 +32,7 @@ use Rattle.mk_class.specs.declared.class.Class as class
 use Rattle.mk_class.specs.declared.class.Class.TheVariants as variants
 use Rattle.mk_class.proofs.ScanLemmas.{width-before, until-before, empty-units}
 use Rattle.mk_class.proofs.AssignmentLemmas.{or_modified, first_word, after_first_word, definition-parts, assignment-step, map-itself}
-use Rattle.mk_class.proofs.HeaderPartLemmas.{colons-are}
+use Rattle.mk_class.proofs.HeaderPartLemmas.{colons-are, separated-parts}
 
 -- ---- the recipe prefix
 
@@ -86,10 +86,7 @@ prefix-front us N R O c a h i j k =
         let same : d ≡ a = cc in
         ap (prefix_set_by itself c) (sym same)
 
-pub prefix-in_conditional : (o : Option Flavor) (n O : List (List ℕ)) → None ≡ front_prefix o n true O
-prefix-in_conditional None n O = refl
-prefix-in_conditional (Some f) n O = sym (ap (λ z. cond z (prefix_of_value (unit_text itself (trim_end (is_gap itself) (after_blanks itself (drop (operator_length f) O))))) None) (and_false (is_prefix_name (unit_text itself n))))
-
+-- it is none where the name is another, or where there is no operator, and else what the flavor and the value say
 pub prefix-other_name : (o : Option Flavor) (n : List (List ℕ)) (c : Bool) (O : List (List ℕ)) → is_prefix_name (unit_text itself n) ≡ false → None ≡ front_prefix o n c O
 prefix-other_name None n c O h = refl
 prefix-other_name (Some f) n c O h =
@@ -110,15 +107,6 @@ prefix-by o f n c O v m h i j k l =
     )
 
 -- ---- an assignment for targets
-
-separated-parts : (us : List (List ℕ)) (s : Separator) (start rest : List (List ℕ)) → AreSeparated us s start rest
-    → separated itself us ≡ record { separator = s; targets = until (begins_separator itself) us; colons = (separated itself us).colons; rest = rest }
-separated-parts us s start rest h =
-    let F = from (begins_separator itself) us in
-    let a : separator_at (map (symbol itself) F) ≡ s = ap (λ z. separator_at (map (symbol itself) z)) (sym h.0) ∙ h.1.0 in
-    let b : drop (separator_length (separator_at (map (symbol itself) F))) F ≡ rest = ap (λ k. drop (separator_length k) F) a ∙ (ap (drop (separator_length s)) (sym h.0) ∙ sym h.1.1) in
-    let S : Separator → List (List ℕ) → Separated ℕ = λ x z. record { separator = x; targets = until (begins_separator itself) us; colons = (separated itself us).colons; rest = z } in
-    ap (λ x. S x (drop (separator_length (separator_at (map (symbol itself) F))) F)) a ∙ ap (λ z. S s z) b
 
 target-made : (s : Separated ℕ) (o : Option (Assignment ℕ)) (other : class.Class) (n m : ℕ) (a : places.Assignment) → Some a ≡ placed m o → n ≡ width s.targets → m ≡ width s.targets + width s.colons
     → variants.TargetAssign (record { separator = s.separator; targets_end = n; assignment = a }) ≡ target_text_class s o other

@@ -3,7 +3,7 @@ use mathlib.Core.Logic.{inl, inr}
 use Rattle.std.specs.Prelude.{◌⊎◌}
 use Rattle.mk_lines.specs.Bytes.ByteKind.{LineFeed, CarriageReturn, Backslash, Blank, Ordinary}
 use Rattle.mk_lines.specs.ByteLaws.{blank-byte}
-use Rattle.std.proofs.Common.{◌≡◌, refl, sym, ap, ◌∙◌, subst, ℕ, suc, ◌+◌, ◌-◌, ◌≤◌, ◌<◌, List, [], ◌∷◌, ◌++◌, Bool, true, false, not, ◌||◌, ◌&&◌, ◌==◌, cond, length, take, drop, get_or, length-append, arith}
+use Rattle.std.proofs.Common.{◌≡◌, refl, sym, ap, ◌∙◌, subst, ℕ, suc, ◌+◌, ◌-◌, ◌≤◌, List, [], ◌∷◌, ◌++◌, Bool, true, false, not, ◌||◌, ◌&&◌, ◌==◌, cond, length, take, drop, get_or, length-append, arith}
 use Rattle.std.proofs.Math.Seq.{take-append_seam}
 use Rattle.std.proofs.lemmas.Bool.{eqb-true}
 use Rattle.mk_lines.specs.Lists.{concat, leading, after_leading, trailing, trim_end, trim_end_before, trailing_before}
@@ -13,7 +13,7 @@ use Rattle.mk_class.specs.Lists.{any, first_passes, last_passes, until, from, is
 use Rattle.mk_class.specs.ListLaws.{until-from}
 use Rattle.mk_class.specs.ClassPlaces.{width}
 use Rattle.mk_lines.specs.Bytes.{byte_kind, is_blank_kind, ByteKind}
-use Rattle.mk_lines.specs.Units.{Mark, byte_mark, units, unit_step, unit_begins}
+use Rattle.mk_lines.specs.Units.{byte_mark, units, unit_step, unit_begins}
 use Rattle.mk_lines.specs.Units.Mark.{Unmarked}
 use Rattle.mk_lines.specs.Units.UnitState.{Between}
 use Rattle.mk_lines.specs.Cut.{continuation}
@@ -23,9 +23,7 @@ use Rattle.mk_lines.specs.FirstUnit.{first_unit, after_first_unit, unit_at}
 use Rattle.mk_lines.specs.FirstUnitLaws.{units-first_unit}
 use Rattle.mk_lines.specs.Words.{is_gap}
 use Rattle.std.specs.List.{list_any}
-use Rattle.mk_class.specs.Symbols.{Symbol, byte_symbol, symbol}
-use Rattle.mk_class.specs.Symbols.Symbol.{Hash, Colon, Semicolon, Equals, Plus, Question, Exclamation, Bar, Ampersand, NoSymbol}
-use Rattle.mk_class.specs.SymbolLaws.{symbol_byte, byte_symbol-byte, blank-unmarked}
+use Rattle.mk_class.specs.SymbolLaws.{blank-unmarked}
 use Rattle.mk_class.specs.TextClasses.{itself}
 use Rattle.mk_class.specs.Scans.{AreUnmarked, IsSplitAt, is_one_byte_of, is_other}
 
@@ -49,45 +47,6 @@ first_unit-unmarked x t h = ap (λ m. unit_at itself m x t) h
 -- and what follows it is the rest of the text
 pub units-unmarked : (x : ℕ) (t : List ℕ) → byte_mark x ≡ Unmarked → units itself (x ∷ t) ≡ (x ∷ []) ∷ units itself t
 units-unmarked x t h = units-first_unit itself x t ∙ ap (λ u. u ∷ units itself (drop (length u) (x ∷ t))) (first_unit-unmarked x t h)
-
-symbol_byte-unmarked : (s : Symbol) → (NoSymbol ≡ s → ⊥) → byte_mark (symbol_byte s) ≡ Unmarked
-symbol_byte-unmarked Hash n = refl
-symbol_byte-unmarked Colon n = refl
-symbol_byte-unmarked Semicolon n = refl
-symbol_byte-unmarked Equals n = refl
-symbol_byte-unmarked Plus n = refl
-symbol_byte-unmarked Question n = refl
-symbol_byte-unmarked Exclamation n = refl
-symbol_byte-unmarked Bar n = refl
-symbol_byte-unmarked Ampersand n = refl
-symbol_byte-unmarked NoSymbol n = absurd (n refl)
-
--- a byte with a symbol means nothing to units
-pub symbol-unmarked : (x : ℕ) (s : Symbol) → (NoSymbol ≡ s → ⊥) → byte_symbol x ≡ s → byte_mark x ≡ Unmarked
-symbol-unmarked x s n h = ap byte_mark (byte_symbol-byte x s n h) ∙ symbol_byte-unmarked s n
-
--- the symbol of the first unit is that of the first byte
-pub first_unit-symbol : (x : ℕ) (t : List ℕ) → symbol itself (first_unit itself (x ∷ t)) ≡ byte_symbol x
-first_unit-symbol x t = go (byte_symbol x) refl
-  where
-    none : (u : List ℕ) → NoSymbol ≡ byte_symbol x → symbol itself (x ∷ u) ≡ NoSymbol
-    none [] e = sym e
-    none (y ∷ u) e = refl
-
-    by : (s : Symbol) → (NoSymbol ≡ s → ⊥) → byte_symbol x ≡ s → symbol itself (first_unit itself (x ∷ t)) ≡ s
-    by s n e = ap (symbol itself) (first_unit-unmarked x t (symbol-unmarked x s n e)) ∙ e
-
-    go : (s : Symbol) → byte_symbol x ≡ s → symbol itself (first_unit itself (x ∷ t)) ≡ s
-    go NoSymbol e = ap (symbol itself) (first_unit-begins x t) ∙ none _ (sym e)
-    go Hash e = by Hash (λ k. cc) e
-    go Colon e = by Colon (λ k. cc) e
-    go Semicolon e = by Semicolon (λ k. cc) e
-    go Equals e = by Equals (λ k. cc) e
-    go Plus e = by Plus (λ k. cc) e
-    go Question e = by Question (λ k. cc) e
-    go Exclamation e = by Exclamation (λ k. cc) e
-    go Bar e = by Bar (λ k. cc) e
-    go Ampersand e = by Ampersand (λ k. cc) e
 
 -- the first unit is a gap where the first byte is a blank
 pub first_unit-gap : (x : ℕ) (t : List ℕ) → is_gap itself (first_unit itself (x ∷ t)) ≡ is_blank_byte x
@@ -137,12 +96,7 @@ module _ (p : List ℕ → Bool) where
       units-first_unit itself x t
       ∙ sym (ap (after_leading p) (units-first_unit itself x t) ∙ ap (λ c. cond c (after_leading p (units itself (after_first_unit itself (x ∷ t)))) (first_unit itself (x ∷ t) ∷ units itself (after_first_unit itself (x ∷ t)))) h)
 
--- the same of texts that are not known to begin with a byte
-pub after_leading-step : (p : List ℕ → Bool) (s r : List ℕ) → 1 ≤ length s → r ≡ after_first_unit itself s
-    → ((t : List ℕ) → s ≡ get_or s 0 0 ∷ t → p (first_unit itself (get_or s 0 0 ∷ t)) ≡ true) → after_leading p (units itself r) ≡ after_leading p (units itself s)
-after_leading-step p [] r h e f = absurd (omega arith)
-after_leading-step p (x ∷ t) r h e f = after_leading-over p x t r e (f t refl)
-
+-- the same where the test is whether the first byte is one of some
 pub from_any-over : (stops s r : List ℕ) → AreUnmarked stops → 1 ≤ length s → list_any (λ b. b == get_or s 0 0) stops ≡ false → r ≡ after_first_unit itself s
     → after_leading (is_other stops) (units itself r) ≡ after_leading (is_other stops) (units itself s)
 from_any-over stops [] r a h k e = absurd (omega arith)

@@ -1,8 +1,7 @@
 -- The class of a line as the code has it: places in the joined text, where the definition has lists of units.
-use Rattle.std.specs.Prelude.{ℕ, ◌+◌, Bool, true, false, not, List, [], ◌∷◌, length, Option, Some, None}
+use Rattle.std.specs.Prelude.{ℕ, ◌+◌, Bool, true, false, not, List, length, Option, Some, None}
 use Rattle.mk_lines.specs.Lists.{concat}
 use Rattle.mk_lines.specs.Cells.{joined_byte}
-use Rattle.mk_lines.specs.declared.split.Span.{Span}
 use Rattle.mk_class.specs.Lists.{is_empty}
 use Rattle.mk_class.specs.Assignments.{Assignment}
 use Rattle.mk_class.specs.Headers.{Header, TargetAssignment, inline_recipe}

@@ -1,9 +1,9 @@
 -- The parts of a head as the code has them, as parts of its text.
-use Rattle.std.specs.Prelude.{◌≡◌, ℕ, ◌+◌, ◌-◌, if◌then◌else◌, Bool, true, false, ◌||◌, List, [], ◌∷◌, length}
+use Rattle.std.specs.Prelude.{◌≡◌, ℕ, ◌+◌, if◌then◌else◌, Bool, true, false, ◌||◌, List, [], ◌∷◌, length}
 use Rattle.mk_lines.specs.Lists.{after_leading}
 use Rattle.mk_lines.specs.Units.{units}
 use Rattle.mk_class.specs.Scans.{IsSplitAt, is_other}
-use Rattle.mk_class.specs.Separators.{Separated, separated}
+use Rattle.mk_class.specs.Separators.{separated}
 use Rattle.mk_class.specs.Headers.{Header, has_colon_after_other, has_third_separator, has_bar_amiss, has_second_bar, has_pattern_amiss}
 use Rattle.mk_class.specs.TextClasses.{itself}
 use Rattle.mk_class.specs.ClassPlaces.{width}

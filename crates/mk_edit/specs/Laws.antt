@@ -51,6 +51,10 @@ AssignReadsAsChanged = (place : Place) (name : List ℕ) (flavor : Flavor) (valu
 abbrev pub RecipeSetReadsAsChanged : Type 0
 RecipeSetReadsAsChanged = (nth : Option ℕ) (target : List ℕ) (number : ℕ) (command : List ℕ) → ReadsAsChanged (SetRecipe nth target number command)
 
+-- a new rule puts its item into the reading at its place
+abbrev pub RuleAddedReadsAsChanged : Type 0
+RuleAddedReadsAsChanged = (place : Place) (targets : List ℕ) (colons : Colons) (prereqs : List ℕ) → ReadsAsChanged (AddRule place targets colons prereqs)
+
 -- an accepted edit that takes lines out leaves the lines above and below them, each with its class
 abbrev pub OtherLinesStay : Type 0
 OtherLinesStay = (edit : Edit) (text : List ℕ) (replacements : List Replacement) (stretch : Stretch) → spans text edit ≡ Ok replacements → removal (classed_lines text) edit ≡ Some stretch
@@ -67,7 +71,3 @@ NewAssignmentsStand = (place : Place) (name : List ℕ) (flavor : Flavor) (value
     → spans text (AddAssign place name flavor value) ≡ Ok replacements → place_found (classed_lines text) place ≡ Some stretch
     → (class : Class) × (classed_lines (text_after text (AddAssign place name flavor value))
     ≡ above_ended (file_line_end text) stretch.above stretch.below ++ record { bytes = assign_text name flavor value ++ line_end_bytes (file_line_end text); class = class } ∷ stretch.below)
-
--- a new rule puts its item into the reading at its place
-abbrev pub RuleAddedReadsAsChanged : Type 0
-RuleAddedReadsAsChanged = (place : Place) (targets : List ℕ) (colons : Colons) (prereqs : List ℕ) → ReadsAsChanged (AddRule place targets colons prereqs)

@@ -56,5 +56,13 @@ pub mod RenamedHeaders
 pub mod RenamedTexts
 pub mod TargetFronts
 pub mod TargetUnits
+pub mod RisingSpans
+pub mod OutsideLaws
+pub mod EditPlaces
+pub mod ClassParts
+pub mod SpansRise
+pub mod KeptLines
+pub mod KeptByEdits
+pub mod TouchedLines
 pub mod Laws
 pub mod WordLaws

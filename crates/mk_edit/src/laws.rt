@@ -4,6 +4,8 @@ pub mod words;
 
 ghost use Rattle.mk_edit.specs.Laws.{AppendReadsAsChanged, AssignReadsAsChanged, NewAssignmentsStand, OtherLinesStay, RecipeAddedReadsAsChanged, RecipeRemovedReadsAsChanged, RecipeSetReadsAsChanged, RefusedChangesNothing, RuleAddedReadsAsChanged, SetReadsAsChanged, UnruleReadsAsChanged, UnsetReadsAsChanged};
 
+pub mod outside;
+
 /// An accepted edit of a value changes the reading by this value alone. Where the new value is empty
 /// and a fold is left without its next line, the value is one lone backslash.
 pub fn set_reads_as_changed()
@@ -51,6 +53,13 @@ pub fn recipe_set_reads_as_changed()
     ensures { RecipeSetReadsAsChanged }
 {}
 
+/// An accepted new rule puts its item into the reading, a header with its targets, its separator and
+/// its prerequisites, and no other item changes. A last line without line end gets one where the
+/// rule comes last.
+pub fn rule_added_reads_as_changed()
+    ensures { RuleAddedReadsAsChanged }
+{}
+
 /// An accepted edit that takes lines out leaves the lines above and below them, each with its
 /// class.
 pub fn other_lines_stay()
@@ -67,11 +76,4 @@ pub fn refused_changes_nothing()
 /// gets.
 pub fn new_assignments_stand()
     ensures { NewAssignmentsStand }
-{}
-
-/// An accepted new rule puts its item into the reading, a header with its targets, its separator and
-/// its prerequisites, and no other item changes. A last line without line end gets one where the
-/// rule comes last.
-pub fn rule_added_reads_as_changed()
-    ensures { RuleAddedReadsAsChanged }
 {}

@@ -44,8 +44,11 @@ pub fn without_line_end(line: &[u8]) -> &[u8]
 fn ends_with_odd_run(text: &[u8]) -> bool
     ensures { result ≡ ends_with_odd_run text.now }
 {
-    let run = backslashes_after(text);
-    run % 2 == 1
+    // Most texts end with no backslash, and nothing is counted there.
+    match text {
+        [.., b'\\'] => backslashes_after(text) % 2 == 1,
+        _ => false,
+    }
 }
 
 // How many backslashes a text ends with.

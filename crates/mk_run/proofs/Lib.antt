@@ -4,3 +4,4 @@ pub mod FrontLemmas
 pub mod ScriptLemmas
 pub mod TextLemmas
 pub mod ThinLemmas
+pub mod DocumentLemmas

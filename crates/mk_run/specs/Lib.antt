@@ -6,3 +6,4 @@ pub mod ThinFile
 pub mod Report
 pub mod Outcome
 pub mod Reading
+pub mod Edited

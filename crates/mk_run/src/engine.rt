@@ -3,18 +3,22 @@ ghost use Rattle.std.specs.Prelude.{◌≡◌, ◌≢◌, ◌⊎◌, ◌↔◌, 
 ghost use Rattle.std.specs.Io.KnownBytes.{Appends};
 ghost use Rattle.mk_lines.specs.Device.{AppendsPrefix};
 ghost use Rattle.mk_run.specs.Assignment.{SetsValue};
+ghost use Rattle.mk_tree.specs.Documents.{IsTooDeep};
 ghost use Rattle.mk_run.specs.Outcome.{AllWork, StopsCommands, StopsEdits};
 ghost use Rattle.mk_run.specs.Script.{numbered_request, requests_of};
 ghost use Rattle.mk_run.specs.Texts.{AsksOnlyToSet, DoesAll, Makes, UndoesAllItSets, texts};
+ghost use Rattle.mk_run.specs.Edited.{edited_text};
 
+use crate::edited::Edited;
 use crate::outcome::Outcome;
 use crate::refusal::Refusal;
 use crate::report::report_refusal;
 use crate::script::{NumberedCommand, ScriptFault, parse_script};
 use crate::session::ThinSession;
-use mk_lines::sink::write_all;
+use mk_class::Meter;
 use mk_lines::source::{TEXT_LIMIT, read_all};
 use mk_lines::{ByteSink, ByteSource, Fault};
+use mk_tree::Doc;
 use std::alloc::Allocator;
 
 const MAX_DEPTH: u32 = 10_000;
@@ -51,7 +55,7 @@ fn execute_all<A: Allocator + Copy, P: ByteSink>(
     Ok(refused)
 }
 
-// The session after the whole script, and the count of commands refused. Only the report is
+// The makefile after the whole script, and the count of commands refused. Only the report is
 // written to.
 fn edited<A, R, S, P>(
     alloc: A,
@@ -60,7 +64,7 @@ fn edited<A, R, S, P>(
     depth: u32,
     keep_going: bool,
     report: &mut P,
-) -> Result<(ThinSession<A>, u64), Outcome>
+) -> Result<(Edited<A>, u64), Outcome>
 where
     A: Allocator + Copy,
     R: ByteSource,
@@ -71,11 +75,13 @@ where
     requires report_works { P.failed report.old ≡ false }
     ensures all { keep_going ≡ false → IfOk result (λ r. r.1 ≡ 0) }
     ensures done { IfOk result (λ r. r.1 ≡ 0 → IfSome (S.remaining script.old) (λ requests.
-        IfSome (R.remaining makefile.old) (λ old. Makes depth requests old r.0.text.items))) }
+        IfSome (R.remaining makefile.old) (λ old. Makes depth requests old (edited_text r.0)))) }
     ensures not_a_command { (line : ℕ) → result ≡ Err (Outcome.NotACommand line) →
         IfSome (S.remaining script.old) (λ requests. requests_of requests ≡ Err line) }
     ensures too_long { result ≡ Err Outcome.TooLong → IfSome (S.remaining script.old) (λ requests.
         IfSome (R.remaining makefile.old) (λ old. (TEXT_LIMIT < length requests) ⊎ (TEXT_LIMIT < length old))) }
+    ensures too_deep { result ≡ Err Outcome.TooDeep → IfSome (R.remaining makefile.old) (λ old. IsTooDeep old) }
+    ensures shallow { OnOk result (IfSome (R.remaining makefile.old) (λ old. IsTooDeep old → ⊥)) }
     ensures works { OnOk result (AllWork (R.failed makefile.new) (S.failed script.new) (P.failed report.new)) }
     ensures stops { IfErr result (λ outcome.
         StopsEdits outcome (R.failed makefile.new) (S.failed script.new) (P.failed report.new)) }
@@ -87,22 +93,27 @@ where
         Err(ScriptFault::NoMemory) => return Err(Outcome::NoMemory),
     };
     let text = read_all(alloc, makefile)?;
+    let doc = Doc::parse(alloc, text.as_slice(), &mut Meter::new())?;
+    if commands.is_empty() {
+        return Ok((Edited::Document(doc), 0));
+    }
+    drop(doc);
     let Ok(mut session) = ThinSession::open(alloc, text, depth) else {
         return Err(Outcome::NoMemory);
     };
     let refused = execute_all(&mut session, commands.as_slice(), keep_going, report)?;
-    Ok((session, refused))
+    Ok((Edited::Thin(session), refused))
 }
 
 // Writes the text out, and flushes it once.
-fn put_out<W: ByteSink>(out: &mut W, text: &[u8]) -> Result<(), Fault>
+fn put_out<A: Allocator + Copy, W: ByteSink>(out: &mut W, edited: &Edited<A>) -> Result<(), Fault>
     requires { W.failed out.old ≡ false }
-    ensures whole { OnOk result (Appends (W.contents out.old) (W.contents out.new) text.now) }
-    ensures prefix { AppendsPrefix (W.contents out.old) (W.contents out.new) text.now }
+    ensures whole { OnOk result (Appends (W.contents out.old) (W.contents out.new) (edited_text edited.now)) }
+    ensures prefix { AppendsPrefix (W.contents out.old) (W.contents out.new) (edited_text edited.now) }
     ensures works { OnOk result (W.failed out.new ≡ false) }
     ensures fault { IfErr result (λ e. (e ≡ Fault.Write) × (W.failed out.new ≡ true)) }
 {
-    write_all(out, text)?;
+    edited.write_to(out)?;
     out.flush()
 }
 
@@ -110,7 +121,8 @@ fn put_out<W: ByteSink>(out: &mut W, text: &[u8]) -> Result<(), Fault>
 /// refused command to `report`.
 ///
 /// In order: the depth is tested; the script is read to its end and parsed whole; the makefile is
-/// read to its end; the commands are done in order; the text is written to `out` and flushed once.
+/// read to its end and parsed as a document; the commands are done in order; the text is written to
+/// `out` and flushed once.
 /// `depth` is how many edits can be undone. Without `keep_going` the first refusal ends the run;
 /// with it the rest is done. A reader is left once more than 16,777,216 bytes have come.
 ///
@@ -158,7 +170,8 @@ where
         IfSome (S.remaining script.old) (λ requests. requests_of requests ≡ Err line) }
     ensures too_long { result ≡ Outcome.TooLong → IfSome (S.remaining script.old) (λ requests.
         IfSome (R.remaining makefile.old) (λ old. (TEXT_LIMIT < length requests) ⊎ (TEXT_LIMIT < length old))) }
-    ensures not_deep { result ≢ Outcome.TooDeep }
+    ensures too_deep { result ≡ Outcome.TooDeep → IfSome (R.remaining makefile.old) (λ old. IsTooDeep old) }
+    ensures shallow { result ≡ Outcome.Done → IfSome (R.remaining makefile.old) (λ old. IsTooDeep old → ⊥) }
     ensures read { result ≡ Outcome.Read ↔ IsTrue (R.failed makefile.new || S.failed script.new) }
     ensures write { result ≡ Outcome.Write ↔ IsTrue (W.failed out.new || P.failed report.new) }
 {
@@ -166,7 +179,7 @@ where
         return Outcome::BadDepth;
     }
     match edited(alloc, makefile, script, depth, keep_going, report) {
-        Ok((session, refused)) => match put_out(out, session.text()) {
+        Ok((edited, refused)) => match put_out(out, &edited) {
             Ok(()) if refused == 0 => Outcome::Done,
             Ok(()) => Outcome::Refused(refused),
             Err(fault) => Outcome::from(fault),

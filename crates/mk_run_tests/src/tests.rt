@@ -220,6 +220,59 @@ fn a_text_at_the_limit_grows_no_more(rt: HostRuntime) -> Result<(), Fail> {
     Ok(())
 }
 
+// At most 256 conditionals may be open, whatever the script asks for.
+#[test]
+fn a_257th_open_conditional_is_too_deep(rt: HostRuntime) -> Result<(), Fail> {
+    let mut text = Vec::new(rt.alloc());
+    for _ in 0..256 {
+        text.extend_from_slice(b"ifdef A\n")?;
+    }
+    assert!(rt; is_printed_by_no_script(&rt, text.as_slice()));
+    text.extend_from_slice(b"ifdef A\n")?;
+    for script in [b"".as_slice(), b"undo\n".as_slice()] {
+        let (outcome, out) = run_script(&rt, text.as_slice(), script);
+        assert_eq!(rt; outcome, Outcome::TooDeep);
+        assert_eq!(rt; (out.writes(), out.flushes()), (0, 0));
+    }
+    Ok(())
+}
+
+// A script without commands prints the bytes of any file.
+#[test]
+fn no_script_prints_the_makefile(rt: HostRuntime) {
+    for text in [
+        b"A \\\nB\nC".as_slice(),
+        b"A=1\r\nB=2\n\r\n".as_slice(),
+        b"foo: a | b\n\techo \\\n\t  $@\n\nifdef X\n# c\nendif".as_slice(),
+        b"endif\n\tX = 1\n".as_slice(),
+        b"define D\nX = 1\0\r2\\\\\\\n3\n\xff".as_slice(),
+    ] {
+        assert!(rt; is_printed_by_no_script(&rt, text));
+    }
+}
+
+fn is_printed_by_no_script(rt: &HostRuntime, text: &[u8]) -> bool {
+    let (outcome, out) = run_script(rt, text, b"# nothing\n\n");
+    outcome == Outcome::Done && out.bytes() == text && out.flushes() == 1
+}
+
+fn run_script(rt: &HostRuntime, text: &[u8], script: &[u8]) -> (Outcome, MemorySink) {
+    let mut makefile = MemorySource::new(text, ALL);
+    let mut script = MemorySource::new(script, ALL);
+    let mut out = MemorySink::new(Vec::new(rt.alloc()), ALL);
+    let mut report = MemorySink::new(Vec::new(rt.alloc()), ALL);
+    let outcome = run(
+        rt.alloc(),
+        &mut makefile,
+        &mut script,
+        100,
+        false,
+        &mut out,
+        &mut report,
+    );
+    (outcome, out)
+}
+
 #[test]
 fn messages_and_statuses(rt: HostRuntime) {
     for (outcome, text, code) in [

@@ -1,5 +1,5 @@
 -- The lines of a text are admitted where they stand.
-use Rattle.std.proofs.Common.{◌≡◌, ℕ, zero, suc, ◌+◌, ◌-◌, ◌<◌, ◌≤◌, ◌^◌, refl, sym, ap, ◌∙◌, subst, arith, List, [], ◌∷◌, ◌++◌, length, take, drop, Some, suc-add}
+use Rattle.std.proofs.Common.{◌≡◌, ℕ, zero, suc, ◌+◌, ◌<◌, ◌≤◌, ◌^◌, refl, sym, ap, ◌∙◌, subst, arith, List, [], ◌∷◌, length, take, drop, suc-add}
 use Rattle.mk_lines.specs.LogicalLines.{logical_lines}
 use Rattle.mk_class.specs.Classes.{Class}
 use Rattle.mk_class.specs.Classes.Class.{Endef, Body, Recipe, Opaque, Blank, Comment, Assign, DefineHead, If, Else, Endif, Directive, TargetAssign, Rough, Header}
@@ -8,7 +8,7 @@ use Rattle.mk_class.specs.ClassPlaces.{class_places}
 use Rattle.mk_class.specs.ClassTable.{class_of}
 use Rattle.mk_class.specs.ClassLaws.{FitsCounts, class_of-counts}
 use Rattle.mk_class.specs.ClassedLines.{ClassedLine, classed, classed_lines, context_after_lines}
-use Rattle.mk_class.specs.ContextPlaces.{context_after_places, context_after_places-class_places, conditionals_after_places, FitsDefines, Admits}
+use Rattle.mk_class.specs.ContextPlaces.{context_after_places, context_after_places-class_places, FitsDefines}
 use Rattle.mk_class.specs.declared.class.Class as class
 use Rattle.mk_class.specs.declared.context.Nesting.TheVariants.{Opens, Closes, Keeps}
 use Rattle.mk_tree.specs.PlacedLines.{PlacedLine, placed_line, placed_lines, placed_text, AreConditionalsFit, context_after_placed}

@@ -1,4 +1,4 @@
-use Rattle.std.proofs.Common.{◌∙◌, sym, arith, rules}
+use Rattle.std.proofs.Common.{◌∙◌, arith, rules}
 use Rattle.mk_class.proofs.AssignmentLemmas.{after_name-step}
 use Rattle.mk_class.proofs.assignment.after_name.Goals as goal
 

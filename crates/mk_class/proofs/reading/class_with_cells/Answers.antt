@@ -1,4 +1,4 @@
-use Rattle.std.proofs.Common.{refl, sym, ◌∙◌}
+use Rattle.std.proofs.Common.{refl}
 use Rattle.mk_class.proofs.ReadingLemmas.{class-read, line-if, line-fits, line-admits}
 use Rattle.mk_class.proofs.reading.class_with_cells.Goals as goal
 

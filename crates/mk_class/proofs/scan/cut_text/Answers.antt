@@ -1,5 +1,5 @@
 use Rattle.std.proofs.Common.{◌∙◌, ◌∷◌, [], ap, not}
-use Rattle.mk_lines.specs.Lists.{leading, after_leading}
+use Rattle.mk_lines.specs.Lists.{leading}
 use Rattle.mk_lines.specs.Units.{units}
 use Rattle.mk_class.specs.CutTexts.{is_no_hash}
 use Rattle.mk_class.specs.Scans.{is_other}

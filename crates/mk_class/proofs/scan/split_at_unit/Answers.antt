@@ -1,5 +1,5 @@
 use Rattle.std.proofs.Common.{sym, ◌∙◌}
-use Rattle.mk_class.proofs.ScanLemmas.{split_at_unit-some, split_at_unit-none}
+use Rattle.mk_class.proofs.ScanLemmas.{split_at_unit-some}
 use Rattle.mk_class.proofs.scan.split_at_unit.Goals as goal
 
 pub returns : goal.returns

@@ -1,5 +1,4 @@
-use Rattle.std.proofs.Common.{◌≡◌, arith, ap, sym, ◌∙◌, length}
-use Rattle.mk_lines.specs.FirstUnit.{after_first_unit}
+use Rattle.std.proofs.Common.{arith, ap, sym, ◌∙◌, length}
 use Rattle.mk_lines.proofs.UnitWalkLemmas.{after_unit-or_nothing, after_first_unit-less, after_first_unit-empty, after_first_unit-length}
 use Rattle.mk_lines.proofs.unit.after_first_unit.Goals as goal
 

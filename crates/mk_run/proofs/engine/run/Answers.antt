@@ -1,4 +1,4 @@
-use Rattle.std.proofs.Common.{subst}
+use Rattle.mk_run.specs.Edited.{edited_text}
 use Rattle.std.specs.Io.KnownBytes.{Appends}
 use Rattle.mk_run.proofs.TextLemmas.{undone-out}
 use Rattle.mk_run.proofs.engine.run.Goals as goal
@@ -6,4 +6,4 @@ use Rattle.mk_run.proofs.engine.run.Goals as goal
 pub returns-in-Ok-put_out-clause-back : goal.returns-in-Ok-put_out-clause-back
 returns-in-Ok-put_out-clause-back g c = λ _.
     let Written = Appends (g.W.ByteSink.contents c.args.out.now) (g.W.ByteSink.contents c.put_out.new.out) in
-    undone-out _ _ c.args.depth c.in-Ok.session.text.items Written (c.in-Ok.ensures.done c.if-refused-eq0.true) (subst Written c.text.ensures c.in-Ok-put_out.ensures.whole)
+    undone-out _ _ c.args.depth (edited_text c.in-Ok.edited) Written (c.in-Ok.ensures.done c.if-refused-eq0.true) c.in-Ok-put_out.ensures.whole

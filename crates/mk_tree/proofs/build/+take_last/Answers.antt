@@ -1,4 +1,4 @@
-use Rattle.std.proofs.Common.{arith, refl, rules}
+use Rattle.std.proofs.Common.{refl, rules}
 use Rattle.mk_tree.specs.Trees.{line_view, line_views}
 use Rattle.mk_tree.proofs.Building.{halves-joined, size_of-sides, popped-fits, built-low}
 use Rattle.mk_tree.proofs.build.+take_last.Goals as goal

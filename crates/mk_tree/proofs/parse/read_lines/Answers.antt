@@ -1,4 +1,4 @@
-use Rattle.std.proofs.Common.{◌≡◌, ◌∷◌, ◌∙◌, ◌+◌, List, ℕ, drop, arith, subst, sym, ap, length, rules}
+use Rattle.std.proofs.Common.{◌≡◌, ◌∷◌, ◌∙◌, ◌+◌, List, ℕ, drop, arith, subst, sym, ap, length}
 use Rattle.mk_lines.specs.LogicalLines.{logical_lines}
 use Rattle.mk_lines.specs.Spans.{Tiles}
 use Rattle.mk_lines.specs.Ranges.{line_ranges}

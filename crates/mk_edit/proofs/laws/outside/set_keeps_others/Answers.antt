@@ -1,0 +1,5 @@
+use Rattle.mk_edit.specs.KeptByEdits.{set-keeps}
+use Rattle.mk_edit.proofs.laws.outside.set_keeps_others.Goals as goal
+
+pub returns : goal.returns
+returns c nth name b v text rs h = set-keeps nth name b v text rs h

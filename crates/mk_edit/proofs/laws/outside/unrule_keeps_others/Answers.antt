@@ -1,0 +1,5 @@
+use Rattle.mk_edit.specs.KeptByEdits.{rule_removed-keeps}
+use Rattle.mk_edit.proofs.laws.outside.unrule_keeps_others.Goals as goal
+
+pub returns : goal.returns
+returns c nth target text rs h = rule_removed-keeps nth target text rs h

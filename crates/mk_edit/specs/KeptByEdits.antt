@@ -1,0 +1,175 @@
+-- The edits that leave the lines that their spans do not touch.
+use Rattle.std.proofs.Common.{◌≡◌, refl, sym, ap, ◌∙◌, subst, arith, ℕ, List, [], ◌∷◌, ◌++◌, Bool, true, false, not, length, ◌+◌, Option, Some, None, option_map}
+use Rattle.std.proofs.lemmas.Bool.{eq-eqb}
+use Rattle.std.specs.Prelude.{Ok, nat_lt}
+use Rattle.mk_lines.specs.Lists.{concat}
+use Rattle.mk_lines.specs.PhysicalLines.{line_end, line_end_bytes, file_line_end}
+use Rattle.mk_lines.specs.LineCells.{or-left_false, or-right_false}
+use Rattle.mk_lines.specs.LineEndAdded.{IsEnded}
+use Rattle.mk_lines.specs.Pieces.{Replacement, replaced}
+use Rattle.mk_class.specs.Lists.{any}
+use Rattle.mk_class.specs.AssignmentLineLaws.{before_value, line-with_value, line_with, with_text}
+use Rattle.mk_class.specs.ValueLaws.{value-text}
+use Rattle.mk_class.specs.Arguments.{is_value, is_name, is_command, is_target}
+use Rattle.mk_class.specs.Classes.{Class, is_conditional}
+use Rattle.mk_class.specs.Contexts.{context_after}
+use Rattle.mk_class.specs.ClassTable.{class_of}
+use Rattle.mk_class.specs.ClassedLines.{ClassedLine, classed_lines, context_after_lines}
+use Rattle.mk_class.specs.declared.context.Flag.TheVariants as flag
+use Rattle.mk_tree.specs.Documents.{text_of, context_of}
+use Rattle.mk_tree.specs.RecipeLines.{recipe_run, after_recipe}
+use Rattle.mk_tree.specs.Leaning.{AgreeButForFlag}
+use Rattle.mk_tree.specs.LinePlaces.{bytes_of, located, located-run, context_of-last, context_of-append}
+use Rattle.mk_tree.specs.RunsReplaced.{line-replaced, text-inserted}
+use Rattle.mk_tree.specs.NewLines.{above_ended, missing_line_end}
+use Rattle.mk_tree.specs.NewLineLaws.{file_line_end-some, new_line-clean, line-added}
+use Rattle.mk_tree.specs.ConditionalLaws.{AreUnconditional}
+use Rattle.mk_tree.specs.RecipeRunLaws.{recipe_run-stays, rule-context, rule-agrees, assign-agrees, recipe-agrees}
+use Rattle.mk_edit.specs.Edits.{SetValue, RemoveAssign, RemoveRule, AddRecipe, RemoveRecipe}
+use Rattle.mk_edit.specs.Spots.{Spot}
+use Rattle.mk_edit.specs.Stretches.{this_line, whole_rule, after_rule, removal}
+use Rattle.mk_edit.specs.NewLines.{new_line_span}
+use Rattle.mk_edit.specs.ValueSpans.{set_value_span, value_span, assignment_span, value_start, value_end}
+use Rattle.mk_edit.specs.Spans.{removed_span, where_found}
+use Rattle.mk_edit.specs.RuleCauses.{has_conditional}
+use Rattle.mk_edit.specs.LineCauses.{removal_leans, follows_open_line, new_line_leans}
+use Rattle.mk_edit.specs.Costs.{line_count}
+use Rattle.mk_edit.specs.Refusals.{spans}
+use Rattle.mk_edit.specs.Accepted.{accepted, where_holds-none, two-passed}
+use Rattle.mk_edit.specs.FoundAssignments.{assignment-found, no_prefix-set}
+use Rattle.mk_edit.specs.SpotLaws.{recipe-found, recipe-class, rule-found}
+use Rattle.mk_edit.specs.ValueEdits.{text-replaced_in_line}
+use Rattle.mk_edit.specs.SetLaws.{not_prefix}
+use Rattle.mk_edit.specs.PrefixLaws.{CanBegin, context-can_begin}
+use Rattle.mk_edit.specs.RecipeLaws.{recipe-clean, recipe-no_backslash, recipe-class_in_rule}
+use Rattle.mk_edit.specs.EditPlaces.{rule-stretch, after_rule-stretch}
+use Rattle.mk_edit.specs.RisingSpans.{Rise}
+use Rattle.mk_edit.specs.SpansRise.{set-rises, value-rises}
+use Rattle.mk_edit.specs.KeptLines.{AreOthersKept, line-kept, stretch-kept, new_line-kept}
+
+-- a class of no conditional
+unconditional-class : (k m : Class) → k ≡ m → not (is_conditional m) ≡ true → not (is_conditional k) ≡ true
+unconditional-class k m h u = ap (λ z. not (is_conditional z)) h ∙ u
+
+-- a line after which the context agrees with that before it but for the flag
+agrees-last : (A : List ClassedLine) (l : ClassedLine) (k : Class) → l.class ≡ k → AgreeButForFlag (context_of A) (context_after (context_of A) k) → AgreeButForFlag (context_of A) (context_of (A ++ l ∷ []))
+agrees-last A l k h g = subst (AgreeButForFlag (context_of A)) (sym (context_of-last A l ∙ ap (context_after (context_of A)) h)) g
+
+-- ---- an assignment taken out
+
+pub unset-keeps : (nth : Option ℕ) (n t : List ℕ) (rs : List Replacement) → spans t (RemoveAssign nth n) ≡ Ok rs → AreOthersKept t (RemoveAssign nth n) rs
+unset-keeps nth n t rs h =
+    let e = RemoveAssign nth n in
+    let A = accepted t e rs h in
+    let F = assignment-found t n nth (where_holds-none _ _ A.is_there) (where_holds-none _ _ A.is_one) (not_prefix n A.not_reserved) in
+    let s = F.spot in
+    let free : removal_leans (Some (this_line s)) ≡ false = subst (λ (z : Option Spot). removal_leans (option_map this_line z) ≡ false) F.found_is (where_holds-none _ _ A.not_leaning) in
+    let y : removed_span (this_line s) ≡ rs = subst (λ (z : Option Spot). where_found removed_span (option_map this_line z) ≡ rs) F.found_is A.spans_are in
+    stretch-kept t e rs (this_line s) h F.whole y (agrees-last s.above s.line (Class.Assign F.assigned None) F.class_is (assign-agrees (context_of s.above) F.assigned)) free refl (omega arith)
+    (unconditional-class s.line.class (Class.Assign F.assigned None) F.class_is refl, tt)
+
+-- ---- a recipe line taken out
+
+pub recipe_removed-keeps : (nth : Option ℕ) (g : List ℕ) (k : ℕ) (t : List ℕ) (rs : List Replacement) → spans t (RemoveRecipe nth g k) ≡ Ok rs → AreOthersKept t (RemoveRecipe nth g k) rs
+recipe_removed-keeps nth g k t rs h =
+    let e = RemoveRecipe nth g k in
+    let A = accepted t e rs h in
+    let F = recipe-found (classed_lines t) nth g k (where_holds-none _ _ A.not_absent) in
+    let s = F.spot in
+    let r : s.line.class ≡ Class.Recipe = recipe-class s.line.class F.is_recipe_line in
+    let free : removal_leans (Some (this_line s)) ≡ false = subst (λ (z : Option Spot). removal_leans (option_map this_line z) ≡ false) F.found_is (where_holds-none _ _ A.not_leaning) in
+    let y : removed_span (this_line s) ≡ rs = subst (λ (z : Option Spot). where_found removed_span (option_map this_line z) ≡ rs) F.found_is A.spans_are in
+    stretch-kept t e rs (this_line s) h F.whole y (agrees-last s.above s.line Class.Recipe r (recipe-agrees (context_of s.above))) free refl (omega arith)
+    (unconditional-class s.line.class Class.Recipe r refl, tt)
+
+-- ---- a rule taken out
+
+not-any : (b : Bool) → b ≡ false → not b ≡ true
+not-any b h = ap not h
+
+unconditional : (ls : List ClassedLine) → any (λ l. is_conditional l.class) ls ≡ false → AreUnconditional ls
+unconditional [] h = tt
+unconditional (l ∷ ls) h =
+    let c = is_conditional l.class in
+    (not-any c (or-left_false c (any (λ m. is_conditional m.class) ls) h), unconditional ls (or-right_false c (any (λ m. is_conditional m.class) ls) h))
+
+pub rule_removed-keeps : (nth : Option ℕ) (g t : List ℕ) (rs : List Replacement) → spans t (RemoveRule nth g) ≡ Ok rs → AreOthersKept t (RemoveRule nth g) rs
+rule_removed-keeps nth g t rs h =
+    let e = RemoveRule nth g in
+    let ls = classed_lines t in
+    let A = accepted t e rs h in
+    let F = rule-found ls nth g (where_holds-none _ _ A.is_there) (where_holds-none _ _ A.is_one) in
+    let s = F.spot in
+    let R = recipe_run s.below in
+    let free : removal_leans (Some (whole_rule s)) ≡ false = subst (λ (z : Option Spot). removal_leans (option_map whole_rule z) ≡ false) F.found_is (where_holds-none _ _ A.not_leaning) in
+    let plain : has_conditional (Some s) ≡ false = subst (λ (z : Option Spot). has_conditional z ≡ false) F.found_is (where_holds-none _ _ A.not_straddling) in
+    let y : removed_span (whole_rule s) ≡ rs = subst (λ (z : Option Spot). where_found removed_span (option_map whole_rule z) ≡ rs) F.found_is A.spans_are in
+    let many : line_count (removal ls e) ≡ length (s.line ∷ R) = ap (λ (z : Option Spot). line_count (option_map whole_rule z)) F.found_is in
+    let u = unconditional R plain in
+    let agree : AgreeButForFlag (context_of s.above) (context_of (s.above ++ s.line ∷ R)) =
+    subst (AgreeButForFlag (context_of s.above)) (sym (context_of-append s.above (s.line ∷ R)))
+    (rule-agrees (context_of s.above) s.line F.header R (located t s.above s.line s.below F.whole).class F.class_is (recipe_run-stays s.below) u) in
+    stretch-kept t e rs (whole_rule s) h (rule-stretch ls s F.whole) y agree free refl (omega (arith, many)) (unconditional-class s.line.class (Class.Header F.header) F.class_is refl, u)
+
+-- ---- a value set
+
+pub set-keeps : (nth : Option ℕ) (n : List ℕ) (b : ℕ) (v t : List ℕ) (rs : List Replacement) → spans t (SetValue nth n (b ∷ v)) ≡ Ok rs → AreOthersKept t (SetValue nth n (b ∷ v)) rs
+set-keeps nth n b v t rs h =
+    let e = SetValue nth n (b ∷ v) in
+    let A = accepted t e rs h in
+    let i : is_value (b ∷ v) ≡ true = (two-passed _ _ (is_name n) (is_value (b ∷ v)) A.arguments).1 in
+    let F = assignment-found t n nth (where_holds-none _ _ A.is_there) (where_holds-none _ _ A.is_one) (not_prefix n A.not_reserved) in
+    let s = F.spot in
+    let a = F.assigned in
+    let c = context_of s.above in
+    let at = length (text_of s.above) in
+    let L = located t s.above s.line s.below F.whole in
+    let w = line-with_value c s.line.bytes (bytes_of s.below) a None (b ∷ v) (value-text b v i) (L.class ∙ F.class_is) L.one L.ends in
+    let k = Class.Assign (with_text a (b ∷ v)) None in
+    let m = line_with a w.parts.rest (b ∷ v) (line_end_bytes (line_end s.line.bytes)) in
+    let class : class_of c m ≡ k = w.class ∙ ap (Class.Assign (with_text a (b ∷ v))) (no_prefix-set (nat_lt 0 c.conditionals) (with_text a (b ∷ v)) F.no_prefix) in
+    let x : assignment_span (set_value_span (b ∷ v)) at s.line.class ≡ rs = subst (λ (z : Option Spot). where_found (value_span (set_value_span (b ∷ v))) z ≡ rs) F.found_is A.spans_are in
+    let y : set_value_span (b ∷ v) at a ∷ [] ≡ rs = subst (λ (z : Class). assignment_span (set_value_span (b ∷ v)) at z ≡ rs) F.class_is x in
+    let text : replaced 0 t (set_value_span (b ∷ v) at a ∷ []) ≡ text_of s.above ++ (m ++ text_of s.below) =
+    text-replaced_in_line t s.above s.line s.below (concat (before_value a)) (concat a.value) (concat (a.after ++ w.parts.rest)) (b ∷ v) (value_start at a) (value_end at a) F.whole w.parts.cells_are refl refl in
+    let lines : classed_lines (replaced 0 t rs) ≡ s.above ++ record { bytes = m; class = k } ∷ s.below =
+    ap (λ z. classed_lines (replaced 0 t z)) (sym y)
+    ∙ (ap classed_lines text ∙ line-replaced t s.above s.line s.below m k F.whole w.line.one w.line.ends class (ap (context_after c) (sym F.class_is))) in
+    line-kept t e rs s (record { bytes = m; class = k }) h F.whole lines
+    (subst (Rise at (at + length s.line.bytes)) x (value-rises t s (set_value_span (b ∷ v)) F.whole (set-rises (b ∷ v)))) refl (omega arith) (omega arith)
+    (unconditional-class s.line.class (Class.Assign a None) F.class_is refl) refl
+
+-- ---- a new recipe line
+
+pub recipe_added-keeps : (nth : Option ℕ) (g c t : List ℕ) (rs : List Replacement) → spans t (AddRecipe nth g c) ≡ Ok rs → AreOthersKept t (AddRecipe nth g c) rs
+recipe_added-keeps nth g c t rs h =
+    let e = AddRecipe nth g c in
+    let A = accepted t e rs h in
+    let k : is_command c ≡ true = (two-passed _ _ (is_target g) (is_command c) A.arguments).1 in
+    let F = rule-found (classed_lines t) nth g (where_holds-none _ _ A.is_there) (where_holds-none _ _ A.is_one) in
+    let s = F.spot in
+    let R = recipe_run s.below in
+    let above = s.above ++ s.line ∷ R in
+    let below = after_recipe s.below in
+    let C = context_of above in
+    let E = file_line_end t in
+    let unopened : follows_open_line (Some (after_rule s)) ≡ false = subst (λ (z : Option Spot). follows_open_line (option_map after_rule z) ≡ false) F.found_is (where_holds-none _ _ A.line_closed) in
+    let leans : new_line_leans e (Some (after_rule s)) ≡ false =
+    subst (λ (z : Option Spot). new_line_leans e (option_map after_rule z) ≡ false) F.found_is (or-left_false _ _ (where_holds-none _ _ A.not_leaning)) in
+    let y : new_line_span t e (after_rule s) ≡ rs = subst (λ (z : Option Spot). where_found (new_line_span t e) (option_map after_rule z) ≡ rs) F.found_is A.spans_are in
+    let whole : classed_lines t ≡ above ++ below = after_rule-stretch (classed_lines t) s F.whole in
+    let rule = rule-context (context_of s.above) s.line F.header R (located t s.above s.line s.below F.whole).class F.class_is (recipe_run-stays s.below) in
+    let same : C ≡ context_after_lines (context_of s.above) (s.line ∷ R) = context_of-append s.above (s.line ∷ R) in
+    let f : C.flag ≡ flag.Rule = ap (λ z. z.flag) same ∙ rule.flag in
+    let d : C.defines ≡ 0 = ap (λ z. z.defines) same ∙ rule.no_define in
+    let can : CanBegin C.prefix = context-can_begin above (located-run t above [] below whole).above_classed in
+    let some = file_line_end-some t in
+    let text = C.prefix ∷ c in
+    let ended : IsEnded text E = new_line-clean text E (recipe-clean C.prefix c can k) (recipe-no_backslash C.prefix c can k) some in
+    let class : class_of C (text ++ line_end_bytes E) ≡ Class.Recipe = recipe-class_in_rule C (text ++ line_end_bytes E) d f (eq-eqb C.prefix C.prefix refl) in
+    let m : ClassedLine = record { bytes = text ++ line_end_bytes E; class = Class.Recipe } in
+    let v = missing_line_end E above below ++ (text ++ line_end_bytes E) in
+    let lines : classed_lines (replaced 0 t rs) ≡ above_ended E above below ++ m ∷ below =
+    ap (λ z. classed_lines (replaced 0 t z)) (sym y)
+    ∙ (ap classed_lines (text-inserted t above below v whole) ∙ line-added t above below text E Class.Recipe whole unopened some ended class (recipe-agrees C) leans) in
+    new_line-kept t e rs above below m v h whole y lines (after_rule s) (ap (option_map after_rule) F.found_is) (omega arith) refl

@@ -1,0 +1,41 @@
+-- Laws of what an edit leaves: the bytes outside its spans, and the lines that these do not touch; each the contract of a public
+-- function.
+use Rattle.std.specs.Prelude.{◌≡◌, ℕ, List, ◌∷◌, Option, Ok}
+use Rattle.mk_lines.specs.Pieces.{Replacement}
+use Rattle.mk_edit.specs.Edits.{Edit, SetValue, RemoveAssign, RemoveRule, AddRecipe, RemoveRecipe}
+use Rattle.mk_edit.specs.RisingSpans.{IsReplacedAt}
+use Rattle.mk_edit.specs.TouchedLines.{IsOfOnePlace, TouchFew}
+use Rattle.mk_edit.specs.KeptLines.{AreOthersKept}
+use Rattle.mk_edit.specs.Refusals.{spans, text_after}
+
+-- the spans of an edit rise within the text and do not overlap, and the bytes outside them are as before
+abbrev pub OnlySpansAreReplaced : Type 0
+OnlySpansAreReplaced = (text : List ℕ) (e : Edit) (replacements : List Replacement) → spans text e ≡ Ok replacements → IsReplacedAt text (text_after text e) replacements
+
+-- the spans of an edit other than a rename stand within a stretch of at most so many lines as its size says
+abbrev pub SpansTouchFewLines : Type 0
+SpansTouchFewLines = (text : List ℕ) (e : Edit) (replacements : List Replacement) → IsOfOnePlace e → spans text e ≡ Ok replacements → TouchFew text e replacements
+
+-- an edit leaves the lines that its spans do not touch, touches few, and opens no conditional
+abbrev pub KeepsOthers : Edit → Type 0
+KeepsOthers e = (text : List ℕ) (replacements : List Replacement) → spans text e ≡ Ok replacements → AreOthersKept text e replacements
+
+-- so it is of an edit of a value to one that is not empty
+abbrev pub SetKeepsOthers : Type 0
+SetKeepsOthers = (nth : Option ℕ) (name : List ℕ) (first : ℕ) (rest : List ℕ) → KeepsOthers (SetValue nth name (first ∷ rest))
+
+-- of an assignment removed
+abbrev pub UnsetKeepsOthers : Type 0
+UnsetKeepsOthers = (nth : Option ℕ) (name : List ℕ) → KeepsOthers (RemoveAssign nth name)
+
+-- of a rule removed
+abbrev pub UnruleKeepsOthers : Type 0
+UnruleKeepsOthers = (nth : Option ℕ) (target : List ℕ) → KeepsOthers (RemoveRule nth target)
+
+-- of a recipe line removed
+abbrev pub RecipeRemovedKeepsOthers : Type 0
+RecipeRemovedKeepsOthers = (nth : Option ℕ) (target : List ℕ) (number : ℕ) → KeepsOthers (RemoveRecipe nth target number)
+
+-- and of a new recipe line
+abbrev pub RecipeAddedKeepsOthers : Type 0
+RecipeAddedKeepsOthers = (nth : Option ℕ) (target command : List ℕ) → KeepsOthers (AddRecipe nth target command)

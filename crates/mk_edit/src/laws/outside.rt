@@ -1,0 +1,46 @@
+//! What an edit leaves as it was: the bytes outside its spans, and the lines that these do not touch.
+ghost use Rattle.mk_edit.specs.OutsideLaws.{OnlySpansAreReplaced, RecipeAddedKeepsOthers, RecipeRemovedKeepsOthers, SetKeepsOthers, SpansTouchFewLines, UnruleKeepsOthers, UnsetKeepsOthers};
+
+/// The spans of an accepted edit stand in the text in order and apart, and the bytes outside them
+/// are as before: the text after it is the text with each span replaced.
+pub fn only_spans_are_replaced()
+    ensures { OnlySpansAreReplaced }
+{}
+
+/// The spans of an accepted edit, other than a rename, stand within lines that follow one another, of
+/// which there are at most as many as the edit's size says.
+pub fn spans_touch_few_lines()
+    ensures { SpansTouchFewLines }
+{}
+
+/// An accepted edit of a value, to one that is not empty, touches one line. The lines above and
+/// below it are as before, with their classes, and no more conditionals are open at once.
+pub fn set_keeps_others()
+    ensures { SetKeepsOthers }
+{}
+
+/// An accepted removal of an assignment takes out one line. The lines above and below it are as
+/// before, with their classes, and no more conditionals are open at once.
+pub fn unset_keeps_others()
+    ensures { UnsetKeepsOthers }
+{}
+
+/// An accepted removal of a rule takes out its header and the lines down to its last recipe line.
+/// The lines above and below these are as before, with their classes, and no more conditionals are
+/// open at once.
+pub fn unrule_keeps_others()
+    ensures { UnruleKeepsOthers }
+{}
+
+/// An accepted removal of a recipe line takes out one line. The lines above and below it are as
+/// before, with their classes, and no more conditionals are open at once.
+pub fn recipe_removed_keeps_others()
+    ensures { RecipeRemovedKeepsOthers }
+{}
+
+/// An accepted new recipe line is one line more. The lines above and below it are as before, with
+/// their classes, but that a last line without line end gets one where the new line follows it; and
+/// no more conditionals are open at once.
+pub fn recipe_added_keeps_others()
+    ensures { RecipeAddedKeepsOthers }
+{}

@@ -1,0 +1,128 @@
+//! Documents: parsed, printed, at their limits, changed, and where no memory is found.
+ghost use Rattle.std.specs.Prelude.{◌<◌};
+
+use mk_class::Meter;
+use mk_lines::Fault;
+use mk_tree::Doc;
+use refusing::Refusing;
+use std::alloc::AllocError;
+use std::test::Fail;
+use test_devices::MemorySink;
+
+// A text of so many bytes, the piece over and over.
+fn repeated(rt: &HostRuntime, piece: &[u8], count: usize) -> Result<Vec<u8>, AllocError> {
+    let mut text = Vec::new(rt.alloc());
+    for _ in 0..count {
+        text.extend_from_slice(piece)?;
+    }
+    Ok(text)
+}
+
+// Whether a text parsed and printed is the text, with a sink that takes this much at once.
+fn is_printed_as_it_was(rt: &HostRuntime, text: &[u8], step: usize) -> Result<bool, Fault>
+    requires { 0 < step }
+{
+    let doc = Doc::parse(rt.alloc(), text, &mut Meter::new())?;
+    let mut sink = MemorySink::new(Vec::new(rt.alloc()), step);
+    doc.write_to(&mut sink)?;
+    Ok(sink.bytes() == text)
+}
+
+#[test]
+fn a_parsed_text_is_printed(rt: HostRuntime) -> Result<(), Fail> {
+    for text in [
+        b"".as_slice(),
+        b"X=1".as_slice(),
+        b"A \\\nB\nC".as_slice(),
+        b"A=1\r\nB=2\n\r\n".as_slice(),
+        b"foo: a | b\n\techo \\\n\t  $@\n\nifdef X\n# c\nendif".as_slice(),
+        b"A = 1\0\r2\\\\\\\n3\n\n\xff\n".as_slice(),
+    ] {
+        assert!(rt; is_printed_as_it_was(&rt, text, 1)?);
+        assert!(rt; is_printed_as_it_was(&rt, text, 1_000)?);
+    }
+    Ok(())
+}
+
+#[test]
+fn a_million_empty_lines_are_printed(rt: HostRuntime) -> Result<(), Fail> {
+    let text = repeated(&rt, b"\n", 1_000_000)?;
+    assert!(rt; is_printed_as_it_was(&rt, &text, 100_000)?);
+    Ok(())
+}
+
+#[test]
+fn lines_longer_than_what_is_gathered_are_printed(rt: HostRuntime) -> Result<(), Fail> {
+    let mut text = repeated(&rt, b"# x", 20_000)?;
+    text.extend_from_slice(b"\nA = 1\n")?;
+    text.extend_from_slice(&repeated(&rt, b"B", 16_384)?)?;
+    assert!(rt; is_printed_as_it_was(&rt, &text, 50_000)?);
+    Ok(())
+}
+
+#[test]
+fn a_text_over_the_limit_is_too_long(rt: HostRuntime) -> Result<(), Fail> {
+    let mut text = repeated(&rt, b"#", 16_777_216)?;
+    let whole = Doc::parse(rt.alloc(), &text, &mut Meter::new())?;
+    assert_eq!(rt; whole.size(), 16_777_216);
+    text.push(b'#')?;
+    let answer = Doc::parse(rt.alloc(), &text, &mut Meter::new());
+    assert!(rt; matches!(answer, Err(Fault::TooLong)));
+    Ok(())
+}
+
+#[test]
+fn a_257th_open_conditional_is_too_deep(rt: HostRuntime) -> Result<(), Fail> {
+    let mut text = repeated(&rt, b"ifdef A\n", 256)?;
+    let whole = Doc::parse(rt.alloc(), &text, &mut Meter::new())?;
+    assert_eq!(rt; whole.len(), 256);
+    text.extend_from_slice(b"ifdef A\n")?;
+    let answer = Doc::parse(rt.alloc(), &text, &mut Meter::new());
+    assert!(rt; matches!(answer, Err(Fault::TooDeep)));
+    Ok(())
+}
+
+#[test]
+fn nested_conditionals_with_long_branches_are_parsed_and_dropped(
+    rt: HostRuntime,
+) -> Result<(), Fail> {
+    let mut text = Vec::new(rt.alloc());
+    let branch = repeated(&rt, b"X = 1\n", 1_000)?;
+    for _ in 0..256 {
+        text.extend_from_slice(b"ifdef A\n")?;
+        text.extend_from_slice(&branch)?;
+    }
+    for _ in 0..256 {
+        text.extend_from_slice(b"else\n")?;
+        text.extend_from_slice(&branch)?;
+        text.extend_from_slice(b"endif\n")?;
+    }
+    assert!(rt; is_printed_as_it_was(&rt, &text, 1_000_000)?);
+    Ok(())
+}
+
+#[test]
+fn each_refused_growth_of_parse_is_no_memory(rt: HostRuntime) -> Result<(), Fail> {
+    let text = b"A = 1\nB = a \\\n b\nfoo: x\n\techo\n".as_slice();
+    for admitted in 0..100 {
+        let heap = Refusing::after(rt.alloc(), admitted);
+        let answer = Doc::parse(&heap, text, &mut Meter::new());
+        if !heap.has_refused() {
+            // the spans, the lines, and for each line its bytes and its node
+            assert!(rt; admitted > 9 && answer.is_ok());
+            break;
+        }
+        assert!(rt; matches!(answer, Err(Fault::NoMemory)));
+    }
+    Ok(())
+}
+
+#[test]
+fn a_line_is_classified_once(rt: HostRuntime) -> Result<(), Fail> {
+    let mut meter = Meter::new();
+    let text = b"A = 1\nB = a \\\n b\nfoo: x\n\techo\n".as_slice();
+    let doc = Doc::parse(rt.alloc(), text, &mut meter)?;
+    assert_eq!(rt; doc.len(), 4);
+    assert_eq!(rt; meter.count(), 4);
+    Ok(())
+}
