@@ -1,16 +1,14 @@
 -- An accepted new prerequisite is put last in its list, and no other item changes.
-use Rattle.std.proofs.Common.{◌≡◌, refl, sym, ap, ◌∙◌, subst, ℕ, List, [], ◌∷◌, ◌++◌, map, Bool, true, false, not, ◌&&◌, ◌||◌, cond, Option, Some, append_assoc, length}
+use Rattle.std.proofs.Common.{◌≡◌, refl, sym, ap, ◌∙◌, subst, ℕ, List, [], ◌∷◌, ◌++◌, map, Bool, true, false, not, ◌&&◌, ◌||◌, cond, Option, append_assoc, length}
 use Rattle.std.proofs.lemmas.List.{append-nil, map-append}
 use Rattle.std.proofs.lemmas.Bool.{or_parts}
 use Rattle.std.specs.Prelude.{◌⊎◌, Ok, nat_lt, codes}
 use mathlib.Core.Logic.{inl, inr}
 use Rattle.mk_lines.specs.Lists.{concat}
-use Rattle.mk_lines.specs.ListLaws.{Each, Each-append, concat-append}
-use Rattle.mk_lines.specs.PhysicalLines.{line_end, line_end_bytes}
+use Rattle.mk_lines.specs.ListLaws.{Each-append, concat-append}
 use Rattle.mk_lines.specs.Cells.{Cell, Byte, joined_byte, line_cells}
-use Rattle.mk_lines.specs.Pieces.{Piece, Replacement, replaced, old_cells, new_cells, replacements}
+use Rattle.mk_lines.specs.Pieces.{Replacement, replaced, old_cells, new_cells, replacements}
 use Rattle.mk_lines.specs.LineCells.{AreLineCells, AreLineCells-none, AreLineCells-left, AreLineCells-right, bytes-are_line_cells}
-use Rattle.mk_lines.specs.Units.{units}
 use Rattle.mk_lines.specs.UnitLaws.{concat-units}
 use Rattle.mk_lines.specs.Words.{tokens, is_gap}
 use Rattle.mk_class.specs.Lists.{is_empty, first_passes, last_passes}
@@ -28,21 +26,21 @@ use Rattle.mk_tree.specs.Items.{Item, items, header_item, raw_units}
 use Rattle.mk_tree.specs.Readings.{reading}
 use Rattle.mk_edit.specs.Edits.{AddPrereq}
 use Rattle.mk_edit.specs.Spots.{Spot}
-use Rattle.mk_edit.specs.WordPieces.{add_pieces, normal_pieces, order_only_pieces, header_pieces, prerequisite_text, put_last, kept}
+use Rattle.mk_edit.specs.WordPieces.{add_pieces, normal_pieces, header_pieces, prerequisite_text, put_last, kept}
 use Rattle.mk_edit.specs.Spans.{word_spans, where_found}
 use Rattle.mk_edit.specs.Refusals.{spans, text_by, text_after}
 use Rattle.mk_edit.specs.Changes.{change, with_header, with_prerequisite}
 use Rattle.mk_edit.specs.Accepted.{accepted, where_holds-none, two-passed}
 use Rattle.mk_edit.specs.SpotLaws.{rule-found}
-use Rattle.mk_edit.specs.HeadUnits.{AllAre, AllAre-append, AllAre-left, AllAre-right, IsHeadUnit, EndsSolid, EndsSolid-after, line_cells-after_solid}
-use Rattle.mk_edit.specs.LineTails.{EndsAs, EndsEmpty, EndsAs-after}
-use Rattle.mk_edit.specs.HeadWords.{last-append, gap-last, last-more}
+use Rattle.mk_edit.specs.HeadUnits.{AllAre, AllAre-append, AllAre-left, AllAre-right, EndsSolid, EndsSolid-after, line_cells-after_solid}
+use Rattle.mk_edit.specs.LineTails.{EndsAs, EndsAs-after}
+use Rattle.mk_edit.specs.HeadWords.{gap-last, last-more}
 use Rattle.mk_edit.specs.DirectiveWords.{alike-itself}
 use Rattle.mk_edit.specs.HeaderParts.{IsPartUnit, part-head, HeaderKnown, is_bar_glued, is_no_gap, FitIn, with_parts, bar-is, bar-solid}
-use Rattle.mk_edit.specs.HeaderChanges.{middle_units, header-cells, FitAsCells, HeaderHere, header-here, same-not_led}
+use Rattle.mk_edit.specs.HeaderChanges.{middle_units, header-cells, FitAsCells, header-here, same-not_led}
 use Rattle.mk_edit.specs.HeaderEdits.{header_pieces-new, header_pieces-whole, kept-old, kept-new, reading-pieces_replaced, lists-end, list-cells, word_spans-header, with_header-header}
 use Rattle.mk_edit.specs.NewWords.{IsNewWord, cell_units, word-is_new}
-use Rattle.mk_edit.specs.WordsAdded.{AreGapUnits, gap_units-end, front_units, gaps_after, front-gaps, gaps-are_gaps, front-words, front-cells, words-apart, words-before_gaps, space_unit, space-part, units-end, put_units, put-parts, put-words, put-cells, put-ends, word-ends, front-solid}
+use Rattle.mk_edit.specs.WordsAdded.{AreGapUnits, gap_units-end, front_units, gaps_after, front-gaps, gaps-are_gaps, front-words, front-cells, words-before_gaps, space_unit, space-part, units-end, put_units, put-parts, put-words, put-cells, put-ends, word-ends, front-solid}
 use Rattle.mk_edit.specs.declared.refusal.Field.TheVariants as field
 use Rattle.mk_edit.specs.declared.refusal.Refusal.TheVariants.{NoSuch}
 

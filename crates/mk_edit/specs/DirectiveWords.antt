@@ -1,6 +1,6 @@
 -- Which words keep a line from being a directive: those up to the one with the first `:`, and of these only what they say as
 -- keywords and modifiers.
-use Rattle.std.proofs.Common.{◌≡◌, refl, sym, ap, ◌∙◌, subst, ℕ, List, [], ◌∷◌, ◌++◌, map, Bool, true, false, ◌||◌, ◌==◌, cond, Option, Some, None, append_assoc}
+use Rattle.std.proofs.Common.{◌≡◌, refl, sym, ap, ◌∙◌, subst, ℕ, List, [], ◌∷◌, ◌++◌, map, Bool, true, false, ◌||◌, ◌==◌, cond, Some, None, append_assoc}
 use Rattle.std.proofs.lemmas.Bool.{or_parts}
 use Rattle.std.proofs.lemmas.List.{append-nil, map-append}
 use Rattle.std.specs.Prelude.{◌⊎◌, codes}
@@ -11,22 +11,22 @@ use Rattle.mk_lines.specs.Cells.{Cell, joined_byte}
 use Rattle.mk_lines.specs.Words.{Token, Gap, Word, tokens, before_tokens, token_words, token_units, is_word_first, is_gap, IsWord, AreTokens}
 use Rattle.mk_lines.specs.TokenLaws.{tokens-word}
 use Rattle.mk_class.specs.Lists.{any}
-use Rattle.mk_class.specs.Texts.{is_same_text, is_one_of, word_texts}
+use Rattle.mk_class.specs.Texts.{is_one_of, word_texts}
 use Rattle.mk_class.specs.AssignmentEqualsLaws.{not_same}
-use Rattle.mk_class.specs.Keywords.{Keyword, DefineWord, EndefWord, IfWord, ElseWord, EndifWord, DirectiveWord, UndefineWord, NoKeyword, keyword, first_keyword, after_modifiers, if_words, directive_words, modifier_words, is_reserved_word, reserved_words}
-use Rattle.mk_class.specs.Headers
+use Rattle.mk_class.specs.Keywords.{Keyword, DefineWord, EndefWord, IfWord, ElseWord, EndifWord, DirectiveWord, UndefineWord, NoKeyword, keyword, first_keyword, after_modifiers, if_words, directive_words, modifier_words}
 use Rattle.mk_class.specs.Classes.{Class}
-use Rattle.mk_class.specs.Classes.Class.{DefineHead, If, Else, Endif, Directive, Header}
+use Rattle.mk_class.specs.Classes.Class.{DefineHead, If, Else, Endif, Directive, TargetAssign, Header}
 use Rattle.mk_class.specs.ClassTable.{directive_by, directive, defines_prefix}
 
 -- ---- what decides a directive
 
--- a class that is no Header
+-- a class that is neither a Header nor a target assignment
 abbrev pub IsNoHeader : Class → Type 0
 IsNoHeader (Header h) = ⊥
+IsNoHeader (TargetAssign a) = ⊥
 IsNoHeader k = Unit {0}
 
--- keywords alone say whether a line is a directive, and none is a Header
+-- keywords alone say whether a line is a directive, and none is one of these
 directive-cases : (k b : Keyword) (c : Bool) (ws ws' : List (List ℕ)) → ((directive_by k b c ws ≡ None) × (directive_by k b c ws' ≡ None)) ⊎ ((x : Class) × (directive_by k b c ws ≡ Some x) × IsNoHeader x)
 directive-cases DefineWord DefineWord c ws ws' = inr (DefineHead (defines_prefix ws), refl, tt)
 directive-cases DefineWord EndefWord c ws ws' = inl (refl, refl)
@@ -107,7 +107,7 @@ directive-cases NoKeyword DirectiveWord c ws ws' = inl (refl, refl)
 directive-cases NoKeyword UndefineWord c ws ws' = inr (Directive, refl, tt)
 directive-cases NoKeyword NoKeyword c ws ws' = inl (refl, refl)
 
--- a directive is no Header
+-- a directive is neither
 pub directive-no_header : (c : Bool) (ws : List (List ℕ)) (x : Class) → directive c ws ≡ Some x → IsNoHeader x
 directive-no_header c ws x h = go (directive-cases (first_keyword ws) (first_keyword (after_modifiers ws)) c (after_modifiers ws) [])
   where

@@ -1,20 +1,20 @@
 -- The units of a rule line's head that can be read: each is closed and read again by itself, and one that is no gap begins and ends in
 -- a byte that joins whatever stands beside it. So such units are put together in any order.
-use Rattle.std.proofs.Common.{◌≡◌, refl, sym, ap, ◌∙◌, subst, ℕ, zero, suc, List, [], ◌∷◌, ◌++◌, Bool, true, false, not, ◌&&◌, ◌||◌, ◌==◌, cond, append_assoc}
+use Rattle.std.proofs.Common.{◌≡◌, refl, sym, ap, ◌∙◌, subst, ℕ, zero, suc, List, [], ◌∷◌, ◌++◌, Bool, true, false, not, ◌||◌, ◌==◌, cond, append_assoc}
 use Rattle.std.proofs.lemmas.List.{append-nil}
 use Rattle.std.proofs.lemmas.Bool.{or_parts, eqb-true}
 use Rattle.mk_lines.specs.Lists.{concat}
-use Rattle.mk_lines.specs.ListLaws.{Each, concat-append}
+use Rattle.mk_lines.specs.ListLaws.{Each}
 use Rattle.mk_lines.specs.Bytes.{ByteKind, byte_kind, is_blank_kind, is_backslash_kind}
 use Rattle.mk_lines.specs.Bytes.ByteKind.{LineFeed, CarriageReturn, Backslash, Blank, Ordinary}
 use Rattle.mk_lines.specs.Cells.{Cell, Byte, Fold, LfEnd, CrLfEnd, joined_byte}
 use Rattle.mk_lines.specs.CellFaults.{has_stray, is_stray_by}
-use Rattle.mk_lines.specs.LineCells.{AreLineCells, AreLineCells-none, AreLineCells-append, Joins, Joins-solid, Joins-ordinary}
+use Rattle.mk_lines.specs.LineCells.{AreLineCells, AreLineCells-append, Joins, Joins-solid, Joins-ordinary}
 use Rattle.mk_lines.specs.Cut.{state_after, continuation}
-use Rattle.mk_lines.specs.Units.{Mark, UnitState, byte_mark, next_unit_state, units, is_closed, unit_step, unit_begins}
+use Rattle.mk_lines.specs.Units.{Mark, byte_mark, next_unit_state, units, is_closed, unit_step, unit_begins}
 use Rattle.mk_lines.specs.Units.Mark.{Dollar, Escape, OpenParen, CloseParen, OpenBrace, CloseBrace, Unmarked}
-use Rattle.mk_lines.specs.Units.UnitState.{Between, AfterDollar, AfterBackslash, InParens, InBraces}
-use Rattle.mk_lines.specs.UnitLaws.{units-first, units-last, units-append, is_closed-append, is_closed-between}
+use Rattle.mk_lines.specs.Units.UnitState.{Between, AfterDollar, InParens, InBraces}
+use Rattle.mk_lines.specs.UnitLaws.{units-first, units-last, units-append, is_closed-between}
 use Rattle.mk_lines.specs.FirstUnit.{is_unclosed_unit, is_lone_backslash, is_backslash_mark, leaves_open}
 use Rattle.mk_lines.specs.FirstUnitLaws.{is_closed-leaves_open}
 use Rattle.mk_lines.specs.Words.{is_gap}

@@ -1,6 +1,6 @@
 -- Words and gaps of a rule line's head, as tokens: what lists of them are as units and as cells.
-use Rattle.std.proofs.Common.{◌≡◌, refl, sym, ap, ◌∙◌, subst, ℕ, List, [], ◌∷◌, ◌++◌, map, Bool, true, false, not, ◌||◌, append_assoc}
-use Rattle.std.proofs.lemmas.List.{append-nil, map-append}
+use Rattle.std.proofs.Common.{◌≡◌, refl, sym, ap, ◌∙◌, subst, ℕ, List, [], ◌∷◌, ◌++◌, Bool, true, false, not, append_assoc}
+use Rattle.std.proofs.lemmas.List.{append-nil}
 use Rattle.std.specs.Prelude.{◌⊎◌}
 use mathlib.Core.Logic.{inl, inr}
 use Rattle.mk_lines.specs.Lists.{concat}
@@ -9,10 +9,10 @@ use Rattle.mk_lines.specs.Bytes.{ByteKind, byte_kind, is_blank_kind}
 use Rattle.mk_lines.specs.Bytes.ByteKind.{LineFeed, CarriageReturn, Backslash, Blank, Ordinary}
 use Rattle.mk_lines.specs.Cells.{Cell, Byte, Fold, LfEnd, CrLfEnd, joined_byte}
 use Rattle.mk_lines.specs.LineOfCells.{is_reset, is_reset_kind}
-use Rattle.mk_lines.specs.Words.{Token, Gap, Word, tokens, before_tokens, token_words, token_units, is_word_first, is_gap, IsWord, AreTokens}
+use Rattle.mk_lines.specs.Words.{Token, Gap, Word, token_words, token_units, is_word_first, is_gap, IsWord, AreTokens}
 use Rattle.mk_lines.specs.TokenLaws.{token_text}
 use Rattle.mk_class.specs.Lists.{first_passes, last_passes}
-use Rattle.mk_edit.specs.HeadUnits.{AllAre, AllAre-append, IsHeadUnit, IsSolid, BeginsSolid, EndsSolid, BeginsSolid-before, EndsSolid-after, head_unit-solid}
+use Rattle.mk_edit.specs.HeadUnits.{AllAre, IsHeadUnit, IsSolid, BeginsSolid-before, EndsSolid-after, head_unit-solid}
 use Rattle.mk_edit.specs.LineTails.{EndsAs, EndsEmpty, EndsAs-same}
 
 -- ---- lists of tokens

@@ -7,12 +7,12 @@ use Rattle.mk_lines.specs.ListLaws.{FirstFails, concat-append}
 use Rattle.mk_lines.specs.Bytes.{byte_kind, is_blank_kind}
 use Rattle.mk_lines.specs.Bytes.ByteKind.{Ordinary}
 use Rattle.mk_lines.specs.PhysicalLines.{line_end, line_end_bytes, without_line_end}
-use Rattle.mk_lines.specs.Cells.{Cell, Byte, Fold, LfEnd, CrLfEnd, joined_byte, raw_text, line_cells}
+use Rattle.mk_lines.specs.Cells.{Cell, Byte, joined_byte, raw_text, line_cells}
 use Rattle.mk_lines.specs.CellLaws.{raw_text-append, raw_text-cells}
 use Rattle.mk_lines.specs.LineLaws.{OneLine, EndsBefore}
 use Rattle.mk_lines.specs.LineEndLaws.{KeepsApart, without_line_end-line_end}
 use Rattle.mk_lines.specs.LineOfCells.{is_reset, is_reset_kind}
-use Rattle.mk_lines.specs.LineCells.{AreLineCells, AreLineCells-left, AreLineCells-right, AreLineCells-none, EndLineBefore, IsLineOf, line-of_cells, line-ends, line-keeps_apart, bytes-are_line_cells}
+use Rattle.mk_lines.specs.LineCells.{AreLineCells, AreLineCells-left, AreLineCells-right, EndLineBefore, IsLineOf, line-of_cells, line-ends, line-keeps_apart, bytes-are_line_cells}
 use Rattle.mk_lines.specs.Units.{units}
 use Rattle.mk_class.specs.Symbols.{Symbol, symbol, is_colon, is_colon_symbol}
 use Rattle.mk_class.specs.Symbols.Symbol.{Hash, Colon, Semicolon, Equals, Plus, Question, Exclamation, Bar, Ampersand, NoSymbol}
@@ -20,7 +20,7 @@ use Rattle.mk_class.specs.SymbolLaws.{symbol-unit}
 use Rattle.mk_class.specs.CutTexts.{is_in_head, is_head_end_symbol}
 use Rattle.mk_class.specs.Headers
 use Rattle.mk_class.specs.HeaderLaws.{header_units}
-use Rattle.mk_class.specs.HeadersAgain.{FitsHeader, FitsPattern, FitsBar, head_units, after_separator, prerequisite_units}
+use Rattle.mk_class.specs.HeadersAgain.{FitsPattern, FitsBar, after_separator, prerequisite_units}
 use Rattle.mk_class.specs.AssignmentLineLaws.{led-same}
 use Rattle.mk_class.specs.RecipePrefix.{is_prefix_led}
 use Rattle.mk_class.specs.Contexts.{Context}
@@ -28,8 +28,8 @@ use Rattle.mk_class.specs.Classes.{Class}
 use Rattle.mk_class.specs.Classes.Class.{Header}
 use Rattle.mk_class.specs.ClassTable.{class_of, class_at, plain_class}
 use Rattle.mk_class.specs.ClassLaws.{readable-are_line_cells}
-use Rattle.mk_edit.specs.HeadUnits.{AllAre, AllAre-left, AllAre-right, IsHeadUnit, IsSolid, BeginsSolid, EndsSolid, BeginsSolid-before, EndsSolid-after, line_cells-after_solid, line_cells-before_solid}
-use Rattle.mk_edit.specs.LineTails.{EndsAs, EndsAs-before, EndsAs-after, KeepsLineEnd, line_end-kept}
+use Rattle.mk_edit.specs.HeadUnits.{AllAre, AllAre-left, AllAre-right, IsHeadUnit, IsSolid, EndsSolid, BeginsSolid-before, EndsSolid-after, line_cells-after_solid, line_cells-before_solid}
+use Rattle.mk_edit.specs.LineTails.{EndsAs, EndsAs-before, KeepsLineEnd, line_end-kept}
 use Rattle.mk_edit.specs.HeaderLines.{class_at-header}
 use Rattle.mk_edit.specs.HeaderParts.{HeaderKnown, header-known, FitIn, with_parts, changed-header, colons-solid, colon-is, bar-is, bar-solid, one_byte}
 

@@ -5,7 +5,7 @@ use Rattle.mk_lines.specs.Lists.{concat}
 use Rattle.mk_lines.specs.PhysicalLines.{line_end, line_end_bytes}
 use Rattle.mk_lines.specs.Cells.{Cell, joined_byte, raw_text}
 use Rattle.mk_lines.specs.LineCells.{AreLineCells, AreLineCells-left, AreLineCells-right}
-use Rattle.mk_lines.specs.Pieces.{Piece, Keep, Replace, old_cells, new_cells, old_bytes, new_bytes, replacements, replaced}
+use Rattle.mk_lines.specs.Pieces.{Piece, old_cells, new_cells, old_bytes, new_bytes, replacements, replaced}
 use Rattle.mk_lines.specs.PieceLaws.{old_cells-append, new_cells-append, raw_text-old_cells, raw_text-new_cells}
 use Rattle.mk_class.specs.Headers
 use Rattle.mk_class.specs.HeaderLaws.{header_units}
@@ -27,7 +27,7 @@ use Rattle.mk_edit.specs.HeadUnits.{EndsSolid, EndsSolid-after}
 use Rattle.mk_edit.specs.LineTails.{EndsAs, EndsAs-after}
 use Rattle.mk_edit.specs.WordPieces.{header_pieces, kept}
 use Rattle.mk_edit.specs.HeaderParts.{HeaderKnown, FitIn, with_parts, bar-is, bar-solid}
-use Rattle.mk_edit.specs.HeaderChanges.{middle_units, header-cells, FitAsCells, HeaderHere, header-here, header-changed, line_of}
+use Rattle.mk_edit.specs.HeaderChanges.{middle_units, header-cells, FitAsCells, header-here, header-changed, line_of}
 
 -- the cells of the pieces of a header's line, before and after
 pub header_pieces-new : (h : Headers.Header Cell) (t n o : List Piece)

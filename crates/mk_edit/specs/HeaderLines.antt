@@ -1,8 +1,8 @@
 -- Lines of class Header: what the class says of a line, and which parts make a line of that class.
-use Rattle.std.proofs.Common.{◌≡◌, refl, sym, ap, ◌∙◌, subst, ℕ, zero, suc, List, [], ◌∷◌, ◌++◌, map, Bool, true, false, not, ◌&&◌, ◌||◌, cond, Option, Some, None, append_assoc}
+use Rattle.std.proofs.Common.{◌≡◌, refl, sym, ap, ◌∙◌, subst, ℕ, zero, suc, List, [], ◌∷◌, ◌++◌, map, Bool, true, false, not, ◌||◌, cond, Option, Some, None, append_assoc}
 use Rattle.std.proofs.lemmas.Bool.{or_parts}
-use Rattle.mk_lines.specs.Lists.{concat, leading, after_leading}
-use Rattle.mk_lines.specs.ListLaws.{Each, FirstFails, Each-append, Each-right, leading-append_all}
+use Rattle.mk_lines.specs.Lists.{leading, after_leading}
+use Rattle.mk_lines.specs.ListLaws.{Each, FirstFails, Each-right, leading-append_all}
 use Rattle.mk_lines.specs.Cells.{Cell, joined_byte}
 use Rattle.mk_lines.specs.Words.{is_gap}
 use Rattle.mk_class.specs.Lists.{any, is_empty, first_passes}
@@ -10,7 +10,7 @@ use Rattle.mk_class.specs.Texts.{word_texts}
 use Rattle.mk_class.specs.Symbols.{Symbol, symbol, is_hash, is_colon, is_equals, is_unreadable_unit, is_colon_symbol, is_hash_symbol, is_semicolon_symbol}
 use Rattle.mk_class.specs.Symbols.Symbol.{Hash, Colon, Semicolon, Equals, Plus, Question, Exclamation, Bar, Ampersand, NoSymbol}
 use Rattle.mk_class.specs.SymbolLaws.{gap-no_symbol}
-use Rattle.mk_class.specs.CutTexts.{cut_text, head, after_head, is_in_head, is_no_hash, is_head_end_symbol}
+use Rattle.mk_class.specs.CutTexts.{cut_text, head, is_in_head, is_no_hash, is_head_end_symbol}
 use Rattle.mk_class.specs.Assignments.{Assignment, assignment}
 use Rattle.mk_class.specs.AssignmentsAtEquals.{is_no_equals}
 use Rattle.mk_class.specs.NoAssignmentLaws.{no_assignment-head, FollowsHead}
@@ -20,9 +20,8 @@ use Rattle.mk_class.specs.Headers.{header, has_unreadable, has_colon_after_other
 use Rattle.mk_class.specs.HeaderLaws.{header_units}
 use Rattle.mk_class.specs.HeadersAgain.{FitsHeader, head_units, after_separator, separator_symbols, header-again, separated-again}
 use Rattle.mk_class.specs.Classes.{Class}
-use Rattle.mk_class.specs.Classes.Class.{Recipe, Opaque, Blank, Comment, Assign, TargetAssign, Rough, Header}
+use Rattle.mk_class.specs.Classes.Class.{Opaque, Blank, Comment, Rough, Header}
 use Rattle.mk_class.specs.Keywords.{Keyword, DefineWord, EndefWord, IfWord, ElseWord, EndifWord, DirectiveWord, UndefineWord, NoKeyword, first_keyword}
-use Rattle.mk_class.specs.RecipePrefix.{prefix_set_by}
 use Rattle.mk_class.specs.ClassTable.{class_at, define_class, directive, header_class, target_class, rule_class, assign_class, or_class, is_all_blanks, is_unreadable, plain_class}
 use Rattle.mk_class.specs.declared.context.Flag.{Flag}
 use Rattle.mk_class.specs.declared.context.Flag.TheVariants.{Off, Rule, Unknown}
@@ -116,7 +115,8 @@ class_at-header false zero Unknown c cs us h k = record { here = plain_class-hea
 
 -- ---- parts that make such a line
 
-any-after : {A : Type 0} (p : A → Bool) (a b : List A) → any p b ≡ true → any p (a ++ b) ≡ true
+-- some of the last units passes
+pub any-after : {A : Type 0} (p : A → Bool) (a b : List A) → any p b ≡ true → any p (a ++ b) ≡ true
 any-after p [] b h = h
 any-after p (x ∷ a) b h = ap (λ z. p x || z) (any-after p a b h) ∙ go (p x)
   where
@@ -132,7 +132,8 @@ any-before p (x ∷ a) b h = go (p x) h (λ k. any-before p a b k)
     go true e i = refl
     go false e i = i e
 
-leading-all : {A : Type 0} (p : A → Bool) (xs ys : List A) → Each p xs → leading p (xs ++ ys) ≡ xs ++ leading p ys
+-- the leading elements where all of the first list pass
+pub leading-all : {A : Type 0} (p : A → Bool) (xs ys : List A) → Each p xs → leading p (xs ++ ys) ≡ xs ++ leading p ys
 leading-all p [] ys h = refl
 leading-all p (x ∷ xs) ys h = rw (h.0, leading-all p xs ys h.1) refl
 
@@ -151,7 +152,7 @@ pub separator-has_colon : (us : List (List Cell)) (s : Separator) → map (symbo
 separator-has_colon us s h = sym (colon-symbols us) ∙ (ap (any is_colon_symbol) h ∙ separator-colon s)
 
 -- units with a `:` are not all blanks
-colon-filled : (us : List (List Cell)) → has_colon joined_byte us ≡ true → is_all_blanks us ≡ false
+pub colon-filled : (us : List (List Cell)) → has_colon joined_byte us ≡ true → is_all_blanks us ≡ false
 colon-filled [] h = cc
 colon-filled (u ∷ us) h = go (is_gap joined_byte u) refl (λ k. colon-filled us k)
   where

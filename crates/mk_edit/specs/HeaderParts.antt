@@ -1,20 +1,19 @@
 -- The parts of a header's line, and other parts put in the place of the words: a line of class Header again.
-use Rattle.std.proofs.Common.{◌≡◌, refl, sym, ap, ◌∙◌, subst, ℕ, List, [], ◌∷◌, ◌++◌, map, Bool, true, false, not, ◌&&◌, ◌||◌, Option, Some, None, append_assoc}
+use Rattle.std.proofs.Common.{◌≡◌, refl, sym, ap, ◌∙◌, subst, ℕ, List, [], ◌∷◌, ◌++◌, map, Bool, true, false, not, ◌&&◌, ◌||◌, None, append_assoc}
 use Rattle.std.proofs.lemmas.Bool.{or_parts}
-use Rattle.std.proofs.lemmas.List.{append-nil, map-append}
+use Rattle.std.proofs.lemmas.List.{map-append}
 use Rattle.mk_lines.specs.Lists.{concat}
-use Rattle.mk_lines.specs.ListLaws.{Each, FirstFails, Each-append, concat-append, leading-append_all}
-use Rattle.mk_lines.specs.Bytes.{byte_kind, is_blank_kind}
+use Rattle.mk_lines.specs.ListLaws.{Each, Each-append, concat-append, leading-append_all}
 use Rattle.mk_lines.specs.Cells.{Cell, Byte, Fold, LfEnd, CrLfEnd, joined_byte}
 use Rattle.mk_lines.specs.CellFaults.{has_stray, has_bad_fold}
-use Rattle.mk_lines.specs.LineCells.{AreLineCells, AreLineCells-none, AreLineCells-left, AreLineCells-right, or-both_false}
+use Rattle.mk_lines.specs.LineCells.{AreLineCells, or-both_false}
 use Rattle.mk_lines.specs.Units.{units}
 use Rattle.mk_lines.specs.UnitLaws.{units-last, concat-units}
-use Rattle.mk_lines.specs.Words.{Token, Gap, Word, tokens, before_tokens, token_units, is_gap, IsWord, AreTokens}
+use Rattle.mk_lines.specs.Words.{Token, Gap, Word, tokens, before_tokens, token_units, is_gap, IsWord}
 use Rattle.mk_lines.specs.TokenLaws.{token_units-tokens, tokens-are_tokens}
 use Rattle.mk_class.specs.Lists.{any, is_empty, first_passes, last_passes}
 use Rattle.mk_class.specs.Texts.{word_texts}
-use Rattle.mk_class.specs.Symbols.{Symbol, symbol, is_colon, is_bar, is_ampersand, is_equals, is_unreadable_unit, is_colon_symbol, is_bar_symbol}
+use Rattle.mk_class.specs.Symbols.{Symbol, symbol, is_colon, is_bar, is_ampersand, is_bar_symbol}
 use Rattle.mk_class.specs.Symbols.Symbol.{Hash, Colon, Semicolon, Equals, Plus, Question, Exclamation, Bar, Ampersand, NoSymbol}
 use Rattle.mk_class.specs.SymbolLaws.{symbol-unit, symbol-no_gap}
 use Rattle.mk_class.specs.CutTexts.{cut_text, head as head_at, is_in_head}
@@ -25,14 +24,14 @@ use Rattle.mk_class.specs.HeaderLaws.{header_units, header-whole}
 use Rattle.mk_class.specs.HeadersAgain.{FitsHeader, FitsPattern, FitsBar, head_units, after_separator, prerequisite_units, separator_symbols}
 use Rattle.mk_class.specs.HeaderFitsLaws.{header-fits}
 use Rattle.mk_class.specs.Classes.Class.{Header}
-use Rattle.mk_class.specs.ClassTable.{directive, is_unreadable, plain_class}
+use Rattle.mk_class.specs.ClassTable.{directive, plain_class}
 use Rattle.mk_class.specs.ClassLaws.{has_stray-append, has_stray-left, has_stray-right}
 use Rattle.mk_class.specs.declared.rule.Separator.{Separator}
 use Rattle.mk_class.specs.declared.rule.Separator.TheVariants.{SingleColon, DoubleColon, GroupedColon, GroupedDoubleColon}
-use Rattle.mk_edit.specs.HeadUnits.{AllAre, AllAre-append, AllAre-left, AllAre-right, IsHeadUnit, IsSolid, BeginsSolid, EndsSolid, EndsSolid-after, line_cells-after_solid, line_cells-before_solid, first_units-are_head_units, head_units-again, head_units-no_stray, head_units-readable, head_units-in_head, head_unit-solid}
+use Rattle.mk_edit.specs.HeadUnits.{AllAre, AllAre-append, AllAre-left, AllAre-right, IsHeadUnit, IsSolid, first_units-are_head_units, head_units-again, head_units-no_stray, head_units-readable, head_units-in_head}
 use Rattle.mk_edit.specs.HeadWords.{word-solid}
-use Rattle.mk_edit.specs.DirectiveWords.{AlikeTokens, HasColon, BeginsWithColon, SaySame, alike-say_same, same-no_directive}
-use Rattle.mk_edit.specs.HeaderLines.{IsHeaderLine, MakeHeader, is_rough_made, made-header, header_units-head, header-cut, separator-has_colon}
+use Rattle.mk_edit.specs.DirectiveWords.{AlikeTokens, BeginsWithColon, alike-say_same, same-no_directive}
+use Rattle.mk_edit.specs.HeaderLines.{IsHeaderLine, MakeHeader, is_rough_made, made-header, header_units-head, header-cut}
 
 -- a unit of targets or prerequisites: one that can be read, and is no `:` and no `|`
 pub record IsPartUnit (u : List Cell) : Type 0 where

@@ -64,5 +64,9 @@ pub mod SpansRise
 pub mod KeptLines
 pub mod KeptByEdits
 pub mod TouchedLines
+pub mod TargetLines
+pub mod TargetNames
+pub mod RenamedTargets
+pub mod RenameLaws
 pub mod Laws
 pub mod WordLaws

@@ -1,9 +1,9 @@
 -- How cells end beside others, so that a line's end stays as it was: they are none, or end in an ordinary byte, or in the same cells.
 use Rattle.std.proofs.Common.{◌≡◌, refl, sym, ap, ◌∙◌, subst, ℕ, List, [], ◌∷◌, ◌++◌, true, append_assoc, reverse}
 use Rattle.std.proofs.lemmas.List.{append-nil}
-use Rattle.mk_lines.specs.Bytes.{ByteKind, byte_kind, is_blank_kind}
-use Rattle.mk_lines.specs.Bytes.ByteKind.{LineFeed, CarriageReturn, Backslash, Blank, Ordinary}
-use Rattle.mk_lines.specs.Cells.{Cell, Byte, Fold, LfEnd, CrLfEnd, joined_byte, raw_text}
+use Rattle.mk_lines.specs.Bytes.{byte_kind}
+use Rattle.mk_lines.specs.Bytes.ByteKind.{Ordinary}
+use Rattle.mk_lines.specs.Cells.{Cell, Byte, raw_text}
 use Rattle.mk_lines.specs.LineOfCells.{is_reset, is_reset_kind}
 use Rattle.mk_lines.specs.LineEndLaws.{KeepsApart}
 use Rattle.mk_lines.specs.LineCells.{AreLineCells, AreLineCells-right, EndLineBefore, EndLineBefore-tail, EndLineBefore-last, KeepsApart-tail, KeepsApart-last}

@@ -1,16 +1,16 @@
 -- A header's line after a rename stands in the place of the old one: a line of class Header with the new word for each that was the old.
-use Rattle.std.proofs.Common.{◌≡◌, refl, sym, ap, ◌∙◌, subst, ℕ, List, [], ◌∷◌, ◌++◌, map, Bool, true, false, not, ◌&&◌, ◌||◌, cond, append_assoc}
+use Rattle.std.proofs.Common.{◌≡◌, refl, sym, ap, ◌∙◌, subst, ℕ, List, [], ◌∷◌, ◌++◌, map, Bool, true, false, not, ◌&&◌, cond, append_assoc}
 use Rattle.std.proofs.lemmas.List.{append-nil}
 use Rattle.std.specs.Prelude.{nat_lt}
 use Rattle.mk_lines.specs.Lists.{concat}
 use Rattle.mk_lines.specs.PhysicalLines.{line_end, line_end_bytes}
-use Rattle.mk_lines.specs.Cells.{Cell, Byte, joined_byte, raw_text, line_cells}
+use Rattle.mk_lines.specs.Cells.{Cell, joined_byte, raw_text, line_cells}
 use Rattle.mk_lines.specs.Pieces.{Piece, Keep, Replace, old_cells, new_cells, old_bytes, new_bytes}
 use Rattle.mk_lines.specs.PieceLaws.{raw_text-old_cells, raw_text-new_cells}
 use Rattle.mk_lines.specs.CellLaws.{raw_text-append}
 use Rattle.mk_lines.specs.LineCells.{AreLineCells}
 use Rattle.mk_lines.specs.LineLaws.{OneLine, EndsBefore}
-use Rattle.mk_lines.specs.Words.{tokens, token_words, token_units, is_word_first, is_gap, IsWord}
+use Rattle.mk_lines.specs.Words.{tokens, token_words, token_units, IsWord}
 use Rattle.mk_lines.specs.TokenLaws.{token_text, token_units-tokens, token_text-tokens, tokens-are_tokens, tokens-token_units}
 use Rattle.mk_class.specs.Lists.{any, first_passes, last_passes}
 use Rattle.mk_class.specs.Texts.{word_texts}
@@ -20,25 +20,23 @@ use Rattle.mk_class.specs.HeaderLaws.{header_units}
 use Rattle.mk_class.specs.AssignmentLineLaws.{led-same}
 use Rattle.mk_class.specs.RecipePrefix.{is_prefix_led}
 use Rattle.mk_class.specs.Contexts.{Context}
-use Rattle.mk_class.specs.Classes.Class.{Header}
-use Rattle.mk_class.specs.ClassTable.{class_of}
 use Rattle.mk_class.specs.Keywords.{is_reserved_word}
 use Rattle.mk_tree.specs.Items
 use Rattle.mk_tree.specs.Items.{header_item, raw_units}
 use Rattle.mk_edit.specs.AddressCauses.{begins_renamed_line}
-use Rattle.mk_edit.specs.WordPieces.{renamed_words, renamed_tokens, rename_pieces, header_pieces, is_replaced, is_word_of}
+use Rattle.mk_edit.specs.WordPieces.{renamed_words, rename_pieces, is_replaced, is_word_of}
 use Rattle.mk_edit.specs.Changes.{rename_words, renamed_item}
-use Rattle.mk_edit.specs.HeadUnits.{AllAre, IsHeadUnit, EndsSolid, EndsSolid-after}
+use Rattle.mk_edit.specs.HeadUnits.{AllAre, IsHeadUnit, EndsSolid-after}
 use Rattle.mk_edit.specs.LineTails.{EndsAs}
-use Rattle.mk_edit.specs.HeadWords.{concat-token_units, first-word, word-no_gap_last}
+use Rattle.mk_edit.specs.HeadWords.{concat-token_units, first-word}
 use Rattle.mk_edit.specs.DirectiveWords.{AlikeTokens}
-use Rattle.mk_edit.specs.HeaderParts.{IsPartUnit, part-head, HeaderKnown, is_bar_glued, is_no_gap, FitIn, with_parts}
-use Rattle.mk_edit.specs.HeaderChanges.{middle_units, middle-solid, header-cells, FitAsCells, HeaderHere, header-here, header-changed, IsHeaderWith, line_of, solid-bytes}
+use Rattle.mk_edit.specs.HeaderParts.{IsPartUnit, part-head, HeaderKnown, is_no_gap, FitIn, with_parts}
+use Rattle.mk_edit.specs.HeaderChanges.{middle_units, middle-solid, header-cells, FitAsCells, HeaderHere, header-changed, IsHeaderWith, line_of, solid-bytes}
 use Rattle.mk_edit.specs.HeaderEdits.{header_pieces-new, header_pieces-whole, lists-end, list-cells, fits-bar_again}
 use Rattle.mk_edit.specs.UndependLaws.{glued-apart}
 use Rattle.mk_edit.specs.NewWords.{IsNewWord, cell_units}
 use Rattle.mk_edit.specs.WordsAdded.{word-parts}
-use Rattle.mk_edit.specs.WordsRenamed.{renamed_word, tokens_renamed, renamed-new_cells, renamed-old_cells, renamed-word_first, renamed-are_tokens, renamed-words, renamed-all, renamed-line_cells, renamed-ends, renamed-last, renamed-alike}
+use Rattle.mk_edit.specs.WordsRenamed.{tokens_renamed, renamed-new_cells, renamed-old_cells, renamed-word_first, renamed-are_tokens, renamed-words, renamed-all, renamed-line_cells, renamed-ends, renamed-last, renamed-alike}
 
 -- a new target: a word that is not reserved, whose last unit is no `&`
 pub record IsNewTarget (o n : List ℕ) : Type 0 where
@@ -111,11 +109,13 @@ module _ (o n : List ℕ) (new : IsNewTarget o n) (us : List (List Cell)) where
 abbrev pub header_renamed : (old new : List ℕ) → Headers.Header Cell → Headers.Header Cell
 header_renamed o n h = with_parts h (renamed_units o n h.targets) (renamed_units o n h.normal) h.bar (renamed_units o n h.order_only)
 
-and-right : (a b : Bool) → (a && b) ≡ false → (b ≡ true → a ≡ false)
+-- of two tests that do not both pass, the first fails where the second passes
+pub and-right : (a b : Bool) → (a && b) ≡ false → (b ≡ true → a ≡ false)
 and-right true b h e = let k : true ≡ false = sym e ∙ h in cc
 and-right false b h e = refl
 
-and-of : (a b : Bool) → (b ≡ true → a ≡ false) → (a && b) ≡ false
+-- and so they do not both pass
+pub and-of : (a b : Bool) → (b ≡ true → a ≡ false) → (a && b) ≡ false
 and-of true true h = h refl
 and-of true false h = refl
 and-of false b h = refl

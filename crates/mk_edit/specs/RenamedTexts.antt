@@ -1,14 +1,13 @@
 -- The lines of a text after a rename, each in the place of the old one: the reading has the new word for each that was the old.
-use Rattle.std.proofs.Common.{◌≡◌, refl, sym, ap, ◌∙◌, subst, ℕ, List, [], ◌∷◌, ◌++◌, map, Bool, true, false, not, ◌&&◌, ◌||◌, length, drop, ◌+◌}
+use Rattle.std.proofs.Common.{◌≡◌, refl, sym, ap, ◌∙◌, subst, ℕ, List, [], ◌∷◌, ◌++◌, map, false, length, drop, ◌+◌}
 use Rattle.std.proofs.lemmas.List.{map-append}
 use Rattle.std.proofs.lemmas.Bool.{or_parts}
 use Rattle.std.proofs.Math.Seq.{drop-append_seam}
 use Rattle.mk_lines.specs.PhysicalLines.{line_end, line_end_bytes}
-use Rattle.mk_lines.specs.Cells.{Cell, joined_byte, raw_text}
-use Rattle.mk_lines.specs.Pieces.{Piece, Replacement, replaced, replacements, old_bytes, new_bytes}
+use Rattle.mk_lines.specs.Cells.{Cell, raw_text}
+use Rattle.mk_lines.specs.Pieces.{Piece, replaced, replacements, old_bytes, new_bytes}
 use Rattle.mk_lines.specs.PieceLaws.{raw_text-old_cells, raw_text-new_cells}
 use Rattle.mk_lines.specs.LineLaws.{OneLine, EndsBefore}
-use Rattle.mk_class.specs.Texts.{word_texts}
 use Rattle.mk_class.specs.Headers
 use Rattle.mk_class.specs.Classes.{Class}
 use Rattle.mk_class.specs.Contexts.{Context, start, context_after}

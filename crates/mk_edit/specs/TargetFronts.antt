@@ -1,10 +1,9 @@
 -- A rename of targets makes no assignment of a line that was none: what stands before the first `=` is no front of an assignment
 -- where it was none.
-use Rattle.std.proofs.Common.{◌≡◌, refl, sym, ap, ◌∙◌, subst, ℕ, List, [], ◌∷◌, ◌++◌, map, Bool, true, false, not, ◌||◌, cond, Option, Some, None, append_assoc}
+use Rattle.std.proofs.Common.{◌≡◌, refl, sym, ap, ◌∙◌, ℕ, List, [], ◌∷◌, ◌++◌, map, Bool, true, false, not, ◌||◌, cond, Option, Some, None, append_assoc}
 use Rattle.std.proofs.lemmas.List.{append-nil, map-append}
 use Rattle.std.proofs.lemmas.Bool.{or_parts, not-true}
 use Rattle.std.specs.Prelude.{codes}
-use Rattle.mk_lines.specs.Lists.{concat, leading, after_leading}
 use Rattle.mk_lines.specs.ListLaws.{Each}
 use Rattle.mk_lines.specs.Cells.{Cell, joined_byte}
 use Rattle.mk_lines.specs.Words.{Token, Gap, Word, tokens, before_tokens, token_units, is_word_first, is_gap, IsWord, AreTokens}
@@ -20,13 +19,12 @@ use Rattle.mk_class.specs.AssignmentEqualsLaws.{or_front, front_of-word}
 use Rattle.mk_class.specs.declared.assignment.Flavor.{Flavor}
 use Rattle.mk_class.specs.declared.assignment.Modifier.{Modifier}
 use Rattle.mk_edit.specs.WordPieces.{is_word_of}
-use Rattle.mk_edit.specs.DirectiveWords.{is_modifier, HasColon, colon-no_modifier, word-glued, glued-colon}
+use Rattle.mk_edit.specs.DirectiveWords.{is_modifier, colon-no_modifier, word-glued, glued-colon}
 use Rattle.mk_edit.specs.HeaderParts.{colons-begin}
-use Rattle.mk_edit.specs.NewWords.{IsNewWord, cell_units, cell_units-text}
-use Rattle.mk_edit.specs.WordsRenamed.{tokens_renamed, renamed_word, not_reserved-keyword}
+use Rattle.mk_edit.specs.NewWords.{cell_units, cell_units-text}
+use Rattle.mk_edit.specs.WordsRenamed.{tokens_renamed, not_reserved-keyword}
 use Rattle.mk_edit.specs.RenamedHeaders.{IsNewTarget}
 use Rattle.mk_class.specs.declared.rule.Separator.TheVariants.{SingleColon}
-use Rattle.mk_edit.specs.Accepted.{same_text-is}
 
 -- ---- operators
 

@@ -1,5 +1,5 @@
 -- Targets before a separator with others in their place: the line is taken apart there again, and its units are read again.
-use Rattle.std.proofs.Common.{◌≡◌, refl, sym, ap, ◌∙◌, subst, ℕ, List, [], ◌∷◌, ◌++◌, map, Bool, true, false, not, ◌&&◌, ◌||◌, cond, append_assoc}
+use Rattle.std.proofs.Common.{◌≡◌, refl, sym, ap, ◌∙◌, ℕ, List, [], ◌∷◌, ◌++◌, map, Bool, true, false, not, ◌&&◌, ◌||◌, cond, append_assoc}
 use Rattle.std.proofs.lemmas.List.{append-nil}
 use Rattle.std.proofs.lemmas.Bool.{or_parts, not-true}
 use Rattle.mk_lines.specs.Lists.{concat}
@@ -13,11 +13,11 @@ use Rattle.mk_class.specs.Lists.{until, from, first_passes, last_passes}
 use Rattle.mk_class.specs.ListLaws.{until-from}
 use Rattle.mk_class.specs.Symbols.{symbol, is_colon, is_ampersand}
 use Rattle.mk_class.specs.SymbolLaws.{gap-plain}
-use Rattle.mk_class.specs.Separators.{Separated, separated, separated_before, separator_at, begins_separator}
+use Rattle.mk_class.specs.Separators.{separated, separated_before, separator_at, begins_separator}
 use Rattle.mk_class.specs.Headers.{is_no_colon}
 use Rattle.mk_edit.specs.WordPieces.{is_word_of}
 use Rattle.mk_edit.specs.NewWords.{IsNewWord, cell_units}
-use Rattle.mk_edit.specs.WordsRenamed.{tokens_renamed, renamed_word}
+use Rattle.mk_edit.specs.WordsRenamed.{tokens_renamed}
 
 -- ---- the separator
 

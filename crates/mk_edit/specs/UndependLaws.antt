@@ -1,43 +1,40 @@
 -- An accepted removal of a prerequisite removes the word from the header's lists, and no other item changes.
-use Rattle.std.proofs.Common.{◌≡◌, refl, sym, ap, ◌∙◌, subst, ℕ, List, [], ◌∷◌, ◌++◌, map, Bool, true, false, not, ◌&&◌, ◌||◌, Option, Some, append_assoc, length}
-use Rattle.std.proofs.lemmas.List.{append-nil}
+use Rattle.std.proofs.Common.{◌≡◌, refl, sym, ap, ◌∙◌, subst, ℕ, List, [], ◌∷◌, ◌++◌, map, Bool, true, false, Option, length}
 use Rattle.std.proofs.lemmas.Bool.{or_parts}
 use Rattle.std.specs.Prelude.{◌⊎◌, Ok, nat_lt}
 use mathlib.Core.Logic.{inl, inr}
 use Rattle.mk_lines.specs.Lists.{concat}
-use Rattle.mk_lines.specs.PhysicalLines.{line_end, line_end_bytes}
-use Rattle.mk_lines.specs.Cells.{Cell, Byte, joined_byte, line_cells}
-use Rattle.mk_lines.specs.Pieces.{Piece, Replacement, replaced, old_cells, new_cells, replacements}
-use Rattle.mk_lines.specs.LineCells.{AreLineCells, AreLineCells-left, AreLineCells-right}
-use Rattle.mk_lines.specs.Words.{Token, Gap, Word, tokens, token_words, token_units, is_word_first, is_gap}
+use Rattle.mk_lines.specs.Cells.{Cell, joined_byte, line_cells}
+use Rattle.mk_lines.specs.Pieces.{Replacement, replaced, old_cells, new_cells, replacements}
+use Rattle.mk_lines.specs.LineCells.{AreLineCells}
+use Rattle.mk_lines.specs.Words.{tokens, token_words, token_units, is_word_first, is_gap}
 use Rattle.mk_lines.specs.TokenLaws.{token_text, token_units-tokens, token_text-tokens, tokens-are_tokens, tokens-token_units}
 use Rattle.mk_class.specs.Lists.{first_passes, last_passes}
 use Rattle.mk_class.specs.Texts.{word_texts}
 use Rattle.mk_class.specs.Headers
 use Rattle.mk_class.specs.HeaderLaws.{header_units}
-use Rattle.mk_class.specs.HeadersAgain.{FitsBar}
 use Rattle.mk_class.specs.Classes.Class.{Header}
 use Rattle.mk_class.specs.ClassedLines.{ClassedLine, classed_lines}
-use Rattle.mk_tree.specs.LineTexts.{text_of, context_of, bytes_of}
+use Rattle.mk_tree.specs.LineTexts.{text_of, context_of}
 use Rattle.mk_tree.specs.LinePlaces.{located}
 use Rattle.mk_tree.specs.Items
 use Rattle.mk_tree.specs.Items.{Item, items, header_item, raw_units}
 use Rattle.mk_tree.specs.Readings.{reading}
 use Rattle.mk_edit.specs.Edits.{RemovePrereq}
 use Rattle.mk_edit.specs.Spots.{Spot}
-use Rattle.mk_edit.specs.WordPieces.{removed_words, removed_tokens, remove_pieces, kept}
-use Rattle.mk_edit.specs.Spans.{word_spans, header_spans, where_found}
+use Rattle.mk_edit.specs.WordPieces.{removed_words, remove_pieces, kept}
+use Rattle.mk_edit.specs.Spans.{word_spans, where_found}
 use Rattle.mk_edit.specs.Refusals.{spans, text_by, text_after}
-use Rattle.mk_edit.specs.Changes.{change, with_header, header_items, without_prerequisite, without_word}
+use Rattle.mk_edit.specs.Changes.{change, with_header, without_prerequisite, without_word}
 use Rattle.mk_edit.specs.Accepted.{accepted, where_holds-none}
 use Rattle.mk_edit.specs.SpotLaws.{rule-found}
-use Rattle.mk_edit.specs.HeadUnits.{AllAre, IsHeadUnit, EndsSolid, EndsSolid-after}
-use Rattle.mk_edit.specs.LineTails.{EndsAs, EndsAs-after}
+use Rattle.mk_edit.specs.HeadUnits.{AllAre, IsHeadUnit}
+use Rattle.mk_edit.specs.LineTails.{EndsAs}
 use Rattle.mk_edit.specs.HeadWords.{concat-token_units, first-word, last-gap, gap-last}
 use Rattle.mk_edit.specs.WordsRemoved.{kept_tokens, removed-new_cells, removed-old_cells, kept-no_word_first, kept-are_tokens, kept-words, kept-all, kept-gap_last, kept-line_cells, kept-ends}
 use Rattle.mk_edit.specs.DirectiveWords.{alike-itself}
-use Rattle.mk_edit.specs.HeaderParts.{IsPartUnit, part-head, HeaderKnown, is_bar_glued, is_no_gap, FitIn, with_parts, bar-is, bar-solid}
-use Rattle.mk_edit.specs.HeaderChanges.{middle_units, header-cells, FitAsCells, HeaderHere, header-here, same-not_led}
+use Rattle.mk_edit.specs.HeaderParts.{IsPartUnit, part-head, HeaderKnown, is_bar_glued, is_no_gap, FitIn, with_parts}
+use Rattle.mk_edit.specs.HeaderChanges.{header-cells, FitAsCells, header-here, same-not_led}
 use Rattle.mk_edit.specs.HeaderEdits.{header_pieces-new, header_pieces-whole, kept-old, kept-new, reading-pieces_replaced, fits-bar_again, lists-end, list-cells, word_spans-header, with_header-header}
 use Rattle.mk_edit.specs.declared.refusal.Refusal.TheVariants.{NoSuch}
 

@@ -1,6 +1,6 @@
--- The reading law for the edits of words in a rule's line, each the contract of a public function.
+-- The reading law for the edits of words in rules' lines, each the contract of a public function.
 use Rattle.std.specs.Prelude.{ℕ, Bool, List, Option}
-use Rattle.mk_edit.specs.Edits.{AddPrereq, RemovePrereq}
+use Rattle.mk_edit.specs.Edits.{AddPrereq, RemovePrereq, RenameTarget}
 use Rattle.mk_edit.specs.Laws.{ReadsAsChanged}
 
 -- a new prerequisite stands last in its list, and no other item changes
@@ -10,3 +10,7 @@ DependReadsAsChanged = (order : Bool) (nth : Option ℕ) (target word : List ℕ
 -- a prerequisite removed goes from both lists of its header, and no other item changes
 abbrev pub UndependReadsAsChanged : Type 0
 UndependReadsAsChanged = (nth : Option ℕ) (target word : List ℕ) → ReadsAsChanged (RemovePrereq nth target word)
+
+-- a rename puts the new word for each target and each prerequisite that is the old one, and changes nothing else of an item
+abbrev pub RenameReadsAsChanged : Type 0
+RenameReadsAsChanged = (old new : List ℕ) → ReadsAsChanged (RenameTarget old new)

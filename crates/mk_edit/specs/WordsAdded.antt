@@ -1,25 +1,24 @@
 -- A word put after the last one of some units: the words are those and then this one, and the cells join.
-use Rattle.std.proofs.Common.{◌≡◌, refl, sym, ap, ◌∙◌, subst, ℕ, List, [], ◌∷◌, ◌++◌, map, Bool, true, false, not, append_assoc}
+use Rattle.std.proofs.Common.{◌≡◌, refl, sym, ap, ◌∙◌, subst, ℕ, List, [], ◌∷◌, ◌++◌, map, Bool, true, false, append_assoc}
 use Rattle.std.proofs.lemmas.List.{append-nil, map-append}
 use Rattle.std.specs.Prelude.{◌⊎◌}
 use mathlib.Core.Logic.{inl, inr}
 use Rattle.mk_lines.specs.Lists.{concat, trim_end, trailing}
 use Rattle.mk_lines.specs.ListLaws.{Each, LastFails, concat-append, trim_end-trailing, trailing-each, trim_end-last_fails}
 use Rattle.mk_lines.specs.Cells.{Cell, Byte, joined_byte}
-use Rattle.mk_lines.specs.LineCells.{AreLineCells, AreLineCells-none, AreLineCells-left, AreLineCells-right, bytes-are_line_cells}
+use Rattle.mk_lines.specs.LineCells.{AreLineCells, AreLineCells-left, bytes-are_line_cells}
 use Rattle.mk_lines.specs.Units.{units}
 use Rattle.mk_lines.specs.UnitLaws.{concat-units}
 use Rattle.mk_lines.specs.CellFaults.{has_stray}
-use Rattle.mk_lines.specs.Words.{Token, Gap, Word, tokens, before_tokens, token_words, is_word_first, is_gap, IsWord}
+use Rattle.mk_lines.specs.Words.{Token, Gap, Word, tokens, before_tokens, token_words, is_word_first, is_gap}
 use Rattle.mk_lines.specs.TokenLaws.{tokens-word}
-use Rattle.mk_class.specs.Lists.{any, first_passes, last_passes}
 use Rattle.mk_class.specs.Texts.{word_texts}
 use Rattle.mk_class.specs.Symbols.{is_colon, is_bar}
 use Rattle.mk_class.specs.ValueLaws.{clean-no_line_end}
-use Rattle.mk_edit.specs.HeadUnits.{AllAre, AllAre-append, AllAre-left, AllAre-right, IsHeadUnit, IsSolid, BeginsSolid-before, EndsSolid, EndsSolid-after, line_cells-after_solid, line_cells-before_solid, head_unit-solid, first_units-are_head_units}
+use Rattle.mk_edit.specs.HeadUnits.{AllAre, AllAre-append, AllAre-left, IsHeadUnit, IsSolid, BeginsSolid-before, EndsSolid, EndsSolid-after, line_cells-after_solid, line_cells-before_solid, head_unit-solid, first_units-are_head_units}
 use Rattle.mk_edit.specs.LineTails.{EndsAs, EndsEmpty, EndsAs-after}
-use Rattle.mk_edit.specs.HeadWords.{gap-ends, word-solid, last-more}
-use Rattle.mk_edit.specs.HeaderParts.{IsPartUnit, part-head, parts-of, no-each, is_no_gap}
+use Rattle.mk_edit.specs.HeadWords.{gap-ends, word-solid}
+use Rattle.mk_edit.specs.HeaderParts.{IsPartUnit, part-head, parts-of, no-each}
 use Rattle.mk_edit.specs.NewWords.{IsNewWord, cell_units, cell_units-text, rule_units-bland, clean-no_stray}
 
 -- ---- gaps

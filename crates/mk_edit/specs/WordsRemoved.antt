@@ -1,15 +1,14 @@
 -- Words taken out of units, each with the gaps directly before it: what stays is cut into words as before, and its cells join.
 use Rattle.std.proofs.Common.{◌≡◌, refl, sym, ap, ◌∙◌, subst, ℕ, List, [], ◌∷◌, ◌++◌, map, Bool, true, false, not, cond, append_assoc}
 use Rattle.std.proofs.lemmas.List.{append-nil}
-use Rattle.std.specs.Prelude.{if◌then◌else◌, filter}
+use Rattle.std.specs.Prelude.{if◌then◌else◌}
 use Rattle.mk_lines.specs.Lists.{concat}
-use Rattle.mk_lines.specs.Cells.{Cell, Byte, joined_byte}
-use Rattle.mk_lines.specs.Pieces.{Piece, Keep, Replace, old_cells, new_cells}
+use Rattle.mk_lines.specs.Cells.{Cell, joined_byte}
+use Rattle.mk_lines.specs.Pieces.{Keep, Replace, old_cells, new_cells}
 use Rattle.mk_lines.specs.LineCells.{AreLineCells, AreLineCells-left, AreLineCells-right}
 use Rattle.mk_lines.specs.Words.{Token, Gap, Word, token_words, token_units, is_word_first, is_gap, IsWord, AreTokens}
 use Rattle.mk_lines.specs.TokenLaws.{token_text}
 use Rattle.mk_class.specs.Lists.{last_passes}
-use Rattle.mk_class.specs.Texts.{is_same_text}
 use Rattle.mk_edit.specs.WordPieces.{is_word_of, removed_tokens}
 use Rattle.mk_edit.specs.Changes.{without_word}
 use Rattle.mk_edit.specs.HeadUnits.{AllAre, AllAre-append, AllAre-left, AllAre-right, IsHeadUnit, line_cells-after_solid, EndsSolid, EndsSolid-after}

@@ -1,24 +1,24 @@
 -- Words of units with another in the place of each that is one: the words are those with the new one, and the cells join.
-use Rattle.std.proofs.Common.{◌≡◌, refl, sym, ap, ◌∙◌, subst, ℕ, List, [], ◌∷◌, ◌++◌, map, Bool, true, false, not, cond, append_assoc}
+use Rattle.std.proofs.Common.{◌≡◌, refl, sym, ap, ◌∙◌, subst, ℕ, List, [], ◌∷◌, ◌++◌, map, Bool, true, false, cond, append_assoc}
 use Rattle.std.proofs.lemmas.List.{append-nil}
 use Rattle.std.proofs.lemmas.Bool.{or_parts}
 use Rattle.std.specs.Prelude.{if◌then◌else◌, codes}
 use Rattle.mk_lines.specs.Lists.{concat}
 use Rattle.mk_lines.specs.Cells.{Cell, Byte, joined_byte}
-use Rattle.mk_lines.specs.Pieces.{Piece, Keep, Replace, old_cells, new_cells}
+use Rattle.mk_lines.specs.Pieces.{Keep, Replace, old_cells, new_cells}
 use Rattle.mk_lines.specs.LineCells.{AreLineCells, AreLineCells-left, AreLineCells-right, bytes-are_line_cells}
 use Rattle.mk_lines.specs.UnitLaws.{concat-units}
-use Rattle.mk_lines.specs.Words.{Token, Gap, Word, token_words, token_units, is_word_first, is_gap, IsWord, AreTokens}
+use Rattle.mk_lines.specs.Words.{Token, Gap, Word, token_words, token_units, is_word_first, IsWord, AreTokens}
 use Rattle.mk_lines.specs.TokenLaws.{token_text}
 use Rattle.mk_class.specs.Lists.{last_passes}
-use Rattle.mk_class.specs.Texts.{is_same_text, is_one_of}
+use Rattle.mk_class.specs.Texts.{is_same_text}
 use Rattle.mk_class.specs.ValueLaws.{clean-no_line_end}
-use Rattle.mk_class.specs.Keywords.{keyword, is_reserved_word, reserved_words, if_words, directive_words, modifier_words, NoKeyword}
+use Rattle.mk_class.specs.Keywords.{keyword, is_reserved_word, NoKeyword}
 use Rattle.mk_edit.specs.WordPieces.{is_word_of, renamed_tokens}
 use Rattle.mk_edit.specs.Changes.{rename_words}
 use Rattle.mk_edit.specs.Accepted.{same_text-is}
 use Rattle.mk_edit.specs.HeadUnits.{AllAre, AllAre-append, AllAre-left, AllAre-right, IsHeadUnit, BeginsSolid-before, EndsSolid, EndsSolid-after, line_cells-after_solid, line_cells-before_solid}
-use Rattle.mk_edit.specs.LineTails.{EndsAs, EndsEmpty, EndsAs-after}
+use Rattle.mk_edit.specs.LineTails.{EndsAs, EndsAs-after}
 use Rattle.mk_edit.specs.HeadWords.{token_text-append, AreGaps, IsGapToken, gaps-end, word-solid, last-more}
 use Rattle.mk_edit.specs.DirectiveWords.{AlikeTokens, is_modifier}
 use Rattle.mk_edit.specs.NewWords.{IsNewWord, cell_units, cell_units-text}

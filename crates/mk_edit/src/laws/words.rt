@@ -1,5 +1,5 @@
-//! The reading law for the edits of words in a rule's line.
-ghost use Rattle.mk_edit.specs.WordLaws.{DependReadsAsChanged, UndependReadsAsChanged};
+//! The reading law for the edits of words in rules' lines.
+ghost use Rattle.mk_edit.specs.WordLaws.{DependReadsAsChanged, RenameReadsAsChanged, UndependReadsAsChanged};
 
 /// An accepted new prerequisite stands last in its list of the header, and no other item changes.
 pub fn depend_reads_as_changed()
@@ -10,4 +10,11 @@ pub fn depend_reads_as_changed()
 /// order-only prerequisites of the header, and no other item changes.
 pub fn undepend_reads_as_changed()
     ensures { UndependReadsAsChanged }
+{}
+
+/// An accepted rename puts the new word in the place of each target and each prerequisite that is
+/// the old one, in the headers and target assignments of the whole text, and no item changes but
+/// in these words.
+pub fn rename_reads_as_changed()
+    ensures { RenameReadsAsChanged }
 {}
