@@ -19,6 +19,10 @@ use Rattle.mk_edit.specs.Changes.{change}
 abbrev pub ReadsAsChanged : Edit → Type 0
 ReadsAsChanged e = (text : List ℕ) (replacements : List Replacement) → spans text e ≡ Ok replacements → reading (text_after text e) ≡ change text e
 
+-- each edit that no cause refuses changes the reading as its stated change says
+abbrev pub EditsReadAsChanged : Type 0
+EditsReadAsChanged = (edit : Edit) → ReadsAsChanged edit
+
 -- an edit of a value changes the reading by this value alone
 abbrev pub SetReadsAsChanged : Type 0
 SetReadsAsChanged = (nth : Option ℕ) (name value : List ℕ) → ReadsAsChanged (SetValue nth name value)

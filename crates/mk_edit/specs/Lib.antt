@@ -70,3 +70,4 @@ pub mod RenamedTargets
 pub mod RenameLaws
 pub mod Laws
 pub mod WordLaws
+pub mod EditLaws

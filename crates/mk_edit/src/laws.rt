@@ -2,9 +2,14 @@
 //! specified by. The functions do nothing.
 pub mod words;
 
-ghost use Rattle.mk_edit.specs.Laws.{AppendReadsAsChanged, AssignReadsAsChanged, NewAssignmentsStand, OtherLinesStay, RecipeAddedReadsAsChanged, RecipeRemovedReadsAsChanged, RecipeSetReadsAsChanged, RefusedChangesNothing, RuleAddedReadsAsChanged, SetReadsAsChanged, UnruleReadsAsChanged, UnsetReadsAsChanged};
+ghost use Rattle.mk_edit.specs.Laws.{AppendReadsAsChanged, AssignReadsAsChanged, EditsReadAsChanged, NewAssignmentsStand, OtherLinesStay, RecipeAddedReadsAsChanged, RecipeRemovedReadsAsChanged, RecipeSetReadsAsChanged, RefusedChangesNothing, RuleAddedReadsAsChanged, SetReadsAsChanged, UnruleReadsAsChanged, UnsetReadsAsChanged};
 
 pub mod outside;
+
+/// Each accepted edit, of every kind, changes the reading by exactly its stated change.
+pub fn edits_read_as_changed()
+    ensures { EditsReadAsChanged }
+{}
 
 /// An accepted edit of a value changes the reading by this value alone. Where the new value is empty
 /// and a fold is left without its next line, the value is one lone backslash.
