@@ -155,10 +155,21 @@ module _ {A : Type 0} (byte : A → ℕ) where
         again = λ v g p. made-again f b e r h w n k v g p;
       }
 
-  -- each assignment is one
-  pub assignment-is : (us : List (List A)) (a : Assignment A) → assignment byte us ≡ Some a → IsAssignment us a
+  -- what an assignment is made of: a front, the first `=` and the units after it
+  record MadeOf (us : List (List A)) (a : Assignment A) : Type 0 where
+    front : Front A
+    before : List (List A)
+    equals : List A
+    rest : List (List A)
+    front_is : front_of byte (tokens byte before) ≡ Some front
+    no_equals : Each (is_no_equals byte) before
+    equals_is : is_equals byte equals ≡ true
+    whole : before ++ equals ∷ rest ≡ us
+    made_is : made front equals rest ≡ a
+
+  made-of : (us : List (List A)) (a : Assignment A) → assignment byte us ≡ Some a → MadeOf us a
   unfolding made
-  assignment-is us a h =
+  made-of us a h =
       at (leading (is_no_equals byte) us) (after_leading (is_no_equals byte) us) (sym (assignment-at_equals byte us) ∙ h)
       (leading-after_leading (is_no_equals byte) us) (leading-each (is_no_equals byte) us) (after_leading-first_fails (is_no_equals byte) us)
     where
@@ -167,15 +178,71 @@ module _ {A : Type 0} (byte : A → ℕ) where
       is false h = cc
 
       with_front : (o : Option (Front A)) (b : List (List A)) (e : List A) (r : List (List A)) → front_of byte (tokens byte b) ≡ o → with_value byte o e r ≡ Some a → b ++ e ∷ r ≡ us
-          → Each (is_no_equals byte) b → is_equals byte e ≡ true → IsAssignment us a
+          → Each (is_no_equals byte) b → is_equals byte e ≡ true → MadeOf us a
       with_front None b e r h k w n s = absurd (cc)
-      with_front (Some f) b e r h k w n s =
-          let m : made f e r ≡ a = cc in
-          subst (λ (z : Assignment A). IsAssignment us z) m (subst (λ (z : List (List A)). IsAssignment z (made f e r)) w (made-is_assignment f b e r h n s))
+      with_front (Some f) b e r h k w n s = record { front = f; before = b; equals = e; rest = r; front_is = h; no_equals = n; equals_is = s; whole = w; made_is = cc }
 
-      at : (b r : List (List A)) → assignment_from byte b r ≡ Some a → b ++ r ≡ us → Each (is_no_equals byte) b → FirstFails (is_no_equals byte) r → IsAssignment us a
+      at : (b r : List (List A)) → assignment_from byte b r ≡ Some a → b ++ r ≡ us → Each (is_no_equals byte) b → FirstFails (is_no_equals byte) r → MadeOf us a
       at b [] k w n s = absurd (cc)
       at b (e ∷ r) k w n s = with_front (front_of byte (tokens byte b)) b e r refl k w n (is (is_equals byte e) s)
+
+  -- each assignment is one
+  pub assignment-is : (us : List (List A)) (a : Assignment A) → assignment byte us ≡ Some a → IsAssignment us a
+  assignment-is us a h =
+      let m = made-of us a h in
+      subst (λ (z : Assignment A). IsAssignment us z) m.made_is
+      (subst (λ (z : List (List A)). IsAssignment z (made m.front m.equals m.rest)) m.whole (made-is_assignment m.front m.before m.equals m.rest m.front_is m.no_equals m.equals_is))
+
+  -- ---- the blanks before the value
+
+  -- The units before the value of an assignment: those before its first `=`, the `=`, and the blanks after it. With any blanks
+  -- and any value after the `=`, it is an assignment again, of the same name.
+  pub record HasEquals (a : Assignment A) : Type 0 where
+    pub front : List (List A)
+    pub equals : List A
+    pub gaps : List (List A)
+    pub equals_is : is_equals byte equals ≡ true
+    pub are_gaps : Each (is_gap byte) gaps
+    pub before_is : a.before ++ (a.name ++ a.operator) ≡ front ++ equals ∷ gaps
+    pub again : (g v w : List (List A)) → Each (is_gap byte) g → AreValue v w
+        → (operator : List (List A)) × (assignment byte (front ++ equals ∷ (g ++ (v ++ w))) ≡ Some (record a { operator = operator; value = v; after = w }))
+
+  made-regapped : (f : Front A) (b : List (List A)) (e : List A) (r g v w : List (List A)) → front_of byte (tokens byte b) ≡ Some f → Each (is_no_equals byte) b → is_equals byte e ≡ true
+      → Each (is_gap byte) g → AreValue v w
+      → assignment byte (b ++ e ∷ (g ++ (v ++ w))) ≡ Some (record (made f e r) { operator = f.operator ++ (e ∷ g); value = v; after = w })
+  unfolding made
+  made-regapped f b e r g v w h n k j p =
+      let first : FirstFails (is_gap byte) (v ++ w) = AreValue-first v w p in
+      rw (
+        assignment-equals byte b e (g ++ (v ++ w)) n k,
+        h,
+        leading-append_all (is_gap byte) g (v ++ w) j first,
+        after_leading-append_all (is_gap byte) g (v ++ w) j first,
+        trim_end-append (is_gap byte) v w p.ends p.blanks_after,
+        trailing-append (is_gap byte) v w p.ends p.blanks_after,
+      ) refl
+
+  made-has_equals : (f : Front A) (b : List (List A)) (e : List A) (r : List (List A)) → front_of byte (tokens byte b) ≡ Some f → Each (is_no_equals byte) b → is_equals byte e ≡ true
+      → HasEquals (made f e r)
+  unfolding made
+  made-has_equals f b e r h n k =
+      let G = blanks byte r in
+      let joined : f.before ++ (f.name ++ (f.operator ++ (e ∷ G))) ≡ (f.before ++ (f.name ++ f.operator)) ++ e ∷ G = simp append_assoc in
+      record {
+        front = b;
+        equals = e;
+        gaps = G;
+        equals_is = k;
+        are_gaps = leading-each (is_gap byte) r;
+        before_is = joined ∙ ap (λ z. z ++ e ∷ G) (front-whole b f h);
+        again = λ g v w j p. (f.operator ++ (e ∷ g), made-regapped f b e r g v w h n k j p);
+      }
+
+  -- each assignment has them
+  pub assignment-has_equals : (us : List (List A)) (a : Assignment A) → assignment byte us ≡ Some a → HasEquals a
+  assignment-has_equals us a h =
+      let m = made-of us a h in
+      subst (λ (z : Assignment A). HasEquals z) m.made_is (made-has_equals m.front m.before m.equals m.rest m.front_is m.no_equals m.equals_is)
 
   -- ---- the text
 

@@ -1,5 +1,5 @@
 -- Laws of edits, each the contract of a public function.
-use Rattle.std.specs.Prelude.{◌≡◌, ℕ, List, [], ◌∷◌, ◌++◌, Option, Some, Ok, Err, false}
+use Rattle.std.specs.Prelude.{◌≡◌, ℕ, List, ◌∷◌, ◌++◌, Option, Some, Ok, Err}
 use Rattle.mk_lines.specs.Pieces.{Replacement}
 use Rattle.mk_class.specs.declared.assignment.Flavor.{Flavor}
 use Rattle.mk_tree.specs.Readings.{reading}
@@ -13,20 +13,19 @@ use Rattle.mk_class.specs.Classes.{Class}
 use Rattle.mk_tree.specs.NewLines.{above_ended}
 use Rattle.mk_edit.specs.Refusals.{spans, text_after}
 use Rattle.mk_edit.specs.declared.refusal.Refusal.{Refusal}
-use Rattle.mk_edit.specs.Changes.{change, leaves_fold_last}
+use Rattle.mk_edit.specs.Changes.{change}
 
 -- The reading law of an edit: where no cause refuses it, the text after it reads as the stated change says.
 abbrev pub ReadsAsChanged : Edit → Type 0
 ReadsAsChanged e = (text : List ℕ) (replacements : List Replacement) → spans text e ≡ Ok replacements → reading (text_after text e) ≡ change text e
 
--- an edit of a value to one that is not empty changes the reading by this value alone
-abbrev pub SetReadsAsChanged : Type 0
-SetReadsAsChanged = (nth : Option ℕ) (name : List ℕ) (first : ℕ) (rest : List ℕ) → ReadsAsChanged (SetValue nth name (first ∷ rest))
+-- each edit that no cause refuses changes the reading as its stated change says
+abbrev pub EditsReadAsChanged : Type 0
+EditsReadAsChanged = (edit : Edit) → ReadsAsChanged edit
 
--- so does an edit of a value to nothing, where no fold is left without its next line
-abbrev pub SetToNothingReadsAsChanged : Type 0
-SetToNothingReadsAsChanged = (nth : Option ℕ) (name text : List ℕ) (replacement : Replacement) → spans text (SetValue nth name []) ≡ Ok (replacement ∷ []) → leaves_fold_last text replacement ≡ false
-    → reading (text_after text (SetValue nth name [])) ≡ change text (SetValue nth name [])
+-- an edit of a value changes the reading by this value alone
+abbrev pub SetReadsAsChanged : Type 0
+SetReadsAsChanged = (nth : Option ℕ) (name value : List ℕ) → ReadsAsChanged (SetValue nth name value)
 
 -- a text appended to a value changes the reading by this value alone
 abbrev pub AppendReadsAsChanged : Type 0

@@ -36,6 +36,7 @@ pub mod ValueEdits
 pub mod SetLaws
 pub mod FoldEnds
 pub mod SetEmptyLaws
+pub mod LastFoldLaws
 pub mod UnsetLaws
 pub mod AppendLaws
 pub mod RemovalLaws
@@ -69,3 +70,4 @@ pub mod KeptByEdits
 pub mod TouchedLines
 pub mod Laws
 pub mod WordLaws
+pub mod EditLaws

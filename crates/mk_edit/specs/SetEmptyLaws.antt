@@ -1,8 +1,8 @@
--- An accepted `set` to the empty value changes the reading by this value alone, where no fold is left without its next line.
-use Rattle.std.proofs.Common.{◌≡◌, refl, sym, ap, ◌∙◌, subst, ℕ, List, [], ◌∷◌, ◌++◌, Bool, true, false, not, ◌&&◌, ◌==◌, Option, None, length, take, drop, ◌+◌, arith, append_assoc, reverse, length-append, cond}
+-- `set` to the empty value: the line and the text without the value, and what they read as where no fold is left without its next line.
+use Rattle.std.proofs.Common.{◌≡◌, refl, sym, ap, ◌∙◌, subst, ℕ, List, [], ◌∷◌, ◌++◌, Bool, true, false, not, ◌&&◌, ◌==◌, Option, None, length, take, drop, ◌+◌, arith, append_assoc, reverse, length-append}
 use Rattle.std.proofs.lemmas.List.{append-nil, reverse-append, reverse-reverse}
 use Rattle.std.proofs.Math.Seq.{take-append_seam, drop-append_seam}
-use Rattle.std.specs.Prelude.{nat_lt, Ok}
+use Rattle.std.specs.Prelude.{nat_lt}
 use Rattle.mk_lines.specs.Lists.{concat}
 use Rattle.mk_lines.specs.ListLaws.{FirstFails, concat-append}
 use Rattle.mk_lines.specs.Bytes.{ByteKind, byte_kind}
@@ -23,7 +23,7 @@ use Rattle.mk_lines.specs.CellsReplaced.{IsSolidTail, EndsReset, removed-are_lin
 use Rattle.mk_lines.specs.Units.{units, byte_mark}
 use Rattle.mk_lines.specs.Units.Mark.{Unmarked}
 use Rattle.mk_lines.specs.UnitLaws.{EndsPlain, EndsPlain-split}
-use Rattle.mk_lines.specs.Pieces.{Replacement, replaced}
+use Rattle.mk_lines.specs.Pieces.{replaced}
 use Rattle.mk_class.specs.Lists.{is_empty, last_passes}
 use Rattle.mk_class.specs.Texts.{unit_text}
 use Rattle.mk_class.specs.Symbols.{Symbol, byte_symbol, is_hash, is_hash_symbol}
@@ -33,7 +33,6 @@ use Rattle.mk_class.specs.CutTexts.{is_no_hash}
 use Rattle.mk_class.specs.Assignments.{Assignment}
 use Rattle.mk_class.specs.AssignmentLineLaws.{before_value, AssignParts, assign_parts}
 use Rattle.mk_class.specs.RecipePrefix.{is_prefix_led, is_prefix_name}
-use Rattle.mk_class.specs.Classes.{Class}
 use Rattle.mk_class.specs.Classes.Class.{Assign}
 use Rattle.mk_class.specs.Contexts.{Context}
 use Rattle.mk_class.specs.ClassTable.{class_of}
@@ -43,18 +42,11 @@ use Rattle.mk_tree.specs.Documents.{text_of, context_of}
 use Rattle.mk_tree.specs.Items.{items}
 use Rattle.mk_tree.specs.Readings.{reading}
 use Rattle.mk_tree.specs.LinePlaces.{located, bytes_of}
-use Rattle.mk_edit.specs.Edits.{SetValue}
-use Rattle.mk_edit.specs.Spots.{Spot}
-use Rattle.mk_edit.specs.ValueSpans.{set_value_span, value_span, assignment_span, raw_length, value_start, blanks_end}
-use Rattle.mk_edit.specs.Spans.{where_found}
-use Rattle.mk_edit.specs.Refusals.{spans, text_by, text_after}
-use Rattle.mk_edit.specs.Changes.{change, item_with_value, leaves_fold_last, value_set}
-use Rattle.mk_edit.specs.Accepted.{accepted, where_holds-none}
+use Rattle.mk_edit.specs.ValueSpans.{set_value_span, raw_length, value_start, blanks_end}
+use Rattle.mk_edit.specs.Changes.{item_with_value, leaves_fold_last}
 use Rattle.mk_edit.specs.ValueLines.{IsValue, IsValueLine, with_cells, cells_with, line_of, parts-cells, value-line_of, line_of-some}
-use Rattle.mk_edit.specs.FoundAssignments.{assignment-found, no_prefix-set}
+use Rattle.mk_edit.specs.FoundAssignments.{no_prefix-set}
 use Rattle.mk_edit.specs.ValueEdits.{text-replaced_in_line, reading-value_replaced}
-use Rattle.mk_edit.specs.SetLaws.{value-found, not_prefix}
-use Rattle.mk_edit.specs.declared.refusal.Refusal.TheVariants.{NoSuch}
 
 -- ---- what stays after the value
 
@@ -118,12 +110,14 @@ before-resets a p h =
 
 -- ---- the line end
 
-last-same : {A : Type 0} (a b : List A) (x y : A) → a ++ x ∷ [] ≡ b ++ y ∷ [] → x ≡ y
+-- lists that are the same and end in one element each, end in the same
+pub last-same : {A : Type 0} (a b : List A) (x y : A) → a ++ x ∷ [] ≡ b ++ y ∷ [] → x ≡ y
 last-same a b x y h =
     let e : x ∷ reverse a ≡ y ∷ reverse b = sym (reverse-append a (x ∷ [])) ∙ (ap reverse h ∙ reverse-append b (y ∷ [])) in
     cc
 
-last_of_reverse : (x : List ℕ) (b : ℕ) (y : List ℕ) → reverse x ≡ b ∷ y → x ≡ reverse y ++ b ∷ []
+-- the last element by itself, where the list read backwards begins with it
+pub last_of_reverse : (x : List ℕ) (b : ℕ) (y : List ℕ) → reverse x ≡ b ∷ y → x ≡ reverse y ++ b ∷ []
 last_of_reverse x b y h = sym (reverse-reverse x) ∙ (ap reverse h ∙ reverse-append (b ∷ []) y)
 
 -- cells whose last is a fold have no carriage return at their end
@@ -161,12 +155,13 @@ no-value : IsValue [] []
 no-value = record { closed = refl; no_hash = tt; are_value = record { begins = tt; ends = tt; blanks_after = tt; empty = λ e. refl }; no_stray = refl }
 
 -- what the line without its value is
-record IsEmptiedLine (c : Context) (l : List ℕ) (below : List (List ℕ)) (a : Assignment Cell) : Type 0 where
-  parts : AssignParts l a
-  cells_are : line_cells l ≡ concat (before_value a) ++ (concat (a.value ++ a.after) ++ concat parts.rest)
-  line : (has_no_line_end (line_end l) ≡ true → concat parts.rest ≡ [] → FirstIsNot LineFeed (reverse (raw_text (concat (before_value a))))) → IsValueLine c l below a [] [] parts.rest
+pub record IsEmptiedLine (c : Context) (l : List ℕ) (below : List (List ℕ)) (a : Assignment Cell) : Type 0 where
+  pub parts : AssignParts l a
+  pub cells_are : line_cells l ≡ concat (before_value a) ++ (concat (a.value ++ a.after) ++ concat parts.rest)
+  pub line : (has_no_line_end (line_end l) ≡ true → concat parts.rest ≡ [] → FirstIsNot LineFeed (reverse (raw_text (concat (before_value a))))) → IsValueLine c l below a [] [] parts.rest
 
-line-emptied : (c : Context) (l : List ℕ) (below : List (List ℕ)) (a : Assignment Cell) (sets : Option ℕ) → class_of c l ≡ Assign a sets → OneLine l → EndsBefore l below → IsEmptiedLine c l below a
+-- each assignment's line without its value
+pub line-emptied : (c : Context) (l : List ℕ) (below : List (List ℕ)) (a : Assignment Cell) (sets : Option ℕ) → class_of c l ≡ Assign a sets → OneLine l → EndsBefore l below → IsEmptiedLine c l below a
 line-emptied c l below a sets h o n =
     let led = is_prefix_led c.prefix l in
     let r = class_at-assign led c.defines c.flag (nat_lt 0 c.conditionals) (line_cells l) (units joined_byte (line_cells l)) a sets h in
@@ -195,7 +190,8 @@ line-emptied c l below a sets h o n =
 
 -- ---- the text
 
-last-append : (p : ℕ → Bool) (a : List ℕ) (x : ℕ) (b : List ℕ) → last_passes p (a ++ x ∷ b) ≡ last_passes p (x ∷ b)
+-- what stands before the last element does not matter
+pub last-append : (p : ℕ → Bool) (a : List ℕ) (x : ℕ) (b : List ℕ) → last_passes p (a ++ x ∷ b) ≡ last_passes p (x ∷ b)
 last-append p [] x b = refl
 last-append p (y ∷ []) x b = refl
 last-append p (y ∷ z ∷ a) x b = last-append p (z ∷ a) x b
@@ -213,15 +209,23 @@ no_line_feed-last f x h = go (reverse x) refl
         ap (λ z. last_passes (λ b. b == 10) (f ++ z)) w ∙ (ap (last_passes (λ b. b == 10)) (sym (append_assoc f (reverse y) (10 ∷ []))) ∙ last-append (λ b. b == 10) (f ++ reverse y) 10 []) in
         let q : true ≡ false = sym s ∙ h in cc
 
+-- a line is not empty
+line-not_empty : (l : List ℕ) → OneLine l → (b : ℕ) × (r : List ℕ) × (l ≡ b ∷ r)
+unfolding OneLine
+line-not_empty [] h = absurd (let g : [] ≡ [] ∷ [] = h in cc)
+line-not_empty (b ∷ r) h = (b, r, refl)
+
 -- a line without line end is the last
-last-line : (l : List ℕ) (b : ℕ) (r : List ℕ) (B : List ClassedLine) → l ≡ b ∷ r → has_no_line_end (line_end l) ≡ true → EndsBefore l (bytes_of B) → B ≡ []
-last-line l b r [] h n e = refl
-last-line l b r (x ∷ B) h n e =
-    absurd (both (has_no_line_end (line_end (b ∷ r))) (is_continued (b ∷ r)) (ap ends_line (sym h) ∙ Ends-ends_line l e) (ap (λ z. has_no_line_end (line_end z)) (sym h) ∙ n))
+pub last-line : (l : List ℕ) (B : List ClassedLine) → OneLine l → has_no_line_end (line_end l) ≡ true → EndsBefore l (bytes_of B) → B ≡ []
+last-line l [] o n e = refl
+last-line l (x ∷ B) o n e = let s = line-not_empty l o in absurd (go l s.0 s.1 s.2 n e)
   where
     both : (u v : Bool) → (not u && not v) ≡ true → u ≡ true → ⊥
     both true v x y = cc
     both false v x y = cc
+
+    go : (l : List ℕ) (b : ℕ) (r : List ℕ) → l ≡ b ∷ r → has_no_line_end (line_end l) ≡ true → EndsBefore l (bytes_of (x ∷ B)) → ⊥
+    go l b r h n e = both (has_no_line_end (line_end (b ∷ r))) (is_continued (b ∷ r)) (ap ends_line (sym h) ∙ Ends-ends_line l e) (ap (λ z. has_no_line_end (line_end z)) (sym h) ∙ n)
 
 no_end-nothing : (e : End) → has_no_line_end e ≡ true → line_end_bytes e ≡ []
 no_end-nothing ends.None h = refl
@@ -234,72 +238,62 @@ take-front t p r n h i = rw (i, h) (take-append_seam p r)
 drop-front : (t p w r : List ℕ) (n : ℕ) → t ≡ p ++ (w ++ r) → n ≡ length (p ++ w) → drop n t ≡ r
 drop-front t p w r n h i = rw (i, h, ← append_assoc p w r) (drop-append_seam (p ++ w) r)
 
-set-emptied : (t : List ℕ) (A : List ClassedLine) (l : ClassedLine) (B : List ClassedLine) (a : Assignment Cell)
+-- the text without the value of an assignment, before whose comment these cells stand
+pub record IsEmptiedText (t : List ℕ) (A : List ClassedLine) (l : ClassedLine) (B : List ClassedLine) (a : Assignment Cell) (Q : List Cell) : Type 0 where
+  pub text : replaced 0 t (set_value_span [] (length (text_of A)) a ∷ []) ≡ text_of A ++ (((raw_text (concat (before_value a)) ++ raw_text Q) ++ line_end_bytes (line_end l.bytes)) ++ text_of B)
+  pub leaves : leaves_fold_last t (set_value_span [] (length (text_of A)) a)
+      ≡ (last_passes (λ b. b == 10) (text_of A ++ raw_text (concat (before_value a))) && is_empty (raw_text Q ++ (line_end_bytes (line_end l.bytes) ++ text_of B)))
+
+-- so it is of each assignment's line
+pub text-emptied : (t : List ℕ) (A : List ClassedLine) (l : ClassedLine) (B : List ClassedLine) (a : Assignment Cell) (Q : List Cell) → classed_lines t ≡ A ++ l ∷ B
+    → line_cells l.bytes ≡ concat (before_value a) ++ (concat (a.value ++ a.after) ++ Q) → IsEmptiedText t A l B a Q
+text-emptied t A l B a Q h cells_are =
+    let at = length (text_of A) in
+    let P = concat (before_value a) in
+    let W = concat (a.value ++ a.after) in
+    let e = line_end l.bytes in
+    let tail = raw_text Q ++ (line_end_bytes e ++ text_of B) in
+    let w : raw_text W ≡ raw_text (concat a.value) ++ raw_text (concat a.after) = ap raw_text (concat-append a.value a.after) ∙ raw_text-append (concat a.value) (concat a.after) in
+    let size : length (raw_text W) ≡ raw_length a.value + raw_length a.after = ap length w ∙ length-append (raw_text (concat a.value)) (raw_text (concat a.after)) in
+    let stop : blanks_end at a ≡ value_start at a + length (raw_text W) = omega (arith, size) in
+    let line_is : l.bytes ≡ (raw_text P ++ (raw_text W ++ raw_text Q)) ++ line_end_bytes e =
+    sym (without_line_end-line_end l.bytes)
+    ∙ ap (λ z. z ++ line_end_bytes e) (sym (raw_text-cells (without_line_end l.bytes)) ∙ (ap raw_text cells_are ∙ (raw_text-append P (W ++ Q) ∙ ap (λ z. raw_text P ++ z) (raw_text-append W Q)))) in
+    let whole : t ≡ (text_of A ++ raw_text P) ++ (raw_text W ++ tail) = (located t A l B h).text ∙ (ap (λ z. text_of A ++ (z ++ text_of B)) line_is ∙ simp append_assoc) in
+    let start_is : value_start at a ≡ length (text_of A ++ raw_text P) = sym (length-append (text_of A) (raw_text P)) in
+    let stop_is : blanks_end at a ≡ length ((text_of A ++ raw_text P) ++ raw_text W) = stop ∙ (ap (λ z. z + length (raw_text W)) start_is ∙ sym (length-append (text_of A ++ raw_text P) (raw_text W))) in
+    let front : take (value_start at a) t ≡ text_of A ++ raw_text P = take-front t (text_of A ++ raw_text P) (raw_text W ++ tail) (value_start at a) whole start_is in
+    let back : drop (blanks_end at a) t ≡ tail = drop-front t (text_of A ++ raw_text P) (raw_text W) tail (blanks_end at a) whole stop_is in
+    record {
+      text = text-replaced_in_line t A l B P W Q [] (value_start at a) (blanks_end at a) h cells_are refl stop;
+      leaves = ap (λ z. last_passes (λ b. b == 10) z && is_empty (drop (blanks_end at a) t)) front ∙ ap (λ z. last_passes (λ b. b == 10) (text_of A ++ raw_text P) && is_empty z) back;
+    }
+
+-- the law of an assignment's line, where no fold is left without its next line
+pub set-emptied : (t : List ℕ) (A : List ClassedLine) (l : ClassedLine) (B : List ClassedLine) (a : Assignment Cell)
     → classed_lines t ≡ A ++ l ∷ B → l.class ≡ Assign a None → is_prefix_name (unit_text joined_byte a.name) ≡ false → leaves_fold_last t (set_value_span [] (length (text_of A)) a) ≡ false
     → reading (replaced 0 t (set_value_span [] (length (text_of A)) a ∷ [])) ≡ items A ++ item_with_value a [] ∷ items B
 set-emptied t A l B a h k f n =
     let c = context_of A in
     let L = located t A l B h in
     let M = line-emptied c l.bytes (bytes_of B) a None (L.class ∙ k) L.one L.ends in
-    let at = length (text_of A) in
     let P = concat (before_value a) in
-    let W = concat (a.value ++ a.after) in
     let Q = concat M.parts.rest in
     let e = line_end l.bytes in
-    let w : raw_text W ≡ raw_text (concat a.value) ++ raw_text (concat a.after) = ap raw_text (concat-append a.value a.after) ∙ raw_text-append (concat a.value) (concat a.after) in
-    let size : length (raw_text W) ≡ raw_length a.value + raw_length a.after = ap length w ∙ length-append (raw_text (concat a.value)) (raw_text (concat a.after)) in
-    let stop : blanks_end at a ≡ value_start at a + length (raw_text W) = omega (arith, size) in
-    let text = text-replaced_in_line t A l B P W Q [] (value_start at a) (blanks_end at a) h M.cells_are refl stop in
+    let T = text-emptied t A l B a Q h M.cells_are in
     let m = line_of (cells_with a [] [] M.parts.rest) (line_end_bytes e) in
-    let line_is : l.bytes ≡ (raw_text P ++ (raw_text W ++ raw_text Q)) ++ line_end_bytes e =
-    sym (without_line_end-line_end l.bytes)
-    ∙ ap (λ z. z ++ line_end_bytes e) (sym (raw_text-cells (without_line_end l.bytes)) ∙ (ap raw_text M.cells_are ∙ (raw_text-append P (W ++ Q) ∙ ap (λ z. raw_text P ++ z) (raw_text-append W Q)))) in
-    let whole : t ≡ (text_of A ++ raw_text P) ++ (raw_text W ++ (raw_text Q ++ (line_end_bytes e ++ text_of B))) = L.text ∙ (ap (λ z. text_of A ++ (z ++ text_of B)) line_is ∙ simp append_assoc) in
-    let start_is : value_start at a ≡ length (text_of A ++ raw_text P) = sym (length-append (text_of A) (raw_text P)) in
-    let stop_is : blanks_end at a ≡ length ((text_of A ++ raw_text P) ++ raw_text W) = stop ∙ (ap (λ z. z + length (raw_text W)) start_is ∙ sym (length-append (text_of A ++ raw_text P) (raw_text W))) in
-    let front : take (value_start at a) t ≡ text_of A ++ raw_text P = take-front t (text_of A ++ raw_text P) (raw_text W ++ (raw_text Q ++ (line_end_bytes e ++ text_of B))) (value_start at a) whole start_is in
-    let back : drop (blanks_end at a) t ≡ raw_text Q ++ (line_end_bytes e ++ text_of B) = drop-front t (text_of A ++ raw_text P) (raw_text W) (raw_text Q ++ (line_end_bytes e ++ text_of B)) (blanks_end at a) whole stop_is in
-    let corner : (last_passes (λ b. b == 10) (text_of A ++ raw_text P) && is_empty (raw_text Q ++ (line_end_bytes e ++ text_of B))) ≡ false =
-    subst (λ z. (last_passes (λ b. b == 10) (text_of A ++ raw_text P) && is_empty z) ≡ false) back (subst (λ z. (last_passes (λ b. b == 10) z && is_empty (drop (blanks_end at a) t)) ≡ false) front n) in
-    let some = line_of-some l.bytes a (concat (a.value ++ a.after)) [] M.parts (line_end_bytes e) (subst AreLineCells M.cells_are (readable l.bytes a (L.class ∙ k))) in
-    let same : l.bytes ≡ line_of (cells_with a (concat (a.value ++ a.after)) [] M.parts.rest) (line_end_bytes e) =
-    sym (without_line_end-line_end l.bytes) ∙ ap (λ z. z ++ line_end_bytes e) (sym (raw_text-cells (without_line_end l.bytes)) ∙ ap raw_text M.cells_are) in
     let free : has_no_line_end e ≡ true → Q ≡ [] → FirstIsNot LineFeed (reverse (raw_text P)) = λ x y.
-    let b : B ≡ [] = last-line l.bytes some.0 some.1 B (same ∙ some.2) x L.ends in
+    let b : B ≡ [] = last-line l.bytes B L.one x L.ends in
     let z : raw_text Q ++ (line_end_bytes e ++ text_of B) ≡ [] = ap (λ q. raw_text q ++ (line_end_bytes e ++ text_of B)) y ∙ (ap (λ q. q ++ text_of B) (no_end-nothing e x) ∙ ap text_of b) in
-    let g : last_passes (λ b. b == 10) (text_of A ++ raw_text P) ≡ false = go (last_passes (λ b. b == 10) (text_of A ++ raw_text P)) (subst (λ q. (last_passes (λ b. b == 10) (text_of A ++ raw_text P) && is_empty q) ≡ false) z corner) in
+    let g : last_passes (λ b. b == 10) (text_of A ++ raw_text P) ≡ false =
+    go (last_passes (λ b. b == 10) (text_of A ++ raw_text P)) (subst (λ q. (last_passes (λ b. b == 10) (text_of A ++ raw_text P) && is_empty q) ≡ false) z (sym T.leaves ∙ n)) in
     no_line_feed-last (text_of A) (raw_text P) g in
     let line = M.line free in
     let bytes : (raw_text P ++ raw_text Q) ++ line_end_bytes e ≡ m = ap (λ z. z ++ line_end_bytes e) (sym (raw_text-append P Q)) in
-    ap reading (text ∙ ap (λ z. text_of A ++ (z ++ text_of B)) bytes)
+    ap reading (T.text ∙ ap (λ z. text_of A ++ (z ++ text_of B)) bytes)
     ∙ reading-value_replaced t A l B a m [] [] [] h k line.one line.ends
     (line.class ∙ ap (Assign (with_cells a [] [])) (no_prefix-set (nat_lt 0 c.conditionals) (with_cells a [] []) f)) refl
   where
     go : (b : Bool) → (b && true) ≡ false → b ≡ false
     go true e = cc
     go false e = refl
-
-    readable : (x : List ℕ) (a : Assignment Cell) → class_of (context_of A) x ≡ Assign a None → AreLineCells (line_cells x)
-    readable x a q =
-        let c = context_of A in
-        let led = is_prefix_led c.prefix x in
-        let r = class_at-assign led c.defines c.flag (nat_lt 0 c.conditionals) (line_cells x) (units joined_byte (line_cells x)) a None q in
-        let i = plain_class-assign led (nat_lt 0 c.conditionals) (line_cells x) (units joined_byte (line_cells x)) a None r.here in
-        readable-are_line_cells x i.readable
-
--- the law, of the empty value
-pub set-nothing : (t n : List ℕ) (nth : Option ℕ) (r : Replacement) → spans t (SetValue nth n []) ≡ Ok (r ∷ []) → leaves_fold_last t r ≡ false
-    → reading (text_after t (SetValue nth n [])) ≡ change t (SetValue nth n [])
-set-nothing t n nth r h k =
-    let A = accepted t (SetValue nth n []) (r ∷ []) h in
-    let F = assignment-found t n nth (where_holds-none _ NoSuch A.is_there) (where_holds-none _ _ A.is_one) (not_prefix n A.not_reserved) in
-    let s = F.spot in
-    let at = length (text_of s.above) in
-    let x : assignment_span (set_value_span []) at s.line.class ≡ r ∷ [] = subst (λ (z : Option Spot). where_found (value_span (set_value_span [])) z ≡ r ∷ []) F.found_is A.spans_are in
-    let y : set_value_span [] at F.assigned ∷ [] ≡ r ∷ [] = subst (λ (z : Class). assignment_span (set_value_span []) at z ≡ r ∷ []) F.class_is x in
-    let q : set_value_span [] at F.assigned ≡ r = cc in
-    let free : leaves_fold_last t (set_value_span [] at F.assigned) ≡ false = subst (λ (z : Replacement). leaves_fold_last t z ≡ false) (sym q) k in
-    let value : value_set t [] at F.assigned ≡ [] = ap (λ b. cond b (92 ∷ []) []) free in
-    ap (λ z. reading (text_by t z)) h
-    ∙ value-found t n nth (r ∷ []) (set_value_span []) (value_set t []) F
-    (set-emptied t s.above s.line s.below F.assigned F.whole F.class_is F.no_prefix free ∙ ap (λ z. items s.above ++ item_with_value F.assigned z ∷ items s.below) (sym value)) A.spans_are

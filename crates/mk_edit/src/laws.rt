@@ -2,19 +2,19 @@
 //! specified by. The functions do nothing.
 pub mod words;
 
-ghost use Rattle.mk_edit.specs.Laws.{AppendReadsAsChanged, AssignReadsAsChanged, NewAssignmentsStand, OtherLinesStay, RecipeAddedReadsAsChanged, RecipeRemovedReadsAsChanged, RecipeSetReadsAsChanged, RefusedChangesNothing, RuleAddedReadsAsChanged, SetReadsAsChanged, SetToNothingReadsAsChanged, UnruleReadsAsChanged, UnsetReadsAsChanged};
+ghost use Rattle.mk_edit.specs.Laws.{AppendReadsAsChanged, AssignReadsAsChanged, EditsReadAsChanged, NewAssignmentsStand, OtherLinesStay, RecipeAddedReadsAsChanged, RecipeRemovedReadsAsChanged, RecipeSetReadsAsChanged, RefusedChangesNothing, RuleAddedReadsAsChanged, SetReadsAsChanged, UnruleReadsAsChanged, UnsetReadsAsChanged};
 
 pub mod outside;
 
-/// An accepted edit of a value, to one that is not empty, changes the reading by this value alone.
-pub fn set_reads_as_changed()
-    ensures { SetReadsAsChanged }
+/// Each accepted edit, of every kind, changes the reading by exactly its stated change.
+pub fn edits_read_as_changed()
+    ensures { EditsReadAsChanged }
 {}
 
-/// An accepted edit of a value to nothing changes the reading by this value alone, where no fold is
-/// left at the end of the text, without its next line.
-pub fn set_to_nothing_reads_as_changed()
-    ensures { SetToNothingReadsAsChanged }
+/// An accepted edit of a value changes the reading by this value alone. Where the new value is empty
+/// and a fold is left without its next line, the value is one lone backslash.
+pub fn set_reads_as_changed()
+    ensures { SetReadsAsChanged }
 {}
 
 /// An accepted edit that appends to a value changes the reading by this value alone: the old value,
