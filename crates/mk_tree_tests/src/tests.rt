@@ -1,11 +1,13 @@
 //! Documents: parsed, printed, at their limits, changed, and where no memory is found.
-ghost use Rattle.std.specs.Prelude.{◌<◌};
+ghost use Rattle.std.specs.Prelude.{◌<◌, ◌≡◌, [], ◌∷◌};
+ghost use Rattle.mk_lines.specs.LogicalLines.{logical_lines};
 
-use mk_class::Meter;
+use mk_class::{Class, Context, Meter};
 use mk_lines::Fault;
-use mk_tree::Doc;
+use mk_tree::parse::SIZE_LIMIT;
+use mk_tree::{Doc, Line};
 use refusing::Refusing;
-use std::alloc::AllocError;
+use std::alloc::{AllocError, Allocator};
 use std::test::Fail;
 use test_devices::MemorySink;
 
@@ -125,4 +127,84 @@ fn a_line_is_classified_once(rt: HostRuntime) -> Result<(), Fail> {
     assert_eq!(rt; doc.len(), 4);
     assert_eq!(rt; meter.count(), 4);
     Ok(())
+}
+
+// The first line of a document taken out, where it is an assignment.
+fn take_first(doc: &mut Doc) -> Option<Line> {
+    if doc.is_empty() {
+        return None;
+    }
+    match doc.line(0).class() {
+        Class::Assign(_, _) => Some(doc.remove(0)),
+        _ => None,
+    }
+}
+
+// Puts a line at the end of a document, where it is an assignment and has room.
+fn put_last(doc: &mut Doc, line: Line) -> bool {
+    match line.class() {
+        Class::Assign(_, _) => {
+            if line.bytes().len() > SIZE_LIMIT - doc.size() {
+                return false;
+            }
+            doc.insert(doc.len(), line).is_ok()
+        }
+        _ => false,
+    }
+}
+
+#[test]
+fn a_line_is_put_in_and_another_taken_out(rt: HostRuntime) -> Result<(), Fail> {
+    let mut doc = Doc::parse(rt.alloc(), b"X=1\n", &mut Meter::new())?;
+    let mut other = Doc::parse(rt.alloc(), b"Y := 2\n", &mut Meter::new())?;
+    let Some(line) = take_first(&mut other) else {
+        return Err(Fail::from("no line is taken out"));
+    };
+    assert!(rt; other.is_empty());
+    assert!(rt; put_last(&mut doc, line));
+    let mut sink = MemorySink::new(Vec::new(rt.alloc()), 3);
+    doc.write_to(&mut sink)?;
+    assert_eq!(rt; sink.bytes(), b"X=1\nY := 2\n".as_slice());
+    let Some(first) = take_first(&mut doc) else {
+        return Err(Fail::from("no line is taken out"));
+    };
+    assert_eq!(rt; first.bytes(), b"X=1\n".as_slice());
+    assert_eq!(rt; (doc.len(), doc.size()), (1, 7));
+    Ok(())
+}
+
+#[test]
+fn a_line_is_read_in_the_context_at_the_end(rt: HostRuntime) -> Result<(), Fail> {
+    let mut meter = Meter::new();
+    let doc = Doc::parse(rt.alloc(), b"foo:\n", &mut meter)?;
+    let mut bytes = Vec::new(rt.alloc());
+    bytes.extend_from_slice(b"\tx\n")?;
+    let line = Line::read(rt.alloc(), bytes, doc.end_context(), &mut meter)?;
+    assert!(rt; matches!(line.class(), Class::Recipe));
+    assert_eq!(rt; meter.count(), 2);
+    Ok(())
+}
+
+#[test]
+fn each_refused_growth_of_reading_a_line_is_no_memory(rt: HostRuntime) -> Result<(), Fail> {
+    for admitted in 0..20 {
+        let heap = Refusing::after(rt.alloc(), admitted);
+        let answer = read_with(&heap, b"B = a \\\n b\n");
+        if !heap.has_refused() {
+            // the bytes, the joined text, the folds' ends, what is kept of them, and the node
+            assert!(rt; admitted == 5 && answer.is_ok());
+            break;
+        }
+        assert!(rt; matches!(answer, Err(Fault::NoMemory)));
+    }
+    Ok(())
+}
+
+// A line read at the start of a text, with its bytes copied first.
+fn read_with<A: Allocator + Copy>(alloc: A, line: &[u8]) -> Result<Line<A>, Fault>
+    requires { logical_lines line.now ≡ line.now ∷ [] }
+{
+    let mut bytes = Vec::new(alloc);
+    bytes.extend_from_slice(line)?;
+    Line::read(alloc, bytes, Context::start(), &mut Meter::new())
 }
