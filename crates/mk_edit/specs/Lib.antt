@@ -32,6 +32,7 @@ pub mod SpotLaws
 pub mod BlankAdded
 pub mod ValueLines
 pub mod FoundAssignments
+pub mod LineReplaced
 pub mod ValueEdits
 pub mod SetLaws
 pub mod FoldEnds
