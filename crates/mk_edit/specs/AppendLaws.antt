@@ -36,7 +36,6 @@ use Rattle.mk_class.specs.AssignmentLaws.{assignment_units}
 use Rattle.mk_class.specs.AssignmentLineLaws.{before_value, AssignParts, assign_parts, safe-after, line-with_value, line_with, with_text}
 use Rattle.mk_class.specs.ClassedLines.{ClassedLine, classed_lines}
 use Rattle.mk_tree.specs.Documents.{text_of, context_of}
-use Rattle.mk_tree.specs.Items.{items}
 use Rattle.mk_tree.specs.Readings.{reading}
 use Rattle.mk_tree.specs.LinePlaces.{located, bytes_of}
 use Rattle.mk_edit.specs.Edits.{AppendValue}

@@ -34,6 +34,7 @@ use Rattle.mk_class.specs.Assignments.{Assignment, assignment}
 use Rattle.mk_class.specs.AssignmentLaws.{AreValue, HasEquals, assignment-has_equals, assignment_units}
 use Rattle.mk_class.specs.AssignmentLineLaws.{before_value, AssignParts, assign_parts, cells-before, some_raw, led-same}
 use Rattle.mk_class.specs.RecipePrefix.{is_prefix_led, is_prefix_name, prefix_set_by}
+use Rattle.mk_class.specs.Arguments.{is_value}
 use Rattle.mk_class.specs.Classes.{Class}
 use Rattle.mk_class.specs.Classes.Class.{Assign}
 use Rattle.mk_class.specs.Contexts.{Context, context_after}
@@ -41,7 +42,6 @@ use Rattle.mk_class.specs.ClassTable.{class_of, class_at, plain_class, is_unread
 use Rattle.mk_class.specs.ClassLaws.{IsAssignLine, plain_class-assign, assign-plain_class, class_at-assign, has_stray-append, has_stray-left, assignment-filled}
 use Rattle.mk_class.specs.ClassedLines.{ClassedLine, classed_lines}
 use Rattle.mk_tree.specs.Documents.{text_of, context_of}
-use Rattle.mk_tree.specs.Items.{items}
 use Rattle.mk_tree.specs.Readings.{reading}
 use Rattle.mk_tree.specs.LinePlaces.{located, bytes_of}
 use Rattle.mk_edit.specs.Edits.{SetValue}
@@ -53,7 +53,7 @@ use Rattle.mk_edit.specs.ValueLines.{parts-units}
 use Rattle.mk_edit.specs.FoundAssignments.{assignment-found, no_prefix-set}
 use Rattle.mk_edit.specs.FoldEnds.{escape_cells, fold-ends_escaped}
 use Rattle.mk_edit.specs.LineReplaced.{IsLineReplaced, replaced-line, replaced-same}
-use Rattle.mk_edit.specs.SetLaws.{value-found, not_prefix, set-some}
+use Rattle.mk_edit.specs.SetLaws.{value-found, not_prefix, set-line, set-some}
 use Rattle.mk_edit.specs.SetEmptyLaws.{line-emptied, text-emptied, set-emptied, last-same, last_of_reverse, last-append, last-line}
 use Rattle.mk_edit.specs.declared.refusal.Refusal.TheVariants.{NoSuch}
 
@@ -379,6 +379,13 @@ set-to_nothing t A l B a h k f = go (leaves_fold_last t (set_value_span [] (leng
         → IsLineReplaced (replaced 0 t (set_value_span [] (length (text_of A)) a ∷ [])) A B (item_with_value a (value_set t [] (length (text_of A)) a))
     go false e = replaced-same _ _ A B _ _ refl (ap (λ b. item_with_value a (cond b (92 ∷ []) [])) (sym e)) (set-emptied t A l B a h k f e)
     go true e = replaced-same _ _ A B _ _ refl (ap (λ b. item_with_value a (cond b (92 ∷ []) [])) (sym e)) (set-left t A l B a h k f e)
+
+-- an assignment's line with another value, empty or not
+pub set-replaced : (t : List ℕ) (A : List ClassedLine) (l : ClassedLine) (B : List ClassedLine) (a : Assignment Cell) (v : List ℕ) → classed_lines t ≡ A ++ l ∷ B → l.class ≡ Assign a None
+    → is_prefix_name (unit_text joined_byte a.name) ≡ false → is_value v ≡ true
+    → IsLineReplaced (replaced 0 t (set_value_span v (length (text_of A)) a ∷ [])) A B (item_with_value a (value_set t v (length (text_of A)) a))
+set-replaced t A l B a [] h k f i = set-to_nothing t A l B a h k f
+set-replaced t A l B a (b ∷ v) h k f i = set-line t A l B a b v h k f i
 
 -- ---- the law
 

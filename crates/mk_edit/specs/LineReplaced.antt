@@ -1,5 +1,5 @@
 -- A text after an edit of one line: the other lines stay, each with its class, and what it reads as.
-use Rattle.std.proofs.Common.{◌≡◌, refl, sym, ap, ◌∙◌, subst, ℕ, List, [], ◌∷◌, ◌++◌, not, true}
+use Rattle.std.proofs.Common.{◌≡◌, ap, ◌∙◌, subst, ℕ, List, [], ◌∷◌, ◌++◌, not, true}
 use Rattle.mk_lines.specs.LineLaws.{OneLine, EndsBefore}
 use Rattle.mk_class.specs.Classes.{Class, is_conditional}
 use Rattle.mk_class.specs.Contexts.{context_after}

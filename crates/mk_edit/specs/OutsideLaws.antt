@@ -1,8 +1,8 @@
 -- Laws of what an edit leaves: the bytes outside its spans, and the lines that these do not touch; each the contract of a public
 -- function.
-use Rattle.std.specs.Prelude.{◌≡◌, ℕ, List, ◌∷◌, Option, Ok}
+use Rattle.std.specs.Prelude.{◌≡◌, ℕ, List, Bool, Option, Ok}
 use Rattle.mk_lines.specs.Pieces.{Replacement}
-use Rattle.mk_edit.specs.Edits.{Edit, SetValue, RemoveAssign, RemoveRule, AddRecipe, RemoveRecipe}
+use Rattle.mk_edit.specs.Edits.{Edit, SetValue, AppendValue, RemoveAssign, RemoveRule, AddPrereq, RemovePrereq, AddRecipe, SetRecipe, RemoveRecipe}
 use Rattle.mk_edit.specs.RisingSpans.{IsReplacedAt}
 use Rattle.mk_edit.specs.TouchedLines.{IsOfOnePlace, TouchFew}
 use Rattle.mk_edit.specs.KeptLines.{AreOthersKept}
@@ -20,9 +20,25 @@ SpansTouchFewLines = (text : List ℕ) (e : Edit) (replacements : List Replaceme
 abbrev pub KeepsOthers : Edit → Type 0
 KeepsOthers e = (text : List ℕ) (replacements : List Replacement) → spans text e ≡ Ok replacements → AreOthersKept text e replacements
 
--- so it is of an edit of a value to one that is not empty
+-- so it is of an edit of a value
 abbrev pub SetKeepsOthers : Type 0
-SetKeepsOthers = (nth : Option ℕ) (name : List ℕ) (first : ℕ) (rest : List ℕ) → KeepsOthers (SetValue nth name (first ∷ rest))
+SetKeepsOthers = (nth : Option ℕ) (name value : List ℕ) → KeepsOthers (SetValue nth name value)
+
+-- of a text appended to a value
+abbrev pub AppendKeepsOthers : Type 0
+AppendKeepsOthers = (nth : Option ℕ) (name value : List ℕ) → KeepsOthers (AppendValue nth name value)
+
+-- of a recipe line changed
+abbrev pub RecipeSetKeepsOthers : Type 0
+RecipeSetKeepsOthers = (nth : Option ℕ) (target : List ℕ) (number : ℕ) (command : List ℕ) → KeepsOthers (SetRecipe nth target number command)
+
+-- of a new prerequisite
+abbrev pub DependKeepsOthers : Type 0
+DependKeepsOthers = (order : Bool) (nth : Option ℕ) (target word : List ℕ) → KeepsOthers (AddPrereq order nth target word)
+
+-- of a prerequisite removed
+abbrev pub UndependKeepsOthers : Type 0
+UndependKeepsOthers = (nth : Option ℕ) (target word : List ℕ) → KeepsOthers (RemovePrereq nth target word)
 
 -- of an assignment removed
 abbrev pub UnsetKeepsOthers : Type 0

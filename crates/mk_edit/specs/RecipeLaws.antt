@@ -35,7 +35,6 @@ use Rattle.mk_tree.specs.RecipeLines.{recipe_run, after_recipe}
 use Rattle.mk_tree.specs.LinePlaces.{located, bytes_of, located-run, context_of-append}
 use Rattle.mk_tree.specs.NewLineLaws.{file_line_end-some, new_line-clean, clean-no_line_end, reading-line_added}
 use Rattle.mk_tree.specs.SpansInLines.{text-span_replaced}
-use Rattle.mk_tree.specs.RunsReplaced.{reading-line_replaced}
 use Rattle.mk_tree.specs.RecipeRunLaws.{rule-context, recipe_run-after, recipe_run-stays, recipe-agrees}
 use Rattle.mk_edit.specs.Edits.{AddRecipe, SetRecipe}
 use Rattle.mk_edit.specs.Spots.{Spot}
@@ -47,6 +46,7 @@ use Rattle.mk_edit.specs.Refusals.{spans, text_by, text_after}
 use Rattle.mk_edit.specs.Changes.{change, with_item, with_items}
 use Rattle.mk_edit.specs.Accepted.{accepted, where_holds-none, two-passed}
 use Rattle.mk_edit.specs.SpotLaws.{rule-found, recipe-found, recipe-class}
+use Rattle.mk_edit.specs.LineReplaced.{IsLineReplaced, replaced-line, replaced-same}
 use Rattle.mk_edit.specs.RecipeClassLaws.{StandsInRule, recipe-stands}
 use Rattle.mk_edit.specs.PrefixLaws.{CanBegin, context-can_begin}
 use Rattle.mk_edit.specs.declared.refusal.Field.TheVariants as field
@@ -169,8 +169,9 @@ keeps-apart ends.None x h = first-not LineFeed (reverse x) refl (each-reverse (�
 keeps-apart ends.Lf x h = first-not CarriageReturn (reverse x) refl (each-reverse (λ b. is_no_line_end_kind (byte_kind b)) x h)
 keeps-apart ends.CrLf x h = tt
 
-recipe-set : (t : List ℕ) (s : Spot) (c : List ℕ) → classed_lines t ≡ s.above ++ s.line ∷ s.below → is_recipe s.line.class ≡ true → is_command c ≡ true
-    → reading (replaced 0 t (recipe_span c s)) ≡ with_items (Recipe c ∷ []) s
+-- the line of a recipe with another command
+pub recipe-set : (t : List ℕ) (s : Spot) (c : List ℕ) → classed_lines t ≡ s.above ++ s.line ∷ s.below → is_recipe s.line.class ≡ true → is_command c ≡ true
+    → IsLineReplaced (replaced 0 t (recipe_span c s)) s.above s.below (Recipe c)
 recipe-set t s c w r k =
     let C = context_of s.above in
     let l = s.line.bytes in
@@ -195,9 +196,8 @@ recipe-set t s c w r k =
     let class : class_of C m ≡ Class.Recipe = recipe-class_in_rule C m R.stands.no_define R.stands.in_rule (eq-eqb p p refl) in
     let context : context_after C Class.Recipe ≡ context_after C s.line.class = ap (context_after C) (sym (recipe-class s.line.class r)) in
     let read : without_line_end m ≡ x = without_line_end-append x e (keeps-apart e x (clean-no_line_end x clean)) in
-    ap reading text
-    ∙ (reading-line_replaced t s.above s.line s.below m Class.Recipe w one ends class context
-    ∙ ap (λ z. items s.above ++ Recipe (drop 1 z) ∷ items s.below) read)
+    replaced-same _ _ s.above s.below _ _ (sym text) refl
+    (replaced-line t s.above s.line s.below m Class.Recipe (Recipe c) w one ends class context refl (ap (λ z. Recipe (drop 1 z) ∷ []) read))
 
 -- the law of a recipe line changed
 pub recipe_set-reads : (nth : Option ℕ) (g : List ℕ) (k : ℕ) (c t : List ℕ) (rs : List Replacement) → spans t (SetRecipe nth g k c) ≡ Ok rs
@@ -210,4 +210,4 @@ recipe_set-reads nth g k c t rs h =
     let y : recipe_span c s ≡ rs = subst (λ (z : Option Spot). where_found (recipe_span c) z ≡ rs) F.found_is A.spans_are in
     let z : change t (SetRecipe nth g k c) ≡ with_items (Recipe c ∷ []) s = ap (where_found (with_items (Recipe c ∷ []))) F.found_is in
     ap (λ q. reading (text_by t q)) h
-    ∙ (ap (λ q. reading (replaced 0 t q)) (sym y) ∙ (recipe-set t s c F.whole F.is_recipe_line u.1 ∙ sym z))
+    ∙ (ap (λ q. reading (replaced 0 t q)) (sym y) ∙ ((recipe-set t s c F.whole F.is_recipe_line u.1).reads ∙ sym z))

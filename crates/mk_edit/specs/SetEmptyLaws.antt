@@ -39,8 +39,6 @@ use Rattle.mk_class.specs.ClassTable.{class_of}
 use Rattle.mk_class.specs.ClassLaws.{plain_class-assign, class_at-assign, has_stray-left, has_stray-right, readable-are_line_cells}
 use Rattle.mk_class.specs.ClassedLines.{ClassedLine, classed_lines}
 use Rattle.mk_tree.specs.Documents.{text_of, context_of}
-use Rattle.mk_tree.specs.Items.{items}
-use Rattle.mk_tree.specs.Readings.{reading}
 use Rattle.mk_tree.specs.LinePlaces.{located, bytes_of}
 use Rattle.mk_edit.specs.ValueSpans.{set_value_span, raw_length, value_start, blanks_end}
 use Rattle.mk_edit.specs.Changes.{item_with_value, leaves_fold_last}

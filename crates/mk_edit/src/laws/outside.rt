@@ -1,5 +1,5 @@
 //! What an edit leaves as it was: the bytes outside its spans, and the lines that these do not touch.
-ghost use Rattle.mk_edit.specs.OutsideLaws.{OnlySpansAreReplaced, RecipeAddedKeepsOthers, RecipeRemovedKeepsOthers, SetKeepsOthers, SpansTouchFewLines, UnruleKeepsOthers, UnsetKeepsOthers};
+ghost use Rattle.mk_edit.specs.OutsideLaws.{AppendKeepsOthers, DependKeepsOthers, OnlySpansAreReplaced, RecipeAddedKeepsOthers, RecipeRemovedKeepsOthers, RecipeSetKeepsOthers, SetKeepsOthers, SpansTouchFewLines, UndependKeepsOthers, UnruleKeepsOthers, UnsetKeepsOthers};
 
 /// The spans of an accepted edit stand in the text in order and apart, and the bytes outside them
 /// are as before: the text after it is the text with each span replaced.
@@ -13,10 +13,16 @@ pub fn spans_touch_few_lines()
     ensures { SpansTouchFewLines }
 {}
 
-/// An accepted edit of a value, to one that is not empty, touches one line. The lines above and
-/// below it are as before, with their classes, and no more conditionals are open at once.
+/// An accepted edit of a value touches one line. The lines above and below it are as before, with
+/// their classes, and no more conditionals are open at once.
 pub fn set_keeps_others()
     ensures { SetKeepsOthers }
+{}
+
+/// An accepted edit that appends to a value touches one line. The lines above and below it are as
+/// before, with their classes, and no more conditionals are open at once.
+pub fn append_keeps_others()
+    ensures { AppendKeepsOthers }
 {}
 
 /// An accepted removal of an assignment takes out one line. The lines above and below it are as
@@ -43,4 +49,22 @@ pub fn recipe_removed_keeps_others()
 /// no more conditionals are open at once.
 pub fn recipe_added_keeps_others()
     ensures { RecipeAddedKeepsOthers }
+{}
+
+/// An accepted edit of a recipe line touches this line alone. The lines above and below it are as
+/// before, with their classes, and no more conditionals are open at once.
+pub fn recipe_set_keeps_others()
+    ensures { RecipeSetKeepsOthers }
+{}
+
+/// An accepted new prerequisite touches one line, the header. The lines above and below it are as
+/// before, with their classes, and no more conditionals are open at once.
+pub fn depend_keeps_others()
+    ensures { DependKeepsOthers }
+{}
+
+/// An accepted removal of a prerequisite touches one line, the header. The lines above and below it
+/// are as before, with their classes, and no more conditionals are open at once.
+pub fn undepend_keeps_others()
+    ensures { UndependKeepsOthers }
 {}
