@@ -27,11 +27,11 @@ use Rattle.mk_tree.specs.NewLines.{above_ended, missing_line_end}
 use Rattle.mk_tree.specs.NewLineLaws.{file_line_end-some, new_line-clean, line-added}
 use Rattle.mk_tree.specs.ConditionalLaws.{AreUnconditional}
 use Rattle.mk_tree.specs.RecipeRunLaws.{recipe_run-stays, rule-context, rule-agrees, assign-agrees, recipe-agrees}
-use Rattle.mk_edit.specs.Edits.{Edit, SetValue, AppendValue, RemoveAssign, RemoveRule, AddPrereq, RemovePrereq, AddRecipe, SetRecipe, RemoveRecipe}
+use Rattle.mk_edit.specs.Edits.{Edit, Place, SetValue, AppendValue, AddAssign, RemoveAssign, AddRule, RemoveRule, AddPrereq, RemovePrereq, AddRecipe, SetRecipe, RemoveRecipe}
 use Rattle.mk_edit.specs.Addresses.{Variable, Rule, found}
 use Rattle.mk_edit.specs.Spots.{Spot}
-use Rattle.mk_edit.specs.Stretches.{this_line, whole_rule, after_rule, insertion, removal}
-use Rattle.mk_edit.specs.NewLines.{new_line_span}
+use Rattle.mk_edit.specs.Stretches.{Stretch, this_line, whole_rule, after_rule, insertion, removal}
+use Rattle.mk_edit.specs.NewLines.{assign_text, new_text, new_line_span}
 use Rattle.mk_edit.specs.ValueSpans.{set_value_span, append_value_span, value_span, assignment_span, raw_length}
 use Rattle.mk_edit.specs.WordPieces.{add_pieces, remove_pieces}
 use Rattle.mk_edit.specs.Spans.{removed_span, recipe_span, header_spans, word_spans, where_found}
@@ -49,6 +49,11 @@ use Rattle.mk_edit.specs.AppendLaws.{append-line, closed-found}
 use Rattle.mk_edit.specs.NewWords.{word-is_new}
 use Rattle.mk_edit.specs.HeaderEdits.{word_spans-header}
 use Rattle.mk_edit.specs.DependLaws.{depend-line}
+use Rattle.mk_edit.specs.NewLineStands.{StandsAt, stands-span, stands-lines}
+use Rattle.mk_edit.specs.NewAssignLaws.{new_assignment, accepted-stands, no_name}
+use Rattle.mk_edit.specs.NewRules.{rule-stands}
+use Rattle.mk_class.specs.declared.assignment.Flavor.{Flavor}
+use Rattle.mk_edit.specs.declared.edit.Colons.{Colons}
 use Rattle.mk_edit.specs.UndependLaws.{undepend-line}
 use Rattle.mk_edit.specs.PrefixLaws.{CanBegin, context-can_begin}
 use Rattle.mk_edit.specs.RecipeLaws.{recipe-set, recipe-clean, recipe-no_backslash, recipe-class_in_rule}
@@ -239,3 +244,29 @@ recipe_added-keeps nth g c t rs h =
     ap (λ z. classed_lines (replaced 0 t z)) (sym y)
     ∙ (ap classed_lines (text-inserted t above below v whole) ∙ line-added t above below text E Class.Recipe whole unopened some ended class (recipe-agrees C) leans) in
     new_line-kept t e rs above below m v h whole y lines (after_rule s) (ap (option_map after_rule) F.found_is) (omega arith) refl
+
+-- ---- a new line at a place
+
+-- a line that can stand there
+added-keeps : (t : List ℕ) (e : Edit) (rs : List Replacement) (s : Stretch) (x : List ℕ) (k : Class) → spans t e ≡ Ok rs → insertion (classed_lines t) e ≡ Some s → new_line_span t e s ≡ rs
+    → new_text (context_of s.above).prefix e ≡ x → StandsAt t s x k → 1 ≤ cost t e → not (is_conditional k) ≡ true → AreOthersKept t e rs
+added-keeps t e rs s x k h i y n S c u =
+    let E = file_line_end t in
+    let m : ClassedLine = record { bytes = x ++ line_end_bytes E; class = k } in
+    let v = missing_line_end E s.above s.below ++ (new_text (context_of s.above).prefix e ++ line_end_bytes E) in
+    let lines : classed_lines (replaced 0 t rs) ≡ above_ended E s.above s.below ++ m ∷ s.below =
+    ap (λ z. classed_lines (replaced 0 t z)) (sym y) ∙ (ap classed_lines (stands-span t e s x n) ∙ stands-lines t s x k S) in
+    new_line-kept t e rs s.above s.below m v h S.whole y lines s i c u
+
+-- a new assignment
+pub assign-keeps : (p : Place) (n : List ℕ) (f : Flavor) (v t : List ℕ) (rs : List Replacement) → spans t (AddAssign p n f v) ≡ Ok rs → AreOthersKept t (AddAssign p n f v) rs
+assign-keeps p [] f v t rs h = absurd (no_name p f v t rs h)
+assign-keeps p (b ∷ n) f v t rs h =
+    let S = accepted-stands t p b n f v rs h in
+    added-keeps t (AddAssign p (b ∷ n) f v) rs S.place.stretch (assign_text (b ∷ n) f v) (Class.Assign (new_assignment (b ∷ n) f v) None) h S.place.found_is S.spans_are refl S.stands (omega arith) refl
+
+-- a new rule
+pub rule_added-keeps : (p : Place) (g : List ℕ) (c : Colons) (w t : List ℕ) (rs : List Replacement) → spans t (AddRule p g c w) ≡ Ok rs → AreOthersKept t (AddRule p g c w) rs
+rule_added-keeps p g c w t rs h =
+    let S = rule-stands p g c w t rs h in
+    added-keeps t (AddRule p g c w) rs S.stretch S.text (Class.Header S.header) h S.found_is S.spans_are S.text_is S.stands (omega arith) refl

@@ -48,7 +48,6 @@ pub mod NewPlaces
 pub mod NameLaws
 pub mod NewLineStands
 pub mod NewAssignLaws
-pub mod AddedLines
 pub mod NewRuleLines
 pub mod NewRules
 pub mod UndependLaws

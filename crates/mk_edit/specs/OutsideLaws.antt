@@ -2,7 +2,9 @@
 -- function.
 use Rattle.std.specs.Prelude.{◌≡◌, ℕ, List, Bool, Option, Ok}
 use Rattle.mk_lines.specs.Pieces.{Replacement}
-use Rattle.mk_edit.specs.Edits.{Edit, SetValue, AppendValue, RemoveAssign, RemoveRule, AddPrereq, RemovePrereq, AddRecipe, SetRecipe, RemoveRecipe}
+use Rattle.mk_edit.specs.Edits.{Edit, Place, SetValue, AppendValue, AddAssign, AddRule, RemoveAssign, RemoveRule, AddPrereq, RemovePrereq, AddRecipe, SetRecipe, RemoveRecipe}
+use Rattle.mk_class.specs.declared.assignment.Flavor.{Flavor}
+use Rattle.mk_edit.specs.declared.edit.Colons.{Colons}
 use Rattle.mk_edit.specs.RisingSpans.{IsReplacedAt}
 use Rattle.mk_edit.specs.TouchedLines.{IsOfOnePlace, TouchFew}
 use Rattle.mk_edit.specs.KeptLines.{AreOthersKept}
@@ -39,6 +41,14 @@ DependKeepsOthers = (order : Bool) (nth : Option ℕ) (target word : List ℕ) �
 -- of a prerequisite removed
 abbrev pub UndependKeepsOthers : Type 0
 UndependKeepsOthers = (nth : Option ℕ) (target word : List ℕ) → KeepsOthers (RemovePrereq nth target word)
+
+-- of a new assignment
+abbrev pub AssignKeepsOthers : Type 0
+AssignKeepsOthers = (place : Place) (name : List ℕ) (flavor : Flavor) (value : List ℕ) → KeepsOthers (AddAssign place name flavor value)
+
+-- of a new rule
+abbrev pub RuleAddedKeepsOthers : Type 0
+RuleAddedKeepsOthers = (place : Place) (targets : List ℕ) (colons : Colons) (prereqs : List ℕ) → KeepsOthers (AddRule place targets colons prereqs)
 
 -- of an assignment removed
 abbrev pub UnsetKeepsOthers : Type 0

@@ -1,5 +1,5 @@
 //! What an edit leaves as it was: the bytes outside its spans, and the lines that these do not touch.
-ghost use Rattle.mk_edit.specs.OutsideLaws.{AppendKeepsOthers, DependKeepsOthers, OnlySpansAreReplaced, RecipeAddedKeepsOthers, RecipeRemovedKeepsOthers, RecipeSetKeepsOthers, SetKeepsOthers, SpansTouchFewLines, UndependKeepsOthers, UnruleKeepsOthers, UnsetKeepsOthers};
+ghost use Rattle.mk_edit.specs.OutsideLaws.{AppendKeepsOthers, AssignKeepsOthers, DependKeepsOthers, OnlySpansAreReplaced, RecipeAddedKeepsOthers, RecipeRemovedKeepsOthers, RecipeSetKeepsOthers, RuleAddedKeepsOthers, SetKeepsOthers, SpansTouchFewLines, UndependKeepsOthers, UnruleKeepsOthers, UnsetKeepsOthers};
 
 /// The spans of an accepted edit stand in the text in order and apart, and the bytes outside them
 /// are as before: the text after it is the text with each span replaced.
@@ -67,4 +67,18 @@ pub fn depend_keeps_others()
 /// are as before, with their classes, and no more conditionals are open at once.
 pub fn undepend_keeps_others()
     ensures { UndependKeepsOthers }
+{}
+
+/// An accepted new assignment is one line more. The lines above and below it are as before, with
+/// their classes, but that a last line without line end gets one where the new line follows it; and
+/// no more conditionals are open at once.
+pub fn assign_keeps_others()
+    ensures { AssignKeepsOthers }
+{}
+
+/// An accepted new rule is one line more. The lines above and below it are as before, with their
+/// classes, but that a last line without line end gets one where the new line follows it; and no
+/// more conditionals are open at once.
+pub fn rule_added_keeps_others()
+    ensures { RuleAddedKeepsOthers }
 {}
