@@ -67,6 +67,8 @@ pub mod ClassParts
 pub mod SpansRise
 pub mod KeptLines
 pub mod KeptByEdits
+pub mod KeptByRename
+pub mod KeptLaws
 pub mod TouchedLines
 pub mod Laws
 pub mod WordLaws

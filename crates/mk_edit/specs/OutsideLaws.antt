@@ -2,12 +2,13 @@
 -- function.
 use Rattle.std.specs.Prelude.{◌≡◌, ℕ, List, Bool, Option, Ok}
 use Rattle.mk_lines.specs.Pieces.{Replacement}
-use Rattle.mk_edit.specs.Edits.{Edit, Place, SetValue, AppendValue, AddAssign, AddRule, RemoveAssign, RemoveRule, AddPrereq, RemovePrereq, AddRecipe, SetRecipe, RemoveRecipe}
+use Rattle.mk_edit.specs.Edits.{Edit, Place, SetValue, AppendValue, AddAssign, AddRule, RemoveAssign, RemoveRule, AddPrereq, RemovePrereq, AddRecipe, SetRecipe, RemoveRecipe, RenameTarget}
 use Rattle.mk_class.specs.declared.assignment.Flavor.{Flavor}
 use Rattle.mk_edit.specs.declared.edit.Colons.{Colons}
 use Rattle.mk_edit.specs.RisingSpans.{IsReplacedAt}
 use Rattle.mk_edit.specs.TouchedLines.{IsOfOnePlace, TouchFew}
 use Rattle.mk_edit.specs.KeptLines.{AreOthersKept}
+use Rattle.mk_edit.specs.KeptByRename.{AreOthersKeptByRename}
 use Rattle.mk_edit.specs.Refusals.{spans, text_after}
 
 -- the spans of an edit rise within the text and do not overlap, and the bytes outside them are as before
@@ -65,3 +66,16 @@ RecipeRemovedKeepsOthers = (nth : Option ℕ) (target : List ℕ) (number : ℕ)
 -- and of a new recipe line
 abbrev pub RecipeAddedKeepsOthers : Type 0
 RecipeAddedKeepsOthers = (nth : Option ℕ) (target command : List ℕ) → KeepsOthers (AddRecipe nth target command)
+
+-- a rename leaves the lines that hold no word which it replaces, and opens no conditional
+abbrev pub RenameKeepsOthers : Type 0
+RenameKeepsOthers = (old new text : List ℕ) (replacements : List Replacement) → spans text (RenameTarget old new) ≡ Ok replacements → AreOthersKeptByRename old new text replacements
+
+-- what an edit leaves: of a rename, which may touch lines that stand apart, as above
+abbrev pub LeavesOthers : Edit → Type 0
+LeavesOthers (RenameTarget old new) = (text : List ℕ) (replacements : List Replacement) → spans text (RenameTarget old new) ≡ Ok replacements → AreOthersKeptByRename old new text replacements
+LeavesOthers e = KeepsOthers e
+
+-- each edit leaves the lines that its spans do not touch
+abbrev pub EditsKeepOthers : Type 0
+EditsKeepOthers = (edit : Edit) → LeavesOthers edit

@@ -1,5 +1,5 @@
 //! What an edit leaves as it was: the bytes outside its spans, and the lines that these do not touch.
-ghost use Rattle.mk_edit.specs.OutsideLaws.{AppendKeepsOthers, AssignKeepsOthers, DependKeepsOthers, OnlySpansAreReplaced, RecipeAddedKeepsOthers, RecipeRemovedKeepsOthers, RecipeSetKeepsOthers, RuleAddedKeepsOthers, SetKeepsOthers, SpansTouchFewLines, UndependKeepsOthers, UnruleKeepsOthers, UnsetKeepsOthers};
+ghost use Rattle.mk_edit.specs.OutsideLaws.{AppendKeepsOthers, AssignKeepsOthers, DependKeepsOthers, EditsKeepOthers, OnlySpansAreReplaced, RecipeAddedKeepsOthers, RecipeRemovedKeepsOthers, RecipeSetKeepsOthers, RenameKeepsOthers, RuleAddedKeepsOthers, SetKeepsOthers, SpansTouchFewLines, UndependKeepsOthers, UnruleKeepsOthers, UnsetKeepsOthers};
 
 /// The spans of an accepted edit stand in the text in order and apart, and the bytes outside them
 /// are as before: the text after it is the text with each span replaced.
@@ -81,4 +81,17 @@ pub fn assign_keeps_others()
 /// more conditionals are open at once.
 pub fn rule_added_keeps_others()
     ensures { RuleAddedKeepsOthers }
+{}
+
+/// After an accepted rename each line stands in its place, the same and with its class where it holds
+/// no word to rename. The spans stand within the other lines, and no more conditionals are open at
+/// once.
+pub fn rename_keeps_others()
+    ensures { RenameKeepsOthers }
+{}
+
+/// Each accepted edit, of every kind, leaves the lines that its spans do not touch, and no more
+/// conditionals are open at once.
+pub fn edits_keep_others()
+    ensures { EditsKeepOthers }
 {}
