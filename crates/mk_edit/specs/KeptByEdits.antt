@@ -1,10 +1,9 @@
 -- The edits that leave the lines that their spans do not touch.
 use Rattle.std.proofs.Common.{◌≡◌, refl, sym, ap, ◌∙◌, subst, arith, ℕ, List, [], ◌∷◌, ◌++◌, Bool, true, false, not, ◌&&◌, length, ◌+◌, ◌≤◌, Option, Some, None, option_map}
-use Rattle.std.proofs.lemmas.Bool.{eq-eqb, and_parts}
+use Rattle.std.proofs.lemmas.Bool.{and_parts}
 use Rattle.std.specs.Prelude.{Ok}
 use Rattle.mk_lines.specs.PhysicalLines.{line_end_bytes, file_line_end}
 use Rattle.mk_lines.specs.LineCells.{or-left_false, or-right_false}
-use Rattle.mk_lines.specs.LineEndAdded.{IsEnded}
 use Rattle.mk_lines.specs.Cells.{Cell}
 use Rattle.mk_lines.specs.Pieces.{Replacement, Piece, replacements, replaced}
 use Rattle.mk_class.specs.Lists.{any}
@@ -14,29 +13,25 @@ use Rattle.mk_class.specs.HeaderLaws.{header_units}
 use Rattle.mk_class.specs.Arguments.{is_value, is_name, is_command, is_target, is_word}
 use Rattle.mk_class.specs.Classes.{Class, is_conditional}
 use Rattle.mk_class.specs.Contexts.{context_after}
-use Rattle.mk_class.specs.ClassTable.{class_of}
-use Rattle.mk_class.specs.ClassedLines.{ClassedLine, classed_lines, context_after_lines}
-use Rattle.mk_class.specs.declared.context.Flag.TheVariants as flag
+use Rattle.mk_class.specs.ClassedLines.{ClassedLine, classed_lines}
 use Rattle.mk_tree.specs.Documents.{text_of, context_of}
-use Rattle.mk_tree.specs.RecipeLines.{recipe_run, after_recipe}
+use Rattle.mk_tree.specs.RecipeLines.{recipe_run}
 use Rattle.mk_tree.specs.Items.{Item, Recipe}
 use Rattle.mk_tree.specs.Leaning.{AgreeButForFlag}
-use Rattle.mk_tree.specs.LinePlaces.{located, located-run, context_of-last, context_of-append}
-use Rattle.mk_tree.specs.RunsReplaced.{text-inserted}
+use Rattle.mk_tree.specs.LinePlaces.{located, context_of-last, context_of-append}
 use Rattle.mk_tree.specs.NewLines.{above_ended, missing_line_end}
-use Rattle.mk_tree.specs.NewLineLaws.{file_line_end-some, new_line-clean, line-added}
 use Rattle.mk_tree.specs.ConditionalLaws.{AreUnconditional}
-use Rattle.mk_tree.specs.RecipeRunLaws.{recipe_run-stays, rule-context, rule-agrees, assign-agrees, recipe-agrees}
+use Rattle.mk_tree.specs.RecipeRunLaws.{recipe_run-stays, rule-agrees, assign-agrees, recipe-agrees}
 use Rattle.mk_edit.specs.Edits.{Edit, Place, SetValue, AppendValue, AddAssign, RemoveAssign, AddRule, RemoveRule, AddPrereq, RemovePrereq, AddRecipe, SetRecipe, RemoveRecipe}
 use Rattle.mk_edit.specs.Addresses.{Variable, Rule, found}
 use Rattle.mk_edit.specs.Spots.{Spot}
-use Rattle.mk_edit.specs.Stretches.{Stretch, this_line, whole_rule, after_rule, insertion, removal}
+use Rattle.mk_edit.specs.Stretches.{Stretch, this_line, whole_rule, insertion, removal}
 use Rattle.mk_edit.specs.NewLines.{assign_text, new_text, new_line_span}
 use Rattle.mk_edit.specs.ValueSpans.{set_value_span, append_value_span, value_span, assignment_span, raw_length}
 use Rattle.mk_edit.specs.WordPieces.{add_pieces, remove_pieces}
 use Rattle.mk_edit.specs.Spans.{removed_span, recipe_span, header_spans, word_spans, where_found}
 use Rattle.mk_edit.specs.RuleCauses.{has_conditional}
-use Rattle.mk_edit.specs.LineCauses.{removal_leans, follows_open_line, new_line_leans}
+use Rattle.mk_edit.specs.LineCauses.{removal_leans}
 use Rattle.mk_edit.specs.Costs.{cost, size, line_count}
 use Rattle.mk_edit.specs.Refusals.{spans}
 use Rattle.mk_edit.specs.Accepted.{accepted, where_holds-none, two-passed}
@@ -55,9 +50,8 @@ use Rattle.mk_edit.specs.NewRules.{rule-stands}
 use Rattle.mk_class.specs.declared.assignment.Flavor.{Flavor}
 use Rattle.mk_edit.specs.declared.edit.Colons.{Colons}
 use Rattle.mk_edit.specs.UndependLaws.{undepend-line}
-use Rattle.mk_edit.specs.PrefixLaws.{CanBegin, context-can_begin}
-use Rattle.mk_edit.specs.RecipeLaws.{recipe-set, recipe-clean, recipe-no_backslash, recipe-class_in_rule}
-use Rattle.mk_edit.specs.EditPlaces.{rule-stretch, after_rule-stretch}
+use Rattle.mk_edit.specs.RecipeLaws.{recipe-set, recipe_added-stands}
+use Rattle.mk_edit.specs.EditPlaces.{rule-stretch}
 use Rattle.mk_edit.specs.RisingSpans.{Rise}
 use Rattle.mk_edit.specs.SpansRise.{RisesInAssignment, set-rises, append-rises, value-rises, spot-rises, rise-header, recipe-rises, old_length, add-length, remove-length}
 use Rattle.mk_edit.specs.KeptLines.{AreOthersKept, replaced-kept, stretch-kept, new_line-kept}
@@ -210,41 +204,6 @@ undepend-keeps nth g w t rs h =
     let s = F.spot in
     words-keep t g nth e rs (remove_pieces w) _ F (remove-length w) h A.spans_are (undepend-line t s.above s.line s.below F.header w F.whole F.class_is) refl (omega arith) (omega arith)
 
--- ---- a new recipe line
-
-pub recipe_added-keeps : (nth : Option ℕ) (g c t : List ℕ) (rs : List Replacement) → spans t (AddRecipe nth g c) ≡ Ok rs → AreOthersKept t (AddRecipe nth g c) rs
-recipe_added-keeps nth g c t rs h =
-    let e = AddRecipe nth g c in
-    let A = accepted t e rs h in
-    let k : is_command c ≡ true = (two-passed _ _ (is_target g) (is_command c) A.arguments).1 in
-    let F = rule-found (classed_lines t) nth g (where_holds-none _ _ A.is_there) (where_holds-none _ _ A.is_one) in
-    let s = F.spot in
-    let R = recipe_run s.below in
-    let above = s.above ++ s.line ∷ R in
-    let below = after_recipe s.below in
-    let C = context_of above in
-    let E = file_line_end t in
-    let unopened : follows_open_line (Some (after_rule s)) ≡ false = subst (λ (z : Option Spot). follows_open_line (option_map after_rule z) ≡ false) F.found_is (where_holds-none _ _ A.line_closed) in
-    let leans : new_line_leans e (Some (after_rule s)) ≡ false =
-    subst (λ (z : Option Spot). new_line_leans e (option_map after_rule z) ≡ false) F.found_is (or-left_false _ _ (where_holds-none _ _ A.not_leaning)) in
-    let y : new_line_span t e (after_rule s) ≡ rs = subst (λ (z : Option Spot). where_found (new_line_span t e) (option_map after_rule z) ≡ rs) F.found_is A.spans_are in
-    let whole : classed_lines t ≡ above ++ below = after_rule-stretch (classed_lines t) s F.whole in
-    let rule = rule-context (context_of s.above) s.line F.header R (located t s.above s.line s.below F.whole).class F.class_is (recipe_run-stays s.below) in
-    let same : C ≡ context_after_lines (context_of s.above) (s.line ∷ R) = context_of-append s.above (s.line ∷ R) in
-    let f : C.flag ≡ flag.Rule = ap (λ z. z.flag) same ∙ rule.flag in
-    let d : C.defines ≡ 0 = ap (λ z. z.defines) same ∙ rule.no_define in
-    let can : CanBegin C.prefix = context-can_begin above (located-run t above [] below whole).above_classed in
-    let some = file_line_end-some t in
-    let text = C.prefix ∷ c in
-    let ended : IsEnded text E = new_line-clean text E (recipe-clean C.prefix c can k) (recipe-no_backslash C.prefix c can k) some in
-    let class : class_of C (text ++ line_end_bytes E) ≡ Class.Recipe = recipe-class_in_rule C (text ++ line_end_bytes E) d f (eq-eqb C.prefix C.prefix refl) in
-    let m : ClassedLine = record { bytes = text ++ line_end_bytes E; class = Class.Recipe } in
-    let v = missing_line_end E above below ++ (text ++ line_end_bytes E) in
-    let lines : classed_lines (replaced 0 t rs) ≡ above_ended E above below ++ m ∷ below =
-    ap (λ z. classed_lines (replaced 0 t z)) (sym y)
-    ∙ (ap classed_lines (text-inserted t above below v whole) ∙ line-added t above below text E Class.Recipe whole unopened some ended class (recipe-agrees C) leans) in
-    new_line-kept t e rs above below m v h whole y lines (after_rule s) (ap (option_map after_rule) F.found_is) (omega arith) refl
-
 -- ---- a new line at a place
 
 -- a line that can stand there
@@ -270,3 +229,9 @@ pub rule_added-keeps : (p : Place) (g : List ℕ) (c : Colons) (w t : List ℕ) 
 rule_added-keeps p g c w t rs h =
     let S = rule-stands p g c w t rs h in
     added-keeps t (AddRule p g c w) rs S.stretch S.text (Class.Header S.header) h S.found_is S.spans_are S.text_is S.stands (omega arith) refl
+
+-- a new recipe line
+pub recipe_added-keeps : (nth : Option ℕ) (g c t : List ℕ) (rs : List Replacement) → spans t (AddRecipe nth g c) ≡ Ok rs → AreOthersKept t (AddRecipe nth g c) rs
+recipe_added-keeps nth g c t rs h =
+    let S = recipe_added-stands nth g c t rs h in
+    added-keeps t (AddRecipe nth g c) rs S.stretch ((context_of S.stretch.above).prefix ∷ c) Class.Recipe h S.found_is S.spans_are refl S.stands (omega arith) refl
