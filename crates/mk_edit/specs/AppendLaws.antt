@@ -36,7 +36,6 @@ use Rattle.mk_class.specs.AssignmentLaws.{assignment_units}
 use Rattle.mk_class.specs.AssignmentLineLaws.{before_value, AssignParts, assign_parts, safe-after, line-with_value, line_with, with_text}
 use Rattle.mk_class.specs.ClassedLines.{ClassedLine, classed_lines}
 use Rattle.mk_tree.specs.Documents.{text_of, context_of}
-use Rattle.mk_tree.specs.Items.{items}
 use Rattle.mk_tree.specs.Readings.{reading}
 use Rattle.mk_tree.specs.LinePlaces.{located, bytes_of}
 use Rattle.mk_edit.specs.Edits.{AppendValue}
@@ -52,7 +51,8 @@ use Rattle.mk_edit.specs.Accepted.{accepted, where_holds-none, two-passed}
 use Rattle.mk_edit.specs.BlankAdded.{add_blank, add_blank-append, raw_text-add_blank, add_blank-are_line_cells, has_stray-add_blank, joined-add_blank}
 use Rattle.mk_edit.specs.ValueLines.{IsValue, IsValueLine, with_cells, cells_with, line_of, parts-units, value-line, text-ends}
 use Rattle.mk_edit.specs.FoundAssignments.{FoundAssignment, assignment-found, no_prefix-set}
-use Rattle.mk_edit.specs.ValueEdits.{text-replaced_in_line, reading-value_replaced}
+use Rattle.mk_edit.specs.LineReplaced.{IsLineReplaced, replaced-same}
+use Rattle.mk_edit.specs.ValueEdits.{text-replaced_in_line, value-replaced}
 use Rattle.mk_edit.specs.SetLaws.{bytes-joined, unit_text-units, value-found, not_prefix}
 use Rattle.mk_edit.specs.declared.refusal.Field.TheVariants as field
 use Rattle.mk_edit.specs.declared.refusal.Refusal.TheVariants.{NoSuch, OpenValue}
@@ -280,11 +280,12 @@ line-appended c l below a sets b v u us some closed t h o n =
 
 -- ---- the law
 
-append-line : (t : List ℕ) (A : List ClassedLine) (l : ClassedLine) (B : List ClassedLine) (a : Assignment Cell) (b : ℕ) (v : List ℕ)
+-- an assignment's line with a text appended to its value
+pub append-line : (t : List ℕ) (A : List ClassedLine) (l : ClassedLine) (B : List ClassedLine) (a : Assignment Cell) (b : ℕ) (v : List ℕ)
     → classed_lines t ≡ A ++ l ∷ B → l.class ≡ Assign a None → is_prefix_name (unit_text joined_byte a.name) ≡ false → is_value (b ∷ v) ≡ true → is_closed joined_byte (concat a.value) ≡ true
     → (U : List (List Cell)) → a.value ≡ U
-    → reading (replaced 0 t (record { start = value_end (length (text_of A)) a; end = value_end (length (text_of A)) a; new = if is_empty U then b ∷ v else 32 ∷ b ∷ v } ∷ []))
-    ≡ items A ++ item_with_value a (unit_text joined_byte a.value ++ (if is_empty U then b ∷ v else after_value (last_passes is_fold (concat a.value)) (b ∷ v))) ∷ items B
+    → IsLineReplaced (replaced 0 t (record { start = value_end (length (text_of A)) a; end = value_end (length (text_of A)) a; new = if is_empty U then b ∷ v else 32 ∷ b ∷ v } ∷ [])) A B
+    (item_with_value a (unit_text joined_byte a.value ++ (if is_empty U then b ∷ v else after_value (last_passes is_fold (concat a.value)) (b ∷ v))))
 append-line t A l B a b v h k f i closed [] e =
     let c = context_of A in
     let L = located t A l B h in
@@ -296,10 +297,10 @@ append-line t A l B a b v h k f i closed [] e =
     let text = text-replaced_in_line t A l B (concat (before_value a)) (concat a.value) (concat (a.after ++ w.parts.rest)) (b ∷ v) (value_end at a) (value_end at a) h w.parts.cells_are s j in
     let m = line_with a w.parts.rest (b ∷ v) (line_end_bytes (line_end l.bytes)) in
     let value : b ∷ v ≡ unit_text joined_byte a.value ++ b ∷ v = ap (λ z. unit_text joined_byte z ++ b ∷ v) (sym e) in
-    ap reading text
-    ∙ reading-value_replaced t A l B a m (map Byte (b ∷ v)) a.after (unit_text joined_byte a.value ++ b ∷ v) h k w.line.one w.line.ends
+    replaced-same _ _ A B _ _ (sym text) refl
+    (value-replaced t A l B a m (map Byte (b ∷ v)) a.after (unit_text joined_byte a.value ++ b ∷ v) h k w.line.one w.line.ends
     (w.class ∙ ap (Assign (with_text a (b ∷ v))) (no_prefix-set (nat_lt 0 c.conditionals) (with_text a (b ∷ v)) f))
-    (unit_text-units (map Byte (b ∷ v)) ∙ (bytes-joined (b ∷ v) ∙ value))
+    (unit_text-units (map Byte (b ∷ v)) ∙ (bytes-joined (b ∷ v) ∙ value)))
 append-line t A l B a b v h k f i closed (u ∷ us) e =
     let c = context_of A in
     let L = located t A l B h in
@@ -314,16 +315,17 @@ append-line t A l B a b v h k f i closed (u ∷ us) e =
     omega (arith, ap length (raw_text-append P W) ∙ length-append (raw_text P) (raw_text W)) in
     let j : value_end at a ≡ value_end at a + 0 = omega arith in
     let text = text-replaced_in_line t A l B (P ++ W) [] Q (32 ∷ b ∷ v) (value_end at a) (value_end at a) h cells s j in
-    ap reading (text ∙ ap (λ z. text_of A ++ (z ++ text_of B)) (sym w.bytes))
-    ∙ reading-value_replaced t A l B a (line_of (cells_with a V a.after w.parts.rest) (line_end_bytes (line_end l.bytes))) V a.after
+    replaced-same _ _ A B _ _ (sym (text ∙ ap (λ z. text_of A ++ (z ++ text_of B)) (sym w.bytes))) refl
+    (value-replaced t A l B a (line_of (cells_with a V a.after w.parts.rest) (line_end_bytes (line_end l.bytes))) V a.after
     (unit_text joined_byte a.value ++ after_value (last_passes is_fold W) (b ∷ v)) h k w.line.one w.line.ends
-    (w.line.class ∙ ap (Assign (with_cells a V a.after)) (no_prefix-set (nat_lt 0 c.conditionals) (with_cells a V a.after) f)) w.value
+    (w.line.class ∙ ap (Assign (with_cells a V a.after)) (no_prefix-set (nat_lt 0 c.conditionals) (with_cells a V a.after) f)) w.value)
 
 value-not_empty : (v : List ℕ) → not (is_empty v) ≡ true → (b : ℕ) × (r : List ℕ) × (v ≡ b ∷ r)
 value-not_empty [] h = cc
 value-not_empty (b ∷ r) h = (b, r, refl)
 
-closed-found : (t n : List ℕ) (nth : Option ℕ) (F : FoundAssignment t n nth) → has_open_value (class_found (found (classed_lines t) (Variable nth n))) ≡ false → is_closed joined_byte (concat F.assigned.value) ≡ true
+-- the value that an accepted append is put after is closed
+pub closed-found : (t n : List ℕ) (nth : Option ℕ) (F : FoundAssignment t n nth) → has_open_value (class_found (found (classed_lines t) (Variable nth n))) ≡ false → is_closed joined_byte (concat F.assigned.value) ≡ true
 closed-found t n nth F h =
     let x : has_open_value (Some F.spot.line.class) ≡ false = subst (λ (z : Option Spot). has_open_value (class_found z) ≡ false) F.found_is h in
     let y : not (is_closed joined_byte (concat F.assigned.value)) ≡ false = subst (λ (z : Class). has_open_value (Some z) ≡ false) F.class_is x in

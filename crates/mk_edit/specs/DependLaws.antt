@@ -38,7 +38,8 @@ use Rattle.mk_edit.specs.HeadWords.{gap-last, last-more}
 use Rattle.mk_edit.specs.DirectiveWords.{alike-itself}
 use Rattle.mk_edit.specs.HeaderParts.{IsPartUnit, part-head, HeaderKnown, is_bar_glued, is_no_gap, FitIn, with_parts, bar-is, bar-solid}
 use Rattle.mk_edit.specs.HeaderChanges.{middle_units, header-cells, FitAsCells, header-here, same-not_led}
-use Rattle.mk_edit.specs.HeaderEdits.{header_pieces-new, header_pieces-whole, kept-old, kept-new, reading-pieces_replaced, lists-end, list-cells, word_spans-header, with_header-header}
+use Rattle.mk_edit.specs.LineReplaced.{IsLineReplaced, replaced-same}
+use Rattle.mk_edit.specs.HeaderEdits.{header_pieces-new, header_pieces-whole, kept-old, kept-new, header-replaced, lists-end, list-cells, word_spans-header, with_header-header}
 use Rattle.mk_edit.specs.NewWords.{IsNewWord, cell_units, word-is_new}
 use Rattle.mk_edit.specs.WordsAdded.{AreGapUnits, gap_units-end, front_units, gaps_after, front-gaps, gaps-are_gaps, front-words, front-cells, words-before_gaps, space_unit, space-part, units-end, put_units, put-parts, put-words, put-cells, put-ends, word-ends, front-solid}
 use Rattle.mk_edit.specs.declared.refusal.Field.TheVariants as field
@@ -171,16 +172,16 @@ normal-item h w n =
 
 -- a header's line with a new normal prerequisite
 pub normal-line : (t : List ℕ) (A : List ClassedLine) (l : ClassedLine) (B : List ClassedLine) (h : Headers.Header Cell) (w : List ℕ) → IsNewWord w → classed_lines t ≡ A ++ l ∷ B → l.class ≡ Header h
-    → reading (replaced 0 t (replacements (length (text_of A)) (normal_pieces w h))) ≡ items A ++ with_prerequisite false w (header_item h) ∷ items B
+    → IsLineReplaced (replaced 0 t (replacements (length (text_of A)) (normal_pieces w h))) A B (with_prerequisite false w (header_item h))
 normal-line t A l B h w n e k =
     let c = context_of A in
     let H = header-here c l.bytes h ((located t A l B e).class ∙ k) in
     let flag = nat_lt 0 c.conditionals in
-    reading-pieces_replaced t A l B h (normal_pieces w h) h.targets (normal_with w h) h.bar h.order_only e k
+    replaced-same _ _ A B _ _ refl (normal-item h w n)
+    (header-replaced t A l B h (normal_pieces w h) h.targets (normal_with w h) h.bar h.order_only e k
     (header_pieces-whole h (kept h.targets) (put_last (prerequisite_text w h) h.normal) (kept h.order_only) (kept-old h.targets) (put_last-old (prerequisite_text w h) h.normal) (kept-old h.order_only))
     (normal-pieces_new h w) (normal-fit flag (line_cells l.bytes) h w n H.known) (normal-fit_cells flag (line_cells l.bytes) h w n H.known)
-    (same-not_led c l.bytes h (normal_with w h) h.bar h.order_only H)
-    ∙ ap (λ z. items A ++ z ∷ items B) (normal-item h w n)
+    (same-not_led c l.bytes h (normal_with w h) h.bar h.order_only H))
 
 -- ---- an order-only prerequisite after a `|`
 
@@ -249,16 +250,16 @@ order-item h w n =
 -- a header's line, with a `|`, with a new order-only prerequisite
 order-line : (t : List ℕ) (A : List ClassedLine) (l : ClassedLine) (B : List ClassedLine) (h : Headers.Header Cell) (w : List ℕ) → IsNewWord w → is_empty h.bar ≡ false → classed_lines t ≡ A ++ l ∷ B
     → l.class ≡ Header h
-    → reading (replaced 0 t (replacements (length (text_of A)) (header_pieces h (kept h.targets) (kept h.normal) (put_last (32 ∷ w) h.order_only)))) ≡ items A ++ with_prerequisite true w (header_item h) ∷ items B
+    → IsLineReplaced (replaced 0 t (replacements (length (text_of A)) (header_pieces h (kept h.targets) (kept h.normal) (put_last (32 ∷ w) h.order_only)))) A B (with_prerequisite true w (header_item h))
 order-line t A l B h w n b e k =
     let c = context_of A in
     let H = header-here c l.bytes h ((located t A l B e).class ∙ k) in
     let flag = nat_lt 0 c.conditionals in
-    reading-pieces_replaced t A l B h (header_pieces h (kept h.targets) (kept h.normal) (put_last (32 ∷ w) h.order_only)) h.targets h.normal h.bar (order_with w h) e k
+    replaced-same _ _ A B _ _ refl (order-item h w n)
+    (header-replaced t A l B h (header_pieces h (kept h.targets) (kept h.normal) (put_last (32 ∷ w) h.order_only)) h.targets h.normal h.bar (order_with w h) e k
     (header_pieces-whole h (kept h.targets) (kept h.normal) (put_last (32 ∷ w) h.order_only) (kept-old h.targets) (kept-old h.normal) (put_last-old (32 ∷ w) h.order_only))
     (order-pieces_new h w) (order-fit flag (line_cells l.bytes) h w n b H.known) (order-fit_cells flag (line_cells l.bytes) h w n b H.known)
-    (same-not_led c l.bytes h h.normal h.bar (order_with w h) H)
-    ∙ ap (λ z. items A ++ z ∷ items B) (order-item h w n)
+    (same-not_led c l.bytes h h.normal h.bar (order_with w h) H))
 
 -- ---- the first order-only prerequisite, with its `|`
 
@@ -354,30 +355,30 @@ bar-item h w n o =
 -- a header's line, without a `|`, with a new order-only prerequisite
 bar-line : (t : List ℕ) (A : List ClassedLine) (l : ClassedLine) (B : List ClassedLine) (h : Headers.Header Cell) (w : List ℕ) → IsNewWord w → is_empty h.bar ≡ true → classed_lines t ≡ A ++ l ∷ B
     → l.class ≡ Header h
-    → reading (replaced 0 t (replacements (length (text_of A)) (header_pieces h (kept h.targets) (put_last (codes " | " ++ w) h.normal) (kept h.order_only)))) ≡ items A ++ with_prerequisite true w (header_item h) ∷ items B
+    → IsLineReplaced (replaced 0 t (replacements (length (text_of A)) (header_pieces h (kept h.targets) (put_last (codes " | " ++ w) h.normal) (kept h.order_only)))) A B (with_prerequisite true w (header_item h))
 bar-line t A l B h w n b e k =
     let c = context_of A in
     let H = header-here c l.bytes h ((located t A l B e).class ∙ k) in
     let flag = nat_lt 0 c.conditionals in
     let z = no_order h.bar h.order_only b H.known.fits.bar_fits in
-    reading-pieces_replaced t A l B h (header_pieces h (kept h.targets) (put_last (codes " | " ++ w) h.normal) (kept h.order_only)) h.targets (before_bar h) (bar_unit ∷ []) (after_bar w h) e k
+    replaced-same _ _ A B _ _ refl (bar-item h w n z.1)
+    (header-replaced t A l B h (header_pieces h (kept h.targets) (put_last (codes " | " ++ w) h.normal) (kept h.order_only)) h.targets (before_bar h) (bar_unit ∷ []) (after_bar w h) e k
     (header_pieces-whole h (kept h.targets) (put_last (codes " | " ++ w) h.normal) (kept h.order_only) (kept-old h.targets) (put_last-old (codes " | " ++ w) h.normal) (kept-old h.order_only))
     (bar-pieces_new h w z.0 z.1) (bar-fit flag (line_cells l.bytes) h w n H.known) (bar-fit_cells flag (line_cells l.bytes) h w n b H.known)
-    (same-not_led c l.bytes h (before_bar h) (bar_unit ∷ []) (after_bar w h) H)
-    ∙ ap (λ z. items A ++ z ∷ items B) (bar-item h w n z.1)
+    (same-not_led c l.bytes h (before_bar h) (bar_unit ∷ []) (after_bar w h) H))
 
 -- ---- the law
 
 -- a header's line with a new prerequisite
 pub depend-line : (order : Bool) (t : List ℕ) (A : List ClassedLine) (l : ClassedLine) (B : List ClassedLine) (h : Headers.Header Cell) (w : List ℕ) → IsNewWord w → classed_lines t ≡ A ++ l ∷ B → l.class ≡ Header h
-    → reading (replaced 0 t (replacements (length (text_of A)) (add_pieces order w h))) ≡ items A ++ with_prerequisite order w (header_item h) ∷ items B
+    → IsLineReplaced (replaced 0 t (replacements (length (text_of A)) (add_pieces order w h))) A B (with_prerequisite order w (header_item h))
 depend-line false t A l B h w n e k = normal-line t A l B h w n e k
 depend-line true t A l B h w n e k = go (is_empty h.bar) refl
   where
     go : (b : Bool) → is_empty h.bar ≡ b
-        → reading (replaced 0 t (replacements (length (text_of A)) (cond b
+        → IsLineReplaced (replaced 0 t (replacements (length (text_of A)) (cond b
         (header_pieces h (kept h.targets) (put_last (codes " | " ++ w) h.normal) (kept h.order_only))
-        (header_pieces h (kept h.targets) (kept h.normal) (put_last (32 ∷ w) h.order_only))))) ≡ items A ++ with_prerequisite true w (header_item h) ∷ items B
+        (header_pieces h (kept h.targets) (kept h.normal) (put_last (32 ∷ w) h.order_only))))) A B (with_prerequisite true w (header_item h))
     go true b = bar-line t A l B h w n b e k
     go false b = order-line t A l B h w n b e k
 
@@ -393,5 +394,5 @@ depend-reads order nth g w t rs h =
     let z : change t (AddPrereq order nth g w) ≡ with_header (with_prerequisite order w) s = ap (λ (o : Option Spot). where_found (with_header (with_prerequisite order w)) o) F.found_is in
     ap (λ q. reading (text_by t q)) h
     ∙ (ap (λ q. reading (replaced 0 t q)) (sym y ∙ word_spans-header (add_pieces order w) s F.header F.class_is)
-    ∙ (depend-line order t s.above s.line s.below F.header w word F.whole F.class_is
+    ∙ ((depend-line order t s.above s.line s.below F.header w word F.whole F.class_is).reads
     ∙ sym (z ∙ with_header-header (with_prerequisite order w) s F.header F.class_is)))

@@ -1,4 +1,4 @@
--- Edits of the words of a header's line: the pieces of the line as cells, and the reading with another line in its place.
+-- Edits of the words of a header's line: the pieces of the line as cells, and the text with another line in its place.
 use Rattle.std.proofs.Common.{◌≡◌, refl, sym, ap, ◌∙◌, subst, ℕ, List, [], ◌∷◌, ◌++◌, Bool, false, append_assoc, length}
 use Rattle.std.proofs.lemmas.List.{append-nil}
 use Rattle.mk_lines.specs.Lists.{concat}
@@ -17,12 +17,11 @@ use Rattle.mk_class.specs.ClassedLines.{ClassedLine, classed_lines}
 use Rattle.mk_tree.specs.LineTexts.{text_of, context_of, bytes_of}
 use Rattle.mk_tree.specs.LinePlaces.{located}
 use Rattle.mk_tree.specs.Items.{Item, items, header_item}
-use Rattle.mk_tree.specs.Readings.{reading}
-use Rattle.mk_tree.specs.RunsReplaced.{reading-line_replaced}
 use Rattle.mk_tree.specs.SpansInLines.{text-pieces_replaced}
 use Rattle.mk_edit.specs.Spots.{Spot}
 use Rattle.mk_edit.specs.Spans.{word_spans, header_spans}
 use Rattle.mk_edit.specs.Changes.{with_header, header_items}
+use Rattle.mk_edit.specs.LineReplaced.{IsLineReplaced, replaced-line, replaced-same}
 use Rattle.mk_edit.specs.HeadUnits.{EndsSolid, EndsSolid-after}
 use Rattle.mk_edit.specs.LineTails.{EndsAs, EndsAs-after}
 use Rattle.mk_edit.specs.WordPieces.{header_pieces, kept}
@@ -58,12 +57,12 @@ kept-old us = append-nil (concat us)
 pub kept-new : (us : List (List Cell)) → new_cells (kept us) ≡ concat us
 kept-new us = append-nil (concat us)
 
--- The pieces of a header's line replaced: the text reads as before, but for this line, which reads as a header with the new parts.
-pub reading-pieces_replaced : (t : List ℕ) (A : List ClassedLine) (l : ClassedLine) (B : List ClassedLine) (h : Headers.Header Cell) (ps : List Piece) (T N Bar O : List (List Cell))
+-- The pieces of a header's line replaced: the other lines stay, and this line reads as a header with the new parts.
+pub header-replaced : (t : List ℕ) (A : List ClassedLine) (l : ClassedLine) (B : List ClassedLine) (h : Headers.Header Cell) (ps : List Piece) (T N Bar O : List (List Cell))
     → classed_lines t ≡ A ++ l ∷ B → l.class ≡ Header h → old_cells ps ≡ concat (header_units h) → new_cells ps ≡ concat (header_units (with_parts h T N Bar O))
     → FitIn h T N Bar O → FitAsCells h T N Bar O → is_prefix_led (context_of A).prefix (line_of (with_parts h T N Bar O) (line_end_bytes (line_end l.bytes))) ≡ false
-    → reading (replaced 0 t (replacements (length (text_of A)) ps)) ≡ items A ++ header_item (with_parts h T N Bar O) ∷ items B
-reading-pieces_replaced t A l B h ps T N Bar O w k old new f g led =
+    → IsLineReplaced (replaced 0 t (replacements (length (text_of A)) ps)) A B (header_item (with_parts h T N Bar O))
+header-replaced t A l B h ps T N Bar O w k old new f g led =
     let c = context_of A in
     let L = located t A l B w in
     let H = header-here c l.bytes h (L.class ∙ k) in
@@ -72,9 +71,8 @@ reading-pieces_replaced t A l B h ps T N Bar O w k old new f g led =
     let m = line_of (with_parts h T N Bar O) end in
     let before : l.bytes ≡ old_bytes ps ++ end = H.whole ∙ ap (λ z. z ++ end) (ap raw_text (sym old) ∙ raw_text-old_cells ps) in
     let after : new_bytes ps ++ end ≡ m = ap (λ z. z ++ end) (sym (raw_text-new_cells ps) ∙ ap raw_text new) in
-    ap reading (text-pieces_replaced t A l B ps end w before)
-    ∙ (ap (λ z. reading (text_of A ++ (z ++ text_of B))) after
-    ∙ reading-line_replaced t A l B m (Header (with_parts h T N Bar O)) w W.line.one W.line.ends W.class (ap (context_after c) (sym k)))
+    replaced-same _ _ A B _ _ (sym (text-pieces_replaced t A l B ps end w before ∙ ap (λ z. text_of A ++ (z ++ text_of B)) after)) refl
+    (replaced-line t A l B m (Header (with_parts h T N Bar O)) (header_item (with_parts h T N Bar O)) w W.line.one W.line.ends W.class (ap (context_after c) (sym k)) refl refl)
 
 -- ---- the lists of a header
 

@@ -1,51 +1,60 @@
 -- The edits that leave the lines that their spans do not touch.
-use Rattle.std.proofs.Common.{◌≡◌, refl, sym, ap, ◌∙◌, subst, arith, ℕ, List, [], ◌∷◌, ◌++◌, Bool, true, false, not, length, ◌+◌, Option, Some, None, option_map}
-use Rattle.std.proofs.lemmas.Bool.{eq-eqb}
-use Rattle.std.specs.Prelude.{Ok, nat_lt}
-use Rattle.mk_lines.specs.Lists.{concat}
-use Rattle.mk_lines.specs.PhysicalLines.{line_end, line_end_bytes, file_line_end}
+use Rattle.std.proofs.Common.{◌≡◌, refl, sym, ap, ◌∙◌, subst, arith, ℕ, List, [], ◌∷◌, ◌++◌, Bool, true, false, not, ◌&&◌, length, ◌+◌, ◌≤◌, Option, Some, None, option_map}
+use Rattle.std.proofs.lemmas.Bool.{and_parts}
+use Rattle.std.specs.Prelude.{Ok}
+use Rattle.mk_lines.specs.PhysicalLines.{line_end_bytes, file_line_end}
 use Rattle.mk_lines.specs.LineCells.{or-left_false, or-right_false}
-use Rattle.mk_lines.specs.LineEndAdded.{IsEnded}
-use Rattle.mk_lines.specs.Pieces.{Replacement, replaced}
+use Rattle.mk_lines.specs.Cells.{Cell}
+use Rattle.mk_lines.specs.Pieces.{Replacement, Piece, replacements, replaced}
 use Rattle.mk_class.specs.Lists.{any}
-use Rattle.mk_class.specs.AssignmentLineLaws.{before_value, line-with_value, line_with, with_text}
-use Rattle.mk_class.specs.ValueLaws.{value-text}
-use Rattle.mk_class.specs.Arguments.{is_value, is_name, is_command, is_target}
+use Rattle.mk_class.specs.Assignments.{Assignment}
+use Rattle.mk_class.specs.Headers
+use Rattle.mk_class.specs.HeaderLaws.{header_units}
+use Rattle.mk_class.specs.Arguments.{is_value, is_name, is_command, is_target, is_word}
 use Rattle.mk_class.specs.Classes.{Class, is_conditional}
 use Rattle.mk_class.specs.Contexts.{context_after}
-use Rattle.mk_class.specs.ClassTable.{class_of}
-use Rattle.mk_class.specs.ClassedLines.{ClassedLine, classed_lines, context_after_lines}
-use Rattle.mk_class.specs.declared.context.Flag.TheVariants as flag
+use Rattle.mk_class.specs.ClassedLines.{ClassedLine, classed_lines}
 use Rattle.mk_tree.specs.Documents.{text_of, context_of}
-use Rattle.mk_tree.specs.RecipeLines.{recipe_run, after_recipe}
+use Rattle.mk_tree.specs.RecipeLines.{recipe_run}
+use Rattle.mk_tree.specs.Items.{Item, Recipe}
 use Rattle.mk_tree.specs.Leaning.{AgreeButForFlag}
-use Rattle.mk_tree.specs.LinePlaces.{bytes_of, located, located-run, context_of-last, context_of-append}
-use Rattle.mk_tree.specs.RunsReplaced.{line-replaced, text-inserted}
+use Rattle.mk_tree.specs.LinePlaces.{located, context_of-last, context_of-append}
 use Rattle.mk_tree.specs.NewLines.{above_ended, missing_line_end}
-use Rattle.mk_tree.specs.NewLineLaws.{file_line_end-some, new_line-clean, line-added}
 use Rattle.mk_tree.specs.ConditionalLaws.{AreUnconditional}
-use Rattle.mk_tree.specs.RecipeRunLaws.{recipe_run-stays, rule-context, rule-agrees, assign-agrees, recipe-agrees}
-use Rattle.mk_edit.specs.Edits.{SetValue, RemoveAssign, RemoveRule, AddRecipe, RemoveRecipe}
+use Rattle.mk_tree.specs.RecipeRunLaws.{recipe_run-stays, rule-agrees, assign-agrees, recipe-agrees}
+use Rattle.mk_edit.specs.Edits.{Edit, Place, SetValue, AppendValue, AddAssign, RemoveAssign, AddRule, RemoveRule, AddPrereq, RemovePrereq, AddRecipe, SetRecipe, RemoveRecipe}
+use Rattle.mk_edit.specs.Addresses.{Variable, Rule, found}
 use Rattle.mk_edit.specs.Spots.{Spot}
-use Rattle.mk_edit.specs.Stretches.{this_line, whole_rule, after_rule, removal}
-use Rattle.mk_edit.specs.NewLines.{new_line_span}
-use Rattle.mk_edit.specs.ValueSpans.{set_value_span, value_span, assignment_span, value_start, value_end}
-use Rattle.mk_edit.specs.Spans.{removed_span, where_found}
+use Rattle.mk_edit.specs.Stretches.{Stretch, this_line, whole_rule, insertion, removal}
+use Rattle.mk_edit.specs.NewLines.{assign_text, new_text, new_line_span}
+use Rattle.mk_edit.specs.ValueSpans.{set_value_span, append_value_span, value_span, assignment_span, raw_length}
+use Rattle.mk_edit.specs.WordPieces.{add_pieces, remove_pieces}
+use Rattle.mk_edit.specs.Spans.{removed_span, recipe_span, header_spans, word_spans, where_found}
 use Rattle.mk_edit.specs.RuleCauses.{has_conditional}
-use Rattle.mk_edit.specs.LineCauses.{removal_leans, follows_open_line, new_line_leans}
-use Rattle.mk_edit.specs.Costs.{line_count}
+use Rattle.mk_edit.specs.LineCauses.{removal_leans}
+use Rattle.mk_edit.specs.Costs.{cost, size, line_count}
 use Rattle.mk_edit.specs.Refusals.{spans}
 use Rattle.mk_edit.specs.Accepted.{accepted, where_holds-none, two-passed}
-use Rattle.mk_edit.specs.FoundAssignments.{assignment-found, no_prefix-set}
-use Rattle.mk_edit.specs.SpotLaws.{recipe-found, recipe-class, rule-found}
-use Rattle.mk_edit.specs.ValueEdits.{text-replaced_in_line}
+use Rattle.mk_edit.specs.FoundAssignments.{FoundAssignment, assignment-found}
+use Rattle.mk_edit.specs.SpotLaws.{FoundRule, recipe-found, recipe-class, rule-found}
+use Rattle.mk_edit.specs.LineReplaced.{IsLineReplaced, replaced-same}
 use Rattle.mk_edit.specs.SetLaws.{not_prefix}
-use Rattle.mk_edit.specs.PrefixLaws.{CanBegin, context-can_begin}
-use Rattle.mk_edit.specs.RecipeLaws.{recipe-clean, recipe-no_backslash, recipe-class_in_rule}
-use Rattle.mk_edit.specs.EditPlaces.{rule-stretch, after_rule-stretch}
+use Rattle.mk_edit.specs.LastFoldLaws.{set-replaced}
+use Rattle.mk_edit.specs.AppendLaws.{append-line, closed-found}
+use Rattle.mk_edit.specs.NewWords.{word-is_new}
+use Rattle.mk_edit.specs.HeaderEdits.{word_spans-header}
+use Rattle.mk_edit.specs.DependLaws.{depend-line}
+use Rattle.mk_edit.specs.NewLineStands.{StandsAt, stands-span, stands-lines}
+use Rattle.mk_edit.specs.NewAssignLaws.{new_assignment, accepted-stands, no_name}
+use Rattle.mk_edit.specs.NewRules.{rule-stands}
+use Rattle.mk_class.specs.declared.assignment.Flavor.{Flavor}
+use Rattle.mk_edit.specs.declared.edit.Colons.{Colons}
+use Rattle.mk_edit.specs.UndependLaws.{undepend-line}
+use Rattle.mk_edit.specs.RecipeLaws.{recipe-set, recipe_added-stands}
+use Rattle.mk_edit.specs.EditPlaces.{rule-stretch}
 use Rattle.mk_edit.specs.RisingSpans.{Rise}
-use Rattle.mk_edit.specs.SpansRise.{set-rises, value-rises}
-use Rattle.mk_edit.specs.KeptLines.{AreOthersKept, line-kept, stretch-kept, new_line-kept}
+use Rattle.mk_edit.specs.SpansRise.{RisesInAssignment, set-rises, append-rises, value-rises, spot-rises, rise-header, recipe-rises, old_length, add-length, remove-length}
+use Rattle.mk_edit.specs.KeptLines.{AreOthersKept, replaced-kept, stretch-kept, new_line-kept}
 
 -- a class of no conditional
 unconditional-class : (k m : Class) → k ≡ m → not (is_conditional m) ≡ true → not (is_conditional k) ≡ true
@@ -111,65 +120,118 @@ rule_removed-keeps nth g t rs h =
     (rule-agrees (context_of s.above) s.line F.header R (located t s.above s.line s.below F.whole).class F.class_is (recipe_run-stays s.below) u) in
     stretch-kept t e rs (whole_rule s) h (rule-stretch ls s F.whole) y agree free refl (omega (arith, many)) (unconditional-class s.line.class (Class.Header F.header) F.class_is refl, u)
 
--- ---- a value set
+-- ---- a line replaced
 
-pub set-keeps : (nth : Option ℕ) (n : List ℕ) (b : ℕ) (v t : List ℕ) (rs : List Replacement) → spans t (SetValue nth n (b ∷ v)) ≡ Ok rs → AreOthersKept t (SetValue nth n (b ∷ v)) rs
-set-keeps nth n b v t rs h =
-    let e = SetValue nth n (b ∷ v) in
-    let A = accepted t e rs h in
-    let i : is_value (b ∷ v) ≡ true = (two-passed _ _ (is_name n) (is_value (b ∷ v)) A.arguments).1 in
+-- an assignment's line with a span of it replaced
+value-keeps : (t n : List ℕ) (nth : Option ℕ) (e : Edit) (rs : List Replacement) (f : ℕ → Assignment Cell → Replacement) (i : Item) (F : FoundAssignment t n nth) → RisesInAssignment f → spans t e ≡ Ok rs
+    → where_found (value_span f) (found (classed_lines t) (Variable nth n)) ≡ rs → IsLineReplaced (replaced 0 t (f (length (text_of F.spot.above)) F.assigned ∷ [])) F.spot.above F.spot.below i
+    → insertion (classed_lines t) e ≡ None → 1 ≤ cost t e → 1 ≤ size t e → AreOthersKept t e rs
+value-keeps t n nth e rs f i F g h w r q c z =
+    let s = F.spot in
+    let at = length (text_of s.above) in
+    let x : assignment_span f at s.line.class ≡ rs = subst (λ (o : Option Spot). where_found (value_span f) o ≡ rs) F.found_is w in
+    let y : f at F.assigned ∷ [] ≡ rs = subst (λ (k : Class). assignment_span f at k ≡ rs) F.class_is x in
+    replaced-kept t e rs s i h F.whole (replaced-same _ _ s.above s.below i i (ap (replaced 0 t) y) refl r) (subst (Rise at (at + length s.line.bytes)) x (value-rises t s f F.whole g)) q c z
+    (unconditional-class s.line.class (Class.Assign F.assigned None) F.class_is refl)
+
+-- another value
+pub set-keeps : (nth : Option ℕ) (n v t : List ℕ) (rs : List Replacement) → spans t (SetValue nth n v) ≡ Ok rs → AreOthersKept t (SetValue nth n v) rs
+set-keeps nth n v t rs h =
+    let A = accepted t (SetValue nth n v) rs h in
+    let i : is_value v ≡ true = (two-passed _ _ (is_name n) (is_value v) A.arguments).1 in
     let F = assignment-found t n nth (where_holds-none _ _ A.is_there) (where_holds-none _ _ A.is_one) (not_prefix n A.not_reserved) in
     let s = F.spot in
-    let a = F.assigned in
-    let c = context_of s.above in
-    let at = length (text_of s.above) in
-    let L = located t s.above s.line s.below F.whole in
-    let w = line-with_value c s.line.bytes (bytes_of s.below) a None (b ∷ v) (value-text b v i) (L.class ∙ F.class_is) L.one L.ends in
-    let k = Class.Assign (with_text a (b ∷ v)) None in
-    let m = line_with a w.parts.rest (b ∷ v) (line_end_bytes (line_end s.line.bytes)) in
-    let class : class_of c m ≡ k = w.class ∙ ap (Class.Assign (with_text a (b ∷ v))) (no_prefix-set (nat_lt 0 c.conditionals) (with_text a (b ∷ v)) F.no_prefix) in
-    let x : assignment_span (set_value_span (b ∷ v)) at s.line.class ≡ rs = subst (λ (z : Option Spot). where_found (value_span (set_value_span (b ∷ v))) z ≡ rs) F.found_is A.spans_are in
-    let y : set_value_span (b ∷ v) at a ∷ [] ≡ rs = subst (λ (z : Class). assignment_span (set_value_span (b ∷ v)) at z ≡ rs) F.class_is x in
-    let text : replaced 0 t (set_value_span (b ∷ v) at a ∷ []) ≡ text_of s.above ++ (m ++ text_of s.below) =
-    text-replaced_in_line t s.above s.line s.below (concat (before_value a)) (concat a.value) (concat (a.after ++ w.parts.rest)) (b ∷ v) (value_start at a) (value_end at a) F.whole w.parts.cells_are refl refl in
-    let lines : classed_lines (replaced 0 t rs) ≡ s.above ++ record { bytes = m; class = k } ∷ s.below =
-    ap (λ z. classed_lines (replaced 0 t z)) (sym y)
-    ∙ (ap classed_lines text ∙ line-replaced t s.above s.line s.below m k F.whole w.line.one w.line.ends class (ap (context_after c) (sym F.class_is))) in
-    line-kept t e rs s (record { bytes = m; class = k }) h F.whole lines
-    (subst (Rise at (at + length s.line.bytes)) x (value-rises t s (set_value_span (b ∷ v)) F.whole (set-rises (b ∷ v)))) refl (omega arith) (omega arith)
-    (unconditional-class s.line.class (Class.Assign a None) F.class_is refl) refl
+    value-keeps t n nth (SetValue nth n v) rs (set_value_span v) _ F (set-rises v) h A.spans_are (set-replaced t s.above s.line s.below F.assigned v F.whole F.class_is F.no_prefix i) refl (omega arith) (omega arith)
 
--- ---- a new recipe line
-
-pub recipe_added-keeps : (nth : Option ℕ) (g c t : List ℕ) (rs : List Replacement) → spans t (AddRecipe nth g c) ≡ Ok rs → AreOthersKept t (AddRecipe nth g c) rs
-recipe_added-keeps nth g c t rs h =
-    let e = AddRecipe nth g c in
+-- a text appended to a value
+pub append-keeps : (nth : Option ℕ) (n v t : List ℕ) (rs : List Replacement) → spans t (AppendValue nth n v) ≡ Ok rs → AreOthersKept t (AppendValue nth n v) rs
+append-keeps nth n [] t rs h =
+    let A = accepted t (AppendValue nth n []) rs h in
+    absurd (let q : false ≡ true = (and_parts (is_value []) false (two-passed _ _ (is_name n) (is_value [] && false) A.arguments).1).1 in cc)
+append-keeps nth n (b ∷ v) t rs h =
+    let e = AppendValue nth n (b ∷ v) in
     let A = accepted t e rs h in
-    let k : is_command c ≡ true = (two-passed _ _ (is_target g) (is_command c) A.arguments).1 in
+    let i = and_parts (is_value (b ∷ v)) true (two-passed _ _ (is_name n) (is_value (b ∷ v) && true) A.arguments).1 in
+    let F = assignment-found t n nth (where_holds-none _ _ A.is_there) (where_holds-none _ _ A.is_one) (not_prefix n A.not_reserved) in
+    let s = F.spot in
+    let closed = closed-found t n nth F (where_holds-none _ _ A.value_closed) in
+    value-keeps t n nth e rs (append_value_span (b ∷ v)) _ F (append-rises (b ∷ v)) h A.spans_are
+    (append-line t s.above s.line s.below F.assigned b v F.whole F.class_is F.no_prefix i.0 closed F.assigned.value refl) refl (omega arith) (omega arith)
+
+-- a recipe line with another command
+pub recipe_set-keeps : (nth : Option ℕ) (g : List ℕ) (k : ℕ) (c t : List ℕ) (rs : List Replacement) → spans t (SetRecipe nth g k c) ≡ Ok rs → AreOthersKept t (SetRecipe nth g k c) rs
+recipe_set-keeps nth g k c t rs h =
+    let e = SetRecipe nth g k c in
+    let A = accepted t e rs h in
+    let i : is_command c ≡ true = (two-passed _ _ (is_target g) (is_command c) A.arguments).1 in
+    let F = recipe-found (classed_lines t) nth g k (where_holds-none _ _ A.not_absent) in
+    let s = F.spot in
+    let at = length (text_of s.above) in
+    let y : recipe_span c s ≡ rs = subst (λ (z : Option Spot). where_found (recipe_span c) z ≡ rs) F.found_is A.spans_are in
+    replaced-kept t e rs s (Recipe c) h F.whole (replaced-same _ _ s.above s.below _ _ (ap (replaced 0 t) y) refl (recipe-set t s c F.whole F.is_recipe_line i))
+    (subst (Rise at (at + length s.line.bytes)) y (recipe-rises t c s F.whole F.is_recipe_line)) refl (omega arith) (omega arith)
+    (unconditional-class s.line.class Class.Recipe (recipe-class s.line.class F.is_recipe_line) refl)
+
+-- the words of a header's line
+words-keep : (t g : List ℕ) (nth : Option ℕ) (e : Edit) (rs : List Replacement) (f : Headers.Header Cell → List Piece) (i : Item) (F : FoundRule (classed_lines t) nth g)
+    → ((h : Headers.Header Cell) → old_length (f h) ≡ raw_length (header_units h)) → spans t e ≡ Ok rs → where_found (word_spans f) (found (classed_lines t) (Rule nth g)) ≡ rs
+    → IsLineReplaced (replaced 0 t (replacements (length (text_of F.spot.above)) (f F.header))) F.spot.above F.spot.below i
+    → insertion (classed_lines t) e ≡ None → 1 ≤ cost t e → 1 ≤ size t e → AreOthersKept t e rs
+words-keep t g nth e rs f i F l h w r q c z =
+    let s = F.spot in
+    let at = length (text_of s.above) in
+    let x : word_spans f s ≡ rs = subst (λ (o : Option Spot). where_found (word_spans f) o ≡ rs) F.found_is w in
+    let y : replacements at (f F.header) ≡ rs = sym (word_spans-header f s F.header F.class_is) ∙ x in
+    replaced-kept t e rs s i h F.whole (replaced-same _ _ s.above s.below i i (ap (replaced 0 t) y) refl r)
+    (subst (Rise at (at + length s.line.bytes)) x (spot-rises t s (header_spans f) F.whole (rise-header f l))) q c z (unconditional-class s.line.class (Class.Header F.header) F.class_is refl)
+
+-- a new prerequisite
+pub depend-keeps : (order : Bool) (nth : Option ℕ) (g w t : List ℕ) (rs : List Replacement) → spans t (AddPrereq order nth g w) ≡ Ok rs → AreOthersKept t (AddPrereq order nth g w) rs
+depend-keeps order nth g w t rs h =
+    let e = AddPrereq order nth g w in
+    let A = accepted t e rs h in
+    let F = rule-found (classed_lines t) nth g (where_holds-none _ _ A.is_there) (where_holds-none _ _ A.is_one) in
+    let word = word-is_new w (two-passed _ _ (is_target g) (is_word w) A.arguments).1 in
+    let s = F.spot in
+    words-keep t g nth e rs (add_pieces order w) _ F (add-length order w) h A.spans_are (depend-line order t s.above s.line s.below F.header w word F.whole F.class_is) refl (omega arith) (omega arith)
+
+-- a prerequisite removed
+pub undepend-keeps : (nth : Option ℕ) (g w t : List ℕ) (rs : List Replacement) → spans t (RemovePrereq nth g w) ≡ Ok rs → AreOthersKept t (RemovePrereq nth g w) rs
+undepend-keeps nth g w t rs h =
+    let e = RemovePrereq nth g w in
+    let A = accepted t e rs h in
     let F = rule-found (classed_lines t) nth g (where_holds-none _ _ A.is_there) (where_holds-none _ _ A.is_one) in
     let s = F.spot in
-    let R = recipe_run s.below in
-    let above = s.above ++ s.line ∷ R in
-    let below = after_recipe s.below in
-    let C = context_of above in
+    words-keep t g nth e rs (remove_pieces w) _ F (remove-length w) h A.spans_are (undepend-line t s.above s.line s.below F.header w F.whole F.class_is) refl (omega arith) (omega arith)
+
+-- ---- a new line at a place
+
+-- a line that can stand there
+added-keeps : (t : List ℕ) (e : Edit) (rs : List Replacement) (s : Stretch) (x : List ℕ) (k : Class) → spans t e ≡ Ok rs → insertion (classed_lines t) e ≡ Some s → new_line_span t e s ≡ rs
+    → new_text (context_of s.above).prefix e ≡ x → StandsAt t s x k → 1 ≤ cost t e → not (is_conditional k) ≡ true → AreOthersKept t e rs
+added-keeps t e rs s x k h i y n S c u =
     let E = file_line_end t in
-    let unopened : follows_open_line (Some (after_rule s)) ≡ false = subst (λ (z : Option Spot). follows_open_line (option_map after_rule z) ≡ false) F.found_is (where_holds-none _ _ A.line_closed) in
-    let leans : new_line_leans e (Some (after_rule s)) ≡ false =
-    subst (λ (z : Option Spot). new_line_leans e (option_map after_rule z) ≡ false) F.found_is (or-left_false _ _ (where_holds-none _ _ A.not_leaning)) in
-    let y : new_line_span t e (after_rule s) ≡ rs = subst (λ (z : Option Spot). where_found (new_line_span t e) (option_map after_rule z) ≡ rs) F.found_is A.spans_are in
-    let whole : classed_lines t ≡ above ++ below = after_rule-stretch (classed_lines t) s F.whole in
-    let rule = rule-context (context_of s.above) s.line F.header R (located t s.above s.line s.below F.whole).class F.class_is (recipe_run-stays s.below) in
-    let same : C ≡ context_after_lines (context_of s.above) (s.line ∷ R) = context_of-append s.above (s.line ∷ R) in
-    let f : C.flag ≡ flag.Rule = ap (λ z. z.flag) same ∙ rule.flag in
-    let d : C.defines ≡ 0 = ap (λ z. z.defines) same ∙ rule.no_define in
-    let can : CanBegin C.prefix = context-can_begin above (located-run t above [] below whole).above_classed in
-    let some = file_line_end-some t in
-    let text = C.prefix ∷ c in
-    let ended : IsEnded text E = new_line-clean text E (recipe-clean C.prefix c can k) (recipe-no_backslash C.prefix c can k) some in
-    let class : class_of C (text ++ line_end_bytes E) ≡ Class.Recipe = recipe-class_in_rule C (text ++ line_end_bytes E) d f (eq-eqb C.prefix C.prefix refl) in
-    let m : ClassedLine = record { bytes = text ++ line_end_bytes E; class = Class.Recipe } in
-    let v = missing_line_end E above below ++ (text ++ line_end_bytes E) in
-    let lines : classed_lines (replaced 0 t rs) ≡ above_ended E above below ++ m ∷ below =
-    ap (λ z. classed_lines (replaced 0 t z)) (sym y)
-    ∙ (ap classed_lines (text-inserted t above below v whole) ∙ line-added t above below text E Class.Recipe whole unopened some ended class (recipe-agrees C) leans) in
-    new_line-kept t e rs above below m v h whole y lines (after_rule s) (ap (option_map after_rule) F.found_is) (omega arith) refl
+    let m : ClassedLine = record { bytes = x ++ line_end_bytes E; class = k } in
+    let v = missing_line_end E s.above s.below ++ (new_text (context_of s.above).prefix e ++ line_end_bytes E) in
+    let lines : classed_lines (replaced 0 t rs) ≡ above_ended E s.above s.below ++ m ∷ s.below =
+    ap (λ z. classed_lines (replaced 0 t z)) (sym y) ∙ (ap classed_lines (stands-span t e s x n) ∙ stands-lines t s x k S) in
+    new_line-kept t e rs s.above s.below m v h S.whole y lines s i c u
+
+-- a new assignment
+pub assign-keeps : (p : Place) (n : List ℕ) (f : Flavor) (v t : List ℕ) (rs : List Replacement) → spans t (AddAssign p n f v) ≡ Ok rs → AreOthersKept t (AddAssign p n f v) rs
+assign-keeps p [] f v t rs h = absurd (no_name p f v t rs h)
+assign-keeps p (b ∷ n) f v t rs h =
+    let S = accepted-stands t p b n f v rs h in
+    added-keeps t (AddAssign p (b ∷ n) f v) rs S.place.stretch (assign_text (b ∷ n) f v) (Class.Assign (new_assignment (b ∷ n) f v) None) h S.place.found_is S.spans_are refl S.stands (omega arith) refl
+
+-- a new rule
+pub rule_added-keeps : (p : Place) (g : List ℕ) (c : Colons) (w t : List ℕ) (rs : List Replacement) → spans t (AddRule p g c w) ≡ Ok rs → AreOthersKept t (AddRule p g c w) rs
+rule_added-keeps p g c w t rs h =
+    let S = rule-stands p g c w t rs h in
+    added-keeps t (AddRule p g c w) rs S.stretch S.text (Class.Header S.header) h S.found_is S.spans_are S.text_is S.stands (omega arith) refl
+
+-- a new recipe line
+pub recipe_added-keeps : (nth : Option ℕ) (g c t : List ℕ) (rs : List Replacement) → spans t (AddRecipe nth g c) ≡ Ok rs → AreOthersKept t (AddRecipe nth g c) rs
+recipe_added-keeps nth g c t rs h =
+    let S = recipe_added-stands nth g c t rs h in
+    added-keeps t (AddRecipe nth g c) rs S.stretch ((context_of S.stretch.above).prefix ∷ c) Class.Recipe h S.found_is S.spans_are refl S.stands (omega arith) refl

@@ -10,6 +10,7 @@ use Rattle.mk_class.specs.Classes.{is_conditional}
 use Rattle.mk_class.specs.Contexts.{start, conditionals_after}
 use Rattle.mk_class.specs.ClassedLines.{ClassedLine, classed_lines}
 use Rattle.mk_tree.specs.Documents.{text_of, context_of, most_conditionals}
+use Rattle.mk_tree.specs.Items.{Item}
 use Rattle.mk_tree.specs.Leaning.{AgreeButForFlag}
 use Rattle.mk_tree.specs.NewLines.{above_ended, last_ended, lacks_line_end, with_line_end}
 use Rattle.mk_tree.specs.RunsReplaced.{text-run_replaced, run-removed}
@@ -23,6 +24,7 @@ use Rattle.mk_edit.specs.Costs.{cost, size}
 use Rattle.mk_edit.specs.Refusals.{spans, text_by, text_after}
 use Rattle.mk_edit.specs.RisingSpans.{Rise}
 use Rattle.mk_edit.specs.EditPlaces.{IsSpotOf, IsStretchOf}
+use Rattle.mk_edit.specs.LineReplaced.{IsLineReplaced}
 
 -- The lines above after an edit. They are as before, but that a last line without line end gets one where the edit puts a new
 -- line after it; its class stays.
@@ -62,6 +64,12 @@ line-kept t e rs s m h w k r i c z u v =
       few_gone = omega (arith, z);
       same_depth = ap (most_conditionals 0) lines ∙ (most_conditionals-run_replaced start s.above (s.line ∷ []) (m ∷ []) s.below (u, tt) (v, tt) ∙ ap (most_conditionals 0) (sym w));
     }
+
+-- so it is of a text with one line replaced
+pub replaced-kept : (t : List ℕ) (e : Edit) (rs : List Replacement) (s : Spot) (i : Item) → spans t e ≡ Ok rs → IsSpotOf (classed_lines t) s → IsLineReplaced (replaced 0 t rs) s.above s.below i
+    → Rise (length (text_of s.above)) (length (text_of s.above) + length s.line.bytes) rs
+    → insertion (classed_lines t) e ≡ None → 1 ≤ cost t e → 1 ≤ size t e → not (is_conditional s.line.class) ≡ true → AreOthersKept t e rs
+replaced-kept t e rs s i h w r q n c z u = line-kept t e rs s r.line h w r.lines q n c z u r.unconditional
 
 -- ---- lines taken out
 

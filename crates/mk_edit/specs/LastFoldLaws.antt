@@ -34,6 +34,7 @@ use Rattle.mk_class.specs.Assignments.{Assignment, assignment}
 use Rattle.mk_class.specs.AssignmentLaws.{AreValue, HasEquals, assignment-has_equals, assignment_units}
 use Rattle.mk_class.specs.AssignmentLineLaws.{before_value, AssignParts, assign_parts, cells-before, some_raw, led-same}
 use Rattle.mk_class.specs.RecipePrefix.{is_prefix_led, is_prefix_name, prefix_set_by}
+use Rattle.mk_class.specs.Arguments.{is_value}
 use Rattle.mk_class.specs.Classes.{Class}
 use Rattle.mk_class.specs.Classes.Class.{Assign}
 use Rattle.mk_class.specs.Contexts.{Context, context_after}
@@ -41,10 +42,8 @@ use Rattle.mk_class.specs.ClassTable.{class_of, class_at, plain_class, is_unread
 use Rattle.mk_class.specs.ClassLaws.{IsAssignLine, plain_class-assign, assign-plain_class, class_at-assign, has_stray-append, has_stray-left, assignment-filled}
 use Rattle.mk_class.specs.ClassedLines.{ClassedLine, classed_lines}
 use Rattle.mk_tree.specs.Documents.{text_of, context_of}
-use Rattle.mk_tree.specs.Items.{items}
 use Rattle.mk_tree.specs.Readings.{reading}
 use Rattle.mk_tree.specs.LinePlaces.{located, bytes_of}
-use Rattle.mk_tree.specs.RunsReplaced.{reading-line_replaced}
 use Rattle.mk_edit.specs.Edits.{SetValue}
 use Rattle.mk_edit.specs.ValueSpans.{set_value_span}
 use Rattle.mk_edit.specs.Refusals.{spans, text_by, text_after}
@@ -53,7 +52,8 @@ use Rattle.mk_edit.specs.Accepted.{accepted, where_holds-none}
 use Rattle.mk_edit.specs.ValueLines.{parts-units}
 use Rattle.mk_edit.specs.FoundAssignments.{assignment-found, no_prefix-set}
 use Rattle.mk_edit.specs.FoldEnds.{escape_cells, fold-ends_escaped}
-use Rattle.mk_edit.specs.SetLaws.{value-found, not_prefix, set-some}
+use Rattle.mk_edit.specs.LineReplaced.{IsLineReplaced, replaced-line, replaced-same}
+use Rattle.mk_edit.specs.SetLaws.{value-found, not_prefix, set-line, set-some}
 use Rattle.mk_edit.specs.SetEmptyLaws.{line-emptied, text-emptied, set-emptied, last-same, last_of_reverse, last-append, last-line}
 use Rattle.mk_edit.specs.declared.refusal.Refusal.TheVariants.{NoSuch}
 
@@ -341,10 +341,10 @@ nothing-no_end ends.None h = refl
 nothing-no_end ends.Lf h = cc
 nothing-no_end ends.CrLf h = cc
 
--- the law of an assignment's line, where a fold is left without its next line
+-- an assignment's line without its value, where a fold is left without its next line
 set-left : (t : List ℕ) (A : List ClassedLine) (l : ClassedLine) (B : List ClassedLine) (a : Assignment Cell)
     → classed_lines t ≡ A ++ l ∷ B → l.class ≡ Assign a None → is_prefix_name (unit_text joined_byte a.name) ≡ false → leaves_fold_last t (set_value_span [] (length (text_of A)) a) ≡ true
-    → reading (replaced 0 t (set_value_span [] (length (text_of A)) a ∷ [])) ≡ items A ++ item_with_value a (92 ∷ []) ∷ items B
+    → IsLineReplaced (replaced 0 t (set_value_span [] (length (text_of A)) a ∷ [])) A B (item_with_value a (92 ∷ []))
 set-left t A l B a h k f n =
     let c = context_of A in
     let L = located t A l B h in
@@ -366,8 +366,26 @@ set-left t A l B a h k f n =
     let text : (raw_text P ++ raw_text Q) ++ line_end_bytes e ≡ raw_text P =
     ap (λ z. (raw_text P ++ raw_text Q) ++ z) end.0 ∙ (append-nil (raw_text P ++ raw_text Q) ∙ (ap (λ z. raw_text P ++ z) none.0 ∙ append-nil (raw_text P))) in
     let ends : EndsBefore (raw_text P) (bytes_of B) = subst (λ (z : List ClassedLine). EndsBefore (raw_text P) (bytes_of z)) (sym below) tt in
-    ap reading (T.text ∙ ap (λ z. text_of A ++ (z ++ text_of B)) text)
-    ∙ reading-line_replaced t A l B (raw_text P) (Assign m None) h line.one ends class (ap (context_after c) (sym k))
+    replaced-same _ _ A B _ _ (sym (T.text ∙ ap (λ z. text_of A ++ (z ++ text_of B)) text)) refl
+    (replaced-line t A l B (raw_text P) (Assign m None) (item_with_value a (92 ∷ [])) h line.one ends class (ap (context_after c) (sym k)) refl refl)
+
+-- an assignment's line without its value
+pub set-to_nothing : (t : List ℕ) (A : List ClassedLine) (l : ClassedLine) (B : List ClassedLine) (a : Assignment Cell) → classed_lines t ≡ A ++ l ∷ B → l.class ≡ Assign a None
+    → is_prefix_name (unit_text joined_byte a.name) ≡ false
+    → IsLineReplaced (replaced 0 t (set_value_span [] (length (text_of A)) a ∷ [])) A B (item_with_value a (value_set t [] (length (text_of A)) a))
+set-to_nothing t A l B a h k f = go (leaves_fold_last t (set_value_span [] (length (text_of A)) a)) refl
+  where
+    go : (b : Bool) → leaves_fold_last t (set_value_span [] (length (text_of A)) a) ≡ b
+        → IsLineReplaced (replaced 0 t (set_value_span [] (length (text_of A)) a ∷ [])) A B (item_with_value a (value_set t [] (length (text_of A)) a))
+    go false e = replaced-same _ _ A B _ _ refl (ap (λ b. item_with_value a (cond b (92 ∷ []) [])) (sym e)) (set-emptied t A l B a h k f e)
+    go true e = replaced-same _ _ A B _ _ refl (ap (λ b. item_with_value a (cond b (92 ∷ []) [])) (sym e)) (set-left t A l B a h k f e)
+
+-- an assignment's line with another value, empty or not
+pub set-replaced : (t : List ℕ) (A : List ClassedLine) (l : ClassedLine) (B : List ClassedLine) (a : Assignment Cell) (v : List ℕ) → classed_lines t ≡ A ++ l ∷ B → l.class ≡ Assign a None
+    → is_prefix_name (unit_text joined_byte a.name) ≡ false → is_value v ≡ true
+    → IsLineReplaced (replaced 0 t (set_value_span v (length (text_of A)) a ∷ [])) A B (item_with_value a (value_set t v (length (text_of A)) a))
+set-replaced t A l B a [] h k f i = set-to_nothing t A l B a h k f
+set-replaced t A l B a (b ∷ v) h k f i = set-line t A l B a b v h k f i
 
 -- ---- the law
 
@@ -377,16 +395,8 @@ set-nothing t n nth rs h =
     let A = accepted t (SetValue nth n []) rs h in
     let F = assignment-found t n nth (where_holds-none _ NoSuch A.is_there) (where_holds-none _ _ A.is_one) (not_prefix n A.not_reserved) in
     let s = F.spot in
-    let at = length (text_of s.above) in
     ap (λ z. reading (text_by t z)) h
-    ∙ value-found t n nth rs (set_value_span []) (value_set t []) F
-    (go t s.above s.line s.below F.assigned F.whole F.class_is F.no_prefix (leaves_fold_last t (set_value_span [] at F.assigned)) refl) A.spans_are
-  where
-    go : (t : List ℕ) (A : List ClassedLine) (l : ClassedLine) (B : List ClassedLine) (a : Assignment Cell) → classed_lines t ≡ A ++ l ∷ B → l.class ≡ Assign a None
-        → is_prefix_name (unit_text joined_byte a.name) ≡ false → (b : Bool) → leaves_fold_last t (set_value_span [] (length (text_of A)) a) ≡ b
-        → reading (replaced 0 t (set_value_span [] (length (text_of A)) a ∷ [])) ≡ items A ++ item_with_value a (value_set t [] (length (text_of A)) a) ∷ items B
-    go t A l B a h k f false e = set-emptied t A l B a h k f e ∙ ap (λ b. items A ++ item_with_value a (cond b (92 ∷ []) []) ∷ items B) (sym e)
-    go t A l B a h k f true e = set-left t A l B a h k f e ∙ ap (λ b. items A ++ item_with_value a (cond b (92 ∷ []) []) ∷ items B) (sym e)
+    ∙ value-found t n nth rs (set_value_span []) (value_set t []) F (set-to_nothing t s.above s.line s.below F.assigned F.whole F.class_is F.no_prefix) A.spans_are
 
 -- the law, of each value
 pub set-reads : (nth : Option ℕ) (n v t : List ℕ) (rs : List Replacement) → spans t (SetValue nth n v) ≡ Ok rs → reading (text_after t (SetValue nth n v)) ≡ change t (SetValue nth n v)

@@ -32,6 +32,7 @@ pub mod SpotLaws
 pub mod BlankAdded
 pub mod ValueLines
 pub mod FoundAssignments
+pub mod LineReplaced
 pub mod ValueEdits
 pub mod SetLaws
 pub mod FoldEnds
@@ -47,7 +48,6 @@ pub mod NewPlaces
 pub mod NameLaws
 pub mod NewLineStands
 pub mod NewAssignLaws
-pub mod AddedLines
 pub mod NewRuleLines
 pub mod NewRules
 pub mod UndependLaws
@@ -67,6 +67,8 @@ pub mod ClassParts
 pub mod SpansRise
 pub mod KeptLines
 pub mod KeptByEdits
+pub mod KeptByRename
+pub mod KeptLaws
 pub mod TouchedLines
 pub mod Laws
 pub mod WordLaws

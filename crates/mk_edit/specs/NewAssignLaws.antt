@@ -176,7 +176,7 @@ spaced-split [] = refl
 spaced-split (b ∷ v) = refl
 
 -- the new assignment
-abbrev new_assignment : List ℕ → Flavor → List ℕ → Assignment Cell
+abbrev pub new_assignment : List ℕ → Flavor → List ℕ → Assignment Cell
 new_assignment n f v = record {
   modifiers = [];
   flavor = f;
@@ -375,12 +375,13 @@ assign-item t s b n f v h =
     ∙ ap (λ z. items s.above ++ Assign (Sets [] (b ∷ n) f z) ∷ items s.below) (unit_text-units (map Byte v) ∙ bytes-joined v))
 
 -- where an accepted one stands
-record AssignStands (t : List ℕ) (p : Place) (b : ℕ) (n : List ℕ) (f : Flavor) (v : List ℕ) (rs : List Replacement) : Type 0 where
-  place : IsNewPlace t p
-  stands : StandsAt t place.stretch (assign_text (b ∷ n) f v) (Class.Assign (new_assignment (b ∷ n) f v) None)
-  spans_are : new_line_span t (AddAssign p (b ∷ n) f v) place.stretch ≡ rs
+pub record AssignStands (t : List ℕ) (p : Place) (b : ℕ) (n : List ℕ) (f : Flavor) (v : List ℕ) (rs : List Replacement) : Type 0 where
+  pub place : IsNewPlace t p
+  pub stands : StandsAt t place.stretch (assign_text (b ∷ n) f v) (Class.Assign (new_assignment (b ∷ n) f v) None)
+  pub spans_are : new_line_span t (AddAssign p (b ∷ n) f v) place.stretch ≡ rs
 
-accepted-stands : (t : List ℕ) (p : Place) (b : ℕ) (n : List ℕ) (f : Flavor) (v : List ℕ) (rs : List Replacement) → spans t (AddAssign p (b ∷ n) f v) ≡ Ok rs → AssignStands t p b n f v rs
+-- an accepted one stands there
+pub accepted-stands : (t : List ℕ) (p : Place) (b : ℕ) (n : List ℕ) (f : Flavor) (v : List ℕ) (rs : List Replacement) → spans t (AddAssign p (b ∷ n) f v) ≡ Ok rs → AssignStands t p b n f v rs
 accepted-stands t p b n f v rs h =
     let e = AddAssign p (b ∷ n) f v in
     let A = accepted t e rs h in
@@ -397,7 +398,8 @@ accepted-stands t p b n f v rs h =
       spans_are = subst (λ (z : Option Stretch). where_found (new_line_span t e) z ≡ rs) P.found_is A.spans_are;
     }
 
-no_name : (p : Place) (f : Flavor) (v t : List ℕ) (rs : List Replacement) → spans t (AddAssign p [] f v) ≡ Ok rs → ⊥
+-- a new assignment has a name
+pub no_name : (p : Place) (f : Flavor) (v t : List ℕ) (rs : List Replacement) → spans t (AddAssign p [] f v) ≡ Ok rs → ⊥
 no_name p f v t rs h =
     let A = accepted t (AddAssign p [] f v) rs h in
     let u = three-passed field.Place field.Name field.Value (is_place p) (is_name []) (is_value v) A.arguments in

@@ -16,7 +16,9 @@ use Rattle.mk_tree.specs.Leaning.{leans, AgreeButForFlag}
 use Rattle.mk_tree.specs.NewLines.{missing_line_end, above_ended}
 use Rattle.mk_tree.specs.NewLineLaws.{file_line_end-some, line-added, reading-line_added}
 use Rattle.mk_tree.specs.RunsReplaced.{text-inserted}
+use Rattle.mk_edit.specs.Edits.{Edit}
 use Rattle.mk_edit.specs.Stretches.{Stretch}
+use Rattle.mk_edit.specs.NewLines.{new_text, new_line_span}
 
 -- a text, with the file's line end, that can stand as a line of a class at a stretch
 pub record StandsAt (t : List ℕ) (s : Stretch) (x : List ℕ) (k : Class) : Type 0 where
@@ -31,6 +33,10 @@ pub record StandsAt (t : List ℕ) (s : Stretch) (x : List ℕ) (k : Class) : Ty
 abbrev pub with_line : (t : List ℕ) → Stretch → (x : List ℕ) → List ℕ
 with_line t s x =
     replaced 0 t (record { start = length (text_of s.above); end = length (text_of s.above); new = missing_line_end (file_line_end t) s.above s.below ++ (x ++ line_end_bytes (file_line_end t)) } ∷ [])
+
+-- it is the text after an edit whose new line has this text
+pub stands-span : (t : List ℕ) (e : Edit) (s : Stretch) (x : List ℕ) → new_text (context_of s.above).prefix e ≡ x → replaced 0 t (new_line_span t e s) ≡ with_line t s x
+stands-span t e s x n = ap (with_line t s) n
 
 -- its reading gets the item of the line
 pub stands-reading : (t : List ℕ) (s : Stretch) (x : List ℕ) (k : Class) → StandsAt t s x k

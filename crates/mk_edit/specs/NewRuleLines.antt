@@ -23,7 +23,7 @@ use Rattle.mk_class.specs.Keywords.{NoKeyword, keyword, modifier_words, is_reser
 use Rattle.mk_class.specs.Assignments.{assignment}
 use Rattle.mk_class.specs.AssignmentsAtEquals.{is_no_equals}
 use Rattle.mk_class.specs.AssignmentEqualsLaws.{no_assignment, not_same}
-use Rattle.mk_class.specs.Arguments.{is_barred_byte, is_backslash_byte, is_ampersand_byte}
+use Rattle.mk_class.specs.Arguments.{is_barred_byte, is_backslash_byte, is_ampersand_byte, is_clean}
 use Rattle.mk_class.specs.Separators.{separated, has_colon, takes_assignment}
 use Rattle.mk_class.specs.Headers.{Header, header, is_rough, is_no_colon}
 use Rattle.mk_class.specs.HeadersAgain.{FitsHeader, separator_symbols, header-again, separated-again}
@@ -41,9 +41,13 @@ use Rattle.mk_edit.specs.NewLines.{each_spaced, joined_by_space, colons_text}
 use Rattle.mk_edit.specs.Changes.{separator_of}
 use Rattle.mk_edit.specs.declared.edit.Colons.{Colons}
 use Rattle.mk_edit.specs.declared.edit.Colons.TheVariants.{One, Two}
-use Rattle.mk_edit.specs.AddedLines.{IsLineText}
 use Rattle.mk_edit.specs.HeadWords.{last-more}
 use Rattle.mk_edit.specs.NewWords.{is_rule_unit, rule_units-bland, cell_units, cell_units-text, clean-no_stray, IsNewWord, target-no_ampersand}
+
+-- a text that a line may have: no LF, CR or NUL, and no backslash last
+pub record IsLineText (x : List ℕ) : Type 0 where
+  pub clean : is_clean x ≡ true
+  pub no_backslash : last_passes is_backslash_byte x ≡ false
 
 -- ---- a word that is no directive
 

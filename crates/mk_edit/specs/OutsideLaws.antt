@@ -1,11 +1,14 @@
 -- Laws of what an edit leaves: the bytes outside its spans, and the lines that these do not touch; each the contract of a public
 -- function.
-use Rattle.std.specs.Prelude.{◌≡◌, ℕ, List, ◌∷◌, Option, Ok}
+use Rattle.std.specs.Prelude.{◌≡◌, ℕ, List, Bool, Option, Ok}
 use Rattle.mk_lines.specs.Pieces.{Replacement}
-use Rattle.mk_edit.specs.Edits.{Edit, SetValue, RemoveAssign, RemoveRule, AddRecipe, RemoveRecipe}
+use Rattle.mk_edit.specs.Edits.{Edit, Place, SetValue, AppendValue, AddAssign, AddRule, RemoveAssign, RemoveRule, AddPrereq, RemovePrereq, AddRecipe, SetRecipe, RemoveRecipe, RenameTarget}
+use Rattle.mk_class.specs.declared.assignment.Flavor.{Flavor}
+use Rattle.mk_edit.specs.declared.edit.Colons.{Colons}
 use Rattle.mk_edit.specs.RisingSpans.{IsReplacedAt}
 use Rattle.mk_edit.specs.TouchedLines.{IsOfOnePlace, TouchFew}
 use Rattle.mk_edit.specs.KeptLines.{AreOthersKept}
+use Rattle.mk_edit.specs.KeptByRename.{AreOthersKeptByRename}
 use Rattle.mk_edit.specs.Refusals.{spans, text_after}
 
 -- the spans of an edit rise within the text and do not overlap, and the bytes outside them are as before
@@ -20,9 +23,33 @@ SpansTouchFewLines = (text : List ℕ) (e : Edit) (replacements : List Replaceme
 abbrev pub KeepsOthers : Edit → Type 0
 KeepsOthers e = (text : List ℕ) (replacements : List Replacement) → spans text e ≡ Ok replacements → AreOthersKept text e replacements
 
--- so it is of an edit of a value to one that is not empty
+-- so it is of an edit of a value
 abbrev pub SetKeepsOthers : Type 0
-SetKeepsOthers = (nth : Option ℕ) (name : List ℕ) (first : ℕ) (rest : List ℕ) → KeepsOthers (SetValue nth name (first ∷ rest))
+SetKeepsOthers = (nth : Option ℕ) (name value : List ℕ) → KeepsOthers (SetValue nth name value)
+
+-- of a text appended to a value
+abbrev pub AppendKeepsOthers : Type 0
+AppendKeepsOthers = (nth : Option ℕ) (name value : List ℕ) → KeepsOthers (AppendValue nth name value)
+
+-- of a recipe line changed
+abbrev pub RecipeSetKeepsOthers : Type 0
+RecipeSetKeepsOthers = (nth : Option ℕ) (target : List ℕ) (number : ℕ) (command : List ℕ) → KeepsOthers (SetRecipe nth target number command)
+
+-- of a new prerequisite
+abbrev pub DependKeepsOthers : Type 0
+DependKeepsOthers = (order : Bool) (nth : Option ℕ) (target word : List ℕ) → KeepsOthers (AddPrereq order nth target word)
+
+-- of a prerequisite removed
+abbrev pub UndependKeepsOthers : Type 0
+UndependKeepsOthers = (nth : Option ℕ) (target word : List ℕ) → KeepsOthers (RemovePrereq nth target word)
+
+-- of a new assignment
+abbrev pub AssignKeepsOthers : Type 0
+AssignKeepsOthers = (place : Place) (name : List ℕ) (flavor : Flavor) (value : List ℕ) → KeepsOthers (AddAssign place name flavor value)
+
+-- of a new rule
+abbrev pub RuleAddedKeepsOthers : Type 0
+RuleAddedKeepsOthers = (place : Place) (targets : List ℕ) (colons : Colons) (prereqs : List ℕ) → KeepsOthers (AddRule place targets colons prereqs)
 
 -- of an assignment removed
 abbrev pub UnsetKeepsOthers : Type 0
@@ -39,3 +66,16 @@ RecipeRemovedKeepsOthers = (nth : Option ℕ) (target : List ℕ) (number : ℕ)
 -- and of a new recipe line
 abbrev pub RecipeAddedKeepsOthers : Type 0
 RecipeAddedKeepsOthers = (nth : Option ℕ) (target command : List ℕ) → KeepsOthers (AddRecipe nth target command)
+
+-- a rename leaves the lines that hold no word which it replaces, and opens no conditional
+abbrev pub RenameKeepsOthers : Type 0
+RenameKeepsOthers = (old new text : List ℕ) (replacements : List Replacement) → spans text (RenameTarget old new) ≡ Ok replacements → AreOthersKeptByRename old new text replacements
+
+-- what an edit leaves: of a rename, which may touch lines that stand apart, as above
+abbrev pub LeavesOthers : Edit → Type 0
+LeavesOthers (RenameTarget old new) = (text : List ℕ) (replacements : List Replacement) → spans text (RenameTarget old new) ≡ Ok replacements → AreOthersKeptByRename old new text replacements
+LeavesOthers e = KeepsOthers e
+
+-- each edit leaves the lines that its spans do not touch
+abbrev pub EditsKeepOthers : Type 0
+EditsKeepOthers = (edit : Edit) → LeavesOthers edit

@@ -12,17 +12,15 @@ use Rattle.mk_lines.specs.LineLaws.{OneLine, Ends, EndsBefore}
 use Rattle.mk_lines.specs.LineEndLaws.{KeepsApart, FirstIsNot, without_line_end-line_end, without_line_end-append, Ends-ends_line}
 use Rattle.mk_lines.specs.LineOfCells.{IsClean, one_line-of_cells}
 use Rattle.mk_lines.specs.CellLaws.{raw_text-bytes}
-use Rattle.mk_lines.specs.Cells.{Cell, Byte, joined_byte, cells, line_cells}
+use Rattle.mk_lines.specs.Cells.{Byte, joined_byte, cells, line_cells}
 use Rattle.mk_lines.specs.Units.{units}
 use Rattle.mk_lines.specs.LineCells.{or-left_false, AreLineCells-cells, bytes-are_line_cells, HasNoLineEnd, is_no_line_end_kind}
-use Rattle.mk_lines.specs.LineEndAdded.{IsEnded}
 use Rattle.mk_lines.specs.Pieces.{Replacement, replaced}
 use Rattle.mk_lines.specs.declared.ends.End.{End}
 use Rattle.mk_lines.specs.declared.ends.End.TheVariants as ends
 use Rattle.mk_class.specs.Lists.{any, last_passes}
 use Rattle.mk_class.specs.RecipePrefix.{is_prefix_led}
 use Rattle.mk_class.specs.Arguments.{is_barred_byte, is_backslash_byte, is_clean, is_command, is_target}
-use Rattle.mk_class.specs.Headers.{Header}
 use Rattle.mk_class.specs.Classes.{Class, is_recipe}
 use Rattle.mk_class.specs.Contexts.{Context, context_after}
 use Rattle.mk_class.specs.ClassTable.{class_of, class_at}
@@ -33,13 +31,12 @@ use Rattle.mk_tree.specs.Items.{items, Recipe}
 use Rattle.mk_tree.specs.Readings.{reading}
 use Rattle.mk_tree.specs.RecipeLines.{recipe_run, after_recipe}
 use Rattle.mk_tree.specs.LinePlaces.{located, bytes_of, located-run, context_of-append}
-use Rattle.mk_tree.specs.NewLineLaws.{file_line_end-some, new_line-clean, clean-no_line_end, reading-line_added}
+use Rattle.mk_tree.specs.NewLineLaws.{file_line_end-some, new_line-clean, clean-no_line_end}
 use Rattle.mk_tree.specs.SpansInLines.{text-span_replaced}
-use Rattle.mk_tree.specs.RunsReplaced.{reading-line_replaced}
 use Rattle.mk_tree.specs.RecipeRunLaws.{rule-context, recipe_run-after, recipe_run-stays, recipe-agrees}
-use Rattle.mk_edit.specs.Edits.{AddRecipe, SetRecipe}
+use Rattle.mk_edit.specs.Edits.{Edit, AddRecipe, SetRecipe}
 use Rattle.mk_edit.specs.Spots.{Spot}
-use Rattle.mk_edit.specs.Stretches.{after_rule}
+use Rattle.mk_edit.specs.Stretches.{Stretch, after_rule, insertion}
 use Rattle.mk_edit.specs.NewLines.{new_line_span}
 use Rattle.mk_edit.specs.Spans.{where_found, recipe_span}
 use Rattle.mk_edit.specs.LineCauses.{follows_open_line, new_line_leans}
@@ -47,6 +44,8 @@ use Rattle.mk_edit.specs.Refusals.{spans, text_by, text_after}
 use Rattle.mk_edit.specs.Changes.{change, with_item, with_items}
 use Rattle.mk_edit.specs.Accepted.{accepted, where_holds-none, two-passed}
 use Rattle.mk_edit.specs.SpotLaws.{rule-found, recipe-found, recipe-class}
+use Rattle.mk_edit.specs.NewLineStands.{StandsAt, stands-reading}
+use Rattle.mk_edit.specs.LineReplaced.{IsLineReplaced, replaced-line, replaced-same}
 use Rattle.mk_edit.specs.RecipeClassLaws.{StandsInRule, recipe-stands}
 use Rattle.mk_edit.specs.PrefixLaws.{CanBegin, context-can_begin}
 use Rattle.mk_edit.specs.declared.refusal.Field.TheVariants as field
@@ -80,46 +79,59 @@ recipe-class_in_rule c l d f p =
 
 -- ---- a new recipe line
 
-recipe-added : (t : List ℕ) (s : Spot) (x : Header Cell) (nth : Option ℕ) (g c : List ℕ)
-    → classed_lines t ≡ s.above ++ s.line ∷ s.below → s.line.class ≡ Class.Header x → is_command c ≡ true
-    → follows_open_line (Some (after_rule s)) ≡ false → new_line_leans (AddRecipe nth g c) (Some (after_rule s)) ≡ false
-    → reading (replaced 0 t (new_line_span t (AddRecipe nth g c) (after_rule s))) ≡ with_item (Recipe c) (after_rule s)
-recipe-added t s x nth g c w h k unopened leans =
+-- where the new line of a rule's recipe stands
+pub record RecipeStands (t c : List ℕ) (e : Edit) (rs : List Replacement) : Type 0 where
+  pub stretch : Stretch
+  pub found_is : insertion (classed_lines t) e ≡ Some stretch
+  pub stands : StandsAt t stretch ((context_of stretch.above).prefix ∷ c) Class.Recipe
+  pub spans_are : new_line_span t e stretch ≡ rs
+
+-- an accepted one stands there
+pub recipe_added-stands : (nth : Option ℕ) (g c t : List ℕ) (rs : List Replacement) → spans t (AddRecipe nth g c) ≡ Ok rs → RecipeStands t c (AddRecipe nth g c) rs
+recipe_added-stands nth g c t rs h =
+    let e = AddRecipe nth g c in
+    let A = accepted t e rs h in
+    let k : is_command c ≡ true = (two-passed field.Target field.Line (is_target g) (is_command c) A.arguments).1 in
+    let F = rule-found (classed_lines t) nth g (where_holds-none _ NoSuch A.is_there) (where_holds-none _ _ A.is_one) in
+    let s = F.spot in
     let R = recipe_run s.below in
     let above = s.above ++ s.line ∷ R in
     let below = after_recipe s.below in
     let C = context_of above in
-    let e = file_line_end t in
+    let E = file_line_end t in
     let whole : classed_lines t ≡ above ++ below =
-    w ∙ (ap (λ z. s.above ++ s.line ∷ z) (sym (recipe_run-after s.below)) ∙ sym (append_assoc s.above (s.line ∷ R) below)) in
-    let rule = rule-context (context_of s.above) s.line x R (located t s.above s.line s.below w).class h (recipe_run-stays s.below) in
+    F.whole ∙ (ap (λ z. s.above ++ s.line ∷ z) (sym (recipe_run-after s.below)) ∙ sym (append_assoc s.above (s.line ∷ R) below)) in
+    let rule = rule-context (context_of s.above) s.line F.header R (located t s.above s.line s.below F.whole).class F.class_is (recipe_run-stays s.below) in
     let same : C ≡ context_after_lines (context_of s.above) (s.line ∷ R) = context_of-append s.above (s.line ∷ R) in
     let f : C.flag ≡ flag.Rule = ap (λ z. z.flag) same ∙ rule.flag in
     let d : C.defines ≡ 0 = ap (λ z. z.defines) same ∙ rule.no_define in
     let can : CanBegin C.prefix = context-can_begin above (located-run t above [] below whole).above_classed in
-    let n = file_line_end-some t in
     let text = C.prefix ∷ c in
-    let ended : IsEnded text e = new_line-clean text e (recipe-clean C.prefix c can k) (recipe-no_backslash C.prefix c can k) n in
-    let class : class_of C (text ++ line_end_bytes e) ≡ Class.Recipe = recipe-class_in_rule C (text ++ line_end_bytes e) d f (eq-eqb C.prefix C.prefix refl) in
-    reading-line_added t above below text e Class.Recipe whole unopened n ended class (recipe-agrees C) leans
-    ∙ ap (λ z. items above ++ Recipe (drop 1 z) ∷ items below) ended.same_text
+    record {
+      stretch = after_rule s;
+      found_is = ap (option_map after_rule) F.found_is;
+      stands = record {
+        whole = whole;
+        not_open = subst (λ (z : Option Spot). follows_open_line (option_map after_rule z) ≡ false) F.found_is (where_holds-none _ OpenLine A.line_closed);
+        ended = new_line-clean text E (recipe-clean C.prefix c can k) (recipe-no_backslash C.prefix c can k) (file_line_end-some t);
+        class = recipe-class_in_rule C (text ++ line_end_bytes E) d f (eq-eqb C.prefix C.prefix refl);
+        agrees = recipe-agrees C;
+        not_leaning = subst (λ (z : Option Spot). new_line_leans e (option_map after_rule z) ≡ false) F.found_is (or-left_false _ _ (where_holds-none _ Leans A.not_leaning));
+      };
+      spans_are = subst (λ (z : Option Spot). where_found (new_line_span t e) (option_map after_rule z) ≡ rs) F.found_is A.spans_are;
+    }
 
 -- the law of a new recipe line
 pub recipe_added-reads : (nth : Option ℕ) (g c t : List ℕ) (rs : List Replacement) → spans t (AddRecipe nth g c) ≡ Ok rs
     → reading (text_after t (AddRecipe nth g c)) ≡ change t (AddRecipe nth g c)
 recipe_added-reads nth g c t rs h =
-    let A = accepted t (AddRecipe nth g c) rs h in
-    let u = two-passed field.Target field.Line (is_target g) (is_command c) A.arguments in
-    let F = rule-found (classed_lines t) nth g (where_holds-none _ NoSuch A.is_there) (where_holds-none _ _ A.is_one) in
-    let s = F.spot in
-    let e = AddRecipe nth g c in
-    let unopened : follows_open_line (Some (after_rule s)) ≡ false = subst (λ (z : Option Spot). follows_open_line (option_map after_rule z) ≡ false) F.found_is (where_holds-none _ OpenLine A.line_closed) in
-    let leans : new_line_leans e (Some (after_rule s)) ≡ false =
-    subst (λ (z : Option Spot). new_line_leans e (option_map after_rule z) ≡ false) F.found_is (or-left_false _ _ (where_holds-none _ Leans A.not_leaning)) in
-    let y : new_line_span t e (after_rule s) ≡ rs = subst (λ (z : Option Spot). where_found (new_line_span t e) (option_map after_rule z) ≡ rs) F.found_is A.spans_are in
-    let z : change t e ≡ with_item (Recipe c) (after_rule s) = ap (λ (o : Option Spot). where_found (with_item (Recipe c)) (option_map after_rule o)) F.found_is in
+    let S = recipe_added-stands nth g c t rs h in
+    let s = S.stretch in
+    let z : change t (AddRecipe nth g c) ≡ with_item (Recipe c) s = ap (where_found (with_item (Recipe c))) S.found_is in
     ap (λ q. reading (text_by t q)) h
-    ∙ (ap (λ q. reading (replaced 0 t q)) (sym y) ∙ (recipe-added t s F.header nth g c F.whole F.class_is u.1 unopened leans ∙ sym z))
+    ∙ (ap (λ q. reading (replaced 0 t q)) (sym S.spans_are)
+    ∙ (stands-reading t s ((context_of s.above).prefix ∷ c) Class.Recipe S.stands
+    ∙ (ap (λ q. items s.above ++ Recipe (drop 1 q) ∷ items s.below) S.stands.ended.same_text ∙ sym z)))
 
 -- ---- a recipe line changed
 
@@ -169,8 +181,9 @@ keeps-apart ends.None x h = first-not LineFeed (reverse x) refl (each-reverse (�
 keeps-apart ends.Lf x h = first-not CarriageReturn (reverse x) refl (each-reverse (λ b. is_no_line_end_kind (byte_kind b)) x h)
 keeps-apart ends.CrLf x h = tt
 
-recipe-set : (t : List ℕ) (s : Spot) (c : List ℕ) → classed_lines t ≡ s.above ++ s.line ∷ s.below → is_recipe s.line.class ≡ true → is_command c ≡ true
-    → reading (replaced 0 t (recipe_span c s)) ≡ with_items (Recipe c ∷ []) s
+-- the line of a recipe with another command
+pub recipe-set : (t : List ℕ) (s : Spot) (c : List ℕ) → classed_lines t ≡ s.above ++ s.line ∷ s.below → is_recipe s.line.class ≡ true → is_command c ≡ true
+    → IsLineReplaced (replaced 0 t (recipe_span c s)) s.above s.below (Recipe c)
 recipe-set t s c w r k =
     let C = context_of s.above in
     let l = s.line.bytes in
@@ -195,9 +208,8 @@ recipe-set t s c w r k =
     let class : class_of C m ≡ Class.Recipe = recipe-class_in_rule C m R.stands.no_define R.stands.in_rule (eq-eqb p p refl) in
     let context : context_after C Class.Recipe ≡ context_after C s.line.class = ap (context_after C) (sym (recipe-class s.line.class r)) in
     let read : without_line_end m ≡ x = without_line_end-append x e (keeps-apart e x (clean-no_line_end x clean)) in
-    ap reading text
-    ∙ (reading-line_replaced t s.above s.line s.below m Class.Recipe w one ends class context
-    ∙ ap (λ z. items s.above ++ Recipe (drop 1 z) ∷ items s.below) read)
+    replaced-same _ _ s.above s.below _ _ (sym text) refl
+    (replaced-line t s.above s.line s.below m Class.Recipe (Recipe c) w one ends class context refl (ap (λ z. Recipe (drop 1 z) ∷ []) read))
 
 -- the law of a recipe line changed
 pub recipe_set-reads : (nth : Option ℕ) (g : List ℕ) (k : ℕ) (c t : List ℕ) (rs : List Replacement) → spans t (SetRecipe nth g k c) ≡ Ok rs
@@ -210,4 +222,4 @@ recipe_set-reads nth g k c t rs h =
     let y : recipe_span c s ≡ rs = subst (λ (z : Option Spot). where_found (recipe_span c) z ≡ rs) F.found_is A.spans_are in
     let z : change t (SetRecipe nth g k c) ≡ with_items (Recipe c ∷ []) s = ap (where_found (with_items (Recipe c ∷ []))) F.found_is in
     ap (λ q. reading (text_by t q)) h
-    ∙ (ap (λ q. reading (replaced 0 t q)) (sym y) ∙ (recipe-set t s c F.whole F.is_recipe_line u.1 ∙ sym z))
+    ∙ (ap (λ q. reading (replaced 0 t q)) (sym y) ∙ ((recipe-set t s c F.whole F.is_recipe_line u.1).reads ∙ sym z))

@@ -18,7 +18,7 @@ use Rattle.mk_tree.specs.Items
 use Rattle.mk_tree.specs.Items.{items, items_of_line, assigned}
 use Rattle.mk_tree.specs.Readings.{reading}
 use Rattle.mk_tree.specs.SpansInLines.{after_pieces, BeginWithPieces, line_replacements}
-use Rattle.mk_tree.specs.EachReplaced.{ReplacesLine, ReplaceEach, EachInContext, replace-each, lines-in_place, with_pieces, reading-all_pieces_replaced}
+use Rattle.mk_tree.specs.EachReplaced.{ReplacesLine, ReplaceEach, EachInContext, replace-each, lines-in_place, with_pieces, all_pieces-replaced}
 use Rattle.mk_edit.specs.AddressCauses.{begins_renamed_line, begins_some_renamed_line}
 use Rattle.mk_edit.specs.WordPieces.{renamed_pieces}
 use Rattle.mk_edit.specs.Spans.{renamed_spans}
@@ -113,6 +113,14 @@ context-renamed o n c Class.Endif = refl
 context-renamed o n c Class.Directive = refl
 context-renamed o n c Class.Rough = refl
 
+-- What is known of the lines of a text after a rename: the lines before it begin with its pieces, each can be replaced by the line
+-- with these replaced, and so they are.
+pub record AreLinesRenamed (o n t : List ℕ) : Type 0 where
+  pub begin : BeginWithPieces (λ l. renamed_pieces o n l.class) (classed_lines t)
+  pub each : ReplaceEach start (classed_lines t) (map (with_pieces (λ l. renamed_pieces o n l.class) (λ l. renamed_class o n l.class)) (classed_lines t)) []
+  pub spans_are : renamed_spans o n 0 (classed_lines t) ≡ line_replacements (λ l. renamed_pieces o n l.class) 0 (classed_lines t)
+  pub lines : classed_lines (replaced 0 t (renamed_spans o n 0 (classed_lines t))) ≡ map (with_pieces (λ l. renamed_pieces o n l.class) (λ l. renamed_class o n l.class)) (classed_lines t)
+
 module _ (o n : List ℕ) (new : IsNewTarget o n) (all : (k : Class) → AreRenamed o n k) where
   -- the pieces of a line, and its class after the rename
   abbrev line_pieces : ClassedLine → List Piece
@@ -179,13 +187,22 @@ module _ (o n : List ℕ) (new : IsNewTarget o n) (all : (k : Class) → AreRena
       ap (λ z. z ++ items (map (with_pieces line_pieces line_class) ls)) (line-item l.class l.bytes)
       ∙ (ap (λ z. map (renamed_item o n) (items_of_line l.class l.bytes) ++ z) (lines-items ls) ∙ sym (map-append (renamed_item o n) (items_of_line l.class l.bytes) (items ls)))
 
-  -- A text after a rename, which begins no line with the prefix, reads as before with the new word for the old.
-  pub reading-renamed : (t : List ℕ) → begins_some_renamed_line o n start (classed_lines t) ≡ false
-      → reading (replaced 0 t (renamed_spans o n 0 (classed_lines t))) ≡ map (renamed_item o n) (reading t)
-  reading-renamed t h =
+  -- so it is of a text where the rename begins no line with the prefix
+  pub lines-renamed : (t : List ℕ) → begins_some_renamed_line o n start (classed_lines t) ≡ false → AreLinesRenamed o n t
+  lines-renamed t h =
       let ls = classed_lines t in
       let F = free start ls h in
       let S = lines-in_place t in
-      ap (λ z. reading (replaced 0 t z)) (spans-are 0 ls)
-      ∙ (reading-all_pieces_replaced line_pieces line_class t (begins start ls F S) (replace-each FreeOfPrefix (with_pieces line_pieces line_class) replaces start ls [] F S)
-      ∙ lines-items ls)
+      let b = begins start ls F S in
+      let e = replace-each FreeOfPrefix (with_pieces line_pieces line_class) replaces start ls [] F S in
+      record {
+        begin = b;
+        each = e;
+        spans_are = spans-are 0 ls;
+        lines = ap (λ z. classed_lines (replaced 0 t z)) (spans-are 0 ls) ∙ all_pieces-replaced line_pieces line_class t b e;
+      }
+
+  -- A text after a rename, which begins no line with the prefix, reads as before with the new word for the old.
+  pub reading-renamed : (t : List ℕ) → begins_some_renamed_line o n start (classed_lines t) ≡ false
+      → reading (replaced 0 t (renamed_spans o n 0 (classed_lines t))) ≡ map (renamed_item o n) (reading t)
+  reading-renamed t h = ap items (lines-renamed t h).lines ∙ lines-items (classed_lines t)

@@ -39,14 +39,13 @@ use Rattle.mk_class.specs.ClassTable.{class_of}
 use Rattle.mk_class.specs.ClassLaws.{plain_class-assign, class_at-assign, has_stray-left, has_stray-right, readable-are_line_cells}
 use Rattle.mk_class.specs.ClassedLines.{ClassedLine, classed_lines}
 use Rattle.mk_tree.specs.Documents.{text_of, context_of}
-use Rattle.mk_tree.specs.Items.{items}
-use Rattle.mk_tree.specs.Readings.{reading}
 use Rattle.mk_tree.specs.LinePlaces.{located, bytes_of}
 use Rattle.mk_edit.specs.ValueSpans.{set_value_span, raw_length, value_start, blanks_end}
 use Rattle.mk_edit.specs.Changes.{item_with_value, leaves_fold_last}
 use Rattle.mk_edit.specs.ValueLines.{IsValue, IsValueLine, with_cells, cells_with, line_of, parts-cells, value-line_of, line_of-some}
 use Rattle.mk_edit.specs.FoundAssignments.{no_prefix-set}
-use Rattle.mk_edit.specs.ValueEdits.{text-replaced_in_line, reading-value_replaced}
+use Rattle.mk_edit.specs.LineReplaced.{IsLineReplaced, replaced-same}
+use Rattle.mk_edit.specs.ValueEdits.{text-replaced_in_line, value-replaced}
 
 -- ---- what stays after the value
 
@@ -269,10 +268,10 @@ text-emptied t A l B a Q h cells_are =
       leaves = ap (λ z. last_passes (λ b. b == 10) z && is_empty (drop (blanks_end at a) t)) front ∙ ap (λ z. last_passes (λ b. b == 10) (text_of A ++ raw_text P) && is_empty z) back;
     }
 
--- the law of an assignment's line, where no fold is left without its next line
+-- an assignment's line without its value, where no fold is left without its next line
 pub set-emptied : (t : List ℕ) (A : List ClassedLine) (l : ClassedLine) (B : List ClassedLine) (a : Assignment Cell)
     → classed_lines t ≡ A ++ l ∷ B → l.class ≡ Assign a None → is_prefix_name (unit_text joined_byte a.name) ≡ false → leaves_fold_last t (set_value_span [] (length (text_of A)) a) ≡ false
-    → reading (replaced 0 t (set_value_span [] (length (text_of A)) a ∷ [])) ≡ items A ++ item_with_value a [] ∷ items B
+    → IsLineReplaced (replaced 0 t (set_value_span [] (length (text_of A)) a ∷ [])) A B (item_with_value a [])
 set-emptied t A l B a h k f n =
     let c = context_of A in
     let L = located t A l B h in
@@ -290,9 +289,9 @@ set-emptied t A l B a h k f n =
     no_line_feed-last (text_of A) (raw_text P) g in
     let line = M.line free in
     let bytes : (raw_text P ++ raw_text Q) ++ line_end_bytes e ≡ m = ap (λ z. z ++ line_end_bytes e) (sym (raw_text-append P Q)) in
-    ap reading (T.text ∙ ap (λ z. text_of A ++ (z ++ text_of B)) bytes)
-    ∙ reading-value_replaced t A l B a m [] [] [] h k line.one line.ends
-    (line.class ∙ ap (Assign (with_cells a [] [])) (no_prefix-set (nat_lt 0 c.conditionals) (with_cells a [] []) f)) refl
+    replaced-same _ _ A B _ _ (sym (T.text ∙ ap (λ z. text_of A ++ (z ++ text_of B)) bytes)) refl
+    (value-replaced t A l B a m [] [] [] h k line.one line.ends
+    (line.class ∙ ap (Assign (with_cells a [] [])) (no_prefix-set (nat_lt 0 c.conditionals) (with_cells a [] []) f)) refl)
   where
     go : (b : Bool) → (b && true) ≡ false → b ≡ false
     go true e = cc

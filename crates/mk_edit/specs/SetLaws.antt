@@ -31,7 +31,8 @@ use Rattle.mk_edit.specs.Changes.{change, item_with_value, value_item, with_valu
 use Rattle.mk_edit.specs.Causes.{where_holds}
 use Rattle.mk_edit.specs.Accepted.{accepted, where_holds-none, two-passed}
 use Rattle.mk_edit.specs.FoundAssignments.{FoundAssignment, assignment-found, no_prefix-set}
-use Rattle.mk_edit.specs.ValueEdits.{text-replaced_in_line, reading-value_replaced}
+use Rattle.mk_edit.specs.LineReplaced.{IsLineReplaced, replaced-same}
+use Rattle.mk_edit.specs.ValueEdits.{text-replaced_in_line, value-replaced}
 use Rattle.mk_edit.specs.declared.refusal.Field.TheVariants as field
 use Rattle.mk_edit.specs.declared.refusal.Refusal.TheVariants.{NoSuch, Reserved}
 
@@ -44,9 +45,10 @@ bytes-joined (b ∷ v) = ap (λ z. b ∷ z) (bytes-joined v)
 pub unit_text-units : (cs : List Cell) → unit_text joined_byte (units joined_byte cs) ≡ map joined_byte cs
 unit_text-units cs = ap (map joined_byte) (concat-units joined_byte cs)
 
-set-line : (t : List ℕ) (A : List ClassedLine) (l : ClassedLine) (B : List ClassedLine) (a : Assignment Cell) (b : ℕ) (v : List ℕ)
+-- an assignment's line with a value that is not empty
+pub set-line : (t : List ℕ) (A : List ClassedLine) (l : ClassedLine) (B : List ClassedLine) (a : Assignment Cell) (b : ℕ) (v : List ℕ)
     → classed_lines t ≡ A ++ l ∷ B → l.class ≡ Assign a None → is_prefix_name (unit_text joined_byte a.name) ≡ false → is_value (b ∷ v) ≡ true
-    → reading (replaced 0 t (set_value_span (b ∷ v) (length (text_of A)) a ∷ [])) ≡ items A ++ item_with_value a (b ∷ v) ∷ items B
+    → IsLineReplaced (replaced 0 t (set_value_span (b ∷ v) (length (text_of A)) a ∷ [])) A B (item_with_value a (b ∷ v))
 set-line t A l B a b v h k f i =
     let c = context_of A in
     let L = located t A l B h in
@@ -54,15 +56,14 @@ set-line t A l B a b v h k f i =
     let at = length (text_of A) in
     let text = text-replaced_in_line t A l B (concat (before_value a)) (concat a.value) (concat (a.after ++ w.parts.rest)) (b ∷ v) (value_start at a) (value_end at a) h w.parts.cells_are refl refl in
     let m = line_with a w.parts.rest (b ∷ v) (line_end_bytes (line_end l.bytes)) in
-    ap reading text
-    ∙ reading-value_replaced t A l B a m (map Byte (b ∷ v)) a.after (b ∷ v) h k w.line.one w.line.ends
+    replaced-same _ _ A B _ _ (sym text) refl
+    (value-replaced t A l B a m (map Byte (b ∷ v)) a.after (b ∷ v) h k w.line.one w.line.ends
     (w.class ∙ ap (Assign (with_text a (b ∷ v))) (no_prefix-set (nat_lt 0 c.conditionals) (with_text a (b ∷ v)) f))
-    (unit_text-units (map Byte (b ∷ v)) ∙ bytes-joined (b ∷ v))
+    (unit_text-units (map Byte (b ∷ v)) ∙ bytes-joined (b ∷ v)))
 
 -- what the law says, where the assignment is found
 pub value-found : (t n : List ℕ) (nth : Option ℕ) (rs : List Replacement) (span : ℕ → Assignment Cell → Replacement) (value : ℕ → Assignment Cell → List ℕ) → (F : FoundAssignment t n nth)
-    → reading (replaced 0 t (span (length (text_of F.spot.above)) F.assigned ∷ []))
-    ≡ items F.spot.above ++ item_with_value F.assigned (value (length (text_of F.spot.above)) F.assigned) ∷ items F.spot.below
+    → IsLineReplaced (replaced 0 t (span (length (text_of F.spot.above)) F.assigned ∷ [])) F.spot.above F.spot.below (item_with_value F.assigned (value (length (text_of F.spot.above)) F.assigned))
     → where_found (value_span span) (found (classed_lines t) (Variable nth n)) ≡ rs
     → reading (replaced 0 t rs) ≡ where_found (with_value value) (found (classed_lines t) (Variable nth n))
 value-found t n nth rs span value F r h =
@@ -73,7 +74,7 @@ value-found t n nth rs span value F r h =
     let z : where_found (with_value value) (found (classed_lines t) (Variable nth n)) ≡ with_items (value_item value at s.line.class) s = ap (where_found (with_value value)) F.found_is in
     let w : with_items (value_item value at s.line.class) s ≡ items s.above ++ item_with_value F.assigned (value at F.assigned) ∷ items s.below =
     ap (λ (k : Class). with_items (value_item value at k) s) F.class_is in
-    ap (λ q. reading (replaced 0 t q)) (sym y) ∙ (r ∙ (sym w ∙ sym z))
+    ap (λ q. reading (replaced 0 t q)) (sym y) ∙ (r.reads ∙ (sym w ∙ sym z))
 
 -- an edit that names one variable and no target, and is not refused as Reserved, does not name the prefix
 pub not_prefix : (n : List ℕ) → where_holds ((is_prefix_name n || false) || false) Reserved ≡ None → is_prefix_name n ≡ false

@@ -146,7 +146,7 @@ value-rises t s f h g = spot-rises t s (assignment_span f) h (rise-value f g)
 -- ---- words
 
 -- how many bytes pieces have before
-abbrev old_length : List Piece → ℕ
+abbrev pub old_length : List Piece → ℕ
 old_length ps = length (old_bytes ps)
 
 old_length-append : (ps qs : List Piece) → old_length (ps ++ qs) ≡ old_length ps + old_length qs

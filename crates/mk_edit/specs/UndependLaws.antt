@@ -35,7 +35,8 @@ use Rattle.mk_edit.specs.WordsRemoved.{kept_tokens, removed-new_cells, removed-o
 use Rattle.mk_edit.specs.DirectiveWords.{alike-itself}
 use Rattle.mk_edit.specs.HeaderParts.{IsPartUnit, part-head, HeaderKnown, is_bar_glued, is_no_gap, FitIn, with_parts}
 use Rattle.mk_edit.specs.HeaderChanges.{header-cells, FitAsCells, header-here, same-not_led}
-use Rattle.mk_edit.specs.HeaderEdits.{header_pieces-new, header_pieces-whole, kept-old, kept-new, reading-pieces_replaced, fits-bar_again, lists-end, list-cells, word_spans-header, with_header-header}
+use Rattle.mk_edit.specs.LineReplaced.{IsLineReplaced, replaced-same}
+use Rattle.mk_edit.specs.HeaderEdits.{header_pieces-new, header_pieces-whole, kept-old, kept-new, header-replaced, fits-bar_again, lists-end, list-cells, word_spans-header, with_header-header}
 use Rattle.mk_edit.specs.declared.refusal.Refusal.TheVariants.{NoSuch}
 
 -- ---- a list of prerequisites
@@ -138,16 +139,16 @@ removed-item h w =
 
 -- a header's line without a word
 pub undepend-line : (t : List ℕ) (A : List ClassedLine) (l : ClassedLine) (B : List ClassedLine) (h : Headers.Header Cell) (w : List ℕ) → classed_lines t ≡ A ++ l ∷ B → l.class ≡ Header h
-    → reading (replaced 0 t (replacements (length (text_of A)) (remove_pieces w h))) ≡ items A ++ without_prerequisite w (header_item h) ∷ items B
+    → IsLineReplaced (replaced 0 t (replacements (length (text_of A)) (remove_pieces w h))) A B (without_prerequisite w (header_item h))
 undepend-line t A l B h w e k =
     let c = context_of A in
     let H = header-here c l.bytes h ((located t A l B e).class ∙ k) in
     let cond = nat_lt 0 c.conditionals in
-    reading-pieces_replaced t A l B h (remove_pieces w h) h.targets (removed_units w h.normal) h.bar (removed_units w h.order_only) e k
+    replaced-same _ _ A B _ _ refl (removed-item h w)
+    (header-replaced t A l B h (remove_pieces w h) h.targets (removed_units w h.normal) h.bar (removed_units w h.order_only) e k
     (header_pieces-whole h (kept h.targets) (removed_words w h.normal) (removed_words w h.order_only) (kept-old h.targets) (removed-old w h.normal) (removed-old w h.order_only))
     (removed-pieces_new h w) (removed-fit cond (line_cells l.bytes) h w H.known) (removed-fit_cells cond (line_cells l.bytes) h w H.known)
-    (same-not_led c l.bytes h (removed_units w h.normal) h.bar (removed_units w h.order_only) H)
-    ∙ ap (λ z. items A ++ z ∷ items B) (removed-item h w)
+    (same-not_led c l.bytes h (removed_units w h.normal) h.bar (removed_units w h.order_only) H))
 
 -- the law of the removal of a prerequisite
 pub undepend-reads : (nth : Option ℕ) (g w t : List ℕ) (rs : List Replacement) → spans t (RemovePrereq nth g w) ≡ Ok rs → reading (text_after t (RemovePrereq nth g w)) ≡ change t (RemovePrereq nth g w)
@@ -159,5 +160,5 @@ undepend-reads nth g w t rs h =
     let z : change t (RemovePrereq nth g w) ≡ with_header (without_prerequisite w) s = ap (λ (o : Option Spot). where_found (with_header (without_prerequisite w)) o) F.found_is in
     ap (λ q. reading (text_by t q)) h
     ∙ (ap (λ q. reading (replaced 0 t q)) (sym y ∙ word_spans-header (remove_pieces w) s F.header F.class_is)
-    ∙ (undepend-line t s.above s.line s.below F.header w F.whole F.class_is
+    ∙ ((undepend-line t s.above s.line s.below F.header w F.whole F.class_is).reads
     ∙ sym (z ∙ with_header-header (without_prerequisite w) s F.header F.class_is)))

@@ -1,5 +1,5 @@
 -- An edit of a value: the text after it, and what that text reads as.
-use Rattle.std.proofs.Common.{◌≡◌, sym, ap, ◌∙◌, ℕ, List, [], ◌∷◌, ◌++◌, None, length, ◌+◌, length-append, append_assoc}
+use Rattle.std.proofs.Common.{◌≡◌, refl, sym, ap, ◌∙◌, ℕ, List, [], ◌∷◌, ◌++◌, None, length, ◌+◌, length-append, append_assoc}
 use Rattle.mk_lines.specs.PhysicalLines.{line_end, line_end_bytes, without_line_end}
 use Rattle.mk_lines.specs.Cells.{Cell, joined_byte, raw_text, line_cells}
 use Rattle.mk_lines.specs.CellLaws.{raw_text-append, raw_text-cells}
@@ -14,12 +14,10 @@ use Rattle.mk_class.specs.Contexts.{context_after}
 use Rattle.mk_class.specs.ClassTable.{class_of}
 use Rattle.mk_class.specs.ClassedLines.{ClassedLine, classed_lines}
 use Rattle.mk_tree.specs.Documents.{text_of, context_of}
-use Rattle.mk_tree.specs.Items.{items}
-use Rattle.mk_tree.specs.Readings.{reading}
-use Rattle.mk_tree.specs.LinePlaces.{located, bytes_of, reading-line}
-use Rattle.mk_tree.specs.RunsReplaced.{line-replaced}
+use Rattle.mk_tree.specs.LinePlaces.{located, bytes_of}
 use Rattle.mk_edit.specs.Changes.{item_with_value}
 use Rattle.mk_edit.specs.ValueLines.{with_cells}
+use Rattle.mk_edit.specs.LineReplaced.{IsLineReplaced, replaced-line}
 
 -- the text with some cells of a line replaced by a text
 pub text-replaced_in_line : (t : List ℕ) (A : List ClassedLine) (l : ClassedLine) (B : List ClassedLine) (P X Q : List Cell) (v : List ℕ) (s e : ℕ) → classed_lines t ≡ A ++ l ∷ B
@@ -35,12 +33,10 @@ text-replaced_in_line t A l B P X Q v s e h c i j =
     replaced-one t (text_of A ++ raw_text P) (raw_text X) (raw_text Q ++ (end ++ text_of B)) v s e apart (i ∙ sym (length-append (text_of A) (raw_text P))) j
     ∙ simp append_assoc
 
--- the reading with another line, of the same assignment with another value, in the place of an assignment's line
-pub reading-value_replaced : (t : List ℕ) (A : List ClassedLine) (l : ClassedLine) (B : List ClassedLine) (a : Assignment Cell) (m : List ℕ) (V : List Cell) (G : List (List Cell)) (v : List ℕ)
+-- another line, of the same assignment with another value, in the place of an assignment's line
+pub value-replaced : (t : List ℕ) (A : List ClassedLine) (l : ClassedLine) (B : List ClassedLine) (a : Assignment Cell) (m : List ℕ) (V : List Cell) (G : List (List Cell)) (v : List ℕ)
     → classed_lines t ≡ A ++ l ∷ B → l.class ≡ Assign a None → OneLine m → EndsBefore m (bytes_of B) → class_of (context_of A) m ≡ Assign (with_cells a V G) None
     → unit_text joined_byte (with_cells a V G).value ≡ v
-    → reading (text_of A ++ (m ++ text_of B)) ≡ items A ++ item_with_value a v ∷ items B
-reading-value_replaced t A l B a m V G v h k o n q w =
-    let same : context_after (context_of A) (Assign (with_cells a V G) None) ≡ context_after (context_of A) l.class = ap (context_after (context_of A)) (sym k) in
-    reading-line (text_of A ++ (m ++ text_of B)) A (record { bytes = m; class = Assign (with_cells a V G) None }) B (line-replaced t A l B m (Assign (with_cells a V G) None) h o n q same)
-    ∙ ap (λ z. items A ++ item_with_value a z ∷ items B) w
+    → IsLineReplaced (text_of A ++ (m ++ text_of B)) A B (item_with_value a v)
+value-replaced t A l B a m V G v h k o n q w =
+    replaced-line t A l B m (Assign (with_cells a V G) None) (item_with_value a v) h o n q (ap (context_after (context_of A)) (sym k)) refl (ap (λ z. item_with_value a z ∷ []) w)

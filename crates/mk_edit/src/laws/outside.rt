@@ -1,5 +1,5 @@
 //! What an edit leaves as it was: the bytes outside its spans, and the lines that these do not touch.
-ghost use Rattle.mk_edit.specs.OutsideLaws.{OnlySpansAreReplaced, RecipeAddedKeepsOthers, RecipeRemovedKeepsOthers, SetKeepsOthers, SpansTouchFewLines, UnruleKeepsOthers, UnsetKeepsOthers};
+ghost use Rattle.mk_edit.specs.OutsideLaws.{AppendKeepsOthers, AssignKeepsOthers, DependKeepsOthers, EditsKeepOthers, OnlySpansAreReplaced, RecipeAddedKeepsOthers, RecipeRemovedKeepsOthers, RecipeSetKeepsOthers, RenameKeepsOthers, RuleAddedKeepsOthers, SetKeepsOthers, SpansTouchFewLines, UndependKeepsOthers, UnruleKeepsOthers, UnsetKeepsOthers};
 
 /// The spans of an accepted edit stand in the text in order and apart, and the bytes outside them
 /// are as before: the text after it is the text with each span replaced.
@@ -13,10 +13,16 @@ pub fn spans_touch_few_lines()
     ensures { SpansTouchFewLines }
 {}
 
-/// An accepted edit of a value, to one that is not empty, touches one line. The lines above and
-/// below it are as before, with their classes, and no more conditionals are open at once.
+/// An accepted edit of a value touches one line. The lines above and below it are as before, with
+/// their classes, and no more conditionals are open at once.
 pub fn set_keeps_others()
     ensures { SetKeepsOthers }
+{}
+
+/// An accepted edit that appends to a value touches one line. The lines above and below it are as
+/// before, with their classes, and no more conditionals are open at once.
+pub fn append_keeps_others()
+    ensures { AppendKeepsOthers }
 {}
 
 /// An accepted removal of an assignment takes out one line. The lines above and below it are as
@@ -43,4 +49,49 @@ pub fn recipe_removed_keeps_others()
 /// no more conditionals are open at once.
 pub fn recipe_added_keeps_others()
     ensures { RecipeAddedKeepsOthers }
+{}
+
+/// An accepted edit of a recipe line touches this line alone. The lines above and below it are as
+/// before, with their classes, and no more conditionals are open at once.
+pub fn recipe_set_keeps_others()
+    ensures { RecipeSetKeepsOthers }
+{}
+
+/// An accepted new prerequisite touches one line, the header. The lines above and below it are as
+/// before, with their classes, and no more conditionals are open at once.
+pub fn depend_keeps_others()
+    ensures { DependKeepsOthers }
+{}
+
+/// An accepted removal of a prerequisite touches one line, the header. The lines above and below it
+/// are as before, with their classes, and no more conditionals are open at once.
+pub fn undepend_keeps_others()
+    ensures { UndependKeepsOthers }
+{}
+
+/// An accepted new assignment is one line more. The lines above and below it are as before, with
+/// their classes, but that a last line without line end gets one where the new line follows it; and
+/// no more conditionals are open at once.
+pub fn assign_keeps_others()
+    ensures { AssignKeepsOthers }
+{}
+
+/// An accepted new rule is one line more. The lines above and below it are as before, with their
+/// classes, but that a last line without line end gets one where the new line follows it; and no
+/// more conditionals are open at once.
+pub fn rule_added_keeps_others()
+    ensures { RuleAddedKeepsOthers }
+{}
+
+/// After an accepted rename each line stands in its place, the same and with its class where it holds
+/// no word to rename. The spans stand within the other lines, and no more conditionals are open at
+/// once.
+pub fn rename_keeps_others()
+    ensures { RenameKeepsOthers }
+{}
+
+/// Each accepted edit, of every kind, leaves the lines that its spans do not touch, and no more
+/// conditionals are open at once.
+pub fn edits_keep_others()
+    ensures { EditsKeepOthers }
 {}

@@ -2,4 +2,4 @@ use Rattle.mk_edit.specs.KeptByEdits.{set-keeps}
 use Rattle.mk_edit.proofs.laws.outside.set_keeps_others.Goals as goal
 
 pub returns : goal.returns
-returns c nth name b v text rs h = set-keeps nth name b v text rs h
+returns c nth name value text rs h = set-keeps nth name value text rs h
