@@ -1,7 +1,7 @@
 """Checks on the limits: the greatest text and script, one byte more, and too little memory."""
 
 from checks import Outcome
-from rooms import EDITED, NO_MEMORY, TEXT, TOO_LONG, Checks
+from rooms import EDITED, NO_MEMORY, TEXT, TOO_DEEP, TOO_LONG, Checks
 
 LIMIT = 16_777_216
 
@@ -19,6 +19,19 @@ def a_text_of_the_greatest_length_passes(room):
 def a_text_of_one_byte_more_is_too_long(room):
     room.write("long", b"#" * LIMIT + b"\n")
     return room.differs(TOO_LONG, "edit", "empty", "long")
+
+
+@check
+def as_many_conditionals_as_may_be_open_pass(room):
+    text = b"ifdef A\n" * 256
+    room.write("deep", text)
+    return room.differs(Outcome(text, b"", 0), "edit", "empty", "deep")
+
+
+@check
+def one_conditional_more_is_too_deep(room):
+    room.write("deep", b"ifdef A\n" * 257)
+    return room.differs(TOO_DEEP, "edit", "empty", "deep") + room.differs(TOO_DEEP, "edit", "script", "deep")
 
 
 @check

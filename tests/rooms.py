@@ -24,6 +24,7 @@ NO_COMMAND = Outcome(b"", b"mkedit: script line 1 is not a command\n", 2)
 READ_FAULT = Outcome(b"", b"mkedit: read fault\n", 3)
 WRITE_FAULT = Outcome(b"", b"mkedit: write fault\n", 3)
 TOO_LONG = Outcome(b"", b"mkedit: too long\n", 3)
+TOO_DEEP = Outcome(b"", b"mkedit: too deep\n", 3)
 NO_MEMORY = Outcome(b"", b"mkedit: no memory\n", 3)
 
 
