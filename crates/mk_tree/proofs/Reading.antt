@@ -1,11 +1,11 @@
 -- The lines of a text, read one after the other.
-use Rattle.std.proofs.Common.{◌≡◌, ℕ, zero, suc, ◌+◌, ◌<◌, ◌≤◌, refl, sym, ap, ◌∙◌, subst, arith, List, [], ◌∷◌, ◌++◌, length, length-append, take, drop, map, slice_index_or, suc-add, append_assoc, append-nil, take-append-drop}
+use Rattle.std.proofs.Common.{◌≡◌, ℕ, suc, ◌+◌, ◌<◌, ◌≤◌, ◌^◌, refl, sym, ap, ◌∙◌, subst, arith, List, [], ◌∷◌, ◌++◌, length, length-append, append_assoc, append-nil}
 use Rattle.std.specs.Prelude.{Result, Ok, Err, IsErr, IsErrAnd, IfErr}
 use Rattle.mk_lines.specs.Spans.{Tiles}
 use Rattle.mk_lines.specs.LogicalLines.{logical_lines}
 use Rattle.mk_lines.specs.LineLaws.{among, OneLine-logical}
 use Rattle.mk_lines.specs.Ranges.{text_at, line_ranges}
-use Rattle.mk_lines.specs.RangeLaws.{line_ranges-text}
+use Rattle.mk_lines.specs.RangeLaws.{line_ranges-text, line_ranges-tiles}
 use Rattle.mk_lines.specs.declared.split.Span.{Span}
 use Rattle.mk_class.specs.Classes.{Class}
 use Rattle.mk_class.specs.Classes.Class.{Endef, Body, Recipe, Opaque, Blank, Comment, Assign, DefineHead, If, Else, Endif, Directive, TargetAssign, Rough, Header}
@@ -23,59 +23,56 @@ use Rattle.mk_tree.specs.Documents.{document_lines, most_conditionals, IsTooDeep
 use Rattle.mk_lines.specs.declared.fault.Fault.{Fault}
 use Rattle.mk_lines.specs.declared.fault.Fault.TheVariants.{NoMemory, TooLong, TooDeep, BadDepth, Read, Write}
 use Rattle.mk_tree.specs.Faults.{IsReadingFault}
-use Rattle.mk_tree.specs.Parsing.{AreReadSoFar}
-use Rattle.mk_tree.specs.Trees.{line_view, line_views}
-use Rattle.mk_tree.specs.declared.tree.Line.{Line}
-use Rattle.mk_tree.proofs.Building.{line_views-append}
+use Rattle.mk_tree.specs.Unread.{UnreadLines, shown, AreTooDeep, AreReadFrom, AreUnread, AreSingle, texts_at}
+use Rattle.mk_tree.proofs.Places.{size_of-append, size_of-whole}
 
 -- ---- spans
-
--- a span among those that follow one another lies between the ends
-pub span-order : (ss : List Span) (from to i : ℕ) (d : Span) → Tiles ss from to → i < length ss → (slice_index_or ss i d).start ≤ (slice_index_or ss i d).end
-span-order [] from to i d h k = absurd (omega (arith, k))
-span-order (s ∷ ss) from to zero d h k = omega (arith, h.0, h.1)
-span-order (s ∷ ss) from to (suc i) d h k = span-order ss s.end to i d h.2 (omega (arith, k))
 
 tiles-order : (ss : List Span) (from to : ℕ) → Tiles ss from to → from + length ss ≤ to
 tiles-order [] from to h = omega (arith, h)
 tiles-order (s ∷ ss) from to h = omega (arith, h.1, tiles-order ss s.end to h.2)
 
-pub span-within : (ss : List Span) (from to i : ℕ) (d : Span) → Tiles ss from to → i < length ss → (slice_index_or ss i d).end ≤ to
-span-within [] from to i d h k = absurd (omega (arith, k))
-span-within (s ∷ ss) from to zero d h k = omega (arith, tiles-order ss s.end to h.2)
-span-within (s ∷ ss) from to (suc i) d h k = span-within ss s.end to i d h.2 (omega (arith, k))
+-- the first of some spans that follow one another lies between the ends
+pub first-within : (s : Span) (ss : List Span) (to : ℕ) → ((from : ℕ) × Tiles (s ∷ ss) from to) → (s.start ≤ s.end) × (s.end ≤ to)
+first-within s ss to (from, (e, some, rest)) = (omega (arith, e, some), omega (arith, tiles-order ss s.end to rest))
 
 -- there are no more spans than bytes
-pub tiles-few : (ss : List Span) (to : ℕ) → Tiles ss 0 to → length ss ≤ to
+tiles-few : (ss : List Span) (to : ℕ) → Tiles ss 0 to → length ss ≤ to
 tiles-few ss to h = omega (arith, tiles-order ss 0 to h)
 
-mapped-here : {X : Type 0} (f : Span → X) (ss : List Span) (i : ℕ) (d : Span) → i < length ss → drop i (map f ss) ≡ f (slice_index_or ss i d) ∷ drop (i + 1) (map f ss)
-mapped-here f [] i d h = absurd (omega (arith, h))
-mapped-here f (s ∷ ss) zero d h = refl
-mapped-here f (s ∷ ss) (suc i) d h = rw (suc-add i 1) (mapped-here f ss i d (omega (arith, h)))
+-- the lines of a text, among all of them, are single
+all-single : (t : List ℕ) (above ls : List (List ℕ)) → logical_lines t ≡ above ++ ls → AreSingle ls
+all-single t above [] e = tt
+all-single t above (l ∷ ls) e =
+    (OneLine-logical l ((among t above l ls e).one), all-single t (above ++ l ∷ []) ls (e ∙ sym (append_assoc above (l ∷ []) ls)))
 
--- the line at an index, and those after it
-pub line-here : (t : List ℕ) (ss : List Span) (i : ℕ) (d : Span) → ss ≡ line_ranges t → i < length ss → drop i (logical_lines t) ≡ text_at t (slice_index_or ss i d) ∷ drop (i + 1) (logical_lines t)
-line-here t ss i d e h =
-    let all : map (text_at t) ss ≡ logical_lines t = ap (map (text_at t)) e ∙ line_ranges-text t in
-    ap (drop i) (sym all) ∙ (mapped-here (text_at t) ss i d h ∙ ap (λ z. text_at t (slice_index_or ss i d) ∷ drop (i + 1) z) all)
+-- all lines of a text are unread at first
+pub all-unread : (t : List ℕ) (ss : List Span) (c : Context) → length t ≤ 2 ^ 24 → ss ≡ line_ranges t → c ≡ start → AreUnread t ss c
+all-unread t ss c few e s =
+    let tiles : Tiles ss 0 (length t) = subst (λ z. Tiles z 0 (length t)) (sym e) (line_ranges-tiles t) in
+    record {
+      within = (0, tiles);
+      single = all-single t [] (texts_at t ss) (sym (line_ranges-text t) ∙ ap (texts_at t) (sym e));
+      few = omega (arith, few, tiles-few ss (length t) tiles, ap (λ (z : Context). z.defines) s);
+    }
 
--- a line of a text is one line by itself
-pub line-single : (t l : List ℕ) (i : ℕ) (rest : List (List ℕ)) → drop i (logical_lines t) ≡ l ∷ rest → logical_lines l ≡ l ∷ []
-line-single t l i rest e =
-    OneLine-logical l ((among t (take i (logical_lines t)) l rest (sym (take-append-drop i (logical_lines t)) ∙ ap (λ z. take i (logical_lines t) ++ z) e)).one)
+-- the first of some unread lines
+pub first-unread : (t : List ℕ) (s : Span) (ss rest : List Span) (c : Context) → ss ≡ s ∷ rest → AreUnread t ss c
+    → (s.start ≤ s.end) × (s.end ≤ length t) × (logical_lines (text_at t s) ≡ text_at t s ∷ []) × (c.defines < 2 ^ 24)
+first-unread t s ss rest c e u =
+    let here : AreUnread t (s ∷ rest) c = subst (λ z. AreUnread t z c) e u in
+    let (order, end) = first-within s rest (length t) here.within in
+    (order, end, here.single.0, omega (arith, here.few))
 
-mapped-end : {X : Type 0} (f : Span → X) (ss : List Span) (i : ℕ) → length ss ≤ i → drop i (map f ss) ≡ []
-mapped-end f [] zero h = refl
-mapped-end f [] (suc i) h = refl
-mapped-end f (s ∷ ss) zero h = absurd (omega (arith, h))
-mapped-end f (s ∷ ss) (suc i) h = mapped-end f ss i (omega (arith, h))
-
--- no line is left
-pub line-end : (t : List ℕ) (ss : List Span) (i : ℕ) → ss ≡ line_ranges t → length ss ≤ i → drop i (logical_lines t) ≡ []
-line-end t ss i e h =
-    let all : map (text_at t) ss ≡ logical_lines t = ap (map (text_at t)) e ∙ line_ranges-text t in
-    ap (drop i) (sym all) ∙ mapped-end (text_at t) ss i h
+-- the others are unread, also where a define is opened
+pub rest-unread : (t : List ℕ) (s : Span) (ss rest : List Span) (c after : Context) → ss ≡ s ∷ rest → AreUnread t ss c → after.defines ≤ c.defines + 1 → AreUnread t rest after
+rest-unread t s ss rest c after e u one =
+    let here : AreUnread t (s ∷ rest) c = subst (λ z. AreUnread t z c) e u in
+    record {
+      within = (s.end, here.within.1.2);
+      single = here.single.1;
+      few = omega (arith, here.few, one);
+    }
 
 -- ---- conditionals
 
@@ -112,32 +109,62 @@ opens-deep n k rest h = subst (λ z. 256 < most_conditionals (conditionals_after
 placed-same : (l k : PlacedLine) → l.bytes ≡ k.bytes → l.class ≡ k.class → l ≡ k
 placed-same l k b c = ap (λ z. record { bytes = z; class = l.class }) b ∙ ap (λ z. record { bytes = k.bytes; class = z }) c
 
-pub read-step : {A : Type 0} (text : List ℕ) (lines new : List (Line A)) (c after : Context) (l : List ℕ) (rest : List (List ℕ)) (x : Line A) → AreReadSoFar text lines c (l ∷ rest)
-    → (line_view x).bytes ≡ l → IsRead c l (line_view x).class after → new ≡ lines ++ x ∷ [] → AreReadSoFar text new after rest
-read-step text lines new c after l rest x so b (v, e, few) n =
+pub read-first : (c after : Context) (l : List ℕ) (rest : List (List ℕ)) (x : PlacedLine) → x.bytes ≡ l → IsRead c l x.class after
+    → AreReadFrom (record { context = c; lines = l ∷ rest }) (x ∷ []) (record { context = after; lines = rest })
+read-first c after l rest x b (v, e, few) =
     let k = class_of c l in
     let here : PlacedLine = record { bytes = l; class = class_places k } in
     let next = context_after c k in
-    let views : line_views new ≡ line_views lines ++ here ∷ [] = ap line_views n ∙ (line_views-append lines (x ∷ []) ∙ ap (λ z. line_views lines ++ z ∷ []) (placed-same (line_view x) here b v)) in
     let placed : context_after_places c (class_places k) ≡ next = context_after_places-class_places c k in
-    let read : AreReadSoFar text new next rest = record {
-      all = ap (λ z. z ++ placed_lines (classed next rest)) views ∙ (append_assoc (line_views lines) (here ∷ []) (placed_lines (classed next rest)) ∙ so.all);
-      fit = λ h. so.fit (conditionals-fit c.conditionals c.defines k (class_of-counts c l) few, subst (λ (z : Context). AreConditionalsFit z.conditionals (placed_lines (classed next rest))) (sym placed) h);
-      deep = λ h. so.deep (omega (arith, h));
+    let read : AreReadFrom (record { context = c; lines = l ∷ rest }) (x ∷ []) (record { context = next; lines = rest }) = record {
+      all = ap (λ z. z ∷ placed_lines (classed next rest)) (placed-same x here b v);
+      fit = λ h. (conditionals-fit c.conditionals c.defines k (class_of-counts c l) few, subst (λ (z : Context). AreConditionalsFit z.conditionals (placed_lines (classed next rest))) (sym placed) h);
+      deep = λ h. omega (arith, h);
     } in
-    subst (λ z. AreReadSoFar text new z rest) (sym e) read
+    subst (λ z. AreReadFrom (record { context = c; lines = l ∷ rest }) (x ∷ []) (record { context = z; lines = rest })) (sym e) read
 
 -- a line that opens a conditional too many
-pub read-deep : {A : Type 0} (text : List ℕ) (lines : List (Line A)) (c : Context) (l : List ℕ) (rest : List (List ℕ)) → AreReadSoFar text lines c (l ∷ rest) → line_reads.IsTooDeep c l → IsTooDeep text
-read-deep text lines c l rest so h =
-    so.deep (omega (arith, opens-deep c.conditionals (class_of c l) (classed (context_after c (class_of c l)) rest) h))
+pub first-deep : (c : Context) (l : List ℕ) (rest : List (List ℕ)) → line_reads.IsTooDeep c l → AreTooDeep (record { context = c; lines = l ∷ rest })
+first-deep c l rest h =
+    omega (arith, opens-deep c.conditionals (class_of c l) (classed (context_after c (class_of c l)) rest) h)
+
+-- no line read
+pub read-none : (u : UnreadLines) → AreReadFrom u [] u
+read-none u = record { all = refl; fit = λ h. h; deep = λ h. h }
+
+-- some lines read, one more, and others
+pub read-joined : (first second third last : UnreadLines) (left right : List PlacedLine) (x : PlacedLine) → AreReadFrom first left second → AreReadFrom second (x ∷ []) third → AreReadFrom third right last
+    → AreReadFrom first (left ++ x ∷ right) last
+read-joined first second third last left right x a b d = record {
+  all = append_assoc left (x ∷ right) (shown last) ∙ (ap (λ z. left ++ x ∷ z) d.all ∙ (ap (λ z. left ++ z) b.all ∙ a.all));
+  fit = λ h. a.fit (b.fit (d.fit h));
+  deep = λ h. a.deep (b.deep (d.deep h));
+}
+
+-- what is left has no more bytes than all
+pub left-fits : (old left : UnreadLines) (read : List PlacedLine) → AreReadFrom old read left → size_of (shown old) ≤ 2 ^ 24 → size_of (shown left) ≤ 2 ^ 24
+left-fits old left read h few = omega (arith, ap size_of h.all, size_of-append read (shown left), few)
+
+-- nor have a line that is read and those on both sides of it
+pub sides-fit : (old left : UnreadLines) (before after : List PlacedLine) (x : PlacedLine) → AreReadFrom old (before ++ x ∷ after) left → size_of (shown old) ≤ 2 ^ 24
+    → size_of before + length x.bytes + size_of after ≤ 2 ^ 24
+sides-fit old left before after x h few =
+    omega (arith, ap size_of h.all, size_of-append (before ++ x ∷ after) (shown left), size_of-whole before after x, few)
 
 -- all lines are read
-pub read-all : {A : Type 0} (text : List ℕ) (lines : List (Line A)) (c : Context) → AreReadSoFar text lines c [] → line_views lines ≡ document_lines text
-read-all text lines c so = sym (append-nil (line_views lines)) ∙ so.all
-
-pub read-fit : {A : Type 0} (text : List ℕ) (lines : List (Line A)) (c : Context) → AreReadSoFar text lines c [] → AreConditionalsFit 0 (document_lines text)
-read-fit text lines c so = so.fit tt
+pub read-all : (text : List ℕ) (old left : UnreadLines) (read : List PlacedLine) → old ≡ record { context = start; lines = logical_lines text } → AreReadFrom old read left
+    → length old.lines ≡ length left.lines + length old.lines → (read ≡ document_lines text) × AreConditionalsFit 0 (document_lines text)
+read-all text old left read e h n = go left.lines refl
+  where
+    whole : AreReadFrom (record { context = start; lines = logical_lines text }) read left
+    whole = subst (λ z. AreReadFrom z read left) e h
+    go : (ls : List (List ℕ)) → left.lines ≡ ls → (read ≡ document_lines text) × AreConditionalsFit 0 (document_lines text)
+    go [] none =
+        let empty : shown left ≡ [] = ap (λ z. placed_lines (classed left.context z)) none in (
+          sym (append-nil read) ∙ (ap (λ z. read ++ z) (sym empty) ∙ whole.all),
+          whole.fit (subst (AreConditionalsFit left.context.conditionals) (sym empty) tt),
+        )
+    go (l ∷ ls) some = absurd (omega (arith, n, ap length some))
 
 -- ---- the whole text
 

@@ -23,4 +23,4 @@ pub mod Walks
 pub mod Printing
 pub mod Admissions
 pub mod Faults
-pub mod Parsing
+pub mod Unread

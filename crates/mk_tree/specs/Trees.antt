@@ -1,5 +1,5 @@
 -- What a tree of lines is seen as, and what holds of it.
-use Rattle.std.specs.Prelude.{◌≡◌, ℕ, suc, zero, ◌+◌, ◌*◌, ◌^◌, ◌<◌, ◌≤◌, max, List, [], ◌∷◌, ◌++◌, length, map}
+use Rattle.std.specs.Prelude.{◌≡◌, ℕ, suc, zero, ◌+◌, ◌*◌, ◌^◌, ◌<◌, ◌≤◌, max, List, [], ◌∷◌, ◌++◌, length}
 use Rattle.mk_tree.specs.PlacedLines.{PlacedLine, size_of}
 use Rattle.mk_tree.specs.declared.tree.Counts.{Counts}
 use Rattle.mk_tree.specs.declared.tree.Line.{Line}
@@ -9,10 +9,6 @@ use Rattle.mk_tree.specs.declared.tree.Link.TheVariants.{Empty, Full}
 -- what a line says, whatever stands left and right of it in a tree
 abbrev pub line_view : {A : _} → Line A → PlacedLine
 line_view l = l.node.value.content
-
--- what some lines say
-abbrev pub line_views : {A : _} → List (Line A) → List PlacedLine
-line_views ls = map line_view ls
 
 -- the lines of a tree in order, and its height
 abbrev pub lines_and_height : {A : _} → Link A → List PlacedLine × ℕ

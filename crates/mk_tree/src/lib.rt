@@ -7,7 +7,6 @@
 //! - [`laws`]: theorems on the definitions of documents.
 #![tactic(auto)]
 
-mod build;
 mod content;
 mod contexts;
 pub mod document;
@@ -17,6 +16,7 @@ pub mod parse;
 mod print;
 mod read;
 pub mod tree;
+mod unread;
 
 pub use document::Doc;
 pub use iter::Lines;

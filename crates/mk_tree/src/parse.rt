@@ -1,21 +1,17 @@
 //! A text as a document.
-ghost use Rattle.std.specs.Prelude.{◌≡◌, ◌^◌, ◌<◌, ◌≤◌, IfErr, IfOk, IsOkUnless, length};
-ghost use Rattle.mk_lines.specs.LogicalLines.{logical_lines};
-ghost use Rattle.mk_lines.specs.Ranges.{text_at};
-ghost use Rattle.mk_class.specs.Contexts.{start};
-ghost use Rattle.mk_class.specs.ClassedLines.{classed_lines};
+ghost use Rattle.std.specs.Prelude.{◌≡◌, ◌+◌, ◌^◌, ◌<◌, ◌≤◌, IfErr, IfOk, length};
 ghost use Rattle.mk_tree.specs.Faults.{IsParsingFault, IsReadingFault};
-ghost use Rattle.mk_tree.specs.Documents.{IsFaithfulTo, IsTooDeep, document_lines};
-ghost use Rattle.mk_tree.specs.PlacedLines.{AreConditionalsFit};
-ghost use Rattle.mk_tree.specs.Trees.{line_views};
+ghost use Rattle.mk_tree.specs.Documents.{IsFaithfulTo, IsTooDeep};
+ghost use Rattle.mk_tree.specs.PlacedLines.{size_of};
+ghost use Rattle.mk_tree.specs.Trees.{IsLowest};
+ghost use Rattle.mk_tree.specs.Unread.{AreReadFrom, AreTooDeep, shown};
 
-use crate::build::take_last;
 use crate::document::Doc;
-use crate::read::read_line;
-use crate::tree::Line;
-use mk_class::{Context, Meter};
+use crate::tree::Tree;
+use crate::unread::Unread;
+use mk_class::Meter;
 use mk_lines::Fault;
-use mk_lines::split::{Span, split};
+use mk_lines::split::split;
 use std::alloc::Allocator;
 
 /// How many bytes a document may have.
@@ -39,46 +35,34 @@ impl<A: Allocator + Copy> Doc<A> {
         if text.len() > SIZE_LIMIT {
             return Err(Fault::TooLong);
         }
-        let mut lines = read_lines(alloc, text, meter)?;
+        let spans = split(alloc, text)?;
+        let mut lines = Unread::new(alloc, text, &spans);
         let count = lines.len();
-        Ok(Doc {
-            tree: take_last(&mut lines, count),
-        })
+        let tree = read_tree(&mut lines, count, meter)?;
+        Ok(Doc { tree })
     }
 }
 
-// The lines of a text, each in the context of those before it.
-fn read_lines<A: Allocator + Copy>(
-    alloc: A,
-    text: &[u8],
+/// Reads the first lines, so many of them, into a tree that is as low as it can be: those of its left
+/// side, its top, and those of its right side. Each line is put into its place as soon as it is read.
+fn read_tree<A: Allocator + Copy>(
+    lines: &mut Unread<'_, A>,
+    count: usize,
     meter: &mut Meter,
-) -> Result<Vec<Line<A>, A>, Fault>
-    requires { length text.now ≤ 2 ^ 24 }
-    ensures lines { IfOk result (λ lines. line_views lines.items ≡ document_lines text.now) }
-    ensures shallow { IfOk result (λ _. AreConditionalsFit 0 (document_lines text.now)) }
-    ensures fault { IfErr result (λ fault. IsReadingFault (IsTooDeep text.now) fault) }
+) -> Result<Tree<A>, Fault>
+    requires in_range { count ≤ length lines.old.lines }
+    requires fits { size_of (shown lines.old) ≤ 2 ^ 24 }
+    ensures read { IfOk result (λ tree. AreReadFrom lines.old tree.0 lines.new) }
+    ensures count { IfOk result (λ _. length lines.old.lines ≡ length lines.new.lines + count) }
+    ensures low { IfOk result (λ tree. IsLowest count tree.1) }
+    ensures fault { IfErr result (λ fault. IsReadingFault (AreTooDeep lines.old) fault) }
 {
-    let spans = split(alloc, text)?;
-    let mut lines = Vec::with_capacity(alloc, spans.len())?;
-    let mut context = Context::start();
-    'lines: for span in &spans {
-        let bytes = copy_of(alloc, text, *span)?;
-        let (line, after) = read_line(alloc, bytes, context, meter)?;
-        lines.push(line)?;
-        context = after;
+    if count == 0 {
+        return Ok(Tree::new());
     }
-    Ok(lines)
-}
-
-// A stretch of a text in memory of its own.
-fn copy_of<A: Allocator>(alloc: A, text: &[u8], span: Span) -> Result<Vec<u8, A>, Fault>
-    requires order { span.start ≤ span.end }
-    requires within { span.end ≤ length text.now }
-    ensures ok { IfOk result (λ bytes. bytes.items ≡ text_at text.now span) }
-    ensures fault { IsOkUnless result Fault.NoMemory }
-{
-    let stretch = &text[span.start..span.end];
-    let mut bytes = Vec::with_capacity(alloc, stretch.len())?;
-    bytes.extend_from_slice(stretch)?;
-    Ok(bytes)
+    let after = (count - 1) / 2;
+    let left = read_tree(lines, count - 1 - after, meter)?;
+    let line = lines.read_first(meter)?;
+    let right = read_tree(lines, after, meter)?;
+    Ok(Tree::join(left, line, right))
 }

@@ -1,9 +1,13 @@
-use Rattle.std.proofs.Common.{arith}
-use Rattle.mk_tree.proofs.Reading.{shallow, size_of-document}
+use Rattle.std.proofs.Common.{◌∙◌, ◌+◌, length, arith, ap}
+use Rattle.mk_tree.specs.PlacedLines.{size_of}
+use Rattle.mk_tree.specs.Unread.{UnreadLines, shown}
+use Rattle.mk_tree.proofs.Reading.{read-all, shallow, size_of-document}
 use Rattle.mk_tree.proofs.document.Doc.parse.Goals as goal
 
-pub take_last-requires-clause-fits : goal.take_last-requires-clause-fits
-take_last-requires-clause-fits g c = rw c.in_ok-lines.ensures.lines (omega (arith, c.if-text-gt-SIZE_LIMIT.false, size_of-document c.args.text.now))
+pub read_tree-requires-clause-fits : goal.read_tree-requires-clause-fits
+read_tree-requires-clause-fits g c =
+    omega (arith, c.if-text-gt-SIZE_LIMIT.false, ap (λ (u : UnreadLines). size_of (shown u)) c.new-lines.ensures.lines ∙ size_of-document c.args.text.now)
 
 pub returns-clause-shallow : goal.returns-clause-shallow
-returns-clause-shallow g c = shallow c.args.text.now c.in_ok-lines.ensures.shallow
+returns-clause-shallow g c =
+    shallow c.args.text.now (read-all c.args.text.now _ _ _ c.new-lines.ensures.lines c.in_ok-tree.ensures.read (c.in_ok-tree.ensures.count ∙ ap (λ n. length c.read_tree.new.lines.lines + n) c.len-count.ensures)).1

@@ -1,0 +1,5 @@
+-- Each side has fewer lines.
+use Rattle.mk_tree.proofs.parse.+read_tree.Given as goal
+
+abbrev pub decreases-read_tree : goal.decreases-read_tree
+decreases-read_tree g l = l.count

@@ -1,0 +1,46 @@
+-- The lines of a text that are still to be read.
+use Rattle.std.specs.Prelude.{◌≡◌, ℕ, ◌+◌, ◌^◌, ◌<◌, ◌≤◌, List, [], ◌∷◌, ◌++◌, length, map}
+use Rattle.mk_lines.specs.LogicalLines.{logical_lines}
+use Rattle.mk_lines.specs.Ranges.{text_at}
+use Rattle.mk_lines.specs.Spans.{Tiles}
+use Rattle.mk_lines.specs.declared.split.Span.{Span}
+use Rattle.mk_class.specs.Contexts.{Context}
+use Rattle.mk_class.specs.ClassedLines.{classed}
+use Rattle.mk_tree.specs.Documents.{conditional_limit, most_conditionals}
+use Rattle.mk_tree.specs.PlacedLines.{PlacedLine, placed_lines, AreConditionalsFit}
+
+-- some logical lines, the first of which stands in a context
+pub record UnreadLines : Type 0 where
+  pub context : Context
+  pub lines : List (List ℕ)
+
+-- as a document will show them
+abbrev pub shown : UnreadLines → List PlacedLine
+shown u = placed_lines (classed u.context u.lines)
+
+-- they open more conditionals at once than a document may have
+abbrev pub AreTooDeep : UnreadLines → Type 0
+AreTooDeep u = conditional_limit < most_conditionals u.context.conditionals (classed u.context u.lines)
+
+-- Of some unread lines the first ones are read, and the others are left: together they are shown as all of them, the
+-- conditionals of all fit where those of the others do, and all are too deep where the others are.
+pub record AreReadFrom (old : UnreadLines) (read : List PlacedLine) (left : UnreadLines) : Type 0 where
+  pub all : read ++ shown left ≡ shown old
+  pub fit : AreConditionalsFit left.context.conditionals (shown left) → AreConditionalsFit old.context.conditionals (shown old)
+  pub deep : AreTooDeep left → AreTooDeep old
+
+-- the lines of a text that some spans stand for
+abbrev pub texts_at : List ℕ → List Span → List (List ℕ)
+texts_at t ss = map (text_at t) ss
+
+-- each is one logical line by itself
+abbrev pub AreSingle : List (List ℕ) → Type 0
+AreSingle [] = Unit {0}
+AreSingle (l ∷ ls) = (logical_lines l ≡ l ∷ []) × AreSingle ls
+
+-- The spans follow one another up to the end of the text, each is one logical line, and there are so few of them that no
+-- count of open defines is too large.
+pub record AreUnread (text : List ℕ) (spans : List Span) (context : Context) : Type 0 where
+  pub within : (from : ℕ) × Tiles spans from (length text)
+  pub single : AreSingle (texts_at text spans)
+  pub few : context.defines + length spans ≤ 2 ^ 24

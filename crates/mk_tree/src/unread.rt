@@ -1,0 +1,89 @@
+//! The lines of a text that are still to be read.
+ghost use Rattle.std.specs.Prelude.{◌≡◌, ◌+◌, ◌^◌, ◌<◌, ◌≤◌, ◌∷◌, [], IfErr, IfOk, OnOk, IsOkUnless, length};
+ghost use Rattle.mk_lines.specs.LogicalLines.{logical_lines};
+ghost use Rattle.mk_lines.specs.Ranges.{line_ranges, text_at};
+ghost use Rattle.mk_class.specs.Contexts.{start};
+ghost use Rattle.mk_tree.specs.Faults.{IsReadingFault};
+ghost use Rattle.mk_tree.specs.Trees.{line_view};
+ghost use Rattle.mk_tree.specs.Unread.{AreReadFrom, AreTooDeep};
+
+use crate::read::read_line;
+use crate::tree::Line;
+use mk_class::{Context, Meter};
+use mk_lines::Fault;
+use mk_lines::split::Span;
+use std::alloc::Allocator;
+use std::marker::Model;
+
+/// The lines of a text from some line on, each read in the context of those before it. Contracts see
+/// the lines, and the context of the first of them.
+#[derive(Drop)]
+pub(crate) struct Unread<'a, A: Allocator> {
+    alloc: A,
+    text: &'a [u8],
+    spans: &'a [Span],
+    context: Context,
+}
+
+impl<'a, A: Allocator> Model for Unread<'a, A> {
+    ghost use Rattle.mk_tree.specs.Unread.{AreUnread, UnreadLines, texts_at};
+
+    ghost Value = { UnreadLines };
+
+    ghost view = { λ u. record { context = u.context; lines = texts_at u.text.now u.spans.now } };
+
+    ghost invariant = { λ u. AreUnread u.text.now u.spans.now u.context };
+}
+
+impl<'a, A: Allocator + Copy> Unread<'a, A> {
+    /// All lines of a text, which stand at these spans.
+    pub(crate) fn new(alloc: A, text: &'a [u8], spans: &'a [Span]) -> Unread<'a, A>
+        requires few { length text.now ≤ 2 ^ 24 }
+        requires spans { spans.now ≡ line_ranges text.now }
+        ensures lines { result ≡ record { context = start; lines = logical_lines text.now } }
+    {
+        Unread {
+            alloc,
+            text,
+            spans,
+            context: Context::start(),
+        }
+    }
+
+    /// How many lines there are.
+    pub(crate) fn len(&self) -> usize
+        ensures { result ≡ length self.now.lines }
+    {
+        self.spans.len()
+    }
+
+    /// Reads the first line. It adds one to the meter.
+    pub(crate) fn read_first(&mut self, meter: &mut Meter) -> Result<Line<A>, Fault>
+        requires some { 0 < length self.old.lines }
+        ensures read { IfOk result (λ line. AreReadFrom self.old (line_view line ∷ []) self.new) }
+        ensures count { length self.old.lines ≡ length self.new.lines + 1 }
+        ensures fault { IfErr result (λ fault. IsReadingFault (AreTooDeep self.old) fault) }
+    {
+        let Some((span, rest)) = self.spans.split_first() else {
+            unreachable!()
+        };
+        self.spans = rest;
+        let bytes = copy_of(self.alloc, self.text, *span)?;
+        let (line, after) = read_line(self.alloc, bytes, self.context, meter)?;
+        self.context = after;
+        Ok(line)
+    }
+}
+
+// A stretch of a text in memory of its own.
+fn copy_of<A: Allocator>(alloc: A, text: &[u8], span: Span) -> Result<Vec<u8, A>, Fault>
+    requires order { span.start ≤ span.end }
+    requires within { span.end ≤ length text.now }
+    ensures ok { IfOk result (λ bytes. bytes.items ≡ text_at text.now span) }
+    ensures fault { IsOkUnless result Fault.NoMemory }
+{
+    let stretch = &text[span.start..span.end];
+    let mut bytes = Vec::with_capacity(alloc, stretch.len())?;
+    bytes.extend_from_slice(stretch)?;
+    Ok(bytes)
+}
