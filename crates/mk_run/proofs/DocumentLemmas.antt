@@ -15,15 +15,15 @@ none-left [] h = refl
 none-left (x ∷ xs) h = absurd (omega (arith, eqb-true (length (x ∷ xs)) 0 h))
 
 -- it makes the makefile itself, which is the document's text
-pub document-made : (asked made : Option (List ℕ)) (depth : ℕ) (script text script_slice text_slice : List ℕ) (commands : List NumberedCommand) (lines : List PlacedLine)
-    → IfSome asked (λ bytes. script ≡ bytes) → IfSome made (λ bytes. text ≡ bytes) → script_slice ≡ script → text_slice ≡ text
-    → (length commands == 0) ≡ true → requests_of script_slice ≡ Ok (map numbered_request commands) → IsFaithfulTo lines text_slice
+pub document-made : (asked made : Option (List ℕ)) (depth : ℕ) (script text script_slice : List ℕ) (commands : List NumberedCommand) (lines : List PlacedLine)
+    → IfSome asked (λ bytes. script ≡ bytes) → IfSome made (λ bytes. text ≡ bytes) → script_slice ≡ script
+    → (length commands == 0) ≡ true → requests_of script_slice ≡ Ok (map numbered_request commands) → IsFaithfulTo lines text
     → IfSome asked (λ requests. IfSome made (λ old. Makes depth requests old (placed_text lines)))
-document-made None made depth script text s t commands lines read_script read_text h i none requests faithful = tt
-document-made (Some a) None depth script text s t commands lines read_script read_text h i none requests faithful = tt
-document-made (Some a) (Some m) depth script text s t commands lines read_script read_text h i none requests faithful = record {
+document-made None made depth script text s commands lines read_script read_text h none requests faithful = tt
+document-made (Some a) None depth script text s commands lines read_script read_text h none requests faithful = tt
+document-made (Some a) (Some m) depth script text s commands lines read_script read_text h none requests faithful = record {
   requests = [];
   earlier = [];
   asked = sym (ap requests_of (h ∙ read_script)) ∙ (requests ∙ ap (λ c. Ok (map numbered_request c)) (none-left commands none));
-  done = ap (texts []) (faithful-text lines t faithful ∙ (i ∙ read_text));
+  done = ap (texts []) (faithful-text lines text faithful ∙ read_text);
 }

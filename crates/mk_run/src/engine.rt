@@ -93,11 +93,11 @@ where
         Err(ScriptFault::NoMemory) => return Err(Outcome::NoMemory),
     };
     let text = read_all(alloc, makefile)?;
-    let doc = Doc::parse(alloc, text.as_slice(), &mut Meter::new())?;
     if commands.is_empty() {
+        let doc = Doc::parse_vec(alloc, text, &mut Meter::new())?;
         return Ok((Edited::Document(doc), 0));
     }
-    drop(doc);
+    drop(Doc::parse(alloc, text.as_slice(), &mut Meter::new())?);
     let Ok(mut session) = ThinSession::open(alloc, text, depth) else {
         return Err(Outcome::NoMemory);
     };

@@ -3,6 +3,7 @@ ghost use Rattle.std.specs.Prelude.{◌≡◌, ◌<◌, length};
 ghost use Rattle.mk_lines.specs.KeptCells.{AreCellsOf};
 ghost use Rattle.mk_lines.specs.PhysicalLines.{without_line_end};
 
+use crate::line_bytes::LineBytes;
 use mk_class::Class;
 use mk_lines::Cells;
 use std::alloc::{Allocator, Global};
@@ -12,7 +13,7 @@ use std::mem;
 /// The bytes of a line, of which there is at least one, with its cells and its class.
 #[derive(Drop)]
 pub(crate) struct Content<A: Allocator = Global> {
-    bytes: Vec<u8, A>,
+    bytes: LineBytes<A>,
     cells: Cells<A>,
     class: Class,
 }
@@ -23,16 +24,16 @@ impl<A: Allocator> Model for Content<A> {
 
     ghost Value = { PlacedLine };
 
-    ghost view = { λ c. record { bytes = c.bytes.items; class = c.class } };
+    ghost view = { λ c. record { bytes = c.bytes; class = c.class } };
 
-    ghost invariant = { λ c. IsContent c.bytes.items c.cells };
+    ghost invariant = { λ c. IsContent c.bytes c.cells };
 }
 
 impl<A: Allocator> Content<A> {
-    pub(crate) fn new(bytes: Vec<u8, A>, cells: Cells<A>, class: Class) -> Content<A>
-        requires some_bytes { 0 < length bytes.items }
-        requires cells { AreCellsOf cells bytes.items }
-        ensures bytes { result.bytes ≡ bytes.items }
+    pub(crate) fn new(bytes: LineBytes<A>, cells: Cells<A>, class: Class) -> Content<A>
+        requires some_bytes { 0 < length bytes }
+        requires cells { AreCellsOf cells bytes }
+        ensures bytes { result.bytes ≡ bytes }
         ensures class { result.class ≡ class }
     {
         Content {
@@ -46,7 +47,7 @@ impl<A: Allocator> Content<A> {
         ensures bytes { result.now ≡ self.now.bytes }
         ensures some_bytes { 0 < length self.now.bytes }
     {
-        &self.bytes
+        self.bytes.as_slice()
     }
 
     pub(crate) fn class(&self) -> &Class
@@ -62,11 +63,11 @@ impl<A: Allocator> Content<A> {
     }
 
     /// Puts other bytes of the same joined text in the place of the line's, which are handed out.
-    pub(crate) fn swap_bytes(&mut self, bytes: Vec<u8, A>) -> Vec<u8, A>
-        requires some_bytes { 0 < length bytes.items }
-        requires same_text { without_line_end bytes.items ≡ without_line_end self.old.bytes }
-        ensures old { result.items ≡ self.old.bytes }
-        ensures bytes { self.new.bytes ≡ bytes.items }
+    pub(crate) fn swap_bytes(&mut self, bytes: LineBytes<A>) -> LineBytes<A>
+        requires some_bytes { 0 < length bytes }
+        requires same_text { without_line_end bytes ≡ without_line_end self.old.bytes }
+        ensures old { result ≡ self.old.bytes }
+        ensures bytes { self.new.bytes ≡ bytes }
         ensures class { self.new.class ≡ self.old.class }
     {
         mem::replace(&mut self.bytes, bytes)

@@ -5,6 +5,7 @@ ghost use Rattle.mk_tree.specs.PlacedLines.{bytes_of_line, is_conditional_places
 ghost use Rattle.mk_tree.specs.Trees.{line_view};
 
 use crate::iter::Lines;
+use crate::line_bytes::LineBytes;
 use crate::tree::{Line, Tree};
 use mk_lines::Fault;
 use std::alloc::{Allocator, Global};
@@ -130,13 +131,13 @@ impl<A: Allocator> Doc<A> {
     /// that the bytes are some and equal its own but for the line end, and that the size stays
     /// within the limit.
     #[tactic(auto, using(crate::proofs::Ends::sizes))]
-    pub fn swap_end(&mut self, bytes: Vec<u8, A>) -> Vec<u8, A>
+    pub fn swap_end(&mut self, bytes: LineBytes<A>) -> LineBytes<A>
         requires some_lines { 0 < length self.old }
-        requires some_bytes { 0 < length bytes.items }
-        requires same_text { without_line_end bytes.items ≡ without_line_end (bytes_of_line (last_line self.old)) }
-        requires fits { size_of (with_last_bytes bytes.items self.old) ≤ 2 ^ 24 }
-        ensures lines { self.new ≡ with_last_bytes bytes.items self.old }
-        ensures old { result.items ≡ bytes_of_line (last_line self.old) }
+        requires some_bytes { 0 < length bytes }
+        requires same_text { without_line_end bytes ≡ without_line_end (bytes_of_line (last_line self.old)) }
+        requires fits { size_of (with_last_bytes bytes self.old) ≤ 2 ^ 24 }
+        ensures lines { self.new ≡ with_last_bytes bytes self.old }
+        ensures old { result ≡ bytes_of_line (last_line self.old) }
     {
         let tree = mem::replace(&mut self.tree, Tree::new());
         let (tree, old) = tree.swap_end(bytes);

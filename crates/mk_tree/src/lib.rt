@@ -4,6 +4,7 @@
 //! - [`parse`]: a text as a document.
 //! - [`iter`]: the lines of a document in order.
 //! - [`tree`]: the balanced tree that the lines stand in, and a line by itself.
+//! - [`line_bytes`]: the bytes of a line, a stretch of the text that it was parsed from.
 //! - [`laws`]: theorems on the definitions of documents.
 #![tactic(auto)]
 
@@ -12,6 +13,7 @@ mod contexts;
 pub mod document;
 pub mod iter;
 pub mod laws;
+pub mod line_bytes;
 pub mod parse;
 mod print;
 mod read;
@@ -20,4 +22,5 @@ mod unread;
 
 pub use document::Doc;
 pub use iter::Lines;
+pub use line_bytes::LineBytes;
 pub use tree::Line;

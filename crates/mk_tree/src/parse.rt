@@ -13,6 +13,7 @@ use mk_class::Meter;
 use mk_lines::Fault;
 use mk_lines::split::split;
 use std::alloc::Allocator;
+use std::rc::RcSlice;
 
 /// How many bytes a document may have.
 pub const SIZE_LIMIT: usize = 16_777_216;
@@ -20,6 +21,8 @@ pub const SIZE_LIMIT: usize = 16_777_216;
 impl<A: Allocator + Copy> Doc<A> {
     /// The lines of a text, each with its class in the context of those before it. It adds one to the
     /// meter for each. The time is linear in the text.
+    ///
+    /// The text is copied once; [`Doc::parse_vec`] copies nothing.
     ///
     /// # Errors
     ///
@@ -35,8 +38,27 @@ impl<A: Allocator + Copy> Doc<A> {
         if text.len() > SIZE_LIMIT {
             return Err(Fault::TooLong);
         }
-        let spans = split(alloc, text)?;
-        let mut lines = Unread::new(alloc, text, &spans);
+        Doc::parse_vec(alloc, Vec::from_slice(alloc, text)?, meter)
+    }
+
+    /// The lines of a text, as [`Doc::parse`] gives them. The document keeps the text that it is
+    /// given, and no line is copied.
+    ///
+    /// # Errors
+    ///
+    /// Those of [`Doc::parse`].
+    pub fn parse_vec(alloc: A, text: Vec<u8, A>, meter: &mut Meter) -> Result<Doc<A>, Fault>
+        ensures faithful { IfOk result (λ doc. IsFaithfulTo doc text.items) }
+        ensures short { IfOk result (λ _. length text.items ≤ 2 ^ 24) }
+        ensures shallow { IfOk result (λ _. IsTooDeep text.items → ⊥) }
+        ensures fault { IfErr result (λ fault. IsParsingFault (2 ^ 24 < length text.items) (IsTooDeep text.items) fault) }
+    {
+        if text.len() > SIZE_LIMIT {
+            return Err(Fault::TooLong);
+        }
+        let text = RcSlice::from_vec(text)?;
+        let spans = split(alloc, text.as_slice())?;
+        let mut lines = Unread::new(alloc, &text, &spans);
         let count = lines.len();
         let tree = read_tree(&mut lines, count, meter)?;
         Ok(Doc { tree })

@@ -9,6 +9,7 @@ ghost use Rattle.mk_tree.specs.Faults.{IsReadingFault};
 ghost use Rattle.mk_tree.specs.Trees.{line_view};
 
 use crate::content::Content;
+use crate::line_bytes::LineBytes;
 use crate::tree::Line;
 use mk_class::{Context, Meter, class_with_cells};
 use mk_lines::Fault;
@@ -38,7 +39,7 @@ impl<A: Allocator + Copy> Line<A> {
         ensures counted { OnOk result (meter.new ≡ min (meter.old + 1) (2 ^ 64 - 1)) }
         ensures once { meter.new ≤ meter.old + 1 }
     {
-        let (line, _) = read_line(alloc, bytes, context, meter)?;
+        let (line, _) = read_line(alloc, LineBytes::new(bytes)?, context, meter)?;
         Ok(line)
     }
 }
@@ -46,20 +47,20 @@ impl<A: Allocator + Copy> Line<A> {
 /// One logical line, as [`Line::read`] gives it, and the context after it.
 pub(crate) fn read_line<A: Allocator + Copy>(
     alloc: A,
-    bytes: Vec<u8, A>,
+    bytes: LineBytes<A>,
     context: Context,
     meter: &mut Meter,
 ) -> Result<(Line<A>, Context), Fault>
-    requires line { logical_lines bytes.items ≡ bytes.items ∷ [] }
+    requires line { logical_lines bytes ≡ bytes ∷ [] }
     requires defines { context.defines < 2 ^ 24 }
-    ensures bytes { IfOk result (λ r. (line_view r.0).bytes ≡ bytes.items) }
-    ensures read { IfOk result (λ r. IsRead context bytes.items (line_view r.0).class r.1) }
-    ensures fault { IfErr result (λ fault. IsReadingFault (IsTooDeep context bytes.items) fault) }
+    ensures bytes { IfOk result (λ r. (line_view r.0).bytes ≡ bytes) }
+    ensures read { IfOk result (λ r. IsRead context bytes (line_view r.0).class r.1) }
+    ensures fault { IfErr result (λ fault. IsReadingFault (IsTooDeep context bytes) fault) }
     ensures counted { OnOk result (meter.new ≡ min (meter.old + 1) (2 ^ 64 - 1)) }
     ensures once { meter.new ≤ meter.old + 1 }
 {
-    let cells = cells(alloc, &bytes)?;
-    let (class, after) = class_with_cells(&bytes, &cells, context, meter)?;
+    let cells = cells(alloc, bytes.as_slice())?;
+    let (class, after) = class_with_cells(bytes.as_slice(), &cells, context, meter)?;
     let line = Line::new(alloc, Content::new(bytes, cells, class))?;
     Ok((line, after))
 }

@@ -11,6 +11,7 @@ ghost use Rattle.mk_tree.specs.PlacedLines.{bytes_of_line, last_line, size_of, s
 ghost use Rattle.mk_tree.specs.Trees.{line_view, lines_and_height, DifferByAtMost, AreFew, IsUnlinked, IsTop, IsHeightAfter};
 
 use crate::content::Content;
+use crate::line_bytes::LineBytes;
 use mk_class::Class;
 use mk_lines::Cells;
 use std::alloc::{AllocFailed, Allocator, Global};
@@ -308,13 +309,13 @@ impl<A: Allocator> Tree<A> {
 
     /// Puts other bytes of the same joined text in the place of the last line's, which are handed
     /// out.
-    pub(crate) fn swap_end(self, bytes: Vec<u8, A>) -> (Tree<A>, Vec<u8, A>)
+    pub(crate) fn swap_end(self, bytes: LineBytes<A>) -> (Tree<A>, LineBytes<A>)
         requires some_lines { 0 < length self.0 }
-        requires some_bytes { 0 < length bytes.items }
-        requires same_text { without_line_end bytes.items ≡ without_line_end (bytes_of_line (last_line self.0)) }
-        requires fits { size_of self.0 + length bytes.items ≤ 2 ^ 24 + size_of_line (last_line self.0) }
-        ensures lines { result.0.0 ≡ with_last_bytes bytes.items self.0 }
-        ensures old { result.1.items ≡ bytes_of_line (last_line self.0) }
+        requires some_bytes { 0 < length bytes }
+        requires same_text { without_line_end bytes ≡ without_line_end (bytes_of_line (last_line self.0)) }
+        requires fits { size_of self.0 + length bytes ≤ 2 ^ 24 + size_of_line (last_line self.0) }
+        ensures lines { result.0.0 ≡ with_last_bytes bytes self.0 }
+        ensures old { result.1 ≡ bytes_of_line (last_line self.0) }
     {
         let at = self.len() - 1;
         let (rest, mut line) = self.remove(at);

@@ -1,5 +1,6 @@
 //! The lines of a text that are still to be read.
 ghost use Rattle.std.specs.Prelude.{◌≡◌, ◌+◌, ◌^◌, ◌<◌, ◌≤◌, ◌∷◌, [], IfErr, IfOk, OnOk, IsOkUnless, length};
+ghost use Rattle.std.specs.Rc.{rc_slice_items};
 ghost use Rattle.mk_lines.specs.LogicalLines.{logical_lines};
 ghost use Rattle.mk_lines.specs.Ranges.{line_ranges, text_at};
 ghost use Rattle.mk_class.specs.Contexts.{start};
@@ -7,6 +8,7 @@ ghost use Rattle.mk_tree.specs.Faults.{IsReadingFault};
 ghost use Rattle.mk_tree.specs.Trees.{line_view};
 ghost use Rattle.mk_tree.specs.Unread.{AreReadFrom, AreTooDeep};
 
+use crate::line_bytes::LineBytes;
 use crate::read::read_line;
 use crate::tree::Line;
 use mk_class::{Context, Meter};
@@ -14,33 +16,35 @@ use mk_lines::Fault;
 use mk_lines::split::Span;
 use std::alloc::Allocator;
 use std::marker::Model;
+use std::rc::RcSlice;
 
 /// The lines of a text from some line on, each read in the context of those before it. Contracts see
 /// the lines, and the context of the first of them.
 #[derive(Drop)]
 pub(crate) struct Unread<'a, A: Allocator> {
     alloc: A,
-    text: &'a [u8],
+    text: &'a RcSlice<u8, A>,
     spans: &'a [Span],
     context: Context,
 }
 
 impl<'a, A: Allocator> Model for Unread<'a, A> {
+    ghost use Rattle.std.specs.Rc.{rc_slice_items};
     ghost use Rattle.mk_tree.specs.Unread.{AreUnread, UnreadLines, texts_at};
 
     ghost Value = { UnreadLines };
 
-    ghost view = { λ u. record { context = u.context; lines = texts_at u.text.now u.spans.now } };
+    ghost view = { λ u. record { context = u.context; lines = texts_at (rc_slice_items u.text.now) u.spans.now } };
 
-    ghost invariant = { λ u. AreUnread u.text.now u.spans.now u.context };
+    ghost invariant = { λ u. AreUnread (rc_slice_items u.text.now) u.spans.now u.context };
 }
 
 impl<'a, A: Allocator + Copy> Unread<'a, A> {
     /// All lines of a text, which stand at these spans.
-    pub(crate) fn new(alloc: A, text: &'a [u8], spans: &'a [Span]) -> Unread<'a, A>
-        requires few { length text.now ≤ 2 ^ 24 }
-        requires spans { spans.now ≡ line_ranges text.now }
-        ensures lines { result ≡ record { context = start; lines = logical_lines text.now } }
+    pub(crate) fn new(alloc: A, text: &'a RcSlice<u8, A>, spans: &'a [Span]) -> Unread<'a, A>
+        requires few { length (rc_slice_items text.now) ≤ 2 ^ 24 }
+        requires spans { spans.now ≡ line_ranges (rc_slice_items text.now) }
+        ensures lines { result ≡ record { context = start; lines = logical_lines (rc_slice_items text.now) } }
     {
         Unread {
             alloc,
@@ -68,22 +72,9 @@ impl<'a, A: Allocator + Copy> Unread<'a, A> {
             unreachable!()
         };
         self.spans = rest;
-        let bytes = copy_of(self.alloc, self.text, *span)?;
+        let bytes = LineBytes::of_text(self.text, *span)?;
         let (line, after) = read_line(self.alloc, bytes, self.context, meter)?;
         self.context = after;
         Ok(line)
     }
-}
-
-// A stretch of a text in memory of its own.
-fn copy_of<A: Allocator>(alloc: A, text: &[u8], span: Span) -> Result<Vec<u8, A>, Fault>
-    requires order { span.start ≤ span.end }
-    requires within { span.end ≤ length text.now }
-    ensures ok { IfOk result (λ bytes. bytes.items ≡ text_at text.now span) }
-    ensures fault { IsOkUnless result Fault.NoMemory }
-{
-    let stretch = &text[span.start..span.end];
-    let mut bytes = Vec::with_capacity(alloc, stretch.len())?;
-    bytes.extend_from_slice(stretch)?;
-    Ok(bytes)
 }

@@ -17,8 +17,8 @@ insert-requires-clause-fits g c =
 
 pub returns-clause-lines : goal.returns-clause-lines
 returns-clause-lines g c =
-    with_last-place c.args.bytes.items c.args.self.0 _ _ (line_view c.remove-rest.result.1) _ (c.len-at.result - 1) c.requires.some_lines (omega (arith, c.len-at.ensures.len)) c.remove-rest.ensures.line c.remove-rest.ensures.lines
-    (with_bytes c.swap_bytes-old.new.self (line_view c.remove-rest.result.1) c.args.bytes.items c.swap_bytes-old.ensures.bytes (c.swap_bytes-old.ensures.class ∙ ap (λ n. n.content.class) c.deref_mut.ensures.value)) c.insert.ensures.lines
+    with_last-place c.args.bytes c.args.self.0 _ _ (line_view c.remove-rest.result.1) _ (c.len-at.result - 1) c.requires.some_lines (omega (arith, c.len-at.ensures.len)) c.remove-rest.ensures.line c.remove-rest.ensures.lines
+    (with_bytes c.swap_bytes-old.new.self (line_view c.remove-rest.result.1) c.args.bytes c.swap_bytes-old.ensures.bytes (c.swap_bytes-old.ensures.class ∙ ap (λ n. n.content.class) c.deref_mut.ensures.value)) c.insert.ensures.lines
 
 pub returns-clause-old : goal.returns-clause-old
 returns-clause-old g c =

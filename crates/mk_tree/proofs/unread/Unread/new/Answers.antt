@@ -1,5 +1,6 @@
 use Rattle.std.proofs.Common.{◌∙◌, List, ℕ, ap}
 use Rattle.mk_lines.specs.RangeLaws.{line_ranges-text}
+use Rattle.std.specs.Rc.{rc_slice_items}
 use Rattle.mk_class.specs.Contexts.{Context, start}
 use Rattle.mk_tree.specs.Unread.{UnreadLines, texts_at}
 use Rattle.mk_tree.proofs.Reading.{all-unread}
@@ -10,5 +11,5 @@ invariant_of-result g c = all-unread _ _ _ c.requires.few c.requires.spans c.sta
 
 pub returns : goal.returns
 returns g c =
-    let text : List ℕ = c.args.text.now in
+    let text : List ℕ = rc_slice_items c.args.text.now in
     record { lines = ap {B = UnreadLines} (λ (z : Context). record { context = z; lines = texts_at text c.args.spans.now }) c.start.ensures ∙ ap {B = UnreadLines} (λ (z : List (List ℕ)). record { context = start; lines = z }) (ap (texts_at text) c.requires.spans ∙ line_ranges-text text) }

@@ -1,0 +1,75 @@
+//! The bytes of a line, as a stretch of a text.
+ghost use Rattle.std.specs.Prelude.{◌≡◌, ◌≤◌, IfOk, IsOkUnless, length};
+ghost use Rattle.std.specs.Rc.{rc_slice_items};
+ghost use Rattle.mk_lines.specs.Ranges.{text_at};
+
+use mk_lines::Fault;
+use mk_lines::split::Span;
+use std::alloc::{Allocator, Global};
+use std::marker::Model;
+use std::rc::RcSlice;
+
+/// The bytes of a line: a stretch of a text that the lines which were parsed from it own together.
+///
+/// So a document has one copy of its text, and not one of each line, and lets go of it at once. The
+/// text stays as long as one of its lines does.
+#[derive(Drop)]
+pub struct LineBytes<A: Allocator = Global> {
+    text: RcSlice<u8, A>,
+    span: Span,
+}
+
+impl<A: Allocator> Model for LineBytes<A> {
+    ghost use Rattle.std.specs.Prelude.{ℕ, List, ◌≤◌, length};
+    ghost use Rattle.std.specs.Rc.{rc_slice_items};
+    ghost use Rattle.mk_lines.specs.Ranges.{text_at};
+
+    ghost Value = { List ℕ };
+
+    ghost view = { λ b. text_at (rc_slice_items b.text) b.span };
+
+    ghost invariant = { λ b. (b.span.start ≤ b.span.end) × (b.span.end ≤ length (rc_slice_items b.text)) };
+}
+
+impl<A: Allocator> LineBytes<A> {
+    /// Bytes as a text of their own, of which nothing is copied.
+    ///
+    /// # Errors
+    ///
+    /// [`Fault::NoMemory`] where a growth was refused.
+    pub fn new(bytes: Vec<u8, A>) -> Result<LineBytes<A>, Fault>
+    where
+        A: Clone,
+        ensures ok { IfOk result (λ own. own ≡ bytes.items) }
+        ensures fault { IsOkUnless result Fault.NoMemory }
+    {
+        let text = RcSlice::from_vec(bytes)?;
+        let span = Span {
+            start: 0,
+            end: text.len(),
+        };
+        Ok(LineBytes { text, span })
+    }
+
+    /// A stretch of a text, of which nothing is copied.
+    ///
+    /// # Errors
+    ///
+    /// [`Fault::NoMemory`] where the text has as many owners as can be counted.
+    pub(crate) fn of_text(text: &RcSlice<u8, A>, span: Span) -> Result<LineBytes<A>, Fault>
+        requires order { span.start ≤ span.end }
+        requires within { span.end ≤ length (rc_slice_items text.now) }
+        ensures ok { IfOk result (λ bytes. bytes ≡ text_at (rc_slice_items text.now) span) }
+        ensures fault { IsOkUnless result Fault.NoMemory }
+    {
+        let text = text.clone()?;
+        Ok(LineBytes { text, span })
+    }
+
+    /// The bytes. Takes no memory.
+    pub fn as_slice(&self) -> &[u8]
+        ensures { result.now ≡ self.now }
+    {
+        &self.text.as_slice()[self.span.start..self.span.end]
+    }
+}
