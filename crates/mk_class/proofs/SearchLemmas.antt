@@ -1,6 +1,6 @@
 -- Lemmas of a search for bytes: where a text has none of them, no unit is one of them.
-use Rattle.std.proofs.Common.{◌≡◌, refl, sym, ap, ◌∙◌, ℕ, ◌<◌, ◌≤◌, List, [], ◌∷◌, ◌++◌, Bool, true, false, not, ◌||◌, ◌==◌, cond, get_or, length, arith, eq-eqb}
-use Rattle.std.specs.Prelude.{Option, Some, None}
+use Rattle.std.proofs.Common.{◌≡◌, refl, sym, ap, ◌∙◌, ℕ, ◌<◌, ◌≤◌, List, [], ◌∷◌, ◌++◌, Bool, true, false, not, ◌||◌, ◌&&◌, ◌==◌, cond, map, get_or, length, arith, eq-eqb}
+use Rattle.std.specs.Prelude.{Option, Some, None, codes}
 use Rattle.std.specs.List.{list_any}
 use Rattle.std.specs.Option.{is_some}
 use Rattle.std.proofs.lemmas.Bool.{eqb-true}
@@ -8,17 +8,26 @@ use Rattle.std.proofs.lemmas.List.Elements.{All-from_get_or}
 use Rattle.std.proofs.lemmas.List.Folds.{list_any-append, list_any_none}
 use Rattle.memchr.specs.Find.{IsFirstByte, is_byte, is_byte2, is_byte3}
 use Rattle.mk_lines.specs.Lists.{concat, leading, after_leading, trailing, trim_end, trailing_before}
-use Rattle.mk_lines.specs.ListLaws.{trim_end-trailing}
+use Rattle.mk_lines.specs.ListLaws.{concat-append, trim_end-trailing}
 use Rattle.mk_lines.specs.UnitWalk.{is_blank_byte}
 use Rattle.mk_lines.specs.Words.{is_gap}
-use Rattle.mk_lines.specs.Units.{units}
+use Rattle.mk_lines.specs.Bytes.{byte_kind}
+use Rattle.mk_lines.specs.FirstUnit.{is_unclosed_by, is_unclosed_unit}
+use Rattle.mk_lines.specs.Units.{Mark, byte_mark, units}
+use Rattle.mk_lines.specs.Units.Mark.{Dollar, Escape, OpenParen, CloseParen, OpenBrace, CloseBrace, Unmarked}
 use Rattle.mk_lines.specs.UnitLaws.{concat-units}
 use Rattle.mk_class.specs.CutTexts.{is_in_head}
-use Rattle.mk_class.specs.Lists.{any, last_passes}
+use Rattle.mk_class.specs.Lists.{any, first_passes, last_passes, until, from}
+use Rattle.mk_class.specs.ListLaws.{until-from}
+use Rattle.mk_class.specs.Assignments.{ends_name}
+use Rattle.mk_class.specs.Headers.{has_unreadable}
+use Rattle.mk_class.specs.RecipePrefix.{is_dot, is_prefix_name}
+use Rattle.mk_class.specs.Symbols.{is_blank_or_backslash, is_dollar_before_blank, is_dollar_mark, is_equals, is_escape, is_unreadable_unit}
+use Rattle.mk_class.specs.Texts.{is_same_text, unit_text}
 use Rattle.mk_class.specs.Scans.{is_one_byte_of, is_other}
 use Rattle.mk_class.specs.TextClasses.{itself}
 use Rattle.mk_class.proofs.ScanLemmas.{after_leading-same}
-use Rattle.mk_class.proofs.HeaderLemmas.{leading-same, is_in_head-byte}
+use Rattle.mk_class.proofs.HeaderLemmas.{equals-test, escape-byte, leading-same, is_in_head-byte}
 
 -- no byte passes where a search finds none
 pub search-none : (test : ℕ → Bool) (t : List ℕ) → IsFirstByte test t None → list_any test t ≡ false
@@ -159,3 +168,92 @@ no_blanks_at_end t h = sym (trailing-none (is_gap itself) (units itself t) (go (
     go : (c : Bool) → last_passes (is_gap itself) (units itself t) ≡ c → last_passes (is_gap itself) (units itself t) ≡ false
     go true e = absurd (let k : last_passes is_blank_byte t ≡ true = ap (last_passes is_blank_byte) (sym (concat-units itself t)) ∙ last-gap (units itself t) e in cc)
     go false e = e
+
+-- ---- units that may stand in no word of a header
+
+-- a byte with the mark of a dollar is one
+dollar_mark : (x : ℕ) → is_dollar_mark (byte_mark x) ≡ true → (x == 36) ≡ true
+dollar_mark x h = go (x == 36) refl
+  where
+    other : (a b c d e : Bool) → is_dollar_mark (cond a Escape (cond b OpenParen (cond c CloseParen (cond d OpenBrace (cond e CloseBrace Unmarked))))) ≡ false
+    other true b c d e = refl
+    other false true c d e = refl
+    other false false true d e = refl
+    other false false false true e = refl
+    other false false false false true = refl
+    other false false false false false = refl
+
+    go : (c : Bool) → (x == 36) ≡ c → (x == 36) ≡ true
+    go true e = e
+    go false e =
+        absurd (let n : is_dollar_mark (byte_mark x) ≡ false =
+        ap (λ z. is_dollar_mark (cond z Dollar (cond (x == 92) Escape (cond (x == 40) OpenParen (cond (x == 41) CloseParen (cond (x == 123) OpenBrace (cond (x == 125) CloseBrace Unmarked))))))) e
+        ∙ other (x == 92) (x == 40) (x == 41) (x == 123) (x == 125) in cc)
+
+-- a unit that is unclosed begins with one
+unclosed-dollar : (m : Mark) (u : List ℕ) → is_unclosed_by itself m u ≡ true → is_dollar_mark m ≡ true
+unclosed-dollar Dollar u h = refl
+unclosed-dollar Escape u h = cc
+unclosed-dollar OpenParen u h = cc
+unclosed-dollar CloseParen u h = cc
+unclosed-dollar OpenBrace u h = cc
+unclosed-dollar CloseBrace u h = cc
+unclosed-dollar Unmarked u h = cc
+
+and-left : (a b : Bool) → (a && b) ≡ true → a ≡ true
+and-left true b h = refl
+and-left false b h = cc
+
+before_blank-dollar : (x : ℕ) (u : List ℕ) → is_dollar_before_blank itself (x ∷ u) ≡ true → (x == 36) ≡ true
+before_blank-dollar x [] h = cc
+before_blank-dollar x (y ∷ u) h = dollar_mark x (and-left (is_dollar_mark (byte_mark x)) (is_blank_or_backslash y) h)
+
+equals-first : (x : ℕ) (u : List ℕ) → is_equals itself (x ∷ u) ≡ true → (x == 61) ≡ true
+equals-first x [] h = same-byte 61 x (equals-test x ∙ h)
+equals-first x (y ∷ u) h = cc
+
+-- such a unit begins with a `=`, a backslash or a dollar
+begins-unreadable : (x : ℕ) (u : List ℕ) → (is_equals itself (x ∷ u) || is_unreadable_unit itself (x ∷ u)) ≡ true → is_byte3 61 92 36 x ≡ true
+begins-unreadable x u h =
+    go (is_equals itself (x ∷ u)) refl (is_escape itself (x ∷ u)) refl (is_dollar_before_blank itself (x ∷ u)) refl (is_unclosed_unit itself (x ∷ u)) refl h
+  where
+    first : (a b c : Bool) → a ≡ true → (a || b || c) ≡ true
+    first true b c e = refl
+    first false b c e = cc
+
+    second : (a b c : Bool) → b ≡ true → (a || b || c) ≡ true
+    second true b c e = refl
+    second false true c e = refl
+    second false false c e = cc
+
+    third : (a b c : Bool) → c ≡ true → (a || b || c) ≡ true
+    third true b c e = refl
+    third false true c e = refl
+    third false false c e = e
+
+    go : (a : Bool) → is_equals itself (x ∷ u) ≡ a → (b : Bool) → is_escape itself (x ∷ u) ≡ b → (c : Bool) → is_dollar_before_blank itself (x ∷ u) ≡ c
+        → (d : Bool) → is_unclosed_unit itself (x ∷ u) ≡ d → (a || (b || (c || d))) ≡ true → is_byte3 61 92 36 x ≡ true
+    go true e b f c k d l h = first (x == 61) (x == 92) (x == 36) (equals-first x u e)
+    go false e true f c k d l h = second (x == 61) (x == 92) (x == 36) (eq-eqb x 92 (escape-byte x (byte_kind x) refl f))
+    go false e false f true k d l h = third (x == 61) (x == 92) (x == 36) (before_blank-dollar x u k)
+    go false e false f false k true l h = third (x == 61) (x == 92) (x == 36) (dollar_mark x (unclosed-dollar (byte_mark x) u l))
+    go false e false f false k false l h = cc
+
+-- so a text without these has none
+pub none-unreadable : (t : List ℕ) (r : Option ℕ) → IsFirstByte (is_byte3 61 92 36) t r → is_some r ≡ false → has_unreadable itself (units itself t) ≡ false
+none-unreadable t r h e =
+    absent-units (is_byte3 61 92 36) (λ u. is_equals itself u || is_unreadable_unit itself u) begins-unreadable refl t (search-no_some (is_byte3 61 92 36) t r h e)
+
+-- ---- the recipe prefix
+
+-- a name is `.RECIPEPREFIX` only where the text that it begins begins with a `.`
+pub no_dot-name : (t : List ℕ) → first_passes is_dot t ≡ false → is_prefix_name (unit_text itself (until (ends_name itself) (units itself t))) ≡ false
+no_dot-name t h =
+    go (concat (until (ends_name itself) (units itself t))) (concat (from (ends_name itself) (units itself t)))
+    (sym (concat-append (until (ends_name itself) (units itself t)) (from (ends_name itself) (units itself t))) ∙ (ap concat (until-from (ends_name itself) (units itself t)) ∙ concat-units itself t))
+  where
+    go : (name rest : List ℕ) → name ++ rest ≡ t → is_prefix_name (map itself name) ≡ false
+    go [] rest e = refl
+    go (x ∷ name) rest e =
+        let k : (x == 46) ≡ false = ap (first_passes is_dot) e ∙ h in
+        ap (λ c. c && is_same_text (map itself name) (codes "RECIPEPREFIX")) k

@@ -86,10 +86,15 @@ pub fn is_reserved_word(word: &[u8]) -> bool
     keyword_of(word).is_some() || modifier_of(word).is_some()
 }
 
-/// The class that the words of a cut text say, where they say one.
+/// The class that the words of a cut text say, where they say one. The first is a reserved word then,
+/// and it alone is read of most lines.
 pub(crate) fn directive_class(text: &[u8], in_conditional: bool) -> Option<Class>
     ensures { result ≡ known_class (directive in_conditional (text_words text.now)) }
 {
+    let (word, _) = split_first_word(text)?;
+    if !is_reserved_word(word) {
+        return None;
+    }
     let bare = after_modifiers(text);
     match (first_keyword(text), first_keyword(bare)) {
         (_, Some(Keyword::Define)) => Some(Class::DefineHead(defines_prefix(bare))),
