@@ -1,12 +1,14 @@
 //! Measures the lines of a file: `line_bench FILE` reads it, and prints the processor time of
-//! splitting it, of the cells of its lines, and of its units and words, in microseconds, with how
-//! many of them there are. `bench/lines` runs it.
+//! splitting it, of the cells of its lines, of its units and words, and of the classes of its lines
+//! with their cells, in microseconds, with how many of them there are. `bench/lines` runs it.
 #![tactic(auto)]
 
-use anyhow::Context;
+use anyhow::Context as _;
+use mk_class::context::MAX_DEFINES;
+use mk_class::{Class, Context, Meter, classify};
 use mk_lines::cells::cells;
 use mk_lines::source::read_all;
-use mk_lines::split::split;
+use mk_lines::split::{Span, split};
 use mk_lines::{StdSource, units, words};
 use std::fs::File;
 use std::time::{CpuClock, Duration};
@@ -38,7 +40,30 @@ fn measure(rt: &HostRuntime, text: &[u8]) -> anyhow::Result<()> {
     let start = rt.process_cpu_time()?;
     let count = words(text).count();
     println!(rt; "words {} {count}", micros_since(rt, start)?)?;
+
+    let start = rt.process_cpu_time()?;
+    let count = read_lines(rt, text, lines.as_slice())?;
+    println!(rt; "classes {} {count}", micros_since(rt, start)?)?;
     Ok(())
+}
+
+// How many of the lines are read inside, each classified in its context.
+fn read_lines(rt: &HostRuntime, text: &[u8], lines: &[Span]) -> anyhow::Result<usize> {
+    let mut context = Context::start();
+    let mut meter = Meter::new();
+    let mut read = 0usize;
+    for line in lines {
+        if context.defines() == MAX_DEFINES {
+            break;
+        }
+        let line = text.get(line.start..line.end).unwrap_or_default();
+        let (class, next) = classify(rt.alloc(), line, context, &mut meter)?;
+        if class != Class::Opaque {
+            read = read.saturating_add(1);
+        }
+        context = next;
+    }
+    Ok(read)
 }
 
 fn main(rt: HostRuntime) -> anyhow::Result<()> {

@@ -6,7 +6,7 @@ use Rattle.std.proofs.lemmas.Bool.{eqb-true}
 use Rattle.mk_lines.specs.Lists.{leading}
 use Rattle.mk_lines.specs.Units.Mark.{Dollar, Escape, OpenParen, CloseParen, OpenBrace, CloseBrace, Unmarked}
 use Rattle.mk_class.specs.Lists.{first_passes}
-use Rattle.mk_class.specs.Symbols.{Symbol, byte_symbol, is_hash, is_colon, is_bar, is_hash_symbol, is_colon_symbol, is_semicolon_symbol, is_bar_symbol}
+use Rattle.mk_class.specs.Symbols.{Symbol, byte_symbol, is_hash, is_colon, is_bar, is_equals_symbol, is_hash_symbol, is_colon_symbol, is_semicolon_symbol, is_bar_symbol}
 use Rattle.mk_class.specs.Symbols.Symbol.{Hash, Colon, Semicolon, Equals, Plus, Question, Exclamation, Bar, Ampersand, NoSymbol}
 use Rattle.mk_class.specs.SymbolLaws.{symbol_byte, byte_symbol-byte}
 use Rattle.mk_class.specs.CutTexts.{is_head_end_symbol, is_in_head}
@@ -52,7 +52,7 @@ more_tests false false false true false y = refl
 more_tests false false false false true y = refl
 more_tests false false false false false y = refl
 
-escape-byte : (x : ℕ) (k : ByteKind) → byte_kind x ≡ k → is_backslash_kind k ≡ true → x ≡ 92
+pub escape-byte : (x : ℕ) (k : ByteKind) → byte_kind x ≡ k → is_backslash_kind k ≡ true → x ≡ 92
 escape-byte x LineFeed e h = cc
 escape-byte x CarriageReturn e h = cc
 escape-byte x Backslash e h = backslash-byte x e
@@ -166,6 +166,18 @@ bar_symbol-is Bar h = refl
 bar_symbol-is Ampersand h = cc
 bar_symbol-is NoSymbol h = cc
 
+equals_symbol-is : (s : Symbol) → is_equals_symbol s ≡ true → s ≡ Equals
+equals_symbol-is Hash h = cc
+equals_symbol-is Colon h = cc
+equals_symbol-is Semicolon h = cc
+equals_symbol-is Equals h = refl
+equals_symbol-is Plus h = cc
+equals_symbol-is Question h = cc
+equals_symbol-is Exclamation h = cc
+equals_symbol-is Bar h = cc
+equals_symbol-is Ampersand h = cc
+equals_symbol-is NoSymbol h = cc
+
 head_end-symbol : (s : Symbol) → (is_semicolon_symbol s || (is_hash_symbol s || false)) ≡ is_head_end_symbol s
 head_end-symbol Hash = refl
 head_end-symbol Colon = refl
@@ -199,6 +211,9 @@ hash-test x = byte-test 35 Hash is_hash_symbol refl refl (λ e. cc) refl hash_sy
 
 semicolon-test : (x : ℕ) → (59 == x) ≡ is_semicolon_symbol (byte_symbol x)
 semicolon-test x = byte-test 59 Semicolon is_semicolon_symbol refl refl (λ e. cc) refl semicolon_symbol-is x
+
+pub equals-test : (x : ℕ) → (61 == x) ≡ is_equals_symbol (byte_symbol x)
+equals-test x = byte-test 61 Equals is_equals_symbol refl refl (λ e. cc) refl equals_symbol-is x
 
 or_false : (b : Bool) → (b || false) ≡ b
 or_false true = refl

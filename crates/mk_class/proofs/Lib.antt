@@ -3,6 +3,7 @@ mod HeaderPartLemmas
 mod HeaderLemmas
 mod AssignmentLemmas
 mod ScanLemmas
+mod SearchLemmas
 mod WorkedRows
 mod RandomArguments
 mod ClassNames

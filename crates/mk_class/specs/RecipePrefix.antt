@@ -15,6 +15,10 @@ abbrev pub is_prefix_led : (prefix : ℕ) → List ℕ → Bool
 is_prefix_led p [] = false
 is_prefix_led p (b ∷ l) = b == p
 
+-- whether a byte is a `.`
+abbrev pub is_dot : ℕ → Bool
+is_dot b = b == 46
+
 -- whether a variable's name is `.RECIPEPREFIX`
 abbrev pub is_prefix_name : List ℕ → Bool
 is_prefix_name n = is_same_text n (codes ".RECIPEPREFIX")

@@ -9,7 +9,7 @@ ghost use Rattle.mk_class.specs.TextClasses.{itself};
 ghost use Rattle.mk_class.specs.Scans.{IsOperatorAt};
 ghost use Rattle.mk_class.specs.AssignmentPlaces.{placed};
 
-use crate::keyword::modifier_of;
+use crate::keyword::{may_begin_modifier, modifier_of};
 use crate::rule::Separator;
 use crate::scan::{after_blanks, after_colon, after_equals, before, blanks_at_end, from_any};
 use mk_lines::after_first_unit;
@@ -103,6 +103,9 @@ pub(crate) fn assignment_at_end(text: &[u8], len: usize) -> Option<Assignment>
             return definition;
         }
         let word = after_blanks(rest);
+        if !may_begin_modifier(word) {
+            return None;
+        }
         let after = from_any(word, b" \t");
         modifier_of(before(word, after))?;
         rest = after;

@@ -16,6 +16,7 @@ use crate::rule::{Header, Separator};
 use crate::scan::{
     after_colon, before, blanks_at_end, has_unit, is_blank, split_at_unit, split_head,
 };
+use memchr::memchr3;
 use mk_lines::{after_first_unit, is_closed, split_first_word};
 
 /// The line of a rule, as a header or as Rough.
@@ -224,11 +225,12 @@ pub(crate) fn separate(text: &[u8]) -> (Separator, &[u8], &[u8])
     }
 }
 
-/// Whether a head has a unit that may stand in no word of a header, or a `=`.
+/// Whether a head has a unit that may stand in no word of a header, or a `=`. Each such unit begins
+/// with a `=`, a backslash or a `$`, of which most heads have none.
 fn has_unreadable(head: &[u8]) -> bool
     ensures { result ≡ has_unreadable itself (units itself head.now) }
 {
-    has_unreadable_front(head) || !is_closed(head)
+    memchr3(b'=', b'\\', b'$', head).is_some() && (has_unreadable_front(head) || !is_closed(head))
 }
 
 /// Whether a text has a unit that is a `=`, begins with a backslash, or is a `$` before a blank or a

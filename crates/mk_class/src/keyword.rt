@@ -7,8 +7,9 @@
 ghost use Rattle.std.specs.Prelude.{◌≡◌};
 ghost use Rattle.mk_lines.specs.Units.{units};
 ghost use Rattle.mk_class.specs.ClassTable.{defines_prefix, directive};
-ghost use Rattle.mk_class.specs.FirstWords.{known_class, meant_keyword, modifier, text_words};
+ghost use Rattle.mk_class.specs.FirstWords.{is_modifier_letter, known_class, meant_keyword, modifier, text_words};
 ghost use Rattle.mk_class.specs.Keywords.{after_modifiers, directive_words, first_keyword, if_words, is_reserved_word, keyword};
+ghost use Rattle.mk_class.specs.Lists.{first_passes};
 ghost use Rattle.mk_class.specs.TextClasses.{body_text_class, itself};
 ghost use Rattle.mk_class.specs.Texts.{is_one_of, is_same_text};
 
@@ -74,6 +75,13 @@ pub(crate) fn modifier_of(word: &[u8]) -> Option<Modifier>
     }
 }
 
+/// Whether the first byte of a text is one that a modifier begins with.
+pub(crate) fn may_begin_modifier(text: &[u8]) -> bool
+    ensures { result ≡ first_passes is_modifier_letter text.now }
+{
+    matches!(text, [b'o' | b'e' | b'p', ..])
+}
+
 /// Whether a word is one that no target of a rule may be, since a line that begins with it would be
 /// read otherwise: a word of a directive or a conditional, or a modifier. Takes no memory.
 ///
@@ -86,10 +94,15 @@ pub fn is_reserved_word(word: &[u8]) -> bool
     keyword_of(word).is_some() || modifier_of(word).is_some()
 }
 
-/// The class that the words of a cut text say, where they say one.
+/// The class that the words of a cut text say, where they say one. The first is a reserved word then,
+/// and it alone is read of most lines.
 pub(crate) fn directive_class(text: &[u8], in_conditional: bool) -> Option<Class>
     ensures { result ≡ known_class (directive in_conditional (text_words text.now)) }
 {
+    let (word, _) = split_first_word(text)?;
+    if !is_reserved_word(word) {
+        return None;
+    }
     let bare = after_modifiers(text);
     match (first_keyword(text), first_keyword(bare)) {
         (_, Some(Keyword::Define)) => Some(Class::DefineHead(defines_prefix(bare))),

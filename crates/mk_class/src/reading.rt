@@ -12,7 +12,8 @@ ghost use Rattle.mk_class.specs.ClassTable.{is_unreadable};
 ghost use Rattle.mk_class.specs.declared.class.Class.TheVariants.{If};
 ghost use Rattle.mk_class.specs.LineReads.{IsRead, IsTooDeep};
 ghost use Rattle.mk_class.specs.CutTexts.{cut_text};
-ghost use Rattle.mk_class.specs.RecipePrefix.{may_be_prefix, may_set_prefix, prefix_of_value, prefix_set_by};
+ghost use Rattle.mk_class.specs.Lists.{first_passes};
+ghost use Rattle.mk_class.specs.RecipePrefix.{is_dot, may_be_prefix, may_set_prefix, prefix_of_value, prefix_set_by};
 ghost use Rattle.mk_class.specs.Separators.{takes_assignment};
 ghost use Rattle.mk_class.specs.TextClasses.{itself, plain_text_class, rule_text_class, text_class};
 
@@ -189,11 +190,14 @@ fn takes_assignment(separator: Separator) -> bool
 fn prefix_set_by(cut: &[u8], in_conditional: bool) -> Option<u8>
     ensures { (a : Assignment ℕ) → assignment itself (units itself cut.now) ≡ Some a → result ≡ prefix_set_by itself in_conditional a }
 {
-    let named = after_blanks(cut);
-    let after_name = after_name(named);
     if in_conditional {
         return None;
     }
+    let named = after_blanks(cut);
+    if !begins_with_dot(named) {
+        return None;
+    }
+    let after_name = after_name(named);
     if !is_text(before(named, after_name), b".RECIPEPREFIX") {
         return None;
     }
@@ -203,6 +207,13 @@ fn prefix_set_by(cut: &[u8], in_conditional: bool) -> Option<u8>
     }
     let value = after_blanks(operand);
     prefix_of_value(before(value, blanks_at_end(value)))
+}
+
+/// Whether the first byte of a text is a `.`, as that of `.RECIPEPREFIX` is.
+fn begins_with_dot(text: &[u8]) -> bool
+    ensures { result ≡ first_passes is_dot text.now }
+{
+    matches!(text, [b'.', ..])
 }
 
 /// Whether an assignment of this flavor may set the recipe prefix.

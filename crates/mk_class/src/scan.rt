@@ -10,9 +10,10 @@ ghost use Rattle.mk_lines.specs.UnitWalk.{is_blank_byte};
 ghost use Rattle.mk_class.specs.CutTexts.{after_head, cut_text, head};
 ghost use Rattle.mk_class.specs.TextClasses.{itself};
 ghost use Rattle.mk_class.specs.Scans.{AreUnmarked, IsSplitAt, is_one_byte_of, is_other};
-ghost use Rattle.mk_class.specs.Lists.{any, first_passes};
+ghost use Rattle.mk_class.specs.Lists.{any, first_passes, last_passes};
 ghost use Rattle.mk_class.specs.Symbols.{is_colon, is_equals, is_hash};
 
+use memchr::{memchr, memchr2};
 use mk_lines::after_first_unit;
 
 /// What follows the blanks at the front of a text.
@@ -55,13 +56,28 @@ pub(crate) fn from_any<'a>(text: &'a [u8], stops: &[u8]) -> &'a [u8]
     rest
 }
 
+/// A text from its first unit on that is this byte, and nothing where none is.
+///
+/// The byte may be neither `$` nor a backslash. Where the text does not have it, as most texts do
+/// not, no unit needs to be looked at.
+fn from_unit(text: &[u8], byte: u8) -> &[u8]
+    requires { byte_mark byte ≡ Unmarked }
+    ensures rest { units itself result.now ≡ after_leading (is_other (byte ∷ [])) (units itself text.now) }
+    ensures within { length result.now ≤ length text.now }
+{
+    match memchr(byte, text) {
+        Some(_) => from_any(text, &[byte]),
+        None => &[],
+    }
+}
+
 /// A text split at its first unit that is this byte, which is neither `$` nor a backslash: what stands
 /// before it and what follows it. It is `None` where no unit is the byte.
 pub(crate) fn split_at_unit(text: &[u8], byte: u8) -> Option<(&[u8], &[u8])>
     requires { byte_mark byte ≡ Unmarked }
     ensures { MatchOption result (after_leading (is_other (byte ∷ [])) (units itself text.now) ≡ []) (λ parts. IsSplitAt byte (units itself text.now) (units itself parts.0.now) (units itself parts.1.now)) }
 {
-    let rest = from_any(text, &[byte]);
+    let rest = from_unit(text, byte);
     if rest.is_empty() {
         return None;
     }
@@ -73,7 +89,7 @@ pub(crate) fn has_unit(text: &[u8], byte: u8) -> bool
     requires { byte_mark byte ≡ Unmarked }
     ensures { result ≡ any (is_one_byte_of (byte ∷ [])) (units itself text.now) }
 {
-    !from_any(text, &[byte]).is_empty()
+    !from_unit(text, byte).is_empty()
 }
 
 /// What stands in a text before a rest of it.
@@ -96,7 +112,7 @@ pub(crate) fn has_hash(text: &[u8]) -> bool
 pub(crate) fn cut_text(text: &[u8]) -> &[u8]
     ensures { units itself result.now ≡ cut_text itself (units itself text.now) }
 {
-    before(text, from_any(text, b"#"))
+    before(text, from_unit(text, b'#'))
 }
 
 /// The head of a rule's line, which is its joined text before a `;` or a comment, and what follows it.
@@ -104,6 +120,9 @@ pub(crate) fn split_head(text: &[u8]) -> (&[u8], &[u8])
     ensures head { units itself result.0.now ≡ head itself (units itself text.now) }
     ensures tail { units itself result.1.now ≡ after_head itself (units itself text.now) }
 {
+    if memchr2(b';', b'#', text).is_none() {
+        return (text, &[]);
+    }
     let tail = from_any(text, b";#");
     (before(text, tail), tail)
 }
@@ -113,6 +132,9 @@ pub(crate) fn blanks_at_end(text: &[u8]) -> &[u8]
     ensures rest { units itself result.now ≡ trailing (is_gap itself) (units itself text.now) }
     ensures within { length result.now ≤ length text.now }
 {
+    if !ends_with_blank(text) {
+        return &[];
+    }
     let mut rest = text;
     loop {
         let word = after_blanks(rest);
@@ -120,6 +142,16 @@ pub(crate) fn blanks_at_end(text: &[u8]) -> &[u8]
             return rest;
         }
         rest = from_any(after_first_unit(word), b" \t");
+    }
+}
+
+/// Whether the last byte of a text is a blank.
+fn ends_with_blank(text: &[u8]) -> bool
+    ensures { result ≡ last_passes is_blank_byte text.now }
+{
+    match text {
+        [.., last] => is_blank(*last),
+        [] => false,
     }
 }
 

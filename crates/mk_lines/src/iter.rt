@@ -6,7 +6,7 @@ ghost use Rattle.mk_lines.specs.UnitWalk.{units_left, words_left};
 ghost use Rattle.mk_lines.specs.declared.split.Span.{Span};
 
 use crate::split::Span;
-use crate::unit::after_unit;
+use crate::unit::after_first_unit;
 use crate::word::{after_blanks, after_word};
 use std::iter::FusedIterator;
 use std::marker::Model;
@@ -53,7 +53,7 @@ impl<'a> Iterator for Units<'a> {
             return None;
         }
         let start = self.text_len - self.rest.len();
-        self.rest = after_unit(self.rest).unwrap_or_default();
+        self.rest = after_first_unit(self.rest);
         let end = self.text_len - self.rest.len();
         Some(Span { start, end })
     }

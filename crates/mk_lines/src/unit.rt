@@ -45,7 +45,7 @@ pub fn split_first_unit(text: &[u8]) -> Option<(&[u8], &[u8])>
     if text.is_empty() {
         return None;
     }
-    let after = after_unit(text).unwrap_or_default();
+    let after = after_first_unit(text);
     Some(text.split_at(text.len() - after.len()))
 }
 
@@ -70,15 +70,17 @@ pub fn is_closed(text: &[u8]) -> bool
 ///
 /// So a text is read from its front, one unit at a time; what is left has the other units. The time
 /// is linear in the bytes of the first unit.
+#[inline]
 pub fn after_first_unit(text: &[u8]) -> &[u8]
     ensures rest { result.now ≡ after_first_unit (λ b. b) text.now }
     ensures shorter { 0 < length text.now → length result.now < length text.now }
     ensures within { length result.now ≤ length text.now }
 {
-    if text.is_empty() {
-        return text;
+    match text {
+        [b'$' | b'\\', ..] => after_unit(text).unwrap_or_default(),
+        [_, rest @ ..] => rest,
+        [] => text,
     }
-    after_unit(text).unwrap_or_default()
 }
 
 /// What follows the unit at the front of a text.

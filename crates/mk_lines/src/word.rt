@@ -12,7 +12,7 @@ ghost use Rattle.mk_lines.specs.Words.{words};
 ghost use Rattle.mk_lines.specs.UnitWalk.{is_blank_byte, after_word};
 
 use crate::iter::Words;
-use crate::unit::after_unit;
+use crate::unit::after_first_unit;
 
 /// The words of a text, from its front to its end, each as the range of its bytes.
 ///
@@ -68,7 +68,7 @@ pub(crate) fn after_word(text: &[u8]) -> &[u8]
         if is_blank(*first) {
             break;
         }
-        rest = after_unit(rest).unwrap_or_default();
+        rest = after_first_unit(rest);
     }
     rest
 }

@@ -1,5 +1,6 @@
 use Rattle.std.proofs.Common.{sym, ◌∙◌, ap, not}
 use Rattle.mk_class.proofs.HeaderLemmas.{unreadable-amiss, unreadable-closed}
+use Rattle.mk_class.proofs.SearchLemmas.{none-unreadable}
 use Rattle.mk_class.proofs.header.has_unreadable.Goals as goal
 
 pub returns-then-has_unreadable_front : goal.returns-then-has_unreadable_front
@@ -7,3 +8,6 @@ returns-then-has_unreadable_front c = c.if-has_unreadable_front.true ∙ unreada
 
 pub returns-else-has_unreadable_front : goal.returns-else-has_unreadable_front
 returns-else-has_unreadable_front c = ap not c.is_closed.ensures ∙ unreadable-closed c.args.head.now (sym c.has_unreadable_front.ensures ∙ c.if-has_unreadable_front.false)
+
+pub returns-else-is_some : goal.returns-else-is_some
+returns-else-is_some c = c.if-is_some.false ∙ sym (none-unreadable c.args.head.now c.memchr3.result c.memchr3.ensures (sym c.is_some.ensures ∙ c.if-is_some.false))

@@ -2,7 +2,7 @@ use Rattle.std.proofs.Common.{sym, ◌∙◌, ap, refl, map, drop, true, false}
 use Rattle.mk_lines.specs.Lists.{trim_end}
 use Rattle.mk_lines.specs.Units.{units}
 use Rattle.mk_lines.specs.Words.{is_gap}
-use Rattle.mk_class.specs.Lists.{until}
+use Rattle.mk_class.specs.Lists.{from, until}
 use Rattle.mk_class.specs.Texts.{unit_text}
 use Rattle.mk_class.specs.Symbols.{symbol}
 use Rattle.mk_class.specs.Assignments.{ends_name, operator_at, operator_length, after_blanks}
@@ -10,7 +10,15 @@ use Rattle.mk_class.specs.RecipePrefix.{is_prefix_name}
 use Rattle.mk_class.specs.TextClasses.{itself}
 use Rattle.mk_class.proofs.ScanLemmas.{until-before, trim_end-before}
 use Rattle.mk_class.proofs.ReadingLemmas.{prefix-front, prefix-other_name, prefix-no_operator, prefix-by, text-is}
+use Rattle.mk_class.proofs.SearchLemmas.{no_dot-name}
 use Rattle.mk_class.proofs.reading.prefix_set_by.Goals as goal
+
+pub returns-then-not-begins_with_dot : goal.returns-then-not-begins_with_dot
+returns-then-not-begins_with_dot c a h =
+    let N = units itself c.after_blanks-named.result.now in
+    prefix-other_name (operator_at (map (symbol itself) (after_blanks itself (from (ends_name itself) N)))) (until (ends_name itself) N) c.args.in_conditional (after_blanks itself (from (ends_name itself) N))
+    (no_dot-name c.after_blanks-named.result.now (sym c.begins_with_dot.ensures ∙ c.if-not-begins_with_dot.true))
+    ∙ sym (prefix-front (units itself c.args.cut.now) N (from (ends_name itself) N) (after_blanks itself (from (ends_name itself) N)) c.args.in_conditional a c.after_blanks-named.ensures.rest refl refl h)
 
 pub returns-then-not-is_text : goal.returns-then-not-is_text
 returns-then-not-is_text c a h =

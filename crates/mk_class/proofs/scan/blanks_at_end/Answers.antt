@@ -1,5 +1,6 @@
 use Rattle.std.proofs.Common.{◌∙◌, sym, arith}
 use Rattle.mk_class.proofs.ScanLemmas.{blanks_at_end-step, blanks_at_end-whole}
+use Rattle.mk_class.proofs.SearchLemmas.{no_blanks_at_end}
 use Rattle.mk_class.proofs.scan.blanks_at_end.Goals as goal
 
 pub loop-word-preserved : goal.loop-word-preserved
@@ -10,3 +11,6 @@ loop-word-preserved c = record {
 
 pub returns-then-is_empty-clause-rest : goal.returns-then-is_empty-clause-rest
 returns-then-is_empty-clause-rest c = blanks_at_end-whole c.loop-word.rest.now c.after_blanks-word.result.now c.after_blanks-word.ensures.rest (sym c.is_empty.ensures ∙ c.if-is_empty.true) ∙ c.loop-word.invariant.same
+
+pub returns-then-not-ends_with_blank-clause-rest : goal.returns-then-not-ends_with_blank-clause-rest
+returns-then-not-ends_with_blank-clause-rest c = no_blanks_at_end c.args.text.now (sym c.ends_with_blank.ensures ∙ c.if-not-ends_with_blank.true)

@@ -11,5 +11,5 @@ use Rattle.mk_class.proofs.scan.cut_text.Goals as goal
 pub returns : goal.returns
 returns c =
     c.before-2.ensures.units (leading (is_no_hash itself) (units itself c.args.text.now))
-    (leading-before (is_no_hash itself) c.args.text.now c.from_any.result.now
-    (c.from_any.ensures.rest ∙ after_leading-same (is_other (35 ∷ [])) (is_no_hash itself) (λ u. ap not (is_hash-byte u)) (units itself c.args.text.now)))
+    (leading-before (is_no_hash itself) c.args.text.now c.from_unit.result.now
+    (c.from_unit.ensures.rest ∙ after_leading-same (is_other (35 ∷ [])) (is_no_hash itself) (λ u. ap not (is_hash-byte u)) (units itself c.args.text.now)))

@@ -1,12 +1,11 @@
 use Rattle.std.proofs.Common.{rules, ◌∙◌, sym}
-use Rattle.mk_lines.proofs.UnitWalkLemmas.{after_unit-or_nothing, units_left-next}
+use Rattle.mk_lines.proofs.UnitWalkLemmas.{units_left-next}
 use Rattle.mk_lines.proofs.iter.UnitsIterator.next.Goals as goal
 
 pub returns-clause-steps : goal.returns-clause-steps
 returns-clause-steps c =
     sym c.self.view_is
-    ∙ units_left-next c.self.inside.text_len c.self.inside.rest.now c.unwrap_or_default-self-inside.result.now (sym c.is_empty.ensures ∙ c.if-is_empty.false)
-    (after_unit-or_nothing c.self.inside.rest.now c.after_unit.result c.unwrap_or_default-self-inside.result c.after_unit.ensures.after c.unwrap_or_default-self-inside.ensures)
+    ∙ units_left-next c.self.inside.text_len c.self.inside.rest.now c.after_first_unit-self-inside.result.now (sym c.is_empty.ensures ∙ c.if-is_empty.false) c.after_first_unit-self-inside.ensures.rest
     c.self.invariant
 
 pub returns-clause-goes : goal.returns-clause-goes
