@@ -158,6 +158,7 @@ read-all text old left read e h n = go left.lines refl
   where
     whole : AreReadFrom (record { context = start; lines = logical_lines text }) read left
     whole = subst (λ z. AreReadFrom z read left) e h
+
     go : (ls : List (List ℕ)) → left.lines ≡ ls → (read ≡ document_lines text) × AreConditionalsFit 0 (document_lines text)
     go [] none =
         let empty : shown left ≡ [] = ap (λ z. placed_lines (classed left.context z)) none in (
@@ -165,6 +166,16 @@ read-all text old left read e h n = go left.lines refl
           whole.fit (subst (AreConditionalsFit left.context.conditionals) (sym empty) tt),
         )
     go (l ∷ ls) some = absurd (omega (arith, n, ap length some))
+
+length-shown : (c : Context) (ls : List (List ℕ)) → length (placed_lines (classed c ls)) ≡ length ls
+length-shown c [] = refl
+length-shown c (l ∷ ls) = ap suc (length-shown (context_after c (class_of c l)) ls)
+
+-- as many as there are
+pub all-counted : (text : List ℕ) (old left : UnreadLines) (read : List PlacedLine) → old ≡ record { context = start; lines = logical_lines text } → AreReadFrom old read left
+    → length old.lines ≡ length left.lines + length old.lines → length read ≡ length old.lines
+all-counted text old left read e h n =
+    ap length (read-all text old left read e h n).0 ∙ (length-shown start (logical_lines text) ∙ ap (λ (u : UnreadLines). length u.lines) (sym e))
 
 -- ---- the whole text
 

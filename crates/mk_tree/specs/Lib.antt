@@ -24,3 +24,4 @@ pub mod Printing
 pub mod Admissions
 pub mod Faults
 pub mod Unread
+pub mod Counting

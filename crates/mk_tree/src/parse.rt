@@ -1,5 +1,6 @@
 //! A text as a document.
-ghost use Rattle.std.specs.Prelude.{◌≡◌, ◌+◌, ◌^◌, ◌<◌, ◌≤◌, IfErr, IfOk, length};
+ghost use Rattle.std.specs.Prelude.{◌≡◌, ◌+◌, ◌^◌, ◌<◌, ◌≤◌, IfErr, IfOk, OnOk, length};
+ghost use Rattle.mk_tree.specs.Counting.{AreCounted};
 ghost use Rattle.mk_tree.specs.Faults.{IsParsingFault, IsReadingFault};
 ghost use Rattle.mk_tree.specs.Documents.{IsFaithfulTo, IsTooDeep};
 ghost use Rattle.mk_tree.specs.PlacedLines.{size_of};
@@ -34,6 +35,7 @@ impl<A: Allocator + Copy> Doc<A> {
         ensures short { IfOk result (λ _. length text.now ≤ 2 ^ 24) }
         ensures shallow { IfOk result (λ _. IsTooDeep text.now → ⊥) }
         ensures fault { IfErr result (λ fault. IsParsingFault (2 ^ 24 < length text.now) (IsTooDeep text.now) fault) }
+        ensures counted { IfOk result (λ doc. AreCounted meter.old (length doc) meter.new) }
     {
         if text.len() > SIZE_LIMIT {
             return Err(Fault::TooLong);
@@ -52,6 +54,7 @@ impl<A: Allocator + Copy> Doc<A> {
         ensures short { IfOk result (λ _. length text.items ≤ 2 ^ 24) }
         ensures shallow { IfOk result (λ _. IsTooDeep text.items → ⊥) }
         ensures fault { IfErr result (λ fault. IsParsingFault (2 ^ 24 < length text.items) (IsTooDeep text.items) fault) }
+        ensures counted { IfOk result (λ doc. AreCounted meter.old (length doc) meter.new) }
     {
         if text.len() > SIZE_LIMIT {
             return Err(Fault::TooLong);
@@ -78,6 +81,7 @@ fn read_tree<A: Allocator + Copy>(
     ensures count { IfOk result (λ _. length lines.old.lines ≡ length lines.new.lines + count) }
     ensures low { IfOk result (λ tree. IsLowest count tree.1) }
     ensures fault { IfErr result (λ fault. IsReadingFault (AreTooDeep lines.old) fault) }
+    ensures counted { OnOk result (AreCounted meter.old count meter.new) }
 {
     if count == 0 {
         return Ok(Tree::new());

@@ -1,5 +1,5 @@
 //! The lines of a text that are still to be read.
-ghost use Rattle.std.specs.Prelude.{◌≡◌, ◌+◌, ◌^◌, ◌<◌, ◌≤◌, ◌∷◌, [], IfErr, IfOk, OnOk, IsOkUnless, length};
+ghost use Rattle.std.specs.Prelude.{◌≡◌, ◌+◌, ◌-◌, ◌^◌, ◌<◌, ◌≤◌, ◌∷◌, [], IfErr, IfOk, OnOk, length, min};
 ghost use Rattle.std.specs.Rc.{rc_slice_items};
 ghost use Rattle.mk_lines.specs.LogicalLines.{logical_lines};
 ghost use Rattle.mk_lines.specs.Ranges.{line_ranges, text_at};
@@ -67,6 +67,7 @@ impl<'a, A: Allocator + Copy> Unread<'a, A> {
         ensures read { IfOk result (λ line. AreReadFrom self.old (line_view line ∷ []) self.new) }
         ensures count { length self.old.lines ≡ length self.new.lines + 1 }
         ensures fault { IfErr result (λ fault. IsReadingFault (AreTooDeep self.old) fault) }
+        ensures counted { OnOk result (meter.new ≡ min (meter.old + 1) (2 ^ 64 - 1)) }
     {
         let Some((span, rest)) = self.spans.split_first() else {
             unreachable!()

@@ -2,7 +2,7 @@ use Rattle.std.proofs.Common.{◌∙◌, ◌+◌, length, arith, ap}
 use Rattle.std.specs.Rc.{rc_slice_items}
 use Rattle.mk_tree.specs.PlacedLines.{size_of}
 use Rattle.mk_tree.specs.Unread.{UnreadLines, shown}
-use Rattle.mk_tree.proofs.Reading.{read-all, shallow, size_of-document}
+use Rattle.mk_tree.proofs.Reading.{read-all, all-counted, shallow, size_of-document}
 use Rattle.mk_tree.proofs.document.Doc.parse_vec.Goals as goal
 
 pub read_tree-requires-clause-fits : goal.read_tree-requires-clause-fits
@@ -13,3 +13,7 @@ pub returns-clause-shallow : goal.returns-clause-shallow
 returns-clause-shallow g c =
     shallow c.args.text.items (rw c.in_ok-text.ensures at
     ((read-all (rc_slice_items c.in_ok-text.text) _ _ _ c.new-lines.ensures.lines c.in_ok-tree.ensures.read (c.in_ok-tree.ensures.count ∙ ap (λ n. length c.read_tree.new.lines.lines + n) c.len-count.ensures)).1))
+
+pub returns-clause-counted : goal.returns-clause-counted
+returns-clause-counted g c =
+    omega (arith, c.in_ok-tree.ensures.counted, c.len-count.ensures, all-counted (rc_slice_items c.in_ok-text.text) _ _ _ c.new-lines.ensures.lines c.in_ok-tree.ensures.read (c.in_ok-tree.ensures.count ∙ ap (λ n. length c.read_tree.new.lines.lines + n) c.len-count.ensures))
