@@ -6,9 +6,9 @@ use Rattle.mk_lines.specs.Cells.{line_cells, joined_text}
 use Rattle.mk_lines.specs.Units.{units}
 use Rattle.mk_lines.specs.UnitLaws.{concat-units}
 use Rattle.mk_lines.specs.Words.{is_gap}
-use Rattle.mk_class.specs.Lists.{any, until, from, is_empty}
+use Rattle.mk_class.specs.Lists.{any, first_passes, until, from, is_empty}
 use Rattle.mk_class.specs.Texts.{unit_text, word_texts}
-use Rattle.mk_class.specs.Symbols.{symbol, is_hash}
+use Rattle.mk_class.specs.Symbols.{symbol, is_ampersand, is_colon, is_hash}
 use Rattle.mk_class.specs.CutTexts.{cut_text, head}
 use Rattle.mk_class.specs.Assignments.{Assignment, operator_at, operator_length, ends_name, after_blanks, blanks, defined_by, modifier_of, assignment}
 use Rattle.mk_class.specs.RecipePrefix.{is_prefix_name, may_set_prefix, prefix_of_value, prefix_set_by, is_prefix_led}
@@ -131,6 +131,57 @@ target-read us cut start rest s a h k t e =
     ∙ (ap (λ z. separated_text_class z us) (separated-parts (units itself cut) s (units itself start) (units itself rest) k)
     ∙ ap (λ z. cond z (target_text_class S (assignment itself (units itself rest)) (header_text_class us)) (header_text_class us)) t)
     )
+
+-- a line with no assignment after the separator, which takes one or not
+pub rule-no_target : (us : List (List ℕ)) (cut start rest : List ℕ) (s : Separator) → units itself cut ≡ cut_text itself us → AreSeparated (units itself cut) s (units itself start) (units itself rest)
+    → takes_assignment s ≡ false → header_text_class us ≡ rule_text_class us
+rule-no_target us cut start rest s h k t =
+    let S : Separated ℕ = record { separator = s; targets = until (begins_separator itself) (units itself cut); colons = (separated itself (units itself cut)).colons; rest = units itself rest } in
+    sym (
+    ap (λ z. separated_text_class (separated itself z) us) (sym h)
+    ∙ (ap (λ z. separated_text_class z us) (separated-parts (units itself cut) s (units itself start) (units itself rest) k)
+    ∙ ap (λ z. cond z (target_text_class S (assignment itself (units itself rest)) (header_text_class us)) (header_text_class us)) t)
+    )
+
+pub rule-no_assignment : (us : List (List ℕ)) (cut start rest : List ℕ) (s : Separator) (n : ℕ) → units itself cut ≡ cut_text itself us → AreSeparated (units itself cut) s (units itself start) (units itself rest)
+    → takes_assignment s ≡ true → None ≡ placed n (assignment itself (units itself rest)) → header_text_class us ≡ rule_text_class us
+rule-no_assignment us cut start rest s n h k t e =
+    let S : Separated ℕ = record { separator = s; targets = until (begins_separator itself) (units itself cut); colons = (separated itself (units itself cut)).colons; rest = units itself rest } in
+    sym (
+    ap (λ z. separated_text_class (separated itself z) us) (sym h)
+    ∙ (ap (λ z. separated_text_class z us) (separated-parts (units itself cut) s (units itself start) (units itself rest) k)
+    ∙ (ap (λ z. cond z (target_text_class S (assignment itself (units itself rest)) (header_text_class us)) (header_text_class us)) t
+    ∙ ap (λ z. target_text_class S z (header_text_class us)) (none-placed n (assignment itself (units itself rest)) e)))
+    )
+  where
+    none-placed : (n : ℕ) (o : Option (Assignment ℕ)) → None ≡ placed n o → o ≡ None
+    none-placed n None h = refl
+    none-placed n (Some a) h = cc
+
+-- where a separator stands, and only there, is a `:`
+pub separator-colon : (us : List (List ℕ)) → not (is_empty (from (begins_separator itself) us)) ≡ has_colon itself us
+separator-colon [] = refl
+separator-colon (u ∷ us) = go (is_colon itself u) (is_ampersand itself u) (first_passes (is_colon itself) us) (first-colon us) (separator-colon us)
+  where
+    first-colon : (vs : List (List ℕ)) → first_passes (is_colon itself) vs ≡ true → has_colon itself vs ≡ true
+    first-colon [] h = cc
+    first-colon (v ∷ vs) h = ap (λ c. c || has_colon itself vs) h
+
+    go : (c a f : Bool) → (f ≡ true → has_colon itself us ≡ true) → not (is_empty (from (begins_separator itself) us)) ≡ has_colon itself us
+        → not (is_empty (cond (c || (a && f)) (u ∷ us) (from (begins_separator itself) us))) ≡ (c || has_colon itself us)
+    go true a f k ih = refl
+    go false true true k ih = sym (k refl)
+    go false true false k ih = ih
+    go false false f k ih = ih
+
+-- so a head has none where nothing is left from there on
+pub no_separator : (hd us : List (List ℕ)) (start : List ℕ) → hd ≡ head itself us → units itself start ≡ from (begins_separator itself) hd → (length start == 0) ≡ true → has_colon itself (head itself us) ≡ false
+no_separator hd us start h k e =
+    ap (has_colon itself) (sym h) ∙ (sym (separator-colon hd) ∙ (ap (λ z. not (is_empty z)) (sym k) ∙ (ap not (empty-units start) ∙ ap not e)))
+
+pub some_separator : (hd us : List (List ℕ)) (start : List ℕ) → hd ≡ head itself us → units itself start ≡ from (begins_separator itself) hd → (length start == 0) ≡ false → has_colon itself (head itself us) ≡ true
+some_separator hd us start h k e =
+    ap (has_colon itself) (sym h) ∙ (sym (separator-colon hd) ∙ (ap (λ z. not (is_empty z)) (sym k) ∙ (ap not (empty-units start) ∙ ap not e)))
 
 -- ---- the table
 

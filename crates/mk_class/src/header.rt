@@ -2,6 +2,7 @@
 ghost use Rattle.std.specs.Prelude.{◌≡◌, ◌≤◌, ℕ, List, ◌∷◌, [], ◌||◌, length, true, false, not, IfSome, MatchOption};
 ghost use Rattle.mk_lines.specs.Units.{units};
 ghost use Rattle.mk_lines.specs.Words.{is_gap};
+ghost use Rattle.mk_class.specs.CutTexts.{after_head, head as head_of};
 ghost use Rattle.mk_class.specs.Lists.{any, first_passes, from, is_empty, last_passes};
 ghost use Rattle.mk_class.specs.Symbols.{is_blank_or_backslash, is_dollar_before_blank, is_bar, is_colon, is_equals, is_escape, is_hash};
 ghost use Rattle.mk_class.specs.Texts.{words_of};
@@ -13,23 +14,33 @@ ghost use Rattle.mk_class.specs.TextClasses.{header_text_class, itself};
 
 use crate::class::Class;
 use crate::rule::{Header, Separator};
-use crate::scan::{
-    after_colon, before, blanks_at_end, has_unit, is_blank, split_at_unit, split_head,
-};
+use crate::scan::{after_colon, before, blanks_at_end, has_unit, is_blank, split_at_unit};
 use memchr::memchr3;
 use mk_lines::{after_first_unit, is_closed, split_first_word};
 
-/// The line of a rule, as a header or as Rough.
+/// A text at its first separator.
 ///
-/// The text is a line's joined text, whose head has a `:`.
-pub(crate) fn read_header(text: &[u8]) -> Class
-    ensures { result ≡ header_text_class (units itself text.now) }
+/// Without one, the separator counts as `:` and the others are empty.
+#[derive(Clone, Copy, Debug)]
+pub(crate) struct Separated<'a> {
+    pub(crate) separator: Separator,
+    /// The text from the separator on.
+    pub(crate) from: &'a [u8],
+    /// What follows the separator.
+    pub(crate) rest: &'a [u8],
+}
+
+/// The line of a rule, as a header or as Rough, by its head at the first separator and what follows
+/// the head.
+pub(crate) fn read_header(head: &[u8], split: Separated<'_>, tail: &[u8]) -> Class
+    requires parts { AreSeparated (units itself head.now) split.separator (units itself split.from.now) (units itself split.rest.now) }
+    requires from { length split.from.now ≤ length head.now }
+    ensures { (us : List (List ℕ)) → units itself head.now ≡ head_of itself us → units itself tail.now ≡ after_head itself us → result ≡ header_text_class us }
 {
-    let (head, tail) = split_head(text);
     if has_unreadable(head) {
         return Class::Rough;
     }
-    let parts = head_parts(head);
+    let parts = head_parts(head, split);
     if parts.is_rough() {
         return Class::Rough;
     }
@@ -98,17 +109,18 @@ impl<'a> Parts<'a> {
     }
 }
 
-/// The parts of a head.
-fn head_parts(head: &[u8]) -> Parts<'_>
+/// The parts of a head at its first separator.
+fn head_parts<'a>(head: &'a [u8], split: Separated<'a>) -> Parts<'a>
+    requires parts { AreSeparated (units itself head.now) split.separator (units itself split.from.now) (units itself split.rest.now) }
+    requires from { length split.from.now ≤ length head.now }
     ensures parts { (tail : List (List ℕ)) → header_parts itself (separated itself (units itself head.now)) tail ≡ parts_header (separated itself (units itself head.now)).colons result tail }
     ensures places { FitsHead head.now result }
 {
-    let (separator, from, rest) = separate(head);
-    let (has_pattern, pattern, prerequisites) = split_pattern(rest);
+    let (has_pattern, pattern, prerequisites) = split_pattern(split.rest);
     let (normal, has_order_only, order_only) = split_order_only(prerequisites);
     Parts {
-        separator,
-        targets: before(head, from),
+        separator: split.separator,
+        targets: before(head, split.from),
         has_pattern,
         pattern,
         prerequisites,
@@ -140,7 +152,7 @@ fn split_order_only(text: &[u8]) -> (&[u8], bool, &[u8])
 }
 
 /// Whether a text has a unit `:`.
-pub(crate) fn has_colon(text: &[u8]) -> bool
+fn has_colon(text: &[u8]) -> bool
     ensures { result ≡ any (is_colon itself) (units itself text.now) }
 {
     has_unit(text, b':')
@@ -210,18 +222,24 @@ fn read_grouped_separator(text: &[u8]) -> Option<(Separator, &[u8])>
     }
 }
 
-/// A text at its first separator: the separator, the text from it on, and what follows it.
-///
-/// Without one, the separator counts as `:` and the others are empty.
-pub(crate) fn separate(text: &[u8]) -> (Separator, &[u8], &[u8])
-    ensures parts { AreSeparated (units itself text.now) result.0 (units itself result.1.now) (units itself result.2.now) }
-    ensures from { length result.1.now ≤ length text.now }
-    ensures rest { length result.2.now ≤ length result.1.now }
+/// A text at its first separator. A text has one where it has a unit `:`.
+pub(crate) fn separate(text: &[u8]) -> Separated<'_>
+    ensures parts { AreSeparated (units itself text.now) result.separator (units itself result.from.now) (units itself result.rest.now) }
+    ensures from { length result.from.now ≤ length text.now }
+    ensures rest { length result.rest.now ≤ length result.from.now }
 {
     let from = from_separator(text);
     match read_separator(from) {
-        Some((separator, rest)) => (separator, from, rest),
-        None => (Separator::SingleColon, from, from),
+        Some((separator, rest)) => Separated {
+            separator,
+            from,
+            rest,
+        },
+        None => Separated {
+            separator: Separator::SingleColon,
+            from,
+            rest: from,
+        },
     }
 }
 

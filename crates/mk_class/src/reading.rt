@@ -2,27 +2,27 @@
 //!
 //! A line is read once, from its front, by the units of its joined text. The first class that fits
 //! is the line's, in the order of the table in docs/LANGUAGE.md.
-ghost use Rattle.std.specs.Prelude.{◌≡◌, ◌⊎◌, ◌<◌, ◌≢◌, ◌+◌, ◌-◌, ◌^◌, ℕ, List, true, false, All, IfErr, IfOk, Some, min, nat_lt};
+ghost use Rattle.std.specs.Prelude.{◌≡◌, ◌⊎◌, ◌<◌, ◌≢◌, ◌+◌, ◌-◌, ◌^◌, ℕ, List, true, false, All, IfErr, IfOk, MatchOption, Some, min, nat_lt};
 ghost use Rattle.mk_lines.specs.Units.{units};
 ghost use Rattle.mk_lines.specs.KeptCells.{AreCellsOf};
 ghost use Rattle.mk_lines.specs.PhysicalLines.{without_line_end};
 ghost use Rattle.mk_class.specs.Assignments.{Assignment, assignment};
 ghost use Rattle.mk_lines.specs.Cells.{line_cells};
 ghost use Rattle.mk_class.specs.ClassTable.{is_unreadable};
-ghost use Rattle.mk_class.specs.declared.class.Class.TheVariants.{If};
+ghost use Rattle.mk_class.specs.declared.class.Class.TheVariants.{If, TargetAssign};
 ghost use Rattle.mk_class.specs.LineReads.{IsRead, IsTooDeep};
 ghost use Rattle.mk_class.specs.CutTexts.{cut_text};
 ghost use Rattle.mk_class.specs.Lists.{first_passes};
 ghost use Rattle.mk_class.specs.RecipePrefix.{is_dot, may_be_prefix, may_set_prefix, prefix_of_value, prefix_set_by};
 ghost use Rattle.mk_class.specs.Separators.{takes_assignment};
-ghost use Rattle.mk_class.specs.TextClasses.{itself, plain_text_class, rule_text_class, text_class};
+ghost use Rattle.mk_class.specs.TextClasses.{header_text_class, itself, plain_text_class, rule_text_class, text_class};
 
 use crate::assignment::{
     Flavor, TargetAssignment, after_name, assignment_at_end, read_assignment, read_operator,
 };
 use crate::class::Class;
 use crate::context::{Context, Flag, MAX_CONDITIONALS};
-use crate::header::{has_colon, read_header, separate};
+use crate::header::{read_header, separate};
 use crate::keyword::{body_class, directive_class, is_text};
 use crate::meter::Meter;
 use crate::rule::Separator;
@@ -155,28 +155,31 @@ fn plain_class(text: &[u8], is_led: bool, in_conditional: bool, is_unreadable: b
     if is_led {
         return Class::Opaque;
     }
-    if !has_colon(split_head(text).0) {
+    let (head, tail) = split_head(text);
+    let split = separate(head);
+    if split.from.is_empty() {
         return Class::Opaque;
     }
-    rule_class(text, cut)
+    match read_target_assignment(cut) {
+        Some(assignment) => Class::TargetAssign(assignment),
+        None => read_header(head, split, tail),
+    }
 }
 
-/// The class of a joined text whose head has a `:`, with its cut text.
-fn rule_class(text: &[u8], cut: &[u8]) -> Class
-    requires { units itself cut.now ≡ cut_text itself (units itself text.now) }
-    ensures { result ≡ rule_text_class (units itself text.now) }
+/// The assignment for targets that a cut text is, where the line's head has a `:`.
+fn read_target_assignment(cut: &[u8]) -> Option<TargetAssignment>
+    ensures { (us : List (List ℕ)) → units itself cut.now ≡ cut_text itself us → MatchOption result (header_text_class us ≡ rule_text_class us) (λ t. TargetAssign t ≡ rule_text_class us) }
 {
-    let (separator, from, rest) = separate(cut);
-    if takes_assignment(separator) {
-        if let Some(assignment) = assignment_at_end(rest, cut.len()) {
-            return Class::TargetAssign(TargetAssignment {
-                separator,
-                targets_end: cut.len() - from.len(),
-                assignment,
-            });
-        }
+    let split = separate(cut);
+    if !takes_assignment(split.separator) {
+        return None;
     }
-    read_header(text)
+    let assignment = assignment_at_end(split.rest, cut.len())?;
+    Some(TargetAssignment {
+        separator: split.separator,
+        targets_end: cut.len() - split.from.len(),
+        assignment,
+    })
 }
 
 /// Whether an assignment may stand after a separator.

@@ -6,16 +6,16 @@ use Rattle.mk_class.proofs.header.head_parts.Goals as goal
 
 pub returns-clause-parts : goal.returns-clause-parts
 returns-clause-parts c tail =
-    head_parts-made (units itself c.args.head.now) c.separate-separator.result.0 (units itself c.separate-separator.result.1.now) (units itself c.separate-separator.result.2.now)
+    head_parts-made (units itself c.args.head.now) c.args.split.separator (units itself c.args.split.from.now) (units itself c.args.split.rest.now)
     (units itself c.before-2.result.now) c.split_pattern-has_pattern.result.0 (units itself c.split_pattern-has_pattern.result.1.now) (units itself c.split_pattern-has_pattern.result.2.now)
     (units itself c.split_order_only-has_order_only.result.0.now) c.split_order_only-has_order_only.result.1 (units itself c.split_order_only-has_order_only.result.2.now) tail
-    c.separate-separator.ensures.parts c.before-2.ensures.units c.split_pattern-has_pattern.ensures c.split_order_only-has_order_only.ensures
+    c.requires.parts c.before-2.ensures.units c.split_pattern-has_pattern.ensures c.split_order_only-has_order_only.ensures
 
 pub returns-clause-places : goal.returns-clause-places
 returns-clause-places c =
     sums-same _ _ _ _ _ _ _ _ _ _ _ (width-units c.args.head.now) (width-units c.split_pattern-has_pattern.result.2.now) (
-    head_parts-fit (units itself c.args.head.now) c.separate-separator.result.0 (units itself c.separate-separator.result.1.now) (units itself c.separate-separator.result.2.now)
+    head_parts-fit (units itself c.args.head.now) c.args.split.separator (units itself c.args.split.from.now) (units itself c.args.split.rest.now)
     (units itself c.before-2.result.now) c.split_pattern-has_pattern.result.0 (units itself c.split_pattern-has_pattern.result.1.now) (units itself c.split_pattern-has_pattern.result.2.now)
     (units itself c.split_order_only-has_order_only.result.0.now) c.split_order_only-has_order_only.result.1 (units itself c.split_order_only-has_order_only.result.2.now)
-    c.separate-separator.ensures.parts c.before-2.ensures.units c.split_pattern-has_pattern.ensures c.split_order_only-has_order_only.ensures
+    c.requires.parts c.before-2.ensures.units c.split_pattern-has_pattern.ensures c.split_order_only-has_order_only.ensures
     )

@@ -6,17 +6,14 @@ use Rattle.mk_class.proofs.HeaderPartLemmas.{rough-unreadable, rough-parts, head
 use Rattle.mk_class.proofs.header.read_header.Goals as goal
 
 pub returns-then-has_unreadable : goal.returns-then-has_unreadable
-returns-then-has_unreadable c =
-    rough-unreadable (units itself c.args.text.now) (units itself c.split_head.result.0.now) c.split_head.ensures.head (sym c.has_unreadable.ensures ∙ c.if-has_unreadable.true)
+returns-then-has_unreadable c us h k = rough-unreadable us (units itself c.args.head.now) h (sym c.has_unreadable.ensures ∙ c.if-has_unreadable.true)
 
 pub returns-then-is_rough : goal.returns-then-is_rough
-returns-then-is_rough c =
-    rough-parts (units itself c.args.text.now) (units itself c.split_head.result.0.now) (separated itself (units itself c.split_head.result.0.now)).colons c.head_parts-parts.result
-    (units itself c.split_head.result.1.now) c.split_head.ensures.head c.split_head.ensures.tail (sym c.has_unreadable.ensures ∙ c.if-has_unreadable.false)
-    (c.head_parts-parts.ensures.parts (units itself c.split_head.result.1.now)) (sym c.is_rough.ensures ∙ c.if-is_rough.true)
+returns-then-is_rough c us h k =
+    rough-parts us (units itself c.args.head.now) (separated itself (units itself c.args.head.now)).colons c.head_parts-parts.result (units itself c.args.tail.now) h k
+    (sym c.has_unreadable.ensures ∙ c.if-has_unreadable.false) (c.head_parts-parts.ensures.parts (units itself c.args.tail.now)) (sym c.is_rough.ensures ∙ c.if-is_rough.true)
 
 pub returns : goal.returns
-returns c =
-    header-read (units itself c.args.text.now) c.split_head.result.0.now c.head_parts-parts.result (units itself c.split_head.result.1.now) c.begins_recipe.result c.split_head.ensures.head
-    c.split_head.ensures.tail (sym c.has_unreadable.ensures ∙ c.if-has_unreadable.false) (c.head_parts-parts.ensures.parts (units itself c.split_head.result.1.now))
-    (sym c.is_rough.ensures ∙ c.if-is_rough.false) c.head_parts-parts.ensures.places c.begins_recipe.ensures
+returns c us h k =
+    header-read us c.args.head.now c.head_parts-parts.result (units itself c.args.tail.now) c.begins_recipe.result h k (sym c.has_unreadable.ensures ∙ c.if-has_unreadable.false)
+    (c.head_parts-parts.ensures.parts (units itself c.args.tail.now)) (sym c.is_rough.ensures ∙ c.if-is_rough.false) c.head_parts-parts.ensures.places c.begins_recipe.ensures

@@ -4,7 +4,7 @@ use Rattle.mk_class.specs.CutTexts.{head}
 use Rattle.mk_class.specs.Separators.{has_colon}
 use Rattle.mk_class.specs.TextClasses.{itself, rule_text_class}
 use Rattle.mk_class.specs.declared.class.Class.TheVariants as variants
-use Rattle.mk_class.proofs.ReadingLemmas.{NotBlank, plain-unreadable, plain-assign, plain-directive, plain-left}
+use Rattle.mk_class.proofs.ReadingLemmas.{NotBlank, plain-unreadable, plain-assign, plain-directive, plain-left, no_separator, some_separator}
 use Rattle.mk_class.proofs.reading.plain_class.Goals as goal
 
 pub returns-then-is_unreadable : goal.returns-then-is_unreadable
@@ -49,29 +49,50 @@ returns-then-is_led c =
     ∙ ap (λ z. cond (z || not (has_colon itself (head itself (units itself c.args.text.now)))) variants.Opaque (rule_text_class (units itself c.args.text.now))) c.if-is_led.true
     )
 
-pub returns-then-not-has_colon : goal.returns-then-not-has_colon
-returns-then-not-has_colon c =
-    let b : NotBlank (units itself c.args.text.now) c.cut_text-cut.result.now c.after_blanks.result.now = record {
+pub returns-then-is_empty-2 : goal.returns-then-is_empty-2
+returns-then-is_empty-2 c =
+    let us = units itself c.args.text.now in
+    let b : NotBlank us c.cut_text-cut.result.now c.after_blanks.result.now = record {
       cut_is = c.cut_text-cut.ensures;
       rest_is = c.after_blanks.ensures.rest;
       some = sym c.is_empty.ensures ∙ c.if-is_empty.false;
     } in
     sym (
-    plain-left c.args.is_led c.args.in_conditional c.args.is_unreadable (units itself c.args.text.now) c.cut_text-cut.result.now c.after_blanks.result.now false b c.if-is_unreadable.false
-    (sym c.in_default.is ∙ c.read_assignment.ensures) (sym c.in_default-directive_class.is ∙ c.directive_class.ensures) (ap (has_colon itself) (sym c.split_head.ensures.head) ∙ (sym c.has_colon.ensures ∙ c.if-not-has_colon.true))
-    ∙ ap (λ z. cond (z || true) variants.Opaque (rule_text_class (units itself c.args.text.now))) c.if-is_led.false
+    plain-left c.args.is_led c.args.in_conditional c.args.is_unreadable us c.cut_text-cut.result.now c.after_blanks.result.now false b c.if-is_unreadable.false
+    (sym c.in_default.is ∙ c.read_assignment.ensures) (sym c.in_default-directive_class.is ∙ c.directive_class.ensures)
+    (no_separator (units itself c.split_head.result.0.now) us c.separate-split.result.from.now c.split_head.ensures.head c.separate-split.ensures.parts.0 (sym c.is_empty-2.ensures ∙ c.if-is_empty-2.true))
+    ∙ ap (λ z. cond (z || true) variants.Opaque (rule_text_class us)) c.if-is_led.false
     )
 
-pub returns : goal.returns
-returns c =
-    let b : NotBlank (units itself c.args.text.now) c.cut_text-cut.result.now c.after_blanks.result.now = record {
+pub returns-in-Some-read_target_assignment : goal.returns-in-Some-read_target_assignment
+returns-in-Some-read_target_assignment c =
+    let us = units itself c.args.text.now in
+    let b : NotBlank us c.cut_text-cut.result.now c.after_blanks.result.now = record {
       cut_is = c.cut_text-cut.ensures;
       rest_is = c.after_blanks.ensures.rest;
       some = sym c.is_empty.ensures ∙ c.if-is_empty.false;
     } in
-    c.rule_class.ensures
+    (c.in-Some-read_target_assignment.ensures) us c.cut_text-cut.ensures
     ∙ sym (
-    plain-left c.args.is_led c.args.in_conditional c.args.is_unreadable (units itself c.args.text.now) c.cut_text-cut.result.now c.after_blanks.result.now true b c.if-is_unreadable.false
-    (sym c.in_default.is ∙ c.read_assignment.ensures) (sym c.in_default-directive_class.is ∙ c.directive_class.ensures) (ap (has_colon itself) (sym c.split_head.ensures.head) ∙ (sym c.has_colon.ensures ∙ c.if-not-has_colon.false))
-    ∙ ap (λ z. cond (z || false) variants.Opaque (rule_text_class (units itself c.args.text.now))) c.if-is_led.false
+    plain-left c.args.is_led c.args.in_conditional c.args.is_unreadable us c.cut_text-cut.result.now c.after_blanks.result.now true b c.if-is_unreadable.false
+    (sym c.in_default.is ∙ c.read_assignment.ensures) (sym c.in_default-directive_class.is ∙ c.directive_class.ensures)
+    (some_separator (units itself c.split_head.result.0.now) us c.separate-split.result.from.now c.split_head.ensures.head c.separate-split.ensures.parts.0 (sym c.is_empty-2.ensures ∙ c.if-is_empty-2.false))
+    ∙ ap (λ z. cond (z || false) variants.Opaque (rule_text_class us)) c.if-is_led.false
     )
+
+pub returns-in-None : goal.returns-in-None
+returns-in-None c =
+    let us = units itself c.args.text.now in
+    let b : NotBlank us c.cut_text-cut.result.now c.after_blanks.result.now = record {
+      cut_is = c.cut_text-cut.ensures;
+      rest_is = c.after_blanks.ensures.rest;
+      some = sym c.is_empty.ensures ∙ c.if-is_empty.false;
+    } in
+    c.read_header.ensures us c.split_head.ensures.head c.split_head.ensures.tail
+    ∙ ((c.in-None.ensures) us c.cut_text-cut.ensures
+    ∙ sym (
+    plain-left c.args.is_led c.args.in_conditional c.args.is_unreadable us c.cut_text-cut.result.now c.after_blanks.result.now true b c.if-is_unreadable.false
+    (sym c.in_default.is ∙ c.read_assignment.ensures) (sym c.in_default-directive_class.is ∙ c.directive_class.ensures)
+    (some_separator (units itself c.split_head.result.0.now) us c.separate-split.result.from.now c.split_head.ensures.head c.separate-split.ensures.parts.0 (sym c.is_empty-2.ensures ∙ c.if-is_empty-2.false))
+    ∙ ap (λ z. cond (z || false) variants.Opaque (rule_text_class us)) c.if-is_led.false
+    ))
