@@ -17,6 +17,7 @@ pub mod ConditionalLaws
 pub mod RecipeRunLaws
 pub mod ChangeLaws
 pub mod Laws
+pub mod KeptClasses
 pub mod Contents
 pub mod Trees
 pub mod Walks

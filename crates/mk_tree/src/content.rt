@@ -2,7 +2,9 @@
 ghost use Rattle.std.specs.Prelude.{◌≡◌, ◌<◌, length};
 ghost use Rattle.mk_lines.specs.KeptCells.{AreCellsOf};
 ghost use Rattle.mk_lines.specs.PhysicalLines.{without_line_end};
+ghost use Rattle.mk_tree.specs.KeptClasses.{whole_class};
 
+use crate::kept_class::KeptClass;
 use crate::line_bytes::LineBytes;
 use mk_class::Class;
 use mk_lines::Cells;
@@ -15,26 +17,27 @@ use std::mem;
 pub(crate) struct Content<A: Allocator = Global> {
     bytes: LineBytes<A>,
     cells: Cells<A>,
-    class: Class,
+    class: KeptClass,
 }
 
 impl<A: Allocator> Model for Content<A> {
     ghost use Rattle.mk_tree.specs.PlacedLines.{PlacedLine};
     ghost use Rattle.mk_tree.specs.Contents.{IsContent};
+    ghost use Rattle.mk_tree.specs.KeptClasses.{whole_class};
 
     ghost Value = { PlacedLine };
 
-    ghost view = { λ c. record { bytes = c.bytes; class = c.class } };
+    ghost view = { λ c. record { bytes = c.bytes; class = whole_class c.class } };
 
     ghost invariant = { λ c. IsContent c.bytes c.cells };
 }
 
 impl<A: Allocator> Content<A> {
-    pub(crate) fn new(bytes: LineBytes<A>, cells: Cells<A>, class: Class) -> Content<A>
+    pub(crate) fn new(bytes: LineBytes<A>, cells: Cells<A>, class: KeptClass) -> Content<A>
         requires some_bytes { 0 < length bytes }
         requires cells { AreCellsOf cells bytes }
         ensures bytes { result.bytes ≡ bytes }
-        ensures class { result.class ≡ class }
+        ensures class { result.class ≡ whole_class class }
     {
         Content {
             bytes,
@@ -50,10 +53,10 @@ impl<A: Allocator> Content<A> {
         self.bytes.as_slice()
     }
 
-    pub(crate) fn class(&self) -> &Class
-        ensures { result.now ≡ self.now.class }
+    pub(crate) fn class(&self) -> Class
+        ensures { result ≡ self.now.class }
     {
-        &self.class
+        self.class.whole()
     }
 
     pub(crate) fn cells(&self) -> &Cells<A>

@@ -50,7 +50,7 @@ fn context_before<A: Allocator>(tree: &Tree<A>, count: usize) -> Context
         let Some(line) = lines.next() else {
             unreachable!()
         };
-        context = context.step(line.class());
+        context = context.step(&line.class());
     }
     context
 }

@@ -1,5 +1,5 @@
 //! The bytes of a line, as a stretch of a text.
-ghost use Rattle.std.specs.Prelude.{◌≡◌, ◌≤◌, IfOk, IsOkUnless, length};
+ghost use Rattle.std.specs.Prelude.{◌≡◌, ◌^◌, ◌<◌, ◌≤◌, IfOk, IsOkUnless, length};
 ghost use Rattle.std.specs.Rc.{rc_slice_items};
 ghost use Rattle.mk_lines.specs.Ranges.{text_at};
 
@@ -16,19 +16,20 @@ use std::rc::RcSlice;
 #[derive(Drop)]
 pub struct LineBytes<A: Allocator = Global> {
     text: RcSlice<u8, A>,
-    span: Span,
+    // A document keeps one of each line, hence the small numbers.
+    start: u32,
+    end: u32,
 }
 
 impl<A: Allocator> Model for LineBytes<A> {
-    ghost use Rattle.std.specs.Prelude.{ℕ, List, ◌≤◌, length};
+    ghost use Rattle.std.specs.Prelude.{ℕ, List, ◌≤◌, length, slice_range};
     ghost use Rattle.std.specs.Rc.{rc_slice_items};
-    ghost use Rattle.mk_lines.specs.Ranges.{text_at};
 
     ghost Value = { List ℕ };
 
-    ghost view = { λ b. text_at (rc_slice_items b.text) b.span };
+    ghost view = { λ b. slice_range (rc_slice_items b.text) b.start b.end };
 
-    ghost invariant = { λ b. (b.span.start ≤ b.span.end) × (b.span.end ≤ length (rc_slice_items b.text)) };
+    ghost invariant = { λ b. (b.start ≤ b.end) × (b.end ≤ length (rc_slice_items b.text)) };
 }
 
 impl<A: Allocator> LineBytes<A> {
@@ -36,19 +37,23 @@ impl<A: Allocator> LineBytes<A> {
     ///
     /// # Errors
     ///
-    /// [`Fault::NoMemory`] where a growth was refused.
+    /// [`Fault::NoMemory`] where a growth was refused, or there are more than 4,294,967,295 bytes,
+    /// for which no document has room.
     pub fn new(bytes: Vec<u8, A>) -> Result<LineBytes<A>, Fault>
     where
         A: Clone,
         ensures ok { IfOk result (λ own. own ≡ bytes.items) }
         ensures fault { IsOkUnless result Fault.NoMemory }
     {
-        let text = RcSlice::from_vec(bytes)?;
-        let span = Span {
-            start: 0,
-            end: text.len(),
+        let Ok(end) = u32::try_from(bytes.len()) else {
+            return Err(Fault::NoMemory);
         };
-        Ok(LineBytes { text, span })
+        let text = RcSlice::from_vec(bytes)?;
+        Ok(LineBytes {
+            text,
+            start: 0,
+            end,
+        })
     }
 
     /// A stretch of a text, of which nothing is copied.
@@ -57,19 +62,23 @@ impl<A: Allocator> LineBytes<A> {
     ///
     /// [`Fault::NoMemory`] where the text has as many owners as can be counted.
     pub(crate) fn of_text(text: &RcSlice<u8, A>, span: Span) -> Result<LineBytes<A>, Fault>
+        requires short { length (rc_slice_items text.now) < 2 ^ 32 }
         requires order { span.start ≤ span.end }
         requires within { span.end ≤ length (rc_slice_items text.now) }
         ensures ok { IfOk result (λ bytes. bytes ≡ text_at (rc_slice_items text.now) span) }
         ensures fault { IsOkUnless result Fault.NoMemory }
     {
-        let text = text.clone()?;
-        Ok(LineBytes { text, span })
+        Ok(LineBytes {
+            text: text.clone()?,
+            start: span.start as u32,
+            end: span.end as u32,
+        })
     }
 
     /// The bytes. Takes no memory.
     pub fn as_slice(&self) -> &[u8]
         ensures { result.now ≡ self.now }
     {
-        &self.text.as_slice()[self.span.start..self.span.end]
+        &self.text.as_slice()[self.start as usize..self.end as usize]
     }
 }

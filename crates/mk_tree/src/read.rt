@@ -9,6 +9,7 @@ ghost use Rattle.mk_tree.specs.Faults.{IsReadingFault};
 ghost use Rattle.mk_tree.specs.Trees.{line_view};
 
 use crate::content::Content;
+use crate::kept_class::KeptClass;
 use crate::line_bytes::LineBytes;
 use crate::tree::Line;
 use mk_class::{Context, Meter, class_with_cells};
@@ -61,6 +62,10 @@ pub(crate) fn read_line<A: Allocator + Copy>(
 {
     let cells = cells(alloc, bytes.as_slice())?;
     let (class, after) = class_with_cells(bytes.as_slice(), &cells, context, meter)?;
+    // No place is above the number of the bytes, which has 32 bits.
+    let Some(class) = KeptClass::of(&class) else {
+        return Err(Fault::NoMemory);
+    };
     let line = Line::new(alloc, Content::new(bytes, cells, class))?;
     Ok((line, after))
 }

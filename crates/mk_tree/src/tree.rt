@@ -16,7 +16,7 @@ use mk_class::Class;
 use mk_lines::Cells;
 use std::alloc::{AllocFailed, Allocator, Global};
 use std::marker::Model;
-use std::mem;
+use std::mem::{self, size_of};
 
 /// No tree of at most 16,777,216 lines is higher than this.
 pub(crate) const HEIGHT_LIMIT: usize = 34;
@@ -59,6 +59,10 @@ struct Node<A: Allocator> {
     left: Tree<A>,
     right: Tree<A>,
 }
+
+// A document has one for each line, and is printed and dropped in the time that it takes to go
+// through their memory.
+const _: () = prove!(size_of::<Node<Global>>() == 120);
 
 impl<A: Allocator> Model for Tree<A> {
     ghost use Rattle.std.specs.Prelude.{ℕ, List, length};
@@ -114,8 +118,8 @@ impl<A: Allocator> Line<A> {
     }
 
     /// What the line is, with the places of its parts in the joined text. Takes no memory.
-    pub fn class(&self) -> &Class
-        ensures { result.now ≡ (line_view self.now).class }
+    pub fn class(&self) -> Class
+        ensures { result ≡ (line_view self.now).class }
     {
         self.node.content.class()
     }

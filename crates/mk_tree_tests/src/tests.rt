@@ -5,7 +5,7 @@ ghost use Rattle.mk_lines.specs.LogicalLines.{logical_lines};
 use mk_class::{Class, Context, Meter};
 use mk_lines::Fault;
 use mk_tree::parse::SIZE_LIMIT;
-use mk_tree::{Doc, Line};
+use mk_tree::{Doc, Line, LineBytes};
 use refusing::Refusing;
 use std::alloc::{AllocError, Allocator};
 use std::test::Fail;
@@ -103,15 +103,17 @@ fn nested_conditionals_with_long_branches_are_parsed_and_dropped(
     Ok(())
 }
 
+const FOUR_LINES: &[u8] = b"A = 1\nB = a \\\n b\nfoo: x\n\techo\n";
+
 #[test]
 fn each_refused_growth_of_parse_is_no_memory(rt: HostRuntime) -> Result<(), Fail> {
-    let text = b"A = 1\nB = a \\\n b\nfoo: x\n\techo\n".as_slice();
     for admitted in 0..100 {
         let heap = Refusing::after(rt.alloc(), admitted);
-        let answer = Doc::parse(&heap, text, &mut Meter::new());
+        let answer = Doc::parse(&heap, FOUR_LINES, &mut Meter::new());
         if !heap.has_refused() {
-            // the spans, the lines, and for each line its bytes and its node
-            assert!(rt; admitted > 9 && answer.is_ok());
+            // the text and the count of its owners, the spans, the lines, a node of each line, and
+            // three for the fold
+            assert!(rt; admitted == 11 && answer.is_ok());
             break;
         }
         assert!(rt; matches!(answer, Err(Fault::NoMemory)));
@@ -120,10 +122,75 @@ fn each_refused_growth_of_parse_is_no_memory(rt: HostRuntime) -> Result<(), Fail
 }
 
 #[test]
+fn each_refused_growth_of_parsing_a_text_by_value_is_no_memory(
+    rt: HostRuntime,
+) -> Result<(), Fail> {
+    for admitted in 0..100 {
+        let heap = Refusing::after(rt.alloc(), admitted);
+        let Ok(text) = Vec::from_slice(&heap, FOUR_LINES) else {
+            continue;
+        };
+        let answer = Doc::parse_vec(&heap, text, &mut Meter::new());
+        if !heap.has_refused() {
+            // as many as `parse` takes, since the text is copied here
+            assert!(rt; admitted == 11 && answer.is_ok());
+            break;
+        }
+        assert!(rt; matches!(answer, Err(Fault::NoMemory)));
+    }
+    Ok(())
+}
+
+#[test]
+fn a_text_by_value_is_parsed_as_one_that_is_copied(rt: HostRuntime) -> Result<(), Fail> {
+    let text = Vec::from_slice(rt.alloc(), FOUR_LINES)?;
+    let doc = Doc::parse_vec(rt.alloc(), text, &mut Meter::new())?;
+    let copied = Doc::parse(rt.alloc(), FOUR_LINES, &mut Meter::new())?;
+    assert_eq!(rt; (doc.len(), doc.size()), (4, FOUR_LINES.len()));
+    for (line, other) in doc.iter().zip(copied.iter()) {
+        assert_eq!(rt; line.bytes(), other.bytes());
+        assert_eq!(rt; line.class(), other.class());
+    }
+    let long = repeated(&rt, b"#", SIZE_LIMIT + 1)?;
+    let answer = Doc::parse_vec(rt.alloc(), long, &mut Meter::new());
+    assert!(rt; matches!(answer, Err(Fault::TooLong)));
+    Ok(())
+}
+
+#[test]
+fn a_line_outlives_its_document(rt: HostRuntime) -> Result<(), Fail> {
+    let mut doc = Doc::parse(rt.alloc(), b"X=1\nY=2\n", &mut Meter::new())?;
+    let Some(line) = take_first(&mut doc) else {
+        return Err(Fail::from("no line is taken out"));
+    };
+    drop(doc);
+    assert_eq!(rt; line.bytes(), b"X=1\n".as_slice());
+    Ok(())
+}
+
+#[test]
+fn bytes_of_their_own_are_those_given(rt: HostRuntime) -> Result<(), Fail> {
+    for admitted in 0..10 {
+        let heap = Refusing::after(rt.alloc(), admitted);
+        let Ok(bytes) = Vec::from_slice(&heap, b"X=1") else {
+            continue;
+        };
+        match LineBytes::new(bytes) {
+            Ok(own) => {
+                assert!(rt; admitted == 2 && !heap.has_refused());
+                assert_eq!(rt; own.as_slice(), b"X=1".as_slice());
+                break;
+            }
+            Err(fault) => assert!(rt; heap.has_refused() && matches!(fault, Fault::NoMemory)),
+        }
+    }
+    Ok(())
+}
+
+#[test]
 fn a_line_is_classified_once(rt: HostRuntime) -> Result<(), Fail> {
     let mut meter = Meter::new();
-    let text = b"A = 1\nB = a \\\n b\nfoo: x\n\techo\n".as_slice();
-    let doc = Doc::parse(rt.alloc(), text, &mut meter)?;
+    let doc = Doc::parse(rt.alloc(), FOUR_LINES, &mut meter)?;
     assert_eq!(rt; doc.len(), 4);
     assert_eq!(rt; meter.count(), 4);
     Ok(())
@@ -191,8 +258,9 @@ fn each_refused_growth_of_reading_a_line_is_no_memory(rt: HostRuntime) -> Result
         let heap = Refusing::after(rt.alloc(), admitted);
         let answer = read_with(&heap, b"B = a \\\n b\n");
         if !heap.has_refused() {
-            // the bytes, the joined text, the folds' ends, what is kept of them, and the node
-            assert!(rt; admitted == 5 && answer.is_ok());
+            // the bytes and the count of their owners, the joined text, the folds' ends, what is kept
+            // of them, and the node
+            assert!(rt; admitted == 6 && answer.is_ok());
             break;
         }
         assert!(rt; matches!(answer, Err(Fault::NoMemory)));

@@ -13,4 +13,4 @@ unreachable-requires g c =
 pub lines-preserved : goal.lines-preserved
 lines-preserved g c =
     let (at, here, fits) = c.lines.invariant in
-    walk-step c.args.tree.now.0 _ _ _ _ _ _ c.class.result.now at c.in-Some.ensures.steps here fits c.class.ensures c.step-context.ensures.places
+    walk-step c.args.tree.now.0 _ _ _ _ _ _ c.class.result at c.in-Some.ensures.steps here fits c.class.ensures c.step-context.ensures.places

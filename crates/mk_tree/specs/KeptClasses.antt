@@ -1,0 +1,47 @@
+-- The class that a document keeps with smaller numbers, as the code has it elsewhere.
+use Rattle.mk_class.specs.declared.assignment.Assignment as assignment
+use Rattle.mk_class.specs.declared.assignment.Flavor as flavor
+use Rattle.mk_class.specs.declared.rule.Header as header
+use Rattle.mk_class.specs.declared.class.Class as class
+use Rattle.mk_class.specs.declared.class.Class.TheVariants as variants
+use Rattle.mk_tree.specs.declared.kept_class.KeptAssignment.{KeptAssignment}
+use Rattle.mk_tree.specs.declared.kept_class.KeptHeader.{KeptHeader}
+use Rattle.mk_tree.specs.declared.kept_class.KeptClass.{KeptClass}
+use Rattle.mk_tree.specs.declared.kept_class.KeptClass.TheVariants.{Endef, Body, Recipe, Opaque, Blank, Comment, Assign, DefineHead, If, Else, Endif, Directive, TargetAssign, Rough, Header}
+
+abbrev pub whole_assignment : flavor.Flavor → KeptAssignment → assignment.Assignment
+whole_assignment f k = record {
+  flavor = f;
+  name = record { start = k.name_start; end = k.name_end };
+  value = record { start = k.value_start; end = k.value_end };
+  end = k.end;
+}
+
+abbrev pub whole_header : KeptHeader → header.Header
+whole_header k = record {
+  separator = k.separator;
+  has_pattern = k.has_pattern;
+  has_order_only = k.has_order_only;
+  has_recipe = k.has_recipe;
+  targets_end = k.targets_end;
+  normal_start = k.normal_start;
+  normal_end = k.normal_end;
+  head_end = k.head_end;
+}
+
+abbrev pub whole_class : KeptClass → class.Class
+whole_class Endef = variants.Endef
+whole_class (Body n) = variants.Body n
+whole_class Recipe = variants.Recipe
+whole_class Opaque = variants.Opaque
+whole_class Blank = variants.Blank
+whole_class Comment = variants.Comment
+whole_class (Assign f prefix k) = variants.Assign (whole_assignment f k) prefix
+whole_class (DefineHead b) = variants.DefineHead b
+whole_class If = variants.If
+whole_class Else = variants.Else
+whole_class Endif = variants.Endif
+whole_class Directive = variants.Directive
+whole_class (TargetAssign s f targets_end k) = variants.TargetAssign (record { separator = s; targets_end = targets_end; assignment = whole_assignment f k })
+whole_class Rough = variants.Rough
+whole_class (Header k) = variants.Header (whole_header k)
