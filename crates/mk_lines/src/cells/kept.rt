@@ -5,7 +5,9 @@
 //! fold ends: a raw place is told by the nearest fold before it.
 ghost use Rattle.std.specs.Prelude.{◌≡◌, ◌≢◌, ◌==◌, ◌≤◌, ℕ, List, drop, length, true, false, nat_lt, All, IfOk, IsOkUnless};
 ghost use Rattle.std.specs.List.{list_any};
+ghost use Rattle.std.specs.Option.{is_some};
 ghost use Rattle.std.specs.List.Sorted.{IsNonDecreasingBy, IsPartitionPoint};
+ghost use Rattle.memchr.specs.Find.{IsFirstByte, is_byte3};
 ghost use Rattle.mk_lines.specs.Bytes.{byte_kind};
 ghost use Rattle.mk_lines.specs.Cells.{cells, joined_text, line_cells};
 ghost use Rattle.mk_lines.specs.CellFaults.{has_bad_fold, has_stray, is_stray_by};
@@ -194,5 +196,13 @@ fn count_folds_behind(ends: &[FoldEnd], after: usize) -> usize
 pub(super) fn has_stray_byte(joined: &[u8]) -> bool
     ensures { result ≡ list_any (λ b. is_stray_by (byte_kind b) (b == 0)) joined.now }
 {
-    memchr3(b'\0', b'\n', b'\r', joined).is_some()
+    first_stray_byte(joined).is_some()
+}
+
+// The first place of a stray byte, as which any line feed counts.
+pub(super) fn first_stray_byte(text: &[u8]) -> Option<usize>
+    ensures first { IsFirstByte (is_byte3 0 10 13) text.now result }
+    ensures some { is_some result ≡ list_any (λ b. is_stray_by (byte_kind b) (b == 0)) text.now }
+{
+    memchr3(b'\0', b'\n', b'\r', text)
 }
