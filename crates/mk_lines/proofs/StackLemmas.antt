@@ -75,7 +75,7 @@ length-blanks (b ∷ t) = go (is_blank_kind (byte_kind b)) (leading (λ b. is_bl
     go false l h = omega arith
 
 -- a stray byte is a NUL, a line feed or a carriage return
-stray_test : (b : ℕ) → is_stray_by (byte_kind b) (b == 0) ≡ is_byte3 0 10 13 b
+pub stray_test : (b : ℕ) → is_stray_by (byte_kind b) (b == 0) ≡ is_byte3 0 10 13 b
 stray_test b = split (b == 10) refl (b == 13) refl
   where
     or_false : (z : Bool) → z ≡ ((z || false) || false)
@@ -94,7 +94,7 @@ stray_test b = split (b == 10) refl (b == 13) refl
     split false e true f = rw (equal b 13 f) refl
     split false e false f = other (byte_kind b) refl (different b 10 e) (different b 13 f)
 
-any_none : (test : ℕ → Bool) (t : List ℕ) → ((k : ℕ) → k < length t → test (get_or t k 0) ≡ true → ⊥) → list_any test t ≡ false
+pub any_none : (test : ℕ → Bool) (t : List ℕ) → ((k : ℕ) → k < length t → test (get_or t k 0) ≡ true → ⊥) → list_any test t ≡ false
 any_none test [] h = refl
 any_none test (x ∷ t) h = go (test x) refl (any_none test t (λ k l. h (suc k) (omega arith)))
   where
@@ -102,7 +102,7 @@ any_none test (x ∷ t) h = go (test x) refl (any_none test t (λ k l. h (suc k)
     go true e i = absurd (h 0 (omega arith) e)
     go false e i = i
 
-any_some : (test : ℕ → Bool) (t : List ℕ) (k : ℕ) → k < length t → test (get_or t k 0) ≡ true → list_any test t ≡ true
+pub any_some : (test : ℕ → Bool) (t : List ℕ) (k : ℕ) → k < length t → test (get_or t k 0) ≡ true → list_any test t ≡ true
 any_some test [] k l h = absurd (omega arith)
 any_some test (x ∷ t) zero l h = rw h refl
 any_some test (x ∷ t) (suc k) l h = go (test x) (any_some test t k (omega arith) h)
