@@ -1,17 +1,17 @@
--- The steps of the split: runs of backslashes, the first physical line, and the ranges so far.
-use Rattle.std.proofs.Common.{◌≡◌, ℕ, zero, suc, ◌+◌, ◌-◌, ◌<◌, Bool, true, false, List, [], ◌∷◌, ◌++◌, length, take, drop, get_or, None, Some, refl, sym, ap, ◌∙◌, subst, inl, inr, arith, append_assoc, append-nil, eqb-true, eq-eqb, ne_eqb, length-append}
+-- The steps of the split: runs of backslashes, a physical line, and the ranges so far.
+use Rattle.std.proofs.Common.{◌≡◌, ℕ, zero, suc, ◌+◌, ◌-◌, ◌<◌, ◌≤◌, Bool, true, false, List, [], ◌∷◌, ◌++◌, length, take, drop, get_or, refl, sym, ap, ◌∙◌, subst, inl, inr, arith, append_assoc, append-nil, eqb-true, eq-eqb, ne_eqb, length-append, length-drop, ⊎_elim}
 use Rattle.std.specs.Prelude.{◌%◌, ◌==◌, ◌⊎◌, not, cond}
 use Rattle.std.specs.List.{prefix_len}
-use Rattle.std.proofs.lemmas.List.{take-append-drop, take_more}
+use Rattle.std.proofs.lemmas.Bool.{cases_eq}
+use Rattle.std.proofs.lemmas.List.{take-append-drop, take_more, drop-drop, get_or-drop}
 use Rattle.std.proofs.Math.Seq.{take-length}
-use Rattle.memchr.specs.Find.{IsFirstByte, is_byte}
+use Rattle.memchr.specs.Find.{Nowhere, NoneBefore, Passes, is_byte, places_from, places_between}
 use Rattle.mk_lines.specs.Bytes.{ByteKind, LineFeed, CarriageReturn, Backslash, Blank, Ordinary, byte_kind}
 use Rattle.mk_lines.specs.ByteLaws.{backslash-byte, line_feed-byte}
 use Rattle.mk_lines.specs.Lists.{onto_first}
 use Rattle.mk_lines.specs.LogicalLines.{starts_with_odd_run, starts_with_odd_run_at, logical_lines, before_group, is_continued}
 use Rattle.mk_lines.specs.LineCut.{NoLineFeed, logical_lines-line, logical_lines-last, onto_first-twice}
 use Rattle.mk_lines.specs.Ranges.{piece_ranges, line_ranges}
-use Rattle.mk_lines.specs.Splitting.{IsFirstLine}
 use Rattle.mk_lines.specs.declared.split.Span.{Span}
 
 -- ---- runs of backslashes
@@ -43,7 +43,7 @@ odd-run (b ∷ text) = go (b == 92) refl (odd-run text) where
       (ap not h ∙ parity (prefix_len (λ b. b == 92) text))
   go false e h = no-run (byte_kind b) (starts_with_odd_run text) (λ is. differ b 92 e (backslash-byte b is))
 
--- ---- the first physical line
+-- ---- a physical line
 
 -- a front of a text in which no line feed was found has none
 no-feed : (text : List ℕ) (k : ℕ) → ((j : ℕ) → j < k → get_or text j 0 ≡ 10 → ⊥) → NoLineFeed (take k text)
@@ -52,30 +52,95 @@ no-feed [] (suc k) none = tt
 no-feed (b ∷ text) zero none = tt
 no-feed (b ∷ text) (suc k) none = (λ is. none 0 (omega arith) (line_feed-byte b is), no-feed text k (λ j below. none (suc j) (omega arith)))
 
--- the line up to the line feed that was found
-pub first-line-found : (text : List ℕ) (k : ℕ) → IsFirstByte (is_byte 10) text (Some k) → IsFirstLine text (take (k + 1) text) (drop (k + 1) text)
-first-line-found text k found =
-    let before = found.0.before in
-    let high = found.0.high in
-    let feed : get_or text k 0 ≡ 10 = eqb-true (get_or text k 0) 10 found.1 in
+-- the next place that a search gives, and where there is none
+module _ (test : ℕ → Bool) (text : List ℕ) where
+  places-next : (n i at : ℕ) (more : List ℕ) → places_from test text i n ≡ at ∷ more → NoneBefore (Passes test text) i (i + n) at × (Passes test text at × (more ≡ places_between test text (at + 1) (i + n)))
+  unfolding places_from
+  places-next zero i at more e = cc
+  places-next (suc n) i at more e = go (test (get_or text i 0)) refl e (places-next n (i + 1) at more)
+    where
+      go : (c : Bool) → test (get_or text i 0) ≡ c → cond c (i ∷ places_from test text (i + 1) n) (places_from test text (i + 1) n) ≡ at ∷ more
+          → (places_from test text (i + 1) n ≡ at ∷ more → NoneBefore (Passes test text) (i + 1) (i + 1 + n) at × (Passes test text at × (more ≡ places_between test text (at + 1) (i + 1 + n))))
+          → NoneBefore (Passes test text) i (i + suc n) at × (Passes test text at × (more ≡ places_between test text (at + 1) (i + suc n)))
+      go true p e f =
+          let same : i ≡ at = cc in
+          let left : places_from test text (i + 1) n ≡ more = cc in
+          let count : i + suc n - (at + 1) ≡ n = omega arith in
+          let place : i + 1 ≡ at + 1 = omega arith in
+          (record { low = omega arith; high = omega arith; before = λ k low high passes. absurd (omega arith) },
+          (subst (Passes test text) same p, sym left ∙ ap (λ k. places_from test text k n) place ∙ ap (places_from test text (at + 1)) (sym count)))
+      go false p e f =
+          let later = f e in
+          let end : i + 1 + n ≡ i + suc n = omega arith in
+          let first = later.0 in
+          (record {
+              low = omega (arith, first.low);
+              high = omega (arith, first.high);
+              before = λ k low high passes. ⊎_elim (λ same. let no : test (get_or text k 0) ≡ false = ap (λ j. test (get_or text j 0)) same ∙ p in cc) (λ other. first.before k other high passes) (here k low);
+            },
+          (later.1.0, later.1.1 ∙ ap (places_between test text (at + 1)) end))
+        where
+          here : (k : ℕ) → i ≤ k → (k ≡ i) ⊎ (i + 1 ≤ k)
+          here k low = ⊎_elim (λ same. inl same) (λ other. inr (omega arith)) (cases_eq k i)
+
+  places-over : (n i : ℕ) → places_from test text i n ≡ [] → Nowhere (Passes test text) i (i + n)
+  unfolding places_from
+  places-over zero i e = λ k low high. absurd (omega arith)
+  places-over (suc n) i e = go (test (get_or text i 0)) refl e (places-over n (i + 1))
+    where
+      go : (c : Bool) → test (get_or text i 0) ≡ c → cond c (i ∷ places_from test text (i + 1) n) (places_from test text (i + 1) n) ≡ [] → (places_from test text (i + 1) n ≡ [] → Nowhere (Passes test text) (i + 1) (i + 1 + n))
+          → Nowhere (Passes test text) i (i + suc n)
+      go true p e f = cc
+      go false p e f = λ k low high passes. ⊎_elim (λ same. let no : test (get_or text k 0) ≡ false = ap (λ j. test (get_or text j 0)) same ∙ p in cc) (λ other. f e k (omega arith) (omega arith) passes) (cases_eq k i)
+
+-- the next line feed of a text in which those from `last` on are left
+pub next-feed : (text : List ℕ) (last at : ℕ) (left more : List ℕ) → last ≤ length text → left ≡ places_between (is_byte 10) text last (length text) → left ≡ at ∷ more
+    → NoneBefore (Passes (is_byte 10) text) last (length text) at × (Passes (is_byte 10) text at × (more ≡ places_between (is_byte 10) text (at + 1) (length text)))
+next-feed text last at left more within e f =
+    let end : last + (length text - last) ≡ length text = omega arith in
+    subst (λ j. NoneBefore (Passes (is_byte 10) text) last j at × (Passes (is_byte 10) text at × (more ≡ places_between (is_byte 10) text (at + 1) j))) end
+    (places-next (is_byte 10) text (length text - last) last at more (sym e ∙ f))
+
+-- where none is left
+pub no-more-feeds : (text : List ℕ) (last : ℕ) (left : List ℕ) → last ≤ length text → left ≡ places_between (is_byte 10) text last (length text) → left ≡ [] → Nowhere (Passes (is_byte 10) text) last (length text)
+no-more-feeds text last left within e f =
+    let end : last + (length text - last) ≡ length text = omega arith in
+    subst (λ j. Nowhere (Passes (is_byte 10) text) last j) end (places-over (is_byte 10) text (length text - last) last (sym e ∙ f))
+
+-- The text is a physical line and what follows it: the line stands before the logical lines of what follows, in one group
+-- with the first of them where it is continued.
+pub record IsFirstLine (text line after : List ℕ) : Type 0 where
+  pub whole : text ≡ line ++ after
+  pub some : 0 < length line
+  pub lines : logical_lines text ≡ before_group (is_continued line) line (logical_lines after)
+
+-- the line up to the first line feed
+first-line : (text : List ℕ) (k : ℕ) → k < length text → ((j : ℕ) → j < k → get_or text j 0 ≡ 10 → ⊥) → get_or text k 0 ≡ 10 → IsFirstLine text (take (k + 1) text) (drop (k + 1) text)
+first-line text k high before feed =
     let p = take k text in
     let t = drop (k + 1) text in
     let line : take (k + 1) text ≡ p ++ 10 ∷ [] = take_more text k 0 high ∙ ap (λ b. p ++ b ∷ []) feed in
     let whole : text ≡ p ++ 10 ∷ t = sym (take-append-drop (k + 1) text) ∙ ap (λ l. l ++ t) line ∙ append_assoc p (10 ∷ []) t in
-    let none = no-feed text k (λ j below is. before j (omega arith) below (eq-eqb (get_or text j 0) 10 is)) in
     record {
       whole = sym (take-append-drop (k + 1) text);
       some = omega (arith, ap length line, length-append p (10 ∷ []));
-      lines = inl (ap logical_lines whole ∙ logical_lines-line p 10 t none refl ∙ ap (λ l. before_group (is_continued l) l (logical_lines t)) (sym line));
+      lines = ap logical_lines whole ∙ logical_lines-line p 10 t (no-feed text k before) refl ∙ ap (λ l. before_group (is_continued l) l (logical_lines t)) (sym line);
     }
 
--- the last line, in which no line feed was found
-pub first-line-last : (text : List ℕ) → 0 < length text → IsFirstByte (is_byte 10) text None → IsFirstLine text text []
-first-line-last [] some missing = absurd (omega arith)
-first-line-last (b ∷ p) some missing =
-    let text = b ∷ p in
-    let none : NoLineFeed text = subst NoLineFeed (take-length text) (no-feed text (length text) (λ j below is. missing j (omega arith) below (eq-eqb (get_or text j 0) 10 is))) in
-    record { whole = sym (append-nil text); some = some; lines = inr (refl, logical_lines-last b p none) }
+-- the line from `last` up to the next line feed
+pub line-from : (text : List ℕ) (last at : ℕ) → NoneBefore (Passes (is_byte 10) text) last (length text) at → Passes (is_byte 10) text at
+    → IsFirstLine (drop last text) (take (at + 1 - last) (drop last text)) (drop (at + 1) text)
+line-from text last at first passes =
+    let low = first.low in
+    let high = first.high in
+    let k = at - last in
+    let rest = drop last text in
+    let feed : get_or rest k 0 ≡ 10 = get_or-drop last text k 0 ∙ (ap (λ j. get_or text j 0) (omega arith) ∙ eqb-true (get_or text at 0) 10 passes) in
+    let before : (j : ℕ) → j < k → get_or rest j 0 ≡ 10 → ⊥ = λ j below is. first.before (last + j) (omega arith) (omega arith) (eq-eqb (get_or text (last + j) 0) 10 (sym (get_or-drop last text j 0) ∙ is)) in
+    let line : k + 1 ≡ at + 1 - last = omega arith in
+    let after : drop (k + 1) rest ≡ drop (at + 1) text = drop-drop (k + 1) last text ∙ ap (λ j. drop j text) (omega arith) in
+    subst (λ n. IsFirstLine rest (take n rest) (drop (at + 1) text)) line
+    (subst (λ t. IsFirstLine rest (take (k + 1) rest) t) after (first-line rest k (omega (arith, length-drop last text)) before feed))
 
 -- ---- the ranges so far
 
@@ -85,12 +150,12 @@ with_begun [] lines = lines
 with_begun (b ∷ begun) lines = onto_first (b ∷ begun) lines
 
 -- The ranges of a text's lines are those so far and those of the lines that are left, of which the first has a part that
--- was read. It begins at `start`, and `rest` is what was not read.
-pub record SplitUpTo (text : List ℕ) (spans : List Span) (start : ℕ) (rest : List ℕ) : Type 0 where
+-- was read. It begins at `start`, and what was not read at `last`.
+pub record SplitUpTo (text : List ℕ) (spans : List Span) (start last : ℕ) : Type 0 where
   pub begun : List ℕ
-  pub place : start + (length begun + length rest) ≡ length text
-  pub closed : rest ≡ [] → begun ≡ []
-  pub ranges : line_ranges text ≡ spans ++ piece_ranges start (with_begun begun (logical_lines rest))
+  pub place : start + length begun ≡ last
+  pub within : last ≤ length text
+  pub ranges : line_ranges text ≡ spans ++ piece_ranges start (with_begun begun (logical_lines (drop last text)))
 
 with_begun-cons : (begun line : List ℕ) (lines : List (List ℕ)) → with_begun begun (line ∷ lines) ≡ (begun ++ line) ∷ lines
 with_begun-cons [] line lines = refl
@@ -101,56 +166,76 @@ with_begun-onto [] [] lines some = absurd (omega arith)
 with_begun-onto [] (x ∷ line) lines some = refl
 with_begun-onto (b ∷ begun) line lines some = onto_first-twice (b ∷ begun) line lines
 
-group-alone : (continued : Bool) (line : List ℕ) → before_group continued line [] ≡ line ∷ []
-group-alone true line = refl
-group-alone false line = refl
-
--- a line that is not continued, or the last
-closes : (text line after : List ℕ) → IsFirstLine text line after → (after ≡ []) ⊎ (is_continued line ≡ false) → logical_lines text ≡ line ∷ logical_lines after
-closes text line after first ends = by first.lines ends where
-  by : (logical_lines text ≡ before_group (is_continued line) line (logical_lines after)) ⊎ ((after ≡ []) × (logical_lines text ≡ line ∷ []))
-      → (after ≡ []) ⊎ (is_continued line ≡ false) → logical_lines text ≡ line ∷ logical_lines after
-  by (inr (none, h)) e = h ∙ ap (λ t. line ∷ logical_lines t) (sym none)
-  by (inl h) (inr e) = h ∙ ap (λ c. before_group c line (logical_lines after)) e
-  by (inl h) (inl none) = h ∙ ap (λ t. before_group (is_continued line) line (logical_lines t)) none ∙ group-alone (is_continued line) line ∙ ap (λ t. line ∷ logical_lines t) (sym none)
+-- nothing was read
+pub SplitUpTo-none : (text : List ℕ) → SplitUpTo text [] 0 0
+SplitUpTo-none text = record { begun = []; place = refl; within = omega arith; ranges = refl }
 
 -- one more line
-pub SplitUpTo-line : (text : List ℕ) (spans : List Span) (start : ℕ) (rest line after : List ℕ) → SplitUpTo text spans start rest → IsFirstLine rest line after
-    → (after ≡ []) ⊎ (is_continued line ≡ false)
-    → SplitUpTo text (spans ++ (record { start = start; end = length text - length after } ∷ [])) (length text - length after) after
-SplitUpTo-line text spans start rest line after h first ends =
-    let lengths : length rest ≡ length line + length after = ap length first.whole ∙ length-append line after in
-    let end : start + length (h.begun ++ line) ≡ length text - length after = let place = h.place in omega (arith, length-append h.begun line) in
+pub SplitUpTo-line : (text : List ℕ) (spans : List Span) (start last end : ℕ) (line : List ℕ) → SplitUpTo text spans start last → IsFirstLine (drop last text) line (drop end text)
+    → last ≤ end → end ≤ length text → is_continued line ≡ false → SplitUpTo text (spans ++ record { start = start; end = end } ∷ []) end end
+SplitUpTo-line text spans start last end line h first order within ends =
+    let lengths : length (drop last text) ≡ length line + length (drop end text) = ap length first.whole ∙ length-append line (drop end text) in
     let place = h.place in
+    let at : start + length (h.begun ++ line) ≡ end = omega (arith, length-append h.begun line, length-drop last text, length-drop end text) in
+    let lines : logical_lines (drop last text) ≡ line ∷ logical_lines (drop end text) = first.lines ∙ ap (λ c. before_group c line (logical_lines (drop end text))) ends in
     record {
       begun = [];
       place = omega arith;
-      closed = λ _. refl;
-      ranges = h.ranges ∙ ap (λ ls. spans ++ piece_ranges start (with_begun h.begun ls)) (closes rest line after first ends)
-          ∙ ap (λ ls. spans ++ piece_ranges start ls) (with_begun-cons h.begun line (logical_lines after))
-          ∙ ap (λ e. spans ++ (record { start = start; end = e } ∷ piece_ranges e (logical_lines after))) end
-          ∙ sym (append_assoc spans (record { start = start; end = length text - length after } ∷ []) (piece_ranges (length text - length after) (logical_lines after)));
+      within = within;
+      ranges = h.ranges ∙ ap (λ ls. spans ++ piece_ranges start (with_begun h.begun ls)) lines
+          ∙ ap (λ ls. spans ++ piece_ranges start ls) (with_begun-cons h.begun line (logical_lines (drop end text)))
+          ∙ ap (λ e. spans ++ (record { start = start; end = e } ∷ piece_ranges e (logical_lines (drop end text)))) at
+          ∙ sym (append_assoc spans (record { start = start; end = end } ∷ []) (piece_ranges end (logical_lines (drop end text))));
     }
 
 -- a line that the next continues
-pub SplitUpTo-continued : (text : List ℕ) (spans : List Span) (start : ℕ) (rest line after : List ℕ) → SplitUpTo text spans start rest → IsFirstLine rest line after
-    → 0 < length after → is_continued line ≡ true → SplitUpTo text spans start after
-SplitUpTo-continued text spans start rest line after h first more continued =
-    let lengths : length rest ≡ length line + length after = ap length first.whole ∙ length-append line after in
+pub SplitUpTo-continued : (text : List ℕ) (spans : List Span) (start last end : ℕ) (line : List ℕ) → SplitUpTo text spans start last → IsFirstLine (drop last text) line (drop end text)
+    → last ≤ end → end ≤ length text → is_continued line ≡ true → SplitUpTo text spans start end
+SplitUpTo-continued text spans start last end line h first order within continued =
+    let lengths : length (drop last text) ≡ length line + length (drop end text) = ap length first.whole ∙ length-append line (drop end text) in
     let place = h.place in
+    let lines : logical_lines (drop last text) ≡ onto_first line (logical_lines (drop end text)) = first.lines ∙ ap (λ c. before_group c line (logical_lines (drop end text))) continued in
     record {
       begun = h.begun ++ line;
-      place = omega (arith, length-append h.begun line);
-      closed = λ none. let empty : length after ≡ 0 = ap length none in absurd (omega arith);
-      ranges = h.ranges ∙ ap (λ ls. spans ++ piece_ranges start (with_begun h.begun ls)) (group first.lines)
-          ∙ ap (λ ls. spans ++ piece_ranges start ls) (with_begun-onto h.begun line (logical_lines after) first.some);
+      place = omega (arith, length-append h.begun line, length-drop last text, length-drop end text);
+      within = within;
+      ranges = h.ranges ∙ ap (λ ls. spans ++ piece_ranges start (with_begun h.begun ls)) lines
+          ∙ ap (λ ls. spans ++ piece_ranges start ls) (with_begun-onto h.begun line (logical_lines (drop end text)) first.some);
     }
-  where
-    group : (logical_lines rest ≡ before_group (is_continued line) line (logical_lines after)) ⊎ ((after ≡ []) × (logical_lines rest ≡ line ∷ [])) → logical_lines rest ≡ onto_first line (logical_lines after)
-    group (inl h) = h ∙ ap (λ c. before_group c line (logical_lines after)) continued
-    group (inr (none, h)) = let empty : length after ≡ 0 = ap length none in absurd (omega arith)
+
+-- ---- the last line
+
+-- what was read of the last line and what was not, in which no line feed is, are that line
+alone : (begun rest : List ℕ) → NoLineFeed rest → 0 < length begun + length rest → with_begun begun (logical_lines rest) ≡ (begun ++ rest) ∷ []
+alone [] [] none some = absurd (omega arith)
+alone (b ∷ begun) [] none some = ap (λ l. l ∷ []) (sym (append-nil (b ∷ begun)))
+alone begun (b ∷ p) none some = ap (with_begun begun) (logical_lines-last b p none) ∙ with_begun-cons begun (b ∷ p) []
+
+rest-feeds : (text : List ℕ) (last : ℕ) → Nowhere (Passes (is_byte 10) text) last (length text) → NoLineFeed (drop last text)
+rest-feeds text last none =
+    subst NoLineFeed (take-length (drop last text))
+    (no-feed (drop last text) (length (drop last text)) (λ j below is. none (last + j) (omega arith) (omega (arith, length-drop last text)) (eq-eqb (get_or text (last + j) 0) 10 (sym (get_or-drop last text j 0) ∙ is))))
+
+nothing : (text : List ℕ) → length text ≡ 0 → text ≡ []
+nothing [] none = refl
+nothing (b ∷ text) none = absurd (omega arith)
+
+-- the last line has no line feed, or nothing continues it
+pub SplitUpTo-last : (text : List ℕ) (spans : List Span) (start last : ℕ) → SplitUpTo text spans start last → Nowhere (Passes (is_byte 10) text) last (length text) → start < length text
+    → spans ++ record { start = start; end = length text } ∷ [] ≡ line_ranges text
+SplitUpTo-last text spans start last h none some =
+    let place = h.place in
+    let within = h.within in
+    let rest = drop last text in
+    let end : start + length (h.begun ++ rest) ≡ length text = omega (arith, length-append h.begun rest, length-drop last text) in
+    let more : 0 < length h.begun + length rest = omega (arith, length-drop last text) in
+    sym (h.ranges ∙ (ap (λ ls. spans ++ piece_ranges start ls) (alone h.begun rest (rest-feeds text last none) more) ∙ ap (λ e. spans ++ record { start = start; end = e } ∷ []) end))
 
 -- nothing is left
-pub SplitUpTo-all : (text : List ℕ) (spans : List Span) (start : ℕ) → SplitUpTo text spans start [] → spans ≡ line_ranges text
-SplitUpTo-all text spans start h =
-    sym (h.ranges ∙ ap (λ begun. spans ++ piece_ranges start (with_begun begun [])) (h.closed refl) ∙ append-nil spans)
+pub SplitUpTo-all : (text : List ℕ) (spans : List Span) (start last : ℕ) → SplitUpTo text spans start last → (start < length text → ⊥) → spans ≡ line_ranges text
+SplitUpTo-all text spans start last h over =
+    let place = h.place in
+    let within = h.within in
+    let begun : h.begun ≡ [] = nothing h.begun (omega arith) in
+    let rest : drop last text ≡ [] = nothing (drop last text) (omega (arith, length-drop last text)) in
+    sym (h.ranges ∙ (ap (λ b. spans ++ piece_ranges start (with_begun b (logical_lines (drop last text)))) begun ∙ (ap (λ t. spans ++ piece_ranges start (logical_lines t)) rest ∙ append-nil spans)))

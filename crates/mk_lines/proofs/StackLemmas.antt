@@ -1,12 +1,13 @@
 -- Lemmas on the stack of cells, and on the bytes that make cells.
-use Rattle.std.proofs.Common.{◌≡◌, refl, sym, ap, ◌∙◌, subst, ℕ, zero, suc, ◌+◌, ◌-◌, ◌<◌, ◌≤◌, Bool, true, false, cond, not, ◌⊎◌, inl, inr, List, [], ◌∷◌, ◌++◌, map, length, take, drop, length-append, length-drop, get_or, arith, Option, None, Some, is_some}
+use Rattle.std.proofs.Common.{◌≡◌, refl, sym, ap, ◌∙◌, subst, ℕ, zero, suc, ◌+◌, ◌-◌, ◌<◌, ◌≤◌, Bool, true, false, cond, not, ◌⊎◌, inl, inr, List, [], ◌∷◌, ◌++◌, map, length, take, drop, length-append, length-drop, get_or, arith, Option, None, Some, is_some, ⊎_elim}
 use Rattle.std.specs.Prelude.{◌==◌, ◌&&◌, ◌||◌, All}
 use Rattle.std.specs.List.{list_any, prefix_len}
 use Rattle.std.proofs.lemmas.List.{append-nil, drop-drop, take-append-drop, get_or-take, get_or-drop, length-take-le}
 use Rattle.std.proofs.lemmas.List.Elements.{All-from_get_or, All-head, All-tail}
+use Rattle.std.proofs.lemmas.Bool.{cases_lt}
 use Rattle.std.proofs.lemmas.Bool.Decides.{Decides-eqb}
 use Rattle.std.proofs.Math.Seq.{drop-append_seam, take-length}
-use Rattle.memchr.specs.Find.{IsFirstByte, is_byte, is_byte3}
+use Rattle.memchr.specs.Find.{IsFirstByte, Nowhere, Passes, is_byte, is_byte3}
 use Rattle.mk_lines.specs.Lists.{leading, after_leading}
 use Rattle.mk_lines.specs.Bytes.{ByteKind, LineFeed, CarriageReturn, Backslash, Blank, Ordinary, byte_kind, is_blank_kind, is_backslash_kind}
 use Rattle.mk_lines.specs.ByteLaws.{line_feed-byte, carriage_return-byte, blank-byte}
@@ -74,7 +75,7 @@ length-blanks (b ∷ t) = go (is_blank_kind (byte_kind b)) (leading (λ b. is_bl
     go false l h = omega arith
 
 -- a stray byte is a NUL, a line feed or a carriage return
-stray_test : (b : ℕ) → is_stray_by (byte_kind b) (b == 0) ≡ is_byte3 0 10 13 b
+pub stray_test : (b : ℕ) → is_stray_by (byte_kind b) (b == 0) ≡ is_byte3 0 10 13 b
 stray_test b = split (b == 10) refl (b == 13) refl
   where
     or_false : (z : Bool) → z ≡ ((z || false) || false)
@@ -93,7 +94,7 @@ stray_test b = split (b == 10) refl (b == 13) refl
     split false e true f = rw (equal b 13 f) refl
     split false e false f = other (byte_kind b) refl (different b 10 e) (different b 13 f)
 
-any_none : (test : ℕ → Bool) (t : List ℕ) → ((k : ℕ) → k < length t → test (get_or t k 0) ≡ true → ⊥) → list_any test t ≡ false
+pub any_none : (test : ℕ → Bool) (t : List ℕ) → ((k : ℕ) → k < length t → test (get_or t k 0) ≡ true → ⊥) → list_any test t ≡ false
 any_none test [] h = refl
 any_none test (x ∷ t) h = go (test x) refl (any_none test t (λ k l. h (suc k) (omega arith)))
   where
@@ -101,7 +102,7 @@ any_none test (x ∷ t) h = go (test x) refl (any_none test t (λ k l. h (suc k)
     go true e i = absurd (h 0 (omega arith) e)
     go false e i = i
 
-any_some : (test : ℕ → Bool) (t : List ℕ) (k : ℕ) → k < length t → test (get_or t k 0) ≡ true → list_any test t ≡ true
+pub any_some : (test : ℕ → Bool) (t : List ℕ) (k : ℕ) → k < length t → test (get_or t k 0) ≡ true → list_any test t ≡ true
 any_some test [] k l h = absurd (omega arith)
 any_some test (x ∷ t) zero l h = rw h refl
 any_some test (x ∷ t) (suc k) l h = go (test x) (any_some test t k (omega arith) h)
@@ -138,6 +139,31 @@ search-no_line_feed t h = All-from_get_or (λ b. b ≡ 10 → ⊥) t 0 (λ k l e
 
 pub search-line_feed : (t : List ℕ) (k : ℕ) → IsFirstByte (is_byte 10) t (Some k) → All (λ b. b ≡ 10 → ⊥) t → ⊥
 search-line_feed t k h all = all k 0 h.0.high (equal (get_or t k 0) 10 h.1)
+
+-- a place that was found behind another, by the place in the whole text
+abbrev pub further : ℕ → Option ℕ → Option ℕ
+further first None = None
+further first (Some n) = Some (first + n)
+
+-- a search for a line feed from the first stray byte on, as a search of the whole text
+pub search-further : (t : List ℕ) (first : ℕ) (r : Option ℕ) → IsFirstByte (is_byte3 0 10 13) t (Some first) → IsFirstByte (is_byte 10) (take (length t - first) (drop first t)) r → IsFirstByte (is_byte 10) t (further first r)
+search-further t first r h g = moved r (subst (λ u. IsFirstByte (is_byte 10) u r) (ap (λ m. take m (drop first t)) (sym (length-drop first t)) ∙ take-length (drop first t)) g)
+  where
+    before : (k : ℕ) → k < first → Passes (is_byte 10) t k → ⊥
+    before k l e = let feed : get_or t k 0 ≡ 10 = equal (get_or t k 0) 10 e in h.0.before k (omega arith) l (rw feed refl)
+
+    -- at a place behind the first stray byte
+    at : (k : ℕ) → first ≤ k → get_or (drop first t) (k - first) 0 ≡ get_or t k 0
+    at k l = get_or-drop first t (k - first) 0 ∙ ap (λ i. get_or t i 0) (omega arith)
+
+    none : (end k : ℕ) → Nowhere (Passes (is_byte 10) (drop first t)) 0 end → k < first + end → Passes (is_byte 10) t k → ⊥
+    none end k g l e = ⊎_elim (λ low. before k low e) (λ high. g (k - first) (omega arith) (omega arith) (ap (λ b. b == 10) (at k high) ∙ e)) (cases_lt k first)
+
+    moved : (r : Option ℕ) → IsFirstByte (is_byte 10) (drop first t) r → IsFirstByte (is_byte 10) t (further first r)
+    moved None g = λ k low high e. none (length (drop first t)) k g (omega (arith, length-drop first t)) e
+    moved (Some n) g =
+        let within : n < length (drop first t) = g.0.high in
+        (record { low = omega arith; high = omega (arith, length-drop first t); before = λ k low high e. none n k g.0.before high e }, ap (λ b. b == 10) (sym (get_or-drop first t n 0)) ∙ g.1)
 
 -- ---- the stack
 

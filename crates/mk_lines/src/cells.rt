@@ -11,7 +11,8 @@
 //! - A *bad fold* has a backslash directly before its whole run of bytes, as after `a\\ \` and a
 //!   line end: read as text, that backslash would stand before a space and escape it.
 //! - A *stray byte* is a NUL, or a CR that is no part of a line end.
-ghost use Rattle.std.specs.Prelude.{◌≡◌, ◌≢◌, ◌<◌, ℕ, slice_index, All, IfOk, IsOk, IsOkUnless};
+ghost use Rattle.std.specs.Prelude.{◌≡◌, ◌≢◌, ◌<◌, ℕ, Some, slice_index, All, IfOk, IsOk, IsOkUnless};
+ghost use Rattle.memchr.specs.Find.{IsFirstByte, is_byte3};
 ghost use Rattle.mk_lines.specs.PhysicalLines.{without_line_end};
 ghost use Rattle.mk_lines.specs.Cells.{cells};
 ghost use Rattle.mk_lines.specs.KeptCells.{AreCellsOf, kept_cells};
@@ -22,7 +23,7 @@ mod stack;
 use crate::ends::without_line_end;
 use crate::fault::Fault;
 pub use kept::Cells;
-use kept::{Folded, has_stray_byte};
+use kept::{Folded, first_stray_byte, has_stray_byte};
 use memchr::memchr;
 use stack::stack_of_text;
 use std::alloc::Allocator;
@@ -46,12 +47,25 @@ pub fn cells<A: Allocator + Copy>(alloc: A, line: &[u8]) -> Result<Cells<A>, Fau
 {
     let text = without_line_end(line);
     // A line feed counts as a stray byte: most lines have none of the two, and are read once.
-    if !has_stray_byte(text) {
-        return Ok(Cells::plain(text, false));
+    match first_stray_byte(text) {
+        None => Ok(Cells::plain(text, false)),
+        Some(first) => stray_cells(alloc, text, first),
     }
-    match memchr(b'\n', text) {
+}
+
+// The cells of a text whose first stray byte, as which a line feed counts, is at `first`.
+//
+// Few lines come here, and this stays a call of its own: what it needs would slow the others down.
+#[inline(never)]
+fn stray_cells<A: Allocator + Copy>(alloc: A, text: &[u8], first: usize) -> Result<Cells<A>, Fault>
+    requires { IsFirstByte (is_byte3 0 10 13) text.now (Some first) }
+    ensures cells { IfOk result (λ kept. kept ≡ kept_cells (cells text.now)) }
+    ensures plain { All (λ b. b ≢ 10) text.now → IsOk result }
+    ensures fault { IsOkUnless result Fault.NoMemory }
+{
+    match memchr(b'\n', &text[first..]) {
         None => Ok(Cells::plain(text, true)),
-        Some(feed) => folded_cells(alloc, text, feed),
+        Some(further) => folded_cells(alloc, text, first + further),
     }
 }
 

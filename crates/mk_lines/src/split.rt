@@ -1,12 +1,11 @@
 //! A text as its logical lines.
-ghost use Rattle.std.specs.Prelude.{◌≡◌, ◌<◌, IfOk, IsOkUnless, length};
+ghost use Rattle.std.specs.Prelude.{◌≡◌, IfOk, IsOkUnless, length};
 ghost use Rattle.mk_lines.specs.Ranges.{line_ranges};
 ghost use Rattle.mk_lines.specs.Spans.{Tiles};
-ghost use Rattle.mk_lines.specs.Splitting.{IsFirstLine};
 
 use crate::ends::is_continued;
 use crate::fault::Fault;
-use memchr::memchr;
+use memchr::memchr_iter;
 use std::alloc::Allocator;
 
 /// A stretch of a text, in bytes: from `start`, which is its first, up to `end`, which is not in it.
@@ -34,27 +33,21 @@ pub fn split<A: Allocator>(alloc: A, text: &[u8]) -> Result<Vec<Span, A>, Fault>
     ensures fault { IsOkUnless result Fault.NoMemory }
 {
     let mut spans = Vec::new(alloc);
+    // where the line begins, and its last physical line
     let mut start = 0;
-    let mut rest = text;
-    'lines: while !rest.is_empty() {
-        let (line, after) = first_physical_line(rest);
-        if after.is_empty() || !is_continued(line) {
-            let end = text.len() - after.len();
+    let mut last = 0;
+    'lines: for feed in memchr_iter(b'\n', text) {
+        let end = feed + 1;
+        if !is_continued(&text[last..end]) {
             spans.push(Span { start, end })?;
             start = end;
         }
-        rest = after;
+        last = end;
+    }
+    // The last line may have no line feed, or be continued by nothing.
+    if start < text.len() {
+        let end = text.len();
+        spans.push(Span { start, end })?;
     }
     Ok(spans)
-}
-
-// The first physical line of a text that is not empty, and the text after it.
-fn first_physical_line(text: &[u8]) -> (&[u8], &[u8])
-    requires { 0 < length text.now }
-    ensures { IsFirstLine text.now result.0.now result.1.now }
-{
-    match memchr(b'\n', text) {
-        Some(at) => text.split_at(at + 1),
-        None => text.split_at(text.len()),
-    }
 }

@@ -13,6 +13,7 @@ use super::kept::FoldEnd;
 use crate::fault::Fault;
 use memchr::memrchr;
 use std::alloc::Allocator;
+use std::cmp::min;
 use std::marker::Model;
 
 /// What the first of some cells is.
@@ -72,7 +73,7 @@ pub fn stack_of_text<A: Allocator + Copy>(
     let mut stack = Stack {
         joined: vec![in alloc; 0; text.len()]?,
         first: text.len(),
-        ends: Vec::new(alloc),
+        ends: Vec::with_capacity(alloc, min(text.len() / 32 + 1, 16))?,
         top: Top::Byte,
         bad_fold: false,
     };
