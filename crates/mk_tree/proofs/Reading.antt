@@ -51,6 +51,7 @@ pub all-unread : (t : List ℕ) (ss : List Span) (c : Context) → length t ≤ 
 all-unread t ss c few e s =
     let tiles : Tiles ss 0 (length t) = subst (λ z. Tiles z 0 (length t)) (sym e) (line_ranges-tiles t) in
     record {
+      short = few;
       within = (0, tiles);
       single = all-single t [] (texts_at t ss) (sym (line_ranges-text t) ∙ ap (texts_at t) (sym e));
       few = omega (arith, few, tiles-few ss (length t) tiles, ap (λ (z : Context). z.defines) s);
@@ -69,6 +70,7 @@ pub rest-unread : (t : List ℕ) (s : Span) (ss rest : List Span) (c after : Con
 rest-unread t s ss rest c after e u one =
     let here : AreUnread t (s ∷ rest) c = subst (λ z. AreUnread t z c) e u in
     record {
+      short = here.short;
       within = (s.end, here.within.1.2);
       single = here.single.1;
       few = omega (arith, here.few, one);

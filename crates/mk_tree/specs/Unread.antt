@@ -38,9 +38,10 @@ abbrev pub AreSingle : List (List ℕ) → Type 0
 AreSingle [] = Unit {0}
 AreSingle (l ∷ ls) = (logical_lines l ≡ l ∷ []) × AreSingle ls
 
--- The spans follow one another up to the end of the text, each is one logical line, and there are so few of them that no
--- count of open defines is too large.
+-- The text is within the limit of a document, the spans follow one another up to its end, each is one logical line, and
+-- there are so few of them that no count of open defines is too large.
 pub record AreUnread (text : List ℕ) (spans : List Span) (context : Context) : Type 0 where
+  pub short : length text ≤ 2 ^ 24
   pub within : (from : ℕ) × Tiles spans from (length text)
   pub single : AreSingle (texts_at text spans)
   pub few : context.defines + length spans ≤ 2 ^ 24

@@ -15,6 +15,9 @@ of_text-requires-clause-order g c = (first-unread _ _ _ _ _ c.in-Some.ensures.ca
 pub of_text-requires-clause-within : goal.of_text-requires-clause-within
 of_text-requires-clause-within g c = (first-unread _ _ _ _ _ c.in-Some.ensures.cases.0 c.self.invariant).1
 
+pub of_text-requires-clause-short : goal.of_text-requires-clause-short
+of_text-requires-clause-short g c = omega (arith, c.self.invariant.short)
+
 pub read_line-requires-clause-line : goal.read_line-requires-clause-line
 read_line-requires-clause-line g c = rw c.in_ok-bytes.ensures.ok (first-unread _ _ _ _ _ c.in-Some.ensures.cases.0 c.self.invariant).2
 
