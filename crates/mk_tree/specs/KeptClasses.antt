@@ -7,7 +7,7 @@ use Rattle.mk_class.specs.declared.class.Class.TheVariants as variants
 use Rattle.mk_tree.specs.declared.kept_class.KeptAssignment.{KeptAssignment}
 use Rattle.mk_tree.specs.declared.kept_class.KeptHeader.{KeptHeader}
 use Rattle.mk_tree.specs.declared.kept_class.KeptClass.{KeptClass}
-use Rattle.mk_tree.specs.declared.kept_class.KeptClass.TheVariants.{Endef, Body, Recipe, Opaque, Blank, Comment, Assign, DefineHead, If, Else, Endif, Directive, TargetAssign, Rough, Header}
+use Rattle.mk_tree.specs.declared.kept_class.KeptClass.TheVariants.{Endef, Body, Recipe, Opaque, Blank, Comment, Assign, DefineHead, If, Else, Endif, Directive, TargetAssign, Rough, Header, Long}
 
 abbrev pub whole_assignment : flavor.Flavor → KeptAssignment → assignment.Assignment
 whole_assignment f k = record {
@@ -29,7 +29,7 @@ whole_header k = record {
   head_end = k.head_end;
 }
 
-abbrev pub whole_class : KeptClass → class.Class
+abbrev pub whole_class : {A : _} → KeptClass A → class.Class
 whole_class Endef = variants.Endef
 whole_class (Body n) = variants.Body n
 whole_class Recipe = variants.Recipe
@@ -45,3 +45,4 @@ whole_class Directive = variants.Directive
 whole_class (TargetAssign s f targets_end k) = variants.TargetAssign (record { separator = s; targets_end = targets_end; assignment = whole_assignment f k })
 whole_class Rough = variants.Rough
 whole_class (Header k) = variants.Header (whole_header k)
+whole_class (Long k) = k.value

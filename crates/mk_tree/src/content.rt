@@ -17,7 +17,7 @@ use std::mem;
 pub(crate) struct Content<A: Allocator = Global> {
     bytes: LineBytes<A>,
     cells: Cells<A>,
-    class: KeptClass,
+    class: KeptClass<A>,
 }
 
 impl<A: Allocator> Model for Content<A> {
@@ -33,7 +33,7 @@ impl<A: Allocator> Model for Content<A> {
 }
 
 impl<A: Allocator> Content<A> {
-    pub(crate) fn new(bytes: LineBytes<A>, cells: Cells<A>, class: KeptClass) -> Content<A>
+    pub(crate) fn new(bytes: LineBytes<A>, cells: Cells<A>, class: KeptClass<A>) -> Content<A>
         requires some_bytes { 0 < length bytes }
         requires cells { AreCellsOf cells bytes }
         ensures bytes { result.bytes ≡ bytes }

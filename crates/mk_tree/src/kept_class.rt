@@ -2,15 +2,18 @@
 //!
 //! A class is the largest part of what is kept of a line, and a document is read through whole to
 //! be printed or dropped.
-ghost use Rattle.std.specs.Prelude.{◌≡◌, IfSome};
+ghost use Rattle.std.specs.Prelude.{◌≡◌, IfOk, IfSome, IsOkUnless};
 ghost use Rattle.mk_tree.specs.KeptClasses.{whole_assignment, whole_class, whole_header};
 
 use mk_class::{Assignment, Class, Flavor, Header, Nesting, Separator, TargetAssignment};
+use mk_lines::Fault;
 use mk_lines::split::Span;
+use std::alloc::{Allocator, Global};
+use std::mem::size_of;
 
-/// A [`Class`] with places of 32 bits.
-#[derive(Clone, Copy, Debug, PartialEq, Eq)]
-pub(crate) enum KeptClass {
+/// A [`Class`], with places of 32 bits where they fit.
+#[derive(Drop)]
+pub(crate) enum KeptClass<A: Allocator> {
     Endef,
     Body(Nesting),
     Recipe,
@@ -26,7 +29,11 @@ pub(crate) enum KeptClass {
     TargetAssign(Separator, Flavor, u32, KeptAssignment),
     Rough,
     Header(KeptHeader),
+    /// A class with a place that does not fit: its line is too long for a document.
+    Long(Box<Class, A>),
 }
+
+const _: () = prove!(size_of::<KeptClass<Global>>() == 32);
 
 /// The places of an [`Assignment`].
 #[derive(Clone, Copy, Debug, PartialEq, Eq)]
@@ -121,9 +128,24 @@ impl KeptHeader {
     }
 }
 
-impl KeptClass {
-    /// A class, unless one of its places is 4,294,967,296 or more.
-    pub(crate) fn of(class: &Class) -> Option<KeptClass>
+impl<A: Allocator> KeptClass<A> {
+    /// A class to be kept. It takes memory where a place does not fit 32 bits.
+    ///
+    /// # Errors
+    ///
+    /// [`Fault::NoMemory`] where a growth was refused.
+    pub(crate) fn new(alloc: A, class: Class) -> Result<KeptClass<A>, Fault>
+        ensures ok { IfOk result (λ kept. whole_class kept ≡ class) }
+        ensures fault { IsOkUnless result Fault.NoMemory }
+    {
+        match KeptClass::with_small_places(&class) {
+            Some(kept) => Ok(kept),
+            None => Ok(KeptClass::Long(Box::new(alloc, class)?)),
+        }
+    }
+
+    // A class where all of its places fit.
+    fn with_small_places(class: &Class) -> Option<KeptClass<A>>
         ensures { IfSome result (λ kept. whole_class kept ≡ class.now) }
     {
         let kept = match class {
@@ -181,6 +203,7 @@ impl KeptClass {
             }
             KeptClass::Rough => Class::Rough,
             KeptClass::Header(kept) => Class::Header(kept.whole()),
+            KeptClass::Long(class) => **class,
         }
     }
 }

@@ -16,20 +16,21 @@ use std::rc::RcSlice;
 #[derive(Drop)]
 pub struct LineBytes<A: Allocator = Global> {
     text: RcSlice<u8, A>,
-    // A document keeps one of each line, hence the small numbers.
-    start: u32,
-    end: u32,
+    // How many bytes of the text stand before and after the stretch. A document keeps these of each
+    // line, hence the small numbers, which serve for whole texts of any length.
+    before: u32,
+    after: u32,
 }
 
 impl<A: Allocator> Model for LineBytes<A> {
-    ghost use Rattle.std.specs.Prelude.{ℕ, List, ◌≤◌, length, slice_range};
+    ghost use Rattle.std.specs.Prelude.{ℕ, List, ◌+◌, ◌-◌, ◌≤◌, length, slice_range};
     ghost use Rattle.std.specs.Rc.{rc_slice_items};
 
     ghost Value = { List ℕ };
 
-    ghost view = { λ b. slice_range (rc_slice_items b.text) b.start b.end };
+    ghost view = { λ b. slice_range (rc_slice_items b.text) b.before (length (rc_slice_items b.text) - b.after) };
 
-    ghost invariant = { λ b. (b.start ≤ b.end) × (b.end ≤ length (rc_slice_items b.text)) };
+    ghost invariant = { λ b. b.before + b.after ≤ length (rc_slice_items b.text) };
 }
 
 impl<A: Allocator> LineBytes<A> {
@@ -37,22 +38,17 @@ impl<A: Allocator> LineBytes<A> {
     ///
     /// # Errors
     ///
-    /// [`Fault::NoMemory`] where a growth was refused, or there are more than 4,294,967,295 bytes,
-    /// for which no document has room.
+    /// [`Fault::NoMemory`] where a growth was refused.
     pub fn new(bytes: Vec<u8, A>) -> Result<LineBytes<A>, Fault>
     where
         A: Clone,
         ensures ok { IfOk result (λ own. own ≡ bytes.items) }
         ensures fault { IsOkUnless result Fault.NoMemory }
     {
-        let Ok(end) = u32::try_from(bytes.len()) else {
-            return Err(Fault::NoMemory);
-        };
-        let text = RcSlice::from_vec(bytes)?;
         Ok(LineBytes {
-            text,
-            start: 0,
-            end,
+            text: RcSlice::from_vec(bytes)?,
+            before: 0,
+            after: 0,
         })
     }
 
@@ -70,8 +66,8 @@ impl<A: Allocator> LineBytes<A> {
     {
         Ok(LineBytes {
             text: text.clone()?,
-            start: span.start as u32,
-            end: span.end as u32,
+            before: span.start as u32,
+            after: (text.len() - span.end) as u32,
         })
     }
 
@@ -79,6 +75,7 @@ impl<A: Allocator> LineBytes<A> {
     pub fn as_slice(&self) -> &[u8]
         ensures { result.now ≡ self.now }
     {
-        &self.text.as_slice()[self.start as usize..self.end as usize]
+        let text = self.text.as_slice();
+        &text[self.before as usize..text.len() - self.after as usize]
     }
 }

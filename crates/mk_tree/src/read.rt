@@ -62,10 +62,7 @@ pub(crate) fn read_line<A: Allocator + Copy>(
 {
     let cells = cells(alloc, bytes.as_slice())?;
     let (class, after) = class_with_cells(bytes.as_slice(), &cells, context, meter)?;
-    // No place is above the number of the bytes, which has 32 bits.
-    let Some(class) = KeptClass::of(&class) else {
-        return Err(Fault::NoMemory);
-    };
+    let class = KeptClass::new(alloc, class)?;
     let line = Line::new(alloc, Content::new(bytes, cells, class))?;
     Ok((line, after))
 }
