@@ -8,7 +8,7 @@ use Rattle.std.proofs.lemmas.List.Elements.{All-from_get_or}
 use Rattle.std.proofs.lemmas.List.Folds.{list_any-append, list_any_none}
 use Rattle.memchr.specs.Find.{IsFirstByte, is_byte, is_byte2, is_byte3}
 use Rattle.mk_lines.specs.Lists.{concat, leading, after_leading, trailing, trim_end, trailing_before}
-use Rattle.mk_lines.specs.ListLaws.{concat-append, trim_end-trailing}
+use Rattle.mk_lines.specs.ListLaws.{Each, concat-append, trim_end-trailing}
 use Rattle.mk_lines.specs.UnitWalk.{is_blank_byte}
 use Rattle.mk_lines.specs.Words.{is_gap}
 use Rattle.mk_lines.specs.Bytes.{byte_kind}
@@ -19,7 +19,10 @@ use Rattle.mk_lines.specs.UnitLaws.{concat-units}
 use Rattle.mk_class.specs.CutTexts.{is_in_head}
 use Rattle.mk_class.specs.Lists.{any, first_passes, last_passes, until, from}
 use Rattle.mk_class.specs.ListLaws.{until-from}
-use Rattle.mk_class.specs.Assignments.{ends_name}
+use Rattle.mk_class.specs.AssignmentEqualsLaws.{no_assignment}
+use Rattle.mk_class.specs.AssignmentPlaces.{placed}
+use Rattle.mk_class.specs.Assignments.{assignment, ends_name}
+use Rattle.mk_class.specs.AssignmentsAtEquals.{is_no_equals}
 use Rattle.mk_class.specs.Headers.{has_unreadable}
 use Rattle.mk_class.specs.RecipePrefix.{is_dot, is_prefix_name}
 use Rattle.mk_class.specs.Symbols.{is_blank_or_backslash, is_dollar_before_blank, is_dollar_mark, is_equals, is_escape, is_unreadable_unit}
@@ -243,6 +246,17 @@ begins-unreadable x u h =
 pub none-unreadable : (t : List ℕ) (r : Option ℕ) → IsFirstByte (is_byte3 61 92 36) t r → is_some r ≡ false → has_unreadable itself (units itself t) ≡ false
 none-unreadable t r h e =
     absent-units (is_byte3 61 92 36) (λ u. is_equals itself u || is_unreadable_unit itself u) begins-unreadable refl t (search-no_some (is_byte3 61 92 36) t r h e)
+
+-- ---- assignments
+
+none-each : (us : List (List ℕ)) → any (is_equals itself) us ≡ false → Each (is_no_equals itself) us
+none-each [] h = tt
+none-each (u ∷ us) h = (ap not (or-left (is_equals itself u) (any (is_equals itself) us) h), none-each us (or-right (is_equals itself u) (any (is_equals itself) us) h))
+
+-- a text without a `=` is no assignment
+pub none-assigned : (at : ℕ) (t : List ℕ) (r : Option ℕ) → IsFirstByte (is_byte 61) t r → is_some r ≡ false → None ≡ placed at (assignment itself (units itself t))
+none-assigned at t r h e =
+    ap (placed at) (sym (no_assignment itself (units itself t) (none-each (units itself t) (absent-units (is_byte 61) (is_equals itself) equals-first refl t (search-no_some (is_byte 61) t r h e)))))
 
 -- ---- the recipe prefix
 

@@ -9,9 +9,10 @@ ghost use Rattle.mk_class.specs.TextClasses.{itself};
 ghost use Rattle.mk_class.specs.Scans.{IsOperatorAt};
 ghost use Rattle.mk_class.specs.AssignmentPlaces.{placed};
 
-use crate::keyword::{may_begin_modifier, modifier_of};
+use crate::keyword::modifier_of;
 use crate::rule::Separator;
 use crate::scan::{after_blanks, after_colon, after_equals, before, blanks_at_end, from_any};
+use memchr::memchr;
 use mk_lines::after_first_unit;
 use mk_lines::split::Span;
 
@@ -91,11 +92,15 @@ pub(crate) fn read_assignment(cut: &[u8]) -> Option<Assignment>
     assignment_at_end(cut, cut.len())
 }
 
-/// The assignment that the end of a cut text of `len` bytes is, with its places in the whole.
+/// The assignment that the end of a cut text of `len` bytes is, with its places in the whole. Each
+/// operator has a `=`, so that one search tells most other lines.
 pub(crate) fn assignment_at_end(text: &[u8], len: usize) -> Option<Assignment>
     requires { length text.now ≤ len }
     ensures { result ≡ placed (len - length text.now) (assignment itself (units itself text.now)) }
 {
+    if memchr(b'=', text).is_none() {
+        return None;
+    }
     let mut rest = text;
     loop {
         let definition = read_definition(rest, len);
@@ -103,9 +108,6 @@ pub(crate) fn assignment_at_end(text: &[u8], len: usize) -> Option<Assignment>
             return definition;
         }
         let word = after_blanks(rest);
-        if !may_begin_modifier(word) {
-            return None;
-        }
         let after = from_any(word, b" \t");
         modifier_of(before(word, after))?;
         rest = after;
