@@ -1,6 +1,8 @@
 //! Assignments: their flavors, their modifiers, and where their parts stand.
 
 ghost use Rattle.std.specs.Prelude.{◌≡◌, ◌≤◌, ◌-◌, ◌∷◌, [], length, map, None, MatchOption};
+ghost use Rattle.std.specs.List.{list_any};
+ghost use Rattle.memchr.specs.Find.{is_byte};
 ghost use Rattle.mk_lines.specs.Units.{units};
 ghost use Rattle.mk_class.specs.Lists.{from};
 ghost use Rattle.mk_class.specs.Symbols.{Colon, symbol};
@@ -89,18 +91,24 @@ pub struct TargetAssignment {
 pub(crate) fn read_assignment(cut: &[u8]) -> Option<Assignment>
     ensures { result ≡ placed 0 (assignment itself (units itself cut.now)) }
 {
+    if !has_equals(cut) {
+        return None;
+    }
     assignment_at_end(cut, cut.len())
 }
 
-/// The assignment that the end of a cut text of `len` bytes is, with its places in the whole. Each
-/// operator has a `=`, so that one search tells most other lines.
+/// Whether a text has a byte `=`. Each operator has one, so this tells most lines that are no assignment.
+pub(crate) fn has_equals(text: &[u8]) -> bool
+    ensures { result ≡ list_any (is_byte 61) text.now }
+{
+    memchr(b'=', text).is_some()
+}
+
+/// The assignment that the end of a cut text of `len` bytes is, with its places in the whole.
 pub(crate) fn assignment_at_end(text: &[u8], len: usize) -> Option<Assignment>
     requires { length text.now ≤ len }
     ensures { result ≡ placed (len - length text.now) (assignment itself (units itself text.now)) }
 {
-    if memchr(b'=', text).is_none() {
-        return None;
-    }
     let mut rest = text;
     loop {
         let definition = read_definition(rest, len);

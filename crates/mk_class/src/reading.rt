@@ -18,7 +18,8 @@ ghost use Rattle.mk_class.specs.Separators.{takes_assignment};
 ghost use Rattle.mk_class.specs.TextClasses.{header_text_class, itself, plain_text_class, rule_text_class, text_class};
 
 use crate::assignment::{
-    Flavor, TargetAssignment, after_name, assignment_at_end, read_assignment, read_operator,
+    Flavor, TargetAssignment, after_name, assignment_at_end, has_equals, read_assignment,
+    read_operator,
 };
 use crate::class::Class;
 use crate::context::{Context, Flag, MAX_CONDITIONALS};
@@ -170,6 +171,9 @@ fn plain_class(text: &[u8], is_led: bool, in_conditional: bool, is_unreadable: b
 fn read_target_assignment(cut: &[u8]) -> Option<TargetAssignment>
     ensures { (us : List (List ℕ)) → units itself cut.now ≡ cut_text itself us → MatchOption result (header_text_class us ≡ rule_text_class us) (λ t. TargetAssign t ≡ rule_text_class us) }
 {
+    if !has_equals(cut) {
+        return None;
+    }
     let split = separate(cut);
     if !takes_assignment(split.separator) {
         return None;

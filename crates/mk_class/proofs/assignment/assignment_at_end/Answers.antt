@@ -1,12 +1,8 @@
-use Rattle.std.proofs.Common.{◌-◌, ◌∙◌, ap, not, sym, length, arith}
+use Rattle.std.proofs.Common.{◌-◌, ◌∙◌, sym, length, arith}
 use Rattle.mk_lines.specs.Units.{units}
 use Rattle.mk_class.specs.TextClasses.{itself}
 use Rattle.mk_class.proofs.AssignmentLemmas.{definition-first, assignment-none, assignment-next}
-use Rattle.mk_class.proofs.SearchLemmas.{none-assigned}
 use Rattle.mk_class.proofs.assignment.assignment_at_end.Goals as goal
-
-pub returns-then-is_none : goal.returns-then-is_none
-returns-then-is_none c = none-assigned (c.args.len - length c.args.text.now) c.args.text.now c.memchr.result c.memchr.ensures (c.is_none.ensures ∙ ap not c.if-is_none.true)
 
 pub returns-then-is_some : goal.returns-then-is_some
 returns-then-is_some c =
