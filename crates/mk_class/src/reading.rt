@@ -1,7 +1,8 @@
 //! The class of a line in its context.
 //!
-//! A line is read once, from its front, by the units of its joined text. The first class that fits
-//! is the line's, in the order of the table in docs/LANGUAGE.md.
+//! A line is read from its front, by the units of its joined text; searches for a byte come before
+//! that, and tell most lines that are of another class. The first class that fits is the line's, in
+//! the order of the table in docs/LANGUAGE.md.
 ghost use Rattle.std.specs.Prelude.{◌≡◌, ◌⊎◌, ◌<◌, ◌≢◌, ◌+◌, ◌-◌, ◌^◌, ℕ, List, true, false, All, IfErr, IfOk, MatchOption, Some, min, nat_lt};
 ghost use Rattle.mk_lines.specs.Units.{units};
 ghost use Rattle.mk_lines.specs.KeptCells.{AreCellsOf};
