@@ -11,9 +11,10 @@ line      one variable with one long value
 
 and, for the reading of lines, texts of one byte or two over and over:
 
-backslashes, references   `\\` and `$(`
+backslashes, references, hashes   `\\`, `$(` and `\\#`
+colons, words, blanks             `a:`, `a ` and ` `
 
-Each text but those two has one line that begins with `CC = `, and its last line is a comment (but in the kinds from
+Each text but those has one line that begins with `CC = `, and its last line is a comment (but in the kinds from
 `blank` on) that fills it up. No conditional or define is left open.
 """
 
@@ -36,7 +37,15 @@ RECIPE_LINES = (
     "@echo built $@ # of $< and what it includes",
     "$(STRIP) --strip-unneeded $@ \\\n\t  || echo $@ stays as it is",
 )
-KINDS = ("makefile", "settings", "blank", "line", "backslashes", "references")
+REPEATED = {
+    "backslashes": b"\\",
+    "references": b"$(",
+    "hashes": b"\\#",
+    "colons": b"a:",
+    "words": b"a ",
+    "blanks": b" ",
+}
+KINDS = ("makefile", "settings", "blank", "line", *REPEATED)
 COMMENT = "# How the {0} of {1} is built, and what {2} needs of it.\n"
 
 
@@ -127,11 +136,9 @@ def texts(kind, seed, size):
     if kind == "line":
         yield b"CC = " + b"x" * (size - 6) + b"\n"
         return
-    if kind == "backslashes":
-        yield b"\\" * size
-        return
-    if kind == "references":
-        yield b"$(" * (size // 2)
+    if kind in REPEATED:
+        unit = REPEATED[kind]
+        yield unit * (size // len(unit))
         return
     writer = Writer(seed)
     head = "CC = gcc\n"

@@ -1,6 +1,6 @@
 -- Lemmas of the readers of assignments.
-use Rattle.std.proofs.Common.{◌≡◌, refl, sym, ap, ◌∙◌, subst, ℕ, suc, ◌+◌, ◌-◌, ◌≤◌, List, [], ◌∷◌, ◌++◌, map, Bool, true, false, not, ◌&&◌, ◌||◌, ◌==◌, cond, length, take, drop, get_or, arith, Option, Some, None, Bor}
-use Rattle.std.specs.Prelude.{MatchOption, codes}
+use Rattle.std.proofs.Common.{◌≡◌, refl, sym, ap, ◌∙◌, subst, ℕ, suc, ◌+◌, ◌-◌, ◌≤◌, List, [], ◌∷◌, ◌++◌, map, Bool, true, false, not, ◌==◌, cond, length, take, drop, get_or, arith, Option, Some, None, Bor}
+use Rattle.std.specs.Prelude.{MatchOption}
 use Rattle.std.proofs.Math.Seq.{take-length}
 use Rattle.mk_lines.specs.Lists.{concat, leading, after_leading, trim_end, trailing}
 use Rattle.mk_lines.specs.Units.{units, byte_mark}
@@ -9,8 +9,8 @@ use Rattle.mk_lines.specs.FirstUnit.{first_unit, after_first_unit}
 use Rattle.mk_lines.specs.FirstUnitLaws.{units-first_unit}
 use Rattle.mk_lines.specs.Words.{Token, Word, tokens, token_units, before_tokens, is_gap}
 use Rattle.mk_lines.specs.TokenLaws.{token_units-tokens}
-use Rattle.mk_lines.specs.ListLaws.{concat-append, leading-after_leading}
-use Rattle.mk_class.specs.Lists.{first_passes, until, from}
+use Rattle.mk_lines.specs.ListLaws.{leading-after_leading}
+use Rattle.mk_class.specs.Lists.{until, from}
 use Rattle.mk_class.specs.Symbols.{symbol}
 use Rattle.mk_class.specs.Symbols.Symbol.{Colon}
 use Rattle.mk_class.specs.Assignments.{Assignment, operator_at, operator_length, ends_name, after_blanks, blanks, defined_by, definition, modifier_of, after_units, after_modifier, assignment, assignment_of}
@@ -18,14 +18,12 @@ use Rattle.mk_class.specs.TextClasses.{itself}
 use Rattle.mk_class.specs.Scans.{IsOperatorAt}
 use Rattle.mk_class.specs.declared.assignment.Flavor.{Flavor}
 use Rattle.mk_class.specs.declared.assignment.Modifier.{Modifier}
-use Rattle.mk_class.specs.declared.assignment.Modifier.TheVariants.{Override, Export, Private}
-use Rattle.mk_class.specs.Texts.{is_same_text}
 use Rattle.mk_class.specs.ClassPlaces.{width}
 use Rattle.mk_class.specs.AssignmentPlaces.{placed}
 use Rattle.mk_class.specs.declared.assignment.Assignment as places
 use Rattle.std.specs.Option.{is_some}
-use Rattle.mk_lines.specs.UnitLaws.{concat-units, units-first}
-use Rattle.mk_class.specs.FirstWords.{is_modifier_letter, modifier}
+use Rattle.mk_lines.specs.UnitLaws.{concat-units}
+use Rattle.mk_class.specs.FirstWords.{modifier}
 use Rattle.mk_class.specs.Scans.{is_other}
 use Rattle.mk_class.proofs.ScanLemmas.{after_leading-same, other-gap, units-unmarked, width-before, width-append, width-units, leading-before, until-before, trim_end-before, take-before, until-none}
 
@@ -268,34 +266,6 @@ assignment-none at rest word after w r h k f d z m =
     assignment-step us
     ∙ (ap (λ e. or_modified e (modifier_of itself (first_word us)) (blanks itself us) (first_word us) (assignment itself (after_first_word us))) (placed-none at (definition itself us) r d z)
     ∙ ap (λ e. or_modified None e (blanks itself us) (first_word us) (assignment itself (after_first_word us))) (modifier-word w (first_word us) (f (first_word us) (word-before rest word after h k)) ∙ m))
-    ))
-
--- a word is no modifier where its text begins with another letter
-modifier-letter : (w rest : List ℕ) → first_passes is_modifier_letter (w ++ rest) ≡ false → modifier w ≡ None
-modifier-letter [] rest h = refl
-modifier-letter (x ∷ w) rest h = go (x == 111) (x == 101) (x == 112) h
-  where
-    go : (a b c : Bool) → (a || (b || c)) ≡ false
-        → cond (a && is_same_text w (codes "verride")) (Some Override) (cond (b && is_same_text w (codes "xport")) (Some Export) (cond (c && is_same_text w (codes "rivate")) (Some Private) None)) ≡ None
-    go true b c h = cc
-    go false true c h = cc
-    go false false true h = cc
-    go false false false h = refl
-
--- so there is no assignment without a definition there
-pub assignment-no_letter : (at : ℕ) (rest word : List ℕ) (r : Option places.Assignment) → units itself word ≡ after_leading (is_gap itself) (units itself rest)
-    → r ≡ placed at (definition itself (units itself rest)) → is_some r ≡ false → first_passes is_modifier_letter word ≡ false → None ≡ placed at (assignment itself (units itself rest))
-assignment-no_letter at rest word r h d z l =
-    let us = units itself rest in
-    let F = first_word us in
-    let A = after_first_word us in
-    let whole : units itself word ≡ F ++ A = h ∙ sym (leading-after_leading no_gap (after_blanks itself us)) in
-    let text : concat F ++ concat A ≡ word = sym (concat-append F A) ∙ (ap concat (sym whole) ∙ concat-units itself word) in
-    ap (placed at) (sym (
-    assignment-step us
-    ∙ (ap (λ e. or_modified e (modifier_of itself F) (blanks itself us) F (assignment itself A)) (placed-none at (definition itself us) r d z)
-    ∙ ap (λ e. or_modified None e (blanks itself us) F (assignment itself A))
-    (modifier-word (concat F) F (units-first itself word F A whole) ∙ modifier-letter (concat F) (concat A) (ap (first_passes is_modifier_letter) text ∙ l)))
     ))
 
 -- over one modifier

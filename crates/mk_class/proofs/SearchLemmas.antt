@@ -1,14 +1,14 @@
 -- Lemmas of a search for bytes: where a text has none of them, no unit is one of them.
-use Rattle.std.proofs.Common.{◌≡◌, refl, sym, ap, ◌∙◌, ℕ, ◌<◌, ◌≤◌, List, [], ◌∷◌, ◌++◌, Bool, true, false, not, ◌||◌, ◌&&◌, ◌==◌, cond, map, get_or, length, arith, eq-eqb}
+use Rattle.std.proofs.Common.{◌≡◌, refl, sym, ap, ◌∙◌, subst, ℕ, zero, suc, ◌<◌, ◌≤◌, List, [], ◌∷◌, ◌++◌, Bool, true, false, not, ◌||◌, ◌&&◌, ◌==◌, cond, drop, map, get_or, length, arith, eq-eqb}
 use Rattle.std.specs.Prelude.{Option, Some, None, codes}
 use Rattle.std.specs.List.{list_any}
 use Rattle.std.specs.Option.{is_some}
 use Rattle.std.proofs.lemmas.Bool.{eqb-true}
 use Rattle.std.proofs.lemmas.List.Elements.{All-from_get_or}
-use Rattle.std.proofs.lemmas.List.Folds.{list_any-append, list_any_none}
+use Rattle.std.proofs.lemmas.List.Folds.{list_any-append, list_any_at, list_any_none}
 use Rattle.memchr.specs.Find.{IsFirstByte, is_byte, is_byte2, is_byte3}
 use Rattle.mk_lines.specs.Lists.{concat, leading, after_leading, trailing, trim_end, trailing_before}
-use Rattle.mk_lines.specs.ListLaws.{concat-append, trim_end-trailing}
+use Rattle.mk_lines.specs.ListLaws.{Each, concat-append, trim_end-trailing}
 use Rattle.mk_lines.specs.UnitWalk.{is_blank_byte}
 use Rattle.mk_lines.specs.Words.{is_gap}
 use Rattle.mk_lines.specs.Bytes.{byte_kind}
@@ -16,16 +16,21 @@ use Rattle.mk_lines.specs.FirstUnit.{is_unclosed_by, is_unclosed_unit}
 use Rattle.mk_lines.specs.Units.{Mark, byte_mark, units}
 use Rattle.mk_lines.specs.Units.Mark.{Dollar, Escape, OpenParen, CloseParen, OpenBrace, CloseBrace, Unmarked}
 use Rattle.mk_lines.specs.UnitLaws.{concat-units}
-use Rattle.mk_class.specs.CutTexts.{is_in_head}
+use Rattle.mk_class.specs.CutTexts.{cut_text, is_in_head}
 use Rattle.mk_class.specs.Lists.{any, first_passes, last_passes, until, from}
 use Rattle.mk_class.specs.ListLaws.{until-from}
-use Rattle.mk_class.specs.Assignments.{ends_name}
+use Rattle.mk_class.specs.AssignmentEqualsLaws.{no_assignment}
+use Rattle.mk_class.specs.AssignmentPlaces.{placed}
+use Rattle.mk_class.specs.Assignments.{assignment, ends_name}
+use Rattle.mk_class.specs.AssignmentsAtEquals.{is_no_equals}
 use Rattle.mk_class.specs.Headers.{has_unreadable}
 use Rattle.mk_class.specs.RecipePrefix.{is_dot, is_prefix_name}
 use Rattle.mk_class.specs.Symbols.{is_blank_or_backslash, is_dollar_before_blank, is_dollar_mark, is_equals, is_escape, is_unreadable_unit}
 use Rattle.mk_class.specs.Texts.{is_same_text, unit_text}
 use Rattle.mk_class.specs.Scans.{is_one_byte_of, is_other}
-use Rattle.mk_class.specs.TextClasses.{itself}
+use Rattle.mk_class.specs.Separators.{begins_separator, separated, separator_length, takes_assignment}
+use Rattle.mk_class.specs.TextClasses.{header_text_class, itself, rule_text_class, target_text_class}
+use Rattle.mk_class.specs.declared.class.Class as class
 use Rattle.mk_class.proofs.ScanLemmas.{after_leading-same}
 use Rattle.mk_class.proofs.HeaderLemmas.{equals-test, escape-byte, leading-same, is_in_head-byte}
 
@@ -40,6 +45,11 @@ search-none test t h = list_any_none test t (All-from_get_or (λ b. test b ≡ f
 pub search-no_some : (test : ℕ → Bool) (t : List ℕ) (r : Option ℕ) → IsFirstByte test t r → is_some r ≡ false → list_any test t ≡ false
 search-no_some test t None h e = search-none test t h
 search-no_some test t (Some k) h e = cc
+
+-- a search finds a byte that passes where there is one
+pub search-any : (test : ℕ → Bool) (t : List ℕ) (r : Option ℕ) → IsFirstByte test t r → is_some r ≡ list_any test t
+search-any test t None h = sym (search-none test t h)
+search-any test t (Some k) h = sym (list_any_at test t k 0 h.0.high h.1)
 
 -- a part of a disjunction that is false
 or-left : (a b : Bool) → (a || b) ≡ false → a ≡ false
@@ -243,6 +253,46 @@ begins-unreadable x u h =
 pub none-unreadable : (t : List ℕ) (r : Option ℕ) → IsFirstByte (is_byte3 61 92 36) t r → is_some r ≡ false → has_unreadable itself (units itself t) ≡ false
 none-unreadable t r h e =
     absent-units (is_byte3 61 92 36) (λ u. is_equals itself u || is_unreadable_unit itself u) begins-unreadable refl t (search-no_some (is_byte3 61 92 36) t r h e)
+
+-- ---- assignments
+
+none-each : (us : List (List ℕ)) → any (is_equals itself) us ≡ false → Each (is_no_equals itself) us
+none-each [] h = tt
+none-each (u ∷ us) h = (ap not (or-left (is_equals itself u) (any (is_equals itself) us) h), none-each us (or-right (is_equals itself u) (any (is_equals itself) us) h))
+
+-- the units of a text without a `=`
+each-no_equals : (t : List ℕ) → list_any (is_byte 61) t ≡ false → Each (is_no_equals itself) (units itself t)
+each-no_equals t h = none-each (units itself t) (absent-units (is_byte 61) (is_equals itself) equals-first refl t h)
+
+-- it is no assignment
+pub none-assigned : (t : List ℕ) → list_any (is_byte 61) t ≡ false → None ≡ placed 0 (assignment itself (units itself t))
+none-assigned t h = ap (placed 0) (sym (no_assignment itself (units itself t) (each-no_equals t h)))
+
+Each-from : (p : List ℕ → Bool) (q : List (List ℕ) → Bool) (us : List (List ℕ)) → Each p us → Each p (from q us)
+Each-from p q [] h = tt
+Each-from p q (u ∷ us) h = go (q (u ∷ us)) (Each-from p q us h.1)
+  where
+    go : (c : Bool) → Each p (from q us) → Each p (cond c (u ∷ us) (from q us))
+    go true ih = h
+    go false ih = ih
+
+Each-drop : (p : List ℕ → Bool) (n : ℕ) (us : List (List ℕ)) → Each p us → Each p (drop n us)
+Each-drop p zero us h = h
+Each-drop p (suc n) [] h = tt
+Each-drop p (suc n) (u ∷ us) h = Each-drop p n us h.1
+
+-- nor is what follows a separator in it
+pub rule-no_equals : (us : List (List ℕ)) (cut : List ℕ) → units itself cut ≡ cut_text itself us → list_any (is_byte 61) cut ≡ false → header_text_class us ≡ rule_text_class us
+rule-no_equals us cut h e =
+    let s = separated itself (cut_text itself us) in
+    let each : Each (is_no_equals itself) (cut_text itself us) = subst (Each (is_no_equals itself)) h (each-no_equals cut e) in
+    let none : assignment itself s.rest ≡ None =
+    no_assignment itself s.rest (Each-drop (is_no_equals itself) (separator_length s.separator) (from (begins_separator itself) (cut_text itself us)) (Each-from (is_no_equals itself) (begins_separator itself) (cut_text itself us) each)) in
+    sym (ap (λ z. cond (takes_assignment s.separator) (target_text_class s z (header_text_class us)) (header_text_class us)) none ∙ same (takes_assignment s.separator) (header_text_class us))
+  where
+    same : (c : Bool) (k : class.Class) → cond c k k ≡ k
+    same true k = refl
+    same false k = refl
 
 -- ---- the recipe prefix
 

@@ -1,6 +1,6 @@
 -- First words as the code has them: what a word says, and the classes that the words of a text say.
 use Rattle.std.proofs.Common.{◌≡◌, refl, sym, ap, ◌∙◌, ◌++◌, map}
-use Rattle.std.specs.Prelude.{ℕ, ◌==◌, Bool, ◌||◌, if◌then◌else◌, Option, Some, None, List, [], ◌∷◌, codes}
+use Rattle.std.specs.Prelude.{ℕ, if◌then◌else◌, Option, Some, None, List, [], ◌∷◌, codes}
 use Rattle.mk_lines.specs.Lists.{concat}
 use Rattle.mk_lines.specs.ListLaws.{leading-after_leading}
 use Rattle.mk_lines.specs.Units.{units}
@@ -36,10 +36,6 @@ modifier w =
     if is_same_text w (codes "export") then Some Export else
     if is_same_text w (codes "private") then Some Private else
     None
-
--- whether a modifier begins with this byte: `o`, `e` or `p`
-abbrev pub is_modifier_letter : ℕ → Bool
-is_modifier_letter b = (b == 111) || ((b == 101) || (b == 112))
 
 -- the class, as the code has it, where there is one
 abbrev pub known_class : Option Class → Option class.Class

@@ -1,6 +1,8 @@
 //! Assignments: their flavors, their modifiers, and where their parts stand.
 
 ghost use Rattle.std.specs.Prelude.{◌≡◌, ◌≤◌, ◌-◌, ◌∷◌, [], length, map, None, MatchOption};
+ghost use Rattle.std.specs.List.{list_any};
+ghost use Rattle.memchr.specs.Find.{is_byte};
 ghost use Rattle.mk_lines.specs.Units.{units};
 ghost use Rattle.mk_class.specs.Lists.{from};
 ghost use Rattle.mk_class.specs.Symbols.{Colon, symbol};
@@ -9,9 +11,10 @@ ghost use Rattle.mk_class.specs.TextClasses.{itself};
 ghost use Rattle.mk_class.specs.Scans.{IsOperatorAt};
 ghost use Rattle.mk_class.specs.AssignmentPlaces.{placed};
 
-use crate::keyword::{may_begin_modifier, modifier_of};
+use crate::keyword::modifier_of;
 use crate::rule::Separator;
 use crate::scan::{after_blanks, after_colon, after_equals, before, blanks_at_end, from_any};
+use memchr::memchr;
 use mk_lines::after_first_unit;
 use mk_lines::split::Span;
 
@@ -88,7 +91,17 @@ pub struct TargetAssignment {
 pub(crate) fn read_assignment(cut: &[u8]) -> Option<Assignment>
     ensures { result ≡ placed 0 (assignment itself (units itself cut.now)) }
 {
+    if !has_equals(cut) {
+        return None;
+    }
     assignment_at_end(cut, cut.len())
+}
+
+/// Whether a text has a byte `=`. Each operator has one, so this tells most lines that are no assignment.
+pub(crate) fn has_equals(text: &[u8]) -> bool
+    ensures { result ≡ list_any (is_byte 61) text.now }
+{
+    memchr(b'=', text).is_some()
 }
 
 /// The assignment that the end of a cut text of `len` bytes is, with its places in the whole.
@@ -103,9 +116,6 @@ pub(crate) fn assignment_at_end(text: &[u8], len: usize) -> Option<Assignment>
             return definition;
         }
         let word = after_blanks(rest);
-        if !may_begin_modifier(word) {
-            return None;
-        }
         let after = from_any(word, b" \t");
         modifier_of(before(word, after))?;
         rest = after;

@@ -7,9 +7,8 @@
 ghost use Rattle.std.specs.Prelude.{◌≡◌};
 ghost use Rattle.mk_lines.specs.Units.{units};
 ghost use Rattle.mk_class.specs.ClassTable.{defines_prefix, directive};
-ghost use Rattle.mk_class.specs.FirstWords.{is_modifier_letter, known_class, meant_keyword, modifier, text_words};
+ghost use Rattle.mk_class.specs.FirstWords.{known_class, meant_keyword, modifier, text_words};
 ghost use Rattle.mk_class.specs.Keywords.{after_modifiers, directive_words, first_keyword, if_words, is_reserved_word, keyword};
-ghost use Rattle.mk_class.specs.Lists.{first_passes};
 ghost use Rattle.mk_class.specs.TextClasses.{body_text_class, itself};
 ghost use Rattle.mk_class.specs.Texts.{is_one_of, is_same_text};
 
@@ -73,13 +72,6 @@ pub(crate) fn modifier_of(word: &[u8]) -> Option<Modifier>
     } else {
         None
     }
-}
-
-/// Whether the first byte of a text is one that a modifier begins with.
-pub(crate) fn may_begin_modifier(text: &[u8]) -> bool
-    ensures { result ≡ first_passes is_modifier_letter text.now }
-{
-    matches!(text, [b'o' | b'e' | b'p', ..])
 }
 
 /// Whether a word is one that no target of a rule may be, since a line that begins with it would be

@@ -1,7 +1,8 @@
 //! The class of a line in its context.
 //!
-//! A line is read once, from its front, by the units of its joined text. The first class that fits
-//! is the line's, in the order of the table in docs/LANGUAGE.md.
+//! A line is read from its front, by the units of its joined text; searches for a byte come before
+//! that, and tell most lines that are of another class. The first class that fits is the line's, in
+//! the order of the table in docs/LANGUAGE.md.
 ghost use Rattle.std.specs.Prelude.{◌≡◌, ◌⊎◌, ◌<◌, ◌≢◌, ◌+◌, ◌-◌, ◌^◌, ℕ, List, true, false, All, IfErr, IfOk, MatchOption, Some, min, nat_lt};
 ghost use Rattle.mk_lines.specs.Units.{units};
 ghost use Rattle.mk_lines.specs.KeptCells.{AreCellsOf};
@@ -18,7 +19,8 @@ ghost use Rattle.mk_class.specs.Separators.{takes_assignment};
 ghost use Rattle.mk_class.specs.TextClasses.{header_text_class, itself, plain_text_class, rule_text_class, text_class};
 
 use crate::assignment::{
-    Flavor, TargetAssignment, after_name, assignment_at_end, read_assignment, read_operator,
+    Flavor, TargetAssignment, after_name, assignment_at_end, has_equals, read_assignment,
+    read_operator,
 };
 use crate::class::Class;
 use crate::context::{Context, Flag, MAX_CONDITIONALS};
@@ -170,6 +172,9 @@ fn plain_class(text: &[u8], is_led: bool, in_conditional: bool, is_unreadable: b
 fn read_target_assignment(cut: &[u8]) -> Option<TargetAssignment>
     ensures { (us : List (List ℕ)) → units itself cut.now ≡ cut_text itself us → MatchOption result (header_text_class us ≡ rule_text_class us) (λ t. TargetAssign t ≡ rule_text_class us) }
 {
+    if !has_equals(cut) {
+        return None;
+    }
     let split = separate(cut);
     if !takes_assignment(split.separator) {
         return None;

@@ -1,7 +1,9 @@
 //! A text read from its front, one unit at a time.
 //!
 //! Each call answers what is left of the text, as a part of it; its units are those of the text that
-//! are left. All take time linear in the bytes that they pass over, and no memory.
+//! are left. A byte that no byte of a text is, no unit of it is: so a text is first searched for the
+//! byte, and most are not read by units at all. All take time linear in the bytes that they pass over
+//! or search, and no memory.
 ghost use Rattle.std.specs.Prelude.{◌≡◌, ◌≤◌, ◌+◌, ◌++◌, List, [], ◌∷◌, ℕ, false, length, MatchOption};
 ghost use Rattle.mk_lines.specs.Lists.{after_leading, trailing};
 ghost use Rattle.mk_lines.specs.Units.{byte_mark, units, Unmarked};

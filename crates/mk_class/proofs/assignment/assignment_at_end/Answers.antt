@@ -1,19 +1,13 @@
 use Rattle.std.proofs.Common.{◌-◌, ◌∙◌, sym, length, arith}
 use Rattle.mk_lines.specs.Units.{units}
 use Rattle.mk_class.specs.TextClasses.{itself}
-use Rattle.mk_class.proofs.AssignmentLemmas.{definition-first, assignment-no_letter, assignment-none, assignment-next}
+use Rattle.mk_class.proofs.AssignmentLemmas.{definition-first, assignment-none, assignment-next}
 use Rattle.mk_class.proofs.assignment.assignment_at_end.Goals as goal
 
 pub returns-then-is_some : goal.returns-then-is_some
 returns-then-is_some c =
     definition-first (c.args.len - length c.loop-rest.rest.now) (units itself c.loop-rest.rest.now) c.read_definition-definition.result c.read_definition-definition.ensures
     (sym c.is_some.ensures ∙ c.if-is_some.true)
-    ∙ c.loop-rest.invariant.same
-
-pub returns-then-not-may_begin_modifier : goal.returns-then-not-may_begin_modifier
-returns-then-not-may_begin_modifier c =
-    assignment-no_letter (c.args.len - length c.loop-rest.rest.now) c.loop-rest.rest.now c.after_blanks-word.result.now c.read_definition-definition.result c.after_blanks-word.ensures.rest
-    c.read_definition-definition.ensures (sym c.is_some.ensures ∙ c.if-is_some.false) (sym c.may_begin_modifier.ensures ∙ c.if-not-may_begin_modifier.true)
     ∙ c.loop-rest.invariant.same
 
 pub returns-in_err-modifier_of : goal.returns-in_err-modifier_of
