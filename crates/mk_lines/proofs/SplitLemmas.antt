@@ -66,19 +66,21 @@ module _ (test : ℕ → Bool) (text : List ℕ) where
           let same : i ≡ at = cc in
           let left : places_from test text (i + 1) n ≡ more = cc in
           let count : i + suc n - (at + 1) ≡ n = omega arith in
-          let place : i + 1 ≡ at + 1 = omega arith in
-          (record { low = omega arith; high = omega arith; before = λ k low high passes. absurd (omega arith) },
-          (subst (Passes test text) same p, sym left ∙ ap (λ k. places_from test text k n) place ∙ ap (places_from test text (at + 1)) (sym count)))
+          let place : i + 1 ≡ at + 1 = omega arith in (
+            record { low = omega arith; high = omega arith; before = λ k low high passes. absurd (omega arith) },
+            (subst (Passes test text) same p, sym left ∙ ap (λ k. places_from test text k n) place ∙ ap (places_from test text (at + 1)) (sym count)),
+          )
       go false p e f =
           let later = f e in
           let end : i + 1 + n ≡ i + suc n = omega arith in
-          let first = later.0 in
-          (record {
+          let first = later.0 in (
+            record {
               low = omega (arith, first.low);
               high = omega (arith, first.high);
               before = λ k low high passes. ⊎_elim (λ same. let no : test (get_or text k 0) ≡ false = ap (λ j. test (get_or text j 0)) same ∙ p in cc) (λ other. first.before k other high passes) (here k low);
             },
-          (later.1.0, later.1.1 ∙ ap (places_between test text (at + 1)) end))
+            (later.1.0, later.1.1 ∙ ap (places_between test text (at + 1)) end),
+          )
         where
           here : (k : ℕ) → i ≤ k → (k ≡ i) ⊎ (i + 1 ≤ k)
           here k low = ⊎_elim (λ same. inl same) (λ other. inr (omega arith)) (cases_eq k i)

@@ -1,5 +1,5 @@
 -- A search for stray bytes among 16 at once, and the windows of 16 bytes of a text of 16 to 64.
-use Rattle.std.proofs.Common.{◌≡◌, refl, sym, ap, ap₂, ◌∙◌, ℕ, zero, suc, ◌+◌, ◌-◌, ◌*◌, ◌%◌, ◌^◌, ◌<◌, ◌≤◌, Bool, true, false, cond, not, nat_eq, ◌⊎◌, inl, inr, ⊎_elim, List, [], ◌∷◌, map, replicate, length, take, drop, get_or, length-drop, ne_eqb, arith, Ordering, Less, Equal, Greater}
+use Rattle.std.proofs.Common.{◌≡◌, refl, sym, ap, ap₂, ◌∙◌, ℕ, zero, suc, ◌+◌, ◌-◌, ◌*◌, ◌%◌, ◌^◌, ◌<◌, ◌≤◌, Bool, true, false, cond, not, nat_eq, ⊎_elim, List, [], ◌∷◌, map, replicate, length, take, drop, get_or, length-drop, ne_eqb, arith, Ordering, Less, Equal, Greater}
 use Rattle.std.specs.Prelude.{◌==◌, ◌||◌, bit_or}
 use Rattle.std.specs.Cmp.{nat_cmp_is}
 use Rattle.std.specs.List.{list_any}
@@ -115,13 +115,13 @@ module _ (p : ℕ → Bool) (t : List ℕ) where
               ⊎_elim
               (λ first. window-fails 0 k (omega arith) (sym ea) (omega arith) (omega arith))
               (λ later.
-                  ⊎_elim
-                  (λ inside.
-                      let e : second ≡ 16 = at_second (omega arith) in
-                      ⊎_elim
-                      (λ near. window-fails second k l (sym eb) (omega arith) (omega arith))
-                      (λ far. let f : third ≡ 32 = at_third (omega arith) in window-fails third k m (sym ec) (omega arith) (omega arith))
-                      (cases_lt k 32))
-                  (λ late. window-fails (length t - 16) k (omega arith) (sym ed) late (omega arith))
-                  (cases_lt k (length t - 16)))
+              ⊎_elim
+              (λ inside.
+              let e : second ≡ 16 = at_second (omega arith) in
+              ⊎_elim
+              (λ near. window-fails second k l (sym eb) (omega arith) (omega arith))
+              (λ far. let f : third ≡ 32 = at_third (omega arith) in window-fails third k m (sym ec) (omega arith) (omega arith))
+              (cases_lt k 32))
+              (λ late. window-fails (length t - 16) k (omega arith) (sym ed) late (omega arith))
+              (cases_lt k (length t - 16)))
               (cases_lt k 16)

@@ -235,6 +235,5 @@ fn has_stray_byte_of_16(text: &[u8], at: usize) -> bool
     let bytes = u8x16::from_slice(&text[at..]);
     (bytes.simd_eq(u8x16::splat(b'\0'))
         | bytes.simd_eq(u8x16::splat(b'\n'))
-        | bytes.simd_eq(u8x16::splat(b'\r')))
-    .any()
+        | bytes.simd_eq(u8x16::splat(b'\r'))).any()
 }

@@ -1,4 +1,4 @@
-use Rattle.std.proofs.Common.{◌≡◌, ◌∙◌, ◌+◌, ◌-◌, ◌≤◌, length, arith}
+use Rattle.std.proofs.Common.{◌∙◌, ◌+◌, ◌-◌, ◌≤◌, length, arith}
 use Rattle.mk_lines.proofs.StrayLemmas.{windows-any, min-tells, is_stray_byte}
 use Rattle.mk_lines.proofs.cells.kept.has_stray_byte_of_64.Goals as goal
 
