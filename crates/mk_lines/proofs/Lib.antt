@@ -7,4 +7,3 @@ pub mod PrefixLemmas
 pub mod SplitLemmas
 pub mod UnitWalkLemmas
 pub mod StackLemmas
-mod StrayLemmas

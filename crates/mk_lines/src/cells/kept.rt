@@ -3,7 +3,7 @@
 //! A line without folds is its own joined text, and each of its raw places is the joined one, so
 //! nothing is kept of it but flags. Of a line with folds the joined text is kept, and where each
 //! fold ends: a raw place is told by the nearest fold before it.
-ghost use Rattle.std.specs.Prelude.{◌≡◌, ◌≢◌, ◌==◌, ◌+◌, ◌≤◌, ℕ, List, take, drop, length, true, false, nat_lt, All, IfOk, IsOkUnless};
+ghost use Rattle.std.specs.Prelude.{◌≡◌, ◌≢◌, ◌==◌, ◌≤◌, ℕ, List, drop, length, true, false, nat_lt, All, IfOk, IsOkUnless};
 ghost use Rattle.std.specs.List.{list_any};
 ghost use Rattle.std.specs.Option.{is_some};
 ghost use Rattle.std.specs.List.Sorted.{IsNonDecreasingBy, IsPartitionPoint};
@@ -20,10 +20,8 @@ use crate::fault::Fault;
 use crate::split::Span;
 use memchr::memchr3;
 use std::alloc::{Allocator, Global};
-use std::cmp::min;
 use std::marker::Model;
 use std::mem::size_of;
-use std::simd::prelude::*;
 
 /// Where a fold ends. A line end that no backslash escapes, of which one logical line has none,
 /// counts as a fold.
@@ -206,34 +204,5 @@ pub(super) fn first_stray_byte(text: &[u8]) -> Option<usize>
     ensures first { IsFirstByte (is_byte3 0 10 13) text.now result }
     ensures some { is_some result ≡ list_any (λ b. is_stray_by (byte_kind b) (b == 0)) text.now }
 {
-    if (16..=64).contains(&text.len()) && !has_stray_byte_of_64(text) {
-        return None;
-    }
     memchr3(b'\0', b'\n', b'\r', text)
-}
-
-// Whether a text of 16 to 64 bytes has a stray byte. Most lines are of such a length, and are seen
-// with no loop: by windows of 16 bytes, the last of which overlap.
-fn has_stray_byte_of_64(text: &[u8]) -> bool
-    requires some { 16 ≤ length text.now }
-    requires few { length text.now ≤ 64 }
-    ensures { result ≡ list_any (λ b. is_stray_by (byte_kind b) (b == 0)) text.now }
-{
-    let last = text.len() - 16;
-    has_stray_byte_of_16(text, 0)
-        | has_stray_byte_of_16(text, min(16, last))
-        | has_stray_byte_of_16(text, min(32, last))
-        | has_stray_byte_of_16(text, last)
-}
-
-// Whether there is a stray byte among the 16 from a place on.
-#[inline(always)]
-fn has_stray_byte_of_16(text: &[u8], at: usize) -> bool
-    requires { at + 16 ≤ length text.now }
-    ensures { result ≡ list_any (λ b. is_stray_by (byte_kind b) (b == 0)) (take 16 (drop at text.now)) }
-{
-    let bytes = u8x16::from_slice(&text[at..]);
-    (bytes.simd_eq(u8x16::splat(b'\0'))
-        | bytes.simd_eq(u8x16::splat(b'\n'))
-        | bytes.simd_eq(u8x16::splat(b'\r'))).any()
 }
