@@ -40,8 +40,11 @@ impl<A: Allocator + Copy> Line<A> {
         ensures counted { OnOk result (meter.new ≡ min (meter.old + 1) (2 ^ 64 - 1)) }
         ensures once { meter.new ≤ meter.old + 1 }
     {
-        let (line, _) = read_line(alloc, LineBytes::new(bytes)?, context, meter)?;
-        Ok(line)
+        let cells = cells(alloc, &bytes)?;
+        let (class, _) = class_with_cells(&bytes, &cells, context, meter)?;
+        let class = KeptClass::new(alloc, class)?;
+        let bytes = LineBytes::new(bytes)?;
+        Ok(Line::new(alloc, Content::new(bytes, cells, class))?)
     }
 }
 
