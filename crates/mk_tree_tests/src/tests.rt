@@ -111,9 +111,9 @@ fn each_refused_growth_of_parse_is_no_memory(rt: HostRuntime) -> Result<(), Fail
         let heap = Refusing::after(rt.alloc(), admitted);
         let answer = Doc::parse(&heap, FOUR_LINES, &mut Meter::new());
         if !heap.has_refused() {
-            // the text and the count of its owners, the spans, the lines, a node of each line, and
-            // three for the fold
-            assert!(rt; admitted == 11 && answer.is_ok());
+            // the text and the count of its owners, the spans, a node of each line, and three for the
+            // fold
+            assert!(rt; admitted == 10 && answer.is_ok());
             break;
         }
         assert!(rt; matches!(answer, Err(Fault::NoMemory)));
@@ -133,7 +133,7 @@ fn each_refused_growth_of_parsing_a_text_by_value_is_no_memory(
         let answer = Doc::parse_vec(&heap, text, &mut Meter::new());
         if !heap.has_refused() {
             // as many as `parse` takes, since the text is copied here
-            assert!(rt; admitted == 11 && answer.is_ok());
+            assert!(rt; admitted == 10 && answer.is_ok());
             break;
         }
         assert!(rt; matches!(answer, Err(Fault::NoMemory)));
