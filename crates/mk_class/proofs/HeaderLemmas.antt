@@ -30,11 +30,6 @@ abbrev pub is_amiss : List ℕ → Bool
 is_amiss u = is_equals itself u || (is_escape itself u || is_dollar_before_blank itself u)
 
 -- an unclosed unit besides
-split_test : (a b c d : Bool) → (a || (b || (c || d))) ≡ ((a || (b || c)) || d)
-split_test true b c d = refl
-split_test false true c d = refl
-split_test false false c d = refl
-
 escape_test : (a b c d l : Bool) → (l ≡ true → b ≡ true) → ((a || (b || (c || d))) || false) ≡ (((a || (b || c)) || false) || (d || l))
 escape_test true b c d l h = refl
 escape_test false true c d l h = refl

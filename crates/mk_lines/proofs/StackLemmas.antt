@@ -124,21 +124,9 @@ search-any test t (Some k) h = sym (any_some test t k h.0.high h.1)
 pub search-stray : (t : List ℕ) (r : Option ℕ) → IsFirstByte (is_byte3 0 10 13) t r → is_some r ≡ list_any (λ b. is_stray_by (byte_kind b) (b == 0)) t
 search-stray t r h = search-any (is_byte3 0 10 13) t r h ∙ any_same (is_byte3 0 10 13) (λ b. is_stray_by (byte_kind b) (b == 0)) (λ b. sym (stray_test b)) t
 
--- a text without stray bytes has no line feed
-pub none_stray-no_line_feed : (t : List ℕ) → list_any (λ b. is_stray_by (byte_kind b) (b == 0)) t ≡ false → All (λ b. b ≡ 10 → ⊥) t
-none_stray-no_line_feed t h =
-    All-from_get_or (λ b. b ≡ 10 → ⊥) t 0
-    (λ k l e. let yes : list_any (λ b. is_stray_by (byte_kind b) (b == 0)) t ≡ true = any_some (λ b. is_stray_by (byte_kind b) (b == 0)) t k l (feed (get_or t k 0) e) in cc)
-  where
-    feed : (b : ℕ) → b ≡ 10 → is_stray_by (byte_kind b) (b == 0) ≡ true
-    feed b e = rw e refl
-
--- a search that finds no line feed, and one that does
+-- a search that finds no line feed
 pub search-no_line_feed : (t : List ℕ) → IsFirstByte (is_byte 10) t None → All (λ b. b ≡ 10 → ⊥) t
 search-no_line_feed t h = All-from_get_or (λ b. b ≡ 10 → ⊥) t 0 (λ k l e. h k (omega arith) l ((Decides-eqb (get_or t k 0) 10).1 e))
-
-pub search-line_feed : (t : List ℕ) (k : ℕ) → IsFirstByte (is_byte 10) t (Some k) → All (λ b. b ≡ 10 → ⊥) t → ⊥
-search-line_feed t k h all = all k 0 h.0.high (equal (get_or t k 0) 10 h.1)
 
 -- a place that was found behind another, by the place in the whole text
 abbrev pub further : ℕ → Option ℕ → Option ℕ

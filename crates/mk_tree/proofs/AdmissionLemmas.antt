@@ -66,7 +66,8 @@ admitted-classed c (l ∷ ls) h few =
     let rest : AreAdmitted next (placed_lines (classed next ls)) = admitted-classed next ls fits (omega (arith, few, defines_after-few c.defines k)) in
     ((h.0, defines-fit c.defines c.conditionals k (omega (arith, few)) (class_of-counts c l)), subst (λ (z : Context). AreAdmitted z (placed_lines (classed next ls))) (sym e) rest)
 
-length-classed : (c : Context) (ls : List (List ℕ)) → length (placed_lines (classed c ls)) ≡ length ls
+-- as many lines are shown as there are
+pub length-classed : (c : Context) (ls : List (List ℕ)) → length (placed_lines (classed c ls)) ≡ length ls
 length-classed c [] = refl
 length-classed c (l ∷ ls) = ap suc (length-classed (context_after c (class_of c l)) ls)
 

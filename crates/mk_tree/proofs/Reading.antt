@@ -24,6 +24,7 @@ use Rattle.mk_lines.specs.declared.fault.Fault.{Fault}
 use Rattle.mk_lines.specs.declared.fault.Fault.TheVariants.{NoMemory, TooLong, TooDeep, BadDepth, Read, Write}
 use Rattle.mk_tree.specs.Faults.{IsReadingFault}
 use Rattle.mk_tree.specs.Unread.{UnreadLines, shown, AreTooDeep, AreReadFrom, AreUnread, AreSingle, texts_at}
+use Rattle.mk_tree.proofs.AdmissionLemmas.{length-classed}
 use Rattle.mk_tree.proofs.Places.{size_of-append, size_of-whole}
 
 -- ---- spans
@@ -130,10 +131,6 @@ pub first-deep : (c : Context) (l : List ℕ) (rest : List (List ℕ)) → line_
 first-deep c l rest h =
     omega (arith, opens-deep c.conditionals (class_of c l) (classed (context_after c (class_of c l)) rest) h)
 
--- no line read
-pub read-none : (u : UnreadLines) → AreReadFrom u [] u
-read-none u = record { all = refl; fit = λ h. h; deep = λ h. h }
-
 -- some lines read, one more, and others
 pub read-joined : (first second third last : UnreadLines) (left right : List PlacedLine) (x : PlacedLine) → AreReadFrom first left second → AreReadFrom second (x ∷ []) third → AreReadFrom third right last
     → AreReadFrom first (left ++ x ∷ right) last
@@ -169,15 +166,11 @@ read-all text old left read e h n = go left.lines refl
         )
     go (l ∷ ls) some = absurd (omega (arith, n, ap length some))
 
-length-shown : (c : Context) (ls : List (List ℕ)) → length (placed_lines (classed c ls)) ≡ length ls
-length-shown c [] = refl
-length-shown c (l ∷ ls) = ap suc (length-shown (context_after c (class_of c l)) ls)
-
 -- as many as there are
 pub all-counted : (text : List ℕ) (old left : UnreadLines) (read : List PlacedLine) → old ≡ record { context = start; lines = logical_lines text } → AreReadFrom old read left
     → length old.lines ≡ length left.lines + length old.lines → length read ≡ length old.lines
 all-counted text old left read e h n =
-    ap length (read-all text old left read e h n).0 ∙ (length-shown start (logical_lines text) ∙ ap (λ (u : UnreadLines). length u.lines) (sym e))
+    ap length (read-all text old left read e h n).0 ∙ (length-classed start (logical_lines text) ∙ ap (λ (u : UnreadLines). length u.lines) (sym e))
 
 -- ---- the whole text
 

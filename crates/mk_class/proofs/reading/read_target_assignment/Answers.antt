@@ -1,4 +1,4 @@
-use Rattle.std.proofs.Common.{◌≡◌, Option, Some, None, length, subst, sym, ◌-◌, ◌∙◌}
+use Rattle.std.proofs.Common.{◌≡◌, Option, length, subst, sym, ◌-◌, ◌∙◌}
 use Rattle.std.specs.Prelude.{MatchOption}
 use Rattle.mk_class.specs.TextClasses.{header_text_class, rule_text_class}
 use Rattle.mk_class.specs.declared.assignment.TargetAssignment.{TargetAssignment}
