@@ -1,6 +1,6 @@
 -- The causes that decide where an edit applies: RecipePrefix, NoSuch and Ambiguous.
 use Rattle.std.specs.Prelude.{ℕ, Bool, true, false, not, ◌&&◌, ◌||◌, List, [], ◌∷◌, length, Option, Some, None, is_some}
-use Rattle.mk_lines.specs.Cells.{joined_byte}
+use Rattle.mk_lines.specs.Cells.{Cell, joined_byte}
 use Rattle.mk_lines.specs.Pieces.{Piece, new_bytes}
 use Rattle.mk_class.specs.Lists.{is_empty, any}
 use Rattle.mk_class.specs.Texts.{unit_text}
@@ -23,7 +23,7 @@ use Rattle.mk_edit.specs.declared.refusal.Refusal.TheVariants.{RecipePrefix, NoS
 -- ---- RecipePrefix: the file sets `.RECIPEPREFIX` in a way that is not read
 
 -- whether a line of this class does
-abbrev pub is_unread_prefix : Class → Bool
+abbrev pub is_unread_prefix : Class Cell → Bool
 is_unread_prefix (Assign a None) = is_prefix_name (unit_text joined_byte a.name)
 is_unread_prefix (DefineHead p) = p
 is_unread_prefix k = false

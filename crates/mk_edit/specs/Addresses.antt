@@ -1,6 +1,6 @@
 -- Which line an edit speaks of.
 use Rattle.std.specs.Prelude.{ℕ, Bool, false, List, [], Option, Some, None, option_and_then}
-use Rattle.mk_lines.specs.Cells.{joined_byte}
+use Rattle.mk_lines.specs.Cells.{Cell, joined_byte}
 use Rattle.mk_class.specs.Lists.{any}
 use Rattle.mk_class.specs.Texts.{is_same_text, is_one_of, unit_text, word_texts}
 use Rattle.mk_class.specs.Classes.{Class}
@@ -15,12 +15,12 @@ pub data Address : Type 0 where
   Rule : (nth : Option ℕ) → (target : List ℕ) → Address
 
 -- whether a line of this class assigns the variable of this name
-abbrev pub assigns : List ℕ → Class → Bool
+abbrev pub assigns : List ℕ → Class Cell → Bool
 assigns n (Assign a p) = is_same_text (unit_text joined_byte a.name) n
 assigns n k = false
 
 -- whether a line of this class is the header of a rule for this target
-abbrev pub is_rule_for : List ℕ → Class → Bool
+abbrev pub is_rule_for : List ℕ → Class Cell → Bool
 is_rule_for t (Header h) = is_one_of t (word_texts joined_byte h.targets)
 is_rule_for t k = false
 
@@ -65,7 +65,7 @@ abbrev pub addressed : List ClassedLine → Edit → Option Spot
 addressed ls e = option_and_then (found ls) (address e)
 
 -- the targets of a header or of a target assignment
-abbrev pub targets_of : Class → List (List ℕ)
+abbrev pub targets_of : Class Cell → List (List ℕ)
 targets_of (Header h) = word_texts joined_byte h.targets
 targets_of (TargetAssign a) = word_texts joined_byte a.targets
 targets_of k = []

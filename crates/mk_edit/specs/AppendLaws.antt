@@ -328,7 +328,7 @@ value-not_empty (b ∷ r) h = (b, r, refl)
 pub closed-found : (t n : List ℕ) (nth : Option ℕ) (F : FoundAssignment t n nth) → has_open_value (class_found (found (classed_lines t) (Variable nth n))) ≡ false → is_closed joined_byte (concat F.assigned.value) ≡ true
 closed-found t n nth F h =
     let x : has_open_value (Some F.spot.line.class) ≡ false = subst (λ (z : Option Spot). has_open_value (class_found z) ≡ false) F.found_is h in
-    let y : not (is_closed joined_byte (concat F.assigned.value)) ≡ false = subst (λ (z : Class). has_open_value (Some z) ≡ false) F.class_is x in
+    let y : not (is_closed joined_byte (concat F.assigned.value)) ≡ false = subst (λ (z : Class Cell). has_open_value (Some z) ≡ false) F.class_is x in
     go (is_closed joined_byte (concat F.assigned.value)) y
   where
     go : (b : Bool) → not b ≡ false → b ≡ true

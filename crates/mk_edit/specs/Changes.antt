@@ -46,7 +46,7 @@ abbrev pub item_with_value : Assignment Cell → (value : List ℕ) → Item
 item_with_value a v = Assign (Sets a.modifiers (unit_text joined_byte a.name) a.flavor v)
 
 -- the item of a line of this class, which begins at a place, with another value
-abbrev pub value_item : (ℕ → Assignment Cell → List ℕ) → (line_start : ℕ) → Class → List Item
+abbrev pub value_item : (ℕ → Assignment Cell → List ℕ) → (line_start : ℕ) → Class Cell → List Item
 value_item f at (AssignLine a p) = item_with_value a (f at a) ∷ []
 value_item f at k = []
 
@@ -70,7 +70,7 @@ value_appended v a =
 -- ---- prerequisites and targets
 
 -- the item of a header with other items in its place; nothing where the line is no header
-abbrev pub header_items : (Item → Item) → Class → List Item
+abbrev pub header_items : (Item → Item) → Class Cell → List Item
 header_items f (HeaderLine h) = f (header_item h) ∷ []
 header_items f k = []
 

@@ -19,24 +19,24 @@ use Rattle.mk_class.specs.Separators.{Separated, separated, has_colon, takes_ass
 use Rattle.mk_class.specs.Headers.{header, is_rough}
 use Rattle.mk_class.specs.HeaderLaws.{header_units, header-whole, separated-whole}
 use Rattle.mk_class.specs.Keywords.{Keyword, DefineWord, EndefWord, IfWord, ElseWord, EndifWord, DirectiveWord, UndefineWord, NoKeyword, first_keyword, after_modifiers}
-use Rattle.mk_class.specs.Classes.{Class}
+use Rattle.mk_class.specs.Classes.{Class, Said, class_said}
 use Rattle.mk_class.specs.Classes.Class.{Assign, TargetAssign, Header, Opaque, Rough, Comment, Blank}
 use Rattle.mk_class.specs.RecipePrefix.{is_prefix_led}
 use Rattle.mk_class.specs.Contexts.{Context}
-use Rattle.mk_class.specs.ClassTable.{class_of, class_at, define_class, directive_by, header_class, target_class, rule_class, assign_class, or_class, is_all_blanks, is_unreadable, plain_class}
+use Rattle.mk_class.specs.ClassTable.{class_of, class_at, define_class, header_class, target_class, rule_class, assign_class, or_class, is_all_blanks, is_unreadable, plain_class, directive}
 use Rattle.mk_class.specs.declared.context.Flag.{Flag}
 use Rattle.mk_class.specs.declared.context.Flag.TheVariants.{Off, Rule, Unknown}
 use Rattle.mk_edit.specs.ValueSpans.{raw_length}
 
 -- the units of the parts that a class tells of
-abbrev pub part_units : Class → List (List Cell)
+abbrev pub part_units : Class Cell → List (List Cell)
 part_units (Assign a p) = assignment_units a
 part_units (TargetAssign t) = t.targets
 part_units (Header h) = header_units h
 part_units k = []
 
 -- these have no more raw bytes than a line's units
-abbrev AreWithin : List (List Cell) → Class → Type 0
+abbrev AreWithin : List (List Cell) → Class Cell → Type 0
 AreWithin us k = raw_length (part_units k) ≤ raw_length us
 
 -- the raw bytes of two runs of units
@@ -49,137 +49,56 @@ within-cut us =
     ap raw_length (sym (leading-after_leading (is_no_hash joined_byte) us)) ∙ raw_length-append (cut_text joined_byte us) (comment joined_byte us) in
     omega (arith, e)
 
-short-cond : (us : List (List Cell)) (b : Bool) (x y : Class) → AreWithin us x → AreWithin us y → AreWithin us (cond b x y)
+short-cond : (us : List (List Cell)) (b : Bool) (x y : Class Cell) → AreWithin us x → AreWithin us y → AreWithin us (cond b x y)
 short-cond us true x y h k = h
 short-cond us false x y h k = k
 
-short-assign : (us : List (List Cell)) (c : Bool) (o : Option (Assignment Cell)) (x : Class) → assignment joined_byte (cut_text joined_byte us) ≡ o → AreWithin us x → AreWithin us (assign_class c o x)
+short-assign : (us : List (List Cell)) (c : Bool) (o : Option (Assignment Cell)) (x : Class Cell) → assignment joined_byte (cut_text joined_byte us) ≡ o → AreWithin us x → AreWithin us (assign_class joined_byte c o x)
 short-assign us c None x e h = h
 short-assign us c (Some a) x e h =
     let w : raw_length (assignment_units a) ≡ raw_length (cut_text joined_byte us) = ap raw_length (assignment-is joined_byte (cut_text joined_byte us) a e).whole in
     let k = within-cut us in
     omega (arith, w, k)
 
-short-target : (us : List (List Cell)) (s : Separated Cell) (o : Option (Assignment Cell)) (x : Class) → raw_length s.targets ≤ raw_length us → AreWithin us x → AreWithin us (target_class s o x)
+short-target : (us : List (List Cell)) (s : Separated Cell) (o : Option (Assignment Cell)) (x : Class Cell) → raw_length s.targets ≤ raw_length us → AreWithin us x → AreWithin us (target_class s o x)
 short-target us s None x n h = h
 short-target us s (Some a) x n h = n
 
-short-rule : (us : List (List Cell)) → AreWithin us (rule_class us)
+short-rule : (us : List (List Cell)) → AreWithin us (rule_class joined_byte us)
 short-rule us =
     let w : raw_length (header_units (header joined_byte us)) ≡ raw_length us = ap raw_length (header-whole joined_byte us) in
     let cut = cut_text joined_byte us in
     let s = separated joined_byte cut in
-    let own : AreWithin us (header_class us) = short-cond us (is_rough joined_byte (head joined_byte us) (header joined_byte us)) Rough (Header (header joined_byte us)) (omega arith) (omega (arith, w)) in
+    let own : AreWithin us (header_class joined_byte us) = short-cond us (is_rough joined_byte (head joined_byte us) (header joined_byte us)) Rough (Header (header joined_byte us)) (omega arith) (omega (arith, w)) in
     let t : raw_length cut ≡ raw_length s.targets + raw_length (s.colons ++ s.rest) = ap raw_length (sym (separated-whole joined_byte cut)) ∙ raw_length-append s.targets (s.colons ++ s.rest) in
     let k = within-cut us in
-    short-cond us (takes_assignment s.separator) (target_class s (assignment joined_byte s.rest) (header_class us)) (header_class us) (short-target us s (assignment joined_byte s.rest) (header_class us) (omega (arith, t, k)) own) own
+    short-cond us (takes_assignment s.separator) (target_class s (assignment joined_byte s.rest) (header_class joined_byte us)) (header_class joined_byte us) (short-target us s (assignment joined_byte s.rest) (header_class joined_byte us) (omega (arith, t, k)) own) own
 
-module _ (us : List (List Cell)) where
-  short-directive : (k b : Keyword) (c : Bool) (ws : List (List ℕ)) (x : Class) → 0 ≤ raw_length us → AreWithin us x → AreWithin us (or_class (directive_by k b c ws) x)
-  short-directive DefineWord DefineWord c ws x z h = z
-  short-directive DefineWord EndefWord c ws x z h = h
-  short-directive DefineWord IfWord c ws x z h = h
-  short-directive DefineWord ElseWord c ws x z h = h
-  short-directive DefineWord EndifWord c ws x z h = h
-  short-directive DefineWord DirectiveWord c ws x z h = h
-  short-directive DefineWord UndefineWord c ws x z h = z
-  short-directive DefineWord NoKeyword c ws x z h = h
-  short-directive EndefWord DefineWord c ws x z h = z
-  short-directive EndefWord EndefWord c ws x z h = h
-  short-directive EndefWord IfWord c ws x z h = h
-  short-directive EndefWord ElseWord c ws x z h = h
-  short-directive EndefWord EndifWord c ws x z h = h
-  short-directive EndefWord DirectiveWord c ws x z h = h
-  short-directive EndefWord UndefineWord c ws x z h = z
-  short-directive EndefWord NoKeyword c ws x z h = h
-  short-directive IfWord DefineWord c ws x z h = z
-  short-directive IfWord EndefWord c ws x z h = z
-  short-directive IfWord IfWord c ws x z h = z
-  short-directive IfWord ElseWord c ws x z h = z
-  short-directive IfWord EndifWord c ws x z h = z
-  short-directive IfWord DirectiveWord c ws x z h = z
-  short-directive IfWord UndefineWord c ws x z h = z
-  short-directive IfWord NoKeyword c ws x z h = z
-  short-directive ElseWord DefineWord c ws x z h = z
-  short-directive ElseWord EndefWord true ws x z h = z
-  short-directive ElseWord EndefWord false ws x z h = h
-  short-directive ElseWord IfWord true ws x z h = z
-  short-directive ElseWord IfWord false ws x z h = h
-  short-directive ElseWord ElseWord true ws x z h = z
-  short-directive ElseWord ElseWord false ws x z h = h
-  short-directive ElseWord EndifWord true ws x z h = z
-  short-directive ElseWord EndifWord false ws x z h = h
-  short-directive ElseWord DirectiveWord true ws x z h = z
-  short-directive ElseWord DirectiveWord false ws x z h = h
-  short-directive ElseWord UndefineWord true ws x z h = z
-  short-directive ElseWord UndefineWord false ws x z h = z
-  short-directive ElseWord NoKeyword true ws x z h = z
-  short-directive ElseWord NoKeyword false ws x z h = h
-  short-directive EndifWord DefineWord c ws x z h = z
-  short-directive EndifWord EndefWord true ws x z h = z
-  short-directive EndifWord EndefWord false ws x z h = h
-  short-directive EndifWord IfWord true ws x z h = z
-  short-directive EndifWord IfWord false ws x z h = h
-  short-directive EndifWord ElseWord true ws x z h = z
-  short-directive EndifWord ElseWord false ws x z h = h
-  short-directive EndifWord EndifWord true ws x z h = z
-  short-directive EndifWord EndifWord false ws x z h = h
-  short-directive EndifWord DirectiveWord true ws x z h = z
-  short-directive EndifWord DirectiveWord false ws x z h = h
-  short-directive EndifWord UndefineWord true ws x z h = z
-  short-directive EndifWord UndefineWord false ws x z h = z
-  short-directive EndifWord NoKeyword true ws x z h = z
-  short-directive EndifWord NoKeyword false ws x z h = h
-  short-directive DirectiveWord DefineWord c ws x z h = z
-  short-directive DirectiveWord EndefWord c ws x z h = z
-  short-directive DirectiveWord IfWord c ws x z h = z
-  short-directive DirectiveWord ElseWord c ws x z h = z
-  short-directive DirectiveWord EndifWord c ws x z h = z
-  short-directive DirectiveWord DirectiveWord c ws x z h = z
-  short-directive DirectiveWord UndefineWord c ws x z h = z
-  short-directive DirectiveWord NoKeyword c ws x z h = z
-  short-directive UndefineWord DefineWord c ws x z h = z
-  short-directive UndefineWord EndefWord c ws x z h = h
-  short-directive UndefineWord IfWord c ws x z h = h
-  short-directive UndefineWord ElseWord c ws x z h = h
-  short-directive UndefineWord EndifWord c ws x z h = h
-  short-directive UndefineWord DirectiveWord c ws x z h = h
-  short-directive UndefineWord UndefineWord c ws x z h = z
-  short-directive UndefineWord NoKeyword c ws x z h = h
-  short-directive NoKeyword DefineWord c ws x z h = z
-  short-directive NoKeyword EndefWord c ws x z h = h
-  short-directive NoKeyword IfWord c ws x z h = h
-  short-directive NoKeyword ElseWord c ws x z h = h
-  short-directive NoKeyword EndifWord c ws x z h = h
-  short-directive NoKeyword DirectiveWord c ws x z h = h
-  short-directive NoKeyword UndefineWord c ws x z h = z
-  short-directive NoKeyword NoKeyword c ws x z h = h
+short-said : (us : List (List Cell)) (s : Said) → 0 ≤ raw_length us → AreWithin us (class_said s)
+short-said us Said.Endef z = z
+short-said us (Said.Body n) z = z
+short-said us (Said.DefineHead p) z = z
+short-said us Said.If z = z
+short-said us Said.Else z = z
+short-said us Said.Endif z = z
+short-said us Said.Directive z = z
 
-short-plain : (led c : Bool) (cs : List Cell) (us : List (List Cell)) → AreWithin us (plain_class led c cs us)
+short-or : (us : List (List Cell)) (o : Option Said) (x : Class Cell) → 0 ≤ raw_length us → AreWithin us x → AreWithin us (or_class o x)
+short-or us None x z h = h
+short-or us (Some s) x z h = short-said us s z
+
+short-plain : (led c : Bool) (cs : List Cell) (us : List (List Cell)) → AreWithin us (plain_class joined_byte led c (is_unreadable cs) us)
 short-plain led c cs us =
-    let ws = word_texts joined_byte (cut_text joined_byte us) in
     let z : 0 ≤ raw_length us = omega arith in
-    short-cond us (is_all_blanks (cut_text joined_byte us)) _ _ (short-cond us (any (is_hash joined_byte) us) Comment Blank z z) (
+    short-cond us (is_all_blanks joined_byte (cut_text joined_byte us)) _ _ (short-cond us (any (is_hash joined_byte) us) Comment Blank z z) (
     short-cond us (is_unreadable cs) Opaque _ z (
     short-assign us c (assignment joined_byte (cut_text joined_byte us)) _ refl (
-    short-directive us (first_keyword ws) (first_keyword (after_modifiers ws)) c (after_modifiers ws) _ z (
-    short-cond us (led || not (has_colon joined_byte (head joined_byte us))) Opaque (rule_class us) z (short-rule us)))))
+    short-or us (directive c (word_texts joined_byte (cut_text joined_byte us))) _ z (
+    short-cond us (led || not (has_colon joined_byte (head joined_byte us))) Opaque (rule_class joined_byte us) z (short-rule us)))))
 
-short-define : (us : List (List Cell)) (k : Keyword) (n : ℕ) → 0 ≤ raw_length us → AreWithin us (define_class k n)
-short-define us DefineWord n z = z
-short-define us EndefWord zero z = z
-short-define us EndefWord (suc zero) z = z
-short-define us EndefWord (suc (suc n)) z = z
-short-define us IfWord n z = z
-short-define us ElseWord n z = z
-short-define us EndifWord n z = z
-short-define us DirectiveWord n z = z
-short-define us UndefineWord n z = z
-short-define us NoKeyword n z = z
-
-short-at : (led : Bool) (n : ℕ) (f : Flag) (c : Bool) (cs : List Cell) (us : List (List Cell)) → AreWithin us (class_at led n f c cs us)
+short-at : (led : Bool) (n : ℕ) (f : Flag) (c : Bool) (cs : List Cell) (us : List (List Cell)) → AreWithin us (class_at joined_byte led n f c (is_unreadable cs) us)
 short-at true (suc n) f c cs us = omega arith
-short-at false (suc n) f c cs us = short-define us (first_keyword (word_texts joined_byte us)) (suc n) (omega arith)
+short-at false (suc n) f c cs us = short-said us (define_class (first_keyword (word_texts joined_byte us)) (suc n)) (omega arith)
 short-at true zero Rule c cs us = omega arith
 short-at true zero Unknown c cs us = omega arith
 short-at true zero Off c cs us = short-plain true c cs us

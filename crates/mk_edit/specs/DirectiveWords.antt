@@ -14,109 +14,92 @@ use Rattle.mk_class.specs.Lists.{any}
 use Rattle.mk_class.specs.Texts.{is_one_of, word_texts}
 use Rattle.mk_class.specs.AssignmentEqualsLaws.{not_same}
 use Rattle.mk_class.specs.Keywords.{Keyword, DefineWord, EndefWord, IfWord, ElseWord, EndifWord, DirectiveWord, UndefineWord, NoKeyword, keyword, first_keyword, after_modifiers, if_words, directive_words, modifier_words}
-use Rattle.mk_class.specs.Classes.{Class}
-use Rattle.mk_class.specs.Classes.Class.{DefineHead, If, Else, Endif, Directive, TargetAssign, Header}
+use Rattle.mk_class.specs.Classes.{Said}
+use Rattle.mk_class.specs.Classes.Said.{DefineHead, If, Else, Endif, Directive}
 use Rattle.mk_class.specs.ClassTable.{directive_by, directive, defines_prefix}
 
 -- ---- what decides a directive
 
--- a class that is neither a Header nor a target assignment
-abbrev pub IsNoHeader : Class → Type 0
-IsNoHeader (Header h) = ⊥
-IsNoHeader (TargetAssign a) = ⊥
-IsNoHeader k = Unit {0}
-
--- keywords alone say whether a line is a directive, and none is one of these
-directive-cases : (k b : Keyword) (c : Bool) (ws ws' : List (List ℕ)) → ((directive_by k b c ws ≡ None) × (directive_by k b c ws' ≡ None)) ⊎ ((x : Class) × (directive_by k b c ws ≡ Some x) × IsNoHeader x)
-directive-cases DefineWord DefineWord c ws ws' = inr (DefineHead (defines_prefix ws), refl, tt)
+-- keywords alone say whether a line is a directive,
+directive-cases : (k b : Keyword) (c : Bool) (ws ws' : List (List ℕ)) → ((directive_by k b c ws ≡ None) × (directive_by k b c ws' ≡ None)) ⊎ ((x : Said) × (directive_by k b c ws ≡ Some x))
+directive-cases DefineWord DefineWord c ws ws' = inr (DefineHead (defines_prefix ws), refl)
 directive-cases DefineWord EndefWord c ws ws' = inl (refl, refl)
 directive-cases DefineWord IfWord c ws ws' = inl (refl, refl)
 directive-cases DefineWord ElseWord c ws ws' = inl (refl, refl)
 directive-cases DefineWord EndifWord c ws ws' = inl (refl, refl)
 directive-cases DefineWord DirectiveWord c ws ws' = inl (refl, refl)
-directive-cases DefineWord UndefineWord c ws ws' = inr (Directive, refl, tt)
+directive-cases DefineWord UndefineWord c ws ws' = inr (Directive, refl)
 directive-cases DefineWord NoKeyword c ws ws' = inl (refl, refl)
-directive-cases EndefWord DefineWord c ws ws' = inr (DefineHead (defines_prefix ws), refl, tt)
+directive-cases EndefWord DefineWord c ws ws' = inr (DefineHead (defines_prefix ws), refl)
 directive-cases EndefWord EndefWord c ws ws' = inl (refl, refl)
 directive-cases EndefWord IfWord c ws ws' = inl (refl, refl)
 directive-cases EndefWord ElseWord c ws ws' = inl (refl, refl)
 directive-cases EndefWord EndifWord c ws ws' = inl (refl, refl)
 directive-cases EndefWord DirectiveWord c ws ws' = inl (refl, refl)
-directive-cases EndefWord UndefineWord c ws ws' = inr (Directive, refl, tt)
+directive-cases EndefWord UndefineWord c ws ws' = inr (Directive, refl)
 directive-cases EndefWord NoKeyword c ws ws' = inl (refl, refl)
-directive-cases IfWord DefineWord c ws ws' = inr (DefineHead (defines_prefix ws), refl, tt)
-directive-cases IfWord EndefWord c ws ws' = inr (If, refl, tt)
-directive-cases IfWord IfWord c ws ws' = inr (If, refl, tt)
-directive-cases IfWord ElseWord c ws ws' = inr (If, refl, tt)
-directive-cases IfWord EndifWord c ws ws' = inr (If, refl, tt)
-directive-cases IfWord DirectiveWord c ws ws' = inr (If, refl, tt)
-directive-cases IfWord UndefineWord c ws ws' = inr (If, refl, tt)
-directive-cases IfWord NoKeyword c ws ws' = inr (If, refl, tt)
-directive-cases ElseWord DefineWord c ws ws' = inr (DefineHead (defines_prefix ws), refl, tt)
-directive-cases ElseWord EndefWord true ws ws' = inr (Else, refl, tt)
+directive-cases IfWord DefineWord c ws ws' = inr (DefineHead (defines_prefix ws), refl)
+directive-cases IfWord EndefWord c ws ws' = inr (If, refl)
+directive-cases IfWord IfWord c ws ws' = inr (If, refl)
+directive-cases IfWord ElseWord c ws ws' = inr (If, refl)
+directive-cases IfWord EndifWord c ws ws' = inr (If, refl)
+directive-cases IfWord DirectiveWord c ws ws' = inr (If, refl)
+directive-cases IfWord UndefineWord c ws ws' = inr (If, refl)
+directive-cases IfWord NoKeyword c ws ws' = inr (If, refl)
+directive-cases ElseWord DefineWord c ws ws' = inr (DefineHead (defines_prefix ws), refl)
+directive-cases ElseWord EndefWord true ws ws' = inr (Else, refl)
 directive-cases ElseWord EndefWord false ws ws' = inl (refl, refl)
-directive-cases ElseWord IfWord true ws ws' = inr (Else, refl, tt)
+directive-cases ElseWord IfWord true ws ws' = inr (Else, refl)
 directive-cases ElseWord IfWord false ws ws' = inl (refl, refl)
-directive-cases ElseWord ElseWord true ws ws' = inr (Else, refl, tt)
+directive-cases ElseWord ElseWord true ws ws' = inr (Else, refl)
 directive-cases ElseWord ElseWord false ws ws' = inl (refl, refl)
-directive-cases ElseWord EndifWord true ws ws' = inr (Else, refl, tt)
+directive-cases ElseWord EndifWord true ws ws' = inr (Else, refl)
 directive-cases ElseWord EndifWord false ws ws' = inl (refl, refl)
-directive-cases ElseWord DirectiveWord true ws ws' = inr (Else, refl, tt)
+directive-cases ElseWord DirectiveWord true ws ws' = inr (Else, refl)
 directive-cases ElseWord DirectiveWord false ws ws' = inl (refl, refl)
-directive-cases ElseWord UndefineWord true ws ws' = inr (Else, refl, tt)
-directive-cases ElseWord UndefineWord false ws ws' = inr (Directive, refl, tt)
-directive-cases ElseWord NoKeyword true ws ws' = inr (Else, refl, tt)
+directive-cases ElseWord UndefineWord true ws ws' = inr (Else, refl)
+directive-cases ElseWord UndefineWord false ws ws' = inr (Directive, refl)
+directive-cases ElseWord NoKeyword true ws ws' = inr (Else, refl)
 directive-cases ElseWord NoKeyword false ws ws' = inl (refl, refl)
-directive-cases EndifWord DefineWord c ws ws' = inr (DefineHead (defines_prefix ws), refl, tt)
-directive-cases EndifWord EndefWord true ws ws' = inr (Endif, refl, tt)
+directive-cases EndifWord DefineWord c ws ws' = inr (DefineHead (defines_prefix ws), refl)
+directive-cases EndifWord EndefWord true ws ws' = inr (Endif, refl)
 directive-cases EndifWord EndefWord false ws ws' = inl (refl, refl)
-directive-cases EndifWord IfWord true ws ws' = inr (Endif, refl, tt)
+directive-cases EndifWord IfWord true ws ws' = inr (Endif, refl)
 directive-cases EndifWord IfWord false ws ws' = inl (refl, refl)
-directive-cases EndifWord ElseWord true ws ws' = inr (Endif, refl, tt)
+directive-cases EndifWord ElseWord true ws ws' = inr (Endif, refl)
 directive-cases EndifWord ElseWord false ws ws' = inl (refl, refl)
-directive-cases EndifWord EndifWord true ws ws' = inr (Endif, refl, tt)
+directive-cases EndifWord EndifWord true ws ws' = inr (Endif, refl)
 directive-cases EndifWord EndifWord false ws ws' = inl (refl, refl)
-directive-cases EndifWord DirectiveWord true ws ws' = inr (Endif, refl, tt)
+directive-cases EndifWord DirectiveWord true ws ws' = inr (Endif, refl)
 directive-cases EndifWord DirectiveWord false ws ws' = inl (refl, refl)
-directive-cases EndifWord UndefineWord true ws ws' = inr (Endif, refl, tt)
-directive-cases EndifWord UndefineWord false ws ws' = inr (Directive, refl, tt)
-directive-cases EndifWord NoKeyword true ws ws' = inr (Endif, refl, tt)
+directive-cases EndifWord UndefineWord true ws ws' = inr (Endif, refl)
+directive-cases EndifWord UndefineWord false ws ws' = inr (Directive, refl)
+directive-cases EndifWord NoKeyword true ws ws' = inr (Endif, refl)
 directive-cases EndifWord NoKeyword false ws ws' = inl (refl, refl)
-directive-cases DirectiveWord DefineWord c ws ws' = inr (DefineHead (defines_prefix ws), refl, tt)
-directive-cases DirectiveWord EndefWord c ws ws' = inr (Directive, refl, tt)
-directive-cases DirectiveWord IfWord c ws ws' = inr (Directive, refl, tt)
-directive-cases DirectiveWord ElseWord c ws ws' = inr (Directive, refl, tt)
-directive-cases DirectiveWord EndifWord c ws ws' = inr (Directive, refl, tt)
-directive-cases DirectiveWord DirectiveWord c ws ws' = inr (Directive, refl, tt)
-directive-cases DirectiveWord UndefineWord c ws ws' = inr (Directive, refl, tt)
-directive-cases DirectiveWord NoKeyword c ws ws' = inr (Directive, refl, tt)
-directive-cases UndefineWord DefineWord c ws ws' = inr (DefineHead (defines_prefix ws), refl, tt)
+directive-cases DirectiveWord DefineWord c ws ws' = inr (DefineHead (defines_prefix ws), refl)
+directive-cases DirectiveWord EndefWord c ws ws' = inr (Directive, refl)
+directive-cases DirectiveWord IfWord c ws ws' = inr (Directive, refl)
+directive-cases DirectiveWord ElseWord c ws ws' = inr (Directive, refl)
+directive-cases DirectiveWord EndifWord c ws ws' = inr (Directive, refl)
+directive-cases DirectiveWord DirectiveWord c ws ws' = inr (Directive, refl)
+directive-cases DirectiveWord UndefineWord c ws ws' = inr (Directive, refl)
+directive-cases DirectiveWord NoKeyword c ws ws' = inr (Directive, refl)
+directive-cases UndefineWord DefineWord c ws ws' = inr (DefineHead (defines_prefix ws), refl)
 directive-cases UndefineWord EndefWord c ws ws' = inl (refl, refl)
 directive-cases UndefineWord IfWord c ws ws' = inl (refl, refl)
 directive-cases UndefineWord ElseWord c ws ws' = inl (refl, refl)
 directive-cases UndefineWord EndifWord c ws ws' = inl (refl, refl)
 directive-cases UndefineWord DirectiveWord c ws ws' = inl (refl, refl)
-directive-cases UndefineWord UndefineWord c ws ws' = inr (Directive, refl, tt)
+directive-cases UndefineWord UndefineWord c ws ws' = inr (Directive, refl)
 directive-cases UndefineWord NoKeyword c ws ws' = inl (refl, refl)
-directive-cases NoKeyword DefineWord c ws ws' = inr (DefineHead (defines_prefix ws), refl, tt)
+directive-cases NoKeyword DefineWord c ws ws' = inr (DefineHead (defines_prefix ws), refl)
 directive-cases NoKeyword EndefWord c ws ws' = inl (refl, refl)
 directive-cases NoKeyword IfWord c ws ws' = inl (refl, refl)
 directive-cases NoKeyword ElseWord c ws ws' = inl (refl, refl)
 directive-cases NoKeyword EndifWord c ws ws' = inl (refl, refl)
 directive-cases NoKeyword DirectiveWord c ws ws' = inl (refl, refl)
-directive-cases NoKeyword UndefineWord c ws ws' = inr (Directive, refl, tt)
+directive-cases NoKeyword UndefineWord c ws ws' = inr (Directive, refl)
 directive-cases NoKeyword NoKeyword c ws ws' = inl (refl, refl)
-
--- a directive is neither
-pub directive-no_header : (c : Bool) (ws : List (List ℕ)) (x : Class) → directive c ws ≡ Some x → IsNoHeader x
-directive-no_header c ws x h = go (directive-cases (first_keyword ws) (first_keyword (after_modifiers ws)) c (after_modifiers ws) [])
-  where
-    go : ((directive c ws ≡ None) × (directive_by (first_keyword ws) (first_keyword (after_modifiers ws)) c [] ≡ None)) ⊎ ((y : Class) × (directive c ws ≡ Some y) × IsNoHeader y) → IsNoHeader x
-    go (inl e) = let k : None ≡ Some x = sym e.0 ∙ h in absurd (cc)
-    go (inr e) = at e.0 (let k : Some (e.0) ≡ Some x = sym e.1 ∙ h in cc) e.2
-      where
-        at : (y : Class) → y ≡ x → IsNoHeader y → IsNoHeader x
-        at y q n = subst IsNoHeader q n
 
 -- ---- words that say the same
 
@@ -179,7 +162,7 @@ same-bare ws ws' (Then w w' vs vs' h k s) = go (is_modifier w) (is_modifier w') 
 pub same-no_directive : (c : Bool) (ws ws' : List (List ℕ)) → SaySame ws ws' → directive c ws ≡ None → directive c ws' ≡ None
 same-no_directive c ws ws' s h = go (directive-cases (first_keyword ws) (first_keyword (after_modifiers ws)) c (after_modifiers ws) (after_modifiers ws'))
   where
-    go : ((directive c ws ≡ None) × (directive_by (first_keyword ws) (first_keyword (after_modifiers ws)) c (after_modifiers ws') ≡ None)) ⊎ ((x : Class) × (directive c ws ≡ Some x) × IsNoHeader x)
+    go : ((directive c ws ≡ None) × (directive_by (first_keyword ws) (first_keyword (after_modifiers ws)) c (after_modifiers ws') ≡ None)) ⊎ ((x : Said) × (directive c ws ≡ Some x))
         → directive c ws' ≡ None
     go (inl e) =
         ap (λ k. directive_by k (first_keyword (after_modifiers ws')) c (after_modifiers ws')) (sym (same-first ws ws' s))

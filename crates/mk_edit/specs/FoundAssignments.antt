@@ -37,13 +37,13 @@ prefix-of_class c l a p h =
     same_prefix a a p (prefix_set_by joined_byte (nat_lt 0 c.conditionals) a) (sym r.here ∙ k)
 
 -- a line of this class assigns the variable
-record IsNamed (n : List ℕ) (k : Class) : Type 0 where
+record IsNamed (n : List ℕ) (k : Class Cell) : Type 0 where
   assigned : Assignment Cell
   sets : Option ℕ
   class_is : k ≡ Assign assigned sets
   name_is : unit_text joined_byte assigned.name ≡ n
 
-assigns-named : (n : List ℕ) (k : Class) → assigns n k ≡ true → IsNamed n k
+assigns-named : (n : List ℕ) (k : Class Cell) → assigns n k ≡ true → IsNamed n k
 assigns-named n (Assign a s) h = record { assigned = a; sets = s; class_is = refl; name_is = same_text-is (unit_text joined_byte a.name) n h }
 assigns-named n Endef h = absurd (cc)
 assigns-named n (Body d) h = absurd (cc)

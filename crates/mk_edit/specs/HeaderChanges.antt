@@ -26,7 +26,7 @@ use Rattle.mk_class.specs.RecipePrefix.{is_prefix_led}
 use Rattle.mk_class.specs.Contexts.{Context}
 use Rattle.mk_class.specs.Classes.{Class}
 use Rattle.mk_class.specs.Classes.Class.{Header}
-use Rattle.mk_class.specs.ClassTable.{class_of, class_at, plain_class}
+use Rattle.mk_class.specs.ClassTable.{is_unreadable, class_of, class_at, plain_class}
 use Rattle.mk_class.specs.ClassLaws.{readable-are_line_cells}
 use Rattle.mk_edit.specs.HeadUnits.{AllAre, AllAre-left, AllAre-right, IsHeadUnit, IsSolid, EndsSolid, BeginsSolid-before, EndsSolid-after, line_cells-after_solid, line_cells-before_solid}
 use Rattle.mk_edit.specs.LineTails.{EndsAs, EndsAs-before, KeepsLineEnd, line_end-kept}
@@ -171,14 +171,14 @@ pub record IsHeaderWith (c : Context) (l : List ℕ) (below : List (List ℕ)) (
   pub class : class_of c (line_of h (line_end_bytes (line_end l))) ≡ Header h
 
 -- the class of cells in a context, as prefix-led or not
-abbrev read : Context → Bool → List Cell → Class
-read c led cs = class_at led c.defines c.flag (nat_lt 0 c.conditionals) cs (units joined_byte cs)
+abbrev read : Context → Bool → List Cell → Class Cell
+read c led cs = class_at joined_byte led c.defines c.flag (nat_lt 0 c.conditionals) (is_unreadable cs) (units joined_byte cs)
 
 -- a line of class Header that is read: its parts, and what it is in its context
 pub record HeaderHere (c : Context) (l : List ℕ) (h : Headers.Header Cell) : Type 0 where
   pub known : HeaderKnown (nat_lt 0 c.conditionals) (line_cells l) h
   pub not_led : is_prefix_led c.prefix l ≡ false
-  pub also : (cs : List Cell) → read c false cs ≡ plain_class false (nat_lt 0 c.conditionals) cs (units joined_byte cs)
+  pub also : (cs : List Cell) → read c false cs ≡ plain_class joined_byte false (nat_lt 0 c.conditionals) (is_unreadable cs) (units joined_byte cs)
   pub whole : l ≡ line_of h (line_end_bytes (line_end l))
 
 -- each line of class Header is such
@@ -190,7 +190,7 @@ header-here c l h e =
     record {
       known = k;
       not_led = r.here.not_led;
-      also = λ cs. ap (λ z. read c z cs) (sym r.here.not_led) ∙ (r.also cs (units joined_byte cs) ∙ ap (λ z. plain_class z (nat_lt 0 c.conditionals) cs (units joined_byte cs)) r.here.not_led);
+      also = λ cs. ap (λ z. read c z cs) (sym r.here.not_led) ∙ (r.also cs (units joined_byte cs) ∙ ap (λ z. plain_class joined_byte z (nat_lt 0 c.conditionals) (is_unreadable cs) (units joined_byte cs)) r.here.not_led);
       whole = sym (without_line_end-line_end l) ∙ ap (λ z. z ++ line_end_bytes (line_end l)) (sym (raw_text-cells (without_line_end l)) ∙ ap raw_text k.cells_are);
     }
 

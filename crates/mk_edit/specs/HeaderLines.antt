@@ -19,15 +19,15 @@ use Rattle.mk_class.specs.Headers
 use Rattle.mk_class.specs.Headers.{header, has_unreadable, has_colon_after_other, has_third_separator, has_bar_amiss, has_second_bar, has_pattern_amiss, is_rough}
 use Rattle.mk_class.specs.HeaderLaws.{header_units}
 use Rattle.mk_class.specs.HeadersAgain.{FitsHeader, head_units, after_separator, separator_symbols, header-again, separated-again}
-use Rattle.mk_class.specs.Classes.{Class}
+use Rattle.mk_class.specs.Classes.{Class, Said, class_said}
 use Rattle.mk_class.specs.Classes.Class.{Opaque, Blank, Comment, Rough, Header}
 use Rattle.mk_class.specs.Keywords.{Keyword, DefineWord, EndefWord, IfWord, ElseWord, EndifWord, DirectiveWord, UndefineWord, NoKeyword, first_keyword}
+use Rattle.mk_class.specs.ClassHolds.{Holds, plain_class-holds, said-no_parts}
 use Rattle.mk_class.specs.ClassTable.{class_at, define_class, directive, header_class, target_class, rule_class, assign_class, or_class, is_all_blanks, is_unreadable, plain_class}
 use Rattle.mk_class.specs.declared.context.Flag.{Flag}
 use Rattle.mk_class.specs.declared.context.Flag.TheVariants.{Off, Rule, Unknown}
 use Rattle.mk_class.specs.declared.rule.Separator.{Separator}
 use Rattle.mk_class.specs.declared.rule.Separator.TheVariants.{SingleColon, DoubleColon, GroupedColon, GroupedDoubleColon}
-use Rattle.mk_edit.specs.DirectiveWords.{IsNoHeader, directive-no_header}
 
 -- ---- what the class says
 
@@ -40,72 +40,23 @@ pub record IsHeaderLine (led c : Bool) (cs : List Cell) (us : List (List Cell)) 
   pub not_rough : is_rough joined_byte (head joined_byte us) (header joined_byte us) ≡ false
   pub is : header joined_byte us ≡ h
 
-header-rule_class : (us : List (List Cell)) (h : Headers.Header Cell) → rule_class us ≡ Header h → (is_rough joined_byte (head joined_byte us) (header joined_byte us) ≡ false) × (header joined_byte us ≡ h)
-header-rule_class us h k =
-    let s = separated joined_byte (cut_text joined_byte us) in
-    takes (takes_assignment s.separator) s (assignment joined_byte s.rest) k
-  where
-    own : (b : Bool) → cond b Rough (Header (header joined_byte us)) ≡ Header h → (b ≡ false) × (header joined_byte us ≡ h)
-    own true e = cc
-    own false e = (refl, let q : header joined_byte us ≡ h = cc in q)
-
-    takes : (b : Bool) (s : Separated Cell) (o : Option (Assignment Cell)) → cond b (target_class s o (header_class us)) (header_class us) ≡ Header h
-        → (is_rough joined_byte (head joined_byte us) (header joined_byte us) ≡ false) × (header joined_byte us ≡ h)
-    takes true s None e = own (is_rough joined_byte (head joined_byte us) (header joined_byte us)) e
-    takes true s (Some a) e = absurd (cc)
-    takes false s o e = own (is_rough joined_byte (head joined_byte us) (header joined_byte us)) e
-
 -- a line outside defines and recipes that is of class Header
-pub plain_class-header : (led c : Bool) (cs : List Cell) (us : List (List Cell)) (h : Headers.Header Cell) → plain_class led c cs us ≡ Header h → IsHeaderLine led c cs us h
+pub plain_class-header : (led c : Bool) (cs : List Cell) (us : List (List Cell)) (h : Headers.Header Cell) → plain_class joined_byte led c (is_unreadable cs) us ≡ Header h → IsHeaderLine led c cs us h
 plain_class-header led c cs us h k =
-    blank (is_all_blanks (cut_text joined_byte us)) (is_unreadable cs) refl (assignment joined_byte (cut_text joined_byte us)) (directive c (word_texts joined_byte (cut_text joined_byte us))) refl k
-  where
-    rule : (l n : Bool) → led ≡ l → has_colon joined_byte (head joined_byte us) ≡ n → is_unreadable cs ≡ false → directive c (word_texts joined_byte (cut_text joined_byte us)) ≡ None
-        → cond (l || not n) Opaque (rule_class us) ≡ Header h → IsHeaderLine led c cs us h
-    rule true n e f r d q = absurd (cc)
-    rule false false e f r d q = absurd (cc)
-    rule false true e f r d q = let p = header-rule_class us h q in record { not_led = e; readable = r; undirected = d; colon = f; not_rough = p.0; is = p.1 }
-
-    directed : (d : Option Class) → directive c (word_texts joined_byte (cut_text joined_byte us)) ≡ d → is_unreadable cs ≡ false
-        → or_class d (cond (led || not (has_colon joined_byte (head joined_byte us))) Opaque (rule_class us)) ≡ Header h → IsHeaderLine led c cs us h
-    directed None e r q = rule led (has_colon joined_byte (head joined_byte us)) refl refl r e q
-    directed (Some x) e r q = absurd (subst IsNoHeader q (directive-no_header c (word_texts joined_byte (cut_text joined_byte us)) x e))
-
-    comment : (b : Bool) → cond b Comment Blank ≡ Header h → ⊥
-    comment true e = cc
-    comment false e = cc
-
-    blank : (g r : Bool) → is_unreadable cs ≡ r → (o : Option (Assignment Cell)) (d : Option Class) → directive c (word_texts joined_byte (cut_text joined_byte us)) ≡ d
-        → cond g (cond (any (is_hash joined_byte) us) Comment Blank) (cond r Opaque (assign_class c o (
-        or_class d (cond (led || not (has_colon joined_byte (head joined_byte us))) Opaque (rule_class us))))) ≡ Header h
-        → IsHeaderLine led c cs us h
-    blank true r e o d f q = absurd (comment (any (is_hash joined_byte) us) q)
-    blank false true e o d f q = absurd (cc)
-    blank false false e (Some a) d f q = absurd (cc)
-    blank false false e None d f q = directed d f e q
+    let H = subst (Holds joined_byte us led c (is_unreadable cs)) k (plain_class-holds joined_byte us led c (is_unreadable cs)) in
+    record { not_led = H.rule.not_led; readable = H.rule.readable; undirected = H.rule.undirected; colon = H.rule.colon; not_rough = H.not_rough; is = H.is }
 
 -- where a line is a Header, it stands outside defines and recipes, and so does each line in its place that begins with the same
 -- byte
 pub record IsHeaderRead (led : Bool) (defines : ℕ) (f : Flag) (c : Bool) (cs : List Cell) (us : List (List Cell)) (h : Headers.Header Cell) : Type 0 where
   pub here : IsHeaderLine led c cs us h
-  pub also : (cs' : List Cell) (us' : List (List Cell)) → class_at led defines f c cs' us' ≡ plain_class led c cs' us'
+  pub also : (cs' : List Cell) (us' : List (List Cell)) → class_at joined_byte led defines f c (is_unreadable cs') us' ≡ plain_class joined_byte led c (is_unreadable cs') us'
   pub no_define : defines ≡ 0
 
-not_header-define : (k : Keyword) (n : ℕ) (h : Headers.Header Cell) → define_class k (suc n) ≡ Header h → ⊥
-not_header-define DefineWord n h e = cc
-not_header-define EndefWord zero h e = cc
-not_header-define EndefWord (suc n) h e = cc
-not_header-define IfWord n h e = cc
-not_header-define ElseWord n h e = cc
-not_header-define EndifWord n h e = cc
-not_header-define DirectiveWord n h e = cc
-not_header-define UndefineWord n h e = cc
-not_header-define NoKeyword n h e = cc
-
 -- so it is of each line of class Header
-pub class_at-header : (led : Bool) (n : ℕ) (f : Flag) (c : Bool) (cs : List Cell) (us : List (List Cell)) (h : Headers.Header Cell) → class_at led n f c cs us ≡ Header h → IsHeaderRead led n f c cs us h
+pub class_at-header : (led : Bool) (n : ℕ) (f : Flag) (c : Bool) (cs : List Cell) (us : List (List Cell)) (h : Headers.Header Cell) → class_at joined_byte led n f c (is_unreadable cs) us ≡ Header h → IsHeaderRead led n f c cs us h
 class_at-header true (suc n) f c cs us h k = absurd (cc)
-class_at-header false (suc n) f c cs us h k = absurd (not_header-define (first_keyword (word_texts joined_byte us)) n h k)
+class_at-header false (suc n) f c cs us h k = absurd (said-no_parts (define_class (first_keyword (word_texts joined_byte us)) (suc n)) (Header h) k refl)
 class_at-header true zero Rule c cs us h k = absurd (cc)
 class_at-header true zero Unknown c cs us h k = absurd (cc)
 class_at-header true zero Off c cs us h k = record { here = plain_class-header true c cs us h k; also = λ x y. refl; no_define = refl }
@@ -152,7 +103,7 @@ pub separator-has_colon : (us : List (List Cell)) (s : Separator) → map (symbo
 separator-has_colon us s h = sym (colon-symbols us) ∙ (ap (any is_colon_symbol) h ∙ separator-colon s)
 
 -- units with a `:` are not all blanks
-pub colon-filled : (us : List (List Cell)) → has_colon joined_byte us ≡ true → is_all_blanks us ≡ false
+pub colon-filled : (us : List (List Cell)) → has_colon joined_byte us ≡ true → is_all_blanks joined_byte us ≡ false
 colon-filled [] h = cc
 colon-filled (u ∷ us) h = go (is_gap joined_byte u) refl (λ k. colon-filled us k)
   where
@@ -160,7 +111,7 @@ colon-filled (u ∷ us) h = go (is_gap joined_byte u) refl (λ k. colon-filled u
     rest true e k = cc
     rest false e k = k
 
-    go : (g : Bool) → is_gap joined_byte u ≡ g → (has_colon joined_byte us ≡ true → is_all_blanks us ≡ false) → is_empty (cond g (after_leading (is_gap joined_byte) us) (u ∷ us)) ≡ false
+    go : (g : Bool) → is_gap joined_byte u ≡ g → (has_colon joined_byte us ≡ true → is_all_blanks joined_byte us ≡ false) → is_empty (cond g (after_leading (is_gap joined_byte) us) (u ∷ us)) ≡ false
     go true e k = k (rest (is_colon joined_byte u) (ap is_colon_symbol (gap-no_symbol joined_byte u e)) h)
     go false e k = refl
 
@@ -247,25 +198,25 @@ header_units-head h =
 pub header-cut : (h : Headers.Header Cell) → Each (is_in_head joined_byte) (head_units h) → cut_text joined_byte (header_units h) ≡ head_units h ++ cut_text joined_byte h.tail
 header-cut h i = ap (cut_text joined_byte) (header_units-head h) ∙ leading-all (is_no_hash joined_byte) (head_units h) h.tail (no_hash-each (head_units h) i)
 
-made-class : (led c : Bool) (cs : List Cell) (us : List (List Cell)) (h : Headers.Header Cell) → led ≡ false → is_all_blanks (cut_text joined_byte us) ≡ false → is_unreadable cs ≡ false
+made-class : (led c : Bool) (cs : List Cell) (us : List (List Cell)) (h : Headers.Header Cell) → led ≡ false → is_all_blanks joined_byte (cut_text joined_byte us) ≡ false → is_unreadable cs ≡ false
     → assignment joined_byte (cut_text joined_byte us) ≡ None → directive c (word_texts joined_byte (cut_text joined_byte us)) ≡ None → has_colon joined_byte (head joined_byte us) ≡ true
-    → rule_class us ≡ Header h → plain_class led c cs us ≡ Header h
+    → rule_class joined_byte us ≡ Header h → plain_class joined_byte led c (is_unreadable cs) us ≡ Header h
 made-class led c cs us h a b r n d k e = rw (b, r, n, d, a, k) e
 
 made-rule : (us : List (List Cell)) (h : Headers.Header Cell) → assignment joined_byte (separated joined_byte (cut_text joined_byte us)).rest ≡ None
-    → is_rough joined_byte (head joined_byte us) (header joined_byte us) ≡ false → header joined_byte us ≡ h → rule_class us ≡ Header h
+    → is_rough joined_byte (head joined_byte us) (header joined_byte us) ≡ false → header joined_byte us ≡ h → rule_class joined_byte us ≡ Header h
 made-rule us h n r e = let s = separated joined_byte (cut_text joined_byte us) in go (takes_assignment s.separator) s (assignment joined_byte s.rest) n
   where
     own : cond (is_rough joined_byte (head joined_byte us) (header joined_byte us)) Rough (Header (header joined_byte us)) ≡ Header h
     own = ap (λ b. cond b Rough (Header (header joined_byte us))) r ∙ ap (λ z. Header z) e
 
-    go : (b : Bool) (s : Separated Cell) (o : Option (Assignment Cell)) → o ≡ None → cond b (target_class s o (header_class us)) (header_class us) ≡ Header h
+    go : (b : Bool) (s : Separated Cell) (o : Option (Assignment Cell)) → o ≡ None → cond b (target_class s o (header_class joined_byte us)) (header_class joined_byte us) ≡ Header h
     go true s None q = own
     go true s (Some a) q = absurd (cc)
     go false s o q = own
 
 -- such a line is of class Header
-pub made-header : (c : Bool) (cs : List Cell) (h : Headers.Header Cell) → MakeHeader c cs h → plain_class false c cs (header_units h) ≡ Header h
+pub made-header : (c : Bool) (cs : List Cell) (h : Headers.Header Cell) → MakeHeader c cs h → plain_class joined_byte false c (is_unreadable cs) (header_units h) ≡ Header h
 made-header c cs h m =
     let f = m.fits in
     let us = header_units h in
@@ -287,7 +238,7 @@ made-header c cs h m =
     let rough : is_rough joined_byte (head joined_byte us) (header joined_byte us) ≡ false =
     ap (λ z. is_rough joined_byte z (header joined_byte us)) whole ∙ (ap (λ z. is_rough joined_byte H z) again ∙ (ap (λ z. z || is_rough_made h) m.units_readable ∙ m.not_rough)) in
     made-class false c cs us h refl
-    (ap is_all_blanks cut ∙ colon-filled (H ++ K) (any-before (is_colon joined_byte) H K colon)) m.readable
+    (ap (is_all_blanks joined_byte) cut ∙ colon-filled (H ++ K) (any-before (is_colon joined_byte) H K colon)) m.readable
     (ap (assignment joined_byte) cut ∙ no_assignment-head joined_byte H K equals follows)
     m.undirected (ap (has_colon joined_byte) whole ∙ colon)
     (made-rule us h target rough again)

@@ -24,7 +24,7 @@ use Rattle.mk_class.specs.HeaderLaws.{header_units, header-whole}
 use Rattle.mk_class.specs.HeadersAgain.{FitsHeader, FitsPattern, FitsBar, head_units, after_separator, prerequisite_units, separator_symbols}
 use Rattle.mk_class.specs.HeaderFitsLaws.{header-fits}
 use Rattle.mk_class.specs.Classes.Class.{Header}
-use Rattle.mk_class.specs.ClassTable.{directive, plain_class}
+use Rattle.mk_class.specs.ClassTable.{is_unreadable, directive, plain_class}
 use Rattle.mk_class.specs.ClassLaws.{has_stray-append, has_stray-left, has_stray-right}
 use Rattle.mk_class.specs.declared.rule.Separator.{Separator}
 use Rattle.mk_class.specs.declared.rule.Separator.TheVariants.{SingleColon, DoubleColon, GroupedColon, GroupedDoubleColon}
@@ -355,7 +355,7 @@ changed-undirected c h T N B O k f a d =
 
 -- The line with other parts is of class Header with these parts, where its cells are cells that a line may have.
 pub changed-header : (c : Bool) (cs : List Cell) (h : Headers.Header Cell) (T N B O : List (List Cell)) → HeaderKnown c cs h → FitIn h T N B O → AreLineCells (concat (header_units (with_parts h T N B O)))
-    → plain_class false c (concat (header_units (with_parts h T N B O))) (units joined_byte (concat (header_units (with_parts h T N B O)))) ≡ Header (with_parts h T N B O)
+    → plain_class joined_byte false c (is_unreadable (concat (header_units (with_parts h T N B O)))) (units joined_byte (concat (header_units (with_parts h T N B O)))) ≡ Header (with_parts h T N B O)
 changed-header c cs h T N B O k f a =
     let g = with_parts h T N B O in
     let all = changed-head h T N B O k.head f in
@@ -378,4 +378,4 @@ changed-header c cs h T N B O k f a =
           (or-both_false (has_second_bar joined_byte g) (has_pattern_amiss joined_byte g) (part-any_bar O f.order_only) k.pattern_one)));
       undirected = changed-undirected c h T N B O k.fits fits f.alike k.undirected;
     } in
-    ap (plain_class false c (concat (header_units g))) again ∙ made-header c (concat (header_units g)) g m
+    ap (plain_class joined_byte false c (is_unreadable (concat (header_units g)))) again ∙ made-header c (concat (header_units g)) g m

@@ -57,11 +57,11 @@ use Rattle.mk_edit.specs.SpansRise.{RisesInAssignment, set-rises, append-rises, 
 use Rattle.mk_edit.specs.KeptLines.{AreOthersKept, replaced-kept, stretch-kept, new_line-kept}
 
 -- a class of no conditional
-unconditional-class : (k m : Class) → k ≡ m → not (is_conditional m) ≡ true → not (is_conditional k) ≡ true
+unconditional-class : (k m : Class Cell) → k ≡ m → not (is_conditional m) ≡ true → not (is_conditional k) ≡ true
 unconditional-class k m h u = ap (λ z. not (is_conditional z)) h ∙ u
 
 -- a line after which the context agrees with that before it but for the flag
-agrees-last : (A : List ClassedLine) (l : ClassedLine) (k : Class) → l.class ≡ k → AgreeButForFlag (context_of A) (context_after (context_of A) k) → AgreeButForFlag (context_of A) (context_of (A ++ l ∷ []))
+agrees-last : (A : List ClassedLine) (l : ClassedLine) (k : Class Cell) → l.class ≡ k → AgreeButForFlag (context_of A) (context_after (context_of A) k) → AgreeButForFlag (context_of A) (context_of (A ++ l ∷ []))
 agrees-last A l k h g = subst (AgreeButForFlag (context_of A)) (sym (context_of-last A l ∙ ap (context_after (context_of A)) h)) g
 
 -- ---- an assignment taken out
@@ -130,7 +130,7 @@ value-keeps t n nth e rs f i F g h w r q c z =
     let s = F.spot in
     let at = length (text_of s.above) in
     let x : assignment_span f at s.line.class ≡ rs = subst (λ (o : Option Spot). where_found (value_span f) o ≡ rs) F.found_is w in
-    let y : f at F.assigned ∷ [] ≡ rs = subst (λ (k : Class). assignment_span f at k ≡ rs) F.class_is x in
+    let y : f at F.assigned ∷ [] ≡ rs = subst (λ (k : Class Cell). assignment_span f at k ≡ rs) F.class_is x in
     replaced-kept t e rs s i h F.whole (replaced-same _ _ s.above s.below i i (ap (replaced 0 t) y) refl r) (subst (Rise at (at + length s.line.bytes)) x (value-rises t s f F.whole g)) q c z
     (unconditional-class s.line.class (Class.Assign F.assigned None) F.class_is refl)
 
@@ -207,7 +207,7 @@ undepend-keeps nth g w t rs h =
 -- ---- a new line at a place
 
 -- a line that can stand there
-added-keeps : (t : List ℕ) (e : Edit) (rs : List Replacement) (s : Stretch) (x : List ℕ) (k : Class) → spans t e ≡ Ok rs → insertion (classed_lines t) e ≡ Some s → new_line_span t e s ≡ rs
+added-keeps : (t : List ℕ) (e : Edit) (rs : List Replacement) (s : Stretch) (x : List ℕ) (k : Class Cell) → spans t e ≡ Ok rs → insertion (classed_lines t) e ≡ Some s → new_line_span t e s ≡ rs
     → new_text (context_of s.above).prefix e ≡ x → StandsAt t s x k → 1 ≤ cost t e → not (is_conditional k) ≡ true → AreOthersKept t e rs
 added-keeps t e rs s x k h i y n S c u =
     let E = file_line_end t in

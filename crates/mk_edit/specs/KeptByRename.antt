@@ -1,7 +1,7 @@
 -- A rename leaves the lines that hold no word which it replaces.
 use Rattle.std.proofs.Common.{◌≡◌, refl, sym, ap, ◌∙◌, subst, arith, ℕ, List, [], ◌∷◌, ◌++◌, map, Bool, false, length, length-append, ◌+◌}
 use Rattle.std.specs.Prelude.{Ok}
-use Rattle.mk_lines.specs.Cells.{raw_text}
+use Rattle.mk_lines.specs.Cells.{Cell, raw_text}
 use Rattle.mk_lines.specs.Pieces.{Replacement, Piece, Keep, Replace, old_bytes, new_bytes, replacements, replaced}
 use Rattle.mk_class.specs.Lists.{any}
 use Rattle.mk_class.specs.Classes.{Class}
@@ -57,12 +57,12 @@ unreplaced-spans at (Replace cs v ∷ ps) h = cc
 
 -- ---- lines with their pieces replaced
 
-same-line : (l : ClassedLine) (m : List ℕ) (k : Class) → m ≡ l.bytes → k ≡ l.class → record { bytes = m; class = k } ≡ l
+same-line : (l : ClassedLine) (m : List ℕ) (k : Class Cell) → m ≡ l.bytes → k ≡ l.class → record { bytes = m; class = k } ≡ l
 same-line l m k h q =
-    let f : List ℕ → Class → ClassedLine = λ b c. record { bytes = b; class = c } in
+    let f : List ℕ → Class Cell → ClassedLine = λ b c. record { bytes = b; class = c } in
     ap (λ z. f z k) h ∙ ap (f l.bytes) q
 
-module _ (f : ClassedLine → List Piece) (k : ClassedLine → Class) where
+module _ (f : ClassedLine → List Piece) (k : ClassedLine → Class Cell) where
   pieces-differ : (c : Context) (ls : List ClassedLine) → BeginWithPieces f ls → ReplaceEach c ls (map (with_pieces f k) ls) [] → ReplaceEach c ls ls []
       → DifferWhere (λ l. any is_replaced (f l)) ls (map (with_pieces f k) ls)
   pieces-differ c [] b r s = tt
@@ -91,7 +91,7 @@ pub rename-keeps : (o n t : List ℕ) (rs : List Replacement) → spans t (Renam
 rename-keeps o n t rs h =
     let ls = classed_lines t in
     let f : ClassedLine → List Piece = λ l. renamed_pieces o n l.class in
-    let k : ClassedLine → Class = λ l. renamed_class o n l.class in
+    let k : ClassedLine → Class Cell = λ l. renamed_class o n l.class in
     let A = accepted t (RenameTarget o n) rs h in
     let W = rename-words o n t rs h in
     let L = lines-renamed o n W.new W.renamed t (where_holds-none _ _ A.not_led) in

@@ -215,8 +215,8 @@ backslash-is_value : AreValue joined_byte ((Byte 92 ∷ []) ∷ []) []
 backslash-is_value = record { begins = refl; ends = refl; blanks_after = tt; empty = λ e. absurd (cc) }
 
 -- the class of cells in a context, as prefix-led or not
-abbrev read : Context → Bool → List Cell → Class
-read c led cs = class_at led c.defines c.flag (nat_lt 0 c.conditionals) cs (units joined_byte cs)
+abbrev read : Context → Bool → List Cell → Class Cell
+read c led cs = class_at joined_byte led c.defines c.flag (nat_lt 0 c.conditionals) (is_unreadable cs) (units joined_byte cs)
 
 -- Cells up to the first `=` of an assignment, then blanks and folds and a lone backslash: it is that assignment with this value.
 backslash-assigned : (l : List ℕ) (a : Assignment Cell) (p : AssignParts l a) (h : HasEquals joined_byte a) (bs : List Cell) → Each is_blank_cell bs
@@ -254,7 +254,7 @@ record IsLeftLine (c : Context) (a : Assignment Cell) : Type 0 where
 
 -- the class of a line of other cells, which begins with the same byte
 class-of_cells : (c : Context) (led : Bool) (l m : List ℕ) (C : List Cell) (b : Assignment Cell) → l ≡ m → is_prefix_led c.prefix m ≡ led → line_cells m ≡ C
-    → read c led C ≡ plain_class led (nat_lt 0 c.conditionals) C (units joined_byte C) → IsAssignLine C (units joined_byte C) b
+    → read c led C ≡ plain_class joined_byte led (nat_lt 0 c.conditionals) (is_unreadable C) (units joined_byte C) → IsAssignLine C (units joined_byte C) b
     → class_of c l ≡ Assign b (prefix_set_by joined_byte (nat_lt 0 c.conditionals) b)
 class-of_cells c led l m C b e h k also is =
     ap (class_of c) e ∙ (ap (λ z. read c z (line_cells m)) h ∙ (ap (λ z. read c led z) k ∙ (also ∙ assign-plain_class led (nat_lt 0 c.conditionals) C (units joined_byte C) b is)))
@@ -268,7 +268,7 @@ line-left c l a sets y h n =
     (or-left_false (has_stray (line_cells l)) _ i.readable) (λ C. r.also C (units joined_byte C)) n
   where
     left : (c : Context) (l : List ℕ) (a : Assignment Cell) (y : List ℕ) → (p : AssignParts l a) → (q : HasEquals joined_byte a) → has_stray (line_cells l) ≡ false
-        → ((C : List Cell) → read c (is_prefix_led c.prefix l) C ≡ plain_class (is_prefix_led c.prefix l) (nat_lt 0 c.conditionals) C (units joined_byte C))
+        → ((C : List Cell) → read c (is_prefix_led c.prefix l) C ≡ plain_class joined_byte (is_prefix_led c.prefix l) (nat_lt 0 c.conditionals) (is_unreadable C) (units joined_byte C))
         → raw_text (concat (before_value a)) ≡ y ++ 10 ∷ [] → IsLeftLine c a
     left c l a y p q clean also n =
         let P = concat (before_value a) in

@@ -1,6 +1,7 @@
 -- Laws of edits, each the contract of a public function.
 use Rattle.std.specs.Prelude.{◌≡◌, ℕ, List, ◌∷◌, ◌++◌, Option, Some, Ok, Err}
 use Rattle.mk_lines.specs.Pieces.{Replacement}
+use Rattle.mk_lines.specs.Cells.{Cell}
 use Rattle.mk_class.specs.declared.assignment.Flavor.{Flavor}
 use Rattle.mk_tree.specs.Readings.{reading}
 use Rattle.mk_edit.specs.Edits.{Place, Edit, SetValue, AppendValue, AddAssign, RemoveAssign, AddRule, RemoveRule, AddRecipe, SetRecipe, RemoveRecipe}
@@ -73,5 +74,5 @@ RefusedChangesNothing = (edit : Edit) (text : List ℕ) (refusal : Refusal) → 
 abbrev pub NewAssignmentsStand : Type 0
 NewAssignmentsStand = (place : Place) (name : List ℕ) (flavor : Flavor) (value text : List ℕ) (replacements : List Replacement) (stretch : Stretch)
     → spans text (AddAssign place name flavor value) ≡ Ok replacements → place_found (classed_lines text) place ≡ Some stretch
-    → (class : Class) × (classed_lines (text_after text (AddAssign place name flavor value))
+    → (class : Class Cell) × (classed_lines (text_after text (AddAssign place name flavor value))
     ≡ above_ended (file_line_end text) stretch.above stretch.below ++ record { bytes = assign_text name flavor value ++ line_end_bytes (file_line_end text); class = class } ∷ stretch.below)

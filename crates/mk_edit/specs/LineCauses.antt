@@ -2,7 +2,7 @@
 use Rattle.std.specs.Prelude.{ℕ, Bool, false, not, ◌&&◌, ◌||◌, nat_lt, List, ◌++◌, length, Option, Some, None}
 use Rattle.mk_lines.specs.Lists.{concat}
 use Rattle.mk_lines.specs.LogicalLines.{is_open}
-use Rattle.mk_lines.specs.Cells.{joined_byte}
+use Rattle.mk_lines.specs.Cells.{Cell, joined_byte}
 use Rattle.mk_lines.specs.Units.{is_closed}
 use Rattle.mk_lines.specs.Pieces.{Replacement, replaced}
 use Rattle.mk_class.specs.Lists.{is_empty, last_passes}
@@ -24,7 +24,7 @@ use Rattle.mk_edit.specs.declared.refusal.Refusal.TheVariants.{OpenValue, OpenLi
 -- ---- OpenValue: the value to append to is not closed
 
 -- whether an assignment is found and its value is not closed
-abbrev pub has_open_value : Option Class → Bool
+abbrev pub has_open_value : Option (Class Cell) → Bool
 has_open_value (Some (Assign a p)) = not (is_closed joined_byte (concat a.value))
 has_open_value k = false
 

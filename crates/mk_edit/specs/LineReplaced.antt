@@ -1,6 +1,7 @@
 -- A text after an edit of one line: the other lines stay, each with its class, and what it reads as.
 use Rattle.std.proofs.Common.{◌≡◌, ap, ◌∙◌, subst, ℕ, List, [], ◌∷◌, ◌++◌, not, true}
 use Rattle.mk_lines.specs.LineLaws.{OneLine, EndsBefore}
+use Rattle.mk_lines.specs.Cells.{Cell}
 use Rattle.mk_class.specs.Classes.{Class, is_conditional}
 use Rattle.mk_class.specs.Contexts.{context_after}
 use Rattle.mk_class.specs.ClassTable.{class_of}
@@ -19,7 +20,7 @@ pub record IsLineReplaced (t : List ℕ) (above below : List ClassedLine) (i : I
   pub reads : reading t ≡ items above ++ i ∷ items below
 
 -- another line, after which the context is as before, in the place of one
-pub replaced-line : (t : List ℕ) (above : List ClassedLine) (l : ClassedLine) (below : List ClassedLine) (m : List ℕ) (k : Class) (i : Item) → classed_lines t ≡ above ++ l ∷ below
+pub replaced-line : (t : List ℕ) (above : List ClassedLine) (l : ClassedLine) (below : List ClassedLine) (m : List ℕ) (k : Class Cell) (i : Item) → classed_lines t ≡ above ++ l ∷ below
     → OneLine m → EndsBefore m (bytes_of below) → class_of (context_of above) m ≡ k → context_after (context_of above) k ≡ context_after (context_of above) l.class
     → not (is_conditional k) ≡ true → items_of_line k m ≡ i ∷ [] → IsLineReplaced (text_of above ++ (m ++ text_of below)) above below i
 replaced-line t above l below m k i h o ends q same u read =

@@ -27,7 +27,7 @@ use Rattle.mk_class.specs.RecipePrefix.{is_prefix_led, is_prefix_name, prefix_se
 use Rattle.mk_class.specs.Arguments.{is_barred_byte, is_backslash_byte, is_blank_byte, is_clean, is_name, is_value}
 use Rattle.mk_class.specs.Classes.{Class}
 use Rattle.mk_class.specs.Contexts.{Context}
-use Rattle.mk_class.specs.ClassTable.{class_of, class_at}
+use Rattle.mk_class.specs.ClassTable.{is_unreadable, class_of, class_at}
 use Rattle.mk_class.specs.ClassLaws.{IsAssignLine, assign-plain_class, assignment-filled}
 use Rattle.mk_class.specs.ClassedLines.{classed_lines}
 use Rattle.mk_class.specs.declared.assignment.Flavor.{Flavor}
@@ -316,8 +316,8 @@ not-false true h = cc
 not-false false h = refl
 
 -- the class of the cells of a line in a context, as prefix-led or not
-abbrev read : Context → Bool → List Cell → Class
-read c led cs = class_at led c.defines c.flag (nat_lt 0 c.conditionals) cs (units joined_byte cs)
+abbrev read : Context → Bool → List Cell → Class Cell
+read c led cs = class_at joined_byte led c.defines c.flag (nat_lt 0 c.conditionals) (is_unreadable cs) (units joined_byte cs)
 
 new-class : (c : Context) (b : ℕ) (n : List ℕ) (f : Flavor) (v m : List ℕ) → c.defines ≡ 0 → AreNameBytes (b ∷ n) → AreValueUnits v
     → line_cells m ≡ map Byte (assign_text (b ∷ n) f v) → is_prefix_led c.prefix m ≡ false
@@ -335,7 +335,7 @@ new-class c b n f v m d h k e p =
     } in
     ap (λ z. read c z (line_cells m)) p
     ∙ (ap (λ z. read c false z) e
-    ∙ (ap (λ z. class_at false z c.flag (nat_lt 0 c.conditionals) (map Byte x) (units joined_byte (map Byte x))) d
+    ∙ (ap (λ z. class_at joined_byte false z c.flag (nat_lt 0 c.conditionals) (is_unreadable (map Byte x)) (units joined_byte (map Byte x))) d
     ∙ assign-plain_class false (nat_lt 0 c.conditionals) (map Byte x) (units joined_byte (map Byte x)) a is))
 
 -- ---- the law
@@ -420,7 +420,7 @@ some-same x y h = cc
 
 -- the lines after it
 pub assign-lines : (p : Place) (n : List ℕ) (f : Flavor) (v t : List ℕ) (rs : List Replacement) (s : Stretch) → spans t (AddAssign p n f v) ≡ Ok rs → place_found (classed_lines t) p ≡ Some s
-    → (k : Class) × (classed_lines (text_after t (AddAssign p n f v)) ≡ above_ended (file_line_end t) s.above s.below ++ record { bytes = assign_text n f v ++ line_end_bytes (file_line_end t); class = k } ∷ s.below)
+    → (k : Class Cell) × (classed_lines (text_after t (AddAssign p n f v)) ≡ above_ended (file_line_end t) s.above s.below ++ record { bytes = assign_text n f v ++ line_end_bytes (file_line_end t); class = k } ∷ s.below)
 assign-lines p [] f v t rs s h e = absurd (no_name p f v t rs h)
 assign-lines p (b ∷ n) f v t rs s h e =
     let S = accepted-stands t p b n f v rs h in

@@ -4,6 +4,7 @@ use Rattle.mk_lines.specs.PhysicalLines.{line_end_bytes, file_line_end}
 use Rattle.mk_lines.specs.LogicalLines.{is_open}
 use Rattle.mk_lines.specs.LineEndAdded.{IsEnded}
 use Rattle.mk_lines.specs.Pieces.{replaced}
+use Rattle.mk_lines.specs.Cells.{Cell}
 use Rattle.mk_class.specs.Lists.{is_empty, last_passes}
 use Rattle.mk_class.specs.Classes.{Class}
 use Rattle.mk_class.specs.Contexts.{context_after, flag_after}
@@ -21,7 +22,7 @@ use Rattle.mk_edit.specs.Stretches.{Stretch}
 use Rattle.mk_edit.specs.NewLines.{new_text, new_line_span}
 
 -- a text, with the file's line end, that can stand as a line of a class at a stretch
-pub record StandsAt (t : List ℕ) (s : Stretch) (x : List ℕ) (k : Class) : Type 0 where
+pub record StandsAt (t : List ℕ) (s : Stretch) (x : List ℕ) (k : Class Cell) : Type 0 where
   pub whole : classed_lines t ≡ s.above ++ s.below
   pub not_open : (is_empty s.below && last_passes (λ l. is_open l.bytes) s.above) ≡ false
   pub ended : IsEnded x (file_line_end t)
@@ -39,13 +40,13 @@ pub stands-span : (t : List ℕ) (e : Edit) (s : Stretch) (x : List ℕ) → new
 stands-span t e s x n = ap (with_line t s) n
 
 -- its reading gets the item of the line
-pub stands-reading : (t : List ℕ) (s : Stretch) (x : List ℕ) (k : Class) → StandsAt t s x k
+pub stands-reading : (t : List ℕ) (s : Stretch) (x : List ℕ) (k : Class Cell) → StandsAt t s x k
     → reading (with_line t s x) ≡ items s.above ++ (items_of_line k (x ++ line_end_bytes (file_line_end t)) ++ items s.below)
 stands-reading t s x k h =
     reading-line_added t s.above s.below x (file_line_end t) k h.whole h.not_open (file_line_end-some t) h.ended h.class h.agrees h.not_leaning
 
 -- the line stands among the others, which keep their classes; the last above it gets a line end where none is below and it has none
-pub stands-lines : (t : List ℕ) (s : Stretch) (x : List ℕ) (k : Class) → StandsAt t s x k
+pub stands-lines : (t : List ℕ) (s : Stretch) (x : List ℕ) (k : Class Cell) → StandsAt t s x k
     → classed_lines (with_line t s x) ≡ above_ended (file_line_end t) s.above s.below ++ record { bytes = x ++ line_end_bytes (file_line_end t); class = k } ∷ s.below
 stands-lines t s x k h =
     ap classed_lines (text-inserted t s.above s.below (missing_line_end (file_line_end t) s.above s.below ++ (x ++ line_end_bytes (file_line_end t))) h.whole)

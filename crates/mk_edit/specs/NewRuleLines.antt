@@ -368,22 +368,22 @@ takes Two = refl
 
 -- the class of a line outside defines that does not begin with the prefix: `z` is its cut text, `b` says whether its head has a
 -- `:`, and `r` is the class of such a line
-abbrev plain_by : Bool → List Cell → (us z : List (List Cell)) → (b : Bool) → (r : Class) → Class
+abbrev plain_by : Bool → List Cell → (us z : List (List Cell)) → (b : Bool) → (r : Class Cell) → Class Cell
 plain_by d cs us z b r =
-    cond (is_all_blanks z) (cond (any (is_hash joined_byte) us) Class.Comment Class.Blank) (
+    cond (is_all_blanks joined_byte z) (cond (any (is_hash joined_byte) us) Class.Comment Class.Blank) (
     cond (is_unreadable cs) Class.Opaque (
-    assign_class d (assignment joined_byte z) (or_class (directive d (word_texts joined_byte z)) (cond (not b) Class.Opaque r))))
+    assign_class joined_byte d (assignment joined_byte z) (or_class (directive d (word_texts joined_byte z)) (cond (not b) Class.Opaque r))))
 
-plain-rule_class : (d : Bool) (cs : List Cell) (us z : List (List Cell)) (b : Bool) (r : Class) → is_all_blanks z ≡ false → is_unreadable cs ≡ false → assignment joined_byte z ≡ None
+plain-rule_class : (d : Bool) (cs : List Cell) (us z : List (List Cell)) (b : Bool) (r : Class Cell) → is_all_blanks joined_byte z ≡ false → is_unreadable cs ≡ false → assignment joined_byte z ≡ None
     → directive d (word_texts joined_byte z) ≡ None → b ≡ true → plain_by d cs us z b r ≡ r
 plain-rule_class d cs us z b r h i j k l = rw (h, i, j, k, l) refl
 
-plain-cut : (d : Bool) (cs : List Cell) (us : List (List Cell)) → plain_class false d cs us ≡ plain_by d cs us (cut_text joined_byte us) (has_colon joined_byte (head joined_byte us)) (rule_class us)
+plain-cut : (d : Bool) (cs : List Cell) (us : List (List Cell)) → plain_class joined_byte false d (is_unreadable cs) us ≡ plain_by d cs us (cut_text joined_byte us) (has_colon joined_byte (head joined_byte us)) (rule_class joined_byte us)
 plain-cut d cs us = refl
 
 -- the class of its units, outside defines
 rule-plain_class : (t : List ℕ) (ts : List (List ℕ)) (c : Colons) (ws : List (List ℕ)) (d : Bool) (cs : List Cell) → AreRuleWords t ts ws → is_unreadable cs ≡ false
-    → plain_class false d cs (rule_units_of t ts c ws) ≡ HeaderLine (new_rule t ts c ws)
+    → plain_class joined_byte false d (is_unreadable cs) (rule_units_of t ts c ws) ≡ HeaderLine (new_rule t ts c ws)
 rule-plain_class t ts c ws d cs W r =
     let X = token_units (target_tokens t ts) in
     let N = token_units (spaced_tokens ws) in
@@ -396,7 +396,7 @@ rule-plain_class t ts c ws d cs W r =
     ap (leading (is_no_hash joined_byte)) (sym (append-nil us)) ∙ leading-append_all (is_no_hash joined_byte) us [] (three-each (is_no_hash joined_byte) X (colon_units c) N x.no_hash (colons-no_hash c) n.no_hash) tt in
     let front : head joined_byte us ≡ us =
     ap (leading (is_in_head joined_byte)) (sym (append-nil us)) ∙ leading-append_all (is_in_head joined_byte) us [] F.in_head tt in
-    let filled : is_all_blanks us ≡ false =
+    let filled : is_all_blanks joined_byte us ≡ false =
     ap (λ z. is_empty (after_leading (is_gap joined_byte) z)) (append_assoc (cell_units t) (token_units (spaced_tokens ts)) (colon_units c ++ (N ++ [])))
     ∙ first-no_gap (cell_units t) (token_units (spaced_tokens ts) ++ (colon_units c ++ (N ++ []))) W.first.word in
     let none : assignment joined_byte us ≡ None = no_assignment joined_byte us (three-each (is_no_equals joined_byte) X (colon_units c) N x.no_equals (colons-no_equals c) n.no_equals) in
@@ -407,15 +407,15 @@ rule-plain_class t ts c ws d cs W r =
     separated-again joined_byte (separator_of c) X (colon_units c) (N ++ []) F.no_colon F.targets_apart F.colons_are F.rest_apart in
     let rest : assignment joined_byte (N ++ []) ≡ None = no_assignment joined_byte (N ++ []) (Each-append (is_no_equals joined_byte) N [] n.no_equals tt) in
     let whole : header joined_byte us ≡ h = header-again joined_byte h F in
-    let class : header_class us ≡ HeaderLine h =
+    let class : header_class joined_byte us ≡ HeaderLine h =
     ap (λ z. cond (is_rough joined_byte z (header joined_byte us)) Class.Rough (HeaderLine (header joined_byte us))) front
     ∙ (ap (λ z. cond (is_rough joined_byte us z) Class.Rough (HeaderLine z)) whole
     ∙ ap (λ z. cond z Class.Rough (HeaderLine h)) (rule-not_rough t ts c ws W)) in
-    let rule : rule_class us ≡ HeaderLine h =
-    ap (λ z. separated_class (separated joined_byte z) us) cut ∙ (ap (λ z. separated_class z us) apart ∙ rw (takes c, rest) class) in
+    let rule : rule_class joined_byte us ≡ HeaderLine h =
+    ap (λ z. separated_class joined_byte (separated joined_byte z) us) cut ∙ (ap (λ z. separated_class joined_byte z us) apart ∙ rw (takes c, rest) class) in
     plain-cut d cs us
-    ∙ (ap (λ z. plain_by d cs us z (has_colon joined_byte (head joined_byte us)) (rule_class us)) cut
-    ∙ (plain-rule_class d cs us us (has_colon joined_byte (head joined_byte us)) (rule_class us) filled r none plain (ap (has_colon joined_byte) front ∙ colon) ∙ rule))
+    ∙ (ap (λ z. plain_by d cs us z (has_colon joined_byte (head joined_byte us)) (rule_class joined_byte us)) cut
+    ∙ (plain-rule_class d cs us us (has_colon joined_byte (head joined_byte us)) (rule_class joined_byte us) filled r none plain (ap (has_colon joined_byte) front ∙ colon) ∙ rule))
 
 -- What a new rule is: a text that a line may have, and, with a line end, a line of class Header outside defines, unless it
 -- begins with the prefix; and its item has the words.
@@ -460,10 +460,10 @@ not-line_end : (b : Bool) → not b ≡ true → b ≡ false
 not-line_end true h = cc
 not-line_end false h = refl
 
-outside : (c : Context) (l : List ℕ) (k : Class) → c.defines ≡ 0 → is_prefix_led c.prefix l ≡ false → plain_class false (nat_lt 0 c.conditionals) (line_cells l) (units joined_byte (line_cells l)) ≡ k → class_of c l ≡ k
+outside : (c : Context) (l : List ℕ) (k : Class Cell) → c.defines ≡ 0 → is_prefix_led c.prefix l ≡ false → plain_class joined_byte false (nat_lt 0 c.conditionals) (is_unreadable (line_cells l)) (units joined_byte (line_cells l)) ≡ k → class_of c l ≡ k
 outside c l k d p h = rw (d, p) (go c.flag)
   where
-    go : (f : Flag) → undefined_class false f (nat_lt 0 c.conditionals) (line_cells l) (units joined_byte (line_cells l)) ≡ k
+    go : (f : Flag) → undefined_class joined_byte false f (nat_lt 0 c.conditionals) (is_unreadable (line_cells l)) (units joined_byte (line_cells l)) ≡ k
     go Off = h
     go Rule = h
     go Unknown = h
@@ -488,8 +488,8 @@ new_rule-is t ts c ws W =
           ∙ (led-longer C.prefix t (each_spaced ts ++ (colons_text c ++ each_spaced ws)) (line_end_bytes e) W.first.filled
           ∙ (ap (is_prefix_led C.prefix) (sym split) ∙ p)) in
           outside C l (HeaderLine (new_rule t ts c ws)) d led (
-          ap (λ z. plain_class false (nat_lt 0 C.conditionals) z (units joined_byte z)) text
-          ∙ (ap (plain_class false (nat_lt 0 C.conditionals) (map Byte s)) (line-units t ts c ws W.first W.others W.prereqs)
+          ap (λ z. plain_class joined_byte false (nat_lt 0 C.conditionals) (is_unreadable z) (units joined_byte z)) text
+          ∙ (ap (plain_class joined_byte false (nat_lt 0 C.conditionals) (is_unreadable (map Byte s))) (line-units t ts c ws W.first W.others W.prereqs)
           ∙ rule-plain_class t ts c ws (nat_lt 0 C.conditionals) (map Byte s) W readable));
       item = rw (
         tokens-token_units joined_byte (target_tokens t ts) (targets-are_tokens t ts W.first W.others),

@@ -59,7 +59,7 @@ set-can_begin c a b h = go (is_read_for_prefix joined_byte c a) h
     go false k = absurd (cc)
 
 -- the prefix after a line
-after-can_begin : (c : Context) (l : List ℕ) (k : Class) → class_of c l ≡ k → CanBegin c.prefix → CanBegin (prefix_after c.prefix k)
+after-can_begin : (c : Context) (l : List ℕ) (k : Class Cell) → class_of c l ≡ k → CanBegin c.prefix → CanBegin (prefix_after c.prefix k)
 after-can_begin c l (Assign a (Some b)) h p = set-can_begin (nat_lt 0 c.conditionals) a b (sym (prefix-of_class c l a (Some b) h))
 after-can_begin c l (Assign a None) h p = p
 after-can_begin c l Endef h p = p

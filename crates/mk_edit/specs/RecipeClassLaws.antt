@@ -11,132 +11,52 @@ use Rattle.mk_class.specs.Assignments.{Assignment, assignment}
 use Rattle.mk_class.specs.Separators.{Separated, separated, has_colon, takes_assignment}
 use Rattle.mk_class.specs.Headers.{header, is_rough}
 use Rattle.mk_class.specs.Keywords.{Keyword, DefineWord, EndefWord, IfWord, ElseWord, EndifWord, DirectiveWord, UndefineWord, NoKeyword, first_keyword, after_modifiers}
-use Rattle.mk_class.specs.Classes.{Class, is_recipe}
+use Rattle.mk_class.specs.Classes.{Said, class_said, Class, is_recipe}
 use Rattle.mk_class.specs.Classes.Class.{Opaque, Blank, Comment, Rough, Header}
 use Rattle.mk_class.specs.RecipePrefix.{is_prefix_led}
 use Rattle.mk_class.specs.Contexts.{Context}
-use Rattle.mk_class.specs.ClassTable.{class_of, class_at, define_class, directive_by, header_class, target_class, rule_class, assign_class, or_class, is_all_blanks, is_unreadable, plain_class}
+use Rattle.mk_class.specs.ClassTable.{class_of, class_at, define_class, header_class, target_class, rule_class, assign_class, or_class, is_all_blanks, is_unreadable, plain_class, directive}
 use Rattle.mk_class.specs.declared.context.Flag.{Flag}
 use Rattle.mk_class.specs.declared.context.Flag.TheVariants.{Off, Rule, Unknown}
 
-not_recipe-cond : (b : Bool) (x y : Class) → is_recipe x ≡ false → is_recipe y ≡ false → is_recipe (cond b x y) ≡ false
+not_recipe-cond : (b : Bool) (x y : Class Cell) → is_recipe x ≡ false → is_recipe y ≡ false → is_recipe (cond b x y) ≡ false
 not_recipe-cond true x y h k = h
 not_recipe-cond false x y h k = k
 
-not_recipe-assign : (c : Bool) (a : Option (Assignment Cell)) (k : Class) → is_recipe k ≡ false → is_recipe (assign_class c a k) ≡ false
+not_recipe-assign : (c : Bool) (a : Option (Assignment Cell)) (k : Class Cell) → is_recipe k ≡ false → is_recipe (assign_class joined_byte c a k) ≡ false
 not_recipe-assign c None k h = h
 not_recipe-assign c (Some a) k h = refl
 
-not_recipe-target : (s : Separated Cell) (a : Option (Assignment Cell)) (k : Class) → is_recipe k ≡ false → is_recipe (target_class s a k) ≡ false
+not_recipe-target : (s : Separated Cell) (a : Option (Assignment Cell)) (k : Class Cell) → is_recipe k ≡ false → is_recipe (target_class s a k) ≡ false
 not_recipe-target s None k h = h
 not_recipe-target s (Some a) k h = refl
 
-not_recipe-rule : (us : List (List Cell)) → is_recipe (rule_class us) ≡ false
+not_recipe-rule : (us : List (List Cell)) → is_recipe (rule_class joined_byte us) ≡ false
 not_recipe-rule us =
-    let h : is_recipe (header_class us) ≡ false = not_recipe-cond (is_rough joined_byte (head joined_byte us) (header joined_byte us)) Rough (Header (header joined_byte us)) refl refl in
+    let h : is_recipe (header_class joined_byte us) ≡ false = not_recipe-cond (is_rough joined_byte (head joined_byte us) (header joined_byte us)) Rough (Header (header joined_byte us)) refl refl in
     let s = separated joined_byte (cut_text joined_byte us) in
-    not_recipe-cond (takes_assignment s.separator) (target_class s (assignment joined_byte s.rest) (header_class us)) (header_class us) (not_recipe-target s (assignment joined_byte s.rest) (header_class us) h) h
+    not_recipe-cond (takes_assignment s.separator) (target_class s (assignment joined_byte s.rest) (header_class joined_byte us)) (header_class joined_byte us) (not_recipe-target s (assignment joined_byte s.rest) (header_class joined_byte us) h) h
 
-not_recipe-directive : (k b : Keyword) (c : Bool) (ws : List (List ℕ)) (x : Class) → is_recipe x ≡ false → is_recipe (or_class (directive_by k b c ws) x) ≡ false
-not_recipe-directive DefineWord DefineWord c ws x h = refl
-not_recipe-directive DefineWord EndefWord c ws x h = h
-not_recipe-directive DefineWord IfWord c ws x h = h
-not_recipe-directive DefineWord ElseWord c ws x h = h
-not_recipe-directive DefineWord EndifWord c ws x h = h
-not_recipe-directive DefineWord DirectiveWord c ws x h = h
-not_recipe-directive DefineWord UndefineWord c ws x h = refl
-not_recipe-directive DefineWord NoKeyword c ws x h = h
-not_recipe-directive EndefWord DefineWord c ws x h = refl
-not_recipe-directive EndefWord EndefWord c ws x h = h
-not_recipe-directive EndefWord IfWord c ws x h = h
-not_recipe-directive EndefWord ElseWord c ws x h = h
-not_recipe-directive EndefWord EndifWord c ws x h = h
-not_recipe-directive EndefWord DirectiveWord c ws x h = h
-not_recipe-directive EndefWord UndefineWord c ws x h = refl
-not_recipe-directive EndefWord NoKeyword c ws x h = h
-not_recipe-directive IfWord DefineWord c ws x h = refl
-not_recipe-directive IfWord EndefWord c ws x h = refl
-not_recipe-directive IfWord IfWord c ws x h = refl
-not_recipe-directive IfWord ElseWord c ws x h = refl
-not_recipe-directive IfWord EndifWord c ws x h = refl
-not_recipe-directive IfWord DirectiveWord c ws x h = refl
-not_recipe-directive IfWord UndefineWord c ws x h = refl
-not_recipe-directive IfWord NoKeyword c ws x h = refl
-not_recipe-directive ElseWord DefineWord c ws x h = refl
-not_recipe-directive ElseWord EndefWord true ws x h = refl
-not_recipe-directive ElseWord EndefWord false ws x h = h
-not_recipe-directive ElseWord IfWord true ws x h = refl
-not_recipe-directive ElseWord IfWord false ws x h = h
-not_recipe-directive ElseWord ElseWord true ws x h = refl
-not_recipe-directive ElseWord ElseWord false ws x h = h
-not_recipe-directive ElseWord EndifWord true ws x h = refl
-not_recipe-directive ElseWord EndifWord false ws x h = h
-not_recipe-directive ElseWord DirectiveWord true ws x h = refl
-not_recipe-directive ElseWord DirectiveWord false ws x h = h
-not_recipe-directive ElseWord UndefineWord true ws x h = refl
-not_recipe-directive ElseWord UndefineWord false ws x h = refl
-not_recipe-directive ElseWord NoKeyword true ws x h = refl
-not_recipe-directive ElseWord NoKeyword false ws x h = h
-not_recipe-directive EndifWord DefineWord c ws x h = refl
-not_recipe-directive EndifWord EndefWord true ws x h = refl
-not_recipe-directive EndifWord EndefWord false ws x h = h
-not_recipe-directive EndifWord IfWord true ws x h = refl
-not_recipe-directive EndifWord IfWord false ws x h = h
-not_recipe-directive EndifWord ElseWord true ws x h = refl
-not_recipe-directive EndifWord ElseWord false ws x h = h
-not_recipe-directive EndifWord EndifWord true ws x h = refl
-not_recipe-directive EndifWord EndifWord false ws x h = h
-not_recipe-directive EndifWord DirectiveWord true ws x h = refl
-not_recipe-directive EndifWord DirectiveWord false ws x h = h
-not_recipe-directive EndifWord UndefineWord true ws x h = refl
-not_recipe-directive EndifWord UndefineWord false ws x h = refl
-not_recipe-directive EndifWord NoKeyword true ws x h = refl
-not_recipe-directive EndifWord NoKeyword false ws x h = h
-not_recipe-directive DirectiveWord DefineWord c ws x h = refl
-not_recipe-directive DirectiveWord EndefWord c ws x h = refl
-not_recipe-directive DirectiveWord IfWord c ws x h = refl
-not_recipe-directive DirectiveWord ElseWord c ws x h = refl
-not_recipe-directive DirectiveWord EndifWord c ws x h = refl
-not_recipe-directive DirectiveWord DirectiveWord c ws x h = refl
-not_recipe-directive DirectiveWord UndefineWord c ws x h = refl
-not_recipe-directive DirectiveWord NoKeyword c ws x h = refl
-not_recipe-directive UndefineWord DefineWord c ws x h = refl
-not_recipe-directive UndefineWord EndefWord c ws x h = h
-not_recipe-directive UndefineWord IfWord c ws x h = h
-not_recipe-directive UndefineWord ElseWord c ws x h = h
-not_recipe-directive UndefineWord EndifWord c ws x h = h
-not_recipe-directive UndefineWord DirectiveWord c ws x h = h
-not_recipe-directive UndefineWord UndefineWord c ws x h = refl
-not_recipe-directive UndefineWord NoKeyword c ws x h = h
-not_recipe-directive NoKeyword DefineWord c ws x h = refl
-not_recipe-directive NoKeyword EndefWord c ws x h = h
-not_recipe-directive NoKeyword IfWord c ws x h = h
-not_recipe-directive NoKeyword ElseWord c ws x h = h
-not_recipe-directive NoKeyword EndifWord c ws x h = h
-not_recipe-directive NoKeyword DirectiveWord c ws x h = h
-not_recipe-directive NoKeyword UndefineWord c ws x h = refl
-not_recipe-directive NoKeyword NoKeyword c ws x h = h
+not_recipe-said : (s : Said) → is_recipe (class_said {A = Cell} s) ≡ false
+not_recipe-said Said.Endef = refl
+not_recipe-said (Said.Body n) = refl
+not_recipe-said (Said.DefineHead p) = refl
+not_recipe-said Said.If = refl
+not_recipe-said Said.Else = refl
+not_recipe-said Said.Endif = refl
+not_recipe-said Said.Directive = refl
 
-not_recipe-plain : (led c : Bool) (cs : List Cell) (us : List (List Cell)) → is_recipe (plain_class led c cs us) ≡ false
+not_recipe-or : (o : Option Said) (x : Class Cell) → is_recipe x ≡ false → is_recipe (or_class o x) ≡ false
+not_recipe-or None x h = h
+not_recipe-or (Some s) x h = not_recipe-said s
+
+not_recipe-plain : (led c : Bool) (cs : List Cell) (us : List (List Cell)) → is_recipe (plain_class joined_byte led c (is_unreadable cs) us) ≡ false
 not_recipe-plain led c cs us =
-    let ws = word_texts joined_byte (cut_text joined_byte us) in
-    not_recipe-cond (is_all_blanks (cut_text joined_byte us)) _ _ (not_recipe-cond (any (is_hash joined_byte) us) Comment Blank refl refl) (
+    not_recipe-cond (is_all_blanks joined_byte (cut_text joined_byte us)) _ _ (not_recipe-cond (any (is_hash joined_byte) us) Comment Blank refl refl) (
     not_recipe-cond (is_unreadable cs) Opaque _ refl (
     not_recipe-assign c (assignment joined_byte (cut_text joined_byte us)) _ (
-    not_recipe-directive (first_keyword ws) (first_keyword (after_modifiers ws)) c (after_modifiers ws) _ (
-    not_recipe-cond (led || not (has_colon joined_byte (head joined_byte us))) Opaque (rule_class us) refl (not_recipe-rule us)))))
-
-not_recipe-define : (k : Keyword) (n : ℕ) → is_recipe (define_class k n) ≡ false
-not_recipe-define DefineWord n = refl
-not_recipe-define EndefWord zero = refl
-not_recipe-define EndefWord (suc zero) = refl
-not_recipe-define EndefWord (suc (suc n)) = refl
-not_recipe-define IfWord n = refl
-not_recipe-define ElseWord n = refl
-not_recipe-define EndifWord n = refl
-not_recipe-define DirectiveWord n = refl
-not_recipe-define UndefineWord n = refl
-not_recipe-define NoKeyword n = refl
+    not_recipe-or (directive c (word_texts joined_byte (cut_text joined_byte us))) _ (
+    not_recipe-cond (led || not (has_colon joined_byte (head joined_byte us))) Opaque (rule_class joined_byte us) refl (not_recipe-rule us)))))
 
 -- what a line of class Recipe says of its context
 pub record StandsInRule (led : Bool) (defines : ℕ) (f : Flag) : Type 0 where
@@ -144,18 +64,18 @@ pub record StandsInRule (led : Bool) (defines : ℕ) (f : Flag) : Type 0 where
   pub no_define : defines ≡ 0
   pub in_rule : f ≡ Rule
 
-at-recipe : (led : Bool) (n : ℕ) (f : Flag) (c : Bool) (cs : List Cell) (us : List (List Cell)) → is_recipe (class_at led n f c cs us) ≡ true → StandsInRule led n f
+at-recipe : (led : Bool) (n : ℕ) (f : Flag) (c : Bool) (cs : List Cell) (us : List (List Cell)) → is_recipe (class_at joined_byte led n f c (is_unreadable cs) us) ≡ true → StandsInRule led n f
 at-recipe true zero Rule c cs us h = record { is_led = refl; no_define = refl; in_rule = refl }
 at-recipe true zero Unknown c cs us h = absurd (cc)
 at-recipe true zero Off c cs us h = absurd (let e : true ≡ false = sym h ∙ not_recipe-plain true c cs us in cc)
 at-recipe false zero f c cs us h = absurd (plain f h)
   where
-    plain : (f : Flag) → is_recipe (class_at false zero f c cs us) ≡ true → ⊥
+    plain : (f : Flag) → is_recipe (class_at joined_byte false zero f c (is_unreadable cs) us) ≡ true → ⊥
     plain Off h = let e : true ≡ false = sym h ∙ not_recipe-plain false c cs us in cc
     plain Rule h = let e : true ≡ false = sym h ∙ not_recipe-plain false c cs us in cc
     plain Unknown h = let e : true ≡ false = sym h ∙ not_recipe-plain false c cs us in cc
 at-recipe true (suc n) f c cs us h = absurd (cc)
-at-recipe false (suc n) f c cs us h = absurd (let e : true ≡ false = sym h ∙ not_recipe-define (first_keyword (word_texts joined_byte us)) (suc n) in cc)
+at-recipe false (suc n) f c cs us h = absurd (let e : true ≡ false = sym h ∙ not_recipe-said (define_class (first_keyword (word_texts joined_byte us)) (suc n)) in cc)
 
 -- so it is of each such line
 pub recipe-stands : (c : Context) (l : List ℕ) → is_recipe (class_of c l) ≡ true → StandsInRule (is_prefix_led c.prefix l) c.defines c.flag

@@ -23,7 +23,7 @@ use Rattle.mk_class.specs.RecipePrefix.{is_prefix_led}
 use Rattle.mk_class.specs.Arguments.{is_barred_byte, is_backslash_byte, is_clean, is_command, is_target}
 use Rattle.mk_class.specs.Classes.{Class, is_recipe}
 use Rattle.mk_class.specs.Contexts.{Context, context_after}
-use Rattle.mk_class.specs.ClassTable.{class_of, class_at}
+use Rattle.mk_class.specs.ClassTable.{is_unreadable, class_of, class_at}
 use Rattle.mk_class.specs.ClassedLines.{classed_lines, context_after_lines}
 use Rattle.mk_class.specs.declared.context.Flag.TheVariants as flag
 use Rattle.mk_tree.specs.Documents.{text_of, context_of}
@@ -74,8 +74,8 @@ pub recipe-class_in_rule : (c : Context) (l : List ℕ) → c.defines ≡ 0 → 
 recipe-class_in_rule c l d f p =
     let k = nat_lt 0 c.conditionals in
     let us = units joined_byte (line_cells l) in
-    ap (λ z. class_at z c.defines c.flag k (line_cells l) us) p
-    ∙ (ap (λ z. class_at true z c.flag k (line_cells l) us) d ∙ ap (λ z. class_at true 0 z k (line_cells l) us) f)
+    ap (λ z. class_at joined_byte z c.defines c.flag k (is_unreadable (line_cells l)) us) p
+    ∙ (ap (λ z. class_at joined_byte true z c.flag k (is_unreadable (line_cells l)) us) d ∙ ap (λ z. class_at joined_byte true 0 z k (is_unreadable (line_cells l)) us) f)
 
 -- ---- a new recipe line
 

@@ -56,7 +56,7 @@ recipe_removed-reads nth g k t rs h =
 
 -- ---- a rule
 
-class-agrees : (c : Context) (k : Class) → stays_in_rule k ≡ true → is_conditional k ≡ false → AgreeButForFlag c (context_after c k)
+class-agrees : (c : Context) (k : Class Cell) → stays_in_rule k ≡ true → is_conditional k ≡ false → AgreeButForFlag c (context_after c k)
 class-agrees c Class.Recipe h n = record { defines = refl; conditionals = refl; prefix = refl }
 class-agrees c Class.Blank h n = record { defines = refl; conditionals = refl; prefix = refl }
 class-agrees c Class.Comment h n = record { defines = refl; conditionals = refl; prefix = refl }
@@ -87,7 +87,7 @@ header-agrees A l R x h k n =
     let c = context_of A in
     let d = context_after c l.class in
     let e : context_of (A ++ l ∷ R) ≡ context_after_lines d R = context_of-append A (l ∷ R) in
-    let one : AgreeButForFlag c d = subst (λ (z : Class). AgreeButForFlag c (context_after c z)) (sym h) (record { defines = refl; conditionals = refl; prefix = refl }) in
+    let one : AgreeButForFlag c d = subst (λ (z : Class Cell). AgreeButForFlag c (context_after c z)) (sym h) (record { defines = refl; conditionals = refl; prefix = refl }) in
     subst (AgreeButForFlag c) (sym e) (agrees-then c d (context_after_lines d R) one (run-agrees d R k n))
 
 -- the law of a rule

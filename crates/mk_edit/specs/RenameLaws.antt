@@ -3,6 +3,7 @@ use Rattle.std.proofs.Common.{◌≡◌, sym, ap, ◌∙◌, ℕ, List, false, n
 use Rattle.std.proofs.lemmas.Bool.{and_parts, or_parts, not-true}
 use Rattle.std.specs.Prelude.{Ok}
 use Rattle.mk_lines.specs.Pieces.{Replacement, replaced}
+use Rattle.mk_lines.specs.Cells.{Cell}
 use Rattle.mk_class.specs.Lists.{last_passes}
 use Rattle.mk_class.specs.Keywords.{is_reserved_word}
 use Rattle.mk_class.specs.Classes.{Class}
@@ -22,7 +23,7 @@ use Rattle.mk_edit.specs.declared.refusal.Refusal.TheVariants.{Reserved, RecipeP
 -- what is known of the words of a rename
 pub record AreRenameWords (o n : List ℕ) : Type 0 where
   pub new : IsNewTarget o n
-  pub renamed : (k : Class) → AreRenamed o n k
+  pub renamed : (k : Class Cell) → AreRenamed o n k
 
 -- so it is of an accepted one
 pub rename-words : (o n t : List ℕ) (rs : List Replacement) → spans t (RenameTarget o n) ≡ Ok rs → AreRenameWords o n

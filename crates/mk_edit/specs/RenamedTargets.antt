@@ -155,8 +155,8 @@ line-before_colon l below a b D e old new one ends =
 -- ---- the line
 
 -- the class of cells in a context, as prefix-led or not
-abbrev read : Context → Bool → List Cell → Class
-read c led cs = class_at led c.defines c.flag (nat_lt 0 c.conditionals) cs (units joined_byte cs)
+abbrev read : Context → Bool → List Cell → Class Cell
+read c led cs = class_at joined_byte led c.defines c.flag (nat_lt 0 c.conditionals) (is_unreadable cs) (units joined_byte cs)
 
 -- A target assignment's line after a rename: one line, which ends where lines follow, of class TargetAssign with the new word
 -- for the old.
@@ -200,12 +200,12 @@ target-renamed o n new i j a c l below e one ends starts =
     let made : m ≡ new_bytes ps ++ rest = split (concat T') ∙ ap (λ z. z ++ rest) (ap raw_text (sym (renamed-new o n new T)) ∙ raw_text-new_cells ps) in
     let not_led : is_prefix_led c.prefix m ≡ false =
     ap (is_prefix_led c.prefix) made ∙ target-not_led o n new.word.filled c.prefix T rest starts (ap (is_prefix_led c.prefix) (sym before) ∙ R.here.not_led) in
-    let also : read c false new_cs ≡ plain_class false flag new_cs (units joined_byte new_cs) =
-    ap (λ z. read c z new_cs) (sym R.here.not_led) ∙ (R.also new_cs (units joined_byte new_cs) ∙ ap (λ z. plain_class z flag new_cs (units joined_byte new_cs)) R.here.not_led) in
+    let also : read c false new_cs ≡ plain_class joined_byte false flag (is_unreadable new_cs) (units joined_byte new_cs) =
+    ap (λ z. read c z new_cs) (sym R.here.not_led) ∙ (R.also new_cs (units joined_byte new_cs) ∙ ap (λ z. plain_class joined_byte z flag (is_unreadable new_cs) (units joined_byte new_cs)) R.here.not_led) in
     let class : class_of c m ≡ TargetAssign (targets_renamed o n a) =
     ap (λ z. read c z (line_cells m)) not_led
     ∙ (ap (read c false) line.same_cells
-    ∙ (also ∙ (ap (plain_class false flag new_cs) again ∙ target-again flag (units joined_byte cs) a p T' new_cs (renamed-fit o n new i j flag cs a p) readable))) in
+    ∙ (also ∙ (ap (plain_class joined_byte false flag (is_unreadable new_cs)) again ∙ target-again flag (units joined_byte cs) a p T' new_cs (renamed-fit o n new i j flag cs a p) readable))) in
     record {
       rest = rest;
       is = before;

@@ -31,14 +31,14 @@ abbrev pub targets_renamed : (old new : List ℕ) → Headers.TargetAssignment C
 targets_renamed o n a = record a { targets = renamed_units o n a.targets }
 
 -- a class after a rename
-abbrev pub renamed_class : (old new : List ℕ) → Class → Class
+abbrev pub renamed_class : (old new : List ℕ) → Class Cell → Class Cell
 renamed_class o n (Class.Header h) = Class.Header (header_renamed o n h)
 renamed_class o n (Class.TargetAssign a) = Class.TargetAssign (targets_renamed o n a)
 renamed_class o n k = k
 
 -- A line of a class with the pieces of a rename replaced: it begins with them, and the new line is one line, which ends where
 -- lines follow, of the class after the rename.
-pub record IsRenamed (o n : List ℕ) (c : Context) (l : List ℕ) (below : List (List ℕ)) (k : Class) : Type 0 where
+pub record IsRenamed (o n : List ℕ) (c : Context) (l : List ℕ) (below : List (List ℕ)) (k : Class Cell) : Type 0 where
   pub rest : List ℕ
   pub is : l ≡ old_bytes (renamed_pieces o n k) ++ rest
   pub one : OneLine (new_bytes (renamed_pieces o n k) ++ rest)
@@ -46,12 +46,12 @@ pub record IsRenamed (o n : List ℕ) (c : Context) (l : List ℕ) (below : List
   pub class : class_of c (new_bytes (renamed_pieces o n k) ++ rest) ≡ renamed_class o n k
 
 -- each line of a class is so after a rename
-abbrev pub AreRenamed : (old new : List ℕ) → Class → Type 0
+abbrev pub AreRenamed : (old new : List ℕ) → Class Cell → Type 0
 AreRenamed o n k =
     (c : Context) (l : List ℕ) (below : List (List ℕ)) → class_of c l ≡ k → OneLine l → EndsBefore l below → begins_renamed_line c.prefix (renamed_pieces o n k) ≡ false → IsRenamed o n c l below k
 
 -- a line without words to rename
-kept-renamed : (o n : List ℕ) (k : Class) → renamed_pieces o n k ≡ [] → renamed_class o n k ≡ k → AreRenamed o n k
+kept-renamed : (o n : List ℕ) (k : Class Cell) → renamed_pieces o n k ≡ [] → renamed_class o n k ≡ k → AreRenamed o n k
 kept-renamed o n k p q c l below e one ends led = record {
   rest = l;
   is = ap (λ z. old_bytes z ++ l) (sym p);
@@ -78,7 +78,7 @@ header-renamed o n new h c l below e one ends led =
     }
 
 -- lines of each class, where it is so with target assignments
-pub class-renamed : (o n : List ℕ) → IsNewTarget o n → ((a : Headers.TargetAssignment Cell) → AreRenamed o n (Class.TargetAssign a)) → (k : Class) → AreRenamed o n k
+pub class-renamed : (o n : List ℕ) → IsNewTarget o n → ((a : Headers.TargetAssignment Cell) → AreRenamed o n (Class.TargetAssign a)) → (k : Class Cell) → AreRenamed o n k
 class-renamed o n new f (Class.Header h) = header-renamed o n new h
 class-renamed o n new f (Class.TargetAssign a) = f a
 class-renamed o n new f Class.Endef = kept-renamed o n Class.Endef refl refl
@@ -96,7 +96,7 @@ class-renamed o n new f Class.Directive = kept-renamed o n Class.Directive refl 
 class-renamed o n new f Class.Rough = kept-renamed o n Class.Rough refl refl
 
 -- the context after a line stays
-context-renamed : (o n : List ℕ) (c : Context) (k : Class) → context_after c (renamed_class o n k) ≡ context_after c k
+context-renamed : (o n : List ℕ) (c : Context) (k : Class Cell) → context_after c (renamed_class o n k) ≡ context_after c k
 context-renamed o n c (Class.Header h) = refl
 context-renamed o n c (Class.TargetAssign a) = refl
 context-renamed o n c Class.Endef = refl
@@ -121,12 +121,12 @@ pub record AreLinesRenamed (o n t : List ℕ) : Type 0 where
   pub spans_are : renamed_spans o n 0 (classed_lines t) ≡ line_replacements (λ l. renamed_pieces o n l.class) 0 (classed_lines t)
   pub lines : classed_lines (replaced 0 t (renamed_spans o n 0 (classed_lines t))) ≡ map (with_pieces (λ l. renamed_pieces o n l.class) (λ l. renamed_class o n l.class)) (classed_lines t)
 
-module _ (o n : List ℕ) (new : IsNewTarget o n) (all : (k : Class) → AreRenamed o n k) where
+module _ (o n : List ℕ) (new : IsNewTarget o n) (all : (k : Class Cell) → AreRenamed o n k) where
   -- the pieces of a line, and its class after the rename
   abbrev line_pieces : ClassedLine → List Piece
   line_pieces l = renamed_pieces o n l.class
 
-  abbrev line_class : ClassedLine → Class
+  abbrev line_class : ClassedLine → Class Cell
   line_class l = renamed_class o n l.class
 
   -- whether a line that the rename changes would not begin with the prefix
@@ -164,7 +164,7 @@ module _ (o n : List ℕ) (new : IsNewTarget o n) (all : (k : Class) → AreRena
   spans-are at [] = refl
   spans-are at (l ∷ ls) = ap (λ z. replacements at (line_pieces l) ++ z) (spans-are (at + length l.bytes) ls)
 
-  line-item : (k : Class) (b : List ℕ) → items_of_line (renamed_class o n k) (new_bytes (renamed_pieces o n k) ++ drop (length (old_bytes (renamed_pieces o n k))) b) ≡ map (renamed_item o n) (items_of_line k b)
+  line-item : (k : Class Cell) (b : List ℕ) → items_of_line (renamed_class o n k) (new_bytes (renamed_pieces o n k) ++ drop (length (old_bytes (renamed_pieces o n k))) b) ≡ map (renamed_item o n) (items_of_line k b)
   line-item (Class.Header h) b = ap (λ z. z ∷ []) (rename-item o n new h)
   line-item (Class.TargetAssign a) b = ap (λ z. Items.TargetAssign z a.separator (assigned a.assigned) ∷ []) (renamed-texts o n new a.targets)
   line-item Class.Endef b = refl

@@ -17,16 +17,16 @@ use Rattle.mk_edit.specs.declared.refusal.Refusal.{Refusal}
 use Rattle.mk_edit.specs.declared.refusal.Refusal.TheVariants.{Absent, Already, Taken, SharedRule, Straddles}
 
 -- the class of what is found
-abbrev pub class_found : Option Spot → Option Class
+abbrev pub class_found : Option Spot → Option (Class Cell)
 class_found None = None
 class_found (Some s) = Some s.line.class
 
 -- the class of the header of a rule
-abbrev pub rule_class_found : List ClassedLine → (nth : Option ℕ) → (target : List ℕ) → Option Class
+abbrev pub rule_class_found : List ClassedLine → (nth : Option ℕ) → (target : List ℕ) → Option (Class Cell)
 rule_class_found ls nth t = class_found (found ls (Rule nth t))
 
 -- whether it is found, and passes the test
-abbrev pub header_passes : (Headers.Header Cell → Bool) → Option Class → Bool
+abbrev pub header_passes : (Headers.Header Cell → Bool) → Option (Class Cell) → Bool
 header_passes p (Some (Header h)) = p h
 header_passes p k = false
 
@@ -61,7 +61,7 @@ taken ls e = None
 -- ---- SharedRule: the rule to remove has several targets
 
 -- the targets of what is found
-abbrev pub targets_found : Option Class → List (List ℕ)
+abbrev pub targets_found : Option (Class Cell) → List (List ℕ)
 targets_found None = []
 targets_found (Some k) = targets_of k
 

@@ -70,10 +70,10 @@ value-found t n nth rs span value F r h =
     let s = F.spot in
     let at = length (text_of s.above) in
     let x : assignment_span span at s.line.class ≡ rs = subst (λ (z : Option Spot). where_found (value_span span) z ≡ rs) F.found_is h in
-    let y : span at F.assigned ∷ [] ≡ rs = subst (λ (z : Class). assignment_span span at z ≡ rs) F.class_is x in
+    let y : span at F.assigned ∷ [] ≡ rs = subst (λ (z : Class Cell). assignment_span span at z ≡ rs) F.class_is x in
     let z : where_found (with_value value) (found (classed_lines t) (Variable nth n)) ≡ with_items (value_item value at s.line.class) s = ap (where_found (with_value value)) F.found_is in
     let w : with_items (value_item value at s.line.class) s ≡ items s.above ++ item_with_value F.assigned (value at F.assigned) ∷ items s.below =
-    ap (λ (k : Class). with_items (value_item value at k) s) F.class_is in
+    ap (λ (k : Class Cell). with_items (value_item value at k) s) F.class_is in
     ap (λ q. reading (replaced 0 t q)) (sym y) ∙ (r.reads ∙ (sym w ∙ sym z))
 
 -- an edit that names one variable and no target, and is not refused as Reserved, does not name the prefix

@@ -23,7 +23,7 @@ removed_span s =
     record { start = at; end = at + length (text_of s.lines); new = [] } ∷ []
 
 -- the spans in the line of a header, which begins at a place
-abbrev pub header_spans : (Headers.Header Cell → List Piece) → (line_start : ℕ) → Class → List Replacement
+abbrev pub header_spans : (Headers.Header Cell → List Piece) → (line_start : ℕ) → Class Cell → List Replacement
 header_spans f at (Header h) = replacements at (f h)
 header_spans f at k = []
 

@@ -80,7 +80,7 @@ line-within t s h =
 spot-parts : (t : List ℕ) (s : Spot) → IsSpotOf (classed_lines t) s → raw_length (part_units s.line.class) ≤ length s.line.bytes
 spot-parts t s h =
     let P = located t s.above s.line s.below h in
-    subst (λ (z : Class). raw_length (part_units z) ≤ length s.line.bytes) P.class (parts-within (context_of s.above) s.line.bytes)
+    subst (λ (z : Class Cell). raw_length (part_units z) ≤ length s.line.bytes) P.class (parts-within (context_of s.above) s.line.bytes)
 
 -- ---- values
 
@@ -107,8 +107,8 @@ pub append-rises : (v : List ℕ) → RisesInAssignment (append_value_span v)
 append-rises v at a n h = let e = assignment-length a in (omega arith, omega arith, omega (arith, e, h))
 
 -- spans that rise within a line, which begins at a place and has n bytes, whatever its class
-abbrev pub RisesInLine : (ℕ → Class → List Replacement) → Type 0
-RisesInLine f = (at n : ℕ) (k : Class) → raw_length (part_units k) ≤ n → Rise at (at + n) (f at k)
+abbrev pub RisesInLine : (ℕ → Class Cell → List Replacement) → Type 0
+RisesInLine f = (at n : ℕ) (k : Class Cell) → raw_length (part_units k) ≤ n → Rise at (at + n) (f at k)
 
 rise-value : (f : ℕ → Assignment Cell → Replacement) → RisesInAssignment f → RisesInLine (assignment_span f)
 rise-value f g at n (Assign a p) h = g at a n h
@@ -128,11 +128,11 @@ rise-value f g at n Rough h = omega arith
 rise-value f g at n (Header x) h = omega arith
 
 -- spans in the line of a spot
-pub spot-rises : (t : List ℕ) (s : Spot) (f : ℕ → Class → List Replacement) → IsSpotOf (classed_lines t) s → RisesInLine f
+pub spot-rises : (t : List ℕ) (s : Spot) (f : ℕ → Class Cell → List Replacement) → IsSpotOf (classed_lines t) s → RisesInLine f
     → Rise (length (text_of s.above)) (length (text_of s.above) + length s.line.bytes) (f (length (text_of s.above)) s.line.class)
 spot-rises t s f h g = g (length (text_of s.above)) (length s.line.bytes) s.line.class (spot-parts t s h)
 
-rise-spot : (t : List ℕ) (s : Spot) (f : ℕ → Class → List Replacement) → IsSpotOf (classed_lines t) s → RisesInLine f → RiseIn t (f (length (text_of s.above)) s.line.class)
+rise-spot : (t : List ℕ) (s : Spot) (f : ℕ → Class Cell → List Replacement) → IsSpotOf (classed_lines t) s → RisesInLine f → RiseIn t (f (length (text_of s.above)) s.line.class)
 rise-spot t s f h g =
     let at = length (text_of s.above) in
     let rs = f at s.line.class in
@@ -242,7 +242,7 @@ rise-header f g at n Rough h = omega arith
 
 -- ---- renames
 
-renamed-within : (o n : List ℕ) (k : Class) → old_length (renamed_pieces o n k) ≤ raw_length (part_units k)
+renamed-within : (o n : List ℕ) (k : Class Cell) → old_length (renamed_pieces o n k) ≤ raw_length (part_units k)
 renamed-within o n (Header x) = let e = rename-length o n x in omega (arith, e)
 renamed-within o n (TargetAssign x) = let e = renamed-length o n x.targets in omega (arith, e)
 renamed-within o n Endef = omega arith
@@ -264,7 +264,7 @@ rise-renamed o n c [] at h = omega arith
 rise-renamed o n c (l ∷ ls) at h =
     let ps = renamed_pieces o n l.class in
     let m = at + length l.bytes in
-    let short : raw_length (part_units l.class) ≤ length l.bytes = subst (λ (z : Class). raw_length (part_units z) ≤ length l.bytes) (AreClassed-class c l ls h) (parts-within c l.bytes) in
+    let short : raw_length (part_units l.class) ≤ length l.bytes = subst (λ (z : Class Cell). raw_length (part_units z) ≤ length l.bytes) (AreClassed-class c l ls h) (parts-within c l.bytes) in
     let w = renamed-within o n l.class in
     let e : m + length (text_of ls) ≡ at + length (l.bytes ++ text_of ls) = omega (arith, length-append l.bytes (text_of ls)) in
     Rise-append at m (at + length (l.bytes ++ text_of ls)) (replacements at ps) (renamed_spans o n m ls)

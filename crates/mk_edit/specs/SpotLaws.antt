@@ -113,7 +113,7 @@ pub record FoundRule (ls : List ClassedLine) (nth : Option ℕ) (t : List ℕ) :
   pub header : Header Cell
   pub class_is : spot.line.class ≡ Class.Header header
 
-header-class : (t : List ℕ) (k : Class) → is_rule_for t k ≡ true → (h : Header Cell) × (k ≡ Class.Header h)
+header-class : (t : List ℕ) (k : Class Cell) → is_rule_for t k ≡ true → (h : Header Cell) × (k ≡ Class.Header h)
 header-class t (Class.Header h) e = (h, refl)
 header-class t Class.Endef e = absurd (cc)
 header-class t (Class.Body d) e = absurd (cc)
@@ -140,7 +140,7 @@ rule-found ls nth t h k =
     record { spot = s.0; found_is = s.1; whole = q.whole; header = c.0; class_is = c.1 }
 
 -- a class of recipe lines
-pub recipe-class : (k : Class) → is_recipe k ≡ true → k ≡ Class.Recipe
+pub recipe-class : (k : Class Cell) → is_recipe k ≡ true → k ≡ Class.Recipe
 recipe-class Class.Recipe e = refl
 recipe-class (Class.Header h) e = cc
 recipe-class Class.Endef e = cc

@@ -13,13 +13,13 @@ use Rattle.mk_class.specs.Assignments.{Assignment, assignment}
 use Rattle.mk_class.specs.Separators.{Separated, separated, separator_at, separator_length, begins_separator, has_colon, takes_assignment}
 use Rattle.mk_class.specs.Headers
 use Rattle.mk_class.specs.Headers.{header, is_rough, is_no_colon}
-use Rattle.mk_class.specs.Classes.{Class}
+use Rattle.mk_class.specs.Classes.{Class, Said, class_said}
 use Rattle.mk_class.specs.Classes.Class.{Opaque, Blank, Comment, Rough, Header, TargetAssign}
 use Rattle.mk_class.specs.Keywords.{Keyword, DefineWord, EndefWord, IfWord, ElseWord, EndifWord, DirectiveWord, UndefineWord, NoKeyword, first_keyword}
+use Rattle.mk_class.specs.ClassHolds.{Holds, plain_class-holds, said-no_parts}
 use Rattle.mk_class.specs.ClassTable.{class_at, define_class, directive, header_class, target_class, separated_class, rule_class, assign_class, or_class, is_all_blanks, is_unreadable, plain_class}
 use Rattle.mk_class.specs.declared.context.Flag.{Flag}
 use Rattle.mk_class.specs.declared.context.Flag.TheVariants.{Off, Rule, Unknown}
-use Rattle.mk_edit.specs.DirectiveWords.{IsNoHeader, directive-no_header}
 use Rattle.mk_edit.specs.HeaderLines.{any-after, leading-all, colon-filled}
 use Rattle.mk_edit.specs.TargetUnits.{Free, until-free, free-no_colon, separated-targets}
 
@@ -28,26 +28,6 @@ use Rattle.mk_edit.specs.TargetUnits.{Free, until-free, free-no_colon, separated
 -- a text taken apart at its separator, before an assignment
 abbrev pub with_assigned : Separated Cell → Assignment Cell → Headers.TargetAssignment Cell
 with_assigned s b = record { separator = s.separator; targets = s.targets; colons = s.colons; assigned = b }
-
--- a text taken apart is a target assignment
-record IsTargetOf (s : Separated Cell) (a : Headers.TargetAssignment Cell) : Type 0 where
-  takes : takes_assignment s.separator ≡ true
-  assigned : assignment joined_byte s.rest ≡ Some a.assigned
-  is : with_assigned s a.assigned ≡ a
-
-target-separated : (s : Separated Cell) (us : List (List Cell)) (a : Headers.TargetAssignment Cell) → separated_class s us ≡ TargetAssign a → IsTargetOf s a
-target-separated s us a k = go (takes_assignment s.separator) refl (assignment joined_byte s.rest) refl k
-  where
-    rough : (b : Bool) → cond b Rough (Header (header joined_byte us)) ≡ TargetAssign a → ⊥
-    rough true e = cc
-    rough false e = cc
-
-    go : (b : Bool) → takes_assignment s.separator ≡ b → (o : Option (Assignment Cell)) → assignment joined_byte s.rest ≡ o → cond b (target_class s o (header_class us)) (header_class us) ≡ TargetAssign a → IsTargetOf s a
-    go true e None f h = absurd (rough (is_rough joined_byte (head joined_byte us) (header joined_byte us)) h)
-    go true e (Some b) f h =
-        let q : with_assigned s b ≡ a = cc in
-        record { takes = e; assigned = f ∙ ap (λ (z : Headers.TargetAssignment Cell). Some (z.assigned)) q; is = subst (λ (z : Headers.TargetAssignment Cell). with_assigned s (z.assigned) ≡ a) q q }
-    go false e o f h = absurd (rough (is_rough joined_byte (head joined_byte us) (header joined_byte us)) h)
 
 -- a line of class TargetAssign outside defines and recipes
 pub record IsTargetLine (led c : Bool) (cs : List Cell) (us : List (List Cell)) (a : Headers.TargetAssignment Cell) : Type 0 where
@@ -61,58 +41,30 @@ pub record IsTargetLine (led c : Bool) (cs : List Cell) (us : List (List Cell)) 
   pub is : with_assigned (separated joined_byte (cut_text joined_byte us)) a.assigned ≡ a
 
 -- each line of that class there is such
-pub plain_class-target : (led c : Bool) (cs : List Cell) (us : List (List Cell)) (a : Headers.TargetAssignment Cell) → plain_class led c cs us ≡ TargetAssign a → IsTargetLine led c cs us a
+pub plain_class-target : (led c : Bool) (cs : List Cell) (us : List (List Cell)) (a : Headers.TargetAssignment Cell) → plain_class joined_byte led c (is_unreadable cs) us ≡ TargetAssign a → IsTargetLine led c cs us a
 plain_class-target led c cs us a k =
-    blank (is_all_blanks (cut_text joined_byte us)) (is_unreadable cs) refl (assignment joined_byte (cut_text joined_byte us)) refl (directive c (word_texts joined_byte (cut_text joined_byte us))) refl k
-  where
-    rule : (l n : Bool) → led ≡ l → has_colon joined_byte (head joined_byte us) ≡ n → is_unreadable cs ≡ false → assignment joined_byte (cut_text joined_byte us) ≡ None
-        → directive c (word_texts joined_byte (cut_text joined_byte us)) ≡ None → cond (l || not n) Opaque (rule_class us) ≡ TargetAssign a → IsTargetLine led c cs us a
-    rule true n e f r m d q = absurd (cc)
-    rule false false e f r m d q = absurd (cc)
-    rule false true e f r m d q =
-        let p = target-separated (separated joined_byte (cut_text joined_byte us)) us a q in
-        record { not_led = e; readable = r; unassigned = m; undirected = d; colon = f; takes = p.takes; assigned = p.assigned; is = p.is }
-
-    directed : (d : Option Class) → directive c (word_texts joined_byte (cut_text joined_byte us)) ≡ d → is_unreadable cs ≡ false → assignment joined_byte (cut_text joined_byte us) ≡ None
-        → or_class d (cond (led || not (has_colon joined_byte (head joined_byte us))) Opaque (rule_class us)) ≡ TargetAssign a → IsTargetLine led c cs us a
-    directed None e r m q = rule led (has_colon joined_byte (head joined_byte us)) refl refl r m e q
-    directed (Some x) e r m q = absurd (subst IsNoHeader q (directive-no_header c (word_texts joined_byte (cut_text joined_byte us)) x e))
-
-    blanks : (b : Bool) → cond b Comment Blank ≡ TargetAssign a → ⊥
-    blanks true e = cc
-    blanks false e = cc
-
-    blank : (g r : Bool) → is_unreadable cs ≡ r → (o : Option (Assignment Cell)) → assignment joined_byte (cut_text joined_byte us) ≡ o
-        → (d : Option Class) → directive c (word_texts joined_byte (cut_text joined_byte us)) ≡ d
-        → cond g (cond (any (is_hash joined_byte) us) Comment Blank) (cond r Opaque (assign_class c o (
-        or_class d (cond (led || not (has_colon joined_byte (head joined_byte us))) Opaque (rule_class us))))) ≡ TargetAssign a
-        → IsTargetLine led c cs us a
-    blank true r e o m d f q = absurd (blanks (any (is_hash joined_byte) us) q)
-    blank false true e o m d f q = absurd (cc)
-    blank false false e (Some b) m d f q = absurd (cc)
-    blank false false e None m d f q = directed d f e m q
+    let H = subst (Holds joined_byte us led c (is_unreadable cs)) k (plain_class-holds joined_byte us led c (is_unreadable cs)) in
+    record {
+      not_led = H.rule.not_led;
+      readable = H.rule.readable;
+      unassigned = H.rule.unassigned;
+      undirected = H.rule.undirected;
+      colon = H.rule.colon;
+      takes = H.takes;
+      assigned = H.assigned;
+      is = H.is;
+    }
 
 -- where a line is a target assignment, it stands outside defines and recipes, and so does each line in its place that begins
 -- with the same byte
 pub record IsTargetRead (led : Bool) (defines : ℕ) (f : Flag) (c : Bool) (cs : List Cell) (us : List (List Cell)) (a : Headers.TargetAssignment Cell) : Type 0 where
   pub here : IsTargetLine led c cs us a
-  pub also : (cs' : List Cell) (us' : List (List Cell)) → class_at led defines f c cs' us' ≡ plain_class led c cs' us'
-
-not_target-define : (k : Keyword) (n : ℕ) (a : Headers.TargetAssignment Cell) → define_class k (suc n) ≡ TargetAssign a → ⊥
-not_target-define DefineWord n a e = cc
-not_target-define EndefWord zero a e = cc
-not_target-define EndefWord (suc n) a e = cc
-not_target-define IfWord n a e = cc
-not_target-define ElseWord n a e = cc
-not_target-define EndifWord n a e = cc
-not_target-define DirectiveWord n a e = cc
-not_target-define UndefineWord n a e = cc
-not_target-define NoKeyword n a e = cc
+  pub also : (cs' : List Cell) (us' : List (List Cell)) → class_at joined_byte led defines f c (is_unreadable cs') us' ≡ plain_class joined_byte led c (is_unreadable cs') us'
 
 -- so it is of each line of class TargetAssign
-pub class_at-target : (led : Bool) (n : ℕ) (f : Flag) (c : Bool) (cs : List Cell) (us : List (List Cell)) (a : Headers.TargetAssignment Cell) → class_at led n f c cs us ≡ TargetAssign a → IsTargetRead led n f c cs us a
+pub class_at-target : (led : Bool) (n : ℕ) (f : Flag) (c : Bool) (cs : List Cell) (us : List (List Cell)) (a : Headers.TargetAssignment Cell) → class_at joined_byte led n f c (is_unreadable cs) us ≡ TargetAssign a → IsTargetRead led n f c cs us a
 class_at-target true (suc n) f c cs us a k = absurd (cc)
-class_at-target false (suc n) f c cs us a k = absurd (not_target-define (first_keyword (word_texts joined_byte us)) n a k)
+class_at-target false (suc n) f c cs us a k = absurd (said-no_parts (define_class (first_keyword (word_texts joined_byte us)) (suc n)) (TargetAssign a) k refl)
 class_at-target true zero Rule c cs us a k = absurd (cc)
 class_at-target true zero Unknown c cs us a k = absurd (cc)
 class_at-target true zero Off c cs us a k = record { here = plain_class-target true c cs us a k; also = λ x y. refl }
@@ -256,9 +208,9 @@ pub record FitAsTargets (c : Bool) (us : List (List Cell)) (a : Headers.TargetAs
   pub unassigned : assignment joined_byte (T ++ (p.first ∷ p.rest)) ≡ None
   pub undirected : directive c (word_texts joined_byte (T ++ (p.first ∷ p.rest))) ≡ None
 
-made-class : (c : Bool) (cs : List Cell) (us : List (List Cell)) (k : Class) → is_all_blanks (cut_text joined_byte us) ≡ false → is_unreadable cs ≡ false
+made-class : (c : Bool) (cs : List Cell) (us : List (List Cell)) (k : Class Cell) → is_all_blanks joined_byte (cut_text joined_byte us) ≡ false → is_unreadable cs ≡ false
     → assignment joined_byte (cut_text joined_byte us) ≡ None → directive c (word_texts joined_byte (cut_text joined_byte us)) ≡ None → has_colon joined_byte (head joined_byte us) ≡ true
-    → rule_class us ≡ k → plain_class false c cs us ≡ k
+    → rule_class joined_byte us ≡ k → plain_class joined_byte false c (is_unreadable cs) us ≡ k
 made-class c cs us k b r n d h e = rw (b, r, n, d, h) e
 
 head-colon : (x : List Cell) (Y : List (List Cell)) → symbol joined_byte x ≡ Colon → has_colon joined_byte (head joined_byte (x ∷ Y)) ≡ true
@@ -267,7 +219,7 @@ head-colon x Y k =
 
 -- The line with such targets is a target assignment with these.
 pub target-again : (c : Bool) (us : List (List Cell)) (a : Headers.TargetAssignment Cell) (p : TargetParts c us a) (T : List (List Cell)) (cs : List Cell) → FitAsTargets c us a p T → is_unreadable cs ≡ false
-    → plain_class false c cs (T ++ (p.first ∷ (p.rest ++ p.tail))) ≡ TargetAssign (record a { targets = T })
+    → plain_class joined_byte false c (is_unreadable cs) (T ++ (p.first ∷ (p.rest ++ p.tail))) ≡ TargetAssign (record a { targets = T })
 target-again c us a p T cs f r =
     let F = p.first ∷ p.rest in
     let Y = p.first ∷ (p.rest ++ p.tail) in
@@ -278,10 +230,10 @@ target-again c us a p T cs f r =
     let front : has_colon joined_byte (head joined_byte new) ≡ true =
     ap (has_colon joined_byte) (leading-all (is_in_head joined_byte) T Y f.in_head) ∙ any-after (is_colon joined_byte) T (head joined_byte Y) (head-colon p.first (p.rest ++ p.tail) p.colon) in
     let S : Separated Cell = record { separator = a.separator; targets = T; colons = a.colons; rest = p.after } in
-    let rule : rule_class new ≡ TargetAssign (record a { targets = T }) =
-    ap (λ z. separated_class (separated joined_byte z) new) cut
-    ∙ (ap (λ z. separated_class z new) (p.again T f.no_colon f.apart)
-    ∙ (ap (λ b. cond b (target_class S (assignment joined_byte p.after) (header_class new)) (header_class new)) p.takes
-    ∙ ap (λ z. target_class S z (header_class new)) p.assigned)) in
-    made-class c cs new (TargetAssign (record a { targets = T })) (ap is_all_blanks cut ∙ colon-filled (T ++ F) colon) r (ap (assignment joined_byte) cut ∙ f.unassigned)
+    let rule : rule_class joined_byte new ≡ TargetAssign (record a { targets = T }) =
+    ap (λ z. separated_class joined_byte (separated joined_byte z) new) cut
+    ∙ (ap (λ z. separated_class joined_byte z new) (p.again T f.no_colon f.apart)
+    ∙ (ap (λ b. cond b (target_class S (assignment joined_byte p.after) (header_class joined_byte new)) (header_class joined_byte new)) p.takes
+    ∙ ap (λ z. target_class S z (header_class joined_byte new)) p.assigned)) in
+    made-class c cs new (TargetAssign (record a { targets = T })) (ap (is_all_blanks joined_byte) cut ∙ colon-filled (T ++ F) colon) r (ap (assignment joined_byte) cut ∙ f.unassigned)
     (ap (λ z. directive c (word_texts joined_byte z)) cut ∙ f.undirected) front rule

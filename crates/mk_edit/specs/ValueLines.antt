@@ -96,8 +96,8 @@ pub record IsValueLine (c : Context) (l : List ℕ) (below : List (List ℕ)) (a
   pub class : class_of c (line_of (cells_with a V G rest) (line_end_bytes (line_end l))) ≡ Assign (with_cells a V G) (prefix_set_by joined_byte (nat_lt 0 c.conditionals) (with_cells a V G))
 
 -- the class of cells in a context, as prefix-led or not
-abbrev read : Context → Bool → List Cell → Class
-read c led cs = class_at led c.defines c.flag (nat_lt 0 c.conditionals) cs (units joined_byte cs)
+abbrev read : Context → Bool → List Cell → Class Cell
+read c led cs = class_at joined_byte led c.defines c.flag (nat_lt 0 c.conditionals) (is_unreadable cs) (units joined_byte cs)
 
 -- so it is where its bytes are a line of these cells
 pub value-line_of : (c : Context) (l : List ℕ) (below : List (List ℕ)) (a : Assignment Cell) (sets : Option ℕ) (V : List Cell) (X G : List (List Cell)) → class_of c l ≡ Assign a sets

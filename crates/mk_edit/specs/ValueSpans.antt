@@ -43,7 +43,7 @@ append_value_span v at a = record {
 }
 
 -- the span in a line of this class, which begins at a place
-abbrev pub assignment_span : (ℕ → Assignment Cell → Replacement) → (line_start : ℕ) → Class → List Replacement
+abbrev pub assignment_span : (ℕ → Assignment Cell → Replacement) → (line_start : ℕ) → Class Cell → List Replacement
 assignment_span f at (Assign a p) = f at a ∷ []
 assignment_span f at k = []
 

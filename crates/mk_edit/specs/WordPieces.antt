@@ -79,7 +79,7 @@ add_pieces false w h = normal_pieces w h
 -- ---- the lines of a text
 
 -- the pieces of a line that a rename makes: in a header, and in the targets of a target assignment
-abbrev pub renamed_pieces : (old new : List ℕ) → Class → List Piece
+abbrev pub renamed_pieces : (old new : List ℕ) → Class Cell → List Piece
 renamed_pieces o n (HeaderLine h) = rename_pieces o n h
 renamed_pieces o n (TargetLine a) = renamed_words o n a.targets
 renamed_pieces o n k = []

@@ -1,6 +1,7 @@
 -- The lines of a text are admitted where they stand.
 use Rattle.std.proofs.Common.{◌≡◌, ℕ, zero, suc, ◌+◌, ◌<◌, ◌≤◌, ◌^◌, refl, sym, ap, ◌∙◌, subst, arith, List, [], ◌∷◌, length, take, drop, suc-add}
 use Rattle.mk_lines.specs.LogicalLines.{logical_lines}
+use Rattle.mk_lines.specs.Cells.{Cell, joined_byte}
 use Rattle.mk_class.specs.Classes.{Class}
 use Rattle.mk_class.specs.Classes.Class.{Endef, Body, Recipe, Opaque, Blank, Comment, Assign, DefineHead, If, Else, Endif, Directive, TargetAssign, Rough, Header}
 use Rattle.mk_class.specs.Contexts.{Context, start, context_after, defines_after}
@@ -8,7 +9,7 @@ use Rattle.mk_class.specs.ClassPlaces.{class_places}
 use Rattle.mk_class.specs.ClassTable.{class_of}
 use Rattle.mk_class.specs.ClassLaws.{FitsCounts, class_of-counts}
 use Rattle.mk_class.specs.ClassedLines.{ClassedLine, classed, classed_lines, context_after_lines}
-use Rattle.mk_class.specs.ContextPlaces.{context_after_places, context_after_places-class_places, FitsDefines}
+use Rattle.mk_class.specs.Contexts.{context_after_places, FitsDefines}
 use Rattle.mk_class.specs.declared.class.Class as class
 use Rattle.mk_class.specs.declared.context.Nesting.TheVariants.{Opens, Closes, Keeps}
 use Rattle.mk_tree.specs.PlacedLines.{PlacedLine, placed_line, placed_lines, placed_text, AreConditionalsFit, context_after_placed}
@@ -16,7 +17,7 @@ use Rattle.mk_tree.specs.Documents.{IsFaithful}
 use Rattle.mk_tree.specs.Admissions.{AreAdmitted}
 
 -- a line opens at most one define
-pub defines_after-few : (n : ℕ) (k : Class) → defines_after n k ≤ n + 1
+pub defines_after-few : (n : ℕ) (k : Class Cell) → defines_after n k ≤ n + 1
 defines_after-few n Endef = omega arith
 defines_after-few n (Body Opens) = omega arith
 defines_after-few n (Body Closes) = omega arith
@@ -36,7 +37,7 @@ defines_after-few n Rough = omega arith
 defines_after-few n (Header h) = omega arith
 
 -- the class of a line fits the open defines where it stands, where they are few
-defines-fit : (n c : ℕ) (k : Class) → n < 2 ^ 24 → FitsCounts n c k → FitsDefines n (class_places k)
+defines-fit : (n c : ℕ) (k : Class Cell) → n < 2 ^ 24 → FitsCounts n c k → FitsDefines n (class_places joined_byte k)
 defines-fit n c Endef few h = omega (arith, h)
 defines-fit n c (Body Opens) few h = few
 defines-fit n c (Body Closes) few (m, e) = omega (arith, e)
@@ -61,7 +62,7 @@ admitted-classed c [] h few = tt
 admitted-classed c (l ∷ ls) h few =
     let k = class_of c l in
     let next = context_after c k in
-    let e : context_after_places c (class_places k) ≡ next = context_after_places-class_places c k in
+    let e : context_after_places c (class_places joined_byte k) ≡ next = refl in
     let fits : AreConditionalsFit next.conditionals (placed_lines (classed next ls)) = subst (λ (z : Context). AreConditionalsFit z.conditionals (placed_lines (classed next ls))) e h.1 in
     let rest : AreAdmitted next (placed_lines (classed next ls)) = admitted-classed next ls fits (omega (arith, few, defines_after-few c.defines k)) in
     ((h.0, defines-fit c.defines c.conditionals k (omega (arith, few)) (class_of-counts c l)), subst (λ (z : Context). AreAdmitted z (placed_lines (classed next ls))) (sym e) rest)
@@ -117,7 +118,7 @@ walk-step ls ahead left x n c next k at e here fits same step =
 pub context_after_placed-lines : (c : Context) (ls : List ClassedLine) → context_after_placed c (placed_lines ls) ≡ context_after_lines c ls
 context_after_placed-lines c [] = refl
 context_after_placed-lines c (l ∷ ls) =
-    ap (λ z. context_after_placed z (placed_lines ls)) (context_after_places-class_places c l.class) ∙ context_after_placed-lines (context_after c l.class) ls
+    context_after_placed-lines (context_after c l.class) ls
 
 placed_lines-take : (n : ℕ) (ls : List ClassedLine) → take n (placed_lines ls) ≡ placed_lines (take n ls)
 placed_lines-take zero ls = refl

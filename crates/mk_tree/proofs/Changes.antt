@@ -1,7 +1,7 @@
 -- Lines put in, taken out or replaced: the bytes, and the open conditionals.
 use Rattle.std.proofs.Common.{◌≡◌, ℕ, zero, suc, ◌+◌, ◌<◌, false, refl, arith, List, [], ◌∷◌, ◌++◌, length, take, drop, suc-add}
 use Rattle.std.specs.Prelude.{slice_get, IfSome}
-use Rattle.mk_class.specs.ContextPlaces.{conditionals_after_places, FitsConditionals}
+use Rattle.mk_class.specs.Contexts.{conditionals_after_places, FitsConditionals}
 use Rattle.mk_class.specs.declared.class.Class.{Class}
 use Rattle.mk_class.specs.declared.class.Class.TheVariants.{Endef, Body, Recipe, Opaque, Blank, Comment, Assign, DefineHead, If, Else, Endif, Directive, TargetAssign, Rough, Header}
 use Rattle.mk_tree.specs.PlacedLines.{PlacedLine, size_of, size_of_line, is_conditional_places, AreConditionalsFit}

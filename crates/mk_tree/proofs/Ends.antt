@@ -1,7 +1,7 @@
 -- The last of some lines, with other bytes.
 use Rattle.std.proofs.Common.{◌≡◌, ℕ, ◌+◌, ◌-◌, ◌<◌, refl, sym, ap, ◌∙◌, arith, List, [], ◌∷◌, ◌++◌, length, length-append, append-nil, take, drop, Some}
 use Rattle.std.specs.Prelude.{slice_get}
-use Rattle.mk_class.specs.ContextPlaces.{conditionals_after_places}
+use Rattle.mk_class.specs.Contexts.{conditionals_after_places}
 use Rattle.mk_tree.specs.PlacedLines.{PlacedLine, size_of, size_of_line, last_line, with_last_bytes, AreConditionalsFit}
 use Rattle.mk_tree.proofs.Places.{get_middle, take_middle, drop_middle}
 

@@ -7,6 +7,7 @@ use Rattle.mk_lines.specs.LineLaws.{among, OneLine-logical}
 use Rattle.mk_lines.specs.Ranges.{text_at, line_ranges}
 use Rattle.mk_lines.specs.RangeLaws.{line_ranges-text, line_ranges-tiles}
 use Rattle.mk_lines.specs.declared.split.Span.{Span}
+use Rattle.mk_lines.specs.Cells.{Cell, joined_byte}
 use Rattle.mk_class.specs.Classes.{Class}
 use Rattle.mk_class.specs.Classes.Class.{Endef, Body, Recipe, Opaque, Blank, Comment, Assign, DefineHead, If, Else, Endif, Directive, TargetAssign, Rough, Header}
 use Rattle.mk_class.specs.Contexts.{Context, start, context_after, conditionals_after}
@@ -14,7 +15,7 @@ use Rattle.mk_class.specs.ClassPlaces.{class_places}
 use Rattle.mk_class.specs.ClassTable.{class_of}
 use Rattle.mk_class.specs.ClassLaws.{FitsCounts, class_of-counts}
 use Rattle.mk_class.specs.ClassedLines.{ClassedLine, classed}
-use Rattle.mk_class.specs.ContextPlaces.{context_after_places, context_after_places-class_places, FitsConditionals}
+use Rattle.mk_class.specs.Contexts.{context_after_places, FitsConditionals}
 use Rattle.mk_class.specs.LineReads.{IsRead}
 use Rattle.mk_class.specs.LineReads as line_reads
 use Rattle.mk_tree.specs.PlacedLines.{PlacedLine, placed_lines, placed_text, size_of, AreConditionalsFit}
@@ -85,7 +86,7 @@ most_conditionals-self n [] = omega arith
 most_conditionals-self n (l ∷ ls) = omega arith
 
 -- a line that does not open one too many fits
-conditionals-fit : (n m : ℕ) (k : Class) → FitsCounts m n k → (k ≡ If → n < 256) → FitsConditionals n (class_places k)
+conditionals-fit : (n m : ℕ) (k : Class Cell) → FitsCounts m n k → (k ≡ If → n < 256) → FitsConditionals n (class_places joined_byte k)
 conditionals-fit n m Endef h p = tt
 conditionals-fit n m (Body b) h p = tt
 conditionals-fit n m Recipe h p = tt
@@ -103,7 +104,7 @@ conditionals-fit n m Rough h p = tt
 conditionals-fit n m (Header x) h p = tt
 
 -- a line that opens one too many makes the lines too deep
-opens-deep : (n : ℕ) (k : Class) (rest : List ClassedLine) → (k ≡ If) × (n ≡ 256) → 256 < most_conditionals (conditionals_after n k) rest
+opens-deep : (n : ℕ) (k : Class Cell) (rest : List ClassedLine) → (k ≡ If) × (n ≡ 256) → 256 < most_conditionals (conditionals_after n k) rest
 opens-deep n k rest h = subst (λ z. 256 < most_conditionals (conditionals_after n z) rest) (sym h.0) (omega (arith, h.1, most_conditionals-self (suc n) rest))
 
 -- ---- one more line read
@@ -116,9 +117,9 @@ pub read-first : (c after : Context) (l : List ℕ) (rest : List (List ℕ)) (x 
     → AreReadFrom (record { context = c; lines = l ∷ rest }) (x ∷ []) (record { context = after; lines = rest })
 read-first c after l rest x b (v, e, few) =
     let k = class_of c l in
-    let here : PlacedLine = record { bytes = l; class = class_places k } in
+    let here : PlacedLine = record { bytes = l; class = class_places joined_byte k } in
     let next = context_after c k in
-    let placed : context_after_places c (class_places k) ≡ next = context_after_places-class_places c k in
+    let placed : context_after_places c (class_places joined_byte k) ≡ next = refl in
     let read : AreReadFrom (record { context = c; lines = l ∷ rest }) (x ∷ []) (record { context = next; lines = rest }) = record {
       all = ap (λ z. z ∷ placed_lines (classed next rest)) (placed-same x here b v);
       fit = λ h. (conditionals-fit c.conditionals c.defines k (class_of-counts c l) few, subst (λ (z : Context). AreConditionalsFit z.conditionals (placed_lines (classed next rest))) (sym placed) h);
@@ -175,7 +176,7 @@ all-counted text old left read e h n =
 -- ---- the whole text
 
 -- a line that fits leaves no more than 256 open
-conditionals-few : (n : ℕ) (k : Class) → n ≤ 256 → FitsConditionals n (class_places k) → conditionals_after n k ≤ 256
+conditionals-few : (n : ℕ) (k : Class Cell) → n ≤ 256 → FitsConditionals n (class_places joined_byte k) → conditionals_after n k ≤ 256
 conditionals-few n Endef h p = h
 conditionals-few n (Body b) h p = h
 conditionals-few n Recipe h p = h
@@ -199,7 +200,7 @@ most_conditionals-fit c (l ∷ ls) h k =
     let kind = class_of c l in
     let next = context_after c kind in
     let few : next.conditionals ≤ 256 = conditionals-few c.conditionals kind h k.0 in
-    let fits : AreConditionalsFit next.conditionals (placed_lines (classed next ls)) = subst (λ (z : Context). AreConditionalsFit z.conditionals (placed_lines (classed next ls))) (context_after_places-class_places c kind) k.1 in
+    let fits : AreConditionalsFit next.conditionals (placed_lines (classed next ls)) = k.1 in
     omega (arith, h, most_conditionals-fit next ls few fits)
 
 pub shallow : (text : List ℕ) → AreConditionalsFit 0 (document_lines text) → IsTooDeep text → ⊥

@@ -1,7 +1,7 @@
 -- Lines that each may stand in the context of those before it.
 use Rattle.std.specs.Prelude.{List, [], ◌∷◌}
 use Rattle.mk_class.specs.Contexts.{Context}
-use Rattle.mk_class.specs.ContextPlaces.{context_after_places, Admits}
+use Rattle.mk_class.specs.Contexts.{context_after_places, Admits}
 use Rattle.mk_tree.specs.PlacedLines.{PlacedLine}
 
 -- each of some lines, the first of which stands in a context, is admitted where it stands

@@ -2,6 +2,7 @@
 -- by such a change.
 use Rattle.std.proofs.Common.{◌≡◌, refl, sym, ap, ◌∙◌, arith, ℕ, List, [], ◌∷◌, ◌++◌, not, true, max}
 use Rattle.mk_lines.specs.ListLaws.{Each}
+use Rattle.mk_lines.specs.Cells.{Cell}
 use Rattle.mk_class.specs.Classes.{Class, is_conditional}
 use Rattle.mk_class.specs.Classes.Class.{Endef, Body, Recipe, Opaque, Blank, Comment, Assign, DefineHead, If, Else, Endif, Directive, TargetAssign, Rough, Header}
 use Rattle.mk_class.specs.Contexts.{Context, context_after, conditionals_after}
@@ -14,7 +15,7 @@ abbrev pub AreUnconditional : List ClassedLine → Type 0
 AreUnconditional ls = Each (λ l. not (is_conditional l.class)) ls
 
 -- such a line leaves the number of open conditionals
-pub conditionals-kept : (n : ℕ) (k : Class) → not (is_conditional k) ≡ true → conditionals_after n k ≡ n
+pub conditionals-kept : (n : ℕ) (k : Class Cell) → not (is_conditional k) ≡ true → conditionals_after n k ≡ n
 conditionals-kept n Endef h = refl
 conditionals-kept n (Body d) h = refl
 conditionals-kept n Recipe h = refl

@@ -3,6 +3,7 @@ use Rattle.std.proofs.Common.{◌≡◌, refl, ap, ◌∙◌, if◌then◌else�
 use Rattle.mk_lines.specs.Lists.{concat, leading}
 use Rattle.mk_lines.specs.LogicalLines.{logical_lines}
 use Rattle.mk_lines.specs.LineLaws.{concat-logical_lines}
+use Rattle.mk_lines.specs.Cells.{Cell}
 use Rattle.mk_class.specs.Classes.{Class}
 use Rattle.mk_class.specs.Classes.Class.{Endef, Body, Recipe, Opaque, Blank, Comment, Assign, DefineHead, If, Else, Endif, Directive, TargetAssign, Rough, Header}
 use Rattle.mk_class.specs.Contexts.{Context, start, context_after}
@@ -35,7 +36,7 @@ pub faithful-own : (ls : List PlacedLine) (t : List ℕ) → IsFaithfulTo ls t �
 faithful-own ls t h = h ∙ ap document_lines (sym (faithful-text ls t h))
 
 -- a line stays in a rule exactly where it does not end it
-stays-not_ends : (k : Class) → stays_in_rule k ≡ not (ends_rule k)
+stays-not_ends : (k : Class Cell) → stays_in_rule k ≡ not (ends_rule k)
 stays-not_ends Endef = refl
 stays-not_ends (Body n) = refl
 stays-not_ends Recipe = refl

@@ -5,6 +5,7 @@ use Rattle.mk_lines.specs.Lists.{concat}
 use Rattle.mk_lines.specs.LogicalLines.{logical_lines}
 use Rattle.mk_lines.specs.LineLaws.{OneLine, OneLine-are_lines, AreLines, AreLines-of, AreLines-logical, AreLines-one_line, AreApart, Ends, EndsBefore, lines-together, lines-apart, logical_lines-are_lines}
 use Rattle.mk_lines.specs.Pieces.{replaced, Piece, new_bytes}
+use Rattle.mk_lines.specs.Cells.{Cell}
 use Rattle.mk_class.specs.Classes.{Class}
 use Rattle.mk_class.specs.Contexts.{Context, start, context_after}
 use Rattle.mk_class.specs.ClassTable.{class_of}
@@ -137,16 +138,16 @@ replace-each P f g c (l ∷ ls) below h k = (g c l (ls ++ below) h.0 k.0, replac
 -- ---- all lines with their pieces replaced
 
 -- a line with its pieces replaced, and the class that it is to have
-abbrev pub with_pieces : (ClassedLine → List Piece) → (ClassedLine → Class) → ClassedLine → ClassedLine
+abbrev pub with_pieces : (ClassedLine → List Piece) → (ClassedLine → Class Cell) → ClassedLine → ClassedLine
 with_pieces f k l = record { bytes = new_bytes (f l) ++ after_pieces f l; class = k l }
 
 -- the text of such lines
-pub text_of-with_pieces : (f : ClassedLine → List Piece) (k : ClassedLine → Class) (ls : List ClassedLine) → text_of (map (with_pieces f k) ls) ≡ replaced_text f ls
+pub text_of-with_pieces : (f : ClassedLine → List Piece) (k : ClassedLine → Class Cell) (ls : List ClassedLine) → text_of (map (with_pieces f k) ls) ≡ replaced_text f ls
 text_of-with_pieces f k [] = refl
 text_of-with_pieces f k (l ∷ ls) = ap (λ z. (new_bytes (f l) ++ after_pieces f l) ++ z) (text_of-with_pieces f k ls)
 
 -- The replacements in all lines of a text made: its lines are those with their pieces replaced.
-pub all_pieces-replaced : (f : ClassedLine → List Piece) (k : ClassedLine → Class) (t : List ℕ) → BeginWithPieces f (classed_lines t)
+pub all_pieces-replaced : (f : ClassedLine → List Piece) (k : ClassedLine → Class Cell) (t : List ℕ) → BeginWithPieces f (classed_lines t)
     → ReplaceEach start (classed_lines t) (map (with_pieces f k) (classed_lines t)) []
     → classed_lines (replaced 0 t (line_replacements f 0 (classed_lines t))) ≡ map (with_pieces f k) (classed_lines t)
 all_pieces-replaced f k t b e =
@@ -154,7 +155,7 @@ all_pieces-replaced f k t b e =
     ap classed_lines (text-all_lines_replaced f t (classed_lines t) (text_of-classed_lines t) b ∙ sym (text_of-with_pieces f k (classed_lines t))) ∙ all_lines-replaced t new e
 
 -- and its reading is that of these
-pub reading-all_pieces_replaced : (f : ClassedLine → List Piece) (k : ClassedLine → Class) (t : List ℕ) → BeginWithPieces f (classed_lines t)
+pub reading-all_pieces_replaced : (f : ClassedLine → List Piece) (k : ClassedLine → Class Cell) (t : List ℕ) → BeginWithPieces f (classed_lines t)
     → ReplaceEach start (classed_lines t) (map (with_pieces f k) (classed_lines t)) []
     → reading (replaced 0 t (line_replacements f 0 (classed_lines t))) ≡ items (map (with_pieces f k) (classed_lines t))
 reading-all_pieces_replaced f k t b e = ap items (all_pieces-replaced f k t b e)

@@ -51,7 +51,7 @@ header_item h =
     (raw_units (inline_recipe joined_byte h))
 
 -- the item of a line, or none
-abbrev pub items_of_line : Class → List ℕ → List Item
+abbrev pub items_of_line : Class Cell → List ℕ → List Item
 items_of_line Class.Blank l = []
 items_of_line Class.Comment l = []
 items_of_line (Class.Assign a p) l = Assign (assigned a) ∷ []

@@ -3,6 +3,7 @@
 use Rattle.std.proofs.Common.{◌≡◌, refl, sym, ap, ◌∙◌, ℕ, List, [], ◌∷◌, ◌++◌, Bool, true, false, not, ◌&&◌, ◌||◌}
 use Rattle.mk_lines.specs.ListLaws.{Each}
 use Rattle.mk_lines.specs.LogicalLines.{logical_lines}
+use Rattle.mk_lines.specs.Cells.{Cell}
 use Rattle.mk_class.specs.Lists.{any}
 use Rattle.mk_class.specs.Classes.{Class, leaves_flag}
 use Rattle.mk_class.specs.Contexts.{Context, start, context_after, flag_after, defines_after, conditionals_after, prefix_after}
@@ -89,7 +90,7 @@ agrees-is c d h e = parts c.flag d.flag c.defines d.defines c.conditionals d.con
     parts f g n m k j p q a b c d = rw (a, b, c, d) refl
 
 -- contexts that agree still do after a line of one class
-pub agrees-after : (c d : Context) (k : Class) → AgreeButForFlag c d → AgreeButForFlag (context_after c k) (context_after d k)
+pub agrees-after : (c d : Context) (k : Class Cell) → AgreeButForFlag c d → AgreeButForFlag (context_after c k) (context_after d k)
 agrees-after c d k h = record {
   defines = ap (λ z. defines_after z k) h.defines;
   conditionals = ap (λ z. conditionals_after z k) h.conditionals;

@@ -4,6 +4,7 @@ use Rattle.std.proofs.lemmas.List.{append-nil}
 use Rattle.mk_lines.specs.Lists.{concat}
 use Rattle.mk_lines.specs.LogicalLines.{logical_lines}
 use Rattle.mk_lines.specs.LineLaws.{concat-logical_lines, OneLine, Ends, EndsBefore, Among, among}
+use Rattle.mk_lines.specs.Cells.{Cell}
 use Rattle.mk_class.specs.Classes.{Class}
 use Rattle.mk_class.specs.Contexts.{Context, start, context_after}
 use Rattle.mk_class.specs.ClassTable.{class_of}
@@ -70,12 +71,12 @@ AreClassed-class c l ls h = let e : line_in c l.bytes ≡ l = cc in ap (λ z. z.
 pub AreClassed-tail : (c : Context) (l : ClassedLine) (ls : List ClassedLine) → AreClassed c (l ∷ ls) → AreClassed (context_after c l.class) ls
 AreClassed-tail c l ls h =
     let e : classed (context_after c (class_of c l.bytes)) (bytes_of ls) ≡ ls = cc in
-    ap (λ (k : Class). classed (context_after c k) (bytes_of ls)) (sym (AreClassed-class c l ls h)) ∙ e
+    ap (λ (k : Class Cell). classed (context_after c k) (bytes_of ls)) (sym (AreClassed-class c l ls h)) ∙ e
 
 -- put together again
 pub AreClassed-cons : (c : Context) (l : ClassedLine) (ls : List ClassedLine) → class_of c l.bytes ≡ l.class → AreClassed (context_after c l.class) ls → AreClassed c (l ∷ ls)
 AreClassed-cons c l ls h k =
-    ap (λ (z : Class). record { bytes = l.bytes; class = z } ∷ classed (context_after c z) (bytes_of ls)) h ∙ ap (λ z. l ∷ z) k
+    ap (λ (z : Class Cell). record { bytes = l.bytes; class = z } ∷ classed (context_after c z) (bytes_of ls)) h ∙ ap (λ z. l ∷ z) k
 
 -- two runs of lines
 pub AreClassed-first : (c : Context) (a b : List ClassedLine) → AreClassed c (a ++ b) → AreClassed c a

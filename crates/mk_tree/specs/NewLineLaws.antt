@@ -7,7 +7,7 @@ use Rattle.mk_lines.specs.Bytes.{ByteKind, LineFeed, CarriageReturn, Backslash, 
 use Rattle.mk_lines.specs.ListLaws.{Each-right}
 use Rattle.mk_lines.specs.PhysicalLines.{physical_lines, line_end, line_end_bytes, without_line_end, ends_with_carriage_return, is_carriage_return_first, file_line_end, first_line_end, line_end_or_lf}
 use Rattle.mk_lines.specs.LogicalLines.{starts_with_odd_run, starts_with_odd_run_at, ends_with_odd_run, is_continued, is_open, has_no_line_end}
-use Rattle.mk_lines.specs.Cells.{cells, joined_byte}
+use Rattle.mk_lines.specs.Cells.{Cell, cells, joined_byte}
 use Rattle.mk_lines.specs.Units.{units}
 use Rattle.mk_lines.specs.LineCut.{NoLineFeed, logical_lines-last}
 use Rattle.mk_lines.specs.LineLaws.{OneLine, OneLine-of, Ends}
@@ -22,7 +22,7 @@ use Rattle.mk_class.specs.Arguments.{is_backslash_byte, is_barred_byte, is_clean
 use Rattle.mk_class.specs.Classes.{Class}
 use Rattle.mk_class.specs.RecipePrefix.{is_prefix_led}
 use Rattle.mk_class.specs.Contexts.{Context, context_after, flag_after}
-use Rattle.mk_class.specs.ClassTable.{class_of, class_at}
+use Rattle.mk_class.specs.ClassTable.{is_unreadable, class_of, class_at}
 use Rattle.mk_class.specs.ClassedLines.{ClassedLine, classed_lines}
 use Rattle.mk_tree.specs.LineTexts.{text_of, context_of}
 use Rattle.mk_tree.specs.Items.{items, items_of_line}
@@ -169,8 +169,8 @@ new_line-clean x e h b k =
 
 -- ---- lines of the same text
 
-class_with : Context → (led : Bool) → (text : List ℕ) → Class
-class_with c led x = class_at led c.defines c.flag (nat_lt 0 c.conditionals) (cells x) (units joined_byte (cells x))
+class_with : Context → (led : Bool) → (text : List ℕ) → Class Cell
+class_with c led x = class_at joined_byte led c.defines c.flag (nat_lt 0 c.conditionals) (is_unreadable (cells x)) (units joined_byte (cells x))
 
 -- lines of one text without line end, which begin alike, have one class
 pub class_of-same_text : (c : Context) (l m : List ℕ) → is_prefix_led c.prefix l ≡ is_prefix_led c.prefix m → without_line_end l ≡ without_line_end m → class_of c l ≡ class_of c m
@@ -178,7 +178,7 @@ unfolding class_with
 class_of-same_text c l m p h = ap (λ z. class_with c z (without_line_end l)) p ∙ ap (class_with c (is_prefix_led c.prefix m)) h
 
 -- and one item
-pub items_of_line-same_text : (k : Class) (l m : List ℕ) → without_line_end l ≡ without_line_end m → items_of_line k l ≡ items_of_line k m
+pub items_of_line-same_text : (k : Class Cell) (l m : List ℕ) → without_line_end l ≡ without_line_end m → items_of_line k l ≡ items_of_line k m
 items_of_line-same_text Class.Blank l m h = refl
 items_of_line-same_text Class.Comment l m h = refl
 items_of_line-same_text (Class.Assign a p) l m h = refl
@@ -317,7 +317,7 @@ last-ended t (x ∷ xs) e h o k = apart (x ∷ xs) (last-apart x xs) h o
 
 -- A new line put between lines, in front of them or after them: the lines below stay unless they lean on the flag, and those
 -- above stay but for a line end that the last gets where it has none and nothing is below it.
-pub line-added : (t : List ℕ) (above below : List ClassedLine) (x : List ℕ) (e : End) (k : Class) → classed_lines t ≡ above ++ below
+pub line-added : (t : List ℕ) (above below : List ClassedLine) (x : List ℕ) (e : End) (k : Class Cell) → classed_lines t ≡ above ++ below
     → (is_empty below && last_passes (λ l. is_open l.bytes) above) ≡ false → has_no_line_end e ≡ false → IsEnded x e
     → class_of (context_of above) (x ++ line_end_bytes e) ≡ k
     → AgreeButForFlag (context_of above) (context_after (context_of above) k)
@@ -345,7 +345,7 @@ items-above_ended t above (b ∷ below) e h o n = refl
 items-above_ended t above [] e h o n = (last-ended t above e (h ∙ append-nil above) o n).same_items
 
 -- A new line put in by its span: the reading gets its item there, and no other item changes.
-pub reading-line_added : (t : List ℕ) (above below : List ClassedLine) (x : List ℕ) (e : End) (k : Class) → classed_lines t ≡ above ++ below
+pub reading-line_added : (t : List ℕ) (above below : List ClassedLine) (x : List ℕ) (e : End) (k : Class Cell) → classed_lines t ≡ above ++ below
     → (is_empty below && last_passes (λ l. is_open l.bytes) above) ≡ false → has_no_line_end e ≡ false → IsEnded x e
     → class_of (context_of above) (x ++ line_end_bytes e) ≡ k
     → AgreeButForFlag (context_of above) (context_after (context_of above) k)

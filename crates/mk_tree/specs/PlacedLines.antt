@@ -1,9 +1,10 @@
 -- A line as a document shows it: its bytes, and its class with the places of its parts in the joined text.
 use Rattle.std.specs.Prelude.{ℕ, ◌+◌, Bool, true, false, List, [], ◌∷◌, ◌++◌, length, map, Option, Some, None}
+use Rattle.mk_lines.specs.Cells.{joined_byte}
 use Rattle.mk_class.specs.Contexts.{Context}
 use Rattle.mk_class.specs.ClassedLines.{ClassedLine}
 use Rattle.mk_class.specs.ClassPlaces.{class_places}
-use Rattle.mk_class.specs.ContextPlaces.{context_after_places, conditionals_after_places, FitsConditionals}
+use Rattle.mk_class.specs.Contexts.{context_after_places, conditionals_after_places, FitsConditionals}
 use Rattle.mk_class.specs.declared.class.Class.{Class}
 use Rattle.mk_class.specs.declared.class.Class.TheVariants.{If, Else, Endif}
 
@@ -13,7 +14,7 @@ pub record PlacedLine : Type 0 where
 
 -- a line of the definitions as a document shows it
 abbrev pub placed_line : ClassedLine → PlacedLine
-placed_line l = record { bytes = l.bytes; class = class_places l.class }
+placed_line l = record { bytes = l.bytes; class = class_places joined_byte l.class }
 
 -- lines of the definitions as a document shows them
 abbrev pub placed_lines : List ClassedLine → List PlacedLine

@@ -1,6 +1,7 @@
 -- The recipe lines of a header, by the lines after it.
 use Rattle.std.specs.Prelude.{Bool, true, false, not, ◌||◌, List, length, drop, filter}
 use Rattle.mk_lines.specs.Lists.{leading, trim_end}
+use Rattle.mk_lines.specs.Cells.{Cell}
 use Rattle.mk_class.specs.Classes.{Class, is_recipe, leaves_flag}
 use Rattle.mk_class.specs.Classes.Class.{Rough, Header}
 use Rattle.mk_class.specs.Contexts.{flag_after}
@@ -9,7 +10,7 @@ use Rattle.mk_class.specs.declared.context.Flag.TheVariants.{Rule}
 use Rattle.mk_class.specs.ClassedLines.{ClassedLine}
 
 -- whether a line of this class may stand among the recipe lines of a rule: a recipe line, or one that leaves the flag
-abbrev pub stays_in_rule : Class → Bool
+abbrev pub stays_in_rule : Class Cell → Bool
 stays_in_rule k = is_recipe k || leaves_flag k
 
 -- the lines after a header that belong to its rule: those up to the first that neither is a recipe line nor leaves the flag
@@ -31,7 +32,7 @@ after_recipe after = drop (length (recipe_run after)) after
 -- ---- the same, told by the flag
 
 -- whether a line of this class begins a rule
-abbrev pub begins_rule : Class → Bool
+abbrev pub begins_rule : Class Cell → Bool
 begins_rule Rough = true
 begins_rule (Header h) = true
 begins_rule k = false
@@ -42,5 +43,5 @@ is_rule_flag Rule = true
 is_rule_flag f = false
 
 -- whether a line of this class ends the rule before it: it begins another, or leaves the flag other than Rule
-abbrev pub ends_rule : Class → Bool
+abbrev pub ends_rule : Class Cell → Bool
 ends_rule k = begins_rule k || not (is_rule_flag (flag_after Rule k))

@@ -53,7 +53,7 @@ pub record RuleContext (before within : Context) : Type 0 where
   pub prefix : within.prefix ≡ before.prefix
 
 -- one more line that stays in the rule
-line-in_rule : (b w : Context) (k : Class) → stays_in_rule k ≡ true → RuleContext b w → RuleContext b (context_after w k)
+line-in_rule : (b w : Context) (k : Class Cell) → stays_in_rule k ≡ true → RuleContext b w → RuleContext b (context_after w k)
 line-in_rule b w Endef h r = cc
 line-in_rule b w (Body n) h r = cc
 line-in_rule b w Recipe h r = record { flag = refl; no_define_before = r.no_define_before; no_define = r.no_define; prefix = r.prefix }
@@ -85,7 +85,7 @@ header-context c l x h =
 pub rule-context : (c : Context) (h : ClassedLine) (x : Headers.Header Cell) (ls : List ClassedLine) → class_of c h.bytes ≡ h.class → h.class ≡ Header x → Each (λ l. stays_in_rule l.class) ls
     → RuleContext c (context_after_lines c (h ∷ ls))
 rule-context c h x ls k e s =
-    lines-in_rule c (context_after c h.class) ls s (subst (λ (z : Class). RuleContext c (context_after c z)) (sym e) (header-context c h.bytes x (k ∙ e)))
+    lines-in_rule c (context_after c h.class) ls s (subst (λ (z : Class Cell). RuleContext c (context_after c z)) (sym e) (header-context c h.bytes x (k ∙ e)))
 
 -- where none of these lines belongs to a conditional, the context after them agrees with that before them but for the flag
 pub rule-agrees : (c : Context) (h : ClassedLine) (x : Headers.Header Cell) (ls : List ClassedLine) → class_of c h.bytes ≡ h.class → h.class ≡ Header x → Each (λ l. stays_in_rule l.class) ls
@@ -93,7 +93,7 @@ pub rule-agrees : (c : Context) (h : ClassedLine) (x : Headers.Header Cell) (ls 
 rule-agrees c h x ls k e s u =
     let r : RuleContext c (context_after_lines c (h ∷ ls)) = rule-context c h x ls k e s in
     let n : (context_after_lines c (h ∷ ls)).conditionals ≡ c.conditionals =
-    conditionals-kept_by_lines (context_after c h.class) ls u ∙ ap (λ (z : Class). (context_after c z).conditionals) e in
+    conditionals-kept_by_lines (context_after c h.class) ls u ∙ ap (λ (z : Class Cell). (context_after c z).conditionals) e in
     record { defines = r.no_define_before ∙ sym r.no_define; conditionals = sym n; prefix = sym r.prefix }
 
 -- ---- single lines

@@ -10,6 +10,7 @@ use Rattle.mk_lines.specs.LineEndLaws.{ends_line-ends}
 use Rattle.mk_lines.specs.Laws.{EndsWhereFollowed}
 use Rattle.mk_lines.specs.Pieces.{replaced}
 use Rattle.mk_lines.specs.PieceLaws.{replaced-one}
+use Rattle.mk_lines.specs.Cells.{Cell}
 use Rattle.mk_class.specs.Classes.{Class}
 use Rattle.mk_class.specs.Contexts.{Context, start, context_after, flag_after}
 use Rattle.mk_class.specs.ClassTable.{class_of}
@@ -95,12 +96,12 @@ run-replaced_same t above run below v new h k begins ends same =
 
 -- ---- lines put in, taken out, and replaced by one
 
-one-class : (c : Context) (m : List ℕ) (k : Class) → OneLine m → class_of c m ≡ k → classed c (logical_lines m) ≡ record { bytes = m; class = k } ∷ []
+one-class : (c : Context) (m : List ℕ) (k : Class Cell) → OneLine m → class_of c m ≡ k → classed c (logical_lines m) ≡ record { bytes = m; class = k } ∷ []
 one-class c m k o h =
-    ap (classed c) (OneLine-logical m o) ∙ ap (λ (z : Class). record { bytes = m; class = z } ∷ []) h
+    ap (classed c) (OneLine-logical m o) ∙ ap (λ (z : Class Cell). record { bytes = m; class = z } ∷ []) h
 
 -- A line put between lines, or in front of them, or, where the lines above end, at the end of the text.
-pub line-inserted : (t : List ℕ) (above below : List ClassedLine) (m : List ℕ) (k : Class) → classed_lines t ≡ above ++ below
+pub line-inserted : (t : List ℕ) (above below : List ClassedLine) (m : List ℕ) (k : Class Cell) → classed_lines t ≡ above ++ below
     → OneLine m → (below ≡ [] → Ends (text_of above)) → EndsBefore m (bytes_of below) → class_of (context_of above) m ≡ k
     → AgreeButForFlag (context_of above) (context_after (context_of above) k)
     → leans (context_of above).prefix (flag_after (context_of above).flag k) (context_of above).flag below ≡ false
@@ -138,7 +139,7 @@ reading-run_removed t above run below h agree free =
     ap reading (text-run_replaced t above run below [] h) ∙ reading-two (text_of above ++ text_of below) above below (run-removed t above run below h agree free)
 
 -- A line replaced by another line, after which the context is the same.
-pub line-replaced : (t : List ℕ) (above : List ClassedLine) (l : ClassedLine) (below : List ClassedLine) (m : List ℕ) (k : Class) → classed_lines t ≡ above ++ l ∷ below
+pub line-replaced : (t : List ℕ) (above : List ClassedLine) (l : ClassedLine) (below : List ClassedLine) (m : List ℕ) (k : Class Cell) → classed_lines t ≡ above ++ l ∷ below
     → OneLine m → EndsBefore m (bytes_of below) → class_of (context_of above) m ≡ k
     → context_after (context_of above) k ≡ context_after (context_of above) l.class
     → classed_lines (text_of above ++ (m ++ text_of below)) ≡ above ++ record { bytes = m; class = k } ∷ below
@@ -146,7 +147,7 @@ line-replaced t above l below m k h o ends q same =
     run-replaced_same t above (l ∷ []) below m (record { bytes = m; class = k } ∷ []) h (one-class (context_of above) m k o q) (λ z. cc) ends same
 
 -- and the reading has its item in the place of the old one
-pub reading-line_replaced : (t : List ℕ) (above : List ClassedLine) (l : ClassedLine) (below : List ClassedLine) (m : List ℕ) (k : Class) → classed_lines t ≡ above ++ l ∷ below
+pub reading-line_replaced : (t : List ℕ) (above : List ClassedLine) (l : ClassedLine) (below : List ClassedLine) (m : List ℕ) (k : Class Cell) → classed_lines t ≡ above ++ l ∷ below
     → OneLine m → EndsBefore m (bytes_of below) → class_of (context_of above) m ≡ k
     → context_after (context_of above) k ≡ context_after (context_of above) l.class
     → reading (text_of above ++ (m ++ text_of below)) ≡ items above ++ (items_of_line k m ++ items below)

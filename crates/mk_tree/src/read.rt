@@ -1,6 +1,7 @@
 //! Lines as they are read: with their class and their cells.
 ghost use Rattle.std.specs.Prelude.{◌≡◌, ◌+◌, ◌-◌, ◌^◌, ◌<◌, ◌≤◌, [], ◌∷◌, IfErr, IfOk, OnOk, min};
 ghost use Rattle.mk_lines.specs.LogicalLines.{logical_lines};
+ghost use Rattle.mk_lines.specs.Cells.{joined_byte};
 ghost use Rattle.mk_class.specs.Classes.Class.{If};
 ghost use Rattle.mk_class.specs.ClassTable.{class_of};
 ghost use Rattle.mk_class.specs.ClassPlaces.{class_places};
@@ -34,7 +35,7 @@ impl<A: Allocator + Copy> Line<A> {
     ) -> Result<Line<A>, Fault>
         requires line { logical_lines bytes.items ≡ bytes.items ∷ [] }
         requires defines { context.defines < 2 ^ 24 }
-        ensures line { IfOk result (λ line. line_view line ≡ record { bytes = bytes.items; class = class_places (class_of context bytes.items) }) }
+        ensures line { IfOk result (λ line. line_view line ≡ record { bytes = bytes.items; class = class_places joined_byte (class_of context bytes.items) }) }
         ensures shallow { IfOk result (λ _. class_of context bytes.items ≡ If → context.conditionals < 256) }
         ensures fault { IfErr result (λ fault. IsReadingFault (IsTooDeep context bytes.items) fault) }
         ensures counted { OnOk result (meter.new ≡ min (meter.old + 1) (2 ^ 64 - 1)) }
