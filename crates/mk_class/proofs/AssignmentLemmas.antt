@@ -6,25 +6,24 @@ use Rattle.mk_lines.specs.Lists.{concat, leading, after_leading, trim_end, trail
 use Rattle.mk_lines.specs.Units.{units, byte_mark}
 use Rattle.mk_lines.specs.Units.Mark.{Unmarked}
 use Rattle.mk_lines.specs.FirstUnit.{first_unit, after_first_unit}
-use Rattle.mk_lines.specs.FirstUnitLaws.{units-first_unit}
+use Rattle.mk_lines.proofs.on_units.FirstUnitLemmas.{units-first_unit}
 use Rattle.mk_lines.specs.Words.{Token, Word, tokens, token_units, before_tokens, is_gap}
-use Rattle.mk_lines.specs.TokenLaws.{token_units-tokens}
-use Rattle.mk_lines.specs.ListLaws.{leading-after_leading}
+use Rattle.mk_lines.proofs.on_units.TokenLemmas.{token_units-tokens}
+use Rattle.mk_lines.proofs.on_lists.ListLemmas.{leading-after_leading}
 use Rattle.mk_class.specs.Lists.{until, from}
 use Rattle.mk_class.specs.Symbols.{symbol}
 use Rattle.mk_class.specs.Symbols.Symbol.{Colon}
 use Rattle.mk_class.specs.Assignments.{Assignment, operator_at, operator_length, ends_name, after_blanks, blanks, defined_by, definition, modifier_of, after_units, after_modifier, assignment, assignment_of}
 use Rattle.mk_class.specs.TextClasses.{itself}
-use Rattle.mk_class.specs.Scans.{IsOperatorAt}
+use Rattle.mk_class.specs.Scans.{IsOperatorAt, is_other}
 use Rattle.mk_class.specs.declared.assignment.Flavor.{Flavor}
 use Rattle.mk_class.specs.declared.assignment.Modifier.{Modifier}
 use Rattle.mk_class.specs.ClassPlaces.{width}
 use Rattle.mk_class.specs.AssignmentPlaces.{placed}
 use Rattle.mk_class.specs.declared.assignment.Assignment as places
 use Rattle.std.specs.Option.{is_some}
-use Rattle.mk_lines.specs.UnitLaws.{concat-units}
+use Rattle.mk_lines.proofs.on_units.UnitLemmas.{concat-units}
 use Rattle.mk_class.specs.FirstWords.{modifier}
-use Rattle.mk_class.specs.Scans.{is_other}
 use Rattle.mk_class.proofs.ScanLemmas.{after_leading-same, other-gap, units-unmarked, width-before, width-append, width-units, leading-before, until-before, trim_end-before, take-before, until-none}
 
 -- a text that begins with a byte that means nothing to units

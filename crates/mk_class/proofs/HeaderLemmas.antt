@@ -1,14 +1,13 @@
 -- Lemmas of the readers of headers.
-use Rattle.std.proofs.Common.{◌≡◌, refl, sym, ap, ◌∙◌, ℕ, List, [], ◌∷◌, Bool, true, false, not, ◌||◌}
+use Rattle.std.proofs.Common.{◌≡◌, refl, sym, ap, ◌∙◌, ℕ, List, [], ◌∷◌, Bool, true, false, not, ◌||◌, subst, length, take, drop, get_or, ◌-◌, ◌≤◌, ◌==◌, cond, eq-eqb, Bor}
 use Rattle.std.specs.Prelude.{MatchOption, Option}
-use Rattle.std.proofs.Common.{subst, length, take, drop, get_or, ◌-◌, ◌≤◌, ◌==◌, cond, eq-eqb, Bor}
 use Rattle.std.proofs.lemmas.Bool.{eqb-true}
 use Rattle.mk_lines.specs.Lists.{leading}
 use Rattle.mk_lines.specs.Units.Mark.{Dollar, Escape, OpenParen, CloseParen, OpenBrace, CloseBrace, Unmarked}
-use Rattle.mk_class.specs.Lists.{first_passes}
-use Rattle.mk_class.specs.Symbols.{Symbol, byte_symbol, is_hash, is_colon, is_bar, is_equals_symbol, is_hash_symbol, is_colon_symbol, is_semicolon_symbol, is_bar_symbol}
+use Rattle.mk_class.specs.Lists.{first_passes, any}
+use Rattle.mk_class.specs.Symbols.{Symbol, byte_symbol, is_hash, is_colon, is_bar, is_equals_symbol, is_hash_symbol, is_colon_symbol, is_semicolon_symbol, is_bar_symbol, is_equals, is_escape, is_dollar_before_blank}
 use Rattle.mk_class.specs.Symbols.Symbol.{Hash, Colon, Semicolon, Equals, Plus, Question, Exclamation, Bar, Ampersand, NoSymbol}
-use Rattle.mk_class.specs.SymbolLaws.{symbol_byte, byte_symbol-byte}
+use Rattle.mk_class.proofs.on_symbols.SymbolLemmas.{symbol_byte, byte_symbol-byte}
 use Rattle.mk_class.specs.CutTexts.{is_head_end_symbol, is_in_head}
 use Rattle.mk_class.specs.Separators.{begins_separator}
 use Rattle.mk_class.specs.Scans.{IsSeparatorAt, is_one_byte_of, is_other}
@@ -16,12 +15,10 @@ use Rattle.mk_class.specs.declared.rule.Separator.{Separator}
 use Rattle.mk_class.proofs.AssignmentLemmas.{units-at}
 use Rattle.mk_lines.specs.Bytes.{ByteKind, byte_kind, is_backslash_kind}
 use Rattle.mk_lines.specs.Bytes.ByteKind.{LineFeed, CarriageReturn, Backslash, Blank, Ordinary}
-use Rattle.mk_lines.specs.ByteLaws.{backslash-byte}
+use Rattle.mk_lines.proofs.on_lists.ByteLemmas.{backslash-byte}
 use Rattle.mk_lines.specs.Units.{units, is_closed, byte_mark}
 use Rattle.mk_lines.specs.FirstUnit.{is_unclosed_unit, is_lone_backslash, is_backslash_mark, leaves_open}
-use Rattle.mk_lines.specs.FirstUnitLaws.{is_closed-leaves_open}
-use Rattle.mk_class.specs.Lists.{any}
-use Rattle.mk_class.specs.Symbols.{is_equals, is_escape, is_dollar_before_blank}
+use Rattle.mk_lines.proofs.on_units.FirstUnitLemmas.{is_closed-leaves_open}
 use Rattle.mk_class.specs.Headers.{has_unreadable}
 use Rattle.mk_class.specs.TextClasses.{itself}
 

@@ -1,11 +1,19 @@
-mod ReadingLemmas
-mod HeaderPartLemmas
-mod HeaderLemmas
-mod AssignmentLemmas
+-- Lemmas by subject, which the crates above cite too
+pub mod on_symbols
+pub mod on_assignments
+pub mod on_headers
+pub mod on_contexts
+pub mod on_classes
+-- Lemmas of the readers
 mod ScanLemmas
 mod SearchLemmas
+pub mod WordLemmas
+mod AssignmentLemmas
+mod HeaderLemmas
+mod HeaderPartLemmas
+mod ReadingLemmas
+pub mod ArgumentLemmas
+-- Definitions computed
+mod ClassNames
 mod WorkedRows
 mod RandomArguments
-mod ClassNames
-pub mod WordLemmas
-pub mod ArgumentLemmas

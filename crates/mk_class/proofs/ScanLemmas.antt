@@ -2,28 +2,28 @@
 use mathlib.Core.Logic.{inl, inr}
 use Rattle.std.specs.Prelude.{◌⊎◌}
 use Rattle.mk_lines.specs.Bytes.ByteKind.{LineFeed, CarriageReturn, Backslash, Blank, Ordinary}
-use Rattle.mk_lines.specs.ByteLaws.{blank-byte}
+use Rattle.mk_lines.proofs.on_lists.ByteLemmas.{blank-byte}
 use Rattle.std.proofs.Common.{◌≡◌, refl, sym, ap, ◌∙◌, subst, ℕ, suc, ◌+◌, ◌-◌, ◌≤◌, List, [], ◌∷◌, ◌++◌, Bool, true, false, not, ◌||◌, ◌&&◌, ◌==◌, cond, length, take, drop, get_or, length-append, arith}
 use Rattle.std.proofs.Math.Seq.{take-append_seam}
 use Rattle.std.proofs.lemmas.Bool.{eqb-true}
-use Rattle.mk_lines.specs.Lists.{concat, leading, after_leading, trailing, trim_end, trim_end_before, trailing_before}
-use Rattle.mk_lines.specs.ListLaws.{FirstFails, after_leading-first_fails, concat-append, leading-after_leading, trim_end-trailing}
+use Rattle.mk_lines.specs.Lists.{concat, leading, after_leading, trailing, trim_end, trim_end_before, trailing_before, FirstFails}
+use Rattle.mk_lines.proofs.on_lists.ListLemmas.{after_leading-first_fails, concat-append, leading-after_leading, trim_end-trailing}
 use Rattle.std.proofs.lemmas.List.{take-append-drop}
 use Rattle.mk_class.specs.Lists.{any, first_passes, last_passes, until, from, is_empty}
-use Rattle.mk_class.specs.ListLaws.{until-from}
+use Rattle.mk_class.proofs.on_symbols.ListLemmas.{until-from}
 use Rattle.mk_class.specs.ClassPlaces.{width}
 use Rattle.mk_lines.specs.Bytes.{byte_kind, is_blank_kind, ByteKind}
 use Rattle.mk_lines.specs.Units.{byte_mark, units, unit_step, unit_begins}
 use Rattle.mk_lines.specs.Units.Mark.{Unmarked}
 use Rattle.mk_lines.specs.Units.UnitState.{Between}
 use Rattle.mk_lines.specs.Cut.{continuation}
-use Rattle.mk_lines.specs.UnitLaws.{concat-units, units-first}
+use Rattle.mk_lines.proofs.on_units.UnitLemmas.{concat-units, units-first}
 use Rattle.mk_lines.specs.UnitWalk.{is_blank_byte}
 use Rattle.mk_lines.specs.FirstUnit.{first_unit, after_first_unit, unit_at}
-use Rattle.mk_lines.specs.FirstUnitLaws.{units-first_unit}
+use Rattle.mk_lines.proofs.on_units.FirstUnitLemmas.{units-first_unit}
 use Rattle.mk_lines.specs.Words.{is_gap}
 use Rattle.std.specs.List.{list_any}
-use Rattle.mk_class.specs.SymbolLaws.{blank-unmarked}
+use Rattle.mk_class.proofs.on_symbols.SymbolLemmas.{blank-unmarked}
 use Rattle.mk_class.specs.TextClasses.{itself}
 use Rattle.mk_class.specs.Scans.{AreUnmarked, IsSplitAt, is_one_byte_of, is_other}
 

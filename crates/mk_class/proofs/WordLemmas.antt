@@ -4,7 +4,8 @@ use Rattle.std.specs.Prelude.{◌==◌}
 use Rattle.std.specs.Str.{bytes_eq}
 use Rattle.mk_lines.specs.Words.{words}
 use Rattle.mk_class.specs.Texts.{is_same_text}
-use Rattle.mk_class.specs.FirstWords.{text_words, text_words-words}
+use Rattle.mk_class.specs.FirstWords.{text_words}
+use Rattle.mk_class.proofs.on_classes.FirstWordLemmas.{text_words-words}
 
 -- `==` on texts is that of the definitions
 pub bytes_eq-same_text : (xs ys : List ℕ) → bytes_eq xs ys ≡ is_same_text xs ys

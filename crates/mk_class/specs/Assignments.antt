@@ -9,6 +9,7 @@ use Rattle.mk_class.specs.declared.assignment.Flavor.{Flavor}
 use Rattle.mk_class.specs.declared.assignment.Flavor.TheVariants.{Recursive, Simple, PosixSimple, Immediate, Conditional, Append, Shell}
 use Rattle.mk_class.specs.declared.assignment.Modifier.{Modifier}
 use Rattle.mk_class.specs.declared.assignment.Modifier.TheVariants.{Override, Export, Private}
+use Rattle.mk_lines.specs.Units.{units}
 
 -- ---- operators
 
@@ -131,3 +132,7 @@ module _ {A : Type 0} (byte : A → ℕ) where
   -- the assignment that a cut text is
   abbrev pub assignment : List (List A) → Option (Assignment A)
   assignment us = assignment_of (tokens byte us)
+
+-- the units before the value of an assignment
+abbrev pub before_value : {A : Type 0} → Assignment A → List (List A)
+before_value a = a.before ++ (a.name ++ a.operator)

@@ -1,7 +1,7 @@
 -- The cut text of a line, and the head of a rule's line.
-use Rattle.std.specs.Prelude.{ℕ, Bool, true, false, not, List}
+use Rattle.std.specs.Prelude.{◌≡◌, ℕ, Bool, true, false, not, List, [], ◌∷◌}
 use Rattle.mk_lines.specs.Lists.{leading, after_leading}
-use Rattle.mk_class.specs.Symbols.{Symbol, Hash, Semicolon, symbol, is_hash}
+use Rattle.mk_class.specs.Symbols.{Symbol, Hash, Semicolon, symbol, is_hash, is_semicolon}
 
 -- whether a symbol ends the head: `;` or `#`
 abbrev pub is_head_end_symbol : Symbol → Bool
@@ -33,3 +33,8 @@ module _ {A : Type 0} (byte : A → ℕ) where
   -- the units from the first `;` or `#` on
   abbrev pub after_head : List (List A) → List (List A)
   after_head us = after_leading is_in_head us
+
+  -- what follows a head in a cut text: nothing, or a `;` and any units
+  abbrev pub FollowsHead : List (List A) → Type 0
+  FollowsHead [] = Unit {0}
+  FollowsHead (u ∷ us) = is_semicolon byte u ≡ true

@@ -1,5 +1,5 @@
 -- The parts of a header's line, and what makes such a line Rough.
-use Rattle.std.specs.Prelude.{ℕ, if◌then◌else◌, Bool, false, not, ◌&&◌, ◌||◌, List, [], ◌∷◌, take, drop, Option, Some, None}
+use Rattle.std.specs.Prelude.{ℕ, if◌then◌else◌, Bool, false, not, ◌&&◌, ◌||◌, List, [], ◌∷◌, take, drop, Option, Some, None, ◌++◌}
 use Rattle.mk_lines.specs.Lists.{leading, after_leading}
 use Rattle.mk_lines.specs.Words.{is_gap}
 use Rattle.mk_class.specs.Lists.{is_empty, any, first_passes, last_passes}
@@ -111,3 +111,7 @@ module _ {A : Type 0} (byte : A → ℕ) where
     | [] ↦ None
     | u ∷ us ↦ if is_hash byte u then None else Some us
   ]
+
+-- the units of a line's parts
+abbrev pub header_units : {A : Type 0} → Header A → List (List A)
+header_units h = h.targets ++ (h.colons ++ (h.pattern ++ (h.second_colon ++ (h.normal ++ (h.bar ++ (h.order_only ++ h.tail))))))

@@ -47,3 +47,7 @@ module _ {A : Type 0} (byte : A → ℕ) where
   -- the prefix that an assignment sets, where it sets one
   abbrev pub prefix_set_by : (in_conditional : Bool) → Assignment A → Option ℕ
   prefix_set_by c a = if is_read_for_prefix c a then prefix_of_value (unit_text byte a.value) else None
+
+-- whether a byte may be in force as the recipe prefix: a tab, or a byte that an assignment may set
+abbrev pub is_prefix_byte : ℕ → Bool
+is_prefix_byte b = (b == tab) || may_be_prefix b

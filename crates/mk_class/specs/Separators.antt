@@ -1,5 +1,5 @@
 -- The separator of a rule, and a text with one taken apart there.
-use Rattle.std.specs.Prelude.{ℕ, Bool, true, false, ◌&&◌, ◌||◌, List, ◌∷◌, map, take, drop}
+use Rattle.std.specs.Prelude.{ℕ, Bool, true, false, ◌&&◌, ◌||◌, List, ◌∷◌, map, take, drop, ◌++◌}
 use Rattle.mk_class.specs.Lists.{any, until, from, first_passes}
 use Rattle.mk_class.specs.Symbols.{Symbol, Colon, Ampersand, symbol, is_colon, is_ampersand}
 use Rattle.mk_class.specs.declared.rule.Separator.{Separator}
@@ -59,3 +59,7 @@ module _ {A : Type 0} (byte : A → ℕ) where
   -- a text taken apart at its first separator
   abbrev pub separated : List (List A) → Separated A
   separated us = let rest = from begins_separator us in separated_before (separator_at (map (symbol byte) rest)) (until begins_separator us) rest
+
+-- the units of a text taken apart at its separator
+abbrev pub separated_units : {A : Type 0} → Separated A → List (List A)
+separated_units s = s.targets ++ (s.colons ++ s.rest)

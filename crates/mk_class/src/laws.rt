@@ -1,7 +1,6 @@
 //! Laws of classes and assignments: each contract is a theorem on the definitions that the calls of
 //! this crate are specified by. The functions do nothing.
-ghost use Rattle.mk_class.specs.Laws.{AssignmentsAreWhole, ClassesAreOfJoinedTexts, ClassesFitCounts, ClassesLookUp, ContextsOfAllLines, FirstEqualsDecides, FlagIsForFirstLines, FlagIsForLedLines, HeadersAreReadAgain, HeadersAreWhole, HeadersFit, HeadsDecideAssignments, ValueIsFree, ValueTextIsFree};
-ghost use Rattle.mk_class.specs.StepLaws.{PrefixesAreMarks};
+ghost use Rattle.mk_class.specs.Laws.{AssignmentsAreWhole, ClassesAreOfJoinedTexts, ClassesFitCounts, ClassesLookUp, ContextsOfAllLines, FirstEqualsDecides, FlagIsForFirstLines, FlagIsForLedLines, HeadersAreReadAgain, HeadersAreWhole, HeadersFit, HeadsDecideAssignments, PlacesAreParts, PrefixesAreMarks, ValueIsFree, ValueTextIsFree};
 
 /// A line that does not begin with the recipe prefix has the same class under each flag.
 pub fn flag_is_for_led_lines()
@@ -38,6 +37,13 @@ pub fn classes_fit_counts()
 /// and on whether it has a stray byte or a bad fold.
 pub fn classes_are_of_joined_texts()
     ensures { ClassesAreOfJoinedTexts }
+{}
+
+/// Where the class of a line has the places of an assignment's or a rule's parts, these parts stand
+/// there: in each range of the joined text the text, the units and the words of the part, and in the
+/// raw range of it the part's bytes.
+pub fn places_are_parts()
+    ensures { PlacesAreParts }
 {}
 
 /// The recipe prefix in force is a tab, or a printable byte of ASCII other than the blank, `$` and

@@ -1,3 +1,13 @@
+-- Lemmas by subject
+pub mod on_lines
+pub mod on_values
+pub mod on_new_lines
+pub mod on_removals
+pub mod on_recipes
+pub mod on_prerequisites
+pub mod on_renames
+pub mod on_edits
+-- Definitions computed
 mod Outcomes
 mod WorkedEdits
 mod RandomEdits

@@ -1,5 +1,5 @@
 -- Stretches of lines: what an edit takes out, and where it puts a new line.
-use Rattle.std.specs.Prelude.{ℕ, List, [], ◌∷◌, ◌++◌, map, take, length, Option, Some, None, option_map, option_and_then}
+use Rattle.std.specs.Prelude.{ℕ, List, [], ◌∷◌, ◌++◌, map, take, length, Option, Some, None, option_map, option_and_then, ◌≡◌}
 use Rattle.mk_class.specs.Classes.{is_recipe}
 use Rattle.mk_class.specs.ClassedLines.{ClassedLine}
 use Rattle.mk_tree.specs.RecipeLines.{recipe_run, after_recipe, recipe_lines}
@@ -73,3 +73,7 @@ removal ls (RemoveAssign nth n) = option_map this_line (found ls (Variable nth n
 removal ls (RemoveRule nth t) = option_map whole_rule (found ls (Rule nth t))
 removal ls (RemoveRecipe nth t k) = option_map this_line (recipe_found ls nth t k)
 removal ls e = None
+
+-- a stretch of the text's lines
+abbrev pub IsStretchOf : List ClassedLine → Stretch → Type 0
+IsStretchOf ls s = ls ≡ s.above ++ (s.lines ++ s.below)

@@ -4,8 +4,7 @@ use Rattle.mk_lines.specs.Lists.{concat}
 use Rattle.mk_lines.specs.Cells.{Cell, raw_text}
 use Rattle.mk_lines.specs.Pieces.{Replacement}
 use Rattle.mk_class.specs.Lists.{is_empty}
-use Rattle.mk_class.specs.Assignments.{Assignment}
-use Rattle.mk_class.specs.AssignmentLineLaws.{before_value}
+use Rattle.mk_class.specs.Assignments.{Assignment, before_value}
 use Rattle.mk_class.specs.Classes.{Class}
 use Rattle.mk_class.specs.Classes.Class.{Assign}
 use Rattle.mk_tree.specs.Documents.{text_of}

@@ -5,7 +5,7 @@ use Rattle.mk_history.specs.Machine.{Apply, End}
 use Rattle.mk_history.specs.Stacks.{Stacks, Several, after_in_turn}
 use Rattle.mk_history.specs.SetBytes.{set_act}
 use Rattle.mk_history.specs.Shown.{Shown, shown_answer, shown_session, IsConsistent}
-use Rattle.mk_history.specs.HistoryLaws.{edit-steps, end-steps}
+use Rattle.mk_history.proofs.on_histories.HistoryLemmas.{edit-steps, end-steps}
 
 pub some-if-not-empty : (n : ℕ) (b : Bool) → b ≡ (n == 0) → b ≡ false → 0 < n
 some-if-not-empty zero b e f = absurd (cc)

@@ -1,11 +1,11 @@
+-- Changes in turn, and what is seen of a history
 pub mod Chain
-pub mod ChainLaws
-pub mod Claims
-pub mod HistoryLaws
-pub mod Machine
-pub mod MachineLaws
-pub mod SetBytes
-pub mod Shown
-pub mod ShownLaws
 pub mod Stacks
+-- The session machine, and what is seen of it
+pub mod Machine
+pub mod Shown
 pub mod Steps
+-- Statements of laws
+pub mod Claims
+-- For tests
+pub mod SetBytes

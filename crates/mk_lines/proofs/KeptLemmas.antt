@@ -8,12 +8,12 @@ use Rattle.std.proofs.lemmas.List.Elements.{All-nil, All-cons, All-push, All-wea
 use Rattle.std.proofs.lemmas.List.Sorted.{IsNonDecreasingBy-short, IsNonDecreasingBy-push}
 use Rattle.std.proofs.lemmas.Bool.Decides.{nat_tests}
 use Rattle.mk_lines.specs.Bytes.{ByteKind, LineFeed, CarriageReturn, Backslash, Blank, Ordinary, byte_kind, is_backslash_kind}
-use Rattle.mk_lines.specs.ByteLaws.{line_feed-byte}
+use Rattle.mk_lines.proofs.on_lists.ByteLemmas.{line_feed-byte}
 use Rattle.mk_lines.specs.PhysicalLines.{without_line_end}
 use Rattle.mk_lines.specs.Cells.{Cell, Byte, Fold, LfEnd, CrLfEnd, raw_text, raw_bytes, joined_byte, joined_text, prepend, cells, line_cells}
 use Rattle.mk_lines.specs.CellFaults.{has_bad_fold, is_fold_first, has_stray, is_stray, is_stray_by}
 use Rattle.mk_lines.specs.Ranges.{raw_place}
-use Rattle.mk_lines.specs.CellLaws.{AreCells, IsCell, cells-are_cells, raw_text-cells}
+use Rattle.mk_lines.proofs.on_cells.CellLemmas.{AreCells, IsCell, cells-are_cells, raw_text-cells}
 use Rattle.mk_lines.specs.KeptCells.{KeptCells, AreCellsOf, AreInOrder, fold_ends, kept_cells, kept_text, kept_place, place_by_ends}
 use Rattle.mk_lines.specs.declared.cells.kept.FoldEnd.{FoldEnd}
 

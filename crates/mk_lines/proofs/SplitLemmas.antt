@@ -7,10 +7,10 @@ use Rattle.std.proofs.lemmas.List.{take-append-drop, take_more, drop-drop, get_o
 use Rattle.std.proofs.Math.Seq.{take-length}
 use Rattle.memchr.specs.Find.{Nowhere, NoneBefore, Passes, is_byte, places_from, places_between}
 use Rattle.mk_lines.specs.Bytes.{ByteKind, LineFeed, CarriageReturn, Backslash, Blank, Ordinary, byte_kind}
-use Rattle.mk_lines.specs.ByteLaws.{backslash-byte, line_feed-byte}
+use Rattle.mk_lines.proofs.on_lists.ByteLemmas.{backslash-byte, line_feed-byte}
 use Rattle.mk_lines.specs.Lists.{onto_first}
 use Rattle.mk_lines.specs.LogicalLines.{starts_with_odd_run, starts_with_odd_run_at, logical_lines, before_group, is_continued}
-use Rattle.mk_lines.specs.LineCut.{NoLineFeed, logical_lines-line, logical_lines-last, onto_first-twice}
+use Rattle.mk_lines.proofs.on_lines.LineCut.{NoLineFeed, logical_lines-line, logical_lines-last, onto_first-twice}
 use Rattle.mk_lines.specs.Ranges.{piece_ranges, line_ranges}
 use Rattle.mk_lines.specs.declared.split.Span.{Span}
 

@@ -8,13 +8,13 @@ use Rattle.std.proofs.lemmas.Bool.{cases_lt}
 use Rattle.std.proofs.lemmas.Bool.Decides.{Decides-eqb}
 use Rattle.std.proofs.Math.Seq.{drop-append_seam, take-length}
 use Rattle.memchr.specs.Find.{IsFirstByte, Nowhere, Passes, is_byte, is_byte3}
-use Rattle.mk_lines.specs.Lists.{leading, after_leading}
+use Rattle.mk_lines.specs.Lists.{leading, after_leading, FirstFails}
 use Rattle.mk_lines.specs.Bytes.{ByteKind, LineFeed, CarriageReturn, Backslash, Blank, Ordinary, byte_kind, is_blank_kind, is_backslash_kind}
-use Rattle.mk_lines.specs.ByteLaws.{line_feed-byte, carriage_return-byte, blank-byte}
+use Rattle.mk_lines.proofs.on_lists.ByteLemmas.{line_feed-byte, carriage_return-byte, blank-byte}
 use Rattle.mk_lines.specs.Cells.{Cell, Byte, Fold, LfEnd, CrLfEnd, raw_text, joined_byte, joined_text, is_blank_cell, prepend, cells}
 use Rattle.mk_lines.specs.CellFaults.{has_bad_fold, is_fold_first, is_stray_by}
-use Rattle.mk_lines.specs.ListLaws.{FirstFails, leading-after_leading, leading-append_all, after_leading-append_all}
-use Rattle.mk_lines.specs.CellLaws.{AreCells, FitsBefore, raw_text-bytes}
+use Rattle.mk_lines.proofs.on_lists.ListLemmas.{leading-after_leading, leading-append_all, after_leading-append_all}
+use Rattle.mk_lines.proofs.on_cells.CellLemmas.{AreCells, FitsBefore, raw_text-bytes}
 use Rattle.mk_lines.specs.KeptCells.{fold_ends}
 use Rattle.mk_lines.specs.CellStack.{CellStack, top_of, stack_of}
 use Rattle.mk_lines.specs.declared.cells.kept.FoldEnd.{FoldEnd}

@@ -4,19 +4,19 @@ use Rattle.std.specs.Prelude.{◌==◌, Option, Some, None, MatchOption}
 use Rattle.std.specs.Option.{UnwrapsOrElse}
 use Rattle.std.proofs.lemmas.Bool.Decides.{Decides-eqb}
 use Rattle.std.proofs.Math.Seq.{take-length, take-append_seam, drop-append_seam}
-use Rattle.mk_lines.specs.Lists.{concat, leading, after_leading}
-use Rattle.mk_lines.specs.ListLaws.{FirstFails, leading-after_leading, after_leading-first_fails, concat-append}
+use Rattle.mk_lines.specs.Lists.{concat, leading, after_leading, FirstFails}
+use Rattle.mk_lines.proofs.on_lists.ListLemmas.{leading-after_leading, after_leading-first_fails, concat-append}
 use Rattle.mk_lines.specs.Cut.{state_after, continuation, pieces}
-use Rattle.mk_lines.specs.CutLaws.{continuation-start}
+use Rattle.mk_lines.proofs.on_lists.CutLemmas.{continuation-start}
 use Rattle.mk_lines.specs.Bytes.{byte_kind, is_blank_kind, ByteKind}
 use Rattle.mk_lines.specs.Bytes.ByteKind.{LineFeed, CarriageReturn, Backslash, Blank, Ordinary}
-use Rattle.mk_lines.specs.ByteLaws.{blank-mark}
+use Rattle.mk_lines.proofs.on_lists.ByteLemmas.{blank-mark}
 use Rattle.mk_lines.specs.Units.{Mark, byte_mark, UnitState, next_unit_state, begins_unit, is_between, units, unit_step, unit_begins, is_closed}
 use Rattle.mk_lines.specs.Units.Mark.{Dollar, Escape, OpenParen, CloseParen, OpenBrace, CloseBrace, Unmarked}
 use Rattle.mk_lines.specs.Units.UnitState.{Between, AfterDollar, InParens, InBraces}
-use Rattle.mk_lines.specs.UnitLaws.{begins-always, concat-units, units-last}
+use Rattle.mk_lines.proofs.on_units.UnitLemmas.{begins-always, concat-units, units-last}
 use Rattle.mk_lines.specs.FirstUnit.{first_unit, after_first_unit}
-use Rattle.mk_lines.specs.FirstUnitLaws.{units-first_unit}
+use Rattle.mk_lines.proofs.on_units.FirstUnitLemmas.{units-first_unit}
 use Rattle.mk_lines.specs.Words.{Token, Gap, Word, tokens, token_words, words, before_tokens, is_gap}
 use Rattle.mk_lines.specs.Ranges.{piece_ranges, word_token_ranges}
 use Rattle.mk_lines.specs.UnitWalk.{after_close, is_blank_byte, after_word, units_left, words_left}

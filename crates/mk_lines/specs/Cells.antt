@@ -1,6 +1,6 @@
 -- The cells of a logical line: its text with each fold made one space, and the raw bytes that each joined byte stands for.
-use Rattle.std.specs.Prelude.{ℕ, Bool, List, [], ◌∷◌, ◌++◌, map}
-use Rattle.mk_lines.specs.Lists.{leading, after_leading}
+use Rattle.std.specs.Prelude.{ℕ, Bool, List, [], ◌∷◌, ◌++◌, map, true, false, not}
+use Rattle.mk_lines.specs.Lists.{leading, after_leading, Each}
 use Rattle.mk_lines.specs.Bytes.{ByteKind, LineFeed, CarriageReturn, Backslash, Blank, byte_kind, is_blank_kind}
 use Rattle.mk_lines.specs.PhysicalLines.{without_line_end}
 
@@ -60,3 +60,13 @@ cells (b ∷ t) = prepend (byte_kind b) b (cells t)
 -- the cells of a logical line, which leave out its line end
 abbrev pub line_cells : List ℕ → List Cell
 line_cells l = cells (without_line_end l)
+
+-- whether a cell is a line end by itself
+abbrev pub is_line_end : Cell → Bool
+is_line_end (LfEnd r) = true
+is_line_end (CrLfEnd r) = true
+is_line_end c = false
+
+-- no cell is a line end by itself
+abbrev pub NoLineEnds : List Cell → Type 0
+NoLineEnds cs = Each (λ c. not (is_line_end c)) cs

@@ -3,8 +3,7 @@ use Rattle.std.specs.Prelude.{◌≡◌, ℕ, List, [], ◌∷◌, ◌++◌, map
 use Rattle.mk_lines.specs.Lists.{concat}
 use Rattle.mk_lines.specs.PhysicalLines.{line_end, line_end_bytes, without_line_end}
 use Rattle.mk_lines.specs.LogicalLines.{logical_lines, ends_line}
-use Rattle.mk_lines.specs.Cells.{joined_byte, joined_text, raw_text, line_cells}
-use Rattle.mk_lines.specs.CellLaws.{NoLineEnds}
+use Rattle.mk_lines.specs.Cells.{joined_byte, joined_text, raw_text, line_cells, NoLineEnds}
 use Rattle.mk_lines.specs.Units.{units, is_closed}
 use Rattle.mk_lines.specs.FirstUnit.{first_unit, after_first_unit, leaves_open}
 use Rattle.mk_lines.specs.Ranges.{text_at, line_ranges, unit_ranges, word_ranges, raw_place}

@@ -1,5 +1,5 @@
 -- Words on lists that the definitions of lines, cells and units share. They are clauses, so that they compute.
-use Rattle.std.specs.Prelude.{if◌then◌else◌, Bool, true, false, List, [], ◌∷◌, ◌++◌}
+use Rattle.std.specs.Prelude.{if◌then◌else◌, Bool, true, false, List, [], ◌∷◌, ◌++◌, ◌≡◌}
 
 -- the elements at the front that pass the test
 abbrev pub leading : {A : Type 0} → (A → Bool) → List A → List A
@@ -42,3 +42,19 @@ concat (x ∷ xs) = x ++ concat xs
 abbrev pub onto_first : {A : Type 0} → List A → List (List A) → List (List A)
 onto_first x [] = x ∷ []
 onto_first x (y ∷ ys) = (x ++ y) ∷ ys
+
+-- the first element, where there is one, fails the test
+abbrev pub FirstFails : {A : Type 0} → (A → Bool) → List A → Type 0
+FirstFails p [] = Unit {0}
+FirstFails p (x ∷ xs) = p x ≡ false
+
+-- each element passes the test
+abbrev pub Each : {A : Type 0} → (A → Bool) → List A → Type 0
+Each p [] = Unit {0}
+Each p (x ∷ xs) = (p x ≡ true) × Each p xs
+
+-- the last element fails the test, where there is one
+abbrev pub LastFails : {A : Type 0} → (A → Bool) → List A → Type 0
+LastFails p [] = Unit {0}
+LastFails p (x ∷ []) = p x ≡ false
+LastFails p (x ∷ y ∷ ys) = LastFails p (y ∷ ys)

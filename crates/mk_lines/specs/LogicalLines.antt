@@ -1,5 +1,5 @@
 -- Logical lines: a physical line with all that continue it.
-use Rattle.std.specs.Prelude.{ℕ, Bool, true, false, not, ◌&&◌, ◌||◌, List, [], ◌∷◌, reverse}
+use Rattle.std.specs.Prelude.{◌≡◌, ℕ, Bool, true, false, not, ◌&&◌, ◌||◌, List, [], ◌∷◌, reverse}
 use Rattle.mk_lines.specs.Lists.{onto_first}
 use Rattle.mk_lines.specs.Bytes.{ByteKind, Backslash, byte_kind}
 use Rattle.mk_lines.specs.PhysicalLines.{physical_lines, line_end, without_line_end, ends_with_carriage_return}
@@ -55,3 +55,8 @@ is_open l = is_continued l || (has_no_line_end (line_end l) && ends_with_carriag
 abbrev pub ends_line : List ℕ → Bool
 ends_line [] = true
 ends_line (b ∷ t) = not (has_no_line_end (line_end (b ∷ t))) && not (is_continued (b ∷ t))
+
+-- a text ends a line where lines follow it
+abbrev pub EndsLineBefore : List ℕ → List (List ℕ) → Type 0
+EndsLineBefore t [] = Unit {0}
+EndsLineBefore t (l ∷ ls) = ends_line t ≡ true

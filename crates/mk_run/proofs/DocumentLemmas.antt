@@ -4,7 +4,7 @@ use Rattle.std.specs.Prelude.{Option, Some, None, IfSome, Ok, map}
 use Rattle.std.proofs.lemmas.Bool.{eqb-true}
 use Rattle.mk_tree.specs.PlacedLines.{PlacedLine, placed_text}
 use Rattle.mk_tree.specs.Documents.{IsFaithfulTo}
-use Rattle.mk_tree.specs.DocumentLaws.{faithful-text}
+use Rattle.mk_tree.proofs.on_documents.DocumentLemmas.{faithful-text}
 use Rattle.mk_run.specs.declared.script.NumberedCommand.{NumberedCommand}
 use Rattle.mk_run.specs.Script.{numbered_request, requests_of}
 use Rattle.mk_run.specs.Texts.{Makes, texts}

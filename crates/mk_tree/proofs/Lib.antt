@@ -1,15 +1,20 @@
-mod WorkedReadings
-mod RandomReadings
+-- Lemmas by subject, which the crates above cite too
+pub mod on_documents
+pub mod on_changes
+-- Lemmas of the tree and its calls
+pub mod AdmissionLemmas
+pub mod Building
+pub mod Changes
+pub mod Ends
+pub mod Heights
+pub mod Lowness
+pub mod Nodes
+pub mod Places
+pub mod Prefixes
+pub mod Reading
+pub mod WalkLemmas
+-- Definitions computed
 mod WorkedRows
 mod ChangeRows
-pub mod Places
-pub mod Heights
-pub mod Nodes
-pub mod Changes
-pub mod WalkLemmas
-pub mod Prefixes
-pub mod AdmissionLemmas
-pub mod Lowness
-pub mod Ends
-pub mod Building
-pub mod Reading
+mod WorkedReadings
+mod RandomReadings

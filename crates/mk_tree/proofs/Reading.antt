@@ -3,23 +3,23 @@ use Rattle.std.proofs.Common.{◌≡◌, ℕ, suc, ◌+◌, ◌<◌, ◌≤◌, 
 use Rattle.std.specs.Prelude.{Result, Ok, Err, IsErr, IsErrAnd, IfErr}
 use Rattle.mk_lines.specs.Spans.{Tiles}
 use Rattle.mk_lines.specs.LogicalLines.{logical_lines}
-use Rattle.mk_lines.specs.LineLaws.{among, OneLine-logical}
+use Rattle.mk_lines.proofs.on_lines.LineLemmas.{among, OneLine-logical}
 use Rattle.mk_lines.specs.Ranges.{text_at, line_ranges}
-use Rattle.mk_lines.specs.RangeLaws.{line_ranges-text, line_ranges-tiles}
+use Rattle.mk_lines.proofs.on_lists.RangeLemmas.{line_ranges-text, line_ranges-tiles}
 use Rattle.mk_lines.specs.declared.split.Span.{Span}
 use Rattle.mk_lines.specs.Cells.{Cell, joined_byte}
 use Rattle.mk_class.specs.Classes.{Class}
 use Rattle.mk_class.specs.Classes.Class.{Endef, Body, Recipe, Opaque, Blank, Comment, Assign, DefineHead, If, Else, Endif, Directive, TargetAssign, Rough, Header}
-use Rattle.mk_class.specs.Contexts.{Context, start, context_after, conditionals_after}
+use Rattle.mk_class.specs.Contexts.{Context, start, context_after, conditionals_after, context_after_places, FitsConditionals}
 use Rattle.mk_class.specs.ClassPlaces.{class_places}
 use Rattle.mk_class.specs.ClassTable.{class_of}
-use Rattle.mk_class.specs.ClassLaws.{FitsCounts, class_of-counts}
+use Rattle.mk_class.specs.CountsOfClasses.{FitsCounts}
+use Rattle.mk_class.proofs.on_classes.ClassLemmas.{class_of-counts}
 use Rattle.mk_class.specs.ClassedLines.{ClassedLine, classed}
-use Rattle.mk_class.specs.Contexts.{context_after_places, FitsConditionals}
 use Rattle.mk_class.specs.LineReads.{IsRead}
 use Rattle.mk_class.specs.LineReads as line_reads
 use Rattle.mk_tree.specs.PlacedLines.{PlacedLine, placed_lines, placed_text, size_of, AreConditionalsFit}
-use Rattle.mk_tree.specs.DocumentLaws.{faithful-text}
+use Rattle.mk_tree.proofs.on_documents.DocumentLemmas.{faithful-text}
 use Rattle.mk_tree.specs.Documents.{document_lines, most_conditionals, IsTooDeep}
 use Rattle.mk_lines.specs.declared.fault.Fault.{Fault}
 use Rattle.mk_lines.specs.declared.fault.Fault.TheVariants.{NoMemory, TooLong, TooDeep, BadDepth, Read, Write}

@@ -11,11 +11,10 @@ use Rattle.mk_class.specs.Contexts.{Context, start, context_after}
 use Rattle.mk_class.specs.ClassedLines.{ClassedLine, classed, classed_lines, context_after_lines}
 use Rattle.mk_tree.specs.Items.{items}
 use Rattle.mk_tree.specs.Readings.{reading}
-use Rattle.mk_tree.specs.LinePlaces.{line_in}
+use Rattle.mk_tree.specs.LineTexts.{line_in, text_of, bytes_of, context_of}
 use Rattle.mk_tree.specs.NewLines.{missing_line_end, above_ended}
 use Rattle.mk_tree.specs.EachReplaced.{ReplaceEach}
 use Rattle.mk_tree.specs.Leaning.{AgreeButForFlag, leans}
-use Rattle.mk_tree.specs.LineTexts.{text_of, bytes_of, context_of}
 
 -- ---- lines below a change
 

@@ -1,28 +1,25 @@
+-- Lines of a text, and their reading
+pub mod LineTexts
 pub mod Items
 pub mod Readings
 pub mod RecipeLines
-pub mod LineTexts
+-- Documents
 pub mod PlacedLines
 pub mod Documents
-pub mod DocumentLaws
-pub mod LinePlaces
+pub mod Faults
+pub mod Counting
+-- Changes of lines
 pub mod Leaning
-pub mod LeaningLaws
-pub mod RunsReplaced
 pub mod NewLines
-pub mod NewLineLaws
-pub mod SpansInLines
 pub mod EachReplaced
-pub mod ConditionalLaws
-pub mod RecipeRunLaws
-pub mod ChangeLaws
-pub mod Laws
+-- What the code keeps
 pub mod KeptClasses
 pub mod Contents
 pub mod Trees
 pub mod Walks
-pub mod Printing
 pub mod Admissions
-pub mod Faults
 pub mod Unread
-pub mod Counting
+pub mod Printing
+-- Statements of laws
+pub mod Laws
+pub mod ChangeLaws

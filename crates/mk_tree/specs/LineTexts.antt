@@ -2,6 +2,7 @@
 use Rattle.std.specs.Prelude.{ℕ, List, [], ◌∷◌, ◌++◌}
 use Rattle.mk_class.specs.Contexts.{Context, start}
 use Rattle.mk_class.specs.ClassedLines.{ClassedLine, context_after_lines}
+use Rattle.mk_class.specs.ClassTable.{class_of}
 
 -- the text of some lines: their bytes joined
 abbrev pub text_of : List ClassedLine → List ℕ
@@ -16,3 +17,7 @@ bytes_of (l ∷ ls) = l.bytes ∷ bytes_of ls
 -- the context after some lines from the start of a text
 abbrev pub context_of : List ClassedLine → Context
 context_of ls = context_after_lines start ls
+
+-- a line with the class that it has in a context
+abbrev pub line_in : Context → List ℕ → ClassedLine
+line_in c l = record { bytes = l; class = class_of c l }

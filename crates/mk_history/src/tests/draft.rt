@@ -65,7 +65,7 @@ impl<A: Allocator + Copy> Draft<A> {
         self.text
     }
 
-    #[tactic(auto, using(crate::specs::ChainLaws::chains))]
+    #[tactic(auto, using(crate::proofs::on_histories::ChainLemmas::chains))]
     fn set(&mut self, at: usize, byte: u8) -> Result<(), DraftError>
         requires { at < 4 }
         ensures done { OnOk result (set_answer (Apply (at, byte)) self.old ≡ Ok self.new) }
@@ -145,7 +145,7 @@ impl<A: Allocator + Copy> Draft<A> {
         Ok(())
     }
 
-    #[tactic(auto, using(crate::specs::ChainLaws::chains))]
+    #[tactic(auto, using(crate::proofs::on_histories::ChainLemmas::chains))]
     fn end(&mut self) -> Result<(), DraftError>
         ensures done { OnOk result (set_answer End self.old ≡ Ok self.new) }
         ensures none { OnErr result ((set_answer End self.old ≡ Err NoGroup) × (self.new ≡ self.old)) }

@@ -92,7 +92,7 @@ impl<A: Allocator + Copy> Editor<A> {
         self.text
     }
 
-    #[tactic(auto, using(crate::specs::ChainLaws::chains))]
+    #[tactic(auto, using(crate::proofs::on_histories::ChainLemmas::chains))]
     fn set(&mut self, alloc: A, at: usize, byte: u8) -> Result<(), HistoryError>
         requires { at < 4 }
         ensures { IsStep set_answer (Apply (at, byte)) (history_reply result) self.old self.new }

@@ -1,4 +1,4 @@
-use Rattle.mk_class.specs.FlagLaws.{classed-flag}
+use Rattle.mk_class.proofs.on_contexts.FlagLemmas.{classed-flag}
 use Rattle.mk_class.proofs.laws.flag_is_for_first_lines.Goals as goal
 
 pub returns : goal.returns

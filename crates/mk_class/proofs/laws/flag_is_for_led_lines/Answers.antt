@@ -1,4 +1,4 @@
-use Rattle.mk_class.specs.FlagLaws.{class_of-flag}
+use Rattle.mk_class.proofs.on_contexts.FlagLemmas.{class_of-flag}
 use Rattle.mk_class.proofs.laws.flag_is_for_led_lines.Goals as goal
 
 pub returns : goal.returns

@@ -1,4 +1,4 @@
-use Rattle.mk_class.specs.HeaderLaws.{header-whole}
+use Rattle.mk_class.proofs.on_headers.HeadersWhole.{header-whole}
 use Rattle.mk_class.proofs.laws.headers_are_whole.Goals as goal
 
 pub returns : goal.returns

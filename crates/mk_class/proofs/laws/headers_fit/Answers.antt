@@ -1,4 +1,4 @@
-use Rattle.mk_class.specs.HeaderFitsLaws.{header-fits}
+use Rattle.mk_class.proofs.on_headers.HeaderFitsLemmas.{header-fits}
 use Rattle.mk_class.proofs.laws.headers_fit.Goals as goal
 
 pub returns : goal.returns

@@ -1,4 +1,4 @@
-use Rattle.mk_class.specs.NoAssignmentLaws.{no_assignment-head}
+use Rattle.mk_class.proofs.on_assignments.NoAssignmentLemmas.{no_assignment-head}
 use Rattle.mk_class.proofs.laws.heads_decide_assignments.Goals as goal
 
 pub returns : goal.returns

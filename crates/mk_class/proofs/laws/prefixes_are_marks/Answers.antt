@@ -1,6 +1,6 @@
 use Rattle.std.proofs.Common.{refl}
 use Rattle.mk_class.specs.Contexts.{start}
-use Rattle.mk_class.specs.StepLaws.{classed-prefix_byte}
+use Rattle.mk_class.proofs.on_contexts.StepLemmas.{classed-prefix_byte}
 use Rattle.mk_class.proofs.laws.prefixes_are_marks.Goals as goal
 
 pub returns : goal.returns

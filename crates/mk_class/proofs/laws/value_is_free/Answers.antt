@@ -1,4 +1,4 @@
-use Rattle.mk_class.specs.AssignmentLaws.{assignment-is}
+use Rattle.mk_class.proofs.on_assignments.AssignmentsWhole.{assignment-is}
 use Rattle.mk_class.proofs.laws.value_is_free.Goals as goal
 
 pub returns : goal.returns

@@ -1,8 +1,8 @@
 use Rattle.std.proofs.Common.{◌≡◌, sym, ap, ◌∙◌, []}
 use Rattle.mk_lines.specs.Units.{units}
 use Rattle.mk_lines.specs.Lists.{concat}
-use Rattle.mk_lines.specs.UnitLaws.{concat-units}
-use Rattle.mk_class.specs.AssignmentLaws.{assignment-is, assignment-value_replaced}
+use Rattle.mk_lines.proofs.on_units.UnitLemmas.{concat-units}
+use Rattle.mk_class.proofs.on_assignments.AssignmentsWhole.{assignment-is, assignment-value_replaced}
 use Rattle.mk_class.proofs.laws.value_text_is_free.Goals as goal
 
 pub returns : goal.returns

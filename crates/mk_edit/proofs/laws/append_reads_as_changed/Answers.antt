@@ -1,4 +1,4 @@
-use Rattle.mk_edit.specs.AppendLaws.{append-reads}
+use Rattle.mk_edit.proofs.on_values.AppendLemmas.{append-reads}
 use Rattle.mk_edit.proofs.laws.append_reads_as_changed.Goals as goal
 
 pub returns : goal.returns

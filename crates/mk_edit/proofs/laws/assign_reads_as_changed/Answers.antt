@@ -1,4 +1,4 @@
-use Rattle.mk_edit.specs.NewAssignLaws.{assign-reads}
+use Rattle.mk_edit.proofs.on_new_lines.NewAssignLemmas.{assign-reads}
 use Rattle.mk_edit.proofs.laws.assign_reads_as_changed.Goals as goal
 
 pub returns : goal.returns

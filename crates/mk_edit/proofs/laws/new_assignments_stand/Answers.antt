@@ -1,4 +1,4 @@
-use Rattle.mk_edit.specs.NewAssignLaws.{assign-lines}
+use Rattle.mk_edit.proofs.on_new_lines.NewAssignLemmas.{assign-lines}
 use Rattle.mk_edit.proofs.laws.new_assignments_stand.Goals as goal
 
 pub returns : goal.returns

@@ -1,4 +1,4 @@
-use Rattle.mk_edit.specs.RemovalLaws.{removed-lines}
+use Rattle.mk_edit.proofs.on_removals.RemovalLemmas.{removed-lines}
 use Rattle.mk_edit.proofs.laws.other_lines_stay.Goals as goal
 
 pub returns : goal.returns

@@ -1,4 +1,4 @@
-use Rattle.mk_edit.specs.RecipeLaws.{recipe_added-reads}
+use Rattle.mk_edit.proofs.on_recipes.RecipeLemmas.{recipe_added-reads}
 use Rattle.mk_edit.proofs.laws.recipe_added_reads_as_changed.Goals as goal
 
 pub returns : goal.returns

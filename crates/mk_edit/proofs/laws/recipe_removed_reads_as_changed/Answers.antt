@@ -1,4 +1,4 @@
-use Rattle.mk_edit.specs.RemovalLaws.{recipe_removed-reads}
+use Rattle.mk_edit.proofs.on_removals.RemovalLemmas.{recipe_removed-reads}
 use Rattle.mk_edit.proofs.laws.recipe_removed_reads_as_changed.Goals as goal
 
 pub returns : goal.returns

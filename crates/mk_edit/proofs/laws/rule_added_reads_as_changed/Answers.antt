@@ -1,4 +1,4 @@
-use Rattle.mk_edit.specs.NewRules.{rule_added-reads}
+use Rattle.mk_edit.proofs.on_new_lines.NewRules.{rule_added-reads}
 use Rattle.mk_edit.proofs.laws.rule_added_reads_as_changed.Goals as goal
 
 pub returns : goal.returns

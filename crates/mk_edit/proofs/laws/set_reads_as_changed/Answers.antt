@@ -1,4 +1,4 @@
-use Rattle.mk_edit.specs.LastFoldLaws.{set-reads}
+use Rattle.mk_edit.proofs.on_values.LastFoldLemmas.{set-reads}
 use Rattle.mk_edit.proofs.laws.set_reads_as_changed.Goals as goal
 
 pub returns : goal.returns

@@ -1,4 +1,4 @@
-use Rattle.mk_edit.specs.RemovalLaws.{rule_removed-reads}
+use Rattle.mk_edit.proofs.on_removals.RemovalLemmas.{rule_removed-reads}
 use Rattle.mk_edit.proofs.laws.unrule_reads_as_changed.Goals as goal
 
 pub returns : goal.returns

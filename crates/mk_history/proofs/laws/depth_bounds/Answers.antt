@@ -1,4 +1,4 @@
-use Rattle.mk_history.specs.MachineLaws.{stays-within}
+use Rattle.mk_history.proofs.on_histories.MachineLemmas.{stays-within}
 use Rattle.mk_history.proofs.laws.depth_bounds.Goals as goal
 
 pub returns : goal.returns

@@ -1,4 +1,4 @@
-use Rattle.mk_history.specs.HistoryLaws.{group-edit-steps, begin-steps, end-steps, empty-end-steps}
+use Rattle.mk_history.proofs.on_histories.HistoryLemmas.{group-edit-steps, begin-steps, end-steps, empty-end-steps}
 use Rattle.mk_history.proofs.laws.groups_make_the_steps.Goals as goal
 
 pub returns-clause-edit : goal.returns-clause-edit

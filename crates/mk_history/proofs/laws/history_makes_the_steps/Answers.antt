@@ -1,4 +1,4 @@
-use Rattle.mk_history.specs.HistoryLaws.{edit-steps}
+use Rattle.mk_history.proofs.on_histories.HistoryLemmas.{edit-steps}
 use Rattle.mk_history.proofs.laws.history_makes_the_steps.Goals as goal
 
 pub returns-clause-edit : goal.returns-clause-edit

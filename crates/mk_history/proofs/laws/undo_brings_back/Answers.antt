@@ -1,4 +1,4 @@
-use Rattle.mk_history.specs.MachineLaws.{undoes-all, stands}
+use Rattle.mk_history.proofs.on_histories.MachineLemmas.{undoes-all, stands}
 use Rattle.mk_history.proofs.laws.undo_brings_back.Goals as goal
 
 pub returns-clause-all : goal.returns-clause-all

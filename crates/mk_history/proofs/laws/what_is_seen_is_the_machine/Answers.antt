@@ -1,4 +1,4 @@
-use Rattle.mk_history.specs.ShownLaws.{is-seen, follows, follows-opened}
+use Rattle.mk_history.proofs.on_histories.ShownLemmas.{is-seen, follows, follows-opened}
 use Rattle.mk_history.proofs.laws.what_is_seen_is_the_machine.Goals as goal
 
 pub returns-clause-call : goal.returns-clause-call

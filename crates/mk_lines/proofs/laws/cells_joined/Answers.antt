@@ -1,7 +1,7 @@
 use Rattle.std.proofs.Common.{ap, ◌∙◌, ◌++◌}
 use Rattle.mk_lines.specs.PhysicalLines.{line_end, line_end_bytes, without_line_end}
-use Rattle.mk_lines.specs.CellLaws.{raw_text-cells}
-use Rattle.mk_lines.specs.LineEndLaws.{without_line_end-line_end}
+use Rattle.mk_lines.proofs.on_cells.CellLemmas.{raw_text-cells}
+use Rattle.mk_lines.proofs.on_lines.LineEndLemmas.{without_line_end-line_end}
 use Rattle.mk_lines.proofs.laws.cells_joined.Goals as goal
 
 pub returns : goal.returns

@@ -2,8 +2,8 @@ use Rattle.std.proofs.Common.{ℕ, List, [], ◌∷◌}
 use Rattle.mk_lines.specs.Lists.{concat}
 use Rattle.mk_lines.specs.LogicalLines.{logical_lines}
 use Rattle.mk_lines.specs.Laws.{EndsWhereFollowed}
-use Rattle.mk_lines.specs.LineLaws.{EndsBefore, replace-run}
-use Rattle.mk_lines.specs.LineEndLaws.{ends_line-ends}
+use Rattle.mk_lines.proofs.on_lines.LineLemmas.{EndsBefore, replace-run}
+use Rattle.mk_lines.proofs.on_lines.LineEndLemmas.{ends_line-ends}
 use Rattle.mk_lines.proofs.laws.lines_are_local.Goals as goal
 
 ends : (text : List ℕ) (lines : List (List ℕ)) → EndsWhereFollowed text lines → EndsBefore text lines

@@ -1,4 +1,4 @@
-use Rattle.mk_lines.specs.LineLaws.{among, OneLine-logical}
+use Rattle.mk_lines.proofs.on_lines.LineLemmas.{among, OneLine-logical}
 use Rattle.mk_lines.proofs.laws.lines_are_single.Goals as goal
 
 pub returns : goal.returns

@@ -1,4 +1,4 @@
-use Rattle.mk_lines.specs.LineLaws.{concat-logical_lines}
+use Rattle.mk_lines.proofs.on_lines.LineLemmas.{concat-logical_lines}
 use Rattle.mk_lines.proofs.laws.lines_joined.Goals as goal
 
 pub returns : goal.returns

@@ -2,8 +2,8 @@ use Rattle.std.proofs.Common.{ap, sym, ◌∙◌, take, drop}
 use Rattle.mk_lines.specs.PhysicalLines.{without_line_end}
 use Rattle.mk_lines.specs.Cells.{line_cells}
 use Rattle.mk_lines.specs.Ranges.{raw_place}
-use Rattle.mk_lines.specs.CellLaws.{raw_text-cells}
-use Rattle.mk_lines.specs.RangeLaws.{take-raw_place, drop-raw_place}
+use Rattle.mk_lines.proofs.on_cells.CellLemmas.{raw_text-cells}
+use Rattle.mk_lines.proofs.on_lists.RangeLemmas.{take-raw_place, drop-raw_place}
 use Rattle.mk_lines.proofs.laws.raw_places_cut.Goals as goal
 
 pub returns : goal.returns

@@ -1,5 +1,5 @@
 use Rattle.std.proofs.Common.{refl}
-use Rattle.mk_lines.specs.FirstUnitLaws.{units-first_unit}
+use Rattle.mk_lines.proofs.on_units.FirstUnitLemmas.{units-first_unit}
 use Rattle.mk_lines.proofs.laws.units_are_first_units.Goals as goal
 
 pub returns : goal.returns

@@ -1,4 +1,4 @@
-use Rattle.mk_lines.specs.UnitLaws.{units-append}
+use Rattle.mk_lines.proofs.on_units.UnitLemmas.{units-append}
 use Rattle.mk_lines.proofs.laws.units_of_closed.Goals as goal
 
 pub returns : goal.returns

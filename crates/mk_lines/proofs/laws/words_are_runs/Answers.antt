@@ -1,4 +1,4 @@
-use Rattle.mk_lines.specs.TokenLaws.{token_units-tokens, tokens-are_tokens}
+use Rattle.mk_lines.proofs.on_units.TokenLemmas.{token_units-tokens, tokens-are_tokens}
 use Rattle.mk_lines.proofs.laws.words_are_runs.Goals as goal
 
 pub returns : goal.returns

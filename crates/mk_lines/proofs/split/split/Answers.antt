@@ -1,6 +1,6 @@
 use Rattle.std.proofs.Common.{◌≡◌, ◌+◌, ◌-◌, ◌<◌, ◌∙◌, length, take, drop, List, sym, ap, subst, true, false, arith, rules}
 use Rattle.mk_lines.specs.LogicalLines.{is_continued}
-use Rattle.mk_lines.specs.RangeLaws.{line_ranges-tiles}
+use Rattle.mk_lines.proofs.on_lists.RangeLemmas.{line_ranges-tiles}
 use Rattle.mk_lines.specs.Spans.{Tiles}
 use Rattle.mk_lines.specs.declared.split.Span.{Span}
 use Rattle.mk_lines.proofs.SplitLemmas.{SplitUpTo, SplitUpTo-none, SplitUpTo-line, SplitUpTo-continued, SplitUpTo-last, SplitUpTo-all, next-feed, no-more-feeds, line-from}

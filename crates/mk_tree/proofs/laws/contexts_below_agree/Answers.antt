@@ -1,4 +1,4 @@
-use Rattle.mk_tree.specs.LeaningLaws.{agrees-after_lines, same-after_lines}
+use Rattle.mk_tree.proofs.on_changes.LeaningLemmas.{agrees-after_lines, same-after_lines}
 use Rattle.mk_tree.proofs.laws.contexts_below_agree.Goals as goal
 
 pub returns : goal.returns

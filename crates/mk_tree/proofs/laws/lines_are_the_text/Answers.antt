@@ -1,4 +1,4 @@
-use Rattle.mk_tree.specs.DocumentLaws.{text_of-classed_lines}
+use Rattle.mk_tree.proofs.on_documents.DocumentLemmas.{text_of-classed_lines}
 use Rattle.mk_tree.proofs.laws.lines_are_the_text.Goals as goal
 
 pub returns : goal.returns

@@ -1,7 +1,7 @@
 use Rattle.mk_class.specs.Contexts.{start}
 use Rattle.mk_class.specs.ClassedLines.{classed}
 use Rattle.mk_tree.specs.LineTexts.{context_of}
-use Rattle.mk_tree.specs.LeaningLaws.{classed_lines-apart, lines_below-keep}
+use Rattle.mk_tree.proofs.on_changes.LeaningLemmas.{classed_lines-apart, lines_below-keep}
 use Rattle.mk_tree.proofs.laws.lines_below_keep_their_classes.Goals as goal
 
 pub returns : goal.returns

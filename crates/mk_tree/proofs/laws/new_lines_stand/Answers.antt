@@ -1,7 +1,7 @@
 use Rattle.std.proofs.Common.{refl}
 use Rattle.mk_lines.specs.PhysicalLines.{file_line_end}
 use Rattle.mk_tree.specs.ChangeLaws.{new_line_below}
-use Rattle.mk_tree.specs.NewLineLaws.{file_line_end-some, new_line-clean, line-added, items-above_ended}
+use Rattle.mk_tree.proofs.on_changes.NewLineLemmas.{file_line_end-some, new_line-clean, line-added, items-above_ended}
 use Rattle.mk_tree.proofs.laws.new_lines_stand.Goals as goal
 
 pub returns : goal.returns

@@ -1,6 +1,6 @@
 use Rattle.std.proofs.Common.{refl, length, ◌+◌}
 use Rattle.mk_tree.specs.LineTexts.{text_of}
-use Rattle.mk_tree.specs.SpansInLines.{text-span_replaced}
+use Rattle.mk_tree.proofs.on_changes.SpansInLines.{text-span_replaced}
 use Rattle.mk_tree.proofs.laws.spans_stay_in_lines.Goals as goal
 
 pub returns : goal.returns

@@ -1,4 +1,4 @@
-use Rattle.mk_edit.specs.KeptByEdits.{append-keeps}
+use Rattle.mk_edit.proofs.on_edits.KeptByEdits.{append-keeps}
 use Rattle.mk_edit.proofs.laws.outside.append_keeps_others.Goals as goal
 
 pub returns : goal.returns

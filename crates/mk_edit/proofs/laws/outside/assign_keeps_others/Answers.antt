@@ -1,4 +1,4 @@
-use Rattle.mk_edit.specs.KeptByEdits.{assign-keeps}
+use Rattle.mk_edit.proofs.on_edits.KeptByEdits.{assign-keeps}
 use Rattle.mk_edit.proofs.laws.outside.assign_keeps_others.Goals as goal
 
 pub returns : goal.returns

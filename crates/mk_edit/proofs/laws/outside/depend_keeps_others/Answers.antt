@@ -1,4 +1,4 @@
-use Rattle.mk_edit.specs.KeptByEdits.{depend-keeps}
+use Rattle.mk_edit.proofs.on_edits.KeptByEdits.{depend-keeps}
 use Rattle.mk_edit.proofs.laws.outside.depend_keeps_others.Goals as goal
 
 pub returns : goal.returns

@@ -1,4 +1,4 @@
-use Rattle.mk_edit.specs.SpansRise.{only_spans-replaced}
+use Rattle.mk_edit.proofs.on_edits.SpansRise.{only_spans-replaced}
 use Rattle.mk_edit.proofs.laws.outside.only_spans_are_replaced.Goals as goal
 
 pub returns : goal.returns

@@ -1,4 +1,4 @@
-use Rattle.mk_edit.specs.KeptByRename.{rename-keeps}
+use Rattle.mk_edit.proofs.on_edits.KeptByRenameLemmas.{rename-keeps}
 use Rattle.mk_edit.proofs.laws.outside.rename_keeps_others.Goals as goal
 
 pub returns : goal.returns

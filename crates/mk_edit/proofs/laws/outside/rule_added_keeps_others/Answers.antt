@@ -1,4 +1,4 @@
-use Rattle.mk_edit.specs.KeptByEdits.{rule_added-keeps}
+use Rattle.mk_edit.proofs.on_edits.KeptByEdits.{rule_added-keeps}
 use Rattle.mk_edit.proofs.laws.outside.rule_added_keeps_others.Goals as goal
 
 pub returns : goal.returns

@@ -1,4 +1,4 @@
-use Rattle.mk_edit.specs.KeptByEdits.{set-keeps}
+use Rattle.mk_edit.proofs.on_edits.KeptByEdits.{set-keeps}
 use Rattle.mk_edit.proofs.laws.outside.set_keeps_others.Goals as goal
 
 pub returns : goal.returns

@@ -1,4 +1,4 @@
-use Rattle.mk_edit.specs.TouchedLines.{spans-touch_few}
+use Rattle.mk_edit.proofs.on_edits.TouchedLineLemmas.{spans-touch_few}
 use Rattle.mk_edit.proofs.laws.outside.spans_touch_few_lines.Goals as goal
 
 pub returns : goal.returns

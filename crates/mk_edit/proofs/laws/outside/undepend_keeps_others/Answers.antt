@@ -1,4 +1,4 @@
-use Rattle.mk_edit.specs.KeptByEdits.{undepend-keeps}
+use Rattle.mk_edit.proofs.on_edits.KeptByEdits.{undepend-keeps}
 use Rattle.mk_edit.proofs.laws.outside.undepend_keeps_others.Goals as goal
 
 pub returns : goal.returns

@@ -1,4 +1,4 @@
-use Rattle.mk_edit.specs.KeptByEdits.{unset-keeps}
+use Rattle.mk_edit.proofs.on_edits.KeptByEdits.{unset-keeps}
 use Rattle.mk_edit.proofs.laws.outside.unset_keeps_others.Goals as goal
 
 pub returns : goal.returns

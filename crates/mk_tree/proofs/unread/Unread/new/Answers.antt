@@ -1,5 +1,5 @@
 use Rattle.std.proofs.Common.{◌∙◌, List, ℕ, ap}
-use Rattle.mk_lines.specs.RangeLaws.{line_ranges-text}
+use Rattle.mk_lines.proofs.on_lists.RangeLemmas.{line_ranges-text}
 use Rattle.std.specs.Rc.{rc_slice_items}
 use Rattle.mk_class.specs.Contexts.{Context, start}
 use Rattle.mk_tree.specs.Unread.{UnreadLines, texts_at}

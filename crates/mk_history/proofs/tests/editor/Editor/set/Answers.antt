@@ -3,7 +3,7 @@ use Rattle.std.specs.Prelude.{slice_set}
 use Rattle.mk_history.specs.declared.tests.editor.SetByte.{SetByte}
 use Rattle.mk_history.specs.Machine.{Apply}
 use Rattle.mk_history.specs.Shown.{Shown, shown_answer, shown_history}
-use Rattle.mk_history.specs.HistoryLaws.{edit-steps}
+use Rattle.mk_history.proofs.on_histories.HistoryLemmas.{edit-steps}
 use Rattle.mk_history.proofs.tests.editor.Editor.set.Goals as goal
 
 abbrev after_set : {A : _} → SetByte A → List ℕ → List ℕ

@@ -2,7 +2,7 @@ use Rattle.std.proofs.Common.{◌≡◌, ◌∙◌, ◌+◌, sym, ap, subst, dro
 use Rattle.mk_lines.specs.Cells.{prepend, cells}
 use Rattle.mk_lines.specs.Bytes.{LineFeed}
 use Rattle.mk_lines.specs.CellStack.{top_of, stack_of}
-use Rattle.mk_lines.specs.CellLaws.{cells-are_cells}
+use Rattle.mk_lines.proofs.on_cells.CellLemmas.{cells-are_cells}
 use Rattle.mk_lines.specs.declared.cells.stack.Top.TheVariants as top
 use Rattle.mk_lines.proofs.StackLemmas.{IsReplaced, line_feed-fold}
 use Rattle.mk_lines.proofs.cells.stack.Stack.push_line_feed.Goals as goal

@@ -1,0 +1,7 @@
+-- Lemmas. Classes, and where the parts of a line stand.
+pub mod ClassLemmas
+pub mod ClassHolds
+pub mod ClassMaps
+pub mod FirstWordLemmas
+pub mod PartPlaceLemmas
+pub mod LinePartLemmas

@@ -1,0 +1,5 @@
+-- Lemmas. Headers of rules.
+pub mod HeadersWhole
+pub mod HeadersAgain
+pub mod HeaderFitsLemmas
+pub mod HeaderMaps

@@ -1,0 +1,7 @@
+-- Lemmas. Prerequisites added and removed.
+pub mod HeaderEdits
+pub mod NewWords
+pub mod WordsAdded
+pub mod WordsRemoved
+pub mod DependLemmas
+pub mod UndependLemmas

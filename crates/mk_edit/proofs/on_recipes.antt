@@ -1,0 +1,3 @@
+-- Lemmas. Recipe lines.
+pub mod RecipeClassLemmas
+pub mod RecipeLemmas

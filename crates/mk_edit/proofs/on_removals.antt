@@ -1,0 +1,3 @@
+-- Lemmas. Lines taken out.
+pub mod RemovalLemmas
+pub mod UnsetLemmas

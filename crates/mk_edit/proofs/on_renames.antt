@@ -1,0 +1,10 @@
+-- Lemmas. Targets renamed.
+pub mod WordsRenamed
+pub mod RenamedHeaders
+pub mod RenamedTexts
+pub mod TargetFronts
+pub mod TargetUnits
+pub mod TargetLines
+pub mod TargetNames
+pub mod RenamedTargets
+pub mod RenameLemmas

@@ -1,0 +1,7 @@
+-- Lemmas. The cells of a line.
+pub mod CellLemmas
+pub mod LineCells
+pub mod LineOfCells
+pub mod CellsOfLine
+pub mod CellsReplaced
+pub mod KeptCellLemmas

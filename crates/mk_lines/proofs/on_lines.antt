@@ -1,0 +1,5 @@
+-- Lemmas. Logical lines and line ends.
+pub mod LineCut
+pub mod LineLemmas
+pub mod LineEndLemmas
+pub mod LineEndAdded

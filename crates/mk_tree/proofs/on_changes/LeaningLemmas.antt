@@ -1,0 +1,155 @@
+-- The leaning law: lines keep their classes where what is above them changes, if the open defines, the conditionals and the
+-- prefix before them are as they were and the lines do not lean on the flag.
+use Rattle.std.proofs.Common.{◌≡◌, refl, sym, ap, ◌∙◌, ℕ, List, [], ◌∷◌, ◌++◌, Bool, true, false, not, ◌&&◌, ◌||◌}
+use Rattle.mk_lines.specs.Lists.{Each}
+use Rattle.mk_lines.specs.LogicalLines.{logical_lines}
+use Rattle.mk_lines.specs.Cells.{Cell}
+use Rattle.mk_class.specs.Lists.{any}
+use Rattle.mk_class.specs.Classes.{Class, leaves_flag}
+use Rattle.mk_class.specs.Contexts.{Context, start, context_after, flag_after, defines_after, conditionals_after, prefix_after}
+use Rattle.mk_class.specs.ClassedLines.{ClassedLine, classed, classed_lines, context_after_lines, is_led_first}
+use Rattle.mk_class.proofs.on_contexts.FlagLemmas.{classed-flag, classed-append, flag_after-set, flag_after-left}
+use Rattle.mk_class.specs.declared.context.Flag.{Flag}
+use Rattle.mk_class.specs.declared.context.Flag.TheVariants.{Off, Rule, Unknown}
+use Rattle.mk_tree.specs.LineTexts.{context_of}
+use Rattle.mk_tree.specs.Leaning.{is_same_flag, leans, AgreeButForFlag}
+
+-- ---- flags
+
+-- flags that are the same
+pub same_flag-is : (f g : Flag) → is_same_flag f g ≡ true → f ≡ g
+same_flag-is Off Off h = refl
+same_flag-is Off Rule h = cc
+same_flag-is Off Unknown h = cc
+same_flag-is Rule Off h = cc
+same_flag-is Rule Rule h = refl
+same_flag-is Rule Unknown h = cc
+same_flag-is Unknown Off h = cc
+same_flag-is Unknown Rule h = cc
+same_flag-is Unknown Unknown h = refl
+
+same_flag-self : (f : Flag) → is_same_flag f f ≡ true
+same_flag-self Off = refl
+same_flag-self Rule = refl
+same_flag-self Unknown = refl
+
+same_flag-back : (f g : Flag) → is_same_flag f g ≡ is_same_flag g f
+same_flag-back Off Off = refl
+same_flag-back Off Rule = refl
+same_flag-back Off Unknown = refl
+same_flag-back Rule Off = refl
+same_flag-back Rule Rule = refl
+same_flag-back Rule Unknown = refl
+same_flag-back Unknown Off = refl
+same_flag-back Unknown Rule = refl
+same_flag-back Unknown Unknown = refl
+
+-- which flag is before and which after makes no difference
+pub leans-back : (p : ℕ) (f g : Flag) (ls : List ClassedLine) → leans p f g ls ≡ false → leans p g f ls ≡ false
+leans-back p f g ls h = ap (λ z. not z && is_led_first p ls) (same_flag-back g f) ∙ h
+
+-- no lines lean on one flag
+pub leans-same : (p : ℕ) (f : Flag) (ls : List ClassedLine) → leans p f f ls ≡ false
+leans-same p f ls = ap (λ z. not z && is_led_first p ls) (same_flag-self f)
+
+-- and where there are no lines none leans
+pub leans-nothing : (p : ℕ) (f g : Flag) → leans p f g [] ≡ false
+leans-nothing p f g = go (is_same_flag f g)
+  where
+    go : (b : Bool) → (not b && false) ≡ false
+    go true = refl
+    go false = refl
+
+-- ---- contexts that agree
+
+-- a context agrees with itself
+pub agrees-self : (c : Context) → AgreeButForFlag c c
+agrees-self c = record { defines = refl; conditionals = refl; prefix = refl }
+
+-- and with one that is the same
+pub agrees-same : (c d : Context) → c ≡ d → AgreeButForFlag c d
+agrees-same c d h = record { defines = ap (λ z. z.defines) h; conditionals = ap (λ z. z.conditionals) h; prefix = ap (λ z. z.prefix) h }
+
+-- the other way round
+pub agrees-back : (c d : Context) → AgreeButForFlag c d → AgreeButForFlag d c
+agrees-back c d h = record { defines = sym h.defines; conditionals = sym h.conditionals; prefix = sym h.prefix }
+
+-- one after the other
+pub agrees-then : (c d e : Context) → AgreeButForFlag c d → AgreeButForFlag d e → AgreeButForFlag c e
+agrees-then c d e h k = record { defines = h.defines ∙ k.defines; conditionals = h.conditionals ∙ k.conditionals; prefix = h.prefix ∙ k.prefix }
+
+context_with : Flag → ℕ → ℕ → ℕ → Context
+context_with f n k p = record { flag = f; defines = n; conditionals = k; prefix = p }
+
+-- contexts that agree and have the same flag are the same
+pub agrees-is : (c d : Context) → AgreeButForFlag c d → c.flag ≡ d.flag → c ≡ d
+unfolding context_with
+agrees-is c d h e = parts c.flag d.flag c.defines d.defines c.conditionals d.conditionals c.prefix d.prefix e h.defines h.conditionals h.prefix
+  where
+    parts : (f g : Flag) (n m k j p q : ℕ) → f ≡ g → n ≡ m → k ≡ j → p ≡ q → context_with f n k p ≡ context_with g m j q
+    parts f g n m k j p q a b c d = rw (a, b, c, d) refl
+
+-- contexts that agree still do after a line of one class
+pub agrees-after : (c d : Context) (k : Class Cell) → AgreeButForFlag c d → AgreeButForFlag (context_after c k) (context_after d k)
+agrees-after c d k h = record {
+  defines = ap (λ z. defines_after z k) h.defines;
+  conditionals = ap (λ z. conditionals_after z k) h.conditionals;
+  prefix = ap (λ z. prefix_after z k) h.prefix;
+}
+
+-- and after some lines
+pub agrees-after_lines : (c d : Context) (ls : List ClassedLine) → AgreeButForFlag c d → AgreeButForFlag (context_after_lines c ls) (context_after_lines d ls)
+agrees-after_lines c d [] h = h
+agrees-after_lines c d (l ∷ ls) h = agrees-after_lines (context_after c l.class) (context_after d l.class) ls (agrees-after c d l.class h)
+
+-- the flag after lines that leave it
+pub flag-left_by_lines : (c : Context) (ls : List ClassedLine) → Each (λ l. leaves_flag l.class) ls → (context_after_lines c ls).flag ≡ c.flag
+flag-left_by_lines c [] h = refl
+flag-left_by_lines c (l ∷ ls) h = flag-left_by_lines (context_after c l.class) ls h.1 ∙ flag_after-left c.flag l.class h.0
+
+-- the flag after some lines is the same where it was before them
+pub flag-same_after_lines : (c d : Context) (ls : List ClassedLine) → c.flag ≡ d.flag → (context_after_lines c ls).flag ≡ (context_after_lines d ls).flag
+flag-same_after_lines c d [] h = h
+flag-same_after_lines c d (l ∷ ls) h = flag-same_after_lines (context_after c l.class) (context_after d l.class) ls (ap (λ z. flag_after z l.class) h)
+
+-- the flag after lines of which one sets it is the same whatever it was before them
+pub flag-set_by_lines : (c d : Context) (ls : List ClassedLine) → any (λ l. not (leaves_flag l.class)) ls ≡ true → (context_after_lines c ls).flag ≡ (context_after_lines d ls).flag
+flag-set_by_lines c d [] h = cc
+flag-set_by_lines c d (l ∷ ls) h = go (leaves_flag l.class) refl h (λ k. flag-set_by_lines (context_after c l.class) (context_after d l.class) ls k)
+    (λ e. flag-same_after_lines (context_after c l.class) (context_after d l.class) ls e)
+  where
+    go : (b : Bool) → leaves_flag l.class ≡ b → (not b || any (λ l. not (leaves_flag l.class)) ls) ≡ true
+        → (any (λ l. not (leaves_flag l.class)) ls ≡ true → (context_after_lines (context_after c l.class) ls).flag ≡ (context_after_lines (context_after d l.class) ls).flag)
+        → (flag_after c.flag l.class ≡ flag_after d.flag l.class → (context_after_lines (context_after c l.class) ls).flag ≡ (context_after_lines (context_after d l.class) ls).flag)
+        → (context_after_lines (context_after c l.class) ls).flag ≡ (context_after_lines (context_after d l.class) ls).flag
+    go true e h ih same = ih h
+    go false e h ih same = same (flag_after-set c.flag d.flag l.class e)
+
+-- contexts that agree are the same after lines of which one sets the flag
+pub same-after_lines : (c d : Context) (ls : List ClassedLine) → AgreeButForFlag c d → any (λ l. not (leaves_flag l.class)) ls ≡ true → context_after_lines c ls ≡ context_after_lines d ls
+same-after_lines c d ls h k = agrees-is (context_after_lines c ls) (context_after_lines d ls) (agrees-after_lines c d ls h) (flag-set_by_lines c d ls k)
+
+-- ---- the law
+
+-- lines have the same classes in contexts that agree, where they do not lean on the two flags
+pub classed-unless_leans : (c d : Context) (ls : List (List ℕ)) → AgreeButForFlag c d → leans c.prefix c.flag d.flag (classed c ls) ≡ false → classed d ls ≡ classed c ls
+classed-unless_leans c d ls h n = go (is_same_flag c.flag d.flag) refl n
+  where
+    go : (b : Bool) → is_same_flag c.flag d.flag ≡ b → (not b && is_led_first c.prefix (classed c ls)) ≡ false → classed d ls ≡ classed c ls
+    go true e k = ap (λ z. classed z ls) (sym (agrees-is c d h (same_flag-is c.flag d.flag e)))
+    go false e k =
+        ap (λ z. classed z ls) (agrees-is d (record c { flag = d.flag }) (record { defines = sym h.defines; conditionals = sym h.conditionals; prefix = sym h.prefix }) refl)
+        ∙ classed-flag c.flag d.flag c.defines c.conditionals c.prefix ls k
+
+-- the lines of a text, taken apart, with their classes
+pub classed_lines-apart : (t : List ℕ) (above below : List (List ℕ)) → logical_lines t ≡ above ++ below
+    → classed_lines t ≡ classed start above ++ classed (context_of (classed start above)) below
+classed_lines-apart t above below h = ap (classed start) h ∙ classed-append start above below
+
+-- The lines below keep their classes where those above become others, if the contexts there agree and they do not lean on the
+-- flags.
+pub lines_below-keep : (t : List ℕ) (above' below : List (List ℕ)) (c : Context) → logical_lines t ≡ above' ++ below
+    → AgreeButForFlag c (context_of (classed start above')) → leans c.prefix c.flag (context_of (classed start above')).flag (classed c below) ≡ false
+    → classed_lines t ≡ classed start above' ++ classed c below
+lines_below-keep t above' below c h a n =
+    classed_lines-apart t above' below h ∙ ap (λ z. classed start above' ++ z) (classed-unless_leans c (context_of (classed start above')) below a n)
