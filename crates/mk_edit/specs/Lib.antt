@@ -61,6 +61,7 @@ pub mod TargetNames
 pub mod RenamedTargets
 pub mod RenameLaws
 pub mod RisingSpans
+pub mod RenamedLines
 pub mod OutsideLaws
 pub mod EditPlaces
 pub mod ClassParts
