@@ -1,11 +1,13 @@
 -- A rename leaves the lines that hold no word which it replaces, and makes each other line in its place.
-use Rattle.std.proofs.Common.{◌≡◌, refl, sym, ap, ◌∙◌, subst, arith, ℕ, List, [], ◌∷◌, ◌++◌, map, true, false, zero, suc, take, length, length-append, ◌+◌}
-use Rattle.std.specs.Prelude.{Ok}
+use Rattle.std.proofs.Common.{◌≡◌, refl, sym, ap, ◌∙◌, subst, arith, ℕ, List, [], ◌∷◌, ◌++◌, map, filter, Bool, true, false, zero, suc, take, length, length-append, ◌+◌, ◌≤◌}
+use Rattle.std.proofs.lemmas.Bool.{eq-eqb}
+use Rattle.std.specs.Prelude.{Ok, if◌then◌else◌}
 use Rattle.mk_lines.specs.LogicalLines.{logical_lines}
 use Rattle.mk_lines.specs.LineLaws.{OneLine-logical}
 use Rattle.mk_lines.specs.Cells.{Cell, raw_text}
 use Rattle.mk_lines.specs.Pieces.{Replacement, Piece, Keep, Replace, old_bytes, new_bytes, replacements, replaced}
 use Rattle.mk_class.specs.Lists.{any}
+use Rattle.mk_class.specs.Texts.{is_same_text}
 use Rattle.mk_class.specs.Classes.{Class, is_conditional}
 use Rattle.mk_class.specs.Contexts.{Context, start, context_after}
 use Rattle.mk_class.specs.ClassTable.{class_of}
@@ -17,13 +19,13 @@ use Rattle.mk_tree.specs.EachReplaced.{ReplaceEach, lines-in_place, with_pieces}
 use Rattle.mk_tree.specs.ConditionalLaws.{most_conditionals-each_replaced}
 use Rattle.mk_edit.specs.Edits.{RenameTarget}
 use Rattle.mk_edit.specs.WordPieces.{is_replaced, renamed_pieces}
-use Rattle.mk_edit.specs.Costs.{is_renamed}
+use Rattle.mk_edit.specs.Costs.{cost, is_renamed}
 use Rattle.mk_edit.specs.Refusals.{spans, text_by, text_after}
 use Rattle.mk_edit.specs.Accepted.{accepted, where_holds-none}
-use Rattle.mk_edit.specs.RisingSpans.{Rise, Rise-until, Rise-pieces}
+use Rattle.mk_edit.specs.RisingSpans.{Rise-until, Rise-pieces}
 use Rattle.mk_edit.specs.RenamedTexts.{renamed_class, lines-renamed}
 use Rattle.mk_edit.specs.RenameLaws.{rename-words}
-use Rattle.mk_edit.specs.RenamedLines.{renamed_bytes, AreLinesRenamedInPlace, StandInLines, AreOthersKeptByRename}
+use Rattle.mk_edit.specs.RenamedLines.{renamed_bytes, differing, AreLinesRenamedInPlace, StandInLines, AreOthersKeptByRename}
 
 -- ---- pieces of which none is replaced
 
@@ -114,6 +116,28 @@ module _ (o n : List ℕ) where
     renamed-in_place (context_after c l.class) ls b.1 r.1 s.1,
   )
 
+-- ---- how many lines differ
+
+same_text-self : (x : List ℕ) → is_same_text x x ≡ true
+same_text-self [] = refl
+same_text-self (b ∷ x) = rw (eq-eqb b b refl, same_text-self x) refl
+
+-- a line counts where it holds a word to rename, if at all
+counted : (is_same is_one : Bool) (d : ℕ) (l : ClassedLine) (ls : List ClassedLine) → (is_one ≡ false → is_same ≡ true) → d ≤ length ls
+    → (if is_same then 0 else 1) + d ≤ length (if is_one then l ∷ ls else ls)
+counted true true d l ls h k = omega (arith, k)
+counted true false d l ls h k = omega (arith, k)
+counted false true d l ls h k = omega (arith, k)
+counted false false d l ls h k = let e : false ≡ true = h refl in absurd (cc)
+
+-- at most as many lines differ as hold one
+few-differ : (o n : List ℕ) (ls : List ClassedLine) → BeginWithPieces (λ l. renamed_pieces o n l.class) ls
+    → differing (bytes_of ls) (map (renamed_bytes o n) ls) ≤ length (filter (is_renamed o n) ls)
+few-differ o n [] b = omega arith
+few-differ o n (l ∷ ls) b =
+    let same : is_renamed o n l ≡ false → is_same_text l.bytes (renamed_bytes o n l) ≡ true = λ z. ap (is_same_text l.bytes) (renamed-same o n l b.0 z) ∙ same_text-self l.bytes in
+    counted (is_same_text l.bytes (renamed_bytes o n l)) (is_renamed o n l) (differing (bytes_of ls) (map (renamed_bytes o n) ls)) l (filter (is_renamed o n) ls) same (few-differ o n ls b.1)
+
 -- ---- spans
 
 module _ (f : ClassedLine → List Piece) where
@@ -144,10 +168,15 @@ rename-keeps o n t rs h =
     let e = RenameTarget o n in
     let lines : classed_lines (text_after t e) ≡ map (with_pieces f k) ls =
     ap (λ q. classed_lines (text_by t q)) h ∙ (ap (λ q. classed_lines (replaced 0 t q)) (sym A.spans_are) ∙ L.lines) in
+    let texts : logical_lines (text_after t e) ≡ map (renamed_bytes o n) ls =
+    sym (bytes_of-classed start (logical_lines (text_after t e))) ∙ (ap bytes_of lines ∙ bytes_of-renamed o n ls) in
     record {
-      lines = sym (bytes_of-classed start (logical_lines (text_after t e))) ∙ (ap bytes_of lines ∙ bytes_of-renamed o n ls);
+      lines = texts;
       in_place = subst (AreLinesRenamedInPlace o n start ls) (sym lines) (renamed-in_place o n start ls L.begin L.each (lines-in_place t));
       contexts = λ i. ap (λ z. context_of (take i z)) lines ∙ each-contexts start ls (map (with_pieces f k) ls) [] L.each i;
+      few =
+          subst (λ z. differing z (logical_lines (text_after t e)) ≤ cost t e) (bytes_of-classed start (logical_lines t))
+          (subst (λ z. differing (bytes_of ls) z ≤ cost t e) (sym texts) (few-differ o n ls L.begin));
       within = subst (StandInLines (is_renamed o n) 0 ls) (sym L.spans_are ∙ A.spans_are) (pieces-stand f 0 ls L.begin);
       same_depth = ap (most_conditionals 0) lines ∙ most_conditionals-each_replaced start ls (map (with_pieces f k) ls) [] L.each;
     }

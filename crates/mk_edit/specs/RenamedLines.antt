@@ -1,7 +1,8 @@
 -- The lines of a text after a rename, each in the place of one.
-use Rattle.std.specs.Prelude.{◌≡◌, ℕ, ◌+◌, Bool, true, false, List, [], ◌∷◌, ◌++◌, map, take, drop, length}
+use Rattle.std.specs.Prelude.{◌≡◌, ℕ, ◌+◌, ◌≤◌, if◌then◌else◌, Bool, true, false, List, [], ◌∷◌, ◌++◌, map, take, drop, length}
 use Rattle.mk_lines.specs.LogicalLines.{logical_lines}
 use Rattle.mk_lines.specs.Pieces.{Replacement, old_bytes, new_bytes}
+use Rattle.mk_class.specs.Texts.{is_same_text}
 use Rattle.mk_class.specs.Classes.{is_conditional}
 use Rattle.mk_class.specs.Contexts.{Context, start, context_after}
 use Rattle.mk_class.specs.ClassTable.{class_of}
@@ -9,7 +10,7 @@ use Rattle.mk_class.specs.ClassedLines.{ClassedLine, classed_lines}
 use Rattle.mk_tree.specs.Documents.{context_of, most_conditionals}
 use Rattle.mk_edit.specs.Edits.{RenameTarget}
 use Rattle.mk_edit.specs.WordPieces.{renamed_pieces}
-use Rattle.mk_edit.specs.Costs.{is_renamed}
+use Rattle.mk_edit.specs.Costs.{cost, is_renamed}
 use Rattle.mk_edit.specs.Refusals.{text_after}
 use Rattle.mk_edit.specs.RisingSpans.{Rise}
 
@@ -44,6 +45,12 @@ AreLinesRenamedInPlace o n c [] (m ∷ ms) = ⊥
 AreLinesRenamedInPlace o n c (l ∷ ls) [] = ⊥
 AreLinesRenamedInPlace o n c (l ∷ ls) (m ∷ ms) = IsLineRenamed o n c l m × AreLinesRenamedInPlace o n (context_after c l.class) ls ms
 
+-- At how many places two lists of lines have other bytes. A place that one of them alone has counts too.
+abbrev pub differing : (before after : List (List ℕ)) → ℕ
+differing [] ms = length ms
+differing (l ∷ ls) [] = length (l ∷ ls)
+differing (l ∷ ls) (m ∷ ms) = (if is_same_text l m then 0 else 1) + differing ls ms
+
 -- replacements in lines the first of which begins at a place: each stands within one line, and none in a line that does not pass
 -- the test
 abbrev pub StandInLines : (test : ClassedLine → Bool) → (at : ℕ) → List ClassedLine → List Replacement → Type 0
@@ -53,11 +60,12 @@ StandInLines p at (l ∷ ls) rs =
 
 -- What a rename leaves and what it makes of the others. The logical lines after it are, line by line, those before with their words
 -- renamed; each stands in its place, the same and with its class where it holds no word to rename. The context after each number of
--- lines is as before. The spans stand within the lines that hold such a word. The most conditionals that are open at once are as
--- many as before.
+-- lines is as before. At most as many lines differ, as bytes, as the rename costs. The spans stand within the lines that hold a word
+-- to rename. The most conditionals that are open at once are as many as before.
 pub record AreOthersKeptByRename (o n t : List ℕ) (rs : List Replacement) : Type 0 where
   pub lines : logical_lines (text_after t (RenameTarget o n)) ≡ map (renamed_bytes o n) (classed_lines t)
   pub in_place : AreLinesRenamedInPlace o n start (classed_lines t) (classed_lines (text_after t (RenameTarget o n)))
   pub contexts : (number : ℕ) → context_of (take number (classed_lines (text_after t (RenameTarget o n)))) ≡ context_of (take number (classed_lines t))
+  pub few : differing (logical_lines t) (logical_lines (text_after t (RenameTarget o n))) ≤ cost t (RenameTarget o n)
   pub within : StandInLines (is_renamed o n) 0 (classed_lines t) rs
   pub same_depth : most_conditionals 0 (classed_lines (text_after t (RenameTarget o n))) ≡ most_conditionals 0 (classed_lines t)
