@@ -71,6 +71,7 @@ pub mod KeptByEdits
 pub mod KeptByRename
 pub mod KeptLaws
 pub mod TouchedLines
+pub mod RuleTaken
 pub mod Laws
 pub mod WordLaws
 pub mod EditLaws
