@@ -1,3 +1,4 @@
 -- Lemmas. Lines taken out.
 pub mod RemovalLemmas
 pub mod UnsetLemmas
+pub mod RuleTakenLemmas

@@ -23,7 +23,8 @@ pub mod Costs
 -- What an edit leaves
 pub mod TouchedLines
 pub mod KeptLines
-pub mod KeptByRename
+pub mod RenamedLines
+pub mod RuleTaken
 -- Statements of laws
 pub mod Laws
 pub mod WordLaws

@@ -8,7 +8,7 @@ use Rattle.mk_edit.specs.declared.edit.Colons.{Colons}
 use Rattle.mk_edit.specs.RisingSpans.{IsReplacedAt}
 use Rattle.mk_edit.specs.TouchedLines.{IsOfOnePlace, TouchFew}
 use Rattle.mk_edit.specs.KeptLines.{AreOthersKept}
-use Rattle.mk_edit.specs.KeptByRename.{AreOthersKeptByRename}
+use Rattle.mk_edit.specs.RenamedLines.{AreOthersKeptByRename}
 use Rattle.mk_edit.specs.Refusals.{spans, text_after}
 
 -- the spans of an edit rise within the text and do not overlap, and the bytes outside them are as before
@@ -67,7 +67,7 @@ RecipeRemovedKeepsOthers = (nth : Option ℕ) (target : List ℕ) (number : ℕ)
 abbrev pub RecipeAddedKeepsOthers : Type 0
 RecipeAddedKeepsOthers = (nth : Option ℕ) (target command : List ℕ) → KeepsOthers (AddRecipe nth target command)
 
--- a rename leaves the lines that hold no word which it replaces, and opens no conditional
+-- a rename leaves the lines that hold no word which it replaces, makes each other line in its place, and opens no conditional
 abbrev pub RenameKeepsOthers : Type 0
 RenameKeepsOthers = (old new text : List ℕ) (replacements : List Replacement) → spans text (RenameTarget old new) ≡ Ok replacements → AreOthersKeptByRename old new text replacements
 

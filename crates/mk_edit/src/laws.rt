@@ -3,6 +3,7 @@
 pub mod words;
 
 ghost use Rattle.mk_edit.specs.Laws.{AppendReadsAsChanged, AssignReadsAsChanged, EditsReadAsChanged, NewAssignmentsStand, OtherLinesStay, RecipeAddedReadsAsChanged, RecipeRemovedReadsAsChanged, RecipeSetReadsAsChanged, RefusedChangesNothing, RuleAddedReadsAsChanged, SetReadsAsChanged, UnruleReadsAsChanged, UnsetReadsAsChanged};
+ghost use Rattle.mk_edit.specs.RuleTaken.{UnruleTakesTheRuleAlone};
 
 pub mod outside;
 
@@ -33,6 +34,16 @@ pub fn unset_reads_as_changed()
 /// reading, and no other item changes.
 pub fn unrule_reads_as_changed()
     ensures { UnruleReadsAsChanged }
+{}
+
+/// An accepted removal of a rule takes out the line of the rule that its address means, which has no
+/// other target, and its recipe, and nothing else.
+///
+/// Each line that goes with it is a recipe line, a blank line or a comment, and the last is a recipe
+/// line. The lines that go read as the header's item and those of the recipe lines. No recipe line of
+/// the rule stays.
+pub fn unrule_takes_the_rule_alone()
+    ensures { UnruleTakesTheRuleAlone }
 {}
 
 /// An accepted removal of a recipe line removes its item from the reading, and no other item

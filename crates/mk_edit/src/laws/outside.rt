@@ -83,9 +83,11 @@ pub fn rule_added_keeps_others()
     ensures { RuleAddedKeepsOthers }
 {}
 
-/// After an accepted rename each line stands in its place, the same and with its class where it holds
-/// no word to rename. The spans stand within the other lines, and no more conditionals are open at
-/// once.
+/// After an accepted rename each line stands in its place, and is the line before with the new word
+/// for each that is the old one: one logical line, of its class in the same context, and of no
+/// conditional where a word is renamed. The contexts between lines are as before. A line that holds
+/// no word to rename is the same, with its class, and at most as many lines differ as the rename
+/// costs. The spans stand within the other lines, and no more conditionals are open at once.
 pub fn rename_keeps_others()
     ensures { RenameKeepsOthers }
 {}
