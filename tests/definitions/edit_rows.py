@@ -4,17 +4,22 @@
 Turns tables of makefiles and scripts with their answers into a file of equations, by which the checker
 computes the definitions of `crates/mk_edit/specs`. Where the file checks, the definitions give each
 answer: of an accepted edit the text after it, and that the stated change of the reading is what this
-text reads as; of a refused one the refusal.
+text reads as; of a refused one the refusal. Where the table says them, also the spans of an accepted
+edit, its cost (how many lines it reads again at most) and its size (how many lines it takes out or
+puts others in place of, at most), and the cost of a refused one.
 
     edit_rows.py TABLE > crates/mk_edit/proofs/NAME.antt
 
-Rows whose script is not one edit alone are left out. The crate keeps two files, made by
+Rows whose script is not one edit alone are left out. The crate keeps three files, made by
 
     edit_rows.py tests/cases/runs.tsv > crates/mk_edit/proofs/WorkedEdits.antt
     edit_rows.py tests/cases/edits/random.tsv > crates/mk_edit/proofs/RandomEdits.antt
+    edit_rows.py tests/cases/edits/corners.tsv > crates/mk_edit/proofs/CornerEdits.antt
 
 A table has the columns name, makefile, script, stdout, stderr and status, and perhaps more, between
-tabs. In a column \\\\, \\t, \\n, \\r and \\xHH stand for a backslash, a tab, a line end, a return and
+tabs. The columns spans, cost and size may stand there too, all three together: a span is its start,
+its end and the new bytes in hexadecimal between colons, and blanks stand between spans; the spans and
+the size of a refused edit are empty. In another column \\\\, \\t, \\n, \\r and \\xHH stand for a backslash, a tab, a line end, a return and
 the byte HH.
 """
 
@@ -22,7 +27,7 @@ import re
 import sys
 from pathlib import Path
 
-from reading_rows import FLAVORS, antt_text, unescape
+from reading_rows import FLAVORS, antt_list, antt_text, unescape
 
 COLONS = {b":": "One", b"::": "Two"}
 
@@ -148,29 +153,46 @@ def antt_refusal(report):
     return f"({name} {detail[0]})" if detail else name
 
 
+def antt_span(span):
+    """A span as a term."""
+    start, end, new = span.split(":")
+    return f"span {int(start)} {int(end)} {antt_text(bytes.fromhex(new))}"
+
+
 def equations_of(row):
-    """The equations of a row; none where its script is not one edit or the whole run fails."""
+    """The equations of a row by what they say; none where its script is not one edit or the whole run fails."""
     if row["status"] not in ("0", "1"):
-        return []
+        return {}
     commands = commands_of(unescape(row["script"]).encode("latin-1"))
     if len(commands) != 1:
-        return []
+        return {}
     edit = antt_edit(commands[0])
     if edit is None:
-        return []
+        return {}
     text = antt_text(unescape(row["makefile"]).encode("latin-1"))
     report = unescape(row["stderr"])
     if report:
-        return [f"outcome {text} {edit} ≡ Err {antt_refusal(report)}"]
-    after = antt_text(unescape(row["stdout"]).encode("latin-1"))
-    return [f"outcome {text} {edit} ≡ Ok {after}", f"reads_as_changed {text} {edit} {after} ≡ true"]
+        equations = {"": f"outcome {text} {edit} ≡ Err {antt_refusal(report)}"}
+    else:
+        after = antt_text(unescape(row["stdout"]).encode("latin-1"))
+        equations = {
+            "": f"outcome {text} {edit} ≡ Ok {after}",
+            "_reading": f"reads_as_changed {text} {edit} {after} ≡ true",
+        }
+        if "spans" in row:
+            spans = antt_list([antt_span(it) for it in row["spans"].split(" ")])
+            equations["_spans"] = f"spans {text} {edit} ≡ Ok {spans}"
+            equations["_size"] = f"size {text} {edit} ≡ {int(row['size'])}"
+    if "cost" in row:
+        equations["_cost"] = f"cost {text} {edit} ≡ {int(row['cost'])}"
+    return equations
 
 
 # ---- the file
 
 # The modules that a file may need, and their names; it imports those that it has.
 IMPORTS = [
-    ("Rattle.std.proofs.Common", ["◌≡◌", "refl", "[]", "Some", "None", "true", "false"]),
+    ("Rattle.std.proofs.Common", ["◌≡◌", "refl", "[]", "◌∷◌", "Some", "None", "true", "false"]),
     ("Rattle.std.specs.Prelude", ["codes", "Ok", "Err"]),
     ("Rattle.mk_class.specs.declared.assignment.Flavor.TheVariants", list(FLAVORS.values())),
     ("Rattle.mk_edit.specs.declared.edit.Colons.TheVariants", list(COLONS.values())),
@@ -181,8 +203,17 @@ IMPORTS = [
         ["SetValue", "AppendValue", "AddAssign", "RemoveAssign", "AddRule", "RemoveRule", "AddPrereq", "RemovePrereq"]
         + ["AddRecipe", "SetRecipe", "RemoveRecipe", "RenameTarget"],
     ),
-    ("Rattle.mk_edit.proofs.Outcomes", ["outcome", "reads_as_changed"]),
+    ("Rattle.mk_edit.specs.Refusals", ["spans"]),
+    ("Rattle.mk_edit.specs.Costs", ["cost", "size"]),
+    ("Rattle.mk_edit.proofs.Outcomes", ["outcome", "reads_as_changed", "span"]),
 ]
+
+
+def stands_in(name, body):
+    """Whether a body without its texts has a name."""
+    if name.startswith("◌"):
+        return name.strip("◌") in body
+    return name == "[]" or bool(re.search(rf"(?<![\w.]){name}(?!\w)", body))
 
 
 def head_of(table, body):
@@ -190,7 +221,7 @@ def head_of(table, body):
     lines = [f"-- Edits with their answers. Made by `tests/definitions/edit_rows.py {table}`."]
     bare = re.sub(r'"[^"\\]*(?:\\.[^"\\]*)*"', "", body)
     for module, names in IMPORTS:
-        used = [name for name in names if not name.isidentifier() or re.search(rf"(?<![\w.]){name}(?!\w)", bare)]
+        used = [name for name in names if stands_in(name, bare)]
         if used:
             lines.append(f"use {module}.{{{', '.join(used)}}}")
     if re.search(r"(?<!\w)field\.", bare):
@@ -206,9 +237,8 @@ def main():
     body = ""
     for row in [dict(zip(head, row, strict=True)) for row in rows]:
         name = "row_" + row["name"].replace("-", "_")
-        for at, equation in enumerate(equations_of(row)):
-            it = name + ("_reading" if at else "")
-            body += f"\n{it} : {equation}\n{it} = refl\n"
+        for ending, equation in equations_of(row).items():
+            body += f"\n{name}{ending} : {equation}\n{name}{ending} = refl\n"
     print(head_of(table, body) + body, end="")
 
 

@@ -11,3 +11,4 @@ pub mod on_edits
 mod Outcomes
 mod WorkedEdits
 mod RandomEdits
+mod CornerEdits

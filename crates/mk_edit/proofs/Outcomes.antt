@@ -1,4 +1,4 @@
--- The text after an edit, or its refusal, and readings compared, for checks by computation.
+-- Spans, the text after an edit or its refusal, and readings compared, for checks by computation.
 use Rattle.std.specs.Prelude.{ℕ, Bool, true, false, ◌&&◌, List, [], ◌∷◌, ◌++◌, map, length, Option, Some, None, Result, Ok, Err}
 use Rattle.mk_lines.specs.Pieces.{Replacement, replaced}
 use Rattle.mk_class.specs.Texts.{is_same_text}
@@ -14,6 +14,10 @@ use Rattle.mk_edit.specs.NewLines.{operator_text}
 use Rattle.mk_edit.specs.Refusals.{spans}
 use Rattle.mk_edit.specs.Changes.{change}
 use Rattle.mk_edit.specs.declared.refusal.Refusal.{Refusal}
+
+-- bytes that replace those from a place to another
+abbrev pub span : (start end : ℕ) → (new : List ℕ) → Replacement
+span s e n = record { start = s; end = e; new = n }
 
 abbrev outcome_of : List ℕ → Result (List Replacement) Refusal → Result (List ℕ) Refusal
 outcome_of t (Ok rs) = Ok (replaced 0 t rs)

@@ -1,5 +1,5 @@
 //! Several changes, one after the other, as one.
-ghost use Rattle.std.specs.Prelude.{◌≡◌, ◌≤◌, ◌<◌, ◌+◌, ◌==◌, ◌++◌, [], ◌∷◌, length, IfOk, OnOk, OnErr};
+ghost use Rattle.std.specs.Prelude.{◌≡◌, ◌≤◌, ◌<◌, ◌+◌, ◌-◌, ◌*◌, ◌^◌, ◌==◌, ◌++◌, [], ◌∷◌, length, min, IfOk, IsOk, OnOk, OnErr};
 ghost use Rattle.mk_history.specs.Chain.{IsChain, after_all};
 
 use crate::change::{Change, SureChange};
@@ -98,7 +98,10 @@ impl<C: SureChange + Drop, A: Allocator> Sequence<C, A> {
         self.waiting.capacity().min(self.taken.capacity())
     }
 
-    /// Makes room for `additional` changes more than it has, and for some to come.
+    /// Makes room for `additional` changes more than it has.
+    ///
+    /// Where there is room already it is not refused, and takes no memory. Otherwise the room is
+    /// at least doubled, so that many small growths take little time together.
     ///
     /// # Errors
     ///
@@ -109,13 +112,17 @@ impl<C: SureChange + Drop, A: Allocator> Sequence<C, A> {
         ensures room { OnOk result (length self.old.changes + additional ≤ self.new.room) }
         ensures changes { self.new.changes ≡ self.old.changes }
         ensures kept { self.old.room ≤ self.new.room }
+        ensures enough { length self.old.changes + additional ≤ self.old.room → IsOk result }
+        ensures same { length self.old.changes + additional ≤ self.old.room → self.new ≡ self.old }
+        ensures doubled { OnOk result (self.old.room < length self.old.changes + additional →
+            min (2 * self.old.room) (2 ^ 64 - 1) ≤ self.new.room) }
     {
+        if additional <= self.room() - self.len() {
+            return Ok(());
+        }
         let Some(wanted) = self.len().checked_add(additional) else {
             return Err(AllocError);
         };
-        if wanted <= self.room() {
-            return Ok(());
-        }
         let room = wanted.max(self.room().saturating_mul(2));
         if self.taken.capacity() < room {
             self.taken.resize(room)?;

@@ -3,3 +3,4 @@ mod called;
 mod draft;
 mod editor;
 mod sure;
+mod texts;

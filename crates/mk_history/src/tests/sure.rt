@@ -89,3 +89,94 @@ fn a_sequence_takes_memory_only_for_room(rt: HostRuntime) -> Result<(), Fail> {
     assert!(rt; !heap.has_refused());
     Ok(())
 }
+
+// A sequence of a number of changes, each put behind the others once there is room for it.
+fn grown<A: Allocator + Copy>(alloc: A, count: u8) -> Result<Sequence<SetByte, A>, AllocError> {
+    let mut sets = Sequence::with_capacity(alloc, 1)?;
+    for byte in 0..count {
+        sets.reserve(1)?;
+        sets.push_back(SetByte { at: 0, byte });
+    }
+    Ok(sets)
+}
+
+#[test]
+fn the_room_of_a_sequence_doubles(rt: HostRuntime) -> Result<(), Fail> {
+    for (count, room) in [
+        (0, 1),
+        (1, 1),
+        (2, 2),
+        (3, 4),
+        (5, 8),
+        (64, 64),
+        (65, 128),
+        (200, 256),
+    ] {
+        let sets = grown(rt.alloc(), count)?;
+        assert_eq!(rt; sets.len(), count as usize);
+        assert_eq!(rt; sets.room(), room, "{count}");
+    }
+    let mut sets = grown(rt.alloc(), 5)?;
+    sets.reserve(100)?;
+    assert_eq!(rt; sets.room(), 105);
+    Ok(())
+}
+
+#[test]
+fn each_growth_of_a_sequence_may_be_refused(rt: HostRuntime) -> Result<(), Fail> {
+    // two rings, and each of them is replaced by one of 2, 4, 8, 16 and so on, up to 256
+    let growths = 2 + 2 * 8;
+    for admitted in 0..growths + 1 {
+        let heap = Refusing::after(rt.alloc(), admitted);
+        assert_eq!(rt;
+            grown(&heap, 200).is_err(),
+            admitted < growths,
+            "{admitted}"
+        );
+        assert_eq!(rt; heap.has_refused(), admitted < growths, "{admitted}");
+    }
+    Ok(())
+}
+
+#[test]
+fn a_refused_growth_leaves_the_changes(rt: HostRuntime) -> Result<(), Fail> {
+    for admitted in 2..4 {
+        let heap = Refusing::after(rt.alloc(), admitted);
+        let mut sets = Sequence::with_capacity(&heap, 1)?;
+        sets.push_back(SetByte { at: 0, byte: 2 });
+        assert!(rt; sets.reserve(1).is_err());
+        assert!(rt; heap.has_refused());
+        assert_eq!(rt; sets.len(), 1);
+        assert_eq!(rt; sets.room(), 1);
+        sets.reserve(0)?;
+        sets.reserve(1)?;
+        sets.push_back(SetByte { at: 1, byte: 5 });
+        let mut text = [7; 4];
+        let Ok(inverse) = sets.apply(&mut text) else {
+            unreachable!()
+        };
+        assert_eq!(rt; text, [2, 5, 7, 7]);
+        let Ok(_) = inverse.apply(&mut text) else {
+            unreachable!()
+        };
+        assert_eq!(rt; text, [7; 4]);
+    }
+    Ok(())
+}
+
+#[test]
+fn what_there_is_room_for_is_not_refused(rt: HostRuntime) -> Result<(), Fail> {
+    let heap = Refusing::after(rt.alloc(), 2);
+    let mut sets = Sequence::with_capacity(&heap, 3)?;
+    for byte in 0..3 {
+        sets.reserve(3 - byte as usize)?;
+        sets.push_back(SetByte { at: 0, byte });
+    }
+    sets.reserve(0)?;
+    assert!(rt; !heap.has_refused());
+    assert!(rt; sets.reserve(usize::MAX).is_err());
+    assert!(rt; !heap.has_refused());
+    assert!(rt; sets.reserve(1).is_err());
+    assert!(rt; heap.has_refused());
+    Ok(())
+}
