@@ -138,6 +138,7 @@ impl<A: Allocator> Doc<A> {
         requires fits { size_of (with_last_bytes bytes self.old) ≤ 2 ^ 24 }
         ensures lines { self.new ≡ with_last_bytes bytes self.old }
         ensures old { result ≡ bytes_of_line (last_line self.old) }
+        ensures some_bytes_back { 0 < length result }
     {
         let tree = mem::replace(&mut self.tree, Tree::new());
         let (tree, old) = tree.swap_end(bytes);
