@@ -6,7 +6,9 @@ use std::marker::Model;
 /// How many lines were classified. Contracts see the number.
 ///
 /// Each call that gives a line its class is handed a meter and adds one to it, so a meter bounds
-/// the work of a call that reads lines anew. It can be neither copied nor set back.
+/// the work of a call that reads lines anew. It cannot be copied. A call that is handed a meter could
+/// put a new one in its place, so each such call says that the count is no lower afterwards, also
+/// where it answers a fault.
 #[derive(Debug, Drop)]
 pub struct Meter {
     count: u64,

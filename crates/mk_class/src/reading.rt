@@ -3,7 +3,7 @@
 //! A line is read from its front, by the units of its joined text; searches for a byte come before
 //! that, and tell most lines that are of another class. The first class that fits is the line's, in
 //! the order of the table in docs/LANGUAGE.md.
-ghost use Rattle.std.specs.Prelude.{◌≡◌, ◌⊎◌, ◌<◌, ◌≢◌, ◌+◌, ◌-◌, ◌^◌, ℕ, List, true, false, All, IfErr, IfOk, MatchOption, Some, min, nat_lt};
+ghost use Rattle.std.specs.Prelude.{◌≡◌, ◌⊎◌, ◌<◌, ◌≤◌, ◌≢◌, ◌+◌, ◌-◌, ◌^◌, ℕ, List, true, false, All, IfErr, IfOk, MatchOption, Some, min, nat_lt};
 ghost use Rattle.mk_lines.specs.Units.{units};
 ghost use Rattle.mk_lines.specs.KeptCells.{AreCellsOf};
 ghost use Rattle.mk_lines.specs.PhysicalLines.{without_line_end};
@@ -57,6 +57,7 @@ pub fn classify<A: Allocator + Copy>(
     ensures fault { IfErr result (λ fault. (fault ≡ Fault.NoMemory) ⊎ ((fault ≡ Fault.TooDeep) × IsTooDeep context line.now)) }
     ensures plain { All (λ b. b ≢ 10) (without_line_end line.now) → IfErr result (λ fault. fault ≡ Fault.TooDeep) }
     ensures meter { meter.new ≡ min (meter.old + 1) (2 ^ 64 - 1) }
+    ensures forward { meter.old ≤ meter.new }
 {
     match cells(alloc, line) {
         Ok(cells) => class_with_cells(line, &cells, context, meter),
@@ -85,6 +86,7 @@ pub fn class_with_cells<A: Allocator>(
     ensures class { IfOk result (λ read. IsRead context line.now read.0 read.1) }
     ensures fault { IfErr result (λ fault. (fault ≡ Fault.TooDeep) × IsTooDeep context line.now) }
     ensures meter { meter.new ≡ min (meter.old + 1) (2 ^ 64 - 1) }
+    ensures forward { meter.old ≤ meter.new }
 {
     meter.add();
     let class = text_class(

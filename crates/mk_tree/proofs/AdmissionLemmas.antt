@@ -4,13 +4,14 @@ use Rattle.mk_lines.specs.LogicalLines.{logical_lines}
 use Rattle.mk_lines.specs.Cells.{Cell, joined_byte}
 use Rattle.mk_class.specs.Classes.{Class}
 use Rattle.mk_class.specs.Classes.Class.{Endef, Body, Recipe, Opaque, Blank, Comment, Assign, DefineHead, If, Else, Endif, Directive, TargetAssign, Rough, Header}
-use Rattle.mk_class.specs.Contexts.{Context, start, context_after, defines_after, context_after_places, FitsDefines}
+use Rattle.mk_class.specs.Contexts.{Context, start, context_after, defines_after, context_after_places, FitsDefines, conditionals_after_places, FitsConditionals}
 use Rattle.mk_class.specs.ClassPlaces.{class_places}
 use Rattle.mk_class.specs.ClassTable.{class_of}
 use Rattle.mk_class.specs.CountsOfClasses.{FitsCounts}
 use Rattle.mk_class.proofs.on_classes.ClassLemmas.{class_of-counts}
 use Rattle.mk_class.specs.ClassedLines.{ClassedLine, classed, classed_lines, context_after_lines}
 use Rattle.mk_class.specs.declared.class.Class as class
+use Rattle.mk_class.specs.declared.class.Class.TheVariants as variants
 use Rattle.mk_class.specs.declared.context.Nesting.TheVariants.{Opens, Closes, Keeps}
 use Rattle.mk_tree.specs.PlacedLines.{PlacedLine, placed_line, placed_lines, placed_text, AreConditionalsFit, context_after_placed}
 use Rattle.mk_tree.specs.Documents.{IsFaithful}
@@ -78,6 +79,33 @@ admitted-faithful ls e h few =
     let own = logical_lines (placed_text ls) in
     let n : 0 + length own ≤ 2 ^ 24 = omega (arith, few, ap length e, length-classed start own) in
     subst (AreAdmitted start) (sym e) (admitted-classed start own (subst (AreConditionalsFit 0) e h) n)
+
+-- ---- open conditionals
+
+-- a line that fits leaves at most 256 open
+conditionals-within : (n : ℕ) (k : class.Class) → n ≤ 256 → FitsConditionals n k → conditionals_after_places n k ≤ 256
+conditionals-within n variants.Endef few h = few
+conditionals-within n (variants.Body b) few h = few
+conditionals-within n variants.Recipe few h = few
+conditionals-within n variants.Opaque few h = few
+conditionals-within n variants.Blank few h = few
+conditionals-within n variants.Comment few h = few
+conditionals-within n (variants.Assign a p) few h = few
+conditionals-within n (variants.DefineHead p) few h = few
+conditionals-within n variants.If few h = omega (arith, h)
+conditionals-within n variants.Else few h = few
+conditionals-within n variants.Endif few h = omega (arith, few)
+conditionals-within n variants.Directive few h = few
+conditionals-within n (variants.TargetAssign t) few h = few
+conditionals-within n variants.Rough few h = few
+conditionals-within n (variants.Header x) few h = few
+
+-- and so do lines that all fit, as far as one looks
+pub conditionals-few_after : (c : Context) (ls : List PlacedLine) (n : ℕ) → c.conditionals ≤ 256 → AreConditionalsFit c.conditionals ls → (context_after_placed c (take n ls)).conditionals ≤ 256
+conditionals-few_after c ls zero few h = few
+conditionals-few_after c [] (suc n) few h = few
+conditionals-few_after c (l ∷ ls) (suc n) few h =
+    conditionals-few_after (context_after_places c l.class) ls n (conditionals-within c.conditionals l.class few h.0) h.1
 
 -- ---- one step of a walk over lines
 

@@ -1,4 +1,5 @@
 -- The class that a document keeps with smaller numbers, as the code has it elsewhere.
+use Rattle.std.specs.Prelude.{ℕ, max}
 use Rattle.mk_class.specs.declared.assignment.Assignment as assignment
 use Rattle.mk_class.specs.declared.assignment.Flavor as flavor
 use Rattle.mk_class.specs.declared.rule.Header as header
@@ -46,3 +47,25 @@ whole_class (TargetAssign s f targets_end k) = variants.TargetAssign (record { s
 whole_class Rough = variants.Rough
 whole_class (Header k) = variants.Header (whole_header k)
 whole_class (Long k) = k.value
+
+-- ---- which classes are kept in a box
+
+-- the largest place of an assignment
+abbrev pub largest_place_of_assignment : assignment.Assignment → ℕ
+largest_place_of_assignment a = max a.name.start (max a.name.end (max a.value.start (max a.value.end a.end)))
+
+-- the largest place of a header
+abbrev pub largest_place_of_header : header.Header → ℕ
+largest_place_of_header h = max h.targets_end (max h.normal_start (max h.normal_end h.head_end))
+
+-- the largest place of a class, or 0
+abbrev pub largest_place : class.Class → ℕ
+largest_place (variants.Assign a prefix) = largest_place_of_assignment a
+largest_place (variants.TargetAssign t) = max t.targets_end (largest_place_of_assignment t.assignment)
+largest_place (variants.Header h) = largest_place_of_header h
+largest_place k = 0
+
+-- a class that is kept in no box
+abbrev pub IsUnboxed : {A : _} → KeptClass A → Type 0
+IsUnboxed (Long k) = ⊥
+IsUnboxed k = Unit {0}

@@ -70,6 +70,7 @@ impl<A: Allocator> Content<A> {
         requires some_bytes { 0 < length bytes }
         requires same_text { without_line_end bytes ≡ without_line_end self.old.bytes }
         ensures old { result ≡ self.old.bytes }
+        ensures some_bytes_back { 0 < length result }
         ensures bytes { self.new.bytes ≡ bytes }
         ensures class { self.new.class ≡ self.old.class }
     {

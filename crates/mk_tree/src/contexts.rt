@@ -1,9 +1,10 @@
 //! The context of a document's lines.
-ghost use Rattle.std.specs.Prelude.{◌≡◌, ◌≤◌, length, take};
+ghost use Rattle.std.specs.Prelude.{◌≡◌, ◌≤◌, drop, length, take};
 ghost use Rattle.mk_class.specs.Contexts.{start};
 ghost use Rattle.mk_class.specs.ClassedLines.{classed_lines, context_after_lines};
 ghost use Rattle.mk_tree.specs.PlacedLines.{AreConditionalsFit, context_after_placed, placed_text};
 ghost use Rattle.mk_tree.specs.Documents.{IsFaithful};
+ghost use Rattle.mk_tree.specs.Admissions.{AreAdmitted};
 
 use crate::document::Doc;
 use crate::iter::Lines;
@@ -13,7 +14,7 @@ use std::alloc::Allocator;
 
 impl<A: Allocator> Doc<A> {
     /// The context of the line at a place, or at the end: what the lines before it leave. Takes no
-    /// memory. It walks over those lines.
+    /// memory. It walks over those lines. The lines from the place on may be stepped over from there.
     ///
     /// It asks for a faithful document.
     pub fn context(&self, at: usize) -> Context
@@ -21,6 +22,8 @@ impl<A: Allocator> Doc<A> {
         requires faithful { IsFaithful self.now }
         ensures context { result ≡ context_after_lines start (take at (classed_lines (placed_text self.now))) }
         ensures placed { result ≡ context_after_placed start (take at self.now) }
+        ensures few { result.conditionals ≤ 256 }
+        ensures admitted { AreAdmitted result (drop at self.now) }
     {
         context_before(&self.tree, at)
     }
@@ -32,6 +35,8 @@ impl<A: Allocator> Doc<A> {
         requires { IsFaithful self.now }
         ensures context { result ≡ context_after_lines start (classed_lines (placed_text self.now)) }
         ensures placed { result ≡ context_after_placed start self.now }
+        ensures few { result.conditionals ≤ 256 }
+        ensures conditionals { AreConditionalsFit 0 self.now }
     {
         context_before(&self.tree, self.tree.len())
     }
@@ -42,7 +47,9 @@ fn context_before<A: Allocator>(tree: &Tree<A>, count: usize) -> Context
     requires in_range { count ≤ length tree.now.0 }
     requires faithful { IsFaithful tree.now.0 }
     requires conditionals { AreConditionalsFit 0 tree.now.0 }
-    ensures { result ≡ context_after_placed start (take count tree.now.0) }
+    ensures context { result ≡ context_after_placed start (take count tree.now.0) }
+    ensures few { result.conditionals ≤ 256 }
+    ensures admitted { AreAdmitted result (drop count tree.now.0) }
 {
     let mut context = Context::start();
     let mut lines = Lines::new(tree);

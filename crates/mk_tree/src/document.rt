@@ -1,7 +1,10 @@
 //! The document: the list of its lines.
 ghost use Rattle.std.specs.Prelude.{◌≡◌, ◌+◌, ◌^◌, ◌<◌, ◌≤◌, ◌↔◌, [], ◌∷◌, ◌++◌, IsTrue, IfSome, IsOk, false, length, slice_get, take, drop};
 ghost use Rattle.mk_lines.specs.PhysicalLines.{without_line_end};
-ghost use Rattle.mk_tree.specs.PlacedLines.{bytes_of_line, is_conditional_places, last_line, size_of, size_of_line, with_last_bytes};
+ghost use Rattle.mk_class.specs.Contexts.{start};
+ghost use Rattle.mk_tree.specs.PlacedLines.{AreConditionalsFit, bytes_of_line, is_conditional_places, last_line, size_of, size_of_line, with_last_bytes};
+ghost use Rattle.mk_tree.specs.Admissions.{AreAdmitted};
+ghost use Rattle.mk_tree.specs.Documents.{IsFaithful};
 ghost use Rattle.mk_tree.specs.Trees.{line_view};
 
 use crate::iter::Lines;
@@ -70,8 +73,13 @@ impl<A: Allocator> Doc<A> {
 
     /// The lines in order. It copies nothing and takes no memory; a walk over all of them takes time
     /// linear in their number.
+    ///
+    /// Never are more than 256 conditionals open, and each `endif` ends one that is. Each line of a
+    /// faithful document is what [`Context::step`](mk_class::Context::step) asks for where it stands.
     pub fn iter(&self) -> Lines<'_, A>
-        ensures { result ≡ self.now }
+        ensures lines { result ≡ self.now }
+        ensures conditionals { AreConditionalsFit 0 self.now }
+        ensures admitted { IsFaithful self.now → AreAdmitted start self.now }
     {
         Lines::new(&self.tree)
     }
@@ -138,6 +146,7 @@ impl<A: Allocator> Doc<A> {
         requires fits { size_of (with_last_bytes bytes self.old) ≤ 2 ^ 24 }
         ensures lines { self.new ≡ with_last_bytes bytes self.old }
         ensures old { result ≡ bytes_of_line (last_line self.old) }
+        ensures some_bytes_back { 0 < length result }
     {
         let tree = mem::replace(&mut self.tree, Tree::new());
         let (tree, old) = tree.swap_end(bytes);

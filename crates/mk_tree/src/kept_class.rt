@@ -2,8 +2,8 @@
 //!
 //! A class is the largest part of what is kept of a line, and a document is read through whole to
 //! be printed or dropped.
-ghost use Rattle.std.specs.Prelude.{◌≡◌, IfOk, IfSome, IsOkUnless};
-ghost use Rattle.mk_tree.specs.KeptClasses.{whole_assignment, whole_class, whole_header};
+ghost use Rattle.std.specs.Prelude.{◌≡◌, ◌^◌, ◌<◌, ◌≤◌, IfOk, IsOkAnd, IsOkUnless, MatchOption};
+ghost use Rattle.mk_tree.specs.KeptClasses.{IsUnboxed, largest_place, largest_place_of_assignment, largest_place_of_header, whole_assignment, whole_class, whole_header};
 
 use mk_class::{Assignment, Class, Flavor, Header, Nesting, Separator, TargetAssignment};
 use mk_lines::Fault;
@@ -58,16 +58,16 @@ pub(crate) struct KeptHeader {
     head_end: u32,
 }
 
-// A place as a smaller number.
+// A place as a smaller number, where it fits.
 fn small(place: usize) -> Option<u32>
-    ensures { IfSome result (λ p. p ≡ place) }
+    ensures { MatchOption result (2 ^ 32 ≤ place) (λ p. p ≡ place) }
 {
     u32::try_from(place).ok()
 }
 
 impl KeptAssignment {
     fn of(assignment: &Assignment) -> Option<KeptAssignment>
-        ensures { IfSome result (λ kept. whole_assignment assignment.now.flavor kept ≡ assignment.now) }
+        ensures { MatchOption result (2 ^ 32 ≤ largest_place_of_assignment assignment.now) (λ kept. whole_assignment assignment.now.flavor kept ≡ assignment.now) }
     {
         Some(KeptAssignment {
             name_start: small(assignment.name.start)?,
@@ -98,7 +98,7 @@ impl KeptAssignment {
 
 impl KeptHeader {
     fn of(header: &Header) -> Option<KeptHeader>
-        ensures { IfSome result (λ kept. whole_header kept ≡ header.now) }
+        ensures { MatchOption result (2 ^ 32 ≤ largest_place_of_header header.now) (λ kept. whole_header kept ≡ header.now) }
     {
         Some(KeptHeader {
             separator: header.separator,
@@ -129,13 +129,15 @@ impl KeptHeader {
 }
 
 impl<A: Allocator> KeptClass<A> {
-    /// A class to be kept. It takes memory where a place does not fit 32 bits.
+    /// A class to be kept. It takes memory, and is kept in a box, only where a place does not fit 32
+    /// bits.
     ///
     /// # Errors
     ///
     /// [`Fault::NoMemory`] where a growth was refused.
     pub(crate) fn new(alloc: A, class: Class) -> Result<KeptClass<A>, Fault>
         ensures ok { IfOk result (λ kept. whole_class kept ≡ class) }
+        ensures small { largest_place class < 2 ^ 32 → IsOkAnd result IsUnboxed }
         ensures fault { IsOkUnless result Fault.NoMemory }
     {
         match KeptClass::with_small_places(&class) {
@@ -146,7 +148,7 @@ impl<A: Allocator> KeptClass<A> {
 
     // A class where all of its places fit.
     fn with_small_places(class: &Class) -> Option<KeptClass<A>>
-        ensures { IfSome result (λ kept. whole_class kept ≡ class.now) }
+        ensures { MatchOption result (2 ^ 32 ≤ largest_place class.now) (λ kept. (whole_class kept ≡ class.now) × IsUnboxed kept) }
     {
         let kept = match class {
             Class::Endef => KeptClass::Endef,

@@ -1,8 +1,9 @@
 //! A text as a document.
-ghost use Rattle.std.specs.Prelude.{◌≡◌, ◌+◌, ◌^◌, ◌<◌, ◌≤◌, IfErr, IfOk, OnOk, length};
+ghost use Rattle.std.specs.Prelude.{◌≡◌, ◌+◌, ◌^◌, ◌<◌, ◌≤◌, IfErr, IfOk, IsErrAnd, OnOk, length};
+ghost use Rattle.mk_lines.specs.LogicalLines.{logical_lines};
 ghost use Rattle.mk_tree.specs.Counting.{AreCounted};
 ghost use Rattle.mk_tree.specs.Faults.{IsParsingFault, IsReadingFault};
-ghost use Rattle.mk_tree.specs.Documents.{IsFaithfulTo, IsTooDeep};
+ghost use Rattle.mk_tree.specs.Documents.{IsFaithful, IsFaithfulTo, IsTooDeep};
 ghost use Rattle.mk_tree.specs.PlacedLines.{size_of};
 ghost use Rattle.mk_tree.specs.Trees.{IsLowest};
 ghost use Rattle.mk_tree.specs.Unread.{AreReadFrom, AreTooDeep, shown};
@@ -21,7 +22,7 @@ pub const SIZE_LIMIT: usize = 16_777_216;
 
 impl<A: Allocator + Copy> Doc<A> {
     /// The lines of a text, each with its class in the context of those before it. It adds one to the
-    /// meter for each. The time is linear in the text.
+    /// meter for each, and where it answers a fault for at most each. The time is linear in the text.
     ///
     /// The text is copied once; [`Doc::parse_vec`] copies nothing.
     ///
@@ -31,11 +32,15 @@ impl<A: Allocator + Copy> Doc<A> {
     /// - [`Fault::TooDeep`] where more than 256 conditionals are open at once.
     /// - [`Fault::NoMemory`] where a growth was refused.
     pub fn parse(alloc: A, text: &[u8], meter: &mut Meter) -> Result<Doc<A>, Fault>
+        ensures long { 2 ^ 24 < length text.now → IsErrAnd result (λ fault. fault ≡ Fault.TooLong) }
         ensures faithful { IfOk result (λ doc. IsFaithfulTo doc text.now) }
+        ensures own { IfOk result (λ doc. IsFaithful doc) }
         ensures short { IfOk result (λ _. length text.now ≤ 2 ^ 24) }
         ensures shallow { IfOk result (λ _. IsTooDeep text.now → ⊥) }
         ensures fault { IfErr result (λ fault. IsParsingFault (2 ^ 24 < length text.now) (IsTooDeep text.now) fault) }
         ensures counted { IfOk result (λ doc. AreCounted meter.old (length doc) meter.new) }
+        ensures forward { meter.old ≤ meter.new }
+        ensures few_read { meter.new ≤ meter.old + length (logical_lines text.now) }
     {
         if text.len() > SIZE_LIMIT {
             return Err(Fault::TooLong);
@@ -50,11 +55,15 @@ impl<A: Allocator + Copy> Doc<A> {
     ///
     /// Those of [`Doc::parse`].
     pub fn parse_vec(alloc: A, text: Vec<u8, A>, meter: &mut Meter) -> Result<Doc<A>, Fault>
+        ensures long { 2 ^ 24 < length text.items → IsErrAnd result (λ fault. fault ≡ Fault.TooLong) }
         ensures faithful { IfOk result (λ doc. IsFaithfulTo doc text.items) }
+        ensures own { IfOk result (λ doc. IsFaithful doc) }
         ensures short { IfOk result (λ _. length text.items ≤ 2 ^ 24) }
         ensures shallow { IfOk result (λ _. IsTooDeep text.items → ⊥) }
         ensures fault { IfErr result (λ fault. IsParsingFault (2 ^ 24 < length text.items) (IsTooDeep text.items) fault) }
         ensures counted { IfOk result (λ doc. AreCounted meter.old (length doc) meter.new) }
+        ensures forward { meter.old ≤ meter.new }
+        ensures few_read { meter.new ≤ meter.old + length (logical_lines text.items) }
     {
         if text.len() > SIZE_LIMIT {
             return Err(Fault::TooLong);
@@ -82,6 +91,8 @@ fn read_tree<A: Allocator + Copy>(
     ensures low { IfOk result (λ tree. IsLowest count tree.1) }
     ensures fault { IfErr result (λ fault. IsReadingFault (AreTooDeep lines.old) fault) }
     ensures counted { OnOk result (AreCounted meter.old count meter.new) }
+    ensures forward { meter.old ≤ meter.new }
+    ensures few_read { meter.new ≤ meter.old + count }
 {
     if count == 0 {
         return Ok(Tree::new());

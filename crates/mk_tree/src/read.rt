@@ -19,7 +19,8 @@ use mk_lines::cells::cells;
 use std::alloc::Allocator;
 
 impl<A: Allocator + Copy> Line<A> {
-    /// One logical line, with its class in a context and its cells. It adds one to the meter.
+    /// One logical line, with its class in a context and its cells. It adds one to the meter, or
+    /// nothing where it answers a fault before the line has its class.
     ///
     /// What is given is one logical line: [`split`](mk_lines::split::split) of it gives one span.
     ///
@@ -39,6 +40,7 @@ impl<A: Allocator + Copy> Line<A> {
         ensures shallow { IfOk result (λ _. class_of context bytes.items ≡ If → context.conditionals < 256) }
         ensures fault { IfErr result (λ fault. IsReadingFault (IsTooDeep context bytes.items) fault) }
         ensures counted { OnOk result (meter.new ≡ min (meter.old + 1) (2 ^ 64 - 1)) }
+        ensures forward { meter.old ≤ meter.new }
         ensures once { meter.new ≤ meter.old + 1 }
     {
         let cells = cells(alloc, &bytes)?;
@@ -62,6 +64,7 @@ pub(crate) fn read_line<A: Allocator + Copy>(
     ensures read { IfOk result (λ r. IsRead context bytes (line_view r.0).class r.1) }
     ensures fault { IfErr result (λ fault. IsReadingFault (IsTooDeep context bytes) fault) }
     ensures counted { OnOk result (meter.new ≡ min (meter.old + 1) (2 ^ 64 - 1)) }
+    ensures forward { meter.old ≤ meter.new }
     ensures once { meter.new ≤ meter.old + 1 }
 {
     let cells = cells(alloc, bytes.as_slice())?;

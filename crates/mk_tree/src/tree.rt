@@ -320,6 +320,7 @@ impl<A: Allocator> Tree<A> {
         requires fits { size_of self.0 + length bytes ≤ 2 ^ 24 + size_of_line (last_line self.0) }
         ensures lines { result.0.0 ≡ with_last_bytes bytes self.0 }
         ensures old { result.1 ≡ bytes_of_line (last_line self.0) }
+        ensures some_bytes_back { 0 < length result.1 }
     {
         let at = self.len() - 1;
         let (rest, mut line) = self.remove(at);

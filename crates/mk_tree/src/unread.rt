@@ -61,13 +61,16 @@ impl<'a, A: Allocator + Copy> Unread<'a, A> {
         self.spans.len()
     }
 
-    /// Reads the first line. It adds one to the meter.
+    /// Reads the first line. It adds one to the meter, or nothing where it answers a fault before the
+    /// line has its class.
     pub(crate) fn read_first(&mut self, meter: &mut Meter) -> Result<Line<A>, Fault>
         requires some { 0 < length self.old.lines }
         ensures read { IfOk result (λ line. AreReadFrom self.old (line_view line ∷ []) self.new) }
         ensures count { length self.old.lines ≡ length self.new.lines + 1 }
         ensures fault { IfErr result (λ fault. IsReadingFault (AreTooDeep self.old) fault) }
         ensures counted { OnOk result (meter.new ≡ min (meter.old + 1) (2 ^ 64 - 1)) }
+        ensures forward { meter.old ≤ meter.new }
+        ensures once { meter.new ≤ meter.old + 1 }
     {
         let Some((span, rest)) = self.spans.split_first() else {
             unreachable!()

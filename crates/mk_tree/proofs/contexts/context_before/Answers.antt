@@ -1,5 +1,6 @@
 use Rattle.std.proofs.Common.{sym, ◌∙◌, arith}
-use Rattle.mk_tree.proofs.AdmissionLemmas.{admitted-faithful, drop-none, walk-step}
+use Rattle.mk_class.specs.Contexts.{start}
+use Rattle.mk_tree.proofs.AdmissionLemmas.{admitted-faithful, conditionals-few_after, drop-none, walk-step}
 use Rattle.mk_tree.proofs.contexts.context_before.Goals as goal
 
 pub lines-init : goal.lines-init
@@ -14,3 +15,6 @@ pub lines-preserved : goal.lines-preserved
 lines-preserved g c =
     let (at, here, fits) = c.lines.invariant in
     walk-step c.args.tree.now.0 _ _ _ _ _ _ c.class.result at c.in-Some.ensures.steps here fits c.class.ensures c.step-context.ensures.places
+
+pub returns-clause-few : goal.returns-clause-few
+returns-clause-few g c = rw c.lines.invariant.1 (conditionals-few_after start c.args.tree.now.0 c.lines.place (omega arith) c.requires.conditionals)

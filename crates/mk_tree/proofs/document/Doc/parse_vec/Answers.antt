@@ -2,6 +2,7 @@ use Rattle.std.proofs.Common.{◌∙◌, ◌+◌, length, arith, ap}
 use Rattle.std.specs.Rc.{rc_slice_items}
 use Rattle.mk_tree.specs.PlacedLines.{size_of}
 use Rattle.mk_tree.specs.Unread.{UnreadLines, shown}
+use Rattle.mk_tree.proofs.on_documents.DocumentLemmas.{faithful-own}
 use Rattle.mk_tree.proofs.Reading.{read-all, all-counted, shallow, size_of-document}
 use Rattle.mk_tree.proofs.document.Doc.parse_vec.Goals as goal
 
@@ -17,3 +18,7 @@ returns-clause-shallow g c =
 pub returns-clause-counted : goal.returns-clause-counted
 returns-clause-counted g c =
     omega (arith, c.in_ok-tree.ensures.counted, c.len-count.ensures, all-counted (rc_slice_items c.in_ok-text.text) _ _ _ c.new-lines.ensures.lines c.in_ok-tree.ensures.read (c.in_ok-tree.ensures.count ∙ ap (λ n. length c.read_tree.new.lines.lines + n) c.len-count.ensures))
+
+pub returns-clause-own : goal.returns-clause-own
+returns-clause-own g c =
+    faithful-own c.in_ok-tree.tree.0 (rc_slice_items c.in_ok-text.text) (read-all (rc_slice_items c.in_ok-text.text) _ _ _ c.new-lines.ensures.lines c.in_ok-tree.ensures.read (c.in_ok-tree.ensures.count ∙ ap (λ n. length c.read_tree.new.lines.lines + n) c.len-count.ensures)).0
