@@ -17,7 +17,7 @@ use Rattle.mk_tree.specs.RunsReplaced.{text-run_replaced, run-removed}
 use Rattle.mk_tree.specs.ConditionalLaws.{AreUnconditional, most_conditionals-run_replaced, most_conditionals-without}
 use Rattle.mk_edit.specs.Edits.{Edit}
 use Rattle.mk_edit.specs.Spots.{Spot}
-use Rattle.mk_edit.specs.Stretches.{Stretch, this_line, insertion}
+use Rattle.mk_edit.specs.Stretches.{Stretch, this_line, insertion, touched_by}
 use Rattle.mk_edit.specs.Spans.{removed_span}
 use Rattle.mk_edit.specs.LineCauses.{removal_leans}
 use Rattle.mk_edit.specs.Costs.{cost, size}
@@ -32,51 +32,57 @@ abbrev pub above_after : (text : List ℕ) → (new_line : Option Stretch) → (
 above_after t None s = s.above
 above_after t (Some n) s = above_ended (file_line_end t) s.above s.below
 
--- What an edit leaves: its spans stand within some lines, and the lines above and below these are as before, each with its
--- class. At most as many lines are new as the edit costs, and at most as many are gone as its size says. The most conditionals
--- that are open at once are as many as before.
+-- What an edit leaves: its spans stand within the lines that it touches, and the lines above and below these are as before, each
+-- with its class. At most as many lines are new as the edit costs, and at most as many are gone as its size says; none of them is
+-- of a conditional. The most conditionals that are open at once are as many as before.
 pub record AreOthersKept (t : List ℕ) (e : Edit) (rs : List Replacement) : Type 0 where
   pub touched : Stretch
   pub new : List ClassedLine
+  pub place : touched_by (classed_lines t) e ≡ Some touched
   pub before : IsStretchOf (classed_lines t) touched
   pub after : classed_lines (text_after t e) ≡ above_after t (insertion (classed_lines t) e) touched ++ (new ++ touched.below)
   pub within : Rise (length (text_of touched.above)) (length (text_of touched.above) + length (text_of touched.lines)) rs
   pub few_new : length new ≤ cost t e
   pub few_gone : length touched.lines ≤ size t e
+  pub new_plain : AreUnconditional new
+  pub gone_plain : AreUnconditional touched.lines
   pub same_depth : most_conditionals 0 (classed_lines (text_after t e)) ≡ most_conditionals 0 (classed_lines t)
 
 -- ---- a line replaced
 
-pub line-kept : (t : List ℕ) (e : Edit) (rs : List Replacement) (s : Spot) (m : ClassedLine) → spans t e ≡ Ok rs → IsSpotOf (classed_lines t) s
+pub line-kept : (t : List ℕ) (e : Edit) (rs : List Replacement) (s : Spot) (m : ClassedLine) → spans t e ≡ Ok rs → touched_by (classed_lines t) e ≡ Some (this_line s) → IsSpotOf (classed_lines t) s
     → classed_lines (replaced 0 t rs) ≡ s.above ++ m ∷ s.below
     → Rise (length (text_of s.above)) (length (text_of s.above) + length s.line.bytes) rs
     → insertion (classed_lines t) e ≡ None → 1 ≤ cost t e → 1 ≤ size t e → not (is_conditional s.line.class) ≡ true → not (is_conditional m.class) ≡ true
     → AreOthersKept t e rs
-line-kept t e rs s m h w k r i c z u v =
+line-kept t e rs s m h p w k r i c z u v =
     let lines : classed_lines (text_after t e) ≡ s.above ++ m ∷ s.below = ap (λ q. classed_lines (text_by t q)) h ∙ k in
     record {
       touched = this_line s;
       new = m ∷ [];
+      place = p;
       before = w;
       after = lines ∙ ap (λ (o : Option Stretch). above_after t o (this_line s) ++ m ∷ s.below) (sym i);
       within = subst (λ q. Rise (length (text_of s.above)) (length (text_of s.above) + length q) rs) (sym (append-nil s.line.bytes)) r;
       few_new = omega (arith, c);
       few_gone = omega (arith, z);
+      new_plain = (v, tt);
+      gone_plain = (u, tt);
       same_depth = ap (most_conditionals 0) lines ∙ (most_conditionals-run_replaced start s.above (s.line ∷ []) (m ∷ []) s.below (u, tt) (v, tt) ∙ ap (most_conditionals 0) (sym w));
     }
 
 -- so it is of a text with one line replaced
-pub replaced-kept : (t : List ℕ) (e : Edit) (rs : List Replacement) (s : Spot) (i : Item) → spans t e ≡ Ok rs → IsSpotOf (classed_lines t) s → IsLineReplaced (replaced 0 t rs) s.above s.below i
+pub replaced-kept : (t : List ℕ) (e : Edit) (rs : List Replacement) (s : Spot) (i : Item) → spans t e ≡ Ok rs → touched_by (classed_lines t) e ≡ Some (this_line s) → IsSpotOf (classed_lines t) s → IsLineReplaced (replaced 0 t rs) s.above s.below i
     → Rise (length (text_of s.above)) (length (text_of s.above) + length s.line.bytes) rs
     → insertion (classed_lines t) e ≡ None → 1 ≤ cost t e → 1 ≤ size t e → not (is_conditional s.line.class) ≡ true → AreOthersKept t e rs
-replaced-kept t e rs s i h w r q n c z u = line-kept t e rs s r.line h w r.lines q n c z u r.unconditional
+replaced-kept t e rs s i h p w r q n c z u = line-kept t e rs s r.line h p w r.lines q n c z u r.unconditional
 
 -- ---- lines taken out
 
-pub stretch-kept : (t : List ℕ) (e : Edit) (rs : List Replacement) (s : Stretch) → spans t e ≡ Ok rs → IsStretchOf (classed_lines t) s → removed_span s ≡ rs
+pub stretch-kept : (t : List ℕ) (e : Edit) (rs : List Replacement) (s : Stretch) → spans t e ≡ Ok rs → touched_by (classed_lines t) e ≡ Some s → IsStretchOf (classed_lines t) s → removed_span s ≡ rs
     → AgreeButForFlag (context_of s.above) (context_of (s.above ++ s.lines)) → removal_leans (Some s) ≡ false
     → insertion (classed_lines t) e ≡ None → length s.lines ≤ size t e → AreUnconditional s.lines → AreOthersKept t e rs
-stretch-kept t e rs s h w k agree free i z u =
+stretch-kept t e rs s h p w k agree free i z u =
     let at = length (text_of s.above) in
     let lines : classed_lines (text_after t e) ≡ s.above ++ s.below =
     ap (λ q. classed_lines (text_by t q)) h
@@ -85,11 +91,14 @@ stretch-kept t e rs s h w k agree free i z u =
     record {
       touched = s;
       new = [];
+      place = p;
       before = w;
       after = lines ∙ ap (λ (o : Option Stretch). above_after t o s ++ s.below) (sym i);
       within = subst (Rise at (at + length (text_of s.lines))) k (omega arith, omega arith, omega arith);
       few_new = omega arith;
       few_gone = z;
+      new_plain = tt;
+      gone_plain = u;
       same_depth = ap (most_conditionals 0) lines ∙ (sym (most_conditionals-without start s.above s.lines s.below u) ∙ ap (most_conditionals 0) (sym w));
     }
 
@@ -112,19 +121,22 @@ depth-above_ended e above (b ∷ below) rest = refl
 pub new_line-kept : (t : List ℕ) (e : Edit) (rs : List Replacement) (above below : List ClassedLine) (m : ClassedLine) (v : List ℕ) → spans t e ≡ Ok rs → classed_lines t ≡ above ++ below
     → record { start = length (text_of above); end = length (text_of above); new = v } ∷ [] ≡ rs
     → classed_lines (replaced 0 t rs) ≡ above_ended (file_line_end t) above below ++ m ∷ below
-    → (n : Stretch) → insertion (classed_lines t) e ≡ Some n → 1 ≤ cost t e → not (is_conditional m.class) ≡ true → AreOthersKept t e rs
-new_line-kept t e rs above below m v h w k q n i c u =
+    → (n : Stretch) → insertion (classed_lines t) e ≡ Some n → touched_by (classed_lines t) e ≡ Some (record { above = above; lines = []; below = below }) → 1 ≤ cost t e → not (is_conditional m.class) ≡ true → AreOthersKept t e rs
+new_line-kept t e rs above below m v h w k q n i p c u =
     let at = length (text_of above) in
     let s : Stretch = record { above = above; lines = []; below = below } in
     let lines : classed_lines (text_after t e) ≡ above_ended (file_line_end t) above below ++ m ∷ below = ap (λ z. classed_lines (text_by t z)) h ∙ q in
     record {
       touched = s;
       new = m ∷ [];
+      place = p;
       before = w;
       after = lines ∙ ap (λ (o : Option Stretch). above_after t o s ++ m ∷ below) (sym i);
       within = subst (Rise at (at + 0)) k (omega arith, omega arith, omega arith);
       few_new = omega (arith, c);
       few_gone = omega arith;
+      new_plain = (u, tt);
+      gone_plain = tt;
       same_depth =
           ap (most_conditionals 0) lines
           ∙ (depth-above_ended (file_line_end t) above below (m ∷ below)
