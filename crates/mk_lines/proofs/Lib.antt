@@ -5,5 +5,6 @@ pub mod KeptLemmas
 pub mod PartLemmas
 pub mod PrefixLemmas
 pub mod SplitLemmas
+pub mod FileEndLemmas
 pub mod UnitWalkLemmas
 pub mod StackLemmas
