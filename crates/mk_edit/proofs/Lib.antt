@@ -1,3 +1,4 @@
 mod Outcomes
 mod WorkedEdits
 mod RandomEdits
+pub mod LengthLemmas

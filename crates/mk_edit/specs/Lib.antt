@@ -3,6 +3,7 @@ pub mod Spots
 pub mod Addresses
 pub mod Stretches
 pub mod NewLines
+pub mod Lengths
 pub mod ValueSpans
 pub mod WordPieces
 pub mod Spans

@@ -1,10 +1,11 @@
 -- Laws of what an edit leaves: the bytes outside its spans, and the lines that these do not touch; each the contract of a public
 -- function.
-use Rattle.std.specs.Prelude.{◌≡◌, ℕ, List, Bool, Option, Ok}
+use Rattle.std.specs.Prelude.{◌≡◌, ℕ, ◌+◌, List, length, Bool, Option, Ok}
 use Rattle.mk_lines.specs.Pieces.{Replacement}
 use Rattle.mk_edit.specs.Edits.{Edit, Place, SetValue, AppendValue, AddAssign, AddRule, RemoveAssign, RemoveRule, AddPrereq, RemovePrereq, AddRecipe, SetRecipe, RemoveRecipe, RenameTarget}
 use Rattle.mk_class.specs.declared.assignment.Flavor.{Flavor}
 use Rattle.mk_edit.specs.declared.edit.Colons.{Colons}
+use Rattle.mk_edit.specs.Lengths.{bytes_taken, bytes_put}
 use Rattle.mk_edit.specs.RisingSpans.{IsReplacedAt}
 use Rattle.mk_edit.specs.TouchedLines.{IsOfOnePlace, TouchFew}
 use Rattle.mk_edit.specs.KeptLines.{AreOthersKept}
@@ -14,6 +15,11 @@ use Rattle.mk_edit.specs.Refusals.{spans, text_after}
 -- the spans of an edit rise within the text and do not overlap, and the bytes outside them are as before
 abbrev pub OnlySpansAreReplaced : Type 0
 OnlySpansAreReplaced = (text : List ℕ) (e : Edit) (replacements : List Replacement) → spans text e ≡ Ok replacements → IsReplacedAt text (text_after text e) replacements
+
+-- the length of the text after an edit: what its spans take goes, and what they put comes
+abbrev pub LengthsAddUp : Type 0
+LengthsAddUp = (text : List ℕ) (e : Edit) (replacements : List Replacement) → spans text e ≡ Ok replacements
+    → length (text_after text e) + bytes_taken replacements ≡ length text + bytes_put replacements
 
 -- the spans of an edit other than a rename stand within a stretch of at most so many lines as its size says
 abbrev pub SpansTouchFewLines : Type 0

@@ -1,10 +1,16 @@
 //! What an edit leaves as it was: the bytes outside its spans, and the lines that these do not touch.
-ghost use Rattle.mk_edit.specs.OutsideLaws.{AppendKeepsOthers, AssignKeepsOthers, DependKeepsOthers, EditsKeepOthers, OnlySpansAreReplaced, RecipeAddedKeepsOthers, RecipeRemovedKeepsOthers, RecipeSetKeepsOthers, RenameKeepsOthers, RuleAddedKeepsOthers, SetKeepsOthers, SpansTouchFewLines, UndependKeepsOthers, UnruleKeepsOthers, UnsetKeepsOthers};
+ghost use Rattle.mk_edit.specs.OutsideLaws.{AppendKeepsOthers, AssignKeepsOthers, DependKeepsOthers, EditsKeepOthers, LengthsAddUp, OnlySpansAreReplaced, RecipeAddedKeepsOthers, RecipeRemovedKeepsOthers, RecipeSetKeepsOthers, RenameKeepsOthers, RuleAddedKeepsOthers, SetKeepsOthers, SpansTouchFewLines, UndependKeepsOthers, UnruleKeepsOthers, UnsetKeepsOthers};
 
 /// The spans of an accepted edit stand in the text in order and apart, and the bytes outside them
 /// are as before: the text after it is the text with each span replaced.
 pub fn only_spans_are_replaced()
     ensures { OnlySpansAreReplaced }
+{}
+
+/// The text after an accepted edit, of every kind, has as many bytes as the text before, less those
+/// in its spans, and those put in their place.
+pub fn lengths_add_up()
+    ensures { LengthsAddUp }
 {}
 
 /// The spans of an accepted edit, other than a rename, stand within lines that follow one another, of

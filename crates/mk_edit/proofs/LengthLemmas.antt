@@ -1,0 +1,31 @@
+-- The length of a text with replacements made.
+use Rattle.std.proofs.Common.{◌≡◌, refl, ap, ◌∙◌, arith, ℕ, List, [], ◌∷◌, ◌++◌, length, length-append, take, drop, ◌+◌, ◌-◌, ◌≤◌}
+use Rattle.std.proofs.lemmas.List.{length-take-le, length-drop}
+use Rattle.std.specs.Prelude.{Ok}
+use Rattle.mk_lines.specs.Pieces.{Replacement, replaced}
+use Rattle.mk_edit.specs.Edits.{Edit}
+use Rattle.mk_edit.specs.Lengths.{bytes_taken, bytes_put}
+use Rattle.mk_edit.specs.Refusals.{spans, text_by, text_after}
+use Rattle.mk_edit.specs.RisingSpans.{Rise, Rise-from_to, IsReplacedAt}
+use Rattle.mk_edit.specs.SpansRise.{only_spans-replaced}
+
+-- where they rise within the text, which begins at a place
+pub length-replaced : (a b : ℕ) (t : List ℕ) (rs : List Replacement) → Rise a b rs → b ≡ a + length t → length (replaced a t rs) + bytes_taken rs ≡ length t + bytes_put rs
+length-replaced a b t [] h k = refl
+length-replaced a b t (r ∷ rs) h k =
+    let n = r.start - a in
+    let m = r.end - a in
+    let last : r.end ≤ b = Rise-from_to r.end b rs h.2 in
+    let front : length (take n t) ≡ n = length-take-le n t (omega (arith, h.0, h.1, last, k)) in
+    let left : length (drop m t) ≡ length t - m = length-drop m t in
+    let end : b ≡ r.end + length (drop m t) = omega (arith, h.0, h.1, last, k, left) in
+    let rest = length-replaced r.end b (drop m t) rs h.2 end in
+    let whole : length (replaced a t (r ∷ rs)) ≡ length (take n t) + (length r.new + length (replaced r.end (drop m t) rs)) =
+    length-append (take n t) (r.new ++ replaced r.end (drop m t) rs) ∙ ap (λ z. length (take n t) + z) (length-append r.new (replaced r.end (drop m t) rs)) in
+    omega (arith, whole, front, left, rest, h.0, h.1, last, k)
+
+-- so it is of an accepted edit
+pub length-after : (t : List ℕ) (e : Edit) (rs : List Replacement) → spans t e ≡ Ok rs → length (text_after t e) + bytes_taken rs ≡ length t + bytes_put rs
+length-after t e rs h =
+    let R = only_spans-replaced t e rs h in
+    ap (λ q. length (text_by t q) + bytes_taken rs) h ∙ length-replaced 0 (length t) t rs R.rise (omega arith)
