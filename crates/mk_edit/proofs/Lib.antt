@@ -2,3 +2,4 @@ mod Outcomes
 mod WorkedEdits
 mod RandomEdits
 pub mod LengthLemmas
+pub mod EditedLineLemmas

@@ -1,18 +1,21 @@
 -- What an edit leaves of the lines of a text: the lines above and below those that its spans touch, with their classes, and how
 -- deep conditionals stand in one another.
 use Rattle.std.proofs.Common.{◌≡◌, refl, sym, ap, ◌∙◌, subst, arith, ℕ, List, [], ◌∷◌, ◌++◌, Bool, true, false, not, cond, max, length, ◌+◌, ◌≤◌, Option, Some, None}
-use Rattle.std.proofs.lemmas.List.{append-nil}
+use Rattle.std.proofs.lemmas.List.{append-nil, append_cancel_left, append_cancel_right}
 use Rattle.std.specs.Prelude.{Ok}
 use Rattle.mk_lines.specs.PhysicalLines.{file_line_end}
 use Rattle.mk_lines.specs.declared.ends.End.{End}
 use Rattle.mk_lines.specs.Pieces.{Replacement, replaced}
-use Rattle.mk_class.specs.Classes.{is_conditional}
-use Rattle.mk_class.specs.Contexts.{start, conditionals_after}
-use Rattle.mk_class.specs.ClassedLines.{ClassedLine, classed_lines}
+use Rattle.mk_lines.specs.Cells.{Cell}
+use Rattle.mk_class.specs.Classes.{Class, is_conditional}
+use Rattle.mk_class.specs.Contexts.{Context, start, conditionals_after}
+use Rattle.mk_class.specs.ClassTable.{class_of}
+use Rattle.mk_class.specs.ClassedLines.{ClassedLine, classed, classed_lines}
 use Rattle.mk_tree.specs.Documents.{text_of, context_of, most_conditionals}
 use Rattle.mk_tree.specs.Items.{Item}
 use Rattle.mk_tree.specs.Leaning.{AgreeButForFlag}
 use Rattle.mk_tree.specs.NewLines.{above_ended, last_ended, lacks_line_end, with_line_end}
+use Rattle.mk_tree.specs.LinePlaces.{located}
 use Rattle.mk_tree.specs.RunsReplaced.{text-run_replaced, run-removed}
 use Rattle.mk_tree.specs.ConditionalLaws.{AreUnconditional, most_conditionals-run_replaced, most_conditionals-without}
 use Rattle.mk_edit.specs.Edits.{Edit}
@@ -22,7 +25,8 @@ use Rattle.mk_edit.specs.Spans.{removed_span}
 use Rattle.mk_edit.specs.LineCauses.{removal_leans}
 use Rattle.mk_edit.specs.Costs.{cost, size}
 use Rattle.mk_edit.specs.Refusals.{spans, text_by, text_after}
-use Rattle.mk_edit.specs.RisingSpans.{Rise}
+use Rattle.mk_edit.specs.EditedLines.{respanned_bytes, edited_bytes, edited_lines}
+use Rattle.mk_edit.specs.RisingSpans.{Rise, Rise-within}
 use Rattle.mk_edit.specs.EditPlaces.{IsSpotOf, IsStretchOf}
 use Rattle.mk_edit.specs.LineReplaced.{IsLineReplaced}
 
@@ -33,14 +37,15 @@ above_after t None s = s.above
 above_after t (Some n) s = above_ended (file_line_end t) s.above s.below
 
 -- What an edit leaves: its spans stand within the lines that it touches, and the lines above and below these are as before, each
--- with its class. At most as many lines are new as the edit costs, and at most as many are gone as its size says; none of them is
--- of a conditional. The most conditionals that are open at once are as many as before.
+-- with its class. The new lines between them are told, with their bytes and classes. At most as many lines are new as the edit
+-- costs, and at most as many are gone as its size says; none of them is of a conditional. The most conditionals that are open at once are as many as before.
 pub record AreOthersKept (t : List ℕ) (e : Edit) (rs : List Replacement) : Type 0 where
   pub touched : Stretch
   pub new : List ClassedLine
   pub place : touched_by (classed_lines t) e ≡ Some touched
   pub before : IsStretchOf (classed_lines t) touched
   pub after : classed_lines (text_after t e) ≡ above_after t (insertion (classed_lines t) e) touched ++ (new ++ touched.below)
+  pub new_are : new ≡ edited_lines t e touched rs
   pub within : Rise (length (text_of touched.above)) (length (text_of touched.above) + length (text_of touched.lines)) rs
   pub few_new : length new ≤ cost t e
   pub few_gone : length touched.lines ≤ size t e
@@ -50,12 +55,26 @@ pub record AreOthersKept (t : List ℕ) (e : Edit) (rs : List Replacement) : Typ
 
 -- ---- a line replaced
 
+-- a line with its class
+one-line : (c : Context) (m : ClassedLine) (b : List ℕ) → m.bytes ≡ b → class_of c m.bytes ≡ m.class → m ∷ [] ≡ classed c (b ∷ [])
+one-line c m b h k =
+    ap (λ (q : Class Cell). record { bytes = m.bytes; class = q } ∷ []) (sym k) ∙ ap (λ z. record { bytes = z; class = class_of c z } ∷ []) h
+
 pub line-kept : (t : List ℕ) (e : Edit) (rs : List Replacement) (s : Spot) (m : ClassedLine) → spans t e ≡ Ok rs → touched_by (classed_lines t) e ≡ Some (this_line s) → IsSpotOf (classed_lines t) s
     → classed_lines (replaced 0 t rs) ≡ s.above ++ m ∷ s.below
     → Rise (length (text_of s.above)) (length (text_of s.above) + length s.line.bytes) rs
-    → insertion (classed_lines t) e ≡ None → 1 ≤ cost t e → 1 ≤ size t e → not (is_conditional s.line.class) ≡ true → not (is_conditional m.class) ≡ true
+    → insertion (classed_lines t) e ≡ None → edited_bytes t e (this_line s) rs ≡ respanned_bytes (this_line s) rs ∷ []
+    → 1 ≤ cost t e → 1 ≤ size t e → not (is_conditional s.line.class) ≡ true → not (is_conditional m.class) ≡ true
     → AreOthersKept t e rs
-line-kept t e rs s m h p w k r i c z u v =
+line-kept t e rs s m h p w k r i d c z u v =
+    let at = length (text_of s.above) in
+    let bytes : m.bytes ≡ respanned_bytes (this_line s) rs =
+    append_cancel_right m.bytes (replaced at s.line.bytes rs) (text_of s.below)
+    (append_cancel_left (text_of s.above) (m.bytes ++ text_of s.below) (replaced at s.line.bytes rs ++ text_of s.below)
+    (sym (located (replaced 0 t rs) s.above m s.below k).text
+    ∙ (ap (λ q. replaced 0 q rs) (located t s.above s.line s.below w).text ∙ Rise-within (text_of s.above) s.line.bytes (text_of s.below) rs r)))
+    ∙ ap (λ q. replaced at q rs) (sym (append-nil s.line.bytes)) in
+    let class : class_of (context_of s.above) m.bytes ≡ m.class = (located (replaced 0 t rs) s.above m s.below k).class in
     let lines : classed_lines (text_after t e) ≡ s.above ++ m ∷ s.below = ap (λ q. classed_lines (text_by t q)) h ∙ k in
     record {
       touched = this_line s;
@@ -63,6 +82,7 @@ line-kept t e rs s m h p w k r i c z u v =
       place = p;
       before = w;
       after = lines ∙ ap (λ (o : Option Stretch). above_after t o (this_line s) ++ m ∷ s.below) (sym i);
+      new_are = one-line (context_of s.above) m (respanned_bytes (this_line s) rs) bytes class ∙ ap (classed (context_of s.above)) (sym d);
       within = subst (λ q. Rise (length (text_of s.above)) (length (text_of s.above) + length q) rs) (sym (append-nil s.line.bytes)) r;
       few_new = omega (arith, c);
       few_gone = omega (arith, z);
@@ -74,15 +94,16 @@ line-kept t e rs s m h p w k r i c z u v =
 -- so it is of a text with one line replaced
 pub replaced-kept : (t : List ℕ) (e : Edit) (rs : List Replacement) (s : Spot) (i : Item) → spans t e ≡ Ok rs → touched_by (classed_lines t) e ≡ Some (this_line s) → IsSpotOf (classed_lines t) s → IsLineReplaced (replaced 0 t rs) s.above s.below i
     → Rise (length (text_of s.above)) (length (text_of s.above) + length s.line.bytes) rs
-    → insertion (classed_lines t) e ≡ None → 1 ≤ cost t e → 1 ≤ size t e → not (is_conditional s.line.class) ≡ true → AreOthersKept t e rs
-replaced-kept t e rs s i h p w r q n c z u = line-kept t e rs s r.line h p w r.lines q n c z u r.unconditional
+    → insertion (classed_lines t) e ≡ None → edited_bytes t e (this_line s) rs ≡ respanned_bytes (this_line s) rs ∷ []
+    → 1 ≤ cost t e → 1 ≤ size t e → not (is_conditional s.line.class) ≡ true → AreOthersKept t e rs
+replaced-kept t e rs s i h p w r q n d c z u = line-kept t e rs s r.line h p w r.lines q n d c z u r.unconditional
 
 -- ---- lines taken out
 
 pub stretch-kept : (t : List ℕ) (e : Edit) (rs : List Replacement) (s : Stretch) → spans t e ≡ Ok rs → touched_by (classed_lines t) e ≡ Some s → IsStretchOf (classed_lines t) s → removed_span s ≡ rs
     → AgreeButForFlag (context_of s.above) (context_of (s.above ++ s.lines)) → removal_leans (Some s) ≡ false
-    → insertion (classed_lines t) e ≡ None → length s.lines ≤ size t e → AreUnconditional s.lines → AreOthersKept t e rs
-stretch-kept t e rs s h p w k agree free i z u =
+    → insertion (classed_lines t) e ≡ None → edited_bytes t e s rs ≡ [] → length s.lines ≤ size t e → AreUnconditional s.lines → AreOthersKept t e rs
+stretch-kept t e rs s h p w k agree free i d z u =
     let at = length (text_of s.above) in
     let lines : classed_lines (text_after t e) ≡ s.above ++ s.below =
     ap (λ q. classed_lines (text_by t q)) h
@@ -94,6 +115,7 @@ stretch-kept t e rs s h p w k agree free i z u =
       place = p;
       before = w;
       after = lines ∙ ap (λ (o : Option Stretch). above_after t o s ++ s.below) (sym i);
+      new_are = ap (classed (context_of s.above)) (sym d);
       within = subst (Rise at (at + length (text_of s.lines))) k (omega arith, omega arith, omega arith);
       few_new = omega arith;
       few_gone = z;
@@ -121,8 +143,10 @@ depth-above_ended e above (b ∷ below) rest = refl
 pub new_line-kept : (t : List ℕ) (e : Edit) (rs : List Replacement) (above below : List ClassedLine) (m : ClassedLine) (v : List ℕ) → spans t e ≡ Ok rs → classed_lines t ≡ above ++ below
     → record { start = length (text_of above); end = length (text_of above); new = v } ∷ [] ≡ rs
     → classed_lines (replaced 0 t rs) ≡ above_ended (file_line_end t) above below ++ m ∷ below
-    → (n : Stretch) → insertion (classed_lines t) e ≡ Some n → touched_by (classed_lines t) e ≡ Some (record { above = above; lines = []; below = below }) → 1 ≤ cost t e → not (is_conditional m.class) ≡ true → AreOthersKept t e rs
-new_line-kept t e rs above below m v h w k q n i p c u =
+    → (n : Stretch) → insertion (classed_lines t) e ≡ Some n → touched_by (classed_lines t) e ≡ Some (record { above = above; lines = []; below = below })
+    → class_of (context_of above) m.bytes ≡ m.class → edited_bytes t e (record { above = above; lines = []; below = below }) rs ≡ m.bytes ∷ []
+    → 1 ≤ cost t e → not (is_conditional m.class) ≡ true → AreOthersKept t e rs
+new_line-kept t e rs above below m v h w k q n i p o d c u =
     let at = length (text_of above) in
     let s : Stretch = record { above = above; lines = []; below = below } in
     let lines : classed_lines (text_after t e) ≡ above_ended (file_line_end t) above below ++ m ∷ below = ap (λ z. classed_lines (text_by t z)) h ∙ q in
@@ -132,6 +156,7 @@ new_line-kept t e rs above below m v h w k q n i p c u =
       place = p;
       before = w;
       after = lines ∙ ap (λ (o : Option Stretch). above_after t o s ++ m ∷ below) (sym i);
+      new_are = one-line (context_of above) m m.bytes refl o ∙ ap (classed (context_of above)) (sym d);
       within = subst (Rise at (at + 0)) k (omega arith, omega arith, omega arith);
       few_new = omega (arith, c);
       few_gone = omega arith;

@@ -4,6 +4,7 @@ pub mod Addresses
 pub mod Stretches
 pub mod NewLines
 pub mod Lengths
+pub mod EditedLines
 pub mod ValueSpans
 pub mod WordPieces
 pub mod Spans
