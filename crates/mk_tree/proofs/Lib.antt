@@ -6,6 +6,7 @@ pub mod Places
 pub mod Heights
 pub mod Nodes
 pub mod Changes
+pub mod Sizes
 pub mod WalkLemmas
 pub mod Prefixes
 pub mod AdmissionLemmas
