@@ -9,3 +9,5 @@ pub mod KeptLineLemmas
 pub mod KeptByEdits
 pub mod KeptByRenameLemmas
 pub mod KeptLemmas
+pub mod LengthLemmas
+pub mod EditedLineLemmas

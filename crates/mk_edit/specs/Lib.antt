@@ -5,6 +5,8 @@ pub mod Addresses
 pub mod Stretches
 -- Spans
 pub mod NewLines
+pub mod Lengths
+pub mod EditedLines
 pub mod ValueSpans
 pub mod WordPieces
 pub mod Spans

@@ -1,13 +1,17 @@
 -- Laws of what an edit leaves: the bytes outside its spans, and the lines that these do not touch; each the contract of a public
 -- function.
-use Rattle.std.specs.Prelude.{◌≡◌, ℕ, List, Bool, Option, Ok}
+use Rattle.std.specs.Prelude.{◌≡◌, ℕ, ◌+◌, List, ◌++◌, length, Bool, Option, Some, Ok}
 use Rattle.mk_lines.specs.Pieces.{Replacement}
 use Rattle.mk_edit.specs.Edits.{Edit, Place, SetValue, AppendValue, AddAssign, AddRule, RemoveAssign, RemoveRule, AddPrereq, RemovePrereq, AddRecipe, SetRecipe, RemoveRecipe, RenameTarget}
 use Rattle.mk_class.specs.declared.assignment.Flavor.{Flavor}
 use Rattle.mk_edit.specs.declared.edit.Colons.{Colons}
+use Rattle.mk_class.specs.ClassedLines.{classed_lines}
+use Rattle.mk_edit.specs.Stretches.{Stretch, insertion, touched_by}
+use Rattle.mk_edit.specs.EditedLines.{edited_lines}
+use Rattle.mk_edit.specs.Lengths.{bytes_taken, bytes_put}
 use Rattle.mk_edit.specs.RisingSpans.{IsReplacedAt}
 use Rattle.mk_edit.specs.TouchedLines.{IsOfOnePlace, TouchFew}
-use Rattle.mk_edit.specs.KeptLines.{AreOthersKept}
+use Rattle.mk_edit.specs.KeptLines.{AreOthersKept, above_after}
 use Rattle.mk_edit.specs.RenamedLines.{AreOthersKeptByRename}
 use Rattle.mk_edit.specs.Refusals.{spans, text_after}
 
@@ -15,9 +19,19 @@ use Rattle.mk_edit.specs.Refusals.{spans, text_after}
 abbrev pub OnlySpansAreReplaced : Type 0
 OnlySpansAreReplaced = (text : List ℕ) (e : Edit) (replacements : List Replacement) → spans text e ≡ Ok replacements → IsReplacedAt text (text_after text e) replacements
 
+-- the length of the text after an edit: what its spans take goes, and what they put comes
+abbrev pub LengthsAddUp : Type 0
+LengthsAddUp = (text : List ℕ) (e : Edit) (replacements : List Replacement) → spans text e ≡ Ok replacements
+    → length (text_after text e) + bytes_taken replacements ≡ length text + bytes_put replacements
+
 -- the spans of an edit other than a rename stand within a stretch of at most so many lines as its size says
 abbrev pub SpansTouchFewLines : Type 0
 SpansTouchFewLines = (text : List ℕ) (e : Edit) (replacements : List Replacement) → IsOfOnePlace e → spans text e ≡ Ok replacements → TouchFew text e replacements
+
+-- the lines after an edit of one place: those above, the edited ones with their bytes and classes, and those below
+abbrev pub EditedLinesStand : Type 0
+EditedLinesStand = (text : List ℕ) (e : Edit) (replacements : List Replacement) (touched : Stretch) → spans text e ≡ Ok replacements → touched_by (classed_lines text) e ≡ Some touched
+    → classed_lines (text_after text e) ≡ above_after text (insertion (classed_lines text) e) touched ++ (edited_lines text e touched replacements ++ touched.below)
 
 -- an edit leaves the lines that its spans do not touch, touches few, and opens no conditional
 abbrev pub KeepsOthers : Edit → Type 0

@@ -46,7 +46,7 @@ odd-run (b ∷ text) = go (b == 92) refl (odd-run text) where
 -- ---- a physical line
 
 -- a front of a text in which no line feed was found has none
-no-feed : (text : List ℕ) (k : ℕ) → ((j : ℕ) → j < k → get_or text j 0 ≡ 10 → ⊥) → NoLineFeed (take k text)
+pub no-feed : (text : List ℕ) (k : ℕ) → ((j : ℕ) → j < k → get_or text j 0 ≡ 10 → ⊥) → NoLineFeed (take k text)
 no-feed [] zero none = tt
 no-feed [] (suc k) none = tt
 no-feed (b ∷ text) zero none = tt

@@ -3,3 +3,4 @@ pub mod LineCut
 pub mod LineLemmas
 pub mod LineEndLemmas
 pub mod LineEndAdded
+pub mod FileEndLemmas

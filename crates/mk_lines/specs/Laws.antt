@@ -1,7 +1,7 @@
 -- Laws of lines, cells, units and words, each the contract of a public function.
 use Rattle.std.specs.Prelude.{◌≡◌, ℕ, List, [], ◌∷◌, ◌++◌, map, true, not, take, drop}
 use Rattle.mk_lines.specs.Lists.{concat}
-use Rattle.mk_lines.specs.PhysicalLines.{line_end, line_end_bytes, without_line_end}
+use Rattle.mk_lines.specs.PhysicalLines.{line_end, line_end_bytes, without_line_end, file_line_end}
 use Rattle.mk_lines.specs.LogicalLines.{logical_lines, ends_line}
 use Rattle.mk_lines.specs.Cells.{joined_byte, joined_text, raw_text, line_cells, NoLineEnds}
 use Rattle.mk_lines.specs.Units.{units, is_closed}
@@ -32,6 +32,11 @@ LinesAreLocal = (text new : List ℕ) (above run below : List (List ℕ)) → lo
     → (run ++ below ≡ [] → EndsWhereFollowed (concat above) (logical_lines new))
     → EndsWhereFollowed new below
     → logical_lines (concat above ++ (new ++ concat below)) ≡ above ++ (logical_lines new ++ below)
+
+-- The line end that new lines of a text have is that which they would have in its first logical line alone. It is LF in the empty
+-- text.
+abbrev pub FileEndsAsFirstLine : Type 0
+FileEndsAsFirstLine = (text first : List ℕ) (rest : List (List ℕ)) → logical_lines text ≡ first ∷ rest → file_line_end text ≡ file_line_end first
 
 -- ---- cells
 

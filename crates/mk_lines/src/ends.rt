@@ -1,8 +1,10 @@
 //! How a line ends, and whether the next one continues it.
 ghost use Rattle.std.specs.Prelude.{◌≡◌, ◌==◌};
 ghost use Rattle.std.specs.List.{suffix_len};
-ghost use Rattle.mk_lines.specs.PhysicalLines.{ends_with_carriage_return, line_end, without_line_end};
+ghost use Rattle.mk_lines.specs.PhysicalLines.{ends_with_carriage_return, file_line_end, line_end, without_line_end};
 ghost use Rattle.mk_lines.specs.LogicalLines.{ends_with_odd_run, is_continued, is_open};
+
+use memchr::memchr;
 
 /// The line end of a line: the bytes that separate it from the next.
 ///
@@ -37,6 +39,21 @@ pub fn without_line_end(line: &[u8]) -> &[u8]
         [text @ .., b'\r', b'\n'] => text,
         [text @ .., b'\n'] => text,
         _ => line,
+    }
+}
+
+/// The line end of new lines of a text: that of its first physical line, or LF where it has none.
+/// Takes no memory.
+///
+/// It reads up to the first LF, so the first logical line of a text tells it
+/// ([`laws::file_ends_as_its_first_line`](crate::laws::file_ends_as_its_first_line)). That a file's
+/// lines end as its first does is this project's profile.
+pub fn file_line_end(text: &[u8]) -> End
+    ensures { result ≡ file_line_end text.now }
+{
+    match memchr(b'\n', text) {
+        Some(feed) => line_end(&text[..feed + 1]),
+        None => End::Lf,
     }
 }
 

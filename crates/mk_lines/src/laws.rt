@@ -1,6 +1,6 @@
 //! Laws of lines, cells, units and words: each contract is a theorem on the definitions that the
 //! calls of this crate are specified by. The functions do nothing.
-ghost use Rattle.mk_lines.specs.Laws.{CellsAreBytesOrFolds, CellsJoined, ClosedByUnits, JoinedUnits, LinesAreLocal, LinesAreSingle, LinesJoined, RangesCut, RawPlacesCut, UnitsAreFirstUnits, UnitsJoined, UnitsOfClosed, WordsAreRuns};
+ghost use Rattle.mk_lines.specs.Laws.{CellsAreBytesOrFolds, CellsJoined, ClosedByUnits, FileEndsAsFirstLine, JoinedUnits, LinesAreLocal, LinesAreSingle, LinesJoined, RangesCut, RawPlacesCut, UnitsAreFirstUnits, UnitsJoined, UnitsOfClosed, WordsAreRuns};
 
 /// The logical lines of a text, joined, are the text.
 pub fn lines_joined()
@@ -20,6 +20,11 @@ pub fn lines_are_single()
 /// text, what stands above it has to end a line.
 pub fn lines_are_local()
     ensures { LinesAreLocal }
+{}
+
+/// The line end that new lines of a text have is told by its first logical line alone.
+pub fn file_ends_as_its_first_line()
+    ensures { FileEndsAsFirstLine }
 {}
 
 /// The raw bytes of a line's cells, joined, are the line without its line end.

@@ -5,3 +5,4 @@ pub mod RecipeRunLemmas
 pub mod SpansInLines
 pub mod EachReplacedLemmas
 pub mod NewLineLemmas
+pub mod Sizes

@@ -1,6 +1,8 @@
 -- What a document is: a list of lines, each its bytes and its class. It is faithful to a text where its lines are those of the
 -- text, each with its class in the context of those before it.
-use Rattle.std.specs.Prelude.{◌≡◌, ℕ, ◌<◌, max, List, [], ◌∷◌}
+use Rattle.std.specs.Prelude.{◌≡◌, ℕ, ◌<◌, max, not, List, [], ◌∷◌}
+use Rattle.mk_lines.specs.Lists.{Each}
+use Rattle.mk_class.specs.Classes.{is_conditional}
 use Rattle.mk_class.specs.Contexts.{conditionals_after}
 use Rattle.mk_class.specs.ClassedLines.{ClassedLine, classed_lines}
 pub use Rattle.mk_tree.specs.LineTexts.{text_of, context_of}
@@ -30,3 +32,7 @@ conditional_limit = 256
 -- a text opens more conditionals at once than a document may have
 abbrev pub IsTooDeep : List ℕ → Type 0
 IsTooDeep t = conditional_limit < most_conditionals 0 (classed_lines t)
+
+-- lines that belong to no conditional
+abbrev pub AreUnconditional : List ClassedLine → Type 0
+AreUnconditional ls = Each (λ l. not (is_conditional l.class)) ls

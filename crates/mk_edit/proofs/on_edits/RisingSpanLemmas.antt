@@ -4,6 +4,7 @@ use Rattle.std.proofs.lemmas.List.{append-nil, take-append-drop, length-take-le,
 use Rattle.std.proofs.Math.Seq.{drop-append-add}
 use Rattle.mk_lines.specs.Cells.{Byte, raw_text}
 use Rattle.mk_lines.proofs.on_cells.CellLemmas.{raw_text-bytes}
+use Rattle.mk_lines.proofs.on_lists.PieceLemmas.{replaced-pieces}
 use Rattle.mk_lines.specs.Pieces.{Replacement, replaced, Piece, Keep, Replace, old_bytes, new_bytes, replacements}
 use Rattle.mk_edit.specs.RisingSpans.{Rise, IsReplacedAt}
 
@@ -85,6 +86,13 @@ cut a b t (r ∷ rs) h k =
 -- Where the replacements rise within the text, no others are made.
 pub Rise-replaced : (t : List ℕ) (rs : List Replacement) → Rise 0 (length t) rs → IsReplacedAt t (replaced 0 t rs) rs
 Rise-replaced t rs h = let c = cut 0 (length t) t rs h (omega arith) in record { rise = h; pieces = c.pieces; old = c.old; new = c.new; places = c.places }
+
+-- Where they rise within a stretch of a text, this stretch has them made, and the text before and after it stays.
+pub Rise-within : (p w q : List ℕ) (rs : List Replacement) → Rise (length p) (length p + length w) rs → replaced 0 (p ++ (w ++ q)) rs ≡ p ++ (replaced (length p) w rs ++ q)
+Rise-within p w q rs h =
+    let c = cut (length p) (length p + length w) w rs h refl in
+    ap (λ z. replaced 0 (p ++ (z ++ q)) rs) (sym c.old)
+    ∙ (ap (replaced 0 (p ++ (old_bytes c.pieces ++ q))) (sym c.places) ∙ (replaced-pieces p c.pieces q ∙ ap (λ z. p ++ (z ++ q)) c.new))
 
 -- ---- which replacements rise
 

@@ -1,5 +1,5 @@
 //! What an edit leaves as it was: the bytes outside its spans, and the lines that these do not touch.
-ghost use Rattle.mk_edit.specs.OutsideLaws.{AppendKeepsOthers, AssignKeepsOthers, DependKeepsOthers, EditsKeepOthers, OnlySpansAreReplaced, RecipeAddedKeepsOthers, RecipeRemovedKeepsOthers, RecipeSetKeepsOthers, RenameKeepsOthers, RuleAddedKeepsOthers, SetKeepsOthers, SpansTouchFewLines, UndependKeepsOthers, UnruleKeepsOthers, UnsetKeepsOthers};
+ghost use Rattle.mk_edit.specs.OutsideLaws.{AppendKeepsOthers, AssignKeepsOthers, DependKeepsOthers, EditedLinesStand, EditsKeepOthers, LengthsAddUp, OnlySpansAreReplaced, RecipeAddedKeepsOthers, RecipeRemovedKeepsOthers, RecipeSetKeepsOthers, RenameKeepsOthers, RuleAddedKeepsOthers, SetKeepsOthers, SpansTouchFewLines, UndependKeepsOthers, UnruleKeepsOthers, UnsetKeepsOthers};
 
 /// The spans of an accepted edit stand in the text in order and apart, and the bytes outside them
 /// are as before: the text after it is the text with each span replaced.
@@ -7,10 +7,26 @@ pub fn only_spans_are_replaced()
     ensures { OnlySpansAreReplaced }
 {}
 
+/// The text after an accepted edit, of every kind, has as many bytes as the text before, less those
+/// in its spans, and those put in their place.
+pub fn lengths_add_up()
+    ensures { LengthsAddUp }
+{}
+
 /// The spans of an accepted edit, other than a rename, stand within lines that follow one another, of
 /// which there are at most as many as the edit's size says.
 pub fn spans_touch_few_lines()
     ensures { SpansTouchFewLines }
+{}
+
+/// After an accepted edit, other than a rename, the lines are those above the lines that it touches,
+/// the edited ones with their bytes and their classes, and those below.
+///
+/// The edited ones are none where it takes lines out; the new line with the file's line end where it
+/// puts one in, and then a last line without line end gets one; or else the one line that it touches
+/// with the spans in it replaced. Each has the class that it has below the lines above.
+pub fn edited_lines_stand()
+    ensures { EditedLinesStand }
 {}
 
 /// An accepted edit of a value touches one line. The lines above and below it are as before, with

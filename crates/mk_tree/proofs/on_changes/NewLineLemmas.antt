@@ -1,8 +1,8 @@
 -- A new line put between lines: it is one line there, and where it comes last the line above it, which may have no line end,
 -- gets one and is as it was.
-use Rattle.std.proofs.Common.{◌≡◌, refl, sym, ap, ◌∙◌, subst, ℕ, List, [], ◌∷◌, ◌++◌, append_assoc, Bool, true, false, not, ◌&&◌, ◌||◌, if◌then◌else◌, reverse, length}
+use Rattle.std.proofs.Common.{◌≡◌, refl, sym, ap, ◌∙◌, subst, ℕ, List, [], ◌∷◌, ◌++◌, append_assoc, Bool, true, false, not, ◌&&◌, ◌||◌, if◌then◌else◌, reverse, length, map}
 use Rattle.std.specs.Prelude.{nat_lt, ◌==◌}
-use Rattle.std.proofs.lemmas.List.{append-nil, reverse-append}
+use Rattle.std.proofs.lemmas.List.{append-nil, reverse-append, map-append}
 use Rattle.mk_lines.specs.Bytes.{ByteKind, LineFeed, CarriageReturn, Backslash, Blank, Ordinary, byte_kind, is_backslash_kind, is_carriage_return_kind}
 use Rattle.mk_lines.proofs.on_lists.ListLemmas.{Each-right}
 use Rattle.mk_lines.specs.PhysicalLines.{physical_lines, line_end, line_end_bytes, without_line_end, ends_with_carriage_return, is_carriage_return_first, file_line_end, first_line_end, line_end_or_lf}
@@ -205,6 +205,8 @@ no_line_end-is CrLf h = cc
 -- What is known of a line that comes last in a text, and the line that it is with some bytes added.
 pub record LineEnded (above : List ClassedLine) (l new : ClassedLine) (added : List ℕ) : Type 0 where
   pub bytes : new.bytes ≡ l.bytes ++ added
+  -- its text without line end stays
+  pub same_text : without_line_end new.bytes ≡ without_line_end l.bytes
   -- it has the class that it had, and the same item
   pub class : new.class ≡ l.class
   pub item : items_of_line new.class new.bytes ≡ items_of_line l.class l.bytes
@@ -254,6 +256,7 @@ line-ended t above l e h o k = go (lacks_line_end l) refl
         class_of-same_text (context_of above) m l.bytes (led-longer (context_of above).prefix l.bytes (line_end_bytes e) filled.0 filled.1 filled.2) (same n) ∙ place.class in
         record {
           bytes = refl;
+          same_text = same n;
           class = refl;
           item = items_of_line-same_text l.class m l.bytes (same n);
           ends = (ended n).ends;
@@ -261,6 +264,7 @@ line-ended t above l e h o k = go (lacks_line_end l) refl
         }
     go false n = record {
       bytes = sym (append-nil l.bytes);
+      same_text = refl;
       class = refl;
       item = refl;
       ends = ends n;
@@ -271,12 +275,15 @@ line-ended t above l e h o k = go (lacks_line_end l) refl
 pub record LastEnded (above new : List ClassedLine) (added : List ℕ) : Type 0 where
   pub text : text_of new ≡ text_of above ++ added
   pub lines : classed_lines (text_of new) ≡ new
+  -- the text of each, without its line end, stays
+  pub same_texts : map (λ l. without_line_end l.bytes) new ≡ map (λ l. without_line_end l.bytes) above
   -- they end, and have the same items and lead to the same context
   pub ends : Ends (text_of new)
   pub same_items : items new ≡ items above
   pub same_context : context_of new ≡ context_of above
 
-last_ended-last : (e : End) (front : List ClassedLine) (l : ClassedLine) → last_ended e (front ++ l ∷ []) ≡ front ++ line_ended e l ∷ []
+-- the last of some lines gets it
+pub last_ended-last : (e : End) (front : List ClassedLine) (l : ClassedLine) → last_ended e (front ++ l ∷ []) ≡ front ++ line_ended e l ∷ []
 last_ended-last e [] l = refl
 last_ended-last e (x ∷ []) l = refl
 last_ended-last e (x ∷ y ∷ front) l = ap (λ z. x ∷ z) (last_ended-last e (y ∷ front) l)
@@ -285,7 +292,7 @@ last_ended-last e (x ∷ y ∷ front) l = ap (λ z. x ∷ z) (last_ended-last e 
 pub last-ended : (t : List ℕ) (above : List ClassedLine) (e : End) → classed_lines t ≡ above → last_passes (λ l. is_open l.bytes) above ≡ false → has_no_line_end e ≡ false
     → LastEnded above (last_ended e above) (missing_line_end e above [])
 unfolding Ends
-last-ended t [] e h o k = record { text = refl; lines = refl; ends = refl; same_items = refl; same_context = refl }
+last-ended t [] e h o k = record { text = refl; lines = refl; same_texts = refl; ends = refl; same_items = refl; same_context = refl }
 last-ended t (x ∷ xs) e h o k = apart (x ∷ xs) (last-apart x xs) h o
   where
     split : (A : List ClassedLine) (l : ClassedLine) → classed_lines t ≡ A ++ l ∷ [] → is_open l.bytes ≡ false → LastEnded (A ++ l ∷ []) (A ++ line_ended e l ∷ []) (if lacks_line_end l then line_end_bytes e else [])
@@ -299,6 +306,7 @@ last-ended t (x ∷ xs) e h o k = apart (x ∷ xs) (last-apart x xs) h o
         record {
           text = whole ∙ (ap (λ z. text_of A ++ z) E.bytes ∙ (sym (append_assoc (text_of A) l.bytes added) ∙ ap (λ z. z ++ added) (sym old)));
           lines = ap classed_lines whole ∙ E.lines;
+          same_texts = map-append (λ z. without_line_end z.bytes) A (new ∷ []) ∙ (ap (λ z. map (λ x. without_line_end x.bytes) A ++ z ∷ []) E.same_text ∙ sym (map-append (λ z. without_line_end z.bytes) A (l ∷ [])));
           ends = subst Ends (sym whole) (Ends-append (text_of A) new.bytes place.begins E.ends);
           same_items = items-append A (new ∷ []) ∙ (ap (λ z. items A ++ (z ++ [])) E.item ∙ sym (items-append A (l ∷ [])));
           same_context = context_of-last A new ∙ (ap (λ z. context_after (context_of A) z) E.class ∙ sym (context_of-last A l));

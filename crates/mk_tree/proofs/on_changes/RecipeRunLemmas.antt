@@ -18,7 +18,8 @@ use Rattle.mk_lines.specs.Cells.{Cell}
 use Rattle.std.specs.Prelude.{None}
 use Rattle.mk_tree.specs.RecipeLines.{stays_in_rule, rule_lines, recipe_run, after_recipe}
 use Rattle.mk_tree.specs.Leaning.{AgreeButForFlag}
-use Rattle.mk_tree.proofs.on_documents.ConditionalLemmas.{AreUnconditional, conditionals-kept_by_lines}
+use Rattle.mk_tree.proofs.on_documents.ConditionalLemmas.{conditionals-kept_by_lines}
+use Rattle.mk_tree.specs.Documents.{AreUnconditional}
 
 -- ---- the lines
 

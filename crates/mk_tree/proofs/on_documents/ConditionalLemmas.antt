@@ -7,12 +7,8 @@ use Rattle.mk_class.specs.Classes.{Class, is_conditional}
 use Rattle.mk_class.specs.Classes.Class.{Endef, Body, Recipe, Opaque, Blank, Comment, Assign, DefineHead, If, Else, Endif, Directive, TargetAssign, Rough, Header}
 use Rattle.mk_class.specs.Contexts.{Context, context_after, conditionals_after}
 use Rattle.mk_class.specs.ClassedLines.{ClassedLine, context_after_lines}
-use Rattle.mk_tree.specs.Documents.{most_conditionals}
+use Rattle.mk_tree.specs.Documents.{AreUnconditional, most_conditionals}
 use Rattle.mk_tree.specs.EachReplaced.{ReplaceEach}
-
--- lines that belong to no conditional
-abbrev pub AreUnconditional : List ClassedLine → Type 0
-AreUnconditional ls = Each (λ l. not (is_conditional l.class)) ls
 
 -- such a line leaves the number of open conditionals
 pub conditionals-kept : (n : ℕ) (k : Class Cell) → not (is_conditional k) ≡ true → conditionals_after n k ≡ n
