@@ -1,5 +1,5 @@
 -- The lines of a text are admitted where they stand.
-use Rattle.std.proofs.Common.{◌≡◌, ℕ, zero, suc, ◌+◌, ◌<◌, ◌≤◌, ◌^◌, refl, sym, ap, ◌∙◌, subst, arith, List, [], ◌∷◌, length, take, drop, suc-add}
+use Rattle.std.proofs.Common.{◌≡◌, ℕ, zero, suc, ◌+◌, ◌<◌, ◌≤◌, ◌^◌, refl, sym, ap, ◌∙◌, subst, arith, List, [], ◌∷◌, ◌++◌, length, take, drop, suc-add}
 use Rattle.mk_lines.specs.LogicalLines.{logical_lines}
 use Rattle.mk_lines.specs.Cells.{Cell, joined_byte}
 use Rattle.mk_class.specs.Classes.{Class}
@@ -115,6 +115,11 @@ context_after-step c [] left x zero e = cc
 context_after-step c [] left x (suc n) e = cc
 context_after-step c (l ∷ ls) left x zero e = let same : l ≡ x = cc in ap (λ (z : PlacedLine). context_after_places c z.class) same
 context_after-step c (l ∷ ls) left x (suc n) e = rw (suc-add n 1) (context_after-step (context_after_places c l.class) ls left x n e)
+
+-- the same of lines that a walk with contexts has passed
+pub context_after_placed-last : (c : Context) (passed : List PlacedLine) (x : PlacedLine) → context_after_placed c (passed ++ x ∷ []) ≡ context_after_places (context_after_placed c passed) x.class
+context_after_placed-last c [] x = refl
+context_after_placed-last c (l ∷ passed) x = context_after_placed-last (context_after_places c l.class) passed x
 
 -- the lines that are left after one more
 pub drop-step : (ls left : List PlacedLine) (x : PlacedLine) (n : ℕ) → drop n ls ≡ x ∷ left → drop (n + 1) ls ≡ left

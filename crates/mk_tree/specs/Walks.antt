@@ -1,6 +1,7 @@
--- A walk over the lines of a tree, from the first on.
+-- A walk over the lines of a tree, from the first on, and one that tells the context of each.
 use Rattle.std.specs.Prelude.{◌≡◌, ℕ, ◌+◌, ◌<◌, List, [], ◌∷◌, ◌++◌, Option, Some, None, MatchOption}
 use Rattle.std.specs.Borrow.{Bor}
+use Rattle.mk_class.specs.Contexts.{Context, context_after_places}
 use Rattle.mk_tree.specs.PlacedLines.{PlacedLine}
 use Rattle.mk_tree.specs.Trees.{line_view}
 use Rattle.mk_tree.specs.declared.tree.Line.{Line}
@@ -21,3 +22,14 @@ AreWithin depth (Some l ∷ passed) = (depth + l.now.node.value.right.1 < 34) ×
 -- the first of the lines that are ahead is handed out, and the others stay ahead
 abbrev pub GivesLine : {A : _} → List PlacedLine → Option (Bor (Line A)) → List PlacedLine → Type 0
 GivesLine ahead given left = MatchOption given ((ahead ≡ []) × (left ≡ [])) (λ line. ahead ≡ line_view line.now ∷ left)
+
+-- some lines that are ahead, the first of which stands in a context
+pub record LinesInContext : Type 0 where
+  pub context : Context
+  pub lines : List PlacedLine
+
+-- the first of the lines that are ahead is handed out with its context; the others stay ahead, in the context after it
+abbrev pub GivesLineInContext : {A : _} → LinesInContext → Option (Context × Bor (Line A)) → LinesInContext → Type 0
+GivesLineInContext ahead given left =
+    MatchOption given ((ahead.lines ≡ []) × (left ≡ ahead))
+    (λ pair. (pair.0 ≡ ahead.context) × (ahead.lines ≡ line_view pair.1.now ∷ left.lines) × (left.context ≡ context_after_places ahead.context (line_view pair.1.now).class))

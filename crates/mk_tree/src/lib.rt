@@ -3,6 +3,7 @@
 //! - [`document`]: the document, and the calls that change its lines.
 //! - [`parse`]: a text as a document.
 //! - [`iter`]: the lines of a document in order.
+//! - [`walk`]: the lines of a document in order, each with its context.
 //! - [`tree`]: the balanced tree that the lines stand in, and a line by itself.
 //! - [`line_bytes`]: the bytes of a line, a stretch of the text that it was parsed from.
 //! - [`laws`]: theorems on the definitions of documents.
@@ -20,8 +21,10 @@ mod print;
 mod read;
 pub mod tree;
 mod unread;
+pub mod walk;
 
 pub use document::Doc;
 pub use iter::Lines;
 pub use line_bytes::LineBytes;
 pub use tree::Line;
+pub use walk::ContextedLines;

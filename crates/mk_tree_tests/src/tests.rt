@@ -1,6 +1,7 @@
 //! Documents: parsed, printed, at their limits, changed, and where no memory is found.
-ghost use Rattle.std.specs.Prelude.{◌<◌, ◌≡◌, [], ◌∷◌};
+ghost use Rattle.std.specs.Prelude.{◌<◌, ◌≤◌, ◌≡◌, [], ◌∷◌};
 ghost use Rattle.mk_lines.specs.LogicalLines.{logical_lines};
+ghost use Rattle.mk_tree.specs.Documents.{IsFaithful};
 
 use mk_class::{Class, Context, Meter};
 use mk_lines::Fault;
@@ -275,4 +276,65 @@ fn read_with<A: Allocator + Copy>(alloc: A, line: &[u8]) -> Result<Line<A>, Faul
     let mut bytes = Vec::new(alloc);
     bytes.extend_from_slice(line)?;
     Line::read(alloc, bytes, Context::start(), &mut Meter::new())
+}
+
+// Lines that change each part of a context.
+const MANY_CONTEXTS: &[u8] =
+    b"foo: x\n\techo\n.RECIPEPREFIX = >\nbar: y\n>echo\nifdef A\nX = 1\nelse\n\
+ifdef B\nY = 2 \\\n 3\nendif\nendif\ndefine V\ndefine W\na\nendef\nendef\n>echo\n# c\n$(d)\nZ = 1";
+
+// Whether a walk over the lines of a text gives each of them with the context that the document tells
+// at its place, and then ends.
+fn is_walked_with_contexts(rt: &HostRuntime, text: &[u8]) -> Result<bool, Fault> {
+    let doc = Doc::parse(rt.alloc(), text, &mut Meter::new())?;
+    let mut walk = doc.lines_with_contexts();
+    for at in 0..doc.len() {
+        let Some((context, line)) = walk.next() else {
+            return Ok(false);
+        };
+        if context != doc.context(at) || line.bytes() != doc.line(at).bytes() {
+            return Ok(false);
+        }
+    }
+    Ok(walk.next().is_none())
+}
+
+#[test]
+fn each_line_is_walked_to_with_its_context(rt: HostRuntime) -> Result<(), Fail> {
+    for text in [MANY_CONTEXTS, FOUR_LINES, b"".as_slice()] {
+        assert!(rt; is_walked_with_contexts(&rt, text)?);
+    }
+    Ok(())
+}
+
+#[test]
+fn a_million_lines_are_walked_with_their_contexts(rt: HostRuntime) -> Result<(), Fail> {
+    let text = repeated(&rt, b"X=1\n", 1_000_000)?;
+    let doc = Doc::parse(rt.alloc(), &text, &mut Meter::new())?;
+    assert_eq!(rt; doc.lines_with_contexts().count(), 1_000_000);
+    Ok(())
+}
+
+// How many conditionals are open at most, counted by a context that is stepped along the lines.
+fn deepest(doc: &Doc) -> u16
+    requires { IsFaithful doc.now }
+    ensures { result ≤ 256 }
+{
+    let mut context = Context::start();
+    let mut deepest = 0;
+    'lines: for line in doc.iter() {
+        context = context.step(&line.class());
+        deepest = deepest.max(context.conds());
+    }
+    deepest
+}
+
+#[test]
+fn open_conditionals_are_counted_along_the_lines(rt: HostRuntime) -> Result<(), Fail> {
+    let doc = Doc::parse(rt.alloc(), MANY_CONTEXTS, &mut Meter::new())?;
+    assert_eq!(rt; deepest(&doc), 2);
+    let text = repeated(&rt, b"ifdef A\n", 256)?;
+    let doc = Doc::parse(rt.alloc(), &text, &mut Meter::new())?;
+    assert_eq!(rt; deepest(&doc), 256);
+    Ok(())
 }
