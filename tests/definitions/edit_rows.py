@@ -2,19 +2,19 @@
 """Edits as equations that the checker computes.
 
 Turns tables of makefiles and scripts with their answers into a file of equations, by which the checker
-computes the definitions of `crates/mk_edit/specs`. Where the file checks, the definitions give each
+computes the definitions of `crates/mk_edit_laws/specs`. Where the file checks, the definitions give each
 answer: of an accepted edit the text after it, and that the stated change of the reading is what this
 text reads as; of a refused one the refusal. Where the table says them, also the spans of an accepted
 edit, its cost (how many lines it reads again at most) and its size (how many lines it takes out or
 puts others in place of, at most), and the cost of a refused one.
 
-    edit_rows.py TABLE > crates/mk_edit/proofs/NAME.antt
+    edit_rows.py TABLE > crates/mk_edit_laws/proofs/NAME.antt
 
 Rows whose script is not one edit alone are left out. The crate keeps three files, made by
 
-    edit_rows.py tests/cases/runs.tsv > crates/mk_edit/proofs/WorkedEdits.antt
-    edit_rows.py tests/cases/edits/random.tsv > crates/mk_edit/proofs/RandomEdits.antt
-    edit_rows.py tests/cases/edits/corners.tsv > crates/mk_edit/proofs/CornerEdits.antt
+    edit_rows.py tests/cases/runs.tsv > crates/mk_edit_laws/proofs/WorkedEdits.antt
+    edit_rows.py tests/cases/edits/random.tsv > crates/mk_edit_laws/proofs/RandomEdits.antt
+    edit_rows.py tests/cases/edits/corners.tsv > crates/mk_edit_laws/proofs/CornerEdits.antt
 
 A table has the columns name, makefile, script, stdout, stderr and status, and perhaps more, between
 tabs. The columns spans, cost and size may stand there too, all three together: a span is its start,
@@ -195,17 +195,17 @@ IMPORTS = [
     ("Rattle.std.proofs.Common", ["◌≡◌", "refl", "[]", "◌∷◌", "Some", "None", "true", "false"]),
     ("Rattle.std.specs.Prelude", ["codes", "Ok", "Err"]),
     ("Rattle.mk_class.specs.declared.assignment.Flavor.TheVariants", list(FLAVORS.values())),
-    ("Rattle.mk_edit.specs.declared.edit.Colons.TheVariants", list(COLONS.values())),
-    ("Rattle.mk_edit.specs.declared.refusal.Refusal.TheVariants", list(REFUSALS.values())),
-    ("Rattle.mk_edit.specs.Edits", ["Bottom", "BeforeVar", "AfterVar", "BeforeRule"]),
+    ("Rattle.mk_edit_laws.specs.declared.edit.Colons.TheVariants", list(COLONS.values())),
+    ("Rattle.mk_edit_laws.specs.declared.refusal.Refusal.TheVariants", list(REFUSALS.values())),
+    ("Rattle.mk_edit_laws.specs.Edits", ["Bottom", "BeforeVar", "AfterVar", "BeforeRule"]),
     (
-        "Rattle.mk_edit.specs.Edits",
+        "Rattle.mk_edit_laws.specs.Edits",
         ["SetValue", "AppendValue", "AddAssign", "RemoveAssign", "AddRule", "RemoveRule", "AddPrereq", "RemovePrereq"]
         + ["AddRecipe", "SetRecipe", "RemoveRecipe", "RenameTarget"],
     ),
-    ("Rattle.mk_edit.specs.Refusals", ["spans"]),
-    ("Rattle.mk_edit.specs.Costs", ["cost", "size"]),
-    ("Rattle.mk_edit.proofs.Outcomes", ["outcome", "reads_as_changed", "span"]),
+    ("Rattle.mk_edit_laws.specs.Refusals", ["spans"]),
+    ("Rattle.mk_edit_laws.specs.Costs", ["cost", "size"]),
+    ("Rattle.mk_edit_laws.proofs.Outcomes", ["outcome", "reads_as_changed", "span"]),
 ]
 
 
@@ -225,7 +225,7 @@ def head_of(table, body):
         if used:
             lines.append(f"use {module}.{{{', '.join(used)}}}")
     if re.search(r"(?<!\w)field\.", bare):
-        lines.append("use Rattle.mk_edit.specs.declared.refusal.Field.TheVariants as field")
+        lines.append("use Rattle.mk_edit_laws.specs.declared.refusal.Field.TheVariants as field")
     return "\n".join(lines) + "\n"
 
 

@@ -1,5 +1,0 @@
-use Rattle.mk_edit.proofs.on_new_lines.NewAssignLemmas.{assign-lines}
-use Rattle.mk_edit.proofs.laws.new_assignments_stand.Goals as goal
-
-pub returns : goal.returns
-returns c = assign-lines

@@ -1,8 +1,0 @@
--- A cause of a refusal: the refusal where it holds, and nothing where it does not.
-use Rattle.std.specs.Prelude.{Bool, true, false, Option, Some, None}
-use Rattle.mk_edit.specs.declared.refusal.Refusal.{Refusal}
-
--- the refusal where the cause holds
-abbrev pub where_holds : Bool → Refusal → Option Refusal
-where_holds true r = Some r
-where_holds false r = None

@@ -1,0 +1,60 @@
+-- The length of a text with replacements made.
+use Rattle.std.proofs.Common.{◌≡◌, refl, ap, ◌∙◌, subst, arith, ℕ, List, [], ◌∷◌, ◌++◌, length, length-append, take, drop, ◌+◌, ◌-◌, ◌^◌, ◌≤◌, None}
+use Rattle.std.proofs.lemmas.List.{length-take-le, length-drop}
+use Rattle.std.proofs.lemmas.Bool.{ltb-false}
+use Rattle.std.specs.Prelude.{Ok, nat_lt}
+use Rattle.mk_lines.specs.Pieces.{Replacement, replaced}
+use Rattle.mk_class.specs.ClassedLines.{classed_lines}
+use Rattle.mk_tree.specs.PlacedLines.{size_of}
+use Rattle.mk_tree.specs.Documents.{document_lines}
+use Rattle.mk_tree.proofs.on_documents.LinePlaces.{text_of-classed_lines}
+use Rattle.mk_tree.proofs.on_changes.Sizes.{size_of-placed}
+use Rattle.mk_edit_laws.specs.Edits.{Edit}
+use Rattle.mk_edit_laws.specs.Causes.{where_holds}
+use Rattle.mk_edit_laws.specs.LineCauses.{greatest_length, too_long}
+use Rattle.mk_edit_laws.proofs.on_edits.Accepted.{accepted, where_holds-none}
+use Rattle.mk_edit_laws.specs.Lengths.{bytes_taken, bytes_put}
+use Rattle.mk_edit_laws.specs.Refusals.{spans, text_by, text_after}
+use Rattle.mk_edit_laws.specs.RisingSpans.{Rise, IsReplacedAt}
+use Rattle.mk_edit_laws.proofs.on_edits.RisingSpanLemmas.{Rise-from_to}
+use Rattle.mk_edit_laws.proofs.on_edits.SpansRise.{only_spans-replaced}
+use Rattle.mk_edit_laws.specs.declared.refusal.Refusal.TheVariants.{TooLong}
+
+-- where they rise within the text, which begins at a place
+pub length-replaced : (a b : ℕ) (t : List ℕ) (rs : List Replacement) → Rise a b rs → b ≡ a + length t → length (replaced a t rs) + bytes_taken rs ≡ length t + bytes_put rs
+length-replaced a b t [] h k = refl
+length-replaced a b t (r ∷ rs) h k =
+    let n = r.start - a in
+    let m = r.end - a in
+    let last : r.end ≤ b = Rise-from_to r.end b rs h.2 in
+    let front : length (take n t) ≡ n = length-take-le n t (omega (arith, h.0, h.1, last, k)) in
+    let left : length (drop m t) ≡ length t - m = length-drop m t in
+    let end : b ≡ r.end + length (drop m t) = omega (arith, h.0, h.1, last, k, left) in
+    let rest = length-replaced r.end b (drop m t) rs h.2 end in
+    let whole : length (replaced a t (r ∷ rs)) ≡ length (take n t) + (length r.new + length (replaced r.end (drop m t) rs)) =
+    length-append (take n t) (r.new ++ replaced r.end (drop m t) rs) ∙ ap (λ z. length (take n t) + z) (length-append r.new (replaced r.end (drop m t) rs)) in
+    omega (arith, whole, front, left, rest, h.0, h.1, last, k)
+
+-- so it is of an accepted edit
+pub length-after : (t : List ℕ) (e : Edit) (rs : List Replacement) → spans t e ≡ Ok rs → length (text_after t e) + bytes_taken rs ≡ length t + bytes_put rs
+length-after t e rs h =
+    let R = only_spans-replaced t e rs h in
+    ap (λ q. length (text_by t q) + bytes_taken rs) h ∙ length-replaced 0 (length t) t rs R.rise (omega arith)
+
+-- ---- documents
+
+-- the document of a text has its bytes
+pub size_of-document : (t : List ℕ) → size_of (document_lines t) ≡ length t
+size_of-document t = size_of-placed (classed_lines t) ∙ ap length (text_of-classed_lines t)
+
+-- so its size after an accepted edit is such a sum
+pub size-after : (t : List ℕ) (e : Edit) (rs : List Replacement) → spans t e ≡ Ok rs → size_of (document_lines (text_after t e)) + bytes_taken rs ≡ size_of (document_lines t) + bytes_put rs
+size-after t e rs h = omega (arith, length-after t e rs h, size_of-document t, size_of-document (text_after t e))
+
+-- and within the limit
+pub size-fits : (t : List ℕ) (e : Edit) (rs : List Replacement) → spans t e ≡ Ok rs → size_of (document_lines (text_after t e)) ≤ 2 ^ 24
+size-fits t e rs h =
+    let A = accepted t e rs h in
+    let kept : too_long t rs ≡ None = subst (λ (q : List Replacement). too_long t q ≡ None) A.spans_are A.not_long in
+    let short : length (replaced 0 t rs) ≤ greatest_length = ltb-false greatest_length (length (replaced 0 t rs)) (where_holds-none _ TooLong kept) in
+    omega (arith, short, size_of-document (text_after t e), ap (λ q. length (text_by t q)) h)

@@ -1,0 +1,28 @@
+-- The twelve edits, and the places of new lines, as data.
+use Rattle.std.specs.Prelude.{ℕ, Bool, List, Option}
+use Rattle.mk_class.specs.declared.assignment.Flavor.{Flavor}
+use Rattle.mk_edit_laws.specs.declared.edit.Colons.{Colons}
+
+-- Where a new line goes: the end of the text, the start or the end of an assignment's line, or the start of a rule's. A place
+-- with an address carries the number of the line among those of its name or target, from 1.
+pub data Place : Type 0 where
+  Bottom : Place
+  BeforeVar : (nth : Option ℕ) → (name : List ℕ) → Place
+  AfterVar : (nth : Option ℕ) → (name : List ℕ) → Place
+  BeforeRule : (nth : Option ℕ) → (target : List ℕ) → Place
+
+-- An edit. `nth` is the number of the line among those of its name or target, from 1; `number` is that of a recipe line, from
+-- 1. The targets and the prerequisites of a new rule are each one text, which is cut into words.
+pub data Edit : Type 0 where
+  SetValue : (nth : Option ℕ) → (name value : List ℕ) → Edit
+  AppendValue : (nth : Option ℕ) → (name value : List ℕ) → Edit
+  AddAssign : (place : Place) → (name : List ℕ) → (flavor : Flavor) → (value : List ℕ) → Edit
+  RemoveAssign : (nth : Option ℕ) → (name : List ℕ) → Edit
+  AddRule : (place : Place) → (targets : List ℕ) → (colons : Colons) → (prereqs : List ℕ) → Edit
+  RemoveRule : (nth : Option ℕ) → (target : List ℕ) → Edit
+  AddPrereq : (order : Bool) → (nth : Option ℕ) → (target word : List ℕ) → Edit
+  RemovePrereq : (nth : Option ℕ) → (target word : List ℕ) → Edit
+  AddRecipe : (nth : Option ℕ) → (target line : List ℕ) → Edit
+  SetRecipe : (nth : Option ℕ) → (target : List ℕ) → (number : ℕ) → (line : List ℕ) → Edit
+  RemoveRecipe : (nth : Option ℕ) → (target : List ℕ) → (number : ℕ) → Edit
+  RenameTarget : (old new : List ℕ) → Edit

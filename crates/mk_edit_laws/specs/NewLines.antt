@@ -1,0 +1,78 @@
+-- New lines: their text, and the span that puts one in.
+use Rattle.std.specs.Prelude.{ℕ, List, [], ◌∷◌, ◌++◌, map, drop, length}
+use Rattle.mk_lines.specs.Lists.{concat}
+use Rattle.mk_lines.specs.PhysicalLines.{line_end_bytes, file_line_end}
+use Rattle.mk_lines.specs.Pieces.{Replacement}
+use Rattle.mk_lines.specs.Words.{words}
+use Rattle.mk_class.specs.declared.assignment.Flavor.{Flavor}
+use Rattle.mk_class.specs.declared.assignment.Flavor.TheVariants.{Recursive, Simple, PosixSimple, Immediate, Conditional, Append, Shell}
+use Rattle.mk_tree.specs.Documents.{text_of, context_of}
+use Rattle.mk_tree.specs.NewLines.{missing_line_end}
+use Rattle.mk_edit_laws.specs.Edits.{Edit, AddAssign, AddRule, AddRecipe}
+use Rattle.mk_edit_laws.specs.Stretches.{Stretch}
+use Rattle.mk_edit_laws.specs.declared.edit.Colons.{Colons}
+use Rattle.mk_edit_laws.specs.declared.edit.Colons.TheVariants.{One, Two}
+
+-- ---- words of an argument
+
+-- the words of an argument that may have several
+abbrev pub words_in : List ℕ → List (List ℕ)
+words_in t = words (λ b. b) t
+
+-- a space before a text that is not empty
+abbrev pub spaced : List ℕ → List ℕ
+spaced [] = []
+spaced (b ∷ t) = 32 ∷ b ∷ t
+
+-- a space before each of some words
+abbrev pub each_spaced : List (List ℕ) → List ℕ
+each_spaced ws = concat (map spaced ws)
+
+-- words with one space between them
+abbrev pub joined_by_space : List (List ℕ) → List ℕ
+joined_by_space ws = drop 1 (each_spaced ws)
+
+-- ---- the text of a new line, without its line end
+
+-- an operator
+abbrev pub operator_text : Flavor → List ℕ
+operator_text Recursive = 61 ∷ []
+operator_text Simple = 58 ∷ 61 ∷ []
+operator_text PosixSimple = 58 ∷ 58 ∷ 61 ∷ []
+operator_text Immediate = 58 ∷ 58 ∷ 58 ∷ 61 ∷ []
+operator_text Conditional = 63 ∷ 61 ∷ []
+operator_text Append = 43 ∷ 61 ∷ []
+operator_text Shell = 33 ∷ 61 ∷ []
+
+-- an assignment: its name, a space, its operator, and, where its value is not empty, a space and the value
+abbrev pub assign_text : (name : List ℕ) → Flavor → (value : List ℕ) → List ℕ
+assign_text n f v = n ++ (32 ∷ (operator_text f ++ spaced v))
+
+-- a separator
+abbrev pub colons_text : Colons → List ℕ
+colons_text One = 58 ∷ []
+colons_text Two = 58 ∷ 58 ∷ []
+
+-- a rule: its targets with one space between them, its separator, and a space before each prerequisite
+abbrev pub rule_text : (targets : List ℕ) → Colons → (prereqs : List ℕ) → List ℕ
+rule_text ts c ws = joined_by_space (words_in ts) ++ (colons_text c ++ each_spaced (words_in ws))
+
+-- the new line of an edit, where this recipe prefix is in force
+abbrev pub new_text : (prefix : ℕ) → Edit → List ℕ
+new_text p (AddAssign place n f v) = assign_text n f v
+new_text p (AddRule place ts c ws) = rule_text ts c ws
+new_text p (AddRecipe nth t c) = p ∷ c
+new_text p e = []
+
+-- ---- its span
+
+-- the line end of the file
+abbrev pub new_line_end : (text : List ℕ) → List ℕ
+new_line_end t = line_end_bytes (file_line_end t)
+
+-- the span of a new line: an empty range at its place; the new bytes are the line with the file's line end, after the line end
+-- that the last line lacks
+abbrev pub new_line_span : (text : List ℕ) → Edit → Stretch → List Replacement
+new_line_span t e s =
+    let at = length (text_of s.above) in
+    record { start = at; end = at; new = missing_line_end (file_line_end t) s.above s.below ++ (new_text (context_of s.above).prefix e ++ new_line_end t) } ∷ []

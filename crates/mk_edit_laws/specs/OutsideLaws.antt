@@ -1,0 +1,95 @@
+-- Laws of what an edit leaves: the bytes outside its spans, and the lines that these do not touch; each the contract of a public
+-- function.
+use Rattle.std.specs.Prelude.{◌≡◌, ℕ, ◌+◌, List, ◌++◌, length, Bool, Option, Some, Ok}
+use Rattle.mk_lines.specs.Pieces.{Replacement}
+use Rattle.mk_edit_laws.specs.Edits.{Edit, Place, SetValue, AppendValue, AddAssign, AddRule, RemoveAssign, RemoveRule, AddPrereq, RemovePrereq, AddRecipe, SetRecipe, RemoveRecipe, RenameTarget}
+use Rattle.mk_class.specs.declared.assignment.Flavor.{Flavor}
+use Rattle.mk_edit_laws.specs.declared.edit.Colons.{Colons}
+use Rattle.mk_class.specs.ClassedLines.{classed_lines}
+use Rattle.mk_edit_laws.specs.Stretches.{Stretch, insertion, touched_by}
+use Rattle.mk_edit_laws.specs.EditedLines.{edited_lines}
+use Rattle.mk_edit_laws.specs.Lengths.{bytes_taken, bytes_put}
+use Rattle.mk_edit_laws.specs.RisingSpans.{IsReplacedAt}
+use Rattle.mk_edit_laws.specs.TouchedLines.{IsOfOnePlace, TouchFew}
+use Rattle.mk_edit_laws.specs.KeptLines.{AreOthersKept, above_after}
+use Rattle.mk_edit_laws.specs.RenamedLines.{AreOthersKeptByRename}
+use Rattle.mk_edit_laws.specs.Refusals.{spans, text_after}
+
+-- the spans of an edit rise within the text and do not overlap, and the bytes outside them are as before
+abbrev pub OnlySpansAreReplaced : Type 0
+OnlySpansAreReplaced = (text : List ℕ) (e : Edit) (replacements : List Replacement) → spans text e ≡ Ok replacements → IsReplacedAt text (text_after text e) replacements
+
+-- the length of the text after an edit: what its spans take goes, and what they put comes
+abbrev pub LengthsAddUp : Type 0
+LengthsAddUp = (text : List ℕ) (e : Edit) (replacements : List Replacement) → spans text e ≡ Ok replacements
+    → length (text_after text e) + bytes_taken replacements ≡ length text + bytes_put replacements
+
+-- the spans of an edit other than a rename stand within a stretch of at most so many lines as its size says
+abbrev pub SpansTouchFewLines : Type 0
+SpansTouchFewLines = (text : List ℕ) (e : Edit) (replacements : List Replacement) → IsOfOnePlace e → spans text e ≡ Ok replacements → TouchFew text e replacements
+
+-- the lines after an edit of one place: those above, the edited ones with their bytes and classes, and those below
+abbrev pub EditedLinesStand : Type 0
+EditedLinesStand = (text : List ℕ) (e : Edit) (replacements : List Replacement) (touched : Stretch) → spans text e ≡ Ok replacements → touched_by (classed_lines text) e ≡ Some touched
+    → classed_lines (text_after text e) ≡ above_after text (insertion (classed_lines text) e) touched ++ (edited_lines text e touched replacements ++ touched.below)
+
+-- an edit leaves the lines that its spans do not touch, touches few, and opens no conditional
+abbrev pub KeepsOthers : Edit → Type 0
+KeepsOthers e = (text : List ℕ) (replacements : List Replacement) → spans text e ≡ Ok replacements → AreOthersKept text e replacements
+
+-- so it is of an edit of a value
+abbrev pub SetKeepsOthers : Type 0
+SetKeepsOthers = (nth : Option ℕ) (name value : List ℕ) → KeepsOthers (SetValue nth name value)
+
+-- of a text appended to a value
+abbrev pub AppendKeepsOthers : Type 0
+AppendKeepsOthers = (nth : Option ℕ) (name value : List ℕ) → KeepsOthers (AppendValue nth name value)
+
+-- of a recipe line changed
+abbrev pub RecipeSetKeepsOthers : Type 0
+RecipeSetKeepsOthers = (nth : Option ℕ) (target : List ℕ) (number : ℕ) (command : List ℕ) → KeepsOthers (SetRecipe nth target number command)
+
+-- of a new prerequisite
+abbrev pub DependKeepsOthers : Type 0
+DependKeepsOthers = (order : Bool) (nth : Option ℕ) (target word : List ℕ) → KeepsOthers (AddPrereq order nth target word)
+
+-- of a prerequisite removed
+abbrev pub UndependKeepsOthers : Type 0
+UndependKeepsOthers = (nth : Option ℕ) (target word : List ℕ) → KeepsOthers (RemovePrereq nth target word)
+
+-- of a new assignment
+abbrev pub AssignKeepsOthers : Type 0
+AssignKeepsOthers = (place : Place) (name : List ℕ) (flavor : Flavor) (value : List ℕ) → KeepsOthers (AddAssign place name flavor value)
+
+-- of a new rule
+abbrev pub RuleAddedKeepsOthers : Type 0
+RuleAddedKeepsOthers = (place : Place) (targets : List ℕ) (colons : Colons) (prereqs : List ℕ) → KeepsOthers (AddRule place targets colons prereqs)
+
+-- of an assignment removed
+abbrev pub UnsetKeepsOthers : Type 0
+UnsetKeepsOthers = (nth : Option ℕ) (name : List ℕ) → KeepsOthers (RemoveAssign nth name)
+
+-- of a rule removed
+abbrev pub UnruleKeepsOthers : Type 0
+UnruleKeepsOthers = (nth : Option ℕ) (target : List ℕ) → KeepsOthers (RemoveRule nth target)
+
+-- of a recipe line removed
+abbrev pub RecipeRemovedKeepsOthers : Type 0
+RecipeRemovedKeepsOthers = (nth : Option ℕ) (target : List ℕ) (number : ℕ) → KeepsOthers (RemoveRecipe nth target number)
+
+-- and of a new recipe line
+abbrev pub RecipeAddedKeepsOthers : Type 0
+RecipeAddedKeepsOthers = (nth : Option ℕ) (target command : List ℕ) → KeepsOthers (AddRecipe nth target command)
+
+-- a rename leaves the lines that hold no word which it replaces, makes each other line in its place, and opens no conditional
+abbrev pub RenameKeepsOthers : Type 0
+RenameKeepsOthers = (old new text : List ℕ) (replacements : List Replacement) → spans text (RenameTarget old new) ≡ Ok replacements → AreOthersKeptByRename old new text replacements
+
+-- what an edit leaves: of a rename, which may touch lines that stand apart, as above
+abbrev pub LeavesOthers : Edit → Type 0
+LeavesOthers (RenameTarget old new) = (text : List ℕ) (replacements : List Replacement) → spans text (RenameTarget old new) ≡ Ok replacements → AreOthersKeptByRename old new text replacements
+LeavesOthers e = KeepsOthers e
+
+-- each edit leaves the lines that its spans do not touch
+abbrev pub EditsKeepOthers : Type 0
+EditsKeepOthers = (edit : Edit) → LeavesOthers edit
