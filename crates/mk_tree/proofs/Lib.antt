@@ -12,5 +12,6 @@ pub mod Prefixes
 pub mod AdmissionLemmas
 pub mod Lowness
 pub mod Ends
+pub mod EndedLast
 pub mod Building
 pub mod Reading
