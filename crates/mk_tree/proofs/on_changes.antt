@@ -6,3 +6,4 @@ pub mod SpansInLines
 pub mod EachReplacedLemmas
 pub mod NewLineLemmas
 pub mod Sizes
+pub mod EndedLast

@@ -1,5 +1,5 @@
 -- The lines after an edit of one place: for code that builds the bytes of its new line.
-use Rattle.std.proofs.Common.{◌≡◌, refl, sym, ap, ◌∙◌, subst, arith, ℕ, ◌+◌, ◌-◌, List, [], ◌∷◌, ◌++◌, not, true, length, length-append, take, drop, append_assoc}
+use Rattle.std.proofs.Common.{◌≡◌, sym, ap, ◌∙◌, subst, arith, ℕ, ◌+◌, ◌-◌, List, [], ◌∷◌, ◌++◌, not, true, length, length-append, take, drop}
 use Rattle.std.specs.Prelude.{Ok, Some}
 use Rattle.std.proofs.lemmas.List.{append-nil, append_cancel_left, append_cancel_right}
 use Rattle.mk_lines.specs.LogicalLines.{logical_lines}
@@ -8,7 +8,7 @@ use Rattle.mk_lines.specs.Pieces.{Replacement, replaced, Piece, old_bytes, new_b
 use Rattle.mk_lines.proofs.on_lists.PieceLemmas.{replaced-pieces}
 use Rattle.mk_class.specs.Classes.{is_conditional}
 use Rattle.mk_class.specs.ClassTable.{class_of}
-use Rattle.mk_class.specs.ClassedLines.{ClassedLine, classed, classed_lines}
+use Rattle.mk_class.specs.ClassedLines.{classed, classed_lines}
 use Rattle.mk_tree.specs.Documents.{text_of, context_of, AreUnconditional}
 use Rattle.mk_tree.specs.LineTexts.{line_in}
 use Rattle.mk_tree.proofs.on_documents.LinePlaces.{located, located-run}

@@ -2,7 +2,7 @@
 use Rattle.std.proofs.Common.{◌≡◌, refl, ap, ◌∙◌, subst, arith, ℕ, List, [], ◌∷◌, ◌++◌, length, length-append, take, drop, ◌+◌, ◌-◌, ◌^◌, ◌≤◌, None}
 use Rattle.std.proofs.lemmas.List.{length-take-le, length-drop}
 use Rattle.std.proofs.lemmas.Bool.{ltb-false}
-use Rattle.std.specs.Prelude.{Ok, nat_lt}
+use Rattle.std.specs.Prelude.{Ok}
 use Rattle.mk_lines.specs.Pieces.{Replacement, replaced}
 use Rattle.mk_class.specs.ClassedLines.{classed_lines}
 use Rattle.mk_tree.specs.PlacedLines.{size_of}
@@ -10,12 +10,11 @@ use Rattle.mk_tree.specs.Documents.{document_lines}
 use Rattle.mk_tree.proofs.on_documents.LinePlaces.{text_of-classed_lines}
 use Rattle.mk_tree.proofs.on_changes.Sizes.{size_of-placed}
 use Rattle.mk_edit_laws.specs.Edits.{Edit}
-use Rattle.mk_edit_laws.specs.Causes.{where_holds}
 use Rattle.mk_edit_laws.specs.LineCauses.{greatest_length, too_long}
 use Rattle.mk_edit_laws.proofs.on_edits.Accepted.{accepted, where_holds-none}
 use Rattle.mk_edit_laws.specs.Lengths.{bytes_taken, bytes_put}
 use Rattle.mk_edit_laws.specs.Refusals.{spans, text_by, text_after}
-use Rattle.mk_edit_laws.specs.RisingSpans.{Rise, IsReplacedAt}
+use Rattle.mk_edit_laws.specs.RisingSpans.{Rise}
 use Rattle.mk_edit_laws.proofs.on_edits.RisingSpanLemmas.{Rise-from_to}
 use Rattle.mk_edit_laws.proofs.on_edits.SpansRise.{only_spans-replaced}
 use Rattle.mk_edit_laws.specs.declared.refusal.Refusal.TheVariants.{TooLong}

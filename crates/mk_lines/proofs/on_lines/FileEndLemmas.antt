@@ -1,6 +1,6 @@
 -- The line end of a file: it stands where the first line feed is, so the first logical line tells it.
 use Rattle.std.proofs.Common.{◌≡◌, refl, sym, ap, ◌∙◌, subst, ℕ, ◌+◌, ◌<◌, List, [], ◌∷◌, ◌++◌, Bool, true, false, append_assoc, length, get_or, take, drop, reverse, arith, inl, inr, eq-eqb}
-use Rattle.std.specs.Prelude.{◌⊎◌, Option, Some}
+use Rattle.std.specs.Prelude.{◌⊎◌, Some}
 use Rattle.std.specs.Prelude as std
 use Rattle.std.proofs.lemmas.Bool.{eqb-true}
 use Rattle.std.proofs.lemmas.List.{reverse-append, take-append-drop, take_more, append-nil}
