@@ -7,3 +7,4 @@ pub mod PrefixLemmas
 pub mod SplitLemmas
 pub mod UnitWalkLemmas
 pub mod StackLemmas
+mod TakenLemmas
