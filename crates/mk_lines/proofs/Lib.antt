@@ -10,6 +10,7 @@ pub mod SplitLemmas
 pub mod UnitWalkLemmas
 pub mod StackLemmas
 pub mod KeptLemmas
+mod TakenLemmas
 -- Definitions computed
 mod WorkedRows
 mod KeptRows

@@ -1,7 +1,7 @@
--- What reading a source to its end and writing a text out do to the bytes of a device.
-use Rattle.std.specs.Prelude.{ℕ, ◌≤◌, Bool, true, ◌==◌, ◌&&◌, nat_lt, List, [], ◌∷◌, ◌++◌, length, take, Option, Result, Ok, Err}
+-- What reading a source to its end and writing a text out do to the bytes and the counts of a device.
+use Rattle.std.specs.Prelude.{ℕ, ◌+◌, ◌≤◌, Bool, true, false, ◌==◌, ◌&&◌, nat_lt, List, [], ◌∷◌, ◌++◌, length, take, Option, None, Some, Result, Ok, Err}
 use Rattle.std.specs.Borrow.{Bor}
-use Rattle.std.specs.Io.KnownBytes.{Appends}
+use Rattle.std.specs.Io.KnownBytes.{Appends, Consumes}
 use Rattle.mk_lines.specs.declared.fault.Fault.{Fault}
 use Rattle.mk_lines.specs.declared.fault.Fault.TheVariants.{NoMemory, TooLong, TooDeep, BadDepth, Read, Write}
 
@@ -13,6 +13,36 @@ AppendsPrefix old new text = (n : ℕ) × (n ≤ length text) × Appends old new
 abbrev pub is_refused : {E : Type 0} → Result ℕ E → List ℕ → Bool
 is_refused (Ok n) text = (n == 0) && nat_lt 0 (length text)
 is_refused (Err e) text = true
+
+-- a read answered that no bytes are left: 0, for a buffer that is not empty
+abbrev pub is_end : {E : Type 0} → Result ℕ E → List ℕ → Bool
+is_end (Ok n) buf = (n == 0) && nat_lt 0 (length buf)
+is_end (Err e) buf = false
+
+-- how many bytes a write took
+abbrev pub taken_by : {E : Type 0} → Result ℕ E → ℕ
+taken_by (Ok n) = n
+taken_by (Err e) = 0
+
+-- a count that a device tells, and so many more
+abbrev pub count_more : Option ℕ → ℕ → Option ℕ
+count_more None more = None
+count_more (Some n) more = Some (n + more)
+
+-- the count of a device: one more where something happened, and else as it was
+abbrev pub count_if : Bool → Option ℕ → Option ℕ
+count_if true count = count_more count 1
+count_if false count = count
+
+-- a count that starts again from 0 where something happened
+abbrev pub reset_if : Bool → Option ℕ → Option ℕ
+reset_if true None = None
+reset_if true (Some n) = Some 0
+reset_if false count = count
+
+-- known bytes lose a front of at most so many bytes
+abbrev pub TakesAtMost : Option (List ℕ) → Option (List ℕ) → ℕ → Type 0
+TakesAtMost old new limit = (taken : List ℕ) × (length taken ≤ limit) × Consumes old new taken
 
 -- the parts joined
 abbrev pub text_of_parts : List (Bor (List ℕ)) → List ℕ

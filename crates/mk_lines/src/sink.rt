@@ -1,7 +1,7 @@
 //! Where bytes go to.
-ghost use Rattle.std.specs.Prelude.{◌≡◌, ◌||◌, ◌≤◌, ℕ, Bool, List, Option, None, true, false, is_err, length, IfOk, IfErr, OnOk, OnErr};
+ghost use Rattle.std.specs.Prelude.{◌≡◌, ◌||◌, ◌≤◌, ℕ, Bool, List, Option, None, true, false, is_err, is_ok, length, IfOk, IfErr, OnOk, OnErr};
 ghost use Rattle.std.specs.Io.KnownBytes.{Appends, Keeps, WriteAppends};
-ghost use Rattle.mk_lines.specs.Device.{AppendsPrefix, is_refused, text_of_parts};
+ghost use Rattle.mk_lines.specs.Device.{AppendsPrefix, count_if, count_more, is_refused, reset_if, taken_by, text_of_parts};
 
 use crate::fault::Fault;
 use std::io::{ErrorKind, Write};
@@ -14,6 +14,12 @@ pub trait ByteSink {
     // Whether a call has answered a fault, or a write of a text that is not empty took nothing.
     ghost failed: { Self → Bool };
 
+    // How many flushes have succeeded, where the sink tells that. The default tells nothing.
+    ghost flushes: { Self → Option ℕ } = { λ _. None };
+
+    // How many bytes were taken since the last flush that succeeded, where the sink tells that.
+    ghost pending: { Self → Option ℕ } = { λ _. None };
+
     /// Takes some bytes from the front of `text`, and says how many.
     ///
     /// The only fault is [`Fault::Write`]; a call that answers it takes no byte. A sink that takes
@@ -22,13 +28,17 @@ pub trait ByteSink {
         ensures bound { IfOk result (λ n. n ≤ length text.now) }
         ensures bytes { WriteAppends (contents self.old) (contents self.new) result text.now }
         ensures fault { IfErr result (λ e. e ≡ Fault.Write) }
-        ensures failed { failed self.new ≡ (failed self.old || is_refused result text.now) };
+        ensures failed { failed self.new ≡ (failed self.old || is_refused result text.now) }
+        ensures flushes { flushes self.new ≡ flushes self.old }
+        ensures pending { pending self.new ≡ count_more (pending self.old) (taken_by result) };
 
     /// Passes on what was taken and is still held back. The only fault is [`Fault::Write`].
     fn flush(&mut self) -> Result<(), Fault>
         ensures bytes { Keeps (contents self.old) (contents self.new) }
         ensures fault { IfErr result (λ e. e ≡ Fault.Write) }
-        ensures failed { failed self.new ≡ (failed self.old || is_err result) };
+        ensures failed { failed self.new ≡ (failed self.old || is_err result) }
+        ensures flushes { flushes self.new ≡ count_if (is_ok result) (flushes self.old) }
+        ensures pending { pending self.new ≡ reset_if (is_ok result) (pending self.old) };
 
     /// Whether a call has answered a fault, or a write of a text that is not empty took nothing.
     fn failed(&self) -> bool
@@ -37,8 +47,9 @@ pub trait ByteSink {
 
 /// A writer of std as a sink.
 ///
-/// It tells the bytes that the writer tells. A write or a flush that a signal interrupted, which
-/// has taken no byte, is made again; any other error is [`Fault::Write`].
+/// It tells the bytes that the writer tells, and no flushes, of which std's writers tell nothing. A
+/// write or a flush that a signal interrupted, which has taken no byte, is made again; any other
+/// error is [`Fault::Write`].
 #[derive(Drop)]
 pub struct StdSink<W> {
     inner: W,
@@ -108,6 +119,7 @@ pub fn write_all<W: ByteSink>(out: &mut W, text: &[u8]) -> Result<(), Fault>
     ensures prefix { AppendsPrefix (W.contents out.old) (W.contents out.new) text.now }
     ensures works { OnOk result (W.failed out.new ≡ false) }
     ensures fault { IfErr result (λ e. (e ≡ Fault.Write) × (W.failed out.new ≡ true)) }
+    ensures unflushed { W.flushes out.new ≡ W.flushes out.old }
 {
     let mut at = 0;
     while at < text.len() {
@@ -132,6 +144,7 @@ pub fn write_parts<W: ByteSink>(out: &mut W, parts: &[&[u8]]) -> Result<(), Faul
     ensures prefix { AppendsPrefix (W.contents out.old) (W.contents out.new) (text_of_parts parts.now) }
     ensures works { OnOk result (W.failed out.new ≡ false) }
     ensures fault { IfErr result (λ e. (e ≡ Fault.Write) × (W.failed out.new ≡ true)) }
+    ensures unflushed { W.flushes out.new ≡ W.flushes out.old }
 {
     for part in parts {
         write_all(out, part)?;

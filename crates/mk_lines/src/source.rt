@@ -1,7 +1,7 @@
 //! Where bytes come from.
-ghost use Rattle.std.specs.Prelude.{◌≡◌, ◌≢◌, ◌||◌, ◌≤◌, ◌<◌, ℕ, Bool, List, Option, None, true, false, is_err, length, vec_len, IfOk, IfErr, IfSome};
+ghost use Rattle.std.specs.Prelude.{◌≡◌, ◌≢◌, ◌||◌, ◌≤◌, ◌<◌, ◌+◌, ℕ, Bool, List, Option, None, true, false, is_err, length, vec_len, is_ok, IfOk, IfErr, IfSome};
 ghost use Rattle.std.specs.Io.KnownBytes.{ReadConsumes};
-ghost use Rattle.mk_lines.specs.Device.{IsReadingFault};
+ghost use Rattle.mk_lines.specs.Device.{IsReadingFault, TakesAtMost, count_if, is_end};
 
 use crate::fault::Fault;
 use std::alloc::Allocator;
@@ -10,7 +10,8 @@ use std::io::{ErrorKind, Read};
 /// The most bytes of a text: 2^24. This project's profile.
 pub const TEXT_LIMIT: usize = 16_777_216;
 
-const CHUNK: usize = 8192;
+/// The most bytes that [`read_all`] asks of a source by one read.
+pub const BUFFER: usize = 8192;
 
 /// Gives bytes, a few at a time.
 pub trait ByteSource {
@@ -20,6 +21,9 @@ pub trait ByteSource {
     // Whether a call has answered a fault.
     ghost failed: { Self → Bool };
 
+    // How many reads have answered that no bytes are left, where the source tells that.
+    ghost ends: { Self → Option ℕ } = { λ _. None };
+
     /// Puts some of the bytes that are left at the front of `buf`, and says how many.
     ///
     /// 0 for a `buf` that is not empty says that no bytes are left. The only fault is
@@ -28,7 +32,8 @@ pub trait ByteSource {
         ensures bound { IfOk result (λ n. n ≤ length buf.new) }
         ensures bytes { ReadConsumes (remaining self.old) (remaining self.new) result buf.new }
         ensures fault { IfErr result (λ e. e ≡ Fault.Read) }
-        ensures failed { failed self.new ≡ (failed self.old || is_err result) };
+        ensures failed { failed self.new ≡ (failed self.old || is_err result) }
+        ensures ends { ends self.new ≡ count_if (is_end result buf.new) (ends self.old) };
 
     /// Whether a call has answered a fault.
     fn failed(&self) -> bool
@@ -37,8 +42,9 @@ pub trait ByteSource {
 
 /// A reader of std as a source.
 ///
-/// It tells the bytes that the reader tells. A read that a signal interrupted, which has moved no
-/// byte, is made again; any other error is [`Fault::Read`].
+/// It tells the bytes that the reader tells, and no ends, of which std's readers tell nothing. A
+/// read that a signal interrupted, which has moved no byte, is made again; any other error is
+/// [`Fault::Read`].
 #[derive(Drop)]
 pub struct StdSource<R> {
     inner: R,
@@ -82,7 +88,9 @@ impl<R: Read> ByteSource for StdSource<R> {
 
 /// Reads a source to its end, which gives a text of at most [`TEXT_LIMIT`] bytes.
 ///
-/// The source is left as soon as more bytes than that have come.
+/// The source is left as soon as more bytes than that have come, so at most [`BUFFER`] bytes too
+/// many are taken. Once a read has answered 0 or a fault, no other is made: so one end-of-file key
+/// ends a text that is typed at a terminal.
 ///
 /// # Errors
 ///
@@ -98,9 +106,11 @@ pub fn read_all<A: Allocator, R: ByteSource>(alloc: A, source: &mut R) -> Result
     ensures read { result ≡ Err Fault.Read → R.failed source.new ≡ true }
     ensures works { result ≢ Err Fault.Read → R.failed source.new ≡ false }
     ensures few { IfErr result IsReadingFault }
+    ensures taken { TakesAtMost (R.remaining source.old) (R.remaining source.new) (TEXT_LIMIT + BUFFER) }
+    ensures ends { R.ends source.new ≡ count_if (is_ok result) (R.ends source.old) }
 {
     let mut text = Vec::new(alloc);
-    let mut chunk = [0u8; CHUNK];
+    let mut chunk = [0u8; BUFFER];
     loop {
         let count = source.read(&mut chunk)?;
         if count == 0 {

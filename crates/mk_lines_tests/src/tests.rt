@@ -114,6 +114,58 @@ fn a_text_is_read_up_to_the_limit(rt: HostRuntime) -> Result<(), Fail> {
 }
 
 #[test]
+fn a_source_past_the_limit_is_left_at_once(rt: HostRuntime) -> Result<(), Fail> {
+    let text = vec![in rt.alloc(); b'#'; 16_797_216]?;
+    let mut source = MemorySource::new(text.as_slice(), 1_000_000);
+    let answer = read_all(rt.alloc(), &mut source);
+    assert!(rt; matches!(answer, Err(Fault::TooLong)));
+    // 20,000 bytes too many, and a buffer of 8192.
+    assert_eq!(rt; source.left(), 11_808);
+    Ok(())
+}
+
+// As at a terminal, which gives more after an end-of-file key.
+#[test]
+fn no_read_follows_the_end(rt: HostRuntime) -> Result<(), Fail> {
+    let ends = [
+        CallEnd::Moves(2),
+        CallEnd::Interrupted,
+        CallEnd::Moves(0),
+        CallEnd::Moves(3),
+    ];
+    let mut reader = ListReader {
+        ends: ends.as_slice(),
+    };
+    let text = read_all(rt.alloc(), &mut StdSource::new(&mut reader))?;
+    assert_eq!(rt; text.as_slice(), b"xx".as_slice());
+    assert_eq!(rt; reader.ends.len(), 1);
+    for (step, calls) in [(1, 6), (2, 4), (4, 3), (5, 2), (9, 2)] {
+        let mut source = MemorySource::new(b"hello", step);
+        let text = read_all(rt.alloc(), &mut source)?;
+        assert_eq!(rt; text.as_slice(), b"hello".as_slice());
+        assert_eq!(rt; source.calls(), calls);
+    }
+    Ok(())
+}
+
+#[test]
+fn no_read_follows_a_fault(rt: HostRuntime) {
+    let ends = [CallEnd::Moves(2), CallEnd::Fails, CallEnd::Moves(3)];
+    let mut reader = ListReader {
+        ends: ends.as_slice(),
+    };
+    let answer = read_all(rt.alloc(), &mut StdSource::new(&mut reader));
+    assert!(rt; matches!(answer, Err(Fault::Read)));
+    assert_eq!(rt; reader.ends.len(), 1);
+    for call in 1..5 {
+        let mut source = MemorySource::new(b"hello", 2).failing_at(Some(call));
+        let answer = read_all(rt.alloc(), &mut source);
+        assert!(rt; matches!(answer, Err(Fault::Read)));
+        assert_eq!(rt; source.calls(), call);
+    }
+}
+
+#[test]
 fn reading_meets_each_refused_growth(rt: HostRuntime) {
     let text = [b'x'; 20_000];
     for admitted in 0..100 {

@@ -42,6 +42,18 @@ message_of outcome.Read = codes "mkedit: read fault\n"
 message_of outcome.Write = codes "mkedit: write fault\n"
 message_of outcome.NoMemory = codes "mkedit: no memory\n"
 
+-- the text is out and flushed: every command was done, or those that were refused did not end the run
+abbrev pub is_printed : o.Outcome → (keep_going : Bool) → Bool
+is_printed outcome.Done keep_going = true
+is_printed (outcome.Refused count) keep_going = keep_going
+is_printed (outcome.NotACommand line) keep_going = false
+is_printed outcome.BadDepth keep_going = false
+is_printed outcome.TooLong keep_going = false
+is_printed outcome.TooDeep keep_going = false
+is_printed outcome.Read keep_going = false
+is_printed outcome.Write keep_going = false
+is_printed outcome.NoMemory keep_going = false
+
 -- no device has failed
 abbrev pub AllWork : Bool → Bool → Bool → Type 0
 AllWork makefile script report = (makefile ≡ false) × (script ≡ false) × (report ≡ false)

@@ -27,6 +27,7 @@ impl<A: Allocator + Copy> Edited<A> {
         ensures prefix { AppendsPrefix (W.contents out.old) (W.contents out.new) (edited_text self.now) }
         ensures works { OnOk result (W.failed out.new ≡ false) }
         ensures fault { IfErr result (λ e. (e ≡ Fault.Write) × (W.failed out.new ≡ true)) }
+        ensures unflushed { W.flushes out.new ≡ W.flushes out.old }
     {
         match self {
             Edited::Document(doc) => doc.write_to(out),

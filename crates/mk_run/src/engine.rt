@@ -1,10 +1,10 @@
 //! A script over a makefile.
-ghost use Rattle.std.specs.Prelude.{◌≡◌, ◌≢◌, ◌⊎◌, ◌↔◌, ◌<◌, ◌||◌, ℕ, List, IsTrue, IfSome, map, false, true, OnOk, IfOk, IfErr, length};
+ghost use Rattle.std.specs.Prelude.{◌≡◌, ◌≢◌, ◌⊎◌, ◌↔◌, ◌<◌, ◌||◌, ℕ, List, IsTrue, IfSome, map, false, true, is_ok, OnOk, IfOk, IfErr, length};
 ghost use Rattle.std.specs.Io.KnownBytes.{Appends};
-ghost use Rattle.mk_lines.specs.Device.{AppendsPrefix};
+ghost use Rattle.mk_lines.specs.Device.{AppendsPrefix, count_if};
 ghost use Rattle.mk_run.specs.Assignment.{SetsValue};
 ghost use Rattle.mk_tree.specs.Documents.{IsTooDeep};
-ghost use Rattle.mk_run.specs.Outcome.{AllWork, StopsCommands, StopsEdits};
+ghost use Rattle.mk_run.specs.Outcome.{AllWork, StopsCommands, StopsEdits, is_printed};
 ghost use Rattle.mk_run.specs.Script.{numbered_request, requests_of};
 ghost use Rattle.mk_run.specs.Texts.{AsksOnlyToSet, DoesAll, Makes, UndoesAllItSets, texts};
 ghost use Rattle.mk_run.specs.Edited.{edited_text};
@@ -37,6 +37,8 @@ fn execute_all<A: Allocator + Copy, P: ByteSink>(
         (texts (map (λ t. t.items) session.new.earlier.items) session.new.text.items) }
     ensures works { OnOk result (P.failed report.new ≡ false) }
     ensures stops { IfErr result (λ outcome. StopsCommands outcome (P.failed report.new)) }
+    ensures unprinted { IfErr result (λ outcome. is_printed outcome keep_going ≡ false) }
+    ensures unflushed { P.flushes report.new ≡ P.flushes report.old }
 {
     let mut refused = 0u64;
     for numbered in commands {
@@ -85,6 +87,8 @@ where
     ensures works { OnOk result (AllWork (R.failed makefile.new) (S.failed script.new) (P.failed report.new)) }
     ensures stops { IfErr result (λ outcome.
         StopsEdits outcome (R.failed makefile.new) (S.failed script.new) (P.failed report.new)) }
+    ensures unprinted { IfErr result (λ outcome. is_printed outcome keep_going ≡ false) }
+    ensures unflushed { P.flushes report.new ≡ P.flushes report.old }
 {
     let script = read_all(alloc, script)?;
     let commands = match parse_script(alloc, script.as_slice()) {
@@ -112,6 +116,8 @@ fn put_out<A: Allocator + Copy, W: ByteSink>(out: &mut W, edited: &Edited<A>) ->
     ensures prefix { AppendsPrefix (W.contents out.old) (W.contents out.new) (edited_text edited.now) }
     ensures works { OnOk result (W.failed out.new ≡ false) }
     ensures fault { IfErr result (λ e. (e ≡ Fault.Write) × (W.failed out.new ≡ true)) }
+    ensures flushed { W.flushes out.new ≡ count_if (is_ok result) (W.flushes out.old) }
+    ensures settled { OnOk result (IfSome (W.pending out.new) (λ n. n ≡ 0)) }
 {
     edited.write_to(out)?;
     out.flush()
@@ -122,7 +128,7 @@ fn put_out<A: Allocator + Copy, W: ByteSink>(out: &mut W, edited: &Edited<A>) ->
 ///
 /// In order: the depth is tested; the script is read to its end and parsed whole; the makefile is
 /// read to its end and parsed as a document; the commands are done in order; the text is written to
-/// `out` and flushed once.
+/// `out` and then flushed once. `report` is not flushed.
 /// `depth` is how many edits can be undone. Without `keep_going` the first refusal ends the run;
 /// with it the rest is done. A reader is left once more than 16,777,216 bytes have come.
 ///
@@ -174,6 +180,11 @@ where
     ensures shallow { result ≡ Outcome.Done → IfSome (R.remaining makefile.old) (λ old. IsTooDeep old → ⊥) }
     ensures read { result ≡ Outcome.Read ↔ IsTrue (R.failed makefile.new || S.failed script.new) }
     ensures write { result ≡ Outcome.Write ↔ IsTrue (W.failed out.new || P.failed report.new) }
+
+    // The text is flushed once and whole, where it is out, and else not at all; the report never is.
+    ensures flushed { W.flushes out.new ≡ count_if (is_printed result keep_going) (W.flushes out.old) }
+    ensures settled { is_printed result keep_going ≡ true → IfSome (W.pending out.new) (λ n. n ≡ 0) }
+    ensures report { P.flushes report.new ≡ P.flushes report.old }
 {
     if depth == 0 || depth > MAX_DEPTH {
         return Outcome::BadDepth;

@@ -67,6 +67,7 @@ fn write_not_a_command<W: ByteSink>(out: &mut W, line: u64) -> Result<(), Fault>
     ensures prefix { AppendsPrefix (W.contents out.old) (W.contents out.new) (not_a_command_message line) }
     ensures works { OnOk result (W.failed out.new ≡ false) }
     ensures fault { IfErr result (λ e. (e ≡ Fault.Write) × (W.failed out.new ≡ true)) }
+    ensures unflushed { W.flushes out.new ≡ W.flushes out.old }
 {
     let mut digits = itoa::Buffer::new();
     let line = digits.format(line).as_bytes();
@@ -88,6 +89,7 @@ pub fn message<W: ByteSink>(outcome: &Outcome, out: &mut W) -> Result<(), Fault>
     ensures prefix { AppendsPrefix (W.contents out.old) (W.contents out.new) (message_of outcome.now) }
     ensures works { OnOk result (W.failed out.new ≡ false) }
     ensures fault { IfErr result (λ e. (e ≡ Fault.Write) × (W.failed out.new ≡ true)) }
+    ensures unflushed { W.flushes out.new ≡ W.flushes out.old }
 {
     let text: &[u8] = match outcome {
         Outcome::NotACommand(line) => return write_not_a_command(out, *line),

@@ -2,8 +2,6 @@
 ghost use Rattle.std.specs.Prelude.{◌≡◌};
 ghost use Rattle.mk_run.specs.Report.{detail_of, field_name, name_of, number_of};
 
-use thiserror::Error;
-
 /// An argument of a command, by the name that a report gives it.
 #[derive(Clone, Copy, Debug, PartialEq, Eq)]
 pub enum Field {
@@ -26,25 +24,19 @@ impl Field {
 ///
 /// The causes are tested in the order of their numbers, and the first that holds is answered. The
 /// numbers and names are this project's profile.
-#[derive(Clone, Copy, Debug, PartialEq, Eq, Error)]
+#[derive(Clone, Copy, Debug, PartialEq, Eq)]
 pub enum Refusal {
     /// An argument is none that the command takes.
-    #[error("BadArgument")]
     BadArgument(Field),
     /// The file has no assignment of the name, or is not thin.
-    #[error("NoSuch")]
     NoSuch,
     /// The file has so many assignments of the name, more than one.
-    #[error("Ambiguous")]
     Ambiguous(u64),
     /// The text would have more than 16,777,216 bytes.
-    #[error("TooLong")]
     TooLong,
     /// There is no edit left to undo, or none within the depth.
-    #[error("NothingToUndo")]
     NothingToUndo,
     /// A growth was refused. This ends the run, and is not reported.
-    #[error("NoMemory")]
     NoMemory,
 }
 

@@ -19,6 +19,7 @@ pub fn report_refusal<W: ByteSink>(out: &mut W, line: u64, refusal: Refusal) -> 
     ensures prefix { AppendsPrefix (W.contents out.old) (W.contents out.new) (report_line line refusal) }
     ensures works { OnOk result (W.failed out.new ≡ false) }
     ensures fault { IfErr result (λ e. (e ≡ Fault.Write) × (W.failed out.new ≡ true)) }
+    ensures unflushed { W.flushes out.new ≡ W.flushes out.old }
 {
     let mut line_digits = itoa::Buffer::new();
     let mut number_digits = itoa::Buffer::new();

@@ -27,6 +27,7 @@ impl<A: Allocator> Doc<A> {
         ensures prefix { AppendsPrefix (W.contents out.old) (W.contents out.new) (placed_text self.now) }
         ensures works { OnOk result (W.failed out.new ≡ false) }
         ensures fault { IfErr result (λ e. (e ≡ Fault.Write) × (W.failed out.new ≡ true)) }
+        ensures unflushed { W.flushes out.new ≡ W.flushes out.old }
     {
         let mut gathered = ArrayVec::new();
         'lines: for line in self.iter() {
@@ -48,6 +49,7 @@ fn gather<W: ByteSink>(
     ensures prefix { AppendsPrefix (W.contents out.old) (W.contents out.new) (gathered.old.items ++ bytes.now) }
     ensures works { OnOk result (W.failed out.new ≡ false) }
     ensures fault { IfErr result (λ e. (e ≡ Fault.Write) × (W.failed out.new ≡ true)) }
+    ensures unflushed { W.flushes out.new ≡ W.flushes out.old }
 {
     if gathered.try_extend_from_slice(bytes).is_ok() {
         return Ok(());

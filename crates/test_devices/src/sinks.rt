@@ -1,20 +1,26 @@
 //! A sink for tests.
-ghost use Rattle.std.specs.Prelude.{◌≡◌, Some, false};
+ghost use Rattle.std.specs.Prelude.{◌≡◌, ◌-◌, ◌≤◌, Some, false, length, vec_len};
 
 use mk_lines::{ByteSink, Fault};
 
 /// Keeps what is written, at most `step` bytes a call, and perhaps fails or takes nothing at one
-/// call, or fails at its flush.
+/// call, or fails at its flushes.
+///
+/// It tells the flushes that succeeded, and what was taken since. A flush that it cannot count any
+/// more, after 2^64 - 1 of them, fails.
 #[derive(Drop)]
 pub struct MemorySink {
     bytes: Vec<u8>,
     step: usize,
     writes: u64,
     flushes: u64,
+    flushes_done: u64,
+    flushed_len: usize,
     fails_at: Option<u64>,
     takes_nothing_at: Option<u64>,
     flush_fails: bool,
     is_failed: bool,
+    ghost flushed_within: { flushed_len ≤ length bytes.items },
 }
 
 impl MemorySink {
@@ -22,12 +28,17 @@ impl MemorySink {
     pub fn new(bytes: Vec<u8>, step: usize) -> MemorySink
         ensures works { result.is_failed ≡ false }
         ensures bytes { result.bytes ≡ bytes }
+        ensures unflushed { result.flushes_done ≡ 0 }
+        ensures settled { result.flushed_len ≡ vec_len bytes }
     {
+        let flushed_len = bytes.len();
         MemorySink {
             bytes,
             step,
             writes: 0,
             flushes: 0,
+            flushes_done: 0,
+            flushed_len,
             fails_at: None,
             takes_nothing_at: None,
             flush_fails: false,
@@ -69,7 +80,7 @@ impl MemorySink {
         self.writes
     }
 
-    /// How many flushes came.
+    /// How many flushes came, those that failed too.
     pub fn flushes(&self) -> u64 {
         self.flushes
     }
@@ -80,16 +91,22 @@ impl ByteSink for MemorySink {
 
     ghost failed = { λ sink. sink.is_failed };
 
+    ghost flushes = { λ sink. Some sink.flushes_done };
+
+    ghost pending = { λ sink. Some (length sink.bytes.items - sink.flushed_len) };
+
     fn write(&mut self, text: &[u8]) -> Result<usize, Fault> {
         self.writes = self.writes.saturating_add(1);
+        if self.fails_at == Some(self.writes) {
+            self.is_failed = true;
+            return Err(Fault::Write);
+        }
         let count = if self.takes_nothing_at == Some(self.writes) {
             0
         } else {
             self.step.min(text.len())
         };
-        let fails = self.fails_at == Some(self.writes)
-            || self.bytes.extend_from_slice(&text[..count]).is_err();
-        if fails {
+        if self.bytes.extend_from_slice(&text[..count]).is_err() {
             self.is_failed = true;
             return Err(Fault::Write);
         }
@@ -101,11 +118,17 @@ impl ByteSink for MemorySink {
 
     fn flush(&mut self) -> Result<(), Fault> {
         self.flushes = self.flushes.saturating_add(1);
-        if self.flush_fails {
-            self.is_failed = true;
-            return Err(Fault::Write);
+        match self.flushes_done.checked_add(1) {
+            Some(flushes_done) if !self.flush_fails => {
+                self.flushes_done = flushes_done;
+                self.flushed_len = self.bytes.len();
+                Ok(())
+            }
+            _ => {
+                self.is_failed = true;
+                Err(Fault::Write)
+            }
         }
-        Ok(())
     }
 
     fn failed(&self) -> bool {

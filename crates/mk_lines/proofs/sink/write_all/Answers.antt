@@ -11,6 +11,6 @@ front_more text at n = ap (Î» l. take at text ++ take n l) (take_rest text at) â
 
 pub loop-at-preserved : goal.loop-at-preserved
 loop-at-preserved g c =
-    let (within, working, out) = c.loop-at.invariant in
+    let (within, working, out, unflushed) = c.loop-at.invariant in
     let text = c.args.text.now in
-    (search rules, search rules, subst (Appends _ _) (front_more text c.loop-at.at c.in_ok-count.count) (Appends-trans _ _ _ _ _ out c.in_ok-count.ensures.bytes))
+    (search rules, search rules, subst (Appends _ _) (front_more text c.loop-at.at c.in_ok-count.count) (Appends-trans _ _ _ _ _ out c.in_ok-count.ensures.bytes), search rules)

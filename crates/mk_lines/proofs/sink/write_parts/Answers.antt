@@ -11,6 +11,7 @@ loop-part-preserved g c = (
   search rules,
   subst (Appends _ _) (sym (text_of_parts-more c.args.parts.now c.loop-part.part-index _ c.loop-part-test.true))
       (Appends-trans _ _ _ _ _ c.loop-part.invariant.1 c.in_ok-write_all.ensures.whole),
+  search rules,
 )
 
 pub returns-in_err-write_all-clause-prefix : goal.returns-in_err-write_all-clause-prefix

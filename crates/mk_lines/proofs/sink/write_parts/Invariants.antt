@@ -8,3 +8,4 @@ abbrev pub invariant-loop-part : goal.invariant-loop-part
 invariant-loop-part g l =
     (g.W.ByteSink.failed l.out ≡ false)
     × Appends (g.W.ByteSink.contents l.initial.out) (g.W.ByteSink.contents l.out) (text_of_parts (take l.part-index l.parts))
+    × (g.W.ByteSink.flushes l.out ≡ g.W.ByteSink.flushes l.initial.out)

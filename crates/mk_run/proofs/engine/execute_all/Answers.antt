@@ -7,6 +7,7 @@ pub loop-numbered-preserved : goal.loop-numbered-preserved
 loop-numbered-preserved g c =
     elim c.match-execute.branch [
       | in-Ok w ↦ record {
+        unflushed = search rules;
         works = search rules;
         none = search rules;
         depth = search rules;

@@ -6,6 +6,7 @@ use Rattle.mk_run.proofs.engine.execute_all.Given as goal
 
 abbrev pub invariant-loop-numbered : goal.invariant-loop-numbered
 invariant-loop-numbered g l = record {
+  unflushed : g.P.ByteSink.flushes l.report ≡ g.P.ByteSink.flushes l.initial.report;
   works : g.P.ByteSink.failed l.report ≡ false;
   none : l.keep_going ≡ false → l.refused ≡ 0;
   depth : l.session.earlier.capacity ≡ l.initial.session.earlier.capacity;

@@ -8,14 +8,15 @@ use Rattle.mk_tree.proofs.document.Doc.write_to.Goals as goal
 pub lines-init : goal.lines-init
 lines-init g c =
     let all : c.into_iter-line-iterator.result ≡ c.args.self.now = search rules in
-    (tt, tt, c.requires, ([], ap placed_text all, so_far-start _ _ c.new-gathered.ensures))
+    (tt, tt, c.requires, search rules, ([], ap placed_text all, so_far-start _ _ c.new-gathered.ensures))
 
 pub lines-preserved : goal.lines-preserved
 lines-preserved g c =
-    let (goes, ends, working, (front, whole, out)) = c.lines.invariant in (
+    let (goes, ends, working, unflushed, (front, whole, out)) = c.lines.invariant in (
       tt,
       tt,
       c.in_ok-gather.ensures.works,
+      search rules,
       (
         front ++ c.bytes.result.now,
         line-step front _ _ _ _ _ c.in-Some.ensures.steps c.bytes.ensures.bytes whole,
@@ -25,19 +26,19 @@ lines-preserved g c =
 
 pub returns-in_err-gather-clause-prefix : goal.returns-in_err-gather-clause-prefix
 returns-in_err-gather-clause-prefix g c =
-    let (goes, ends, working, (front, whole, out)) = c.lines.invariant in
+    let (goes, ends, working, unflushed, (front, whole, out)) = c.lines.invariant in
     subst (AppendsPrefix _ _) (line-step front _ _ _ _ _ c.in-Some.ensures.steps c.bytes.ensures.bytes whole)
     (AppendsPrefix-front _ _ _ _ (so_far-prefix _ _ _ front _ _ out c.in_err-gather.ensures.prefix))
 
 pub returns-in_err-write_all-clause-prefix : goal.returns-in_err-write_all-clause-prefix
 returns-in_err-write_all-clause-prefix g c =
-    let (goes, ends, working, (front, whole, out)) = c.lines.invariant in
+    let (goes, ends, working, unflushed, (front, whole, out)) = c.lines.invariant in
     let left : c.lines.line-iterator ≡ [] = search rules in
     subst (AppendsPrefix _ _) (line-end front _ _ left whole) (so_far-end _ _ _ front _ out (subst (AppendsPrefix _ _) c.deref.ensures.0 c.in_err-write_all.ensures.prefix))
 
 pub returns-clause-whole : goal.returns-clause-whole
 returns-clause-whole g c =
-    let (goes, ends, working, (front, whole, out)) = c.lines.invariant in
+    let (goes, ends, working, unflushed, (front, whole, out)) = c.lines.invariant in
     let left : c.lines.line-iterator ≡ [] = search rules in
     subst (Appends _ _) (line-end front _ _ left whole) (so_far-whole _ _ _ front _ out (subst (Appends _ _) c.deref.ensures.0 c.in_ok-write_all.ensures.whole))
 

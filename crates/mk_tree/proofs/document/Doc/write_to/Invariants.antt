@@ -8,4 +8,5 @@ abbrev pub invariant-lines : goal.invariant-lines
 invariant-lines g l =
     (goal.iterator-lines g).can_next l.line-iterator × (goal.iterator-lines g).is_finite l.line-iterator
     × (g.W.ByteSink.failed l.out ≡ false)
+    × (g.W.ByteSink.flushes l.out ≡ g.W.ByteSink.flushes l.initial.out)
     × ((front : List ℕ) × (front ++ placed_text l.line-iterator ≡ placed_text l.self) × AppendsSoFar (g.W.ByteSink.contents l.initial.out) (g.W.ByteSink.contents l.out) front l.gathered.items)
