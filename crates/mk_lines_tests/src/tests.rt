@@ -1,5 +1,5 @@
 use crate::std_devices::{CallEnd, ListReader, ListWriter};
-use mk_lines::ends::{is_open, line_end, without_line_end};
+use mk_lines::ends::{file_line_end, is_open, line_end, without_line_end};
 use mk_lines::sink::{write_all, write_parts};
 use mk_lines::source::{TEXT_LIMIT, read_all};
 use mk_lines::split::split;
@@ -229,6 +229,20 @@ fn lines_end_in_lf_or_cr_lf(rt: HostRuntime) {
         assert_eq!(rt; line_end(line), end);
         assert_eq!(rt; without_line_end(line), text);
         assert_eq!(rt; is_open(line), open);
+    }
+}
+
+#[test]
+fn the_first_physical_line_tells_how_new_lines_end(rt: HostRuntime) {
+    for (text, end) in [
+        (b"".as_slice(), End::Lf),
+        (b"x".as_slice(), End::Lf),
+        (b"x\r".as_slice(), End::Lf),
+        (b"x\ny\r\n".as_slice(), End::Lf),
+        (b"x\r\ny\n".as_slice(), End::CrLf),
+        (b"x\\\r\ny\n".as_slice(), End::CrLf),
+    ] {
+        assert_eq!(rt; file_line_end(text), end);
     }
 }
 
