@@ -9,7 +9,6 @@ use Rattle.mk_class.specs.declared.assignment.Flavor.{Flavor}
 use Rattle.mk_class.specs.declared.assignment.Flavor.TheVariants.{Recursive, Simple, PosixSimple, Immediate, Conditional, Append, Shell}
 use Rattle.mk_class.specs.declared.assignment.Modifier.{Modifier}
 use Rattle.mk_class.specs.declared.assignment.Modifier.TheVariants.{Override, Export, Private}
-use Rattle.mk_lines.specs.Units.{units}
 
 -- ---- operators
 

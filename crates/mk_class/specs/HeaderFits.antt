@@ -1,5 +1,5 @@
 -- What parts fit a header: as they stand in a line, they are read again from their units.
-use Rattle.std.specs.Prelude.{◌≡◌, ℕ, ◌&&◌, Bool, true, false, map, List, [], ◌∷◌, ◌++◌}
+use Rattle.std.specs.Prelude.{◌≡◌, ℕ, ◌&&◌, true, false, map, List, [], ◌∷◌, ◌++◌}
 use Rattle.mk_lines.specs.Lists.{Each, FirstFails}
 use Rattle.mk_class.specs.Lists.{first_passes, last_passes}
 use Rattle.mk_class.specs.Symbols.{Symbol, Colon, Ampersand, symbol, is_colon, is_bar, is_ampersand}

@@ -8,7 +8,7 @@ use Rattle.mk_tree.specs.NewLines.{above_ended}
 use Rattle.mk_edit_laws.specs.Edits.{Edit}
 use Rattle.mk_edit_laws.specs.Stretches.{Stretch, insertion, touched_by, IsStretchOf}
 use Rattle.mk_edit_laws.specs.Costs.{cost, size}
-use Rattle.mk_edit_laws.specs.Refusals.{spans, text_after}
+use Rattle.mk_edit_laws.specs.Refusals.{text_after}
 use Rattle.mk_edit_laws.specs.RisingSpans.{Rise}
 use Rattle.mk_edit_laws.specs.EditedLines.{edited_lines}
 

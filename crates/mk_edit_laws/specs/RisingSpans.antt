@@ -1,6 +1,6 @@
 -- Spans that stand in order, apart and within a text, and the text cut at them: pieces that stay, and pieces that are replaced.
-use Rattle.std.specs.Prelude.{◌≡◌, ℕ, List, [], ◌∷◌, length, ◌-◌, ◌≤◌}
-use Rattle.mk_lines.specs.Pieces.{Replacement, replaced, Piece, old_bytes, new_bytes, replacements}
+use Rattle.std.specs.Prelude.{◌≡◌, ℕ, List, [], ◌∷◌, length, ◌≤◌}
+use Rattle.mk_lines.specs.Pieces.{Replacement, Piece, old_bytes, new_bytes, replacements}
 
 -- Replacements that rise from one place to another, and do not overlap.
 abbrev pub Rise : (from to : ℕ) → List Replacement → Type 0

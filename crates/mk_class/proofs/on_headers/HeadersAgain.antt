@@ -1,15 +1,15 @@
 -- Headers made of parts: what parts fit, that the parts of a header's line do, and that parts which fit are read again from
 -- their units.
 use Rattle.std.proofs.Common.{◌≡◌, refl, sym, ap, ◌∙◌, ℕ, List, [], ◌∷◌, ◌++◌, map, Bool, true, false, not, ◌&&◌, ◌||◌, cond, append_assoc, take, drop}
-use Rattle.mk_lines.specs.Lists.{leading, after_leading, Each, FirstFails}
+use Rattle.mk_lines.specs.Lists.{leading, after_leading, Each}
 use Rattle.mk_lines.proofs.on_lists.ListLemmas.{leading-append_all, after_leading-append_all}
 use Rattle.mk_class.specs.Lists.{until, from, first_passes, last_passes}
-use Rattle.mk_class.specs.Symbols.{Symbol, symbol, is_colon, is_bar, is_ampersand, is_colon_symbol}
+use Rattle.mk_class.specs.Symbols.{Symbol, symbol, is_colon, is_ampersand, is_colon_symbol}
 use Rattle.mk_class.specs.Symbols.Symbol.{Hash, Colon, Semicolon, Equals, Plus, Question, Exclamation, Bar, Ampersand, NoSymbol}
 use Rattle.mk_class.specs.CutTexts.{head, after_head, is_in_head}
 use Rattle.mk_class.specs.Separators.{Separated, separated, separator_at, separator_length, begins_separator, has_colon}
 use Rattle.mk_class.specs.Headers.{Header, header, header_parts, with_prerequisites, is_no_bar, is_no_colon, header_units}
-use Rattle.mk_class.specs.HeaderFits.{separator_symbols, prerequisite_units, after_separator, head_units, FitsPattern, FitsBar, FitsHeader}
+use Rattle.mk_class.specs.HeaderFits.{separator_symbols, after_separator, head_units, FitsPattern, FitsBar, FitsHeader}
 use Rattle.mk_class.specs.declared.rule.Separator.{Separator}
 use Rattle.mk_class.specs.declared.rule.Separator.TheVariants.{SingleColon, DoubleColon, GroupedColon, GroupedDoubleColon}
 

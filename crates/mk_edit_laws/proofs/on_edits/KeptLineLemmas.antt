@@ -24,7 +24,7 @@ use Rattle.mk_edit_laws.specs.Spans.{removed_span}
 use Rattle.mk_edit_laws.specs.LineCauses.{removal_leans}
 use Rattle.mk_edit_laws.specs.Costs.{cost, size}
 use Rattle.mk_edit_laws.specs.Refusals.{spans, text_by, text_after}
-use Rattle.mk_edit_laws.specs.EditedLines.{respanned_bytes, edited_bytes, edited_lines}
+use Rattle.mk_edit_laws.specs.EditedLines.{respanned_bytes, edited_bytes}
 use Rattle.mk_edit_laws.specs.RisingSpans.{Rise}
 use Rattle.mk_edit_laws.proofs.on_edits.RisingSpanLemmas.{Rise-within}
 use Rattle.mk_edit_laws.proofs.on_edits.EditPlaces.{IsSpotOf}

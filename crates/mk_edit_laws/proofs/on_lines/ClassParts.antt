@@ -18,7 +18,7 @@ use Rattle.mk_class.proofs.on_assignments.AssignmentsWhole.{assignment_units, as
 use Rattle.mk_class.specs.Separators.{Separated, separated, has_colon, takes_assignment}
 use Rattle.mk_class.specs.Headers.{header, is_rough, header_units}
 use Rattle.mk_class.proofs.on_headers.HeadersWhole.{header-whole, separated-whole}
-use Rattle.mk_class.specs.Keywords.{Keyword, DefineWord, EndefWord, IfWord, ElseWord, EndifWord, DirectiveWord, UndefineWord, NoKeyword, first_keyword, after_modifiers}
+use Rattle.mk_class.specs.Keywords.{first_keyword}
 use Rattle.mk_class.specs.Classes.{Class, Said, class_said}
 use Rattle.mk_class.specs.Classes.Class.{Assign, TargetAssign, Header, Opaque, Rough, Comment, Blank}
 use Rattle.mk_class.specs.RecipePrefix.{is_prefix_led}

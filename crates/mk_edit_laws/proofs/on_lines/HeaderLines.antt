@@ -7,7 +7,7 @@ use Rattle.mk_lines.specs.Cells.{Cell, joined_byte}
 use Rattle.mk_lines.specs.Words.{is_gap}
 use Rattle.mk_class.specs.Lists.{any, is_empty, first_passes}
 use Rattle.mk_class.specs.Texts.{word_texts}
-use Rattle.mk_class.specs.Symbols.{Symbol, symbol, is_hash, is_colon, is_equals, is_unreadable_unit, is_colon_symbol, is_hash_symbol, is_semicolon_symbol}
+use Rattle.mk_class.specs.Symbols.{Symbol, symbol, is_colon, is_equals, is_unreadable_unit, is_colon_symbol, is_hash_symbol, is_semicolon_symbol}
 use Rattle.mk_class.specs.Symbols.Symbol.{Hash, Colon, Semicolon, Equals, Plus, Question, Exclamation, Bar, Ampersand, NoSymbol}
 use Rattle.mk_class.proofs.on_symbols.SymbolLemmas.{gap-no_symbol}
 use Rattle.mk_class.specs.CutTexts.{cut_text, head, is_in_head, is_no_hash, is_head_end_symbol, FollowsHead}
@@ -19,11 +19,10 @@ use Rattle.mk_class.specs.Headers
 use Rattle.mk_class.specs.Headers.{header, has_unreadable, has_colon_after_other, has_third_separator, has_bar_amiss, has_second_bar, has_pattern_amiss, is_rough, header_units}
 use Rattle.mk_class.specs.HeaderFits.{FitsHeader, head_units, after_separator, separator_symbols}
 use Rattle.mk_class.proofs.on_headers.HeadersAgain.{header-again, separated-again}
-use Rattle.mk_class.specs.Classes.{Class, Said, class_said}
-use Rattle.mk_class.specs.Classes.Class.{Opaque, Blank, Comment, Rough, Header}
-use Rattle.mk_class.specs.Keywords.{Keyword, DefineWord, EndefWord, IfWord, ElseWord, EndifWord, DirectiveWord, UndefineWord, NoKeyword, first_keyword}
+use Rattle.mk_class.specs.Classes.Class.{Rough, Header}
+use Rattle.mk_class.specs.Keywords.{first_keyword}
 use Rattle.mk_class.proofs.on_classes.ClassHolds.{Holds, plain_class-holds, said-no_parts}
-use Rattle.mk_class.specs.ClassTable.{class_at, define_class, directive, header_class, target_class, rule_class, assign_class, or_class, is_all_blanks, is_unreadable, plain_class}
+use Rattle.mk_class.specs.ClassTable.{class_at, define_class, directive, header_class, target_class, rule_class, is_all_blanks, is_unreadable, plain_class}
 use Rattle.mk_class.specs.declared.context.Flag.{Flag}
 use Rattle.mk_class.specs.declared.context.Flag.TheVariants.{Off, Rule, Unknown}
 use Rattle.mk_class.specs.declared.rule.Separator.{Separator}

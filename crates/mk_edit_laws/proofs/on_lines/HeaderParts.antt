@@ -19,7 +19,7 @@ use Rattle.mk_class.proofs.on_symbols.SymbolLemmas.{symbol-unit, symbol-no_gap}
 use Rattle.mk_class.specs.CutTexts.{cut_text, head as head_at, is_in_head}
 use Rattle.mk_class.specs.Separators.{has_colon}
 use Rattle.mk_class.specs.Headers
-use Rattle.mk_class.specs.Headers.{header, is_no_bar, is_no_colon, has_unreadable, has_colon_after_other, has_third_separator, has_bar_amiss, has_second_bar, has_pattern_amiss, is_rough, header_units}
+use Rattle.mk_class.specs.Headers.{is_no_bar, is_no_colon, has_unreadable, has_colon_after_other, has_third_separator, has_bar_amiss, has_second_bar, has_pattern_amiss, is_rough, header_units}
 use Rattle.mk_class.proofs.on_headers.HeadersWhole.{header-whole}
 use Rattle.mk_class.specs.HeaderFits.{FitsHeader, FitsPattern, FitsBar, head_units, after_separator, prerequisite_units, separator_symbols}
 use Rattle.mk_class.proofs.on_headers.HeaderFitsLemmas.{header-fits}

@@ -35,7 +35,7 @@ use Rattle.mk_class.specs.Contexts.{Context}
 use Rattle.mk_class.specs.ClassTable.{class_of, directive, plain_class, undefined_class, is_all_blanks, is_unreadable, rule_class, header_class, separated_class, assign_class, or_class}
 use Rattle.mk_class.specs.declared.context.Flag.{Flag}
 use Rattle.mk_class.specs.declared.context.Flag.TheVariants.{Off, Rule, Unknown}
-use Rattle.mk_tree.specs.Items.{Item, header_item}
+use Rattle.mk_tree.specs.Items.{header_item}
 use Rattle.mk_tree.specs.Items as item
 use Rattle.mk_tree.proofs.on_changes.NewLineLemmas.{clean-no_line_end, new_line-clean}
 use Rattle.mk_edit_laws.specs.NewLines.{each_spaced, joined_by_space, colons_text}

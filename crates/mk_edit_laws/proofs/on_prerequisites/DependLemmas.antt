@@ -22,7 +22,7 @@ use Rattle.mk_class.specs.ClassedLines.{ClassedLine, classed_lines}
 use Rattle.mk_tree.specs.LineTexts.{text_of, context_of}
 use Rattle.mk_tree.proofs.on_documents.LinePlaces.{located}
 use Rattle.mk_tree.specs.Items
-use Rattle.mk_tree.specs.Items.{Item, items, header_item, raw_units}
+use Rattle.mk_tree.specs.Items.{header_item, raw_units}
 use Rattle.mk_tree.specs.Readings.{reading}
 use Rattle.mk_edit_laws.specs.Edits.{AddPrereq}
 use Rattle.mk_edit_laws.specs.Spots.{Spot}

@@ -10,7 +10,7 @@ use Rattle.mk_class.specs.CutTexts.{cut_text, head}
 use Rattle.mk_class.specs.Assignments.{Assignment, assignment}
 use Rattle.mk_class.specs.Separators.{Separated, separated, has_colon, takes_assignment}
 use Rattle.mk_class.specs.Headers.{header, is_rough}
-use Rattle.mk_class.specs.Keywords.{Keyword, DefineWord, EndefWord, IfWord, ElseWord, EndifWord, DirectiveWord, UndefineWord, NoKeyword, first_keyword, after_modifiers}
+use Rattle.mk_class.specs.Keywords.{first_keyword}
 use Rattle.mk_class.specs.Classes.{Said, class_said, Class, is_recipe}
 use Rattle.mk_class.specs.Classes.Class.{Opaque, Blank, Comment, Rough, Header}
 use Rattle.mk_class.specs.RecipePrefix.{is_prefix_led}

@@ -16,7 +16,7 @@ use Rattle.mk_class.specs.ClassedLines.{ClassedLine, classed_lines}
 use Rattle.mk_tree.specs.RecipeLines.{stays_in_rule, ends_rule, rule_lines, recipe_run, after_recipe}
 use Rattle.mk_tree.proofs.on_changes.RecipeRunLemmas.{recipe_run-after, recipe_run-stays}
 use Rattle.mk_tree.specs.Items
-use Rattle.mk_tree.specs.Items.{Item, items, items_of_line, header_item}
+use Rattle.mk_tree.specs.Items.{items, items_of_line, header_item}
 use Rattle.mk_tree.proofs.on_documents.LinePlaces.{items-append}
 use Rattle.mk_edit_laws.specs.Edits.{RemoveRule}
 use Rattle.mk_edit_laws.specs.Spots.{Spot}

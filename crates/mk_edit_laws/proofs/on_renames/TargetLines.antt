@@ -1,24 +1,24 @@
 -- Lines of class TargetAssign: what the class says of a line, its parts, and which targets make a line of that class again.
-use Rattle.std.proofs.Common.{◌≡◌, refl, sym, ap, ◌∙◌, subst, ℕ, zero, suc, List, [], ◌∷◌, ◌++◌, map, Bool, true, false, not, ◌&&◌, ◌||◌, cond, drop, Option, Some, None, append_assoc}
+use Rattle.std.proofs.Common.{◌≡◌, refl, sym, ap, ◌∙◌, subst, ℕ, zero, suc, List, [], ◌∷◌, ◌++◌, map, Bool, true, false, not, ◌&&◌, ◌||◌, cond, drop, Some, None, append_assoc}
 use Rattle.std.proofs.lemmas.Bool.{not-true}
 use Rattle.mk_lines.specs.Lists.{Each, FirstFails}
 use Rattle.mk_lines.proofs.on_lists.ListLemmas.{Each-left, Each-right, leading-each, leading-append_all, leading-after_leading, after_leading-first_fails}
 use Rattle.mk_lines.specs.Cells.{Cell, joined_byte}
-use Rattle.mk_class.specs.Lists.{any, first_passes, last_passes, until, from}
+use Rattle.mk_class.specs.Lists.{first_passes, last_passes, until, from}
 use Rattle.mk_class.proofs.on_symbols.ListLemmas.{until-from}
 use Rattle.mk_class.specs.Texts.{word_texts}
-use Rattle.mk_class.specs.Symbols.{Symbol, symbol, is_hash, is_colon, is_ampersand, is_colon_symbol, is_ampersand_symbol}
+use Rattle.mk_class.specs.Symbols.{Symbol, symbol, is_colon, is_ampersand, is_colon_symbol, is_ampersand_symbol}
 use Rattle.mk_class.specs.Symbols.Symbol.{Hash, Colon, Semicolon, Equals, Plus, Question, Exclamation, Bar, Ampersand, NoSymbol}
 use Rattle.mk_class.specs.CutTexts.{cut_text, comment, head, is_in_head, is_no_hash, is_head_end_symbol}
 use Rattle.mk_class.specs.Assignments.{Assignment, assignment}
 use Rattle.mk_class.specs.Separators.{Separated, separated, separator_at, separator_length, begins_separator, has_colon, takes_assignment}
 use Rattle.mk_class.specs.Headers
-use Rattle.mk_class.specs.Headers.{header, is_rough, is_no_colon}
-use Rattle.mk_class.specs.Classes.{Class, Said, class_said}
-use Rattle.mk_class.specs.Classes.Class.{Opaque, Blank, Comment, Rough, Header, TargetAssign}
-use Rattle.mk_class.specs.Keywords.{Keyword, DefineWord, EndefWord, IfWord, ElseWord, EndifWord, DirectiveWord, UndefineWord, NoKeyword, first_keyword}
+use Rattle.mk_class.specs.Headers.{is_no_colon}
+use Rattle.mk_class.specs.Classes.{Class}
+use Rattle.mk_class.specs.Classes.Class.{TargetAssign}
+use Rattle.mk_class.specs.Keywords.{first_keyword}
 use Rattle.mk_class.proofs.on_classes.ClassHolds.{Holds, plain_class-holds, said-no_parts}
-use Rattle.mk_class.specs.ClassTable.{class_at, define_class, directive, header_class, target_class, separated_class, rule_class, assign_class, or_class, is_all_blanks, is_unreadable, plain_class}
+use Rattle.mk_class.specs.ClassTable.{class_at, define_class, directive, header_class, target_class, separated_class, rule_class, is_all_blanks, is_unreadable, plain_class}
 use Rattle.mk_class.specs.declared.context.Flag.{Flag}
 use Rattle.mk_class.specs.declared.context.Flag.TheVariants.{Off, Rule, Unknown}
 use Rattle.mk_edit_laws.proofs.on_lines.HeaderLines.{any-after, leading-all, colon-filled}

@@ -1,7 +1,6 @@
 -- How many conditionals are open at once: lines of other classes change nothing of it, so a text that opens too many is not made
 -- by such a change.
 use Rattle.std.proofs.Common.{◌≡◌, refl, sym, ap, ◌∙◌, arith, ℕ, List, [], ◌∷◌, ◌++◌, not, true, max}
-use Rattle.mk_lines.specs.Lists.{Each}
 use Rattle.mk_lines.specs.Cells.{Cell}
 use Rattle.mk_class.specs.Classes.{Class, is_conditional}
 use Rattle.mk_class.specs.Classes.Class.{Endef, Body, Recipe, Opaque, Blank, Comment, Assign, DefineHead, If, Else, Endif, Directive, TargetAssign, Rough, Header}
