@@ -59,6 +59,26 @@ length-with_last b [] = refl
 length-with_last b (l ∷ []) = refl
 length-with_last b (l ∷ k ∷ ls) = ap suc (length-with_last b (k ∷ ls))
 
+-- the last of some lines, by its place
+pub last_line-at : (ls : List PlacedLine) (at : ℕ) → length ls ≡ at + 1 → last_line ls ≡ slice_get ls at
+last_line-at [] at h = absurd (omega (arith, h))
+last_line-at (l ∷ []) zero h = refl
+last_line-at (l ∷ []) (suc at) h = absurd (omega (arith, h))
+last_line-at (l ∷ k ∷ ls) zero h = absurd (omega (arith, h))
+last_line-at (l ∷ k ∷ ls) (suc at) h = last_line-at (k ∷ ls) at (omega (arith, h))
+
+pub size_of-with_last : (b : List ℕ) (ls : List PlacedLine) → size_of (with_last_bytes b ls) + length (bytes_of_line (last_line ls)) ≤ size_of ls + length b
+size_of-with_last b [] = omega arith
+size_of-with_last b (l ∷ []) = omega arith
+size_of-with_last b (l ∷ k ∷ ls) = omega (arith, size_of-with_last b (k ∷ ls))
+
+-- what is asked of the last line's new bytes, where the last line is found by its place
+pub swap_end-fits : (b : List ℕ) (ls : List PlacedLine) (at : ℕ) (l : PlacedLine) → length ls ≡ at + 1 → Some l ≡ slice_get ls at → 0 < length b → without_line_end b ≡ without_line_end l.bytes
+    → size_of ls + length b ≤ 2 ^ 24 → FitsMove (SwapEnd b) ls
+swap_end-fits b ls at l n e some same few =
+    let x : last_line ls ≡ Some l = last_line-at ls at n ∙ sym e in
+    (omega (arith, n), some, same ∙ ap (λ z. without_line_end (bytes_of_line z)) (sym x), omega (arith, size_of-with_last b ls, few))
+
 -- ---- a move and its inverse
 
 -- a move that fits the lines after another, and leads back to those before it
@@ -146,3 +166,6 @@ number-after_moves (m ∷ ms) ls f = omega (arith, number-after m ls f.0, number
 
 -- what a builder cites of the moves that it gathers
 pub ruleset few = (held_by-few, taken_by-few, held_by-append, taken_by-append)
+
+-- what is asked of the last line's new bytes
+pub ruleset ends = (last_line-at, length-with_last, size_of-with_last)
