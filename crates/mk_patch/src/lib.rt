@@ -7,9 +7,11 @@
 //! - [`step`]: one line that is put in, taken out or exchanged, or the end of the last one.
 //! - [`patch`]: several steps as one.
 //! - [`builder`]: a patch while its steps are gathered.
+//! - [`change`]: a patch as a change that a history can hold.
 #![tactic(auto)]
 
 pub mod builder;
+pub mod change;
 pub mod patch;
 pub mod step;
 
