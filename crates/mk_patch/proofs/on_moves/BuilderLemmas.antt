@@ -1,8 +1,8 @@
 -- A step put behind those of a builder.
-use Rattle.std.proofs.Common.{◌≡◌, refl, sym, ap, ◌∙◌, arith, ℕ, ◌+◌, ◌-◌, ◌<◌, ◌≤◌, List, [], ◌∷◌, ◌++◌, length, length-append, map, drop}
+use Rattle.std.proofs.Common.{◌≡◌, ap, ◌∙◌, arith, ℕ, ◌+◌, ◌-◌, ◌<◌, ◌≤◌, [], ◌∷◌, ◌++◌, length, length-append, drop}
 use Rattle.std.proofs.lemmas.List.{map-append, length-map}
 use Rattle.circular_buffer.specs.Buffer.{Buffer, buffer, keep_last}
-use Rattle.mk_patch.specs.Moves.{Move, held_by, held_by_move, taken_by, taken_by_move}
+use Rattle.mk_patch.specs.Moves.{held_by, held_by_move, taken_by, taken_by_move}
 use Rattle.mk_patch.specs.Steps.{move_of, moves_of}
 use Rattle.mk_patch.specs.declared.step.Step.{Step}
 use Rattle.mk_patch.proofs.on_moves.MoveLemmas.{held_by-append, taken_by-append}

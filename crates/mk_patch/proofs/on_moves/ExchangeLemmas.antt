@@ -1,7 +1,7 @@
 -- Lines exchanged at rising places.
-use Rattle.std.proofs.Common.{◌≡◌, refl, sym, ap, ◌∙◌, arith, ℕ, zero, suc, ◌+◌, ◌^◌, ◌<◌, ◌≤◌, Bool, true, false, List, [], ◌∷◌, ◌++◌, length, length-append, append_assoc, take, drop}
+use Rattle.std.proofs.Common.{◌≡◌, refl, sym, ap, ◌∙◌, arith, ℕ, zero, suc, ◌+◌, ◌^◌, ◌≤◌, Bool, true, false, List, [], ◌∷◌, ◌++◌, length, length-append, take, drop}
 use Rattle.mk_tree.specs.PlacedLines.{PlacedLine, size_of}
-use Rattle.mk_patch.specs.Moves.{Move, Exchange, FitsMove, FitMoves, IsPlain, after_moves, exchanged, held_by, taken_by}
+use Rattle.mk_patch.specs.Moves.{Move, Exchange, IsPlain, after_moves, held_by, taken_by}
 use Rattle.mk_patch.proofs.on_moves.ShapeLemmas.{LeadTo, exchanged-between, plain-between, within-between}
 
 -- The exchanges of the chosen lines, the first line being at a place: each of them by the line that stands at its place after
@@ -92,6 +92,13 @@ exchanges-taken at (true ∷ cs) [] = refl
 exchanges-taken at (false ∷ cs) [] = refl
 exchanges-taken at (true ∷ cs) (l ∷ ls) = omega (arith, exchanges-taken (at + 1) cs ls)
 exchanges-taken at (false ∷ cs) (l ∷ ls) = exchanges-taken (at + 1) cs ls
+
+-- as many lines are held and taken out as are chosen
+pub exchanges-held_chosen : (at : ℕ) (cs : List Bool) (before after : List PlacedLine) → DifferWhereChosen cs before after → held_by (exchanges at cs after) ≡ how_many cs
+exchanges-held_chosen at cs before after d = exchanges-held at cs after ∙ exchanges-number at cs before after d
+
+pub exchanges-taken_chosen : (at : ℕ) (cs : List Bool) (before after : List PlacedLine) → DifferWhereChosen cs before after → taken_by (exchanges at cs after) ≡ how_many cs
+exchanges-taken_chosen at cs before after d = exchanges-taken at cs after ∙ exchanges-number at cs before after d
 
 -- ---- when the sizes stay within the limit
 

@@ -1,10 +1,10 @@
 -- A move is taken back by its inverse; what moves hold and take out, and how many lines there are after them.
-use Rattle.std.proofs.Common.{◌≡◌, ℕ, zero, suc, ◌+◌, ◌^◌, ◌<◌, ◌≤◌, false, List, [], ◌∷◌, ◌++◌, length, map, take, drop, Some, refl, ap, arith, suc-add, sym, ◌∙◌}
+use Rattle.std.proofs.Common.{◌≡◌, ℕ, zero, suc, ◌+◌, ◌^◌, ◌<◌, ◌≤◌, false, List, [], ◌∷◌, ◌++◌, length, take, drop, Some, refl, ap, arith, suc-add, sym, ◌∙◌}
 use Rattle.std.specs.Prelude.{slice_get}
 use Rattle.std.proofs.lemmas.Grind.{common_steps}
 use Rattle.mk_lines.specs.PhysicalLines.{without_line_end}
 use Rattle.mk_tree.specs.PlacedLines.{PlacedLine, bytes_of_line, is_conditional_places, last_line, size_of, with_last_bytes}
-use Rattle.mk_patch.specs.Moves.{Move, PutIn, TakeOut, Exchange, SwapEnd, FitsMove, FitMoves, IsPlainAt, after_move, after_moves, exchanged, held_by, held_by_move, taken_by, taken_by_move}
+use Rattle.mk_patch.specs.Moves.{Move, PutIn, TakeOut, Exchange, SwapEnd, FitsMove, FitMoves, IsPlainAt, after_move, after_moves, held_by, held_by_move, taken_by, taken_by_move}
 
 -- ---- one place of a list
 

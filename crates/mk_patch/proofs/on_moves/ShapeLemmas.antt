@@ -5,8 +5,7 @@ use Rattle.std.specs.Prelude.{slice_get}
 use Rattle.std.proofs.Math.Seq.{take-append_seam, drop-append_seam, drop-append-add}
 use Rattle.mk_lines.specs.PhysicalLines.{without_line_end}
 use Rattle.mk_tree.specs.PlacedLines.{PlacedLine, bytes_of_line, last_line, size_of, with_last_bytes}
-use Rattle.mk_patch.specs.Moves.{Move, PutIn, TakeOut, Exchange, SwapEnd, FitMoves, IsPlain, IsPlainAt, after_move, after_moves, exchanged, held_by, taken_by}
-use Rattle.mk_patch.proofs.on_moves.MoveLemmas.{size_of-put_in}
+use Rattle.mk_patch.specs.Moves.{Move, PutIn, TakeOut, Exchange, SwapEnd, FitMoves, IsPlain, IsPlainAt, after_moves, exchanged, held_by, taken_by}
 
 -- moves fit some lines and lead to others
 pub record LeadTo (ms : List Move) (before after : List PlacedLine) : Type 0 where

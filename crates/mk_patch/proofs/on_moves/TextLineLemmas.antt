@@ -1,5 +1,5 @@
 -- Lines of a text moved: the shapes of patches, where the lines of a document are those of a text.
-use Rattle.std.proofs.Common.{◌≡◌, refl, sym, ap, ◌∙◌, arith, ℕ, suc, ◌+◌, ◌^◌, ◌<◌, ◌≤◌, List, [], ◌∷◌, ◌++◌, Bool, true, false, not, length, length-append, replicate}
+use Rattle.std.proofs.Common.{◌≡◌, refl, sym, ap, ◌∙◌, arith, ℕ, ◌+◌, ◌^◌, ◌<◌, ◌≤◌, List, [], ◌∷◌, ◌++◌, Bool, true, false, not, length, length-append, replicate}
 use Rattle.std.proofs.lemmas.List.{map-append, length-map}
 use Rattle.mk_lines.specs.Cells.{Cell, joined_byte}
 use Rattle.mk_lines.specs.PhysicalLines.{without_line_end}
@@ -10,7 +10,7 @@ use Rattle.mk_class.specs.ClassedLines.{ClassedLine}
 use Rattle.mk_tree.specs.PlacedLines.{PlacedLine, placed_line, placed_lines, placed_text, size_of, is_conditional_places}
 use Rattle.mk_tree.specs.LineTexts.{text_of}
 use Rattle.mk_tree.specs.Documents.{AreUnconditional}
-use Rattle.mk_patch.specs.Moves.{Move, PutIn, TakeOut, Exchange, SwapEnd, IsPlain}
+use Rattle.mk_patch.specs.Moves.{PutIn, TakeOut, Exchange, SwapEnd, IsPlain}
 use Rattle.mk_patch.proofs.on_moves.ShapeLemmas.{LeadTo, same-lead, ArePlain, put_in-leads, exchange-leads, ended-put_in-leads, run-leads}
 
 -- ---- lines of no conditional, as a document shows them

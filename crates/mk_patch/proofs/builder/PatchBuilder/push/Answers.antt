@@ -1,5 +1,4 @@
-use Rattle.std.proofs.Common.{◌≡◌, ◌<◌, ◌≤◌, length}
-use Rattle.mk_patch.proofs.on_moves.BuilderLemmas.{AreGathered, gathered}
+use Rattle.mk_patch.proofs.on_moves.BuilderLemmas.{gathered}
 use Rattle.mk_patch.proofs.builder.PatchBuilder.push.Goals as goal
 
 pub invariant_of-self : goal.invariant_of-self

@@ -1,4 +1,4 @@
-use Rattle.std.proofs.Common.{◌≡◌, ◌∙◌, ◌+◌, ap, length}
+use Rattle.std.proofs.Common.{◌∙◌, ◌+◌, ap, length}
 use Rattle.mk_tree.specs.PlacedLines.{PlacedLine}
 use Rattle.std.specs.Prelude.{List}
 use Rattle.mk_patch.specs.Moves.{after_moves, taken_by}

@@ -1,4 +1,3 @@
-use Rattle.std.proofs.Common.{◌≡◌}
 use Rattle.mk_patch.proofs.on_moves.MoveLemmas.{put_in-taken_back, take_out-taken_back, exchange-taken_back, swap_end-taken_back}
 use Rattle.mk_patch.proofs.step.Step.make.Goals as goal
 
