@@ -1,0 +1,2 @@
+-- Lemmas by subject, which the functions of single edits cite too
+pub mod on_finding

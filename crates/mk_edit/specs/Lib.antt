@@ -1,1 +1,5 @@
 pub mod EditViews
+-- The line that an edit means
+pub mod PlacedParts
+pub mod Seeking
+pub mod Found
