@@ -3,3 +3,6 @@ pub mod EditViews
 pub mod PlacedParts
 pub mod Seeking
 pub mod Found
+-- What planning answers
+pub mod LineRanges
+pub mod Planned
