@@ -1,0 +1,8 @@
+pub mod EditViews
+-- The line that an edit means
+pub mod PlacedParts
+pub mod Seeking
+pub mod Found
+-- What planning answers
+pub mod LineRanges
+pub mod Planned

@@ -1,0 +1,35 @@
+//! Edits of makefiles: what an edit is, whether it may be done, and which line it means.
+//!
+//! What an edit does is defined in `mk_edit_laws`, whose laws say what follows from it. The calls here
+//! answer what these definitions say.
+//!
+//! - [`edit`]: the twelve edits, and the places of new lines.
+//!
+//! The other modules are the crate's own, lowest first:
+//!
+//! - `text`: texts compared, and the words of a text.
+//! - `argument`: the causes of refusal that the fields of an edit decide.
+//! - `address`: the line that an edit means, as it says it.
+//! - `part`: parts of a line by their places.
+//! - `line_test`: which variable a line assigns, and which targets it has.
+//! - `seek`: the line that an address means, found by one walk.
+//! - `find`: where an edit applies, after the causes that come before its own.
+//! - `targets`: whether a word is a target of any rule.
+//! - `lean`: whether lines lean on what stands before them.
+//! - `range`: where the value of a line stands, and bytes with a range replaced.
+#![tactic(auto)]
+
+mod address;
+mod argument;
+pub mod edit;
+mod find;
+mod lean;
+mod line_test;
+mod part;
+mod range;
+mod seek;
+mod targets;
+mod text;
+
+pub use edit::{Edit, Place};
+pub use mk_edit_laws::{Colons, Detail, Field, Refusal};
