@@ -1,0 +1,6 @@
+-- Lemmas. Lines that are moved.
+pub mod MoveLemmas
+pub mod ShapeLemmas
+pub mod ExchangeLemmas
+pub mod TextLineLemmas
+pub mod BuilderLemmas

@@ -1,0 +1,126 @@
+-- Lines exchanged at rising places.
+use Rattle.std.proofs.Common.{◌≡◌, refl, sym, ap, ◌∙◌, arith, ℕ, zero, suc, ◌+◌, ◌^◌, ◌<◌, ◌≤◌, Bool, true, false, List, [], ◌∷◌, ◌++◌, length, length-append, append_assoc, take, drop}
+use Rattle.mk_tree.specs.PlacedLines.{PlacedLine, size_of}
+use Rattle.mk_patch.specs.Moves.{Move, Exchange, FitsMove, FitMoves, IsPlain, after_moves, exchanged, held_by, taken_by}
+use Rattle.mk_patch.proofs.on_moves.ShapeLemmas.{LeadTo, exchanged-between, plain-between, within-between}
+
+-- The exchanges of the chosen lines, the first line being at a place: each of them by the line that stands at its place after
+-- them.
+abbrev pub exchanges : (at : ℕ) → (chosen : List Bool) → (after : List PlacedLine) → List Move
+exchanges at (true ∷ cs) (l ∷ ls) = Exchange at l ∷ exchanges (at + 1) cs ls
+exchanges at (false ∷ cs) (l ∷ ls) = exchanges (at + 1) cs ls
+exchanges at cs ls = []
+
+-- Two lists of lines, as long as that of what is chosen, are the same but for the chosen lines, which are of no conditional.
+abbrev pub DifferWhereChosen : (chosen : List Bool) → (before after : List PlacedLine) → Type 0
+DifferWhereChosen [] [] [] = Unit {0}
+DifferWhereChosen (true ∷ cs) (old ∷ olds) (new ∷ news) = IsPlain old × IsPlain new × DifferWhereChosen cs olds news
+DifferWhereChosen (false ∷ cs) (old ∷ olds) (new ∷ news) = (old ≡ new) × DifferWhereChosen cs olds news
+DifferWhereChosen cs olds news = ⊥
+
+-- some first lines after the exchanges, and the others before them, are at most 16,777,216 bytes, wherever the lines are parted
+abbrev pub StayWithin : (above before after : List PlacedLine) → Type 0
+StayWithin above before after = (i : ℕ) → i ≤ length before → size_of (above ++ (take i after ++ drop i before)) ≤ 2 ^ 24
+
+append-one : {X : Type 0} (xs : List X) (y : X) (ys : List X) → (xs ++ y ∷ []) ++ ys ≡ xs ++ y ∷ ys
+append-one [] y ys = refl
+append-one (x ∷ xs) y ys = ap (λ z. x ∷ z) (append-one xs y ys)
+
+within-next : (above : List PlacedLine) (old new : PlacedLine) (olds news : List PlacedLine) → StayWithin above (old ∷ olds) (new ∷ news) → StayWithin (above ++ new ∷ []) olds news
+within-next above old new olds news w i h = rw (append-one above new (take i news ++ drop i olds)) (w (suc i) (omega (arith, h)))
+
+-- The exchanges lead from the lines before them to those after, below lines that stay.
+pub exchanges-lead_below : (above : List PlacedLine) (cs : List Bool) (before after : List PlacedLine) (at : ℕ) → at ≡ length above → DifferWhereChosen cs before after → StayWithin above before after
+    → LeadTo (exchanges at cs after) (above ++ before) (above ++ after)
+exchanges-lead_below above [] [] [] at e d w = record { fit = tt; lead = refl }
+exchanges-lead_below above [] [] (new ∷ news) at e d w = absurd d
+exchanges-lead_below above [] (old ∷ olds) news at e d w = absurd d
+exchanges-lead_below above (true ∷ cs) [] news at e d w = absurd d
+exchanges-lead_below above (true ∷ cs) (old ∷ olds) [] at e d w = absurd d
+exchanges-lead_below above (false ∷ cs) [] news at e d w = absurd d
+exchanges-lead_below above (false ∷ cs) (old ∷ olds) [] at e d w = absurd d
+exchanges-lead_below above (true ∷ cs) (old ∷ olds) (new ∷ news) at e d w =
+    let x = exchanged-between above olds old new at e in
+    let n : at + 1 ≡ length (above ++ new ∷ []) = omega (arith, length-append above (new ∷ []), e) in
+    let r = exchanges-lead_below (above ++ new ∷ []) cs olds news (at + 1) n d.2 (within-next above old new olds news w) in
+    let few : size_of (above ++ new ∷ olds) ≤ 2 ^ 24 = w (suc zero) (omega arith) in
+    record {
+      fit = ((within-between above olds old at e, plain-between above olds old at e d.0, d.1, rw x few), rw x (rw (append-one above new olds) at r.fit));
+      lead = ap (after_moves (exchanges (at + 1) cs news)) (x ∙ sym (append-one above new olds)) ∙ (r.lead ∙ append-one above new news);
+    }
+exchanges-lead_below above (false ∷ cs) (old ∷ olds) (new ∷ news) at e d w =
+    let n : at + 1 ≡ length (above ++ new ∷ []) = omega (arith, length-append above (new ∷ []), e) in
+    let r = exchanges-lead_below (above ++ new ∷ []) cs olds news (at + 1) n d.1 (within-next above old new olds news w) in
+    rw d.0 (record {
+      fit = rw (append-one above new olds) at r.fit;
+      lead = ap (after_moves (exchanges (at + 1) cs news)) (sym (append-one above new olds)) ∙ (r.lead ∙ append-one above new news);
+    })
+
+-- The same of all lines: they lead to the lines with each chosen one exchanged.
+pub exchanges-lead : (cs : List Bool) (before after : List PlacedLine) → DifferWhereChosen cs before after → StayWithin [] before after → LeadTo (exchanges 0 cs after) before after
+exchanges-lead cs before after d w = exchanges-lead_below [] cs before after 0 refl d w
+
+-- ---- how many lines they hold and take out
+
+-- how many lines are chosen
+abbrev pub how_many : List Bool → ℕ
+how_many [] = 0
+how_many (true ∷ cs) = 1 + how_many cs
+how_many (false ∷ cs) = how_many cs
+
+pub exchanges-number : (at : ℕ) (cs : List Bool) (before after : List PlacedLine) → DifferWhereChosen cs before after → length (exchanges at cs after) ≡ how_many cs
+exchanges-number at [] [] [] d = refl
+exchanges-number at [] [] (new ∷ news) d = absurd d
+exchanges-number at [] (old ∷ olds) news d = absurd d
+exchanges-number at (true ∷ cs) [] news d = absurd d
+exchanges-number at (true ∷ cs) (old ∷ olds) [] d = absurd d
+exchanges-number at (false ∷ cs) [] news d = absurd d
+exchanges-number at (false ∷ cs) (old ∷ olds) [] d = absurd d
+exchanges-number at (true ∷ cs) (old ∷ olds) (new ∷ news) d = omega (arith, exchanges-number (at + 1) cs olds news d.2)
+exchanges-number at (false ∷ cs) (old ∷ olds) (new ∷ news) d = exchanges-number (at + 1) cs olds news d.1
+
+pub exchanges-held : (at : ℕ) (cs : List Bool) (after : List PlacedLine) → held_by (exchanges at cs after) ≡ length (exchanges at cs after)
+exchanges-held at [] after = refl
+exchanges-held at (true ∷ cs) [] = refl
+exchanges-held at (false ∷ cs) [] = refl
+exchanges-held at (true ∷ cs) (l ∷ ls) = omega (arith, exchanges-held (at + 1) cs ls)
+exchanges-held at (false ∷ cs) (l ∷ ls) = exchanges-held (at + 1) cs ls
+
+pub exchanges-taken : (at : ℕ) (cs : List Bool) (after : List PlacedLine) → taken_by (exchanges at cs after) ≡ length (exchanges at cs after)
+exchanges-taken at [] after = refl
+exchanges-taken at (true ∷ cs) [] = refl
+exchanges-taken at (false ∷ cs) [] = refl
+exchanges-taken at (true ∷ cs) (l ∷ ls) = omega (arith, exchanges-taken (at + 1) cs ls)
+exchanges-taken at (false ∷ cs) (l ∷ ls) = exchanges-taken (at + 1) cs ls
+
+-- ---- when the sizes stay within the limit
+
+-- each of some lines has at most as many bytes as the one of the others at its place
+abbrev pub AreNoLonger : List PlacedLine → List PlacedLine → Type 0
+AreNoLonger [] [] = Unit {0}
+AreNoLonger (l ∷ ls) (k ∷ ks) = (length l.bytes ≤ length k.bytes) × AreNoLonger ls ks
+AreNoLonger ls ks = ⊥
+
+grown : (before after : List PlacedLine) (i : ℕ) → AreNoLonger before after → size_of (take i after ++ drop i before) ≤ size_of after
+grown [] [] zero n = omega arith
+grown [] [] (suc i) n = omega arith
+grown [] (k ∷ ks) i n = absurd n
+grown (l ∷ ls) [] i n = absurd n
+grown (l ∷ ls) (k ∷ ks) zero n = omega (arith, n.0, grown ls ks zero n.1)
+grown (l ∷ ls) (k ∷ ks) (suc i) n = omega (arith, grown ls ks i n.1)
+
+shrunk : (before after : List PlacedLine) (i : ℕ) → AreNoLonger after before → size_of (take i after ++ drop i before) ≤ size_of before
+shrunk [] [] zero n = omega arith
+shrunk [] [] (suc i) n = omega arith
+shrunk [] (k ∷ ks) i n = absurd n
+shrunk (l ∷ ls) [] i n = absurd n
+shrunk (l ∷ ls) (k ∷ ks) zero n = omega arith
+shrunk (l ∷ ls) (k ∷ ks) (suc i) n = omega (arith, n.0, shrunk ls ks i n.1)
+
+-- where no line gets shorter, it is enough that the lines after the exchanges are within the limit
+pub within-grown : (before after : List PlacedLine) → AreNoLonger before after → size_of after ≤ 2 ^ 24 → StayWithin [] before after
+within-grown before after n few i h = omega (arith, grown before after i n, few)
+
+-- and where none gets longer, that those before are
+pub within-shrunk : (before after : List PlacedLine) → AreNoLonger after before → size_of before ≤ 2 ^ 24 → StayWithin [] before after
+within-shrunk before after n few i h = omega (arith, shrunk before after i n, few)

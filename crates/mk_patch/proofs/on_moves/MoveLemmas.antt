@@ -1,0 +1,148 @@
+-- A move is taken back by its inverse; what moves hold and take out, and how many lines there are after them.
+use Rattle.std.proofs.Common.{◌≡◌, ℕ, zero, suc, ◌+◌, ◌^◌, ◌<◌, ◌≤◌, false, List, [], ◌∷◌, ◌++◌, length, map, take, drop, Some, refl, ap, arith, suc-add, sym, ◌∙◌}
+use Rattle.std.specs.Prelude.{slice_get}
+use Rattle.std.proofs.lemmas.Grind.{common_steps}
+use Rattle.mk_lines.specs.PhysicalLines.{without_line_end}
+use Rattle.mk_tree.specs.PlacedLines.{PlacedLine, bytes_of_line, is_conditional_places, last_line, size_of, with_last_bytes}
+use Rattle.mk_patch.specs.Moves.{Move, PutIn, TakeOut, Exchange, SwapEnd, FitsMove, FitMoves, IsPlainAt, after_move, after_moves, exchanged, held_by, held_by_move, taken_by, taken_by_move}
+
+-- ---- one place of a list
+
+pub taken_out-put_in : {X : Type 0} (xs : List X) (at : ℕ) (x : X) → at ≤ length xs → take at (take at xs ++ x ∷ drop at xs) ++ drop (at + 1) (take at xs ++ x ∷ drop at xs) ≡ xs
+taken_out-put_in xs zero x h = refl
+taken_out-put_in [] (suc at) x h = absurd (omega arith)
+taken_out-put_in (y ∷ xs) (suc at) x h = rw (suc-add at 1) (ap (λ l. y ∷ l) (taken_out-put_in xs at x (omega arith)))
+
+pub put_in-taken_out : {X : Type 0} (xs : List X) (at : ℕ) (x : X) → Some x ≡ slice_get xs at → take at (take at xs ++ drop (at + 1) xs) ++ x ∷ drop at (take at xs ++ drop (at + 1) xs) ≡ xs
+put_in-taken_out [] at x h = absurd (cc)
+put_in-taken_out (y ∷ xs) zero x h = cc
+put_in-taken_out (y ∷ xs) (suc at) x h = rw (suc-add at 1) (ap (λ l. y ∷ l) (put_in-taken_out xs at x h))
+
+pub exchanged-back : {X : Type 0} (xs : List X) (at : ℕ) (x y : X) → Some x ≡ slice_get xs at → take at (take at xs ++ y ∷ drop (at + 1) xs) ++ x ∷ drop (at + 1) (take at xs ++ y ∷ drop (at + 1) xs) ≡ xs
+exchanged-back [] at x y h = absurd (cc)
+exchanged-back (z ∷ xs) zero x y h = cc
+exchanged-back (z ∷ xs) (suc at) x y h = rw (suc-add at 1) (ap (λ l. z ∷ l) (exchanged-back xs at x y h))
+
+pub get-put : {X : Type 0} (xs rest : List X) (at : ℕ) (x : X) → at ≤ length xs → slice_get (take at xs ++ x ∷ rest) at ≡ Some x
+get-put xs rest zero x h = refl
+get-put [] rest (suc at) x h = absurd (omega arith)
+get-put (y ∷ xs) rest (suc at) x h = get-put xs rest at x (omega arith)
+
+-- ---- how many bytes there are
+
+pub size_of-taken_out : (ls : List PlacedLine) (at : ℕ) (l : PlacedLine) → Some l ≡ slice_get ls at → size_of (take at ls ++ drop (at + 1) ls) + length l.bytes ≡ size_of ls
+size_of-taken_out [] at l h = absurd (cc)
+size_of-taken_out (y ∷ ls) zero l h = let e : l ≡ y = cc in rw e (omega arith)
+size_of-taken_out (y ∷ ls) (suc at) l h = rw (suc-add at 1) (omega (arith, size_of-taken_out ls at l h))
+
+pub size_of-put_in : (ls : List PlacedLine) (at : ℕ) (l : PlacedLine) → size_of (take at ls ++ l ∷ drop at ls) ≡ size_of ls + length l.bytes
+size_of-put_in ls zero l = omega arith
+size_of-put_in [] (suc at) l = omega arith
+size_of-put_in (y ∷ ls) (suc at) l = omega (arith, size_of-put_in ls at l)
+
+-- ---- the last line with other bytes
+
+pub last-with_bytes : (b : List ℕ) (ls : List PlacedLine) → 0 < length ls → bytes_of_line (last_line (with_last_bytes b ls)) ≡ b
+last-with_bytes b [] h = absurd (omega arith)
+last-with_bytes b (l ∷ []) h = refl
+last-with_bytes b (l ∷ k ∷ []) h = refl
+last-with_bytes b (l ∷ k ∷ m ∷ ls) h = last-with_bytes b (k ∷ m ∷ ls) (omega arith)
+
+pub swapped-back : (b : List ℕ) (ls : List PlacedLine) → with_last_bytes (bytes_of_line (last_line ls)) (with_last_bytes b ls) ≡ ls
+swapped-back b [] = refl
+swapped-back b (l ∷ []) = refl
+swapped-back b (l ∷ k ∷ []) = refl
+swapped-back b (l ∷ k ∷ m ∷ ls) = ap (λ z. l ∷ z) (swapped-back b (k ∷ m ∷ ls))
+
+pub length-with_last : (b : List ℕ) (ls : List PlacedLine) → length (with_last_bytes b ls) ≡ length ls
+length-with_last b [] = refl
+length-with_last b (l ∷ []) = refl
+length-with_last b (l ∷ k ∷ ls) = ap suc (length-with_last b (k ∷ ls))
+
+-- ---- a move and its inverse
+
+-- a move that fits the lines after another, and leads back to those before it
+pub record TakesBack (back : Move) (before after : List PlacedLine) : Type 0 where
+  pub fits : FitsMove back after
+  pub leads : after_move back after ≡ before
+
+plain_line : (ls : List PlacedLine) (at : ℕ) (l : PlacedLine) → Some l ≡ slice_get ls at → IsPlainAt at ls → is_conditional_places l.class ≡ false
+plain_line ls at l h p = rw (← h) at p
+
+pub put_in-taken_back : (before after : List PlacedLine) (at : ℕ) (l : PlacedLine) → FitsMove (PutIn at l) before → after ≡ after_move (PutIn at l) before → TakesBack (TakeOut at) before after
+put_in-taken_back before after at l f e =
+    rw e (record { fits = (grind (arith, common_steps), rw (get-put before (drop at before) at l f.0) f.1); leads = taken_out-put_in before at l f.0 })
+
+pub take_out-taken_back : (before after : List PlacedLine) (at : ℕ) (l : PlacedLine) → FitsMove (TakeOut at) before → after ≡ after_move (TakeOut at) before → Some l ≡ slice_get before at → size_of before ≤ 2 ^ 24
+    → TakesBack (PutIn at l) before after
+take_out-taken_back before after at l f e h few =
+    let z = size_of-taken_out before at l h in
+    rw e (record { fits = (grind (arith, common_steps), plain_line before at l h f.1, omega (arith, z, few)); leads = put_in-taken_out before at l h })
+
+pub exchange-taken_back : (before after : List PlacedLine) (at : ℕ) (old new : PlacedLine) → FitsMove (Exchange at new) before → after ≡ after_move (Exchange at new) before → Some old ≡ slice_get before at
+    → size_of before ≤ 2 ^ 24 → TakesBack (Exchange at old) before after
+exchange-taken_back before after at old new f e h few =
+    let r = exchanged-back before at old new h in
+    let within : at ≤ length before = omega (arith, f.0) in
+    rw e (record { fits = (grind (arith, common_steps), rw (get-put before (drop (at + 1) before) at new within) f.2, plain_line before at old h f.1, rw r few); leads = r })
+
+pub swap_end-taken_back : (before after : List PlacedLine) (old new : List ℕ) → FitsMove (SwapEnd new) before → after ≡ after_move (SwapEnd new) before → old ≡ bytes_of_line (last_line before) → 0 < length old
+    → size_of before ≤ 2 ^ 24 → TakesBack (SwapEnd old) before after
+swap_end-taken_back before after old new f e h some few =
+    let r = swapped-back new before in
+    let l = last-with_bytes new before f.0 in
+    rw e (rw h (record { fits = (omega (arith, length-with_last new before, f.0), rw h at some, rw l (sym f.2), rw r few); leads = r }))
+
+-- ---- moves one after the other
+
+pub after_moves-append : (ms ns : List Move) (ls : List PlacedLine) → after_moves (ms ++ ns) ls ≡ after_moves ns (after_moves ms ls)
+after_moves-append [] ns ls = refl
+after_moves-append (m ∷ ms) ns ls = after_moves-append ms ns (after_move m ls)
+
+pub fit-append : (ms ns : List Move) (ls : List PlacedLine) → FitMoves ms ls → FitMoves ns (after_moves ms ls) → FitMoves (ms ++ ns) ls
+fit-append [] ns ls f g = g
+fit-append (m ∷ ms) ns ls f g = (f.0, fit-append ms ns (after_move m ls) f.1 g)
+
+pub held_by-append : (ms ns : List Move) → held_by (ms ++ ns) ≡ held_by ms + held_by ns
+held_by-append [] ns = omega arith
+held_by-append (m ∷ ms) ns = omega (arith, held_by-append ms ns)
+
+pub taken_by-append : (ms ns : List Move) → taken_by (ms ++ ns) ≡ taken_by ms + taken_by ns
+taken_by-append [] ns = omega arith
+taken_by-append (m ∷ ms) ns = omega (arith, taken_by-append ms ns)
+
+-- each move holds at most one line, and takes out at most one
+held_by_move-few : (m : Move) → held_by_move m ≤ 1
+held_by_move-few (PutIn at l) = omega arith
+held_by_move-few (TakeOut at) = omega arith
+held_by_move-few (Exchange at l) = omega arith
+held_by_move-few (SwapEnd b) = omega arith
+
+taken_by_move-few : (m : Move) → taken_by_move m ≤ 1
+taken_by_move-few (PutIn at l) = omega arith
+taken_by_move-few (TakeOut at) = omega arith
+taken_by_move-few (Exchange at l) = omega arith
+taken_by_move-few (SwapEnd b) = omega arith
+
+pub held_by-few : (ms : List Move) → held_by ms ≤ length ms
+held_by-few [] = omega arith
+held_by-few (m ∷ ms) = omega (arith, held_by_move-few m, held_by-few ms)
+
+pub taken_by-few : (ms : List Move) → taken_by ms ≤ length ms
+taken_by-few [] = omega arith
+taken_by-few (m ∷ ms) = omega (arith, taken_by_move-few m, taken_by-few ms)
+
+-- ---- how many lines there are after moves
+
+number-after : (m : Move) (ls : List PlacedLine) → FitsMove m ls → length (after_move m ls) + taken_by_move m ≡ length ls + held_by_move m
+number-after (PutIn at l) ls f = grind (arith, common_steps)
+number-after (TakeOut at) ls f = grind (arith, common_steps)
+number-after (Exchange at l) ls f = grind (arith, common_steps)
+number-after (SwapEnd b) ls f = omega (arith, length-with_last b ls)
+
+pub number-after_moves : (ms : List Move) (ls : List PlacedLine) → FitMoves ms ls → length (after_moves ms ls) + taken_by ms ≡ length ls + held_by ms
+number-after_moves [] ls f = refl
+number-after_moves (m ∷ ms) ls f = omega (arith, number-after m ls f.0, number-after_moves ms (after_move m ls) f.1)
+
+-- what a builder cites of the moves that it gathers
+pub ruleset few = (held_by-few, taken_by-few, held_by-append, taken_by-append)

@@ -1,0 +1,86 @@
+-- Lines that are moved: what each move does to the lines of a document, and which lines it fits.
+use Rattle.std.specs.Prelude.{◌≡◌, ℕ, ◌+◌, ◌^◌, ◌<◌, ◌≤◌, false, List, [], ◌∷◌, ◌++◌, length, take, drop, slice_get, IfSome}
+use Rattle.mk_lines.specs.PhysicalLines.{without_line_end}
+use Rattle.mk_tree.specs.PlacedLines.{PlacedLine, bytes_of_line, is_conditional_places, last_line, size_of, with_last_bytes}
+
+-- ---- one move
+
+-- a move of one line, or of the end of the last
+pub data Move : Type 0 where
+  -- a line is put before the one at a place, or at the end
+  PutIn : (at : ℕ) → (line : PlacedLine) → Move
+  -- the line at a place is taken out
+  TakeOut : (at : ℕ) → Move
+  -- a line is put in the place of another
+  Exchange : (at : ℕ) → (line : PlacedLine) → Move
+  -- other bytes are put in the place of the last line's, whose class stays
+  SwapEnd : (bytes : List ℕ) → Move
+
+-- lines with another in the place of one of them
+abbrev pub exchanged : (at : ℕ) → PlacedLine → List PlacedLine → List PlacedLine
+exchanged at l ls = take at ls ++ l ∷ drop (at + 1) ls
+
+-- the lines after a move
+abbrev pub after_move : Move → List PlacedLine → List PlacedLine
+after_move (PutIn at l) ls = take at ls ++ l ∷ drop at ls
+after_move (TakeOut at) ls = take at ls ++ drop (at + 1) ls
+after_move (Exchange at l) ls = exchanged at l ls
+after_move (SwapEnd bytes) ls = with_last_bytes bytes ls
+
+-- a line is of no conditional
+abbrev pub IsPlain : PlacedLine → Type 0
+IsPlain l = is_conditional_places l.class ≡ false
+
+-- the line at a place is of none
+abbrev pub IsPlainAt : (at : ℕ) → List PlacedLine → Type 0
+IsPlainAt at ls = IfSome (slice_get ls at) IsPlain
+
+-- The lines that a move fits: its place is one of theirs, no line of a conditional goes in or comes out, and the lines after it
+-- have at most 16,777,216 bytes. The new bytes of a last line are some, and equal its own but for the line end.
+abbrev pub FitsMove : Move → List PlacedLine → Type 0
+FitsMove (PutIn at l) ls = (at ≤ length ls) × IsPlain l × (size_of ls + length l.bytes ≤ 2 ^ 24)
+FitsMove (TakeOut at) ls = (at < length ls) × IsPlainAt at ls
+FitsMove (Exchange at l) ls = (at < length ls) × IsPlainAt at ls × IsPlain l × (size_of (exchanged at l ls) ≤ 2 ^ 24)
+FitsMove (SwapEnd bytes) ls =
+    (0 < length ls) × (0 < length bytes) × (without_line_end bytes ≡ without_line_end (bytes_of_line (last_line ls))) × (size_of (with_last_bytes bytes ls) ≤ 2 ^ 24)
+
+-- how many lines a move holds: one that goes in, or the last line's new bytes
+abbrev pub held_by_move : Move → ℕ
+held_by_move (PutIn at l) = 1
+held_by_move (TakeOut at) = 0
+held_by_move (Exchange at l) = 1
+held_by_move (SwapEnd bytes) = 1
+
+-- how many it takes out: one, or the last line's old bytes
+abbrev pub taken_by_move : Move → ℕ
+taken_by_move (PutIn at l) = 0
+taken_by_move (TakeOut at) = 1
+taken_by_move (Exchange at l) = 1
+taken_by_move (SwapEnd bytes) = 1
+
+-- ---- several, the first of which is made first
+
+-- the lines after moves
+abbrev pub after_moves : List Move → List PlacedLine → List PlacedLine
+after_moves [] ls = ls
+after_moves (m ∷ ms) ls = after_moves ms (after_move m ls)
+
+-- each move fits the lines to which those before it lead
+abbrev pub FitMoves : List Move → List PlacedLine → Type 0
+FitMoves [] ls = Unit {0}
+FitMoves (m ∷ ms) ls = FitsMove m ls × FitMoves ms (after_move m ls)
+
+-- how many lines they hold
+abbrev pub held_by : List Move → ℕ
+held_by [] = 0
+held_by (m ∷ ms) = held_by_move m + held_by ms
+
+-- how many they take out
+abbrev pub taken_by : List Move → ℕ
+taken_by [] = 0
+taken_by (m ∷ ms) = taken_by_move m + taken_by ms
+
+-- moves, and how many there may be
+pub record MovesWithRoom : Type 0 where
+  pub moves : List Move
+  pub room : ℕ

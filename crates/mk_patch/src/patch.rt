@@ -1,0 +1,110 @@
+//! Several lines that are moved, as one change.
+ghost use Rattle.std.specs.Prelude.{◌≡◌, ◌≤◌, ◌+◌, [], length};
+ghost use Rattle.mk_patch.specs.Moves.{FitMoves, after_moves, held_by, taken_by};
+ghost use Rattle.mk_patch.specs.Steps.{moves_of};
+
+use crate::step::Step;
+use circular_buffer::HeapCircularBuffer;
+use mk_tree::Doc;
+use std::alloc::{Allocator, Global};
+use std::marker::Model;
+
+/// Steps to be made one after the other. Contracts see the list of their moves, the first to be made
+/// in front.
+///
+/// A patch holds the lines that go in and has room for those that come out. So making it moves lines,
+/// reads none, takes no memory and is never refused. [`PatchBuilder`](crate::PatchBuilder) gathers
+/// its steps.
+#[derive(Drop)]
+pub struct Patch<A: Allocator = Global> {
+    // The first to be made is in front.
+    pub(crate) waiting: HeapCircularBuffer<Step<A>, A>,
+    // Room for what takes the steps back. Empty, but while they are made.
+    pub(crate) inverses: HeapCircularBuffer<Step<A>, A>,
+    pub(crate) held: usize,
+    pub(crate) takes: usize,
+}
+
+impl<A: Allocator> Model for Patch<A> {
+    ghost use Rattle.std.specs.Prelude.{◌≡◌, ◌≤◌, List, [], length};
+    ghost use Rattle.mk_patch.specs.Moves.{Move, held_by, taken_by};
+    ghost use Rattle.mk_patch.specs.Steps.{moves_of};
+
+    ghost Value = { List Move };
+
+    ghost view = { λ p. moves_of p.waiting.items };
+
+    ghost invariant = { λ p.
+        (p.inverses.items ≡ [])
+        × (length p.waiting.items ≤ p.waiting.capacity)
+        × (length p.waiting.items ≤ p.inverses.capacity)
+        × (p.held ≡ held_by (moves_of p.waiting.items))
+        × (p.takes ≡ taken_by (moves_of p.waiting.items)) };
+}
+
+// Makes each step that waits, and keeps what takes it back, the last in front.
+fn make_all<A: Allocator>(
+    waiting: &mut HeapCircularBuffer<Step<A>, A>,
+    inverses: &mut HeapCircularBuffer<Step<A>, A>,
+    doc: &mut Doc<A>,
+)
+    requires fit { FitMoves (moves_of waiting.old.items) doc.old }
+    requires empty { inverses.old.items ≡ [] }
+    requires room { length waiting.old.items ≤ inverses.old.capacity }
+    ensures waiting { waiting.new.items ≡ [] }
+    ensures count { length inverses.new.items ≡ length waiting.old.items }
+    ensures waiting_room { waiting.new.capacity ≡ waiting.old.capacity }
+    ensures inverses_room { inverses.new.capacity ≡ inverses.old.capacity }
+    ensures after { doc.new ≡ after_moves (moves_of waiting.old.items) doc.old }
+    ensures fits_back { FitMoves (moves_of inverses.new.items) doc.new }
+    ensures leads_back { after_moves (moves_of inverses.new.items) doc.new ≡ doc.old }
+    ensures held { held_by (moves_of inverses.new.items) ≡ taken_by (moves_of waiting.old.items) }
+    ensures takes { taken_by (moves_of inverses.new.items) ≡ held_by (moves_of waiting.old.items) }
+{
+    while let Some(step) = waiting.pop_front() {
+        inverses.push_front(step.make(doc));
+    }
+}
+
+impl<A: Allocator> Patch<A> {
+    /// How many lines it holds: those that it puts in, and the new bytes of a last line. Takes no
+    /// memory.
+    pub fn held(&self) -> usize
+        ensures { result ≡ held_by self.now }
+    {
+        self.held
+    }
+
+    /// How many lines come out when it is made, the old bytes of a last line counted as one. Takes no
+    /// memory.
+    pub fn takes(&self) -> usize
+        ensures { result ≡ taken_by self.now }
+    {
+        self.takes
+    }
+
+    /// Makes the patch, and gives the one that takes it back. Takes no memory and is never refused.
+    pub fn make(self, doc: &mut Doc<A>) -> Patch<A>
+        requires { FitMoves self doc.old }
+        ensures after { doc.new ≡ after_moves self doc.old }
+        ensures fits_back { FitMoves result doc.new }
+        ensures leads_back { after_moves result doc.new ≡ doc.old }
+        ensures held { held_by result ≡ taken_by self }
+        ensures takes { taken_by result ≡ held_by self }
+        ensures number { length doc.new + taken_by self ≡ length doc.old + held_by self }
+    {
+        let Patch {
+            mut waiting,
+            mut inverses,
+            held,
+            takes,
+        } = self;
+        make_all(&mut waiting, &mut inverses, doc);
+        Patch {
+            waiting: inverses,
+            inverses: waiting,
+            held: takes,
+            takes: held,
+        }
+    }
+}

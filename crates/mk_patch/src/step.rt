@@ -1,0 +1,79 @@
+//! One line that is moved.
+ghost use Rattle.std.specs.Prelude.{◌≡◌};
+ghost use Rattle.mk_patch.specs.Moves.{FitsMove, after_move, held_by_move, taken_by_move};
+ghost use Rattle.mk_patch.specs.Steps.{move_of};
+
+use mk_tree::{Doc, Line, LineBytes};
+use std::alloc::{Allocator, Global};
+
+/// One line that is moved, or the end of the last one. Contracts see it as a move (`move_of`).
+///
+/// Places are those in the document when the step is made, the first line being at 0. A step that is
+/// made becomes the one that takes it back: the line goes from one into the other, so no memory is
+/// taken.
+#[derive(Drop)]
+pub enum Step<A: Allocator = Global> {
+    /// Puts a line before the one at a place, or at the end.
+    PutIn(usize, Line<A>),
+    /// Takes the line at a place out.
+    TakeOut(usize),
+    /// Puts a line in the place of another.
+    Exchange(usize, Line<A>),
+    /// Puts other bytes, of the same text but for the line end, in the place of the last line's.
+    SwapEnd(LineBytes<A>),
+}
+
+impl<A: Allocator> Step<A> {
+    /// How many lines it holds: 1 for one that goes in, and for the last line's new bytes. Takes no
+    /// memory.
+    pub fn holds(&self) -> usize
+        ensures { result ≡ held_by_move (move_of self.now) }
+    {
+        match self {
+            Step::TakeOut(_) => 0,
+            _ => 1,
+        }
+    }
+
+    /// How many lines come out when it is made: 1 for one that goes, and for the last line's old
+    /// bytes. Takes no memory.
+    pub fn takes(&self) -> usize
+        ensures { result ≡ taken_by_move (move_of self.now) }
+    {
+        match self {
+            Step::PutIn(..) => 0,
+            _ => 1,
+        }
+    }
+
+    /// Makes the step, and gives the one that takes it back. Takes no memory and is never refused.
+    pub fn make(self, doc: &mut Doc<A>) -> Step<A>
+        requires { FitsMove (move_of self) doc.old }
+        ensures after { doc.new ≡ after_move (move_of self) doc.old }
+        ensures fits_back { FitsMove (move_of result) doc.new }
+        ensures leads_back { after_move (move_of result) doc.new ≡ doc.old }
+        ensures held { held_by_move (move_of result) ≡ taken_by_move (move_of self) }
+        ensures takes { taken_by_move (move_of result) ≡ held_by_move (move_of self) }
+    {
+        // The contract of `size` says that a document is within the limit, as the inverse asks.
+        let _size = doc.size();
+        match self {
+            Step::PutIn(at, line) => {
+                let _ = doc.insert(at, line);
+                Step::TakeOut(at)
+            }
+            Step::TakeOut(at) => {
+                let out = doc.remove(at);
+                Step::PutIn(at, out)
+            }
+            Step::Exchange(at, line) => {
+                let old = doc.replace(at, line);
+                Step::Exchange(at, old)
+            }
+            Step::SwapEnd(bytes) => {
+                let old = doc.swap_end(bytes);
+                Step::SwapEnd(old)
+            }
+        }
+    }
+}
