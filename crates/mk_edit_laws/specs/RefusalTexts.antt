@@ -3,7 +3,9 @@ use Rattle.std.specs.Prelude.{ℕ, List, codes}
 use Rattle.mk_edit_laws.specs.declared.refusal.Field.{Field}
 use Rattle.mk_edit_laws.specs.declared.refusal.Field.TheVariants as field
 use Rattle.mk_edit_laws.specs.declared.refusal.Refusal.{Refusal}
-use Rattle.mk_edit_laws.specs.declared.refusal.Refusal.TheVariants.{BadArgument, Reserved, RecipePrefix, NoSuch, Ambiguous, Absent, Already, Taken, SharedRule, Straddles, OpenValue, OpenLine, OpenDefine, Leans, TooLong}
+use Rattle.mk_edit_laws.specs.declared.refusal.Refusal.TheVariants.{BadArgument, Reserved, RecipePrefix, NoSuch, Ambiguous, Absent, Already, Taken, SharedRule, Straddles, OpenValue, OpenLine, OpenDefine, Leans, TooLong, NothingToUndo, NothingToRedo, GroupOpen, NoGroup, NoMemory}
+use Rattle.mk_edit_laws.specs.declared.refusal.Detail.{Detail}
+use Rattle.mk_edit_laws.specs.declared.refusal.Detail.TheVariants as detail
 
 -- the number of a refusal
 abbrev pub number_of : Refusal → ℕ
@@ -22,6 +24,11 @@ number_of OpenLine = 12
 number_of OpenDefine = 13
 number_of Leans = 14
 number_of TooLong = 15
+number_of NothingToUndo = 16
+number_of NothingToRedo = 17
+number_of GroupOpen = 18
+number_of NoGroup = 19
+number_of NoMemory = 20
 
 -- its name
 abbrev pub name_of : Refusal → List ℕ
@@ -40,6 +47,18 @@ name_of OpenLine = codes "OpenLine"
 name_of OpenDefine = codes "OpenDefine"
 name_of Leans = codes "Leans"
 name_of TooLong = codes "TooLong"
+name_of NothingToUndo = codes "NothingToUndo"
+name_of NothingToRedo = codes "NothingToRedo"
+name_of GroupOpen = codes "GroupOpen"
+name_of NoGroup = codes "NoGroup"
+name_of NoMemory = codes "NoMemory"
+
+-- the count or the field that it has, or nothing
+abbrev pub detail_of : Refusal → Detail
+detail_of (BadArgument f) = detail.Field f
+detail_of (Ambiguous n) = detail.Count n
+detail_of (SharedRule n) = detail.Count n
+detail_of r = detail.Nothing
 
 -- the name of a field
 abbrev pub field_name : Field → List ℕ

@@ -2,7 +2,7 @@
 //! reading, and why it may be refused.
 //!
 //! - [`edit`]: the words of edits.
-//! - [`refusal`]: why an edit is refused.
+//! - [`refusal`]: why an edit, or another call on an edited document, is refused.
 //! - [`laws`]: theorems on the definitions of edits.
 #![tactic(auto)]
 
@@ -11,4 +11,4 @@ pub mod laws;
 pub mod refusal;
 
 pub use edit::Colons;
-pub use refusal::{Field, Refusal};
+pub use refusal::{Detail, Field, Refusal};

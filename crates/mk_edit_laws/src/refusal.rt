@@ -1,4 +1,8 @@
-//! Why an edit is refused.
+//! Why an edit, or another call on an edited document, is refused.
+ghost use Rattle.std.specs.Prelude.{◌≡◌};
+ghost use Rattle.mk_edit_laws.specs.RefusalTexts.{detail_of, field_name, name_of, number_of};
+
+use thiserror::Error;
 
 /// A field of an edit, by the name that a report gives it.
 #[derive(Clone, Copy, Debug, PartialEq, Eq)]
@@ -25,12 +29,37 @@ pub enum Field {
     New,
 }
 
-/// Why an edit is refused. Nothing has changed then.
+impl Field {
+    /// The name that a report gives the field. Takes no memory.
+    pub fn name(&self) -> &'static str
+        ensures { result.now ≡ field_name self.now }
+    {
+        match self {
+            Field::Place => "place",
+            Field::Name => "name",
+            Field::Value => "value",
+            Field::Targets => "targets",
+            Field::Prereqs => "prereqs",
+            Field::Target => "target",
+            Field::Word => "word",
+            Field::Line => "line",
+            Field::Old => "old",
+            Field::New => "new",
+        }
+    }
+}
+
+/// Why a call was refused: an edit, a step back or forth, or the begin or end of a group. Nothing has
+/// changed then.
 ///
-/// The causes are tested in the order of their numbers, but that a line written would begin with
-/// the recipe prefix is tested after `Ambiguous`, since it needs the line's place. The first that
-/// holds is answered. The numbers and names are this project's profile.
-#[derive(Clone, Copy, Debug, PartialEq, Eq)]
+/// The causes of an edit are the first fifteen. They are tested in the order of their numbers, but
+/// that a line written would begin with the recipe prefix is tested after `Ambiguous`, since it needs
+/// the line's place. The first that holds is answered. Memory is asked for after all of them, so
+/// `NoMemory` hides none.
+///
+/// It is shown by its name. The numbers and names are this project's profile.
+#[derive(Clone, Copy, Debug, PartialEq, Eq, Error)]
+#[error("{}", self.name())]
 pub enum Refusal {
     /// A field of the edit is none that it may have: the first such field.
     BadArgument(Field),
@@ -64,4 +93,94 @@ pub enum Refusal {
     Leans,
     /// The text would have more than 16,777,216 bytes.
     TooLong,
+    /// There is no edit left to undo, or none within the depth.
+    NothingToUndo,
+    /// There is no edit left to redo.
+    NothingToRedo,
+    /// A group is open.
+    GroupOpen,
+    /// No group is open.
+    NoGroup,
+    /// A growth was refused: the allocator had no memory for it.
+    NoMemory,
+}
+
+/// What a refusal says beyond its name.
+#[derive(Clone, Copy, Debug, PartialEq, Eq)]
+pub enum Detail {
+    /// How many there are.
+    Count(u64),
+    /// Which field of the edit it is.
+    Field(Field),
+    /// No more.
+    Nothing,
+}
+
+impl Refusal {
+    /// Its number, from 1 to 20. Takes no memory.
+    pub fn number(&self) -> u8
+        ensures { result ≡ number_of self.now }
+    {
+        match self {
+            Refusal::BadArgument(_) => 1,
+            Refusal::Reserved => 2,
+            Refusal::RecipePrefix => 3,
+            Refusal::NoSuch => 4,
+            Refusal::Ambiguous(_) => 5,
+            Refusal::Absent => 6,
+            Refusal::Already => 7,
+            Refusal::Taken => 8,
+            Refusal::SharedRule(_) => 9,
+            Refusal::Straddles => 10,
+            Refusal::OpenValue => 11,
+            Refusal::OpenLine => 12,
+            Refusal::OpenDefine => 13,
+            Refusal::Leans => 14,
+            Refusal::TooLong => 15,
+            Refusal::NothingToUndo => 16,
+            Refusal::NothingToRedo => 17,
+            Refusal::GroupOpen => 18,
+            Refusal::NoGroup => 19,
+            Refusal::NoMemory => 20,
+        }
+    }
+
+    /// Its name. Takes no memory.
+    pub fn name(&self) -> &'static str
+        ensures { result.now ≡ name_of self.now }
+    {
+        match self {
+            Refusal::BadArgument(_) => "BadArgument",
+            Refusal::Reserved => "Reserved",
+            Refusal::RecipePrefix => "RecipePrefix",
+            Refusal::NoSuch => "NoSuch",
+            Refusal::Ambiguous(_) => "Ambiguous",
+            Refusal::Absent => "Absent",
+            Refusal::Already => "Already",
+            Refusal::Taken => "Taken",
+            Refusal::SharedRule(_) => "SharedRule",
+            Refusal::Straddles => "Straddles",
+            Refusal::OpenValue => "OpenValue",
+            Refusal::OpenLine => "OpenLine",
+            Refusal::OpenDefine => "OpenDefine",
+            Refusal::Leans => "Leans",
+            Refusal::TooLong => "TooLong",
+            Refusal::NothingToUndo => "NothingToUndo",
+            Refusal::NothingToRedo => "NothingToRedo",
+            Refusal::GroupOpen => "GroupOpen",
+            Refusal::NoGroup => "NoGroup",
+            Refusal::NoMemory => "NoMemory",
+        }
+    }
+
+    /// The count or the field that it has, or nothing. Takes no memory.
+    pub fn detail(&self) -> Detail
+        ensures { result ≡ detail_of self.now }
+    {
+        match self {
+            Refusal::BadArgument(field) => Detail::Field(*field),
+            Refusal::Ambiguous(count) | Refusal::SharedRule(count) => Detail::Count(*count),
+            _ => Detail::Nothing,
+        }
+    }
 }

@@ -1,0 +1,156 @@
+//! The twelve edits, and the places of new lines.
+//!
+//! An edit owns its texts. Contracts see it as `edit_of` says, a value of the definitions.
+//!
+//! `nth` is the number of a line among those of its name or target, counted from 1 in the order of
+//! the file; an edit without it means the only one. `number` is that of a recipe line of its rule,
+//! from 1.
+
+use mk_class::Flavor;
+use mk_edit_laws::Colons;
+use std::alloc::{Allocator, Global};
+
+/// Where a new line goes.
+#[derive(Drop)]
+pub enum Place<A: Allocator = Global> {
+    /// The end of the file.
+    Bottom,
+    /// Before the line of an assignment.
+    BeforeVar {
+        /// Which of the assignments of this name.
+        nth: Option<u32>,
+        /// The name of the variable.
+        name: Vec<u8, A>,
+    },
+    /// After the line of an assignment.
+    AfterVar {
+        /// Which of the assignments of this name.
+        nth: Option<u32>,
+        /// The name of the variable.
+        name: Vec<u8, A>,
+    },
+    /// Before the line of a rule.
+    BeforeRule {
+        /// Which of the rules for this target.
+        nth: Option<u32>,
+        /// One of the rule's targets.
+        target: Vec<u8, A>,
+    },
+}
+
+/// An edit of a makefile.
+#[derive(Drop)]
+pub enum Edit<A: Allocator = Global> {
+    /// Gives a variable another value. The blanks and the comment after the value stay; an empty value
+    /// takes the blanks after the old one with it.
+    SetValue {
+        /// Which of the assignments of this name.
+        nth: Option<u32>,
+        /// The name of the variable.
+        name: Vec<u8, A>,
+        /// The new value, which may be empty.
+        value: Vec<u8, A>,
+    },
+    /// Puts a text after a variable's value, with a space between them where the value is not empty.
+    AppendValue {
+        /// Which of the assignments of this name.
+        nth: Option<u32>,
+        /// The name of the variable.
+        name: Vec<u8, A>,
+        /// The text, which is not empty.
+        value: Vec<u8, A>,
+    },
+    /// Puts in the line of an assignment.
+    AddAssign {
+        /// Where the line goes.
+        place: Place<A>,
+        /// The name of the variable.
+        name: Vec<u8, A>,
+        /// What the operator says.
+        flavor: Flavor,
+        /// The value, which may be empty.
+        value: Vec<u8, A>,
+    },
+    /// Takes out the line of an assignment.
+    RemoveAssign {
+        /// Which of the assignments of this name.
+        nth: Option<u32>,
+        /// The name of the variable.
+        name: Vec<u8, A>,
+    },
+    /// Puts in the line of a rule.
+    AddRule {
+        /// Where the line goes.
+        place: Place<A>,
+        /// The targets, one word or several with blanks between them.
+        targets: Vec<u8, A>,
+        /// The separator.
+        colons: Colons,
+        /// The prerequisites, words with blanks between them, or none.
+        prereqs: Vec<u8, A>,
+    },
+    /// Takes out the line of a rule and its recipe.
+    RemoveRule {
+        /// Which of the rules for this target.
+        nth: Option<u32>,
+        /// The rule's target.
+        target: Vec<u8, A>,
+    },
+    /// Puts a word after the prerequisites of a rule.
+    AddPrereq {
+        /// Whether it goes to the order-only prerequisites, which stand after a `|`.
+        order: bool,
+        /// Which of the rules for this target.
+        nth: Option<u32>,
+        /// One of the rule's targets.
+        target: Vec<u8, A>,
+        /// The new prerequisite.
+        word: Vec<u8, A>,
+    },
+    /// Takes a word out of the prerequisites of a rule, wherever it stands among them.
+    RemovePrereq {
+        /// Which of the rules for this target.
+        nth: Option<u32>,
+        /// One of the rule's targets.
+        target: Vec<u8, A>,
+        /// The prerequisite.
+        word: Vec<u8, A>,
+    },
+    /// Puts a line after the recipe of a rule.
+    AddRecipe {
+        /// Which of the rules for this target.
+        nth: Option<u32>,
+        /// One of the rule's targets.
+        target: Vec<u8, A>,
+        /// The command of the recipe line, without the recipe prefix.
+        line: Vec<u8, A>,
+    },
+    /// Gives a recipe line another command.
+    SetRecipe {
+        /// Which of the rules for this target.
+        nth: Option<u32>,
+        /// One of the rule's targets.
+        target: Vec<u8, A>,
+        /// Which of the rule's recipe lines.
+        number: u32,
+        /// The new command, without the recipe prefix.
+        line: Vec<u8, A>,
+    },
+    /// Takes out a recipe line.
+    RemoveRecipe {
+        /// Which of the rules for this target.
+        nth: Option<u32>,
+        /// One of the rule's targets.
+        target: Vec<u8, A>,
+        /// Which of the rule's recipe lines.
+        number: u32,
+    },
+    /// Gives a target another name, wherever it stands as a target or as a prerequisite. A report
+    /// calls the fields `old` and `new`.
+    RenameTarget {
+        /// The name that it has.
+        from: Vec<u8, A>,
+        /// The name that it gets.
+        to: Vec<u8, A>,
+    },
+}

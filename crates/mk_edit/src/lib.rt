@@ -1,0 +1,21 @@
+//! Edits of makefiles: what an edit is, whether it may be done, and which line it means.
+//!
+//! What an edit does is defined in `mk_edit_laws`, whose laws say what follows from it. The calls here
+//! answer what these definitions say.
+//!
+//! - [`edit`]: the twelve edits, and the places of new lines.
+//!
+//! The other modules are the crate's own:
+//!
+//! - `argument`: the causes of refusal that the fields of an edit decide.
+//! - `address`: the line that an edit means, as it says it.
+//! - `text`: texts compared.
+#![tactic(auto)]
+
+mod address;
+mod argument;
+pub mod edit;
+mod text;
+
+pub use edit::{Edit, Place};
+pub use mk_edit_laws::{Colons, Detail, Field, Refusal};
