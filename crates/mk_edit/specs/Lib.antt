@@ -1,1 +1,3 @@
 pub mod EditViews
+pub mod Planned
+pub mod PlannedMoves

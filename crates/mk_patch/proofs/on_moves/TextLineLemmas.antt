@@ -9,7 +9,7 @@ use Rattle.mk_class.specs.ClassPlaces.{class_places}
 use Rattle.mk_class.specs.ClassedLines.{ClassedLine}
 use Rattle.mk_tree.specs.PlacedLines.{PlacedLine, placed_line, placed_lines, placed_text, size_of, is_conditional_places}
 use Rattle.mk_tree.specs.LineTexts.{text_of}
-use Rattle.mk_tree.proofs.on_documents.ConditionalLemmas.{AreUnconditional}
+use Rattle.mk_tree.specs.Documents.{AreUnconditional}
 use Rattle.mk_patch.specs.Moves.{Move, PutIn, TakeOut, Exchange, SwapEnd, IsPlain}
 use Rattle.mk_patch.proofs.on_moves.ShapeLemmas.{LeadTo, same-lead, ArePlain, put_in-leads, exchange-leads, ended-put_in-leads, run-leads}
 
