@@ -10,11 +10,15 @@
 //! - `argument`: the causes of refusal that the fields of an edit decide.
 //! - `address`: the line that an edit means, as it says it.
 //! - `text`: texts compared.
+//! - `line_end`: the line ends of new lines.
+//! - `moves`: the patches of edits whose causes are decided.
 #![tactic(auto)]
 
 mod address;
 mod argument;
 pub mod edit;
+mod line_end;
+mod moves;
 mod text;
 
 pub use edit::{Edit, Place};
