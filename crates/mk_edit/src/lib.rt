@@ -17,8 +17,12 @@
 mod address;
 mod argument;
 pub mod edit;
+mod find;
 mod line_end;
+mod line_test;
 mod moves;
+mod part;
+mod seek;
 mod text;
 
 pub use edit::{Edit, Place};
