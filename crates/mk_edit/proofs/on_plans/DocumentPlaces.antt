@@ -6,13 +6,14 @@ use Rattle.mk_lines.specs.LogicalLines.{has_no_line_end}
 use Rattle.mk_lines.specs.PhysicalLines.{line_end, line_end_bytes, file_line_end}
 use Rattle.mk_lines.proofs.on_lines.FileEndLemmas.{file_line_end-first}
 use Rattle.mk_class.specs.Contexts.{Context, start, context_after}
-use Rattle.mk_class.specs.ClassedLines.{ClassedLine, classed, context_after_lines}
+use Rattle.mk_class.specs.ClassedLines.{ClassedLine, classed, classed_lines, context_after_lines}
 use Rattle.mk_tree.specs.Documents.{IsFaithful}
 use Rattle.mk_tree.specs.PlacedLines.{PlacedLine, placed_lines, placed_text}
 use Rattle.mk_tree.specs.PlacedLines.{size_of, last_line, bytes_of_line}
 use Rattle.mk_tree.proofs.AdmissionLemmas.{defines_after-few}
 use Rattle.mk_tree.proofs.Ends.{last-place}
-use Rattle.mk_edit.specs.PlannedMoves.{is_unended, last_bytes_ended, CanInsert}
+use Rattle.mk_edit.specs.PlannedMoves.{is_unended, last_bytes_ended, CanInsert, IsPlaceOf}
+use Rattle.mk_edit.specs.declared.seek.Found.{Found}
 
 -- ---- open defines
 
@@ -27,8 +28,10 @@ take-few (suc n) [] = omega arith
 take-few (suc n) (x ∷ xs) = omega (arith, take-few n xs)
 
 -- so there are few at a place that is low
-pub defines-at : (ls : List ClassedLine) (at : ℕ) → at < 2 ^ 24 → (context_after_lines start (take at ls)).defines < 2 ^ 24
-defines-at ls at low = omega (arith, defines-few start (take at ls), take-few at ls)
+pub place-defines : (ls : List PlacedLine) (place : Found) → IsPlaceOf ls place → place.at < 2 ^ 24 → place.context.defines < 2 ^ 24
+place-defines ls place p low =
+    let above = take place.at (classed_lines (placed_text ls)) in
+    subst (λ (c : Context). c.defines < 2 ^ 24) p (omega (arith, defines-few start above, take-few place.at (classed_lines (placed_text ls))))
 
 -- a line has some bytes
 some-line : (m : List ℕ) → logical_lines m ≡ m ∷ [] → 0 < length m
