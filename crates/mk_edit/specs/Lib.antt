@@ -3,6 +3,7 @@ pub mod EditViews
 pub mod PlacedParts
 pub mod Seeking
 pub mod Found
--- What planning answers
+-- What planning answers, and the moves of an edit
 pub mod LineRanges
 pub mod Planned
+pub mod PlannedMoves

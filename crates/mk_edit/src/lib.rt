@@ -10,6 +10,8 @@
 //! - `text`: texts compared, and the words of a text.
 //! - `argument`: the causes of refusal that the fields of an edit decide.
 //! - `address`: the line that an edit means, as it says it.
+//! - `line_end`: the line ends of new lines.
+//! - `moves`: the patches of edits whose causes are decided.
 //! - `part`: parts of a line by their places.
 //! - `line_test`: which variable a line assigns, and which targets it has.
 //! - `seek`: the line that an address means, found by one walk.
@@ -24,7 +26,9 @@ mod argument;
 pub mod edit;
 mod find;
 mod lean;
+mod line_end;
 mod line_test;
+mod moves;
 mod part;
 mod range;
 mod seek;

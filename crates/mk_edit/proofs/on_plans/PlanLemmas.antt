@@ -1,0 +1,114 @@
+-- What the planning of every edit owes, where its moves lead from the lines before it to those after it.
+use Rattle.std.proofs.Common.{◌≡◌, refl, sym, ap, ◌∙◌, subst, arith, ℕ, ◌+◌, ◌^◌, ◌<◌, ◌≤◌, List, [], ◌∷◌, ◌++◌, length, take, Option, Some, None, option_map}
+use Rattle.std.specs.Prelude.{Ok}
+use Rattle.std.proofs.lemmas.List.{length-map}
+use Rattle.std.proofs.Math.Seq.{take-append_seam}
+use Rattle.mk_lines.specs.Pieces.{Replacement}
+use Rattle.mk_class.specs.ClassedLines.{ClassedLine, classed_lines}
+use Rattle.mk_tree.specs.Documents.{IsFaithful, document_lines, context_of}
+use Rattle.mk_tree.specs.LineTexts.{line_in}
+use Rattle.mk_tree.specs.PlacedLines.{PlacedLine, placed_line, placed_lines, placed_text, size_of}
+use Rattle.mk_tree.proofs.on_documents.DocumentLemmas.{faithful-own}
+use Rattle.mk_edit_laws.specs.Edits.{Edit, SetValue, AppendValue, AddAssign, RemoveAssign, AddRule, RemoveRule, AddPrereq, RemovePrereq, AddRecipe, SetRecipe, RemoveRecipe, RenameTarget}
+use Rattle.mk_edit_laws.specs.Stretches.{Stretch, between, insertion, touched_by}
+use Rattle.mk_edit_laws.specs.Costs.{cost, size}
+use Rattle.mk_edit_laws.specs.EditedLines.{edited_bytes, new_line_bytes}
+use Rattle.mk_edit_laws.specs.Refusals.{spans, text_after}
+use Rattle.mk_edit_laws.proofs.on_edits.EditLemmas.{edits-read}
+use Rattle.mk_edit_laws.proofs.on_edits.LengthLemmas.{size-fits}
+use Rattle.mk_patch.specs.Moves.{Move, held_by, taken_by}
+use Rattle.mk_patch.proofs.on_moves.ShapeLemmas.{LeadTo, same-lead}
+use Rattle.mk_edit.specs.Planned.{IsPlanned}
+use Rattle.mk_edit.specs.PlannedMoves.{line_read_at}
+
+-- moves that lead from the lines of the text to those after the edit are what is planned
+pub lead-planned : (e : Edit) (ls : List PlacedLine) (rs : List Replacement) (patch : List Move) (before after : List ClassedLine) → IsFaithful ls → spans (placed_text ls) e ≡ Ok rs
+    → classed_lines (placed_text ls) ≡ before → classed_lines (text_after (placed_text ls) e) ≡ after → LeadTo patch (placed_lines before) (placed_lines after)
+    → held_by patch ≤ cost (placed_text ls) e + 1 → taken_by patch ≤ size (placed_text ls) e + 1 → IsPlanned e ls patch
+lead-planned e ls rs patch before after f h b a l few_held few_taken =
+    let own : placed_lines before ≡ ls = ap placed_lines (sym b) ∙ sym f in
+    let led : placed_lines after ≡ document_lines (text_after (placed_text ls) e) = ap placed_lines (sym a) in
+    let L = same-lead patch patch (placed_lines before) ls (placed_lines after) (document_lines (text_after (placed_text ls) e)) refl own led l in
+    record {
+      replacements = rs;
+      spans_are = h;
+      fit = L.fit;
+      leads = L.lead;
+      faithful = faithful-own _ (text_after (placed_text ls) e) L.lead;
+      reads = edits-read e (placed_text ls) rs h;
+      few_held = few_held;
+      few_taken = few_taken;
+    }
+
+-- the lines after an accepted edit are within the limit
+pub after-fits : (t : List ℕ) (e : Edit) (rs : List Replacement) (after : List ClassedLine) → spans t e ≡ Ok rs → classed_lines (text_after t e) ≡ after → size_of (placed_lines after) ≤ 2 ^ 24
+after-fits t e rs after h a = subst (λ (z : List ClassedLine). size_of (placed_lines z) ≤ 2 ^ 24) a (size-fits t e rs h)
+
+-- ---- a place of a faithful document
+
+-- it has as many lines as its text
+pub faithful-length : (ls : List PlacedLine) (before : List ClassedLine) → IsFaithful ls → classed_lines (placed_text ls) ≡ before → length ls ≡ length before
+faithful-length ls before f b = ap length f ∙ (length-map (classed_lines (placed_text ls)) placed_line ∙ ap length b)
+
+-- a line read at a place is one in the context of the lines above it
+pub read-at : (ls : List PlacedLine) (above rest : List ClassedLine) (at : ℕ) (m : List ℕ) → classed_lines (placed_text ls) ≡ above ++ rest → length above ≡ at
+    → line_read_at ls at m ≡ placed_line (line_in (context_of above) m)
+read-at ls above rest at m b p =
+    let front : take at (classed_lines (placed_text ls)) ≡ above = ap (take at) b ∙ (ap (λ n. take n (above ++ rest)) (sym p) ∙ take-append_seam above rest) in
+    ap (λ (z : List ClassedLine). placed_line (line_in (context_of z) m)) front
+
+-- ---- edits of one place, by what they leave
+
+none-between : (o : Option Stretch) (s : Stretch) → option_map between o ≡ Some s → 0 < length s.lines → o ≡ None
+none-between None s h few = refl
+none-between (Some x) s h few = let k : between x ≡ s = cc in absurd (let z : 0 ≡ length s.lines = ap (λ (q : Stretch). length q.lines) k in omega (arith, z, few))
+
+-- one that touches some lines puts no line between them
+pub touched-none_put : (ls : List ClassedLine) (e : Edit) (s : Stretch) → touched_by ls e ≡ Some s → 0 < length s.lines → insertion ls e ≡ None
+touched-none_put ls (SetValue nth n v) s h few = refl
+touched-none_put ls (AppendValue nth n v) s h few = refl
+touched-none_put ls (AddAssign p n f v) s h few = none-between (insertion ls (AddAssign p n f v)) s h few
+touched-none_put ls (RemoveAssign nth n) s h few = refl
+touched-none_put ls (AddRule p ts c ws) s h few = none-between (insertion ls (AddRule p ts c ws)) s h few
+touched-none_put ls (RemoveRule nth g) s h few = refl
+touched-none_put ls (AddPrereq order nth g w) s h few = refl
+touched-none_put ls (RemovePrereq nth g w) s h few = refl
+touched-none_put ls (AddRecipe nth g c) s h few = none-between (insertion ls (AddRecipe nth g c)) s h few
+touched-none_put ls (SetRecipe nth g k c) s h few = refl
+touched-none_put ls (RemoveRecipe nth g k) s h few = refl
+touched-none_put ls (RenameTarget o n) s h few = refl
+
+-- nor does one that leaves no line
+pub removed-none_put : (t : List ℕ) (e : Edit) (rs : List Replacement) (s : Stretch) → edited_bytes t e s rs ≡ [] → insertion (classed_lines t) e ≡ None
+removed-none_put t (SetValue nth n v) rs s h = refl
+removed-none_put t (AppendValue nth n v) rs s h = refl
+removed-none_put t (AddAssign p n f v) rs s h = absurd (cc)
+removed-none_put t (RemoveAssign nth n) rs s h = refl
+removed-none_put t (AddRule p ts c ws) rs s h = absurd (cc)
+removed-none_put t (RemoveRule nth g) rs s h = refl
+removed-none_put t (AddPrereq order nth g w) rs s h = refl
+removed-none_put t (RemovePrereq nth g w) rs s h = refl
+removed-none_put t (AddRecipe nth g c) rs s h = absurd (cc)
+removed-none_put t (SetRecipe nth g k c) rs s h = refl
+removed-none_put t (RemoveRecipe nth g k) rs s h = refl
+removed-none_put t (RenameTarget o n) rs s h = refl
+
+-- what is known of one that puts a line in
+pub record PutsIn (t : List ℕ) (e : Edit) (rs : List Replacement) (s : Stretch) : Type 0 where
+  pub place : touched_by (classed_lines t) e ≡ Some (between s)
+  pub bytes : edited_bytes t e (between s) rs ≡ new_line_bytes t e s ∷ []
+  pub one : 1 ≤ cost t e
+
+pub puts-in : (t : List ℕ) (e : Edit) (rs : List Replacement) (s : Stretch) → insertion (classed_lines t) e ≡ Some s → PutsIn t e rs s
+puts-in t (AddAssign p n f v) rs s h = record { place = ap (option_map between) h; bytes = refl; one = omega arith }
+puts-in t (AddRule p ts c ws) rs s h = record { place = ap (option_map between) h; bytes = refl; one = omega arith }
+puts-in t (AddRecipe nth g c) rs s h = record { place = ap (option_map between) h; bytes = refl; one = omega arith }
+puts-in t (SetValue nth n v) rs s h = absurd (cc)
+puts-in t (AppendValue nth n v) rs s h = absurd (cc)
+puts-in t (RemoveAssign nth n) rs s h = absurd (cc)
+puts-in t (RemoveRule nth g) rs s h = absurd (cc)
+puts-in t (AddPrereq order nth g w) rs s h = absurd (cc)
+puts-in t (RemovePrereq nth g w) rs s h = absurd (cc)
+puts-in t (SetRecipe nth g k c) rs s h = absurd (cc)
+puts-in t (RemoveRecipe nth g k) rs s h = absurd (cc)
+puts-in t (RenameTarget o n) rs s h = absurd (cc)

@@ -1,0 +1,67 @@
+-- The moves of an edit of one place, by the place and the bytes of its new line.
+use Rattle.std.specs.Prelude.{◌≡◌, ℕ, ◌+◌, ◌^◌, ◌<◌, ◌≤◌, ◌==◌, ◌&&◌, Bool, true, false, List, [], ◌∷◌, ◌++◌, length, replicate, take, Option, Some, None}
+use Rattle.mk_lines.specs.PhysicalLines.{line_end, line_end_bytes, file_line_end}
+use Rattle.mk_lines.specs.LogicalLines.{logical_lines, has_no_line_end}
+use Rattle.mk_class.specs.ClassedLines.{classed_lines}
+use Rattle.mk_tree.specs.LineTexts.{context_of, line_in}
+use Rattle.mk_tree.specs.PlacedLines.{PlacedLine, placed_line, placed_text, size_of, bytes_of_line, last_line}
+use Rattle.mk_edit.specs.declared.seek.Found.{Found}
+use Rattle.mk_patch.specs.Moves.{Move, PutIn, TakeOut, Exchange, SwapEnd, IsPlain}
+
+-- a line of these bytes, with its class in the context of the lines before a place
+abbrev pub line_read_at : List PlacedLine → (at : ℕ) → (bytes : List ℕ) → PlacedLine
+line_read_at ls at bytes = placed_line (line_in (context_of (take at (classed_lines (placed_text ls)))) bytes)
+
+-- a place of a document, with the context of the lines before it
+abbrev pub IsPlaceOf : List PlacedLine → Found → Type 0
+IsPlaceOf ls place = context_of (take place.at (classed_lines (placed_text ls))) ≡ place.context
+
+-- these bytes are one line, of no conditional, where they are put at a place
+pub record IsLineAt (ls : List PlacedLine) (at : ℕ) (bytes : List ℕ) : Type 0 where
+  pub one : logical_lines bytes ≡ bytes ∷ []
+  pub plain : IsPlain (line_read_at ls at bytes)
+
+-- ---- a line in the place of another
+
+abbrev pub replacing_moves : List PlacedLine → (at : ℕ) → (bytes : List ℕ) → List Move
+replacing_moves ls at bytes = Exchange at (line_read_at ls at bytes) ∷ []
+
+-- the line at a place can be replaced by one of these bytes
+pub record CanReplace (ls : List PlacedLine) (at : ℕ) (bytes : List ℕ) : Type 0 where
+  pub in_range : at < length ls
+  pub line : IsLineAt ls at bytes
+
+-- ---- some lines taken out, one after the other at one place
+
+abbrev pub removing_moves : (at count : ℕ) → List Move
+removing_moves at count = replicate count (TakeOut at)
+
+-- ---- a new line
+
+-- whether a line has no line end, where there is one
+abbrev pub is_unended : Option PlacedLine → Bool
+is_unended None = false
+is_unended (Some l) = has_no_line_end (line_end l.bytes)
+
+-- whether a line that is put in at a place follows a last line that has no line end
+abbrev pub follows_unended : List PlacedLine → (at : ℕ) → Bool
+follows_unended ls at = (at == length ls) && is_unended (last_line ls)
+
+-- the bytes of the last line, with the file's line end after them
+abbrev pub last_bytes_ended : List PlacedLine → List ℕ
+last_bytes_ended ls = bytes_of_line (last_line ls) ++ line_end_bytes (file_line_end (placed_text ls))
+
+-- a last line gets its line end, where it is to
+abbrev pub ending_moves : Bool → List PlacedLine → List Move
+ending_moves true ls = SwapEnd (last_bytes_ended ls) ∷ []
+ending_moves false ls = []
+
+-- A line is put before the one at a place, or at the end. A last line that has no line end gets the file's before that.
+abbrev pub inserting_moves : List PlacedLine → (at : ℕ) → (bytes : List ℕ) → List Move
+inserting_moves ls at bytes = ending_moves (follows_unended ls at) ls ++ PutIn at (line_read_at ls at bytes) ∷ []
+
+-- a line of these bytes can be put in at a place
+pub record CanInsert (ls : List PlacedLine) (at : ℕ) (bytes : List ℕ) : Type 0 where
+  pub in_range : at ≤ length ls
+  pub line : IsLineAt ls at bytes
+  pub fits : size_of ls + length bytes ≤ 2 ^ 24
