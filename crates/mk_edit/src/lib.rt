@@ -11,6 +11,7 @@
 //! - `address`: the line that an edit means, as it says it.
 //! - `text`: texts compared.
 //! - `line_end`: the line ends of new lines.
+//! - `place`: places further down in a document.
 //! - `moves`: the patches of edits whose causes are decided.
 #![tactic(auto)]
 
@@ -22,6 +23,7 @@ mod line_end;
 mod line_test;
 mod moves;
 mod part;
+mod place;
 mod seek;
 mod text;
 
