@@ -20,6 +20,7 @@
 //! - `range`: where the value of a line stands, and bytes with a range replaced.
 //! - `line_end`: the line ends of new lines.
 //! - `moves`: the patches of edits whose causes are decided.
+//! - `removals`: edits that take lines out.
 #![tactic(auto)]
 
 mod address;
@@ -33,6 +34,7 @@ mod moves;
 mod part;
 mod place;
 mod range;
+mod removals;
 mod seek;
 mod targets;
 mod text;
