@@ -37,10 +37,11 @@ pub(crate) fn unset<A: Allocator + Copy>(
     // The contract of `size` says that the text is within the limit, so that no removal is too long.
     let _size = doc.size();
     let place = find(doc, edit)?;
+    let Found { at, .. } = place;
     if removal_leans(doc, place, 1) {
         return Err(Refusal::Leans);
     }
-    take_out(alloc, place.at, 1)
+    take_out(alloc, at, 1)
 }
 
 /// Whether the lines below would be read in another way without so many lines from a place on. It

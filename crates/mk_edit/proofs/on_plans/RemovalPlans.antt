@@ -1,27 +1,24 @@
 -- Plans of edits that take lines out: what decides them, and what is planned.
-use Rattle.std.proofs.Common.{◌≡◌, refl, sym, ap, ◌∙◌, subst, arith, ℕ, zero, suc, ◌+◌, ◌^◌, ◌<◌, ◌≤◌, ◌&&◌, List, [], ◌∷◌, ◌++◌, Bool, true, false, not, length, length-append, take, drop, Option, Some, None, option_map, suc-add}
-use Rattle.std.specs.Prelude.{Ok, Err}
+use Rattle.std.proofs.Common.{◌≡◌, refl, sym, ap, ◌∙◌, arith, ℕ, zero, suc, ◌+◌, ◌^◌, ◌≤◌, ◌&&◌, List, [], ◌∷◌, ◌++◌, Bool, true, false, not, length, length-append, take, drop, Some, None, option_map, suc-add}
+use Rattle.std.specs.Prelude.{Err}
 use Rattle.std.proofs.lemmas.Grind.{common_steps}
 use Rattle.std.proofs.Math.Seq.{take-append_seam, drop-append_seam, drop-append-add}
 use Rattle.mk_lines.specs.Pieces.{Replacement}
 use Rattle.mk_class.specs.Contexts.{Context}
 use Rattle.mk_class.specs.ClassedLines.{ClassedLine, classed_lines, is_led_first}
-use Rattle.mk_class.specs.declared.context.Flag.{Flag}
 use Rattle.mk_tree.specs.Documents.{IsFaithful, context_of}
 use Rattle.mk_tree.specs.Leaning.{is_same_flag, leans}
-use Rattle.mk_tree.specs.PlacedLines.{PlacedLine, placed_line, placed_lines, placed_text, size_of}
+use Rattle.mk_tree.specs.PlacedLines.{PlacedLine, placed_lines, placed_text, size_of}
 use Rattle.mk_tree.proofs.on_changes.Sizes.{size_of-text}
 use Rattle.mk_edit_laws.specs.Edits.{Edit, SetValue, AppendValue, AddAssign, RemoveAssign, AddRule, RemoveRule, AddPrereq, RemovePrereq, AddRecipe, SetRecipe, RemoveRecipe, RenameTarget}
-use Rattle.mk_edit_laws.specs.Spots.{Spot}
 use Rattle.mk_edit_laws.specs.Spans.{spans_of, removed_span, where_found}
 use Rattle.mk_edit_laws.specs.Stretches.{Stretch, this_line, insertion, removal, touched_by}
-use Rattle.mk_edit_laws.specs.Addresses.{Address, Variable, address}
+use Rattle.mk_edit_laws.specs.Addresses.{Address, Variable}
 use Rattle.mk_edit_laws.specs.Causes.{where_holds}
 use Rattle.mk_edit_laws.specs.LineCauses.{leaning, removal_leans, too_long}
 use Rattle.mk_edit_laws.specs.Lengths.{bytes_put}
 use Rattle.mk_edit_laws.specs.EditedLines.{edited_bytes}
 use Rattle.mk_edit_laws.specs.Refusals.{first_cause, spans}
-use Rattle.mk_edit_laws.specs.declared.refusal.Refusal.{Refusal}
 use Rattle.mk_edit_laws.specs.declared.refusal.Refusal.TheVariants.{Leans}
 use Rattle.mk_edit_laws.proofs.on_edits.EditPlaces.{found-spot}
 use Rattle.mk_edit.specs.EditViews.{IsUnset}

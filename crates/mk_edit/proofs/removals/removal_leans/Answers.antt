@@ -1,4 +1,3 @@
-use Rattle.std.proofs.Common.{◌≡◌}
 use Rattle.mk_edit.proofs.on_plans.RemovalPlans.{leans-said}
 use Rattle.mk_edit.proofs.removals.removal_leans.Goals as goal
 
