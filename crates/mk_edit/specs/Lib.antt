@@ -1,3 +1,8 @@
 pub mod EditViews
+-- The line that an edit means
+pub mod PlacedParts
+pub mod Seeking
+pub mod Found
+-- The answers of plans, and the moves that they are
 pub mod Planned
 pub mod PlannedMoves
