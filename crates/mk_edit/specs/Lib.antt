@@ -6,3 +6,5 @@ pub mod Found
 -- The answers of plans, and the moves that they are
 pub mod Planned
 pub mod PlannedMoves
+-- The recipe of a rule
+pub mod RecipeWalks

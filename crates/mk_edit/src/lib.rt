@@ -9,6 +9,7 @@
 //!
 //! - `argument`: the causes of refusal that the fields of an edit decide.
 //! - `address`: the line that an edit means, as it says it.
+//! - `recipe`: the recipe of a rule, by a walk down from its header.
 //! - `text`: texts compared.
 #![tactic(auto)]
 
@@ -18,6 +19,7 @@ pub mod edit;
 mod find;
 mod line_test;
 mod part;
+mod recipe;
 mod seek;
 mod text;
 
