@@ -3,6 +3,7 @@ pub mod EditViews
 pub mod PlacedParts
 pub mod Seeking
 pub mod Found
+pub mod LineRanges
 -- The answers of plans, and the moves that they are
 pub mod Planned
 pub mod PlannedMoves
