@@ -18,6 +18,8 @@
 //! - `lean`: whether lines lean on what stands before them.
 //! - `range`: where the value of a line stands, and bytes with a range replaced.
 //! - `recipe`: the recipe of a rule, by a walk down from its header.
+//! - `line_end`: the line ends of new lines.
+//! - `moves`: the patches of edits whose causes are decided.
 #![tactic(auto)]
 
 mod address;
@@ -25,7 +27,9 @@ mod argument;
 pub mod edit;
 mod find;
 mod lean;
+mod line_end;
 mod line_test;
+mod moves;
 mod part;
 mod range;
 mod recipe;
