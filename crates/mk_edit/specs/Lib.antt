@@ -7,5 +7,6 @@ pub mod LineRanges
 -- The answers of plans, and the moves that they are
 pub mod Planned
 pub mod PlannedMoves
--- The recipe of a rule
+-- The recipe of a rule, and its edits
 pub mod RecipeWalks
+pub mod RecipeEdits

@@ -1,12 +1,13 @@
 -- Walks down from the header of a rule, on lines as a document shows them.
 use Rattle.std.specs.Prelude.{◌==◌, ◌||◌, if◌then◌else◌, ℕ, ◌+◌, Bool, true, false, List, [], ◌∷◌, length, drop, take, Option, Some, None}
 use Rattle.mk_class.specs.declared.class.Class.{Class}
-use Rattle.mk_class.specs.declared.class.Class.TheVariants.{Recipe, Blank, Comment, If, Else, Endif}
+use Rattle.mk_class.specs.declared.class.Class.TheVariants.{Recipe, Blank, Comment, If, Else, Endif, Header}
 use Rattle.mk_class.specs.Classes as classes
 use Rattle.mk_class.specs.ClassedLines.{ClassedLine, classed_lines}
 use Rattle.mk_tree.specs.PlacedLines.{PlacedLine, placed_text, is_conditional_places}
 use Rattle.mk_tree.specs.RecipeLines.{recipe_lines}
 use Rattle.mk_edit_laws.specs.Spots.{Spot, spots}
+use Rattle.mk_edit.specs.PlacedParts.{text_of_line, words_before}
 use Rattle.mk_edit.specs.declared.recipe.Recipe as recipe
 
 -- the lines of a document's text from a place on
@@ -48,3 +49,13 @@ recipe_place_from n p at (l ∷ ls) =
     if is_recipe_places l.class then (if p + 1 == n then Some at else recipe_place_from n (p + 1) (at + 1) ls)
     else if stays_in_rule_places l.class then recipe_place_from n p (at + 1) ls
     else None
+
+-- ---- the targets of a header
+
+-- in a line of this joined text and class; none in a line that is no header
+abbrev pub header_targets_in : (text : List ℕ) → Class → List (List ℕ)
+header_targets_in t (Header h) = words_before h.targets_end t
+header_targets_in t k = []
+
+abbrev pub header_targets_placed : PlacedLine → List (List ℕ)
+header_targets_placed l = header_targets_in (text_of_line l) l.class

@@ -20,6 +20,7 @@
 //! - `recipe`: the recipe of a rule, by a walk down from its header.
 //! - `line_end`: the line ends of new lines.
 //! - `moves`: the patches of edits whose causes are decided.
+//! - `unrule`: the removal of a rule.
 #![tactic(auto)]
 
 mod address;
@@ -36,6 +37,7 @@ mod recipe;
 mod seek;
 mod targets;
 mod text;
+mod unrule;
 
 pub use edit::{Edit, Place};
 pub use mk_edit_laws::{Colons, Detail, Field, Refusal};
