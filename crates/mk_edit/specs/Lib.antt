@@ -3,7 +3,10 @@ pub mod EditViews
 pub mod PlacedParts
 pub mod Seeking
 pub mod Found
--- What planning answers, and the moves of an edit
 pub mod LineRanges
+-- The answers of plans, and the moves that they are
 pub mod Planned
 pub mod PlannedMoves
+-- The recipe of a rule, and its edits
+pub mod RecipeWalks
+pub mod RecipeEdits

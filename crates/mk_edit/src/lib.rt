@@ -21,6 +21,8 @@
 //! - `line_end`: the line ends of new lines.
 //! - `moves`: the patches of edits whose causes are decided.
 //! - `removals`: edits that take lines out.
+//! - `recipe`: the recipe of a rule, by a walk down from its header.
+//! - `unrule`: the removal of a rule.
 #![tactic(auto)]
 
 mod address;
@@ -34,10 +36,12 @@ mod moves;
 mod part;
 mod place;
 mod range;
+mod recipe;
 mod removals;
 mod seek;
 mod targets;
 mod text;
+mod unrule;
 
 pub use edit::{Edit, Place};
 pub use mk_edit_laws::{Colons, Detail, Field, Refusal};

@@ -1,0 +1,73 @@
+-- The rule that an edit means, as it stands in a document: its header, its recipe, and the lines below.
+use Rattle.std.proofs.Common.{◌≡◌, refl, sym, ap, ◌∙◌, subst, arith, ℕ, ◌+◌, List, [], ◌∷◌, ◌++◌, length, drop, drop-drop, Option, Some, None}
+use Rattle.std.proofs.lemmas.List.{drop-map}
+use Rattle.std.proofs.Math.Seq.{drop-append-add}
+use Rattle.mk_lines.specs.Cells.{Cell}
+use Rattle.mk_class.specs.Headers
+use Rattle.mk_class.specs.Classes.{Class}
+use Rattle.mk_class.specs.Classes.Class.{Header}
+use Rattle.mk_class.specs.Contexts.{Context}
+use Rattle.mk_class.specs.ClassedLines.{ClassedLine, classed_lines, context_after_lines}
+use Rattle.mk_class.specs.declared.context.Flag.TheVariants as flag
+use Rattle.mk_tree.specs.Documents.{IsFaithful, context_of}
+use Rattle.mk_tree.specs.PlacedLines.{PlacedLine, placed_line, placed_lines, placed_text}
+use Rattle.mk_tree.specs.RecipeLines.{recipe_run, after_recipe}
+use Rattle.mk_tree.proofs.on_documents.LinePlaces.{located, context_of-append}
+use Rattle.mk_tree.proofs.on_changes.RecipeRunLemmas.{rule-context, recipe_run-after, recipe_run-stays}
+use Rattle.mk_edit_laws.specs.Spots.{Spot}
+use Rattle.mk_edit_laws.specs.Addresses.{Rule, found}
+use Rattle.mk_edit_laws.specs.Causes.{where_holds}
+use Rattle.mk_edit_laws.specs.AddressCauses.{no_such_line, ambiguous_line}
+use Rattle.mk_edit_laws.proofs.on_edits.Accepted.{where_holds-none}
+use Rattle.mk_edit_laws.proofs.on_lines.SpotLemmas.{FoundRule, rule-found}
+use Rattle.mk_edit_laws.specs.declared.refusal.Refusal.TheVariants.{NoSuch, Ambiguous}
+use Rattle.mk_edit.specs.Found.{IsFoundAt}
+use Rattle.mk_edit.specs.RecipeWalks.{lines_from}
+use Rattle.mk_edit.specs.declared.seek.Found.{Found}
+use Rattle.mk_edit.proofs.on_finding.PlaceLemmas.{IsLineAt, line-at}
+
+-- what is known of a document where the header of a rule stands
+pub record IsRuleAt (ls : List PlacedLine) (nth : Option ℕ) (g : List ℕ) (f : Found) : Type 0 where
+  pub spot : Spot
+  pub found_is : found (classed_lines (placed_text ls)) (Rule nth g) ≡ Some spot
+  pub line : IsLineAt ls f spot
+  pub place_is : length spot.above ≡ f.at
+  pub header : Headers.Header Cell
+  pub class_is : spot.line.class ≡ Header header
+  -- the lines of the text below it
+  pub below_is : lines_from ls (f.at + 1) ≡ spot.below
+  -- the lines of the document below its recipe
+  pub after_is : drop (f.at + 1 + length (recipe_run spot.below)) ls ≡ placed_lines (after_recipe spot.below)
+  -- the flag after its recipe
+  pub flag_is : (context_of (spot.above ++ spot.line ∷ recipe_run spot.below)).flag ≡ flag.Rule
+  pub prefix_is : (context_of (spot.above ++ spot.line ∷ recipe_run spot.below)).prefix ≡ f.context.prefix
+
+pub rule-at : (ls : List PlacedLine) (nth : Option ℕ) (g : List ℕ) (f : Found) → IsFaithful ls → no_such_line (classed_lines (placed_text ls)) (Some (Rule nth g)) ≡ None
+    → ambiguous_line (classed_lines (placed_text ls)) (Some (Rule nth g)) ≡ None → IsFoundAt (classed_lines (placed_text ls)) (Rule nth g) f → IsRuleAt ls nth g f
+rule-at ls nth g f h there one F =
+    let lines = classed_lines (placed_text ls) in
+    let s = F.spot in
+    let L = line-at ls (Rule nth g) f h F in
+    let R = rule-found lines nth g (where_holds-none _ NoSuch there) (where_holds-none _ _ one) in
+    let q : Some R.spot ≡ Some s = sym R.found_is ∙ F.found_is in
+    let same : R.spot ≡ s = cc in
+    let k : s.line.class ≡ Header R.header = ap (λ (z : Spot). z.line.class) (sym same) ∙ R.class_is in
+    let run = recipe_run s.below in
+    let below : lines_from ls (f.at + 1) ≡ s.below =
+    ap (drop (f.at + 1)) L.lines ∙ (ap (λ n. drop (n + 1) (s.above ++ s.line ∷ s.below)) (sym F.place_is) ∙ drop-append-add s.above (s.line ∷ s.below) 1) in
+    let rest : drop (f.at + 1 + length run) ls ≡ placed_lines (after_recipe s.below) =
+    sym (drop-drop (length run) (f.at + 1) ls) ∙ (ap (drop (length run)) L.below_is ∙ drop-map placed_line (length run) s.below) in
+    let C = rule-context (context_of s.above) s.line R.header run (located (placed_text ls) s.above s.line s.below L.lines).class k (recipe_run-stays s.below) in
+    let into : context_of (s.above ++ s.line ∷ run) ≡ context_after_lines (context_of s.above) (s.line ∷ run) = context_of-append s.above (s.line ∷ run) in
+    record {
+      spot = s;
+      found_is = F.found_is;
+      line = L;
+      place_is = F.place_is;
+      header = R.header;
+      class_is = k;
+      below_is = below;
+      after_is = rest;
+      flag_is = ap (λ (c : Context). c.flag) into ∙ C.flag;
+      prefix_is = ap (λ (c : Context). c.prefix) into ∙ (C.prefix ∙ ap (λ (c : Context). c.prefix) F.context_is);
+    }

@@ -1,0 +1,10 @@
+-- The words counted so far and those of what is left are the text's; each took a byte at least.
+use Rattle.std.proofs.Common.{◌≡◌, ◌≤◌, ◌+◌, length}
+use Rattle.mk_edit_laws.specs.NewLines.{words_in}
+use Rattle.mk_edit.proofs.unrule.word_count.Given as goal
+
+abbrev pub invariant-words : goal.invariant-words
+invariant-words l = (l.count + length l.rest ≤ length l.text) × (l.count + length (words_in l.rest) ≡ length (words_in l.text))
+
+abbrev pub decreases-words : goal.decreases-words
+decreases-words l = length l.rest
