@@ -29,6 +29,8 @@ mod part;
 mod range;
 mod seek;
 mod targets;
+#[cfg(test)]
+mod tests;
 mod text;
 
 pub use edit::{Edit, Place};
