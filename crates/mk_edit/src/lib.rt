@@ -40,6 +40,8 @@ mod recipe;
 mod removals;
 mod seek;
 mod targets;
+#[cfg(test)]
+mod tests;
 mod text;
 mod unrule;
 
