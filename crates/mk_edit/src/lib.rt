@@ -21,6 +21,7 @@
 //! - `line_end`: the line ends of new lines.
 //! - `moves`: the patches of edits whose causes are decided.
 //! - `unrule`: the removal of a rule.
+//! - `recipe_del`: the removal of a recipe line.
 #![tactic(auto)]
 
 mod address;
@@ -34,6 +35,7 @@ mod moves;
 mod part;
 mod range;
 mod recipe;
+mod recipe_del;
 mod seek;
 mod targets;
 mod text;
