@@ -9,6 +9,7 @@
 //!
 //! - `argument`: the causes of refusal that the fields of an edit decide.
 //! - `address`: the line that an edit means, as it says it.
+//! - `new_line`: the text of new lines.
 //! - `text`: texts compared.
 #![tactic(auto)]
 
@@ -17,6 +18,7 @@ mod argument;
 pub mod edit;
 mod find;
 mod line_test;
+mod new_line;
 mod part;
 mod seek;
 mod text;

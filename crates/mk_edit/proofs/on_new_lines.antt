@@ -1,0 +1,2 @@
+-- Lemmas. New lines: their text.
+pub mod NewLineTexts
