@@ -1,3 +1,4 @@
 -- Lemmas. The line that an edit means.
 pub mod PartLemmas
 pub mod SeekLemmas
+pub mod FindLemmas

@@ -3,6 +3,6 @@ pub mod EditViews
 pub mod PlacedParts
 pub mod Seeking
 pub mod Found
--- The answers of plans, and the moves that they are
+-- What planning answers, and the moves of an edit
 pub mod Planned
 pub mod PlannedMoves

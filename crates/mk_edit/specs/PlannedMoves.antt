@@ -5,11 +5,16 @@ use Rattle.mk_lines.specs.LogicalLines.{logical_lines, has_no_line_end}
 use Rattle.mk_class.specs.ClassedLines.{classed_lines}
 use Rattle.mk_tree.specs.LineTexts.{context_of, line_in}
 use Rattle.mk_tree.specs.PlacedLines.{PlacedLine, placed_line, placed_text, size_of, bytes_of_line, last_line}
+use Rattle.mk_edit.specs.declared.seek.Found.{Found}
 use Rattle.mk_patch.specs.Moves.{Move, PutIn, TakeOut, Exchange, SwapEnd, IsPlain}
 
 -- a line of these bytes, with its class in the context of the lines before a place
 abbrev pub line_read_at : List PlacedLine → (at : ℕ) → (bytes : List ℕ) → PlacedLine
 line_read_at ls at bytes = placed_line (line_in (context_of (take at (classed_lines (placed_text ls)))) bytes)
+
+-- a place of a document, with the context of the lines before it
+abbrev pub IsPlaceOf : List PlacedLine → Found → Type 0
+IsPlaceOf ls place = context_of (take place.at (classed_lines (placed_text ls))) ≡ place.context
 
 -- these bytes are one line, of no conditional, where they are put at a place
 pub record IsLineAt (ls : List PlacedLine) (at : ℕ) (bytes : List ℕ) : Type 0 where

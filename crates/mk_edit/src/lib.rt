@@ -9,15 +9,19 @@
 //!
 //! - `argument`: the causes of refusal that the fields of an edit decide.
 //! - `address`: the line that an edit means, as it says it.
-//! - `new_line`: the text of new lines.
 //! - `text`: texts compared.
+//! - `line_end`: the line ends of new lines.
+//! - `new_line`: the text of new lines.
+//! - `moves`: the patches of edits whose causes are decided.
 #![tactic(auto)]
 
 mod address;
 mod argument;
 pub mod edit;
 mod find;
+mod line_end;
 mod line_test;
+mod moves;
 mod new_line;
 mod part;
 mod seek;

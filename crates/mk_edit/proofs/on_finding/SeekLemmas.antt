@@ -1,5 +1,5 @@
 -- What a walk over the lines of a document has seen is what an address means.
-use Rattle.std.proofs.Common.{◌≡◌, refl, sym, ap, ◌∙◌, subst, arith, ℕ, zero, suc, ◌+◌, ◌==◌, ◌<◌, ◌≤◌, ◌&&◌, ◌||◌, List, [], ◌∷◌, ◌++◌, map, Bool, true, false, not, if◌then◌else◌, length, zero-add, Option, Some, None, option_map}
+use Rattle.std.proofs.Common.{◌≡◌, refl, sym, ap, ◌∙◌, subst, arith, ℕ, zero, suc, ◌+◌, ◌==◌, ◌≤◌, ◌&&◌, ◌||◌, List, [], ◌∷◌, map, Bool, true, false, if◌then◌else◌, length, zero-add, Option, Some, None, option_map}
 use Rattle.std.proofs.lemmas.Bool.{ne_eqb, eq-eqb}
 use Rattle.std.proofs.lemmas.List.{length-map}
 use Rattle.mk_class.specs.Lists.{any}
@@ -13,14 +13,13 @@ use Rattle.mk_tree.specs.Documents.{IsFaithful, context_of}
 use Rattle.mk_tree.specs.Admissions.{AreAdmitted}
 use Rattle.mk_tree.proofs.on_documents.LinePlaces.{AreClassed, AreClassed-class, AreClassed-tail, AreClassed-lines}
 use Rattle.mk_edit_laws.specs.Spots.{Spot, spots, spot_if, under, nth_of}
-use Rattle.mk_edit_laws.specs.Addresses.{Address, Variable, Rule, assigns, is_rule_for, is_a_target, targets_of}
+use Rattle.mk_edit_laws.specs.Addresses.{Address, Variable, Rule, assigns, is_rule_for}
 use Rattle.mk_edit_laws.specs.AddressCauses.{is_unread_prefix}
-use Rattle.mk_class.specs.Texts.{is_one_of}
-use Rattle.mk_edit.specs.PlacedParts.{AreEachClassed, IsClassed, is_target_placed, is_unread_placed}
+use Rattle.mk_edit.specs.PlacedParts.{AreEachClassed, is_unread_placed}
 use Rattle.mk_edit.specs.Seeking.{may_mean, wanted, noted_by, noted, seek, nothing_seen, place_found, candidates_of, IsSought}
 use Rattle.mk_edit.specs.declared.seek.Found.{Found}
 use Rattle.mk_edit.specs.declared.seek.Sought.{Sought}
-use Rattle.mk_edit.proofs.on_finding.PartLemmas.{assigns-placed, rule_for-placed, target-placed, unread-placed}
+use Rattle.mk_edit.proofs.on_finding.PartLemmas.{assigns-placed, rule_for-placed, unread-placed}
 
 -- a test of lines as a document shows them is one of lines as they are defined
 abbrev pub AgreeAlong : (PlacedLine → Bool) → (ClassedLine → Bool) → List ClassedLine → Type 0
