@@ -19,6 +19,7 @@
 //! - `range`: where the value of a line stands, and bytes with a range replaced.
 //! - `line_end`: the line ends of new lines.
 //! - `new_line`: the text of new lines.
+//! - `insertion`: where new lines go, and the causes of refusal that their places decide.
 //! - `moves`: the patches of edits whose causes are decided.
 #![tactic(auto)]
 
@@ -26,6 +27,7 @@ mod address;
 mod argument;
 pub mod edit;
 mod find;
+mod insertion;
 mod lean;
 mod line_end;
 mod line_test;
