@@ -21,6 +21,7 @@ use crate::lean::leans;
 use crate::line_end::file_line_end;
 use crate::moves::follows_unended;
 use crate::new_line::new_len;
+use crate::place::after_lines;
 use crate::seek::Found;
 use mk_class::Flag;
 use mk_edit_laws::Refusal;
@@ -50,24 +51,8 @@ fn place_of<A: Allocator>(doc: &Doc<A>, place: &Place<A>, found: Found) -> Found
     ensures { IsInsertedAt doc.now (place_found (classed_lines (placed_text doc.now)) (views.place_of place.now)) result }
 {
     match place {
-        Place::AfterVar { .. } => after(doc, found),
+        Place::AfterVar { .. } => after_lines(doc, found, 1),
         _ => found,
-    }
-}
-
-// The place after the line at a place.
-fn after<A: Allocator>(doc: &Doc<A>, found: Found) -> Found
-    requires faithful { IsFaithful doc.now }
-    requires in_range { found.at < length doc.now }
-    ensures place { result.at ≡ found.at + 1 }
-    ensures context { result.context ≡ context_of (take (found.at + 1) (classed_lines (placed_text doc.now))) }
-{
-    // The contract of `len` says that there are few lines.
-    let _count = doc.len();
-    let at = found.at + 1;
-    Found {
-        at,
-        context: doc.context(at),
     }
 }
 

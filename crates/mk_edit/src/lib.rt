@@ -15,6 +15,7 @@
 //! - `seek`: the line that an address means, found by one walk.
 //! - `find`: where an edit applies, after the causes that come before its own.
 //! - `targets`: whether a word is a target of any rule.
+//! - `place`: places further down in a document.
 //! - `lean`: whether lines lean on what stands before them.
 //! - `range`: where the value of a line stands, and bytes with a range replaced.
 //! - `line_end`: the line ends of new lines.
@@ -34,6 +35,7 @@ mod line_test;
 mod moves;
 mod new_line;
 mod part;
+mod place;
 mod range;
 mod seek;
 mod targets;

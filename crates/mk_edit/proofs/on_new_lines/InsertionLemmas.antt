@@ -13,6 +13,7 @@ use Rattle.mk_edit_laws.specs.Stretches.{Stretch, bottom, before_line, after_lin
 use Rattle.mk_edit_laws.proofs.on_edits.EditPlaces.{found-spot}
 use Rattle.mk_edit.specs.Found.{IsFoundAt, IsEnd, IsMeant}
 use Rattle.mk_edit.specs.Insertions.{IsInsertedAt}
+use Rattle.mk_edit.specs.PlannedMoves.{IsPlaceOf}
 use Rattle.mk_edit.specs.declared.seek.Found.{Found}
 
 pub inserted-bottom : (ls : List PlacedLine) (f : Found) → IsEnd (classed_lines (placed_text ls)) f → IsInsertedAt ls (Some (bottom (classed_lines (placed_text ls)))) f
@@ -34,15 +35,23 @@ inserted-before ls a f F = record {
   context_is = F.context_is;
 }
 
+-- the place of a line that is found
+pub found-place : (ls : List PlacedLine) (a : Address) (f : Found) → IsFoundAt (classed_lines (placed_text ls)) a f → IsPlaceOf ls f
+found-place ls a f F =
+    let s = F.spot in
+    let whole = found-spot (classed_lines (placed_text ls)) a s F.found_is in
+    let front : take f.at (classed_lines (placed_text ls)) ≡ s.above = ap (take f.at) whole ∙ (ap (λ m. take m (s.above ++ s.line ∷ s.below)) (sym F.place_is) ∙ take-append_seam s.above (s.line ∷ s.below)) in
+    ap (λ (z : List ClassedLine). context_of z) front ∙ F.context_is
+
 -- one line is there to go after
-pub found-within : (ls : List PlacedLine) (a : Address) (f : Found) → IsFaithful ls → IsFoundAt (classed_lines (placed_text ls)) a f → f.at < length ls
+pub found-within : (ls : List PlacedLine) (a : Address) (f : Found) → IsFaithful ls → IsFoundAt (classed_lines (placed_text ls)) a f → f.at + 1 ≤ length ls
 found-within ls a f h F =
     let s = F.spot in
     let w = found-spot (classed_lines (placed_text ls)) a s F.found_is in
     omega (arith, F.place_is, ap length h, length-map (classed_lines (placed_text ls)) placed_line, ap length w, length-append s.above (s.line ∷ s.below))
 
 pub inserted-after : (ls : List PlacedLine) (a : Address) (f g : Found) → IsFoundAt (classed_lines (placed_text ls)) a f → g.at ≡ f.at + 1
-    → g.context ≡ context_of (take (f.at + 1) (classed_lines (placed_text ls))) → IsInsertedAt ls (option_map after_line (found (classed_lines (placed_text ls)) a)) g
+    → IsPlaceOf ls g → IsInsertedAt ls (option_map after_line (found (classed_lines (placed_text ls)) a)) g
 inserted-after ls a f g F at context =
     let s = F.spot in
     let up = s.above ++ s.line ∷ [] in
@@ -55,7 +64,7 @@ inserted-after ls a f g F at context =
       stretch_is = ap (option_map after_line) F.found_is;
       whole = whole;
       place_is = sym n ∙ sym at;
-      context_is = sym (context ∙ ap (λ (z : List ClassedLine). context_of z) front);
+      context_is = sym (ap (λ (z : List ClassedLine). context_of z) front) ∙ (ap (λ n. context_of (take n (classed_lines (placed_text ls)))) (sym at) ∙ context);
     }
 
 -- ---- the document there
@@ -110,13 +119,19 @@ is_after (AfterVar nth n) = true
 is_after p = false
 
 pub inserted-after_var : (ls : List PlacedLine) (p : Place) (nth : Option ℕ) (n : List ℕ) (f g : Found) → p ≡ AfterVar nth n → IsMeant (classed_lines (placed_text ls)) (place_address p) f → g.at ≡ f.at + 1
-    → g.context ≡ context_of (take (f.at + 1) (classed_lines (placed_text ls))) → IsInsertedAt ls (place_found (classed_lines (placed_text ls)) p) g
+    → IsPlaceOf ls g → IsInsertedAt ls (place_found (classed_lines (placed_text ls)) p) g
 inserted-after_var ls Bottom nth n f g e m at context = absurd (cc)
 inserted-after_var ls (BeforeVar nth' n') nth n f g e m at context = absurd (cc)
 inserted-after_var ls (AfterVar nth' n') nth n f g e m at context = inserted-after ls (Variable nth' n') f g m at context
 inserted-after_var ls (BeforeRule nth' t) nth n f g e m at context = absurd (cc)
 
-pub after_var-within : (ls : List PlacedLine) (p : Place) (nth : Option ℕ) (n : List ℕ) (f : Found) → p ≡ AfterVar nth n → IsFaithful ls → IsMeant (classed_lines (placed_text ls)) (place_address p) f → f.at < length ls
+pub after_var-place : (ls : List PlacedLine) (p : Place) (nth : Option ℕ) (n : List ℕ) (f : Found) → p ≡ AfterVar nth n → IsMeant (classed_lines (placed_text ls)) (place_address p) f → IsPlaceOf ls f
+after_var-place ls Bottom nth n f e m = absurd (cc)
+after_var-place ls (BeforeVar nth' n') nth n f e m = absurd (cc)
+after_var-place ls (AfterVar nth' n') nth n f e m = found-place ls (Variable nth' n') f m
+after_var-place ls (BeforeRule nth' t) nth n f e m = absurd (cc)
+
+pub after_var-within : (ls : List PlacedLine) (p : Place) (nth : Option ℕ) (n : List ℕ) (f : Found) → p ≡ AfterVar nth n → IsFaithful ls → IsMeant (classed_lines (placed_text ls)) (place_address p) f → f.at + 1 ≤ length ls
 after_var-within ls Bottom nth n f e h m = absurd (cc)
 after_var-within ls (BeforeVar nth' n') nth n f e h m = absurd (cc)
 after_var-within ls (AfterVar nth' n') nth n f e h m = found-within ls (Variable nth' n') f h m

@@ -2,15 +2,18 @@ use Rattle.std.proofs.Common.{◌≡◌, refl, ap, ℕ, false, Option, Vec}
 use Rattle.mk_edit.specs.EditViews as views
 use Rattle.mk_edit.specs.declared.edit.Place.{Place}
 use Rattle.mk_edit.specs.declared.edit.Place.TheVariants as place
-use Rattle.mk_edit.proofs.on_new_lines.InsertionLemmas.{inserted-after_var, after_var-within, is_after, inserted-elsewhere}
+use Rattle.mk_edit.proofs.on_new_lines.InsertionLemmas.{inserted-after_var, after_var-place, after_var-within, is_after, inserted-elsewhere}
 use Rattle.mk_edit.proofs.insertion.place_of.Goals as goal
 
-pub after-requires-clause-in_range : goal.after-requires-clause-in_range
-after-requires-clause-in_range g c = after_var-within c.args.doc.now (views.place_of c.args.place.now) _ _ c.args.found (ap views.place_of c.in-AfterVar.is) c.requires.faithful c.requires.meant
+pub after_lines-requires-clause-in_range : goal.after_lines-requires-clause-in_range
+after_lines-requires-clause-in_range g c = after_var-within c.args.doc.now (views.place_of c.args.place.now) _ _ c.args.found (ap views.place_of c.in-AfterVar.is) c.requires.faithful c.requires.meant
+
+pub after_lines-requires-clause-place : goal.after_lines-requires-clause-place
+after_lines-requires-clause-place g c = after_var-place c.args.doc.now (views.place_of c.args.place.now) _ _ c.args.found (ap views.place_of c.in-AfterVar.is) c.requires.meant
 
 pub returns-in-AfterVar : goal.returns-in-AfterVar
 returns-in-AfterVar g c =
-    inserted-after_var c.args.doc.now (views.place_of c.args.place.now) _ _ c.args.found c.after.result (ap views.place_of c.in-AfterVar.is) c.requires.meant c.after.ensures.place c.after.ensures.context
+    inserted-after_var c.args.doc.now (views.place_of c.args.place.now) _ _ c.args.found c.after_lines.result (ap views.place_of c.in-AfterVar.is) c.requires.meant c.after_lines.ensures.at c.after_lines.ensures.place
 
 pub returns-in_default : goal.returns-in_default
 returns-in_default g c =
