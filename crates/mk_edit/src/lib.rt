@@ -22,6 +22,7 @@
 //! - `new_line`: the text of new lines.
 //! - `insertion`: where new lines go, and the causes of refusal that their places decide.
 //! - `moves`: the patches of edits whose causes are decided.
+//! - `removals`: edits that take lines out.
 #![tactic(auto)]
 
 mod address;
@@ -37,6 +38,7 @@ mod new_line;
 mod part;
 mod place;
 mod range;
+mod removals;
 mod seek;
 mod targets;
 mod text;
