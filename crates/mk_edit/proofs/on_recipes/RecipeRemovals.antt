@@ -18,14 +18,16 @@ use Rattle.mk_edit_laws.specs.Spans.{removed_span, spans_of, where_found}
 use Rattle.mk_edit_laws.specs.Causes.{where_holds}
 use Rattle.mk_edit_laws.specs.RuleCauses.{absent}
 use Rattle.mk_edit_laws.specs.LineCauses.{removal_leans, leaning, too_long}
+use Rattle.mk_edit_laws.specs.Lengths.{bytes_put}
 use Rattle.mk_edit_laws.specs.Refusals.{spans}
 use Rattle.mk_edit_laws.specs.declared.refusal.Refusal.TheVariants.{Absent, Leans}
 use Rattle.mk_edit.specs.Found.{IsAddressed}
 use Rattle.mk_edit.specs.RecipeEdits.{IsRecipeRemoval}
 use Rattle.mk_edit.specs.declared.seek.Found.{Found}
 use Rattle.mk_edit.proofs.CauseLemmas.{passed, holds}
+use Rattle.mk_edit.proofs.on_plans.CausePlans.{never-long}
 use Rattle.mk_edit.proofs.on_plans.LinePlans.{IsTakenOut, lines-taken_out}
-use Rattle.mk_edit.proofs.on_recipes.OwnCauses.{own-refused, own-accepted, not_long}
+use Rattle.mk_edit.proofs.on_recipes.OwnCauses.{own-refused, own-accepted}
 use Rattle.mk_edit.proofs.on_recipes.RulePlaces.{IsRuleAt, rule-at}
 use Rattle.mk_edit.proofs.on_recipes.RecipePlaces.{place_in_rule, found-none, IsRecipeAt, found-some}
 
@@ -42,17 +44,7 @@ not_leaning ls nth g n at R =
 within-limit : (ls : List PlacedLine) (nth : Option ℕ) (g : List ℕ) (n at : ℕ) → IsRecipeAt ls nth g n at → size_of ls ≤ 2 ^ 24
     → too_long (placed_text ls) (spans_of (placed_text ls) (classed_lines (placed_text ls)) (RemoveRecipe nth g n)) ≡ None
 within-limit ls nth g n at R z =
-    let t = placed_text ls in
-    let s = R.spot in
-    let one = s.line ∷ [] in
-    let e = RemoveRecipe nth g n in
-    let spans_is : spans_of t (classed_lines t) e ≡ removed_span (this_line s) = ap (λ (o : Option Spot). where_found removed_span (option_map this_line o)) R.found_is in
-    let after : replaced 0 t (removed_span (this_line s)) ≡ text_of s.above ++ ([] ++ text_of s.below) = text-run_replaced t s.above one s.below [] R.lines in
-    let before : t ≡ text_of s.above ++ (text_of one ++ text_of s.below) = (located-run t s.above one s.below R.lines).text in
-    let n1 : length (replaced 0 t (spans_of t (classed_lines t) e)) ≡ length (text_of s.above) + length (text_of s.below) = ap (λ q. length (replaced 0 t q)) spans_is ∙ (ap length after ∙ length-append (text_of s.above) (text_of s.below)) in
-    let n2 : length t ≡ length (text_of s.above) + (length (text_of one) + length (text_of s.below)) =
-    ap length before ∙ (length-append (text_of s.above) (text_of one ++ text_of s.below) ∙ ap (λ q. length (text_of s.above) + q) (length-append (text_of one) (text_of s.below))) in
-    not_long (length (replaced 0 t (spans_of t (classed_lines t) e))) (omega (arith, n1, n2, size_of-text ls, z))
+    never-long (placed_text ls) (RemoveRecipe nth g n) (ap (λ (o : Option Spot). bytes_put (where_found removed_span (option_map this_line o))) R.found_is) (omega (arith, size_of-text ls, z))
 
 -- What the code asks of a document where a recipe line is taken out, and what follows from the answers.
 pub record IsRecipeRemovalOf (n : ℕ) (e : Edit) (ls : List PlacedLine) (f : Found) : Type 0 where
