@@ -3,3 +3,5 @@ pub mod WalkLemmas
 pub mod OwnCauses
 pub mod RulePlaces
 pub mod RuleRemovals
+pub mod RecipePlaces
+pub mod RecipeRemovals

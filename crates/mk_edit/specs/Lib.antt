@@ -4,9 +4,11 @@ pub mod PlacedParts
 pub mod Seeking
 pub mod Found
 pub mod LineRanges
--- The answers of plans, and the moves that they are
+-- What planning answers, and the moves of an edit
 pub mod Planned
 pub mod PlannedMoves
+-- Where new lines go
+pub mod Insertions
 -- The recipe of a rule, and its edits
 pub mod RecipeWalks
 pub mod RecipeEdits

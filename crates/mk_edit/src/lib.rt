@@ -18,25 +18,31 @@
 //! - `place`: places further down in a document.
 //! - `lean`: whether lines lean on what stands before them.
 //! - `range`: where the value of a line stands, and bytes with a range replaced.
+//! - `recipe`: the recipe of a rule, by a walk down from its header.
 //! - `line_end`: the line ends of new lines.
 //! - `moves`: the patches of edits whose causes are decided.
-//! - `removals`: edits that take lines out.
-//! - `recipe`: the recipe of a rule, by a walk down from its header.
 //! - `unrule`: the removal of a rule.
+//! - `recipe_del`: the removal of a recipe line.
+//! - `new_line`: the text of new lines.
+//! - `insertion`: where new lines go, and the causes of refusal that their places decide.
+//! - `removals`: edits that take lines out.
 #![tactic(auto)]
 
 mod address;
 mod argument;
 pub mod edit;
 mod find;
+mod insertion;
 mod lean;
 mod line_end;
 mod line_test;
 mod moves;
+mod new_line;
 mod part;
 mod place;
 mod range;
 mod recipe;
+mod recipe_del;
 mod removals;
 mod seek;
 mod targets;

@@ -111,8 +111,8 @@ fn builder<A: Allocator + Copy>(alloc: A, room: usize) -> Result<PatchBuilder<A>
     }
 }
 
-// Whether a line at this place would follow a last line that has no line end.
-fn follows_unended<A: Allocator>(doc: &Doc<A>, at: usize) -> bool
+/// Whether a line at this place would follow a last line that has no line end.
+pub(crate) fn follows_unended<A: Allocator>(doc: &Doc<A>, at: usize) -> bool
     ensures { result ≡ follows_unended doc.now at }
 {
     at == doc.len() && is_last_unended(doc)

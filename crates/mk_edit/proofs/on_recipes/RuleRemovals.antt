@@ -36,6 +36,7 @@ use Rattle.mk_edit_laws.specs.Spans.{removed_span, spans_of, where_found}
 use Rattle.mk_edit_laws.specs.Causes.{where_holds}
 use Rattle.mk_edit_laws.specs.RuleCauses.{class_found, targets_found, shared_by, shared_rule, has_conditional, straddles}
 use Rattle.mk_edit_laws.specs.LineCauses.{removal_leans, leaning, too_long}
+use Rattle.mk_edit_laws.specs.Lengths.{bytes_put}
 use Rattle.mk_edit_laws.specs.Refusals.{spans}
 use Rattle.mk_edit_laws.specs.declared.refusal.Refusal.{Refusal}
 use Rattle.mk_edit_laws.specs.declared.refusal.Refusal.TheVariants.{SharedRule, Straddles, Leans}
@@ -47,8 +48,9 @@ use Rattle.mk_edit.specs.RecipeWalks.{lines_from, header_targets_in, header_targ
 use Rattle.mk_edit.specs.declared.seek.Found.{Found}
 use Rattle.mk_edit.proofs.CauseLemmas.{passed, holds}
 use Rattle.mk_edit.proofs.on_finding.LeanLemmas.{led_first-placed}
+use Rattle.mk_edit.proofs.on_plans.CausePlans.{never-long}
 use Rattle.mk_edit.proofs.on_plans.LinePlans.{IsTakenOut, lines-taken_out}
-use Rattle.mk_edit.proofs.on_recipes.OwnCauses.{own_causes, own-refused, own-accepted, not_long}
+use Rattle.mk_edit.proofs.on_recipes.OwnCauses.{own-refused, own-accepted}
 use Rattle.mk_edit.proofs.on_recipes.RulePlaces.{IsRuleAt, rule-at}
 
 -- ---- the targets of a header
@@ -96,18 +98,7 @@ leaning-is ls nth g f end b R e h =
 within-limit : (ls : List PlacedLine) (nth : Option ℕ) (g : List ℕ) (f : Found) → IsRuleAt ls nth g f → size_of ls ≤ 2 ^ 24
     → too_long (placed_text ls) (spans_of (placed_text ls) (classed_lines (placed_text ls)) (RemoveRule nth g)) ≡ None
 within-limit ls nth g f R z =
-    let t = placed_text ls in
-    let s = R.spot in
-    let W = whole_rule s in
-    let e = RemoveRule nth g in
-    let whole : classed_lines t ≡ s.above ++ (W.lines ++ W.below) = R.line.lines ∙ ap (λ w. s.above ++ s.line ∷ w) (sym (recipe_run-after s.below)) in
-    let spans_is : spans_of t (classed_lines t) e ≡ removed_span W = ap (λ (o : Option Spot). where_found removed_span (option_map whole_rule o)) R.found_is in
-    let after : replaced 0 t (removed_span W) ≡ text_of s.above ++ ([] ++ text_of W.below) = text-run_replaced t s.above W.lines W.below [] whole in
-    let before : t ≡ text_of s.above ++ (text_of W.lines ++ text_of W.below) = (located-run t s.above W.lines W.below whole).text in
-    let n1 : length (replaced 0 t (spans_of t (classed_lines t) e)) ≡ length (text_of s.above) + length (text_of W.below) = ap (λ q. length (replaced 0 t q)) spans_is ∙ (ap length after ∙ length-append (text_of s.above) (text_of W.below)) in
-    let n2 : length t ≡ length (text_of s.above) + (length (text_of W.lines) + length (text_of W.below)) =
-    ap length before ∙ (length-append (text_of s.above) (text_of W.lines ++ text_of W.below) ∙ ap (λ q. length (text_of s.above) + q) (length-append (text_of W.lines) (text_of W.below))) in
-    not_long (length (replaced 0 t (spans_of t (classed_lines t) e))) (omega (arith, n1, n2, size_of-text ls, z))
+    never-long (placed_text ls) (RemoveRule nth g) (ap (λ (o : Option Spot). bytes_put (where_found removed_span (option_map whole_rule o))) R.found_is) (omega (arith, size_of-text ls, z))
 
 -- ---- the whole
 

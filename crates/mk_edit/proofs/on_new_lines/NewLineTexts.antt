@@ -1,0 +1,84 @@
+-- The words of the text of a new line, cut one after the other.
+use Rattle.std.proofs.Common.{◌≡◌, refl, sym, ap, ◌∙◌, arith, ℕ, ◌+◌, ◌<◌, ◌≤◌, List, [], ◌∷◌, ◌++◌, length, append_assoc}
+use Rattle.std.proofs.Common.{length-append}
+use Rattle.std.specs.Prelude.{◌==◌, OnOk, Result, Ok, Err}
+use Rattle.std.specs.declared.alloc.AllocError.{AllocError}
+use Rattle.mk_lines.specs.Lists.{concat, leading, after_leading}
+use Rattle.mk_lines.specs.UnitWalk.{is_blank_byte}
+use Rattle.mk_lines.specs.Ranges.{word_token_ranges}
+use Rattle.mk_lines.specs.Units.{units}
+use Rattle.mk_lines.specs.Words.{Token, Gap, Word, tokens, token_words}
+use Rattle.mk_lines.proofs.on_lists.ListLemmas.{leading-after_leading}
+use Rattle.mk_lines.proofs.UnitWalkLemmas.{words_left-blanks}
+use Rattle.mk_class.specs.RecipePrefix.{is_prefix_led}
+use Rattle.mk_edit_laws.specs.NewLines.{words_in, spaced, each_spaced, joined_by_space, colons_text, rule_text}
+use Rattle.mk_edit_laws.specs.declared.edit.Colons.{Colons}
+use Rattle.mk_edit_laws.specs.declared.edit.Colons.TheVariants.{One, Two}
+
+-- a word and what follows it are no longer than what they are cut from
+pub cut-lengths : (rest word after : List ℕ) → word ++ after ≡ after_leading is_blank_byte rest → length word + length after ≤ length rest
+cut-lengths rest word after h =
+    omega (arith, ap length h, length-append word after, ap length (leading-after_leading is_blank_byte rest), length-append (leading is_blank_byte rest) (after_leading is_blank_byte rest))
+
+-- a text is one byte longer with a space before it, or not at all
+pub spaced-length : (w : List ℕ) → length (spaced w) ≤ length w + 1
+spaced-length [] = omega arith
+spaced-length (b ∷ w) = omega arith
+
+-- ---- no word is empty
+
+-- there are as many ranges of words as words
+ranges-count : (at : ℕ) (ts : List (Token ℕ)) → length (word_token_ranges at ts) ≡ length (token_words ts)
+ranges-count at [] = refl
+ranges-count at (Gap u ∷ ts) = ranges-count (at + length u) ts
+ranges-count at (Word w ∷ ts) = omega (arith, ranges-count (at + length (concat w)) ts)
+
+-- blanks at the front change no number of words
+blanks-count : (t : List ℕ) → length (words_in t) ≡ length (words_in (after_leading is_blank_byte t))
+blanks-count t =
+    let n = length t in
+    let s = after_leading is_blank_byte t in
+    sym (ranges-count _ (tokens (λ b. b) (units (λ b. b) t)))
+    ∙ (ap length (words_left-blanks n t (omega arith)) ∙ ranges-count _ (tokens (λ b. b) (units (λ b. b) s)))
+
+pub word-some : (rest word after : List ℕ) → words_in rest ≡ word ∷ words_in after → word ++ after ≡ after_leading is_blank_byte rest → 0 < length word
+word-some rest [] after w j = absurd (omega (arith, blanks-count rest, ap (λ t. length (words_in t)) j, ap length w))
+word-some rest (b ∷ word) after w j = omega arith
+
+-- so words that are joined begin with the first of them
+pub joined-first : (word : List ℕ) (ws : List (List ℕ)) → 0 < length word → joined_by_space (word ∷ ws) ≡ word ++ each_spaced ws
+joined-first [] ws h = absurd (omega arith)
+joined-first (b ∷ word) ws h = refl
+
+-- ---- what is put after some bytes
+
+-- the words of a text, the first of which was put before
+pub joined-put : (r : Result (Unit {0}) AllocError) (text word after old mid new : List ℕ) → words_in text ≡ word ∷ words_in after → word ++ after ≡ after_leading is_blank_byte text
+    → mid ≡ old ++ word → OnOk r (new ≡ mid ++ each_spaced (words_in after)) → OnOk r (new ≡ old ++ joined_by_space (words_in text))
+joined-put (Err e) text word after old mid new w j m h = tt
+joined-put (Ok x) text word after old mid new w j m h =
+    let joined : joined_by_space (words_in text) ≡ word ++ each_spaced (words_in after) =
+    ap joined_by_space w ∙ joined-first word (words_in after) (word-some text word after w j) in
+    h ∙ (ap (λ z. z ++ each_spaced (words_in after)) m ∙ (append_assoc old word (each_spaced (words_in after)) ∙ ap (λ z. old ++ z) (sym joined)))
+
+-- ---- how a rule begins
+
+begins-some : (p : ℕ) (word a b : List ℕ) → 0 < length word → is_prefix_led p (word ++ a) ≡ is_prefix_led p (word ++ b)
+begins-some p [] a b h = absurd (omega arith)
+begins-some p (x ∷ word) a b h = refl
+
+-- with its first target
+pub rule-begins : (p : ℕ) (text word after : List ℕ) (c : Colons) (prereqs : List ℕ) → words_in text ≡ word ∷ words_in after → word ++ after ≡ after_leading is_blank_byte text
+    → is_prefix_led p (word ++ 58 ∷ []) ≡ is_prefix_led p (rule_text text c prereqs)
+rule-begins p text word after c prereqs w j =
+    let some = word-some text word after w j in
+    let rest = colons_text c ++ each_spaced (words_in prereqs) in
+    let more = each_spaced (words_in after) in
+    begins-some p word (58 ∷ []) (more ++ rest) some
+    ∙ (ap (is_prefix_led p) (sym (append_assoc word more rest))
+    ∙ ap (λ z. is_prefix_led p (z ++ rest)) (sym (ap joined_by_space w ∙ joined-first word (words_in after) some)))
+
+-- or, where it has none, with its separator
+pub rule-begins_bare : (p : ℕ) (text : List ℕ) (c : Colons) (prereqs : List ℕ) → words_in text ≡ [] → (58 == p) ≡ is_prefix_led p (rule_text text c prereqs)
+rule-begins_bare p text One prereqs w = ap (λ ws. is_prefix_led p (joined_by_space ws ++ (58 ∷ [] ++ each_spaced (words_in prereqs)))) (sym w)
+rule-begins_bare p text Two prereqs w = ap (λ ws. is_prefix_led p (joined_by_space ws ++ (58 ∷ 58 ∷ [] ++ each_spaced (words_in prereqs)))) (sym w)

@@ -1,0 +1,159 @@
+-- The causes of refusal that the place of a new line decides, by their tests on a document.
+use Rattle.std.proofs.Common.{◌≡◌, refl, sym, ap, ◌∙◌, arith, ℕ, ◌+◌, ◌-◌, ◌==◌, ◌&&◌, ◌||◌, Bool, true, false, not, cond, List, [], ◌∷◌, ◌++◌, length, take, drop, length-append, Some, None}
+use Rattle.std.specs.Prelude.{nat_lt}
+use Rattle.std.proofs.lemmas.List.{take-append-drop}
+use Rattle.mk_lines.specs.LogicalLines.{is_open}
+use Rattle.mk_lines.specs.PhysicalLines.{line_end_bytes, file_line_end}
+use Rattle.mk_lines.specs.Pieces.{replaced}
+use Rattle.mk_lines.specs.declared.ends.End.{End}
+use Rattle.mk_class.specs.Lists.{is_empty, last_passes}
+use Rattle.mk_class.specs.ClassedLines.{ClassedLine, classed_lines}
+use Rattle.mk_tree.specs.Documents.{IsFaithful, text_of, context_of}
+use Rattle.mk_tree.specs.Leaning.{is_same_flag, leans}
+use Rattle.mk_tree.specs.NewLines.{missing_line_end, lacks_line_end}
+use Rattle.mk_tree.specs.PlacedLines.{PlacedLine, placed_text, size_of, last_line}
+use Rattle.mk_tree.proofs.on_changes.Sizes.{size_of-text}
+use Rattle.mk_edit_laws.specs.Causes.{where_holds}
+use Rattle.mk_edit_laws.specs.Edits.{Place, Bottom, BeforeVar, AfterVar, BeforeRule, Edit, SetValue, AppendValue, AddAssign, RemoveAssign, AddRule, RemoveRule, AddPrereq, RemovePrereq, AddRecipe, SetRecipe, RemoveRecipe, RenameTarget}
+use Rattle.mk_edit_laws.specs.LineCauses.{follows_open_line, open_line, open_define, open_define_at, flag_below_new, new_line_leans, removal_leans, leaning, greatest_length, too_long}
+use Rattle.mk_edit_laws.specs.NewLines.{new_text, new_line_span}
+use Rattle.mk_edit_laws.specs.Spans.{spans_of, where_found}
+use Rattle.mk_edit_laws.specs.Stretches.{Stretch, bottom, insertion, removal, place_found}
+use Rattle.mk_edit_laws.specs.declared.refusal.Refusal.TheVariants.{OpenLine, OpenDefine, Leans, TooLong}
+use Rattle.mk_edit.specs.Insertions.{IsInsertedAt, IsOfNewLine, is_bottom, is_at_bottom, is_open_line, ends_length}
+use Rattle.mk_edit.specs.LineRanges.{is_led_first_placed}
+use Rattle.mk_edit.specs.PlannedMoves.{is_unended, follows_unended}
+use Rattle.mk_edit.specs.declared.seek.Found.{Found}
+use Rattle.mk_edit.proofs.on_finding.LeanLemmas.{led_first-placed}
+use Rattle.mk_edit.proofs.on_new_lines.InsertionLemmas.{place-in, follows-last}
+
+-- ---- OpenLine
+
+pub open_line-at : (ls : List PlacedLine) (e : Edit) (f : Found) (b : Bool) → IsFaithful ls → IsInsertedAt ls (insertion (classed_lines (placed_text ls)) e) f
+    → b ≡ ((f.at == length ls) && is_open_line (last_line ls)) → open_line (classed_lines (placed_text ls)) e ≡ where_holds b OpenLine
+open_line-at ls e f b h N k =
+    let s = N.stretch in
+    let I = place-in ls (insertion (classed_lines (placed_text ls)) e) f h N in
+    let same : b ≡ (is_empty s.below && last_passes (λ l. is_open l.bytes) s.above) =
+    k
+    ∙ (ap (λ (z : List PlacedLine). (f.at == length z) && is_open_line (last_line z)) I.shown
+    ∙ follows-last is_open_line (λ l. is_open l.bytes) refl (λ l. refl) s.above s.below f.at N.place_is) in
+    ap (λ o. where_holds (follows_open_line o) OpenLine) N.stretch_is ∙ ap (λ z. where_holds z OpenLine) (sym same)
+
+-- ---- OpenDefine
+
+bottom-context : (ls : List ClassedLine) (p : Place) (s : Stretch) → is_bottom p ≡ true → place_found ls p ≡ Some s → ls ≡ s.above
+bottom-context ls Bottom s b h = let k : bottom ls ≡ s = cc in ap (λ (z : Stretch). z.above) k
+bottom-context ls (BeforeVar nth n) s b h = absurd (cc)
+bottom-context ls (AfterVar nth n) s b h = absurd (cc)
+bottom-context ls (BeforeRule nth g) s b h = absurd (cc)
+
+define-at : (ls : List ClassedLine) (p : Place) (n : ℕ) → (is_bottom p ≡ true → (context_of ls).defines ≡ n) → open_define_at ls p ≡ where_holds (is_bottom p && nat_lt 0 n) OpenDefine
+define-at ls Bottom n h = ap (λ m. where_holds (nat_lt 0 m) OpenDefine) (h refl)
+define-at ls (BeforeVar nth x) n h = refl
+define-at ls (AfterVar nth x) n h = refl
+define-at ls (BeforeRule nth g) n h = refl
+
+place-defines : (ls : List PlacedLine) (p : Place) (f : Found) → IsInsertedAt ls (place_found (classed_lines (placed_text ls)) p) f → is_bottom p ≡ true
+    → (context_of (classed_lines (placed_text ls))).defines ≡ f.context.defines
+place-defines ls p f N b =
+    let k : classed_lines (placed_text ls) ≡ N.stretch.above = bottom-context (classed_lines (placed_text ls)) p N.stretch b N.stretch_is in
+    ap (λ (z : List ClassedLine). (context_of z).defines) k ∙ ap (λ c. c.defines) N.context_is
+
+pub open_define-at : (ls : List PlacedLine) (e : Edit) (f : Found) (b : Bool) → IsOfNewLine e → IsInsertedAt ls (insertion (classed_lines (placed_text ls)) e) f
+    → b ≡ (is_at_bottom e && nat_lt 0 f.context.defines) → open_define (classed_lines (placed_text ls)) e ≡ where_holds b OpenDefine
+open_define-at ls (AddAssign p n g v) f b u N k = define-at (classed_lines (placed_text ls)) p f.context.defines (place-defines ls p f N) ∙ ap (λ z. where_holds z OpenDefine) (sym k)
+open_define-at ls (AddRule p ts c ws) f b u N k = define-at (classed_lines (placed_text ls)) p f.context.defines (place-defines ls p f N) ∙ ap (λ z. where_holds z OpenDefine) (sym k)
+open_define-at ls (AddRecipe nth g c) f b u N k = ap (λ z. where_holds z OpenDefine) (sym k)
+open_define-at ls (SetValue nth n v) f b u N k = absurd u
+open_define-at ls (AppendValue nth n v) f b u N k = absurd u
+open_define-at ls (RemoveAssign nth n) f b u N k = absurd u
+open_define-at ls (RemoveRule nth g) f b u N k = absurd u
+open_define-at ls (AddPrereq o nth g w) f b u N k = absurd u
+open_define-at ls (RemovePrereq nth g w) f b u N k = absurd u
+open_define-at ls (SetRecipe nth g n c) f b u N k = absurd u
+open_define-at ls (RemoveRecipe nth g n) f b u N k = absurd u
+open_define-at ls (RenameTarget o n) f b u N k = absurd u
+
+-- ---- Leans
+
+none-removed : (ls : List ClassedLine) (e : Edit) → IsOfNewLine e → removal ls e ≡ None
+none-removed ls (AddAssign p n f v) u = refl
+none-removed ls (AddRule p ts c ws) u = refl
+none-removed ls (AddRecipe nth g c) u = refl
+none-removed ls (SetValue nth n v) u = absurd u
+none-removed ls (AppendValue nth n v) u = absurd u
+none-removed ls (RemoveAssign nth n) u = absurd u
+none-removed ls (RemoveRule nth g) u = absurd u
+none-removed ls (AddPrereq o nth g w) u = absurd u
+none-removed ls (RemovePrereq nth g w) u = absurd u
+none-removed ls (SetRecipe nth g k c) u = absurd u
+none-removed ls (RemoveRecipe nth g k) u = absurd u
+none-removed ls (RenameTarget o n) u = absurd u
+
+or-false : (b : Bool) → (b || false) ≡ b
+or-false true = refl
+or-false false = refl
+
+pub leaning-at : (ls : List PlacedLine) (e : Edit) (f : Found) (b : Bool) → IsFaithful ls → IsOfNewLine e → IsInsertedAt ls (insertion (classed_lines (placed_text ls)) e) f
+    → b ≡ (not (is_same_flag (flag_below_new e) f.context.flag) && is_led_first_placed f.context.prefix (drop f.at ls))
+    → leaning (classed_lines (placed_text ls)) e ≡ where_holds b Leans
+leaning-at ls e f b h u N k =
+    let cls = classed_lines (placed_text ls) in
+    let s = N.stretch in
+    let I = place-in ls (insertion cls e) f h N in
+    let led : is_led_first_placed f.context.prefix (drop f.at ls) ≡ _ = ap (is_led_first_placed f.context.prefix) I.below_is ∙ led_first-placed f.context.prefix s.below in
+    let new : new_line_leans e (insertion cls e) ≡ leans f.context.prefix (flag_below_new e) f.context.flag s.below =
+    ap (new_line_leans e) N.stretch_is ∙ ap (λ c. leans c.prefix (flag_below_new e) c.flag s.below) N.context_is in
+    let same : b ≡ leans f.context.prefix (flag_below_new e) f.context.flag s.below = k ∙ ap (λ z. not (is_same_flag (flag_below_new e) f.context.flag) && z) led in
+    ap (λ o. where_holds (new_line_leans e (insertion cls e) || removal_leans o) Leans) (none-removed cls e u)
+    ∙ (ap (λ z. where_holds z Leans) (or-false (new_line_leans e (insertion cls e))) ∙ ap (λ z. where_holds z Leans) (new ∙ sym same))
+
+-- ---- TooLong
+
+new-spans : (t : List ℕ) (ls : List ClassedLine) (e : Edit) → IsOfNewLine e → spans_of t ls e ≡ where_found (new_line_span t e) (insertion ls e)
+new-spans t ls (AddAssign p n f v) u = refl
+new-spans t ls (AddRule p ts c ws) u = refl
+new-spans t ls (AddRecipe nth g c) u = refl
+new-spans t ls (SetValue nth n v) u = absurd u
+new-spans t ls (AppendValue nth n v) u = absurd u
+new-spans t ls (RemoveAssign nth n) u = absurd u
+new-spans t ls (RemoveRule nth g) u = absurd u
+new-spans t ls (AddPrereq o nth g w) u = absurd u
+new-spans t ls (RemovePrereq nth g w) u = absurd u
+new-spans t ls (SetRecipe nth g k c) u = absurd u
+new-spans t ls (RemoveRecipe nth g k) u = absurd u
+new-spans t ls (RenameTarget o n) u = absurd u
+
+put-length : (at : ℕ) (t new : List ℕ) → length (replaced 0 t (record { start = at; end = at; new = new } ∷ [])) ≡ length t + length new
+put-length at t new =
+    let n = at - 0 in
+    omega (arith, length-append (take n t) (new ++ drop n t), length-append new (drop n t), ap length (take-append-drop n t), length-append (take n t) (drop n t))
+
+missing-length : (e : End) (above below : List ClassedLine) (b : Bool) → b ≡ (is_empty below && last_passes lacks_line_end above)
+    → length (missing_line_end e above below) + length (line_end_bytes e) ≡ (cond b (length (line_end_bytes e) + length (line_end_bytes e)) (length (line_end_bytes e)))
+missing-length e above below b k =
+    ap (λ z. length (cond z (line_end_bytes e) []) + length (line_end_bytes e)) (sym k) ∙ go b
+  where
+    go : (b : Bool) → length (cond b (line_end_bytes e) []) + length (line_end_bytes e) ≡ cond b (length (line_end_bytes e) + length (line_end_bytes e)) (length (line_end_bytes e))
+    go true = refl
+    go false = omega arith
+
+pub too_long-at : (ls : List PlacedLine) (e : Edit) (f : Found) (b : Bool) → IsFaithful ls → IsOfNewLine e → IsInsertedAt ls (insertion (classed_lines (placed_text ls)) e) f
+    → ((prefix : ℕ) → b ≡ nat_lt greatest_length (size_of ls + (length (new_text prefix e) + ends_length ls f.at)))
+    → too_long (placed_text ls) (spans_of (placed_text ls) (classed_lines (placed_text ls)) e) ≡ where_holds b TooLong
+too_long-at ls e f b h u N k =
+    let t = placed_text ls in
+    let cls = classed_lines t in
+    let s = N.stretch in
+    let end = file_line_end t in
+    let I = place-in ls (insertion cls e) f h N in
+    let p = (context_of s.above).prefix in
+    let spans : spans_of t cls e ≡ new_line_span t e s = new-spans t cls e u ∙ ap (where_found (new_line_span t e)) N.stretch_is in
+    let follows : follows_unended ls f.at ≡ (is_empty s.below && last_passes lacks_line_end s.above) =
+    ap (λ (z : List PlacedLine). (f.at == length z) && is_unended (last_line z)) I.shown ∙ follows-last is_unended lacks_line_end refl (λ l. refl) s.above s.below f.at N.place_is in
+    let ends = missing-length end s.above s.below (follows_unended ls f.at) follows in
+    let put = put-length (length (text_of s.above)) t (missing_line_end end s.above s.below ++ (new_text p e ++ line_end_bytes end)) in
+    let total : length (replaced 0 t (new_line_span t e s)) ≡ size_of ls + (length (new_text p e) + ends_length ls f.at) =
+    omega (arith, put, length-append (missing_line_end end s.above s.below) (new_text p e ++ line_end_bytes end), length-append (new_text p e) (line_end_bytes end), ends, size_of-text ls) in
+    ap (λ z. too_long t z) spans ∙ (ap (λ n. where_holds (nat_lt greatest_length n) TooLong) total ∙ ap (λ z. where_holds z TooLong) (sym (k p)))

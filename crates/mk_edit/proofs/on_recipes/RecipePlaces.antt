@@ -1,0 +1,89 @@
+-- The recipe line of a number of a rule, as it stands in a document.
+use Rattle.std.proofs.Common.{◌≡◌, refl, sym, ap, ◌∙◌, subst, arith, ℕ, zero, suc, ◌+◌, ◌<◌, true, not, List, [], ◌∷◌, ◌++◌, map, length, length-append, Option, Some, None, is_some, option_map}
+use Rattle.std.specs.Prelude.{option_and_then}
+use Rattle.std.proofs.lemmas.List.{length-map}
+use Rattle.mk_lines.specs.Cells.{Cell}
+use Rattle.mk_class.specs.Classes.{Class, is_recipe}
+use Rattle.mk_class.specs.ClassTable.{class_of}
+use Rattle.mk_class.specs.Contexts.{Context, context_after}
+use Rattle.mk_class.specs.ClassedLines.{ClassedLine, classed_lines}
+use Rattle.mk_class.specs.declared.context.Flag.TheVariants as flag
+use Rattle.mk_tree.specs.Documents.{IsFaithful, context_of}
+use Rattle.mk_tree.specs.PlacedLines.{PlacedLine, placed_line, placed_text}
+use Rattle.mk_tree.proofs.on_documents.LinePlaces.{located, context_of-last}
+use Rattle.mk_edit_laws.specs.Spots.{Spot, nth_of}
+use Rattle.mk_edit_laws.specs.Addresses.{Rule}
+use Rattle.mk_edit_laws.specs.Stretches.{below_header, recipe_spot, recipe_found}
+use Rattle.mk_edit_laws.proofs.on_edits.EditPlaces.{recipe_found-spot, recipe_found-recipe}
+use Rattle.mk_edit_laws.proofs.on_lines.SpotLemmas.{recipe-class}
+use Rattle.mk_edit_laws.proofs.on_recipes.RecipeClassLemmas.{recipe-stands}
+use Rattle.mk_edit.specs.RecipeWalks.{lines_from, recipe_spots_in}
+use Rattle.mk_edit.specs.declared.seek.Found.{Found}
+use Rattle.mk_edit.proofs.on_recipes.RulePlaces.{IsRuleAt}
+
+nth-map : {A B : Type 0} (f : A → B) (n : ℕ) (xs : List A) → nth_of n (map f xs) ≡ option_map f (nth_of n xs)
+nth-map f n [] = refl
+nth-map f zero (x ∷ xs) = refl
+nth-map f (suc zero) (x ∷ xs) = refl
+nth-map f (suc (suc n)) (x ∷ xs) = nth-map f (suc n) xs
+
+-- where the code finds the recipe line of a number
+abbrev pub place_in_rule : List PlacedLine → (from number : ℕ) → Option ℕ
+place_in_rule ls from n = option_map (λ s. from + length s.above) (nth_of n (recipe_spots_in (lines_from ls from)))
+
+-- what the number means, by the lines below the header
+found-below : (ls : List PlacedLine) (nth : Option ℕ) (g : List ℕ) (f : Found) (n : ℕ) → (R : IsRuleAt ls nth g f)
+    → recipe_found (classed_lines (placed_text ls)) nth g n ≡ option_map (below_header R.spot) (nth_of n (recipe_spots_in (lines_from ls (f.at + 1))))
+found-below ls nth g f n R =
+    ap (option_and_then (recipe_spot n)) R.found_is
+    ∙ (nth-map (below_header R.spot) n (recipe_spots_in R.spot.below) ∙ ap (λ z. option_map (below_header R.spot) (nth_of n (recipe_spots_in z))) (sym R.below_is))
+
+-- the code finds none where there is none
+pub found-none : (ls : List PlacedLine) (nth : Option ℕ) (g : List ℕ) (f : Found) (n : ℕ) → IsRuleAt ls nth g f → None ≡ place_in_rule ls (f.at + 1) n → recipe_found (classed_lines (placed_text ls)) nth g n ≡ None
+found-none ls nth g f n R h = found-below ls nth g f n R ∙ go (nth_of n (recipe_spots_in (lines_from ls (f.at + 1)))) h
+  where
+    go : (o : Option Spot) → None ≡ option_map (λ (s : Spot). f.at + 1 + length s.above) o → option_map (below_header R.spot) o ≡ None
+    go None e = refl
+    go (Some q) e = absurd (cc)
+
+-- what is known of a document where a recipe line stands
+pub record IsRecipeAt (ls : List PlacedLine) (nth : Option ℕ) (g : List ℕ) (n at : ℕ) : Type 0 where
+  pub spot : Spot
+  pub found_is : recipe_found (classed_lines (placed_text ls)) nth g n ≡ Some spot
+  pub lines : classed_lines (placed_text ls) ≡ spot.above ++ spot.line ∷ spot.below
+  pub place_is : length spot.above ≡ at
+  pub within : at < length ls
+  pub class_is : spot.line.class ≡ Class.Recipe
+  -- a rule is open before it and after it
+  pub flag_before : (context_of spot.above).flag ≡ flag.Rule
+  pub flag_after : (context_of (spot.above ++ spot.line ∷ [])).flag ≡ flag.Rule
+
+recipe-at : (ls : List PlacedLine) (nth : Option ℕ) (g : List ℕ) (n at : ℕ) (s : Spot) → IsFaithful ls → recipe_found (classed_lines (placed_text ls)) nth g n ≡ Some s → length s.above ≡ at → IsRecipeAt ls nth g n at
+recipe-at ls nth g n at s h e p =
+    let lines = classed_lines (placed_text ls) in
+    let whole : lines ≡ s.above ++ s.line ∷ s.below = recipe_found-spot lines nth g n s e in
+    let r : is_recipe s.line.class ≡ true = recipe_found-recipe lines nth g n s e in
+    let k = recipe-class s.line.class r in
+    let L = located (placed_text ls) s.above s.line s.below whole in
+    let S = recipe-stands (context_of s.above) s.line.bytes (ap is_recipe L.class ∙ r) in
+    let many : length ls ≡ length (s.above ++ s.line ∷ s.below) = ap length h ∙ (length-map lines placed_line ∙ ap length whole) in
+    record {
+      spot = s;
+      found_is = e;
+      lines = whole;
+      place_is = p;
+      within = omega (arith, many, length-append s.above (s.line ∷ s.below), p);
+      class_is = k;
+      flag_before = S.in_rule;
+      flag_after = ap (λ (c : Context). c.flag) (context_of-last s.above s.line ∙ ap (context_after (context_of s.above)) k);
+    }
+
+-- the code finds it where it stands
+pub found-some : (ls : List PlacedLine) (nth : Option ℕ) (g : List ℕ) (f : Found) (n at : ℕ) → IsFaithful ls → IsRuleAt ls nth g f → Some at ≡ place_in_rule ls (f.at + 1) n → IsRecipeAt ls nth g n at
+found-some ls nth g f n at h R e = go (nth_of n (recipe_spots_in (lines_from ls (f.at + 1)))) e (found-below ls nth g f n R)
+  where
+    go : (o : Option Spot) → Some at ≡ option_map (λ (s : Spot). f.at + 1 + length s.above) o → recipe_found (classed_lines (placed_text ls)) nth g n ≡ option_map (below_header R.spot) o → IsRecipeAt ls nth g n at
+    go None e k = absurd (cc)
+    go (Some q) e k =
+        let m : at ≡ f.at + 1 + length q.above = cc in
+        recipe-at ls nth g n at (below_header R.spot q) h k (omega (arith, m, R.place_is, length-append R.spot.above (R.spot.line ∷ q.above)))

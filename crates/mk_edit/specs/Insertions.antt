@@ -1,0 +1,61 @@
+-- Where a new line goes in a document, and the causes of refusal that its place decides.
+use Rattle.std.specs.Prelude.{◌≡◌, ◌+◌, ℕ, Bool, true, false, if◌then◌else◌, List, [], ◌∷◌, ◌++◌, length, Option, Some, None}
+use Rattle.mk_lines.specs.LogicalLines.{is_open}
+use Rattle.mk_lines.specs.PhysicalLines.{line_end_bytes, file_line_end}
+use Rattle.mk_class.specs.ClassedLines.{classed_lines}
+use Rattle.mk_tree.specs.Documents.{context_of}
+use Rattle.mk_tree.specs.PlacedLines.{PlacedLine, placed_text}
+use Rattle.mk_edit_laws.specs.Edits.{Place, Bottom, Edit, AddAssign, AddRule, AddRecipe}
+use Rattle.mk_edit_laws.specs.Stretches.{Stretch}
+use Rattle.mk_edit_laws.specs.Spans.{spans_of}
+use Rattle.mk_edit_laws.specs.LineCauses.{open_line, open_define, leaning, too_long}
+use Rattle.mk_edit_laws.specs.declared.refusal.Refusal.{Refusal}
+use Rattle.mk_edit.specs.PlannedMoves.{follows_unended}
+use Rattle.mk_edit.specs.declared.seek.Found.{Found}
+
+-- an edit that puts a line in
+abbrev pub IsOfNewLine : Edit → Type 0
+IsOfNewLine (AddAssign p n f v) = Unit {0}
+IsOfNewLine (AddRule p ts c ws) = Unit {0}
+IsOfNewLine (AddRecipe nth t c) = Unit {0}
+IsOfNewLine e = ⊥
+
+-- an edit that puts a line in at a place that it names
+abbrev pub IsOfPlace : Edit → Type 0
+IsOfPlace (AddAssign p n f v) = Unit {0}
+IsOfPlace (AddRule p ts c ws) = Unit {0}
+IsOfPlace e = ⊥
+
+-- whether a place is the end of the text
+abbrev pub is_bottom : Place → Bool
+is_bottom Bottom = true
+is_bottom p = false
+
+-- whether an edit puts a line in there
+abbrev pub is_at_bottom : Edit → Bool
+is_at_bottom (AddAssign p n f v) = is_bottom p
+is_at_bottom (AddRule p ts c ws) = is_bottom p
+is_at_bottom e = false
+
+-- A new line goes between the lines of a document: there is a stretch for it, which begins at a place, with the context there.
+pub record IsInsertedAt (ls : List PlacedLine) (insertion : Option Stretch) (place : Found) : Type 0 where
+  pub stretch : Stretch
+  pub stretch_is : insertion ≡ Some stretch
+  pub whole : classed_lines (placed_text ls) ≡ stretch.above ++ stretch.below
+  pub place_is : length stretch.above ≡ place.at
+  pub context_is : context_of stretch.above ≡ place.context
+
+-- the causes that the place of a new line decides, in their order
+abbrev pub place_causes : (text : List ℕ) → Edit → List (Option Refusal)
+place_causes t e = let ls = classed_lines t in open_line ls e ∷ open_define ls e ∷ leaning ls e ∷ too_long t (spans_of t ls e) ∷ []
+
+-- whether a line is open, where there is one
+abbrev pub is_open_line : Option PlacedLine → Bool
+is_open_line None = false
+is_open_line (Some l) = is_open l.bytes
+
+-- how many bytes the line ends have that come with a line at a place: its own, and that of a last line that has none
+abbrev pub ends_length : List PlacedLine → (at : ℕ) → ℕ
+ends_length ls at =
+    let n = length (line_end_bytes (file_line_end (placed_text ls))) in
+    if follows_unended ls at then n + n else n

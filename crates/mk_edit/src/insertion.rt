@@ -1,0 +1,181 @@
+//! Where new lines go, and the causes of refusal that their places decide.
+ghost use Rattle.std.specs.Prelude.{◌≡◌, ◌+◌, ◌<◌, ◌≤◌, ◌==◌, ◌&&◌, nat_lt, not, ℕ, drop, length, take, min};
+ghost use Rattle.mk_class.specs.ClassedLines.{classed_lines};
+ghost use Rattle.mk_lines.specs.PhysicalLines.{line_end_bytes};
+ghost use Rattle.mk_edit.specs.LineRanges.{is_led_first_placed};
+ghost use Rattle.mk_tree.specs.Documents.{IsFaithful, context_of};
+ghost use Rattle.mk_tree.specs.Leaning.{is_same_flag};
+ghost use Rattle.mk_tree.specs.PlacedLines.{last_line, placed_text, size_of};
+ghost use Rattle.mk_edit_laws.specs.Addresses as addresses;
+ghost use Rattle.mk_edit_laws.specs.LineCauses.{flag_below_new, greatest_length};
+ghost use Rattle.mk_edit_laws.specs.Refusals.{first_cause};
+ghost use Rattle.mk_edit_laws.specs.NewLines.{new_text};
+ghost use Rattle.mk_edit_laws.specs.Stretches.{insertion, place_found};
+ghost use Rattle.mk_edit.specs.EditViews as views;
+ghost use Rattle.mk_edit.specs.EditViews.{edit_of};
+ghost use Rattle.mk_edit.specs.Found.{IsMeant};
+ghost use Rattle.mk_edit.specs.Insertions.{IsInsertedAt, IsOfNewLine, IsOfPlace, ends_length, is_at_bottom, is_bottom, is_open_line, place_causes};
+
+use crate::edit::{Edit, Place};
+use crate::lean::leans;
+use crate::line_end::file_line_end;
+use crate::moves::follows_unended;
+use crate::new_line::new_len;
+use crate::place::after_lines;
+use crate::seek::Found;
+use mk_class::Flag;
+use mk_edit_laws::Refusal;
+use mk_lines::ends::{End, is_open};
+use mk_tree::Doc;
+use mk_tree::parse::SIZE_LIMIT;
+use std::alloc::Allocator;
+
+/// Where the new line of an edit goes, `found` being the line that its place names, or the end where it
+/// names none. It reads no line anew and takes no memory.
+pub(crate) fn insertion_of<A: Allocator>(doc: &Doc<A>, edit: &Edit<A>, found: Found) -> Found
+    requires faithful { IsFaithful doc.now }
+    requires of_place { IsOfPlace (edit_of edit.now) }
+    requires meant { IsMeant (classed_lines (placed_text doc.now)) (addresses.address (edit_of edit.now)) found }
+    ensures { IsInsertedAt doc.now (insertion (classed_lines (placed_text doc.now)) (edit_of edit.now)) result }
+{
+    match edit {
+        Edit::AddAssign { place, .. } | Edit::AddRule { place, .. } => place_of(doc, place, found),
+        _ => found,
+    }
+}
+
+// Where a new line of this place goes.
+fn place_of<A: Allocator>(doc: &Doc<A>, place: &Place<A>, found: Found) -> Found
+    requires faithful { IsFaithful doc.now }
+    requires meant { IsMeant (classed_lines (placed_text doc.now)) (addresses.place_address (views.place_of place.now)) found }
+    ensures { IsInsertedAt doc.now (place_found (classed_lines (placed_text doc.now)) (views.place_of place.now)) result }
+{
+    match place {
+        Place::AfterVar { .. } => after_lines(doc, found, 1),
+        _ => found,
+    }
+}
+
+/// The first of the causes of refusal that the place of an edit's new line decides: it would follow an
+/// open line, or stand in an open define, lines below lean on it, or the result is too long. It walks
+/// over the lines below the place, reads none anew and takes no memory.
+pub(crate) fn place_refusal<A: Allocator>(
+    doc: &Doc<A>,
+    edit: &Edit<A>,
+    place: &Found,
+) -> Option<Refusal>
+    requires faithful { IsFaithful doc.now }
+    requires of_new_line { IsOfNewLine (edit_of edit.now) }
+    requires inserted { IsInsertedAt doc.now (insertion (classed_lines (placed_text doc.now)) (edit_of edit.now)) place.now }
+    ensures { result ≡ first_cause (place_causes (placed_text doc.now) (edit_of edit.now)) }
+{
+    if follows_open_line(doc, place.at) {
+        return Some(Refusal::OpenLine);
+    }
+    if is_in_define(edit, place) {
+        return Some(Refusal::OpenDefine);
+    }
+    if is_leaned_on(doc, edit, place) {
+        return Some(Refusal::Leans);
+    }
+    if is_too_long(doc, edit, place.at) {
+        return Some(Refusal::TooLong);
+    }
+    None
+}
+
+// Whether a new line at this place would follow a last line that is open.
+fn follows_open_line<A: Allocator>(doc: &Doc<A>, at: usize) -> bool
+    ensures { result ≡ ((at == length doc.now) && is_open_line (last_line doc.now)) }
+{
+    at == doc.len() && is_last_open(doc)
+}
+
+// Whether there is a last line, and it is open.
+fn is_last_open<A: Allocator>(doc: &Doc<A>) -> bool
+    ensures { result ≡ is_open_line (last_line doc.now) }
+{
+    let count = doc.len();
+    count != 0 && is_open(doc.line(count - 1).bytes())
+}
+
+// Whether the new line of an edit would stand at the end of the document, in an open define.
+fn is_in_define<A: Allocator>(edit: &Edit<A>, place: &Found) -> bool
+    ensures { result ≡ (is_at_bottom (edit_of edit.now) && nat_lt 0 place.now.context.defines) }
+{
+    is_at_bottom(edit) && place.context.defines() > 0
+}
+
+// Whether an edit puts a line in at the end of the document.
+fn is_at_bottom<A: Allocator>(edit: &Edit<A>) -> bool
+    ensures { result ≡ is_at_bottom (edit_of edit.now) }
+{
+    match edit {
+        Edit::AddAssign { place, .. } | Edit::AddRule { place, .. } => is_bottom(place),
+        _ => false,
+    }
+}
+
+// Whether a place is the end of the document.
+fn is_bottom<A: Allocator>(place: &Place<A>) -> bool
+    ensures { result ≡ is_bottom (views.place_of place.now) }
+{
+    matches!(place, Place::Bottom)
+}
+
+// Whether the lines from a place on lean on the flag with an edit's new line above them and the flag
+// without it.
+fn is_leaned_on<A: Allocator>(doc: &Doc<A>, edit: &Edit<A>, place: &Found) -> bool
+    requires { place.now.at ≤ length doc.now }
+    ensures { result ≡ (not (is_same_flag (flag_below_new (edit_of edit.now)) place.now.context.flag) && is_led_first_placed place.now.context.prefix (drop place.now.at doc.now)) }
+{
+    let context = place.context;
+    let below = flag_below(edit);
+    leans(doc, place.at, context.prefix(), below, context.flag())
+}
+
+// The flag below the new line of an edit.
+fn flag_below<A: Allocator>(edit: &Edit<A>) -> Flag
+    ensures { result ≡ flag_below_new (edit_of edit.now) }
+{
+    match edit {
+        Edit::AddAssign { .. } => Flag::Off,
+        _ => Flag::Rule,
+    }
+}
+
+// Whether the document with the new line of an edit, put in at a place, has more bytes than it may.
+fn is_too_long<A: Allocator>(doc: &Doc<A>, edit: &Edit<A>, at: usize) -> bool
+    requires { IsFaithful doc.now }
+    ensures { (prefix : ℕ) → result ≡ nat_lt greatest_length (size_of doc.now + (length (new_text prefix (edit_of edit.now)) + ends_length doc.now at)) }
+{
+    let others = doc.size() + ends_len(doc, at);
+    new_len(edit).saturating_add(others) > SIZE_LIMIT
+}
+
+// How many bytes the line ends have that come with a line at this place: its own, and that of a last
+// line that has none.
+fn ends_len<A: Allocator>(doc: &Doc<A>, at: usize) -> usize
+    requires { IsFaithful doc.now }
+    ensures number { result ≡ ends_length doc.now at }
+    ensures few { result ≤ 4 }
+{
+    let end = end_len(file_line_end(doc));
+    if follows_unended(doc, at) {
+        end + end
+    } else {
+        end
+    }
+}
+
+// How many bytes a line end has.
+fn end_len(end: End) -> usize
+    ensures number { result ≡ length (line_end_bytes end) }
+    ensures few { result ≤ 2 }
+{
+    match end {
+        End::None => 0,
+        End::Lf => 1,
+        End::CrLf => 2,
+    }
+}
