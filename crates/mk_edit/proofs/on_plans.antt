@@ -2,3 +2,4 @@
 pub mod PlanLemmas
 pub mod LinePlans
 pub mod NewLinePlans
+pub mod DocumentPlaces

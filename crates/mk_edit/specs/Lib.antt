@@ -1,7 +1,8 @@
 pub mod EditViews
-pub mod Planned
-pub mod PlannedMoves
 -- The line that an edit means
 pub mod PlacedParts
 pub mod Seeking
 pub mod Found
+-- What planning answers, and the moves of an edit
+pub mod Planned
+pub mod PlannedMoves

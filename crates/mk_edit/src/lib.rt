@@ -10,13 +10,17 @@
 //! - `argument`: the causes of refusal that the fields of an edit decide.
 //! - `address`: the line that an edit means, as it says it.
 //! - `text`: texts compared.
+//! - `line_end`: the line ends of new lines.
+//! - `moves`: the patches of edits whose causes are decided.
 #![tactic(auto)]
 
 mod address;
 mod argument;
 pub mod edit;
 mod find;
+mod line_end;
 mod line_test;
+mod moves;
 mod part;
 mod seek;
 mod text;

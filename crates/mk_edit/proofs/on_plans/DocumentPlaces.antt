@@ -1,0 +1,68 @@
+-- Places of a document, for code that reads a line there.
+use Rattle.std.proofs.Common.{◌≡◌, refl, sym, ap, ◌∙◌, arith, ℕ, zero, suc, ◌+◌, ◌-◌, ◌^◌, ◌<◌, ◌≤◌, List, [], ◌∷◌, ◌++◌, length, take, Option, Some, None}
+use Rattle.std.specs.Prelude.{slice_get}
+use Rattle.mk_lines.specs.LogicalLines.{logical_lines}
+use Rattle.mk_lines.specs.LogicalLines.{has_no_line_end}
+use Rattle.mk_lines.specs.PhysicalLines.{line_end, line_end_bytes, file_line_end}
+use Rattle.mk_lines.proofs.on_lines.FileEndLemmas.{file_line_end-first}
+use Rattle.mk_class.specs.Contexts.{Context, start, context_after}
+use Rattle.mk_class.specs.ClassedLines.{ClassedLine, classed, context_after_lines}
+use Rattle.mk_tree.specs.Documents.{IsFaithful}
+use Rattle.mk_tree.specs.PlacedLines.{PlacedLine, placed_lines, placed_text}
+use Rattle.mk_tree.specs.PlacedLines.{size_of, last_line, bytes_of_line}
+use Rattle.mk_tree.proofs.AdmissionLemmas.{defines_after-few}
+use Rattle.mk_tree.proofs.Ends.{last-place}
+use Rattle.mk_edit.specs.PlannedMoves.{is_unended, last_bytes_ended, CanInsert}
+
+-- ---- open defines
+
+-- some lines open at most one each
+defines-few : (c : Context) (ls : List ClassedLine) → (context_after_lines c ls).defines ≤ c.defines + length ls
+defines-few c [] = omega arith
+defines-few c (l ∷ ls) = omega (arith, defines-few (context_after c l.class) ls, defines_after-few c.defines l.class)
+
+take-few : {X : Type 0} (n : ℕ) (xs : List X) → length (take n xs) ≤ n
+take-few zero xs = omega arith
+take-few (suc n) [] = omega arith
+take-few (suc n) (x ∷ xs) = omega (arith, take-few n xs)
+
+-- so there are few at a place that is low
+pub defines-at : (ls : List ClassedLine) (at : ℕ) → at < 2 ^ 24 → (context_after_lines start (take at ls)).defines < 2 ^ 24
+defines-at ls at low = omega (arith, defines-few start (take at ls), take-few at ls)
+
+-- a line has some bytes
+some-line : (m : List ℕ) → logical_lines m ≡ m ∷ [] → 0 < length m
+some-line [] h = absurd (let g : [] ≡ [] ∷ [] = h in cc)
+some-line (b ∷ m) h = omega arith
+
+-- where a line can be put in
+pub insert-low : (ls : List PlacedLine) (at : ℕ) (m : List ℕ) → CanInsert ls at m → length ls ≤ size_of ls → at < 2 ^ 24
+insert-low ls at m C few = omega (arith, C.in_range, C.fits, some-line m C.line.one, few)
+
+-- ---- the last line
+
+pub last-unended : (ls : List PlacedLine) (l : PlacedLine) (at : ℕ) → 0 < length ls → at ≡ length ls - 1 → Some l ≡ slice_get ls at → is_unended (last_line ls) ≡ has_no_line_end (line_end l.bytes)
+last-unended ls l at some e h = ap is_unended (last-place ls l at some e h)
+
+pub last-ended_bytes : (ls : List PlacedLine) (l : PlacedLine) (at : ℕ) → 0 < length ls → at ≡ length ls - 1 → Some l ≡ slice_get ls at → last_bytes_ended ls ≡ l.bytes ++ line_end_bytes (file_line_end (placed_text ls))
+last-ended_bytes ls l at some e h = ap (λ o. bytes_of_line o ++ line_end_bytes (file_line_end (placed_text ls))) (last-place ls l at some e h)
+
+-- ---- the line end of the file
+
+-- the first line of a faithful document tells it
+pub file_line_end-at_first : (ls : List PlacedLine) (l : PlacedLine) → IsFaithful ls → Some l ≡ slice_get ls 0 → file_line_end (placed_text ls) ≡ file_line_end l.bytes
+file_line_end-at_first ls l f h = go (logical_lines (placed_text ls)) refl
+  where
+    go : (lines : List (List ℕ)) → logical_lines (placed_text ls) ≡ lines → file_line_end (placed_text ls) ≡ file_line_end l.bytes
+    go [] e =
+        let none : ls ≡ [] = f ∙ ap (λ z. placed_lines (classed start z)) e in
+        absurd (let q : Some l ≡ None = h ∙ ap (λ z. slice_get z 0) none in cc)
+    go (first ∷ rest) e =
+        let shown : ls ≡ placed_lines (classed start (first ∷ rest)) = f ∙ ap (λ z. placed_lines (classed start z)) e in
+        let same : Some l.bytes ≡ Some first = ap bytes_shown (h ∙ ap (λ z. slice_get z 0) shown) in
+        let bytes : l.bytes ≡ first = cc in
+        file_line_end-first (placed_text ls) first rest e ∙ ap file_line_end (sym bytes)
+      where
+        bytes_shown : Option PlacedLine → Option (List ℕ)
+        bytes_shown None = None
+        bytes_shown (Some k) = Some k.bytes
