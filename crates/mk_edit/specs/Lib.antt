@@ -6,3 +6,7 @@ pub mod Found
 -- What planning answers, and the moves of an edit
 pub mod Planned
 pub mod PlannedMoves
+-- The words of a rule's line
+pub mod SeenHeaders
+pub mod WordCuts
+pub mod NewPrerequisites

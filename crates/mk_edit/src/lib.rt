@@ -12,6 +12,7 @@
 //! - `text`: texts compared.
 //! - `line_end`: the line ends of new lines.
 //! - `moves`: the patches of edits whose causes are decided.
+//! - `prerequisite`: the prerequisites in the line of a rule.
 #![tactic(auto)]
 
 mod address;
@@ -22,6 +23,7 @@ mod line_end;
 mod line_test;
 mod moves;
 mod part;
+mod prerequisite;
 mod seek;
 mod text;
 
