@@ -3,3 +3,5 @@ pub mod PlanLemmas
 pub mod LinePlans
 pub mod NewLinePlans
 pub mod DocumentPlaces
+pub mod CausePlans
+pub mod RemovalPlans

@@ -5,14 +5,19 @@
 //! that it takes beyond those bytes is taken here.
 ghost use Rattle.std.specs.Prelude.{◌≡◌, ◌≤◌, ◌<◌, ◌+◌, ◌^◌, ◌∷◌, [], length, IfOk, IsOkUnless};
 ghost use Rattle.mk_tree.specs.Documents.{IsFaithful};
-ghost use Rattle.mk_tree.specs.PlacedLines.{last_line};
+ghost use Rattle.mk_tree.specs.LineTexts.{line_in};
+ghost use Rattle.mk_tree.specs.PlacedLines.{last_line, placed_line};
 ghost use Rattle.mk_tree.specs.Trees.{line_view};
+ghost use Rattle.mk_lines.specs.LogicalLines.{logical_lines};
+ghost use Rattle.mk_patch.specs.Moves.{IsPlain};
 ghost use Rattle.mk_patch.specs.Steps.{move_of};
-ghost use Rattle.mk_edit.specs.PlannedMoves.{CanInsert, CanReplace, IsLineAt, follows_unended, inserting_moves, is_unended, last_bytes_ended, line_read_at, removing_moves, replacing_moves};
+ghost use Rattle.mk_edit.specs.PlannedMoves.{CanInsert, CanReplace, IsPlaceOf, follows_unended, inserting_moves, is_unended, last_bytes_ended, removing_moves, replacing_moves};
 
 use crate::line_end::{file_line_end, with_line_end};
-use mk_class::Meter;
+use crate::seek::Found;
+use mk_class::{Context, Meter};
 use mk_edit_laws::Refusal;
+use mk_lines::Fault;
 use mk_lines::ends::{End, line_end};
 use mk_patch::{Patch, PatchBuilder, Step};
 use mk_tree::{Doc, Line, LineBytes};
@@ -26,21 +31,21 @@ use std::alloc::Allocator;
 pub(crate) fn replace_line<A: Allocator + Copy>(
     alloc: A,
     doc: &Doc<A>,
-    at: usize,
+    place: Found,
     bytes: Vec<u8, A>,
     meter: &mut Meter,
 ) -> Result<Patch<A>, Refusal>
-    requires faithful { IsFaithful doc.now }
-    requires can { CanReplace doc.now at bytes.items }
-    ensures moves { IfOk result (λ patch. patch ≡ replacing_moves doc.now at bytes.items) }
+    requires place { IsPlaceOf doc.now place }
+    requires can { CanReplace doc.now place.at bytes.items }
+    ensures moves { IfOk result (λ patch. patch ≡ replacing_moves doc.now place.at bytes.items) }
     ensures refused { IsOkUnless result Refusal.NoMemory }
     ensures few_read { meter.new ≤ meter.old + 1 }
 {
     // The contract of `len` says that there are few lines, as reading asks.
     let _count = doc.len();
     let mut patch = builder(alloc, 1)?;
-    let line = read_at(alloc, doc, at, bytes, meter)?;
-    patch.push(Step::Exchange(at, line));
+    let line = read_line(alloc, bytes, place.context, meter)?;
+    patch.push(Step::Exchange(place.at, line));
     Ok(patch.finish())
 }
 
@@ -73,24 +78,25 @@ pub(crate) fn take_out<A: Allocator + Copy>(
 pub(crate) fn insert_line<A: Allocator + Copy>(
     alloc: A,
     doc: &Doc<A>,
-    at: usize,
+    place: Found,
     bytes: Vec<u8, A>,
     meter: &mut Meter,
 ) -> Result<Patch<A>, Refusal>
     requires faithful { IsFaithful doc.now }
-    requires can { CanInsert doc.now at bytes.items }
-    ensures moves { IfOk result (λ patch. patch ≡ inserting_moves doc.now at bytes.items) }
+    requires place { IsPlaceOf doc.now place }
+    requires can { CanInsert doc.now place.at bytes.items }
+    ensures moves { IfOk result (λ patch. patch ≡ inserting_moves doc.now place.at bytes.items) }
     ensures refused { IsOkUnless result Refusal.NoMemory }
     ensures few_read { meter.new ≤ meter.old + 1 }
 {
     // The contract of `size` says that no line is empty, so that there are few, as reading asks.
     let _size = doc.size();
     let mut patch = builder(alloc, 2)?;
-    if follows_unended(doc, at) {
+    if follows_unended(doc, place.at) {
         patch.push(Step::SwapEnd(last_line_ended(alloc, doc)?));
     }
-    let line = read_at(alloc, doc, at, bytes, meter)?;
-    patch.push(Step::PutIn(at, line));
+    let line = read_line(alloc, bytes, place.context, meter)?;
+    patch.push(Step::PutIn(place.at, line));
     Ok(patch.finish())
 }
 
@@ -137,25 +143,24 @@ fn last_line_ended<A: Allocator + Copy>(alloc: A, doc: &Doc<A>) -> Result<LineBy
     }
 }
 
-// A line of these bytes, read in the context of the lines before a place.
-fn read_at<A: Allocator + Copy>(
+// A line of these bytes, read in a context.
+fn read_line<A: Allocator + Copy>(
     alloc: A,
-    doc: &Doc<A>,
-    at: usize,
     bytes: Vec<u8, A>,
+    context: Context,
     meter: &mut Meter,
 ) -> Result<Line<A>, Refusal>
-    requires faithful { IsFaithful doc.now }
-    requires in_range { at ≤ length doc.now }
-    requires low { at < 2 ^ 24 }
-    requires line { IsLineAt doc.now at bytes.items }
-    ensures line { IfOk result (λ line. line_view line ≡ line_read_at doc.now at bytes.items) }
+    requires one { logical_lines bytes.items ≡ bytes.items ∷ [] }
+    requires plain { IsPlain (placed_line (line_in context bytes.items)) }
+    requires defines { context.defines < 2 ^ 24 }
+    ensures line { IfOk result (λ line. line_view line ≡ placed_line (line_in context bytes.items)) }
     ensures refused { IsOkUnless result Refusal.NoMemory }
     ensures few_read { meter.new ≤ meter.old + 1 }
 {
-    match Line::read(alloc, bytes, doc.context(at), meter) {
+    match Line::read(alloc, bytes, context, meter) {
         Ok(line) => Ok(line),
-        // No other fault comes, since the line opens no conditional.
-        Err(_) => Err(Refusal::NoMemory),
+        Err(Fault::NoMemory) => Err(Refusal::NoMemory),
+        // A line that opens no conditional is not too deep.
+        Err(_) => unreachable!(),
     }
 }
