@@ -12,3 +12,7 @@ pub mod Insertions
 -- The recipe of a rule, and its edits
 pub mod RecipeWalks
 pub mod RecipeEdits
+-- The words of a rule's line
+pub mod SeenHeaders
+pub mod WordCuts
+pub mod NewPrerequisites

@@ -25,6 +25,7 @@
 //! - `recipe_del`: the removal of a recipe line.
 //! - `new_line`: the text of new lines.
 //! - `insertion`: where new lines go, and the causes of refusal that their places decide.
+//! - `prerequisite`: the prerequisites in the line of a rule.
 //! - `removals`: edits that take lines out.
 #![tactic(auto)]
 
@@ -39,7 +40,9 @@ mod line_test;
 mod moves;
 mod new_line;
 mod part;
+
 mod place;
+mod prerequisite;
 mod range;
 mod recipe;
 mod recipe_del;

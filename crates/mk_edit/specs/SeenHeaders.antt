@@ -1,0 +1,33 @@
+-- The line of a rule as a document shows it: the places of its parts, and the header that they are of.
+use Rattle.std.specs.Prelude.{◌≡◌, ◌+◌, if◌then◌else◌, ◌++◌}
+use Rattle.mk_lines.specs.PhysicalLines.{line_end, line_end_bytes}
+use Rattle.mk_lines.specs.Cells.{Cell, joined_byte, line_cells, raw_text}
+use Rattle.mk_lines.specs.Lists.{concat}
+use Rattle.mk_lines.specs.declared.split.Span.{Span}
+use Rattle.mk_class.specs.Headers
+use Rattle.mk_class.specs.Headers.{header_units}
+use Rattle.mk_class.specs.ClassPlaces.{header_places}
+use Rattle.mk_class.specs.HeaderFits.{FitsHeader}
+use Rattle.mk_class.specs.LineParts.{IsHeaderPlaced}
+use Rattle.mk_class.specs.declared.rule.Header as header
+use Rattle.mk_tree.specs.PlacedLines.{PlacedLine}
+
+-- these are the places of this header, which the line is of
+pub record IsHeaderSeen (l : PlacedLine) (at : header.Header) (h : Headers.Header Cell) : Type 0 where
+  pub cells_are : line_cells l.bytes ≡ concat (header_units h)
+  pub whole : l.bytes ≡ raw_text (concat (header_units h)) ++ line_end_bytes (line_end l.bytes)
+  pub places_are : at ≡ header_places joined_byte h
+  pub placed : IsHeaderPlaced (line_cells l.bytes) at h
+  pub fits : FitsHeader joined_byte h
+
+-- a line is of some header with these places
+pub record HasHeader (l : PlacedLine) (at : header.Header) : Type 0 where
+  pub header : Headers.Header Cell
+  pub seen : IsHeaderSeen l at header
+
+-- where the normal and the order-only prerequisites stand in the joined text
+abbrev pub normal_span : header.Header → Span
+normal_span at = record { start = at.normal_start; end = at.normal_end }
+
+abbrev pub order_only_span : header.Header → Span
+order_only_span at = record { start = at.normal_end + (if at.has_order_only then 1 else 0); end = at.head_end }
