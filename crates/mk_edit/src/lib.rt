@@ -15,6 +15,10 @@
 mod address;
 mod argument;
 pub mod edit;
+mod find;
+mod line_test;
+mod part;
+mod seek;
 mod text;
 
 pub use edit::{Edit, Place};

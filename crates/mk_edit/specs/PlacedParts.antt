@@ -1,0 +1,64 @@
+-- What a document shows of a line by the places of its parts: the tests of lines that a walk over a document makes.
+use Rattle.std.specs.Prelude.{not, ◌&&◌, is_some, ◌≡◌, ℕ, Bool, false, List, [], ◌∷◌}
+use Rattle.mk_lines.specs.Cells.{joined_byte, joined_text, line_cells}
+use Rattle.mk_lines.specs.Ranges.{text_at}
+use Rattle.mk_class.specs.Texts.{is_same_text, is_one_of}
+use Rattle.mk_class.specs.RecipePrefix.{is_prefix_name}
+use Rattle.mk_class.specs.Contexts.{Context}
+use Rattle.mk_class.specs.ClassTable.{class_of}
+use Rattle.mk_class.specs.ClassPlaces.{class_places}
+use Rattle.mk_class.specs.declared.class.Class as class
+use Rattle.mk_class.specs.declared.class.Class.TheVariants as variants
+use Rattle.mk_tree.specs.PlacedLines.{PlacedLine}
+use Rattle.mk_edit_laws.specs.NewLines.{words_in}
+
+-- a line with the class that it has in some context
+pub record IsClassed (l : PlacedLine) : Type 0 where
+  pub context : Context
+  pub class_is : l.class ≡ class_places joined_byte (class_of context l.bytes)
+
+abbrev pub AreEachClassed : List PlacedLine → Type 0
+AreEachClassed [] = Unit {0}
+AreEachClassed (l ∷ ls) = IsClassed l × AreEachClassed ls
+
+-- the joined text of a line
+abbrev pub text_of_line : PlacedLine → List ℕ
+text_of_line l = joined_text (line_cells l.bytes)
+
+-- the words that stand before a place in a text
+abbrev pub words_before : (end : ℕ) → List ℕ → List (List ℕ)
+words_before end t = words_in (text_at t (record { start = 0; end = end }))
+
+-- whether a line of this joined text and class assigns the variable of this name
+abbrev pub assigns_in : (text name : List ℕ) → class.Class → Bool
+assigns_in t n (variants.Assign a p) = is_same_text (text_at t a.name) n
+assigns_in t n k = false
+
+abbrev pub assigns_placed : (name : List ℕ) → PlacedLine → Bool
+assigns_placed n l = assigns_in (text_of_line l) n l.class
+
+-- whether a line of this joined text and class is the header of a rule for this target
+abbrev pub is_rule_for_in : (text target : List ℕ) → class.Class → Bool
+is_rule_for_in t g (variants.Header h) = is_one_of g (words_before h.targets_end t)
+is_rule_for_in t g k = false
+
+abbrev pub is_rule_for_placed : (target : List ℕ) → PlacedLine → Bool
+is_rule_for_placed g l = is_rule_for_in (text_of_line l) g l.class
+
+-- whether this word is a target of a line of this joined text and class
+abbrev pub is_target_in : (text word : List ℕ) → class.Class → Bool
+is_target_in t w (variants.Header h) = is_one_of w (words_before h.targets_end t)
+is_target_in t w (variants.TargetAssign a) = is_one_of w (words_before a.targets_end t)
+is_target_in t w k = false
+
+abbrev pub is_target_placed : (word : List ℕ) → PlacedLine → Bool
+is_target_placed w l = is_target_in (text_of_line l) w l.class
+
+-- whether a line of this joined text and class sets the recipe prefix in a way that is not read
+abbrev pub is_unread_in : (text : List ℕ) → class.Class → Bool
+is_unread_in t (variants.Assign a p) = not (is_some p) && is_prefix_name (text_at t a.name)
+is_unread_in t (variants.DefineHead p) = p
+is_unread_in t k = false
+
+abbrev pub is_unread_placed : PlacedLine → Bool
+is_unread_placed l = is_unread_in (text_of_line l) l.class
