@@ -5,3 +5,6 @@ pub mod PlannedMoves
 pub mod PlacedParts
 pub mod Seeking
 pub mod Found
+-- A rename
+pub mod RenamedPlaces
+pub mod RenamedTexts
