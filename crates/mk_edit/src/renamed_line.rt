@@ -1,12 +1,12 @@
 //! The bytes of a line after a rename.
-ghost use Rattle.std.specs.Prelude.{◌≡◌, ◌≤◌, ◌++◌, IfOk, length};
+ghost use Rattle.std.specs.Prelude.{◌≡◌, ◌≤◌, [], ◌∷◌, ◌++◌, IfOk, length};
 ghost use Rattle.mk_lines.specs.Cells.{line_cells};
 ghost use Rattle.mk_tree.specs.Trees.{line_view};
 ghost use Rattle.mk_edit.specs.PlacedParts.{IsClassed};
 ghost use Rattle.mk_edit.specs.RenamedPlaces.{IsWithin, part_places, renamed_places};
 ghost use Rattle.mk_edit.specs.RenamedTexts.{AreApart, renamed_text, written, written_to};
 
-use crate::part::{part, text_of_line};
+use crate::part::{part, rest, text_of_line};
 use crate::word_parts::{parts_of, place_of_word};
 use mk_class::Class;
 use mk_lines::split::Span;
@@ -38,7 +38,7 @@ pub(crate) fn renamed_bytes<A: Allocator + Copy>(
     let targets_end = write_part(&mut bytes, line, parts.targets, from, to, 0)?;
     let normal_end = write_part(&mut bytes, line, parts.normal, from, to, targets_end)?;
     let end = write_part(&mut bytes, line, parts.order_only, from, to, normal_end)?;
-    bytes.extend_from_slice(&line.bytes()[end..])?;
+    bytes.extend_from_slice(rest(line.bytes(), end))?;
     Ok(bytes)
 }
 
@@ -60,10 +60,26 @@ fn write_part<A: Allocator + Copy>(
     let mut done = done;
     'words: for word in words(part(text_of_line(line), span)) {
         if let Some(place) = place_of_word(line, span.start, word, from) {
-            bytes.extend_from_slice(part(line.bytes(), Span { start: done, end: place.start }))?;
-            bytes.extend_from_slice(to)?;
+            write_word(bytes, line.bytes(), done, place, to)?;
             done = place.end;
         }
     }
     Ok(done)
+}
+
+// Writes a line from a place up to a word, and in the place of the word the new one.
+fn write_word<A: Allocator>(
+    bytes: &mut Vec<u8, A>,
+    line: &[u8],
+    done: usize,
+    word: Span,
+    to: &[u8],
+) -> Result<(), AllocError>
+    requires after { done ≤ word.start }
+    requires within { word.start ≤ length line.now }
+    ensures { IfOk result (λ _. bytes.new.items ≡ bytes.old.items ++ written line.now done to.now (word ∷ [])) }
+{
+    bytes.extend_from_slice(&line[done..word.start])?;
+    bytes.extend_from_slice(to)?;
+    Ok(())
 }

@@ -15,7 +15,9 @@ use Rattle.mk_lines.proofs.on_units.TokenLemmas.{token_text, token_text-tokens}
 use Rattle.mk_lines.proofs.on_units.UnitLemmas.{concat-units}
 use Rattle.mk_class.specs.Lists.{any}
 use Rattle.mk_class.specs.PartPlaces.{IsPart}
-use Rattle.mk_edit.specs.RenamedPlaces.{span, IsWithin, AreWithin, before_places, bytes_in, is_at_front, tallied}
+use Rattle.mk_class.specs.declared.class.Class as class
+use Rattle.mk_edit.specs.declared.word_parts.WordParts.{WordParts}
+use Rattle.mk_edit.specs.RenamedPlaces.{span, place_in, places_in, IsWithin, AreWithin, before_places, parts_places, word_parts, bytes_in, is_at_front, tallied}
 use Rattle.mk_edit.specs.declared.tally.Tally.{Tally}
 
 -- ---- raw places
@@ -131,3 +133,11 @@ room-ahead t s o ss all e few bytes =
 -- the bytes of three lists
 pub bytes_in-three : (a b c : List Span) → bytes_in (a ++ (b ++ c)) ≡ bytes_in a + (bytes_in b + bytes_in c)
 bytes_in-three a b c = omega (arith, bytes_in-append a (b ++ c), bytes_in-append b c)
+
+-- the range of the first word of some, where it is the old one, before those of the others
+pub places-first : (cs : List Cell) (p : ℕ) (o : List ℕ) (vs ws : List Span) (w : Span) (r : Option Span) → vs ≡ w ∷ ws → r ≡ place_in cs p o w → places_in cs p o vs ≡ before_places r (places_in cs p o ws)
+places-first cs p o vs ws w r e h = ap (places_in cs p o) e ∙ ap (λ (z : Option Span). before_places z (places_in cs p o ws)) (sym h)
+
+-- the places in the parts that the code has are those in the line
+pub places-are : (cs : List Cell) (o : List ℕ) (p : WordParts) (k j : class.Class) → p ≡ word_parts k → k ≡ j → parts_places cs o p ≡ parts_places cs o (word_parts j)
+places-are cs o p k j h e = ap (parts_places cs o) (h ∙ ap word_parts e)

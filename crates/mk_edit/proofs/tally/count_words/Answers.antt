@@ -5,12 +5,8 @@ use Rattle.mk_tree.specs.Trees.{line_view}
 use Rattle.mk_edit.specs.declared.tally.Tally.{Tally}
 use Rattle.mk_edit.specs.declared.word_parts.WordParts.{WordParts}
 use Rattle.mk_edit.specs.RenamedPlaces.{bytes_in, no_words, part_places, parts_places, renamed_places, tallied, word_parts}
-use Rattle.mk_edit.proofs.on_renaming.PlaceLemmas.{bytes_in-three, tallied-append}
+use Rattle.mk_edit.proofs.on_renaming.PlaceLemmas.{bytes_in-three, places-are, tallied-append}
 use Rattle.mk_edit.proofs.tally.count_words.Goals as goal
-
--- the places in the parts are those in the line
-places-are : (cs : List Cell) (o : List ℕ) (p : WordParts) (k j : class.Class) → p ≡ word_parts k → k ≡ j → parts_places cs o p ≡ parts_places cs o (word_parts j)
-places-are cs o p k j h e = ap (parts_places cs o) (h ∙ ap word_parts e)
 
 few : (cs : List Cell) (o : List ℕ) (p : WordParts) (k j : class.Class) → p ≡ word_parts k → k ≡ j → bytes_in (parts_places cs o (word_parts j)) ≤ 2 ^ 32
     → bytes_in (part_places cs o p.targets) + (bytes_in (part_places cs o p.normal) + bytes_in (part_places cs o p.order_only)) ≤ 2 ^ 32
