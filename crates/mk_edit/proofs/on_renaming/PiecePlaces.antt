@@ -115,11 +115,11 @@ replacing-append n (s ∷ a) b = ap (λ z. record { start = s.start; end = s.end
 tokens-old : (o n : List ℕ) (ts : List (Token Cell)) → old_bytes (renamed_tokens o n ts) ≡ raw_text (token_text ts)
 tokens-old o n [] = refl
 tokens-old o n (Gap u ∷ ts) = ap (λ z. raw_text u ++ z) (tokens-old o n ts) ∙ sym (raw_text-append u (token_text ts))
-tokens-old o n (Word w ∷ ts) = go (is_word_of o w)
+tokens-old o n (Word w ∷ ts) = go (is_word_of o w) (tokens-old o n ts)
   where
-    go : (c : Bool) → old_bytes ((if c then Replace (concat w) n else Keep (concat w)) ∷ renamed_tokens o n ts) ≡ raw_text (concat w ++ token_text ts)
-    go true = ap (λ z. raw_text (concat w) ++ z) (tokens-old o n ts) ∙ sym (raw_text-append (concat w) (token_text ts))
-    go false = ap (λ z. raw_text (concat w) ++ z) (tokens-old o n ts) ∙ sym (raw_text-append (concat w) (token_text ts))
+    go : (c : Bool) → old_bytes (renamed_tokens o n ts) ≡ raw_text (token_text ts) → old_bytes ((if c then Replace (concat w) n else Keep (concat w)) ∷ renamed_tokens o n ts) ≡ raw_text (concat w ++ token_text ts)
+    go true i = ap (λ z. raw_text (concat w) ++ z) i ∙ sym (raw_text-append (concat w) (token_text ts))
+    go false i = ap (λ z. raw_text (concat w) ++ z) i ∙ sym (raw_text-append (concat w) (token_text ts))
 
 pub words-old : (o n : List ℕ) (us : List (List Cell)) → old_bytes (renamed_words o n us) ≡ raw_text (concat us)
 words-old o n us = tokens-old o n (tokens joined_byte us) ∙ ap raw_text (token_text-tokens joined_byte us)
