@@ -2,3 +2,6 @@
 pub mod PlanLemmas
 pub mod LinePlans
 pub mod NewLinePlans
+pub mod DocumentPlaces
+pub mod CausePlans
+pub mod RemovalPlans

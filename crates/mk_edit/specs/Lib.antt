@@ -1,10 +1,12 @@
 pub mod EditViews
-pub mod Planned
-pub mod PlannedMoves
 -- The line that an edit means
 pub mod PlacedParts
 pub mod Seeking
 pub mod Found
+-- What planning answers, and the moves of an edit
+pub mod LineRanges
+pub mod Planned
+pub mod PlannedMoves
 -- A rename
 pub mod RenamedPlaces
 pub mod RenamedTexts

@@ -56,7 +56,8 @@ fn pick(address: Option<Address>, sought: Sought) -> Result<Found, Refusal>
     let Some(address) = address else {
         return Ok(sought.end);
     };
-    let Some(found) = sought.found else {
+    let nth = sought.found;
+    let Some(found) = nth else {
         return Err(Refusal::NoSuch);
     };
     if has_number(address) || sought.count == 1 {

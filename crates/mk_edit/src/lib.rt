@@ -5,24 +5,43 @@
 //!
 //! - [`edit`]: the twelve edits, and the places of new lines.
 //!
-//! The other modules are the crate's own:
+//! The other modules are the crate's own, lowest first:
 //!
+//! - `text`: texts compared, and the words of a text.
 //! - `argument`: the causes of refusal that the fields of an edit decide.
 //! - `address`: the line that an edit means, as it says it.
-//! - `text`: texts compared.
+//! - `part`: parts of a line by their places.
+//! - `line_test`: which variable a line assigns, and which targets it has.
+//! - `seek`: the line that an address means, found by one walk.
+//! - `find`: where an edit applies, after the causes that come before its own.
+//! - `targets`: whether a word is a target of any rule.
+//! - `place`: places further down in a document.
+//! - `lean`: whether lines lean on what stands before them.
+//! - `range`: where the value of a line stands, and bytes with a range replaced.
+//! - `line_end`: the line ends of new lines.
+//! - `moves`: the patches of edits whose causes are decided.
+//! - `removals`: edits that take lines out.
+//! - `word_parts`: the words of a line that a rename replaces.
+//! - `tally`: these words counted.
 //! - `renamed_line`: the bytes of a line after a rename.
-//! - `word_parts`: the words of a line that a rename replaces; `tally` counts them.
 #![tactic(auto)]
 
 mod address;
 mod argument;
 pub mod edit;
 mod find;
+mod lean;
+mod line_end;
 mod line_test;
+mod moves;
 mod part;
+mod place;
+mod range;
+mod removals;
 mod renamed_line;
 mod seek;
 mod tally;
+mod targets;
 mod text;
 mod word_parts;
 

@@ -1,21 +1,17 @@
 -- The parts of a document's line by their places, and the tests of lines that look at them.
-use Rattle.std.proofs.Common.{◌≡◌, refl, sym, ap, ◌∙◌, ℕ, ◌≤◌, List, [], ◌∷◌, ◌++◌, length, Option, Some, None}
+use Rattle.std.proofs.Common.{◌≡◌, refl, sym, ap, ◌∙◌, ℕ, List, [], length, Option, Some, None}
 use Rattle.std.proofs.lemmas.List.{length-map}
 use Rattle.mk_lines.specs.Cells.{Cell, joined_byte, joined_text, line_cells}
 use Rattle.mk_lines.specs.Ranges.{text_at}
 use Rattle.mk_class.specs.Texts.{is_same_text, is_one_of, word_texts}
 use Rattle.mk_class.specs.RecipePrefix.{is_prefix_name}
-use Rattle.mk_class.specs.Assignments.{Assignment}
-use Rattle.mk_class.specs.Headers
-use Rattle.mk_class.specs.Headers.{TargetAssignment}
 use Rattle.mk_class.specs.Classes.{Class}
 use Rattle.mk_class.specs.Classes.Class.{Endef, Body, Recipe, Opaque, Blank, Comment, Assign, DefineHead, If, Else, Endif, Directive, TargetAssign, Rough, Header}
 use Rattle.mk_class.specs.ClassPlaces.{class_places}
 use Rattle.mk_class.specs.ClassTable.{class_of}
 use Rattle.mk_class.specs.Contexts.{Context}
-use Rattle.mk_class.specs.FirstWords.{text_words}
 use Rattle.mk_class.specs.PartPlaces.{IsPart}
-use Rattle.mk_class.specs.LineParts.{IsHeaderPlaced, IsAssignmentPlaced, IsTargetAssignmentPlaced, ArePartsPlaced}
+use Rattle.mk_class.specs.LineParts.{ArePartsPlaced}
 use Rattle.mk_class.proofs.on_classes.FirstWordLemmas.{text_words-words}
 use Rattle.mk_class.proofs.on_classes.LinePartLemmas.{line-parts_placed}
 use Rattle.mk_class.specs.declared.assignment.Assignment as assignment
@@ -26,7 +22,6 @@ use Rattle.mk_class.specs.ClassedLines.{ClassedLine}
 use Rattle.mk_tree.specs.PlacedLines.{PlacedLine, placed_line}
 use Rattle.mk_edit_laws.specs.Addresses.{assigns, is_rule_for, targets_of}
 use Rattle.mk_edit_laws.specs.AddressCauses.{is_unread_prefix}
-use Rattle.mk_edit_laws.specs.NewLines.{words_in}
 use Rattle.mk_edit.specs.PlacedParts.{IsClassed, text_of_line, words_before, assigns_in, assigns_placed, is_rule_for_in, is_rule_for_placed, is_target_in, is_target_placed, is_unread_in, is_unread_placed}
 
 -- the joined text of a line is as long as its cells

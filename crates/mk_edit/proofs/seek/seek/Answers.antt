@@ -1,13 +1,9 @@
-use Rattle.std.proofs.Common.{◌≡◌, ◌∙◌, refl, sym, ap, subst, arith, rules, length, List, [], ◌∷◌}
-use Rattle.mk_class.specs.Contexts.{start}
+use Rattle.std.proofs.Common.{◌≡◌, sym, subst, rules, []}
 use Rattle.mk_class.specs.ClassedLines.{classed_lines}
-use Rattle.mk_tree.specs.Admissions.{AreAdmitted}
-use Rattle.mk_tree.specs.PlacedLines.{PlacedLine, placed_text}
+use Rattle.mk_tree.specs.PlacedLines.{placed_text}
 use Rattle.mk_edit.specs.EditViews.{address_seen}
-use Rattle.mk_edit.specs.PlacedParts.{AreEachClassed}
-use Rattle.mk_edit.specs.Seeking.{IsSought, may_mean, nothing_seen, seek, wanted}
-use Rattle.mk_edit.specs.declared.seek.Sought.{Sought}
-use Rattle.mk_edit.proofs.on_finding.SeekLemmas.{faithful-each, lines-sought, seek-from, seek-over}
+use Rattle.mk_edit.specs.Seeking.{IsSought, may_mean, nothing_seen, wanted}
+use Rattle.mk_edit.proofs.on_finding.SeekLemmas.{lines-sought, seek-from, seek-over}
 use Rattle.mk_edit.proofs.seek.seek.Goals as goal
 
 pub lines-init : goal.lines-init

@@ -1,0 +1,166 @@
+//! The patches of edits whose causes are decided: a line in the place of another, lines taken out, a
+//! new line.
+//!
+//! An edit decides its causes, builds the bytes of its new line, and calls one of these. All memory
+//! that it takes beyond those bytes is taken here.
+ghost use Rattle.std.specs.Prelude.{◌≡◌, ◌≤◌, ◌<◌, ◌+◌, ◌^◌, ◌∷◌, [], length, IfOk, IsOkUnless};
+ghost use Rattle.mk_tree.specs.Documents.{IsFaithful};
+ghost use Rattle.mk_tree.specs.LineTexts.{line_in};
+ghost use Rattle.mk_tree.specs.PlacedLines.{last_line, placed_line};
+ghost use Rattle.mk_tree.specs.Trees.{line_view};
+ghost use Rattle.mk_lines.specs.LogicalLines.{logical_lines};
+ghost use Rattle.mk_patch.specs.Moves.{IsPlain};
+ghost use Rattle.mk_patch.specs.Steps.{move_of};
+ghost use Rattle.mk_edit.specs.PlannedMoves.{CanInsert, CanReplace, IsPlaceOf, follows_unended, inserting_moves, is_unended, last_bytes_ended, removing_moves, replacing_moves};
+
+use crate::line_end::{file_line_end, with_line_end};
+use crate::seek::Found;
+use mk_class::{Context, Meter};
+use mk_edit_laws::Refusal;
+use mk_lines::Fault;
+use mk_lines::ends::{End, line_end};
+use mk_patch::{Patch, PatchBuilder, Step};
+use mk_tree::{Doc, Line, LineBytes};
+use std::alloc::Allocator;
+
+/// The patch that puts a line of these bytes in the place of another. It reads this line.
+///
+/// # Errors
+///
+/// [`Refusal::NoMemory`] where a growth was refused.
+pub(crate) fn replace_line<A: Allocator + Copy>(
+    alloc: A,
+    doc: &Doc<A>,
+    place: Found,
+    bytes: Vec<u8, A>,
+    meter: &mut Meter,
+) -> Result<Patch<A>, Refusal>
+    requires place { IsPlaceOf doc.now place }
+    requires can { CanReplace doc.now place.at bytes.items }
+    ensures moves { IfOk result (λ patch. patch ≡ replacing_moves doc.now place.at bytes.items) }
+    ensures refused { IsOkUnless result Refusal.NoMemory }
+    ensures few_read { meter.new ≤ meter.old + 1 }
+{
+    // The contract of `len` says that there are few lines, as reading asks.
+    let _count = doc.len();
+    let mut patch = builder(alloc, 1)?;
+    let line = read_line(alloc, bytes, place.context, meter)?;
+    patch.push(Step::Exchange(place.at, line));
+    Ok(patch.finish())
+}
+
+/// The patch that takes so many lines out, the first of which stands at a place.
+///
+/// # Errors
+///
+/// [`Refusal::NoMemory`] where a growth was refused.
+pub(crate) fn take_out<A: Allocator + Copy>(
+    alloc: A,
+    at: usize,
+    count: usize,
+) -> Result<Patch<A>, Refusal>
+    ensures moves { IfOk result (λ patch. patch ≡ removing_moves at count) }
+    ensures refused { IsOkUnless result Refusal.NoMemory }
+{
+    let mut patch = builder(alloc, count)?;
+    'lines: for taken in 0..count {
+        patch.push(Step::TakeOut(at));
+    }
+    Ok(patch.finish())
+}
+
+/// The patch that puts a line of these bytes before the one at a place, or at the end. Where the line
+/// goes after a last line that has no line end, this one gets the file's. It reads the new line.
+///
+/// # Errors
+///
+/// [`Refusal::NoMemory`] where a growth was refused.
+pub(crate) fn insert_line<A: Allocator + Copy>(
+    alloc: A,
+    doc: &Doc<A>,
+    place: Found,
+    bytes: Vec<u8, A>,
+    meter: &mut Meter,
+) -> Result<Patch<A>, Refusal>
+    requires faithful { IsFaithful doc.now }
+    requires place { IsPlaceOf doc.now place }
+    requires can { CanInsert doc.now place.at bytes.items }
+    ensures moves { IfOk result (λ patch. patch ≡ inserting_moves doc.now place.at bytes.items) }
+    ensures refused { IsOkUnless result Refusal.NoMemory }
+    ensures few_read { meter.new ≤ meter.old + 1 }
+{
+    // The contract of `size` says that no line is empty, so that there are few, as reading asks.
+    let _size = doc.size();
+    let mut patch = builder(alloc, 2)?;
+    if follows_unended(doc, place.at) {
+        patch.push(Step::SwapEnd(last_line_ended(alloc, doc)?));
+    }
+    let line = read_line(alloc, bytes, place.context, meter)?;
+    patch.push(Step::PutIn(place.at, line));
+    Ok(patch.finish())
+}
+
+// A patch of no step, with room for so many.
+fn builder<A: Allocator + Copy>(alloc: A, room: usize) -> Result<PatchBuilder<A>, Refusal>
+    ensures empty { IfOk result (λ patch. patch ≡ record { moves = []; room = room }) }
+    ensures refused { IsOkUnless result Refusal.NoMemory }
+{
+    match PatchBuilder::with_room(alloc, room) {
+        Ok(patch) => Ok(patch),
+        Err(_) => Err(Refusal::NoMemory),
+    }
+}
+
+// Whether a line at this place would follow a last line that has no line end.
+fn follows_unended<A: Allocator>(doc: &Doc<A>, at: usize) -> bool
+    ensures { result ≡ follows_unended doc.now at }
+{
+    at == doc.len() && is_last_unended(doc)
+}
+
+// Whether there is a last line, and it has no line end.
+fn is_last_unended<A: Allocator>(doc: &Doc<A>) -> bool
+    ensures { result ≡ is_unended (last_line doc.now) }
+{
+    let count = doc.len();
+    count != 0 && line_end(doc.line(count - 1).bytes()) == End::None
+}
+
+// The bytes of the last line with the file's line end after them.
+fn last_line_ended<A: Allocator + Copy>(alloc: A, doc: &Doc<A>) -> Result<LineBytes<A>, Refusal>
+    requires faithful { IsFaithful doc.now }
+    requires some_lines { 0 < length doc.now }
+    ensures bytes { IfOk result (λ bytes. bytes ≡ last_bytes_ended doc.now) }
+    ensures refused { IsOkUnless result Refusal.NoMemory }
+{
+    let last = doc.line(doc.len() - 1);
+    let Ok(bytes) = with_line_end(alloc, last.bytes(), file_line_end(doc)) else {
+        return Err(Refusal::NoMemory);
+    };
+    match LineBytes::new(bytes) {
+        Ok(bytes) => Ok(bytes),
+        Err(_) => Err(Refusal::NoMemory),
+    }
+}
+
+// A line of these bytes, read in a context.
+fn read_line<A: Allocator + Copy>(
+    alloc: A,
+    bytes: Vec<u8, A>,
+    context: Context,
+    meter: &mut Meter,
+) -> Result<Line<A>, Refusal>
+    requires one { logical_lines bytes.items ≡ bytes.items ∷ [] }
+    requires plain { IsPlain (placed_line (line_in context bytes.items)) }
+    requires defines { context.defines < 2 ^ 24 }
+    ensures line { IfOk result (λ line. line_view line ≡ placed_line (line_in context bytes.items)) }
+    ensures refused { IsOkUnless result Refusal.NoMemory }
+    ensures few_read { meter.new ≤ meter.old + 1 }
+{
+    match Line::read(alloc, bytes, context, meter) {
+        Ok(line) => Ok(line),
+        Err(Fault::NoMemory) => Err(Refusal::NoMemory),
+        // A line that opens no conditional is not too deep.
+        Err(_) => unreachable!(),
+    }
+}
