@@ -16,3 +16,6 @@ pub mod RecipeEdits
 pub mod SeenHeaders
 pub mod WordCuts
 pub mod NewPrerequisites
+-- A rename
+pub mod RenamedPlaces
+pub mod RenamedTexts

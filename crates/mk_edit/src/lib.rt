@@ -27,6 +27,9 @@
 //! - `insertion`: where new lines go, and the causes of refusal that their places decide.
 //! - `prerequisite`: the prerequisites in the line of a rule.
 //! - `removals`: edits that take lines out.
+//! - `word_parts`: the words of a line that a rename replaces.
+//! - `tally`: these words counted.
+//! - `renamed_line`: the bytes of a line after a rename.
 #![tactic(auto)]
 
 mod address;
@@ -40,19 +43,21 @@ mod line_test;
 mod moves;
 mod new_line;
 mod part;
-
 mod place;
 mod prerequisite;
 mod range;
 mod recipe;
 mod recipe_del;
 mod removals;
+mod renamed_line;
 mod seek;
+mod tally;
 mod targets;
 #[cfg(test)]
 mod tests;
 mod text;
 mod unrule;
+mod word_parts;
 
 pub use edit::{Edit, Place};
 pub use mk_edit_laws::{Colons, Detail, Field, Refusal};

@@ -1,5 +1,5 @@
 //! Parts of a line's joined text, by their places.
-ghost use Rattle.std.specs.Prelude.{◌≡◌, ◌≤◌, length};
+ghost use Rattle.std.specs.Prelude.{◌≡◌, ◌≤◌, drop, length};
 ghost use Rattle.mk_lines.specs.Ranges.{text_at};
 ghost use Rattle.mk_tree.specs.Trees.{line_view};
 ghost use Rattle.mk_edit.specs.PlacedParts.{text_of_line};
@@ -22,4 +22,12 @@ pub(crate) fn part(text: &[u8], span: Span) -> &[u8]
     ensures { result.now ≡ text_at text.now span }
 {
     &text[span.start..span.end]
+}
+
+/// A text from a place on.
+pub(crate) fn rest(text: &[u8], start: usize) -> &[u8]
+    requires { start ≤ length text.now }
+    ensures { result.now ≡ drop start text.now }
+{
+    &text[start..]
 }
