@@ -17,9 +17,12 @@ words-init g c =
     let o = c.args.from.now in
     let e : c.into_iter-word-iterator.result ≡ word_ranges (text_at (joined_text cs) p) =
     c.into_iter-word-iterator.ensures.into_iter_gives ∙ (c.words-word-items.ensures.words ∙ ap word_ranges (c.part.ensures ∙ ap (λ t. text_at t p) c.text_of_line.ensures)) in
-    let k = ap (places_in cs p.start o) e in
-    (
-      tt, tt, part-words cs p _ c.requires.within e, subst (AreApart c.args.done (length b)) (sym k) c.requires.apart, ap (written_to c.args.done) k,
+    let k = ap (places_in cs p.start o) e in (
+      tt,
+      tt,
+      part-words cs p _ c.requires.within e,
+      subst (AreApart c.args.done (length b)) (sym k) c.requires.apart,
+      ap (written_to c.args.done) k,
       ap (λ ss. c.args.bytes.now.items ++ written b c.args.done c.args.to.now ss) k,
     )
 
@@ -51,9 +54,12 @@ words-preserved-in-Some-place_of_word g c =
     let I = c.words.invariant in
     let e : places_in cs p o c.words.word-iterator ≡ s ∷ rest = places-first cs p o _ _ c.in-Some.word _ c.in-Some.ensures.steps c.in-Some-place_of_word.ensures.place in
     let w : c.write_word.new.bytes.items ≡ c.words.bytes.items ++ written b c.words.done n (s ∷ []) =
-    c.in_ok-write_word.ensures ∙ ap (λ (t : List ℕ). c.words.bytes.items ++ written t c.words.done n (s ∷ [])) c.bytes.ensures.bytes in
-    (
-      tt, tt, (first-within _ _ _ _ I.2 c.in-Some.ensures.steps).1, (subst (AreApart c.words.done (length b)) e I.3).2, ap (written_to c.words.done) (sym e) ∙ I.4,
+    c.in_ok-write_word.ensures ∙ ap (λ (t : List ℕ). c.words.bytes.items ++ written t c.words.done n (s ∷ [])) c.bytes.ensures.bytes in (
+      tt,
+      tt,
+      (first-within _ _ _ _ I.2 c.in-Some.ensures.steps).1,
+      (subst (AreApart c.words.done (length b)) e I.3).2,
+      ap (written_to c.words.done) (sym e) ∙ I.4,
       written-more b _ c.words.bytes.items c.write_word.new.bytes.items n c.words.done s rest w (ap (λ ss. c.words.bytes.items ++ written b c.words.done n ss) (sym e) ∙ I.5),
     )
 
@@ -65,8 +71,11 @@ words-preserved g c =
     let o = c.args.from.now in
     let n = c.args.to.now in
     let I = c.words.invariant in
-    let e : places_in cs p o c.words.word-iterator ≡ places_in cs p o c.next.new.self = places-first cs p o _ _ c.in-Some.word None c.in-Some.ensures.steps (sym c.in_default.is ∙ c.place_of_word.ensures.place) in
-    (
-      tt, tt, (first-within _ _ _ _ I.2 c.in-Some.ensures.steps).1, subst (AreApart c.words.done (length b)) e I.3, ap (written_to c.words.done) (sym e) ∙ I.4,
+    let e : places_in cs p o c.words.word-iterator ≡ places_in cs p o c.next.new.self = places-first cs p o _ _ c.in-Some.word None c.in-Some.ensures.steps (sym c.in_default.is ∙ c.place_of_word.ensures.place) in (
+      tt,
+      tt,
+      (first-within _ _ _ _ I.2 c.in-Some.ensures.steps).1,
+      subst (AreApart c.words.done (length b)) e I.3,
+      ap (written_to c.words.done) (sym e) ∙ I.4,
       ap (λ ss. c.words.bytes.items ++ written b c.words.done n ss) (sym e) ∙ I.5,
     )

@@ -16,14 +16,13 @@ returns-after-header-clause-within g c =
     let h = c.in-Header.header in
     let S = seen-header (line_view c.args.line.now) c.requires.classed _ (sym c.requires.class ∙ c.in-Header.is) in
     let O = S.2.order_only in
-    let plus : Bool → _ = λ b. h.normal_end + cond b 1 0 in
-    (
+    let plus : Bool → _ = λ b. h.normal_end + cond b 1 0 in (
       part-within _ _ _ _ _ S.2.targets,
       part-within _ _ _ _ _ S.2.normal,
       (
         elim c.if-header.branch [
-          then-header w ↦ let e = ap plus w.if-header.true in omega (arith, O.rises, w.result-is, e)
-        | else-header w ↦ let e = ap plus w.if-header.false in omega (arith, O.rises, w.result-is, e)
+          | then-header w ↦ let e = ap plus w.if-header.true in omega (arith, O.rises, w.result-is, e)
+          | else-header w ↦ let e = ap plus w.if-header.false in omega (arith, O.rises, w.result-is, e)
         ],
         O.within,
       ),
