@@ -1,4 +1,5 @@
--- Lemmas. The line that an edit means.
+-- Lemmas. The line that an edit means, and the lines round it.
 pub mod PartLemmas
 pub mod SeekLemmas
 pub mod FindLemmas
+pub mod LeanLemmas

@@ -4,5 +4,6 @@ pub mod PlacedParts
 pub mod Seeking
 pub mod Found
 -- What planning answers, and the moves of an edit
+pub mod LineRanges
 pub mod Planned
 pub mod PlannedMoves

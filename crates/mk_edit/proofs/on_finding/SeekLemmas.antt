@@ -1,4 +1,5 @@
 -- What a walk over the lines of a document has seen is what an address means.
+use Rattle.mk_class.specs.Texts.{is_one_of}
 use Rattle.std.proofs.Common.{◌≡◌, refl, sym, ap, ◌∙◌, subst, arith, ℕ, zero, suc, ◌+◌, ◌==◌, ◌≤◌, ◌&&◌, ◌||◌, List, [], ◌∷◌, map, Bool, true, false, if◌then◌else◌, length, zero-add, Option, Some, None, option_map}
 use Rattle.std.proofs.lemmas.Bool.{ne_eqb, eq-eqb}
 use Rattle.std.proofs.lemmas.List.{length-map}
@@ -13,13 +14,13 @@ use Rattle.mk_tree.specs.Documents.{IsFaithful, context_of}
 use Rattle.mk_tree.specs.Admissions.{AreAdmitted}
 use Rattle.mk_tree.proofs.on_documents.LinePlaces.{AreClassed, AreClassed-class, AreClassed-tail, AreClassed-lines}
 use Rattle.mk_edit_laws.specs.Spots.{Spot, spots, spot_if, under, nth_of}
-use Rattle.mk_edit_laws.specs.Addresses.{Address, Variable, Rule, assigns, is_rule_for}
+use Rattle.mk_edit_laws.specs.Addresses.{Address, Variable, Rule, assigns, is_rule_for, is_a_target, targets_of}
 use Rattle.mk_edit_laws.specs.AddressCauses.{is_unread_prefix}
-use Rattle.mk_edit.specs.PlacedParts.{AreEachClassed, is_unread_placed}
+use Rattle.mk_edit.specs.PlacedParts.{AreEachClassed, is_unread_placed, is_target_placed}
 use Rattle.mk_edit.specs.Seeking.{may_mean, wanted, noted_by, noted, seek, nothing_seen, place_found, candidates_of, IsSought}
 use Rattle.mk_edit.specs.declared.seek.Found.{Found}
 use Rattle.mk_edit.specs.declared.seek.Sought.{Sought}
-use Rattle.mk_edit.proofs.on_finding.PartLemmas.{assigns-placed, rule_for-placed, unread-placed}
+use Rattle.mk_edit.proofs.on_finding.PartLemmas.{assigns-placed, rule_for-placed, unread-placed, target-placed}
 
 -- a test of lines as a document shows them is one of lines as they are defined
 abbrev pub AgreeAlong : (PlacedLine → Bool) → (ClassedLine → Bool) → List ClassedLine → Type 0
@@ -197,3 +198,17 @@ seek-from d ahead s p w e i h k = rw (e, i) (tt, tt, faithful-each d h, k, omega
 -- at its end
 pub seek-over : (s : Sought) (ahead d : List PlacedLine) (p : PlacedLine → Bool) (w v : ℕ) → ahead ≡ [] → w ≡ v → seek p w s ahead ≡ seek p w nothing_seen d → s ≡ seek p v nothing_seen d
 seek-over s ahead d p w v e f h = sym (ap (seek p w s) e) ∙ (h ∙ ap (λ n. seek p n nothing_seen d) f)
+
+-- ---- targets
+
+targets-along : (w : List ℕ) (c : Context) (ls : List ClassedLine) → AreClassed c ls → any (is_target_placed w) (placed_lines ls) ≡ is_a_target ls w
+targets-along w c [] h = refl
+targets-along w c (l ∷ ls) h =
+    ap (λ b. b || any (is_target_placed w) (placed_lines ls)) (target-placed w c l (AreClassed-class c l ls h))
+    ∙ ap (λ b. is_one_of w (targets_of l.class) || b) (targets-along w (context_after c l.class) ls (AreClassed-tail c l ls h))
+
+pub targets-from : (d ahead : List PlacedLine) (w : List ℕ) → ahead ≡ d → IsFaithful d
+    → Unit {0} × Unit {0} × AreEachClassed ahead × (any (is_target_placed w) ahead ≡ is_a_target (classed_lines (placed_text d)) w)
+targets-from d ahead w e h =
+    let ls = classed_lines (placed_text d) in
+    rw e (tt, tt, faithful-each d h, ap (any (is_target_placed w)) h ∙ targets-along w start ls (AreClassed-lines (placed_text d) ls refl))
