@@ -3,3 +3,4 @@ pub mod PartLemmas
 pub mod SeekLemmas
 pub mod FindLemmas
 pub mod LeanLemmas
+pub mod PlaceLemmas

@@ -3,3 +3,4 @@ pub mod PlanLemmas
 pub mod LinePlans
 pub mod NewLinePlans
 pub mod DocumentPlaces
+pub mod CausePlans

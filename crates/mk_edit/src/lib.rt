@@ -10,15 +10,16 @@
 //! - `text`: texts compared, and the words of a text.
 //! - `argument`: the causes of refusal that the fields of an edit decide.
 //! - `address`: the line that an edit means, as it says it.
-//! - `line_end`: the line ends of new lines.
-//! - `moves`: the patches of edits whose causes are decided.
 //! - `part`: parts of a line by their places.
 //! - `line_test`: which variable a line assigns, and which targets it has.
 //! - `seek`: the line that an address means, found by one walk.
 //! - `find`: where an edit applies, after the causes that come before its own.
 //! - `targets`: whether a word is a target of any rule.
+//! - `place`: places further down in a document.
 //! - `lean`: whether lines lean on what stands before them.
 //! - `range`: where the value of a line stands, and bytes with a range replaced.
+//! - `line_end`: the line ends of new lines.
+//! - `moves`: the patches of edits whose causes are decided.
 #![tactic(auto)]
 
 mod address;
@@ -30,6 +31,7 @@ mod line_end;
 mod line_test;
 mod moves;
 mod part;
+mod place;
 mod range;
 mod seek;
 mod targets;

@@ -1,16 +1,18 @@
 -- Places of a document, for code that reads a line there.
-use Rattle.std.proofs.Common.{◌≡◌, refl, sym, ap, ◌∙◌, subst, arith, ℕ, zero, suc, ◌+◌, ◌-◌, ◌^◌, ◌<◌, ◌≤◌, List, [], ◌∷◌, ◌++◌, length, take, Option, Some, None}
+use Rattle.std.proofs.Common.{◌≡◌, refl, sym, ap, ◌∙◌, subst, arith, ℕ, zero, suc, ◌+◌, ◌-◌, ◌^◌, ◌<◌, ◌≤◌, List, [], ◌∷◌, ◌++◌, length, take, drop, Option, Some, None}
 use Rattle.std.specs.Prelude.{slice_get}
 use Rattle.mk_lines.specs.LogicalLines.{logical_lines}
 use Rattle.mk_lines.specs.LogicalLines.{has_no_line_end}
 use Rattle.mk_lines.specs.PhysicalLines.{line_end, line_end_bytes, file_line_end}
 use Rattle.mk_lines.proofs.on_lines.FileEndLemmas.{file_line_end-first}
-use Rattle.mk_class.specs.Contexts.{Context, start, context_after}
+use Rattle.mk_class.specs.Contexts.{Context, start, context_after, context_after_places, Admits}
 use Rattle.mk_class.specs.ClassedLines.{ClassedLine, classed, classed_lines, context_after_lines}
 use Rattle.mk_tree.specs.Documents.{IsFaithful}
 use Rattle.mk_tree.specs.PlacedLines.{PlacedLine, placed_lines, placed_text}
 use Rattle.mk_tree.specs.PlacedLines.{size_of, last_line, bytes_of_line}
-use Rattle.mk_tree.proofs.AdmissionLemmas.{defines_after-few}
+use Rattle.mk_tree.specs.Admissions.{AreAdmitted}
+use Rattle.mk_tree.proofs.AdmissionLemmas.{defines_after-few, context-faithful, context_after-step}
+use Rattle.mk_tree.proofs.Places.{drop_get}
 use Rattle.mk_tree.proofs.Ends.{last-place}
 use Rattle.mk_edit.specs.PlannedMoves.{is_unended, last_bytes_ended, CanInsert, IsPlaceOf}
 use Rattle.mk_edit.specs.declared.seek.Found.{Found}
@@ -69,3 +71,34 @@ file_line_end-at_first ls l f h = go (logical_lines (placed_text ls)) refl
         bytes_shown : Option PlacedLine → Option (List ℕ)
         bytes_shown None = None
         bytes_shown (Some k) = Some k.bytes
+
+-- ---- a walk from a place on
+
+admitted-from : (c : Context) (ls : List PlacedLine) (n : ℕ) → AreAdmitted c ls → AreAdmitted (context_after_placed c (take n ls)) (drop n ls)
+admitted-from c ls zero h = h
+admitted-from c [] (suc n) h = tt
+admitted-from c (l ∷ ls) (suc n) h = admitted-from (context_after_places c l.class) ls n h.1
+
+-- the context at a place is that of the lines above it, as the document shows them, and the lines from it on are admitted in it
+pub record IsWalkedTo (ls : List PlacedLine) (at : ℕ) (c : Context) : Type 0 where
+  pub context_is : c ≡ context_after_placed start (take at ls)
+  pub admitted : AreAdmitted c (drop at ls)
+
+pub place-walked : (ls : List PlacedLine) (place : Found) → IsFaithful ls → IsPlaceOf ls place → AreAdmitted start ls → IsWalkedTo ls place.at place.context
+place-walked ls place f p h =
+    let same : place.context ≡ context_after_placed start (take place.at ls) = sym p ∙ sym (context-faithful ls place.at f) in
+    record { context_is = same; admitted = subst (λ (c : Context). AreAdmitted c (drop place.at ls)) (sym same) (admitted-from start ls place.at h) }
+
+-- the line at a place, which is admitted there, leads to the next place
+pub record IsStepped (ls : List PlacedLine) (at : ℕ) (c : Context) (l : PlacedLine) : Type 0 where
+  pub admits : Admits c l.class
+  pub next : IsWalkedTo ls (at + 1) (context_after_places c l.class)
+
+pub place-stepped : (ls : List PlacedLine) (at : ℕ) (c : Context) (l : PlacedLine) → c ≡ context_after_placed start (take at ls) → AreAdmitted c (drop at ls) → Some l ≡ slice_get ls at → IsStepped ls at c l
+place-stepped ls at c l e a h =
+    let d = drop_get ls at l h in
+    let A = subst (AreAdmitted c) d a in
+    record {
+      admits = A.0;
+      next = record { context_is = ap (λ (k : Context). context_after_places k l.class) e ∙ sym (context_after-step start ls (drop (at + 1) ls) l at d); admitted = A.1 };
+    }

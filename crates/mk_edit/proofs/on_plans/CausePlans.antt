@@ -1,0 +1,81 @@
+-- The causes of an edit that come after those that find its line, and what decides them.
+use Rattle.std.proofs.Common.{◌≡◌, refl, sym, ap, ◌∙◌, subst, arith, ℕ, ◌+◌, ◌^◌, ◌<◌, ◌≤◌, List, [], ◌∷◌, ◌++◌, ◌||◌, Bool, true, false, length, length-append, Option, Some, None}
+use Rattle.std.specs.Prelude.{nat_lt}
+use Rattle.std.proofs.lemmas.Bool.{lt-ltb, le-ltb, ltb-true, ltb-false}
+use Rattle.mk_lines.specs.Pieces.{Replacement, replaced}
+use Rattle.mk_class.specs.ClassedLines.{ClassedLine, classed_lines}
+use Rattle.mk_tree.specs.PlacedLines.{PlacedLine, placed_text}
+use Rattle.mk_edit_laws.specs.Edits.{Edit}
+use Rattle.mk_edit_laws.specs.Spans.{spans_of}
+use Rattle.mk_edit_laws.specs.Stretches.{Stretch, insertion, removal}
+use Rattle.mk_edit_laws.specs.Causes.{where_holds}
+use Rattle.mk_edit_laws.specs.ArgumentCauses.{bad_argument, reserved}
+use Rattle.mk_edit_laws.specs.AddressCauses.{unread_prefix, no_such, ambiguous, prefix_led}
+use Rattle.mk_edit_laws.specs.RuleCauses.{absent, already, taken, shared_rule, straddles}
+use Rattle.mk_edit_laws.specs.LineCauses.{open_value, open_line, open_define, leaning, new_line_leans, removal_leans, too_long, greatest_length}
+use Rattle.mk_edit_laws.specs.Lengths.{bytes_taken, bytes_put}
+use Rattle.mk_edit_laws.specs.Refusals.{first_cause, causes}
+use Rattle.mk_edit_laws.specs.declared.refusal.Refusal.{Refusal}
+use Rattle.mk_edit_laws.specs.declared.refusal.Refusal.TheVariants.{Leans, TooLong}
+use Rattle.mk_edit_laws.proofs.on_edits.LengthLemmas.{length-replaced}
+use Rattle.mk_edit_laws.proofs.on_edits.SpansRise.{spans-rise}
+use Rattle.mk_edit.specs.Found.{IsAddressed}
+use Rattle.mk_edit.specs.declared.seek.Found.{Found}
+use Rattle.mk_edit.proofs.CauseLemmas.{passed}
+
+-- ---- an edit's own causes, in their order
+
+abbrev pub own_causes : (text : List ℕ) → List ClassedLine → Edit → List (Option Refusal)
+own_causes t ls e =
+    prefix_led ls e
+    ∷ absent ls e
+    ∷ already ls e
+    ∷ taken ls e
+    ∷ shared_rule ls e
+    ∷ straddles ls e
+    ∷ open_value ls e
+    ∷ open_line ls e
+    ∷ open_define ls e
+    ∷ leaning ls e
+    ∷ too_long t (spans_of t ls e)
+    ∷ []
+
+-- they decide, once the line is found
+pub addressed-own : (e : Edit) (ls : List PlacedLine) (f : Found) (r : Option Refusal) → IsAddressed e ls f → first_cause (own_causes (placed_text ls) (classed_lines (placed_text ls)) e) ≡ r
+    → first_cause (causes (placed_text ls) (classed_lines (placed_text ls)) e) ≡ r
+addressed-own e ls f r A h =
+    let cs = classed_lines (placed_text ls) in
+    passed (bad_argument e) _ r A.arguments
+    (passed (reserved e) _ r A.not_reserved
+    (passed (unread_prefix cs) _ r A.prefix_read (passed (no_such cs e) _ r A.is_there (passed (ambiguous cs e) _ r A.is_one h))))
+
+-- ---- Leans, of an edit that takes lines out
+
+pub removal-leaning : (ls : List ClassedLine) (e : Edit) (s : Stretch) (b : Bool) → insertion ls e ≡ None → removal ls e ≡ Some s → b ≡ removal_leans (Some s) → leaning ls e ≡ where_holds b Leans
+removal-leaning ls e s b i h k =
+    ap (λ o. where_holds (new_line_leans e o || removal_leans (removal ls e)) Leans) i
+    ∙ (ap (λ (o : Option Stretch). where_holds (removal_leans o) Leans) h ∙ ap (λ q. where_holds q Leans) (sym k))
+
+-- ---- TooLong, by how many bytes the spans put in and take out
+
+-- a test with as much added on both sides
+same_test : (a b c d : ℕ) → b + c ≡ d → nat_lt a b ≡ nat_lt (a + c) d
+same_test a b c d h = go (nat_lt a b) refl
+  where
+    go : (q : Bool) → nat_lt a b ≡ q → nat_lt a b ≡ nat_lt (a + c) d
+    go true k = let l : a < b = ltb-true a b k in k ∙ sym (lt-ltb (a + c) d (omega (arith, l, h)))
+    go false k = let l : b ≤ a = ltb-false a b k in k ∙ sym (le-ltb (a + c) d (omega (arith, l, h)))
+
+pub long-said : (t : List ℕ) (e : Edit) (taken put : ℕ) → bytes_taken (spans_of t (classed_lines t) e) ≡ taken → bytes_put (spans_of t (classed_lines t) e) ≡ put
+    → too_long t (spans_of t (classed_lines t) e) ≡ where_holds (nat_lt (greatest_length + taken) (length t + put)) TooLong
+long-said t e taken put h k =
+    let rs = spans_of t (classed_lines t) e in
+    let n = length-replaced 0 (length t) t rs (spans-rise t e) (omega arith) in
+    ap (λ b. where_holds b TooLong) (same_test greatest_length (length (replaced 0 t rs)) taken (length t + put) (omega (arith, n, h, k)))
+
+-- an edit that puts no bytes in makes no text too long
+pub never-long : (t : List ℕ) (e : Edit) → bytes_put (spans_of t (classed_lines t) e) ≡ 0 → length t ≤ 2 ^ 24 → too_long t (spans_of t (classed_lines t) e) ≡ None
+never-long t e k few =
+    let rs = spans_of t (classed_lines t) e in
+    let n = length-replaced 0 (length t) t rs (spans-rise t e) (omega arith) in
+    ap (λ b. where_holds b TooLong) (le-ltb greatest_length (length (replaced 0 t rs)) (omega (arith, n, k, few)))
