@@ -8,7 +8,7 @@ use Rattle.mk_lines.proofs.on_lines.FileEndLemmas.{file_line_end-first}
 use Rattle.mk_class.specs.Contexts.{Context, start, context_after, context_after_places, Admits}
 use Rattle.mk_class.specs.ClassedLines.{ClassedLine, classed, classed_lines, context_after_lines}
 use Rattle.mk_tree.specs.Documents.{IsFaithful}
-use Rattle.mk_tree.specs.PlacedLines.{PlacedLine, placed_lines, placed_text}
+use Rattle.mk_tree.specs.PlacedLines.{PlacedLine, placed_lines, placed_text, context_after_placed}
 use Rattle.mk_tree.specs.PlacedLines.{size_of, last_line, bytes_of_line}
 use Rattle.mk_tree.specs.Admissions.{AreAdmitted}
 use Rattle.mk_tree.proofs.AdmissionLemmas.{defines_after-few, context-faithful, context_after-step}
