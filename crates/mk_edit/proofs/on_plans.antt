@@ -4,3 +4,4 @@ pub mod LinePlans
 pub mod NewLinePlans
 pub mod DocumentPlaces
 pub mod CausePlans
+pub mod RangePlans

@@ -7,3 +7,5 @@ pub mod Found
 pub mod LineRanges
 pub mod Planned
 pub mod PlannedMoves
+-- Edits of a value
+pub mod ValuesGiven

@@ -20,6 +20,7 @@
 //! - `range`: where the value of a line stands, and bytes with a range replaced.
 //! - `line_end`: the line ends of new lines.
 //! - `moves`: the patches of edits whose causes are decided.
+//! - `value`: edits of a value, planned.
 #![tactic(auto)]
 
 mod address;
@@ -36,6 +37,7 @@ mod range;
 mod seek;
 mod targets;
 mod text;
+mod value;
 
 pub use edit::{Edit, Place};
 pub use mk_edit_laws::{Colons, Detail, Field, Refusal};

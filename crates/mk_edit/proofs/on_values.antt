@@ -1,0 +1,3 @@
+-- Lemmas. Edits of a value, planned.
+pub mod ValuePlaces
+pub mod ValuePlans
