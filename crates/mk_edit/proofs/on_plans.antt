@@ -5,3 +5,4 @@ pub mod NewLinePlans
 pub mod DocumentPlaces
 pub mod CausePlans
 pub mod RangePlans
+pub mod RemovalPlans

@@ -48,3 +48,10 @@ address_seen (Some a) = Some (address_view a)
 abbrev pub field_refusal : Option Field → Option Refusal
 field_refusal None = None
 field_refusal (Some f) = Some (BadArgument f)
+
+-- ---- edits by their kind
+
+-- an edit that takes an assignment out
+abbrev pub IsUnset : edits.Edit → Type 0
+IsUnset (edits.RemoveAssign nth n) = Unit {0}
+IsUnset e = ⊥

@@ -1,10 +1,11 @@
 -- The moves of an edit of one place, by the place and the bytes of its new line.
-use Rattle.std.specs.Prelude.{◌≡◌, ℕ, ◌+◌, ◌^◌, ◌<◌, ◌≤◌, ◌==◌, ◌&&◌, Bool, true, false, List, [], ◌∷◌, ◌++◌, length, replicate, take, Option, Some, None}
+use Rattle.std.specs.Prelude.{◌≡◌, ℕ, ◌+◌, ◌^◌, ◌<◌, ◌≤◌, ◌==◌, ◌&&◌, Bool, true, false, List, [], ◌∷◌, ◌++◌, length, replicate, take, drop, Option, Some, None}
 use Rattle.mk_lines.specs.PhysicalLines.{line_end, line_end_bytes, file_line_end}
 use Rattle.mk_lines.specs.LogicalLines.{logical_lines, has_no_line_end}
-use Rattle.mk_class.specs.ClassedLines.{classed_lines}
+use Rattle.mk_class.specs.ClassedLines.{ClassedLine, classed_lines}
 use Rattle.mk_tree.specs.LineTexts.{context_of, line_in}
 use Rattle.mk_tree.specs.PlacedLines.{PlacedLine, placed_line, placed_text, size_of, bytes_of_line, last_line}
+use Rattle.mk_edit_laws.specs.Stretches.{Stretch}
 use Rattle.mk_edit.specs.declared.seek.Found.{Found}
 use Rattle.mk_patch.specs.Moves.{Move, PutIn, TakeOut, Exchange, SwapEnd, IsPlain}
 
@@ -15,6 +16,10 @@ line_read_at ls at bytes = placed_line (line_in (context_of (take at (classed_li
 -- a place of a document, with the context of the lines before it
 abbrev pub IsPlaceOf : List PlacedLine → Found → Type 0
 IsPlaceOf ls place = context_of (take place.at (classed_lines (placed_text ls))) ≡ place.context
+
+-- so many lines from a place on, with those above and below them
+abbrev pub stretch_at : List ClassedLine → (at count : ℕ) → Stretch
+stretch_at ls at count = record { above = take at ls; lines = take count (drop at ls); below = drop (at + count) ls }
 
 -- these bytes are one line, of no conditional, where they are put at a place
 pub record IsLineAt (ls : List PlacedLine) (at : ℕ) (bytes : List ℕ) : Type 0 where

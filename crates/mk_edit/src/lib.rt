@@ -21,6 +21,7 @@
 //! - `line_end`: the line ends of new lines.
 //! - `moves`: the patches of edits whose causes are decided.
 //! - `value`: edits of a value, planned.
+//! - `removals`: edits that take lines out.
 #![tactic(auto)]
 
 mod address;
@@ -34,6 +35,7 @@ mod moves;
 mod part;
 mod place;
 mod range;
+mod removals;
 mod seek;
 mod targets;
 mod text;

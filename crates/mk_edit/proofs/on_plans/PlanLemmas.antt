@@ -1,6 +1,6 @@
 -- What the planning of every edit owes, where its moves lead from the lines before it to those after it.
-use Rattle.std.proofs.Common.{◌≡◌, refl, sym, ap, ◌∙◌, subst, arith, ℕ, ◌+◌, ◌^◌, ◌<◌, ◌≤◌, List, [], ◌∷◌, ◌++◌, length, take, Option, Some, None, option_map}
-use Rattle.std.specs.Prelude.{Ok}
+use Rattle.std.proofs.Common.{◌≡◌, refl, sym, ap, ◌∙◌, subst, arith, ℕ, ◌+◌, ◌^◌, ◌<◌, ◌≤◌, List, [], ◌∷◌, ◌++◌, length, take, Option, Some, None, option_map, inr}
+use Rattle.std.specs.Prelude.{Ok, Err, Result, IfOk, IfErr, IsOkUnless}
 use Rattle.std.proofs.lemmas.List.{length-map}
 use Rattle.std.proofs.Math.Seq.{take-append_seam}
 use Rattle.mk_lines.specs.Pieces.{Replacement}
@@ -18,7 +18,9 @@ use Rattle.mk_edit_laws.proofs.on_edits.EditLemmas.{edits-read}
 use Rattle.mk_edit_laws.proofs.on_edits.LengthLemmas.{size-fits}
 use Rattle.mk_patch.specs.Moves.{Move, held_by, taken_by}
 use Rattle.mk_patch.proofs.on_moves.ShapeLemmas.{LeadTo, same-lead}
-use Rattle.mk_edit.specs.Planned.{IsPlanned}
+use Rattle.mk_edit_laws.specs.declared.refusal.Refusal.{Refusal}
+use Rattle.mk_edit_laws.specs.declared.refusal.Refusal.TheVariants.{NoMemory}
+use Rattle.mk_edit.specs.Planned.{IsPlanned, IsRefusal}
 use Rattle.mk_edit.specs.PlannedMoves.{line_read_at}
 
 -- moves that lead from the lines of the text to those after the edit are what is planned
@@ -112,3 +114,15 @@ puts-in t (RemovePrereq nth g w) rs s h = absurd (cc)
 puts-in t (SetRecipe nth g k c) rs s h = absurd (cc)
 puts-in t (RemoveRecipe nth g k) rs s h = absurd (cc)
 puts-in t (RenameTarget o n) rs s h = absurd (cc)
+
+-- ---- the answer of a function that makes the planned moves
+
+-- what it gives is planned
+pub planned-if_ok : (e : Edit) (ls : List PlacedLine) (moves : List Move) (r : Result (List Move) Refusal) → IsPlanned e ls moves → IfOk r (λ patch. patch ≡ moves) → IfOk r (λ patch. IsPlanned e ls patch)
+planned-if_ok e ls moves (Ok patch) P h = subst (IsPlanned e ls) (sym h) P
+planned-if_ok e ls moves (Err x) P h = tt
+
+-- and it is refused only where a growth is
+pub planned-if_err : (e : Edit) (ls : List PlacedLine) (moves : List Move) (r : Result (List Move) Refusal) → IsPlanned e ls moves → IsOkUnless r NoMemory → IfErr r (λ x. IsRefusal (placed_text ls) e x)
+planned-if_err e ls moves (Ok patch) P h = tt
+planned-if_err e ls moves (Err x) P h = inr (h, P.replacements, P.spans_are)

@@ -1,4 +1,4 @@
-use Rattle.std.proofs.Common.{◌≡◌, ◌∙◌, ◌+◌, sym, ap, subst, arith, take, ◌≤◌}
+use Rattle.std.proofs.Common.{◌≡◌, ◌∙◌, ◌+◌, sym, ap, subst, arith, take}
 use Rattle.mk_class.specs.Contexts.{Context, start, context_after_places, Admits}
 use Rattle.mk_class.specs.declared.class.Class.{Class}
 use Rattle.mk_tree.specs.PlacedLines.{context_after_placed}

@@ -1,0 +1,163 @@
+-- Plans of edits that take lines out: what decides them, and what is planned.
+use Rattle.std.proofs.Common.{◌≡◌, refl, sym, ap, ◌∙◌, arith, ℕ, zero, suc, ◌+◌, ◌^◌, ◌≤◌, ◌&&◌, List, [], ◌∷◌, ◌++◌, Bool, true, false, not, length, length-append, take, drop, Some, None, option_map, suc-add}
+use Rattle.std.specs.Prelude.{Err}
+use Rattle.std.proofs.lemmas.Grind.{common_steps}
+use Rattle.std.proofs.Math.Seq.{take-append_seam, drop-append_seam, drop-append-add}
+use Rattle.mk_lines.specs.Pieces.{Replacement}
+use Rattle.mk_class.specs.Contexts.{Context}
+use Rattle.mk_class.specs.ClassedLines.{ClassedLine, classed_lines, is_led_first}
+use Rattle.mk_tree.specs.Documents.{IsFaithful, context_of}
+use Rattle.mk_tree.specs.Leaning.{is_same_flag, leans}
+use Rattle.mk_tree.specs.PlacedLines.{PlacedLine, placed_lines, placed_text, size_of}
+use Rattle.mk_tree.proofs.on_changes.Sizes.{size_of-text}
+use Rattle.mk_edit_laws.specs.Edits.{Edit, SetValue, AppendValue, AddAssign, RemoveAssign, AddRule, RemoveRule, AddPrereq, RemovePrereq, AddRecipe, SetRecipe, RemoveRecipe, RenameTarget}
+use Rattle.mk_edit_laws.specs.Spans.{spans_of, removed_span, where_found}
+use Rattle.mk_edit_laws.specs.Stretches.{Stretch, this_line, insertion, removal, touched_by}
+use Rattle.mk_edit_laws.specs.Addresses.{Address, Variable}
+use Rattle.mk_edit_laws.specs.Causes.{where_holds}
+use Rattle.mk_edit_laws.specs.LineCauses.{leaning, removal_leans, too_long}
+use Rattle.mk_edit_laws.specs.Lengths.{bytes_put}
+use Rattle.mk_edit_laws.specs.EditedLines.{edited_bytes}
+use Rattle.mk_edit_laws.specs.Refusals.{first_cause, spans}
+use Rattle.mk_edit_laws.specs.declared.refusal.Refusal.TheVariants.{Leans}
+use Rattle.mk_edit_laws.proofs.on_edits.EditPlaces.{found-spot}
+use Rattle.mk_edit.specs.EditViews.{IsUnset}
+use Rattle.mk_edit.specs.Found.{IsFoundAt, IsAddressed}
+use Rattle.mk_edit.specs.LineRanges.{is_led_first_placed}
+use Rattle.mk_edit.specs.PlannedMoves.{IsPlaceOf, stretch_at}
+use Rattle.mk_edit.specs.declared.seek.Found.{Found}
+use Rattle.mk_edit.proofs.CauseLemmas.{passed, holds, refused, unrefused}
+use Rattle.mk_edit.proofs.on_finding.LeanLemmas.{led_first-placed}
+use Rattle.mk_edit.proofs.on_plans.PlanLemmas.{faithful-length}
+use Rattle.mk_edit.proofs.on_plans.LinePlans.{IsTakenOut, lines-taken_out}
+use Rattle.mk_edit.proofs.on_plans.CausePlans.{own_causes, addressed-own, removal-leaning, never-long}
+
+-- ---- some lines from a place on
+
+take-both : (m n : ℕ) (ls : List ClassedLine) → take m ls ++ take n (drop m ls) ≡ take (m + n) ls
+take-both zero n ls = ap (λ k. take k ls) (let e : n ≡ 0 + n = omega arith in e)
+take-both (suc m) zero [] = rw (suc-add m 0) refl
+take-both (suc m) (suc n) [] = rw (suc-add m (suc n)) refl
+take-both (suc m) n (l ∷ ls) = rw (suc-add m n) (ap (λ z. l ∷ z) (take-both m n ls))
+
+drop-placed : (n : ℕ) (ls : List ClassedLine) → drop n (placed_lines ls) ≡ placed_lines (drop n ls)
+drop-placed zero ls = refl
+drop-placed (suc n) [] = refl
+drop-placed (suc n) (l ∷ ls) = drop-placed n ls
+
+same_stretch : (a b c d e f : List ClassedLine) → a ≡ d → b ≡ e → c ≡ f → record { above = a; lines = b; below = c } ≡ (let s : Stretch = record { above = d; lines = e; below = f } in s)
+same_stretch a b c d e f h k i = rw (h, k, i) refl
+
+pub stretch-is : (ls : List ClassedLine) (s : Stretch) (at count : ℕ) → ls ≡ s.above ++ (s.lines ++ s.below) → length s.above ≡ at → length s.lines ≡ count → stretch_at ls at count ≡ s
+stretch-is ls s at count h p n =
+    let rest = s.lines ++ s.below in
+    let above : take at ls ≡ s.above = ap (take at) h ∙ (ap (λ k. take k (s.above ++ rest)) (sym p) ∙ take-append_seam s.above rest) in
+    let from : drop at ls ≡ rest = ap (drop at) h ∙ (ap (λ k. drop k (s.above ++ rest)) (sym p) ∙ drop-append_seam s.above rest) in
+    let lines : take count (drop at ls) ≡ s.lines = ap (take count) from ∙ (ap (λ k. take k rest) (sym n) ∙ take-append_seam s.lines s.below) in
+    let below : drop (at + count) ls ≡ s.below =
+    ap (drop (at + count)) h ∙ (ap (λ k. drop (k + count) (s.above ++ rest)) (sym p) ∙ (drop-append-add s.above rest count ∙ (ap (λ k. drop k rest) (sym n) ∙ drop-append_seam s.lines s.below))) in
+    same_stretch (take at ls) (take count (drop at ls)) (drop (at + count) ls) s.above s.lines s.below above lines below
+
+-- whether the lines below lean, by the flags and by the lines of the document
+pub leans-said : (ls : List PlacedLine) (place after : Found) (count : ℕ) (b : Bool) → IsFaithful ls → IsPlaceOf ls place → IsPlaceOf ls after → after.at ≡ place.at + count
+    → b ≡ (not (is_same_flag place.context.flag after.context.flag) && is_led_first_placed place.context.prefix (drop after.at ls))
+    → b ≡ removal_leans (Some (stretch_at (classed_lines (placed_text ls)) place.at count))
+leans-said ls place after count b f p q n h =
+    let cs = classed_lines (placed_text ls) in
+    let s = stretch_at cs place.at count in
+    let both : context_of (s.above ++ s.lines) ≡ after.context = ap context_of (take-both place.at count cs) ∙ (ap (λ k. context_of (take k cs)) (sym n) ∙ q) in
+    let shown : drop after.at ls ≡ placed_lines s.below = ap (drop after.at) f ∙ (drop-placed after.at cs ∙ ap (λ k. placed_lines (drop k cs)) n) in
+    let led : is_led_first_placed place.context.prefix (drop after.at ls) ≡ is_led_first place.context.prefix s.below = ap (is_led_first_placed place.context.prefix) shown ∙ led_first-placed place.context.prefix s.below in
+    h
+    ∙ (ap (λ z. not (is_same_flag place.context.flag after.context.flag) && z) led
+    ∙ (ap (λ (c : Context). leans c.prefix c.flag after.context.flag s.below) (sym p) ∙ ap (λ (c : Context). leans (context_of s.above).prefix (context_of s.above).flag c.flag s.below) (sym both)))
+
+-- ---- where an edit applies
+
+-- the place of the line that an address means
+pub place-found : (ls : List PlacedLine) (a : Address) (f : Found) → IsFoundAt (classed_lines (placed_text ls)) a f → IsPlaceOf ls f
+place-found ls a f F =
+    let s = F.spot in
+    let cs = classed_lines (placed_text ls) in
+    let w : cs ≡ s.above ++ s.line ∷ s.below = found-spot cs a s F.found_is in
+    let above : take f.at cs ≡ s.above = ap (take f.at) w ∙ (ap (λ k. take k (s.above ++ s.line ∷ s.below)) (sym F.place_is) ∙ take-append_seam s.above (s.line ∷ s.below)) in
+    ap context_of above ∙ F.context_is
+
+-- ---- edits that take out so many lines from a place on
+
+-- Of the edit's own causes there are only two left, Leans and TooLong.
+pub record TakesOut (e : Edit) (ls : List PlacedLine) (at count : ℕ) : Type 0 where
+  pub removal_is : removal (classed_lines (placed_text ls)) e ≡ Some (stretch_at (classed_lines (placed_text ls)) at count)
+  pub touched_is : touched_by (classed_lines (placed_text ls)) e ≡ Some (stretch_at (classed_lines (placed_text ls)) at count)
+  pub none_put : insertion (classed_lines (placed_text ls)) e ≡ None
+  pub no_bytes : bytes_put (spans_of (placed_text ls) (classed_lines (placed_text ls)) e) ≡ 0
+  pub nothing_left : (rs : List Replacement) → edited_bytes (placed_text ls) e (stretch_at (classed_lines (placed_text ls)) at count) rs ≡ []
+  pub in_range : at + count ≤ length ls
+  pub others : first_cause (own_causes (placed_text ls) (classed_lines (placed_text ls)) e)
+      ≡ first_cause (leaning (classed_lines (placed_text ls)) e ∷ too_long (placed_text ls) (spans_of (placed_text ls) (classed_lines (placed_text ls)) e) ∷ [])
+
+-- where the lines below lean, it is refused
+pub taking_out-leans : (e : Edit) (ls : List PlacedLine) (f : Found) (at count : ℕ) (b : Bool) → IsAddressed e ls f → TakesOut e ls at count
+    → b ≡ removal_leans (Some (stretch_at (classed_lines (placed_text ls)) at count)) → b ≡ true → spans (placed_text ls) e ≡ Err Leans
+taking_out-leans e ls f at count b A T h k =
+    let t = placed_text ls in
+    let cs = classed_lines t in
+    let lean : leaning cs e ≡ Some Leans = removal-leaning cs e (stretch_at cs at count) b T.none_put T.removal_is h ∙ ap (λ q. where_holds q Leans) k in
+    refused t e Leans (addressed-own e ls f (Some Leans) A (T.others ∙ holds (leaning cs e) _ Leans lean))
+
+length-both : (ls : List ClassedLine) (at count : ℕ) → at + count ≤ length ls → (length (take at ls) ≡ at) × (length (take count (drop at ls)) ≡ count)
+length-both ls at count h = (grind (arith, common_steps), grind (arith, common_steps))
+
+-- where they do not, the moves are planned
+pub taking_out-planned : (e : Edit) (ls : List PlacedLine) (f : Found) (at count : ℕ) (b : Bool) → IsFaithful ls → size_of ls ≤ 2 ^ 24 → IsAddressed e ls f → TakesOut e ls at count
+    → b ≡ removal_leans (Some (stretch_at (classed_lines (placed_text ls)) at count)) → b ≡ false → IsTakenOut e ls at count
+taking_out-planned e ls f at count b g few A T h k =
+    let t = placed_text ls in
+    let cs = classed_lines t in
+    let s = stretch_at cs at count in
+    let lean : leaning cs e ≡ None = removal-leaning cs e s b T.none_put T.removal_is h ∙ ap (λ q. where_holds q Leans) k in
+    let long : too_long t (spans_of t cs e) ≡ None = never-long t e T.no_bytes (omega (arith, size_of-text ls, few)) in
+    let spans_are = unrefused t e (addressed-own e ls f None A (T.others ∙ passed (leaning cs e) _ None lean (passed (too_long t (spans_of t cs e)) _ None long refl))) in
+    let n = length-both cs at count (omega (arith, T.in_range, faithful-length ls cs g refl)) in
+    lines-taken_out e ls (spans_of t cs e) s at count g spans_are T.touched_is n.0 n.1 (T.nothing_left (spans_of t cs e))
+
+-- ---- an assignment taken out
+
+pub record IsUnsetAt (e : Edit) (ls : List PlacedLine) (f : Found) : Type 0 where
+  pub place : IsPlaceOf ls f
+  pub takes : TakesOut e ls f.at 1
+
+pub unset-at : (e : Edit) (ls : List PlacedLine) (f : Found) → IsUnset e → IsFaithful ls → IsAddressed e ls f → IsUnsetAt e ls f
+unset-at (RemoveAssign nth n) ls f u g A =
+    let t = placed_text ls in
+    let cs = classed_lines t in
+    let e = RemoveAssign nth n in
+    let F : IsFoundAt cs (Variable nth n) f = A.meant in
+    let s = F.spot in
+    let w : cs ≡ s.above ++ s.line ∷ s.below = found-spot cs (Variable nth n) s F.found_is in
+    let here : stretch_at cs f.at 1 ≡ this_line s = stretch-is cs (this_line s) f.at 1 w F.place_is refl in
+    let removed : removal cs e ≡ Some (this_line s) = ap (option_map this_line) F.found_is in
+    let at : removal cs e ≡ Some (stretch_at cs f.at 1) = removed ∙ ap Some (sym here) in
+    record {
+      place = place-found ls (Variable nth n) f F;
+      takes = record {
+        removal_is = at;
+        touched_is = at;
+        none_put = refl;
+        no_bytes = ap (λ o. bytes_put (where_found removed_span o)) removed;
+        nothing_left = λ rs. refl;
+        in_range = omega (arith, faithful-length ls (s.above ++ s.line ∷ s.below) g w, length-append s.above (s.line ∷ s.below), F.place_is);
+        others = refl;
+      };
+    }
+unset-at (SetValue nth n v) ls f u g A = absurd u
+unset-at (AppendValue nth n v) ls f u g A = absurd u
+unset-at (AddAssign p n f' v) ls f u g A = absurd u
+unset-at (AddRule p ts c ws) ls f u g A = absurd u
+unset-at (RemoveRule nth t) ls f u g A = absurd u
+unset-at (AddPrereq order nth t w) ls f u g A = absurd u
+unset-at (RemovePrereq nth t w) ls f u g A = absurd u
+unset-at (AddRecipe nth t c) ls f u g A = absurd u
+unset-at (SetRecipe nth t k c) ls f u g A = absurd u
+unset-at (RemoveRecipe nth t k) ls f u g A = absurd u
+unset-at (RenameTarget o n) ls f u g A = absurd u

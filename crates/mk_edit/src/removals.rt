@@ -1,0 +1,64 @@
+//! Edits that take lines out.
+ghost use Rattle.std.specs.Prelude.{◌≡◌, ◌≤◌, ◌+◌, Some, length, IfErr, IfOk};
+ghost use Rattle.mk_class.specs.ClassedLines.{classed_lines};
+ghost use Rattle.mk_tree.specs.Documents.{IsFaithful};
+ghost use Rattle.mk_tree.specs.PlacedLines.{placed_text};
+ghost use Rattle.mk_edit_laws.specs.LineCauses.{removal_leans};
+ghost use Rattle.mk_edit.specs.EditViews.{IsUnset, edit_of};
+ghost use Rattle.mk_edit.specs.Planned.{IsPlanned, IsRefusal};
+ghost use Rattle.mk_edit.specs.PlannedMoves.{IsPlaceOf, stretch_at};
+
+use crate::edit::Edit;
+use crate::find::find;
+use crate::lean::leans;
+use crate::moves::take_out;
+use crate::place::after_lines;
+use crate::seek::Found;
+use mk_edit_laws::Refusal;
+use mk_patch::Patch;
+use mk_tree::Doc;
+use std::alloc::Allocator;
+
+/// Plans an edit that takes the line of an assignment out. It reads no line anew.
+///
+/// # Errors
+///
+/// Those of [`find`], then [`Refusal::Leans`]; [`Refusal::NoMemory`] where a growth was refused.
+pub(crate) fn unset<A: Allocator + Copy>(
+    alloc: A,
+    doc: &Doc<A>,
+    edit: &Edit<A>,
+) -> Result<Patch<A>, Refusal>
+    requires faithful { IsFaithful doc.now }
+    requires kind { IsUnset (edit_of edit.now) }
+    ensures planned { IfOk result (λ patch. IsPlanned (edit_of edit.now) doc.now patch) }
+    ensures refused { IfErr result (λ refusal. IsRefusal (placed_text doc.now) (edit_of edit.now) refusal) }
+{
+    // The contract of `size` says that the text is within the limit, so that no removal is too long.
+    let _size = doc.size();
+    let place = find(doc, edit)?;
+    let Found { at, .. } = place;
+    if removal_leans(doc, place, 1) {
+        return Err(Refusal::Leans);
+    }
+    take_out(alloc, at, 1)
+}
+
+/// Whether the lines below would be read in another way without so many lines from a place on. It
+/// reads none anew and takes no memory.
+pub(crate) fn removal_leans<A: Allocator>(doc: &Doc<A>, place: Found, count: usize) -> bool
+    requires faithful { IsFaithful doc.now }
+    requires place { IsPlaceOf doc.now place }
+    requires in_range { place.at + count ≤ length doc.now }
+    ensures { result ≡ removal_leans (Some (stretch_at (classed_lines (placed_text doc.now)) place.at count)) }
+{
+    let after = after_lines(doc, place, count);
+    let prefix = place.context.prefix();
+    leans(
+        doc,
+        after.at,
+        prefix,
+        place.context.flag(),
+        after.context.flag(),
+    )
+}
