@@ -40,10 +40,7 @@ pub(crate) fn plan_set_value<A: Allocator + Copy>(
     ensures few_read { meter.new ≤ meter.old + cost (placed_text doc.now) (edit_of edit.now) }
     ensures forward { meter.old ≤ meter.new }
 {
-    let found = match find(doc, edit) {
-        Ok(found) => found,
-        Err(refusal) => return Err(refusal),
-    };
+    let found = find(doc, edit)?;
     let line = doc.line(found.at);
     let range = value_range(line, value.is_empty());
     if doc.size() + value.len() > SIZE_LIMIT + (range.end - range.start) {
