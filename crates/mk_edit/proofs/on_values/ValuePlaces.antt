@@ -55,7 +55,7 @@ raw-within l n =
     omega (arith, ap length whole, length-append (without_line_end l) (line_end_bytes (line_end l)), ap length raw, length-append (raw_text (take n (line_cells l))) (raw_text (drop n (line_cells l))))
 
 -- the parts of an assignment's line
-assignment-placed : (c : Context) (l : List ℕ) (a : Assignment Cell) → class_of c l ≡ Assign a None → IsAssignmentPlaced (line_cells l) (assignment_places 0 a) [] a
+pub assignment-placed : (c : Context) (l : List ℕ) (a : Assignment Cell) → class_of c l ≡ Assign a None → IsAssignmentPlaced (line_cells l) (assignment_places 0 a) [] a
 assignment-placed c l a h =
     let P = line-parts_placed c l (variants.Assign (assignment_places 0 a) None) (sym (ap (class_places joined_byte) h)) in
     let e : Assign P.0 None ≡ Assign a None = sym P.1 ∙ h in
