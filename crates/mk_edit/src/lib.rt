@@ -38,6 +38,8 @@ mod range;
 mod removals;
 mod seek;
 mod targets;
+#[cfg(test)]
+mod tests;
 mod text;
 mod value;
 

@@ -1,0 +1,3 @@
+mod finding;
+mod lines;
+mod refusals;
