@@ -4,4 +4,5 @@ pub mod LinePlans
 pub mod NewLinePlans
 pub mod DocumentPlaces
 pub mod CausePlans
+pub mod RangePlans
 pub mod RemovalPlans

@@ -19,3 +19,5 @@ pub mod NewPrerequisites
 -- A rename
 pub mod RenamedPlaces
 pub mod RenamedTexts
+-- Edits of a value
+pub mod ValuesGiven

@@ -26,6 +26,7 @@
 //! - `new_line`: the text of new lines.
 //! - `insertion`: where new lines go, and the causes of refusal that their places decide.
 //! - `prerequisite`: the prerequisites in the line of a rule.
+//! - `value`: edits of a value, planned.
 //! - `removals`: edits that take lines out.
 //! - `word_parts`: the words of a line that a rename replaces.
 //! - `tally`: these words counted.
@@ -58,6 +59,7 @@ mod tests;
 mod text;
 mod unrule;
 mod word_parts;
+mod value;
 
 pub use edit::{Edit, Place};
 pub use mk_edit_laws::{Colons, Detail, Field, Refusal};

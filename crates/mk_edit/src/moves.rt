@@ -40,6 +40,7 @@ pub(crate) fn replace_line<A: Allocator + Copy>(
     ensures moves { IfOk result (λ patch. patch ≡ replacing_moves doc.now place.at bytes.items) }
     ensures refused { IsOkUnless result Refusal.NoMemory }
     ensures few_read { meter.new ≤ meter.old + 1 }
+    ensures forward { meter.old ≤ meter.new }
 {
     // The contract of `len` says that there are few lines, as reading asks.
     let _count = doc.len();
@@ -88,6 +89,7 @@ pub(crate) fn insert_line<A: Allocator + Copy>(
     ensures moves { IfOk result (λ patch. patch ≡ inserting_moves doc.now place.at bytes.items) }
     ensures refused { IsOkUnless result Refusal.NoMemory }
     ensures few_read { meter.new ≤ meter.old + 1 }
+    ensures forward { meter.old ≤ meter.new }
 {
     // The contract of `size` says that no line is empty, so that there are few, as reading asks.
     let _size = doc.size();
@@ -156,6 +158,7 @@ fn read_line<A: Allocator + Copy>(
     ensures line { IfOk result (λ line. line_view line ≡ placed_line (line_in context bytes.items)) }
     ensures refused { IsOkUnless result Refusal.NoMemory }
     ensures few_read { meter.new ≤ meter.old + 1 }
+    ensures forward { meter.old ≤ meter.new }
 {
     match Line::read(alloc, bytes, context, meter) {
         Ok(line) => Ok(line),

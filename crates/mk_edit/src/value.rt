@@ -1,0 +1,134 @@
+//! Edits of a variable's value, planned.
+ghost use Rattle.std.specs.Prelude.{◌≡◌, ◌≤◌, ◌+◌, ◌++◌, IfOk, IfErr, take, drop, length};
+ghost use Rattle.mk_tree.specs.Documents.{IsFaithful};
+ghost use Rattle.mk_tree.specs.PlacedLines.{placed_text};
+ghost use Rattle.mk_edit_laws.specs.Costs.{cost};
+ghost use Rattle.mk_edit.specs.EditViews.{edit_of};
+ghost use Rattle.mk_edit.specs.Planned.{IsPlanned, IsRefusal};
+ghost use Rattle.mk_edit.specs.PlacedParts.{IsClassed};
+ghost use Rattle.mk_edit.specs.ValuesGiven.{IsAppended, IsSetTo, space_after, value_text_placed};
+ghost use Rattle.mk_tree.specs.Trees.{line_view};
+
+use crate::edit::Edit;
+use crate::find::find;
+use crate::moves::replace_line;
+use crate::part::{part, text_of_line};
+use crate::range::{value_range, with_replaced};
+use mk_class::{Class, Meter};
+use mk_edit_laws::Refusal;
+use mk_lines::is_closed;
+use mk_patch::Patch;
+use mk_tree::{Doc, Line};
+use std::alloc::{AllocError, Allocator};
+
+/// The most bytes that a text may have.
+const SIZE_LIMIT: usize = 16_777_216;
+
+/// Plans another value for a variable: the edit sets it to this one.
+///
+/// # Errors
+///
+/// The first refusal of the edit whose cause holds. Where none does, [`Refusal::NoMemory`] where a
+/// growth was refused.
+pub(crate) fn plan_set_value<A: Allocator + Copy>(
+    alloc: A,
+    doc: &Doc<A>,
+    edit: &Edit<A>,
+    value: &[u8],
+    meter: &mut Meter,
+) -> Result<Patch<A>, Refusal>
+    requires faithful { IsFaithful doc.now }
+    requires edit { IsSetTo (edit_of edit.now) value.now }
+    ensures planned { IfOk result (λ patch. IsPlanned (edit_of edit.now) doc.now patch) }
+    ensures refused { IfErr result (λ refusal. IsRefusal (placed_text doc.now) (edit_of edit.now) refusal) }
+    ensures few_read { meter.new ≤ meter.old + cost (placed_text doc.now) (edit_of edit.now) }
+    ensures forward { meter.old ≤ meter.new }
+{
+    let found = find(doc, edit)?;
+    let line = doc.line(found.at);
+    let range = value_range(line, value.is_empty());
+    if doc.size() + value.len() > SIZE_LIMIT + (range.end - range.start) {
+        return Err(Refusal::TooLong);
+    }
+    let Ok(bytes) = with_replaced(alloc, line.bytes(), range, value) else {
+        return Err(Refusal::NoMemory);
+    };
+    replace_line(alloc, doc, found, bytes, meter)
+}
+
+/// Plans a text after a variable's value: the edit appends this one.
+///
+/// # Errors
+///
+/// The first refusal of the edit whose cause holds. Where none does, [`Refusal::NoMemory`] where a
+/// growth was refused.
+pub(crate) fn plan_append_value<A: Allocator + Copy>(
+    alloc: A,
+    doc: &Doc<A>,
+    edit: &Edit<A>,
+    value: &[u8],
+    meter: &mut Meter,
+) -> Result<Patch<A>, Refusal>
+    requires faithful { IsFaithful doc.now }
+    requires edit { IsAppended (edit_of edit.now) value.now }
+    ensures planned { IfOk result (λ patch. IsPlanned (edit_of edit.now) doc.now patch) }
+    ensures refused { IfErr result (λ refusal. IsRefusal (placed_text doc.now) (edit_of edit.now) refusal) }
+    ensures few_read { meter.new ≤ meter.old + cost (placed_text doc.now) (edit_of edit.now) }
+    ensures forward { meter.old ≤ meter.new }
+{
+    let found = find(doc, edit)?;
+    let line = doc.line(found.at);
+    let old = value_text(line);
+    if !is_closed(old) {
+        return Err(Refusal::OpenValue);
+    }
+    let space = space_after(old);
+    if doc.size() + space.len() + value.len() > SIZE_LIMIT {
+        return Err(Refusal::TooLong);
+    }
+    let range = value_range(line, false);
+    let Ok(bytes) = with_put_in(alloc, line.bytes(), range.end, space, value) else {
+        return Err(Refusal::NoMemory);
+    };
+    replace_line(alloc, doc, found, bytes, meter)
+}
+
+// The text of the value of an assignment's line.
+fn value_text<A: Allocator>(line: &Line<A>) -> &[u8]
+    requires { IsClassed (line_view line.now) }
+    ensures { result.now ≡ value_text_placed (line_view line.now) }
+{
+    match line.class() {
+        Class::Assign(assignment, _) => part(text_of_line(line), assignment.value),
+        _ => b"",
+    }
+}
+
+// What stands between a value and a text that is appended to it.
+fn space_after(value: &[u8]) -> &'static [u8]
+    ensures space { result.now ≡ space_after value.now }
+    ensures short { length result.now ≤ 1 }
+{
+    if value.is_empty() { b"" } else { b" " }
+}
+
+// Bytes with a text put in at a place, and a space or nothing before it, in memory of their own. It
+// takes as much as they need, at once.
+fn with_put_in<A: Allocator>(
+    alloc: A,
+    bytes: &[u8],
+    at: usize,
+    space: &[u8],
+    text: &[u8],
+) -> Result<Vec<u8, A>, AllocError>
+    requires within { at ≤ length bytes.now }
+    requires short { length space.now ≤ 1 }
+    ensures { IfOk result (λ all. all.items ≡ take at bytes.now ++ (space.now ++ (text.now ++ drop at bytes.now))) }
+{
+    let mut all = Vec::with_capacity(alloc, bytes.len() + space.len() + text.len())?;
+    all.extend_from_slice(&bytes[..at])?;
+    all.extend_from_slice(space)?;
+    all.extend_from_slice(text)?;
+    all.extend_from_slice(&bytes[at..])?;
+    Ok(all)
+}
