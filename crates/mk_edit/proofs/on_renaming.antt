@@ -2,3 +2,4 @@
 pub mod PlaceLemmas
 pub mod WrittenLemmas
 pub mod PiecePlaces
+pub mod LinePieces
