@@ -58,8 +58,8 @@ mod targets;
 mod tests;
 mod text;
 mod unrule;
-mod word_parts;
 mod value;
+mod word_parts;
 
 pub use edit::{Edit, Place};
 pub use mk_edit_laws::{Colons, Detail, Field, Refusal};
