@@ -25,6 +25,7 @@
 //! - `recipe_del`: the removal of a recipe line.
 //! - `new_line`: the text of new lines.
 //! - `insertion`: where new lines go, and the causes of refusal that their places decide.
+//! - `addition`: new lines, planned.
 //! - `prerequisite`: the prerequisites in the line of a rule.
 //! - `value`: edits of a value, planned.
 //! - `removals`: edits that take lines out.
@@ -33,6 +34,7 @@
 //! - `renamed_line`: the bytes of a line after a rename.
 #![tactic(auto)]
 
+mod addition;
 mod address;
 mod argument;
 pub mod edit;
