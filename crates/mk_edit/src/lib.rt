@@ -26,6 +26,7 @@
 //! - `new_line`: the text of new lines.
 //! - `insertion`: where new lines go, and the causes of refusal that their places decide.
 //! - `addition`: new lines, planned.
+//! - `recipe_add`: a new recipe line, planned.
 //! - `prerequisite`: the prerequisites in the line of a rule.
 //! - `value`: edits of a value, planned.
 //! - `removals`: edits that take lines out.
@@ -50,6 +51,7 @@ mod place;
 mod prerequisite;
 mod range;
 mod recipe;
+mod recipe_add;
 mod recipe_del;
 mod removals;
 mod renamed_line;
