@@ -5,3 +5,4 @@ pub mod RulePlaces
 pub mod RuleRemovals
 pub mod RecipePlaces
 pub mod RecipeRemovals
+pub mod RecipeSettings

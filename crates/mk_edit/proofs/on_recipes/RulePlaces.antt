@@ -1,7 +1,7 @@
 -- The rule that an edit means, as it stands in a document: its header, its recipe, and the lines below.
-use Rattle.std.proofs.Common.{◌≡◌, refl, sym, ap, ◌∙◌, subst, arith, ℕ, ◌+◌, List, [], ◌∷◌, ◌++◌, length, drop, drop-drop, Option, Some, None}
+use Rattle.std.proofs.Common.{◌≡◌, refl, sym, ap, ◌∙◌, subst, arith, ℕ, ◌+◌, List, [], ◌∷◌, ◌++◌, length, take, drop, drop-drop, Option, Some, None}
 use Rattle.std.proofs.lemmas.List.{drop-map}
-use Rattle.std.proofs.Math.Seq.{drop-append-add}
+use Rattle.std.proofs.Math.Seq.{take-append_seam, drop-append-add}
 use Rattle.mk_lines.specs.Cells.{Cell}
 use Rattle.mk_class.specs.Headers
 use Rattle.mk_class.specs.Classes.{Class}
@@ -22,6 +22,7 @@ use Rattle.mk_edit_laws.proofs.on_edits.Accepted.{where_holds-none}
 use Rattle.mk_edit_laws.proofs.on_lines.SpotLemmas.{FoundRule, rule-found}
 use Rattle.mk_edit_laws.specs.declared.refusal.Refusal.TheVariants.{NoSuch, Ambiguous}
 use Rattle.mk_edit.specs.Found.{IsFoundAt}
+use Rattle.mk_edit.specs.PlannedMoves.{IsPlaceOf}
 use Rattle.mk_edit.specs.RecipeWalks.{lines_from}
 use Rattle.mk_edit.specs.declared.seek.Found.{Found}
 use Rattle.mk_edit.proofs.on_finding.PlaceLemmas.{IsLineAt, line-at}
@@ -71,3 +72,11 @@ rule-at ls nth g f h there one F =
       flag_is = ap (λ (c : Context). c.flag) into ∙ C.flag;
       prefix_is = ap (λ (c : Context). c.prefix) into ∙ (C.prefix ∙ ap (λ (c : Context). c.prefix) F.context_is);
     }
+
+-- the place of its header
+pub rule-place : (ls : List PlacedLine) (nth : Option ℕ) (g : List ℕ) (f : Found) → IsRuleAt ls nth g f → IsPlaceOf ls f
+rule-place ls nth g f R =
+    let s = R.spot in
+    let above : take f.at (classed_lines (placed_text ls)) ≡ s.above =
+    ap (take f.at) R.line.lines ∙ (ap (λ k. take k (s.above ++ s.line ∷ s.below)) (sym R.place_is) ∙ take-append_seam s.above (s.line ∷ s.below)) in
+    ap context_of above ∙ R.line.context_is
