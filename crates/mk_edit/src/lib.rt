@@ -23,6 +23,7 @@
 //! - `moves`: the patches of edits whose causes are decided.
 //! - `unrule`: the removal of a rule.
 //! - `recipe_del`: the removal of a recipe line.
+//! - `recipe_set`: another command for a recipe line.
 //! - `new_line`: the text of new lines.
 //! - `insertion`: where new lines go, and the causes of refusal that their places decide.
 //! - `addition`: new lines, planned.
@@ -53,6 +54,7 @@ mod range;
 mod recipe;
 mod recipe_add;
 mod recipe_del;
+mod recipe_set;
 mod removals;
 mod renamed_line;
 mod seek;
