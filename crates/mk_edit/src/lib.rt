@@ -27,6 +27,7 @@
 //! - `new_line`: the text of new lines.
 //! - `insertion`: where new lines go, and the causes of refusal that their places decide.
 //! - `prerequisite`: the prerequisites in the line of a rule.
+//! - `depend`: a new prerequisite, and one less, planned.
 //! - `value`: edits of a value, planned.
 //! - `removals`: edits that take lines out.
 //! - `word_parts`: the words of a line that a rename replaces.
@@ -36,6 +37,7 @@
 
 mod address;
 mod argument;
+mod depend;
 pub mod edit;
 mod find;
 mod insertion;
