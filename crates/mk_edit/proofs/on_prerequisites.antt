@@ -5,3 +5,4 @@ pub mod HeaderBytes
 pub mod HeaderPlaces
 pub mod WordPlans
 pub mod UndependPlans
+pub mod DependPlans

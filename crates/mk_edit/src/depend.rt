@@ -16,7 +16,7 @@ use crate::edit::Edit;
 use crate::find::find;
 use crate::moves::replace_line;
 use crate::prerequisite::{
-    has_normal, has_order_only, new_len, with_prerequisite, without_prerequisite,
+    has_normal, has_order_only, len_of_new, with_prerequisite, without_prerequisite,
 };
 use mk_class::{Class, Header, Meter};
 use mk_edit_laws::Refusal;
@@ -55,7 +55,7 @@ pub(crate) fn plan_depend<A: Allocator + Copy>(
     if is_in_list(line, header, order, word) {
         return Err(Refusal::Already);
     }
-    if size + new_len(line, header, order, word) > SIZE_LIMIT {
+    if size + len_of_new(line, header, order, word) > SIZE_LIMIT {
         return Err(Refusal::TooLong);
     }
     let Ok(bytes) = with_prerequisite(alloc, line, header, order, word) else {

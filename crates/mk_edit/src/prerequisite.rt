@@ -145,7 +145,7 @@ pub(crate) fn after_new(header: Header, order: bool, place: usize) -> &'static [
 }
 
 /// How many bytes longer a line gets by a new prerequisite.
-pub(crate) fn new_len<A: Allocator>(
+pub(crate) fn len_of_new<A: Allocator>(
     line: &Line<A>,
     header: Header,
     order: bool,
