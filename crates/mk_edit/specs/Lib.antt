@@ -16,6 +16,7 @@ pub mod RecipeEdits
 pub mod SeenHeaders
 pub mod WordCuts
 pub mod NewPrerequisites
+pub mod PrerequisiteEdits
 -- A rename
 pub mod RenamedPlaces
 pub mod RenamedTexts

@@ -29,6 +29,7 @@
 //! - `addition`: new lines, planned.
 //! - `recipe_add`: a new recipe line, planned.
 //! - `prerequisite`: the prerequisites in the line of a rule.
+//! - `depend`: a new prerequisite, and one less, planned.
 //! - `value`: edits of a value, planned.
 //! - `removals`: edits that take lines out.
 //! - `word_parts`: the words of a line that a rename replaces.
@@ -39,6 +40,7 @@
 mod addition;
 mod address;
 mod argument;
+mod depend;
 pub mod edit;
 mod find;
 mod insertion;
