@@ -35,6 +35,7 @@
 //! - `word_parts`: the words of a line that a rename replaces.
 //! - `tally`: these words counted.
 //! - `renamed_line`: the bytes of a line after a rename.
+//! - `rename_causes`: the causes of refusal of a rename.
 #![tactic(auto)]
 
 mod addition;
@@ -58,6 +59,7 @@ mod recipe_add;
 mod recipe_del;
 mod recipe_set;
 mod removals;
+mod rename_causes;
 mod renamed_line;
 mod seek;
 mod tally;
