@@ -6,3 +6,4 @@ pub mod RuleRemovals
 pub mod RecipePlaces
 pub mod RecipeRemovals
 pub mod RecipeAdditions
+pub mod RecipeSettings
