@@ -25,7 +25,7 @@ use Rattle.mk_edit_laws.specs.declared.refusal.Refusal.TheVariants.{NoSuch, Reci
 use Rattle.mk_edit_laws.proofs.on_edits.Accepted.{two-passed}
 use Rattle.mk_edit.specs.declared.rename_causes.Effect.{Effect}
 use Rattle.mk_edit.specs.RenameEffects.{IsRename, begins_some_line, effect_on, replaced_bytes, replaced_words}
-use Rattle.mk_edit.proofs.CauseLemmas.{passed}
+use Rattle.mk_edit.proofs.CauseLemmas.{holds, passed}
 use Rattle.mk_edit.proofs.on_plans.CausePlans.{long-said}
 use Rattle.mk_edit.proofs.on_renaming.CausesOfPrefix.{rename-led}
 use Rattle.mk_edit.proofs.on_renaming.SizesOfTexts.{rename-put, rename-taken}
@@ -44,9 +44,9 @@ new-some o n h =
     some [] e = absurd (cc)
     some (b ∷ x) e = omega arith
 
--- ---- the causes after those of the fields
+-- ---- the causes of an edit
 
--- these causes of an edit, the last of which is told
+-- those after the ones that its fields decide; the last of them is told
 abbrev after_fields : List ClassedLine → Edit → (long : Option Refusal) → List (Option Refusal)
 after_fields ls e long =
     unread_prefix ls
@@ -64,6 +64,19 @@ after_fields ls e long =
     ∷ leaning ls e
     ∷ long
     ∷ []
+
+-- ---- the causes that the fields decide
+
+-- a bad field is told first, and then a reserved name
+pub bad-first : (t : List ℕ) (ls : List ClassedLine) (e : Edit) (r : Refusal) → bad_argument e ≡ Some r → Some r ≡ first_cause (causes t ls e)
+bad-first t ls e r h = sym (holds (bad_argument e) (reserved e ∷ after_fields ls e (too_long t (spans_of t ls e))) r h)
+
+pub reserved-first : (t : List ℕ) (ls : List ClassedLine) (e : Edit) (r : Refusal) → bad_argument e ≡ None → reserved e ≡ Some r → Some r ≡ first_cause (causes t ls e)
+reserved-first t ls e r b h =
+    let after = after_fields ls e (too_long t (spans_of t ls e)) in
+    sym (passed (bad_argument e) (reserved e ∷ after) (Some r) b (holds (reserved e) after r h))
+
+-- ---- the causes after those of the fields
 
 -- the first of them, by what each asks
 abbrev pub rename_refusal : (is_unread is_there is_led is_taken is_long : Bool) → Option Refusal

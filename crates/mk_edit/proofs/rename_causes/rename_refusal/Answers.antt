@@ -1,12 +1,26 @@
 use Rattle.std.proofs.Common.{◌≡◌, ◌∙◌, sym, ap, refl, true, false, None}
+use Rattle.mk_class.specs.ClassedLines.{classed_lines}
+use Rattle.mk_tree.specs.PlacedLines.{placed_text}
 use Rattle.mk_edit_laws.specs.ArgumentCauses.{bad_argument, reserved}
 use Rattle.mk_edit_laws.specs.Causes.{where_holds}
-use Rattle.mk_edit_laws.specs.declared.refusal.Refusal.TheVariants.{Reserved}
+use Rattle.mk_edit_laws.specs.declared.refusal.Refusal.TheVariants.{BadArgument, Reserved}
 use Rattle.mk_edit.specs.EditViews.{edit_of, field_refusal}
 use Rattle.mk_edit.specs.declared.rename_causes.Effect.{Effect}
 use Rattle.mk_edit.proofs.on_finding.FindLemmas.{reserved-holds}
-use Rattle.mk_edit.proofs.on_renaming.CausesOfRename.{long-told, rename-causes}
+use Rattle.mk_edit.proofs.on_renaming.CausesOfRename.{bad-first, long-told, rename-causes, reserved-first}
 use Rattle.mk_edit.proofs.rename_causes.rename_refusal.Goals as goal
+
+pub returns-in-Some : goal.returns-in-Some
+returns-in-Some g c =
+    let t = placed_text c.args.doc.now in
+    bad-first t (classed_lines t) (edit_of c.args.edit.now) (BadArgument c.in-Some.field) (sym c.bad_field.ensures ∙ ap field_refusal c.in-Some.is)
+
+pub returns-then-is_reserved : goal.returns-then-is_reserved
+returns-then-is_reserved g c =
+    let t = placed_text c.args.doc.now in
+    let e = edit_of c.args.edit.now in
+    let fields : bad_argument e ≡ None = sym c.bad_field.ensures ∙ ap field_refusal c.in_default.is in
+    reserved-first t (classed_lines t) e Reserved fields (reserved-holds e c.is_reserved.result c.is_reserved.ensures ∙ ap (λ b. where_holds b Reserved) c.if-is_reserved.true)
 
 pub returns-then-seek : goal.returns-then-seek
 returns-then-seek g c =
