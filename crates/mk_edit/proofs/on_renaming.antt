@@ -3,3 +3,6 @@ pub mod PlaceLemmas
 pub mod WrittenLemmas
 pub mod PiecePlaces
 pub mod LinePieces
+pub mod LinesRenamed
+pub mod PatchTurns
+pub mod LinesAlong

@@ -19,5 +19,6 @@ pub mod NewPrerequisites
 -- A rename
 pub mod RenamedPlaces
 pub mod RenamedTexts
+pub mod RenamePatches
 -- Edits of a value
 pub mod ValuesGiven

@@ -31,6 +31,7 @@
 //! - `word_parts`: the words of a line that a rename replaces.
 //! - `tally`: these words counted.
 //! - `renamed_line`: the bytes of a line after a rename.
+//! - `rename_patch`: the patch of a rename whose causes are decided.
 #![tactic(auto)]
 
 mod address;
@@ -50,6 +51,7 @@ mod range;
 mod recipe;
 mod recipe_del;
 mod removals;
+mod rename_patch;
 mod renamed_line;
 mod seek;
 mod tally;
