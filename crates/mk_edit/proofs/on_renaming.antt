@@ -6,3 +6,4 @@ pub mod LinePieces
 pub mod LinesRenamed
 pub mod PatchTurns
 pub mod LinesAlong
+pub mod PatchPlans

@@ -1,5 +1,5 @@
 -- The moves of a rename: each line that holds the word is exchanged for its line after the rename, in two turns.
-use Rattle.std.specs.Prelude.{◌≡◌, ◌&&◌, not, nat_lt, ℕ, ◌+◌, ◌*◌, ◌^◌, ◌<◌, ◌≤◌, Bool, true, false, List, [], ◌∷◌, ◌++◌, length, count_by}
+use Rattle.std.specs.Prelude.{◌≡◌, ◌&&◌, not, nat_lt, ℕ, ◌+◌, ◌*◌, ◌^◌, ◌<◌, ◌≤◌, Bool, true, false, List, [], ◌∷◌, ◌++◌, length, filter}
 use Rattle.mk_lines.specs.LogicalLines.{logical_lines}
 use Rattle.mk_class.specs.Contexts.{Context, start, context_after_places}
 use Rattle.mk_tree.specs.LineTexts.{line_in}
@@ -29,7 +29,7 @@ is_exchanged t o n l = is_turn_of t (length (renamed_places o l)) (bytes_in (ren
 
 -- how many of some lines are
 abbrev pub exchanged_count : Turn → (old new : List ℕ) → List PlacedLine → ℕ
-exchanged_count t o n ls = count_by (is_exchanged t o n) ls
+exchanged_count t o n ls = length (filter (is_exchanged t o n) ls)
 
 -- ---- the moves
 

@@ -3,7 +3,7 @@
 //! Each line that holds the word is exchanged for its line after the rename. The text stays within its
 //! limit after each step, though one line may get shorter and another longer. So the lines go in two
 //! turns: first those that get no longer, then those that do.
-ghost use Rattle.std.specs.Prelude.{◌≡◌, ◌≤◌, ◌<◌, ◌+◌, ◌*◌, ◌^◌, ◌++◌, IfOk, IsOkUnless, count_by, if◌then◌else◌, length, option_map};
+ghost use Rattle.std.specs.Prelude.{◌≡◌, ◌≤◌, ◌<◌, ◌+◌, ◌*◌, ◌^◌, ◌++◌, IfOk, IsOkUnless, filter, if◌then◌else◌, length, option_map};
 ghost use Rattle.mk_class.specs.ClassedLines.{classed_lines};
 ghost use Rattle.mk_class.specs.Contexts.{start};
 ghost use Rattle.mk_tree.specs.Documents.{IsFaithful};
@@ -64,7 +64,7 @@ pub(crate) fn rename_patch<A: Allocator + Copy>(
 // How many lines hold a word where a rename replaces it. Takes no memory.
 fn renamed_line_count<A: Allocator>(doc: &Doc<A>, from: &[u8]) -> usize
     requires { IsFaithful doc.now }
-    ensures { result ≡ count_by (holds_word from.now) doc.now }
+    ensures { result ≡ length (filter (holds_word from.now) doc.now) }
 {
     // The contract of `size` says that the lines are short, as counting asks.
     let _size = doc.size();
