@@ -7,3 +7,4 @@ pub mod LinesRenamed
 pub mod PatchTurns
 pub mod LinesAlong
 pub mod PatchPlans
+pub mod PatchLoops

@@ -103,13 +103,11 @@ fn exchange_lines<A: Allocator + Copy>(
     ensures few_read { meter.new ≤ meter.old + exchanged_count turn from.now to.now doc.now }
     ensures forward { meter.old ≤ meter.new }
 {
-    let _size = doc.size();
-    let mut at = 0;
-    'lines: for (context, line) in doc.lines_with_contexts() {
+    let _count = doc.len();
+    'lines: for (at, (context, line)) in doc.lines_with_contexts().enumerate() {
         if let Some(renamed) = line_of_turn(alloc, line, context, from, to, turn, meter)? {
             patch.push(Step::Exchange(at, renamed));
         }
-        at += 1;
     }
     Ok(())
 }
