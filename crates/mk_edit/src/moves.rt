@@ -107,7 +107,10 @@ pub(crate) fn insert_line<A: Allocator + Copy>(
 /// # Errors
 ///
 /// [`Refusal::NoMemory`] where there is no memory for so many.
-pub(crate) fn builder<A: Allocator + Copy>(alloc: A, room: usize) -> Result<PatchBuilder<A>, Refusal>
+pub(crate) fn builder<A: Allocator + Copy>(
+    alloc: A,
+    room: usize,
+) -> Result<PatchBuilder<A>, Refusal>
     ensures empty { IfOk result (λ patch. patch ≡ record { moves = []; room = room }) }
     ensures refused { IsOkUnless result Refusal.NoMemory }
 {

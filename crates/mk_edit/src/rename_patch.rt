@@ -53,7 +53,7 @@ pub(crate) fn rename_patch<A: Allocator + Copy>(
     ensures few_read { meter.new ≤ meter.old + cost (placed_text doc.now) (RenameTarget from.now to.now) }
     ensures forward { meter.old ≤ meter.new }
 {
-    // The contracts of `size` and `iter` say that the text is within the limit, and its lines admitted.
+    // The contract of `size` says that the text is within the limit, as the first turn asks.
     let _size = doc.size();
     let mut patch = builder(alloc, renamed_line_count(doc, from))?;
     exchange_lines(alloc, doc, &mut patch, from, to, Turn::NoLonger, meter)?;
@@ -103,6 +103,7 @@ fn exchange_lines<A: Allocator + Copy>(
     ensures few_read { meter.new ≤ meter.old + exchanged_count turn from.now to.now doc.now }
     ensures forward { meter.old ≤ meter.new }
 {
+    // The contract of `len` says that there are few lines, as counting their places asks.
     let _count = doc.len();
     'lines: for (at, (context, line)) in doc.lines_with_contexts().enumerate() {
         if let Some(renamed) = line_of_turn(alloc, line, context, from, to, turn, meter)? {

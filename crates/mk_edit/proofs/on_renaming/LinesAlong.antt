@@ -1,7 +1,6 @@
 -- The lines of a text, each with its line after a rename: each can be renamed where it stands, and those that hold the word, renamed,
 -- are the lines after.
-use Rattle.std.proofs.Common.{◌≡◌, refl, sym, ap, ◌∙◌, subst, arith, ℕ, ◌+◌, ◌*◌, ◌^◌, ◌<◌, ◌≤◌, Bool, true, false, not, List, [], ◌∷◌, ◌++◌, length}
-use Rattle.std.specs.Prelude.{if◌then◌else◌}
+use Rattle.std.proofs.Common.{◌≡◌, refl, sym, ap, ◌∙◌, subst, arith, ℕ, ◌+◌, ◌^◌, ◌<◌, ◌≤◌, Bool, true, false, not, List, [], ◌∷◌, length}
 use Rattle.mk_lines.specs.LogicalLines.{logical_lines}
 use Rattle.mk_lines.specs.Cells.{Cell, joined_byte}
 use Rattle.mk_class.specs.Classes.{Class, is_conditional}
@@ -17,8 +16,8 @@ use Rattle.mk_edit_laws.specs.Costs.{is_renamed}
 use Rattle.mk_edit_laws.specs.RenamedLines.{AreLinesRenamedInPlace, IsLineRenamed}
 use Rattle.mk_patch.specs.Moves.{IsPlain}
 use Rattle.mk_patch.proofs.on_moves.TextLineLemmas.{plain-placed}
-use Rattle.mk_edit.specs.RenamedPlaces.{bytes_in, renamed_places}
-use Rattle.mk_edit.specs.RenamedTexts.{renamed_text, AreApart}
+use Rattle.mk_edit.specs.RenamedPlaces.{renamed_places}
+use Rattle.mk_edit.specs.RenamedTexts.{renamed_text}
 use Rattle.mk_edit.specs.RenamePatches.{holds_word, line_renamed, HasFewWords, HaveFewWords, CanBeRenamed, CanEachBeRenamed}
 use Rattle.mk_edit.proofs.on_renaming.LinePieces.{line-begins}
 use Rattle.mk_edit.proofs.on_renaming.LinesRenamed.{apart-bytes, line-apart, line-rewritten, holds-renamed, renamed-few}

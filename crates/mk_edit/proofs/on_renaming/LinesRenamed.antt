@@ -1,10 +1,10 @@
 -- One line after a rename: its bytes, by its pieces; where its words stand, and how many there are; how long it is.
-use Rattle.std.proofs.Common.{◌≡◌, refl, sym, ap, ◌∙◌, subst, arith, ℕ, ◌+◌, ◌-◌, ◌*◌, ◌^◌, ◌<◌, ◌≤◌, List, [], ◌∷◌, ◌++◌, Bool, true, false, take, drop, map, length, length-append, append_assoc, Option, Some, None}
+use Rattle.std.proofs.Common.{◌≡◌, refl, sym, ap, ◌∙◌, subst, arith, ℕ, ◌+◌, ◌-◌, ◌*◌, ◌≤◌, List, [], ◌∷◌, ◌++◌, drop, length, length-append, append_assoc, Option, Some, None}
 use Rattle.std.specs.Prelude.{slice_range, nat_lt}
 use Rattle.std.proofs.lemmas.List.{length-map, length-drop, length-take, length-take-le, drop-drop}
 use Rattle.std.proofs.lemmas.Bool.{lt-ltb}
 use Rattle.mk_lines.specs.Cells.{Cell, joined_byte, joined_text, line_cells, raw_text}
-use Rattle.mk_lines.specs.Pieces.{Replacement, Piece, Keep, Replace, old_bytes, new_bytes, replaced, replacements}
+use Rattle.mk_lines.specs.Pieces.{Piece, Keep, Replace, old_bytes, new_bytes, replaced, replacements}
 use Rattle.mk_lines.specs.PhysicalLines.{without_line_end}
 use Rattle.mk_lines.specs.Ranges.{text_at, word_ranges, word_token_ranges}
 use Rattle.mk_lines.specs.Units.{units}
@@ -23,8 +23,8 @@ use Rattle.mk_edit_laws.specs.WordPieces.{renamed_pieces, is_replaced}
 use Rattle.mk_edit_laws.specs.Costs.{is_renamed}
 use Rattle.mk_edit_laws.specs.RisingSpans.{Rise}
 use Rattle.mk_edit_laws.proofs.on_edits.RisingSpanLemmas.{Rise-until, Rise-pieces}
-use Rattle.mk_edit.specs.RenamedPlaces.{place_in, places_in, before_places, part_places, renamed_places, bytes_in, IsWithin, ArePartsWithin, parts_places, word_parts}
-use Rattle.mk_edit.specs.RenamedTexts.{AreApart, written, written_to, rewritten, renamed_text}
+use Rattle.mk_edit.specs.RenamedPlaces.{place_in, places_in, before_places, part_places, renamed_places, bytes_in, word_parts}
+use Rattle.mk_edit.specs.RenamedTexts.{AreApart, written, written_to, renamed_text}
 use Rattle.mk_edit.specs.RenamePatches.{holds_word}
 use Rattle.mk_edit.proofs.on_renaming.PlaceLemmas.{cells-within}
 use Rattle.mk_edit.proofs.on_renaming.PiecePlaces.{replacing}

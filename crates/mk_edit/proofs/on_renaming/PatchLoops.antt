@@ -1,12 +1,13 @@
 -- The walk of one turn of a rename: the steps that were added so far, with those of the lines ahead, are those of all lines.
-use Rattle.std.proofs.Common.{◌≡◌, refl, sym, ap, ◌∙◌, subst, arith, ℕ, ◌+◌, ◌^◌, ◌<◌, ◌≤◌, Bool, true, false, List, [], ◌∷◌, ◌++◌, length, length-append, filter, append_assoc, Option, Some, None}
+use Rattle.std.proofs.Common.{◌≡◌, refl, sym, ap, ◌∙◌, subst, arith, ℕ, ◌+◌, ◌^◌, ◌≤◌, Bool, true, false, List, [], ◌∷◌, ◌++◌, length, length-append, append_assoc, Option, Some, None}
 use Rattle.std.specs.Prelude.{if◌then◌else◌}
 use Rattle.mk_class.specs.Contexts.{Context, start, context_after_places}
 use Rattle.mk_tree.specs.PlacedLines.{PlacedLine}
 use Rattle.mk_tree.specs.Walks.{LinesInContext}
 use Rattle.mk_patch.specs.Moves.{Move, Exchange, MovesWithRoom}
-use Rattle.mk_edit.specs.RenamePatches.{is_exchanged, exchanged_count, line_renamed, before_moves, turn_moves_from, turn_moves, CanBeRenamed, CanEachBeRenamed}
+use Rattle.mk_edit.specs.RenamePatches.{is_exchanged, exchanged_count, line_renamed, before_moves, turn_moves_from, turn_moves, renaming_moves, CanEachBeRenamed}
 use Rattle.mk_edit.specs.declared.rename_patch.Turn.{Turn}
+use Rattle.mk_edit.specs.declared.rename_patch.Turn.TheVariants as turn
 use Rattle.mk_edit.proofs.on_renaming.PatchPlans.{filter-step}
 
 -- Some lines ahead, the first at a place, in a turn of the rename of a document. Each of them can be renamed. The patch had some
@@ -97,3 +98,34 @@ module _ (t : Turn) (o n : List ℕ) (d : List PlacedLine) (before : MovesWithRo
   turn-refused now at next ahead left m k c place l B H few =
       let number : exchanged_count t o n ahead.lines ≡ (if is_exchanged t o n l then 1 else 0) + exchanged_count t o n left.lines = ap (exchanged_count t o n) H.first_is ∙ filter-step (is_exchanged t o n) l left.lines in
       omega (arith, B.counted, few, number)
+
+-- ---- both turns
+
+-- a turn has as many steps as lines that are exchanged
+turn_moves-number : (t : Turn) (o n : List ℕ) (at : ℕ) (c : Context) (ls : List PlacedLine) → length (turn_moves_from t o n at c ls) ≡ exchanged_count t o n ls
+turn_moves-number t o n at c [] = refl
+turn_moves-number t o n at c (l ∷ ls) =
+    go (is_exchanged t o n l) (Exchange at (line_renamed o n c l)) (turn_moves_from t o n (at + 1) (context_after_places c l.class) ls) (turn_moves-number t o n (at + 1) (context_after_places c l.class) ls)
+    ∙ sym (filter-step (is_exchanged t o n) l ls)
+  where
+    go : (b : Bool) (m : Move) (ms : List Move) → length ms ≡ exchanged_count t o n ls → length (before_moves b m ms) ≡ (if b then 1 else 0) + exchanged_count t o n ls
+    go true m ms h = omega (arith, h)
+    go false m ms h = omega (arith, h)
+
+-- A patch with room for the lines that hold the word has room for each turn after the other, and their steps are those of the rename.
+module _ (o n : List ℕ) (d : List PlacedLine) (before : MovesWithRoom) (lines : ℕ) where
+  pub room-first : before ≡ record { moves = []; room = lines } → exchanged_count turn.NoLonger o n d + exchanged_count turn.Longer o n d ≡ lines → length before.moves + exchanged_count turn.NoLonger o n d ≤ before.room
+  room-first e number = omega (arith, number, ap (λ (z : MovesWithRoom). z.room) e, ap (λ (z : MovesWithRoom). length z.moves) e)
+
+  pub room-second : (between : MovesWithRoom) → before ≡ record { moves = []; room = lines } → exchanged_count turn.NoLonger o n d + exchanged_count turn.Longer o n d ≡ lines
+      → between ≡ record before { moves = before.moves ++ turn_moves turn.NoLonger o n d } → length between.moves + exchanged_count turn.Longer o n d ≤ between.room
+  room-second between e number f =
+      let room : between.room ≡ lines = ap (λ (z : MovesWithRoom). z.room) f ∙ ap (λ (z : MovesWithRoom). z.room) e in
+      let moves : between.moves ≡ turn_moves turn.NoLonger o n d = ap (λ (z : MovesWithRoom). z.moves) f ∙ ap (λ (z : MovesWithRoom). z.moves ++ turn_moves turn.NoLonger o n d) e in
+      omega (arith, number, room, ap length moves, turn_moves-number turn.NoLonger o n 0 start d)
+
+  pub both-turns : (between after : MovesWithRoom) → before ≡ record { moves = []; room = lines } → between ≡ record before { moves = before.moves ++ turn_moves turn.NoLonger o n d }
+      → after ≡ record between { moves = between.moves ++ turn_moves turn.Longer o n d } → after.moves ≡ renaming_moves o n d
+  both-turns between after e f h =
+      let moves : between.moves ≡ turn_moves turn.NoLonger o n d = ap (λ (z : MovesWithRoom). z.moves) f ∙ ap (λ (z : MovesWithRoom). z.moves ++ turn_moves turn.NoLonger o n d) e in
+      ap (λ (z : MovesWithRoom). z.moves) h ∙ ap (λ z. z ++ turn_moves turn.Longer o n d) moves

@@ -1,26 +1,24 @@
 -- The patch of a rename: its two turns lead from the lines of a document to those after the rename, and hold few lines.
-use Rattle.std.proofs.Common.{◌≡◌, refl, sym, ap, ◌∙◌, subst, arith, ℕ, ◌+◌, ◌*◌, ◌^◌, ◌<◌, ◌≤◌, Bool, true, false, not, ◌&&◌, List, [], ◌∷◌, ◌++◌, map, length, filter, Option, None}
+use Rattle.std.proofs.Common.{◌≡◌, refl, sym, ap, ◌∙◌, subst, arith, ℕ, ◌+◌, ◌*◌, ◌^◌, ◌≤◌, Bool, true, false, not, ◌&&◌, List, [], ◌∷◌, map, length, filter, Option, None}
 use Rattle.std.specs.Prelude.{Ok, nat_lt, if◌then◌else◌}
 use Rattle.mk_class.specs.Contexts.{Context, start, context_after, context_after_places}
 use Rattle.mk_class.specs.ClassedLines.{ClassedLine, classed_lines}
 use Rattle.mk_tree.specs.Documents.{IsFaithful}
 use Rattle.mk_tree.specs.PlacedLines.{PlacedLine, placed_line, placed_lines, placed_text, size_of}
 use Rattle.mk_tree.proofs.on_documents.LinePlaces.{AreClassed, AreClassed-class, AreClassed-tail, AreClassed-lines}
-use Rattle.mk_lines.specs.Pieces.{Replacement}
-use Rattle.mk_edit_laws.specs.Edits.{Edit, RenameTarget}
-use Rattle.mk_edit_laws.specs.Costs.{cost, is_renamed, size}
+use Rattle.mk_edit_laws.specs.Edits.{RenameTarget}
+use Rattle.mk_edit_laws.specs.Costs.{cost, is_renamed}
 use Rattle.mk_edit_laws.specs.Spans.{spans_of}
 use Rattle.mk_edit_laws.specs.Refusals.{causes, first_cause, spans, text_after, unless_refused}
 use Rattle.mk_edit_laws.specs.declared.refusal.Refusal.{Refusal}
 use Rattle.mk_edit_laws.proofs.on_edits.KeptByRenameLemmas.{rename-keeps}
-use Rattle.mk_patch.specs.Moves.{Move, Exchange, IsPlain, FitMoves, after_moves, held_by, taken_by}
+use Rattle.mk_patch.specs.Moves.{Exchange, IsPlain, FitMoves, after_moves, held_by, taken_by}
 use Rattle.mk_patch.proofs.on_moves.MoveLemmas.{after_moves-append, fit-append, held_by-append, taken_by-append}
 use Rattle.mk_patch.proofs.on_moves.ShapeLemmas.{LeadTo}
 use Rattle.mk_patch.proofs.on_moves.ExchangeLemmas.{exchanges, DifferWhereChosen, AreNoLonger, how_many, exchanges-lead, exchanges-held_chosen, exchanges-taken_chosen, within-shrunk, within-grown}
 use Rattle.mk_edit.specs.Planned.{IsPlanned}
 use Rattle.mk_edit.specs.RenamedPlaces.{renamed_places, bytes_in}
-use Rattle.mk_edit.specs.RenamedTexts.{renamed_text}
-use Rattle.mk_edit.specs.RenamePatches.{holds_word, is_turn_of, is_exchanged, exchanged_count, line_renamed, before_moves, turn_moves_from, turn_moves, renaming_moves, HaveFewWords, CanBeRenamed, CanEachBeRenamed}
+use Rattle.mk_edit.specs.RenamePatches.{holds_word, is_turn_of, is_exchanged, exchanged_count, line_renamed, before_moves, turn_moves_from, turn_moves, renaming_moves, HaveFewWords, CanEachBeRenamed}
 use Rattle.mk_edit.specs.declared.rename_patch.Turn.{Turn}
 use Rattle.mk_edit.specs.declared.rename_patch.Turn.TheVariants as turn
 use Rattle.mk_edit.proofs.on_plans.PlanLemmas.{lead-planned, after-fits, faithful-length}
@@ -262,7 +260,7 @@ pub record IsRenamePlanned (o n : List ℕ) (ls : List PlacedLine) : Type 0 wher
   pub costs : length (filter (holds_word o) ls) ≡ cost (placed_text ls) (RenameTarget o n)
   pub planned : IsPlanned (RenameTarget o n) ls (renaming_moves o n ls)
 
-pub rename-planned : (o n : List ℕ) (ls : List PlacedLine) → IsFaithful ls → size_of ls ≤ 2 ^ 24 → length ls ≤ 2 ^ 24
+pub rename-planned : (o n : List ℕ) (ls : List PlacedLine) → IsFaithful ls → size_of ls ≤ 2 ^ 24 → length ls ≤ size_of ls
     → first_cause (causes (placed_text ls) (classed_lines (placed_text ls)) (RenameTarget o n)) ≡ None → IsRenamePlanned o n ls
 rename-planned o n ls f few_bytes few h =
     let e = RenameTarget o n in
@@ -275,7 +273,7 @@ rename-planned o n ls f few_bytes few h =
     let A = AreClassed-lines t before refl in
     let old_bytes : size_of (placed_lines before) ≤ 2 ^ 24 = subst (λ (z : List PlacedLine). size_of z ≤ 2 ^ 24) f few_bytes in
     let new_bytes : size_of (placed_lines after) ≤ 2 ^ 24 = after-fits t e rs after spans_are refl in
-    let low : start.defines + length before ≤ 2 ^ 24 = omega (arith, few, faithful-length ls before f refl) in
+    let low : start.defines + length before ≤ 2 ^ 24 = omega (arith, few, few_bytes, faithful-length ls before f refl) in
     let C = lines-can o n start before after A K.in_place old_bytes new_bytes low in
     let become = lines-become o n start before after A K.in_place in
     let L : LeadTo (renaming_moves o n (placed_lines before)) (placed_lines before) (placed_lines after) =

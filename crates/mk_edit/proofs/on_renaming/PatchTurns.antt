@@ -1,14 +1,12 @@
 -- The turn in which a line of a rename is exchanged: what it says of the line, and what the code counts for it.
-use Rattle.std.proofs.Common.{◌≡◌, refl, sym, ap, ◌∙◌, subst, arith, ℕ, zero, suc, ◌+◌, ◌-◌, ◌*◌, ◌^◌, ◌<◌, ◌≤◌, Bool, true, false, not, ◌&&◌, List, length, Option, Some, None}
+use Rattle.std.proofs.Common.{◌≡◌, refl, sym, ap, ◌∙◌, subst, arith, ℕ, zero, suc, ◌+◌, ◌-◌, ◌*◌, ◌^◌, ◌<◌, ◌≤◌, Bool, true, false, not, List, length, Some, None}
 use Rattle.std.specs.Prelude.{nat_lt, if◌then◌else◌}
 use Rattle.std.proofs.lemmas.Bool.{and_parts, lt-ltb, ltb-true, ltb-false}
 use Rattle.mk_class.specs.Contexts.{Context}
-use Rattle.mk_lines.specs.declared.split.Span.{Span}
 use Rattle.mk_tree.specs.PlacedLines.{PlacedLine}
-use Rattle.mk_patch.specs.Moves.{IsPlain}
 use Rattle.mk_edit.specs.RenamedPlaces.{bytes_in, no_words, renamed_places, tallied}
 use Rattle.mk_edit.specs.RenamedTexts.{renamed_text}
-use Rattle.mk_edit.specs.RenamePatches.{holds_word, is_turn_of, is_exchanged, line_renamed, CanBeRenamed}
+use Rattle.mk_edit.specs.RenamePatches.{holds_word, is_turn_of, is_exchanged, CanBeRenamed}
 use Rattle.mk_edit.specs.declared.rename_patch.Turn.{Turn}
 use Rattle.mk_edit.specs.declared.rename_patch.Turn.TheVariants as turn
 use Rattle.mk_edit.specs.declared.tally.Tally.{Tally}
