@@ -8,3 +8,8 @@ pub mod SizesOfTexts
 pub mod SizesOfEffects
 pub mod CausesOfPrefix
 pub mod CausesOfRename
+pub mod LinesRenamed
+pub mod PatchTurns
+pub mod LinesAlong
+pub mod PatchPlans
+pub mod PatchLoops

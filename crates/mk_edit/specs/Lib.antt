@@ -21,5 +21,6 @@ pub mod PrerequisiteEdits
 pub mod RenamedPlaces
 pub mod RenamedTexts
 pub mod RenameEffects
+pub mod RenamePatches
 -- Edits of a value
 pub mod ValuesGiven

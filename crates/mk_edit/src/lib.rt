@@ -36,6 +36,7 @@
 //! - `tally`: these words counted.
 //! - `renamed_line`: the bytes of a line after a rename.
 //! - `rename_causes`: the causes of refusal of a rename.
+//! - `rename_patch`: the patch of a rename whose causes are decided.
 #![tactic(auto)]
 
 mod addition;
@@ -60,6 +61,7 @@ mod recipe_del;
 mod recipe_set;
 mod removals;
 mod rename_causes;
+mod rename_patch;
 mod renamed_line;
 mod seek;
 mod tally;
