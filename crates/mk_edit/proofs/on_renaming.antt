@@ -3,3 +3,8 @@ pub mod PlaceLemmas
 pub mod WrittenLemmas
 pub mod PiecePlaces
 pub mod LinePieces
+pub mod SizesOfWords
+pub mod SizesOfTexts
+pub mod SizesOfEffects
+pub mod CausesOfPrefix
+pub mod CausesOfRename

@@ -20,5 +20,6 @@ pub mod PrerequisiteEdits
 -- A rename
 pub mod RenamedPlaces
 pub mod RenamedTexts
+pub mod RenameEffects
 -- Edits of a value
 pub mod ValuesGiven

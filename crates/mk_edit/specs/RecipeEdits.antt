@@ -9,10 +9,10 @@ abbrev pub IsRuleRemoval : Edit → Type 0
 IsRuleRemoval (RemoveRule nth t) = Unit {0}
 IsRuleRemoval e = ⊥
 
--- a new recipe line of this command
-abbrev pub IsRecipeAddition : (command : List ℕ) → Edit → Type 0
-IsRecipeAddition c (AddRecipe nth t d) = d ≡ c
-IsRecipeAddition c e = ⊥
+-- a new recipe line
+abbrev pub IsRecipeAddition : Edit → Type 0
+IsRecipeAddition (AddRecipe nth t c) = Unit {0}
+IsRecipeAddition e = ⊥
 
 -- another command for the recipe line of this number
 abbrev pub IsRecipeSetting : (number : ℕ) → (command : List ℕ) → Edit → Type 0

@@ -26,6 +26,8 @@
 //! - `recipe_set`: another command for a recipe line.
 //! - `new_line`: the text of new lines.
 //! - `insertion`: where new lines go, and the causes of refusal that their places decide.
+//! - `addition`: new lines, planned.
+//! - `recipe_add`: a new recipe line, planned.
 //! - `prerequisite`: the prerequisites in the line of a rule.
 //! - `depend`: a new prerequisite, and one less, planned.
 //! - `value`: edits of a value, planned.
@@ -33,8 +35,10 @@
 //! - `word_parts`: the words of a line that a rename replaces.
 //! - `tally`: these words counted.
 //! - `renamed_line`: the bytes of a line after a rename.
+//! - `rename_causes`: the causes of refusal of a rename.
 #![tactic(auto)]
 
+mod addition;
 mod address;
 mod argument;
 mod depend;
@@ -51,9 +55,11 @@ mod place;
 mod prerequisite;
 mod range;
 mod recipe;
+mod recipe_add;
 mod recipe_del;
 mod recipe_set;
 mod removals;
+mod rename_causes;
 mod renamed_line;
 mod seek;
 mod tally;
