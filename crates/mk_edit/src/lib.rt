@@ -4,6 +4,7 @@
 //! answer what these definitions say.
 //!
 //! - [`edit`]: the twelve edits, and the places of new lines.
+//! - [`planning`]: what an edit would do to a document, or why it is refused.
 //!
 //! The other modules are the crate's own, lowest first:
 //!
@@ -37,6 +38,7 @@
 //! - `renamed_line`: the bytes of a line after a rename.
 //! - `rename_causes`: the causes of refusal of a rename.
 //! - `rename_patch`: the patch of a rename whose causes are decided.
+//! - `rename`: a rename, planned.
 #![tactic(auto)]
 
 mod addition;
@@ -53,6 +55,7 @@ mod moves;
 mod new_line;
 mod part;
 mod place;
+pub mod planning;
 mod prerequisite;
 mod range;
 mod recipe;
@@ -60,6 +63,7 @@ mod recipe_add;
 mod recipe_del;
 mod recipe_set;
 mod removals;
+mod rename;
 mod rename_causes;
 mod rename_patch;
 mod renamed_line;
@@ -75,3 +79,4 @@ mod word_parts;
 
 pub use edit::{Edit, Place};
 pub use mk_edit_laws::{Colons, Detail, Field, Refusal};
+pub use planning::plan;
