@@ -4,6 +4,7 @@
 //! answer what these definitions say.
 //!
 //! - [`edit`]: the twelve edits, and the places of new lines.
+//! - [`planning`]: what an edit would do to a document, or why it is refused.
 //!
 //! The other modules are the crate's own, lowest first:
 //!
@@ -45,6 +46,7 @@ mod moves;
 mod new_line;
 mod part;
 mod place;
+pub mod planning;
 mod prerequisite;
 mod range;
 mod recipe;
@@ -62,4 +64,5 @@ mod value;
 mod word_parts;
 
 pub use edit::{Edit, Place};
+pub use planning::plan;
 pub use mk_edit_laws::{Colons, Detail, Field, Refusal};

@@ -1,0 +1,52 @@
+//! What an edit would do to a document, or why it is refused.
+ghost use Rattle.std.specs.Prelude.{◌≤◌, ◌+◌, IfOk, IfErr};
+ghost use Rattle.mk_tree.specs.Documents.{IsFaithful};
+ghost use Rattle.mk_tree.specs.PlacedLines.{placed_text};
+ghost use Rattle.mk_edit_laws.specs.Costs.{cost};
+ghost use Rattle.mk_edit.specs.EditViews.{IsPlannedToday, edit_of};
+ghost use Rattle.mk_edit.specs.Planned.{IsPlanned, IsRefusal};
+
+use crate::edit::Edit;
+use crate::recipe_del::plan_recipe_del;
+use crate::removals::unset;
+use crate::unrule::plan_unrule;
+use crate::value::{plan_append_value, plan_set_value};
+use mk_class::Meter;
+use mk_edit_laws::Refusal;
+use mk_patch::Patch;
+use mk_tree::Doc;
+use std::alloc::Allocator;
+
+/// The patch that makes an edit of a document, or the first cause for which it is refused.
+///
+/// The document is not changed. The patch fits it, and leads to the document of the text with the
+/// edit's spans replaced: no byte outside them changes, and the text reads as the edit's stated change
+/// says. A line that is read anew counts in the meter, also where the edit is refused then: at most as
+/// many as the edit costs.
+///
+/// # Errors
+///
+/// The first [`Refusal`] whose cause holds, in their order; [`Refusal::NoMemory`] only where none of the
+/// others holds and a growth was refused.
+pub fn plan<A: Allocator + Copy>(
+    alloc: A,
+    doc: &Doc<A>,
+    edit: &Edit<A>,
+    meter: &mut Meter,
+) -> Result<Patch<A>, Refusal>
+    requires faithful { IsFaithful doc.now }
+    requires today { IsPlannedToday (edit_of edit.now) }
+    ensures planned { IfOk result (λ patch. IsPlanned (edit_of edit.now) doc.now patch) }
+    ensures refused { IfErr result (λ refusal. IsRefusal (placed_text doc.now) (edit_of edit.now) refusal) }
+    ensures few_read { meter.new ≤ meter.old + cost (placed_text doc.now) (edit_of edit.now) }
+    ensures forward { meter.old ≤ meter.new }
+{
+    match edit {
+        Edit::SetValue { value, .. } => plan_set_value(alloc, doc, edit, value, meter),
+        Edit::AppendValue { value, .. } => plan_append_value(alloc, doc, edit, value, meter),
+        Edit::RemoveAssign { .. } => unset(alloc, doc, edit),
+        Edit::RemoveRule { .. } => plan_unrule(alloc, doc, edit),
+        Edit::RemoveRecipe { number, .. } => plan_recipe_del(alloc, doc, edit, *number),
+        _ => unreachable!(),
+    }
+}
