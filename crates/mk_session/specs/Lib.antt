@@ -2,3 +2,6 @@
 pub mod Sessions
 -- What a session keeps
 pub mod KeptSessions
+-- Any calls
+pub mod Calls
+pub mod SessionLaws
