@@ -78,5 +78,5 @@ mod value;
 mod word_parts;
 
 pub use edit::{Edit, Place};
-pub use mk_edit_laws::{Colons, Detail, Field, Refusal};
 pub use planning::plan;
+pub use mk_edit_laws::{Colons, Detail, Field, Refusal};

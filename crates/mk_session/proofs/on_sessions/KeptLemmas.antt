@@ -1,0 +1,179 @@
+-- What a session keeps fits together after each of its calls.
+use Rattle.std.proofs.Common.{◌≡◌, refl, sym, ap, subst, ◌∙◌, ℕ, zero, suc, List, [], ◌∷◌, length, take, Option, Some, None, arith}
+use Rattle.std.specs.Prelude.{is_some, false, Result, Ok, Err, OnOk, OnErr}
+use Rattle.mk_tree.specs.Documents.{IsFaithful}
+use Rattle.mk_tree.specs.PlacedLines.{PlacedLine}
+use Rattle.mk_patch.specs.Moves.{Move, FitMoves, after_moves}
+use Rattle.mk_history.specs.Chain.{IsChain, Moves, after_all, states}
+use Rattle.mk_history.specs.Stacks.{Stacks, FitInTurn}
+use Rattle.mk_history.proofs.on_histories.ChainLemmas.{IsChain-take, states-take}
+use Rattle.mk_session.specs.KeptSessions.{Patches, after_patches, EachFaithful, IsKept}
+
+-- patches fit the documents that lead to them, one after the other
+abbrev pub FitPatches : Patches → List PlacedLine → Type 0
+FitPatches = FitInTurn FitMoves after_moves
+
+-- the first few documents that patches lead through are faithful where all are
+faithful-take : (n : ℕ) (docs : List (List PlacedLine)) → EachFaithful docs → EachFaithful (take n docs)
+faithful-take zero docs h = tt
+faithful-take (suc n) [] h = tt
+faithful-take (suc n) (doc ∷ docs) h = (h.0, faithful-take n docs h.1)
+
+few-faithful : (n : ℕ) (ps : List Patches) (doc : List PlacedLine) → EachFaithful (states after_patches ps doc) → EachFaithful (states after_patches (take n ps) doc)
+few-faithful n ps doc h = rw (states-take after_patches n ps doc) (faithful-take n (states after_patches ps doc) h)
+
+-- a member that leads back to a document, before those that lead on from there
+chain-pushed : (depth : ℕ) (member : Patches) (done : List Patches) (old new : List PlacedLine) → FitPatches member new → after_patches member new ≡ old → IsChain FitPatches after_patches done old
+    → IsChain FitPatches after_patches (take depth (member ∷ done)) new
+chain-pushed depth member done old new fits back chain =
+    IsChain-take FitPatches after_patches depth (member ∷ done) new (fits, subst (λ (d : List PlacedLine). IsChain FitPatches after_patches done d) (sym back) chain)
+
+faithful-pushed : (depth : ℕ) (member : Patches) (done : List Patches) (old new : List PlacedLine) → after_patches member new ≡ old → IsFaithful old → EachFaithful (states after_patches done old)
+    → EachFaithful (states after_patches (take depth (member ∷ done)) new)
+faithful-pushed depth member done old new back faithful all =
+    few-faithful depth (member ∷ done) new (subst (λ (d : List PlacedLine). EachFaithful (d ∷ states after_patches done d)) (sym back) (faithful, all))
+
+-- ---- an edit
+
+-- an edit outside a group, whose member leads back
+pub kept-alone : (h : Stacks Patches) (member : Patches) (old new : List PlacedLine) → IsKept h None old → IsFaithful new → FitPatches member new → after_patches member new ≡ old
+    → IsKept (record h { done = take h.depth (member ∷ h.done); undone = [] }) None new
+kept-alone h member old new k faithful fits back =
+    record {
+      consistent = (chain-pushed h.depth member h.done old new fits back k.consistent.0, tt);
+      faithful = record {
+        now = faithful;
+        begun = faithful;
+        back = faithful-pushed h.depth member h.done old new back k.faithful.now k.faithful.back;
+        forward = tt;
+      };
+    }
+
+-- an edit in a group, whose inverse comes first in it
+pub kept-grouped : (h : Stacks Patches) (g new_g : Patches) (inverse : List Move) (old new : List PlacedLine) → IsKept h (Some g) old → IsFaithful new → FitMoves inverse new → after_moves inverse new ≡ old
+    → new_g.changes ≡ inverse ∷ g.changes → IsKept (record h { undone = [] }) (Some new_g) new
+kept-grouped h g new_g inverse old new k faithful fits back c =
+    let begun : after_patches new_g new ≡ after_patches g old = ap (λ cs. after_all after_moves cs new) c ∙ ap (after_all after_moves g.changes) back in
+    let chain : FitPatches new_g new = subst (λ (cs : List (List Move)). IsChain FitMoves after_moves cs new) (sym c) (fits, subst (λ (d : List PlacedLine). IsChain FitMoves after_moves g.changes d) (sym back) k.consistent.0) in
+    record {
+      consistent = (chain, subst (λ (d : List PlacedLine). IsChain FitPatches after_patches h.done d) (sym begun) k.consistent.1, tt, λ some. refl);
+      faithful = record {
+        now = faithful;
+        begun = rw begun k.faithful.begun;
+        back = subst (λ (d : List PlacedLine). EachFaithful (states after_patches h.done d)) (sym begun) k.faithful.back;
+        forward = tt;
+      };
+    }
+
+-- ---- a step back or forth
+
+-- documents that patches lead through, after the first of them was made
+faithful-rest : (ps rest : List Patches) (p : Patches) (doc new : List PlacedLine) → ps ≡ p ∷ rest → new ≡ after_patches p doc → EachFaithful (states after_patches ps doc)
+    → IsFaithful new × EachFaithful (states after_patches rest new)
+faithful-rest ps rest p doc new e n all =
+    let one : EachFaithful (states after_patches (p ∷ rest) doc) = subst (λ (qs : List Patches). EachFaithful (states after_patches qs doc)) e all in
+    (rw n one.0, rw n one.1)
+
+-- the first of what can be undone was made, and what takes it back can be redone
+pub kept-undone : (h new : Stacks Patches) (doc new_doc : List PlacedLine) → IsKept h None doc → Moves FitPatches after_patches h.done h.undone doc new.done new.undone new_doc
+    → IsChain FitPatches after_patches new.done new_doc → IsChain FitPatches after_patches new.undone new_doc → IsKept new None new_doc
+kept-undone h new doc new_doc k m done undone =
+    let there = faithful-rest h.done new.done m.change doc new_doc m.taken_from m.made k.faithful.back in
+    let back_here : EachFaithful (states after_patches (m.inverse ∷ h.undone) new_doc) =
+    subst (λ (d : List PlacedLine). EachFaithful (d ∷ states after_patches h.undone d)) (sym m.leads_back) (k.faithful.now, k.faithful.forward) in
+    record {
+      consistent = (done, undone);
+      faithful = record {
+        now = there.0;
+        begun = there.0;
+        back = there.1;
+        forward = subst (λ (qs : List Patches). EachFaithful (states after_patches qs new_doc)) (sym m.put_first) back_here;
+      };
+    }
+
+-- the first of what can be redone was made, and what takes it back can be undone
+pub kept-redone : (h new : Stacks Patches) (doc new_doc : List PlacedLine) → IsKept h None doc → Moves FitPatches after_patches h.undone h.done doc new.undone new.done new_doc
+    → IsChain FitPatches after_patches new.done new_doc → IsChain FitPatches after_patches new.undone new_doc → IsKept new None new_doc
+kept-redone h new doc new_doc k m done undone =
+    let there = faithful-rest h.undone new.undone m.change doc new_doc m.taken_from m.made k.faithful.forward in
+    let back_here : EachFaithful (states after_patches (m.inverse ∷ h.done) new_doc) =
+    subst (λ (d : List PlacedLine). EachFaithful (d ∷ states after_patches h.done d)) (sym m.leads_back) (k.faithful.now, k.faithful.back) in
+    record {
+      consistent = (done, undone);
+      faithful = record {
+        now = there.0;
+        begun = there.0;
+        back = subst (λ (qs : List Patches). EachFaithful (states after_patches qs new_doc)) (sym m.put_first) back_here;
+        forward = there.1;
+      };
+    }
+
+-- ---- groups
+
+-- a group begins empty
+pub kept-begun : (h : Stacks Patches) (g : Patches) (doc : List PlacedLine) → IsKept h None doc → g.changes ≡ [] → IsKept h (Some g) doc
+kept-begun h g doc k c =
+    let begun : after_patches g doc ≡ doc = ap (λ cs. after_all after_moves cs doc) c in
+    record {
+      consistent = (
+        subst (λ (cs : List (List Move)). IsChain FitMoves after_moves cs doc) (sym c) tt,
+        rw begun k.consistent.0,
+        rw begun k.consistent.1,
+        λ some. absurd (omega (arith, some, ap length c)),
+      );
+      faithful = record { now = k.faithful.now; begun = rw begun k.faithful.now; back = rw begun k.faithful.back; forward = rw begun k.faithful.forward };
+    }
+
+-- a group that has edits is one member
+pub kept-ended : (h : Stacks Patches) (g : Patches) (doc : List PlacedLine) → IsKept h (Some g) doc → IsKept (record h { done = take h.depth (g ∷ h.done); undone = [] }) None doc
+kept-ended h g doc k =
+    record {
+      consistent = (chain-pushed h.depth g h.done (after_patches g doc) doc k.consistent.0 refl k.consistent.1, tt);
+      faithful = record {
+        now = k.faithful.now;
+        begun = k.faithful.now;
+        back = faithful-pushed h.depth g h.done (after_patches g doc) doc refl k.faithful.begun k.faithful.back;
+        forward = tt;
+      };
+    }
+
+-- a group that is cancelled leads back to its beginning
+pub kept-cancelled : (h : Stacks Patches) (g : Patches) (doc : List PlacedLine) → IsKept h (Some g) doc → IsKept h None (after_patches g doc)
+kept-cancelled h g doc k =
+    record {
+      consistent = (k.consistent.1, k.consistent.2);
+      faithful = record { now = k.faithful.begun; begun = k.faithful.begun; back = k.faithful.back; forward = k.faithful.forward };
+    }
+
+-- a group without edits leaves the document
+pub kept-ended_empty : (h : Stacks Patches) (g : Patches) (doc : List PlacedLine) → IsKept h (Some g) doc → g.changes ≡ [] → IsKept h None doc
+kept-ended_empty h g doc k c =
+    let begun : after_patches g doc ≡ doc = ap (λ cs. after_all after_moves cs doc) c in
+    subst (λ (d : List PlacedLine). IsKept h None d) begun (kept-cancelled h g doc k)
+
+-- ---- a step back or forth, or none
+
+no-group : (group : Option Patches) → is_some group ≡ false → group ≡ None
+no-group None e = refl
+no-group (Some g) e = absurd (cc)
+
+kept-unchanged : (h new : Stacks Patches) (group : Option Patches) (doc new_doc : List PlacedLine) → IsKept h group doc → (new ≡ h) × (new_doc ≡ doc) → IsKept new group new_doc
+kept-unchanged h new group doc new_doc k same = rw (same.0, same.1) k
+
+-- after an undo of the history, which was done or refused
+pub kept-by_undo : {E : Type 0} (h new : Stacks Patches) (group : Option Patches) (doc new_doc : List PlacedLine) (result : Result (Unit {0}) E) → is_some group ≡ false → IsKept h group doc
+    → OnOk result (Moves FitPatches after_patches h.done h.undone doc new.done new.undone new_doc) → IsChain FitPatches after_patches new.done new_doc → IsChain FitPatches after_patches new.undone new_doc
+    → OnErr result ((new ≡ h) × (new_doc ≡ doc)) → IsKept new group new_doc
+kept-by_undo h new group doc new_doc (Ok u) none k moves done undone same =
+    let closed = no-group group none in
+    rw closed (kept-undone h new doc new_doc (subst (λ (g : Option Patches). IsKept h g doc) closed k) moves done undone)
+kept-by_undo h new group doc new_doc (Err e) none k moves done undone same = kept-unchanged h new group doc new_doc k same
+
+-- and after a redo
+pub kept-by_redo : {E : Type 0} (h new : Stacks Patches) (group : Option Patches) (doc new_doc : List PlacedLine) (result : Result (Unit {0}) E) → is_some group ≡ false → IsKept h group doc
+    → OnOk result (Moves FitPatches after_patches h.undone h.done doc new.undone new.done new_doc) → IsChain FitPatches after_patches new.done new_doc → IsChain FitPatches after_patches new.undone new_doc
+    → OnErr result ((new ≡ h) × (new_doc ≡ doc)) → IsKept new group new_doc
+kept-by_redo h new group doc new_doc (Ok u) none k moves done undone same =
+    let closed = no-group group none in
+    rw closed (kept-redone h new doc new_doc (subst (λ (g : Option Patches). IsKept h g doc) closed k) moves done undone)
+kept-by_redo h new group doc new_doc (Err e) none k moves done undone same = kept-unchanged h new group doc new_doc k same

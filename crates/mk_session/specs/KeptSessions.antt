@@ -1,0 +1,43 @@
+-- What a session keeps: a document, its history, and the open group.
+use Rattle.std.specs.Prelude.{ℕ, List, [], ◌∷◌, Option, Some, None}
+use Rattle.mk_tree.specs.Documents.{IsFaithful}
+use Rattle.mk_tree.specs.PlacedLines.{PlacedLine, placed_text}
+use Rattle.mk_patch.specs.Moves.{Move, FitMoves, after_moves}
+use Rattle.mk_history.specs.Chain.{states}
+use Rattle.mk_history.specs.Stacks.{Stacks, Several, after_in_turn}
+use Rattle.mk_history.specs.Shown.{Shown, shown_session, IsConsistent}
+
+-- patches to be made one after the other
+abbrev pub Patches : Type 0
+Patches = Several (List Move)
+
+-- the document after them
+abbrev pub after_patches : Patches → List PlacedLine → List PlacedLine
+after_patches = after_in_turn after_moves
+
+-- what is seen of a document with its history and the open group
+abbrev pub shown_kept : Stacks Patches → (group : Option Patches) → (doc : List PlacedLine) → Shown (List ℕ)
+shown_kept h g doc = shown_session after_moves placed_text h g doc
+
+-- the document at the beginning of the open group, or now
+abbrev pub settled : (group : Option Patches) → (doc : List PlacedLine) → List PlacedLine
+settled None doc = doc
+settled (Some g) doc = after_patches g doc
+
+-- each of some documents is faithful
+abbrev pub EachFaithful : List (List PlacedLine) → Type 0
+EachFaithful [] = Unit {0}
+EachFaithful (doc ∷ docs) = IsFaithful doc × EachFaithful docs
+
+-- The documents that undoing and redoing lead through are faithful, and so are the one at hand and the one at the beginning of the
+-- open group.
+pub record AreFaithful (h : Stacks Patches) (group : Option Patches) (doc : List PlacedLine) : Type 0 where
+  pub now : IsFaithful doc
+  pub begun : IsFaithful (settled group doc)
+  pub back : EachFaithful (states after_patches h.done (settled group doc))
+  pub forward : EachFaithful (states after_patches h.undone (settled group doc))
+
+-- what a session keeps fits together
+pub record IsKept (h : Stacks Patches) (group : Option Patches) (doc : List PlacedLine) : Type 0 where
+  pub consistent : IsConsistent FitMoves after_moves h group doc
+  pub faithful : AreFaithful h group doc

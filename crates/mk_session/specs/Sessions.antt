@@ -1,0 +1,78 @@
+-- The session machine over texts of makefiles, as it is seen, and what each call of a session owes it.
+use Rattle.std.specs.Prelude.{◌≡◌, ◌⊎◌, ℕ, ◌<◌, ◌^◌, List, length, Result, Ok, Err}
+use Rattle.mk_lines.specs.Pieces.{Replacement, replaced}
+use Rattle.mk_tree.specs.Documents.{IsTooDeep}
+use Rattle.mk_edit_laws.specs.Edits.{Edit}
+use Rattle.mk_edit_laws.specs.Refusals.{spans}
+use Rattle.mk_edit_laws.specs.declared.refusal.Refusal.{Refusal}
+use Rattle.mk_edit_laws.specs.declared.refusal.Refusal.TheVariants.{NoMemory, NothingToUndo, NothingToRedo, GroupOpen, NoGroup}
+use Rattle.mk_lines.specs.declared.fault.Fault as fault
+use Rattle.mk_lines.specs.declared.fault.Fault.TheVariants.{TooLong, TooDeep, BadDepth}
+use Rattle.mk_history.specs.Machine as machine
+use Rattle.mk_history.specs.Machine.{Command, Apply, EditRefused}
+use Rattle.mk_history.specs.Shown.{Shown, shown_opened, shown_answer}
+
+-- ---- what an edit makes of a text
+
+-- the text with the spans replaced, or the refusal
+abbrev pub text_with : (text : List ℕ) → Result (List Replacement) Refusal → Result (List ℕ) Refusal
+text_with t (Ok rs) = Ok (replaced 0 t rs)
+text_with t (Err r) = Err r
+
+-- what an edit makes of a text, or why it is refused
+abbrev pub edited : Edit → (text : List ℕ) → Result (List ℕ) Refusal
+edited e t = text_with t (spans t e)
+
+-- what a call of a session answers, and what is seen after it
+abbrev pub answer : Command Edit → Shown (List ℕ) → Result (Shown (List ℕ)) (machine.Refusal Refusal)
+answer c s = shown_answer edited c s
+
+-- ---- what is seen of a session
+
+-- what is seen of the machine, and how many lines were read since the session was opened
+pub record Seen : Type 0 where
+  pub shown : Shown (List ℕ)
+  pub rereads : ℕ
+
+-- a session that was opened on a text
+abbrev pub seen_opened : (depth : ℕ) → (text : List ℕ) → Seen
+seen_opened d t = record { shown = shown_opened d t; rereads = 0 }
+
+-- ---- refusals and faults
+
+-- A refusal of an edit: the machine's, or, where the machine accepts it, that a growth was refused.
+abbrev pub IsEditRefusal : Edit → Shown (List ℕ) → Refusal → Type 0
+IsEditRefusal e s r =
+    (answer (Apply e) s ≡ Err (EditRefused r))
+    ⊎ ((r ≡ NoMemory) × (new : Shown (List ℕ)) × (answer (Apply e) s ≡ Ok new))
+
+-- a depth that a session cannot have: it is not from 1 to 10,000
+abbrev pub IsBadDepth : ℕ → Type 0
+IsBadDepth d = (d < 1) ⊎ (10000 < d)
+
+-- A fault of opening a text: a bad depth before all else; of a good one, a text that is too long, then one that is too deep, and
+-- else that a growth was refused. Memory is needed to see how deep a text is.
+abbrev pub IsOpeningFault : (depth : ℕ) → (text : List ℕ) → fault.Fault → Type 0
+IsOpeningFault d t BadDepth = IsBadDepth d
+IsOpeningFault d t TooLong = (IsBadDepth d → ⊥) × (2 ^ 24 < length t)
+IsOpeningFault d t TooDeep = (IsBadDepth d → ⊥) × (2 ^ 24 < length t → ⊥) × IsTooDeep t
+IsOpeningFault d t fault.TheVariants.NoMemory = (IsBadDepth d → ⊥) × (2 ^ 24 < length t → ⊥)
+IsOpeningFault d t f = ⊥
+
+-- why a call other than an edit is refused, as the machine says it
+abbrev pub session_refusal : machine.Refusal Refusal → Refusal
+session_refusal (EditRefused r) = r
+session_refusal machine.NothingToUndo = NothingToUndo
+session_refusal machine.NothingToRedo = NothingToRedo
+session_refusal machine.GroupOpen = GroupOpen
+session_refusal machine.NoGroup = NoGroup
+
+-- an answer is a refusal, and this one
+abbrev pub IsRefusedBy : Result (Shown (List ℕ)) (machine.Refusal Refusal) → Refusal → Type 0
+IsRefusedBy (Ok s) r = ⊥
+IsRefusedBy (Err q) r = r ≡ session_refusal q
+
+-- so it is, or where the answer is none, a growth was refused
+abbrev pub IsBeginRefusal : Result (Shown (List ℕ)) (machine.Refusal Refusal) → Refusal → Type 0
+IsBeginRefusal (Ok s) r = r ≡ NoMemory
+IsBeginRefusal (Err q) r = r ≡ session_refusal q

@@ -1,0 +1,254 @@
+//! A makefile that is edited.
+ghost use Rattle.std.specs.Prelude.{◌≡◌, ◌≤◌, ◌+◌, ◌<◌, ◌↔◌, ◌^◌, Ok, Err, IfOk, IfErr, OnOk, OnErr, length, Some, None};
+ghost use Rattle.mk_tree.specs.Documents.{IsFaithful, IsFaithfulTo, IsTooDeep};
+ghost use Rattle.mk_edit_laws.specs.Costs.{cost};
+ghost use Rattle.mk_edit.specs.EditViews.{edit_of};
+ghost use Rattle.mk_history.specs.Machine.{Apply, Undo, Redo, Begin, End, Cancel};
+ghost use Rattle.mk_history.specs.Machine as machine;
+ghost use Rattle.mk_session.specs.Sessions.{IsBadDepth, IsBeginRefusal, IsEditRefusal, IsOpeningFault, IsRefusedBy, answer, seen_opened};
+
+use mk_class::Meter;
+use mk_edit::{Edit, Refusal, plan};
+use mk_history::history::MAX_DEPTH;
+use mk_history::{Change, History, Sequence};
+use mk_lines::Fault;
+use mk_patch::Patch;
+use mk_tree::Doc;
+use std::alloc::{Allocator, Global};
+use std::marker::Model;
+
+/// A makefile that is edited, with what can be undone and redone, and a group of edits where one is
+/// open.
+///
+/// Contracts see it as the session machine shows itself: the text, the texts that undoing and redoing
+/// lead through, the text at the beginning of an open group and how many edits the group has; and how
+/// many lines were read since it was opened. Each call is one step of that machine.
+///
+/// An edit that is kept for undo holds the lines that it changed and no others. A refused call changes
+/// nothing.
+#[derive(Drop)]
+pub struct Session<A: Allocator = Global> {
+    alloc: A,
+    doc: Doc<A>,
+    history: History<Sequence<Patch<A>, A>, A>,
+    group: Option<Sequence<Patch<A>, A>>,
+    meter: Meter,
+    // What the meter said when the session was opened.
+    opened_at: u64,
+}
+
+impl<A: Allocator> Model for Session<A> {
+    ghost use Rattle.std.specs.Prelude.{◌≤◌, ◌-◌};
+    ghost use Rattle.mk_session.specs.Sessions.{Seen};
+    ghost use Rattle.mk_session.specs.KeptSessions.{IsKept, shown_kept};
+
+    ghost Value = { Seen };
+
+    ghost view = { λ s.
+        record { shown = shown_kept s.history s.group s.doc; rereads = s.meter - s.opened_at } };
+
+    ghost invariant = { λ s. IsKept s.history s.group s.doc × (s.opened_at ≤ s.meter) };
+}
+
+impl<A: Allocator + Copy> Session<A> {
+    /// Opens a text, so that up to `depth` edits or groups can be undone.
+    ///
+    /// # Errors
+    ///
+    /// The first of these that holds:
+    ///
+    /// - [`Fault::BadDepth`] where the depth is not from 1 to 10,000.
+    /// - [`Fault::TooLong`] where the text has more than 16,777,216 bytes.
+    /// - [`Fault::TooDeep`] where more than 256 conditionals are open at once.
+    /// - [`Fault::NoMemory`] where a growth was refused. It can hide a text that is too deep, since
+    ///   lines are read to see that.
+    pub fn open(alloc: A, text: &[u8], depth: u32) -> Result<Session<A>, Fault>
+        ensures opened { IfOk result (λ s. s ≡ seen_opened depth text.now) }
+        ensures bad_depth { (result ≡ Err Fault.BadDepth) ↔ IsBadDepth depth }
+        ensures short { IfOk result (λ _. length text.now ≤ 2 ^ 24) }
+        ensures shallow { IfOk result (λ _. IsTooDeep text.now → ⊥) }
+        ensures fault { IfErr result (λ fault. IsOpeningFault depth text.now fault) }
+    {
+        if depth < 1 || depth > MAX_DEPTH {
+            return Err(Fault::BadDepth);
+        }
+        let mut meter = Meter::new();
+        let doc = Doc::parse(alloc, text, &mut meter)?;
+        let history = History::new(alloc, depth)?;
+        let opened_at = meter.count();
+        Ok(Session {
+            alloc,
+            doc,
+            history,
+            group: None,
+            meter,
+            opened_at,
+        })
+    }
+
+    /// Makes an edit. It can be undone next, alone or, where a group is open, with the group's other
+    /// edits. Nothing can be redone any more.
+    ///
+    /// # Errors
+    ///
+    /// The first [`Refusal`] of the edit whose cause holds (the first fifteen); else
+    /// [`Refusal::NoMemory`] where a growth was refused. An open group stays open.
+    pub fn apply(&mut self, edit: &Edit<A>) -> Result<(), Refusal>
+        ensures done { OnOk result (answer (Apply (edit_of edit.now)) self.old.shown ≡ Ok self.new.shown) }
+        ensures refused { IfErr result (λ refusal. IsEditRefusal (edit_of edit.now) self.old.shown refusal) }
+        ensures same { OnErr result (self.new.shown ≡ self.old.shown) }
+        ensures few_read { self.new.rereads ≤ self.old.rereads + cost self.old.shown.text (edit_of edit.now) }
+        ensures forward { self.old.rereads ≤ self.new.rereads }
+    {
+        let patch = match plan(self.alloc, &self.doc, edit, &mut self.meter) {
+            Ok(patch) => patch,
+            Err(refusal) => return Err(refusal),
+        };
+        match self.group.take() {
+            Some(mut group) => {
+                if group.reserve(1).is_err() {
+                    self.group = Some(group);
+                    return Err(Refusal::NoMemory);
+                }
+                group.push_front(patch.make(&mut self.doc));
+                self.group = Some(group);
+                self.history.forget();
+            }
+            None => {
+                let Ok(mut member) = Sequence::with_capacity(self.alloc, 1) else {
+                    return Err(Refusal::NoMemory);
+                };
+                member.push_front(patch.make(&mut self.doc));
+                self.history.push(member);
+            }
+        }
+        Ok(())
+    }
+
+    /// Takes back the last edit or group that stands. It can be redone next. It reads no line and takes
+    /// no memory.
+    ///
+    /// # Errors
+    ///
+    /// - [`Refusal::GroupOpen`] where a group is open.
+    /// - [`Refusal::NothingToUndo`] where nothing is left to undo, or nothing within the depth.
+    pub fn undo(&mut self) -> Result<(), Refusal>
+        ensures done { OnOk result (answer Undo self.old.shown ≡ Ok self.new.shown) }
+        ensures refused { IfErr result (λ refusal. IsRefusedBy (answer Undo self.old.shown) refusal) }
+        ensures same { OnErr result (self.new.shown ≡ self.old.shown) }
+        ensures none_read { self.new.rereads ≡ self.old.rereads }
+    {
+        if self.group.is_some() {
+            return Err(Refusal::GroupOpen);
+        }
+        match self.history.undo(&mut self.doc) {
+            Ok(()) => Ok(()),
+            Err(_) => Err(Refusal::NothingToUndo),
+        }
+    }
+
+    /// Makes the edit or group again that was undone last and not redone since. It can be undone next.
+    /// It reads no line and takes no memory.
+    ///
+    /// # Errors
+    ///
+    /// - [`Refusal::GroupOpen`] where a group is open.
+    /// - [`Refusal::NothingToRedo`] where nothing is left to redo.
+    pub fn redo(&mut self) -> Result<(), Refusal>
+        ensures done { OnOk result (answer Redo self.old.shown ≡ Ok self.new.shown) }
+        ensures refused { IfErr result (λ refusal. IsRefusedBy (answer Redo self.old.shown) refusal) }
+        ensures same { OnErr result (self.new.shown ≡ self.old.shown) }
+        ensures none_read { self.new.rereads ≡ self.old.rereads }
+    {
+        if self.group.is_some() {
+            return Err(Refusal::GroupOpen);
+        }
+        match self.history.redo(&mut self.doc) {
+            Ok(()) => Ok(()),
+            Err(_) => Err(Refusal::NothingToRedo),
+        }
+    }
+
+    /// Begins a group: the edits up to its end count as one.
+    ///
+    /// # Errors
+    ///
+    /// - [`Refusal::GroupOpen`] where a group is open already.
+    /// - [`Refusal::NoMemory`] where a growth was refused.
+    pub fn begin(&mut self) -> Result<(), Refusal>
+        ensures done { OnOk result (answer Begin self.old.shown ≡ Ok self.new.shown) }
+        ensures refused { IfErr result (λ refusal. IsBeginRefusal (answer Begin self.old.shown) refusal) }
+        ensures same { OnErr result (self.new.shown ≡ self.old.shown) }
+        ensures none_read { self.new.rereads ≡ self.old.rereads }
+    {
+        if self.group.is_some() {
+            return Err(Refusal::GroupOpen);
+        }
+        let Ok(group) = Sequence::with_capacity(self.alloc, 1) else {
+            return Err(Refusal::NoMemory);
+        };
+        self.group = Some(group);
+        Ok(())
+    }
+
+    /// Ends the group. Its edits count as one from now on; a group without edits leaves nothing. It
+    /// reads no line and takes no memory.
+    ///
+    /// # Errors
+    ///
+    /// [`Refusal::NoGroup`] where no group is open.
+    pub fn end(&mut self) -> Result<(), Refusal>
+        ensures done { OnOk result (answer End self.old.shown ≡ Ok self.new.shown) }
+        ensures refused { IfErr result (λ refusal. IsRefusedBy (answer End self.old.shown) refusal) }
+        ensures same { OnErr result (self.new.shown ≡ self.old.shown) }
+        ensures none_read { self.new.rereads ≡ self.old.rereads }
+    {
+        let Some(group) = self.group.take() else {
+            return Err(Refusal::NoGroup);
+        };
+        if !group.is_empty() {
+            self.history.push(group);
+        }
+        Ok(())
+    }
+
+    /// Takes back the edits of the group and ends it. What they emptied of what can be redone stays
+    /// empty. It reads no line and takes no memory.
+    ///
+    /// # Errors
+    ///
+    /// [`Refusal::NoGroup`] where no group is open.
+    pub fn cancel(&mut self) -> Result<(), Refusal>
+        ensures done { OnOk result (answer Cancel self.old.shown ≡ Ok self.new.shown) }
+        ensures refused { IfErr result (λ refusal. IsRefusedBy (answer Cancel self.old.shown) refusal) }
+        ensures same { OnErr result (self.new.shown ≡ self.old.shown) }
+        ensures none_read { self.new.rereads ≡ self.old.rereads }
+    {
+        let Some(group) = self.group.take() else {
+            return Err(Refusal::NoGroup);
+        };
+        let Ok(_) = group.apply(&mut self.doc) else {
+            unreachable!()
+        };
+        Ok(())
+    }
+}
+
+impl<A: Allocator> Session<A> {
+    /// The document: the lines of the text as parsing it anew would give them. Takes no memory.
+    pub fn doc(&self) -> &Doc<A>
+        ensures text { IsFaithfulTo result.now self.now.shown.text }
+        ensures own { IsFaithful result.now }
+    {
+        &self.doc
+    }
+
+    /// How many lines were read since the session was opened: none by undo and redo, and by an edit at
+    /// most as many as it costs. At the greatest `u64`, less the lines of the text that was opened, it
+    /// stays. Takes no memory.
+    pub fn rereads(&self) -> u64
+        ensures { result ≡ self.now.rereads }
+    {
+        self.meter.count() - self.opened_at
+    }
+}
