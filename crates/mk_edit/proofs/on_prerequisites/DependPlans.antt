@@ -6,7 +6,7 @@ use Rattle.std.proofs.lemmas.List.{take-append-drop, length-take-le}
 use Rattle.mk_lines.specs.PhysicalLines.{line_end, line_end_bytes}
 use Rattle.mk_lines.specs.Lists.{concat}
 use Rattle.mk_lines.specs.Cells.{Cell, line_cells, raw_text}
-use Rattle.mk_lines.specs.Pieces.{Replacement, Piece, new_bytes, old_bytes, old_cells, replacements}
+use Rattle.mk_lines.specs.Pieces.{Replacement, new_bytes, old_bytes, old_cells, replacements}
 use Rattle.mk_lines.proofs.on_cells.CellLemmas.{raw_text-append}
 use Rattle.mk_class.specs.Lists.{is_empty}
 use Rattle.mk_class.specs.Headers
@@ -17,6 +17,7 @@ use Rattle.mk_class.specs.declared.rule.Header as header
 use Rattle.mk_tree.specs.Documents.{IsFaithful, text_of}
 use Rattle.mk_tree.specs.PlacedLines.{PlacedLine, placed_text, size_of}
 use Rattle.mk_tree.proofs.on_changes.Sizes.{size_of-text}
+use Rattle.mk_edit_laws.specs.Addresses.{Rule}
 use Rattle.mk_edit_laws.specs.Edits.{Edit, AddPrereq}
 use Rattle.mk_edit_laws.specs.Lengths.{bytes_put, bytes_taken}
 use Rattle.mk_edit_laws.specs.Spots.{Spot}
@@ -41,11 +42,12 @@ use Rattle.mk_edit.specs.declared.seek.Found.{Found}
 use Rattle.mk_edit.proofs.CauseLemmas.{passed, holds}
 use Rattle.mk_edit.proofs.on_plans.CausePlans.{long-said}
 use Rattle.mk_edit.proofs.on_plans.LinePlans.{IsReplaced}
+use Rattle.mk_edit.proofs.on_plans.RemovalPlans.{place-found}
 use Rattle.mk_edit.proofs.on_prerequisites.HeaderBytes.{header-with, new-within, raw-front}
 use Rattle.mk_edit.proofs.on_prerequisites.HeaderPlaces.{rule-line, rule-class, header-seen}
 use Rattle.mk_edit.proofs.on_prerequisites.WordPlans.{IsWordEdit, words-replaced, pieces-whole, pieces-length}
 use Rattle.mk_edit.proofs.on_recipes.OwnCauses.{own-refused, own-accepted}
-use Rattle.mk_edit.proofs.on_recipes.RulePlaces.{IsRuleAt, rule-at, rule-place}
+use Rattle.mk_edit.proofs.on_recipes.RulePlaces.{IsRuleAt, rule-at}
 
 -- ---- the pieces
 
@@ -131,7 +133,7 @@ depend : (order : Bool) (nth : Option ℕ) (g w : List ℕ) (ls : List PlacedLin
 depend order nth g w ls f h A = record {
   parts = x;
   within = R.line.within;
-  place = rule-place ls nth g f R;
+  place = place-found ls (Rule nth g) f A.meant;
   rule = λ l k. rule-class ls nth g f l R k;
   seen = λ l at k p. header-seen ls nth g f l at R k p;
   listed = λ q. own-refused e ls f Already A (holds (already lines e) _ Already (already-asked order nth g w ls f true R q));

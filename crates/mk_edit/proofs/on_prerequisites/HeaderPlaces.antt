@@ -1,23 +1,17 @@
 -- The line of the rule that an edit means, with the parts of its header.
-use Rattle.std.proofs.Common.{◌≡◌, sym, ap, ◌∙◌, subst, arith, ℕ, ◌<◌, List, Option, Some, None}
+use Rattle.std.proofs.Common.{◌≡◌, sym, ap, ◌∙◌, subst, ℕ, List, Option, Some}
 use Rattle.std.specs.Prelude.{slice_get}
 use Rattle.mk_lines.specs.Cells.{Cell, joined_byte, line_cells}
 use Rattle.mk_class.specs.Headers
 use Rattle.mk_class.specs.Classes.Class.{Header}
 use Rattle.mk_class.specs.ClassPlaces.{class_places, header_places}
 use Rattle.mk_class.specs.ClassTable.{class_of}
-use Rattle.mk_class.specs.ClassedLines.{classed_lines}
 use Rattle.mk_class.specs.LineParts.{IsHeaderPlaced}
 use Rattle.mk_class.specs.declared.rule.Header as header
-use Rattle.mk_class.specs.declared.class.Class as class
 use Rattle.mk_class.specs.declared.class.Class.TheVariants as variants
 use Rattle.mk_class.proofs.on_classes.LinePartLemmas.{line-parts_placed}
-use Rattle.mk_tree.specs.Documents.{IsFaithful}
-use Rattle.mk_tree.specs.PlacedLines.{PlacedLine, placed_line, placed_text}
-use Rattle.mk_edit_laws.specs.AddressCauses.{no_such_line, ambiguous_line}
-use Rattle.mk_edit_laws.specs.Addresses.{Rule}
+use Rattle.mk_tree.specs.PlacedLines.{PlacedLine, placed_line}
 use Rattle.mk_edit_laws.proofs.on_lines.HeaderChanges.{header-here}
-use Rattle.mk_edit.specs.Found.{IsFoundAt}
 use Rattle.mk_edit.specs.SeenHeaders.{IsHeaderSeen, IsPlacedIn, IsRuleLine}
 use Rattle.mk_edit.specs.declared.seek.Found.{Found}
 use Rattle.mk_edit.proofs.on_recipes.RulePlaces.{IsRuleAt}

@@ -1,10 +1,10 @@
 -- A prerequisite less: its causes by what the code asks, and its plan.
-use Rattle.std.proofs.Common.{◌≡◌, refl, sym, ap, ◌∙◌, subst, arith, ℕ, ◌+◌, ◌<◌, ◌≤◌, ◌^◌, ◌||◌, not, List, [], ◌∷◌, ◌++◌, Bool, true, false, if◌then◌else◌, length, Option, Some, None, option_map}
+use Rattle.std.proofs.Common.{◌≡◌, refl, sym, ap, ◌∙◌, subst, arith, ℕ, ◌<◌, ◌≤◌, ◌^◌, ◌||◌, not, List, [], ◌∷◌, ◌++◌, Bool, true, false, if◌then◌else◌, length, Option, Some, None, option_map}
 use Rattle.std.specs.Prelude.{Ok, Err, slice_get}
 use Rattle.mk_lines.specs.PhysicalLines.{line_end, line_end_bytes}
 use Rattle.mk_lines.specs.Lists.{concat}
 use Rattle.mk_lines.specs.Cells.{Cell, joined_byte}
-use Rattle.mk_lines.specs.Pieces.{Replacement, Piece, Keep, Replace, new_bytes, old_cells, replacements}
+use Rattle.mk_lines.specs.Pieces.{Keep, Replace, new_bytes, old_cells, replacements}
 use Rattle.mk_lines.specs.Words.{Token, Gap, Word, tokens}
 use Rattle.mk_class.specs.Headers
 use Rattle.mk_class.specs.Headers.{header_units}
@@ -14,6 +14,7 @@ use Rattle.mk_class.specs.declared.rule.Header as header
 use Rattle.mk_tree.specs.Documents.{IsFaithful, text_of}
 use Rattle.mk_tree.specs.PlacedLines.{PlacedLine, placed_text, size_of}
 use Rattle.mk_tree.proofs.on_changes.Sizes.{size_of-text}
+use Rattle.mk_edit_laws.specs.Addresses.{Rule}
 use Rattle.mk_edit_laws.specs.Edits.{Edit, RemovePrereq}
 use Rattle.mk_edit_laws.specs.Lengths.{bytes_put}
 use Rattle.mk_edit_laws.specs.Spots.{Spot}
@@ -23,22 +24,23 @@ use Rattle.mk_edit_laws.specs.Causes.{where_holds}
 use Rattle.mk_edit_laws.specs.LineCauses.{too_long}
 use Rattle.mk_edit_laws.specs.Refusals.{spans}
 use Rattle.mk_edit_laws.specs.RuleCauses.{absent, class_found, header_passes, is_normal, is_order_only}
-use Rattle.mk_edit_laws.specs.WordPieces.{header_pieces, kept, is_word_of, removed_tokens, removed_words, remove_pieces}
+use Rattle.mk_edit_laws.specs.WordPieces.{kept, is_word_of, removed_tokens, removed_words, remove_pieces}
 use Rattle.mk_edit_laws.specs.declared.refusal.Refusal.TheVariants.{Absent}
 use Rattle.mk_edit_laws.proofs.on_prerequisites.HeaderEdits.{header_pieces-whole, kept-old, word_spans-header}
 use Rattle.mk_edit_laws.proofs.on_prerequisites.UndependLemmas.{removed-old}
 use Rattle.mk_edit.specs.Found.{IsAddressed}
 use Rattle.mk_edit.specs.PlannedMoves.{IsPlaceOf}
 use Rattle.mk_edit.specs.PrerequisiteEdits.{IsPrerequisiteRemoved}
-use Rattle.mk_edit.specs.SeenHeaders.{HasHeader, IsHeaderSeen, IsPlacedIn, IsRuleLine}
+use Rattle.mk_edit.specs.SeenHeaders.{IsHeaderSeen, IsPlacedIn, IsRuleLine}
 use Rattle.mk_edit.specs.declared.seek.Found.{Found}
 use Rattle.mk_edit.proofs.CauseLemmas.{passed, holds}
 use Rattle.mk_edit.proofs.on_plans.CausePlans.{never-long}
 use Rattle.mk_edit.proofs.on_plans.LinePlans.{IsReplaced}
+use Rattle.mk_edit.proofs.on_plans.RemovalPlans.{place-found}
 use Rattle.mk_edit.proofs.on_prerequisites.HeaderPlaces.{rule-line, rule-class, header-seen}
 use Rattle.mk_edit.proofs.on_prerequisites.WordPlans.{IsWordEdit, words-replaced, pieces-whole, PutNothing, nothing-put, nothing-append}
 use Rattle.mk_edit.proofs.on_recipes.OwnCauses.{own-refused, own-accepted}
-use Rattle.mk_edit.proofs.on_recipes.RulePlaces.{IsRuleAt, rule-at, rule-place}
+use Rattle.mk_edit.proofs.on_recipes.RulePlaces.{IsRuleAt, rule-at}
 
 -- ---- no bytes are put in
 
@@ -73,7 +75,7 @@ undepend : (nth : Option ℕ) (g w : List ℕ) (ls : List PlacedLine) (f : Found
 undepend nth g w ls f h A = record {
   parts = x;
   within = R.line.within;
-  place = rule-place ls nth g f R;
+  place = place-found ls (Rule nth g) f A.meant;
   rule = λ l k. rule-class ls nth g f l R k;
   seen = λ l at k p. header-seen ls nth g f l at R k p;
   missing = λ q. own-refused e ls f Absent A (holds (absent lines e) _ Absent (asked false q));

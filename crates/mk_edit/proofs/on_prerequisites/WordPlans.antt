@@ -1,6 +1,6 @@
 -- Plans of edits of the words of a rule's line, by the pieces that they make of the line.
-use Rattle.std.proofs.Common.{◌≡◌, refl, sym, ap, ◌∙◌, subst, arith, ℕ, ◌+◌, ◌<◌, ◌≤◌, ◌^◌, List, [], ◌∷◌, ◌++◌, Bool, true, false, if◌then◌else◌, length, length-append, take, drop, Option, Some, None}
-use Rattle.std.specs.Prelude.{Ok, Err}
+use Rattle.std.proofs.Common.{◌≡◌, refl, sym, ap, ◌∙◌, arith, ℕ, ◌+◌, List, [], ◌∷◌, ◌++◌, length, length-append, Some}
+use Rattle.std.specs.Prelude.{Ok}
 use Rattle.std.proofs.lemmas.List.{append-nil}
 use Rattle.mk_lines.specs.PhysicalLines.{line_end, line_end_bytes}
 use Rattle.mk_lines.specs.Lists.{concat}
@@ -9,7 +9,7 @@ use Rattle.mk_lines.specs.Pieces.{Replacement, Piece, Keep, Replace, old_bytes, 
 use Rattle.mk_lines.proofs.on_lists.PieceLemmas.{raw_text-old_cells}
 use Rattle.mk_class.specs.Headers
 use Rattle.mk_class.specs.Headers.{header_units}
-use Rattle.mk_class.specs.ClassedLines.{ClassedLine, classed_lines}
+use Rattle.mk_class.specs.ClassedLines.{classed_lines}
 use Rattle.mk_class.specs.declared.rule.Header as header
 use Rattle.mk_tree.specs.Documents.{IsFaithful, text_of}
 use Rattle.mk_tree.specs.PlacedLines.{PlacedLine, placed_text}

@@ -9,6 +9,7 @@ use Rattle.mk_class.specs.ClassedLines.{classed_lines}
 use Rattle.mk_tree.specs.Documents.{IsFaithful, text_of}
 use Rattle.mk_tree.specs.PlacedLines.{PlacedLine, placed_line, placed_lines, placed_text}
 use Rattle.mk_patch.proofs.on_moves.ShapeLemmas.{get-between}
+use Rattle.mk_edit_laws.specs.Addresses.{Rule}
 use Rattle.mk_edit_laws.specs.Edits.{Edit, SetRecipe}
 use Rattle.mk_edit_laws.specs.Spots.{Spot, nth_of}
 use Rattle.mk_edit_laws.specs.Stretches.{this_line}
@@ -27,8 +28,9 @@ use Rattle.mk_edit.specs.declared.seek.Found.{Found}
 use Rattle.mk_edit.proofs.CauseLemmas.{passed, holds}
 use Rattle.mk_edit.proofs.on_plans.CausePlans.{addressed-own}
 use Rattle.mk_edit.proofs.on_plans.RangePlans.{IsRangeEdit}
+use Rattle.mk_edit.proofs.on_plans.RemovalPlans.{place-found}
 use Rattle.mk_edit.proofs.on_recipes.OwnCauses.{own-refused}
-use Rattle.mk_edit.proofs.on_recipes.RulePlaces.{IsRuleAt, rule-at, rule-place}
+use Rattle.mk_edit.proofs.on_recipes.RulePlaces.{IsRuleAt, rule-at}
 use Rattle.mk_edit.proofs.on_recipes.RecipePlaces.{place_in_rule, found-none, IsRecipeAt, found-some}
 
 -- a recipe line stands below its header
@@ -87,7 +89,7 @@ pub record IsRecipeSettingOf (n : ℕ) (c : List ℕ) (e : Edit) (ls : List Plac
 recipe-setting : (nth : Option ℕ) (g : List ℕ) (n : ℕ) (c : List ℕ) (ls : List PlacedLine) (f : Found) → IsFaithful ls → IsAddressed (SetRecipe nth g n c) ls f → IsRecipeSettingOf n c (SetRecipe nth g n c) ls f
 recipe-setting nth g n c ls f h A = record {
   within = R.line.within;
-  place = rule-place ls nth g f R;
+  place = place-found ls (Rule nth g) f A.meant;
   missing = λ m. own-refused e ls f Absent A (holds (absent (classed_lines (placed_text ls)) e) _ Absent (ap (λ (o : Option Spot). where_holds (not (is_some o)) Absent) (found-none ls nth g f n R m)));
   below = λ at m. omega (arith, place-below ls (f.at + 1) n at m);
   in_range = λ at m. (found-some ls nth g f n at h R m).within;

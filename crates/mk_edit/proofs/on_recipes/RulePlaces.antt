@@ -20,7 +20,6 @@ use Rattle.mk_edit_laws.proofs.on_edits.Accepted.{where_holds-none}
 use Rattle.mk_edit_laws.proofs.on_lines.SpotLemmas.{rule-found}
 use Rattle.mk_edit_laws.specs.declared.refusal.Refusal.TheVariants.{NoSuch}
 use Rattle.mk_edit.specs.Found.{IsFoundAt}
-use Rattle.mk_edit.specs.PlannedMoves.{IsPlaceOf}
 use Rattle.mk_edit.specs.RecipeWalks.{lines_from}
 use Rattle.mk_edit.specs.declared.seek.Found.{Found}
 use Rattle.mk_edit.proofs.on_finding.PlaceLemmas.{IsLineAt, line-at}
@@ -79,11 +78,3 @@ rule-within ls nth g f h R =
     let below : length s.below ≡ length (recipe_run s.below) + length (after_recipe s.below) = ap length (sym (recipe_run-after s.below)) ∙ length-append (recipe_run s.below) (after_recipe s.below) in
     let all : length ls ≡ length s.above + length (s.line ∷ s.below) = ap length h ∙ (length-map (classed_lines (placed_text ls)) placed_line ∙ (ap length R.line.lines ∙ length-append s.above (s.line ∷ s.below))) in
     omega (arith, ends, below, all, R.place_is)
-
--- the place of its header
-pub rule-place : (ls : List PlacedLine) (nth : Option ℕ) (g : List ℕ) (f : Found) → IsRuleAt ls nth g f → IsPlaceOf ls f
-rule-place ls nth g f R =
-    let s = R.spot in
-    let above : take f.at (classed_lines (placed_text ls)) ≡ s.above =
-    ap (take f.at) R.line.lines ∙ (ap (λ k. take k (s.above ++ s.line ∷ s.below)) (sym R.place_is) ∙ take-append_seam s.above (s.line ∷ s.below)) in
-    ap context_of above ∙ R.line.context_is
