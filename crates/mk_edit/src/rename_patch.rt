@@ -138,10 +138,8 @@ fn line_of_turn<A: Allocator + Copy>(
     let Ok(bytes) = renamed_bytes(alloc, line, &class, from, to, room) else {
         return Err(Refusal::NoMemory);
     };
-    match read_line(alloc, bytes, context, meter) {
-        Ok(renamed) => Ok(Some(renamed)),
-        Err(refusal) => Err(refusal),
-    }
+    let renamed = read_line(alloc, bytes, context, meter)?;
+    Ok(Some(renamed))
 }
 
 // Whether a line in which these words are replaced, each by so many bytes, is exchanged in a turn.

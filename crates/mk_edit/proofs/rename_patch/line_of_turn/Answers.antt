@@ -27,19 +27,19 @@ read_line-requires-clause-plain g c =
     let p = c.requires.can.plain (exchanged-holds c.args.turn c.args.from.now c.args.to.now l e) in
     subst (λ b. IsPlain (placed_line (line_in c.args.context b))) (sym c.in-Ok.ensures) p.1
 
-pub returns-in-Ok-read_line-clause-line : goal.returns-in-Ok-read_line-clause-line
-returns-in-Ok-read_line-clause-line g c =
+pub returns-clause-line : goal.returns-clause-line
+returns-clause-line g c =
     let l = line_view c.args.line.now in
     let W = words-counted _ _ _ _ _ c.requires.can c.count_words-tally.ensures in
     let e : is_exchanged c.args.turn c.args.from.now c.args.to.now l ≡ true = sym (W.turn c.args.turn) ∙ (sym c.is_of_turn.ensures ∙ c.if-not-is_of_turn.false) in
-    exchanged-some _ _ _ e (c.in-Ok-read_line.ensures.line ∙ ap (λ b. placed_line (line_in c.args.context b)) c.in-Ok.ensures)
+    exchanged-some _ _ _ e (c.in_ok-renamed.ensures.line ∙ ap (λ b. placed_line (line_in c.args.context b)) c.in-Ok.ensures)
 
-pub returns-in-Ok-read_line-clause-few_read : goal.returns-in-Ok-read_line-clause-few_read
-returns-in-Ok-read_line-clause-few_read g c =
+pub returns-clause-few_read : goal.returns-clause-few_read
+returns-clause-few_read g c =
     let W = words-counted _ _ _ _ _ c.requires.can c.count_words-tally.ensures in
-    exchanged-one _ _ _ (sym (W.turn c.args.turn) ∙ (sym c.is_of_turn.ensures ∙ c.if-not-is_of_turn.false)) c.in-Ok-read_line.ensures.few_read
+    exchanged-one _ _ _ (sym (W.turn c.args.turn) ∙ (sym c.is_of_turn.ensures ∙ c.if-not-is_of_turn.false)) c.in_ok-renamed.ensures.few_read
 
-pub returns-in-Err-clause-few_read : goal.returns-in-Err-clause-few_read
-returns-in-Err-clause-few_read g c =
+pub returns-in_err-renamed-clause-few_read : goal.returns-in_err-renamed-clause-few_read
+returns-in_err-renamed-clause-few_read g c =
     let W = words-counted _ _ _ _ _ c.requires.can c.count_words-tally.ensures in
-    exchanged-one _ _ _ (sym (W.turn c.args.turn) ∙ (sym c.is_of_turn.ensures ∙ c.if-not-is_of_turn.false)) c.in-Err.ensures.few_read
+    exchanged-one _ _ _ (sym (W.turn c.args.turn) ∙ (sym c.is_of_turn.ensures ∙ c.if-not-is_of_turn.false)) c.in_err-renamed.ensures.few_read
