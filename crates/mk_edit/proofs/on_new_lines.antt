@@ -1,5 +1,4 @@
 -- Lemmas. New lines: their text, their places, and the causes that these decide.
-pub mod NewLineTexts
 pub mod InsertionLemmas
 pub mod PlaceCauses
 pub mod Additions

@@ -1,5 +1,4 @@
 -- Lemmas. The recipes of rules, and the edits of rules and recipes.
-pub mod WalkLemmas
 pub mod OwnCauses
 pub mod RulePlaces
 pub mod RuleRemovals

@@ -12,7 +12,7 @@ use Rattle.mk_edit_laws.specs.LineCauses.{open_line, open_define, leaning, too_l
 use Rattle.mk_edit_laws.specs.Refusals.{causes, first_cause}
 use Rattle.mk_edit_laws.specs.declared.refusal.Refusal.{Refusal}
 use Rattle.mk_edit.specs.PlannedMoves.{follows_unended}
-use Rattle.mk_edit.specs.declared.seek.Found.{Found}
+use Rattle.mk_edit_parts.specs.declared.seek.Found.{Found}
 
 -- an edit that puts a line in
 abbrev pub IsOfNewLine : Edit → Type 0

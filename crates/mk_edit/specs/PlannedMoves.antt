@@ -6,16 +6,12 @@ use Rattle.mk_class.specs.ClassedLines.{ClassedLine, classed_lines}
 use Rattle.mk_tree.specs.LineTexts.{context_of, line_in}
 use Rattle.mk_tree.specs.PlacedLines.{PlacedLine, placed_line, placed_text, size_of, bytes_of_line, last_line}
 use Rattle.mk_edit_laws.specs.Stretches.{Stretch}
-use Rattle.mk_edit.specs.declared.seek.Found.{Found}
+use Rattle.mk_edit_parts.specs.declared.seek.Found.{Found}
 use Rattle.mk_patch.specs.Moves.{Move, PutIn, TakeOut, Exchange, SwapEnd, IsPlain}
 
 -- a line of these bytes, with its class in the context of the lines before a place
 abbrev pub line_read_at : List PlacedLine → (at : ℕ) → (bytes : List ℕ) → PlacedLine
 line_read_at ls at bytes = placed_line (line_in (context_of (take at (classed_lines (placed_text ls)))) bytes)
-
--- a place of a document, with the context of the lines before it
-abbrev pub IsPlaceOf : List PlacedLine → Found → Type 0
-IsPlaceOf ls place = context_of (take place.at (classed_lines (placed_text ls))) ≡ place.context
 
 -- so many lines from a place on, with those above and below them
 abbrev pub stretch_at : List ClassedLine → (at count : ℕ) → Stretch

@@ -7,8 +7,8 @@ use Rattle.mk_class.specs.RecipePrefix.{is_prefix_led}
 use Rattle.mk_tree.specs.PlacedLines.{PlacedLine}
 use Rattle.mk_edit_laws.specs.Edits.{Edit, RenameTarget}
 use Rattle.mk_edit.specs.declared.rename_causes.Effect.{Effect}
-use Rattle.mk_edit.specs.declared.tally.Tally.{Tally}
-use Rattle.mk_edit.specs.RenamedPlaces.{bytes_in, is_at_front, renamed_places}
+use Rattle.mk_edit_parts.specs.declared.tally.Tally.{Tally}
+use Rattle.mk_edit_parts.specs.RenamedPlaces.{bytes_in, is_at_front, renamed_places}
 
 -- an edit renames this word to that one
 abbrev pub IsRename : (old new : List ℕ) → Edit → Type 0

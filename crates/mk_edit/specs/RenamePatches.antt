@@ -5,9 +5,9 @@ use Rattle.mk_class.specs.Contexts.{Context, start, context_after_places}
 use Rattle.mk_tree.specs.LineTexts.{line_in}
 use Rattle.mk_tree.specs.PlacedLines.{PlacedLine, placed_line}
 use Rattle.mk_patch.specs.Moves.{Move, Exchange, IsPlain}
-use Rattle.mk_edit.specs.PlacedParts.{IsClassed}
-use Rattle.mk_edit.specs.RenamedPlaces.{renamed_places, bytes_in}
-use Rattle.mk_edit.specs.RenamedTexts.{renamed_text, AreApart}
+use Rattle.mk_edit_parts.specs.PlacedParts.{IsClassed}
+use Rattle.mk_edit_parts.specs.RenamedPlaces.{renamed_places, bytes_in}
+use Rattle.mk_edit_parts.specs.RenamedTexts.{renamed_text, AreApart}
 use Rattle.mk_edit.specs.declared.rename_patch.Turn.{Turn}
 use Rattle.mk_edit.specs.declared.rename_patch.Turn.TheVariants as turn
 

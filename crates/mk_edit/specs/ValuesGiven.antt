@@ -5,7 +5,7 @@ use Rattle.mk_class.specs.Lists.{is_empty}
 use Rattle.mk_class.specs.declared.class.Class as class
 use Rattle.mk_class.specs.declared.class.Class.TheVariants as variants
 use Rattle.mk_tree.specs.PlacedLines.{PlacedLine}
-use Rattle.mk_edit.specs.PlacedParts.{text_of_line}
+use Rattle.mk_edit_parts.specs.PlacedParts.{text_of_line}
 use Rattle.mk_edit_laws.specs.Edits.{Edit, SetValue, AppendValue}
 
 -- an edit sets a variable to this value

@@ -7,19 +7,19 @@ ghost use Rattle.mk_tree.specs.PlacedLines.{placed_text};
 ghost use Rattle.mk_tree.specs.Trees.{line_view};
 ghost use Rattle.mk_edit_laws.specs.Costs.{cost};
 ghost use Rattle.mk_edit_laws.specs.RuleCauses.{is_normal, is_order_only};
-ghost use Rattle.mk_edit.specs.EditViews.{edit_of};
+ghost use Rattle.mk_edit_parts.specs.EditViews.{edit_of};
 ghost use Rattle.mk_edit.specs.Planned.{IsPlanned, IsRefusal};
-ghost use Rattle.mk_edit.specs.SeenHeaders.{HasHeader, IsHeaderSeen, IsRuleLine, IsPlacedIn};
+ghost use Rattle.mk_edit_parts.specs.SeenHeaders.{HasHeader, IsHeaderSeen, IsRuleLine, IsPlacedIn};
 ghost use Rattle.mk_edit.specs.PrerequisiteEdits.{IsPrerequisiteAdded, IsPrerequisiteRemoved, is_in_list};
 
-use crate::edit::Edit;
-use crate::find::find;
 use crate::moves::replace_line;
-use crate::prerequisite::{
-    has_normal, has_order_only, len_of_new, with_prerequisite, without_prerequisite,
-};
 use mk_class::{Class, Header, Meter};
 use mk_edit_laws::Refusal;
+use mk_edit_parts::edit::Edit;
+use mk_edit_parts::find::find;
+use mk_edit_parts::prerequisite::{
+    has_normal, has_order_only, len_of_new, with_prerequisite, without_prerequisite,
+};
 use mk_patch::Patch;
 use mk_tree::parse::SIZE_LIMIT;
 use mk_tree::{Doc, Line};

@@ -2,7 +2,7 @@
 ghost use Rattle.std.specs.Prelude.{◌≡◌, ◌+◌, ◌<◌, ◌≤◌, ◌==◌, ◌&&◌, nat_lt, not, ℕ, drop, length, take, min};
 ghost use Rattle.mk_class.specs.ClassedLines.{classed_lines};
 ghost use Rattle.mk_lines.specs.PhysicalLines.{line_end_bytes};
-ghost use Rattle.mk_edit.specs.LineRanges.{is_led_first_placed};
+ghost use Rattle.mk_edit_parts.specs.LineRanges.{is_led_first_placed};
 ghost use Rattle.mk_tree.specs.Documents.{IsFaithful, context_of};
 ghost use Rattle.mk_tree.specs.Leaning.{is_same_flag};
 ghost use Rattle.mk_tree.specs.PlacedLines.{last_line, placed_text, size_of};
@@ -11,20 +11,20 @@ ghost use Rattle.mk_edit_laws.specs.LineCauses.{flag_below_new, greatest_length}
 ghost use Rattle.mk_edit_laws.specs.Refusals.{first_cause};
 ghost use Rattle.mk_edit_laws.specs.NewLines.{new_text};
 ghost use Rattle.mk_edit_laws.specs.Stretches.{insertion, place_found};
-ghost use Rattle.mk_edit.specs.EditViews as views;
-ghost use Rattle.mk_edit.specs.EditViews.{edit_of};
-ghost use Rattle.mk_edit.specs.Found.{IsMeant};
+ghost use Rattle.mk_edit_parts.specs.EditViews as views;
+ghost use Rattle.mk_edit_parts.specs.EditViews.{edit_of};
+ghost use Rattle.mk_edit_parts.specs.Found.{IsMeant};
 ghost use Rattle.mk_edit.specs.Insertions.{IsInsertedAt, IsOfNewLine, IsOfPlace, ends_length, is_at_bottom, is_bottom, is_open_line, place_causes};
 
-use crate::edit::{Edit, Place};
-use crate::lean::leans;
-use crate::line_end::file_line_end;
 use crate::moves::follows_unended;
-use crate::new_line::new_len;
-use crate::place::after_lines;
-use crate::seek::Found;
 use mk_class::Flag;
 use mk_edit_laws::Refusal;
+use mk_edit_parts::edit::{Edit, Place};
+use mk_edit_parts::lean::leans;
+use mk_edit_parts::line_end::file_line_end;
+use mk_edit_parts::new_line::new_len;
+use mk_edit_parts::place::after_lines;
+use mk_edit_parts::seek::Found;
 use mk_lines::ends::{End, is_open};
 use mk_tree::Doc;
 use mk_tree::parse::SIZE_LIMIT;

@@ -11,12 +11,13 @@ ghost use Rattle.mk_tree.specs.Trees.{line_view};
 ghost use Rattle.mk_lines.specs.LogicalLines.{logical_lines};
 ghost use Rattle.mk_patch.specs.Moves.{IsPlain};
 ghost use Rattle.mk_patch.specs.Steps.{move_of};
-ghost use Rattle.mk_edit.specs.PlannedMoves.{CanInsert, CanReplace, IsPlaceOf, follows_unended, inserting_moves, is_unended, last_bytes_ended, removing_moves, replacing_moves};
+ghost use Rattle.mk_edit.specs.PlannedMoves.{CanInsert, CanReplace, follows_unended, inserting_moves, is_unended, last_bytes_ended, removing_moves, replacing_moves};
+ghost use Rattle.mk_edit_parts.specs.Found.{IsPlaceOf};
 
-use crate::line_end::{file_line_end, with_line_end};
-use crate::seek::Found;
 use mk_class::{Context, Meter};
 use mk_edit_laws::Refusal;
+use mk_edit_parts::line_end::{file_line_end, with_line_end};
+use mk_edit_parts::seek::Found;
 use mk_lines::Fault;
 use mk_lines::ends::{End, line_end};
 use mk_patch::{Patch, PatchBuilder, Step};

@@ -2,15 +2,15 @@
 ghost use Rattle.std.specs.Prelude.{◌≡◌, IfOk, IfErr};
 ghost use Rattle.mk_tree.specs.Documents.{IsFaithful};
 ghost use Rattle.mk_tree.specs.PlacedLines.{placed_text};
-ghost use Rattle.mk_edit.specs.EditViews.{edit_of};
+ghost use Rattle.mk_edit_parts.specs.EditViews.{edit_of};
 ghost use Rattle.mk_edit.specs.Planned.{IsPlanned, IsRefusal};
 ghost use Rattle.mk_edit.specs.RecipeEdits.{IsRecipeRemoval};
 
-use crate::edit::Edit;
-use crate::find::find;
 use crate::moves::take_out;
-use crate::recipe::recipe_line;
 use mk_edit_laws::Refusal;
+use mk_edit_parts::edit::Edit;
+use mk_edit_parts::find::find;
+use mk_edit_parts::recipe::recipe_line;
 use mk_patch::Patch;
 use mk_tree::Doc;
 use std::alloc::Allocator;

@@ -3,15 +3,15 @@ ghost use Rattle.std.specs.Prelude.{◌≤◌, ◌+◌, IfOk, IfErr};
 ghost use Rattle.mk_tree.specs.Documents.{IsFaithful};
 ghost use Rattle.mk_tree.specs.PlacedLines.{placed_text};
 ghost use Rattle.mk_edit_laws.specs.Costs.{cost};
-ghost use Rattle.mk_edit.specs.EditViews.{edit_of};
+ghost use Rattle.mk_edit_parts.specs.EditViews.{edit_of};
 ghost use Rattle.mk_edit.specs.Planned.{IsPlanned, IsRefusal};
 ghost use Rattle.mk_edit.specs.RenameEffects.{IsRename};
 
-use crate::edit::Edit;
 use crate::rename_causes::rename_refusal;
 use crate::rename_patch::rename_patch;
 use mk_class::Meter;
 use mk_edit_laws::Refusal;
+use mk_edit_parts::edit::Edit;
 use mk_patch::Patch;
 use mk_tree::Doc;
 use std::alloc::Allocator;

@@ -16,10 +16,10 @@ ghost use Rattle.mk_edit.specs.Planned.{IsPlanned};
 ghost use Rattle.mk_edit.specs.RenamePatches.{CanBeRenamed, CanEachBeRenamed, HasFewWords, exchanged_count, holds_word, is_exchanged, is_turn_of, line_renamed, turn_moves};
 
 use crate::moves::{builder, read_line};
-use crate::renamed_line::renamed_bytes;
-use crate::tally::{Tally, count_words};
 use mk_class::{Context, Meter};
 use mk_edit_laws::Refusal;
+use mk_edit_parts::renamed_line::renamed_bytes;
+use mk_edit_parts::tally::{Tally, count_words};
 use mk_patch::{Patch, PatchBuilder, Step};
 use mk_tree::{Doc, Line};
 use std::alloc::Allocator;

@@ -3,19 +3,19 @@ ghost use Rattle.std.specs.Prelude.{◌≡◌, ◌≤◌, ◌+◌, ◌++◌, IfO
 ghost use Rattle.mk_tree.specs.Documents.{IsFaithful};
 ghost use Rattle.mk_tree.specs.PlacedLines.{placed_text};
 ghost use Rattle.mk_edit_laws.specs.Costs.{cost};
-ghost use Rattle.mk_edit.specs.EditViews.{edit_of};
+ghost use Rattle.mk_edit_parts.specs.EditViews.{edit_of};
 ghost use Rattle.mk_edit.specs.Planned.{IsPlanned, IsRefusal};
-ghost use Rattle.mk_edit.specs.PlacedParts.{IsClassed};
+ghost use Rattle.mk_edit_parts.specs.PlacedParts.{IsClassed};
 ghost use Rattle.mk_edit.specs.ValuesGiven.{IsAppended, IsSetTo, space_after, value_text_placed};
 ghost use Rattle.mk_tree.specs.Trees.{line_view};
 
-use crate::edit::Edit;
-use crate::find::find;
 use crate::moves::replace_line;
-use crate::part::{part, text_of_line};
-use crate::range::{value_range, with_replaced};
 use mk_class::{Class, Meter};
 use mk_edit_laws::Refusal;
+use mk_edit_parts::edit::Edit;
+use mk_edit_parts::find::find;
+use mk_edit_parts::part::{part, text_of_line};
+use mk_edit_parts::range::{value_range, with_replaced};
 use mk_lines::is_closed;
 use mk_patch::Patch;
 use mk_tree::{Doc, Line};

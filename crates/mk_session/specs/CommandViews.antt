@@ -1,6 +1,6 @@
 -- What the commands of a program are seen as: the calls of the session machine.
 use Rattle.mk_edit_laws.specs.Edits.{Edit}
-use Rattle.mk_edit.specs.EditViews.{edit_of}
+use Rattle.mk_edit_parts.specs.EditViews.{edit_of}
 use Rattle.mk_history.specs.Machine as machine
 use Rattle.mk_session.specs.declared.command.Command.{Command}
 use Rattle.mk_session.specs.declared.command.Command.TheVariants as command

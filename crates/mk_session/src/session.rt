@@ -2,7 +2,7 @@
 ghost use Rattle.std.specs.Prelude.{◌≡◌, ◌≤◌, ◌+◌, ◌<◌, ◌↔◌, ◌^◌, Ok, Err, IfOk, IfErr, OnOk, OnErr, length, Some, None};
 ghost use Rattle.mk_tree.specs.Documents.{IsFaithful, IsFaithfulTo, IsTooDeep};
 ghost use Rattle.mk_edit_laws.specs.Costs.{cost};
-ghost use Rattle.mk_edit.specs.EditViews.{edit_of};
+ghost use Rattle.mk_edit_parts.specs.EditViews.{edit_of};
 ghost use Rattle.mk_history.specs.Machine.{Apply, Undo, Redo, Begin, End, Cancel};
 ghost use Rattle.mk_history.specs.Machine as machine;
 ghost use Rattle.mk_session.specs.Sessions.{IsBadDepth, IsBeginRefusal, IsEditRefusal, IsOpeningFault, IsRefusedBy, answer, seen_opened};

@@ -11,8 +11,8 @@ use Rattle.mk_edit_laws.specs.Refusals.{first_cause}
 use Rattle.mk_edit_laws.specs.Spans.{spans_of}
 use Rattle.mk_edit_laws.specs.Stretches.{insertion}
 use Rattle.mk_edit.specs.Insertions.{IsDecidedByPlace, IsInsertedAt, place_causes}
-use Rattle.mk_edit.specs.declared.seek.Found.{Found}
-use Rattle.mk_edit.proofs.CauseLemmas.{unrefused}
+use Rattle.mk_edit_parts.specs.declared.seek.Found.{Found}
+use Rattle.mk_edit_parts.proofs.CauseLemmas.{unrefused}
 use Rattle.mk_edit.proofs.on_plans.NewLinePlans.{IsPutIn, line-put_in}
 
 -- where none of the causes holds that its place decides

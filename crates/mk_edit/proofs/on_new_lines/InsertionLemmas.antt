@@ -11,10 +11,9 @@ use Rattle.mk_edit_laws.specs.Edits.{Place, Bottom, BeforeVar, AfterVar, BeforeR
 use Rattle.mk_edit_laws.specs.Addresses.{Address, Variable, Rule, found, place_address}
 use Rattle.mk_edit_laws.specs.Stretches.{Stretch, bottom, before_line, after_line, place_found}
 use Rattle.mk_edit_laws.proofs.on_edits.EditPlaces.{found-spot}
-use Rattle.mk_edit.specs.Found.{IsFoundAt, IsEnd, IsMeant}
+use Rattle.mk_edit_parts.specs.Found.{IsFoundAt, IsEnd, IsMeant, IsPlaceOf}
 use Rattle.mk_edit.specs.Insertions.{IsInsertedAt}
-use Rattle.mk_edit.specs.PlannedMoves.{IsPlaceOf}
-use Rattle.mk_edit.specs.declared.seek.Found.{Found}
+use Rattle.mk_edit_parts.specs.declared.seek.Found.{Found}
 
 pub inserted-bottom : (ls : List PlacedLine) (f : Found) → IsEnd (classed_lines (placed_text ls)) f → IsInsertedAt ls (Some (bottom (classed_lines (placed_text ls)))) f
 inserted-bottom ls f E = record {

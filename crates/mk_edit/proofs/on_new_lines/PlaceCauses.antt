@@ -21,10 +21,10 @@ use Rattle.mk_edit_laws.specs.Spans.{spans_of, where_found}
 use Rattle.mk_edit_laws.specs.Stretches.{Stretch, bottom, insertion, removal, place_found}
 use Rattle.mk_edit_laws.specs.declared.refusal.Refusal.TheVariants.{OpenLine, OpenDefine, Leans, TooLong}
 use Rattle.mk_edit.specs.Insertions.{IsInsertedAt, IsOfNewLine, is_bottom, is_at_bottom, is_open_line, ends_length}
-use Rattle.mk_edit.specs.LineRanges.{is_led_first_placed}
+use Rattle.mk_edit_parts.specs.LineRanges.{is_led_first_placed}
 use Rattle.mk_edit.specs.PlannedMoves.{is_unended, follows_unended}
-use Rattle.mk_edit.specs.declared.seek.Found.{Found}
-use Rattle.mk_edit.proofs.on_finding.LeanLemmas.{led_first-placed}
+use Rattle.mk_edit_parts.specs.declared.seek.Found.{Found}
+use Rattle.mk_edit_parts.proofs.on_finding.LeanLemmas.{led_first-placed}
 use Rattle.mk_edit.proofs.on_new_lines.InsertionLemmas.{place-in, follows-last}
 
 -- ---- OpenLine

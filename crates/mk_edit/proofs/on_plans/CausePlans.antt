@@ -19,9 +19,9 @@ use Rattle.mk_edit_laws.specs.declared.refusal.Refusal.{Refusal}
 use Rattle.mk_edit_laws.specs.declared.refusal.Refusal.TheVariants.{Leans, TooLong}
 use Rattle.mk_edit_laws.proofs.on_edits.LengthLemmas.{length-replaced}
 use Rattle.mk_edit_laws.proofs.on_edits.SpansRise.{spans-rise}
-use Rattle.mk_edit.specs.Found.{IsAddressed}
-use Rattle.mk_edit.specs.declared.seek.Found.{Found}
-use Rattle.mk_edit.proofs.CauseLemmas.{passed}
+use Rattle.mk_edit_parts.specs.Found.{IsAddressed}
+use Rattle.mk_edit_parts.specs.declared.seek.Found.{Found}
+use Rattle.mk_edit_parts.proofs.CauseLemmas.{passed}
 
 -- ---- an edit's own causes, in their order
 

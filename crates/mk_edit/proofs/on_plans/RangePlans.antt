@@ -20,7 +20,7 @@ use Rattle.mk_edit_laws.specs.Spans.{spans_of}
 use Rattle.mk_edit_laws.specs.Refusals.{first_cause, causes, spans}
 use Rattle.mk_edit_laws.specs.declared.refusal.Refusal.TheVariants.{TooLong}
 use Rattle.mk_edit_laws.proofs.on_edits.EditedLineLemmas.{respanned-one}
-use Rattle.mk_edit.proofs.CauseLemmas.{refused, unrefused}
+use Rattle.mk_edit_parts.proofs.CauseLemmas.{refused, unrefused}
 use Rattle.mk_edit.proofs.on_plans.CausePlans.{long-said}
 use Rattle.mk_edit.proofs.on_plans.LinePlans.{IsReplaced, line-replaced}
 

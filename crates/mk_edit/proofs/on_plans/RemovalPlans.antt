@@ -21,13 +21,13 @@ use Rattle.mk_edit_laws.specs.EditedLines.{edited_bytes}
 use Rattle.mk_edit_laws.specs.Refusals.{first_cause, spans}
 use Rattle.mk_edit_laws.specs.declared.refusal.Refusal.TheVariants.{Leans}
 use Rattle.mk_edit_laws.proofs.on_edits.EditPlaces.{found-spot}
-use Rattle.mk_edit.specs.EditViews.{IsUnset}
-use Rattle.mk_edit.specs.Found.{IsFoundAt, IsAddressed}
-use Rattle.mk_edit.specs.LineRanges.{is_led_first_placed}
-use Rattle.mk_edit.specs.PlannedMoves.{IsPlaceOf, stretch_at}
-use Rattle.mk_edit.specs.declared.seek.Found.{Found}
-use Rattle.mk_edit.proofs.CauseLemmas.{passed, holds, refused, unrefused}
-use Rattle.mk_edit.proofs.on_finding.LeanLemmas.{led_first-placed}
+use Rattle.mk_edit_parts.specs.EditViews.{IsUnset}
+use Rattle.mk_edit_parts.specs.Found.{IsFoundAt, IsAddressed, IsPlaceOf}
+use Rattle.mk_edit_parts.specs.LineRanges.{is_led_first_placed}
+use Rattle.mk_edit.specs.PlannedMoves.{stretch_at}
+use Rattle.mk_edit_parts.specs.declared.seek.Found.{Found}
+use Rattle.mk_edit_parts.proofs.CauseLemmas.{passed, holds, refused, unrefused}
+use Rattle.mk_edit_parts.proofs.on_finding.LeanLemmas.{led_first-placed}
 use Rattle.mk_edit.proofs.on_plans.PlanLemmas.{faithful-length}
 use Rattle.mk_edit.proofs.on_plans.LinePlans.{IsTakenOut, lines-taken_out}
 use Rattle.mk_edit.proofs.on_plans.CausePlans.{own_causes, addressed-own, removal-leaning, never-long}

@@ -31,19 +31,18 @@ use Rattle.mk_edit_laws.specs.WordPieces.{header_pieces, kept, put_last, prerequ
 use Rattle.mk_edit_laws.specs.declared.refusal.Refusal.TheVariants.{Already, TooLong}
 use Rattle.mk_edit_laws.proofs.on_prerequisites.HeaderEdits.{header_pieces-whole, kept-old, word_spans-header}
 use Rattle.mk_edit_laws.proofs.on_prerequisites.DependLemmas.{put_last-old}
-use Rattle.mk_edit.specs.Found.{IsAddressed}
-use Rattle.mk_edit.specs.NewPrerequisites.{after_new, before_new, new_text, place_of_new}
-use Rattle.mk_edit.specs.PlacedParts.{text_of_line}
-use Rattle.mk_edit.specs.PlannedMoves.{IsPlaceOf}
+use Rattle.mk_edit_parts.specs.Found.{IsAddressed, IsPlaceOf}
+use Rattle.mk_edit_parts.specs.NewPrerequisites.{after_new, before_new, new_text, place_of_new}
+use Rattle.mk_edit_parts.specs.PlacedParts.{text_of_line}
 use Rattle.mk_edit.specs.PrerequisiteEdits.{IsPrerequisiteAdded, is_in_list}
-use Rattle.mk_edit.specs.SeenHeaders.{IsHeaderSeen, IsPlacedIn, IsRuleLine}
-use Rattle.mk_edit.specs.WordCuts.{raw_between}
-use Rattle.mk_edit.specs.declared.seek.Found.{Found}
-use Rattle.mk_edit.proofs.CauseLemmas.{passed, holds}
+use Rattle.mk_edit_parts.specs.SeenHeaders.{IsHeaderSeen, IsPlacedIn, IsRuleLine}
+use Rattle.mk_edit_parts.specs.WordCuts.{raw_between}
+use Rattle.mk_edit_parts.specs.declared.seek.Found.{Found}
+use Rattle.mk_edit_parts.proofs.CauseLemmas.{passed, holds}
 use Rattle.mk_edit.proofs.on_plans.CausePlans.{long-said}
 use Rattle.mk_edit.proofs.on_plans.LinePlans.{IsReplaced}
 use Rattle.mk_edit.proofs.on_plans.RemovalPlans.{place-found}
-use Rattle.mk_edit.proofs.on_prerequisites.HeaderBytes.{header-with, new-within, raw-front}
+use Rattle.mk_edit_parts.proofs.on_prerequisites.HeaderBytes.{header-with, new-within, raw-front}
 use Rattle.mk_edit.proofs.on_prerequisites.HeaderPlaces.{rule-line, rule-class, header-seen}
 use Rattle.mk_edit.proofs.on_prerequisites.WordPlans.{IsWordEdit, words-replaced, pieces-whole, pieces-length}
 use Rattle.mk_edit.proofs.on_recipes.OwnCauses.{own-refused, own-accepted}

@@ -12,8 +12,8 @@ use Rattle.mk_class.specs.declared.class.Class.TheVariants as variants
 use Rattle.mk_class.proofs.on_classes.LinePartLemmas.{line-parts_placed}
 use Rattle.mk_tree.specs.PlacedLines.{PlacedLine, placed_line}
 use Rattle.mk_edit_laws.proofs.on_lines.HeaderChanges.{header-here}
-use Rattle.mk_edit.specs.SeenHeaders.{IsHeaderSeen, IsPlacedIn, IsRuleLine}
-use Rattle.mk_edit.specs.declared.seek.Found.{Found}
+use Rattle.mk_edit_parts.specs.SeenHeaders.{IsHeaderSeen, IsPlacedIn, IsRuleLine}
+use Rattle.mk_edit_parts.specs.declared.seek.Found.{Found}
 use Rattle.mk_edit.proofs.on_recipes.RulePlaces.{IsRuleAt}
 
 -- the line of a document where the header of a rule stands

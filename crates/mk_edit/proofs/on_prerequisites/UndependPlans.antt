@@ -28,12 +28,11 @@ use Rattle.mk_edit_laws.specs.WordPieces.{kept, is_word_of, removed_tokens, remo
 use Rattle.mk_edit_laws.specs.declared.refusal.Refusal.TheVariants.{Absent}
 use Rattle.mk_edit_laws.proofs.on_prerequisites.HeaderEdits.{header_pieces-whole, kept-old, word_spans-header}
 use Rattle.mk_edit_laws.proofs.on_prerequisites.UndependLemmas.{removed-old}
-use Rattle.mk_edit.specs.Found.{IsAddressed}
-use Rattle.mk_edit.specs.PlannedMoves.{IsPlaceOf}
+use Rattle.mk_edit_parts.specs.Found.{IsAddressed, IsPlaceOf}
 use Rattle.mk_edit.specs.PrerequisiteEdits.{IsPrerequisiteRemoved}
-use Rattle.mk_edit.specs.SeenHeaders.{IsHeaderSeen, IsPlacedIn, IsRuleLine}
-use Rattle.mk_edit.specs.declared.seek.Found.{Found}
-use Rattle.mk_edit.proofs.CauseLemmas.{passed, holds}
+use Rattle.mk_edit_parts.specs.SeenHeaders.{IsHeaderSeen, IsPlacedIn, IsRuleLine}
+use Rattle.mk_edit_parts.specs.declared.seek.Found.{Found}
+use Rattle.mk_edit_parts.proofs.CauseLemmas.{passed, holds}
 use Rattle.mk_edit.proofs.on_plans.CausePlans.{never-long}
 use Rattle.mk_edit.proofs.on_plans.LinePlans.{IsReplaced}
 use Rattle.mk_edit.proofs.on_plans.RemovalPlans.{place-found}

@@ -21,7 +21,7 @@ use Rattle.mk_edit_laws.specs.Spans.{spans_of}
 use Rattle.mk_edit_laws.specs.EditedLines.{respanned_bytes, edited_bytes}
 use Rattle.mk_edit_laws.specs.Refusals.{spans}
 use Rattle.mk_edit_laws.proofs.on_edits.EditedLineLemmas.{respanned-pieces}
-use Rattle.mk_edit.specs.SeenHeaders.{IsHeaderSeen}
+use Rattle.mk_edit_parts.specs.SeenHeaders.{IsHeaderSeen}
 use Rattle.mk_edit.proofs.on_plans.LinePlans.{IsReplaced, line-replaced}
 
 -- An edit that makes these pieces of the line at a place, whose line end stays.

@@ -7,9 +7,9 @@ use Rattle.mk_edit_laws.specs.Edits.{Edit}
 use Rattle.mk_edit_laws.specs.Spans.{spans_of}
 use Rattle.mk_edit_laws.specs.Refusals.{first_cause, spans}
 use Rattle.mk_edit_laws.specs.declared.refusal.Refusal.{Refusal}
-use Rattle.mk_edit.specs.Found.{IsAddressed}
-use Rattle.mk_edit.specs.declared.seek.Found.{Found}
-use Rattle.mk_edit.proofs.CauseLemmas.{refused, unrefused}
+use Rattle.mk_edit_parts.specs.Found.{IsAddressed}
+use Rattle.mk_edit_parts.specs.declared.seek.Found.{Found}
+use Rattle.mk_edit_parts.proofs.CauseLemmas.{refused, unrefused}
 use Rattle.mk_edit.proofs.on_plans.CausePlans.{own_causes, addressed-own}
 
 -- the first of them that holds is the refusal

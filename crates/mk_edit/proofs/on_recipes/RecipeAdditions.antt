@@ -14,13 +14,12 @@ use Rattle.mk_edit_laws.specs.RuleCauses.{straddles}
 use Rattle.mk_edit_laws.specs.Refusals.{first_cause, spans}
 use Rattle.mk_edit_laws.specs.Stretches.{after_rule, insertion}
 use Rattle.mk_edit_laws.specs.declared.refusal.Refusal.TheVariants.{Straddles}
-use Rattle.mk_edit.specs.Found.{IsAddressed}
+use Rattle.mk_edit_parts.specs.Found.{IsAddressed, IsPlaceOf}
 use Rattle.mk_edit.specs.Insertions.{IsDecidedByPlace, IsInsertedAt, place_causes}
-use Rattle.mk_edit.specs.PlannedMoves.{IsPlaceOf}
 use Rattle.mk_edit.specs.RecipeEdits.{IsRecipeAddition}
-use Rattle.mk_edit.specs.RecipeWalks.{lines_from}
-use Rattle.mk_edit.specs.declared.seek.Found.{Found}
-use Rattle.mk_edit.proofs.CauseLemmas.{passed, holds}
+use Rattle.mk_edit_parts.specs.RecipeWalks.{lines_from}
+use Rattle.mk_edit_parts.specs.declared.seek.Found.{Found}
+use Rattle.mk_edit_parts.proofs.CauseLemmas.{passed, holds}
 use Rattle.mk_edit.proofs.on_new_lines.InsertionLemmas.{found-place, inserted-between}
 use Rattle.mk_edit.proofs.on_plans.CausePlans.{addressed-own}
 use Rattle.mk_edit.proofs.on_recipes.OwnCauses.{own-refused}

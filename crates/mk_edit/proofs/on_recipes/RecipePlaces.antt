@@ -17,8 +17,8 @@ use Rattle.mk_edit_laws.specs.Stretches.{below_header, recipe_spot, recipe_found
 use Rattle.mk_edit_laws.proofs.on_edits.EditPlaces.{recipe_found-spot, recipe_found-recipe}
 use Rattle.mk_edit_laws.proofs.on_lines.SpotLemmas.{recipe-class}
 use Rattle.mk_edit_laws.proofs.on_recipes.RecipeClassLemmas.{recipe-stands}
-use Rattle.mk_edit.specs.RecipeWalks.{lines_from, recipe_spots_in}
-use Rattle.mk_edit.specs.declared.seek.Found.{Found}
+use Rattle.mk_edit_parts.specs.RecipeWalks.{lines_from, recipe_spots_in}
+use Rattle.mk_edit_parts.specs.declared.seek.Found.{Found}
 use Rattle.mk_edit.proofs.on_recipes.RulePlaces.{IsRuleAt}
 
 nth-map : {A B : Type 0} (f : A → B) (n : ℕ) (xs : List A) → nth_of n (map f xs) ≡ option_map f (nth_of n xs)

@@ -21,10 +21,10 @@ use Rattle.mk_edit_laws.specs.LineCauses.{removal_leans, leaning, too_long}
 use Rattle.mk_edit_laws.specs.Lengths.{bytes_put}
 use Rattle.mk_edit_laws.specs.Refusals.{spans}
 use Rattle.mk_edit_laws.specs.declared.refusal.Refusal.TheVariants.{Absent, Leans}
-use Rattle.mk_edit.specs.Found.{IsAddressed}
+use Rattle.mk_edit_parts.specs.Found.{IsAddressed}
 use Rattle.mk_edit.specs.RecipeEdits.{IsRecipeRemoval}
-use Rattle.mk_edit.specs.declared.seek.Found.{Found}
-use Rattle.mk_edit.proofs.CauseLemmas.{passed, holds}
+use Rattle.mk_edit_parts.specs.declared.seek.Found.{Found}
+use Rattle.mk_edit_parts.proofs.CauseLemmas.{passed, holds}
 use Rattle.mk_edit.proofs.on_plans.CausePlans.{never-long}
 use Rattle.mk_edit.proofs.on_plans.LinePlans.{IsTakenOut, lines-taken_out}
 use Rattle.mk_edit.proofs.on_recipes.OwnCauses.{own-refused, own-accepted}

@@ -20,12 +20,11 @@ use Rattle.mk_edit_laws.specs.RisingSpans.{Rise}
 use Rattle.mk_edit_laws.specs.Refusals.{spans}
 use Rattle.mk_edit_laws.specs.declared.refusal.Refusal.TheVariants.{Absent}
 use Rattle.mk_edit_laws.proofs.on_edits.SpansRise.{spans-rise}
-use Rattle.mk_edit.specs.Found.{IsAddressed}
-use Rattle.mk_edit.specs.PlannedMoves.{IsPlaceOf}
+use Rattle.mk_edit_parts.specs.Found.{IsAddressed, IsPlaceOf}
 use Rattle.mk_edit.specs.RecipeEdits.{IsRecipeSetting, command_range}
-use Rattle.mk_edit.specs.RecipeWalks.{lines_from, recipe_spots_in}
-use Rattle.mk_edit.specs.declared.seek.Found.{Found}
-use Rattle.mk_edit.proofs.CauseLemmas.{passed, holds}
+use Rattle.mk_edit_parts.specs.RecipeWalks.{lines_from, recipe_spots_in}
+use Rattle.mk_edit_parts.specs.declared.seek.Found.{Found}
+use Rattle.mk_edit_parts.proofs.CauseLemmas.{passed, holds}
 use Rattle.mk_edit.proofs.on_plans.CausePlans.{addressed-own}
 use Rattle.mk_edit.proofs.on_plans.RangePlans.{IsRangeEdit}
 use Rattle.mk_edit.proofs.on_plans.RemovalPlans.{place-found}

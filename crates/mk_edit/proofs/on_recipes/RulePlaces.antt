@@ -19,10 +19,10 @@ use Rattle.mk_edit_laws.specs.AddressCauses.{no_such_line, ambiguous_line}
 use Rattle.mk_edit_laws.proofs.on_edits.Accepted.{where_holds-none}
 use Rattle.mk_edit_laws.proofs.on_lines.SpotLemmas.{rule-found}
 use Rattle.mk_edit_laws.specs.declared.refusal.Refusal.TheVariants.{NoSuch}
-use Rattle.mk_edit.specs.Found.{IsFoundAt}
-use Rattle.mk_edit.specs.RecipeWalks.{lines_from}
-use Rattle.mk_edit.specs.declared.seek.Found.{Found}
-use Rattle.mk_edit.proofs.on_finding.PlaceLemmas.{IsLineAt, line-at}
+use Rattle.mk_edit_parts.specs.Found.{IsFoundAt}
+use Rattle.mk_edit_parts.specs.RecipeWalks.{lines_from}
+use Rattle.mk_edit_parts.specs.declared.seek.Found.{Found}
+use Rattle.mk_edit_parts.proofs.on_finding.PlaceLemmas.{IsLineAt, line-at}
 
 -- what is known of a document where the header of a rule stands
 pub record IsRuleAt (ls : List PlacedLine) (nth : Option ℕ) (g : List ℕ) (f : Found) : Type 0 where

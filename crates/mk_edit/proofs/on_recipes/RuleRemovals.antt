@@ -35,14 +35,14 @@ use Rattle.mk_edit_laws.specs.LineCauses.{removal_leans, leaning, too_long}
 use Rattle.mk_edit_laws.specs.Lengths.{bytes_put}
 use Rattle.mk_edit_laws.specs.Refusals.{spans}
 use Rattle.mk_edit_laws.specs.declared.refusal.Refusal.TheVariants.{SharedRule, Straddles, Leans}
-use Rattle.mk_edit.specs.Found.{IsAddressed}
-use Rattle.mk_edit.specs.PlacedParts.{words_before}
-use Rattle.mk_edit.specs.LineRanges.{is_led_first_placed}
+use Rattle.mk_edit_parts.specs.Found.{IsAddressed}
+use Rattle.mk_edit_parts.specs.PlacedParts.{words_before}
+use Rattle.mk_edit_parts.specs.LineRanges.{is_led_first_placed}
 use Rattle.mk_edit.specs.RecipeEdits.{IsRuleRemoval}
-use Rattle.mk_edit.specs.RecipeWalks.{lines_from, header_targets_in, header_targets_placed}
-use Rattle.mk_edit.specs.declared.seek.Found.{Found}
-use Rattle.mk_edit.proofs.CauseLemmas.{passed, holds}
-use Rattle.mk_edit.proofs.on_finding.LeanLemmas.{led_first-placed}
+use Rattle.mk_edit_parts.specs.RecipeWalks.{lines_from, header_targets_in, header_targets_placed}
+use Rattle.mk_edit_parts.specs.declared.seek.Found.{Found}
+use Rattle.mk_edit_parts.proofs.CauseLemmas.{passed, holds}
+use Rattle.mk_edit_parts.proofs.on_finding.LeanLemmas.{led_first-placed}
 use Rattle.mk_edit.proofs.on_plans.CausePlans.{never-long}
 use Rattle.mk_edit.proofs.on_plans.LinePlans.{IsTakenOut, lines-taken_out}
 use Rattle.mk_edit.proofs.on_recipes.OwnCauses.{own-refused, own-accepted}

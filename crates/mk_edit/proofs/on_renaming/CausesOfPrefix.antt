@@ -20,10 +20,10 @@ use Rattle.mk_tree.specs.PlacedLines.{PlacedLine, placed_line, placed_lines, pla
 use Rattle.mk_tree.proofs.on_documents.LinePlaces.{AreClassed, AreClassed-class, AreClassed-tail, AreClassed-lines}
 use Rattle.mk_edit_laws.specs.AddressCauses.{begins_renamed_line, begins_some_renamed_line}
 use Rattle.mk_edit_laws.specs.WordPieces.{is_replaced, renamed_pieces}
-use Rattle.mk_edit.specs.RenamedPlaces.{is_at_front, renamed_places}
+use Rattle.mk_edit_parts.specs.RenamedPlaces.{is_at_front, renamed_places}
 use Rattle.mk_edit.specs.RenameEffects.{begins_some_line}
-use Rattle.mk_edit.proofs.on_renaming.PiecePlaces.{replacing}
-use Rattle.mk_edit.proofs.on_renaming.LinePieces.{BeginsWith, line-begins, line-pieces}
+use Rattle.mk_edit_parts.proofs.on_renaming.PiecePlaces.{replacing}
+use Rattle.mk_edit_parts.proofs.on_renaming.LinePieces.{BeginsWith, line-begins, line-pieces}
 
 and-false : (b : Bool) → (b && false) ≡ false
 and-false true = refl

@@ -25,7 +25,7 @@ use Rattle.mk_edit_laws.specs.declared.refusal.Refusal.TheVariants.{NoSuch, Reci
 use Rattle.mk_edit_laws.proofs.on_edits.Accepted.{two-passed}
 use Rattle.mk_edit.specs.declared.rename_causes.Effect.{Effect}
 use Rattle.mk_edit.specs.RenameEffects.{IsRename, begins_some_line, effect_on, replaced_bytes, replaced_words}
-use Rattle.mk_edit.proofs.CauseLemmas.{holds, passed}
+use Rattle.mk_edit_parts.proofs.CauseLemmas.{holds, passed}
 use Rattle.mk_edit.proofs.on_plans.CausePlans.{long-said}
 use Rattle.mk_edit.proofs.on_renaming.CausesOfPrefix.{rename-led}
 use Rattle.mk_edit.proofs.on_renaming.SizesOfTexts.{rename-put, rename-taken}

@@ -23,12 +23,12 @@ use Rattle.mk_edit_laws.specs.WordPieces.{renamed_pieces, is_replaced}
 use Rattle.mk_edit_laws.specs.Costs.{is_renamed}
 use Rattle.mk_edit_laws.specs.RisingSpans.{Rise}
 use Rattle.mk_edit_laws.proofs.on_edits.RisingSpanLemmas.{Rise-until, Rise-pieces}
-use Rattle.mk_edit.specs.RenamedPlaces.{place_in, places_in, before_places, part_places, renamed_places, bytes_in, word_parts}
-use Rattle.mk_edit.specs.RenamedTexts.{AreApart, written, written_to, renamed_text}
+use Rattle.mk_edit_parts.specs.RenamedPlaces.{place_in, places_in, before_places, part_places, renamed_places, bytes_in, word_parts}
+use Rattle.mk_edit_parts.specs.RenamedTexts.{AreApart, written, written_to, renamed_text}
 use Rattle.mk_edit.specs.RenamePatches.{holds_word}
-use Rattle.mk_edit.proofs.on_renaming.PlaceLemmas.{cells-within}
-use Rattle.mk_edit.proofs.on_renaming.PiecePlaces.{replacing}
-use Rattle.mk_edit.proofs.on_renaming.LinePieces.{line-pieces}
+use Rattle.mk_edit_parts.proofs.on_renaming.PlaceLemmas.{cells-within}
+use Rattle.mk_edit_parts.proofs.on_renaming.PiecePlaces.{replacing}
+use Rattle.mk_edit_parts.proofs.on_renaming.LinePieces.{line-pieces}
 
 -- ---- ranges that stand apart
 

@@ -17,7 +17,7 @@ use Rattle.mk_patch.proofs.on_moves.MoveLemmas.{after_moves-append, fit-append, 
 use Rattle.mk_patch.proofs.on_moves.ShapeLemmas.{LeadTo}
 use Rattle.mk_patch.proofs.on_moves.ExchangeLemmas.{exchanges, DifferWhereChosen, AreNoLonger, how_many, exchanges-lead, exchanges-held_chosen, exchanges-taken_chosen, within-shrunk, within-grown}
 use Rattle.mk_edit.specs.Planned.{IsPlanned}
-use Rattle.mk_edit.specs.RenamedPlaces.{renamed_places, bytes_in}
+use Rattle.mk_edit_parts.specs.RenamedPlaces.{renamed_places, bytes_in}
 use Rattle.mk_edit.specs.RenamePatches.{holds_word, is_turn_of, is_exchanged, exchanged_count, line_renamed, before_moves, turn_moves_from, turn_moves, renaming_moves, HaveFewWords, CanEachBeRenamed}
 use Rattle.mk_edit.specs.declared.rename_patch.Turn.{Turn}
 use Rattle.mk_edit.specs.declared.rename_patch.Turn.TheVariants as turn

@@ -4,12 +4,12 @@ use Rattle.std.specs.Prelude.{nat_lt, if◌then◌else◌}
 use Rattle.std.proofs.lemmas.Bool.{and_parts, lt-ltb, ltb-true, ltb-false}
 use Rattle.mk_class.specs.Contexts.{Context}
 use Rattle.mk_tree.specs.PlacedLines.{PlacedLine}
-use Rattle.mk_edit.specs.RenamedPlaces.{bytes_in, no_words, renamed_places, tallied}
-use Rattle.mk_edit.specs.RenamedTexts.{renamed_text}
+use Rattle.mk_edit_parts.specs.RenamedPlaces.{bytes_in, no_words, renamed_places, tallied}
+use Rattle.mk_edit_parts.specs.RenamedTexts.{renamed_text}
 use Rattle.mk_edit.specs.RenamePatches.{holds_word, is_turn_of, is_exchanged, CanBeRenamed}
 use Rattle.mk_edit.specs.declared.rename_patch.Turn.{Turn}
 use Rattle.mk_edit.specs.declared.rename_patch.Turn.TheVariants as turn
-use Rattle.mk_edit.specs.declared.tally.Tally.{Tally}
+use Rattle.mk_edit_parts.specs.declared.tally.Tally.{Tally}
 use Rattle.mk_edit.proofs.on_renaming.LinesRenamed.{apart-bytes, renamed-length}
 
 -- ---- by numbers

@@ -5,12 +5,12 @@ use Rattle.mk_class.specs.RecipePrefix.{is_prefix_led}
 use Rattle.mk_tree.specs.Documents.{IsFaithful}
 use Rattle.mk_tree.specs.PlacedLines.{PlacedLine, size_of}
 use Rattle.mk_tree.specs.Walks.{LinesInContext}
-use Rattle.mk_edit.specs.PlacedParts.{AreEachClassed}
-use Rattle.mk_edit.specs.RenamedPlaces.{bytes_in, no_words, renamed_places, tallied}
+use Rattle.mk_edit_parts.specs.PlacedParts.{AreEachClassed}
+use Rattle.mk_edit_parts.specs.RenamedPlaces.{bytes_in, no_words, renamed_places, tallied}
 use Rattle.mk_edit.specs.RenameEffects.{effect_of_line, effect_on, joined, no_effect, replaced_bytes, replaced_words}
 use Rattle.mk_edit.specs.declared.rename_causes.Effect.{Effect}
-use Rattle.mk_edit.specs.declared.tally.Tally.{Tally}
-use Rattle.mk_edit.proofs.on_finding.SeekLemmas.{faithful-each}
+use Rattle.mk_edit_parts.specs.declared.tally.Tally.{Tally}
+use Rattle.mk_edit_parts.proofs.on_finding.SeekLemmas.{faithful-each}
 use Rattle.mk_edit.proofs.on_renaming.SizesOfWords.{all-bytes, all-words}
 
 same-effect : (e f : Effect) → e.words ≡ f.words → e.bytes ≡ f.bytes → e.begins_line ≡ f.begins_line → e ≡ f

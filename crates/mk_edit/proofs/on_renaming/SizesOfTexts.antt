@@ -12,9 +12,9 @@ use Rattle.mk_edit_laws.specs.Edits.{RenameTarget}
 use Rattle.mk_edit_laws.specs.Lengths.{bytes_taken, bytes_put}
 use Rattle.mk_edit_laws.specs.Spans.{renamed_spans, spans_of}
 use Rattle.mk_edit_laws.specs.WordPieces.{renamed_pieces}
-use Rattle.mk_edit.specs.RenamedPlaces.{bytes_in, renamed_places}
+use Rattle.mk_edit_parts.specs.RenamedPlaces.{bytes_in, renamed_places}
 use Rattle.mk_edit.specs.RenameEffects.{replaced_bytes, replaced_words}
-use Rattle.mk_edit.proofs.on_renaming.LinePieces.{line-pieces}
+use Rattle.mk_edit_parts.proofs.on_renaming.LinePieces.{line-pieces}
 use Rattle.mk_edit.proofs.on_renaming.SizesOfWords.{taken-replacing, put-replacing}
 
 -- ---- some replacements, and then others

@@ -28,11 +28,11 @@ use Rattle.mk_edit_laws.specs.Spans.{spans_of, where_found}
 use Rattle.mk_edit_laws.specs.Refusals.{spans}
 use Rattle.mk_edit_laws.specs.declared.refusal.Refusal.TheVariants.{OpenValue}
 use Rattle.mk_edit_laws.proofs.on_values.SetLemmas.{not_prefix}
-use Rattle.mk_edit.specs.Found.{IsAddressed}
-use Rattle.mk_edit.specs.LineRanges.{value_range_placed}
+use Rattle.mk_edit_parts.specs.Found.{IsAddressed}
+use Rattle.mk_edit_parts.specs.LineRanges.{value_range_placed}
 use Rattle.mk_edit.specs.ValuesGiven.{IsAppended, value_text_placed, space_after}
-use Rattle.mk_edit.specs.declared.seek.Found.{Found}
-use Rattle.mk_edit.proofs.CauseLemmas.{passed, holds, refused}
+use Rattle.mk_edit_parts.specs.declared.seek.Found.{Found}
+use Rattle.mk_edit_parts.proofs.CauseLemmas.{passed, holds, refused}
 use Rattle.mk_edit.proofs.on_plans.CausePlans.{addressed-own}
 use Rattle.mk_edit.proofs.on_plans.RangePlans.{IsRangeEdit, line_with}
 use Rattle.mk_edit.proofs.on_values.ValuePlaces.{IsValueRange, IsValuePlace, value-place, assignment-placed}

@@ -30,11 +30,10 @@ use Rattle.mk_edit_laws.specs.ValueSpans.{raw_length}
 use Rattle.mk_edit_laws.proofs.on_edits.Accepted.{where_holds-none}
 use Rattle.mk_edit_laws.proofs.on_values.FoundAssignments.{assignment-found}
 use Rattle.mk_edit_laws.proofs.on_edits.EditPlaces.{found-spot}
-use Rattle.mk_edit.specs.Found.{IsAddressed, IsFoundAt, IsMeant}
-use Rattle.mk_edit.specs.LineRanges.{value_range_placed}
-use Rattle.mk_edit.specs.PlannedMoves.{IsPlaceOf}
-use Rattle.mk_edit.specs.declared.seek.Found.{Found}
-use Rattle.mk_edit.proofs.on_finding.PlaceLemmas.{line-at}
+use Rattle.mk_edit_parts.specs.Found.{IsAddressed, IsFoundAt, IsMeant, IsPlaceOf}
+use Rattle.mk_edit_parts.specs.LineRanges.{value_range_placed}
+use Rattle.mk_edit_parts.specs.declared.seek.Found.{Found}
+use Rattle.mk_edit_parts.proofs.on_finding.PlaceLemmas.{line-at}
 
 -- ---- the range of a value
 

@@ -15,10 +15,10 @@ use Rattle.mk_edit_laws.specs.Stretches.{this_line}
 use Rattle.mk_edit_laws.specs.ValueSpans.{raw_length, set_value_span, value_span, assignment_span}
 use Rattle.mk_edit_laws.specs.Spans.{spans_of, where_found}
 use Rattle.mk_edit_laws.proofs.on_values.SetLemmas.{not_prefix}
-use Rattle.mk_edit.specs.Found.{IsAddressed}
-use Rattle.mk_edit.specs.LineRanges.{value_range_placed}
+use Rattle.mk_edit_parts.specs.Found.{IsAddressed}
+use Rattle.mk_edit_parts.specs.LineRanges.{value_range_placed}
 use Rattle.mk_edit.specs.ValuesGiven.{IsSetTo}
-use Rattle.mk_edit.specs.declared.seek.Found.{Found}
+use Rattle.mk_edit_parts.specs.declared.seek.Found.{Found}
 use Rattle.mk_edit.proofs.on_plans.CausePlans.{addressed-own}
 use Rattle.mk_edit.proofs.on_plans.RangePlans.{IsRangeEdit}
 use Rattle.mk_edit.proofs.on_values.ValuePlaces.{IsValueRange, IsValuePlace, value-place}

@@ -2,7 +2,7 @@ use Rattle.std.proofs.Common.{◌∙◌, ◌++◌, sym, ap}
 use Rattle.mk_lines.specs.PhysicalLines.{line_end_bytes}
 use Rattle.mk_lines.specs.declared.ends.End.{End}
 use Rattle.mk_edit_laws.specs.NewLines.{new_text}
-use Rattle.mk_edit.specs.EditViews.{edit_of}
+use Rattle.mk_edit_parts.specs.EditViews.{edit_of}
 use Rattle.mk_edit.proofs.on_new_lines.Additions.{line-added}
 use Rattle.mk_edit.proofs.on_plans.PlanLemmas.{planned-if_ok}
 use Rattle.mk_edit.proofs.addition.add_line.Goals as goal

@@ -1,5 +1,5 @@
 use Rattle.std.proofs.Common.{◌∙◌, sym, arith, inl}
-use Rattle.mk_edit.specs.EditViews.{edit_of}
+use Rattle.mk_edit_parts.specs.EditViews.{edit_of}
 use Rattle.mk_edit.proofs.on_recipes.RecipeAdditions.{recipe-addition_of}
 use Rattle.mk_edit.proofs.recipe_add.plan_recipe.Goals as goal
 

@@ -4,7 +4,7 @@ use Rattle.mk_class.specs.ClassedLines.{classed_lines}
 use Rattle.mk_edit_laws.specs.Edits.{Edit, RenameTarget}
 use Rattle.mk_edit_laws.specs.Refusals.{causes, first_cause}
 use Rattle.mk_edit_laws.specs.declared.refusal.Refusal.{Refusal}
-use Rattle.mk_edit.specs.EditViews.{edit_of}
+use Rattle.mk_edit_parts.specs.EditViews.{edit_of}
 use Rattle.mk_edit.proofs.rename.plan_rename.Goals as goal
 
 -- no cause of an edit holds, which is this one

@@ -2,8 +2,8 @@ use Rattle.std.proofs.Common.{◌≡◌, ◌∙◌, ap, subst, arith}
 use Rattle.mk_class.specs.Contexts.{Context}
 use Rattle.mk_class.specs.RecipePrefix.{is_prefix_led}
 use Rattle.mk_tree.specs.Trees.{line_view}
-use Rattle.mk_edit.specs.PlacedParts.{AreEachClassed, IsClassed}
-use Rattle.mk_edit.specs.declared.tally.Tally.{Tally}
+use Rattle.mk_edit_parts.specs.PlacedParts.{AreEachClassed, IsClassed}
+use Rattle.mk_edit_parts.specs.declared.tally.Tally.{Tally}
 use Rattle.mk_edit.proofs.on_renaming.SizesOfEffects.{walk-from, room-ahead, walk-on, walk-over, effect-bytes}
 use Rattle.mk_edit.proofs.rename_causes.rename_effect.Goals as goal
 

@@ -4,9 +4,9 @@ use Rattle.mk_tree.specs.PlacedLines.{placed_text}
 use Rattle.mk_edit_laws.specs.ArgumentCauses.{bad_argument, reserved}
 use Rattle.mk_edit_laws.specs.Causes.{where_holds}
 use Rattle.mk_edit_laws.specs.declared.refusal.Refusal.TheVariants.{BadArgument, Reserved}
-use Rattle.mk_edit.specs.EditViews.{edit_of, field_refusal}
+use Rattle.mk_edit_parts.specs.EditViews.{edit_of, field_refusal}
 use Rattle.mk_edit.specs.declared.rename_causes.Effect.{Effect}
-use Rattle.mk_edit.proofs.on_finding.FindLemmas.{reserved-holds}
+use Rattle.mk_edit_parts.proofs.on_finding.FindLemmas.{reserved-holds}
 use Rattle.mk_edit.proofs.on_renaming.CausesOfRename.{bad-first, long-told, rename-causes, reserved-first}
 use Rattle.mk_edit.proofs.rename_causes.rename_refusal.Goals as goal
 

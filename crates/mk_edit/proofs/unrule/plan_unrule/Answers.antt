@@ -1,8 +1,8 @@
 use Rattle.std.proofs.Common.{◌≡◌, ◌∙◌, sym, subst, arith, inl, inr, true, false}
 use Rattle.mk_tree.specs.Trees.{line_view}
-use Rattle.mk_edit.specs.EditViews.{edit_of}
+use Rattle.mk_edit_parts.specs.EditViews.{edit_of}
 use Rattle.mk_edit.specs.Planned.{IsPlanned}
-use Rattle.mk_edit.proofs.on_finding.PlaceLemmas.{faithful-at}
+use Rattle.mk_edit_parts.proofs.on_finding.PlaceLemmas.{faithful-at}
 use Rattle.mk_edit.proofs.on_recipes.RuleRemovals.{removal-of, leaning-asked}
 use Rattle.mk_edit.proofs.unrule.plan_unrule.Goals as goal
 

@@ -1,6 +1,6 @@
 use Rattle.std.proofs.Common.{◌∙◌, sym, ap, length, arith}
 use Rattle.mk_tree.specs.Trees.{line_view}
-use Rattle.mk_edit.proofs.on_finding.PartLemmas.{seen-header, text-length}
+use Rattle.mk_edit_parts.proofs.on_finding.PartLemmas.{seen-header, text-length}
 use Rattle.mk_edit.proofs.unrule.target_count.Goals as goal
 
 pub part-requires-clause-within : goal.part-requires-clause-within

@@ -2,10 +2,10 @@ use Rattle.std.proofs.Common.{◌≡◌, ◌∙◌, ◌≤◌, ◌+◌, ◌-◌,
 use Rattle.mk_tree.specs.Trees.{line_view}
 use Rattle.mk_tree.specs.PlacedLines.{size_of, placed_text}
 use Rattle.mk_edit_laws.specs.Addresses.{address}
-use Rattle.mk_edit.specs.EditViews.{edit_of}
-use Rattle.mk_edit.specs.LineRanges.{value_range_placed}
+use Rattle.mk_edit_parts.specs.EditViews.{edit_of}
+use Rattle.mk_edit_parts.specs.LineRanges.{value_range_placed}
 use Rattle.mk_edit.specs.ValuesGiven.{space_after}
-use Rattle.mk_edit.proofs.on_finding.PlaceLemmas.{faithful-at}
+use Rattle.mk_edit_parts.proofs.on_finding.PlaceLemmas.{faithful-at}
 use Rattle.mk_edit.proofs.on_plans.PlanLemmas.{planned-if_ok, planned-if_err}
 use Rattle.mk_edit.proofs.on_plans.RangePlans.{range-long, range-accepted, range-replaced}
 use Rattle.mk_edit.proofs.on_values.ValuePlaces.{variable-place}

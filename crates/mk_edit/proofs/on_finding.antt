@@ -1,6 +1,0 @@
--- Lemmas. The line that an edit means, and the lines round it.
-pub mod PartLemmas
-pub mod SeekLemmas
-pub mod FindLemmas
-pub mod LeanLemmas
-pub mod PlaceLemmas

@@ -1,3 +1,0 @@
-mod finding;
-mod lines;
-mod refusals;

@@ -1,0 +1,7 @@
+-- Lemmas by subject, which the functions of single edits and the crates above cite too
+pub mod CauseLemmas
+pub mod on_finding
+pub mod on_new_lines
+pub mod on_recipes
+pub mod on_prerequisites
+pub mod on_renaming

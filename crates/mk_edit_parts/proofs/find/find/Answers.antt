@@ -1,0 +1,22 @@
+use Rattle.std.proofs.Common.{◌≡◌, ◌∙◌, ap, subst, sym, None}
+use Rattle.mk_class.specs.ClassedLines.{classed_lines}
+use Rattle.mk_tree.specs.PlacedLines.{placed_text}
+use Rattle.mk_edit_laws.specs.ArgumentCauses.{bad_argument, reserved}
+use Rattle.mk_edit_laws.specs.AddressCauses.{unread_prefix}
+use Rattle.mk_edit_laws.specs.Causes.{where_holds}
+use Rattle.mk_edit_laws.specs.declared.refusal.Refusal.TheVariants.{Reserved, RecipePrefix}
+use Rattle.mk_edit_parts.specs.EditViews.{edit_of, field_refusal}
+use Rattle.mk_edit_parts.specs.Found.{IsNotPicked}
+use Rattle.mk_edit_parts.proofs.on_finding.FindLemmas.{reserved-holds, unread-holds, not_picked-refused}
+use Rattle.mk_edit_parts.proofs.find.find.Goals as goal
+
+pub returns-in-Err-clause-refused : goal.returns-in-Err-clause-refused
+returns-in-Err-clause-refused g c =
+    let e = edit_of c.args.edit.now in
+    let t = placed_text c.args.doc.now in
+    let ls = classed_lines t in
+    let fields : bad_argument e ≡ None = sym c.bad_field.ensures ∙ ap field_refusal c.in_default.is in
+    let free : reserved e ≡ None = reserved-holds e c.is_reserved.result c.is_reserved.ensures ∙ ap (λ b. where_holds b Reserved) c.if-is_reserved.false in
+    let read : unread_prefix ls ≡ None = unread-holds ls c.seek-sought.result.has_unread_prefix c.seek-sought.ensures.unread_is ∙ ap (λ b. where_holds b RecipePrefix) c.if-sought.false in
+    not_picked-refused t e c.in-Err.refusal c.requires.one_place fields free read
+    (subst (λ a. IsNotPicked ls a c.in-Err.refusal) c.address_of-address.ensures (c.in-Err.ensures.refused ls c.seek-sought.ensures))

@@ -1,0 +1,13 @@
+-- What is counted, with the words of what is left, is all; each word is shorter than what it is cut from.
+use Rattle.std.proofs.Common.{◌≡◌, ◌+◌, ◌*◌, ◌≤◌, length}
+use Rattle.mk_edit_laws.specs.NewLines.{each_spaced, words_in}
+use Rattle.mk_edit_parts.proofs.new_line.each_spaced_len.Given as goal
+
+abbrev pub invariant-words : goal.invariant-words
+invariant-words l = record {
+  number : l.count + length (each_spaced (words_in l.rest)) ≡ length (each_spaced (words_in l.text));
+  few : l.count + 2 * length l.rest ≤ 2 * length l.text;
+}
+
+abbrev pub decreases-words : goal.decreases-words
+decreases-words l = length l.rest

@@ -1,0 +1,5 @@
+use Rattle.mk_edit_parts.proofs.on_new_lines.NewLineTexts.{joined-put}
+use Rattle.mk_edit_parts.proofs.new_line.push_joined.Goals as goal
+
+pub returns : goal.returns
+returns g c = joined-put c.push_each_spaced.result c.args.text.now _ _ c.args.bytes.now.items _ _ c.in-Some.ensures.words c.in-Some.ensures.joined c.in_ok-extend_from_slice.ensures.items c.push_each_spaced.ensures

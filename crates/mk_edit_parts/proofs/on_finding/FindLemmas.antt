@@ -1,0 +1,62 @@
+-- The causes before an edit's own, for every edit that means one place.
+use Rattle.std.proofs.Common.{◌≡◌, refl, sym, ap, ◌∙◌, List, Bool, ◌||◌, ◌∷◌, [], ℕ, Option, Some, None}
+use Rattle.std.specs.Prelude.{Err}
+use Rattle.mk_class.specs.Lists.{any}
+use Rattle.mk_class.specs.Keywords.{is_reserved_word}
+use Rattle.mk_class.specs.RecipePrefix.{is_prefix_name}
+use Rattle.mk_class.specs.ClassedLines.{ClassedLine, classed_lines}
+use Rattle.mk_edit_laws.specs.Edits.{Edit, SetValue, AppendValue, AddAssign, RemoveAssign, AddRule, RemoveRule, AddPrereq, RemovePrereq, AddRecipe, SetRecipe, RemoveRecipe, RenameTarget}
+use Rattle.mk_edit_laws.specs.Addresses.{address}
+use Rattle.mk_edit_laws.specs.Causes.{where_holds}
+use Rattle.mk_edit_laws.specs.ArgumentCauses.{bad_argument, reserved, names, targets}
+use Rattle.mk_edit_laws.specs.AddressCauses.{is_unread_prefix, unread_prefix, no_such, no_such_line, ambiguous}
+use Rattle.mk_edit_laws.specs.Refusals.{first_cause, spans}
+use Rattle.mk_edit_laws.specs.TouchedLines.{IsOfOnePlace}
+use Rattle.mk_edit_laws.specs.declared.refusal.Refusal.{Refusal}
+use Rattle.mk_edit_laws.specs.declared.refusal.Refusal.TheVariants.{Reserved, RecipePrefix}
+use Rattle.mk_edit_parts.specs.Found.{IsNotPicked}
+use Rattle.mk_edit_parts.proofs.CauseLemmas.{passed, holds, refused}
+
+pub bad-refused : (t : List ℕ) (e : Edit) (r : Refusal) → bad_argument e ≡ Some r → spans t e ≡ Err r
+bad-refused t e r h = refused t e r (holds (bad_argument e) _ r h)
+
+pub reserved-refused : (t : List ℕ) (e : Edit) (r : Refusal) → bad_argument e ≡ None → reserved e ≡ Some r → spans t e ≡ Err r
+reserved-refused t e r a h = refused t e r (passed (bad_argument e) _ (Some r) a (holds (reserved e) _ r h))
+
+pub unread-refused : (t : List ℕ) (e : Edit) (r : Refusal) → bad_argument e ≡ None → reserved e ≡ None → unread_prefix (classed_lines t) ≡ Some r → spans t e ≡ Err r
+unread-refused t e r a b h = refused t e r (passed (bad_argument e) _ (Some r) a (passed (reserved e) _ (Some r) b (holds (unread_prefix (classed_lines t)) _ r h)))
+
+-- the cause Reserved, and the prefix that is not read, by their tests
+pub reserved-holds : (e : Edit) (b : Bool) → b ≡ (any is_prefix_name (names e) || any is_reserved_word (targets e)) → reserved e ≡ where_holds b Reserved
+reserved-holds e b h = ap (λ z. where_holds z Reserved) (sym h)
+
+pub unread-holds : (ls : List ClassedLine) (b : Bool) → b ≡ any (λ l. is_unread_prefix l.class) ls → unread_prefix ls ≡ where_holds b RecipePrefix
+unread-holds ls b h = ap (λ z. where_holds z RecipePrefix) (sym h)
+
+-- an edit of one place has no such line where its address has none
+pub same-no_such : (ls : List ClassedLine) (e : Edit) → IsOfOnePlace e → no_such ls e ≡ no_such_line ls (address e)
+same-no_such ls (SetValue nth n v) h = refl
+same-no_such ls (AppendValue nth n v) h = refl
+same-no_such ls (RemoveAssign nth n) h = refl
+same-no_such ls (AddAssign p n f v) h = refl
+same-no_such ls (AddRule p ts c ws) h = refl
+same-no_such ls (RemoveRule nth g) h = refl
+same-no_such ls (AddPrereq o nth g w) h = refl
+same-no_such ls (RemovePrereq nth g w) h = refl
+same-no_such ls (AddRecipe nth g c) h = refl
+same-no_such ls (SetRecipe nth g k c) h = refl
+same-no_such ls (RemoveRecipe nth g k) h = refl
+same-no_such ls (RenameTarget o n) h = absurd h
+
+-- the two causes of an address, among others
+not_picked-first : (o p : Option Refusal) (cs : List (Option Refusal)) (r : Refusal) → first_cause (o ∷ p ∷ []) ≡ Some r → first_cause (o ∷ p ∷ cs) ≡ Some r
+not_picked-first (Some q) p cs r h = h
+not_picked-first None (Some q) cs r h = h
+not_picked-first None None cs r h = absurd (cc)
+
+pub not_picked-refused : (t : List ℕ) (e : Edit) (r : Refusal) → IsOfOnePlace e → bad_argument e ≡ None → reserved e ≡ None → unread_prefix (classed_lines t) ≡ None
+    → IsNotPicked (classed_lines t) (address e) r → spans t e ≡ Err r
+not_picked-refused t e r u b c d h =
+    let ls = classed_lines t in
+    let first : first_cause (no_such ls e ∷ ambiguous ls e ∷ []) ≡ Some r = ap (λ z. first_cause (z ∷ ambiguous ls e ∷ [])) (same-no_such ls e u) ∙ h in
+    refused t e r (passed (bad_argument e) _ (Some r) b (passed (reserved e) _ (Some r) c (passed (unread_prefix ls) _ (Some r) d (not_picked-first (no_such ls e) (ambiguous ls e) _ r first))))

@@ -1,0 +1,57 @@
+-- What the edits of the program are seen as: those of the definitions.
+use Rattle.std.specs.Prelude.{Option, Some, None}
+use Rattle.mk_edit_laws.specs.Edits as edits
+use Rattle.mk_edit_laws.specs.Addresses as addresses
+use Rattle.mk_edit_laws.specs.declared.refusal.Field.{Field}
+use Rattle.mk_edit_laws.specs.declared.refusal.Refusal.{Refusal}
+use Rattle.mk_edit_laws.specs.declared.refusal.Refusal.TheVariants.{BadArgument}
+use Rattle.mk_edit_parts.specs.declared.edit.Place.{Place}
+use Rattle.mk_edit_parts.specs.declared.edit.Place.TheVariants as place
+use Rattle.mk_edit_parts.specs.declared.edit.Edit.{Edit}
+use Rattle.mk_edit_parts.specs.declared.edit.Edit.TheVariants as edit
+use Rattle.mk_edit_parts.specs.declared.address.Address.{Address}
+use Rattle.mk_edit_parts.specs.declared.address.Address.TheVariants as address
+
+-- a place, its text as bytes
+abbrev pub place_of : {A : _} → Place A → edits.Place
+place_of place.Bottom = edits.Bottom
+place_of (place.BeforeVar nth name) = edits.BeforeVar nth name.items
+place_of (place.AfterVar nth name) = edits.AfterVar nth name.items
+place_of (place.BeforeRule nth target) = edits.BeforeRule nth target.items
+
+-- an edit, its texts as bytes
+abbrev pub edit_of : {A : _} → Edit A → edits.Edit
+edit_of (edit.SetValue nth name value) = edits.SetValue nth name.items value.items
+edit_of (edit.AppendValue nth name value) = edits.AppendValue nth name.items value.items
+edit_of (edit.AddAssign p name flavor value) = edits.AddAssign (place_of p) name.items flavor value.items
+edit_of (edit.RemoveAssign nth name) = edits.RemoveAssign nth name.items
+edit_of (edit.AddRule p targets colons prereqs) = edits.AddRule (place_of p) targets.items colons prereqs.items
+edit_of (edit.RemoveRule nth target) = edits.RemoveRule nth target.items
+edit_of (edit.AddPrereq order nth target word) = edits.AddPrereq order nth target.items word.items
+edit_of (edit.RemovePrereq nth target word) = edits.RemovePrereq nth target.items word.items
+edit_of (edit.AddRecipe nth target line) = edits.AddRecipe nth target.items line.items
+edit_of (edit.SetRecipe nth target number line) = edits.SetRecipe nth target.items number line.items
+edit_of (edit.RemoveRecipe nth target number) = edits.RemoveRecipe nth target.items number
+edit_of (edit.RenameTarget from to) = edits.RenameTarget from.items to.items
+
+-- an address, its text as bytes
+abbrev pub address_view : Address → addresses.Address
+address_view (address.Variable nth name) = addresses.Variable nth name.now
+address_view (address.Rule nth target) = addresses.Rule nth target.now
+
+-- the address of an edit, where it has one
+abbrev pub address_seen : Option Address → Option addresses.Address
+address_seen None = None
+address_seen (Some a) = Some (address_view a)
+
+-- the refusal for a field that fails its test
+abbrev pub field_refusal : Option Field → Option Refusal
+field_refusal None = None
+field_refusal (Some f) = Some (BadArgument f)
+
+-- ---- edits by their kind
+
+-- an edit that takes an assignment out
+abbrev pub IsUnset : edits.Edit → Type 0
+IsUnset (edits.RemoveAssign nth n) = Unit {0}
+IsUnset e = ⊥

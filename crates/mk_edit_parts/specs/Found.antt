@@ -1,0 +1,53 @@
+-- The line that an edit means, found, after the causes of refusal that come before its own.
+use Rattle.std.specs.Prelude.{◌≡◌, List, [], ◌∷◌, length, take, Option, Some, None}
+use Rattle.mk_class.specs.ClassedLines.{ClassedLine, classed_lines}
+use Rattle.mk_tree.specs.Documents.{context_of}
+use Rattle.mk_tree.specs.PlacedLines.{PlacedLine, placed_text}
+use Rattle.mk_edit_laws.specs.Edits.{Edit}
+use Rattle.mk_edit_laws.specs.Spots.{Spot}
+use Rattle.mk_edit_laws.specs.Addresses.{Address, address, found}
+use Rattle.mk_edit_laws.specs.ArgumentCauses.{bad_argument, reserved}
+use Rattle.mk_edit_laws.specs.AddressCauses.{unread_prefix, no_such, no_such_line, ambiguous, ambiguous_line}
+use Rattle.mk_edit_laws.specs.Refusals.{first_cause}
+use Rattle.mk_edit_laws.specs.declared.refusal.Refusal.{Refusal}
+use Rattle.mk_edit_parts.specs.declared.seek.Found.{Found}
+
+-- the line that an address means stands at a place, in a context
+pub record IsFoundAt (ls : List ClassedLine) (a : Address) (f : Found) : Type 0 where
+  pub spot : Spot
+  pub found_is : found ls a ≡ Some spot
+  pub place_is : length spot.above ≡ f.at
+  pub context_is : context_of spot.above ≡ f.context
+
+-- the lines end at a place, and leave a context
+pub record IsEnd (ls : List ClassedLine) (f : Found) : Type 0 where
+  pub place_is : length ls ≡ f.at
+  pub context_is : context_of ls ≡ f.context
+
+-- where an edit applies: at the line that its address means, or at the end where it has none
+abbrev pub IsMeant : List ClassedLine → Option Address → Found → Type 0
+IsMeant ls None f = IsEnd ls f
+IsMeant ls (Some a) f = IsFoundAt ls a f
+
+-- what an address, or none, means is found at a place
+pub record IsPicked (ls : List ClassedLine) (a : Option Address) (f : Found) : Type 0 where
+  pub is_there : no_such_line ls a ≡ None
+  pub is_one : ambiguous_line ls a ≡ None
+  pub meant : IsMeant ls a f
+
+-- an address means no line, for this cause
+abbrev pub IsNotPicked : List ClassedLine → Option Address → Refusal → Type 0
+IsNotPicked ls a r = first_cause (no_such_line ls a ∷ ambiguous_line ls a ∷ []) ≡ Some r
+
+-- No cause holds that comes before an edit's own, and where it applies is found.
+pub record IsAddressed (e : Edit) (ls : List PlacedLine) (f : Found) : Type 0 where
+  pub arguments : bad_argument e ≡ None
+  pub not_reserved : reserved e ≡ None
+  pub prefix_read : unread_prefix (classed_lines (placed_text ls)) ≡ None
+  pub is_there : no_such (classed_lines (placed_text ls)) e ≡ None
+  pub is_one : ambiguous (classed_lines (placed_text ls)) e ≡ None
+  pub meant : IsMeant (classed_lines (placed_text ls)) (address e) f
+
+-- a place of a document, with the context of the lines before it
+abbrev pub IsPlaceOf : List PlacedLine → Found → Type 0
+IsPlaceOf ls place = context_of (take place.at (classed_lines (placed_text ls))) ≡ place.context

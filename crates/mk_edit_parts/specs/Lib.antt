@@ -1,0 +1,15 @@
+pub mod EditViews
+-- The line that an edit means
+pub mod PlacedParts
+pub mod Seeking
+pub mod Found
+pub mod LineRanges
+-- The recipe of a rule, and its edits
+pub mod RecipeWalks
+-- The words of a rule's line
+pub mod SeenHeaders
+pub mod WordCuts
+pub mod NewPrerequisites
+-- A rename
+pub mod RenamedPlaces
+pub mod RenamedTexts

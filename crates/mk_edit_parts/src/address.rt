@@ -1,0 +1,48 @@
+//! The line that an edit means, as the edit says it.
+ghost use Rattle.std.specs.Prelude.{◌≡◌};
+ghost use Rattle.mk_edit_laws.specs.Addresses.{address, place_address};
+ghost use Rattle.mk_edit_parts.specs.EditViews.{address_seen, edit_of, place_of};
+
+use crate::edit::{Edit, Place};
+use std::alloc::Allocator;
+
+/// What an edit says of the line that it means.
+#[derive(Clone, Copy)]
+pub enum Address<'a> {
+    /// An assignment, by the variable's name.
+    Variable(Option<u32>, &'a [u8]),
+    /// The line of a rule, by one of its targets.
+    Rule(Option<u32>, &'a [u8]),
+}
+
+/// The address of an edit, or of its place. A new line at the end has none, nor has a rename.
+pub fn address_of<A: Allocator>(edit: &Edit<A>) -> Option<Address<'_>>
+    ensures { address_seen result ≡ address (edit_of edit.now) }
+{
+    match edit {
+        Edit::SetValue { nth, name, .. }
+        | Edit::AppendValue { nth, name, .. }
+        | Edit::RemoveAssign { nth, name } => Some(Address::Variable(*nth, name)),
+        Edit::AddAssign { place, .. } | Edit::AddRule { place, .. } => place_address(place),
+        Edit::RemoveRule { nth, target }
+        | Edit::AddPrereq { nth, target, .. }
+        | Edit::RemovePrereq { nth, target, .. }
+        | Edit::AddRecipe { nth, target, .. }
+        | Edit::SetRecipe { nth, target, .. }
+        | Edit::RemoveRecipe { nth, target, .. } => Some(Address::Rule(*nth, target)),
+        Edit::RenameTarget { .. } => None,
+    }
+}
+
+// The address of a place.
+fn place_address<A: Allocator>(place: &Place<A>) -> Option<Address<'_>>
+    ensures { address_seen result ≡ place_address (place_of place.now) }
+{
+    match place {
+        Place::Bottom => None,
+        Place::BeforeVar { nth, name } | Place::AfterVar { nth, name } => {
+            Some(Address::Variable(*nth, name))
+        }
+        Place::BeforeRule { nth, target } => Some(Address::Rule(*nth, target)),
+    }
+}

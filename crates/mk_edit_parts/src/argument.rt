@@ -1,0 +1,189 @@
+//! The causes of refusal that the fields of an edit decide by themselves.
+ghost use Rattle.std.specs.Prelude.{◌≡◌, ◌||◌, ◌∷◌, [], not};
+ghost use Rattle.mk_class.specs.Arguments.{is_target, is_word};
+ghost use Rattle.mk_class.specs.Keywords.{is_reserved_word};
+ghost use Rattle.mk_class.specs.Lists.{any};
+ghost use Rattle.mk_class.specs.RecipePrefix.{is_prefix_name};
+ghost use Rattle.mk_edit_laws.specs.ArgumentCauses.{Tested, are_targets, are_words, bad_argument, first_failed, is_place, names, place_names, place_targets, targets};
+ghost use Rattle.mk_edit_laws.specs.NewLines.{words_in};
+ghost use Rattle.mk_edit_parts.specs.EditViews.{edit_of, field_refusal, place_of};
+
+use crate::edit::{Edit, Place};
+use crate::text::is_prefix_name;
+use mk_class::{is_command, is_name, is_reserved_word, is_target, is_value, is_word};
+use mk_edit_laws::Field;
+use mk_lines::split_first_word;
+use std::alloc::Allocator;
+
+/// The first field of an edit that is none that it may have: the cause `BadArgument`.
+pub fn bad_field<A: Allocator>(edit: &Edit<A>) -> Option<Field>
+    ensures { field_refusal result ≡ bad_argument (edit_of edit.now) }
+{
+    match edit {
+        Edit::SetValue { name, value, .. } => {
+            first_failed(Field::Name, is_name(name), Field::Value, is_value(value))
+        }
+        Edit::AppendValue { name, value, .. } => first_failed(
+            Field::Name,
+            is_name(name),
+            Field::Value,
+            is_value(value) && !value.is_empty(),
+        ),
+        Edit::AddAssign {
+            place,
+            name,
+            value,
+            ..
+        } => {
+            if !is_place(place) {
+                return Some(Field::Place);
+            }
+            first_failed(Field::Name, is_name(name), Field::Value, is_value(value))
+        }
+        Edit::RemoveAssign { name, .. } => failed(Field::Name, is_name(name)),
+        Edit::AddRule {
+            place,
+            targets,
+            prereqs,
+            ..
+        } => {
+            if !is_place(place) {
+                return Some(Field::Place);
+            }
+            first_failed(
+                Field::Targets,
+                are_targets(targets),
+                Field::Prereqs,
+                are_words(prereqs),
+            )
+        }
+        Edit::RemoveRule { target, .. } | Edit::RemoveRecipe { target, .. } => {
+            failed(Field::Target, is_target(target))
+        }
+        Edit::AddPrereq { target, word, .. } | Edit::RemovePrereq { target, word, .. } => {
+            first_failed(Field::Target, is_target(target), Field::Word, is_word(word))
+        }
+        Edit::AddRecipe { target, line, .. } | Edit::SetRecipe { target, line, .. } => {
+            first_failed(
+                Field::Target,
+                is_target(target),
+                Field::Line,
+                is_command(line),
+            )
+        }
+        Edit::RenameTarget { from, to } => {
+            first_failed(Field::Old, is_target(from), Field::New, is_target(to))
+        }
+    }
+}
+
+// A field that fails its test.
+fn failed(field: Field, passes: bool) -> Option<Field>
+    ensures { field_refusal result ≡ first_failed (Tested field passes ∷ []) }
+{
+    if passes { None } else { Some(field) }
+}
+
+// The first of two fields that fails its test.
+fn first_failed(one: Field, one_passes: bool, other: Field, other_passes: bool) -> Option<Field>
+    ensures { field_refusal result ≡ first_failed (Tested one one_passes ∷ Tested other other_passes ∷ []) }
+{
+    if one_passes {
+        failed(other, other_passes)
+    } else {
+        Some(one)
+    }
+}
+
+// Whether a place's name or target may be one.
+fn is_place<A: Allocator>(place: &Place<A>) -> bool
+    ensures { result ≡ is_place (place_of place.now) }
+{
+    match place {
+        Place::Bottom => true,
+        Place::BeforeVar { name, .. } | Place::AfterVar { name, .. } => is_name(name),
+        Place::BeforeRule { target, .. } => is_target(target),
+    }
+}
+
+// Whether a text is one or more targets.
+fn are_targets(text: &[u8]) -> bool
+    ensures { result ≡ are_targets text.now }
+{
+    split_first_word(text).is_some() && !has_no_target(text)
+}
+
+// Whether some word of a text may be no target.
+fn has_no_target(text: &[u8]) -> bool
+    ensures { result ≡ any (λ word. not (is_target word)) (words_in text.now) }
+{
+    let mut rest = text;
+    'words: while let Some((word, after)) = split_first_word(rest) {
+        if !is_target(word) {
+            return true;
+        }
+        rest = after;
+    }
+    false
+}
+
+// Whether a text is words that may stand as prerequisites, or none.
+fn are_words(text: &[u8]) -> bool
+    ensures { result ≡ are_words text.now }
+{
+    let mut rest = text;
+    'words: while let Some((word, after)) = split_first_word(rest) {
+        if !is_word(word) {
+            return false;
+        }
+        rest = after;
+    }
+    true
+}
+
+/// Whether an edit names the recipe prefix as a variable, or a word of directives as a target: the
+/// cause `Reserved`.
+pub fn is_reserved<A: Allocator>(edit: &Edit<A>) -> bool
+    ensures { result ≡ (any is_prefix_name (names (edit_of edit.now)) || any is_reserved_word (targets (edit_of edit.now))) }
+{
+    match edit {
+        Edit::SetValue { name, .. }
+        | Edit::AppendValue { name, .. }
+        | Edit::RemoveAssign { name, .. } => is_prefix_name(name),
+        Edit::AddAssign { place, name, .. } => is_prefix_name(name) || is_reserved_place(place),
+        Edit::AddRule { place, targets, .. } => has_reserved_word(targets)
+            || is_reserved_place(place),
+        Edit::RemoveRule { target, .. }
+        | Edit::AddPrereq { target, .. }
+        | Edit::RemovePrereq { target, .. }
+        | Edit::AddRecipe { target, .. }
+        | Edit::SetRecipe { target, .. }
+        | Edit::RemoveRecipe { target, .. } => is_reserved_word(target),
+        Edit::RenameTarget { from, to } => is_reserved_word(from) || is_reserved_word(to),
+    }
+}
+
+// Whether a place does.
+fn is_reserved_place<A: Allocator>(place: &Place<A>) -> bool
+    ensures { result ≡ (any is_prefix_name (place_names (place_of place.now)) || any is_reserved_word (place_targets (place_of place.now))) }
+{
+    match place {
+        Place::Bottom => false,
+        Place::BeforeVar { name, .. } | Place::AfterVar { name, .. } => is_prefix_name(name),
+        Place::BeforeRule { target, .. } => is_reserved_word(target),
+    }
+}
+
+// Whether some word of a text is one of directives.
+fn has_reserved_word(text: &[u8]) -> bool
+    ensures { result ≡ any is_reserved_word (words_in text.now) }
+{
+    let mut rest = text;
+    'words: while let Some((word, after)) = split_first_word(rest) {
+        if is_reserved_word(word) {
+            return true;
+        }
+        rest = after;
+    }
+    false
+}

@@ -1,0 +1,77 @@
+//! Where an edit applies: the causes of refusal that come before its own, in their order.
+ghost use Rattle.std.specs.Prelude.{◌≡◌, ◌≤◌, length, IfOk, IfErr, Err, List, is_some};
+ghost use Rattle.mk_class.specs.ClassedLines.{ClassedLine, classed_lines};
+ghost use Rattle.mk_tree.specs.Documents.{IsFaithful};
+ghost use Rattle.mk_tree.specs.PlacedLines.{placed_text};
+ghost use Rattle.mk_edit_laws.specs.Addresses.{nth_meant};
+ghost use Rattle.mk_edit_laws.specs.Refusals.{spans};
+ghost use Rattle.mk_edit_laws.specs.TouchedLines.{IsOfOnePlace};
+ghost use Rattle.mk_edit_parts.specs.EditViews.{address_seen, address_view, edit_of};
+ghost use Rattle.mk_edit_parts.specs.Found.{IsAddressed, IsNotPicked, IsPicked};
+ghost use Rattle.mk_edit_parts.specs.Seeking.{IsSought};
+
+use crate::address::{Address, address_of};
+use crate::argument::{bad_field, is_reserved};
+use crate::edit::Edit;
+use crate::seek::{Found, Sought, seek};
+use mk_edit_laws::Refusal;
+use mk_tree::Doc;
+use std::alloc::Allocator;
+
+/// Where an edit applies: at the line that it means, or at the end of the document for a new line at
+/// the bottom. It reads no line anew and takes no memory.
+///
+/// It decides, in this order, whether a field is bad, a name reserved, the recipe prefix set in a way
+/// that is not read, and whether there is no such line, or are several. It asks for a faithful
+/// document, and for an edit other than a rename, which means no one line.
+pub fn find<A: Allocator>(doc: &Doc<A>, edit: &Edit<A>) -> Result<Found, Refusal>
+    requires faithful { IsFaithful doc.now }
+    requires one_place { IsOfOnePlace (edit_of edit.now) }
+    ensures found { IfOk result (λ found. IsAddressed (edit_of edit.now) doc.now found) }
+    ensures refused { IfErr result (λ refusal. spans (placed_text doc.now) (edit_of edit.now) ≡ Err refusal) }
+{
+    if let Some(field) = bad_field(edit) {
+        return Err(Refusal::BadArgument(field));
+    }
+    if is_reserved(edit) {
+        return Err(Refusal::Reserved);
+    }
+    let address = address_of(edit);
+    let sought = seek(doc, address);
+    if sought.has_unread_prefix {
+        return Err(Refusal::RecipePrefix);
+    }
+    match pick(address, sought) {
+        Ok(found) => Ok(found),
+        Err(refusal) => Err(refusal),
+    }
+}
+
+// The line that an address means, of what was sought for it; the end of the lines where there is no
+// address.
+fn pick(address: Option<Address>, sought: Sought) -> Result<Found, Refusal>
+    ensures found { (lines : List ClassedLine) → IsSought lines (address_seen address.entry) sought → IfOk result (λ found. IsPicked lines (address_seen address.entry) found) }
+    ensures refused { (lines : List ClassedLine) → IsSought lines (address_seen address.entry) sought → IfErr result (λ refusal. IsNotPicked lines (address_seen address.entry) refusal) }
+{
+    let Some(address) = address else {
+        return Ok(sought.end);
+    };
+    let nth = sought.found;
+    let Some(found) = nth else {
+        return Err(Refusal::NoSuch);
+    };
+    if has_number(address) || sought.count == 1 {
+        Ok(found)
+    } else {
+        Err(Refusal::Ambiguous(sought.count as u64))
+    }
+}
+
+// Whether an address says which of the lines of its name or target it means.
+fn has_number(address: Address) -> bool
+    ensures { result ≡ is_some (nth_meant (address_view address.entry)) }
+{
+    match address {
+        Address::Variable(nth, _) | Address::Rule(nth, _) => nth.is_some(),
+    }
+}

@@ -1,0 +1,65 @@
+//! Whether lines lean on what stands before them.
+ghost use Rattle.std.specs.Prelude.{◌≡◌, ◌≤◌, ◌&&◌, not, drop, length};
+ghost use Rattle.mk_class.specs.RecipePrefix.{is_prefix_led};
+ghost use Rattle.mk_tree.specs.Leaning.{is_same_flag};
+ghost use Rattle.mk_edit_parts.specs.LineRanges.{is_led_first_placed, leaves_flag_placed};
+
+use mk_class::{Class, Flag};
+use mk_tree::Doc;
+use std::alloc::Allocator;
+
+/// Whether the lines of a document from a place on lean on the flags before and after a change above
+/// them: these differ, and the first line that counts begins with the prefix.
+///
+/// It walks over those lines up to the first that counts, reads none anew and takes no memory.
+pub fn leans<A: Allocator>(doc: &Doc<A>, from: usize, prefix: u8, before: Flag, after: Flag) -> bool
+    requires { from ≤ length doc.now }
+    ensures { result ≡ (not (is_same_flag before after) && is_led_first_placed prefix (drop from doc.now)) }
+{
+    !is_same_flag(before, after) && is_led_first(doc, from, prefix)
+}
+
+// Whether two flags are the same.
+fn is_same_flag(left: Flag, right: Flag) -> bool
+    ensures { result ≡ is_same_flag left right }
+{
+    matches!(
+        (left, right),
+        (Flag::Off, Flag::Off) | (Flag::Rule, Flag::Rule) | (Flag::Unknown, Flag::Unknown)
+    )
+}
+
+// Whether, of the lines from a place on that begin with the prefix or set the flag, the first begins
+// with the prefix.
+fn is_led_first<A: Allocator>(doc: &Doc<A>, from: usize, prefix: u8) -> bool
+    requires { from ≤ length doc.now }
+    ensures { result ≡ is_led_first_placed prefix (drop from doc.now) }
+{
+    'lines: for at in from..doc.len() {
+        let line = doc.line(at);
+        if begins_with(line.bytes(), prefix) {
+            return true;
+        }
+        if !leaves_flag(&line.class()) {
+            return false;
+        }
+    }
+    false
+}
+
+/// Whether a line begins with a byte.
+pub fn begins_with(line: &[u8], prefix: u8) -> bool
+    ensures { result ≡ is_prefix_led prefix line.now }
+{
+    matches!(line, [first, ..] if *first == prefix)
+}
+
+// Whether a line of this class leaves the flag as it is.
+fn leaves_flag(class: &Class) -> bool
+    ensures { result ≡ leaves_flag_placed class.now }
+{
+    matches!(
+        class,
+        Class::Blank | Class::Comment | Class::If | Class::Else | Class::Endif
+    )
+}

@@ -1,0 +1,79 @@
+//! Tests of lines: which variable a line assigns, which targets it has, and whether it sets the
+//! recipe prefix unread.
+//!
+//! Each is given the class of the line, which the caller has at hand.
+ghost use Rattle.std.specs.Prelude.{◌≡◌, ◌≤◌};
+ghost use Rattle.mk_class.specs.Texts.{is_one_of};
+ghost use Rattle.mk_edit_parts.specs.PlacedParts.{IsClassed, assigns_placed, is_rule_for_placed, is_target_placed, is_unread_placed, text_of_line, words_before};
+ghost use Rattle.mk_lines.specs.Cells.{line_cells};
+ghost use Rattle.mk_tree.specs.Trees.{line_view};
+ghost use Rattle.std.specs.Prelude.{length};
+
+use crate::part::{part, text_of_line};
+use crate::text::{has_word, is_prefix_name, is_same_text};
+use mk_class::Class;
+use mk_lines::split::Span;
+use mk_tree::Line;
+use std::alloc::Allocator;
+
+/// Whether a line assigns the variable of this name.
+pub fn assigns<A: Allocator>(line: &Line<A>, class: &Class, name: &[u8]) -> bool
+    requires classed { IsClassed (line_view line.now) }
+    requires class { class.now ≡ (line_view line.now).class }
+    ensures { result ≡ assigns_placed name.now (line_view line.now) }
+{
+    match class {
+        Class::Assign(assignment, _) => {
+            is_same_text(part(text_of_line(line), assignment.name), name)
+        }
+        _ => false,
+    }
+}
+
+/// Whether a line is the header of a rule for this target.
+pub fn is_rule_for<A: Allocator>(line: &Line<A>, class: &Class, target: &[u8]) -> bool
+    requires classed { IsClassed (line_view line.now) }
+    requires class { class.now ≡ (line_view line.now).class }
+    ensures { result ≡ is_rule_for_placed target.now (line_view line.now) }
+{
+    match class {
+        Class::Header(header) => has_word_before(line, header.targets_end, target),
+        _ => false,
+    }
+}
+
+/// Whether a word is a target of a line, of a header or of an assignment for targets.
+pub fn has_target<A: Allocator>(line: &Line<A>, class: &Class, word: &[u8]) -> bool
+    requires classed { IsClassed (line_view line.now) }
+    requires class { class.now ≡ (line_view line.now).class }
+    ensures { result ≡ is_target_placed word.now (line_view line.now) }
+{
+    match class {
+        Class::Header(header) => has_word_before(line, header.targets_end, word),
+        Class::TargetAssign(assignment) => has_word_before(line, assignment.targets_end, word),
+        _ => false,
+    }
+}
+
+/// Whether a line sets the recipe prefix in a way that is not read.
+pub fn is_unread<A: Allocator>(line: &Line<A>, class: &Class) -> bool
+    requires classed { IsClassed (line_view line.now) }
+    requires class { class.now ≡ (line_view line.now).class }
+    ensures { result ≡ is_unread_placed (line_view line.now) }
+{
+    match class {
+        Class::Assign(assignment, None) => {
+            is_prefix_name(part(text_of_line(line), assignment.name))
+        }
+        Class::DefineHead(prefix) => *prefix,
+        _ => false,
+    }
+}
+
+// Whether a word is one of those before a place in the joined text of a line.
+fn has_word_before<A: Allocator>(line: &Line<A>, end: usize, word: &[u8]) -> bool
+    requires within { end ≤ length (line_cells (line_view line.now).bytes) }
+    ensures { result ≡ is_one_of word.now (words_before end (text_of_line (line_view line.now))) }
+{
+    has_word(part(text_of_line(line), Span { start: 0, end }), word)
+}

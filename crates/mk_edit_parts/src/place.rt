@@ -1,0 +1,30 @@
+//! Places further down in a document.
+ghost use Rattle.std.specs.Prelude.{◌≡◌, ◌≤◌, ◌+◌, length};
+ghost use Rattle.mk_tree.specs.Documents.{IsFaithful};
+ghost use Rattle.mk_edit_parts.specs.Found.{IsPlaceOf};
+
+use crate::seek::Found;
+use mk_tree::Doc;
+use std::alloc::Allocator;
+
+/// The place so many lines further down, with its context. It steps over these lines, reads none
+/// anew and takes no memory.
+pub fn after_lines<A: Allocator>(doc: &Doc<A>, place: Found, count: usize) -> Found
+    requires faithful { IsFaithful doc.now }
+    requires place { IsPlaceOf doc.now place }
+    requires in_range { place.at + count ≤ length doc.now }
+    ensures at { result.at ≡ place.at + count }
+    ensures place { IsPlaceOf doc.now result }
+{
+    // The contract of `iter` says that each line is admitted where it stands.
+    let _lines = doc.iter();
+    let _count = doc.len();
+    let mut context = place.context;
+    'lines: for at in place.at..place.at + count {
+        context = context.step(&doc.line(at).class());
+    }
+    Found {
+        at: place.at + count,
+        context,
+    }
+}

@@ -1,0 +1,256 @@
+//! The prerequisites in the line of a rule: whether a word is one, and the line with one more or one
+//! less.
+ghost use Rattle.std.specs.Prelude.{◌≡◌, ◌≤◌, ◌<◌, ◌+◌, ◌++◌, ◌^◌, ◌&&◌, ◌==◌, not, if◌then◌else◌, length, drop, IfOk, IsOk};
+ghost use Rattle.mk_lines.specs.PhysicalLines.{line_end, line_end_bytes};
+ghost use Rattle.mk_lines.specs.Cells.{Cell, line_cells, joined_text};
+ghost use Rattle.mk_lines.specs.Cells.{raw_text};
+ghost use Rattle.mk_lines.specs.Pieces.{new_bytes};
+ghost use Rattle.mk_lines.specs.Ranges.{text_at, word_ranges};
+ghost use Rattle.mk_class.specs.Headers;
+ghost use Rattle.mk_tree.specs.Trees.{line_view};
+ghost use Rattle.mk_edit_laws.specs.RuleCauses.{is_normal, is_order_only};
+ghost use Rattle.mk_edit_laws.specs.WordPieces.{add_pieces, remove_pieces};
+ghost use Rattle.mk_edit_parts.specs.PlacedParts.{text_of_line};
+ghost use Rattle.mk_edit_parts.specs.SeenHeaders.{HasHeader, IsHeaderSeen, normal_span, order_only_span};
+ghost use Rattle.mk_edit_parts.specs.WordCuts.{raw_between, without_words};
+ghost use Rattle.mk_edit_parts.specs.NewPrerequisites.{after_new, before_new, new_text, part_of_new, place_of_new, words_end};
+
+use crate::part::{part, text_of_line};
+use crate::text::{has_word, is_same_text};
+use mk_class::Header;
+use mk_lines::split::Span;
+use mk_lines::words;
+use mk_tree::Line;
+use std::alloc::{AllocError, Allocator};
+
+/// Whether a word is among the normal prerequisites.
+pub fn has_normal<A: Allocator>(line: &Line<A>, header: Header, word: &[u8]) -> bool
+    requires { HasHeader (line_view line.now) header }
+    ensures { (h : Headers.Header Cell) → IsHeaderSeen (line_view line.now) header h → result ≡ is_normal word.now h }
+{
+    has_word(part(text_of_line(line), normal(header)), word)
+}
+
+/// Whether a word is among the order-only prerequisites.
+pub fn has_order_only<A: Allocator>(line: &Line<A>, header: Header, word: &[u8]) -> bool
+    requires { HasHeader (line_view line.now) header }
+    ensures { (h : Headers.Header Cell) → IsHeaderSeen (line_view line.now) header h → result ≡ is_order_only word.now h }
+{
+    has_word(part(text_of_line(line), order_only(header)), word)
+}
+
+// Where the normal prerequisites stand in the joined text.
+fn normal(header: Header) -> Span
+    ensures { result ≡ normal_span header }
+{
+    Span {
+        start: header.normal_start,
+        end: header.normal_end,
+    }
+}
+
+// Where the order-only prerequisites stand in the joined text; at the end of the head where there are
+// none.
+fn order_only(header: Header) -> Span
+    requires { (order_only_span header).start ≤ header.head_end }
+    ensures { result ≡ order_only_span header }
+{
+    let start = if header.has_order_only {
+        header.normal_end + 1
+    } else {
+        header.normal_end
+    };
+    Span {
+        start,
+        end: header.head_end,
+    }
+}
+
+// The raw bytes of a range of a line's joined text.
+fn raw_part<A: Allocator>(line: &Line<A>, span: Span) -> &[u8]
+    requires rises { span.start ≤ span.end }
+    requires within { span.end ≤ length (line_cells (line_view line.now).bytes) }
+    ensures { result.now ≡ raw_between (line_cells (line_view line.now).bytes) span.start span.end }
+{
+    part(line.bytes(), line.cells().raw_range(span.start, span.end))
+}
+
+// The raw bytes of a line from a place in its joined text on, with its line end.
+fn raw_rest<A: Allocator>(line: &Line<A>, start: usize) -> &[u8]
+    requires within { start ≤ length (line_cells (line_view line.now).bytes) }
+    ensures { result.now ≡ raw_text (drop start (line_cells (line_view line.now).bytes)) ++ line_end_bytes (line_end (line_view line.now).bytes) }
+{
+    let bytes = line.bytes();
+    let start = line.cells().raw_range(start, start).start;
+    let end = bytes.len();
+    part(bytes, Span { start, end })
+}
+
+// ---- one more
+
+/// Where a new prerequisite goes into the joined text: after the last of its list, or at the front of
+/// the list where there is none.
+pub fn place_of_new<A: Allocator>(line: &Line<A>, header: Header, order: bool) -> usize
+    requires { HasHeader (line_view line.now) header }
+    ensures { result ≡ place_of_new order (text_of_line (line_view line.now)) header }
+{
+    words_end(text_of_line(line), part_of_new(header, order))
+}
+
+// The list that it is put last in. Without a `|` an order-only one follows the normal ones.
+fn part_of_new(header: Header, order: bool) -> Span
+    requires { (order_only_span header).start ≤ header.head_end }
+    ensures { result ≡ part_of_new order header }
+{
+    if order && header.has_order_only {
+        order_only(header)
+    } else {
+        normal(header)
+    }
+}
+
+// Where the last word of a part of a text ends; the start of the part where it has none.
+fn words_end(text: &[u8], span: Span) -> usize
+    requires rises { span.start ≤ span.end }
+    requires within { span.end ≤ length text.now }
+    ensures { result ≡ words_end text.now span }
+{
+    let mut end = 0;
+    'words: for word in words(part(text, span)) {
+        end = word.end;
+    }
+    span.start + end
+}
+
+/// What is written before a new prerequisite: a space, or a `|` where it needs one.
+pub fn before_new(header: Header, order: bool) -> &'static [u8]
+    ensures { result.now ≡ before_new order header }
+{
+    if order && !header.has_order_only {
+        b" | "
+    } else {
+        b" "
+    }
+}
+
+/// What is written after a new prerequisite at a place: a space where a `|` would follow it directly.
+pub fn after_new(header: Header, order: bool, place: usize) -> &'static [u8]
+    ensures { result.now ≡ after_new order place header }
+{
+    if !order && header.has_order_only && place == header.normal_end {
+        b" "
+    } else {
+        b""
+    }
+}
+
+/// How many bytes longer a line gets by a new prerequisite.
+pub fn len_of_new<A: Allocator>(line: &Line<A>, header: Header, order: bool, word: &[u8]) -> usize
+    requires { HasHeader (line_view line.now) header }
+    ensures { result ≡ length (new_text order (place_of_new order (text_of_line (line_view line.now)) header) word.now header) }
+{
+    let place = place_of_new(line, header, order);
+    before_new(header, order).len() + word.len() + after_new(header, order, place).len()
+}
+
+/// The line with a new prerequisite. Its bytes are taken at once.
+///
+/// # Errors
+///
+/// Where there is no memory for it.
+pub fn with_prerequisite<A: Allocator + Copy>(
+    alloc: A,
+    line: &Line<A>,
+    header: Header,
+    order: bool,
+    word: &[u8],
+) -> Result<Vec<u8, A>, AllocError>
+    requires header { HasHeader (line_view line.now) header }
+    requires short { length (line_view line.now).bytes + length word.now < 2 ^ 32 }
+    ensures { IfOk result (λ bytes. (h : Headers.Header Cell) → IsHeaderSeen (line_view line.now) header h
+        → bytes.items ≡ new_bytes (add_pieces order word.now h) ++ line_end_bytes (line_end (line_view line.now).bytes)) }
+{
+    let place = place_of_new(line, header, order);
+    let mut bytes = Vec::with_capacity(alloc, line.bytes().len() + word.len() + 3)?;
+    bytes.extend_from_slice(raw_part(
+        line,
+        Span {
+            start: 0,
+            end: place,
+        },
+    ))?;
+    bytes.extend_from_slice(before_new(header, order))?;
+    bytes.extend_from_slice(word)?;
+    bytes.extend_from_slice(after_new(header, order, place))?;
+    bytes.extend_from_slice(raw_rest(line, place))?;
+    Ok(bytes)
+}
+
+// ---- one less
+
+/// The line without a prerequisite, wherever it stands in either list, each with the blanks and folds
+/// directly before it. Its bytes are taken at once.
+///
+/// # Errors
+///
+/// Where there is no memory for it.
+pub fn without_prerequisite<A: Allocator + Copy>(
+    alloc: A,
+    line: &Line<A>,
+    header: Header,
+    word: &[u8],
+) -> Result<Vec<u8, A>, AllocError>
+    requires { HasHeader (line_view line.now) header }
+    ensures { IfOk result (λ bytes. (h : Headers.Header Cell) → IsHeaderSeen (line_view line.now) header h
+        → bytes.items ≡ new_bytes (remove_pieces word.now h) ++ line_end_bytes (line_end (line_view line.now).bytes)) }
+{
+    let normal = normal(header);
+    let order_only = order_only(header);
+    let mut bytes = Vec::with_capacity(alloc, line.bytes().len())?;
+    bytes.extend_from_slice(raw_part(
+        line,
+        Span {
+            start: 0,
+            end: normal.start,
+        },
+    ))?;
+    put_without(&mut bytes, line, normal, word)?;
+    bytes.extend_from_slice(raw_part(
+        line,
+        Span {
+            start: normal.end,
+            end: order_only.start,
+        },
+    ))?;
+    put_without(&mut bytes, line, order_only, word)?;
+    bytes.extend_from_slice(raw_rest(line, order_only.end))?;
+    Ok(bytes)
+}
+
+// Puts the raw bytes of a part of a line after some bytes, without the words that are this one, each
+// with what stands between it and the word before it.
+fn put_without<A: Allocator>(
+    bytes: &mut Vec<u8, A>,
+    line: &Line<A>,
+    span: Span,
+    word: &[u8],
+) -> Result<(), AllocError>
+    requires rises { span.start ≤ span.end }
+    requires within { span.end ≤ length (line_cells (line_view line.now).bytes) }
+    ensures { IsOk result → bytes.new.items ≡ bytes.old.items ++ without_words (line_cells (line_view line.now).bytes) span.start (text_at (text_of_line (line_view line.now)) span) word.now span.start (word_ranges (text_at (text_of_line (line_view line.now)) span)) span.end }
+{
+    let text = part(text_of_line(line), span);
+    let mut done = span.start;
+    'words: for found in words(text) {
+        let end = span.start + found.end;
+        if !is_same_text(part(text, found), word) {
+            bytes.extend_from_slice(raw_part(line, Span { start: done, end }))?;
+        }
+        done = end;
+    }
+    let left = Span {
+        start: done,
+        end: span.end,
+    };
+    bytes.extend_from_slice(raw_part(line, left))
+}

@@ -1,0 +1,98 @@
+//! The recipe of a rule, found by a walk down from its header.
+//!
+//! A walk looks at the classes of the lines that it passes. It reads no line anew and takes no memory.
+ghost use Rattle.std.specs.Prelude.{◌≡◌, ◌≤◌, ◌+◌, length, option_map};
+ghost use Rattle.mk_class.specs.Classes.{is_conditional};
+ghost use Rattle.mk_class.specs.Lists.{any};
+ghost use Rattle.mk_tree.specs.Documents.{IsFaithful};
+ghost use Rattle.mk_tree.specs.PlacedLines.{is_conditional_places};
+ghost use Rattle.mk_tree.specs.RecipeLines.{recipe_run};
+ghost use Rattle.mk_edit_laws.specs.Spots.{nth_of};
+ghost use Rattle.mk_edit_parts.specs.RecipeWalks.{is_recipe_places, lines_from, recipe_spots_in, stays_in_rule_places};
+
+use mk_class::Class;
+use mk_tree::Doc;
+use std::alloc::Allocator;
+
+/// Where the recipe of a rule ends.
+#[derive(Clone, Copy)]
+pub struct Recipe {
+    /// The place after its last recipe line, or after the header where it has none.
+    pub end: usize,
+    /// Whether a line of a conditional stands between the header and the last recipe line.
+    pub is_split: bool,
+}
+
+/// Where the recipe of the header ends that stands before a place.
+pub fn recipe_below<A: Allocator>(doc: &Doc<A>, from: usize) -> Recipe
+    requires faithful { IsFaithful doc.now }
+    requires in_range { from ≤ length doc.now }
+    ensures end { result.end ≡ from + length (recipe_run (lines_from doc.now from)) }
+    ensures is_split { result.is_split ≡ any (λ line. is_conditional line.class) (recipe_run (lines_from doc.now from)) }
+{
+    let mut recipe = Recipe {
+        end: from,
+        is_split: false,
+    };
+    // Whether a line of a conditional was passed so far.
+    let mut is_split = false;
+    'lines: for at in from..doc.len() {
+        let class = doc.line(at).class();
+        if is_recipe(&class) {
+            recipe = Recipe {
+                end: at + 1,
+                is_split,
+            };
+        } else if stays_in_rule(&class) {
+            is_split = is_split || is_conditional(&class);
+        } else {
+            return recipe;
+        }
+    }
+    recipe
+}
+
+/// The place of the recipe line of a number, from 1, of the header that stands before a place.
+pub fn recipe_line<A: Allocator>(doc: &Doc<A>, from: usize, number: u32) -> Option<usize>
+    requires faithful { IsFaithful doc.now }
+    requires in_range { from ≤ length doc.now }
+    ensures { result ≡ option_map (λ spot. from + length spot.above) (nth_of number (recipe_spots_in (lines_from doc.now from))) }
+{
+    let mut passed = 0;
+    'lines: for at in from..doc.len() {
+        let class = doc.line(at).class();
+        if is_recipe(&class) {
+            passed += 1;
+            if passed == number as usize {
+                return Some(at);
+            }
+        } else if !stays_in_rule(&class) {
+            return None;
+        }
+    }
+    None
+}
+
+// Whether a line of this class is one of a recipe.
+fn is_recipe(class: &Class) -> bool
+    ensures { result ≡ is_recipe_places class.now }
+{
+    matches!(class, Class::Recipe)
+}
+
+// Whether a line of this class belongs to a conditional.
+fn is_conditional(class: &Class) -> bool
+    ensures { result ≡ is_conditional_places class.now }
+{
+    matches!(class, Class::If | Class::Else | Class::Endif)
+}
+
+// Whether a line of this class may stand among the recipe lines of a rule.
+fn stays_in_rule(class: &Class) -> bool
+    ensures { result ≡ stays_in_rule_places class.now }
+{
+    matches!(
+        class,
+        Class::Recipe | Class::Blank | Class::Comment | Class::If | Class::Else | Class::Endif
+    )
+}

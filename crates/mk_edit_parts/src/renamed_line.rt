@@ -1,0 +1,85 @@
+//! The bytes of a line after a rename.
+ghost use Rattle.std.specs.Prelude.{◌≡◌, ◌≤◌, [], ◌∷◌, ◌++◌, IfOk, length};
+ghost use Rattle.mk_lines.specs.Cells.{line_cells};
+ghost use Rattle.mk_tree.specs.Trees.{line_view};
+ghost use Rattle.mk_edit_parts.specs.PlacedParts.{IsClassed};
+ghost use Rattle.mk_edit_parts.specs.RenamedPlaces.{IsWithin, part_places, renamed_places};
+ghost use Rattle.mk_edit_parts.specs.RenamedTexts.{AreApart, renamed_text, written, written_to};
+
+use crate::part::{part, rest, text_of_line};
+use crate::word_parts::{parts_of, place_of_word};
+use mk_class::Class;
+use mk_lines::split::Span;
+use mk_lines::words;
+use mk_tree::Line;
+use std::alloc::{AllocError, Allocator};
+
+/// The bytes of a line with the words that are `from` replaced by `to`, where a rename replaces words.
+/// The caller says how many bytes there will be, so that room is taken once.
+///
+/// # Errors
+///
+/// Where there is no memory for them.
+pub fn renamed_bytes<A: Allocator + Copy>(
+    alloc: A,
+    line: &Line<A>,
+    class: &Class,
+    from: &[u8],
+    to: &[u8],
+    room: usize,
+) -> Result<Vec<u8, A>, AllocError>
+    requires classed { IsClassed (line_view line.now) }
+    requires class { class.now ≡ (line_view line.now).class }
+    requires apart { AreApart 0 (length (line_view line.now).bytes) (renamed_places from.now (line_view line.now)) }
+    ensures { IfOk result (λ bytes. bytes.items ≡ renamed_text from.now to.now (line_view line.now)) }
+{
+    let parts = parts_of(line, class);
+    let mut bytes = Vec::with_capacity(alloc, room)?;
+    let targets_end = write_part(&mut bytes, line, parts.targets, from, to, 0)?;
+    let normal_end = write_part(&mut bytes, line, parts.normal, from, to, targets_end)?;
+    let end = write_part(&mut bytes, line, parts.order_only, from, to, normal_end)?;
+    bytes.extend_from_slice(rest(line.bytes(), end))?;
+    Ok(bytes)
+}
+
+// Writes a line from a place up to the end of the last word of a part that is replaced, and tells this
+// end, or the place where there is none.
+fn write_part<A: Allocator + Copy>(
+    bytes: &mut Vec<u8, A>,
+    line: &Line<A>,
+    span: Span,
+    from: &[u8],
+    to: &[u8],
+    done: usize,
+) -> Result<usize, AllocError>
+    requires within { IsWithin (length (line_cells (line_view line.now).bytes)) span }
+    requires apart { AreApart done (length (line_view line.now).bytes) (part_places (line_cells (line_view line.now).bytes) from.now span) }
+    ensures end { IfOk result (λ end. end ≡ written_to done (part_places (line_cells (line_view line.now).bytes) from.now span)) }
+    ensures written { IfOk result (λ end. bytes.new.items ≡ bytes.old.items ++ written (line_view line.now).bytes done to.now (part_places (line_cells (line_view line.now).bytes) from.now span)) }
+{
+    let mut done = done;
+    'words: for word in words(part(text_of_line(line), span)) {
+        if let Some(place) = place_of_word(line, span.start, word, from) {
+            write_word(bytes, line.bytes(), done, place, to)?;
+            done = place.end;
+        }
+    }
+    Ok(done)
+}
+
+// Writes a line from a place up to a word, and in the place of the word the new one.
+fn write_word<A: Allocator>(
+    bytes: &mut Vec<u8, A>,
+    line: &[u8],
+    done: usize,
+    word: Span,
+    to: &[u8],
+) -> Result<(), AllocError>
+    requires after { done ≤ word.start }
+    requires within { word.start ≤ length line.now }
+    ensures { IfOk result (λ _. bytes.new.items ≡ bytes.old.items ++ written line.now done to.now (word ∷ [])) }
+{
+    bytes.extend_from_slice(&line[done..word.start])?;
+    bytes.extend_from_slice(to)?;
+    Ok(())
+}

@@ -1,0 +1,75 @@
+//! The words of a line that a rename replaces, counted.
+ghost use Rattle.std.specs.Prelude.{◌≡◌, ◌+◌, ◌<◌, ◌≤◌, ◌^◌, [], length, IfSome};
+ghost use Rattle.mk_lines.specs.Cells.{line_cells};
+ghost use Rattle.mk_tree.specs.Trees.{line_view};
+ghost use Rattle.mk_edit_parts.specs.PlacedParts.{IsClassed};
+ghost use Rattle.mk_edit_parts.specs.RenamedPlaces.{IsWithin, before_places, bytes_in, no_words, part_places, renamed_places, tallied};
+
+use crate::part::{part, text_of_line};
+use crate::word_parts::{parts_of, place_of_word};
+use mk_class::Class;
+use mk_lines::split::Span;
+use mk_lines::words;
+use mk_tree::Line;
+use std::alloc::Allocator;
+
+/// A count of words that a rename replaces.
+#[derive(Clone, Copy)]
+pub struct Tally {
+    /// How many there are.
+    pub words: usize,
+    /// How many bytes they have in the line as it stands.
+    pub bytes: usize,
+    /// Whether one of them stands at the very front of the line.
+    pub at_front: bool,
+}
+
+/// The words of a line that are this one, counted where a rename replaces them. Takes no memory.
+pub fn count_words<A: Allocator>(line: &Line<A>, class: &Class, from: &[u8]) -> Tally
+    requires classed { IsClassed (line_view line.now) }
+    requires class { class.now ≡ (line_view line.now).class }
+    requires few { length (renamed_places from.now (line_view line.now)) < 2 ^ 32 }
+    requires few_bytes { bytes_in (renamed_places from.now (line_view line.now)) ≤ 2 ^ 32 }
+    ensures { result ≡ tallied no_words (renamed_places from.now (line_view line.now)) }
+{
+    let parts = parts_of(line, class);
+    let none = Tally {
+        words: 0,
+        bytes: 0,
+        at_front: false,
+    };
+    let targets = count_in_part(line, parts.targets, from, none);
+    let normal = count_in_part(line, parts.normal, from, targets);
+    count_in_part(line, parts.order_only, from, normal)
+}
+
+// The count with the words of a part that are this one.
+fn count_in_part<A: Allocator>(line: &Line<A>, span: Span, from: &[u8], tally: Tally) -> Tally
+    requires within { IsWithin (length (line_cells (line_view line.now).bytes)) span }
+    requires few { tally.words + length (part_places (line_cells (line_view line.now).bytes) from.now span) < 2 ^ 32 }
+    requires few_bytes { tally.bytes + bytes_in (part_places (line_cells (line_view line.now).bytes) from.now span) ≤ 2 ^ 32 }
+    ensures { result ≡ tallied tally (part_places (line_cells (line_view line.now).bytes) from.now span) }
+{
+    let mut tally = tally;
+    'words: for word in words(part(text_of_line(line), span)) {
+        tally = counted(tally, place_of_word(line, span.start, word, from));
+    }
+    tally
+}
+
+// The count with one more word, where there is one.
+fn counted(tally: Tally, place: Option<Span>) -> Tally
+    requires few { tally.words < 2 ^ 32 }
+    requires few_bytes { tally.bytes + bytes_in (before_places place []) ≤ 2 ^ 32 }
+    requires rises { IfSome place (λ place. place.start ≤ place.end) }
+    ensures { result ≡ tallied tally (before_places place []) }
+{
+    match place {
+        None => tally,
+        Some(place) => Tally {
+            words: tally.words + 1,
+            bytes: tally.bytes + (place.end - place.start),
+            at_front: tally.at_front || place.start == 0,
+        },
+    }
+}

@@ -1,0 +1,93 @@
+//! The parts of a line in which a rename replaces words, and these words.
+ghost use Rattle.std.specs.Prelude.{◌≡◌, ◌+◌, ◌≤◌, IfSome, length};
+ghost use Rattle.mk_lines.specs.Cells.{line_cells};
+ghost use Rattle.mk_tree.specs.Trees.{line_view};
+ghost use Rattle.mk_edit_parts.specs.PlacedParts.{IsClassed};
+ghost use Rattle.mk_edit_parts.specs.RenamedPlaces.{ArePartsWithin, IsWithin, place_in, word_parts};
+
+use crate::part::{part, text_of_line};
+use crate::text::is_same_text;
+use mk_class::Class;
+use mk_lines::split::Span;
+use mk_tree::Line;
+use std::alloc::Allocator;
+
+/// The parts of a line's joined text in which a rename replaces words. A line that has no such part
+/// has empty ones.
+#[derive(Clone, Copy)]
+pub struct WordParts {
+    /// The targets, of a rule or of an assignment for targets.
+    pub targets: Span,
+    /// The normal prerequisites.
+    pub normal: Span,
+    /// The order-only prerequisites.
+    pub order_only: Span,
+}
+
+/// The parts of a line, whose class the caller has at hand.
+pub fn parts_of<A: Allocator>(line: &Line<A>, class: &Class) -> WordParts
+    requires classed { IsClassed (line_view line.now) }
+    requires class { class.now ≡ (line_view line.now).class }
+    ensures parts { result ≡ word_parts class.now }
+    ensures within { ArePartsWithin (length (line_cells (line_view line.now).bytes)) result }
+{
+    // No text is so long that the place after its end is no number.
+    let _text = text_of_line(line);
+    let none = Span { start: 0, end: 0 };
+    match class {
+        Class::Header(header) => WordParts {
+            targets: Span {
+                start: 0,
+                end: header.targets_end,
+            },
+            normal: Span {
+                start: header.normal_start,
+                end: header.normal_end,
+            },
+            order_only: Span {
+                start: if header.has_order_only {
+                    header.normal_end + 1
+                } else {
+                    header.normal_end
+                },
+                end: header.head_end,
+            },
+        },
+        Class::TargetAssign(assignment) => WordParts {
+            targets: Span {
+                start: 0,
+                end: assignment.targets_end,
+            },
+            normal: none,
+            order_only: none,
+        },
+        _ => WordParts {
+            targets: none,
+            normal: none,
+            order_only: none,
+        },
+    }
+}
+
+/// The raw range of a word of a line, where the word is this one. The range of the word in the joined
+/// text begins at a place, the start of its part.
+pub fn place_of_word<A: Allocator>(
+    line: &Line<A>,
+    part_start: usize,
+    word: Span,
+    wanted: &[u8],
+) -> Option<Span>
+    requires rises { word.start ≤ word.end }
+    requires within { part_start + word.end ≤ length (line_cells (line_view line.now).bytes) }
+    ensures place { result ≡ place_in (line_cells (line_view line.now).bytes) part_start wanted.now word }
+    ensures within { IfSome result (λ place. IsWithin (length (line_view line.now).bytes) place) }
+{
+    let text = text_of_line(line);
+    let start = part_start + word.start;
+    let end = part_start + word.end;
+    if is_same_text(part(text, Span { start, end }), wanted) {
+        Some(line.cells().raw_range(start, end))
+    } else {
+        None
+    }
+}
