@@ -1,5 +1,5 @@
 -- The session machine over texts of makefiles, as it is seen, and what each call of a session owes it.
-use Rattle.std.specs.Prelude.{◌≡◌, ◌⊎◌, ℕ, ◌<◌, ◌^◌, List, [], length, Option, None, Result, Ok, Err}
+use Rattle.std.specs.Prelude.{◌≡◌, ◌⊎◌, ℕ, ◌<◌, ◌^◌, List, length, Result, Ok, Err}
 use Rattle.mk_lines.specs.Pieces.{Replacement, replaced}
 use Rattle.mk_tree.specs.Documents.{IsTooDeep}
 use Rattle.mk_edit_laws.specs.Edits.{Edit}

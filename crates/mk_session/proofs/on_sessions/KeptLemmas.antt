@@ -1,14 +1,13 @@
 -- What a session keeps fits together after each of its calls.
-use Rattle.std.proofs.Common.{◌≡◌, refl, sym, ap, subst, ◌∙◌, ℕ, zero, suc, ◌<◌, List, [], ◌∷◌, length, take, Option, Some, None, arith}
+use Rattle.std.proofs.Common.{◌≡◌, refl, sym, ap, subst, ◌∙◌, ℕ, zero, suc, List, [], ◌∷◌, length, take, Option, Some, None, arith}
 use Rattle.std.specs.Prelude.{is_some, false, Result, Ok, Err, OnOk, OnErr}
 use Rattle.mk_tree.specs.Documents.{IsFaithful}
 use Rattle.mk_tree.specs.PlacedLines.{PlacedLine}
 use Rattle.mk_patch.specs.Moves.{Move, FitMoves, after_moves}
 use Rattle.mk_history.specs.Chain.{IsChain, Moves, after_all, states}
-use Rattle.mk_history.specs.Stacks.{Stacks, Several, FitInTurn, after_in_turn}
-use Rattle.mk_history.specs.Shown.{IsConsistent}
+use Rattle.mk_history.specs.Stacks.{Stacks, FitInTurn}
 use Rattle.mk_history.proofs.on_histories.ChainLemmas.{IsChain-take, states-take}
-use Rattle.mk_session.specs.KeptSessions.{Patches, after_patches, settled, EachFaithful, AreFaithful, IsKept}
+use Rattle.mk_session.specs.KeptSessions.{Patches, after_patches, EachFaithful, IsKept}
 
 -- patches fit the documents that lead to them, one after the other
 abbrev pub FitPatches : Patches → List PlacedLine → Type 0
@@ -116,11 +115,12 @@ pub kept-begun : (h : Stacks Patches) (g : Patches) (doc : List PlacedLine) → 
 kept-begun h g doc k c =
     let begun : after_patches g doc ≡ doc = ap (λ cs. after_all after_moves cs doc) c in
     record {
-      consistent =
-          (subst (λ (cs : List (List Move)). IsChain FitMoves after_moves cs doc) (sym c) tt,
-          rw begun k.consistent.0,
-          rw begun k.consistent.1,
-          λ some. absurd (omega (arith, some, ap length c)));
+      consistent = (
+        subst (λ (cs : List (List Move)). IsChain FitMoves after_moves cs doc) (sym c) tt,
+        rw begun k.consistent.0,
+        rw begun k.consistent.1,
+        λ some. absurd (omega (arith, some, ap length c)),
+      );
       faithful = record { now = k.faithful.now; begun = rw begun k.faithful.now; back = rw begun k.faithful.back; forward = rw begun k.faithful.forward };
     }
 

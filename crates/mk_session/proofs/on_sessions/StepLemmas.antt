@@ -1,7 +1,7 @@
 -- A session makes the steps of the session machine.
 use Rattle.std.proofs.Common.{◌≡◌, refl, sym, ap, subst, ◌∙◌, arith, ℕ, ◌<◌, ◌-◌, List, [], ◌∷◌, length, take, Option, Some, None, Ok, Err, inl, inr}
 use Rattle.std.specs.Prelude.{Result}
-use Rattle.mk_lines.specs.Pieces.{Replacement, replaced}
+use Rattle.mk_lines.specs.Pieces.{Replacement}
 use Rattle.mk_tree.specs.Documents.{IsFaithfulTo}
 use Rattle.mk_tree.specs.PlacedLines.{PlacedLine, placed_text}
 use Rattle.mk_tree.proofs.on_documents.DocumentLemmas.{faithful-text}
@@ -10,18 +10,18 @@ use Rattle.mk_edit_laws.specs.Refusals.{spans, text_by, text_after}
 use Rattle.mk_edit_laws.specs.declared.refusal.Refusal.{Refusal}
 use Rattle.mk_edit_laws.specs.declared.refusal.Refusal.TheVariants.{NoMemory}
 use Rattle.mk_edit.specs.Planned.{IsPlanned, IsRefusal}
-use Rattle.mk_patch.specs.Moves.{Move, FitMoves, after_moves}
+use Rattle.mk_patch.specs.Moves.{Move, after_moves}
 use Rattle.mk_history.specs.Machine.{Apply, End, EditRefused}
-use Rattle.mk_history.specs.Machine as machine
 use Rattle.mk_history.specs.Stacks.{Stacks}
 use Rattle.mk_history.specs.Shown.{Shown, shown_answer, shown_edited}
 use Rattle.mk_history.proofs.on_histories.HistoryLemmas.{edit-steps, group-edit-steps, end-steps}
-use Rattle.mk_session.specs.Sessions.{answer, edited, text_with, IsEditRefusal, Seen, seen_opened}
+use Rattle.mk_session.specs.Sessions.{answer, edited, text_with, IsEditRefusal, seen_opened}
 use Rattle.mk_session.specs.KeptSessions.{Patches, after_patches, shown_kept, IsKept}
 
 -- ---- what an edit makes of a text
 
-edited-ok : (e : Edit) (t : List ℕ) (rs : List Replacement) → spans t e ≡ Ok rs → edited e t ≡ Ok (text_after t e)
+-- an accepted edit makes the text after it
+pub edited-ok : (e : Edit) (t : List ℕ) (rs : List Replacement) → spans t e ≡ Ok rs → edited e t ≡ Ok (text_after t e)
 edited-ok e t rs h = ap (text_with t) h ∙ ap (λ (x : Result (List Replacement) Refusal). Ok (text_by t x)) (sym h)
 
 -- the document after a planned patch has the text after the edit

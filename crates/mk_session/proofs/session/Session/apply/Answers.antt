@@ -1,7 +1,7 @@
-use Rattle.std.proofs.Common.{◌≡◌, ◌≤◌, ℕ, List, [], ◌∷◌, refl, sym, ap, ◌∙◌, subst, Option, arith}
+use Rattle.std.proofs.Common.{◌≡◌, ◌∷◌, sym, ap, ◌∙◌, subst, Option, arith}
 use Rattle.mk_edit.specs.EditViews.{edit_of}
 use Rattle.mk_session.specs.KeptSessions.{Patches, IsKept, after_patches}
-use Rattle.mk_session.proofs.on_sessions.KeptLemmas.{FitPatches, kept-alone, kept-grouped}
+use Rattle.mk_session.proofs.on_sessions.KeptLemmas.{FitPatches, kept-alone}
 use Rattle.mk_session.proofs.on_sessions.StepLemmas.{alone-step, grouped-step, edit-refused, memory-refused}
 use Rattle.mk_session.proofs.session.Session.apply.Goals as goal
 
