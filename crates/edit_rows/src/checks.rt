@@ -2,11 +2,10 @@
 
 use crate::difference::{Stop, at_most, not_opened, same_number, same_text, same_word};
 use crate::document::{check_lines, text_of};
-use crate::edits::Action;
 use crate::plans::check_plan;
-use crate::rows::{Command, Row};
+use crate::rows::{Expectation, Row};
 use mk_edit::{Detail, Refusal};
-use mk_session::Session;
+use mk_session::{Command, Session};
 use std::alloc::{AllocError, Global};
 
 /// Runs a row, and fails where an answer differs.
@@ -17,8 +16,8 @@ use std::alloc::{AllocError, Global};
 /// - Undoing all leads to the first text, and redoing it to the last, through the same texts.
 pub fn check_row(alloc: Global, row: &Row<'_>) -> Result<(), Stop> {
     let mut session = opened(alloc, row)?;
-    for command in row.commands.iter() {
-        check_command(alloc, &mut session, command)?;
+    for expectation in row.commands.iter() {
+        check_command(alloc, &mut session, expectation)?;
     }
     if let Some(expected) = &row.expected {
         let text = text_of(alloc, session.doc())?;
@@ -41,11 +40,11 @@ pub fn check_row(alloc: Global, row: &Row<'_>) -> Result<(), Stop> {
 
 /// Plans the only edit of a row, where it has no other command.
 fn check_only_plan(alloc: Global, row: &Row<'_>) -> Result<(), Stop> {
-    let [command] = row.commands.as_slice() else {
+    let [only] = row.commands.as_slice() else {
         return Ok(());
     };
-    match &command.action {
-        Action::Edit(edit) => check_plan(alloc, row, command.reply, edit),
+    match &only.command {
+        Command::Apply(edit) => check_plan(alloc, row, only.reply, edit),
         _ => Ok(()),
     }
 }
@@ -59,11 +58,15 @@ fn opened(alloc: Global, row: &Row<'_>) -> Result<Session, Stop> {
 }
 
 /// Runs a command.
-fn check_command(alloc: Global, session: &mut Session, command: &Command<'_>) -> Result<(), Stop> {
+fn check_command(
+    alloc: Global,
+    session: &mut Session,
+    expectation: &Expectation<'_>,
+) -> Result<(), Stop> {
     let before = text_of(alloc, session.doc())?;
-    let answer = answer_of(session, &command.action);
+    let answer = session.obey(&expectation.command);
     let reply = reply_of(alloc, answer)?;
-    same_word(alloc, "the reply", command.reply, reply.as_str())?;
+    same_word(alloc, "the reply", expectation.reply, reply.as_str())?;
     if answer.is_err() {
         let after = text_of(alloc, session.doc())?;
         same_text(
@@ -74,18 +77,6 @@ fn check_command(alloc: Global, session: &mut Session, command: &Command<'_>) ->
         )?;
     }
     check_lines(alloc, session.doc())
-}
-
-/// What a session answers to an action.
-fn answer_of(session: &mut Session, action: &Action) -> Result<(), Refusal> {
-    match action {
-        Action::Edit(edit) => session.apply(edit),
-        Action::Undo => session.undo(),
-        Action::Redo => session.redo(),
-        Action::Begin => session.begin(),
-        Action::End => session.end(),
-        Action::Cancel => session.cancel(),
-    }
 }
 
 /// An answer as a row has it: `done`, or the number, the name and the detail of the refusal.

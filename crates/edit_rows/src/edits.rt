@@ -4,43 +4,27 @@ use crate::text::unescape;
 use anyhow::{Context as _, Result, bail};
 use mk_class::Flavor;
 use mk_edit::{Colons, Edit, Place};
+use mk_session::Command;
 use std::alloc::Global;
 
-/// What a command asks of a session.
-#[derive(Drop)]
-pub enum Action {
-    /// An edit.
-    Edit(Edit),
-    /// A step back.
-    Undo,
-    /// A step forward.
-    Redo,
-    /// The begin of a group.
-    Begin,
-    /// The end of a group.
-    End,
-    /// The end of a group whose edits are taken back.
-    Cancel,
-}
-
-/// The action of a command: its word and its other fields, with one blank between two of them.
+/// The command of a text: its word and its other fields, with one blank between two of them.
 ///
 /// # Errors
 ///
 /// Where the text is no such command, or a growth was refused.
-pub fn read_action(alloc: Global, command: &str) -> Result<Action> {
+pub fn read_command(alloc: Global, command: &str) -> Result<Command> {
     let fields = command.split(' ').collect::<Vec<&str>>(alloc)?;
     match fields.as_slice() {
-        ["undo"] => Ok(Action::Undo),
-        ["redo"] => Ok(Action::Redo),
-        ["begin"] => Ok(Action::Begin),
-        ["end"] => Ok(Action::End),
-        ["cancel"] => Ok(Action::Cancel),
-        ["rename", from, to] => Ok(Action::Edit(Edit::RenameTarget {
+        ["undo"] => Ok(Command::Undo),
+        ["redo"] => Ok(Command::Redo),
+        ["begin"] => Ok(Command::Begin),
+        ["end"] => Ok(Command::End),
+        ["cancel"] => Ok(Command::Cancel),
+        ["rename", from, to] => Ok(Command::Apply(Edit::RenameTarget {
             from: unescape(alloc, from)?,
             to: unescape(alloc, to)?,
         })),
-        [word, nth, fields @ ..] => Ok(Action::Edit(read_edit(
+        [word, nth, fields @ ..] => Ok(Command::Apply(read_edit(
             alloc,
             word,
             read_nth(nth)?,

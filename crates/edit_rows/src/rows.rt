@@ -1,8 +1,9 @@
 //! Rows: a makefile, commands, and what they are expected to answer.
 
-use crate::edits::{Action, read_action};
+use crate::edits::read_command;
 use crate::text::unescape;
 use anyhow::{Context as _, Result, bail};
+use mk_session::Command;
 use std::alloc::Global;
 
 /// A row of a table.
@@ -21,17 +22,17 @@ pub struct Row<'a> {
     /// Of an accepted edit, how many lines it takes out or puts others in place of at most, where the
     /// table says it.
     pub size: Option<u64>,
-    /// The commands, in order.
-    pub commands: Vec<Command<'a>>,
+    /// The commands, in order, with their replies.
+    pub commands: Vec<Expectation<'a>>,
 }
 
-/// A command of a row.
+/// A command of a row, and what it has to answer.
 #[derive(Drop)]
-pub struct Command<'a> {
+pub struct Expectation<'a> {
+    /// The command.
+    pub command: Command,
     /// The reply that is expected: `done`, or a refusal as a report has it.
     pub reply: &'a str,
-    /// What it asks.
-    pub action: Action,
 }
 
 /// The row of a line's columns, which have a tab between two of them.
@@ -72,14 +73,14 @@ fn read_limit(column: &str) -> Result<Option<u64>> {
 }
 
 /// The commands of the last columns, two for each: its reply and its fields.
-fn read_commands<'a>(alloc: Global, columns: &[&'a str]) -> Result<Vec<Command<'a>>> {
+fn read_commands<'a>(alloc: Global, columns: &[&'a str]) -> Result<Vec<Expectation<'a>>> {
     let mut commands = Vec::new(alloc);
     for pair in columns.chunks(2) {
         let [reply, command] = pair else {
             bail!("a reply without its command");
         };
-        let action = read_action(alloc, command)?;
-        commands.push(Command { reply, action })?;
+        let command = read_command(alloc, command)?;
+        commands.push(Expectation { command, reply })?;
     }
     Ok(commands)
 }
