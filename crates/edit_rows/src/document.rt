@@ -1,0 +1,80 @@
+//! A document against the parse of its text.
+ghost use Rattle.std.specs.Prelude.{IfOk};
+ghost use Rattle.mk_tree.specs.Documents.{IsFaithful};
+
+use crate::difference::{Difference, Stop, not_opened, same_number, same_text};
+use mk_class::Meter;
+use mk_tree::{Doc, Line};
+use std::alloc::{AllocError, Global};
+
+/// The document of a text. Its lines count in the meter.
+///
+/// # Errors
+///
+/// A difference where the text is refused.
+pub fn parsed(alloc: Global, text: &[u8], meter: &mut Meter) -> Result<Doc, Stop>
+    ensures { IfOk result (λ doc. IsFaithful doc) }
+{
+    match Doc::parse(alloc, text, meter) {
+        Ok(doc) => Ok(doc),
+        Err(fault) => Err(Stop::Differs(not_opened(alloc, fault)?)),
+    }
+}
+
+/// The text of a document.
+pub fn text_of(alloc: Global, doc: &Doc) -> Result<Vec<u8>, AllocError> {
+    let mut text = Vec::with_capacity(alloc, doc.size())?;
+    for line in doc.iter() {
+        text.extend_from_slice(line.bytes())?;
+    }
+    Ok(text)
+}
+
+/// Fails where a document is not what the parse of its own text gives, line by line.
+pub fn check_lines(alloc: Global, doc: &Doc) -> Result<(), Stop> {
+    let text = text_of(alloc, doc)?;
+    let fresh = parsed(alloc, text.as_slice(), &mut Meter::new())?;
+    same_number(
+        alloc,
+        "the number of bytes",
+        fresh.size() as u64,
+        doc.size() as u64,
+    )?;
+    same_number(
+        alloc,
+        "the number of lines",
+        fresh.len() as u64,
+        doc.len() as u64,
+    )?;
+    for (expected, found) in fresh.iter().zip(doc.iter()) {
+        check_line(alloc, expected, found)?;
+    }
+    Ok(())
+}
+
+/// Fails where two lines have not the same bytes, joined text and class.
+fn check_line(alloc: Global, expected: &Line, found: &Line) -> Result<(), Stop> {
+    same_text(
+        alloc,
+        "the bytes of a line",
+        expected.bytes(),
+        found.bytes(),
+    )?;
+    let expected_text = expected.cells().text(expected.bytes());
+    let found_text = found.cells().text(found.bytes());
+    same_text(
+        alloc,
+        "the joined text of a line",
+        expected_text,
+        found_text,
+    )?;
+    let (expected, found) = (expected.class(), found.class());
+    if expected == found {
+        return Ok(());
+    }
+    Err(Stop::Differs(Difference {
+        what: "the class of a line",
+        expected: format!(in alloc; "{expected:?}")?,
+        found: format!(in alloc; "{found:?}")?,
+    }))
+}

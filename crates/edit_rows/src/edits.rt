@@ -1,0 +1,200 @@
+//! The commands of rows.
+
+use crate::text::unescape;
+use anyhow::{Context as _, Result, bail};
+use mk_class::Flavor;
+use mk_edit::{Colons, Edit, Place};
+use mk_session::Command;
+use std::alloc::Global;
+
+/// The command of a text: its word and its other fields, with one blank between two of them.
+///
+/// # Errors
+///
+/// Where the text is no such command, or a growth was refused.
+pub fn read_command(alloc: Global, command: &str) -> Result<Command> {
+    let fields = command.split(' ').collect::<Vec<&str>>(alloc)?;
+    match fields.as_slice() {
+        ["undo"] => Ok(Command::Undo),
+        ["redo"] => Ok(Command::Redo),
+        ["begin"] => Ok(Command::Begin),
+        ["end"] => Ok(Command::End),
+        ["cancel"] => Ok(Command::Cancel),
+        ["rename", from, to] => Ok(Command::Apply(Edit::RenameTarget {
+            from: unescape(alloc, from)?,
+            to: unescape(alloc, to)?,
+        })),
+        [word, nth, fields @ ..] => Ok(Command::Apply(read_edit(
+            alloc,
+            word,
+            read_nth(nth)?,
+            fields,
+        )?)),
+        _ => bail!("no command: {command}"),
+    }
+}
+
+/// The number that `nth` gives, or none where it is `-`.
+fn read_nth(field: &str) -> Result<Option<u32>> {
+    if field == "-" {
+        return Ok(None);
+    }
+    Ok(Some(read_number(field)?))
+}
+
+/// A number of a command.
+fn read_number(field: &str) -> Result<u32> {
+    field
+        .parse::<u32>()
+        .context(format_args!("no number: {field}"))
+}
+
+/// The edit of a command's word, number and other fields.
+fn read_edit(alloc: Global, word: &str, nth: Option<u32>, fields: &[&str]) -> Result<Edit> {
+    match word {
+        "set" | "append" | "unset" => read_variable_edit(alloc, word, nth, fields),
+        "assign" | "rule" => read_addition(alloc, word, nth, fields),
+        "unrule" | "depend" | "depend-order" | "undepend" => read_rule_edit(
+            alloc, word, nth, fields,
+        ),
+        _ => read_recipe_edit(alloc, word, nth, fields),
+    }
+}
+
+/// The edit of a command on the assignment of a variable.
+fn read_variable_edit(
+    alloc: Global,
+    word: &str,
+    nth: Option<u32>,
+    fields: &[&str],
+) -> Result<Edit> {
+    match (word, fields) {
+        ("set", [name, value]) => Ok(Edit::SetValue {
+            nth,
+            name: unescape(alloc, name)?,
+            value: unescape(alloc, value)?,
+        }),
+        ("append", [name, value]) => Ok(Edit::AppendValue {
+            nth,
+            name: unescape(alloc, name)?,
+            value: unescape(alloc, value)?,
+        }),
+        ("unset", [name]) => Ok(Edit::RemoveAssign {
+            nth,
+            name: unescape(alloc, name)?,
+        }),
+        _ => bail!("no edit of a variable: {word}"),
+    }
+}
+
+/// The edit of a command that puts in the line of an assignment or of a rule.
+fn read_addition(alloc: Global, word: &str, nth: Option<u32>, fields: &[&str]) -> Result<Edit> {
+    let (place, fields) = read_place(alloc, nth, fields)?;
+    match (word, fields) {
+        ("assign", [name, operator, value]) => Ok(Edit::AddAssign {
+            place,
+            name: unescape(alloc, name)?,
+            flavor: read_operator(operator)?,
+            value: unescape(alloc, value)?,
+        }),
+        ("rule", [targets, colons, prereqs]) => Ok(Edit::AddRule {
+            place,
+            targets: unescape(alloc, targets)?,
+            colons: read_colons(colons)?,
+            prereqs: unescape(alloc, prereqs)?,
+        }),
+        _ => bail!("no new line: {word}"),
+    }
+}
+
+/// The place at the front of fields, and the fields after it.
+fn read_place<'a, 'b>(
+    alloc: Global,
+    nth: Option<u32>,
+    fields: &'a [&'b str],
+) -> Result<(Place, &'a [&'b str])> {
+    match fields {
+        ["bottom", rest @ ..] => Ok((Place::Bottom, rest)),
+        ["before-var", name, rest @ ..] => {
+            let name = unescape(alloc, name)?;
+            Ok((Place::BeforeVar { nth, name }, rest))
+        }
+        ["after-var", name, rest @ ..] => {
+            let name = unescape(alloc, name)?;
+            Ok((Place::AfterVar { nth, name }, rest))
+        }
+        ["before-rule", target, rest @ ..] => {
+            let target = unescape(alloc, target)?;
+            Ok((Place::BeforeRule { nth, target }, rest))
+        }
+        _ => bail!("no place"),
+    }
+}
+
+/// The flavor of an operator.
+fn read_operator(operator: &str) -> Result<Flavor> {
+    match operator {
+        "=" => Ok(Flavor::Recursive),
+        ":=" => Ok(Flavor::Simple),
+        "::=" => Ok(Flavor::PosixSimple),
+        ":::=" => Ok(Flavor::Immediate),
+        "?=" => Ok(Flavor::Conditional),
+        "+=" => Ok(Flavor::Append),
+        "!=" => Ok(Flavor::Shell),
+        _ => bail!("no operator: {operator}"),
+    }
+}
+
+/// The separator of a new rule.
+fn read_colons(colons: &str) -> Result<Colons> {
+    match colons {
+        ":" => Ok(Colons::One),
+        "::" => Ok(Colons::Two),
+        _ => bail!("no separator: {colons}"),
+    }
+}
+
+/// The edit of a command on a rule or its prerequisites.
+fn read_rule_edit(alloc: Global, word: &str, nth: Option<u32>, fields: &[&str]) -> Result<Edit> {
+    match (word, fields) {
+        ("unrule", [target]) => Ok(Edit::RemoveRule {
+            nth,
+            target: unescape(alloc, target)?,
+        }),
+        ("depend" | "depend-order", [target, prereq]) => Ok(Edit::AddPrereq {
+            order: word == "depend-order",
+            nth,
+            target: unescape(alloc, target)?,
+            word: unescape(alloc, prereq)?,
+        }),
+        ("undepend", [target, prereq]) => Ok(Edit::RemovePrereq {
+            nth,
+            target: unescape(alloc, target)?,
+            word: unescape(alloc, prereq)?,
+        }),
+        _ => bail!("no edit of a rule: {word}"),
+    }
+}
+
+/// The edit of a command on the recipe of a rule.
+fn read_recipe_edit(alloc: Global, word: &str, nth: Option<u32>, fields: &[&str]) -> Result<Edit> {
+    match (word, fields) {
+        ("recipe", [target, line]) => Ok(Edit::AddRecipe {
+            nth,
+            target: unescape(alloc, target)?,
+            line: unescape(alloc, line)?,
+        }),
+        ("recipe-set", [target, number, line]) => Ok(Edit::SetRecipe {
+            nth,
+            target: unescape(alloc, target)?,
+            number: read_number(number)?,
+            line: unescape(alloc, line)?,
+        }),
+        ("recipe-del", [target, number]) => Ok(Edit::RemoveRecipe {
+            nth,
+            target: unescape(alloc, target)?,
+            number: read_number(number)?,
+        }),
+        _ => bail!("no edit of a recipe: {word}"),
+    }
+}

@@ -1,0 +1,142 @@
+#!/usr/bin/env python3
+"""Rows of edits for the program of crates/edit_rows.
+
+Puts the tables of edits, with the answers that they expect, into the form that the program reads. It
+runs each row through the library, and prints which rows it answers in another way.
+
+    plan_rows.py > crates/edit_rows/stdin
+
+The tables are tests/cases/edits/corners.tsv, tests/cases/edits/random.tsv, tests/cases/runs.tsv and
+tests/cases/random-runs.tsv; a name given after `plan_rows.py`, as `corners`, takes that table alone. The
+rows whose script or command line has a fault, so that no command runs, are left out (status 2), and
+the queries, which are no edits.
+
+A line of two columns, `table` and a name, begins a table. Each line below it is a row of the columns
+
+    row         this word
+    name        the row's name
+    depth       how many edits can be undone
+    makefile    the text before
+    expected    the text after all commands, or `-` where the table does not say it: the run stopped at a
+                refusal
+    cost        of a row of one edit, how many lines it reads again at most, or `-`
+    size        of an accepted edit, how many lines it takes out or puts others in place of at most, or `-`
+
+and then two columns for each command, up to the refusal that ended the run: its reply, which is `done` or
+the number, the name and the detail of a refusal between blanks, and its fields between blanks. The first
+field is the command's word, the second the number given by `nth`, or `-`. A rename, a step of undo or
+redo and the begin or end of a group have no second field of this kind.
+
+Columns stand between tabs. In a text \\\\, \\t, \\n and \\r stand for a backslash, a tab, a line end and a
+return, and \\xHH for the byte HH: of bytes that are not printable ASCII, of blanks in a field, and of a
+text that is one `-`.
+"""
+
+import re
+import sys
+from pathlib import Path
+
+from edit_rows import commands_of
+from reading_rows import unescape
+
+CASES = Path(__file__).resolve().parent.parent / "cases"
+TABLES = {
+    "corners": CASES / "edits" / "corners.tsv",
+    "random": CASES / "edits" / "random.tsv",
+    "runs": CASES / "runs.tsv",
+    "random-runs": CASES / "random-runs.tsv",
+}
+# How many edits the program lets undo where the row does not say it.
+DEPTH = 100
+# The status of a run that a fault of the script or the command line ended before any command.
+BAD_RUN = "2"
+ESCAPES = {9: "\\t", 10: "\\n", 13: "\\r", 92: "\\\\"}
+REPORT = re.compile(r"(\d+): refused (.*)")
+WITHOUT_NUMBER = (b"rename", b"undo", b"redo", b"begin", b"end", b"cancel")
+
+
+def escaped(byte):
+    """A byte as a column has it."""
+    plain = 0x20 <= byte < 0x7F and byte not in ESCAPES
+    return chr(byte) if plain else ESCAPES.get(byte, f"\\x{byte:02x}")
+
+
+def escape(text):
+    """A text as a column has it."""
+    return "\\x2d" if text == b"-" else "".join(map(escaped, text))
+
+
+def escape_field(text):
+    """A text as a field has it."""
+    return escape(text).replace(" ", "\\x20")
+
+
+def column(row, name):
+    """The bytes of a column of a table."""
+    return unescape(row[name]).encode("latin-1")
+
+
+def numbered_commands(script):
+    """The commands of a script, each with the number of its line."""
+    for number, line in enumerate(re.findall(rb"[^\n]*\n|[^\n]+", script), 1):
+        for fields in commands_of(line):
+            yield number, fields
+
+
+def command_column(fields):
+    """The fields of a command, the number of `nth` after its word."""
+    nth = "-"
+    if fields[0] == b"nth":
+        nth = str(int(fields[1]))
+        fields = fields[2:]
+    word, *rest = fields
+    if word in (b"recipe-set", b"recipe-del"):
+        rest[1] = b"%d" % int(rest[1])
+    numbers = [] if word in WITHOUT_NUMBER else [nth]
+    return " ".join([word.decode(), *numbers, *map(escape_field, rest)])
+
+
+def command_columns(row, goes_on):
+    """The replies and the commands of a row, up to the refusal that ended the run."""
+    refused = {int(number): reply for number, reply in REPORT.findall(unescape(row["stderr"]))}
+    columns = []
+    for number, fields in numbered_commands(column(row, "script")):
+        columns += [refused.pop(number, "done"), command_column(fields)]
+        if columns[-2] != "done" and not goes_on:
+            break
+    if refused:
+        raise ValueError(f"{row['name']}: a refusal of no command")
+    return columns
+
+
+def row_columns(row):
+    """The columns of a row for the program."""
+    flags = row.get("flags", "").split()
+    goes_on = "-k" in flags
+    depth = int(flags[flags.index("-d") + 1]) if "-d" in flags else DEPTH
+    commands = command_columns(row, goes_on)
+    written = goes_on or row["status"] == "0"
+    expected = escape(column(row, "stdout")) if written else "-"
+    limits = [row.get(name) or "-" for name in ("cost", "size")]
+    return ["row", row["name"], str(depth), escape(column(row, "makefile")), expected, *limits, *commands]
+
+
+def rows_of(table):
+    """The rows of a table in which the commands run."""
+    head, *lines = [line.split("\t") for line in table.read_text().rstrip("\n").split("\n")]
+    rows = [dict(zip(head, line, strict=True)) for line in lines]
+    return [row for row in rows if row["status"] != BAD_RUN]
+
+
+def main():
+    names = sys.argv[1:] or list(TABLES)
+    if not set(names) <= set(TABLES):
+        sys.exit(f"usage: plan_rows.py [{'|'.join(TABLES)}]..")
+    for name in names:
+        print("table", name, sep="\t")
+        for row in rows_of(TABLES[name]):
+            print(*row_columns(row), sep="\t")
+
+
+if __name__ == "__main__":
+    main()
