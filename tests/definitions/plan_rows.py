@@ -24,8 +24,8 @@ A line of two columns, `table` and a name, begins a table. Each line below it is
 
 and then two columns for each command, up to the refusal that ended the run: its reply, which is `done` or
 the number, the name and the detail of a refusal between blanks, and its fields between blanks. The first
-field is the command's word, the second the number given by `nth`, or `-`. A rename, a step of undo or
-redo and the begin or end of a group have no second field of this kind.
+field is the command's word, the second the number given by `nth`, or `-` where none is given; the
+commands `rename`, `undo`, `redo`, `begin`, `end` and `cancel` have no such field.
 
 Columns stand between tabs. In a text \\\\, \\t, \\n and \\r stand for a backslash, a tab, a line end and a
 return, and \\xHH for the byte HH: of bytes that are not printable ASCII, of blanks in a field, and of a
@@ -84,7 +84,7 @@ def numbered_commands(script):
 
 
 def command_column(fields):
-    """The fields of a command, the number of `nth` after its word."""
+    """The column of a command's fields, the number of `nth` after its word."""
     nth = "-"
     if fields[0] == b"nth":
         nth = str(int(fields[1]))
