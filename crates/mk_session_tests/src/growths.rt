@@ -1,0 +1,235 @@
+//! Growths that are refused, and growths that are counted.
+use crate::requests::{Request, set, unset};
+use crate::texts::{ensure, gives, is_as_parsed, refuses};
+use mk_class::Meter;
+use mk_lines::Fault;
+use mk_session::{Refusal, Session};
+use mk_tree::Doc;
+use std::alloc::{Allocator, Global};
+use std::test::Fail;
+use watched::{Growths, Watched};
+
+/// More growths than any call here takes.
+const MANY: u64 = 100;
+
+type Heap = Watched<Global>;
+
+const FOUR_LINES: &[u8] = b"A = 1\nB = a \\\n b\nfoo: x\n\techo\n";
+
+#[test]
+fn each_refused_growth_of_open_is_no_memory(rt: HostRuntime) -> Result<(), Fail> {
+    let heap = Watched::new(rt.alloc());
+    for admitted in 0..MANY {
+        heap.refuse_one_after(admitted);
+        match Session::open(&heap, FOUR_LINES, 10) {
+            Ok(session) => {
+                // ten for the document, and a ring each for undo and redo
+                assert_eq!(rt; (admitted, heap.has_refused()), (12, false));
+                assert!(rt; is_as_parsed(&rt, session.doc(), FOUR_LINES)?);
+                return Ok(());
+            }
+            Err(fault) => assert!(rt; heap.has_refused() && matches!(fault, Fault::NoMemory)),
+        }
+    }
+    Err(Fail::from("each growth was refused"))
+}
+
+#[test]
+fn the_rings_of_the_greatest_depth_are_two_growths(rt: HostRuntime) -> Result<(), Fail> {
+    let heap = Watched::new(rt.alloc());
+    let doc = Doc::parse(&heap, FOUR_LINES, &mut Meter::new())?;
+    let of_document = heap.passed().count;
+    assert_eq!(rt; doc.len(), 4);
+    for depth in [1, 10_000] {
+        heap.refuse_none();
+        let session = Session::open(&heap, FOUR_LINES, depth)?;
+        assert_eq!(rt; session.rereads(), 0);
+        assert_eq!(rt; heap.passed().count, of_document.saturating_add(2));
+    }
+    Ok(())
+}
+
+const FIRST: &[u8] = b"X=0\nY=0\n";
+
+const BEFORE: &[u8] = b"X=1\nY=0\n";
+
+const UNDONE: &[u8] = b"X=2\nY=0\n";
+
+// A session with an edit to undo and an edit to redo.
+fn between_edits<'a>(heap: &'a Heap) -> Result<Session<&'a Heap>, Fail> {
+    let mut session = Session::open(heap, FIRST, 10)?;
+    set(heap, b"X", b"1")?.make(&mut session)?;
+    set(heap, b"X", b"2")?.make(&mut session)?;
+    session.undo()?;
+    Ok(session)
+}
+
+// Whether undo and redo answer as they do between the edits.
+fn is_between_edits(rt: &HostRuntime, session: &mut Session<&Heap>) -> Result<bool, Fault> {
+    Ok(
+        gives(rt, session, &Request::Redo, UNDONE)?
+            && refuses(rt, session, &Request::Redo, Refusal::NothingToRedo, UNDONE)?
+            && gives(rt, session, &Request::Undo, BEFORE)?
+            && gives(rt, session, &Request::Undo, FIRST)?
+            && refuses(rt, session, &Request::Undo, Refusal::NothingToUndo, FIRST)?
+            && gives(rt, session, &Request::Redo, BEFORE)?,
+    )
+}
+
+// Refuses each growth in turn of a call between the edits, which then is made as if it had not been
+// refused, and says how many growths it takes.
+fn growths_between_edits(
+    rt: &HostRuntime,
+    heap: &Heap,
+    request: &Request<&Heap>,
+    text: &[u8],
+) -> Result<u64, Fail> {
+    for admitted in 0..MANY {
+        let mut session = between_edits(heap)?;
+        heap.refuse_one_after(admitted);
+        let answer = request.make(&mut session);
+        let refused = heap.has_refused();
+        heap.refuse_none();
+        if !refused {
+            let made = answer.is_ok() && is_as_parsed(rt, session.doc(), text)?;
+            ensure(made, "the call is not made")?;
+            return Ok(admitted);
+        }
+        ensure(
+            answer == Err(Refusal::NoMemory),
+            "the answer is another one",
+        )?;
+        let kept = is_as_parsed(rt, session.doc(), BEFORE)? && is_between_edits(rt, &mut session)?;
+        ensure(kept, "the session has changed")?;
+        let made = gives(rt, &mut session, request, text)?;
+        ensure(made, "the call is not made afterwards")?;
+    }
+    Err(Fail::from("each growth was refused"))
+}
+
+#[test]
+fn each_refused_growth_of_an_edit_changes_nothing(rt: HostRuntime) -> Result<(), Fail> {
+    let heap = Watched::new(rt.alloc());
+    let edit = set(&heap, b"Y", b"5")?;
+    let growths = growths_between_edits(&rt, &heap, &edit, b"X=1\nY=5\n")?;
+    assert!(rt; growths > 0);
+    let edit = unset(&heap, b"Y")?;
+    let growths = growths_between_edits(&rt, &heap, &edit, b"X=1\n")?;
+    assert!(rt; growths > 0);
+    Ok(())
+}
+
+#[test]
+fn the_refused_growth_of_a_begin_changes_nothing(rt: HostRuntime) -> Result<(), Fail> {
+    let heap = Watched::new(rt.alloc());
+    let growths = growths_between_edits(&rt, &heap, &Request::Begin, BEFORE)?;
+    // a ring for the edits that are made, and one for those that wait while the group is taken back
+    assert_eq!(rt; growths, 2);
+    Ok(())
+}
+
+#[test]
+fn each_refused_growth_of_an_edit_in_a_group_leaves_the_group(rt: HostRuntime) -> Result<(), Fail> {
+    let heap = Watched::new(rt.alloc());
+    let (one, two) = (set(&heap, b"Y", b"1")?, set(&heap, b"Y", b"2")?);
+    for admitted in 0..MANY {
+        let mut session = between_edits(&heap)?;
+        session.begin()?;
+        assert!(rt; gives(&rt, &mut session, &one, b"X=1\nY=1\n")?);
+        heap.refuse_one_after(admitted);
+        let answer = two.make(&mut session);
+        let refused = heap.has_refused();
+        heap.refuse_none();
+        if refused {
+            assert_eq!(rt; answer, Err(Refusal::NoMemory));
+            assert!(rt; is_as_parsed(&rt, session.doc(), b"X=1\nY=1\n")?);
+            assert_eq!(rt; session.undo(), Err(Refusal::GroupOpen));
+            assert_eq!(rt; session.redo(), Err(Refusal::GroupOpen));
+            assert!(rt; gives(&rt, &mut session, &two, b"X=1\nY=2\n")?);
+        } else {
+            assert!(rt; answer.is_ok() && admitted > 0);
+        }
+        assert!(rt; gives(&rt, &mut session, &Request::End, b"X=1\nY=2\n")?);
+        assert!(rt; gives(&rt, &mut session, &Request::Undo, BEFORE)?);
+        assert!(rt; gives(&rt, &mut session, &Request::Undo, FIRST)?);
+        if !refused {
+            return Ok(());
+        }
+    }
+    Err(Fail::from("each growth was refused"))
+}
+
+#[test]
+fn undo_and_redo_take_no_memory(rt: HostRuntime) -> Result<(), Fail> {
+    let heap = Watched::new(rt.alloc());
+    let mut session = between_edits(&heap)?;
+    heap.refuse_all();
+    assert!(rt; is_between_edits(&rt, &mut session)?);
+    assert!(rt; !heap.has_refused());
+    Ok(())
+}
+
+#[test]
+fn end_and_cancel_take_no_memory(rt: HostRuntime) -> Result<(), Fail> {
+    let heap = Watched::new(rt.alloc());
+    let mut session = between_edits(&heap)?;
+    let (one, two) = (set(&heap, b"Y", b"1")?, set(&heap, b"Y", b"2")?);
+    for (close, text) in [
+        (Request::Cancel, BEFORE),
+        (Request::End, b"X=1\nY=2\n".as_slice()),
+    ] {
+        heap.refuse_none();
+        session.begin()?;
+        one.make(&mut session)?;
+        two.make(&mut session)?;
+        heap.refuse_all();
+        assert!(rt; gives(&rt, &mut session, &close, text)?);
+        assert!(rt; !heap.has_refused());
+    }
+    assert!(rt; gives(&rt, &mut session, &Request::Undo, BEFORE)?);
+    assert!(rt; gives(&rt, &mut session, &Request::Redo, b"X=1\nY=2\n")?);
+    assert!(rt; !heap.has_refused());
+    Ok(())
+}
+
+// `A=1` and lines `B=1` after it.
+fn one_before(rt: &HostRuntime, lines: usize) -> Result<Vec<u8>, Fail> {
+    let mut text = Vec::from_slice(rt.alloc(), b"A=1\n")?;
+    for _ in 0..lines {
+        text.extend_from_slice(b"B=1\n")?;
+    }
+    Ok(text)
+}
+
+// The growths of a call, after an edit that was made some times.
+fn growths_after(
+    heap: &Heap,
+    text: &[u8],
+    edit: &Request<&Heap>,
+    times: usize,
+    request: &Request<&Heap>,
+) -> Result<Growths, Fail> {
+    let mut session = Session::open(heap, text, 100)?;
+    for _ in 0..times {
+        edit.make(&mut session)?;
+    }
+    heap.refuse_none();
+    request.make(&mut session)?;
+    Ok(heap.passed())
+}
+
+#[test]
+fn the_growths_of_an_edit_hang_on_its_line_alone(rt: HostRuntime) -> Result<(), Fail> {
+    let heap = Watched::new(rt.alloc());
+    let (few, many) = (one_before(&rt, 1)?, one_before(&rt, 1_000)?);
+    let edit = set(&heap, b"A", b"3")?;
+    for request in [set(&heap, b"A", b"2")?, unset(&heap, b"A")?] {
+        let growths = growths_after(&heap, few.as_slice(), &edit, 0, &request)?;
+        assert!(rt; growths.count > 0);
+        for times in [0, 50] {
+            let others = growths_after(&heap, many.as_slice(), &edit, times, &request)?;
+            assert_eq!(rt; others, growths);
+        }
+    }
+    Ok(())
+}
