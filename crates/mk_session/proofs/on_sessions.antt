@@ -1,3 +1,4 @@
 pub mod KeptLemmas
 pub mod StepLemmas
 pub mod CallLemmas
+pub mod AnswerLemmas

@@ -1,14 +1,15 @@
 -- Calls of a session in turn, each with its reply, as the contracts of the calls say it; and the session machine after them.
-use Rattle.std.specs.Prelude.{◌≡◌, ℕ, ◌+◌, ◌≤◌, Bool, true, false, List, [], ◌∷◌, ◌++◌, reverse, Option, Some, None}
+use Rattle.std.specs.Prelude.{◌≡◌, ℕ, ◌+◌, ◌≤◌, Bool, true, false, List, [], ◌∷◌, ◌++◌, reverse, Option, Some, None, Result, Ok, Err}
 use Rattle.mk_edit_laws.specs.Edits.{Edit}
 use Rattle.mk_edit_laws.specs.Costs.{cost}
 use Rattle.mk_edit_laws.specs.declared.refusal.Refusal.{Refusal}
+use Rattle.mk_edit_laws.specs.declared.refusal.Refusal.TheVariants as refusal
 use Rattle.mk_history.specs.Machine as machine
 use Rattle.mk_history.specs.Machine.{Command, Apply, Begin, Machine, next, text}
 use Rattle.mk_history.specs.Steps as steps
-use Rattle.mk_history.specs.Steps.{Granted, NoMemory, IsStep}
+use Rattle.mk_history.specs.Steps.{Granted, Refused, NoMemory, IsStep}
 use Rattle.mk_history.specs.Claims.{flat}
-use Rattle.mk_session.specs.Sessions.{Seen, answer, edited}
+use Rattle.mk_session.specs.Sessions.{Seen, answer, edited, session_refusal}
 
 -- what a call replies: it was done, it was refused, or it found no memory
 abbrev pub Reply : Type 0
@@ -37,6 +38,19 @@ pub record IsCall (call : Call) (before after : Seen) : Type 0 where
   pub step : IsStep answer call.0 call.1 before.shown after.shown
   pub memory : call.1 ≡ NoMemory → takes_memory call.0 ≡ true
   pub few_read : after.rereads ≤ before.rereads + cost_on before.shown.text call.0
+
+-- what a call gave back tells its reply
+abbrev pub IsTold : Result (Unit {0}) Refusal → Reply → Type 0
+IsTold (Ok u) r = r ≡ Granted
+IsTold (Err e) Granted = ⊥
+IsTold (Err e) (Refused q) = e ≡ session_refusal q
+IsTold (Err e) NoMemory = e ≡ refusal.NoMemory
+
+-- A call gave this back, and led from what was seen before it to what is seen after it.
+pub record IsAnswered (c : Command Edit) (result : Result (Unit {0}) Refusal) (before after : Seen) : Type 0 where
+  pub reply : Reply
+  pub told : IsTold result reply
+  pub call : IsCall (c, reply) before after
 
 -- so do calls in turn
 abbrev pub AreCalls : List Call → (before after : Seen) → Type 0

@@ -1,5 +1,6 @@
 -- The session machine of makefiles
 pub mod Sessions
+pub mod CommandViews
 -- What a session keeps
 pub mod KeptSessions
 -- Any calls

@@ -1,5 +1,6 @@
 //! A session: a makefile that is edited, with undo, redo and groups of edits.
 //!
+//! - [`command`]: the calls of a session as values.
 //! - [`laws`]: what holds of a session over any list of calls.
 //! - [`session`]: the session.
 //!
@@ -7,8 +8,10 @@
 //! makefiles. This crate puts them together and is the one place where both are known.
 #![tactic(auto)]
 
+pub mod command;
 pub mod laws;
 pub mod session;
 
+pub use command::Command;
 pub use mk_edit::{Colons, Detail, Edit, Field, Place, Refusal};
 pub use session::Session;

@@ -1,0 +1,19 @@
+-- What the commands of a program are seen as: the calls of the session machine.
+use Rattle.mk_edit_laws.specs.Edits.{Edit}
+use Rattle.mk_edit.specs.EditViews.{edit_of, IsPlannedToday}
+use Rattle.mk_history.specs.Machine as machine
+use Rattle.mk_session.specs.declared.command.Command.{Command}
+use Rattle.mk_session.specs.declared.command.Command.TheVariants as command
+
+abbrev pub command_of : {A : _} → Command A → machine.Command Edit
+command_of (command.Apply e) = machine.Apply (edit_of e)
+command_of command.Undo = machine.Undo
+command_of command.Redo = machine.Redo
+command_of command.Begin = machine.Begin
+command_of command.End = machine.End
+command_of command.Cancel = machine.Cancel
+
+-- (for now) the commands that are obeyed
+abbrev pub IsObeyedToday : machine.Command Edit → Type 0
+IsObeyedToday (machine.Apply e) = IsPlannedToday e
+IsObeyedToday c = Unit {0}
