@@ -1,9 +1,9 @@
 //! Growths that are refused, and growths that are counted.
-use crate::requests::{Request, set, unset};
+use crate::edits::{set, unset};
 use crate::texts::{ensure, gives, is_as_parsed, refuses};
 use mk_class::Meter;
 use mk_lines::Fault;
-use mk_session::{Refusal, Session};
+use mk_session::{Command, Refusal, Session};
 use mk_tree::Doc;
 use std::alloc::{Allocator, Global};
 use std::test::Fail;
@@ -58,8 +58,8 @@ const UNDONE: &[u8] = b"X=2\nY=0\n";
 // A session with an edit to undo and an edit to redo.
 fn between_edits<'a>(heap: &'a Heap) -> Result<Session<&'a Heap>, Fail> {
     let mut session = Session::open(heap, FIRST, 10)?;
-    set(heap, b"X", b"1")?.make(&mut session)?;
-    set(heap, b"X", b"2")?.make(&mut session)?;
+    session.obey(&set(heap, b"X", b"1")?)?;
+    session.obey(&set(heap, b"X", b"2")?)?;
     session.undo()?;
     Ok(session)
 }
@@ -67,12 +67,12 @@ fn between_edits<'a>(heap: &'a Heap) -> Result<Session<&'a Heap>, Fail> {
 // Whether undo and redo answer as they do between the edits.
 fn is_between_edits(rt: &HostRuntime, session: &mut Session<&Heap>) -> Result<bool, Fault> {
     Ok(
-        gives(rt, session, &Request::Redo, UNDONE)?
-            && refuses(rt, session, &Request::Redo, Refusal::NothingToRedo, UNDONE)?
-            && gives(rt, session, &Request::Undo, BEFORE)?
-            && gives(rt, session, &Request::Undo, FIRST)?
-            && refuses(rt, session, &Request::Undo, Refusal::NothingToUndo, FIRST)?
-            && gives(rt, session, &Request::Redo, BEFORE)?,
+        gives(rt, session, &Command::Redo, UNDONE)?
+            && refuses(rt, session, &Command::Redo, Refusal::NothingToRedo, UNDONE)?
+            && gives(rt, session, &Command::Undo, BEFORE)?
+            && gives(rt, session, &Command::Undo, FIRST)?
+            && refuses(rt, session, &Command::Undo, Refusal::NothingToUndo, FIRST)?
+            && gives(rt, session, &Command::Redo, BEFORE)?,
     )
 }
 
@@ -81,13 +81,13 @@ fn is_between_edits(rt: &HostRuntime, session: &mut Session<&Heap>) -> Result<bo
 fn growths_between_edits(
     rt: &HostRuntime,
     heap: &Heap,
-    request: &Request<&Heap>,
+    command: &Command<&Heap>,
     text: &[u8],
 ) -> Result<u64, Fail> {
     for admitted in 0..MANY {
         let mut session = between_edits(heap)?;
         heap.refuse_one_after(admitted);
-        let answer = request.make(&mut session);
+        let answer = session.obey(command);
         let refused = heap.has_refused();
         heap.refuse_none();
         if !refused {
@@ -101,7 +101,7 @@ fn growths_between_edits(
         )?;
         let kept = is_as_parsed(rt, session.doc(), BEFORE)? && is_between_edits(rt, &mut session)?;
         ensure(kept, "the session has changed")?;
-        let made = gives(rt, &mut session, request, text)?;
+        let made = gives(rt, &mut session, command, text)?;
         ensure(made, "the call is not made afterwards")?;
     }
     Err(Fail::from("each growth was refused"))
@@ -122,7 +122,7 @@ fn each_refused_growth_of_an_edit_changes_nothing(rt: HostRuntime) -> Result<(),
 #[test]
 fn the_refused_growth_of_a_begin_changes_nothing(rt: HostRuntime) -> Result<(), Fail> {
     let heap = Watched::new(rt.alloc());
-    let growths = growths_between_edits(&rt, &heap, &Request::Begin, BEFORE)?;
+    let growths = growths_between_edits(&rt, &heap, &Command::Begin, BEFORE)?;
     // a ring for the edits that are made, and one for those that wait while the group is taken back
     assert_eq!(rt; growths, 2);
     Ok(())
@@ -137,7 +137,7 @@ fn each_refused_growth_of_an_edit_in_a_group_leaves_the_group(rt: HostRuntime) -
         session.begin()?;
         assert!(rt; gives(&rt, &mut session, &one, b"X=1\nY=1\n")?);
         heap.refuse_one_after(admitted);
-        let answer = two.make(&mut session);
+        let answer = session.obey(&two);
         let refused = heap.has_refused();
         heap.refuse_none();
         if refused {
@@ -149,9 +149,9 @@ fn each_refused_growth_of_an_edit_in_a_group_leaves_the_group(rt: HostRuntime) -
         } else {
             assert!(rt; answer.is_ok() && admitted > 0);
         }
-        assert!(rt; gives(&rt, &mut session, &Request::End, b"X=1\nY=2\n")?);
-        assert!(rt; gives(&rt, &mut session, &Request::Undo, BEFORE)?);
-        assert!(rt; gives(&rt, &mut session, &Request::Undo, FIRST)?);
+        assert!(rt; gives(&rt, &mut session, &Command::End, b"X=1\nY=2\n")?);
+        assert!(rt; gives(&rt, &mut session, &Command::Undo, BEFORE)?);
+        assert!(rt; gives(&rt, &mut session, &Command::Undo, FIRST)?);
         if !refused {
             return Ok(());
         }
@@ -175,19 +175,19 @@ fn end_and_cancel_take_no_memory(rt: HostRuntime) -> Result<(), Fail> {
     let mut session = between_edits(&heap)?;
     let (one, two) = (set(&heap, b"Y", b"1")?, set(&heap, b"Y", b"2")?);
     for (close, text) in [
-        (Request::Cancel, BEFORE),
-        (Request::End, b"X=1\nY=2\n".as_slice()),
+        (Command::Cancel, BEFORE),
+        (Command::End, b"X=1\nY=2\n".as_slice()),
     ] {
         heap.refuse_none();
         session.begin()?;
-        one.make(&mut session)?;
-        two.make(&mut session)?;
+        session.obey(&one)?;
+        session.obey(&two)?;
         heap.refuse_all();
         assert!(rt; gives(&rt, &mut session, &close, text)?);
         assert!(rt; !heap.has_refused());
     }
-    assert!(rt; gives(&rt, &mut session, &Request::Undo, BEFORE)?);
-    assert!(rt; gives(&rt, &mut session, &Request::Redo, b"X=1\nY=2\n")?);
+    assert!(rt; gives(&rt, &mut session, &Command::Undo, BEFORE)?);
+    assert!(rt; gives(&rt, &mut session, &Command::Redo, b"X=1\nY=2\n")?);
     assert!(rt; !heap.has_refused());
     Ok(())
 }
@@ -205,16 +205,16 @@ fn one_before(rt: &HostRuntime, lines: usize) -> Result<Vec<u8>, Fail> {
 fn growths_after(
     heap: &Heap,
     text: &[u8],
-    edit: &Request<&Heap>,
+    edit: &Command<&Heap>,
     times: usize,
-    request: &Request<&Heap>,
+    command: &Command<&Heap>,
 ) -> Result<Growths, Fail> {
     let mut session = Session::open(heap, text, 100)?;
     for _ in 0..times {
-        edit.make(&mut session)?;
+        session.obey(edit)?;
     }
     heap.refuse_none();
-    request.make(&mut session)?;
+    session.obey(command)?;
     Ok(heap.passed())
 }
 
@@ -223,11 +223,11 @@ fn the_growths_of_an_edit_hang_on_its_line_alone(rt: HostRuntime) -> Result<(), 
     let heap = Watched::new(rt.alloc());
     let (few, many) = (one_before(&rt, 1)?, one_before(&rt, 1_000)?);
     let edit = set(&heap, b"A", b"3")?;
-    for request in [set(&heap, b"A", b"2")?, unset(&heap, b"A")?] {
-        let growths = growths_after(&heap, few.as_slice(), &edit, 0, &request)?;
+    for command in [set(&heap, b"A", b"2")?, unset(&heap, b"A")?] {
+        let growths = growths_after(&heap, few.as_slice(), &edit, 0, &command)?;
         assert!(rt; growths.count > 0);
         for times in [0, 50] {
-            let others = growths_after(&heap, many.as_slice(), &edit, times, &request)?;
+            let others = growths_after(&heap, many.as_slice(), &edit, times, &command)?;
             assert_eq!(rt; others, growths);
         }
     }

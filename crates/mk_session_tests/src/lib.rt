@@ -3,11 +3,11 @@
 #![tactic(auto)]
 
 #[cfg(test)]
+mod edits;
+#[cfg(test)]
 mod growths;
 #[cfg(test)]
 mod many_calls;
-#[cfg(test)]
-mod requests;
 #[cfg(test)]
 mod rereads;
 #[cfg(test)]

@@ -1,8 +1,7 @@
 //! Many calls in turn over hostile makefiles, beside a list of texts that says what undo and redo owe.
-use crate::requests::Request;
 use crate::texts::{ensure, is_as_parsed, text_of};
 use mk_class::Flavor;
-use mk_session::{Colons, Edit, Place, Refusal, Session};
+use mk_session::{Colons, Command, Edit, Place, Refusal, Session};
 use std::alloc::AllocError;
 use std::test::Fail;
 
@@ -157,16 +156,16 @@ fn recipe_edit(rt: &HostRuntime, numbers: &mut Numbers) -> Result<Edit, AllocErr
     })
 }
 
-fn request(rt: &HostRuntime, numbers: &mut Numbers) -> Result<Request, AllocError> {
+fn command(rt: &HostRuntime, numbers: &mut Numbers) -> Result<Command, AllocError> {
     Ok(match numbers.below(20) {
-        0..=3 => Request::Apply(variable_edit(rt, numbers)?),
-        4..=7 => Request::Apply(rule_edit(rt, numbers)?),
-        8..=10 => Request::Apply(recipe_edit(rt, numbers)?),
-        11..=13 => Request::Undo,
-        14..=15 => Request::Redo,
-        16..=17 => Request::Begin,
-        18 => Request::End,
-        _ => Request::Cancel,
+        0..=3 => Command::Apply(variable_edit(rt, numbers)?),
+        4..=7 => Command::Apply(rule_edit(rt, numbers)?),
+        8..=10 => Command::Apply(recipe_edit(rt, numbers)?),
+        11..=13 => Command::Undo,
+        14..=15 => Command::Redo,
+        16..=17 => Command::Begin,
+        18 => Command::End,
+        _ => Command::Cancel,
     })
 }
 
@@ -256,21 +255,21 @@ fn is_answered(
     rt: &HostRuntime,
     session: &mut Session,
     texts: &mut Texts,
-    request: &Request,
+    command: &Command,
 ) -> Result<bool, Fail> {
-    let answer = request.make(session);
-    let wanted = match request {
-        Request::Apply(_) => {
+    let answer = session.obey(command);
+    let wanted = match command {
+        Command::Apply(_) => {
             if answer.is_ok() {
                 texts.edited(text_of(rt, session.doc())?)?;
             }
             return Ok(answer != Err(Refusal::NoMemory));
         }
-        Request::Undo => texts.undone()?,
-        Request::Redo => texts.redone()?,
-        Request::Begin => texts.begun()?,
-        Request::End => texts.ended()?,
-        Request::Cancel => texts.cancelled(),
+        Command::Undo => texts.undone()?,
+        Command::Redo => texts.redone()?,
+        Command::Begin => texts.begun()?,
+        Command::End => texts.ended()?,
+        Command::Cancel => texts.cancelled(),
     };
     Ok(answer == wanted)
 }
@@ -293,12 +292,12 @@ fn run_calls(
     };
     let mut made = 0u32;
     for _ in 0..50 {
-        let request = request(rt, numbers)?;
-        let answered = is_answered(rt, &mut session, &mut texts, &request)?;
+        let command = command(rt, numbers)?;
+        let answered = is_answered(rt, &mut session, &mut texts, &command)?;
         ensure(answered, "the answer is another one")?;
         let same = is_as_parsed(rt, session.doc(), texts.text.as_slice())?;
         ensure(same, "the document is another one")?;
-        if texts.forward.is_empty() && matches!(request, Request::Apply(_)) {
+        if texts.forward.is_empty() && matches!(command, Command::Apply(_)) {
             made = made.saturating_add(1);
         }
     }

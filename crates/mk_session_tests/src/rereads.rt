@@ -1,7 +1,7 @@
 //! The lines that calls read again.
-use crate::requests::{Request, assign_last, rename, unset};
+use crate::edits::{assign_last, rename, unset};
 use crate::texts::{gives, refuses};
-use mk_session::{Refusal, Session};
+use mk_session::{Command, Refusal, Session};
 use std::test::Fail;
 
 #[test]
@@ -21,8 +21,8 @@ fn a_rename_that_is_undone_and_redone_reads_no_line_again(rt: HostRuntime) -> Re
     let mut session = Session::open(rt.alloc(), text, 100)?;
     let renamed = rename(rt.alloc(), b"clean", b"tidy")?;
     assert!(rt; gives(&rt, &mut session, &renamed, tidy)?);
-    assert!(rt; gives(&rt, &mut session, &Request::Undo, text)?);
-    assert!(rt; gives(&rt, &mut session, &Request::Redo, tidy)?);
+    assert!(rt; gives(&rt, &mut session, &Command::Undo, text)?);
+    assert!(rt; gives(&rt, &mut session, &Command::Redo, tidy)?);
     assert_eq!(rt; session.rereads(), 3);
     Ok(())
 }
@@ -33,7 +33,7 @@ fn a_line_that_is_taken_out_is_not_read(rt: HostRuntime) -> Result<(), Fail> {
     let mut session = Session::open(rt.alloc(), text, 100)?;
     let removed = unset(rt.alloc(), b"X")?;
     assert!(rt; gives(&rt, &mut session, &removed, b"foo:\nbar:\n")?);
-    assert!(rt; gives(&rt, &mut session, &Request::Undo, text)?);
+    assert!(rt; gives(&rt, &mut session, &Command::Undo, text)?);
     assert_eq!(rt; session.rereads(), 0);
     Ok(())
 }
@@ -43,8 +43,8 @@ fn a_new_line_is_read_once(rt: HostRuntime) -> Result<(), Fail> {
     let mut session = Session::open(rt.alloc(), b"X=1", 100)?;
     let added = assign_last(rt.alloc(), b"Y", b"2")?;
     assert!(rt; gives(&rt, &mut session, &added, b"X=1\nY := 2\n")?);
-    assert!(rt; gives(&rt, &mut session, &Request::Undo, b"X=1")?);
-    assert!(rt; gives(&rt, &mut session, &Request::Redo, b"X=1\nY := 2\n")?);
+    assert!(rt; gives(&rt, &mut session, &Command::Undo, b"X=1")?);
+    assert!(rt; gives(&rt, &mut session, &Command::Redo, b"X=1\nY := 2\n")?);
     assert_eq!(rt; session.rereads(), 1);
     Ok(())
 }

@@ -1,8 +1,7 @@
 //! What is seen of a session after a call.
-use crate::requests::Request;
 use mk_class::Meter;
 use mk_lines::Fault;
-use mk_session::{Refusal, Session};
+use mk_session::{Command, Refusal, Session};
 use mk_tree::Doc;
 use std::alloc::Allocator;
 use std::test::Fail;
@@ -50,10 +49,10 @@ pub fn is_as_parsed<A: Allocator>(
 pub fn gives<A: Allocator + Copy>(
     rt: &HostRuntime,
     session: &mut Session<A>,
-    request: &Request<A>,
+    command: &Command<A>,
     text: &[u8],
 ) -> Result<bool, Fault> {
-    let answer = request.make(session);
+    let answer = session.obey(command);
     Ok(answer.is_ok() && is_as_parsed(rt, session.doc(), text)?)
 }
 
@@ -61,10 +60,10 @@ pub fn gives<A: Allocator + Copy>(
 pub fn refuses<A: Allocator + Copy>(
     rt: &HostRuntime,
     session: &mut Session<A>,
-    request: &Request<A>,
+    command: &Command<A>,
     cause: Refusal,
     text: &[u8],
 ) -> Result<bool, Fault> {
-    let answer = request.make(session);
+    let answer = session.obey(command);
     Ok(answer == Err(cause) && is_as_parsed(rt, session.doc(), text)?)
 }
