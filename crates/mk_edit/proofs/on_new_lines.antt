@@ -2,3 +2,4 @@
 pub mod NewLineTexts
 pub mod InsertionLemmas
 pub mod PlaceCauses
+pub mod Additions

@@ -2,3 +2,7 @@
 pub mod WordRangeLemmas
 pub mod RawPartLemmas
 pub mod HeaderBytes
+pub mod HeaderPlaces
+pub mod WordPlans
+pub mod UndependPlans
+pub mod DependPlans

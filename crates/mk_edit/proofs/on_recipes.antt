@@ -5,3 +5,5 @@ pub mod RulePlaces
 pub mod RuleRemovals
 pub mod RecipePlaces
 pub mod RecipeRemovals
+pub mod RecipeAdditions
+pub mod RecipeSettings

@@ -3,3 +3,13 @@ pub mod PlaceLemmas
 pub mod WrittenLemmas
 pub mod PiecePlaces
 pub mod LinePieces
+pub mod SizesOfWords
+pub mod SizesOfTexts
+pub mod SizesOfEffects
+pub mod CausesOfPrefix
+pub mod CausesOfRename
+pub mod LinesRenamed
+pub mod PatchTurns
+pub mod LinesAlong
+pub mod PatchPlans
+pub mod PatchLoops

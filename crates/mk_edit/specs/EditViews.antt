@@ -55,12 +55,3 @@ field_refusal (Some f) = Some (BadArgument f)
 abbrev pub IsUnset : edits.Edit → Type 0
 IsUnset (edits.RemoveAssign nth n) = Unit {0}
 IsUnset e = ⊥
-
--- (for now) the edits that are planned
-abbrev pub IsPlannedToday : edits.Edit → Type 0
-IsPlannedToday (edits.SetValue nth n v) = Unit {0}
-IsPlannedToday (edits.AppendValue nth n v) = Unit {0}
-IsPlannedToday (edits.RemoveAssign nth n) = Unit {0}
-IsPlannedToday (edits.RemoveRule nth n) = Unit {0}
-IsPlannedToday (edits.RemoveRecipe nth n k) = Unit {0}
-IsPlannedToday e = ⊥

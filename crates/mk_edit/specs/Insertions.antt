@@ -9,6 +9,7 @@ use Rattle.mk_edit_laws.specs.Edits.{Place, Bottom, Edit, AddAssign, AddRule, Ad
 use Rattle.mk_edit_laws.specs.Stretches.{Stretch}
 use Rattle.mk_edit_laws.specs.Spans.{spans_of}
 use Rattle.mk_edit_laws.specs.LineCauses.{open_line, open_define, leaning, too_long}
+use Rattle.mk_edit_laws.specs.Refusals.{causes, first_cause}
 use Rattle.mk_edit_laws.specs.declared.refusal.Refusal.{Refusal}
 use Rattle.mk_edit.specs.PlannedMoves.{follows_unended}
 use Rattle.mk_edit.specs.declared.seek.Found.{Found}
@@ -48,6 +49,10 @@ pub record IsInsertedAt (ls : List PlacedLine) (insertion : Option Stretch) (pla
 -- the causes that the place of a new line decides, in their order
 abbrev pub place_causes : (text : List ℕ) → Edit → List (Option Refusal)
 place_causes t e = let ls = classed_lines t in open_line ls e ∷ open_define ls e ∷ leaning ls e ∷ too_long t (spans_of t ls e) ∷ []
+
+-- The first cause of an edit that holds is one that the place of its new line decides, or there is none.
+abbrev pub IsDecidedByPlace : (text : List ℕ) → Edit → Type 0
+IsDecidedByPlace t e = first_cause (causes t (classed_lines t) e) ≡ first_cause (place_causes t e)
 
 -- whether a line is open, where there is one
 abbrev pub is_open_line : Option PlacedLine → Bool

@@ -16,8 +16,11 @@ pub mod RecipeEdits
 pub mod SeenHeaders
 pub mod WordCuts
 pub mod NewPrerequisites
+pub mod PrerequisiteEdits
 -- A rename
 pub mod RenamedPlaces
 pub mod RenamedTexts
+pub mod RenameEffects
+pub mod RenamePatches
 -- Edits of a value
 pub mod ValuesGiven

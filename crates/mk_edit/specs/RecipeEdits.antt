@@ -1,5 +1,7 @@
 -- The edits of rules' recipes, by their kinds.
-use Rattle.std.specs.Prelude.{◌≡◌, ℕ, List}
+use Rattle.std.specs.Prelude.{◌≡◌, ℕ, List, length}
+use Rattle.mk_lines.specs.PhysicalLines.{without_line_end}
+use Rattle.mk_lines.specs.declared.split.Span.{Span}
 use Rattle.mk_edit_laws.specs.Edits.{Edit, RemoveRule, AddRecipe, SetRecipe, RemoveRecipe}
 
 -- the removal of a rule
@@ -7,10 +9,10 @@ abbrev pub IsRuleRemoval : Edit → Type 0
 IsRuleRemoval (RemoveRule nth t) = Unit {0}
 IsRuleRemoval e = ⊥
 
--- a new recipe line of this command
-abbrev pub IsRecipeAddition : (command : List ℕ) → Edit → Type 0
-IsRecipeAddition c (AddRecipe nth t d) = d ≡ c
-IsRecipeAddition c e = ⊥
+-- a new recipe line
+abbrev pub IsRecipeAddition : Edit → Type 0
+IsRecipeAddition (AddRecipe nth t c) = Unit {0}
+IsRecipeAddition e = ⊥
 
 -- another command for the recipe line of this number
 abbrev pub IsRecipeSetting : (number : ℕ) → (command : List ℕ) → Edit → Type 0
@@ -21,3 +23,7 @@ IsRecipeSetting n c e = ⊥
 abbrev pub IsRecipeRemoval : (number : ℕ) → Edit → Type 0
 IsRecipeRemoval n (RemoveRecipe nth t k) = k ≡ n
 IsRecipeRemoval n e = ⊥
+
+-- where the command of a recipe line stands among its bytes: after the first one, up to the line end
+abbrev pub command_range : (line : List ℕ) → Span
+command_range l = record { start = 1; end = length (without_line_end l) }

@@ -10,6 +10,7 @@ use Rattle.mk_class.specs.ClassPlaces.{header_places}
 use Rattle.mk_class.specs.HeaderFits.{FitsHeader}
 use Rattle.mk_class.specs.LineParts.{IsHeaderPlaced}
 use Rattle.mk_class.specs.declared.rule.Header as header
+use Rattle.mk_class.specs.declared.class.Class.TheVariants as variants
 use Rattle.mk_tree.specs.PlacedLines.{PlacedLine}
 
 -- these are the places of this header, which the line is of
@@ -31,3 +32,12 @@ normal_span at = record { start = at.normal_start; end = at.normal_end }
 
 abbrev pub order_only_span : header.Header → Span
 order_only_span at = record { start = at.normal_end + (if at.has_order_only then 1 else 0); end = at.head_end }
+
+-- the parts of a rule's line stand at these places
+abbrev pub IsPlacedIn : PlacedLine → header.Header → Type 0
+IsPlacedIn l at = l.class ≡ variants.Header at
+
+-- a line is a rule's
+pub record IsRuleLine (l : PlacedLine) : Type 0 where
+  pub places : header.Header
+  pub class_is : IsPlacedIn l places

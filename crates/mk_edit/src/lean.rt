@@ -53,8 +53,8 @@ fn is_led_first<A: Allocator>(doc: &Doc<A>, from: usize, prefix: u8) -> bool
     false
 }
 
-// Whether a line begins with a byte.
-fn begins_with(line: &[u8], prefix: u8) -> bool
+/// Whether a line begins with a byte.
+pub(crate) fn begins_with(line: &[u8], prefix: u8) -> bool
     ensures { result ≡ is_prefix_led prefix line.now }
 {
     matches!(line, [first, ..] if *first == prefix)

@@ -24,18 +24,27 @@
 //! - `moves`: the patches of edits whose causes are decided.
 //! - `unrule`: the removal of a rule.
 //! - `recipe_del`: the removal of a recipe line.
+//! - `recipe_set`: another command for a recipe line.
 //! - `new_line`: the text of new lines.
 //! - `insertion`: where new lines go, and the causes of refusal that their places decide.
+//! - `addition`: new lines, planned.
+//! - `recipe_add`: a new recipe line, planned.
 //! - `prerequisite`: the prerequisites in the line of a rule.
+//! - `depend`: a new prerequisite, and one less, planned.
 //! - `value`: edits of a value, planned.
 //! - `removals`: edits that take lines out.
 //! - `word_parts`: the words of a line that a rename replaces.
 //! - `tally`: these words counted.
 //! - `renamed_line`: the bytes of a line after a rename.
+//! - `rename_causes`: the causes of refusal of a rename.
+//! - `rename_patch`: the patch of a rename whose causes are decided.
+//! - `rename`: a rename, planned.
 #![tactic(auto)]
 
+mod addition;
 mod address;
 mod argument;
+mod depend;
 pub mod edit;
 mod find;
 mod insertion;
@@ -50,8 +59,13 @@ pub mod planning;
 mod prerequisite;
 mod range;
 mod recipe;
+mod recipe_add;
 mod recipe_del;
+mod recipe_set;
 mod removals;
+mod rename;
+mod rename_causes;
+mod rename_patch;
 mod renamed_line;
 mod seek;
 mod tally;

@@ -102,8 +102,15 @@ pub(crate) fn insert_line<A: Allocator + Copy>(
     Ok(patch.finish())
 }
 
-// A patch of no step, with room for so many.
-fn builder<A: Allocator + Copy>(alloc: A, room: usize) -> Result<PatchBuilder<A>, Refusal>
+/// A patch of no step, with room for so many.
+///
+/// # Errors
+///
+/// [`Refusal::NoMemory`] where there is no memory for so many.
+pub(crate) fn builder<A: Allocator + Copy>(
+    alloc: A,
+    room: usize,
+) -> Result<PatchBuilder<A>, Refusal>
     ensures empty { IfOk result (λ patch. patch ≡ record { moves = []; room = room }) }
     ensures refused { IsOkUnless result Refusal.NoMemory }
 {
@@ -145,8 +152,12 @@ fn last_line_ended<A: Allocator + Copy>(alloc: A, doc: &Doc<A>) -> Result<LineBy
     }
 }
 
-// A line of these bytes, read in a context.
-fn read_line<A: Allocator + Copy>(
+/// A line of these bytes, read in a context. It is of no conditional.
+///
+/// # Errors
+///
+/// [`Refusal::NoMemory`] where a growth was refused.
+pub(crate) fn read_line<A: Allocator + Copy>(
     alloc: A,
     bytes: Vec<u8, A>,
     context: Context,

@@ -3,12 +3,17 @@ ghost use Rattle.std.specs.Prelude.{◌≤◌, ◌+◌, IfOk, IfErr};
 ghost use Rattle.mk_tree.specs.Documents.{IsFaithful};
 ghost use Rattle.mk_tree.specs.PlacedLines.{placed_text};
 ghost use Rattle.mk_edit_laws.specs.Costs.{cost};
-ghost use Rattle.mk_edit.specs.EditViews.{IsPlannedToday, edit_of};
+ghost use Rattle.mk_edit.specs.EditViews.{edit_of};
 ghost use Rattle.mk_edit.specs.Planned.{IsPlanned, IsRefusal};
 
+use crate::addition::plan_addition;
+use crate::depend::{plan_depend, plan_undepend};
 use crate::edit::Edit;
+use crate::recipe_add::plan_recipe;
 use crate::recipe_del::plan_recipe_del;
+use crate::recipe_set::plan_recipe_set;
 use crate::removals::unset;
+use crate::rename::plan_rename;
 use crate::unrule::plan_unrule;
 use crate::value::{plan_append_value, plan_set_value};
 use mk_class::Meter;
@@ -35,7 +40,6 @@ pub fn plan<A: Allocator + Copy>(
     meter: &mut Meter,
 ) -> Result<Patch<A>, Refusal>
     requires faithful { IsFaithful doc.now }
-    requires today { IsPlannedToday (edit_of edit.now) }
     ensures planned { IfOk result (λ patch. IsPlanned (edit_of edit.now) doc.now patch) }
     ensures refused { IfErr result (λ refusal. IsRefusal (placed_text doc.now) (edit_of edit.now) refusal) }
     ensures few_read { meter.new ≤ meter.old + cost (placed_text doc.now) (edit_of edit.now) }
@@ -44,9 +48,16 @@ pub fn plan<A: Allocator + Copy>(
     match edit {
         Edit::SetValue { value, .. } => plan_set_value(alloc, doc, edit, value, meter),
         Edit::AppendValue { value, .. } => plan_append_value(alloc, doc, edit, value, meter),
+        Edit::AddAssign { .. } | Edit::AddRule { .. } => plan_addition(alloc, doc, edit, meter),
         Edit::RemoveAssign { .. } => unset(alloc, doc, edit),
         Edit::RemoveRule { .. } => plan_unrule(alloc, doc, edit),
+        Edit::AddPrereq { order, word, .. } => plan_depend(alloc, doc, edit, *order, word, meter),
+        Edit::RemovePrereq { word, .. } => plan_undepend(alloc, doc, edit, word, meter),
+        Edit::AddRecipe { .. } => plan_recipe(alloc, doc, edit, meter),
+        Edit::SetRecipe { number, line, .. } => {
+            plan_recipe_set(alloc, doc, edit, *number, line, meter)
+        }
         Edit::RemoveRecipe { number, .. } => plan_recipe_del(alloc, doc, edit, *number),
-        _ => unreachable!(),
+        Edit::RenameTarget { from, to } => plan_rename(alloc, doc, edit, from, to, meter),
     }
 }

@@ -144,6 +144,20 @@ pub(crate) fn after_new(header: Header, order: bool, place: usize) -> &'static [
     }
 }
 
+/// How many bytes longer a line gets by a new prerequisite.
+pub(crate) fn len_of_new<A: Allocator>(
+    line: &Line<A>,
+    header: Header,
+    order: bool,
+    word: &[u8],
+) -> usize
+    requires { HasHeader (line_view line.now) header }
+    ensures { result ≡ length (new_text order (place_of_new order (text_of_line (line_view line.now)) header) word.now header) }
+{
+    let place = place_of_new(line, header, order);
+    before_new(header, order).len() + word.len() + after_new(header, order, place).len()
+}
+
 /// The line with a new prerequisite. Its bytes are taken at once.
 ///
 /// # Errors

@@ -1,6 +1,6 @@
 -- What the commands of a program are seen as: the calls of the session machine.
 use Rattle.mk_edit_laws.specs.Edits.{Edit}
-use Rattle.mk_edit.specs.EditViews.{edit_of, IsPlannedToday}
+use Rattle.mk_edit.specs.EditViews.{edit_of}
 use Rattle.mk_history.specs.Machine as machine
 use Rattle.mk_session.specs.declared.command.Command.{Command}
 use Rattle.mk_session.specs.declared.command.Command.TheVariants as command
@@ -12,8 +12,3 @@ command_of command.Redo = machine.Redo
 command_of command.Begin = machine.Begin
 command_of command.End = machine.End
 command_of command.Cancel = machine.Cancel
-
--- (for now) the commands that are obeyed
-abbrev pub IsObeyedToday : machine.Command Edit → Type 0
-IsObeyedToday (machine.Apply e) = IsPlannedToday e
-IsObeyedToday c = Unit {0}

@@ -1,5 +1,5 @@
 //! The calls of a session as values, for programs that read them.
-ghost use Rattle.mk_session.specs.CommandViews.{IsObeyedToday, command_of};
+ghost use Rattle.mk_session.specs.CommandViews.{command_of};
 ghost use Rattle.mk_session.specs.Calls.{IsAnswered};
 
 use crate::session::Session;
@@ -30,7 +30,6 @@ impl<A: Allocator + Copy> Session<A> {
     ///
     /// Those of the call that the command stands for.
     pub fn obey(&mut self, command: &Command<A>) -> Result<(), Refusal>
-        requires today { IsObeyedToday (command_of command.now) }
         ensures { IsAnswered (command_of command.now) result self.old self.new }
     {
         match command {

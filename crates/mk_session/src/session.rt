@@ -2,7 +2,7 @@
 ghost use Rattle.std.specs.Prelude.{◌≡◌, ◌≤◌, ◌+◌, ◌<◌, ◌↔◌, ◌^◌, Ok, Err, IfOk, IfErr, OnOk, OnErr, length, is_some, Some, None};
 ghost use Rattle.mk_tree.specs.Documents.{IsFaithful, IsFaithfulTo, IsTooDeep};
 ghost use Rattle.mk_edit_laws.specs.Costs.{cost};
-ghost use Rattle.mk_edit.specs.EditViews.{IsPlannedToday, edit_of};
+ghost use Rattle.mk_edit.specs.EditViews.{edit_of};
 ghost use Rattle.mk_history.specs.Machine.{Apply, Undo, Redo, Begin, End, Cancel};
 ghost use Rattle.mk_history.specs.Machine as machine;
 ghost use Rattle.mk_session.specs.Sessions.{IsBadDepth, IsBeginRefusal, IsEditRefusal, IsOpeningFault, IsRefusedBy, answer, seen_opened};
@@ -94,7 +94,6 @@ impl<A: Allocator + Copy> Session<A> {
     /// The first [`Refusal`] of the edit whose cause holds (the first fifteen); else
     /// [`Refusal::NoMemory`] where a growth was refused. An open group stays open.
     pub fn apply(&mut self, edit: &Edit<A>) -> Result<(), Refusal>
-        requires today { IsPlannedToday (edit_of edit.now) }
         ensures done { OnOk result (answer (Apply (edit_of edit.now)) self.old.shown ≡ Ok self.new.shown) }
         ensures refused { IfErr result (λ refusal. IsEditRefusal (edit_of edit.now) self.old.shown refusal) }
         ensures same { OnErr result (self.new.shown ≡ self.old.shown) }

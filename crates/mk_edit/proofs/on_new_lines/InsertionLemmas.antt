@@ -1,5 +1,5 @@
 -- Where a new line goes in a document: at the end, or before or after the line that its place names.
-use Rattle.std.proofs.Common.{◌≡◌, refl, sym, ap, ◌∙◌, arith, ℕ, ◌+◌, ◌<◌, ◌≤◌, ◌==◌, ◌&&◌, Bool, true, false, List, [], ◌∷◌, ◌++◌, length, take, drop, append_assoc, length-append, Option, Some, None, option_map, eq-eqb}
+use Rattle.std.proofs.Common.{◌≡◌, refl, sym, ap, ◌∙◌, arith, ℕ, ◌+◌, ◌≤◌, ◌==◌, ◌&&◌, Bool, true, false, List, [], ◌∷◌, ◌++◌, length, take, drop, append_assoc, length-append, Option, Some, None, option_map, eq-eqb}
 use Rattle.std.proofs.lemmas.List.{append-nil, map-append, length-map}
 use Rattle.std.proofs.lemmas.Bool.{ne_eqb}
 use Rattle.std.proofs.Math.Seq.{take-append_seam, drop-append_seam}
@@ -50,22 +50,21 @@ found-within ls a f h F =
     let w = found-spot (classed_lines (placed_text ls)) a s F.found_is in
     omega (arith, F.place_is, ap length h, length-map (classed_lines (placed_text ls)) placed_line, ap length w, length-append s.above (s.line ∷ s.below))
 
+-- the place between two lines of the text that a stretch keeps apart
+pub inserted-between : (ls : List PlacedLine) (o : Option Stretch) (s : Stretch) (g : Found) → o ≡ Some s → classed_lines (placed_text ls) ≡ s.above ++ s.below → length s.above ≡ g.at
+    → IsPlaceOf ls g → IsInsertedAt ls o g
+inserted-between ls o s g found whole at context =
+    let front : take g.at (classed_lines (placed_text ls)) ≡ s.above = ap (take g.at) whole ∙ (ap (λ m. take m (s.above ++ s.below)) (sym at) ∙ take-append_seam s.above s.below) in
+    record { stretch = s; stretch_is = found; whole = whole; place_is = at; context_is = sym (ap (λ (z : List ClassedLine). context_of z) front) ∙ context }
+
 pub inserted-after : (ls : List PlacedLine) (a : Address) (f g : Found) → IsFoundAt (classed_lines (placed_text ls)) a f → g.at ≡ f.at + 1
     → IsPlaceOf ls g → IsInsertedAt ls (option_map after_line (found (classed_lines (placed_text ls)) a)) g
 inserted-after ls a f g F at context =
     let s = F.spot in
-    let up = s.above ++ s.line ∷ [] in
-    let whole : classed_lines (placed_text ls) ≡ up ++ s.below =
+    let whole : classed_lines (placed_text ls) ≡ (s.above ++ s.line ∷ []) ++ s.below =
     found-spot (classed_lines (placed_text ls)) a s F.found_is ∙ sym (append_assoc s.above (s.line ∷ []) s.below) in
-    let n : f.at + 1 ≡ length up = omega (arith, F.place_is, length-append s.above (s.line ∷ [])) in
-    let front : take (f.at + 1) (classed_lines (placed_text ls)) ≡ up = ap (take (f.at + 1)) whole ∙ (ap (λ m. take m (up ++ s.below)) n ∙ take-append_seam up s.below) in
-    record {
-      stretch = after_line s;
-      stretch_is = ap (option_map after_line) F.found_is;
-      whole = whole;
-      place_is = sym n ∙ sym at;
-      context_is = sym (ap (λ (z : List ClassedLine). context_of z) front) ∙ (ap (λ n. context_of (take n (classed_lines (placed_text ls)))) (sym at) ∙ context);
-    }
+    let place : length (s.above ++ s.line ∷ []) ≡ g.at = omega (arith, F.place_is, at, length-append s.above (s.line ∷ [])) in
+    inserted-between ls _ (after_line s) g (ap (option_map after_line) F.found_is) whole place context
 
 -- ---- the document there
 

@@ -80,7 +80,7 @@ drop-at : {A : Type 0} (n : ℕ) (p q : List A) → n ≡ length p → drop n (p
 drop-at n p q h = ap (λ m. drop m (p ++ q)) h ∙ drop-append_seam p q
 
 -- the raw bytes before a place, and between two
-raw-front : (cs X Y : List Cell) (n : ℕ) → cs ≡ X ++ Y → n ≡ length X → raw_between cs 0 n ≡ raw_text X
+pub raw-front : (cs X Y : List Cell) (n : ℕ) → cs ≡ X ++ Y → n ≡ length X → raw_between cs 0 n ≡ raw_text X
 raw-front cs X Y n h k = ap raw_text (ap (λ z. slice_range z 0 n) h ∙ slice-at 0 n [] X Y refl (omega (arith, k)))
 
 raw-mid : (cs F X Y : List Cell) (s e : ℕ) → cs ≡ F ++ (X ++ Y) → s ≡ length F → e ≡ length F + length X → raw_between cs s e ≡ raw_text X

@@ -1,13 +1,12 @@
 -- The rule that an edit means, as it stands in a document: its header, its recipe, and the lines below.
-use Rattle.std.proofs.Common.{◌≡◌, refl, sym, ap, ◌∙◌, subst, arith, ℕ, ◌+◌, List, [], ◌∷◌, ◌++◌, length, drop, drop-drop, Option, Some, None}
-use Rattle.std.proofs.lemmas.List.{drop-map}
-use Rattle.std.proofs.Math.Seq.{drop-append-add}
+use Rattle.std.proofs.Common.{◌≡◌, sym, ap, ◌∙◌, arith, ℕ, ◌+◌, ◌≤◌, List, ◌∷◌, ◌++◌, length, length-append, drop, drop-drop, Option, Some, None, refl, subst, [], take}
+use Rattle.std.proofs.lemmas.List.{drop-map, length-map}
+use Rattle.std.proofs.Math.Seq.{drop-append-add, take-append_seam}
 use Rattle.mk_lines.specs.Cells.{Cell}
 use Rattle.mk_class.specs.Headers
-use Rattle.mk_class.specs.Classes.{Class}
 use Rattle.mk_class.specs.Classes.Class.{Header}
 use Rattle.mk_class.specs.Contexts.{Context}
-use Rattle.mk_class.specs.ClassedLines.{ClassedLine, classed_lines, context_after_lines}
+use Rattle.mk_class.specs.ClassedLines.{classed_lines, context_after_lines}
 use Rattle.mk_class.specs.declared.context.Flag.TheVariants as flag
 use Rattle.mk_tree.specs.Documents.{IsFaithful, context_of}
 use Rattle.mk_tree.specs.PlacedLines.{PlacedLine, placed_line, placed_lines, placed_text}
@@ -16,11 +15,10 @@ use Rattle.mk_tree.proofs.on_documents.LinePlaces.{located, context_of-append}
 use Rattle.mk_tree.proofs.on_changes.RecipeRunLemmas.{rule-context, recipe_run-after, recipe_run-stays}
 use Rattle.mk_edit_laws.specs.Spots.{Spot}
 use Rattle.mk_edit_laws.specs.Addresses.{Rule, found}
-use Rattle.mk_edit_laws.specs.Causes.{where_holds}
 use Rattle.mk_edit_laws.specs.AddressCauses.{no_such_line, ambiguous_line}
 use Rattle.mk_edit_laws.proofs.on_edits.Accepted.{where_holds-none}
-use Rattle.mk_edit_laws.proofs.on_lines.SpotLemmas.{FoundRule, rule-found}
-use Rattle.mk_edit_laws.specs.declared.refusal.Refusal.TheVariants.{NoSuch, Ambiguous}
+use Rattle.mk_edit_laws.proofs.on_lines.SpotLemmas.{rule-found}
+use Rattle.mk_edit_laws.specs.declared.refusal.Refusal.TheVariants.{NoSuch}
 use Rattle.mk_edit.specs.Found.{IsFoundAt}
 use Rattle.mk_edit.specs.RecipeWalks.{lines_from}
 use Rattle.mk_edit.specs.declared.seek.Found.{Found}
@@ -71,3 +69,12 @@ rule-at ls nth g f h there one F =
       flag_is = ap (λ (c : Context). c.flag) into ∙ C.flag;
       prefix_is = ap (λ (c : Context). c.prefix) into ∙ (C.prefix ∙ ap (λ (c : Context). c.prefix) F.context_is);
     }
+
+-- the recipe of the rule ends within the document
+pub rule-within : (ls : List PlacedLine) (nth : Option ℕ) (g : List ℕ) (f : Found) → IsFaithful ls → IsRuleAt ls nth g f → f.at + 1 + length (recipe_run (lines_from ls (f.at + 1))) ≤ length ls
+rule-within ls nth g f h R =
+    let s = R.spot in
+    let ends : length (recipe_run (lines_from ls (f.at + 1))) ≡ length (recipe_run s.below) = ap (λ z. length (recipe_run z)) R.below_is in
+    let below : length s.below ≡ length (recipe_run s.below) + length (after_recipe s.below) = ap length (sym (recipe_run-after s.below)) ∙ length-append (recipe_run s.below) (after_recipe s.below) in
+    let all : length ls ≡ length s.above + length (s.line ∷ s.below) = ap length h ∙ (length-map (classed_lines (placed_text ls)) placed_line ∙ (ap length R.line.lines ∙ length-append s.above (s.line ∷ s.below))) in
+    omega (arith, ends, below, all, R.place_is)

@@ -1,15 +1,14 @@
 -- The removal of a rule: its causes by what the code asks, and its plan.
-use Rattle.std.proofs.Common.{◌≡◌, refl, sym, ap, ◌∙◌, subst, arith, ℕ, suc, ◌+◌, ◌-◌, ◌^◌, ◌<◌, ◌≤◌, ◌&&◌, ◌||◌, not, true, false, Bool, List, [], ◌∷◌, ◌++◌, length, length-append, drop, Option, Some, None, option_map}
+use Rattle.std.proofs.Common.{◌≡◌, refl, sym, ap, ◌∙◌, arith, ℕ, ◌+◌, ◌-◌, ◌^◌, ◌<◌, ◌≤◌, ◌&&◌, not, true, false, Bool, List, [], ◌∷◌, ◌++◌, length, drop, Option, Some, None, option_map}
 use Rattle.std.specs.Prelude.{Ok, Err, nat_lt, slice_get}
 use Rattle.std.proofs.lemmas.Bool.{lt-ltb, le-ltb}
-use Rattle.std.proofs.lemmas.List.{length-map}
 use Rattle.mk_lines.specs.Cells.{Cell, joined_byte, joined_text, line_cells}
 use Rattle.mk_lines.specs.Ranges.{text_at}
-use Rattle.mk_lines.specs.Pieces.{Replacement, replaced}
+use Rattle.mk_lines.specs.Pieces.{Replacement}
 use Rattle.mk_class.specs.Lists.{any}
 use Rattle.mk_class.specs.Texts.{word_texts}
 use Rattle.mk_class.specs.Headers
-use Rattle.mk_class.specs.Classes.{Class, is_conditional}
+use Rattle.mk_class.specs.Classes.{is_conditional}
 use Rattle.mk_class.specs.Classes.Class.{Header}
 use Rattle.mk_class.specs.ClassPlaces.{class_places}
 use Rattle.mk_class.specs.Contexts.{Context}
@@ -20,25 +19,21 @@ use Rattle.mk_class.proofs.on_classes.FirstWordLemmas.{text_words-words}
 use Rattle.mk_class.proofs.on_classes.LinePartLemmas.{line-parts_placed}
 use Rattle.mk_class.specs.declared.context.Flag.{Flag}
 use Rattle.mk_class.specs.declared.context.Flag.TheVariants as flag
-use Rattle.mk_tree.specs.Documents.{IsFaithful, text_of, context_of}
+use Rattle.mk_tree.specs.Documents.{IsFaithful, context_of}
 use Rattle.mk_tree.specs.Leaning.{is_same_flag, leans}
 use Rattle.mk_tree.specs.PlacedLines.{PlacedLine, placed_line, placed_lines, placed_text, size_of}
 use Rattle.mk_tree.specs.RecipeLines.{recipe_run, after_recipe}
-use Rattle.mk_tree.proofs.on_documents.LinePlaces.{located-run}
-use Rattle.mk_tree.proofs.on_changes.RecipeRunLemmas.{recipe_run-after}
-use Rattle.mk_tree.proofs.on_changes.RunsReplaced.{text-run_replaced}
 use Rattle.mk_tree.proofs.on_changes.Sizes.{size_of-text}
 use Rattle.mk_edit_laws.specs.Edits.{Edit, RemoveRule}
 use Rattle.mk_edit_laws.specs.Spots.{Spot}
 use Rattle.mk_edit_laws.specs.Addresses.{Rule, targets_of, found}
-use Rattle.mk_edit_laws.specs.Stretches.{Stretch, whole_rule, removal}
+use Rattle.mk_edit_laws.specs.Stretches.{whole_rule}
 use Rattle.mk_edit_laws.specs.Spans.{removed_span, spans_of, where_found}
 use Rattle.mk_edit_laws.specs.Causes.{where_holds}
 use Rattle.mk_edit_laws.specs.RuleCauses.{class_found, targets_found, shared_by, shared_rule, has_conditional, straddles}
 use Rattle.mk_edit_laws.specs.LineCauses.{removal_leans, leaning, too_long}
 use Rattle.mk_edit_laws.specs.Lengths.{bytes_put}
 use Rattle.mk_edit_laws.specs.Refusals.{spans}
-use Rattle.mk_edit_laws.specs.declared.refusal.Refusal.{Refusal}
 use Rattle.mk_edit_laws.specs.declared.refusal.Refusal.TheVariants.{SharedRule, Straddles, Leans}
 use Rattle.mk_edit.specs.Found.{IsAddressed}
 use Rattle.mk_edit.specs.PlacedParts.{words_before}
@@ -51,7 +46,7 @@ use Rattle.mk_edit.proofs.on_finding.LeanLemmas.{led_first-placed}
 use Rattle.mk_edit.proofs.on_plans.CausePlans.{never-long}
 use Rattle.mk_edit.proofs.on_plans.LinePlans.{IsTakenOut, lines-taken_out}
 use Rattle.mk_edit.proofs.on_recipes.OwnCauses.{own-refused, own-accepted}
-use Rattle.mk_edit.proofs.on_recipes.RulePlaces.{IsRuleAt, rule-at}
+use Rattle.mk_edit.proofs.on_recipes.RulePlaces.{IsRuleAt, rule-at, rule-within}
 
 -- ---- the targets of a header
 
@@ -130,7 +125,7 @@ pub record IsRemovalOf (e : Edit) (ls : List PlacedLine) (f : Found) : Type 0 wh
 rule-removal : (nth : Option ℕ) (g : List ℕ) (ls : List PlacedLine) (f : Found) → IsFaithful ls → IsAddressed (RemoveRule nth g) ls f → IsRemovalOf (RemoveRule nth g) ls f
 rule-removal nth g ls f h A = record {
   within = R.line.within;
-  end_within = omega (arith, ends, after, number, R.place_is);
+  end_within = rule-within ls nth g f h R;
   shared = λ l n i k m. own-refused e ls f (SharedRule n) A (holds (shared_rule lines e) _ (SharedRule n) (shared-is ls nth g f l n R i k ∙ ap (λ b. where_holds b (SharedRule n)) (lt-ltb 1 n m)));
   straddling = λ l n i k m b. own-refused e ls f Straddles A
       (passed (shared_rule lines e) _ (Some Straddles) (one l n i k m) (holds (straddles lines e) _ Straddles (straddles-is ls nth g f true R b)));
@@ -159,15 +154,6 @@ rule-removal nth g ls f h A = record {
 
     s : Spot
     s = R.spot
-
-    ends : length (recipe_run (lines_from ls (f.at + 1))) ≡ length (recipe_run s.below)
-    ends = ap (λ z. length (recipe_run z)) R.below_is
-
-    after : length s.below ≡ length (recipe_run s.below) + length (after_recipe s.below)
-    after = ap length (sym (recipe_run-after s.below)) ∙ length-append (recipe_run s.below) (after_recipe s.below)
-
-    number : length ls ≡ length (s.above) + suc (length s.below)
-    number = ap length h ∙ (length-map lines placed_line ∙ (ap length R.line.lines ∙ length-append s.above (s.line ∷ s.below)))
 
     one : (l : PlacedLine) (n : ℕ) → Some l ≡ slice_get ls f.at → n ≡ length (header_targets_placed l) → n ≤ 1 → shared_rule lines e ≡ None
     one l n i k m = shared-is ls nth g f l n R i k ∙ ap (λ b. where_holds b (SharedRule n)) (le-ltb 1 n m)

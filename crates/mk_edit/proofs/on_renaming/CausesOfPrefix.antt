@@ -1,0 +1,130 @@
+-- Whether a rename makes a line begin with the recipe prefix: a word at the very front of the line is replaced, and the new word
+-- begins with the prefix.
+use Rattle.std.proofs.Common.{◌≡◌, refl, sym, ap, ◌∙◌, subst, arith, ℕ, ◌+◌, ◌==◌, ◌<◌, ◌&&◌, ◌||◌, Bool, true, false, List, [], ◌∷◌, ◌++◌, length}
+use Rattle.std.specs.Prelude.{nat_lt}
+use Rattle.std.proofs.lemmas.Bool.{ne_eqb}
+use Rattle.mk_lines.specs.Cells.{Cell, joined_byte, line_cells, raw_text}
+use Rattle.mk_lines.specs.Pieces.{Piece, Keep, Replace, Replacement, new_bytes, old_bytes, replacements}
+use Rattle.mk_lines.specs.Units.{units}
+use Rattle.mk_lines.specs.declared.split.Span.{Span}
+use Rattle.mk_class.specs.Lists.{any}
+use Rattle.mk_class.specs.RecipePrefix.{is_prefix_led}
+use Rattle.mk_class.specs.Classes.{Class}
+use Rattle.mk_class.specs.Classes.Class.{Endef, Body, Recipe, Opaque, Blank, Comment, Assign, DefineHead, If, Else, Endif, Directive, TargetAssign, Rough, Header}
+use Rattle.mk_class.specs.ClassTable.{class_of, is_unreadable}
+use Rattle.mk_class.specs.ClassedLines.{ClassedLine, classed_lines}
+use Rattle.mk_class.specs.Contexts.{Context, start, context_after}
+use Rattle.mk_class.proofs.on_classes.ClassHolds.{Holds, class_at-holds}
+use Rattle.mk_tree.specs.Documents.{IsFaithful}
+use Rattle.mk_tree.specs.PlacedLines.{PlacedLine, placed_line, placed_lines, placed_text}
+use Rattle.mk_tree.proofs.on_documents.LinePlaces.{AreClassed, AreClassed-class, AreClassed-tail, AreClassed-lines}
+use Rattle.mk_edit_laws.specs.AddressCauses.{begins_renamed_line, begins_some_renamed_line}
+use Rattle.mk_edit_laws.specs.WordPieces.{is_replaced, renamed_pieces}
+use Rattle.mk_edit.specs.RenamedPlaces.{is_at_front, renamed_places}
+use Rattle.mk_edit.specs.RenameEffects.{begins_some_line}
+use Rattle.mk_edit.proofs.on_renaming.PiecePlaces.{replacing}
+use Rattle.mk_edit.proofs.on_renaming.LinePieces.{BeginsWith, line-begins, line-pieces}
+
+and-false : (b : Bool) → (b && false) ≡ false
+and-false true = refl
+and-false false = refl
+
+-- ---- pieces
+
+-- the start and the text of the first of some replacements, where there is one
+first_start : List Replacement → ℕ
+first_start [] = 0
+first_start (r ∷ rs) = r.start
+
+first_new : List Replacement → List ℕ
+first_new [] = []
+first_new (r ∷ rs) = r.new
+
+others : List Replacement → List Replacement
+others [] = []
+others (r ∷ rs) = rs
+
+-- pieces after the front of a line replace no range at the front
+after-front : (n : List ℕ) (at : ℕ) (ps : List Piece) (ss : List Span) → 0 < at → replacing n ss ≡ replacements at ps → any is_at_front ss ≡ false
+after-front n at [] [] h k = refl
+after-front n at [] (s ∷ ss) h k = absurd (cc)
+after-front n at (Keep cs ∷ ps) ss h k = after-front n (at + length (raw_text cs)) ps ss (omega (arith, h)) k
+after-front n at (Replace cs v ∷ ps) [] h k = absurd (cc)
+after-front n at (Replace cs v ∷ ps) (s ∷ ss) h k =
+    let e : s.start ≡ at = unfold first_start in ap first_start k in
+    let r : replacing n ss ≡ replacements (at + length (raw_text cs)) ps = unfold others in ap others k in
+    ap (λ b. b || any is_at_front ss) (ne_eqb s.start 0 (λ i. absurd (omega (arith, i, e, h)))) ∙ after-front n (at + length (raw_text cs)) ps ss (omega (arith, h)) r
+
+-- Pieces that begin a line, of which a text replaces some: with this text or the old bytes in front, they begin with a byte where
+-- the text does and replaces the front. The old bytes do not.
+pieces-led : (p : ℕ) (n : List ℕ) (ps : List Piece) (ss : List Span) → 0 < length n → replacing n ss ≡ replacements 0 ps → is_prefix_led p (old_bytes ps) ≡ false
+    → (any is_replaced ps && is_prefix_led p (new_bytes ps)) ≡ (any is_at_front ss && is_prefix_led p n)
+pieces-led p n [] [] h k f = refl
+pieces-led p n [] (s ∷ ss) h k f = absurd (cc)
+pieces-led p n (Keep cs ∷ ps) ss h k f = go (raw_text cs) k f (pieces-led p n ps ss h)
+  where
+    go : (r : List ℕ) → replacing n ss ≡ replacements (0 + length r) ps → is_prefix_led p (r ++ old_bytes ps) ≡ false
+        → (replacing n ss ≡ replacements 0 ps → is_prefix_led p (old_bytes ps) ≡ false → (any is_replaced ps && is_prefix_led p (new_bytes ps)) ≡ (any is_at_front ss && is_prefix_led p n))
+        → (any is_replaced ps && is_prefix_led p (r ++ new_bytes ps)) ≡ (any is_at_front ss && is_prefix_led p n)
+    go [] k f ih = ih k f
+    go (b ∷ r) k f ih =
+        ap (λ z. any is_replaced ps && z) f ∙ (and-false (any is_replaced ps) ∙ ap (λ z. z && is_prefix_led p n) (sym (after-front n (0 + length (b ∷ r)) ps ss (omega arith) k)))
+pieces-led p n (Replace cs v ∷ ps) [] h k f = absurd (cc)
+pieces-led p [] (Replace cs v ∷ ps) (s ∷ ss) h k f = absurd (omega (arith, h))
+pieces-led p (b ∷ n) (Replace cs v ∷ ps) (s ∷ ss) h k f =
+    let e : s.start ≡ 0 = unfold first_start in ap first_start k in
+    let w : b ∷ n ≡ v = unfold first_new in ap first_new k in
+    ap (λ z. is_prefix_led p (z ++ new_bytes ps)) (sym w) ∙ ap (λ z. ((z == 0) || any is_at_front ss) && (b == p)) (sym e)
+
+-- ---- a line
+
+-- what begins a line that does not begin with the prefix does not either
+begin-unled : (p : ℕ) (x y l : List ℕ) → l ≡ x ++ y → is_prefix_led p l ≡ false → is_prefix_led p x ≡ false
+begin-unled p [] y l e h = refl
+begin-unled p (b ∷ x) y l e h = ap (is_prefix_led p) (sym e) ∙ h
+
+-- what the table of classes says of a line of a class
+abbrev Said : (c : Context) (line : List ℕ) → Class Cell → Type 0
+Said c l k = Holds joined_byte (units joined_byte (line_cells l)) (is_prefix_led c.prefix l) (nat_lt 0 c.conditionals) (is_unreadable (line_cells l)) k
+
+said : (c : Context) (l : List ℕ) (k : Class Cell) → class_of c l ≡ k → Said c l k
+said c l k e = subst (Said c l) e (class_at-holds joined_byte (units joined_byte (line_cells l)) (is_prefix_led c.prefix l) (nat_lt 0 c.conditionals) (is_unreadable (line_cells l)) c.defines c.flag)
+
+-- a line with words to rename does not begin with the prefix in force
+line-unled : (c : Context) (l : ClassedLine) (o n : List ℕ) → class_of c l.bytes ≡ l.class → is_prefix_led c.prefix (old_bytes (renamed_pieces o n l.class)) ≡ false
+line-unled c l o n h = go l.class (said c l.bytes l.class h) (line-begins c l o n h)
+  where
+    go : (k : Class Cell) → Said c l.bytes k → BeginsWith l.bytes (renamed_pieces o n k) → is_prefix_led c.prefix (old_bytes (renamed_pieces o n k)) ≡ false
+    go (Header x) s b = begin-unled c.prefix (old_bytes (renamed_pieces o n (Header x))) b.rest l.bytes b.is s.rule.not_led
+    go (TargetAssign t) s b = begin-unled c.prefix (old_bytes (renamed_pieces o n (TargetAssign t))) b.rest l.bytes b.is s.rule.not_led
+    go (Assign a q) s b = refl
+    go Endef s b = refl
+    go (Body d) s b = refl
+    go Recipe s b = refl
+    go Opaque s b = refl
+    go Blank s b = refl
+    go Comment s b = refl
+    go (DefineHead q) s b = refl
+    go If s b = refl
+    go Else s b = refl
+    go Endif s b = refl
+    go Directive s b = refl
+    go Rough s b = refl
+
+line-led : (c : Context) (l : ClassedLine) (o n : List ℕ) → class_of c l.bytes ≡ l.class → 0 < length n
+    → begins_renamed_line c.prefix (renamed_pieces o n l.class) ≡ (any is_at_front (renamed_places o (placed_line l)) && is_prefix_led c.prefix n)
+line-led c l o n h k = pieces-led c.prefix n (renamed_pieces o n l.class) (renamed_places o (placed_line l)) k (line-pieces c l o n h) (line-unled c l o n h)
+
+-- ---- the lines of a document
+
+lines-led : (c : Context) (ls : List ClassedLine) (o n : List ℕ) → AreClassed c ls → 0 < length n → begins_some_renamed_line o n c ls ≡ begins_some_line o n c (placed_lines ls)
+lines-led c [] o n h k = refl
+lines-led c (l ∷ ls) o n h k =
+    ap (λ b. b || begins_some_renamed_line o n (context_after c l.class) ls) (line-led c l o n (AreClassed-class c l ls h) k)
+    ∙ ap (λ b. (any is_at_front (renamed_places o (placed_line l)) && is_prefix_led c.prefix n) || b) (lines-led (context_after c l.class) ls o n (AreClassed-tail c l ls h) k)
+
+-- A rename of a document makes some line begin with the prefix exactly where a word at the front of a line is replaced by such a one.
+pub rename-led : (ls : List PlacedLine) (o n : List ℕ) → IsFaithful ls → 0 < length n → begins_some_renamed_line o n start (classed_lines (placed_text ls)) ≡ begins_some_line o n start ls
+rename-led ls o n h k =
+    let ds = classed_lines (placed_text ls) in
+    lines-led start ds o n (AreClassed-lines (placed_text ls) ds refl) k ∙ ap (begins_some_line o n start) (sym h)

@@ -1,0 +1,145 @@
+-- One line after a rename: its bytes, by its pieces; where its words stand, and how many there are; how long it is.
+use Rattle.std.proofs.Common.{◌≡◌, refl, sym, ap, ◌∙◌, subst, arith, ℕ, ◌+◌, ◌-◌, ◌*◌, ◌≤◌, List, [], ◌∷◌, ◌++◌, drop, length, length-append, append_assoc, Option, Some, None}
+use Rattle.std.specs.Prelude.{slice_range, nat_lt}
+use Rattle.std.proofs.lemmas.List.{length-map, length-drop, length-take, length-take-le, drop-drop}
+use Rattle.std.proofs.lemmas.Bool.{lt-ltb}
+use Rattle.mk_lines.specs.Cells.{Cell, joined_byte, joined_text, line_cells, raw_text}
+use Rattle.mk_lines.specs.Pieces.{Piece, Keep, Replace, old_bytes, new_bytes, replaced, replacements}
+use Rattle.mk_lines.specs.PhysicalLines.{without_line_end}
+use Rattle.mk_lines.specs.Ranges.{text_at, word_ranges, word_token_ranges}
+use Rattle.mk_lines.specs.Units.{units}
+use Rattle.mk_lines.specs.Words.{tokens}
+use Rattle.mk_lines.specs.declared.split.Span.{Span}
+use Rattle.mk_lines.proofs.UnitWalkLemmas.{words_left-count}
+use Rattle.mk_lines.proofs.KeptLemmas.{length-raw_text}
+use Rattle.mk_lines.proofs.on_cells.CellLemmas.{cells-are_cells}
+use Rattle.mk_lines.proofs.on_lists.PieceLemmas.{replaced-pieces}
+use Rattle.mk_class.specs.Lists.{any}
+use Rattle.mk_class.specs.Contexts.{Context}
+use Rattle.mk_class.specs.ClassTable.{class_of}
+use Rattle.mk_class.specs.ClassedLines.{ClassedLine}
+use Rattle.mk_tree.specs.PlacedLines.{PlacedLine, placed_line}
+use Rattle.mk_edit_laws.specs.WordPieces.{renamed_pieces, is_replaced}
+use Rattle.mk_edit_laws.specs.Costs.{is_renamed}
+use Rattle.mk_edit_laws.specs.RisingSpans.{Rise}
+use Rattle.mk_edit_laws.proofs.on_edits.RisingSpanLemmas.{Rise-until, Rise-pieces}
+use Rattle.mk_edit.specs.RenamedPlaces.{place_in, places_in, before_places, part_places, renamed_places, bytes_in, word_parts}
+use Rattle.mk_edit.specs.RenamedTexts.{AreApart, written, written_to, renamed_text}
+use Rattle.mk_edit.specs.RenamePatches.{holds_word}
+use Rattle.mk_edit.proofs.on_renaming.PlaceLemmas.{cells-within}
+use Rattle.mk_edit.proofs.on_renaming.PiecePlaces.{replacing}
+use Rattle.mk_edit.proofs.on_renaming.LinePieces.{line-pieces}
+
+-- ---- ranges that stand apart
+
+-- those whose replacements rise do
+apart-rise : (a b : ℕ) (n : List ℕ) (ss : List Span) → Rise a b (replacing n ss) → AreApart a b ss
+apart-rise a b n [] h = h
+apart-rise a b n (s ∷ ss) h = (h.0, h.1, apart-rise s.end b n ss h.2)
+
+-- they have no more bytes than what they stand in
+pub apart-bytes : (a b : ℕ) (ss : List Span) → AreApart a b ss → a + bytes_in ss ≤ b
+apart-bytes a b [] h = omega (arith, h)
+apart-bytes a b (s ∷ ss) h = omega (arith, h.0, h.1, apart-bytes s.end b ss h.2)
+
+-- a text from a place on with a text for each of them is the text with the replacements made
+written-replaced : (l : List ℕ) (at : ℕ) (n : List ℕ) (ss : List Span) → AreApart at (length l) ss → written l at n ss ++ drop (written_to at ss) l ≡ replaced at (drop at l) (replacing n ss)
+written-replaced l at n [] h = refl
+written-replaced l at n (s ∷ ss) h =
+    let S = slice_range l at s.start in
+    let W = written l s.end n ss in
+    let D = drop (written_to s.end ss) l in
+    let m : at + (s.end - at) ≡ s.end = omega (arith, h.0, h.1) in
+    let d : drop (s.end - at) (drop at l) ≡ drop s.end l = drop-drop (s.end - at) at l ∙ ap (λ k. drop k l) m in
+    append_assoc S (n ++ W) D
+    ∙ ap (λ z. S ++ z) (append_assoc n W D ∙ ap (λ z. n ++ z) (written-replaced l s.end n ss h.2 ∙ ap (λ z. replaced s.end z (replacing n ss)) (sym d)))
+
+-- how long it is
+written-length : (l : List ℕ) (at : ℕ) (n : List ℕ) (ss : List Span) → AreApart at (length l) ss → length (written l at n ss ++ drop (written_to at ss) l) + (bytes_in ss + at) ≡ length l + length ss * length n
+written-length l at n [] h = omega (arith, length-drop at l, h)
+written-length l at n (s ∷ ss) h =
+    let S = slice_range l at s.start in
+    let W = written l s.end n ss in
+    let D = drop (written_to s.end ss) l in
+    let i = written-length l s.end n ss h.2 in
+    let b = apart-bytes s.end (length l) ss h.2 in
+    let k : length S ≡ s.start - at = length-take-le (s.start - at) (drop at l) (omega (arith, length-drop at l, h.0, h.1, b)) in
+    let e : length ((S ++ (n ++ W)) ++ D) ≡ length S + (length n + length (W ++ D)) =
+    ap length (append_assoc S (n ++ W) D ∙ ap (λ z. S ++ z) (append_assoc n W D)) ∙ (length-append S (n ++ (W ++ D)) ∙ ap (λ z. length S + z) (length-append n (W ++ D))) in
+    omega (arith, e, k, i, h.0, h.1)
+
+-- ---- the words of a line
+
+pub line-apart : (c : Context) (l : ClassedLine) (o n rest : List ℕ) → class_of c l.bytes ≡ l.class → l.bytes ≡ old_bytes (renamed_pieces o n l.class) ++ rest → AreApart 0 (length l.bytes) (renamed_places o (placed_line l))
+line-apart c l o n rest h e =
+    let ps = renamed_pieces o n l.class in
+    let places = renamed_places o (placed_line l) in
+    let few : 0 + length (old_bytes ps) ≤ length l.bytes = omega (arith, ap length e, length-append (old_bytes ps) rest) in
+    let r = Rise-until 0 (0 + length (old_bytes ps)) (length l.bytes) (replacements 0 ps) (Rise-pieces 0 ps) few in
+    apart-rise 0 (length l.bytes) n places (subst (Rise 0 (length l.bytes)) (sym (line-pieces c l o n h)) r)
+
+-- the line after is its pieces with each old word replaced, and its rest
+pub line-rewritten : (c : Context) (l : ClassedLine) (o n rest m : List ℕ) → class_of c l.bytes ≡ l.class → l.bytes ≡ old_bytes (renamed_pieces o n l.class) ++ rest → m ≡ new_bytes (renamed_pieces o n l.class) ++ rest
+    → renamed_text o n (placed_line l) ≡ m
+line-rewritten c l o n rest m h e k =
+    let ps = renamed_pieces o n l.class in
+    let places = renamed_places o (placed_line l) in
+    written-replaced l.bytes 0 n places (line-apart c l o n rest h e)
+    ∙ (ap (replaced 0 l.bytes) (line-pieces c l o n h) ∙ (ap (λ z. replaced 0 z (replacements 0 ps)) e ∙ (replaced-pieces [] ps rest ∙ sym k)))
+
+-- how long it is, by how many words are replaced and how many bytes they have
+pub renamed-length : (o n : List ℕ) (l : PlacedLine) → AreApart 0 (length l.bytes) (renamed_places o l) → length (renamed_text o n l) + bytes_in (renamed_places o l) ≡ length l.bytes + length (renamed_places o l) * length n
+renamed-length o n l h = omega (arith, written-length l.bytes 0 n (renamed_places o l) h)
+
+-- ---- which lines hold a word
+
+replacing-number : (n : List ℕ) (ss : List Span) → length (replacing n ss) ≡ length ss
+replacing-number n [] = refl
+replacing-number n (s ∷ ss) = omega (arith, replacing-number n ss)
+
+replaced-some : (at : ℕ) (ps : List Piece) → nat_lt 0 (length (replacements at ps)) ≡ any is_replaced ps
+replaced-some at [] = refl
+replaced-some at (Keep cs ∷ ps) = replaced-some (at + length (raw_text cs)) ps
+replaced-some at (Replace cs v ∷ ps) = lt-ltb 0 (length (replacements at (Replace cs v ∷ ps))) (omega arith)
+
+-- a line holds a word where a piece of it is replaced
+pub holds-renamed : (c : Context) (l : ClassedLine) (o n : List ℕ) → class_of c l.bytes ≡ l.class → holds_word o (placed_line l) ≡ is_renamed o n l
+holds-renamed c l o n h =
+    let places = renamed_places o (placed_line l) in
+    ap (nat_lt 0) (sym (replacing-number n places) ∙ ap length (line-pieces c l o n h)) ∙ replaced-some 0 (renamed_pieces o n l.class)
+
+-- ---- how many words there are
+
+places-few : (cs : List Cell) (at : ℕ) (o : List ℕ) (ws : List Span) → length (places_in cs at o ws) ≤ length ws
+places-few cs at o [] = omega arith
+places-few cs at o (w ∷ ws) = go (place_in cs at o w) (places-few cs at o ws)
+  where
+    go : (p : Option Span) → length (places_in cs at o ws) ≤ length ws → length (before_places p (places_in cs at o ws)) ≤ length (w ∷ ws)
+    go None h = omega (arith, h)
+    go (Some s) h = omega (arith, h)
+
+words-few : (t : List ℕ) → length (word_ranges t) ≤ length t
+words-few t =
+    let e : length t - length t ≡ 0 = omega arith in
+    subst (λ m. length (word_token_ranges m (tokens (λ b. b) (units (λ b. b) t))) ≤ length t) e (words_left-count (length t) t)
+
+part-few : (t : List ℕ) (p : Span) → length (text_at t p) ≤ length t
+part-few t p = omega (arith, length-take (p.end - p.start) (drop p.start t), length-drop p.start t)
+
+part_places-few : (cs : List Cell) (o : List ℕ) (p : Span) → length (part_places cs o p) ≤ length cs
+part_places-few cs o p =
+    let t = text_at (joined_text cs) p in
+    omega (arith, places-few cs p.start o (word_ranges t), words-few t, part-few (joined_text cs) p, length-map cs joined_byte)
+
+cells-few : (l : List ℕ) → length (line_cells l) ≤ length l
+cells-few l = omega (arith, length-raw_text (line_cells l) (cells-are_cells (without_line_end l)), cells-within l)
+
+-- in each part no more than the line has bytes
+pub renamed-few : (o : List ℕ) (l : PlacedLine) → length (renamed_places o l) ≤ 3 * length l.bytes
+renamed-few o l =
+    let cs = line_cells l.bytes in
+    let p = word_parts l.class in
+    let a = part_places cs o p.targets in
+    let b = part_places cs o p.normal in
+    let c = part_places cs o p.order_only in
+    omega (arith, length-append a (b ++ c), length-append b c, part_places-few cs o p.targets, part_places-few cs o p.normal, part_places-few cs o p.order_only, cells-few l.bytes)

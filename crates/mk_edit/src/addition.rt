@@ -1,0 +1,84 @@
+//! New lines, planned: those of assignments and of rules, and what all new lines share.
+ghost use Rattle.std.specs.Prelude.{◌≡◌, ◌≤◌, ◌+◌, IfOk, IfErr};
+ghost use Rattle.mk_class.specs.ClassedLines.{classed_lines};
+ghost use Rattle.mk_tree.specs.Documents.{IsFaithful};
+ghost use Rattle.mk_tree.specs.PlacedLines.{placed_text};
+ghost use Rattle.mk_edit_laws.specs.Costs.{cost};
+ghost use Rattle.mk_edit_laws.specs.Stretches.{insertion};
+ghost use Rattle.mk_edit.specs.EditViews.{edit_of};
+ghost use Rattle.mk_edit.specs.Insertions.{IsDecidedByPlace, IsInsertedAt, IsOfNewLine, IsOfPlace};
+ghost use Rattle.mk_edit.specs.Planned.{IsPlanned, IsRefusal};
+
+use crate::edit::Edit;
+use crate::find::find;
+use crate::insertion::{insertion_of, place_refusal};
+use crate::line_end::file_line_end;
+use crate::moves::insert_line;
+use crate::new_line::{begins_with_prefix, new_line};
+use crate::seek::Found;
+use mk_class::Meter;
+use mk_edit_laws::Refusal;
+use mk_patch::Patch;
+use mk_tree::Doc;
+use std::alloc::Allocator;
+
+/// Plans the new line of an assignment or of a rule. It reads this line.
+///
+/// # Errors
+///
+/// The first cause of the edit that holds: those of [`find`], [`Refusal::RecipePrefix`] where the new
+/// line would begin with the recipe prefix in force at its place, and those of [`place_refusal`].
+/// Where none holds, [`Refusal::NoMemory`] where a growth was refused.
+pub(crate) fn plan_addition<A: Allocator + Copy>(
+    alloc: A,
+    doc: &Doc<A>,
+    edit: &Edit<A>,
+    meter: &mut Meter,
+) -> Result<Patch<A>, Refusal>
+    requires faithful { IsFaithful doc.now }
+    requires kind { IsOfPlace (edit_of edit.now) }
+    ensures planned { IfOk result (λ patch. IsPlanned (edit_of edit.now) doc.now patch) }
+    ensures refused { IfErr result (λ refusal. IsRefusal (placed_text doc.now) (edit_of edit.now) refusal) }
+    ensures few_read { meter.new ≤ meter.old + cost (placed_text doc.now) (edit_of edit.now) }
+    ensures forward { meter.old ≤ meter.new }
+{
+    let found = find(doc, edit)?;
+    let place = insertion_of(doc, edit, found);
+    if begins_with_prefix(edit, place.context.prefix()) {
+        return Err(Refusal::RecipePrefix);
+    }
+    add_line(alloc, doc, edit, place, meter)
+}
+
+/// Plans the new line of an edit at its place, where none of the causes holds that come before those
+/// of the place. It reads this line.
+///
+/// # Errors
+///
+/// The first of the causes of [`place_refusal`] that holds. Where none holds, [`Refusal::NoMemory`]
+/// where a growth was refused.
+pub(crate) fn add_line<A: Allocator + Copy>(
+    alloc: A,
+    doc: &Doc<A>,
+    edit: &Edit<A>,
+    place: Found,
+    meter: &mut Meter,
+) -> Result<Patch<A>, Refusal>
+    requires faithful { IsFaithful doc.now }
+    requires kind { IsOfNewLine (edit_of edit.now) }
+    requires decided { IsDecidedByPlace (placed_text doc.now) (edit_of edit.now) }
+    requires inserted { IsInsertedAt doc.now (insertion (classed_lines (placed_text doc.now)) (edit_of edit.now)) place }
+    ensures planned { IfOk result (λ patch. IsPlanned (edit_of edit.now) doc.now patch) }
+    ensures refused { IfErr result (λ refusal. IsRefusal (placed_text doc.now) (edit_of edit.now) refusal) }
+    ensures few_read { meter.new ≤ meter.old + cost (placed_text doc.now) (edit_of edit.now) }
+    ensures forward { meter.old ≤ meter.new }
+{
+    if let Some(refusal) = place_refusal(doc, edit, &place) {
+        return Err(refusal);
+    }
+    let end = file_line_end(doc);
+    let Ok(bytes) = new_line(alloc, edit, place.context.prefix(), end) else {
+        return Err(Refusal::NoMemory);
+    };
+    insert_line(alloc, doc, place, bytes, meter)
+}

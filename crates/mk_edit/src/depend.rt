@@ -1,0 +1,131 @@
+//! A new prerequisite of a rule, and one less, planned.
+ghost use Rattle.std.specs.Prelude.{◌≡◌, ◌≤◌, ◌+◌, ◌||◌, IfOk, IfErr};
+ghost use Rattle.mk_lines.specs.Cells.{Cell};
+ghost use Rattle.mk_class.specs.Headers;
+ghost use Rattle.mk_tree.specs.Documents.{IsFaithful};
+ghost use Rattle.mk_tree.specs.PlacedLines.{placed_text};
+ghost use Rattle.mk_tree.specs.Trees.{line_view};
+ghost use Rattle.mk_edit_laws.specs.Costs.{cost};
+ghost use Rattle.mk_edit_laws.specs.RuleCauses.{is_normal, is_order_only};
+ghost use Rattle.mk_edit.specs.EditViews.{edit_of};
+ghost use Rattle.mk_edit.specs.Planned.{IsPlanned, IsRefusal};
+ghost use Rattle.mk_edit.specs.SeenHeaders.{HasHeader, IsHeaderSeen, IsRuleLine, IsPlacedIn};
+ghost use Rattle.mk_edit.specs.PrerequisiteEdits.{IsPrerequisiteAdded, IsPrerequisiteRemoved, is_in_list};
+
+use crate::edit::Edit;
+use crate::find::find;
+use crate::moves::replace_line;
+use crate::prerequisite::{
+    has_normal, has_order_only, len_of_new, with_prerequisite, without_prerequisite,
+};
+use mk_class::{Class, Header, Meter};
+use mk_edit_laws::Refusal;
+use mk_patch::Patch;
+use mk_tree::parse::SIZE_LIMIT;
+use mk_tree::{Doc, Line};
+use std::alloc::Allocator;
+
+/// Plans a new prerequisite of a rule, the last of its list: of the order-only ones where `order`
+/// says so, and of the normal ones where not.
+///
+/// # Errors
+///
+/// The first cause of the edit that holds: those of [`find`], [`Refusal::Already`] where the word is
+/// in that list, and [`Refusal::TooLong`]. Where none holds, [`Refusal::NoMemory`] where a growth was
+/// refused.
+pub(crate) fn plan_depend<A: Allocator + Copy>(
+    alloc: A,
+    doc: &Doc<A>,
+    edit: &Edit<A>,
+    order: bool,
+    word: &[u8],
+    meter: &mut Meter,
+) -> Result<Patch<A>, Refusal>
+    requires faithful { IsFaithful doc.now }
+    requires kind { IsPrerequisiteAdded order word.now (edit_of edit.now) }
+    ensures planned { IfOk result (λ patch. IsPlanned (edit_of edit.now) doc.now patch) }
+    ensures refused { IfErr result (λ refusal. IsRefusal (placed_text doc.now) (edit_of edit.now) refusal) }
+    ensures few_read { meter.new ≤ meter.old + cost (placed_text doc.now) (edit_of edit.now) }
+    ensures forward { meter.old ≤ meter.new }
+{
+    let size = doc.size();
+    let place = find(doc, edit)?;
+    let line = doc.line(place.at);
+    let header = header_of(line);
+    if is_in_list(line, header, order, word) {
+        return Err(Refusal::Already);
+    }
+    if size + len_of_new(line, header, order, word) > SIZE_LIMIT {
+        return Err(Refusal::TooLong);
+    }
+    let Ok(bytes) = with_prerequisite(alloc, line, header, order, word) else {
+        return Err(Refusal::NoMemory);
+    };
+    replace_line(alloc, doc, place, bytes, meter)
+}
+
+/// Plans a rule without a prerequisite, wherever it stands in either list.
+///
+/// # Errors
+///
+/// The first cause of the edit that holds: those of [`find`], or [`Refusal::Absent`] where the word is
+/// in neither list. Where none holds, [`Refusal::NoMemory`] where a growth was refused.
+pub(crate) fn plan_undepend<A: Allocator + Copy>(
+    alloc: A,
+    doc: &Doc<A>,
+    edit: &Edit<A>,
+    word: &[u8],
+    meter: &mut Meter,
+) -> Result<Patch<A>, Refusal>
+    requires faithful { IsFaithful doc.now }
+    requires kind { IsPrerequisiteRemoved word.now (edit_of edit.now) }
+    ensures planned { IfOk result (λ patch. IsPlanned (edit_of edit.now) doc.now patch) }
+    ensures refused { IfErr result (λ refusal. IsRefusal (placed_text doc.now) (edit_of edit.now) refusal) }
+    ensures few_read { meter.new ≤ meter.old + cost (placed_text doc.now) (edit_of edit.now) }
+    ensures forward { meter.old ≤ meter.new }
+{
+    // The contract of `size` says that the text is within the limit, and so it is with a word less.
+    let _size = doc.size();
+    let place = find(doc, edit)?;
+    let line = doc.line(place.at);
+    let header = header_of(line);
+    if !is_prerequisite(line, header, word) {
+        return Err(Refusal::Absent);
+    }
+    let Ok(bytes) = without_prerequisite(alloc, line, header, word) else {
+        return Err(Refusal::NoMemory);
+    };
+    replace_line(alloc, doc, place, bytes, meter)
+}
+
+// Where the parts of a rule's line stand.
+fn header_of<A: Allocator>(line: &Line<A>) -> Header
+    requires { IsRuleLine (line_view line.now) }
+    ensures { IsPlacedIn (line_view line.now) result }
+{
+    match line.class() {
+        Class::Header(header) => header,
+        // The line of a rule is a header.
+        _ => unreachable!(),
+    }
+}
+
+// Whether a word is in the list of prerequisites that it would go to.
+fn is_in_list<A: Allocator>(line: &Line<A>, header: Header, order: bool, word: &[u8]) -> bool
+    requires { HasHeader (line_view line.now) header }
+    ensures { (h : Headers.Header Cell) → IsHeaderSeen (line_view line.now) header h → result ≡ is_in_list order word.now h }
+{
+    if order {
+        has_order_only(line, header, word)
+    } else {
+        has_normal(line, header, word)
+    }
+}
+
+// Whether a word is in either list of prerequisites.
+fn is_prerequisite<A: Allocator>(line: &Line<A>, header: Header, word: &[u8]) -> bool
+    requires { HasHeader (line_view line.now) header }
+    ensures { (h : Headers.Header Cell) → IsHeaderSeen (line_view line.now) header h → result ≡ (is_normal word.now h || is_order_only word.now h) }
+{
+    has_normal(line, header, word) || has_order_only(line, header, word)
+}
