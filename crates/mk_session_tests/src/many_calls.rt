@@ -178,12 +178,15 @@ struct Texts {
     forward: Vec<Vec<u8>>,
     // The text at the beginning of the open group, and whether the group has edits.
     group: Option<(Vec<u8>, bool)>,
+    // How many edits were made.
+    edits: u32,
 }
 
 impl Texts {
     // Notes that an edit made a text.
     fn edited(&mut self, text: Vec<u8>) -> Result<(), Fail> {
         let old = std::mem::replace(&mut self.text, text);
+        self.edits = self.edits.saturating_add(1);
         self.forward.clear();
         match &mut self.group {
             Some((_, has_edits)) => *has_edits = true,
@@ -289,19 +292,16 @@ fn run_calls(
         back: Vec::new(rt.alloc()),
         forward: Vec::new(rt.alloc()),
         group: None,
+        edits: 0,
     };
-    let mut made = 0u32;
     for _ in 0..50 {
         let command = command(rt, numbers)?;
         let answered = is_answered(rt, &mut session, &mut texts, &command)?;
         ensure(answered, "the answer is another one")?;
         let same = is_as_parsed(rt, session.doc(), texts.text.as_slice())?;
         ensure(same, "the document is another one")?;
-        if texts.forward.is_empty() && matches!(command, Command::Apply(_)) {
-            made = made.saturating_add(1);
-        }
     }
-    Ok(made)
+    Ok(texts.edits)
 }
 
 #[test]
@@ -313,6 +313,6 @@ fn many_calls_lead_through_the_texts_of_the_session_machine(rt: HostRuntime) -> 
             made = made.saturating_add(run_calls(&rt, &mut numbers, text, depth)?);
         }
     }
-    assert!(rt; made > 0);
+    assert!(rt; made > 500, "only {made} edits");
     Ok(())
 }
