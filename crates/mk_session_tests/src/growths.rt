@@ -78,10 +78,10 @@ fn is_between_edits(rt: &HostRuntime, session: &mut Session<&Heap>) -> Result<bo
 
 // Refuses each growth in turn of a call between the edits, which then is made as if it had not been
 // refused, and says how many growths it takes.
-fn growths_between_edits(
+fn growths_between_edits<'a>(
     rt: &HostRuntime,
-    heap: &Heap,
-    command: &Command<&Heap>,
+    heap: &'a Heap,
+    command: &Command<&'a Heap>,
     text: &[u8],
 ) -> Result<u64, Fail> {
     for admitted in 0..MANY {
@@ -128,31 +128,64 @@ fn the_refused_growth_of_a_begin_changes_nothing(rt: HostRuntime) -> Result<(), 
     Ok(())
 }
 
+const IN_GROUP: &[u8] = b"X=1\nY=1\n";
+
+const AFTER_GROUP: &[u8] = b"X=1\nY=2\n";
+
+// A session in whose open group an edit was made.
+fn in_a_group<'a>(heap: &'a Heap) -> Result<Session<&'a Heap>, Fail> {
+    let mut session = between_edits(heap)?;
+    session.begin()?;
+    let edit = set(heap, b"Y", b"1")?;
+    session.obey(&edit)?;
+    Ok(session)
+}
+
+// Whether the group is open with its first edit alone.
+fn is_in_the_group(rt: &HostRuntime, session: &mut Session<&Heap>) -> Result<bool, Fault> {
+    Ok(
+        is_as_parsed(rt, session.doc(), IN_GROUP)?
+            && refuses(rt, session, &Command::Undo, Refusal::GroupOpen, IN_GROUP)?
+            && refuses(rt, session, &Command::Redo, Refusal::GroupOpen, IN_GROUP)?,
+    )
+}
+
+// Whether the group with both its edits ends, and is undone as one.
+fn ends_as_one(rt: &HostRuntime, session: &mut Session<&Heap>) -> Result<bool, Fault> {
+    Ok(
+        gives(rt, session, &Command::End, AFTER_GROUP)?
+            && gives(rt, session, &Command::Undo, BEFORE)?
+            && gives(rt, session, &Command::Redo, AFTER_GROUP)?,
+    )
+}
+
+// Refuses a growth of the second edit of a group, and says whether there is one. The edit is made
+// afterwards as if it had not been refused.
+fn is_refused_in_a_group(rt: &HostRuntime, heap: &Heap, admitted: u64) -> Result<bool, Fail> {
+    let mut session = in_a_group(heap)?;
+    let edit = set(heap, b"Y", b"2")?;
+    heap.refuse_one_after(admitted);
+    let answer = session.obey(&edit);
+    let refused = heap.has_refused();
+    heap.refuse_none();
+    ensure(answer.is_err() == refused, "the answer is another one")?;
+    if refused {
+        ensure(answer == Err(Refusal::NoMemory), "the cause is another one")?;
+        let kept = is_in_the_group(rt, &mut session)?;
+        ensure(kept, "the session has changed")?;
+        session.obey(&edit)?;
+    }
+    let ended = ends_as_one(rt, &mut session)?;
+    ensure(ended, "the group does not count as one")?;
+    Ok(refused)
+}
+
 #[test]
 fn each_refused_growth_of_an_edit_in_a_group_leaves_the_group(rt: HostRuntime) -> Result<(), Fail> {
     let heap = Watched::new(rt.alloc());
-    let (one, two) = (set(&heap, b"Y", b"1")?, set(&heap, b"Y", b"2")?);
     for admitted in 0..MANY {
-        let mut session = between_edits(&heap)?;
-        session.begin()?;
-        assert!(rt; gives(&rt, &mut session, &one, b"X=1\nY=1\n")?);
-        heap.refuse_one_after(admitted);
-        let answer = session.obey(&two);
-        let refused = heap.has_refused();
-        heap.refuse_none();
-        if refused {
-            assert_eq!(rt; answer, Err(Refusal::NoMemory));
-            assert!(rt; is_as_parsed(&rt, session.doc(), b"X=1\nY=1\n")?);
-            assert_eq!(rt; session.undo(), Err(Refusal::GroupOpen));
-            assert_eq!(rt; session.redo(), Err(Refusal::GroupOpen));
-            assert!(rt; gives(&rt, &mut session, &two, b"X=1\nY=2\n")?);
-        } else {
-            assert!(rt; answer.is_ok() && admitted > 0);
-        }
-        assert!(rt; gives(&rt, &mut session, &Command::End, b"X=1\nY=2\n")?);
-        assert!(rt; gives(&rt, &mut session, &Command::Undo, BEFORE)?);
-        assert!(rt; gives(&rt, &mut session, &Command::Undo, FIRST)?);
-        if !refused {
+        if !is_refused_in_a_group(&rt, &heap, admitted)? {
+            assert!(rt; admitted > 0);
             return Ok(());
         }
     }
@@ -169,26 +202,26 @@ fn undo_and_redo_take_no_memory(rt: HostRuntime) -> Result<(), Fail> {
     Ok(())
 }
 
+// Whether an open group is kept, or taken back, without memory.
+fn closes(rt: &HostRuntime, heap: &Heap, is_kept: bool) -> Result<bool, Fail> {
+    let mut session = in_a_group(heap)?;
+    heap.refuse_all();
+    let closed = if is_kept {
+        gives(rt, &mut session, &Command::End, IN_GROUP)?
+            && gives(rt, &mut session, &Command::Undo, BEFORE)?
+    } else {
+        gives(rt, &mut session, &Command::Cancel, BEFORE)?
+    };
+    let refused = heap.has_refused();
+    heap.refuse_none();
+    Ok(closed && !refused)
+}
+
 #[test]
 fn end_and_cancel_take_no_memory(rt: HostRuntime) -> Result<(), Fail> {
     let heap = Watched::new(rt.alloc());
-    let mut session = between_edits(&heap)?;
-    let (one, two) = (set(&heap, b"Y", b"1")?, set(&heap, b"Y", b"2")?);
-    for (close, text) in [
-        (Command::Cancel, BEFORE),
-        (Command::End, b"X=1\nY=2\n".as_slice()),
-    ] {
-        heap.refuse_none();
-        session.begin()?;
-        session.obey(&one)?;
-        session.obey(&two)?;
-        heap.refuse_all();
-        assert!(rt; gives(&rt, &mut session, &close, text)?);
-        assert!(rt; !heap.has_refused());
-    }
-    assert!(rt; gives(&rt, &mut session, &Command::Undo, BEFORE)?);
-    assert!(rt; gives(&rt, &mut session, &Command::Redo, b"X=1\nY=2\n")?);
-    assert!(rt; !heap.has_refused());
+    assert!(rt; closes(&rt, &heap, true)?);
+    assert!(rt; closes(&rt, &heap, false)?);
     Ok(())
 }
 
@@ -202,12 +235,12 @@ fn one_before(rt: &HostRuntime, lines: usize) -> Result<Vec<u8>, Fail> {
 }
 
 // The growths of a call, after an edit that was made some times.
-fn growths_after(
-    heap: &Heap,
+fn growths_after<'a>(
+    heap: &'a Heap,
     text: &[u8],
-    edit: &Command<&Heap>,
+    edit: &Command<&'a Heap>,
     times: usize,
-    command: &Command<&Heap>,
+    command: &Command<&'a Heap>,
 ) -> Result<Growths, Fail> {
     let mut session = Session::open(heap, text, 100)?;
     for _ in 0..times {
