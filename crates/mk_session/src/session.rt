@@ -1,5 +1,5 @@
 //! A makefile that is edited.
-ghost use Rattle.std.specs.Prelude.{◌≡◌, ◌≤◌, ◌+◌, ◌<◌, ◌↔◌, ◌^◌, Ok, Err, IfOk, IfErr, OnOk, OnErr, length, Some, None};
+ghost use Rattle.std.specs.Prelude.{◌≡◌, ◌≤◌, ◌+◌, ◌<◌, ◌↔◌, ◌^◌, Ok, Err, IfOk, IfErr, OnOk, OnErr, length, is_some, Some, None};
 ghost use Rattle.mk_tree.specs.Documents.{IsFaithful, IsFaithfulTo, IsTooDeep};
 ghost use Rattle.mk_edit_laws.specs.Costs.{cost};
 ghost use Rattle.mk_edit_parts.specs.EditViews.{edit_of};
@@ -138,7 +138,7 @@ impl<A: Allocator + Copy> Session<A> {
         ensures same { OnErr result (self.new.shown ≡ self.old.shown) }
         ensures none_read { self.new.rereads ≡ self.old.rereads }
     {
-        if self.group.is_some() {
+        if self.has_open_group() {
             return Err(Refusal::GroupOpen);
         }
         match self.history.undo(&mut self.doc) {
@@ -160,7 +160,7 @@ impl<A: Allocator + Copy> Session<A> {
         ensures same { OnErr result (self.new.shown ≡ self.old.shown) }
         ensures none_read { self.new.rereads ≡ self.old.rereads }
     {
-        if self.group.is_some() {
+        if self.has_open_group() {
             return Err(Refusal::GroupOpen);
         }
         match self.history.redo(&mut self.doc) {
@@ -181,7 +181,7 @@ impl<A: Allocator + Copy> Session<A> {
         ensures same { OnErr result (self.new.shown ≡ self.old.shown) }
         ensures none_read { self.new.rereads ≡ self.old.rereads }
     {
-        if self.group.is_some() {
+        if self.has_open_group() {
             return Err(Refusal::GroupOpen);
         }
         let Ok(group) = Sequence::with_capacity(self.alloc, 1) else {
@@ -241,6 +241,13 @@ impl<A: Allocator> Session<A> {
         ensures own { IsFaithful result.now }
     {
         &self.doc
+    }
+
+    /// Whether a group is open, so that nothing can be undone or redone until it ends. Takes no memory.
+    pub fn has_open_group(&self) -> bool
+        ensures { result ≡ is_some self.now.shown.begun }
+    {
+        self.group.is_some()
     }
 
     /// How many lines were read since the session was opened: none by undo and redo, and by an edit at

@@ -7,7 +7,8 @@ use Rattle.mk_patch.specs.Moves.{Move, FitMoves, after_moves}
 use Rattle.mk_history.specs.Chain.{IsChain, Moves, after_all, states}
 use Rattle.mk_history.specs.Stacks.{Stacks, FitInTurn}
 use Rattle.mk_history.proofs.on_histories.ChainLemmas.{IsChain-take, states-take}
-use Rattle.mk_session.specs.KeptSessions.{Patches, after_patches, EachFaithful, IsKept}
+use Rattle.mk_history.specs.Shown.{Shown}
+use Rattle.mk_session.specs.KeptSessions.{Patches, after_patches, EachFaithful, IsKept, shown_kept}
 
 -- patches fit the documents that lead to them, one after the other
 abbrev pub FitPatches : Patches → List PlacedLine → Type 0
@@ -152,6 +153,11 @@ kept-ended_empty h g doc k c =
     subst (λ (d : List PlacedLine). IsKept h None d) begun (kept-cancelled h g doc k)
 
 -- ---- a step back or forth, or none
+
+-- where what is seen has no beginning of a group, none is open
+pub group-closed : (h : Stacks Patches) (group : Option Patches) (doc : List PlacedLine) (s : Shown (List ℕ)) → shown_kept h group doc ≡ s → is_some s.begun ≡ false → is_some group ≡ false
+group-closed h None doc s seen none = refl
+group-closed h (Some g) doc s seen none = ap (λ (x : Shown (List ℕ)). is_some x.begun) seen ∙ none
 
 no-group : (group : Option Patches) → is_some group ≡ false → group ≡ None
 no-group None e = refl
