@@ -12,9 +12,9 @@ puts others in place of, at most), and the cost of a refused one.
 
 Rows whose script is not one edit alone are left out. The crate keeps three files, made by
 
-    edit_rows.py tests/cases/runs.tsv > crates/mk_edit_laws/proofs/WorkedEdits.antt
-    edit_rows.py tests/cases/edits/random.tsv > crates/mk_edit_laws/proofs/RandomEdits.antt
-    edit_rows.py tests/cases/edits/corners.tsv > crates/mk_edit_laws/proofs/CornerEdits.antt
+    edit_rows.py tests/cases/runs.tsv > crates/mk_edit_laws_rows/proofs/WorkedEdits.antt
+    edit_rows.py tests/cases/edits/random.tsv > crates/mk_edit_laws_rows/proofs/RandomEdits.antt
+    edit_rows.py tests/cases/edits/corners.tsv > crates/mk_edit_laws_rows/proofs/CornerEdits.antt
 
 A table has the columns name, makefile, script, stdout, stderr and status, and perhaps more, between
 tabs. The columns spans, cost and size may stand there too, all three together: a span is its start,
@@ -205,7 +205,7 @@ IMPORTS = [
     ),
     ("Rattle.mk_edit_laws.specs.Refusals", ["spans"]),
     ("Rattle.mk_edit_laws.specs.Costs", ["cost", "size"]),
-    ("Rattle.mk_edit_laws.proofs.Outcomes", ["outcome", "reads_as_changed", "span"]),
+    ("Rattle.mk_edit_laws_rows.proofs.Outcomes", ["outcome", "reads_as_changed", "span"]),
 ]
 
 

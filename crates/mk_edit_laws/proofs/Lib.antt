@@ -7,8 +7,3 @@ pub mod on_recipes
 pub mod on_prerequisites
 pub mod on_renames
 pub mod on_edits
--- Definitions computed
-mod Outcomes
-mod WorkedEdits
-mod RandomEdits
-mod CornerEdits

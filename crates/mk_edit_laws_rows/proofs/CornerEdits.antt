@@ -8,7 +8,7 @@ use Rattle.mk_edit_laws.specs.Edits.{Bottom, BeforeVar, AfterVar, BeforeRule}
 use Rattle.mk_edit_laws.specs.Edits.{SetValue, AppendValue, AddAssign, RemoveAssign, AddRule, RemoveRule, AddPrereq, RemovePrereq, AddRecipe, SetRecipe, RemoveRecipe, RenameTarget}
 use Rattle.mk_edit_laws.specs.Refusals.{spans}
 use Rattle.mk_edit_laws.specs.Costs.{cost, size}
-use Rattle.mk_edit_laws.proofs.Outcomes.{outcome, reads_as_changed, span}
+use Rattle.mk_edit_laws_rows.proofs.Outcomes.{outcome, reads_as_changed, span}
 use Rattle.mk_edit_laws.specs.declared.refusal.Field.TheVariants as field
 
 row_prefix_001 : outcome (codes ".RECIPEPREFIX = X\nifdef A\na:\n") (RenameTarget (codes "a") (codes "X1")) ≡ Err RecipePrefix
