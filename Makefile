@@ -7,7 +7,7 @@
 #                   the last line is 'N passed, M failed', the sum of both
 #   make install    puts the program into $(DESTDIR)$(PREFIX)/bin
 #   make bench      compares its processor time and memory with those of cat and sed, and measures
-#                   the reading of lines
+#                   the reading of lines, and edits of a large makefile
 #   make clean      removes all that was made, and what rt keeps between two checks
 #
 # It is written for POSIX.1-2024 make, which GNU make 4 reads as well.
@@ -17,6 +17,7 @@
 PREFIX ?= /usr/local
 PROGRAM = crates/mkedit/out/mkedit
 LINE_BENCH = crates/line_bench/out/line_bench
+EDIT_BENCH = crates/edit_bench/out/edit_bench
 SOURCES != find crates -name out -prune -o '(' -name '*.rt' -o -name '*.antt' ')' -print
 
 all: $(PROGRAM)
@@ -43,9 +44,15 @@ $(LINE_BENCH): crates.txt HANDLES $(SOURCES)
 	cd crates/line_bench && { rt run >/dev/null 2>&1 || test -x out/line_bench; }
 	touch $@
 
-bench: $(PROGRAM) $(LINE_BENCH)
+# So does edit_bench.
+$(EDIT_BENCH): crates.txt HANDLES $(SOURCES)
+	cd crates/edit_bench && { rt run >/dev/null 2>&1 || test -x out/edit_bench; }
+	touch $@
+
+bench: $(PROGRAM) $(LINE_BENCH) $(EDIT_BENCH)
 	@bench/run $(PROGRAM)
 	@bench/lines $(LINE_BENCH)
+	@bench/edits $(EDIT_BENCH)
 
 clean:
 	rm -rf crates/*/out bench/data

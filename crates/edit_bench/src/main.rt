@@ -1,0 +1,141 @@
+//! Measures edits of a makefile: `edit_bench FILE` opens it as a session, and prints the processor
+//! time of single edits and of many, in microseconds, with how many lines were read for them.
+//! `bench/edits` runs it.
+#![tactic(auto)]
+
+use anyhow::Context as _;
+use mk_class::{Class, Flavor};
+use mk_lines::StdSource;
+use mk_lines::source::read_all;
+use mk_session::{Colons, Edit, Place, Session};
+use std::alloc::AllocError;
+use std::fs::File;
+use std::time::{CpuClock, Duration};
+
+/// How many edits of one kind are made where many are.
+const MANY: u32 = 1_000;
+
+fn bytes(rt: &HostRuntime, text: &[u8]) -> Result<Vec<u8>, AllocError> {
+    Vec::from_slice(rt.alloc(), text)
+}
+
+// Gives the only variable of a name another value.
+fn set(rt: &HostRuntime, name: &[u8], value: &[u8]) -> Result<Edit, AllocError> {
+    Ok(Edit::SetValue {
+        nth: None,
+        name: bytes(rt, name)?,
+        value: bytes(rt, value)?,
+    })
+}
+
+// Puts an assignment at the end.
+fn assign(rt: &HostRuntime, name: &[u8], value: &[u8]) -> Result<Edit, AllocError> {
+    Ok(Edit::AddAssign {
+        place: Place::Bottom,
+        name: bytes(rt, name)?,
+        flavor: Flavor::Recursive,
+        value: bytes(rt, value)?,
+    })
+}
+
+// Puts a rule without prerequisites at the end.
+fn rule(rt: &HostRuntime, target: &[u8]) -> Result<Edit, AllocError> {
+    Ok(Edit::AddRule {
+        place: Place::Bottom,
+        targets: bytes(rt, target)?,
+        colons: Colons::One,
+        prereqs: bytes(rt, b"")?,
+    })
+}
+
+// Gives a target another name.
+fn rename(rt: &HostRuntime, from: &[u8], to: &[u8]) -> Result<Edit, AllocError> {
+    Ok(Edit::RenameTarget {
+        from: bytes(rt, from)?,
+        to: bytes(rt, to)?,
+    })
+}
+
+// Prints what a step cost: its time, and how many lines it read.
+fn told(
+    rt: &HostRuntime,
+    step: &str,
+    start: Duration,
+    before: u64,
+    after: u64,
+) -> anyhow::Result<()> {
+    let now = rt.process_cpu_time()?;
+    let micros = now.saturating_sub(start).as_micros();
+    println!(rt; "{step} {micros} {}", after.saturating_sub(before))?;
+    Ok(())
+}
+
+// Makes an edit so many times, and says what all of them cost.
+fn applied(
+    rt: &HostRuntime,
+    session: &mut Session,
+    step: &str,
+    edits: &[Edit],
+    times: u32,
+) -> anyhow::Result<()> {
+    let before = session.rereads();
+    let start = rt.process_cpu_time()?;
+    for _ in 0..times {
+        for edit in edits {
+            session.apply(edit)?;
+        }
+    }
+    told(rt, step, start, before, session.rereads())
+}
+
+// How many lines are assignments, by one walk.
+fn assignments(session: &Session) -> u64 {
+    let mut count = 0u64;
+    for line in session.doc().iter() {
+        if matches!(line.class(), Class::Assign(_, _)) {
+            count = count.saturating_add(1);
+        }
+    }
+    count
+}
+
+fn measure(rt: &HostRuntime, text: &[u8]) -> anyhow::Result<()> {
+    let start = rt.process_cpu_time()?;
+    let mut session = Session::open(rt.alloc(), text, 10_000)?;
+    told(rt, "open", start, 0, session.doc().len() as u64)?;
+
+    let start = rt.process_cpu_time()?;
+    let count = assignments(&session);
+    told(rt, "walk", start, 0, count)?;
+
+    session.apply(&assign(rt, b"LAST_OF_ALL", b"1")?)?;
+    session.apply(&rule(rt, b"build")?)?;
+    let sets = [
+        set(rt, b"LAST_OF_ALL", b"22")?,
+        set(rt, b"LAST_OF_ALL", b"3")?,
+    ];
+    applied(rt, &mut session, "set", &sets[..1], 1)?;
+    applied(rt, &mut session, "sets", &sets, MANY / 2)?;
+    let lines = [assign(rt, b"NEW_ONE", b"value")?];
+    applied(rt, &mut session, "assigns", &lines, MANY)?;
+    let renames = [rename(rt, b"build", b"output")?];
+    applied(rt, &mut session, "rename", &renames, 1)?;
+
+    let start = rt.process_cpu_time()?;
+    let mut undone = 0u64;
+    for _ in 0..u64::MAX {
+        if session.undo().is_err() {
+            break;
+        }
+        undone = undone.saturating_add(1);
+    }
+    told(rt, "undos", start, 0, undone)
+}
+
+fn main(rt: HostRuntime) -> anyhow::Result<()> {
+    let words = std::env::args(&rt)?.collect::<Vec<String>>(rt.alloc())?;
+    let name = words.get(1).context("usage: edit_bench FILE")?;
+    let mut source = StdSource::new(File::open(&rt, name.as_str())?);
+    let text = read_all(rt.alloc(), &mut source)?;
+    measure(&rt, text.as_slice())
+}
