@@ -1,5 +1,5 @@
 //! What may be a value, a word, a target, a name and a command.
-use crate::argument::{is_command, is_name, is_target, is_value, is_word};
+use mk_class::argument::{is_command, is_name, is_target, is_value, is_word};
 
 // A text, and whether it may be a value, a word, a target, a name and a command.
 type Row = (&'static [u8], [bool; 5]);

@@ -1,10 +1,10 @@
 //! The classes of lines.
-use crate::assignment::{Assignment, Flavor, TargetAssignment};
-use crate::class::Class;
-use crate::context::{Context, MAX_DEFINES};
-use crate::meter::Meter;
-use crate::reading::classify;
-use crate::rule::{Header, Separator};
+use mk_class::assignment::{Assignment, Flavor, TargetAssignment};
+use mk_class::class::Class;
+use mk_class::context::{Context, MAX_DEFINES};
+use mk_class::meter::Meter;
+use mk_class::reading::classify;
+use mk_class::rule::{Header, Separator};
 use mk_lines::split::split;
 use mk_lines::{Fault, Span};
 use refusing::Refusing;

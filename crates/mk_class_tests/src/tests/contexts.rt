@@ -1,8 +1,9 @@
 //! The contexts after lines, and the count of lines.
-use crate::assignment::{Assignment, Flavor};
-use crate::class::Class;
-use crate::context::{Context, Flag, MAX_CONDITIONALS, Nesting};
-use crate::meter::Meter;
+use mk_class::assignment::{Assignment, Flavor};
+use mk_class::class::Class;
+use mk_class::context::{Context, Flag, MAX_CONDITIONALS, Nesting};
+use mk_class::meter::Meter;
+use mk_class::reading::classify;
 use mk_lines::Span;
 
 #[test]
@@ -67,10 +68,10 @@ fn an_assignment_sets_the_prefix_of_the_lines_after_it(rt: HostRuntime) {
 }
 
 #[test]
-fn a_meter_counts_one_by_one(rt: HostRuntime) {
+fn a_meter_counts_the_lines_that_are_classified(rt: HostRuntime) {
     let mut meter = Meter::new();
     assert_eq!(rt; meter.count(), 0);
-    meter.add();
-    meter.add();
+    let _ = classify(rt.alloc(), b"A = 1\n", Context::start(), &mut meter);
+    let _ = classify(rt.alloc(), b"\tB = 1\n", Context::start(), &mut meter);
     assert_eq!(rt; meter.count(), 2);
 }
