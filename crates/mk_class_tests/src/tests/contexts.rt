@@ -5,6 +5,7 @@ use mk_class::context::{Context, Flag, MAX_CONDITIONALS, Nesting};
 use mk_class::meter::Meter;
 use mk_class::reading::classify;
 use mk_lines::Span;
+use std::test::Fail;
 
 #[test]
 fn a_text_starts_with_nothing_open(rt: HostRuntime) {
@@ -53,7 +54,7 @@ fn conditionals_are_counted_up_to_their_limit(rt: HostRuntime) {
 }
 
 #[test]
-fn an_assignment_sets_the_prefix_of_the_lines_after_it(rt: HostRuntime) {
+fn an_assignment_sets_the_prefix_of_the_lines_after_it(rt: HostRuntime) -> Result<(), Fail> {
     let assignment = Assignment {
         flavor: Flavor::Recursive,
         name: Span { start: 0, end: 13 },
@@ -62,9 +63,12 @@ fn an_assignment_sets_the_prefix_of_the_lines_after_it(rt: HostRuntime) {
     };
     let context = Context::start().step(&Class::Assign(assignment, Some(b'>')));
     assert_eq!(rt; context.prefix(), b'>');
-    assert_eq!(rt; context.leads(b">echo"), true);
-    assert_eq!(rt; context.leads(b"\techo"), false);
-    assert_eq!(rt; context.leads(b""), false);
+    let context = context.step(&Class::Rough);
+    let (class, _) = classify(rt.alloc(), b">echo", context, &mut Meter::new())?;
+    assert_eq!(rt; class, Class::Recipe);
+    let (class, _) = classify(rt.alloc(), b"\techo", context, &mut Meter::new())?;
+    assert_eq!(rt; class, Class::Opaque);
+    Ok(())
 }
 
 #[test]

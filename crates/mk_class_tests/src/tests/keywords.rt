@@ -43,7 +43,10 @@ fn directives_go_by_their_first_words(rt: HostRuntime) -> Result<(), Fail> {
         (b"Include a.mk".as_slice(), Class::Opaque),
         (b"export CC".as_slice(), Class::Directive),
         (b"override define D".as_slice(), Class::DefineHead(false)),
-        (b"define .RECIPEPREFIX =".as_slice(), Class::DefineHead(true)),
+        (
+            b"define .RECIPEPREFIX =".as_slice(),
+            Class::DefineHead(true),
+        ),
         (b"override undefine D".as_slice(), Class::Directive),
         (b"override include a".as_slice(), Class::Opaque),
         (b"override ifdef A".as_slice(), Class::Opaque),
