@@ -108,8 +108,9 @@ fn check_made<'a>(
     Ok(())
 }
 
-/// Checks an edit of a makefile that is refused: whichever growth is refused, the refusal is the same,
-/// and so is the document. Where all that holds, the allocator refuses no growth afterwards.
+/// Checks an edit of a makefile that is refused: it asks for no memory, so that the refusal is the same
+/// whichever growth would be refused, and the document is the same. Where all that holds, the allocator
+/// refuses no growth afterwards.
 pub fn check_refused<'a>(
     heap: Heap<'a>,
     makefile: &[u8],
@@ -118,31 +119,13 @@ pub fn check_refused<'a>(
 ) -> Result<(), Fail> {
     let edit = edit?;
     let doc = document(heap, makefile)?;
-    heap.refuse_none();
-    check_refusal(heap, &doc, &edit, refusal)?;
-    for admitted in 0..10 {
-        heap.refuse_one_after(admitted);
-        check_refusal(heap, &doc, &edit, refusal)?;
-    }
     heap.refuse_all();
-    check_refusal(heap, &doc, &edit, refusal)?;
-    check(!heap.has_refused(), "a refusal asks for no memory")?;
+    match plan(heap, &doc, &edit, &mut Meter::new()) {
+        Ok(_) => return Err(Fail::from("the edit is accepted")),
+        Err(found) if found == refusal => (),
+        Err(found) => return Err(Fail::from(found)),
+    }
+    check(!heap.has_refused(), "a refused edit asks for no memory")?;
     heap.refuse_none();
     check(is_text(&doc, makefile), "the document is the same")
-}
-
-/// Checks that an edit is refused so.
-fn check_refusal<'a>(
-    heap: Heap<'a>,
-    doc: &Doc<Heap<'a>>,
-    edit: &Edit<Heap<'a>>,
-    refusal: Refusal,
-) -> Result<(), Fail>
-    requires { IsFaithful doc.now }
-{
-    match plan(heap, doc, edit, &mut Meter::new()) {
-        Ok(_) => Err(Fail::from("the edit is accepted")),
-        Err(found) if found == refusal => Ok(()),
-        Err(found) => Err(Fail::from(found)),
-    }
 }
