@@ -28,7 +28,8 @@ use std::alloc::Allocator;
 /// The document is not changed. The patch fits it, and leads to the document of the text with the
 /// edit's spans replaced: no byte outside them changes, and the text reads as the edit's stated change
 /// says. Each line that is read anew counts in the meter: exactly as many as the edit costs, and at most
-/// as many where it is refused.
+/// as many where it is refused. The patch holds as many lines as the edit costs, and takes out as many
+/// as it changes, each with one more where a last line gets a line end.
 ///
 /// # Errors
 ///
