@@ -1,6 +1,8 @@
-use Rattle.mk_session.proofs.on_sessions.StepLemmas.{opened-seen}
+use Rattle.std.proofs.Common.{◌≡◌, subst, IfOk, List, ℕ}
+use Rattle.mk_tree.proofs.on_documents.DocumentLemmas.{faithful-text}
+use Rattle.mk_session.specs.Sessions.{seen_opened}
 use Rattle.mk_session.proofs.session.Session.open.Goals as goal
 
 pub returns-clause-opened : goal.returns-clause-opened
 returns-clause-opened g c =
-    opened-seen c.in_ok-history.history c.in_ok-doc.doc c.parse.new.meter c.count-opened_at.result c.args.depth c.args.text.now c.in_ok-doc.ensures.faithful c.in_ok-history.ensures.empty c.count-opened_at.ensures
+    subst (λ (t : List ℕ). IfOk c.over.result (λ s. s ≡ seen_opened c.args.depth t)) (faithful-text c.in_ok-doc.doc c.args.text.now c.in_ok-doc.ensures.faithful) c.over.ensures.opened
