@@ -15,6 +15,7 @@ use mk_history::{Change, History, Sequence};
 use mk_lines::Fault;
 use mk_patch::Patch;
 use mk_tree::Doc;
+use mk_tree::parse::SIZE_LIMIT;
 use std::alloc::{Allocator, Global};
 use std::marker::Model;
 
@@ -82,9 +83,10 @@ impl<A: Allocator + Copy> Session<A> {
         ensures fault { IfErr result (λ fault. IsOpeningFault depth text.now fault) }
     {
         test_depth(depth)?;
-        let mut meter = Meter::new();
-        let doc = Doc::parse(alloc, text, &mut meter)?;
-        Session::over(alloc, doc, depth, meter)
+        if text.len() > SIZE_LIMIT {
+            return Err(Fault::TooLong);
+        }
+        Session::open_vec(alloc, Vec::from_slice(alloc, text)?, depth)
     }
 
     /// Opens a text, as [`Session::open`] does. The session keeps the text that it is given, and no
@@ -100,7 +102,7 @@ impl<A: Allocator + Copy> Session<A> {
         ensures shallow { IfOk result (λ _. IsTooDeep text.items → ⊥) }
         ensures fault { IfErr result (λ fault. IsOpeningFault depth text.items fault) }
     {
-        test_depth(depth)?;
+        test_depth(depth)?; // before any line is read
         let mut meter = Meter::new();
         let doc = Doc::parse_vec(alloc, text, &mut meter)?;
         Session::over(alloc, doc, depth, meter)
