@@ -2,3 +2,4 @@ pub mod LineLemmas
 pub mod WrittenLines
 pub mod ScriptLemmas
 pub mod OneLemmas
+pub mod ReaderLemmas

@@ -1,0 +1,3 @@
+mod WorkedScripts
+mod RandomScripts
+mod CornerScripts

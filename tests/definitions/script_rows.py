@@ -1,0 +1,287 @@
+#!/usr/bin/env python3
+"""Scripts as equations that the checker computes.
+
+Turns tables of scripts into a file of equations, by which the checker computes the reading of scripts
+in `crates/mk_script`, which is proved to be what the definitions say. What a script means is read here
+by other means: its lines and fields by regular expressions, its commands by the table below. Where a
+table has the column `meaning`, which was written by hand, the answer is the table's, and this reading
+has to agree with it.
+
+    script_rows.py TABLE.. > crates/mk_script/proofs/rows/NAME.antt
+
+The crate keeps three files, made by
+
+    script_rows.py tests/cases/runs.tsv > crates/mk_script/proofs/rows/WorkedScripts.antt
+    script_rows.py tests/cases/random-runs.tsv > crates/mk_script/proofs/rows/RandomScripts.antt
+    script_rows.py tests/cases/scripts/corners.tsv > crates/mk_script/proofs/rows/CornerScripts.antt
+
+A table has the columns name and script, and perhaps more, between tabs; of scripts that are alike the
+first is taken. In a column \\\\, \\t, \\n, \\r and \\xHH stand for a backslash, a tab, a line end, a return
+and the byte HH. A meaning is the number of the first line that is no command, or a Python list of
+commands: each the number of its line, the name of the edit or call, and its arguments.
+"""
+
+import ast
+import re
+import sys
+from pathlib import Path
+
+import reading_rows
+from reading_rows import FLAVORS, unescape
+
+COLONS = {b":": "One", b"::": "Two"}
+MOST = 4294967295
+
+# ---- what a script means
+
+# A line and its end; the last line may have none.
+LINE = re.compile(rb"([^\n]*?)(\r?\n|\Z)", re.DOTALL)
+FIELD = re.compile(rb'[ \t]*(?:"((?:[^"\\]|\\["\\])*)"|([^ \t"][^ \t]*))(?=[ \t]|\Z)', re.DOTALL)
+
+# The edits of texts alone, by their word: their names, what stands first among their arguments, and
+# how many texts follow.
+EDITS = {
+    b"set": ("SetValue", [], 2),
+    b"append": ("AppendValue", [], 2),
+    b"unset": ("RemoveAssign", [], 1),
+    b"unrule": ("RemoveRule", [], 1),
+    b"depend": ("AddPrereq", [False], 2),
+    b"depend-order": ("AddPrereq", [True], 2),
+    b"undepend": ("RemovePrereq", [], 2),
+    b"recipe": ("AddRecipe", [], 2),
+}
+PLACES = {b"before-var": "BeforeVar", b"after-var": "AfterVar", b"before-rule": "BeforeRule"}
+CALLS = {b"undo": "Undo", b"redo": "Redo", b"begin": "Begin", b"end": "End", b"cancel": "Cancel"}
+
+
+class NoCommand(Exception):
+    """A line is no command."""
+
+
+def lines_of(script):
+    """The lines of a script without their ends, each with its number."""
+    at, number = 0, 0
+    while at < len(script):
+        number += 1
+        found = LINE.match(script, at)
+        yield number, found.group(1)
+        at = found.end()
+
+
+def fields_of(line):
+    """The fields of a line."""
+    fields, at = [], 0
+    while line[at:].strip(b" \t"):
+        found = FIELD.match(line, at)
+        if found is None:
+            raise NoCommand
+        quoted, bare = found.groups()
+        fields.append(bare if quoted is None else re.sub(rb"\\(.)", rb"\1", quoted, flags=re.DOTALL))
+        at = found.end()
+    return fields
+
+
+def number_of(field):
+    """The number that a field writes."""
+    if not re.fullmatch(rb"[0-9]{1,10}", field) or int(field) > MOST:
+        raise NoCommand
+    return int(field)
+
+
+def taken(fields, count):
+    """The fields, if there are so many."""
+    if len(fields) != count:
+        raise NoCommand
+    return fields
+
+
+def place_of(nth, fields):
+    """The place at the front of fields, and the fields after it."""
+    match fields:
+        case [b"bottom", *rest] if nth is None:
+            return ("Bottom",), rest
+        case [word, field, *rest] if word in PLACES:
+            return (PLACES[word], nth, field), rest
+    raise NoCommand
+
+
+def known(table, field):
+    """The field, if it is one of a table."""
+    if field not in table:
+        raise NoCommand
+    return field
+
+
+def edit_of(nth, word, fields):
+    """The edit of a word and the fields after it."""
+    if word in EDITS:
+        name, first, count = EDITS[word]
+        return (name, *first, nth, *taken(fields, count))
+    if word in (b"assign", b"rule"):
+        place, fields = place_of(nth, fields)
+        first, sign, last = taken(fields, 3)
+        if word == b"assign":
+            return ("AddAssign", place, first, known(FLAVORS, sign), last)
+        return ("AddRule", place, first, known(COLONS, sign), last)
+    if word == b"recipe-set":
+        target, number, text = taken(fields, 3)
+        return ("SetRecipe", nth, target, number_of(number), text)
+    if word == b"recipe-del":
+        target, number = taken(fields, 2)
+        return ("RemoveRecipe", nth, target, number_of(number))
+    if word == b"rename" and nth is None:
+        return ("RenameTarget", *taken(fields, 2))
+    raise NoCommand
+
+
+def command_of(fields):
+    """The command of some fields."""
+    match fields:
+        case [word] if word in CALLS:
+            return (CALLS[word],)
+        case [b"nth", number, word, *rest]:
+            return edit_of(number_of(number), word, rest)
+        case [word, *rest] if word != b"nth":
+            return edit_of(None, word, rest)
+    raise NoCommand
+
+
+def meaning_of(script):
+    """The commands of a script with the numbers of their lines, or the first line that is none."""
+    commands = []
+    for number, line in lines_of(script):
+        if line.startswith(b"#") or not line.strip(b" \t"):
+            continue
+        try:
+            commands.append((number, *command_of(fields_of(line))))
+        except NoCommand:
+            return number
+    return commands
+
+
+def stated(meaning):
+    """A meaning as a table states it, its texts as bytes."""
+    if isinstance(meaning, int):
+        return meaning
+
+    def texts(part):
+        if isinstance(part, tuple):
+            return (part[0], *[texts(it) for it in part[1:]])
+        return part.encode("latin-1") if isinstance(part, str) else part
+
+    return [(number, name, *[texts(it) for it in arguments]) for number, name, *arguments in meaning]
+
+
+# ---- equations
+
+
+def antt_text(text):
+    """A text as a term, which draws no control character."""
+    return re.sub(r"[\x01-\x1f\x7f]", lambda found: f"\\u{{{ord(found.group()):x}}}", reading_rows.antt_text(text))
+
+
+def antt_argument(name, part):
+    """An argument of an edit as a term."""
+    if isinstance(part, tuple):
+        return part[0] if len(part) == 1 else f"({part[0]} {antt_nth(part[1])} {antt_text(part[2])})"
+    if isinstance(part, bool):
+        return "true" if part else "false"
+    return antt_text(part) if isinstance(part, bytes) else str(part)
+
+
+def antt_nth(nth):
+    """A number that may be left out, as a term."""
+    return "None" if nth is None else f"(Some {nth})"
+
+
+# Where the number of the line stands that an edit means.
+NTH_FIRST = {"SetValue", "AppendValue", "RemoveAssign", "RemoveRule", "RemovePrereq", "AddRecipe", "SetRecipe", "RemoveRecipe"}
+
+
+def antt_command(name, *arguments):
+    """A command as a term."""
+    if name in CALLS.values():
+        return name
+    parts = list(arguments)
+    nth = 0 if name in NTH_FIRST else 1 if name == "AddPrereq" else None
+    sign = {"AddAssign": FLAVORS, "AddRule": COLONS}.get(name)
+    terms = [
+        antt_nth(part) if at == nth else sign[part] if sign and at == 2 else antt_argument(name, part)
+        for at, part in enumerate(parts)
+    ]
+    return f"(Apply ({name} {' '.join(terms)}))"
+
+
+def antt_meaning(meaning):
+    """A meaning as a term."""
+    if isinstance(meaning, int):
+        return f"Err {meaning}"
+    terms = [f"on_line {number} {antt_command(*command)}" for number, *command in meaning]
+    return "Ok " + ("(" + " ∷ ".join(terms + ["[]"]) + ")" if terms else "[]")
+
+
+# The modules that a file may need, and their names; it imports those that it has.
+IMPORTS = [
+    ("Rattle.std.proofs.Common", ["◌≡◌", "refl", "[]", "◌∷◌", "Some", "None", "true", "false"]),
+    ("Rattle.std.specs.Prelude", ["codes", "Ok", "Err"]),
+    ("Rattle.bstr.specs.Text", ["line_len", "lines_from"]),
+    ("Rattle.mk_class.specs.declared.assignment.Flavor.TheVariants", list(FLAVORS.values())),
+    ("Rattle.mk_edit_laws.specs.declared.edit.Colons.TheVariants", list(COLONS.values())),
+    ("Rattle.mk_edit_laws.specs.Edits", ["Bottom", *PLACES.values()]),
+    (
+        "Rattle.mk_edit_laws.specs.Edits",
+        ["SetValue", "AppendValue", "AddAssign", "RemoveAssign", "AddRule", "RemoveRule", "AddPrereq", "RemovePrereq"]
+        + ["AddRecipe", "SetRecipe", "RemoveRecipe", "RenameTarget"],
+    ),
+    ("Rattle.mk_history.specs.Machine", ["Apply", *CALLS.values()]),
+    ("Rattle.mk_script.proofs.on_scripts.ReaderLemmas", ["on_line", "read_script"]),
+]
+
+
+def stands_in(name, body):
+    """Whether a body without its texts has a name."""
+    if name.startswith("◌"):
+        return name.strip("◌") in body
+    return name == "[]" or bool(re.search(rf"(?<![\w.]){name}(?!\w)", body))
+
+
+def head_of(tables, body):
+    """The first lines of a file with this body."""
+    lines = [f"-- Scripts and what they mean. Made by `tests/definitions/script_rows.py {' '.join(tables)}`."]
+    bare = re.sub(r'"[^"\\]*(?:\\.[^"\\]*)*"', "", body)
+    for module, names in IMPORTS:
+        used = [name for name in names if stands_in(name, bare)]
+        if used:
+            lines.append(f"use {module}.{{{', '.join(used)}}}")
+    return "\n".join(lines) + "\n"
+
+
+def rows_of(table):
+    """The names, scripts and meanings of a table."""
+    head, *rows = [line.split("\t") for line in Path(table).read_text().rstrip("\n").split("\n")]
+    for row in [dict(zip(head, row, strict=True)) for row in rows]:
+        script = unescape(row["script"]).encode("latin-1")
+        meaning = meaning_of(script)
+        if "meaning" in row:
+            hand = stated(ast.literal_eval(unescape(row["meaning"])))
+            if hand != meaning:
+                sys.exit(f"{row['name']}: the table says {hand}, the reading {meaning}")
+        yield "row_" + row["name"].replace("-", "_"), script, meaning
+
+
+def main():
+    tables = sys.argv[1:]
+    if not tables:
+        sys.exit("usage: script_rows.py TABLE..")
+    body, seen = "", set()
+    for name, script, meaning in [row for table in tables for row in rows_of(table)]:
+        if script in seen:
+            continue
+        seen.add(script)
+        body += f"\n{name} : read_script {antt_text(script)} ≡ {antt_meaning(meaning)}\n"
+        body += f"unfolding line_len lines_from\n{name} = refl\n"
+    print(head_of(tables, body) + body, end="")
+
+
+if __name__ == "__main__":
+    main()
