@@ -1,0 +1,2 @@
+-- Definitions computed
+mod WorkedRows

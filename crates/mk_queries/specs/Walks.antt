@@ -1,0 +1,24 @@
+-- Walks over the lines of a document: what they say of the lines ahead.
+use Rattle.std.specs.Prelude.{◌==◌, ℕ, zero, suc, ◌+◌, if◌then◌else◌, List, [], ◌∷◌, ◌++◌, codes, decimal}
+use Rattle.mk_class.specs.Contexts.{Context}
+use Rattle.mk_class.specs.declared.class.Class as class
+use Rattle.mk_class.specs.declared.class.Class.TheVariants as variants
+use Rattle.mk_tree.specs.PlacedLines.{PlacedLine}
+
+-- how many line feeds there are in a text
+abbrev pub line_feeds : List ℕ → ℕ
+line_feeds [] = 0
+line_feeds (b ∷ t) = if b == 10 then suc (line_feeds t) else line_feeds t
+
+-- ---- lines that are not read inside
+
+-- what is said of a line of this number and class
+abbrev pub unread_placed : (number : ℕ) → class.Class → List ℕ
+unread_placed n variants.Rough = decimal n ++ codes ": rough\n"
+unread_placed n variants.Opaque = decimal n ++ codes ": opaque\n"
+unread_placed n k = []
+
+-- what is said of some lines, the first of which has this number
+abbrev pub unread_ahead : (number : ℕ) → List PlacedLine → List ℕ
+unread_ahead n [] = []
+unread_ahead n (l ∷ ls) = unread_placed n l.class ++ unread_ahead (n + line_feeds l.bytes) ls
