@@ -1,2 +1,5 @@
+-- Lemmas by subject
+pub mod on_gathering
+pub mod on_walks
 -- Definitions computed
 mod WorkedRows

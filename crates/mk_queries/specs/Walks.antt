@@ -1,6 +1,6 @@
 -- Walks over the lines of a document: what they say of the lines ahead.
-use Rattle.std.specs.Prelude.{◌==◌, ℕ, zero, suc, ◌+◌, if◌then◌else◌, List, [], ◌∷◌, ◌++◌, codes, decimal}
-use Rattle.mk_class.specs.Contexts.{Context}
+use Rattle.std.specs.Prelude.{◌==◌, ℕ, ◌+◌, if◌then◌else◌, List, [], ◌∷◌, ◌++◌, codes, decimal}
+use Rattle.mk_class.specs.Contexts.{Context, context_after_places}
 use Rattle.mk_class.specs.declared.class.Class as class
 use Rattle.mk_class.specs.declared.class.Class.TheVariants as variants
 use Rattle.mk_tree.specs.PlacedLines.{PlacedLine}
@@ -8,7 +8,12 @@ use Rattle.mk_tree.specs.PlacedLines.{PlacedLine}
 -- how many line feeds there are in a text
 abbrev pub line_feeds : List ℕ → ℕ
 line_feeds [] = 0
-line_feeds (b ∷ t) = if b == 10 then suc (line_feeds t) else line_feeds t
+line_feeds (b ∷ t) = if b == 10 then 1 + line_feeds t else line_feeds t
+
+-- what is said of some lines, the first of which has this number and stands in this context: of each by its own
+abbrev pub said_ahead : (say : ℕ → Context → PlacedLine → List ℕ) → (number : ℕ) → Context → List PlacedLine → List ℕ
+said_ahead say n c [] = []
+said_ahead say n c (l ∷ ls) = say n c l ++ said_ahead say (n + line_feeds l.bytes) (context_after_places c l.class) ls
 
 -- ---- lines that are not read inside
 

@@ -1,0 +1,3 @@
+pub mod NumberLemmas
+pub mod SaidLemmas
+pub mod UnreadLemmas
