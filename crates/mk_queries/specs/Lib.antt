@@ -4,7 +4,8 @@ pub mod StandingLines
 pub mod Spacing
 pub mod PartTexts
 pub mod ItemLines
--- What the code walks over
+-- What the code says of lines, and its walks
+pub mod PlacedTexts
 pub mod Walks
 -- The queries
 pub mod Queries

@@ -7,7 +7,7 @@ use Rattle.mk_class.specs.declared.assignment.Modifier.TheVariants.{Override, Ex
 use Rattle.mk_class.specs.declared.rule.Separator.{Separator}
 use Rattle.mk_class.specs.declared.rule.Separator.TheVariants.{SingleColon, DoubleColon, GroupedColon, GroupedDoubleColon}
 use Rattle.mk_tree.specs.Items.{Assigned, Sets}
-use Rattle.mk_queries.specs.Spacing.{each_after_space, each_before_space, after_space}
+use Rattle.mk_queries.specs.Spacing.{spaced, each_after_space, each_before_space, after_space}
 
 -- ---- assignments
 
@@ -25,9 +25,10 @@ operator_text Conditional = codes "?="
 operator_text Append = codes "+="
 operator_text Shell = codes "!="
 
--- an assignment: each modifier before a space, the name, a space, the operator, and the value after a space where it is not empty
+-- an assignment up to the end of its line: each modifier before a space, the name, a space, the operator, and the value after a
+-- space where it is not empty
 abbrev pub assigned_text : Assigned → List ℕ
-assigned_text (Sets ms n f v) = each_before_space (map modifier_text ms) ++ (n ++ (codes " " ++ (operator_text f ++ after_space v)))
+assigned_text (Sets ms n f v) = each_before_space (map modifier_text ms) ++ (n ++ (codes " " ++ (operator_text f ++ (after_space v ++ codes "\n"))))
 
 -- ---- headers
 
@@ -36,6 +37,10 @@ separator_text SingleColon = codes ":"
 separator_text DoubleColon = codes "::"
 separator_text GroupedColon = codes "&:"
 separator_text GroupedDoubleColon = codes "&::"
+
+-- targets with one space between them, and the separator
+abbrev pub targets_text : List (List ℕ) → Separator → List ℕ
+targets_text ts s = spaced ts ++ separator_text s
 
 -- a pattern, where there is one, after a space and before a `:`
 abbrev pub pattern_text : (pattern : List (List ℕ)) → List ℕ

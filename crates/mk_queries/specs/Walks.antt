@@ -4,6 +4,7 @@ use Rattle.mk_class.specs.Contexts.{Context, context_after_places}
 use Rattle.mk_class.specs.declared.class.Class as class
 use Rattle.mk_class.specs.declared.class.Class.TheVariants as variants
 use Rattle.mk_tree.specs.PlacedLines.{PlacedLine}
+use Rattle.mk_queries.specs.PlacedTexts.{text_of_line, variable_placed}
 
 -- how many line feeds there are in a text
 abbrev pub line_feeds : List ℕ → ℕ
@@ -27,3 +28,9 @@ unread_placed n k = []
 abbrev pub unread_ahead : (number : ℕ) → List PlacedLine → List ℕ
 unread_ahead n [] = []
 unread_ahead n (l ∷ ls) = unread_placed n l.class ++ unread_ahead (n + line_feeds l.bytes) ls
+
+-- ---- assignments
+
+-- what is said of some lines, the first of which has this number and stands in this context
+abbrev pub variables_ahead : (number : ℕ) → Context → List PlacedLine → List ℕ
+variables_ahead n c ls = said_ahead (λ n c l. variable_placed n c.conditionals (text_of_line l) l.class) n c ls

@@ -8,8 +8,8 @@ use Rattle.mk_tree.specs.Printing.{AppendsSoFar}
 use Rattle.mk_tree.proofs.Prefixes.{AppendsPrefix-front, AppendsPrefix-whole, so_far-more, so_far-prefix, so_far-whole, so_far-end}
 
 -- nothing was put
-pub put-nothing : (a : Option (List ℕ)) (held : List ℕ) → AppendsSoFar a a (held ++ []) held
-put-nothing a held = ([], sym (append-nil held), Appends-nil a)
+pub put-nothing : (a : Option (List ℕ)) (held text : List ℕ) → text ≡ [] → AppendsSoFar a a (held ++ text) held
+put-nothing a held text e = ([], sym (ap (λ z. held ++ z) e ∙ append-nil held), Appends-nil a)
 
 -- what is out is a prefix of what was put
 pub put-prefix : (a b : Option (List ℕ)) (text held : List ℕ) → AppendsSoFar a b text held → AppendsPrefix a b text
@@ -57,3 +57,22 @@ put-last (Err i) a b c text held last whole e f so h = h
 -- or not all of it is out
 pub put-last_failed : (a b c : Option (List ℕ)) (text held last whole : List ℕ) → last ≡ held → text ≡ whole → AppendsSoFar a b text held → AppendsPrefix b c last → AppendsPrefix a c whole
 put-last_failed a b c text held last whole e f so h = subst (AppendsPrefix a c) f (so_far-end a b c text held so (subst (AppendsPrefix b c) e h))
+
+-- ---- a text of some parts, taken apart after each
+
+pub record AreThree (w x y z : List ℕ) : Type 0 where
+  pub first : w ≡ x ++ (y ++ z)
+  pub second : (x ++ y) ++ z ≡ w
+
+pub three-parts : (w x y z : List ℕ) → w ≡ x ++ (y ++ z) → AreThree w x y z
+three-parts w x y z e = record { first = e; second = append_assoc x y z ∙ sym e }
+
+pub record AreFour (w x y z v : List ℕ) : Type 0 where
+  pub first : w ≡ x ++ (y ++ (z ++ v))
+  pub second : (x ++ y) ++ (z ++ v) ≡ w
+  pub third : ((x ++ y) ++ z) ++ v ≡ w
+
+pub four-parts : (w x y z v : List ℕ) → w ≡ x ++ (y ++ (z ++ v)) → AreFour w x y z v
+four-parts w x y z v e =
+    let s : (x ++ y) ++ (z ++ v) ≡ w = append_assoc x y (z ++ v) ∙ sym e in
+    record { first = e; second = s; third = append_assoc (x ++ y) z v ∙ s }
