@@ -2,3 +2,4 @@ pub mod NumberLemmas
 pub mod SaidLemmas
 pub mod UnreadLemmas
 pub mod VariableLemmas
+pub mod RuleLemmas
