@@ -1,0 +1,4 @@
+pub mod ModifierLemmas
+pub mod ColonLemmas
+pub mod AssignmentPartLemmas
+pub mod HeaderPartLemmas

@@ -1,0 +1,5 @@
+pub mod NumberLemmas
+pub mod SaidLemmas
+pub mod UnreadLemmas
+pub mod VariableLemmas
+pub mod RuleLemmas

@@ -1,0 +1,133 @@
+-- What the code says of a line, by the places of its parts in the joined text of the line.
+use Rattle.std.specs.Prelude.{◌≡◌, ℕ, ◌+◌, ◌-◌, ◌≤◌, if◌then◌else◌, List, [], ◌++◌, Option, Some, None, codes}
+use Rattle.mk_lines.specs.Cells.{joined_byte, joined_text, line_cells}
+use Rattle.mk_lines.specs.Ranges.{text_at}
+use Rattle.mk_lines.specs.declared.split.Span.{Span}
+use Rattle.mk_lines.specs.Words.{words}
+use Rattle.mk_class.specs.Separators.{separator_length}
+use Rattle.mk_class.specs.Contexts.{Context}
+use Rattle.mk_class.specs.ClassTable.{class_of}
+use Rattle.mk_class.specs.ClassPlaces.{class_places}
+use Rattle.mk_class.specs.declared.assignment.Assignment as assignment
+use Rattle.mk_class.specs.declared.assignment.TargetAssignment as target_assignment
+use Rattle.mk_class.specs.declared.rule.Header as header
+use Rattle.mk_class.specs.declared.class.Class as class
+use Rattle.mk_class.specs.declared.class.Class.TheVariants as variants
+use Rattle.mk_tree.specs.PlacedLines.{PlacedLine}
+use Rattle.mk_queries.specs.Spacing.{each_after_space, each_before_space, after_space}
+use Rattle.mk_queries.specs.PartTexts.{operator_text, targets_text, pattern_text, order_only_text, count_text}
+use Rattle.mk_queries.specs.ItemLines.{place_text}
+
+-- a line has the class that it has in a context
+abbrev pub IsClassedIn : Context → PlacedLine → Type 0
+IsClassedIn c l = l.class ≡ class_places joined_byte (class_of c l.bytes)
+
+-- the joined text of a line
+abbrev pub text_of_line : PlacedLine → List ℕ
+text_of_line l = joined_text (line_cells l.bytes)
+
+-- the words of a text
+abbrev pub words_in : List ℕ → List (List ℕ)
+words_in t = words (λ b. b) t
+
+-- the words of a part of a text
+abbrev pub words_at : List ℕ → (start end : ℕ) → List (List ℕ)
+words_at t s e = words_in (text_at t (record { start = s; end = e }))
+
+-- ---- assignments
+
+-- the parts of an assignment stand in a text of a length, after a place
+pub record IsAssignmentWithin (length start : ℕ) (at : assignment.Assignment) : Type 0 where
+  pub before : start ≤ at.name.start
+  pub name : at.name.start ≤ at.name.end
+  pub value : at.value.start ≤ at.value.end
+  pub name_within : at.name.end ≤ length
+  pub value_within : at.value.end ≤ length
+
+-- an assignment whose modifiers begin at a place, up to the end of its line
+abbrev pub assigned_placed : (text : List ℕ) → (start : ℕ) → assignment.Assignment → List ℕ
+assigned_placed t s at =
+    each_before_space (words_at t s at.name.start) ++ (text_at t at.name ++ (codes " " ++ (operator_text at.flavor ++ (after_space (text_at t at.value) ++ codes "\n"))))
+
+-- where the text after the separator of an assignment for targets begins
+abbrev pub assigned_start : target_assignment.TargetAssignment → ℕ
+assigned_start at = at.targets_end + separator_length at.separator
+
+-- an assignment for targets, up to the end of its line
+abbrev pub target_assigned_placed : (text : List ℕ) → target_assignment.TargetAssignment → List ℕ
+target_assigned_placed t at = targets_text (words_at t 0 at.targets_end) at.separator ++ (codes " " ++ assigned_placed t (assigned_start at) at.assignment)
+
+-- the line of `vars` on a line of this joined text and class
+abbrev pub variable_placed : (number depth : ℕ) → (text : List ℕ) → class.Class → List ℕ
+variable_placed n d t (variants.Assign at p) = place_text n d ++ assigned_placed t 0 at
+variable_placed n d t (variants.TargetAssign at) = place_text n d ++ target_assigned_placed t at
+variable_placed n d t k = []
+
+-- ---- headers
+
+-- where the pattern stands, and the second `:` after it, where there is one
+abbrev pub pattern_span : header.Header → Span
+pattern_span at = record { start = at.targets_end + separator_length at.separator; end = at.normal_start - (if at.has_pattern then 1 else 0) }
+
+-- where the normal and the order-only prerequisites stand
+abbrev pub normal_span : header.Header → Span
+normal_span at = record { start = at.normal_start; end = at.normal_end }
+
+abbrev pub order_only_span : header.Header → Span
+order_only_span at = record { start = at.normal_end + (if at.has_order_only then 1 else 0); end = at.head_end }
+
+-- a range stands in a text of a length
+pub record IsSpanWithin (length : ℕ) (s : Span) : Type 0 where
+  pub rises : s.start ≤ s.end
+  pub within : s.end ≤ length
+
+-- the parts of a header stand in a text of a length
+pub record IsHeaderWithin (length : ℕ) (at : header.Header) : Type 0 where
+  pub targets : at.targets_end ≤ length
+  pub pattern : IsSpanWithin length (pattern_span at)
+  pub normal : IsSpanWithin length (normal_span at)
+  pub order_only : IsSpanWithin length (order_only_span at)
+
+-- a header, up to its count of recipe lines
+abbrev pub header_placed : (text : List ℕ) → header.Header → List ℕ
+header_placed t at =
+    targets_text (words_at t 0 at.targets_end) at.separator
+    ++ (pattern_text (words_in (text_at t (pattern_span at))) ++ (each_after_space (words_in (text_at t (normal_span at))) ++ order_only_text (words_in (text_at t (order_only_span at)))))
+
+-- the count of recipe lines with which a header's line ends, where one is not yet ended
+abbrev pub count_placed : Option ℕ → List ℕ
+count_placed None = []
+count_placed (Some n) = count_text n
+
+-- what the walk of `rules` says at a line of this joined text and class, where a header's line that has so many recipe lines so far
+-- is not yet ended
+abbrev pub rule_placed : (number depth : ℕ) → (counted : Option ℕ) → (text : List ℕ) → class.Class → List ℕ
+rule_placed n d o t (variants.Header at) = count_placed o ++ (place_text n d ++ header_placed t at)
+rule_placed n d o t variants.Recipe = []
+rule_placed n d o t variants.Blank = []
+rule_placed n d o t variants.Comment = []
+rule_placed n d o t variants.If = []
+rule_placed n d o t variants.Else = []
+rule_placed n d o t variants.Endif = []
+rule_placed n d o t k = count_placed o
+
+-- one more
+abbrev pub one_more : Option ℕ → Option ℕ
+one_more None = None
+one_more (Some n) = Some (n + 1)
+
+-- the recipe lines that are counted so far after a line of this class, where its header's line is not yet ended
+abbrev pub counted_after : Option ℕ → class.Class → Option ℕ
+counted_after o (variants.Header at) = Some (if at.has_recipe then 1 else 0)
+counted_after o variants.Recipe = one_more o
+counted_after o variants.Blank = o
+counted_after o variants.Comment = o
+counted_after o variants.If = o
+counted_after o variants.Else = o
+counted_after o variants.Endif = o
+counted_after o k = None
+
+-- how many are counted
+abbrev pub count_of : Option ℕ → ℕ
+count_of None = 0
+count_of (Some n) = n

@@ -1,0 +1,219 @@
+//! The query `rules`: the headers of rules.
+ghost use Rattle.std.specs.Prelude.{◌≡◌, ◌+◌, ◌<◌, ◌≤◌, ◌^◌, ◌++◌, false, true, IfErr, IfOk, OnOk, length};
+ghost use Rattle.std.specs.Io.KnownBytes.{Appends};
+ghost use Rattle.mk_lines.specs.Device.{AppendsPrefix};
+ghost use Rattle.mk_lines.specs.Ranges.{text_at};
+ghost use Rattle.mk_tree.specs.Documents.{IsFaithful};
+ghost use Rattle.mk_tree.specs.PlacedLines.{placed_text};
+ghost use Rattle.mk_tree.specs.Printing.{AppendsSoFar};
+ghost use Rattle.mk_tree.specs.Trees.{line_view};
+ghost use Rattle.mk_queries.specs.PartTexts.{order_only_text, pattern_text};
+ghost use Rattle.mk_queries.specs.PlacedTexts.{IsClassedIn, IsHeaderWithin, count_of, count_placed, counted_after, header_placed, one_more, order_only_span, pattern_span, rule_placed, text_of_line, words_in};
+ghost use Rattle.mk_queries.specs.Queries.{rules_text};
+
+use crate::gathering::{Gathered, put_parts};
+use crate::line_part::{part, text_of_line};
+use crate::place::{line_feeds, put_place};
+use crate::spacing::put_each_after_space;
+use crate::targets::{put_targets, separator_text};
+use mk_class::{Class, Context, Header};
+use mk_lines::sink::{ByteSink, write_all};
+use mk_lines::split::Span;
+use mk_lines::{Fault, split_first_word};
+use mk_tree::{Doc, Line};
+use std::alloc::Allocator;
+
+/// Writes a line of text on each rule of the makefile, in the order of their headers. Nothing is
+/// flushed. Takes no memory.
+///
+/// Before it stand the number of the header's first physical line, from 1, and how many conditionals are
+/// open there. Then come the targets, the separator, the pattern and a `:` where there is one, the normal
+/// prerequisites, and the order-only ones after a `|` where there are some; and in brackets the number
+/// of its recipe lines, an inline recipe being one. Folds are spaces, and comments are left out:
+///
+/// ```text
+/// 1:0: %.o: %.c | out [1]
+/// 3:0: x.o y.o: %.o: %.c [0]
+/// 4:0: foo&: a [1]
+/// ```
+///
+/// It asks for a faithful document.
+///
+/// # Errors
+///
+/// [`Fault::Write`] where a write answered it or took nothing. A prefix of the text is out then.
+pub fn rules<A: Allocator, W: ByteSink>(doc: &Doc<A>, out: &mut W) -> Result<(), Fault>
+    requires faithful { IsFaithful doc.now }
+    requires works { W.failed out.old ≡ false }
+    ensures whole { OnOk result (Appends (W.contents out.old) (W.contents out.new) (rules_text (placed_text doc.now))) }
+    ensures prefix { AppendsPrefix (W.contents out.old) (W.contents out.new) (rules_text (placed_text doc.now)) }
+    ensures works { OnOk result (W.failed out.new ≡ false) }
+    ensures fault { IfErr result (λ e. (e ≡ Fault.Write) × (W.failed out.new ≡ true)) }
+    ensures unflushed { W.flushes out.new ≡ W.flushes out.old }
+{
+    // The contract of `size` says that the lines are within the limit, and so are the numbers here.
+    let _size = doc.size();
+    let mut gathered = Gathered::new();
+    let mut number = 1;
+    // How many recipe lines the last header has so far, where its line of text is not yet ended.
+    let mut counted = None;
+    'lines: for (context, line) in doc.lines_with_contexts() {
+        counted = put_rule(&mut gathered, out, number, context, counted, line)?;
+        number += line_feeds(line.bytes());
+    }
+    put_count(&mut gathered, out, counted)?;
+    write_all(out, &gathered)
+}
+
+// Puts what is said at a line of this number, which stands in a context, behind the texts that are held
+// back, where a header above it has so many recipe lines so far. Answers how many the last header has
+// after the line.
+fn put_rule<A: Allocator, W: ByteSink>(
+    gathered: &mut Gathered,
+    out: &mut W,
+    number: usize,
+    context: Context,
+    counted: Option<usize>,
+    line: &Line<A>,
+) -> Result<Option<usize>, Fault>
+    requires works { W.failed out.old ≡ false }
+    requires classed { IsClassedIn context (line_view line.now) }
+    requires few { count_of counted < 2 ^ 32 }
+    ensures whole { OnOk result (AppendsSoFar (W.contents out.old) (W.contents out.new) (gathered.old.items ++ rule_placed number context.conditionals counted (text_of_line (line_view line.now)) (line_view line.now).class) gathered.new.items) }
+    ensures counted { IfOk result (λ after. after ≡ counted_after counted (line_view line.now).class) }
+    ensures prefix { AppendsPrefix (W.contents out.old) (W.contents out.new) (gathered.old.items ++ rule_placed number context.conditionals counted (text_of_line (line_view line.now)) (line_view line.now).class) }
+    ensures works { OnOk result (W.failed out.new ≡ false) }
+    ensures fault { IfErr result (λ e. (e ≡ Fault.Write) × (W.failed out.new ≡ true)) }
+    ensures unflushed { W.flushes out.new ≡ W.flushes out.old }
+{
+    match line.class() {
+        Class::Header(header) => {
+            put_count(gathered, out, counted)?;
+            put_place(gathered, out, number, context.conds())?;
+            put_header(gathered, out, text_of_line(line), &header)?;
+            Ok(Some(usize::from(header.has_recipe)))
+        }
+        Class::Recipe => Ok(one_more(counted)),
+        Class::Blank | Class::Comment | Class::If | Class::Else | Class::Endif => Ok(counted),
+        _ => {
+            put_count(gathered, out, counted)?;
+            Ok(None)
+        }
+    }
+}
+
+// One more recipe line, where a header is there.
+fn one_more(counted: Option<usize>) -> Option<usize>
+    requires { count_of counted < 2 ^ 32 }
+    ensures { result ≡ one_more counted }
+{
+    counted.map(|count| count + 1)
+}
+
+// Puts a count of recipe lines, which ends the line of a header, behind the texts that are held back,
+// where one is not yet ended.
+fn put_count<W: ByteSink>(
+    gathered: &mut Gathered,
+    out: &mut W,
+    counted: Option<usize>,
+) -> Result<(), Fault>
+    requires { W.failed out.old ≡ false }
+    ensures whole { OnOk result (AppendsSoFar (W.contents out.old) (W.contents out.new) (gathered.old.items ++ count_placed counted) gathered.new.items) }
+    ensures prefix { AppendsPrefix (W.contents out.old) (W.contents out.new) (gathered.old.items ++ count_placed counted) }
+    ensures works { OnOk result (W.failed out.new ≡ false) }
+    ensures fault { IfErr result (λ e. (e ≡ Fault.Write) × (W.failed out.new ≡ true)) }
+    ensures unflushed { W.flushes out.new ≡ W.flushes out.old }
+{
+    let Some(count) = counted else {
+        return Ok(());
+    };
+    let mut digits = itoa::Buffer::new();
+    let count = digits.format(count).as_bytes();
+    put_parts(gathered, out, &[b" [", count, b"]\n"])
+}
+
+// Puts a header, up to its count of recipe lines, behind the texts that are held back.
+fn put_header<W: ByteSink>(
+    gathered: &mut Gathered,
+    out: &mut W,
+    text: &[u8],
+    at: &Header,
+) -> Result<(), Fault>
+    requires works { W.failed out.old ≡ false }
+    requires within { IsHeaderWithin (length text.now) at.now }
+    ensures whole { OnOk result (AppendsSoFar (W.contents out.old) (W.contents out.new) (gathered.old.items ++ header_placed text.now at.now) gathered.new.items) }
+    ensures prefix { AppendsPrefix (W.contents out.old) (W.contents out.new) (gathered.old.items ++ header_placed text.now at.now) }
+    ensures works { OnOk result (W.failed out.new ≡ false) }
+    ensures fault { IfErr result (λ e. (e ≡ Fault.Write) × (W.failed out.new ≡ true)) }
+    ensures unflushed { W.flushes out.new ≡ W.flushes out.old }
+{
+    let targets = Span {
+        start: 0,
+        end: at.targets_end,
+    };
+    let normal = Span {
+        start: at.normal_start,
+        end: at.normal_end,
+    };
+    put_targets(gathered, out, part(text, targets), at.separator)?;
+    put_pattern(gathered, out, pattern(text, at))?;
+    put_each_after_space(gathered, out, part(text, normal))?;
+    put_order_only(gathered, out, order_only(text, at))
+}
+
+// The pattern of a header with the blanks around it. It is empty where there is none.
+fn pattern<'a>(text: &'a [u8], at: &Header) -> &'a [u8]
+    requires { IsHeaderWithin (length text.now) at.now }
+    ensures { result.now ≡ text_at text.now (pattern_span at.now) }
+{
+    let start = at.targets_end + separator_text(at.separator).len();
+    let end = at.normal_start - usize::from(at.has_pattern);
+    part(text, Span { start, end })
+}
+
+// The order-only prerequisites of a header.
+fn order_only<'a>(text: &'a [u8], at: &Header) -> &'a [u8]
+    requires { IsHeaderWithin (length text.now) at.now }
+    ensures { result.now ≡ text_at text.now (order_only_span at.now) }
+{
+    let start = at.normal_end + usize::from(at.has_order_only);
+    let end = at.head_end;
+    part(text, Span { start, end })
+}
+
+// Puts the pattern that a text has after a space, and a `:`, behind the texts that are held back, where
+// it has one.
+fn put_pattern<W: ByteSink>(gathered: &mut Gathered, out: &mut W, text: &[u8]) -> Result<(), Fault>
+    requires { W.failed out.old ≡ false }
+    ensures whole { OnOk result (AppendsSoFar (W.contents out.old) (W.contents out.new) (gathered.old.items ++ pattern_text (words_in text.now)) gathered.new.items) }
+    ensures prefix { AppendsPrefix (W.contents out.old) (W.contents out.new) (gathered.old.items ++ pattern_text (words_in text.now)) }
+    ensures works { OnOk result (W.failed out.new ≡ false) }
+    ensures fault { IfErr result (λ e. (e ≡ Fault.Write) × (W.failed out.new ≡ true)) }
+    ensures unflushed { W.flushes out.new ≡ W.flushes out.old }
+{
+    match split_first_word(text) {
+        Some((pattern, _)) => put_parts(gathered, out, &[b" ", pattern, b":"]),
+        None => Ok(()),
+    }
+}
+
+// Puts the order-only prerequisites that a text has behind the texts that are held back, after a `|`,
+// where it has some.
+fn put_order_only<W: ByteSink>(
+    gathered: &mut Gathered,
+    out: &mut W,
+    text: &[u8],
+) -> Result<(), Fault>
+    requires { W.failed out.old ≡ false }
+    ensures whole { OnOk result (AppendsSoFar (W.contents out.old) (W.contents out.new) (gathered.old.items ++ order_only_text (words_in text.now)) gathered.new.items) }
+    ensures prefix { AppendsPrefix (W.contents out.old) (W.contents out.new) (gathered.old.items ++ order_only_text (words_in text.now)) }
+    ensures works { OnOk result (W.failed out.new ≡ false) }
+    ensures fault { IfErr result (λ e. (e ≡ Fault.Write) × (W.failed out.new ≡ true)) }
+    ensures unflushed { W.flushes out.new ≡ W.flushes out.old }
+{
+    let Some((first, others)) = split_first_word(text) else {
+        return Ok(());
+    };
+    put_parts(gathered, out, &[b" | ", first])?;
+    put_each_after_space(gathered, out, others)
+}
