@@ -54,7 +54,7 @@ means-so_far script n (line ∷ rest) commands h = by_line (is_skipped line) ref
     by_command e None f on = reached (λ l. IsReadable l → ⊥) script n line rest commands h (not_readable line e f)
     by_command e (Some c) f on =
         means-more script commands (record { line = n + 1; command = c }) (read_lines (n + 1 + 1) rest)
-          (on (commands ++ record { line = n + 1; command = c } ∷ []) (command-read script n line rest commands c h (command-written line c f)))
+        (on (commands ++ record { line = n + 1; command = c } ∷ []) (command-read script n line rest commands c h (command-written line c f)))
 
     by_line : (b : Bool) → is_skipped line ≡ b → ((cs : List CommandAt) → IsReadSoFar script (n + 1) rest cs → Means script cs (read_lines (n + 1 + 1) rest))
         → Means script commands (cond b (read_lines (n + 1 + 1) rest) (line_then (n + 1) (command line) (read_lines (n + 1 + 1) rest)))

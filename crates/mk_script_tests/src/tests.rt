@@ -1,0 +1,92 @@
+//! What the proofs do not say: that memory is found, how often it is asked for, and texts.
+
+use crate::rows::{FAULTY, SCRIPTS, Script};
+use crate::shown::shown;
+use mk_script::{ScriptFault, parse_script};
+use refusing::Refusing;
+use std::alloc::{AllocError, Allocator};
+use std::test::Fail;
+
+// Whether a script was read as its commands.
+fn is_read<A: Allocator + Copy>(
+    rt: &HostRuntime,
+    alloc: A,
+    script: &Script,
+) -> Result<bool, AllocError> {
+    match parse_script(alloc, script.text) {
+        Ok(commands) => Ok(shown(rt.alloc(), &commands)?.as_slice() == script.commands),
+        Err(_) => Ok(false),
+    }
+}
+
+// The fault of a script.
+fn fault_of<A: Allocator + Copy>(alloc: A, text: &[u8]) -> Option<ScriptFault> {
+    match parse_script(alloc, text) {
+        Ok(_) => None,
+        Err(fault) => Some(fault),
+    }
+}
+
+#[test]
+fn scripts_are_read(rt: HostRuntime) -> Result<(), Fail> {
+    for script in &SCRIPTS {
+        assert!(rt; is_read(&rt, rt.alloc(), script)?);
+    }
+    Ok(())
+}
+
+#[test]
+fn the_first_line_that_is_no_command_is_told(rt: HostRuntime) {
+    for faulty in &FAULTY {
+        let fault = fault_of(rt.alloc(), faulty.text);
+        assert_eq!(rt; fault, Some(ScriptFault::NotACommand(faulty.line)));
+    }
+}
+
+#[test]
+fn each_growth_refused_in_turn(rt: HostRuntime) -> Result<(), Fail> {
+    for script in &SCRIPTS {
+        for admitted in 0..100 {
+            let heap = Refusing::after(rt.alloc(), admitted);
+            if admitted == script.growths {
+                assert!(rt; is_read(&rt, &heap, script)?);
+                assert!(rt; !heap.has_refused());
+                break;
+            }
+            assert_eq!(rt; fault_of(&heap, script.text), Some(ScriptFault::NoMemory));
+            assert!(rt; heap.has_refused());
+        }
+    }
+    Ok(())
+}
+
+#[test]
+fn a_line_that_is_no_command_takes_no_memory(rt: HostRuntime) {
+    for faulty in &FAULTY {
+        let heap = Refusing::after(rt.alloc(), 0);
+        let fault = fault_of(&heap, faulty.text);
+        // The one row with a command before the fault takes memory for the list of commands.
+        let has_command = faulty.text.starts_with(b"undo");
+        assert_eq!(rt; heap.has_refused(), has_command);
+        assert_eq!(rt;
+            fault == Some(ScriptFault::NotACommand(faulty.line)),
+            !has_command
+        );
+    }
+}
+
+#[test]
+fn no_memory_hides_a_later_line(rt: HostRuntime) {
+    let heap = Refusing::after(rt.alloc(), 0);
+    let fault = fault_of(&heap, b"set X 1\nx\n");
+    assert_eq!(rt; fault, Some(ScriptFault::NoMemory));
+}
+
+#[test]
+fn faults_have_texts(rt: HostRuntime) -> Result<(), Fail> {
+    let line = format!(in rt.alloc(); "{}", ScriptFault::NotACommand(7))?;
+    assert_eq!(rt; line.as_str(), "script line 7 is not a command");
+    let memory = format!(in rt.alloc(); "{}", ScriptFault::NoMemory)?;
+    assert_eq!(rt; memory.as_str(), "no memory");
+    Ok(())
+}
