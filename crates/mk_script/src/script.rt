@@ -1,7 +1,10 @@
 //! A script: its commands with the numbers of their lines.
-ghost use Rattle.std.specs.Prelude.{map, IfOk, IfErr};
+ghost use Rattle.std.specs.Prelude.{◌≡◌, map, IfOk, IfErr};
 ghost use Rattle.mk_script.specs.Scripts.{IsScript, IsScriptFault, numbered};
 
+use crate::command::{is_skipped, read_command};
+use crate::fault::LineFault;
+use bstr::ByteSlice;
 use mk_session::Command;
 use std::alloc::{Allocator, Global};
 use thiserror::Error;
@@ -32,8 +35,8 @@ pub enum ScriptFault {
 /// # Errors
 ///
 /// - [`ScriptFault::NotACommand`] with the number of the first line that is no command.
-/// - [`ScriptFault::NoMemory`] where a growth was refused, and each line so far is a command or
-///   skipped.
+/// - [`ScriptFault::NoMemory`] where a growth was refused for a command, and no line before that
+///   command is at fault.
 pub fn parse_script<A: Allocator + Copy>(
     alloc: A,
     script: &[u8],
@@ -41,5 +44,26 @@ pub fn parse_script<A: Allocator + Copy>(
     ensures commands { IfOk result (λ commands. IsScript script.now (map numbered commands.items)) }
     ensures fault { IfErr result (λ fault. IsScriptFault script.now fault) }
 {
-    Err(ScriptFault::NoMemory)
+    let mut commands = Vec::new(alloc);
+    let mut number = 0u64;
+    for line in script.lines() {
+        number += 1;
+        if is_skipped(line) {
+            continue;
+        }
+        let command = match read_command(alloc, line) {
+            Ok(command) => command,
+            Err(LineFault::NotACommand) => return Err(ScriptFault::NotACommand(number)),
+            Err(LineFault::NoMemory) => return Err(ScriptFault::NoMemory),
+        };
+        let numbered = NumberedCommand {
+            line: number,
+            command,
+        };
+        match commands.push(numbered) {
+            Ok(()) => {}
+            Err(_) => return Err(ScriptFault::NoMemory),
+        }
+    }
+    Ok(commands)
 }
