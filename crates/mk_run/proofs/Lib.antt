@@ -1,7 +1,4 @@
-pub mod CountLemmas
-pub mod CutLemmas
-pub mod FrontLemmas
-pub mod ScriptLemmas
-pub mod TextLemmas
-pub mod ThinLemmas
-pub mod DocumentLemmas
+-- Lemmas by subject
+pub mod on_runs
+-- Definitions computed
+mod RunRows

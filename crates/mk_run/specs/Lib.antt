@@ -1,12 +1,10 @@
--- Scripts
-pub mod Blanks
-pub mod Script
--- Thin texts
-pub mod Assignment
-pub mod Texts
-pub mod ThinFile
-pub mod Edited
--- Reading, reports and outcomes
-pub mod Reading
+-- Reports and outcomes
 pub mod Report
 pub mod Outcome
+-- Runs
+pub mod Commands
+pub mod Runs
+pub mod RunEnds
+pub mod Steps
+-- Laws
+pub mod RunLaws

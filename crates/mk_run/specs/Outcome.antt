@@ -1,5 +1,5 @@
--- How a run ends: its status, its message, and which devices have failed.
-use Rattle.std.specs.Prelude.{◌≡◌, ◌⊎◌, ℕ, Bool, true, false, List, [], ◌++◌, codes, decimal}
+-- How a run ends: its status, its message, and whether its text is out.
+use Rattle.std.specs.Prelude.{ℕ, Bool, true, false, List, [], ◌++◌, codes, decimal}
 use Rattle.mk_lines.specs.declared.fault.Fault as f
 use Rattle.mk_lines.specs.declared.fault.Fault.TheVariants as fault
 use Rattle.mk_run.specs.declared.outcome.Outcome as o
@@ -54,30 +54,14 @@ is_printed outcome.Read keep_going = false
 is_printed outcome.Write keep_going = false
 is_printed outcome.NoMemory keep_going = false
 
--- no device has failed
-abbrev pub AllWork : Bool → Bool → Bool → Type 0
-AllWork makefile script report = (makefile ≡ false) × (script ≡ false) × (report ≡ false)
-
--- the commands stopped: with Write where the report failed, and else for a refusal or for want of memory
-abbrev pub StopsCommands : o.Outcome → Bool → Type 0
-StopsCommands outcome.Done report = ⊥
-StopsCommands (outcome.Refused count) report = (count ≡ 1) × (report ≡ false)
-StopsCommands (outcome.NotACommand line) report = ⊥
-StopsCommands outcome.BadDepth report = ⊥
-StopsCommands outcome.TooLong report = ⊥
-StopsCommands outcome.TooDeep report = ⊥
-StopsCommands outcome.Read report = ⊥
-StopsCommands outcome.Write report = report ≡ true
-StopsCommands outcome.NoMemory report = report ≡ false
-
--- the run stopped before its text went out: with Read where a reader failed, with Write where the report did
-abbrev pub StopsEdits : o.Outcome → Bool → Bool → Bool → Type 0
-StopsEdits outcome.Done makefile script report = ⊥
-StopsEdits (outcome.Refused count) makefile script report = (count ≡ 1) × AllWork makefile script report
-StopsEdits (outcome.NotACommand line) makefile script report = AllWork makefile script report
-StopsEdits outcome.BadDepth makefile script report = ⊥
-StopsEdits outcome.TooLong makefile script report = AllWork makefile script report
-StopsEdits outcome.TooDeep makefile script report = AllWork makefile script report
-StopsEdits outcome.Read makefile script report = ((makefile ≡ true) ⊎ (script ≡ true)) × (report ≡ false)
-StopsEdits outcome.Write makefile script report = (makefile ≡ false) × (script ≡ false) × (report ≡ true)
-StopsEdits outcome.NoMemory makefile script report = AllWork makefile script report
+-- a run that ended so may have obeyed commands, and reported refusals
+abbrev pub may_report : o.Outcome → Bool
+may_report outcome.Done = true
+may_report (outcome.Refused count) = true
+may_report (outcome.NotACommand line) = false
+may_report outcome.BadDepth = false
+may_report outcome.TooLong = false
+may_report outcome.TooDeep = false
+may_report outcome.Read = false
+may_report outcome.Write = true
+may_report outcome.NoMemory = true

@@ -1,139 +1,139 @@
-//! A script over a makefile.
-ghost use Rattle.std.specs.Prelude.{◌≡◌, ◌≢◌, ◌⊎◌, ◌↔◌, ◌<◌, ◌||◌, ℕ, List, IsTrue, IfSome, map, false, true, is_ok, OnOk, IfOk, IfErr, length};
+//! A script over a makefile: the steps of a run, in their order.
+ghost use Rattle.std.specs.Prelude.{◌≡◌, ◌⊎◌, ◌↔◌, ◌<◌, ◌+◌, ◌||◌, ℕ, IsTrue, IfSome, map, false, true, is_ok, OnOk, IfOk, IfErr};
 ghost use Rattle.std.specs.Io.KnownBytes.{Appends};
-ghost use Rattle.mk_lines.specs.Device.{AppendsPrefix, count_if};
-ghost use Rattle.mk_run.specs.Assignment.{SetsValue};
-ghost use Rattle.mk_tree.specs.Documents.{IsTooDeep};
-ghost use Rattle.mk_run.specs.Outcome.{AllWork, StopsCommands, StopsEdits, is_printed};
-ghost use Rattle.mk_run.specs.Script.{numbered_request, requests_of};
-ghost use Rattle.mk_run.specs.Texts.{AsksOnlyToSet, DoesAll, Makes, UndoesAllItSets, texts};
-ghost use Rattle.mk_run.specs.Edited.{edited_text};
+ghost use Rattle.mk_lines.specs.Device.{AppendsPrefix, TakesAtMost, count_if};
+ghost use Rattle.mk_session.specs.Sessions.{IsBadDepth};
+ghost use Rattle.mk_script.specs.Scripts.{numbered};
+ghost use Rattle.mk_run.specs.Outcome.{is_printed, may_report};
+ghost use Rattle.mk_run.specs.Runs.{ended};
+ghost use Rattle.mk_run.specs.RunEnds.{IsRunOver, written};
+ghost use Rattle.mk_run.specs.Steps.{AreObeyed, GivesCommands, GivesSession, StopsCommands, StopsMakefile, StopsScript};
 
-use crate::edited::Edited;
 use crate::outcome::Outcome;
-use crate::refusal::Refusal;
 use crate::report::report_refusal;
-use crate::script::{NumberedCommand, ScriptFault, parse_script};
-use crate::session::ThinSession;
-use mk_class::Meter;
-use mk_lines::source::{TEXT_LIMIT, read_all};
+use mk_history::history::MAX_DEPTH;
+use mk_lines::source::{BUFFER, TEXT_LIMIT, read_all};
 use mk_lines::{ByteSink, ByteSource, Fault};
-use mk_tree::Doc;
+use mk_script::{NumberedCommand, ScriptFault, parse_script};
+use mk_session::{Refusal, Session};
 use std::alloc::Allocator;
 
-const MAX_DEPTH: u32 = 10_000;
+// The commands of a script, which is read to its end.
+fn read_script<A: Allocator + Copy, S: ByteSource>(
+    alloc: A,
+    script: &mut S,
+) -> Result<Vec<NumberedCommand<A>, A>, Outcome>
+    requires { S.failed script.old ≡ false }
+    ensures commands { IfOk result (λ commands. GivesCommands (S.remaining script.old) (map numbered commands.items)) }
+    ensures works { OnOk result (S.failed script.new ≡ false) }
+    ensures stops { IfErr result (λ outcome. StopsScript (S.remaining script.old) (S.failed script.new) outcome) }
+    ensures taken { TakesAtMost (S.remaining script.old) (S.remaining script.new) (TEXT_LIMIT + BUFFER) }
+{
+    let text = match read_all(alloc, script) {
+        Ok(text) => text,
+        Err(fault) => return Err(Outcome::from(fault)),
+    };
+    match parse_script(alloc, text.as_slice()) {
+        Ok(commands) => Ok(commands),
+        Err(ScriptFault::NotACommand(line)) => Err(Outcome::NotACommand(line)),
+        Err(ScriptFault::NoMemory) => Err(Outcome::NoMemory),
+    }
+}
 
-// Does the commands in order, and gives the count of those refused.
-fn execute_all<A: Allocator + Copy, P: ByteSink>(
-    session: &mut ThinSession<A>,
-    commands: &[NumberedCommand<'_>],
+// A session on a makefile, which is read to its end.
+fn open_makefile<A: Allocator + Copy, R: ByteSource>(
+    alloc: A,
+    makefile: &mut R,
+    depth: u32,
+) -> Result<Session<A>, Outcome>
+    requires works { R.failed makefile.old ≡ false }
+    requires depth { IsBadDepth depth → ⊥ }
+    ensures opened { IfOk result (λ session. GivesSession (R.remaining makefile.old) depth session) }
+    ensures works { OnOk result (R.failed makefile.new ≡ false) }
+    ensures stops { IfErr result (λ outcome. StopsMakefile (R.remaining makefile.old) (R.failed makefile.new) outcome) }
+    ensures taken { TakesAtMost (R.remaining makefile.old) (R.remaining makefile.new) (TEXT_LIMIT + BUFFER) }
+{
+    let text = match read_all(alloc, makefile) {
+        Ok(text) => text,
+        Err(fault) => return Err(Outcome::from(fault)),
+    };
+    match Session::open_vec(alloc, text, depth) {
+        Ok(session) => Ok(session),
+        Err(fault) => Err(Outcome::from(fault)),
+    }
+}
+
+// Obeys the commands in order, and gives the number of those that were refused. The line on each is
+// reported at once.
+fn obey_all<A: Allocator + Copy, P: ByteSink>(
+    session: &mut Session<A>,
+    commands: &[NumberedCommand<A>],
     keep_going: bool,
     report: &mut P,
 ) -> Result<u64, Outcome>
     requires { P.failed report.old ≡ false }
-    ensures all { keep_going ≡ false → IfOk result (λ count. count ≡ 0) }
-    ensures done { result ≡ Ok 0 → DoesAll session.old.earlier.capacity (map numbered_request commands.now)
-        (texts (map (λ t. t.items) session.old.earlier.items) session.old.text.items)
-        (texts (map (λ t. t.items) session.new.earlier.items) session.new.text.items) }
+    ensures obeyed { IfOk result (λ refused. AreObeyed keep_going (map numbered commands.now) session.old.shown session.new.shown refused
+        (written (P.contents report.old) (P.contents report.new))) }
     ensures works { OnOk result (P.failed report.new ≡ false) }
-    ensures stops { IfErr result (λ outcome. StopsCommands outcome (P.failed report.new)) }
-    ensures unprinted { IfErr result (λ outcome. is_printed outcome keep_going ≡ false) }
+    ensures stops { IfErr result (λ outcome. StopsCommands keep_going (map numbered commands.now) session.old.shown (P.failed report.new)
+        (written (P.contents report.old) (P.contents report.new)) outcome) }
     ensures unflushed { P.flushes report.new ≡ P.flushes report.old }
 {
     let mut refused = 0u64;
     for numbered in commands {
-        match session.execute(numbered.command) {
-            Ok(()) => {}
-            Err(Refusal::NoMemory) => return Err(Outcome::NoMemory),
-            Err(refusal) => {
-                report_refusal(report, numbered.line, refusal)?;
-                refused = refused.saturating_add(1);
-                if !keep_going {
-                    return Err(Outcome::Refused(1));
-                }
-            }
+        let Err(refusal) = session.obey(&numbered.command) else {
+            continue;
+        };
+        if let Refusal::NoMemory = refusal {
+            return Err(Outcome::NoMemory);
+        }
+        match report_refusal(report, numbered.line, refusal) {
+            Ok(()) => refused += 1,
+            Err(fault) => return Err(Outcome::from(fault)),
+        }
+        if !keep_going {
+            return Err(Outcome::Refused(refused));
         }
     }
     Ok(refused)
 }
 
-// The makefile after the whole script, and the count of commands refused. Only the report is
-// written to.
-fn edited<A, R, S, P>(
-    alloc: A,
-    makefile: &mut R,
-    script: &mut S,
-    depth: u32,
-    keep_going: bool,
-    report: &mut P,
-) -> Result<(Edited<A>, u64), Outcome>
-where
-    A: Allocator + Copy,
-    R: ByteSource,
-    S: ByteSource,
-    P: ByteSink,
-    requires makefile_works { R.failed makefile.old ≡ false }
-    requires script_works { S.failed script.old ≡ false }
-    requires report_works { P.failed report.old ≡ false }
-    ensures all { keep_going ≡ false → IfOk result (λ r. r.1 ≡ 0) }
-    ensures done { IfOk result (λ r. r.1 ≡ 0 → IfSome (S.remaining script.old) (λ requests.
-        IfSome (R.remaining makefile.old) (λ old. Makes depth requests old (edited_text r.0)))) }
-    ensures not_a_command { (line : ℕ) → result ≡ Err (Outcome.NotACommand line) →
-        IfSome (S.remaining script.old) (λ requests. requests_of requests ≡ Err line) }
-    ensures too_long { result ≡ Err Outcome.TooLong → IfSome (S.remaining script.old) (λ requests.
-        IfSome (R.remaining makefile.old) (λ old. (TEXT_LIMIT < length requests) ⊎ (TEXT_LIMIT < length old))) }
-    ensures too_deep { result ≡ Err Outcome.TooDeep → IfSome (R.remaining makefile.old) (λ old. IsTooDeep old) }
-    ensures shallow { OnOk result (IfSome (R.remaining makefile.old) (λ old. IsTooDeep old → ⊥)) }
-    ensures works { OnOk result (AllWork (R.failed makefile.new) (S.failed script.new) (P.failed report.new)) }
-    ensures stops { IfErr result (λ outcome.
-        StopsEdits outcome (R.failed makefile.new) (S.failed script.new) (P.failed report.new)) }
-    ensures unprinted { IfErr result (λ outcome. is_printed outcome keep_going ≡ false) }
-    ensures unflushed { P.flushes report.new ≡ P.flushes report.old }
-{
-    let script = read_all(alloc, script)?;
-    let commands = match parse_script(alloc, script.as_slice()) {
-        Ok(commands) => commands,
-        Err(ScriptFault::NotACommand(line)) => return Err(Outcome::NotACommand(line)),
-        Err(ScriptFault::NoMemory) => return Err(Outcome::NoMemory),
-    };
-    let text = read_all(alloc, makefile)?;
-    if commands.is_empty() {
-        let doc = Doc::parse_vec(alloc, text, &mut Meter::new())?;
-        return Ok((Edited::Document(doc), 0));
-    }
-    drop(Doc::parse(alloc, text.as_slice(), &mut Meter::new())?);
-    let Ok(mut session) = ThinSession::open(alloc, text, depth) else {
-        return Err(Outcome::NoMemory);
-    };
-    let refused = execute_all(&mut session, commands.as_slice(), keep_going, report)?;
-    Ok((Edited::Thin(session), refused))
-}
-
-// Writes the text out, and flushes it once.
-fn put_out<A: Allocator + Copy, W: ByteSink>(out: &mut W, edited: &Edited<A>) -> Result<(), Fault>
+// Ends a group that is still open, writes the text out, and flushes it once.
+fn put_out<A: Allocator + Copy, W: ByteSink>(
+    session: &mut Session<A>,
+    out: &mut W,
+) -> Result<(), Fault>
     requires { W.failed out.old ≡ false }
-    ensures whole { OnOk result (Appends (W.contents out.old) (W.contents out.new) (edited_text edited.now)) }
-    ensures prefix { AppendsPrefix (W.contents out.old) (W.contents out.new) (edited_text edited.now) }
+    ensures whole { OnOk result (Appends (W.contents out.old) (W.contents out.new) (ended session.old.shown).text) }
+    ensures prefix { AppendsPrefix (W.contents out.old) (W.contents out.new) (ended session.old.shown).text }
     ensures works { OnOk result (W.failed out.new ≡ false) }
     ensures fault { IfErr result (λ e. (e ≡ Fault.Write) × (W.failed out.new ≡ true)) }
     ensures flushed { W.flushes out.new ≡ count_if (is_ok result) (W.flushes out.old) }
     ensures settled { OnOk result (IfSome (W.pending out.new) (λ n. n ≡ 0)) }
 {
-    edited.write_to(out)?;
-    out.flush()
+    let _ = session.end();
+    match session.doc().write_to(out) {
+        Ok(()) => out.flush(),
+        Err(fault) => Err(fault),
+    }
 }
 
 /// Runs a script over a makefile: the text after its commands goes to `out`, and a line on each
 /// refused command to `report`.
 ///
 /// In order: the depth is tested; the script is read to its end and parsed whole; the makefile is
-/// read to its end and parsed as a document; the commands are done in order; the text is written to
-/// `out` and then flushed once. `report` is not flushed.
-/// `depth` is how many edits can be undone. Without `keep_going` the first refusal ends the run;
-/// with it the rest is done. A reader is left once more than 16,777,216 bytes have come.
+/// read to its end and opened; the commands are obeyed in order; a group that is still open is ended;
+/// the text is written to `out` and then flushed once. A refused command changes nothing, and its
+/// line is reported at once; `report` is not flushed. `depth` is how many edits or groups can be
+/// undone. Without `keep_going` the first refusal ends the run; with it the rest is done. A reader is
+/// left once more than 16,777,216 bytes have come.
+///
+/// [`Outcome::NoMemory`] comes where a growth was refused, and hides what was not reached then: what
+/// more bytes of a reader would have brought, a later line of the script that is no command, how deep
+/// the makefile is. It never stands in place of a command's refusal.
 ///
 /// Where the run ends before its text is written, `out` is neither written nor flushed. A fault of
-/// `out` leaves a prefix of the text there.
+/// `out` leaves a prefix of the text there, one of `report` a prefix of the report.
 pub fn run<A, R, S, W, P>(
     alloc: A,
     makefile: &mut R,
@@ -154,30 +154,22 @@ where
     requires out_works { W.failed out.old ≡ false }
     requires report_works { P.failed report.old ≡ false }
 
-    // A refused or faulty run leaves `out` as it was, unless `out` itself failed.
-    ensures unwritten { keep_going ≡ false → result ≢ Outcome.Done →
-        ((out.new ≡ out.old) ⊎ ((result ≡ Outcome.Write) × (W.failed out.new ≡ true))) }
+    // It ends as the definitions say of the bytes of makefile and script, or for want of memory, or
+    // because a device failed; and says what is out then.
+    ensures law { IsRunOver (R.remaining makefile.old) (S.remaining script.old) depth keep_going result (P.failed report.new)
+        (written (P.contents report.old) (P.contents report.new)) (written (W.contents out.old) (W.contents out.new)) }
+    // Unless the text was written, `out` is as it was.
+    ensures unwritten { is_printed result keep_going ≡ false → W.failed out.new ≡ false → out.new ≡ out.old }
+    // Unless a command was reached, `report` is as it was.
+    ensures unreported { may_report result ≡ false → report.new ≡ report.old }
+    // Nothing is read for a bad depth, and no makefile for a script that is not one.
+    ensures unread { result ≡ Outcome.BadDepth → (script.new ≡ script.old) × (makefile.new ≡ makefile.old) }
+    ensures script_first { (line : ℕ) → result ≡ Outcome.NotACommand line → makefile.new ≡ makefile.old }
+    ensures makefile_taken { TakesAtMost (R.remaining makefile.old) (R.remaining makefile.new) (TEXT_LIMIT + BUFFER) }
+    ensures script_taken { TakesAtMost (S.remaining script.old) (S.remaining script.new) (TEXT_LIMIT + BUFFER) }
 
-    // What is out is what the script's commands, each done in turn, make of the makefile.
-    ensures done { result ≡ Outcome.Done → IfSome (S.remaining script.old) (λ requests.
-        IfSome (R.remaining makefile.old) (λ old.
-        (new : List ℕ) × Makes depth requests old new × Appends (W.contents out.old) (W.contents out.new) new)) }
-    // After as many undos as sets it is the makefile itself.
-    ensures back { result ≡ Outcome.Done → IfSome (S.remaining script.old) (λ requests. UndoesAllItSets requests →
-        IfSome (R.remaining makefile.old) (λ old. Appends (W.contents out.old) (W.contents out.new) old)) }
-    // After one `set` it is the makefile with the new value in the place of the old.
-    ensures set { (name value : List ℕ) → result ≡ Outcome.Done → IfSome (S.remaining script.old) (λ requests.
-        AsksOnlyToSet name value requests → IfSome (R.remaining makefile.old) (λ old.
-        (new : List ℕ) × SetsValue name value old new × Appends (W.contents out.old) (W.contents out.new) new)) }
-
-    // When each fault comes.
-    ensures bad_depth { (result ≡ Outcome.BadDepth) ↔ ((depth ≡ 0) ⊎ (MAX_DEPTH < depth)) }
-    ensures not_a_command { (line : ℕ) → result ≡ Outcome.NotACommand line →
-        IfSome (S.remaining script.old) (λ requests. requests_of requests ≡ Err line) }
-    ensures too_long { result ≡ Outcome.TooLong → IfSome (S.remaining script.old) (λ requests.
-        IfSome (R.remaining makefile.old) (λ old. (TEXT_LIMIT < length requests) ⊎ (TEXT_LIMIT < length old))) }
-    ensures too_deep { result ≡ Outcome.TooDeep → IfSome (R.remaining makefile.old) (λ old. IsTooDeep old) }
-    ensures shallow { result ≡ Outcome.Done → IfSome (R.remaining makefile.old) (λ old. IsTooDeep old → ⊥) }
+    // When these come, whatever the devices tell.
+    ensures bad_depth { (result ≡ Outcome.BadDepth) ↔ IsBadDepth depth }
     ensures read { result ≡ Outcome.Read ↔ IsTrue (R.failed makefile.new || S.failed script.new) }
     ensures write { result ≡ Outcome.Write ↔ IsTrue (W.failed out.new || P.failed report.new) }
 
@@ -186,15 +178,24 @@ where
     ensures settled { is_printed result keep_going ≡ true → IfSome (W.pending out.new) (λ n. n ≡ 0) }
     ensures report { P.flushes report.new ≡ P.flushes report.old }
 {
-    if depth == 0 || depth > MAX_DEPTH {
+    if depth < 1 || depth > MAX_DEPTH {
         return Outcome::BadDepth;
     }
-    match edited(alloc, makefile, script, depth, keep_going, report) {
-        Ok((edited, refused)) => match put_out(out, &edited) {
-            Ok(()) if refused == 0 => Outcome::Done,
-            Ok(()) => Outcome::Refused(refused),
-            Err(fault) => Outcome::from(fault),
-        },
-        Err(outcome) => outcome,
+    let commands = match read_script(alloc, script) {
+        Ok(commands) => commands,
+        Err(outcome) => return outcome,
+    };
+    let mut session = match open_makefile(alloc, makefile, depth) {
+        Ok(session) => session,
+        Err(outcome) => return outcome,
+    };
+    let refused = match obey_all(&mut session, commands.as_slice(), keep_going, report) {
+        Ok(refused) => refused,
+        Err(outcome) => return outcome,
+    };
+    match put_out(&mut session, out) {
+        Ok(()) if refused == 0 => Outcome::Done,
+        Ok(()) => Outcome::Refused(refused),
+        Err(fault) => Outcome::from(fault),
     }
 }

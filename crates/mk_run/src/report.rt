@@ -4,9 +4,9 @@ ghost use Rattle.std.specs.Io.KnownBytes.{Appends};
 ghost use Rattle.mk_lines.specs.Device.{AppendsPrefix};
 ghost use Rattle.mk_run.specs.Report.{report_line};
 
-use crate::refusal::{Detail, Refusal};
 use mk_lines::sink::write_parts;
 use mk_lines::{ByteSink, Fault};
+use mk_session::{Detail, Refusal};
 
 /// Writes the line on the refusal of the command in the script's line of this number.
 ///

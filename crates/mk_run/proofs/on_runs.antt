@@ -1,0 +1,7 @@
+pub mod CommandLemmas
+pub mod ObeyLemmas
+pub mod EndLemmas
+pub mod ReadLemmas
+pub mod ResultLemmas
+pub mod RunLemmas
+pub mod LawLemmas

@@ -1,0 +1,51 @@
+-- What the readers of a run gave.
+use Rattle.std.proofs.Common.{◌≡◌, refl, subst, arith, ℕ, suc, ◌<◌, ◌^◌, Bool, true, false, List, length, replicate, Option, Some, None, Err}
+use Rattle.std.specs.Prelude.{Result, IfSome, IfErr}
+use Rattle.std.proofs.lemmas.List.{length-replicate}
+use Rattle.mk_lines.specs.Device.{IsReadingFault}
+use Rattle.mk_lines.specs.declared.fault.Fault as f
+use Rattle.mk_lines.specs.declared.fault.Fault.TheVariants as fault
+use Rattle.mk_run.specs.Outcome.{outcome_of}
+use Rattle.mk_run.specs.Steps.{GivesTooMuch, StopsScript, StopsMakefile}
+
+-- there is a text that is longer than so many bytes
+longer : (n : ℕ) → (text : List ℕ) × (n < length text)
+longer n = let byte : ℕ = 0 in (replicate (suc n) byte, omega (arith, length-replicate (suc n) byte))
+
+-- a reader that had too many bytes for one text
+too-much : (bytes : Option (List ℕ)) → IfSome bytes (λ told. 2 ^ 24 < length told) → GivesTooMuch bytes
+too-much None long = let t = longer (2 ^ 24) in record { text = t.0; has_text = tt; long = t.1 }
+too-much (Some told) long = record { text = told; has_text = refl; long = long }
+
+if_some : (bytes : Option (List ℕ)) (P : Type 0) (Q : List ℕ → Type 0) → P → IfSome bytes (λ told. P → Q told) → IfSome bytes Q
+if_some None P Q p h = tt
+if_some (Some told) P Q p h = h p
+
+-- what reading a source to its end says of a fault
+pub record SaysFault {T : Type 0} (result : Result T f.Fault) (bytes : Option (List ℕ)) (failed : Bool) : Type 0 where
+  pub few : IfErr result IsReadingFault
+  pub long : IfSome bytes (λ told. result ≡ Err fault.TooLong → 2 ^ 24 < length told)
+  pub read : result ≡ Err fault.Read → failed ≡ true
+  pub works : (result ≡ Err fault.Read → ⊥) → failed ≡ false
+
+script-fault : {T : Type 0} (bytes : Option (List ℕ)) (failed : Bool) (e : f.Fault) → SaysFault {T = T} (Err e) bytes failed → StopsScript bytes failed (outcome_of e)
+script-fault {T} bytes failed fault.NoMemory h = h.works (λ no. absurd (cc))
+script-fault {T} bytes failed fault.TooLong h = (h.works (λ no. absurd (cc)), too-much bytes (if_some bytes _ (λ told. 2 ^ 24 < length told) refl h.long))
+script-fault {T} bytes failed fault.TooDeep h = absurd h.few
+script-fault {T} bytes failed fault.BadDepth h = absurd h.few
+script-fault {T} bytes failed fault.Read h = h.read refl
+script-fault {T} bytes failed fault.Write h = absurd h.few
+
+pub script-unread : {T : Type 0} (result : Result T f.Fault) (bytes : Option (List ℕ)) (failed : Bool) (e : f.Fault) → result ≡ Err e → SaysFault result bytes failed → StopsScript bytes failed (outcome_of e)
+script-unread {T} result bytes failed e is h = script-fault {T = T} bytes failed e (subst (λ (r : Result T f.Fault). SaysFault r bytes failed) is h)
+
+makefile-fault : {T : Type 0} (bytes : Option (List ℕ)) (failed : Bool) (e : f.Fault) → SaysFault {T = T} (Err e) bytes failed → StopsMakefile bytes failed (outcome_of e)
+makefile-fault {T} bytes failed fault.NoMemory h = h.works (λ no. absurd (cc))
+makefile-fault {T} bytes failed fault.TooLong h = (h.works (λ no. absurd (cc)), too-much bytes (if_some bytes _ (λ told. 2 ^ 24 < length told) refl h.long))
+makefile-fault {T} bytes failed fault.TooDeep h = absurd h.few
+makefile-fault {T} bytes failed fault.BadDepth h = absurd h.few
+makefile-fault {T} bytes failed fault.Read h = h.read refl
+makefile-fault {T} bytes failed fault.Write h = absurd h.few
+
+pub makefile-unread : {T : Type 0} (result : Result T f.Fault) (bytes : Option (List ℕ)) (failed : Bool) (e : f.Fault) → result ≡ Err e → SaysFault result bytes failed → StopsMakefile bytes failed (outcome_of e)
+makefile-unread {T} result bytes failed e is h = makefile-fault {T = T} bytes failed e (subst (λ (r : Result T f.Fault). SaysFault r bytes failed) is h)

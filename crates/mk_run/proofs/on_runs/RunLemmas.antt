@@ -1,0 +1,237 @@
+-- How a run ends, by the step at which it does.
+use Rattle.std.proofs.Common.{◌≡◌, refl, sym, ap, subst, ◌∙◌, arith, ℕ, suc, zero, ◌≤◌, Bool, true, false, List, [], Option, Some, None, inl, inr}
+use Rattle.std.specs.Prelude.{IfSome}
+use Rattle.std.specs.Io.KnownBytes.{Appends}
+use Rattle.std.proofs.KnownBytes.{Appends-nil, Keeps-refl}
+use Rattle.mk_history.specs.Shown.{Shown, shown_opened}
+use Rattle.mk_session.specs.Sessions.{Seen, IsBadDepth}
+use Rattle.mk_script.specs.Scripts.{CommandAt}
+use Rattle.mk_run.specs.Commands.{obeyed}
+use Rattle.mk_run.specs.Runs.{RunResult, stopped, ended, outcome_after, output_after, result_after}
+use Rattle.mk_run.specs.RunEnds.{HasText, GoesOn, Written, written, IsOut, IsPrefixOut, IsWhole, IsCut, EndsAs, IsRunOver}
+use Rattle.mk_run.specs.Steps.{GivesCommands, GivesSession, AreObeyed, AreEnded, StopsScript, StopsMakefile, StopsCommands}
+use Rattle.mk_run.specs.declared.outcome.Outcome as o
+use Rattle.mk_run.specs.declared.outcome.Outcome.TheVariants.{Done, Refused, NotACommand, BadDepth, TooLong, TooDeep, Read, Write, NoMemory}
+use Rattle.mk_run.proofs.on_runs.ResultLemmas.{has-run}
+
+-- a depth from 1 to 10,000
+pub good-depth : (depth : ℕ) → 1 ≤ depth → depth ≤ 10000 → IsBadDepth depth → ⊥
+good-depth depth some few (inl none) = omega (arith, none)
+good-depth depth some few (inr many) = omega (arith, many)
+
+-- ---- texts of readers
+
+-- what a reader tells, or nothing
+told : Option (List ℕ) → List ℕ
+told None = []
+told (Some bytes) = bytes
+
+has-told : (bytes : Option (List ℕ)) → HasText bytes (told bytes)
+unfolding told
+has-told None = tt
+has-told (Some bytes) = refl
+
+-- ---- before the commands
+
+module _ (makefile script : Option (List ℕ)) (depth : ℕ) (k : Bool) (failed : Bool) (report out : Option (List ℕ)) where
+  -- a run of any texts, for an outcome of which nothing is known
+  some-run : (outcome : o.Outcome) → ((m s : List ℕ) (r : RunResult) → EndsAs m s depth k r failed (written report report) (written out out) outcome)
+      → IsRunOver makefile script depth k outcome failed (written report report) (written out out)
+  some-run outcome ends =
+      let r = has-run (told makefile) (told script) depth k in
+      record {
+        makefile_text = told makefile;
+        script_text = told script;
+        result = r.0;
+        of_makefile = has-told makefile;
+        of_script = has-told script;
+        is_run = r.1;
+        ends = ends (told makefile) (told script) r.0;
+      }
+
+  -- nothing was reported, and nothing is out
+  nothing-out : (outcome : o.Outcome) → IsWhole (stopped outcome) outcome (written report report) (written out out)
+  nothing-out outcome = record { outcome_is = refl; reported = Appends-nil report; written = tt }
+
+  pub depth-stops : IsBadDepth depth → IsRunOver makefile script depth k BadDepth failed (written report report) (written out out)
+  depth-stops bad = record {
+    makefile_text = told makefile;
+    script_text = told script;
+    result = stopped BadDepth;
+    of_makefile = has-told makefile;
+    of_script = has-told script;
+    is_run = inl (bad, refl);
+    ends = nothing-out BadDepth;
+  }
+
+  pub script-stops : (reader_failed : Bool) (outcome : o.Outcome) → (IsBadDepth depth → ⊥) → StopsScript script reader_failed outcome
+      → IsRunOver makefile script depth k outcome failed (written report report) (written out out)
+  script-stops reader_failed TooLong good (works, gives) = record {
+    makefile_text = told makefile;
+    script_text = gives.text;
+    result = stopped TooLong;
+    of_makefile = has-told makefile;
+    of_script = gives.has_text;
+    is_run = inr (good, inl (gives.long, refl));
+    ends = nothing-out TooLong;
+  }
+  script-stops reader_failed (NotACommand line) good (works, gives) = record {
+    makefile_text = told makefile;
+    script_text = gives.text;
+    result = stopped (NotACommand line);
+    of_makefile = has-told makefile;
+    of_script = gives.has_text;
+    is_run = inr (good, inr (gives.short, inl (line, gives.is_line, refl)));
+    ends = nothing-out (NotACommand line);
+  }
+  script-stops reader_failed NoMemory good stops = some-run NoMemory (λ m s r. inl (Keeps-refl report))
+  script-stops reader_failed Read good stops = some-run Read (λ m s r. Keeps-refl report)
+  script-stops reader_failed Done good stops = absurd stops
+  script-stops reader_failed (Refused n) good stops = absurd stops
+  script-stops reader_failed BadDepth good stops = absurd stops
+  script-stops reader_failed TooDeep good stops = absurd stops
+  script-stops reader_failed Write good stops = absurd stops
+
+  pub makefile-stops : (commands : List CommandAt) (reader_failed : Bool) (outcome : o.Outcome) → (IsBadDepth depth → ⊥) → GivesCommands script commands → StopsMakefile makefile reader_failed outcome
+      → IsRunOver makefile script depth k outcome failed (written report report) (written out out)
+  makefile-stops commands reader_failed TooLong good says (works, gives) = record {
+    makefile_text = gives.text;
+    script_text = says.text;
+    result = stopped TooLong;
+    of_makefile = gives.has_text;
+    of_script = says.has_text;
+    is_run = inr (good, inr (says.short, inr (commands, says.is_script, inl (gives.long, refl))));
+    ends = nothing-out TooLong;
+  }
+  makefile-stops commands reader_failed TooDeep good says (works, gives) = record {
+    makefile_text = gives.text;
+    script_text = says.text;
+    result = stopped TooDeep;
+    of_makefile = gives.has_text;
+    of_script = says.has_text;
+    is_run = inr (good, inr (says.short, inr (commands, says.is_script, inr (gives.short, inl (gives.deep, refl)))));
+    ends = nothing-out TooDeep;
+  }
+  makefile-stops commands reader_failed NoMemory good says stops = some-run NoMemory (λ m s r. inl (Keeps-refl report))
+  makefile-stops commands reader_failed Read good says stops = some-run Read (λ m s r. Keeps-refl report)
+  makefile-stops commands reader_failed Done good says stops = absurd stops
+  makefile-stops commands reader_failed (Refused n) good says stops = absurd stops
+  makefile-stops commands reader_failed (NotACommand line) good says stops = absurd stops
+  makefile-stops commands reader_failed BadDepth good says stops = absurd stops
+  makefile-stops commands reader_failed Write good says stops = absurd stops
+
+pub makefile-not_bad : (bytes : Option (List ℕ)) (failed : Bool) (outcome : o.Outcome) → StopsMakefile bytes failed outcome → outcome ≡ BadDepth → ⊥
+makefile-not_bad bytes failed outcome stops h = subst (λ (x : o.Outcome). StopsMakefile bytes failed x) h stops
+
+-- ---- the commands
+
+-- a text goes out where the run goes on
+output-some : (k : Bool) (n : ℕ) (text : List ℕ) → GoesOn k n → output_after k n text ≡ Some text
+output-some true n text on = refl
+output-some false zero text on = refl
+output-some false (suc n) text on = absurd (omega (arith, on refl))
+
+if_some-is : (output : Option (List ℕ)) (text : List ℕ) (P : List ℕ → Type 0) → output ≡ Some text → P text → IfSome output P
+if_some-is output text P is p = rw is p
+
+no-output : (n : ℕ) (text : List ℕ) (P : List ℕ → Type 0) → n ≡ 1 → IfSome (output_after false n text) P
+no-output n text P one = rw one tt
+
+refused-is : (n : ℕ) → (n ≡ 0 → ⊥) → Refused n ≡ outcome_after n
+refused-is zero some = absurd (some refl)
+refused-is (suc n) some = refl
+
+-- a run of commands over a makefile
+module _ (makefile script : Option (List ℕ)) (depth : ℕ) (k : Bool) (commands : List CommandAt) (seen : Seen) (good : IsBadDepth depth → ⊥) (says : GivesCommands script commands) (opens : GivesSession makefile depth seen) where
+  of-commands : (outcome : o.Outcome) (failed : Bool) (report out : Written)
+      → EndsAs opens.text says.text depth k (result_after k (obeyed k commands (shown_opened depth opens.text))) failed report out outcome
+      → IsRunOver makefile script depth k outcome failed report out
+  of-commands outcome failed report out ends = record {
+    makefile_text = opens.text;
+    script_text = says.text;
+    result = result_after k (obeyed k commands (shown_opened depth opens.text));
+    of_makefile = opens.has_text;
+    of_script = says.has_text;
+    is_run = inr (good, inr (says.short, inr (commands, says.is_script, inr (opens.short, inr (opens.shallow, refl)))));
+    ends = ends;
+  }
+
+  first-is : seen.shown ≡ shown_opened depth opens.text
+  first-is = ap (λ (s : Seen). s.shown) opens.opened
+
+  ended-by_refusal : (n : ℕ) (report : Written) (out : Option (List ℕ)) → AreEnded k commands (shown_opened depth opens.text) n report
+      → IsWhole (result_after k (obeyed k commands (shown_opened depth opens.text))) (Refused n) report (written out out)
+  ended-by_refusal n report out are =
+      let did = obeyed k commands (shown_opened depth opens.text) in
+      record {
+        outcome_is = rw are.one (ap outcome_after (sym are.one ∙ are.number));
+        reported = are.reported;
+        written = subst (λ (q : Bool). IfSome (output_after q did.refused (ended did.shown).text) (λ text. Appends out out text)) (sym are.ends)
+            (no-output did.refused (ended did.shown).text (λ text. Appends out out text) (sym are.number ∙ are.one));
+      }
+
+  pub commands-stop : (failed : Bool) (outcome : o.Outcome) (report : Written) (out : Option (List ℕ)) → StopsCommands k commands seen.shown failed report outcome
+      → IsRunOver makefile script depth k outcome failed report (written out out)
+  commands-stop failed outcome report out stops = go outcome (subst (λ (s : Shown (List ℕ)). StopsCommands k commands s failed report outcome) first-is stops)
+    where
+      go : (outcome : o.Outcome) → StopsCommands k commands (shown_opened depth opens.text) failed report outcome → IsRunOver makefile script depth k outcome failed report (written out out)
+      go (Refused n) (works, are) = of-commands (Refused n) failed report (written out out) (ended-by_refusal n report out are)
+      go NoMemory (works, are) =
+          of-commands NoMemory failed report (written out out) (inr (record { commands = commands; lines = are.lines; are_commands = says.is_script; is_short = are.is_short; is_out = are.is_out }))
+      go Write (fails, cut) =
+          of-commands Write failed report (written out out)
+          (subst (λ (f : Bool). IsCut (result_after k (obeyed k commands (shown_opened depth opens.text))) f report (written out out)) (sym fails) cut)
+      go Done stops = absurd stops
+      go (NotACommand line) stops = absurd stops
+      go BadDepth stops = absurd stops
+      go TooLong stops = absurd stops
+      go TooDeep stops = absurd stops
+      go Read stops = absurd stops
+
+  pub commands-not_bad : (failed : Bool) (outcome : o.Outcome) (report : Written) → StopsCommands k commands seen.shown failed report outcome → outcome ≡ BadDepth → ⊥
+  commands-not_bad failed outcome report stops h = subst (λ (x : o.Outcome). StopsCommands k commands seen.shown failed report x) h stops
+
+  module _ (last : Shown (List ℕ)) (n : ℕ) (report : Written) (are : AreObeyed k commands (shown_opened depth opens.text) last n report) where
+    -- the text goes out
+    text-goes : output_after k (obeyed k commands (shown_opened depth opens.text)).refused (ended (obeyed k commands (shown_opened depth opens.text)).shown).text ≡ Some (ended last).text
+    text-goes =
+        let did = obeyed k commands (shown_opened depth opens.text) in
+        output-some k did.refused (ended did.shown).text (λ off. sym are.number ∙ are.goes_on off) ∙ ap (λ (x : Shown (List ℕ)). Some (ended x).text) (sym are.shown)
+
+    wholly : (outcome : o.Outcome) (out : Written) → outcome ≡ outcome_after n → IsOut out (ended last).text
+        → IsWhole (result_after k (obeyed k commands (shown_opened depth opens.text))) outcome report out
+    wholly outcome out is whole = record {
+      outcome_is = is ∙ ap outcome_after are.number;
+      reported = are.reported;
+      written = if_some-is (output_after k (obeyed k commands (shown_opened depth opens.text)).refused (ended (obeyed k commands (shown_opened depth opens.text)).shown).text) (ended last).text (λ text. IsOut out text) text-goes whole;
+    }
+
+  obeyed-first : (last : Shown (List ℕ)) (n : ℕ) (report : Written) → AreObeyed k commands seen.shown last n report → AreObeyed k commands (shown_opened depth opens.text) last n report
+  obeyed-first last n report are = subst (λ (s : Shown (List ℕ)). AreObeyed k commands s last n report) first-is are
+
+  -- no command was refused, and the text is out
+  pub run-done : (last : Shown (List ℕ)) (n : ℕ) (failed : Bool) (report out : Written) → AreObeyed k commands seen.shown last n report → n ≡ 0 → IsOut out (ended last).text
+      → IsRunOver makefile script depth k Done failed report out
+  run-done last n failed report out are none whole =
+      of-commands Done failed report out (wholly last n report (obeyed-first last n report are) Done out (ap outcome_after (sym none)) whole)
+
+  -- some were refused, and the text is out
+  pub run-refused : (last : Shown (List ℕ)) (n : ℕ) (failed : Bool) (report out : Written) → AreObeyed k commands seen.shown last n report → (n ≡ 0 → ⊥) → IsOut out (ended last).text
+      → IsRunOver makefile script depth k (Refused n) failed report out
+  run-refused last n failed report out are some whole =
+      of-commands (Refused n) failed report out (wholly last n report (obeyed-first last n report are) (Refused n) out (refused-is n some) whole)
+
+  -- the text could not be written or flushed
+  pub run-cut : (last : Shown (List ℕ)) (n : ℕ) (failed : Bool) (report out : Written) → AreObeyed k commands seen.shown last n report → failed ≡ false → IsPrefixOut out (ended last).text
+      → IsRunOver makefile script depth k Write failed report out
+  run-cut last n failed report out are works cut =
+      let here = obeyed-first last n report are in
+      of-commands Write failed report out
+      (subst (λ (f : Bool). IsCut (result_after k (obeyed k commands (shown_opened depth opens.text))) f report out) (sym works)
+      (here.reported, ((ended last).text, text-goes last n report here, cut)))
+
+-- ---- the text is out
+
+pub printed-refused : (k : Bool) (n : ℕ) → GoesOn k n → (n ≡ 0 → ⊥) → k ≡ true
+printed-refused true n on some = refl
+printed-refused false n on some = absurd (some (on refl))

@@ -1,0 +1,35 @@
+-- The commands of a script, each obeyed in its turn by the session machine.
+use Rattle.std.specs.Prelude.{ℕ, ◌+◌, Bool, true, false, List, [], ◌∷◌, ◌++◌, Result, Ok, Err}
+use Rattle.mk_edit_laws.specs.declared.refusal.Refusal.{Refusal}
+use Rattle.mk_history.specs.Machine as machine
+use Rattle.mk_history.specs.Shown.{Shown}
+use Rattle.mk_session.specs.Sessions.{answer, session_refusal}
+use Rattle.mk_script.specs.Scripts.{CommandAt}
+use Rattle.mk_run.specs.Report.{report_line}
+
+-- what commands come to: the report, how many were refused, and what is shown after them
+pub record Obeyed : Type 0 where
+  pub report : List ℕ
+  pub refused : ℕ
+  pub shown : Shown (List ℕ)
+
+-- no command is left
+abbrev pub at_rest : Shown (List ℕ) → Obeyed
+at_rest s = record { report = []; refused = 0; shown = s }
+
+-- what others come to after a command that was refused: one more, with its line in front of theirs
+abbrev pub after_refusal : CommandAt → machine.Refusal Refusal → Obeyed → Obeyed
+after_refusal c q others = record others { report = report_line c.line (session_refusal q) ++ others.report; refused = others.refused + 1 }
+
+-- By the answer to a command: where it is granted, the others follow from what is shown then; where it is refused, nothing has
+-- changed, and they follow where the run keeps going.
+abbrev pub obeyed_next : (keep_going : Bool) → CommandAt → (before : Shown (List ℕ)) → (others : Shown (List ℕ) → Obeyed)
+    → Result (Shown (List ℕ)) (machine.Refusal Refusal) → Obeyed
+obeyed_next k c s others (Ok new) = others new
+obeyed_next true c s others (Err q) = after_refusal c q (others s)
+obeyed_next false c s others (Err q) = after_refusal c q (at_rest s)
+
+-- what commands come to, from what is shown before them
+abbrev pub obeyed : (keep_going : Bool) → List CommandAt → Shown (List ℕ) → Obeyed
+obeyed k [] s = at_rest s
+obeyed k (c ∷ commands) s = obeyed_next k c s (λ t. obeyed k commands t) (answer c.command s)

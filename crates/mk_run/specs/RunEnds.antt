@@ -1,0 +1,94 @@
+-- How a run of the code may end, beside the result that the definitions give it: as they say, or for want of memory, or because a
+-- device failed.
+use Rattle.std.specs.Prelude.{◌≡◌, ◌⊎◌, ℕ, Bool, true, false, List, ◌∷◌, ◌++◌, Option, Some, Ok, IfSome}
+use Rattle.std.specs.Io.KnownBytes.{Appends, Keeps}
+use Rattle.mk_lines.specs.Device.{AppendsPrefix}
+use Rattle.mk_history.specs.Shown.{Shown, shown_opened}
+use Rattle.mk_session.specs.Sessions.{answer}
+use Rattle.mk_session.specs.Calls.{takes_memory}
+use Rattle.mk_script.specs.Scripts.{CommandAt, IsScript}
+use Rattle.mk_run.specs.Commands.{obeyed}
+use Rattle.mk_run.specs.Runs.{RunResult, IsRun}
+use Rattle.mk_run.specs.declared.outcome.Outcome.{Outcome}
+use Rattle.mk_run.specs.declared.outcome.Outcome.TheVariants.{NoMemory, Read, Write}
+
+-- a reader that tells its bytes has this text
+abbrev pub HasText : (bytes : Option (List ℕ)) → (text : List ℕ) → Type 0
+HasText bytes text = IfSome bytes (λ told. text ≡ told)
+
+-- what is out of a sink, before and after
+pub record Written : Type 0 where
+  pub before : Option (List ℕ)
+  pub after : Option (List ℕ)
+
+abbrev pub written : (before after : Option (List ℕ)) → Written
+written b a = record { before = b; after = a }
+
+-- nothing went out
+abbrev pub IsKept : Written → Type 0
+IsKept w = Keeps w.before w.after
+
+-- just this text went out
+abbrev pub IsOut : Written → List ℕ → Type 0
+IsOut w text = Appends w.before w.after text
+
+-- a prefix of the text went out
+abbrev pub IsPrefixOut : Written → List ℕ → Type 0
+IsPrefixOut w text = AppendsPrefix w.before w.after text
+
+-- ---- want of memory
+
+-- The run goes on after this many refusals.
+abbrev pub GoesOn : (keep_going : Bool) → (refused : ℕ) → Type 0
+GoesOn k n = k ≡ false → n ≡ 0
+
+-- One of the commands found no memory: those before it were obeyed, and their report is this. It takes memory, and is not refused.
+pub record IsShort (keep_going : Bool) (commands : List CommandAt) (first : Shown (List ℕ)) (report : List ℕ) : Type 0 where
+  pub earlier : List CommandAt
+  pub command : CommandAt
+  pub later : List CommandAt
+  pub new : Shown (List ℕ)
+  pub commands_are : commands ≡ earlier ++ command ∷ later
+  pub reached : GoesOn keep_going (obeyed keep_going earlier first).refused
+  pub reported : report ≡ (obeyed keep_going earlier first).report
+  pub takes : takes_memory command.command ≡ true
+  pub granted : answer command.command (obeyed keep_going earlier first).shown ≡ Ok new
+
+-- So did one of a script's commands over a makefile.
+pub record IsShortRun (makefile script : List ℕ) (depth : ℕ) (keep_going : Bool) (report : Written) : Type 0 where
+  pub commands : List CommandAt
+  pub lines : List ℕ
+  pub are_commands : IsScript script commands
+  pub is_short : IsShort keep_going commands (shown_opened depth makefile) lines
+  pub is_out : IsOut report lines
+
+-- ---- the ends
+
+-- The run ended as it comes to: with that outcome, the report is out, and so is the text, where one goes out.
+pub record IsWhole (result : RunResult) (outcome : Outcome) (report out : Written) : Type 0 where
+  pub outcome_is : outcome ≡ result.outcome
+  pub reported : IsOut report result.report
+  pub written : IfSome result.output (λ text. IsOut out text)
+
+-- A write or the flush failed: one of the report, of which a prefix is out; or one of the text, of which a prefix is out after the
+-- whole report.
+abbrev pub IsCut : RunResult → (report_failed : Bool) → (report out : Written) → Type 0
+IsCut result true report out = IsPrefixOut report result.report
+IsCut result false report out = IsOut report result.report × ((text : List ℕ) × (result.output ≡ Some text) × IsPrefixOut out text)
+
+-- A run over these texts, which comes to this result, ended with this outcome.
+abbrev pub EndsAs : (makefile script : List ℕ) → (depth : ℕ) → (keep_going : Bool) → RunResult → (report_failed : Bool) → (report out : Written) → Outcome → Type 0
+EndsAs m s d k result failed report out NoMemory = IsKept report ⊎ IsShortRun m s d k report
+EndsAs m s d k result failed report out Read = IsKept report
+EndsAs m s d k result failed report out Write = IsCut result failed report out
+EndsAs m s d k result failed report out outcome = IsWhole result outcome report out
+
+-- A run over a makefile and a script, both as their readers tell them, ended so. Of a reader that tells nothing it is some text.
+pub record IsRunOver (makefile script : Option (List ℕ)) (depth : ℕ) (keep_going : Bool) (outcome : Outcome) (report_failed : Bool) (report out : Written) : Type 0 where
+  pub makefile_text : List ℕ
+  pub script_text : List ℕ
+  pub result : RunResult
+  pub of_makefile : HasText makefile makefile_text
+  pub of_script : HasText script script_text
+  pub is_run : IsRun makefile_text script_text depth keep_going result
+  pub ends : EndsAs makefile_text script_text depth keep_going result report_failed report out outcome

@@ -1,0 +1,73 @@
+-- A run of a script over a makefile: how it ends, its report, and the text that goes out.
+use Rattle.std.specs.Prelude.{◌≡◌, ◌⊎◌, ℕ, suc, zero, ◌<◌, ◌^◌, Bool, true, false, List, [], length, Option, Some, None, Result, Ok, Err}
+use Rattle.mk_edit_laws.specs.declared.refusal.Refusal.{Refusal}
+use Rattle.mk_tree.specs.Documents.{IsTooDeep}
+use Rattle.mk_history.specs.Machine as machine
+use Rattle.mk_history.specs.Machine.{End}
+use Rattle.mk_history.specs.Shown.{Shown, shown_opened}
+use Rattle.mk_session.specs.Sessions.{IsBadDepth, answer}
+use Rattle.mk_script.specs.Scripts.{CommandAt, IsScript, HasNoCommand}
+use Rattle.mk_run.specs.Commands.{Obeyed, obeyed}
+use Rattle.mk_run.specs.declared.outcome.Outcome as o
+use Rattle.mk_run.specs.declared.outcome.Outcome.TheVariants.{Done, Refused, NotACommand, BadDepth, TooLong, TooDeep}
+
+-- how a run ends, its report, and the text that goes out, if one does
+pub record RunResult : Type 0 where
+  pub outcome : o.Outcome
+  pub report : List ℕ
+  pub output : Option (List ℕ)
+
+-- ---- the end of the commands
+
+-- a group that is still open is ended
+abbrev pub shown_or : Shown (List ℕ) → Result (Shown (List ℕ)) (machine.Refusal Refusal) → Shown (List ℕ)
+shown_or s (Ok new) = new
+shown_or s (Err q) = s
+
+abbrev pub ended : Shown (List ℕ) → Shown (List ℕ)
+ended s = shown_or s (answer End s)
+
+-- Done, or how many were refused
+abbrev pub outcome_after : (refused : ℕ) → o.Outcome
+outcome_after zero = Done
+outcome_after (suc n) = Refused (suc n)
+
+-- the text, unless a refusal ended the run
+abbrev pub output_after : (keep_going : Bool) → (refused : ℕ) → (text : List ℕ) → Option (List ℕ)
+output_after true n text = Some text
+output_after false zero text = Some text
+output_after false (suc n) text = None
+
+-- what a run comes to, by what its commands come to
+abbrev pub result_after : (keep_going : Bool) → Obeyed → RunResult
+result_after k did = record { outcome = outcome_after did.refused; report = did.report; output = output_after k did.refused (ended did.shown).text }
+
+-- ---- a whole run
+
+-- a run that ends before any command
+abbrev pub stopped : o.Outcome → RunResult
+stopped outcome = record { outcome = outcome; report = []; output = None }
+
+-- a text that is longer than a run reads
+abbrev pub IsTooLong : List ℕ → Type 0
+IsTooLong text = 2 ^ 24 < length text
+
+-- the first fact where the case holds, and else the other
+abbrev pub InCase : (Case Then Else : Type 0) → Type 0
+InCase Case Then Else = (Case × Then) ⊎ ((Case → ⊥) × Else)
+
+-- The run of commands over a makefile comes to this result.
+abbrev pub IsRunOf : List CommandAt → (makefile : List ℕ) → (depth : ℕ) → (keep_going : Bool) → RunResult → Type 0
+IsRunOf commands makefile depth k result =
+    InCase (IsTooLong makefile) (result ≡ stopped TooLong)
+    (InCase (IsTooDeep makefile) (result ≡ stopped TooDeep)
+    (result ≡ result_after k (obeyed k commands (shown_opened depth makefile))))
+
+-- The run of a script over a makefile comes to this result: the first that fits, of a bad depth, a script that is too long, a line
+-- of it that is no command, and its commands over the makefile.
+abbrev pub IsRun : (makefile script : List ℕ) → (depth : ℕ) → (keep_going : Bool) → RunResult → Type 0
+IsRun makefile script depth k result =
+    InCase (IsBadDepth depth) (result ≡ stopped BadDepth)
+    (InCase (IsTooLong script) (result ≡ stopped TooLong)
+    (((line : ℕ) × HasNoCommand script line × (result ≡ stopped (NotACommand line)))
+    ⊎ ((commands : List CommandAt) × IsScript script commands × IsRunOf commands makefile depth k result)))

@@ -1,0 +1,137 @@
+#!/usr/bin/env python3
+"""Runs as equations that the checker computes.
+
+Turns a table of runs with their answers into a file of equations, by which the checker computes the
+definitions of `crates/mk_run/specs`. Where the file checks, these give each run its outcome, its report
+and its output.
+
+    run_rows.py TABLE > crates/mk_run/proofs/RunRows.antt
+
+The crate keeps the file that is made of `tests/cases/runs.tsv`. Of the rows whose script is one edit alone
+the first for each refusal is taken, and the first that is done: the others are equations of
+`crates/mk_edit_laws_rows`. Rows whose script has a fault (status 2) are left out.
+
+A table has the columns name, makefile, script, flags, stdout, stderr and status between tabs. In a column
+\\\\, \\t, \\n, \\r and \\xHH stand for a backslash, a tab, a line end, a return and the byte HH.
+"""
+
+import re
+import sys
+from pathlib import Path
+
+from edit_rows import COLONS, antt_edit, fields_of
+from reading_rows import FLAVORS, antt_list, antt_text, unescape
+
+# How many edits a run lets undo where the row does not say it.
+DEPTH = 100
+CALLS = {b"undo": "Undo", b"redo": "Redo", b"begin": "Begin", b"end": "End", b"cancel": "Cancel"}
+IMPORTS = [
+    ("Rattle.std.proofs.Common", ["◌≡◌", "refl", "ℕ", "Bool", "true", "false", "List", "[]", "◌∷◌", "Option", "Some", "None"]),
+    ("Rattle.std.specs.Prelude", ["codes"]),
+    ("Rattle.std.specs.Fmt", ["digits"]),
+    ("Rattle.mk_class.specs.declared.assignment.Flavor.TheVariants", list(FLAVORS.values())),
+    ("Rattle.mk_edit_laws.specs.declared.edit.Colons.TheVariants", list(COLONS.values())),
+    ("Rattle.mk_edit_laws.specs.Edits", ["Edit", "Bottom", "BeforeVar", "AfterVar", "BeforeRule"]),
+    (
+        "Rattle.mk_edit_laws.specs.Edits",
+        ["SetValue", "AppendValue", "AddAssign", "RemoveAssign", "AddRule", "RemoveRule", "AddPrereq", "RemovePrereq"]
+        + ["AddRecipe", "SetRecipe", "RemoveRecipe", "RenameTarget"],
+    ),
+    ("Rattle.mk_history.specs.Machine", ["Command", "Apply", *CALLS.values()]),
+    ("Rattle.mk_history.specs.Shown", ["shown_opened"]),
+    ("Rattle.mk_script.specs.Scripts", ["CommandAt"]),
+    ("Rattle.mk_run.specs.Commands", ["obeyed"]),
+    ("Rattle.mk_run.specs.Runs", ["RunResult", "result_after"]),
+    ("Rattle.mk_run.specs.declared.outcome.Outcome", ["Outcome"]),
+    ("Rattle.mk_run.specs.declared.outcome.Outcome.TheVariants", ["Done", "Refused"]),
+]
+HELPERS = """
+-- the command in the line of this number
+abbrev at : ℕ → Command Edit → CommandAt
+at n c = record { line = n; command = c }
+
+abbrev came_to : (keep_going : Bool) → (depth : ℕ) → (makefile : List ℕ) → List CommandAt → RunResult
+came_to k depth text commands = result_after k (obeyed k commands (shown_opened depth text))
+
+abbrev ends : Outcome → (report : List ℕ) → (output : Option (List ℕ)) → RunResult
+ends outcome report output = record { outcome = outcome; report = report; output = output }
+"""
+
+
+def commands_of(script):
+    """The commands of a script, each its line's number, from 1, and its fields."""
+    lines = script.split(b"\n")
+    lines = [line[:-1] if line.endswith(b"\r") and at < len(lines) - 1 else line for at, line in enumerate(lines)]
+    numbered = [(number, line) for number, line in enumerate(lines, 1) if line.strip(b" \t") and not line.startswith(b"#")]
+    return [(number, fields_of(line)) for number, line in numbered]
+
+
+def antt_command(fields):
+    """A command as a term."""
+    edit = antt_edit(fields)
+    return CALLS[fields[0]] if edit is None else f"(Apply {edit})"
+
+
+def equation_of(row):
+    """The equation of a row."""
+    flags = row["flags"].split(" ")
+    depth = int(flags[flags.index("-d") + 1]) if "-d" in flags else DEPTH
+    goes_on = "-k" in flags
+    bytes_of = lambda column: unescape(row[column]).encode("latin-1")
+    commands = antt_list([f"at {number} {antt_command(fields)}" for number, fields in commands_of(bytes_of("script"))])
+    refused = bytes_of("stderr").count(b"\n")
+    outcome = f"(Refused {refused})" if refused else "Done"
+    output = f"(Some {antt_text(bytes_of('stdout'))})" if goes_on or not refused else "None"
+    keep_going = "true" if goes_on else "false"
+    run = f"came_to {keep_going} {depth} {antt_text(bytes_of('makefile'))} {commands}"
+    return f"{run} ≡ ends {outcome} {antt_text(bytes_of('stderr'))} {output}"
+
+
+def chosen(rows):
+    """The rows to take."""
+    seen = set()
+    for row in rows:
+        if row["status"] not in ("0", "1"):
+            continue
+        commands = commands_of(unescape(row["script"]).encode("latin-1"))
+        if len(commands) == 1 and commands[0][1][0] not in CALLS:
+            refusal = re.sub(r"^\d+: ", "", row["stderr"])
+            if refusal in seen:
+                continue
+            seen.add(refusal)
+        yield row
+
+
+def stands_in(name, body):
+    """Whether a body without its texts has a name."""
+    if name.startswith("◌"):
+        return name.strip("◌") in body
+    return name == "[]" or bool(re.search(rf"(?<![\w.]){name}(?!\w)", body))
+
+
+def head_of(table, body):
+    """The first lines of a file with this body."""
+    lines = [f"-- Runs with their answers. Made by `tests/definitions/run_rows.py {table}`."]
+    bare = re.sub(r'"[^"\\]*(?:\\.[^"\\]*)*"', "", body)
+    for module, names in IMPORTS:
+        used = [name for name in names if stands_in(name, bare)]
+        if used:
+            lines.append(f"use {module}.{{{', '.join(used)}}}")
+    return "\n".join(lines) + "\n"
+
+
+def main():
+    if len(sys.argv) != 2:
+        sys.exit("usage: run_rows.py TABLE")
+    table = sys.argv[1]
+    head, *rows = [line.split("\t") for line in Path(table).read_text().rstrip("\n").split("\n")]
+    body = HELPERS
+    for row in chosen([dict(zip(head, row, strict=True)) for row in rows]):
+        name = "row_" + row["name"].replace("-", "_")
+        opened = "unfolding digits\n" if row["stderr"] else ""
+        body += f"\n{name} : {equation_of(row)}\n{opened}{name} = refl\n"
+    print(head_of(table, body) + body, end="")
+
+
+if __name__ == "__main__":
+    main()
