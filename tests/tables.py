@@ -19,7 +19,15 @@ from checks import Outcome, differences
 from rooms import Room
 
 CASES = Path(__file__).resolve().parent / "cases"
-TABLES = ("queries", "runs", "random-runs", "edits/corners", "edits/random")
+TABLES = (
+    "queries",
+    "corner-queries",
+    "runs",
+    "corner-runs",
+    "random-runs",
+    "edits/corners",
+    "edits/random",
+)
 ESCAPES = {"\\\\": b"\\", "\\t": b"\t", "\\n": b"\n", "\\r": b"\r"}
 PIECE = re.compile(r"\\x[0-9A-Fa-f]{2}|\\[\\tnr]|[^\\]+")
 
