@@ -16,20 +16,10 @@ mod help;
 mod out_file;
 
 use command_line::read_request;
-use ending::{BAD_COMMAND_LINE, ended, not_opened};
+use ending::{BAD_COMMAND_LINE, answered, ended, not_opened};
 use mk_run::Outcome;
 use std::io::ErrorKind;
 use std::process::ExitCode;
-
-// The help goes to standard output with status 0, a fault of the command line to standard error.
-fn answered(rt: &HostRuntime, error: &clap::Error) -> ExitCode {
-    let _ = error.print(rt);
-    if error.use_stderr() {
-        ExitCode::from(BAD_COMMAND_LINE)
-    } else {
-        ExitCode::SUCCESS
-    }
-}
 
 // The words of the command line. They have to be UTF-8.
 fn words(rt: &HostRuntime) -> Result<Vec<String>, ExitCode> {
