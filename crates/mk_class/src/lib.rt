@@ -22,8 +22,6 @@ pub mod meter;
 pub mod reading;
 pub mod rule;
 mod scan;
-#[cfg(test)]
-mod tests;
 
 pub use argument::{is_command, is_name, is_target, is_value, is_word};
 pub use assignment::{Assignment, Flavor, Modifier, TargetAssignment};

@@ -1,20 +1,32 @@
 -- What the planning of an edit answers.
-use Rattle.std.specs.Prelude.{◌≡◌, ◌⊎◌, ◌+◌, ◌≤◌, ℕ, List, Ok, Err}
+use Rattle.std.specs.Prelude.{◌≡◌, ◌⊎◌, ◌+◌, if◌then◌else◌, ℕ, List, length, Option, Some, None, Ok, Err}
 use Rattle.mk_lines.specs.Pieces.{Replacement}
+use Rattle.mk_class.specs.ClassedLines.{classed_lines}
 use Rattle.mk_tree.specs.PlacedLines.{PlacedLine, placed_text}
 use Rattle.mk_tree.specs.Documents.{IsFaithful, IsFaithfulTo}
 use Rattle.mk_tree.specs.Readings.{reading}
 use Rattle.mk_edit_laws.specs.Edits.{Edit}
+use Rattle.mk_edit_laws.specs.Stretches.{Stretch, insertion}
 use Rattle.mk_edit_laws.specs.Changes.{change}
 use Rattle.mk_edit_laws.specs.Costs.{cost, size}
 use Rattle.mk_edit_laws.specs.Refusals.{spans, text_after}
 use Rattle.mk_edit_laws.specs.declared.refusal.Refusal.{Refusal}
 use Rattle.mk_edit_laws.specs.declared.refusal.Refusal.TheVariants.{NoMemory}
 use Rattle.mk_patch.specs.Moves.{Move, FitMoves, after_moves, held_by, taken_by}
+use Rattle.mk_edit.specs.PlannedMoves.{follows_unended}
+
+-- how many last lines get a line end by a new line in a stretch: one, where the line goes after a last line that has none
+abbrev pub ended_by : List PlacedLine → Option Stretch → ℕ
+ended_by ls None = 0
+ended_by ls (Some s) = if follows_unended ls (length s.above) then 1 else 0
+
+-- and by an edit
+abbrev pub ended_lines : List PlacedLine → Edit → ℕ
+ended_lines ls e = ended_by ls (insertion (classed_lines (placed_text ls)) e)
 
 -- A patch planned for a document. The edit has spans. The patch fits the document and leads to that of the text with these
--- replaced, which is faithful and reads as the edit's stated change says. The patch holds few lines and takes few out: one more at
--- most than the edit reads again or changes, for a last line that gets a line end.
+-- replaced, which is faithful and reads as the edit's stated change says. The patch holds exactly as many lines as the edit reads
+-- again, and takes out as many as it changes, each with one more where a last line gets a line end.
 pub record IsPlanned (e : Edit) (ls : List PlacedLine) (patch : List Move) : Type 0 where
   pub replacements : List Replacement
   pub spans_are : spans (placed_text ls) e ≡ Ok replacements
@@ -22,8 +34,8 @@ pub record IsPlanned (e : Edit) (ls : List PlacedLine) (patch : List Move) : Typ
   pub leads : IsFaithfulTo (after_moves patch ls) (text_after (placed_text ls) e)
   pub faithful : IsFaithful (after_moves patch ls)
   pub reads : reading (text_after (placed_text ls) e) ≡ change (placed_text ls) e
-  pub few_held : held_by patch ≤ cost (placed_text ls) e + 1
-  pub few_taken : taken_by patch ≤ size (placed_text ls) e + 1
+  pub held : held_by patch ≡ cost (placed_text ls) e + ended_lines ls e
+  pub taken : taken_by patch ≡ size (placed_text ls) e + ended_lines ls e
 
 -- A refusal of an edit of a text: the first whose cause holds, or, where none does, that a growth was refused.
 abbrev pub IsRefusal : (text : List ℕ) → Edit → Refusal → Type 0

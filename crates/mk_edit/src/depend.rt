@@ -1,7 +1,8 @@
 //! A new prerequisite of a rule, and one less, planned.
-ghost use Rattle.std.specs.Prelude.{◌≡◌, ◌≤◌, ◌+◌, ◌||◌, IfOk, IfErr};
+ghost use Rattle.std.specs.Prelude.{◌≡◌, ◌≤◌, ◌+◌, ◌||◌, IfOk, IfErr, OnOk};
 ghost use Rattle.mk_lines.specs.Cells.{Cell};
 ghost use Rattle.mk_class.specs.Headers;
+ghost use Rattle.mk_tree.specs.Counting.{AreCounted};
 ghost use Rattle.mk_tree.specs.Documents.{IsFaithful};
 ghost use Rattle.mk_tree.specs.PlacedLines.{placed_text};
 ghost use Rattle.mk_tree.specs.Trees.{line_view};
@@ -45,6 +46,7 @@ pub(crate) fn plan_depend<A: Allocator + Copy>(
     requires kind { IsPrerequisiteAdded order word.now (edit_of edit.now) }
     ensures planned { IfOk result (λ patch. IsPlanned (edit_of edit.now) doc.now patch) }
     ensures refused { IfErr result (λ refusal. IsRefusal (placed_text doc.now) (edit_of edit.now) refusal) }
+    ensures counted { OnOk result (AreCounted meter.old (cost (placed_text doc.now) (edit_of edit.now)) meter.new) }
     ensures few_read { meter.new ≤ meter.old + cost (placed_text doc.now) (edit_of edit.now) }
     ensures forward { meter.old ≤ meter.new }
 {
@@ -81,6 +83,7 @@ pub(crate) fn plan_undepend<A: Allocator + Copy>(
     requires kind { IsPrerequisiteRemoved word.now (edit_of edit.now) }
     ensures planned { IfOk result (λ patch. IsPlanned (edit_of edit.now) doc.now patch) }
     ensures refused { IfErr result (λ refusal. IsRefusal (placed_text doc.now) (edit_of edit.now) refusal) }
+    ensures counted { OnOk result (AreCounted meter.old (cost (placed_text doc.now) (edit_of edit.now)) meter.new) }
     ensures few_read { meter.new ≤ meter.old + cost (placed_text doc.now) (edit_of edit.now) }
     ensures forward { meter.old ≤ meter.new }
 {

@@ -3,7 +3,8 @@
 //!
 //! An edit decides its causes, builds the bytes of its new line, and calls one of these. All memory
 //! that it takes beyond those bytes is taken here.
-ghost use Rattle.std.specs.Prelude.{◌≡◌, ◌≤◌, ◌<◌, ◌+◌, ◌^◌, ◌∷◌, [], length, IfOk, IsOkUnless};
+ghost use Rattle.std.specs.Prelude.{◌≡◌, ◌≤◌, ◌<◌, ◌+◌, ◌^◌, ◌∷◌, [], length, IfOk, OnOk, IsOkUnless};
+ghost use Rattle.mk_tree.specs.Counting.{AreCounted};
 ghost use Rattle.mk_tree.specs.Documents.{IsFaithful};
 ghost use Rattle.mk_tree.specs.LineTexts.{line_in};
 ghost use Rattle.mk_tree.specs.PlacedLines.{last_line, placed_line};
@@ -40,6 +41,7 @@ pub(crate) fn replace_line<A: Allocator + Copy>(
     requires can { CanReplace doc.now place.at bytes.items }
     ensures moves { IfOk result (λ patch. patch ≡ replacing_moves doc.now place.at bytes.items) }
     ensures refused { IsOkUnless result Refusal.NoMemory }
+    ensures counted { OnOk result (AreCounted meter.old 1 meter.new) }
     ensures few_read { meter.new ≤ meter.old + 1 }
     ensures forward { meter.old ≤ meter.new }
 {
@@ -89,6 +91,7 @@ pub(crate) fn insert_line<A: Allocator + Copy>(
     requires can { CanInsert doc.now place.at bytes.items }
     ensures moves { IfOk result (λ patch. patch ≡ inserting_moves doc.now place.at bytes.items) }
     ensures refused { IsOkUnless result Refusal.NoMemory }
+    ensures counted { OnOk result (AreCounted meter.old 1 meter.new) }
     ensures few_read { meter.new ≤ meter.old + 1 }
     ensures forward { meter.old ≤ meter.new }
 {
@@ -169,6 +172,7 @@ pub(crate) fn read_line<A: Allocator + Copy>(
     requires defines { context.defines < 2 ^ 24 }
     ensures line { IfOk result (λ line. line_view line ≡ placed_line (line_in context bytes.items)) }
     ensures refused { IsOkUnless result Refusal.NoMemory }
+    ensures counted { OnOk result (AreCounted meter.old 1 meter.new) }
     ensures few_read { meter.new ≤ meter.old + 1 }
     ensures forward { meter.old ≤ meter.new }
 {

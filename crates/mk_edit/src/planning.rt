@@ -1,5 +1,6 @@
 //! What an edit would do to a document, or why it is refused.
-ghost use Rattle.std.specs.Prelude.{◌≤◌, ◌+◌, IfOk, IfErr};
+ghost use Rattle.std.specs.Prelude.{◌≤◌, ◌+◌, IfOk, IfErr, OnOk};
+ghost use Rattle.mk_tree.specs.Counting.{AreCounted};
 ghost use Rattle.mk_tree.specs.Documents.{IsFaithful};
 ghost use Rattle.mk_tree.specs.PlacedLines.{placed_text};
 ghost use Rattle.mk_edit_laws.specs.Costs.{cost};
@@ -26,8 +27,9 @@ use std::alloc::Allocator;
 ///
 /// The document is not changed. The patch fits it, and leads to the document of the text with the
 /// edit's spans replaced: no byte outside them changes, and the text reads as the edit's stated change
-/// says. A line that is read anew counts in the meter, also where the edit is refused then: at most as
-/// many as the edit costs.
+/// says. Each line that is read anew counts in the meter: exactly as many as the edit costs, and at most
+/// as many where it is refused. The patch holds as many lines as the edit costs, and takes out as many
+/// as it changes, each with one more where a last line gets a line end.
 ///
 /// # Errors
 ///
@@ -42,6 +44,7 @@ pub fn plan<A: Allocator + Copy>(
     requires faithful { IsFaithful doc.now }
     ensures planned { IfOk result (λ patch. IsPlanned (edit_of edit.now) doc.now patch) }
     ensures refused { IfErr result (λ refusal. IsRefusal (placed_text doc.now) (edit_of edit.now) refusal) }
+    ensures counted { OnOk result (AreCounted meter.old (cost (placed_text doc.now) (edit_of edit.now)) meter.new) }
     ensures few_read { meter.new ≤ meter.old + cost (placed_text doc.now) (edit_of edit.now) }
     ensures forward { meter.old ≤ meter.new }
 {

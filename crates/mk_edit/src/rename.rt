@@ -1,5 +1,6 @@
 //! A rename, planned.
-ghost use Rattle.std.specs.Prelude.{◌≤◌, ◌+◌, IfOk, IfErr};
+ghost use Rattle.std.specs.Prelude.{◌≤◌, ◌+◌, IfOk, IfErr, OnOk};
+ghost use Rattle.mk_tree.specs.Counting.{AreCounted};
 ghost use Rattle.mk_tree.specs.Documents.{IsFaithful};
 ghost use Rattle.mk_tree.specs.PlacedLines.{placed_text};
 ghost use Rattle.mk_edit_laws.specs.Costs.{cost};
@@ -34,6 +35,7 @@ pub(crate) fn plan_rename<A: Allocator + Copy>(
     requires kind { IsRename from.now to.now (edit_of edit.now) }
     ensures planned { IfOk result (λ patch. IsPlanned (edit_of edit.now) doc.now patch) }
     ensures refused { IfErr result (λ refusal. IsRefusal (placed_text doc.now) (edit_of edit.now) refusal) }
+    ensures counted { OnOk result (AreCounted meter.old (cost (placed_text doc.now) (edit_of edit.now)) meter.new) }
     ensures few_read { meter.new ≤ meter.old + cost (placed_text doc.now) (edit_of edit.now) }
     ensures forward { meter.old ≤ meter.new }
 {

@@ -3,9 +3,10 @@
 //! Each line that holds the word is exchanged for its line after the rename. The text stays within its
 //! limit after each step, though one line may get shorter and another longer. So the lines go in two
 //! turns: first those that get no longer, then those that do.
-ghost use Rattle.std.specs.Prelude.{◌≡◌, ◌≤◌, ◌<◌, ◌+◌, ◌*◌, ◌^◌, ◌++◌, IfOk, IsOkUnless, filter, if◌then◌else◌, length, option_map};
+ghost use Rattle.std.specs.Prelude.{◌≡◌, ◌≤◌, ◌<◌, ◌+◌, ◌*◌, ◌^◌, ◌++◌, IfOk, OnOk, IsOkUnless, filter, if◌then◌else◌, length, option_map};
 ghost use Rattle.mk_class.specs.ClassedLines.{classed_lines};
 ghost use Rattle.mk_class.specs.Contexts.{start};
+ghost use Rattle.mk_tree.specs.Counting.{AreCounted};
 ghost use Rattle.mk_tree.specs.Documents.{IsFaithful};
 ghost use Rattle.mk_tree.specs.PlacedLines.{placed_text};
 ghost use Rattle.mk_tree.specs.Trees.{line_view};
@@ -50,6 +51,7 @@ pub(crate) fn rename_patch<A: Allocator + Copy>(
     requires accepted { first_cause (causes (placed_text doc.now) (classed_lines (placed_text doc.now)) (RenameTarget from.now to.now)) ≡ None }
     ensures planned { IfOk result (λ patch. IsPlanned (RenameTarget from.now to.now) doc.now patch) }
     ensures refused { IsOkUnless result Refusal.NoMemory }
+    ensures counted { OnOk result (AreCounted meter.old (cost (placed_text doc.now) (RenameTarget from.now to.now)) meter.new) }
     ensures few_read { meter.new ≤ meter.old + cost (placed_text doc.now) (RenameTarget from.now to.now) }
     ensures forward { meter.old ≤ meter.new }
 {
@@ -100,6 +102,7 @@ fn exchange_lines<A: Allocator + Copy>(
     requires room { length patch.old.moves + exchanged_count turn from.now to.now doc.now ≤ patch.old.room }
     ensures moves { IfOk result (λ _. patch.new ≡ record patch.old { moves = patch.old.moves ++ turn_moves turn from.now to.now doc.now }) }
     ensures refused { IsOkUnless result Refusal.NoMemory }
+    ensures counted { OnOk result (AreCounted meter.old (exchanged_count turn from.now to.now doc.now) meter.new) }
     ensures few_read { meter.new ≤ meter.old + exchanged_count turn from.now to.now doc.now }
     ensures forward { meter.old ≤ meter.new }
 {
@@ -126,6 +129,7 @@ fn line_of_turn<A: Allocator + Copy>(
     requires can { CanBeRenamed from.now to.now context (line_view line.now) }
     ensures line { IfOk result (λ renamed. option_map line_view renamed ≡ (if is_exchanged turn from.now to.now (line_view line.now) then Some (line_renamed from.now to.now context (line_view line.now)) else None)) }
     ensures refused { IsOkUnless result Refusal.NoMemory }
+    ensures counted { OnOk result (AreCounted meter.old (if is_exchanged turn from.now to.now (line_view line.now) then 1 else 0) meter.new) }
     ensures few_read { meter.new ≤ meter.old + (if is_exchanged turn from.now to.now (line_view line.now) then 1 else 0) }
     ensures forward { meter.old ≤ meter.new }
 {

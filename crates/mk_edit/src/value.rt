@@ -1,5 +1,6 @@
 //! Edits of a variable's value, planned.
-ghost use Rattle.std.specs.Prelude.{◌≡◌, ◌≤◌, ◌+◌, ◌++◌, IfOk, IfErr, take, drop, length};
+ghost use Rattle.std.specs.Prelude.{◌≡◌, ◌≤◌, ◌+◌, ◌++◌, IfOk, IfErr, OnOk, take, drop, length};
+ghost use Rattle.mk_tree.specs.Counting.{AreCounted};
 ghost use Rattle.mk_tree.specs.Documents.{IsFaithful};
 ghost use Rattle.mk_tree.specs.PlacedLines.{placed_text};
 ghost use Rattle.mk_edit_laws.specs.Costs.{cost};
@@ -41,6 +42,7 @@ pub(crate) fn plan_set_value<A: Allocator + Copy>(
     requires edit { IsSetTo (edit_of edit.now) value.now }
     ensures planned { IfOk result (λ patch. IsPlanned (edit_of edit.now) doc.now patch) }
     ensures refused { IfErr result (λ refusal. IsRefusal (placed_text doc.now) (edit_of edit.now) refusal) }
+    ensures counted { OnOk result (AreCounted meter.old (cost (placed_text doc.now) (edit_of edit.now)) meter.new) }
     ensures few_read { meter.new ≤ meter.old + cost (placed_text doc.now) (edit_of edit.now) }
     ensures forward { meter.old ≤ meter.new }
 {
@@ -73,6 +75,7 @@ pub(crate) fn plan_append_value<A: Allocator + Copy>(
     requires edit { IsAppended (edit_of edit.now) value.now }
     ensures planned { IfOk result (λ patch. IsPlanned (edit_of edit.now) doc.now patch) }
     ensures refused { IfErr result (λ refusal. IsRefusal (placed_text doc.now) (edit_of edit.now) refusal) }
+    ensures counted { OnOk result (AreCounted meter.old (cost (placed_text doc.now) (edit_of edit.now)) meter.new) }
     ensures few_read { meter.new ≤ meter.old + cost (placed_text doc.now) (edit_of edit.now) }
     ensures forward { meter.old ≤ meter.new }
 {

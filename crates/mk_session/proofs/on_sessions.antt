@@ -2,3 +2,4 @@ pub mod KeptLemmas
 pub mod StepLemmas
 pub mod CallLemmas
 pub mod AnswerLemmas
+pub mod RefusalLemmas

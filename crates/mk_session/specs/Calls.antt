@@ -6,6 +6,7 @@ use Rattle.mk_edit_laws.specs.declared.refusal.Refusal.{Refusal}
 use Rattle.mk_edit_laws.specs.declared.refusal.Refusal.TheVariants as refusal
 use Rattle.mk_history.specs.Machine as machine
 use Rattle.mk_history.specs.Machine.{Command, Apply, Begin, Machine, next, text}
+use Rattle.mk_history.specs.Shown.{Shown}
 use Rattle.mk_history.specs.Steps as steps
 use Rattle.mk_history.specs.Steps.{Granted, Refused, NoMemory, IsStep}
 use Rattle.mk_history.specs.Claims.{flat}
@@ -32,11 +33,12 @@ abbrev pub cost_on : (text : List ℕ) → Command Edit → ℕ
 cost_on t (Apply e) = cost t e
 cost_on t c = 0
 
--- A call leads from what is seen to what is seen next: it is one step of the machine, finds no memory only where it takes some, and
--- reads at most as many lines as it costs.
+-- A call leads from what is seen to what is seen next: it is one step of the machine, finds no memory only where it takes some and
+-- the machine grants it, and reads at most as many lines as it costs.
 pub record IsCall (call : Call) (before after : Seen) : Type 0 where
   pub step : IsStep answer call.0 call.1 before.shown after.shown
   pub memory : call.1 ≡ NoMemory → takes_memory call.0 ≡ true
+  pub granted_else : call.1 ≡ NoMemory → (new : Shown (List ℕ)) × (answer call.0 before.shown ≡ Ok new)
   pub few_read : after.rereads ≤ before.rereads + cost_on before.shown.text call.0
 
 -- what a call gave back tells its reply

@@ -1,6 +1,7 @@
 //! A makefile that is edited.
-ghost use Rattle.std.specs.Prelude.{◌≡◌, ◌≤◌, ◌+◌, ◌<◌, ◌↔◌, ◌^◌, Ok, Err, IfOk, IfErr, OnOk, OnErr, length, is_some, Some, None};
+ghost use Rattle.std.specs.Prelude.{◌≡◌, ◌≤◌, ◌+◌, ◌<◌, ◌↔◌, ◌^◌, Ok, Err, IfOk, IfErr, IsOkUnless, OnOk, OnErr, length, is_some, Some, None};
 ghost use Rattle.mk_tree.specs.Documents.{IsFaithful, IsFaithfulTo, IsTooDeep};
+ghost use Rattle.mk_tree.specs.PlacedLines.{placed_text};
 ghost use Rattle.mk_edit_laws.specs.Costs.{cost};
 ghost use Rattle.mk_edit_parts.specs.EditViews.{edit_of};
 ghost use Rattle.mk_history.specs.Machine.{Apply, Undo, Redo, Begin, End, Cancel};
@@ -14,6 +15,7 @@ use mk_history::{Change, History, Sequence};
 use mk_lines::Fault;
 use mk_patch::Patch;
 use mk_tree::Doc;
+use mk_tree::parse::SIZE_LIMIT;
 use std::alloc::{Allocator, Global};
 use std::marker::Model;
 
@@ -50,6 +52,17 @@ impl<A: Allocator> Model for Session<A> {
     ghost invariant = { λ s. IsKept s.history s.group s.doc × (s.opened_at ≤ s.meter) };
 }
 
+// Refuses a depth that a session cannot have.
+fn test_depth(depth: u32) -> Result<(), Fault>
+    ensures bad { (result ≡ Err Fault.BadDepth) ↔ IsBadDepth depth }
+    ensures only { IsOkUnless result Fault.BadDepth }
+{
+    if depth < 1 || depth > MAX_DEPTH {
+        return Err(Fault::BadDepth);
+    }
+    Ok(())
+}
+
 impl<A: Allocator + Copy> Session<A> {
     /// Opens a text, so that up to `depth` edits or groups can be undone.
     ///
@@ -69,11 +82,39 @@ impl<A: Allocator + Copy> Session<A> {
         ensures shallow { IfOk result (λ _. IsTooDeep text.now → ⊥) }
         ensures fault { IfErr result (λ fault. IsOpeningFault depth text.now fault) }
     {
-        if depth < 1 || depth > MAX_DEPTH {
-            return Err(Fault::BadDepth);
+        test_depth(depth)?;
+        if text.len() > SIZE_LIMIT {
+            return Err(Fault::TooLong);
         }
+        Session::open_vec(alloc, Vec::from_slice(alloc, text)?, depth)
+    }
+
+    /// Opens a text, as [`Session::open`] does. The session keeps the text that it is given, and no
+    /// line is copied.
+    ///
+    /// # Errors
+    ///
+    /// Those of [`Session::open`].
+    pub fn open_vec(alloc: A, text: Vec<u8, A>, depth: u32) -> Result<Session<A>, Fault>
+        ensures opened { IfOk result (λ s. s ≡ seen_opened depth text.items) }
+        ensures bad_depth { (result ≡ Err Fault.BadDepth) ↔ IsBadDepth depth }
+        ensures short { IfOk result (λ _. length text.items ≤ 2 ^ 24) }
+        ensures shallow { IfOk result (λ _. IsTooDeep text.items → ⊥) }
+        ensures fault { IfErr result (λ fault. IsOpeningFault depth text.items fault) }
+    {
+        test_depth(depth)?; // before any line is read
         let mut meter = Meter::new();
-        let doc = Doc::parse(alloc, text, &mut meter)?;
+        let doc = Doc::parse_vec(alloc, text, &mut meter)?;
+        Session::over(alloc, doc, depth, meter)
+    }
+
+    // A session on a document, with nothing to undo or redo. The meter has counted its lines.
+    fn over(alloc: A, doc: Doc<A>, depth: u32, meter: Meter) -> Result<Session<A>, Fault>
+        requires good { IsBadDepth depth → ⊥ }
+        requires faithful { IsFaithful doc }
+        ensures opened { IfOk result (λ s. s ≡ seen_opened depth (placed_text doc)) }
+        ensures fault { IsOkUnless result Fault.NoMemory }
+    {
         let history = History::new(alloc, depth)?;
         let opened_at = meter.count();
         Ok(Session {

@@ -9,17 +9,17 @@ use Rattle.mk_tree.specs.PlacedLines.{PlacedLine, placed_line, placed_lines, pla
 use Rattle.mk_edit_laws.specs.Edits.{Edit}
 use Rattle.mk_edit_laws.specs.Spots.{Spot}
 use Rattle.mk_edit_laws.specs.Stretches.{Stretch, this_line, touched_by}
-use Rattle.mk_edit_laws.specs.Costs.{size}
+use Rattle.mk_edit_laws.specs.Costs.{cost, size}
 use Rattle.mk_edit_laws.specs.EditedLines.{edited_bytes}
 use Rattle.mk_edit_laws.specs.KeptLines.{above_after}
 use Rattle.mk_edit_laws.specs.Refusals.{spans, text_after}
-use Rattle.mk_edit_laws.proofs.on_edits.EditedLineLemmas.{place-kept, edited, put-there, taken-out}
+use Rattle.mk_edit_laws.proofs.on_edits.EditedLineLemmas.{edited, put-there, taken-out}
 use Rattle.mk_patch.specs.Moves.{Exchange, TakeOut, IsPlain}
 use Rattle.mk_patch.proofs.on_moves.ShapeLemmas.{LeadTo, run-held, run-taken}
 use Rattle.mk_patch.proofs.on_moves.TextLineLemmas.{plain-placed, text_line-exchanged, text_run-taken_out}
-use Rattle.mk_edit.specs.Planned.{IsPlanned}
+use Rattle.mk_edit.specs.Planned.{IsPlanned, ended_by, ended_lines}
 use Rattle.mk_edit.specs.PlannedMoves.{line_read_at, replacing_moves, removing_moves, CanReplace}
-use Rattle.mk_edit.proofs.on_plans.PlanLemmas.{lead-planned, after-fits, faithful-length, read-at, touched-none_put, removed-none_put}
+use Rattle.mk_edit.proofs.on_plans.PlanLemmas.{lead-planned, after-fits, faithful-length, read-at, touched-none_put, removed-none_put, changes-one}
 
 -- ---- a line replaced
 
@@ -36,6 +36,8 @@ line-replaced e ls rs s at m f h p place b =
     let E = edited t e rs (this_line s) p h in
     let P = put-there t e rs (this_line s) m p h b in
     let none = touched-none_put (classed_lines t) e (this_line s) p (omega arith) in
+    let one = changes-one t e rs (this_line s) m p (omega arith) b in
+    let ends : ended_lines ls e ≡ 0 = ap (ended_by ls) none in
     let after : classed_lines (text_after t e) ≡ s.above ++ new ∷ s.below = P.lines ∙ ap (λ (o : Option Stretch). above_after t o (this_line s) ++ new ∷ s.below) none in
     let read : line_read_at ls at m ≡ placed_line new = read-at ls s.above (s.line ∷ s.below) at m E.before place in
     let moves : replacing_moves ls at m ≡ Exchange (length s.above) (placed_line new) ∷ [] = ap (λ z. Exchange at z ∷ []) read ∙ ap (λ n. Exchange n (placed_line new) ∷ []) (sym place) in
@@ -43,7 +45,7 @@ line-replaced e ls rs s at m f h p place b =
     text_line-exchanged s.above s.below s.line new E.gone_plain.0 P.plain (after-fits t e rs (s.above ++ new ∷ s.below) h after) in
     record {
       can = record { in_range = omega (arith, faithful-length ls (s.above ++ s.line ∷ s.below) f E.before, length-append s.above (s.line ∷ s.below), place); line = record { one = P.one; plain = subst IsPlain (sym read) (plain-placed new P.plain) } };
-      planned = lead-planned e ls rs (replacing_moves ls at m) (s.above ++ s.line ∷ s.below) (s.above ++ new ∷ s.below) f h E.before after (rw moves L) (omega arith) (omega arith);
+      planned = lead-planned e ls rs (replacing_moves ls at m) (s.above ++ s.line ∷ s.below) (s.above ++ new ∷ s.below) f h E.before after (rw moves L) (omega (arith, one.cost_is, ends)) (omega (arith, one.size_is, ends));
     }
 
 -- ---- lines taken out
@@ -54,15 +56,12 @@ pub record IsTakenOut (e : Edit) (ls : List PlacedLine) (at count : ℕ) : Type 
   pub planned : IsPlanned e ls (removing_moves at count)
 
 pub lines-taken_out : (e : Edit) (ls : List PlacedLine) (rs : List Replacement) (s : Stretch) (at count : ℕ) → IsFaithful ls → spans (placed_text ls) e ≡ Ok rs
-    → touched_by (classed_lines (placed_text ls)) e ≡ Some s → length s.above ≡ at → length s.lines ≡ count → edited_bytes (placed_text ls) e s rs ≡ [] → IsTakenOut e ls at count
-lines-taken_out e ls rs s at count f h p place number b =
+    → touched_by (classed_lines (placed_text ls)) e ≡ Some s → length s.above ≡ at → length s.lines ≡ count → edited_bytes (placed_text ls) e s rs ≡ [] → cost (placed_text ls) e ≡ 0 → size (placed_text ls) e ≡ count → IsTakenOut e ls at count
+lines-taken_out e ls rs s at count f h p place number b costs changes =
     let t = placed_text ls in
     let E = edited t e rs s p h in
-    let K = place-kept t e rs s p h in
-    let q : Some K.touched ≡ Some s = sym K.place ∙ p in
-    let same : K.touched ≡ s = cc in
-    let few : length s.lines ≤ size t e = subst (λ (z : Stretch). length z.lines ≤ size t e) same K.few_gone in
     let none = removed-none_put t e rs s b in
+    let ends : ended_lines ls e ≡ 0 = ap (ended_by ls) none in
     let after : classed_lines (text_after t e) ≡ s.above ++ s.below = taken-out t e rs s p h b ∙ ap (λ (o : Option Stretch). above_after t o s ++ s.below) none in
     let moves : removing_moves at count ≡ replicate (length s.lines) (TakeOut (length s.above)) = ap (λ n. replicate n (TakeOut at)) (sym number) ∙ ap (λ n. replicate (length s.lines) (TakeOut n)) (sym place) in
     let L = text_run-taken_out s.above s.lines s.below E.gone_plain in
@@ -70,5 +69,5 @@ lines-taken_out e ls rs s at count f h p place number b =
       in_range = omega (arith, faithful-length ls (s.above ++ (s.lines ++ s.below)) f E.before, length-append s.above (s.lines ++ s.below), length-append s.lines s.below, place, number);
       planned =
           lead-planned e ls rs (removing_moves at count) (s.above ++ (s.lines ++ s.below)) (s.above ++ s.below) f h E.before after (rw moves L)
-          (omega (arith, run-held count at)) (omega (arith, run-taken count at, few, number));
+          (omega (arith, run-held count at, costs, ends)) (omega (arith, run-taken count at, changes, ends));
     }

@@ -1,6 +1,6 @@
 -- Plans of edits that put a line in: between lines, after lines that end, and after a last line that gets its line end.
 use Rattle.std.proofs.Common.{◌≡◌, refl, sym, ap, ◌∙◌, subst, arith, ℕ, ◌+◌, ◌^◌, ◌<◌, ◌≤◌, ◌==◌, ◌&&◌, List, [], ◌∷◌, ◌++◌, Bool, true, false, cond, not, length, length-append, Option, Some, None, eq-eqb}
-use Rattle.std.specs.Prelude.{Ok}
+use Rattle.std.specs.Prelude.{Ok, if◌then◌else◌}
 use Rattle.std.proofs.lemmas.List.{append-nil}
 use Rattle.std.proofs.lemmas.Bool.{ne_eqb}
 use Rattle.mk_lines.specs.PhysicalLines.{line_end_bytes, file_line_end, without_line_end}
@@ -19,7 +19,7 @@ use Rattle.mk_tree.proofs.on_changes.NewLineLemmas.{file_line_end-some, last_end
 use Rattle.mk_tree.proofs.on_changes.EndedLast.{end-put, ended-already, placed-last}
 use Rattle.mk_edit_laws.specs.Edits.{Edit}
 use Rattle.mk_edit_laws.specs.Stretches.{Stretch, between, insertion}
-use Rattle.mk_edit_laws.specs.Costs.{cost}
+use Rattle.mk_edit_laws.specs.Costs.{cost, size}
 use Rattle.mk_edit_laws.specs.EditedLines.{new_line_bytes}
 use Rattle.mk_edit_laws.specs.KeptLines.{above_after}
 use Rattle.mk_edit_laws.specs.LineCauses.{follows_open_line}
@@ -28,7 +28,7 @@ use Rattle.mk_edit_laws.proofs.on_edits.Accepted.{accepted, where_holds-none}
 use Rattle.mk_edit_laws.proofs.on_edits.EditedLineLemmas.{edited, put-there}
 use Rattle.mk_patch.specs.Moves.{PutIn, SwapEnd, IsPlain}
 use Rattle.mk_patch.proofs.on_moves.TextLineLemmas.{plain-placed, text_line-put_in, text_line-put_in_ended}
-use Rattle.mk_edit.specs.Planned.{IsPlanned}
+use Rattle.mk_edit.specs.Planned.{IsPlanned, ended_by, ended_lines}
 use Rattle.mk_edit.specs.PlannedMoves.{line_read_at, is_unended, follows_unended, last_bytes_ended, ending_moves, inserting_moves, CanInsert}
 use Rattle.mk_edit.proofs.on_plans.PlanLemmas.{lead-planned, after-fits, faithful-length, read-at, puts-in}
 
@@ -88,7 +88,9 @@ record IsNewLine (e : Edit) (ls : List PlacedLine) (rs : List Replacement) (abov
   bytes : new.bytes ≡ m
   read : line_read_at ls at m ≡ placed_line new
   place : length above ≡ at
-  one : 1 ≤ cost (placed_text ls) e
+  one : cost (placed_text ls) e ≡ 1
+  none_gone : size (placed_text ls) e ≡ 0
+  ends : ended_lines ls e ≡ (if follows_unended ls at then 1 else 0)
 
 -- the moves are what is planned, and the line fits
 record IsFitting (e : Edit) (ls : List PlacedLine) (at : ℕ) (m : List ℕ) : Type 0 where
@@ -109,9 +111,10 @@ put-between e ls rs above below new at m N stays none =
     ap (λ b. ending_moves b ls ++ PutIn at (line_read_at ls at m) ∷ []) none
     ∙ (ap (λ z. PutIn at z ∷ []) N.read ∙ ap (λ n. PutIn n (placed_line new) ∷ []) (sym N.place)) in
     let L = text_line-put_in above below new N.plain few in
+    let ends : ended_lines ls e ≡ 0 = N.ends ∙ ap (λ q. if q then 1 else 0) none in
     record {
       fits = omega (arith, ap size_of (shown ls (above ++ below) N.faithful N.before), size-put above below new, few, ap length N.bytes);
-      planned = rw moves (lead-planned e ls rs (PutIn (length above) (placed_line new) ∷ []) (above ++ below) (above ++ new ∷ below) N.faithful N.spans_are N.before after L (omega arith) (omega arith));
+      planned = rw moves (lead-planned e ls rs (PutIn (length above) (placed_line new) ∷ []) (above ++ below) (above ++ new ∷ below) N.faithful N.spans_are N.before after L (omega (arith, N.one, ends)) (omega (arith, N.none_gone, ends)));
     }
 
 -- the last line gets its line end
@@ -132,12 +135,13 @@ put-after_end e ls rs front last new at m N closed lacks some =
     let bytes : last_bytes_ended ls ≡ b = ap (λ o. bytes_of_line o ++ line_end_bytes E) (ap last_line (shown ls (front ++ last ∷ []) N.faithful before) ∙ last-shown front last) in
     let moves : inserting_moves ls at m ≡ SwapEnd b ∷ PutIn at (placed_line new) ∷ [] =
     ap (λ q. ending_moves q ls ++ PutIn at (line_read_at ls at m) ∷ []) some ∙ (ap (λ z. SwapEnd z ∷ PutIn at (line_read_at ls at m) ∷ []) bytes ∙ ap (λ z. SwapEnd b ∷ PutIn at z ∷ []) N.read) in
+    let ends : ended_lines ls e ≡ 1 = N.ends ∙ ap (λ q. if q then 1 else 0) some in
     let L = text_line-put_in_ended front last new b at (omega (arith, N.place, length-append front (last ∷ []))) (omega (arith, longer, some-end E (file_line_end-some t))) same N.plain few in
     record {
       fits = omega (arith, ap size_of (shown ls (front ++ last ∷ []) N.faithful before), size-ended front last new b (omega (arith, longer)), few, ap length N.bytes);
       planned =
           rw moves
-          (lead-planned e ls rs (SwapEnd b ∷ PutIn at (placed_line new) ∷ []) (front ++ last ∷ []) (front ++ ended ∷ new ∷ []) N.faithful N.spans_are before after L (omega (arith, N.one)) (omega arith));
+          (lead-planned e ls rs (SwapEnd b ∷ PutIn at (placed_line new) ∷ []) (front ++ last ∷ []) (front ++ ended ∷ new ∷ []) N.faithful N.spans_are before after L (omega (arith, N.one, ends)) (omega (arith, N.none_gone, ends)));
     }
 
 put-anywhere : (e : Edit) (ls : List PlacedLine) (rs : List Replacement) (above below : List ClassedLine) (new : ClassedLine) (at : ℕ) (m : List ℕ) → IsNewLine e ls rs above below new at m → IsFitting e ls at m
@@ -195,6 +199,8 @@ line-put_in e ls rs s at m f h i place b =
       read = read;
       place = place;
       one = Q.one;
+      none_gone = Q.none;
+      ends = ap (ended_by ls) i ∙ ap (λ n. if follows_unended ls n then 1 else 0) place;
     }) in
     record {
       can = record {

@@ -20,14 +20,14 @@ use Rattle.mk_patch.specs.Moves.{Move, held_by, taken_by}
 use Rattle.mk_patch.proofs.on_moves.ShapeLemmas.{LeadTo, same-lead}
 use Rattle.mk_edit_laws.specs.declared.refusal.Refusal.{Refusal}
 use Rattle.mk_edit_laws.specs.declared.refusal.Refusal.TheVariants.{NoMemory}
-use Rattle.mk_edit.specs.Planned.{IsPlanned, IsRefusal}
+use Rattle.mk_edit.specs.Planned.{IsPlanned, IsRefusal, ended_lines}
 use Rattle.mk_edit.specs.PlannedMoves.{line_read_at}
 
 -- moves that lead from the lines of the text to those after the edit are what is planned
 pub lead-planned : (e : Edit) (ls : List PlacedLine) (rs : List Replacement) (patch : List Move) (before after : List ClassedLine) → IsFaithful ls → spans (placed_text ls) e ≡ Ok rs
     → classed_lines (placed_text ls) ≡ before → classed_lines (text_after (placed_text ls) e) ≡ after → LeadTo patch (placed_lines before) (placed_lines after)
-    → held_by patch ≤ cost (placed_text ls) e + 1 → taken_by patch ≤ size (placed_text ls) e + 1 → IsPlanned e ls patch
-lead-planned e ls rs patch before after f h b a l few_held few_taken =
+    → held_by patch ≡ cost (placed_text ls) e + ended_lines ls e → taken_by patch ≡ size (placed_text ls) e + ended_lines ls e → IsPlanned e ls patch
+lead-planned e ls rs patch before after f h b a l held taken =
     let own : placed_lines before ≡ ls = ap placed_lines (sym b) ∙ sym f in
     let led : placed_lines after ≡ document_lines (text_after (placed_text ls) e) = ap placed_lines (sym a) in
     let L = same-lead patch patch (placed_lines before) ls (placed_lines after) (document_lines (text_after (placed_text ls) e)) refl own led l in
@@ -38,8 +38,8 @@ lead-planned e ls rs patch before after f h b a l few_held few_taken =
       leads = L.lead;
       faithful = faithful-own _ (text_after (placed_text ls) e) L.lead;
       reads = edits-read e (placed_text ls) rs h;
-      few_held = few_held;
-      few_taken = few_taken;
+      held = held;
+      taken = taken;
     }
 
 -- the lines after an accepted edit are within the limit
@@ -61,9 +61,14 @@ read-at ls above rest at m b p =
 
 -- ---- edits of one place, by what they leave
 
+-- no edit that puts a line in touches one
+touched-some : (o : Option Stretch) (s : Stretch) → option_map between o ≡ Some s → 0 < length s.lines → ⊥
+touched-some None s h few = cc
+touched-some (Some x) s h few = let k : between x ≡ s = cc in let z : 0 ≡ length s.lines = ap (λ (q : Stretch). length q.lines) k in omega (arith, z, few)
+
 none-between : (o : Option Stretch) (s : Stretch) → option_map between o ≡ Some s → 0 < length s.lines → o ≡ None
 none-between None s h few = refl
-none-between (Some x) s h few = let k : between x ≡ s = cc in absurd (let z : 0 ≡ length s.lines = ap (λ (q : Stretch). length q.lines) k in omega (arith, z, few))
+none-between (Some x) s h few = absurd (touched-some (Some x) s h few)
 
 -- one that touches some lines puts no line between them
 pub touched-none_put : (ls : List ClassedLine) (e : Edit) (s : Stretch) → touched_by ls e ≡ Some s → 0 < length s.lines → insertion ls e ≡ None
@@ -95,16 +100,36 @@ removed-none_put t (SetRecipe nth g k c) rs s h = refl
 removed-none_put t (RemoveRecipe nth g k) rs s h = refl
 removed-none_put t (RenameTarget o n) rs s h = refl
 
+-- one that leaves a line where it touches one reads this line again, and changes that one
+pub record ChangesOne (t : List ℕ) (e : Edit) : Type 0 where
+  pub cost_is : cost t e ≡ 1
+  pub size_is : size t e ≡ 1
+
+pub changes-one : (t : List ℕ) (e : Edit) (rs : List Replacement) (s : Stretch) (m : List ℕ) → touched_by (classed_lines t) e ≡ Some s → 0 < length s.lines → edited_bytes t e s rs ≡ m ∷ [] → ChangesOne t e
+changes-one t (SetValue nth n v) rs s m h few k = record { cost_is = refl; size_is = refl }
+changes-one t (AppendValue nth n v) rs s m h few k = record { cost_is = refl; size_is = refl }
+changes-one t (AddPrereq order nth g w) rs s m h few k = record { cost_is = refl; size_is = refl }
+changes-one t (RemovePrereq nth g w) rs s m h few k = record { cost_is = refl; size_is = refl }
+changes-one t (SetRecipe nth g n c) rs s m h few k = record { cost_is = refl; size_is = refl }
+changes-one t (AddAssign p n f v) rs s m h few k = absurd (touched-some (insertion (classed_lines t) (AddAssign p n f v)) s h few)
+changes-one t (AddRule p ts c ws) rs s m h few k = absurd (touched-some (insertion (classed_lines t) (AddRule p ts c ws)) s h few)
+changes-one t (AddRecipe nth g c) rs s m h few k = absurd (touched-some (insertion (classed_lines t) (AddRecipe nth g c)) s h few)
+changes-one t (RemoveAssign nth n) rs s m h few k = absurd (cc)
+changes-one t (RemoveRule nth g) rs s m h few k = absurd (cc)
+changes-one t (RemoveRecipe nth g n) rs s m h few k = absurd (cc)
+changes-one t (RenameTarget o n) rs s m h few k = absurd (cc)
+
 -- what is known of one that puts a line in
 pub record PutsIn (t : List ℕ) (e : Edit) (rs : List Replacement) (s : Stretch) : Type 0 where
   pub place : touched_by (classed_lines t) e ≡ Some (between s)
   pub bytes : edited_bytes t e (between s) rs ≡ new_line_bytes t e s ∷ []
-  pub one : 1 ≤ cost t e
+  pub one : cost t e ≡ 1
+  pub none : size t e ≡ 0
 
 pub puts-in : (t : List ℕ) (e : Edit) (rs : List Replacement) (s : Stretch) → insertion (classed_lines t) e ≡ Some s → PutsIn t e rs s
-puts-in t (AddAssign p n f v) rs s h = record { place = ap (option_map between) h; bytes = refl; one = omega arith }
-puts-in t (AddRule p ts c ws) rs s h = record { place = ap (option_map between) h; bytes = refl; one = omega arith }
-puts-in t (AddRecipe nth g c) rs s h = record { place = ap (option_map between) h; bytes = refl; one = omega arith }
+puts-in t (AddAssign p n f v) rs s h = record { place = ap (option_map between) h; bytes = refl; one = refl; none = refl }
+puts-in t (AddRule p ts c ws) rs s h = record { place = ap (option_map between) h; bytes = refl; one = refl; none = refl }
+puts-in t (AddRecipe nth g c) rs s h = record { place = ap (option_map between) h; bytes = refl; one = refl; none = refl }
 puts-in t (SetValue nth n v) rs s h = absurd (cc)
 puts-in t (AppendValue nth n v) rs s h = absurd (cc)
 puts-in t (RemoveAssign nth n) rs s h = absurd (cc)

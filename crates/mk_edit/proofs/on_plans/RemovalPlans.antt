@@ -15,6 +15,7 @@ use Rattle.mk_edit_laws.specs.Spans.{spans_of, removed_span, where_found}
 use Rattle.mk_edit_laws.specs.Stretches.{Stretch, this_line, insertion, removal, touched_by}
 use Rattle.mk_edit_laws.specs.Addresses.{Address, Variable}
 use Rattle.mk_edit_laws.specs.Causes.{where_holds}
+use Rattle.mk_edit_laws.specs.Costs.{cost, size}
 use Rattle.mk_edit_laws.specs.LineCauses.{leaning, removal_leans, too_long}
 use Rattle.mk_edit_laws.specs.Lengths.{bytes_put}
 use Rattle.mk_edit_laws.specs.EditedLines.{edited_bytes}
@@ -90,6 +91,8 @@ pub record TakesOut (e : Edit) (ls : List PlacedLine) (at count : ℕ) : Type 0 
   pub removal_is : removal (classed_lines (placed_text ls)) e ≡ Some (stretch_at (classed_lines (placed_text ls)) at count)
   pub touched_is : touched_by (classed_lines (placed_text ls)) e ≡ Some (stretch_at (classed_lines (placed_text ls)) at count)
   pub none_put : insertion (classed_lines (placed_text ls)) e ≡ None
+  pub cost_is : cost (placed_text ls) e ≡ 0
+  pub size_is : size (placed_text ls) e ≡ count
   pub no_bytes : bytes_put (spans_of (placed_text ls) (classed_lines (placed_text ls)) e) ≡ 0
   pub nothing_left : (rs : List Replacement) → edited_bytes (placed_text ls) e (stretch_at (classed_lines (placed_text ls)) at count) rs ≡ []
   pub in_range : at + count ≤ length ls
@@ -119,7 +122,7 @@ taking_out-planned e ls f at count b g few A T h k =
     let long : too_long t (spans_of t cs e) ≡ None = never-long t e T.no_bytes (omega (arith, size_of-text ls, few)) in
     let spans_are = unrefused t e (addressed-own e ls f None A (T.others ∙ passed (leaning cs e) _ None lean (passed (too_long t (spans_of t cs e)) _ None long refl))) in
     let n = length-both cs at count (omega (arith, T.in_range, faithful-length ls cs g refl)) in
-    lines-taken_out e ls (spans_of t cs e) s at count g spans_are T.touched_is n.0 n.1 (T.nothing_left (spans_of t cs e))
+    lines-taken_out e ls (spans_of t cs e) s at count g spans_are T.touched_is n.0 n.1 (T.nothing_left (spans_of t cs e)) T.cost_is T.size_is
 
 -- ---- an assignment taken out
 
@@ -144,6 +147,8 @@ unset-at (RemoveAssign nth n) ls f u g A =
         removal_is = at;
         touched_is = at;
         none_put = refl;
+        cost_is = refl;
+        size_is = refl;
         no_bytes = ap (λ o. bytes_put (where_found removed_span o)) removed;
         nothing_left = λ rs. refl;
         in_range = omega (arith, faithful-length ls (s.above ++ s.line ∷ s.below) g w, length-append s.above (s.line ∷ s.below), F.place_is);

@@ -61,7 +61,7 @@ recipe-removal nth g n ls f h A = record {
       let taken = own-accepted e ls f A
       (passed (absent lines e) _ None (ap (λ (o : Option Spot). where_holds (not (is_some o)) Absent) Q.found_is)
       (passed (leaning lines e) _ None (not_leaning ls nth g n at Q) (passed (too_long t (spans_of t lines e)) [] None (within-limit ls nth g n at Q z) refl))) in
-      (spans_of t lines e, taken, lines-taken_out e ls (spans_of t lines e) (this_line Q.spot) at 1 h taken (ap (option_map this_line) Q.found_is) Q.place_is refl refl);
+      (spans_of t lines e, taken, lines-taken_out e ls (spans_of t lines e) (this_line Q.spot) at 1 h taken (ap (option_map this_line) Q.found_is) Q.place_is refl refl refl refl);
 }
   where
     t : List ℕ

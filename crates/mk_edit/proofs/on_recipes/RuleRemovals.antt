@@ -30,6 +30,7 @@ use Rattle.mk_edit_laws.specs.Addresses.{Rule, targets_of, found}
 use Rattle.mk_edit_laws.specs.Stretches.{whole_rule}
 use Rattle.mk_edit_laws.specs.Spans.{removed_span, spans_of, where_found}
 use Rattle.mk_edit_laws.specs.Causes.{where_holds}
+use Rattle.mk_edit_laws.specs.Costs.{line_count}
 use Rattle.mk_edit_laws.specs.RuleCauses.{class_found, targets_found, shared_by, shared_rule, has_conditional, straddles}
 use Rattle.mk_edit_laws.specs.LineCauses.{removal_leans, leaning, too_long}
 use Rattle.mk_edit_laws.specs.Lengths.{bytes_put}
@@ -137,7 +138,7 @@ rule-removal nth g ls f h A = record {
       (passed (straddles lines e) _ None (straddles-is ls nth g f false R b)
       (passed (leaning lines e) _ None (leaning-is ls nth g f end false R p q) (passed (too_long t (spans_of t lines e)) [] None (within-limit ls nth g f R z) refl)))) in
       let many : length (whole_rule s).lines ≡ end - f.at = omega (arith, p, ap (λ z. length (recipe_run z)) R.below_is) in
-      (spans_of t lines e, taken, lines-taken_out e ls (spans_of t lines e) (whole_rule s) f.at (end - f.at) h taken (ap (option_map whole_rule) R.found_is) R.place_is many refl);
+      (spans_of t lines e, taken, lines-taken_out e ls (spans_of t lines e) (whole_rule s) f.at (end - f.at) h taken (ap (option_map whole_rule) R.found_is) R.place_is many refl refl (ap (λ (o : Option Spot). line_count (option_map whole_rule o)) R.found_is ∙ many));
 }
   where
     t : List ℕ

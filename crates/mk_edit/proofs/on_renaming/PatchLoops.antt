@@ -1,7 +1,8 @@
 -- The walk of one turn of a rename: the steps that were added so far, with those of the lines ahead, are those of all lines.
 use Rattle.std.proofs.Common.{◌≡◌, refl, sym, ap, ◌∙◌, subst, arith, ℕ, ◌+◌, ◌^◌, ◌≤◌, Bool, true, false, List, [], ◌∷◌, ◌++◌, length, length-append, append_assoc, Option, Some, None}
-use Rattle.std.specs.Prelude.{if◌then◌else◌}
+use Rattle.std.specs.Prelude.{if◌then◌else◌, ◌-◌, min}
 use Rattle.mk_class.specs.Contexts.{Context, start, context_after_places}
+use Rattle.mk_tree.specs.Counting.{AreCounted}
 use Rattle.mk_tree.specs.PlacedLines.{PlacedLine}
 use Rattle.mk_tree.specs.Walks.{LinesInContext}
 use Rattle.mk_patch.specs.Moves.{Move, Exchange, MovesWithRoom}
@@ -11,14 +12,15 @@ use Rattle.mk_edit.specs.declared.rename_patch.Turn.TheVariants as turn
 use Rattle.mk_edit.proofs.on_renaming.PatchPlans.{filter-step}
 
 -- Some lines ahead, the first at a place, in a turn of the rename of a document. Each of them can be renamed. The patch had some
--- moves before, and has room for those ahead. The meter counts no more lines than are exchanged.
+-- moves before, and has room for those ahead. The meter counts the lines that are exchanged, and no more.
 pub record IsTurnBuilt (t : Turn) (o n : List ℕ) (document : List PlacedLine) (before now : MovesWithRoom) (at : ℕ) (ahead : LinesInContext) (meter_before meter_now : ℕ) : Type 0 where
   pub can : CanEachBeRenamed o n ahead.context ahead.lines
   pub few : at + length ahead.lines ≤ 2 ^ 24
   pub room : now.room ≡ before.room
   pub fits : length now.moves + exchanged_count t o n ahead.lines ≤ now.room
   pub moves : now.moves ++ turn_moves_from t o n at ahead.context ahead.lines ≡ before.moves ++ turn_moves t o n document
-  pub counted : meter_now + exchanged_count t o n ahead.lines ≤ meter_before + exchanged_count t o n document
+  pub counted : AreCounted meter_before (exchanged_count t o n document) (meter_now + exchanged_count t o n ahead.lines)
+  pub few_read : meter_now + exchanged_count t o n ahead.lines ≤ meter_before + exchanged_count t o n document
   pub forward : meter_before ≤ meter_now
 
 module _ (t : Turn) (o n : List ℕ) (d : List PlacedLine) (before : MovesWithRoom) (meter : ℕ) where
@@ -27,7 +29,7 @@ module _ (t : Turn) (o n : List ℕ) (d : List PlacedLine) (before : MovesWithRo
       → IsTurnBuilt t o n d before before 0 ahead meter meter
   turn-begun ahead e C few room =
       let all : LinesInContext = record { context = start; lines = d } in
-      let B : IsTurnBuilt t o n d before before 0 all meter meter = record { can = C; few = omega (arith, few); room = refl; fits = room; moves = refl; counted = omega arith; forward = omega arith } in
+      let B : IsTurnBuilt t o n d before before 0 all meter meter = record { can = C; few = omega (arith, few); room = refl; fits = room; moves = refl; counted = refl; few_read = omega arith; forward = omega arith } in
       subst (λ (z : LinesInContext). IsTurnBuilt t o n d before before 0 z meter meter) (sym e) B
 
 -- a patch with the step of a line that is exchanged at a place, where it is
@@ -53,6 +55,10 @@ added false at x rest now after e = record {
   moves = ap (λ (z : MovesWithRoom). z.moves ++ rest) e;
 }
 
+-- what a meter tells with the lines ahead, after the first of them
+counted-on : (m k one ahead left total : ℕ) → ahead ≡ one + left → AreCounted m one k → min (m + ahead) (2 ^ 64 - 1) ≡ min total (2 ^ 64 - 1) → min (k + left) (2 ^ 64 - 1) ≡ min total (2 ^ 64 - 1)
+counted-on m k one ahead left total number counted h = omega (arith, number, counted, h)
+
 -- what a walk tells of the line that it hands out
 pub record IsHandedOut (ahead left : LinesInContext) (at next : ℕ) (context : Context) (place : ℕ) (l : PlacedLine) : Type 0 where
   pub context_is : context ≡ ahead.context
@@ -68,9 +74,9 @@ handed-out ahead left at next context place l c f t p n = record { context_is = 
 module _ (t : Turn) (o n : List ℕ) (d : List PlacedLine) (before : MovesWithRoom) (meter : ℕ) where
   -- one line on
   pub turn-stepped : (now after : MovesWithRoom) (at next : ℕ) (ahead left : LinesInContext) (m k : ℕ) (c : Context) (place : ℕ) (l : PlacedLine) (r : Option PlacedLine) → IsTurnBuilt t o n d before now at ahead meter m
-      → IsHandedOut ahead left at next c place l → r ≡ (if is_exchanged t o n l then Some (line_renamed o n c l) else None) → k ≤ m + (if is_exchanged t o n l then 1 else 0) → m ≤ k → after ≡ with_step now place r
+      → IsHandedOut ahead left at next c place l → r ≡ (if is_exchanged t o n l then Some (line_renamed o n c l) else None) → AreCounted m (if is_exchanged t o n l then 1 else 0) k → k ≤ m + (if is_exchanged t o n l then 1 else 0) → m ≤ k → after ≡ with_step now place r
       → IsTurnBuilt t o n d before after next left meter k
-  turn-stepped now after at next ahead left m k c place l r B H e few forward w =
+  turn-stepped now after at next ahead left m k c place l r B H e counted few forward w =
       let b = is_exchanged t o n l in
       let x = line_renamed o n ahead.context l in
       let inside = context_after_places ahead.context l.class in
@@ -88,7 +94,8 @@ module _ (t : Turn) (o n : List ℕ) (d : List PlacedLine) (before : MovesWithRo
         room = A.room ∙ B.room;
         fits = omega (arith, B.fits, A.room, A.number, number);
         moves = ap (λ z. after.moves ++ z) left_is ∙ (A.moves ∙ (ap (λ z. now.moves ++ z) (sym ahead_is) ∙ B.moves));
-        counted = omega (arith, B.counted, few, number);
+        counted = counted-on m k (if b then 1 else 0) _ _ _ number counted B.counted;
+        few_read = omega (arith, B.few_read, few, number);
         forward = omega (arith, B.forward, forward);
       }
 
@@ -97,7 +104,7 @@ module _ (t : Turn) (o n : List ℕ) (d : List PlacedLine) (before : MovesWithRo
       → IsHandedOut ahead left at next c place l → k ≤ m + (if is_exchanged t o n l then 1 else 0) → k ≤ meter + exchanged_count t o n d
   turn-refused now at next ahead left m k c place l B H few =
       let number : exchanged_count t o n ahead.lines ≡ (if is_exchanged t o n l then 1 else 0) + exchanged_count t o n left.lines = ap (exchanged_count t o n) H.first_is ∙ filter-step (is_exchanged t o n) l left.lines in
-      omega (arith, B.counted, few, number)
+      omega (arith, B.few_read, few, number)
 
 -- ---- both turns
 

@@ -3,6 +3,7 @@ use Rattle.std.proofs.Common.{◌≡◌, refl, sym, ap, ◌∙◌, subst, arith,
 use Rattle.std.specs.Prelude.{nat_lt, if◌then◌else◌}
 use Rattle.std.proofs.lemmas.Bool.{and_parts, lt-ltb, ltb-true, ltb-false}
 use Rattle.mk_class.specs.Contexts.{Context}
+use Rattle.mk_tree.specs.Counting.{AreCounted}
 use Rattle.mk_tree.specs.PlacedLines.{PlacedLine}
 use Rattle.mk_edit_parts.specs.RenamedPlaces.{bytes_in, no_words, renamed_places, tallied}
 use Rattle.mk_edit_parts.specs.RenamedTexts.{renamed_text}
@@ -80,3 +81,10 @@ exchanged-some b x y h e = ap Some e ∙ ap (λ z. if z then Some y else None) (
 
 pub exchanged-one : (b : Bool) (new old : ℕ) → b ≡ true → new ≤ old + 1 → new ≤ old + (if b then 1 else 0)
 exchanged-one b new old h k = subst (λ z. new ≤ old + (if z then 1 else 0)) (sym h) k
+
+-- how many lines are counted for a line that is exchanged, and for one that is not
+pub exchanged-counted : (b : Bool) (new old : ℕ) → b ≡ true → AreCounted old 1 new → AreCounted old (if b then 1 else 0) new
+exchanged-counted b new old h k = subst (λ z. AreCounted old (if z then 1 else 0) new) (sym h) k
+
+pub left-counted : (b : Bool) (m : ℕ) → b ≡ false → AreCounted m (if b then 1 else 0) m
+left-counted b m h = subst (λ z. AreCounted m (if z then 1 else 0) m) (sym h) (omega arith)

@@ -1,8 +1,7 @@
 -- A session makes the steps of the session machine.
-use Rattle.std.proofs.Common.{◌≡◌, refl, sym, ap, subst, ◌∙◌, arith, ℕ, ◌<◌, ◌-◌, List, [], ◌∷◌, length, take, Option, Some, None, Ok, Err, inl, inr}
+use Rattle.std.proofs.Common.{◌≡◌, refl, sym, ap, subst, ◌∙◌, ℕ, ◌<◌, List, [], ◌∷◌, length, take, Option, Some, None, Ok, Err, inl, inr}
 use Rattle.std.specs.Prelude.{Result}
 use Rattle.mk_lines.specs.Pieces.{Replacement}
-use Rattle.mk_tree.specs.Documents.{IsFaithfulTo}
 use Rattle.mk_tree.specs.PlacedLines.{PlacedLine, placed_text}
 use Rattle.mk_tree.proofs.on_documents.DocumentLemmas.{faithful-text}
 use Rattle.mk_edit_laws.specs.Edits.{Edit}
@@ -15,7 +14,7 @@ use Rattle.mk_history.specs.Machine.{Apply, End, EditRefused}
 use Rattle.mk_history.specs.Stacks.{Stacks}
 use Rattle.mk_history.specs.Shown.{Shown, shown_answer, shown_edited}
 use Rattle.mk_history.proofs.on_histories.HistoryLemmas.{edit-steps, group-edit-steps, end-steps}
-use Rattle.mk_session.specs.Sessions.{answer, edited, text_with, IsEditRefusal, seen_opened}
+use Rattle.mk_session.specs.Sessions.{answer, edited, text_with, IsEditRefusal}
 use Rattle.mk_session.specs.KeptSessions.{Patches, after_patches, shown_kept, IsKept}
 
 -- ---- what an edit makes of a text
@@ -86,11 +85,3 @@ end-step h new_h group new_group member doc s seen kept begun none some pushed =
     let k : IsKept h (Some member) doc = subst (λ (g : Option Patches). IsKept h g doc) begun kept in
     subst (λ (x : Shown (List ℕ)). answer End x ≡ Ok (shown_kept new_h new_group doc)) seen
     (rw (begun, none, pushed) (end-steps after_moves placed_text edited h member doc some (k.consistent.3 some)))
-
--- ---- a session that was opened
-
-pub opened-seen : (h : Stacks Patches) (doc : List PlacedLine) (meter opened_at depth : ℕ) (text : List ℕ) → IsFaithfulTo doc text → h ≡ record { depth = depth; done = []; undone = [] } → opened_at ≡ meter
-    → record { shown = shown_kept h None doc; rereads = meter - opened_at } ≡ seen_opened depth text
-opened-seen h doc meter opened_at depth text faithful empty same =
-    let none : meter - opened_at ≡ 0 = omega (arith, same) in
-    rw (empty, faithful-text doc text faithful, none) refl

@@ -14,7 +14,7 @@ lines-preserved-in-Some-2 g c =
     let s = c.in-Some.ensures.steps in
     let H = handed-out _ _ _ _ _ _ _ s.0.0 s.0.1 s.0.2 s.1 s.2 in
     let e = ap (option_map line_view) (sym c.in-Some-2.is) ∙ c.in_ok-renamed.ensures.line in
-    let B = turn-stepped _ _ _ _ _ _ _ _ _ _ _ _ _ _ _ _ _ _ c.lines.invariant.2 H e c.in_ok-renamed.ensures.few_read c.in_ok-renamed.ensures.forward c.push.ensures in
+    let B = turn-stepped _ _ _ _ _ _ _ _ _ _ _ _ _ _ _ _ _ _ c.lines.invariant.2 H e c.in_ok-renamed.ensures.counted c.in_ok-renamed.ensures.few_read c.in_ok-renamed.ensures.forward c.push.ensures in
     ((tt, tt, inl (omega (arith, B.few))), tt, B)
 
 pub lines-preserved : goal.lines-preserved
@@ -22,5 +22,5 @@ lines-preserved g c =
     let s = c.in-Some.ensures.steps in
     let H = handed-out _ _ _ _ _ _ _ s.0.0 s.0.1 s.0.2 s.1 s.2 in
     let e = ap (option_map line_view) (sym c.in_default.is) ∙ c.in_ok-renamed.ensures.line in
-    let B = turn-stepped _ _ _ _ _ _ _ _ _ _ _ _ _ _ _ _ _ _ c.lines.invariant.2 H e c.in_ok-renamed.ensures.few_read c.in_ok-renamed.ensures.forward refl in
+    let B = turn-stepped _ _ _ _ _ _ _ _ _ _ _ _ _ _ _ _ _ _ c.lines.invariant.2 H e c.in_ok-renamed.ensures.counted c.in_ok-renamed.ensures.few_read c.in_ok-renamed.ensures.forward refl in
     ((tt, tt, inl (omega (arith, B.few))), tt, B)

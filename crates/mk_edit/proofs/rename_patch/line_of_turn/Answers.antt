@@ -4,7 +4,7 @@ use Rattle.mk_tree.specs.PlacedLines.{placed_line}
 use Rattle.mk_tree.specs.Trees.{line_view}
 use Rattle.mk_patch.specs.Moves.{IsPlain}
 use Rattle.mk_edit.specs.RenamePatches.{is_exchanged}
-use Rattle.mk_edit.proofs.on_renaming.PatchTurns.{words-counted, exchanged-holds, exchanged-one, exchanged-some}
+use Rattle.mk_edit.proofs.on_renaming.PatchTurns.{words-counted, exchanged-holds, exchanged-one, exchanged-some, exchanged-counted, left-counted}
 use Rattle.mk_edit.proofs.rename_patch.line_of_turn.Goals as goal
 
 pub is_of_turn-requires : goal.is_of_turn-requires
@@ -43,3 +43,13 @@ pub returns-in_err-renamed-clause-few_read : goal.returns-in_err-renamed-clause-
 returns-in_err-renamed-clause-few_read g c =
     let W = words-counted _ _ _ _ _ c.requires.can c.count_words-tally.ensures in
     exchanged-one _ _ _ (sym (W.turn c.args.turn) ∙ (sym c.is_of_turn.ensures ∙ c.if-not-is_of_turn.false)) c.in_err-renamed.ensures.few_read
+
+pub returns-clause-counted : goal.returns-clause-counted
+returns-clause-counted g c =
+    let W = words-counted _ _ _ _ _ c.requires.can c.count_words-tally.ensures in
+    exchanged-counted _ _ _ (sym (W.turn c.args.turn) ∙ (sym c.is_of_turn.ensures ∙ c.if-not-is_of_turn.false)) c.in_ok-renamed.ensures.counted
+
+pub returns-then-not-is_of_turn-clause-counted : goal.returns-then-not-is_of_turn-clause-counted
+returns-then-not-is_of_turn-clause-counted g c =
+    let W = words-counted _ _ _ _ _ c.requires.can c.count_words-tally.ensures in
+    left-counted _ _ (sym (W.turn c.args.turn) ∙ (sym c.is_of_turn.ensures ∙ c.if-not-is_of_turn.true))

@@ -41,3 +41,8 @@ pub returns-clause-few_read : goal.returns-clause-few_read
 returns-clause-few_read g c =
     let P = rename-planned c.args.from.now c.args.to.now c.args.doc.now c.requires.faithful c.size-size.ensures.few c.size-size.ensures.some_bytes c.requires.accepted in
     omega (arith, P.number, P.costs, c.in_ok-exchange_lines.ensures.few_read, c.in_ok-exchange_lines-2.ensures.few_read)
+
+pub returns-clause-counted : goal.returns-clause-counted
+returns-clause-counted g c =
+    let P = rename-planned c.args.from.now c.args.to.now c.args.doc.now c.requires.faithful c.size-size.ensures.few c.size-size.ensures.some_bytes c.requires.accepted in
+    omega (arith, P.number, P.costs, c.in_ok-exchange_lines.ensures.counted, c.in_ok-exchange_lines-2.ensures.counted)

@@ -1,4 +1,3 @@
-use Rattle.std.proofs.Common.{◌≡◌}
 use Rattle.mk_history.specs.Machine.{Undo, Redo, End, Cancel}
 use Rattle.mk_edit_parts.specs.EditViews.{edit_of}
 use Rattle.mk_session.proofs.on_sessions.AnswerLemmas.{edit-answered, step-answered, begin-answered}

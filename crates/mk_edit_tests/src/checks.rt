@@ -1,0 +1,131 @@
+//! What is checked of the plan of an edit. All memory comes from an allocator that a test watches.
+ghost use Rattle.std.specs.Prelude.{IfOk};
+ghost use Rattle.mk_tree.specs.Documents.{IsFaithful};
+
+use mk_class::Meter;
+use mk_edit::{Edit, Refusal, plan};
+use mk_lines::Fault;
+use mk_tree::Doc;
+use std::alloc::{AllocError, Allocator, Global};
+use std::test::Fail;
+use watched::{Growths, Watched};
+
+/// The allocator of a test's document, its edits and their patches.
+pub type Heap<'a> = &'a Watched<Global>;
+
+/// The document of a makefile.
+pub fn document<'a>(heap: Heap<'a>, makefile: &[u8]) -> Result<Doc<Heap<'a>>, Fault>
+    ensures { IfOk result (λ doc. IsFaithful doc) }
+{
+    Doc::parse(heap, makefile, &mut Meter::new())
+}
+
+/// Whether a document has this text. It takes no memory.
+pub fn is_text<A: Allocator>(doc: &Doc<A>, text: &[u8]) -> bool {
+    let mut rest = text;
+    for line in doc.iter() {
+        let Some((front, after)) = rest.split_at_checked(line.bytes().len()) else {
+            return false;
+        };
+        if front != line.bytes() {
+            return false;
+        }
+        rest = after;
+    }
+    rest.is_empty()
+}
+
+/// Fails where something does not hold.
+pub fn check(holds: bool, what: &'static str) -> Result<(), Fail> {
+    if holds { Ok(()) } else { Err(Fail::from(what)) }
+}
+
+/// The growths that planning an edit takes where none is refused.
+pub fn growths_of_plan<'a>(
+    heap: Heap<'a>,
+    doc: &Doc<Heap<'a>>,
+    edit: &Edit<Heap<'a>>,
+) -> Result<Growths, Refusal>
+    requires { IsFaithful doc.now }
+{
+    heap.refuse_none();
+    let _patch = plan(heap, doc, edit, &mut Meter::new())?;
+    Ok(heap.passed())
+}
+
+/// Checks an edit of a makefile that is accepted.
+///
+/// With each growth of its plan refused in turn the answer is `NoMemory`, and the document is the same.
+/// With ample memory the patch leads to the expected text and back, and takes no memory for it. Where
+/// all that holds, the allocator refuses no growth afterwards.
+pub fn check_accepted<'a>(
+    heap: Heap<'a>,
+    makefile: &[u8],
+    edit: Result<Edit<Heap<'a>>, AllocError>,
+    expected: &[u8],
+) -> Result<(), Fail> {
+    let edit = edit?;
+    let doc = document(heap, makefile)?;
+    let growths = growths_of_plan(heap, &doc, &edit)?;
+    check(growths.count > 0, "the plan takes memory")?;
+    for admitted in 0..growths.count {
+        heap.refuse_one_after(admitted);
+        let answer = plan(heap, &doc, &edit, &mut Meter::new());
+        check(heap.has_refused(), "a growth is refused")?;
+        check(
+            matches!(answer, Err(Refusal::NoMemory)),
+            "a refused growth is NoMemory",
+        )?;
+        check(is_text(&doc, makefile), "the document is the same")?;
+    }
+    check_made(heap, makefile, doc, &edit, expected)
+}
+
+/// Checks that with ample memory an edit leads to the expected text and back, and that its patch takes
+/// no memory for it.
+fn check_made<'a>(
+    heap: Heap<'a>,
+    makefile: &[u8],
+    doc: Doc<Heap<'a>>,
+    edit: &Edit<Heap<'a>>,
+    expected: &[u8],
+) -> Result<(), Fail>
+    requires { IsFaithful doc }
+{
+    let mut doc = doc;
+    heap.refuse_none();
+    let patch = match plan(heap, &doc, edit, &mut Meter::new()) {
+        Ok(patch) => patch,
+        Err(refusal) => return Err(Fail::from(refusal)),
+    };
+    heap.refuse_all();
+    let back = patch.make(&mut doc);
+    check(is_text(&doc, expected), "the patch leads to the text")?;
+    let _again = back.make(&mut doc);
+    check(is_text(&doc, makefile), "its inverse leads back")?;
+    check(!heap.has_refused(), "a patch is made without memory")?;
+    heap.refuse_none();
+    Ok(())
+}
+
+/// Checks an edit of a makefile that is refused: it asks for no memory, so that the refusal is the same
+/// whichever growth would be refused, and the document is the same. Where all that holds, the allocator
+/// refuses no growth afterwards.
+pub fn check_refused<'a>(
+    heap: Heap<'a>,
+    makefile: &[u8],
+    edit: Result<Edit<Heap<'a>>, AllocError>,
+    refusal: Refusal,
+) -> Result<(), Fail> {
+    let edit = edit?;
+    let doc = document(heap, makefile)?;
+    heap.refuse_all();
+    match plan(heap, &doc, &edit, &mut Meter::new()) {
+        Ok(_) => return Err(Fail::from("the edit is accepted")),
+        Err(found) if found == refusal => (),
+        Err(found) => return Err(Fail::from(found)),
+    }
+    check(!heap.has_refused(), "a refused edit asks for no memory")?;
+    heap.refuse_none();
+    check(is_text(&doc, makefile), "the document is the same")
+}

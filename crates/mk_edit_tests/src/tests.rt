@@ -1,0 +1,257 @@
+//! One test for each edit that is accepted, for each refusal, and for what a plan takes. The texts and
+//! the refusals of edits are those of tests/cases.
+
+use crate::checks::{Heap, check_accepted, check_refused, document, growths_of_plan};
+use crate::edits::{
+    append, assign_bottom, depend, recipe, recipe_del, recipe_set, rename, rule_bottom, set,
+    undepend, unrule, unset,
+};
+use mk_class::{Flavor, Meter};
+use mk_edit::{Colons, Edit, Field, Refusal, plan};
+use std::test::Fail;
+use watched::{Growths, Watched};
+
+// ---- edits that are accepted
+
+#[test]
+fn a_value_is_set(rt: HostRuntime) -> Result<(), Fail> {
+    let heap = Watched::new(rt.alloc());
+    let edit = set(&heap, b"CC", b"clang");
+    check_accepted(&heap, b"CC = gcc # c\n", edit, b"CC = clang # c\n")
+}
+
+#[test]
+fn a_text_is_appended_to_a_value(rt: HostRuntime) -> Result<(), Fail> {
+    let heap = Watched::new(rt.alloc());
+    let edit = append(&heap, b"X", b"b");
+    check_accepted(&heap, b"X = a\n", edit, b"X = a b\n")
+}
+
+#[test]
+fn an_assignment_is_put_in(rt: HostRuntime) -> Result<(), Fail> {
+    let heap = Watched::new(rt.alloc());
+    let edit = assign_bottom(&heap, b"Y", Flavor::Simple, b"2");
+    check_accepted(&heap, b"X=1", edit, b"X=1\nY := 2\n")
+}
+
+#[test]
+fn an_assignment_is_taken_out(rt: HostRuntime) -> Result<(), Fail> {
+    let heap = Watched::new(rt.alloc());
+    let edit = unset(&heap, b"X");
+    check_accepted(&heap, b"foo:\nX = 1\nbar:\n", edit, b"foo:\nbar:\n")
+}
+
+#[test]
+fn a_rule_is_put_in(rt: HostRuntime) -> Result<(), Fail> {
+    let heap = Watched::new(rt.alloc());
+    let edit = rule_bottom(&heap, b"a b", Colons::Two, b"$(subst x y,z,w) c");
+    check_accepted(
+        &heap,
+        b"X = 1\n",
+        edit,
+        b"X = 1\na b:: $(subst x y,z,w) c\n",
+    )
+}
+
+#[test]
+fn a_rule_is_taken_out(rt: HostRuntime) -> Result<(), Fail> {
+    let heap = Watched::new(rt.alloc());
+    let edit = unrule(&heap, b"c");
+    check_accepted(&heap, RULES, edit, b"d:\n")
+}
+
+#[test]
+fn a_prerequisite_is_added(rt: HostRuntime) -> Result<(), Fail> {
+    let heap = Watched::new(rt.alloc());
+    // the new line has a fold, for which reading it takes memory
+    let edit = depend(&heap, false, b"a", b"c");
+    check_accepted(&heap, b"a:\\\n | b\n", edit, b"a: c\\\n | b\n")?;
+    let edit = depend(&heap, true, b"foo", b"d");
+    check_accepted(&heap, b"foo: a\n", edit, b"foo: a | d\n")
+}
+
+#[test]
+fn a_prerequisite_is_taken_out(rt: HostRuntime) -> Result<(), Fail> {
+    let heap = Watched::new(rt.alloc());
+    let edit = undepend(&heap, b"foo", b"b");
+    check_accepted(
+        &heap,
+        b"foo: a \\\n b # c\n\tcmd\n",
+        edit,
+        b"foo: a # c\n\tcmd\n",
+    )
+}
+
+#[test]
+fn a_recipe_line_is_put_in(rt: HostRuntime) -> Result<(), Fail> {
+    let heap = Watched::new(rt.alloc());
+    let edit = recipe(&heap, b"foo", b"ls");
+    check_accepted(
+        &heap,
+        b".RECIPEPREFIX = >\nfoo:\n>echo\n",
+        edit,
+        b".RECIPEPREFIX = >\nfoo:\n>echo\n>ls\n",
+    )
+}
+
+#[test]
+fn a_recipe_line_gets_another_command(rt: HostRuntime) -> Result<(), Fail> {
+    let heap = Watched::new(rt.alloc());
+    let edit = recipe_set(&heap, b"all", 1, b"x y");
+    check_accepted(
+        &heap,
+        b"all:\n\ta \\\n\tb\n\tc\n",
+        edit,
+        b"all:\n\tx y\n\tc\n",
+    )
+}
+
+#[test]
+fn a_recipe_line_is_taken_out(rt: HostRuntime) -> Result<(), Fail> {
+    let heap = Watched::new(rt.alloc());
+    let edit = recipe_del(&heap, b"foo", 1);
+    check_accepted(
+        &heap,
+        b"foo:\nifdef A\n\tx\nendif\n",
+        edit,
+        b"foo:\nifdef A\nendif\n",
+    )
+}
+
+#[test]
+fn a_target_is_renamed(rt: HostRuntime) -> Result<(), Fail> {
+    let heap = Watched::new(rt.alloc());
+    let edit = rename(&heap, b"clean", b"tidy");
+    check_accepted(
+        &heap,
+        b".PHONY: clean\nall: clean\nclean:\n\t$(MAKE) clean\n",
+        edit,
+        b".PHONY: tidy\nall: tidy\ntidy:\n\t$(MAKE) clean\n",
+    )
+}
+
+// ---- edits that are refused
+
+#[test]
+fn bad_fields_and_reserved_names_are_refused(rt: HostRuntime) -> Result<(), Fail> {
+    let heap = Watched::new(rt.alloc());
+    let edit = set(&heap, b"X", b"a #b");
+    check_refused(&heap, b"X=\n", edit, Refusal::BadArgument(Field::Value))?;
+    let edit = rename(&heap, b"all", b"include");
+    check_refused(&heap, b"all:\n", edit, Refusal::Reserved)
+}
+
+#[test]
+fn a_recipe_prefix_refuses_edits(rt: HostRuntime) -> Result<(), Fail> {
+    let heap = Watched::new(rt.alloc());
+    let edit = set(&heap, b"X", b"2");
+    let makefile = b".RECIPEPREFIX ?= >\nX = 1\n".as_slice();
+    check_refused(&heap, makefile, edit, Refusal::RecipePrefix)?;
+    let edit = assign_bottom(&heap, b"X", Flavor::Recursive, b"2");
+    let makefile = b".RECIPEPREFIX = X\nA = 1\n".as_slice();
+    check_refused(&heap, makefile, edit, Refusal::RecipePrefix)?;
+    let edit = rename(&heap, b"all", b"tidy");
+    let makefile = b".RECIPEPREFIX = t\nall: a\n".as_slice();
+    check_refused(&heap, makefile, edit, Refusal::RecipePrefix)
+}
+
+#[test]
+fn a_line_has_to_be_there_once(rt: HostRuntime) -> Result<(), Fail> {
+    let heap = Watched::new(rt.alloc());
+    let edit = rename(&heap, b"c", b"d");
+    check_refused(&heap, b"a: b\nb:\n", edit, Refusal::NoSuch)?;
+    let edit = set(&heap, b"CC", b"z");
+    let makefile = b"ifdef A\nCC=x\nelse\nCC=y\nendif\n".as_slice();
+    check_refused(&heap, makefile, edit, Refusal::Ambiguous(2))
+}
+
+#[test]
+fn prerequisites_and_recipe_lines_are_absent_or_there_already(rt: HostRuntime) -> Result<(), Fail> {
+    let heap = Watched::new(rt.alloc());
+    let edit = undepend(&heap, b"a", b"p");
+    check_refused(&heap, b"a: p: b\n", edit, Refusal::Absent)?;
+    let edit = recipe_del(&heap, b"a", 0);
+    check_refused(&heap, b"a:\n\tx\n", edit, Refusal::Absent)?;
+    let edit = depend(&heap, false, b"foo", b"b");
+    check_refused(&heap, b"foo: a b | d\n", edit, Refusal::Already)
+}
+
+#[test]
+fn a_taken_name_is_refused(rt: HostRuntime) -> Result<(), Fail> {
+    let heap = Watched::new(rt.alloc());
+    let edit = rename(&heap, b"a", b"b");
+    check_refused(&heap, b"a: b\nb:\n", edit, Refusal::Taken)
+}
+
+#[test]
+fn shared_and_split_rules_are_refused(rt: HostRuntime) -> Result<(), Fail> {
+    let heap = Watched::new(rt.alloc());
+    let edit = unrule(&heap, b"a");
+    check_refused(&heap, b"a b: c\n", edit, Refusal::SharedRule(2))?;
+    let makefile = b"foo:\nifdef A\n\tx\nendif\n".as_slice();
+    let edit = unrule(&heap, b"foo");
+    check_refused(&heap, makefile, edit, Refusal::Straddles)?;
+    let edit = recipe(&heap, b"foo", b"y");
+    check_refused(&heap, makefile, edit, Refusal::Straddles)
+}
+
+#[test]
+fn open_ends_are_refused(rt: HostRuntime) -> Result<(), Fail> {
+    let heap = Watched::new(rt.alloc());
+    let edit = append(&heap, b"X", b"${)#}");
+    check_refused(&heap, b"X = $(foo\n", edit, Refusal::OpenValue)?;
+    let edit = assign_bottom(&heap, b"Y", Flavor::Recursive, b"1");
+    check_refused(&heap, b"X = a\\", edit, Refusal::OpenLine)?;
+    let edit = assign_bottom(&heap, b"Y", Flavor::Recursive, b"1");
+    let makefile = b"define D\nX = 1\n\tendef\n".as_slice();
+    check_refused(&heap, makefile, edit, Refusal::OpenDefine)
+}
+
+#[test]
+fn lines_that_lean_refuse_a_removal(rt: HostRuntime) -> Result<(), Fail> {
+    let heap = Watched::new(rt.alloc());
+    let edit = unset(&heap, b"X");
+    let makefile = b"foo:\nX = 1\n\tY = 2\n".as_slice();
+    check_refused(&heap, makefile, edit, Refusal::Leans)
+}
+
+// ---- what a plan takes
+
+// The growths of an edit's plan on `A=1` above so many lines `B=1`.
+fn growths_above<'a>(heap: Heap<'a>, count: usize, edit: &Edit<Heap<'a>>) -> Result<Growths, Fail> {
+    let mut makefile = Vec::from_slice(heap, b"A=1\n")?;
+    for _ in 0..count {
+        makefile.extend_from_slice(b"B=1\n")?;
+    }
+    let doc = document(heap, &makefile)?;
+    Ok(growths_of_plan(heap, &doc, edit)?)
+}
+
+#[test]
+fn growths_do_not_depend_on_the_lines_of_the_file(rt: HostRuntime) -> Result<(), Fail> {
+    let heap = Watched::new(rt.alloc());
+    for edit in [set(&heap, b"A", b"2")?, unset(&heap, b"A")?] {
+        let few = growths_above(&heap, 1, &edit)?;
+        let many = growths_above(&heap, 1_000, &edit)?;
+        assert!(rt; few.count > 0);
+        assert_eq!(rt; few, many);
+    }
+    Ok(())
+}
+
+const RULES: &[u8] = b"c:\n\tx\n\n# n\n\ty\nd:\n";
+
+#[test]
+fn a_removal_holds_its_lines_only_after_it_is_made(rt: HostRuntime) -> Result<(), Fail> {
+    let heap = Watched::new(rt.alloc());
+    let mut doc = document(&heap, RULES)?;
+    let edit = unrule(&heap, b"c")?;
+    let patch = match plan(&heap, &doc, &edit, &mut Meter::new()) {
+        Ok(patch) => patch,
+        Err(refusal) => return Err(Fail::from(refusal)),
+    };
+    assert_eq!(rt; (patch.held(), patch.takes()), (0, 5));
+    let back = patch.make(&mut doc);
+    assert_eq!(rt; (back.held(), back.takes()), (5, 0));
+    Ok(())
+}

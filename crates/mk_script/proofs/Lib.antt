@@ -1,0 +1,6 @@
+-- Fields and numbers of a line
+pub mod on_fields
+-- The command of a line
+pub mod on_commands
+-- Lines and scripts
+pub mod on_scripts

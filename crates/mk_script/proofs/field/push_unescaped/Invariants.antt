@@ -1,0 +1,7 @@
+-- The bytes so far, and those of what is left, are the field's.
+use Rattle.std.proofs.Common.{◌≡◌, ◌++◌, false, drop}
+use Rattle.mk_script.specs.FieldReading.{unescaped}
+use Rattle.mk_script.proofs.field.push_unescaped.Given as goal
+
+abbrev pub invariant-loop-byte : goal.invariant-loop-byte
+invariant-loop-byte g l = l.text.items ++ unescaped l.is_escaped (drop l.byte-index l.written) ≡ l.initial.text.items ++ unescaped false l.written

@@ -1,0 +1,153 @@
+-- A line that has a command is read as this command.
+use Rattle.std.proofs.Common.{◌≡◌, ℕ, Bool, true, false, List, [], ◌∷◌, ◌++◌, refl, ap, ◌∙◌, subst, cond, codes}
+use Rattle.std.specs.Prelude.{Option, Some, None, option_map}
+use Rattle.std.specs.Str.{bytes_eq}
+use Rattle.mk_class.specs.declared.assignment.Flavor.{Flavor}
+use Rattle.mk_edit_laws.specs.declared.edit.Colons.{Colons}
+use Rattle.mk_edit_laws.specs.Edits.{Place, Bottom, BeforeVar, AfterVar, BeforeRule, Edit, SetValue, AppendValue, AddAssign, RemoveAssign, AddRule, RemoveRule, AddPrereq, RemovePrereq, AddRecipe, SetRecipe, RemoveRecipe, RenameTarget}
+use Rattle.mk_edit_laws.specs.NewLines.{operator_text, colons_text}
+use Rattle.mk_history.specs.Machine.{Command, Apply, Undo, Redo, Begin, End, Cancel}
+use Rattle.mk_script.specs.Fields.{HasFields}
+use Rattle.mk_script.specs.Numbers.{IsNumber}
+use Rattle.mk_script.specs.Commands.{IsAfterNth, place_words, nth_of_place, IsCommand}
+use Rattle.mk_script.specs.FieldReading.{first_field, one_field, two_fields, three_fields}
+use Rattle.mk_script.specs.WordReading.{named, calls}
+use Rattle.mk_script.specs.CommandReading.{place_at_front, place_after, assign_after, assign_at, assign_of, rule_after, rule_at, rule_of, set_recipe_after, set_recipe_of, remove_recipe_after, remove_recipe_of, edit, edit_after_nth, edit_after_number, numbered_edit, call_or_edit, command_after, command}
+use Rattle.mk_script.proofs.on_fields.BlankLemmas.{is-blank}
+use Rattle.mk_script.proofs.on_fields.FirstLemmas.{begins-read, one-read, two-read, three-read}
+use Rattle.mk_script.proofs.on_fields.NumberLemmas.{is-number}
+use Rattle.mk_script.proofs.on_commands.TableLemmas.{operator-named, separator-named}
+
+-- a word that is neither a call's nor `nth`
+record IsEditWord (word : List ℕ) : Type 0 where
+  no_call : named calls word ≡ None
+  no_nth : bytes_eq word (codes "nth") ≡ false
+
+-- an edit by its word and the fields after it, which may stand after `nth` and a number
+addressed-read : (nth : Option ℕ) (line word : List ℕ) (args fields : List (List ℕ)) (e : Edit) → IsEditWord word → HasFields line fields
+    → IsAfterNth nth fields (word ∷ args) → ((rest : List ℕ) → HasFields rest args → edit nth word rest ≡ Some e) → command line ≡ Some (Apply e)
+addressed-read None line word args fields e w h is reads =
+    let fs : HasFields line (word ∷ args) = subst (λ x. HasFields line x) is h in
+    ap (λ o. command_after o) (begins-read line word fs.0 fs.1)
+    ∙ (ap (λ o. call_or_edit o word fs.0) w.no_call
+    ∙ (ap (λ (b : Bool). option_map Apply (cond b (edit_after_nth (first_field fs.0)) (edit None word fs.0))) w.no_nth
+    ∙ ap (λ o. option_map Apply o) (reads fs.0 fs.2)))
+addressed-read (Some n) line word args fields e w h is reads =
+    let fs : HasFields line (codes "nth" ∷ is.0 ∷ word ∷ args) = subst (λ x. HasFields line x) is.2 h in
+    ap (λ o. command_after o) (begins-read line (codes "nth") fs.0 fs.1)
+    ∙ ap (λ o. option_map Apply o)
+    (ap (λ o. edit_after_nth o) (begins-read fs.0 is.0 fs.2.0 fs.2.1)
+    ∙ (ap (λ o. edit_after_number o fs.2.0) (is-number is.0 n is.1)
+    ∙ (ap (λ o. numbered_edit n o) (begins-read fs.2.0 word fs.2.2.0 fs.2.2.1)
+    ∙ reads fs.2.2.0 fs.2.2.2)))
+
+-- a place and what follows it
+record IsPlaced (place : Place) (text : List ℕ) (others : List (List ℕ)) : Type 0 where
+  rest : List ℕ
+  read : place_at_front (nth_of_place place) text ≡ Some (place, rest)
+  others_are : HasFields rest others
+
+place-read : (place : Place) (text : List ℕ) (others : List (List ℕ)) → HasFields text (place_words place ++ others) → IsPlaced place text others
+place-read Bottom text others h =
+    record { rest = h.0; read = ap (λ o. place_after None o) (begins-read text (codes "bottom") h.0 h.1); others_are = h.2 }
+place-read (BeforeVar nth name) text others h =
+    record {
+      rest = h.2.0;
+      read = rw (begins-read text (codes "before-var") h.0 h.1) (rw (begins-read h.0 name h.2.0 h.2.1) refl);
+      others_are = h.2.2;
+    }
+place-read (AfterVar nth name) text others h =
+    record {
+      rest = h.2.0;
+      read = rw (begins-read text (codes "after-var") h.0 h.1) (rw (begins-read h.0 name h.2.0 h.2.1) refl);
+      others_are = h.2.2;
+    }
+place-read (BeforeRule nth target) text others h =
+    record {
+      rest = h.2.0;
+      read = rw (begins-read text (codes "before-rule") h.0 h.1) (rw (begins-read h.0 target h.2.0 h.2.1) refl);
+      others_are = h.2.2;
+    }
+
+assign-read : (place : Place) (name value text : List ℕ) (flavor : Flavor) → HasFields text (place_words place ++ name ∷ operator_text flavor ∷ value ∷ [])
+    → assign_after (place_at_front (nth_of_place place) text) ≡ Some (AddAssign place name flavor value)
+assign-read place name value text flavor h =
+    let p = place-read place text (name ∷ operator_text flavor ∷ value ∷ []) h in
+    ap (λ o. assign_after o) p.read
+    ∙ (ap (λ o. assign_at place o) (three-read p.rest name (operator_text flavor) value p.others_are)
+    ∙ ap (λ o. assign_of place o name value) (operator-named flavor))
+
+rule-read : (place : Place) (targets prereqs text : List ℕ) (colons : Colons) → HasFields text (place_words place ++ targets ∷ colons_text colons ∷ prereqs ∷ [])
+    → rule_after (place_at_front (nth_of_place place) text) ≡ Some (AddRule place targets colons prereqs)
+rule-read place targets prereqs text colons h =
+    let p = place-read place text (targets ∷ colons_text colons ∷ prereqs ∷ []) h in
+    ap (λ o. rule_after o) p.read
+    ∙ (ap (λ o. rule_at place o) (three-read p.rest targets (colons_text colons) prereqs p.others_are)
+    ∙ ap (λ o. rule_of place o targets prereqs) (separator-named colons))
+
+set_recipe-read : (nth : Option ℕ) (target digits line text : List ℕ) (n : ℕ) → IsNumber digits n → HasFields text (target ∷ digits ∷ line ∷ [])
+    → set_recipe_after nth (three_fields text) ≡ Some (SetRecipe nth target n line)
+set_recipe-read nth target digits line text n is h =
+    ap (λ o. set_recipe_after nth o) (three-read text target digits line h) ∙ ap (λ o. set_recipe_of nth target o line) (is-number digits n is)
+
+remove_recipe-read : (nth : Option ℕ) (target digits text : List ℕ) (n : ℕ) → IsNumber digits n → HasFields text (target ∷ digits ∷ [])
+    → remove_recipe_after nth (two_fields text) ≡ Some (RemoveRecipe nth target n)
+remove_recipe-read nth target digits text n is h =
+    ap (λ o. remove_recipe_after nth o) (two-read text target digits h) ∙ ap (λ o. remove_recipe_of nth target o) (is-number digits n is)
+
+of_two-read : (make : List ℕ → List ℕ → Edit) (a b text : List ℕ) → HasFields text (a ∷ b ∷ []) → option_map (λ (p : List ℕ × List ℕ). make p.0 p.1) (two_fields text) ≡ Some (make a b)
+of_two-read make a b text h = ap (λ o. option_map (λ (p : List ℕ × List ℕ). make p.0 p.1) o) (two-read text a b h)
+
+of_one-read : (make : List ℕ → Edit) (a text : List ℕ) → HasFields text (a ∷ []) → option_map make (one_field text) ≡ Some (make a)
+of_one-read make a text h = ap (λ o. option_map make o) (one-read text a h)
+
+edit_word : (word : List ℕ) → named calls word ≡ None → bytes_eq word (codes "nth") ≡ false → IsEditWord word
+edit_word word a b = record { no_call = a; no_nth = b }
+
+edit-read : (line : List ℕ) (fields : List (List ℕ)) (e : Edit) → HasFields line fields → IsCommand fields (Apply e) → command line ≡ Some (Apply e)
+edit-read line fields (SetValue nth name value) h is =
+    addressed-read nth line (codes "set") (name ∷ value ∷ []) fields _ (edit_word (codes "set") refl refl) h is (of_two-read (SetValue nth) name value)
+edit-read line fields (AppendValue nth name value) h is =
+    addressed-read nth line (codes "append") (name ∷ value ∷ []) fields _ (edit_word (codes "append") refl refl) h is (of_two-read (AppendValue nth) name value)
+edit-read line fields (AddAssign place name flavor value) h is =
+    addressed-read (nth_of_place place) line (codes "assign") (place_words place ++ name ∷ operator_text flavor ∷ value ∷ []) fields _
+    (edit_word (codes "assign") refl refl) h is (λ rest. assign-read place name value rest flavor)
+edit-read line fields (RemoveAssign nth name) h is =
+    addressed-read nth line (codes "unset") (name ∷ []) fields _ (edit_word (codes "unset") refl refl) h is (of_one-read (RemoveAssign nth) name)
+edit-read line fields (AddRule place targets colons prereqs) h is =
+    addressed-read (nth_of_place place) line (codes "rule") (place_words place ++ targets ∷ colons_text colons ∷ prereqs ∷ []) fields _
+    (edit_word (codes "rule") refl refl) h is (λ rest. rule-read place targets prereqs rest colons)
+edit-read line fields (RemoveRule nth target) h is =
+    addressed-read nth line (codes "unrule") (target ∷ []) fields _ (edit_word (codes "unrule") refl refl) h is (of_one-read (RemoveRule nth) target)
+edit-read line fields (AddPrereq false nth target word) h is =
+    addressed-read nth line (codes "depend") (target ∷ word ∷ []) fields _ (edit_word (codes "depend") refl refl) h is (of_two-read (AddPrereq false nth) target word)
+edit-read line fields (AddPrereq true nth target word) h is =
+    addressed-read nth line (codes "depend-order") (target ∷ word ∷ []) fields _ (edit_word (codes "depend-order") refl refl) h is
+    (of_two-read (AddPrereq true nth) target word)
+edit-read line fields (RemovePrereq nth target word) h is =
+    addressed-read nth line (codes "undepend") (target ∷ word ∷ []) fields _ (edit_word (codes "undepend") refl refl) h is (of_two-read (RemovePrereq nth) target word)
+edit-read line fields (AddRecipe nth target text) h is =
+    addressed-read nth line (codes "recipe") (target ∷ text ∷ []) fields _ (edit_word (codes "recipe") refl refl) h is (of_two-read (AddRecipe nth) target text)
+edit-read line fields (SetRecipe nth target n text) h is =
+    addressed-read nth line (codes "recipe-set") (target ∷ is.0 ∷ text ∷ []) fields _ (edit_word (codes "recipe-set") refl refl) h is.2
+    (λ rest. set_recipe-read nth target is.0 text rest n is.1)
+edit-read line fields (RemoveRecipe nth target n) h is =
+    addressed-read nth line (codes "recipe-del") (target ∷ is.0 ∷ []) fields _ (edit_word (codes "recipe-del") refl refl) h is.2
+    (λ rest. remove_recipe-read nth target is.0 rest n is.1)
+edit-read line fields (RenameTarget old new) h is =
+    addressed-read None line (codes "rename") (old ∷ new ∷ []) fields _ (edit_word (codes "rename") refl refl) h is (of_two-read RenameTarget old new)
+
+call-read : (line word : List ℕ) (fields : List (List ℕ)) (c : Command Edit) → named calls word ≡ Some c → HasFields line fields → fields ≡ word ∷ [] → command line ≡ Some c
+call-read line word fields c name h is =
+    let fs : HasFields line (word ∷ []) = subst (λ x. HasFields line x) is h in
+    ap (λ o. command_after o) (begins-read line word fs.0 fs.1)
+    ∙ (ap (λ o. call_or_edit o word fs.0) name
+    ∙ ap (λ (b : Bool). cond b (Some c) None) (is-blank fs.0 fs.2))
+
+pub has-command : (line : List ℕ) (fields : List (List ℕ)) (c : Command Edit) → HasFields line fields → IsCommand fields c → command line ≡ Some c
+has-command line fields (Apply e) h is = edit-read line fields e h is
+has-command line fields Undo h is = call-read line (codes "undo") fields Undo refl h is
+has-command line fields Redo h is = call-read line (codes "redo") fields Redo refl h is
+has-command line fields Begin h is = call-read line (codes "begin") fields Begin refl h is
+has-command line fields End h is = call-read line (codes "end") fields End refl h is
+has-command line fields Cancel h is = call-read line (codes "cancel") fields Cancel refl h is

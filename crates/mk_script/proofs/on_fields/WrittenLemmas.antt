@@ -1,0 +1,49 @@
+-- A field between quotes, and what stands between them.
+use Rattle.std.proofs.Common.{◌≡◌, ℕ, Bool, true, false, List, [], ◌∷◌, refl, sym, ap, ◌∙◌, inl, inr}
+use Rattle.std.specs.Prelude.{◌||◌}
+use Rattle.std.specs.List.{list_any}
+use Rattle.std.specs.Str.{bytes_eq}
+use Rattle.std.specs.Bool.{Decides}
+use Rattle.std.proofs.lemmas.Slice.Eq.{bytes_eq-Decides}
+use Rattle.std.proofs.lemmas.Bool.Decides.{same_from_decides}
+use Rattle.mk_script.specs.Fields.{is_special, escaped}
+use Rattle.mk_script.specs.FieldReading.{unescaped, IsEscaped}
+use Rattle.mk_script.specs.SeenFields.{IsWrittenPlain}
+use Rattle.mk_script.proofs.on_fields.EscapeLemmas.{not_special}
+
+-- the first byte and the others, where none is a quote or a backslash
+none-parts : (b : ℕ) (text : List ℕ) → list_any is_special (b ∷ text) ≡ false → (is_special b ≡ false) × (list_any is_special text ≡ false)
+none-parts b text h = go (is_special b) refl h
+  where
+    go : (c : Bool) → is_special b ≡ c → (c || list_any is_special text) ≡ false → (is_special b ≡ false) × (list_any is_special text ≡ false)
+    go true e k = absurd (cc)
+    go false e k = (e, k)
+
+pub plain-unescaped : (text : List ℕ) → list_any is_special text ≡ false → unescaped false text ≡ text
+plain-unescaped [] h = refl
+plain-unescaped (b ∷ text) h =
+    let parts = none-parts b text h in
+    rw ((not_special b parts.0).1, plain-unescaped text parts.1) refl
+
+pub plain-escaped : (text : List ℕ) → list_any is_special text ≡ false → escaped text ≡ text
+plain-escaped [] h = refl
+plain-escaped (b ∷ text) h =
+    let parts = none-parts b text h in
+    rw (parts.0, plain-escaped text parts.1) refl
+
+-- a word without quotes and backslashes is a field where it stands so in the line
+pub is_word : (text word : List ℕ) → IsEscaped text → list_any is_special word ≡ false → bytes_eq text word ≡ bytes_eq (unescaped false text) word
+is_word text word h none =
+    let whole = bytes_eq-Decides text word in
+    let inner = bytes_eq-Decides (unescaped false text) word in
+    let moved : Decides (bytes_eq (unescaped false text) word) (text ≡ word) =
+    (λ e. sym h ∙ (ap (λ t. escaped t) (inner.0 e) ∙ plain-escaped word none), λ e. inner.1 (ap (λ t. unescaped false t) e ∙ plain-unescaped word none)) in
+    same_from_decides _ _ whole moved
+
+pub written_plain : (text : List ℕ) → IsEscaped text → IsWrittenPlain (unescaped false text) text
+written_plain text h = go (list_any is_special text) refl (list_any is_special (unescaped false text)) refl
+  where
+    go : (c : Bool) → list_any is_special text ≡ c → (d : Bool) → list_any is_special (unescaped false text) ≡ d → IsWrittenPlain (unescaped false text) text
+    go false e d f = inl (sym (plain-unescaped text e))
+    go true e true f = inr (f, e)
+    go true e false f = inl (sym h ∙ plain-escaped (unescaped false text) f)

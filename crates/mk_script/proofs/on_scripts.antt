@@ -1,0 +1,4 @@
+pub mod LineLemmas
+pub mod WrittenLines
+pub mod ScriptLemmas
+pub mod OneLemmas

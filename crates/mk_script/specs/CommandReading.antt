@@ -1,0 +1,146 @@
+-- How the command of a line is read: its first field, and what follows it.
+use Rattle.std.specs.Prelude.{ℕ, true, false, if◌then◌else◌, List, Option, Some, None, option_map, codes}
+use Rattle.std.specs.Str.{bytes_eq}
+use Rattle.mk_class.specs.declared.assignment.Flavor.{Flavor}
+use Rattle.mk_edit_laws.specs.Edits.{Place, Bottom, BeforeVar, AfterVar, BeforeRule, Edit, SetValue, AppendValue, AddAssign, RemoveAssign, AddRule, RemoveRule, AddPrereq, RemovePrereq, AddRecipe, SetRecipe, RemoveRecipe, RenameTarget}
+use Rattle.mk_edit_laws.specs.declared.edit.Colons.{Colons}
+use Rattle.mk_history.specs.Machine.{Command, Apply}
+use Rattle.mk_script.specs.FieldReading.{is_blank, first_field, one_field, two_fields, three_fields}
+use Rattle.mk_script.specs.NumberReading.{number}
+use Rattle.mk_script.specs.WordReading.{named, calls, edit_words, places, operators, separators}
+use Rattle.mk_script.specs.declared.word.EditWord.{EditWord}
+use Rattle.mk_script.specs.declared.word.EditWord.TheVariants as word
+use Rattle.mk_script.specs.declared.word.PlaceWord.{PlaceWord}
+use Rattle.mk_script.specs.declared.word.PlaceWord.TheVariants as place
+
+-- ---- places
+
+-- a place by the field after its first word, and what follows that field
+abbrev pub placed_at : (List ℕ → Place) → Option (List ℕ × List ℕ) → Option (Place × List ℕ)
+placed_at make None = None
+placed_at make (Some p) = Some (make p.0, p.1)
+
+-- the bottom, before which no number stands
+abbrev pub bottom : (nth : Option ℕ) → (rest : List ℕ) → Option (Place × List ℕ)
+bottom None rest = Some (Bottom, rest)
+bottom (Some n) rest = None
+
+abbrev pub place_by_word : (nth : Option ℕ) → Option PlaceWord → (rest : List ℕ) → Option (Place × List ℕ)
+place_by_word nth None rest = None
+place_by_word nth (Some place.Bottom) rest = bottom nth rest
+place_by_word nth (Some place.BeforeVar) rest = placed_at (BeforeVar nth) (first_field rest)
+place_by_word nth (Some place.AfterVar) rest = placed_at (AfterVar nth) (first_field rest)
+place_by_word nth (Some place.BeforeRule) rest = placed_at (BeforeRule nth) (first_field rest)
+
+abbrev pub place_after : (nth : Option ℕ) → Option (List ℕ × List ℕ) → Option (Place × List ℕ)
+place_after nth None = None
+place_after nth (Some p) = place_by_word nth (named places p.0) p.1
+
+-- the place that a text begins with, and what follows it
+abbrev pub place_at_front : (nth : Option ℕ) → List ℕ → Option (Place × List ℕ)
+place_at_front nth rest = place_after nth (first_field rest)
+
+-- ---- edits, by what follows their word
+
+abbrev pub of_one : (List ℕ → Edit) → (rest : List ℕ) → Option Edit
+of_one make rest = option_map make (one_field rest)
+
+abbrev pub of_two : (List ℕ → List ℕ → Edit) → (rest : List ℕ) → Option Edit
+of_two make rest = option_map (λ p. make p.0 p.1) (two_fields rest)
+
+abbrev pub assign_of : Place → Option Flavor → (name value : List ℕ) → Option Edit
+assign_of place None name value = None
+assign_of place (Some flavor) name value = Some (AddAssign place name flavor value)
+
+abbrev pub assign_at : Place → Option (List ℕ × List ℕ × List ℕ) → Option Edit
+assign_at place None = None
+assign_at place (Some p) = assign_of place (named operators p.1) p.0 p.2
+
+abbrev pub assign_after : Option (Place × List ℕ) → Option Edit
+assign_after None = None
+assign_after (Some p) = assign_at p.0 (three_fields p.1)
+
+abbrev pub rule_of : Place → Option Colons → (targets prereqs : List ℕ) → Option Edit
+rule_of place None targets prereqs = None
+rule_of place (Some colons) targets prereqs = Some (AddRule place targets colons prereqs)
+
+abbrev pub rule_at : Place → Option (List ℕ × List ℕ × List ℕ) → Option Edit
+rule_at place None = None
+rule_at place (Some p) = rule_of place (named separators p.1) p.0 p.2
+
+abbrev pub rule_after : Option (Place × List ℕ) → Option Edit
+rule_after None = None
+rule_after (Some p) = rule_at p.0 (three_fields p.1)
+
+abbrev pub set_recipe_of : (nth : Option ℕ) → (target : List ℕ) → Option ℕ → (line : List ℕ) → Option Edit
+set_recipe_of nth target None line = None
+set_recipe_of nth target (Some k) line = Some (SetRecipe nth target k line)
+
+abbrev pub set_recipe_after : (nth : Option ℕ) → Option (List ℕ × List ℕ × List ℕ) → Option Edit
+set_recipe_after nth None = None
+set_recipe_after nth (Some p) = set_recipe_of nth p.0 (number p.1) p.2
+
+abbrev pub remove_recipe_of : (nth : Option ℕ) → (target : List ℕ) → Option ℕ → Option Edit
+remove_recipe_of nth target None = None
+remove_recipe_of nth target (Some k) = Some (RemoveRecipe nth target k)
+
+abbrev pub remove_recipe_after : (nth : Option ℕ) → Option (List ℕ × List ℕ) → Option Edit
+remove_recipe_after nth None = None
+remove_recipe_after nth (Some p) = remove_recipe_of nth p.0 (number p.1)
+
+-- a rename, before which no number stands
+abbrev pub rename_of : (nth : Option ℕ) → (rest : List ℕ) → Option Edit
+rename_of None rest = of_two RenameTarget rest
+rename_of (Some n) rest = None
+
+abbrev pub edit_by_word : (nth : Option ℕ) → Option EditWord → (rest : List ℕ) → Option Edit
+edit_by_word nth None rest = None
+edit_by_word nth (Some word.Set) rest = of_two (SetValue nth) rest
+edit_by_word nth (Some word.Append) rest = of_two (AppendValue nth) rest
+edit_by_word nth (Some word.Unset) rest = of_one (RemoveAssign nth) rest
+edit_by_word nth (Some word.Assign) rest = assign_after (place_at_front nth rest)
+edit_by_word nth (Some word.Rule) rest = rule_after (place_at_front nth rest)
+edit_by_word nth (Some word.Unrule) rest = of_one (RemoveRule nth) rest
+edit_by_word nth (Some word.Depend) rest = of_two (AddPrereq false nth) rest
+edit_by_word nth (Some word.DependOrder) rest = of_two (AddPrereq true nth) rest
+edit_by_word nth (Some word.Undepend) rest = of_two (RemovePrereq nth) rest
+edit_by_word nth (Some word.Recipe) rest = of_two (AddRecipe nth) rest
+edit_by_word nth (Some word.RecipeSet) rest = set_recipe_after nth (three_fields rest)
+edit_by_word nth (Some word.RecipeDel) rest = remove_recipe_after nth (two_fields rest)
+edit_by_word nth (Some word.Rename) rest = rename_of nth rest
+
+-- an edit by its first field and what follows that
+abbrev pub edit : (nth : Option ℕ) → (first rest : List ℕ) → Option Edit
+edit nth first rest = edit_by_word nth (named edit_words first) rest
+
+-- ---- commands
+
+abbrev pub numbered_edit : (nth : ℕ) → Option (List ℕ × List ℕ) → Option Edit
+numbered_edit nth None = None
+numbered_edit nth (Some p) = edit (Some nth) p.0 p.1
+
+abbrev pub edit_after_number : Option ℕ → (rest : List ℕ) → Option Edit
+edit_after_number None rest = None
+edit_after_number (Some n) rest = numbered_edit n (first_field rest)
+
+-- an edit by what follows `nth`
+abbrev pub edit_after_nth : Option (List ℕ × List ℕ) → Option Edit
+edit_after_nth None = None
+edit_after_nth (Some p) = edit_after_number (number p.0) p.1
+
+-- an edit, after `nth` and a number or without
+abbrev pub addressed_edit : (first rest : List ℕ) → Option Edit
+addressed_edit first rest = if bytes_eq first (codes "nth") then edit_after_nth (first_field rest) else edit None first rest
+
+-- a call that was named, or else an edit
+abbrev pub call_or_edit : Option (Command Edit) → (first rest : List ℕ) → Option (Command Edit)
+call_or_edit (Some c) first rest = if is_blank rest then Some c else None
+call_or_edit None first rest = option_map Apply (addressed_edit first rest)
+
+abbrev pub command_after : Option (List ℕ × List ℕ) → Option (Command Edit)
+command_after None = None
+command_after (Some p) = call_or_edit (named calls p.0) p.0 p.1
+
+-- the command of a line that is not skipped
+abbrev pub command : List ℕ → Option (Command Edit)
+command line = command_after (first_field line)

@@ -1,0 +1,58 @@
+-- The table of commands: which fields each of them has.
+use Rattle.std.specs.Prelude.{◌≡◌, ℕ, Bool, true, false, List, [], ◌∷◌, ◌++◌, Option, Some, None, codes}
+use Rattle.mk_edit_laws.specs.Edits.{Place, Bottom, BeforeVar, AfterVar, BeforeRule, Edit, SetValue, AppendValue, AddAssign, RemoveAssign, AddRule, RemoveRule, AddPrereq, RemovePrereq, AddRecipe, SetRecipe, RemoveRecipe, RenameTarget}
+use Rattle.mk_edit_laws.specs.NewLines.{operator_text, colons_text}
+use Rattle.mk_history.specs.Machine.{Command, Apply, Undo, Redo, Begin, End, Cancel}
+use Rattle.mk_script.specs.Numbers.{IsNumber}
+
+-- ---- addresses and places
+
+-- some words, after `nth` and a number where there is one
+abbrev pub IsAfterNth : (nth : Option ℕ) → (fields words : List (List ℕ)) → Type 0
+IsAfterNth None fields words = fields ≡ words
+IsAfterNth (Some n) fields words = (digits : List ℕ) × IsNumber digits n × (fields ≡ codes "nth" ∷ digits ∷ words)
+
+-- the words of a place
+abbrev pub place_words : Place → List (List ℕ)
+place_words Bottom = codes "bottom" ∷ []
+place_words (BeforeVar nth name) = codes "before-var" ∷ name ∷ []
+place_words (AfterVar nth name) = codes "after-var" ∷ name ∷ []
+place_words (BeforeRule nth target) = codes "before-rule" ∷ target ∷ []
+
+-- the number of a place, which stands before the command
+abbrev pub nth_of_place : Place → Option ℕ
+nth_of_place Bottom = None
+nth_of_place (BeforeVar nth name) = nth
+nth_of_place (AfterVar nth name) = nth
+nth_of_place (BeforeRule nth target) = nth
+
+-- the word for a new prerequisite, order-only or not
+abbrev pub depend_word : (order : Bool) → List ℕ
+depend_word false = codes "depend"
+depend_word true = codes "depend-order"
+
+-- ---- the table
+
+-- some fields are this command
+abbrev pub IsCommand : (fields : List (List ℕ)) → Command Edit → Type 0
+IsCommand fields (Apply (SetValue nth name value)) = IsAfterNth nth fields (codes "set" ∷ name ∷ value ∷ [])
+IsCommand fields (Apply (AppendValue nth name value)) = IsAfterNth nth fields (codes "append" ∷ name ∷ value ∷ [])
+IsCommand fields (Apply (AddAssign place name flavor value)) =
+    IsAfterNth (nth_of_place place) fields (codes "assign" ∷ (place_words place ++ name ∷ operator_text flavor ∷ value ∷ []))
+IsCommand fields (Apply (RemoveAssign nth name)) = IsAfterNth nth fields (codes "unset" ∷ name ∷ [])
+IsCommand fields (Apply (AddRule place targets colons prereqs)) =
+    IsAfterNth (nth_of_place place) fields (codes "rule" ∷ (place_words place ++ targets ∷ colons_text colons ∷ prereqs ∷ []))
+IsCommand fields (Apply (RemoveRule nth target)) = IsAfterNth nth fields (codes "unrule" ∷ target ∷ [])
+IsCommand fields (Apply (AddPrereq order nth target word)) = IsAfterNth nth fields (depend_word order ∷ target ∷ word ∷ [])
+IsCommand fields (Apply (RemovePrereq nth target word)) = IsAfterNth nth fields (codes "undepend" ∷ target ∷ word ∷ [])
+IsCommand fields (Apply (AddRecipe nth target line)) = IsAfterNth nth fields (codes "recipe" ∷ target ∷ line ∷ [])
+IsCommand fields (Apply (SetRecipe nth target number line)) =
+    (digits : List ℕ) × IsNumber digits number × IsAfterNth nth fields (codes "recipe-set" ∷ target ∷ digits ∷ line ∷ [])
+IsCommand fields (Apply (RemoveRecipe nth target number)) =
+    (digits : List ℕ) × IsNumber digits number × IsAfterNth nth fields (codes "recipe-del" ∷ target ∷ digits ∷ [])
+IsCommand fields (Apply (RenameTarget old new)) = fields ≡ codes "rename" ∷ old ∷ new ∷ []
+IsCommand fields Undo = fields ≡ codes "undo" ∷ []
+IsCommand fields Redo = fields ≡ codes "redo" ∷ []
+IsCommand fields Begin = fields ≡ codes "begin" ∷ []
+IsCommand fields End = fields ≡ codes "end" ∷ []
+IsCommand fields Cancel = fields ≡ codes "cancel" ∷ []

@@ -1,0 +1,15 @@
+-- Fields, numbers and commands of a script
+pub mod Fields
+pub mod Numbers
+pub mod Commands
+pub mod Lines
+-- Scripts, and laws of them
+pub mod Scripts
+pub mod ScriptLaws
+-- How the code reads a line: what the contracts within this crate say
+pub mod FieldReading
+pub mod SeenFields
+pub mod NumberReading
+pub mod WordReading
+pub mod CommandReading
+pub mod Readings

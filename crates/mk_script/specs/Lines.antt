@@ -1,0 +1,30 @@
+-- The lines of a script, and what each of them is.
+use Rattle.std.specs.Prelude.{◌≡◌, ◌⊎◌, ℕ, List, [], ◌∷◌, map}
+use Rattle.bstr.specs.Text.{lines_of, without_terminator}
+use Rattle.mk_lines.specs.Lists.{Each}
+use Rattle.mk_lines.specs.UnitWalk.{is_blank_byte}
+use Rattle.mk_edit_laws.specs.Edits.{Edit}
+use Rattle.mk_history.specs.Machine.{Command}
+use Rattle.mk_script.specs.Fields.{HasFields}
+use Rattle.mk_script.specs.Commands.{IsCommand}
+
+-- the lines of a script, without their line ends, LF or CR LF
+abbrev pub script_lines : List ℕ → List (List ℕ)
+script_lines script = map without_terminator (lines_of script)
+
+-- a line whose first byte is `#`
+abbrev pub IsComment : List ℕ → Type 0
+IsComment [] = ⊥
+IsComment (b ∷ line) = b ≡ 35
+
+-- a line that is skipped: a comment, or blanks
+abbrev pub IsSkipped : List ℕ → Type 0
+IsSkipped line = IsComment line ⊎ Each is_blank_byte line
+
+-- the fields of a line are a command
+abbrev pub HasCommand : (line : List ℕ) → Command Edit → Type 0
+HasCommand line command = (fields : List (List ℕ)) × HasFields line fields × IsCommand fields command
+
+-- a line that is skipped or a command
+abbrev pub IsReadable : List ℕ → Type 0
+IsReadable line = IsSkipped line ⊎ ((command : Command Edit) × HasCommand line command)

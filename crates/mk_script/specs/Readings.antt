@@ -1,0 +1,46 @@
+-- What the readers of a line answer.
+use Rattle.std.specs.Prelude.{◌≡◌, ℕ, Bool, true, false, ◌||◌, ◌==◌, List, [], ◌∷◌, Option, Some, None, Result, Ok, Err, is_some}
+use Rattle.std.specs.Borrow.{Bor}
+use Rattle.mk_edit_laws.specs.Edits as edits
+use Rattle.mk_script.specs.FieldReading.{is_blank}
+use Rattle.mk_script.specs.SeenFields.{field_text}
+use Rattle.mk_script.specs.declared.fault.LineFault.{LineFault}
+use Rattle.mk_script.specs.declared.fault.LineFault.TheVariants.{NotACommand, NoMemory}
+use Rattle.mk_script.specs.declared.edit.WrittenPlace.{WrittenPlace}
+use Rattle.mk_script.specs.declared.edit.WrittenPlace.TheVariants as written
+
+-- A reader found in a text what stands there, as this sees it, or answered an error where nothing does.
+abbrev pub IsFound : {V X E : Type 0} → (seen : V → X) → Option X → Result V E → Type 0
+IsFound seen stands (Ok v) = stands ≡ Some (seen v)
+IsFound seen stands (Err e) = stands ≡ None
+
+abbrev pub itself : ℕ → ℕ
+itself n = n
+
+abbrev pub is_short : LineFault → Bool
+is_short NotACommand = false
+is_short NoMemory = true
+
+-- So too where texts were copied: memory is short only where something stands there.
+abbrev pub IsRead : {V X : Type 0} → (seen : V → X) → Option X → Result V LineFault → Type 0
+IsRead seen stands (Ok v) = stands ≡ Some (seen v)
+IsRead seen stands (Err fault) = is_some stands ≡ is_short fault
+
+-- a place whose text is in the line
+abbrev pub written_place : WrittenPlace → edits.Place
+written_place written.Bottom = edits.Bottom
+written_place (written.BeforeVar nth name) = edits.BeforeVar nth (field_text name)
+written_place (written.AfterVar nth name) = edits.AfterVar nth (field_text name)
+written_place (written.BeforeRule nth target) = edits.BeforeRule nth (field_text target)
+
+-- and what follows it
+abbrev pub place_and_rest : WrittenPlace × Bor (List ℕ) → edits.Place × List ℕ
+place_and_rest p = (written_place p.0, p.1.now)
+
+-- whether a line is skipped
+abbrev pub begins_comment : List ℕ → Bool
+begins_comment [] = false
+begins_comment (b ∷ line) = b == 35
+
+abbrev pub is_skipped : List ℕ → Bool
+is_skipped line = begins_comment line || is_blank line

@@ -1,0 +1,76 @@
+-- Laws of lines and of scripts; each the contract of a public function.
+use Rattle.std.specs.Prelude.{◌≡◌, ◌⊎◌, ℕ, ◌≤◌, List, [], ◌∷◌, ◌++◌, Option, Some, None}
+use Rattle.mk_edit_laws.specs.Edits.{Edit, SetValue, AppendValue, AddAssign, RemoveAssign, AddRule, RemoveRule, AddPrereq, RemovePrereq, AddRecipe, SetRecipe, RemoveRecipe, RenameTarget}
+use Rattle.mk_history.specs.Machine.{Command, Apply}
+use Rattle.mk_script.specs.Fields.{quoted, HasFields}
+use Rattle.mk_script.specs.Commands.{nth_of_place}
+use Rattle.mk_script.specs.Lines.{HasCommand, IsSkipped}
+use Rattle.mk_script.specs.Scripts.{CommandAt, IsScript, HasNoCommand}
+
+-- ---- lines
+
+-- A line has at most one list of fields.
+abbrev pub FieldsAreOne : Type 0
+FieldsAreOne = (line : List ℕ) (fields others : List (List ℕ)) → HasFields line fields → HasFields line others → fields ≡ others
+
+-- any fields, each between quotes and with a space after it
+abbrev pub line_of : List (List ℕ) → List ℕ
+line_of [] = []
+line_of (field ∷ fields) = quoted field ++ 32 ∷ line_of fields
+
+-- Fields that are written so are those of the line.
+abbrev pub WrittenFieldsAreRead : Type 0
+WrittenFieldsAreRead = (fields : List (List ℕ)) → HasFields (line_of fields) fields
+
+-- A line is at most one command, and none where it is skipped.
+abbrev pub CommandIsOne : Type 0
+CommandIsOne = (line : List ℕ) (command other : Command Edit) → HasCommand line command → HasCommand line other → command ≡ other
+
+abbrev pub SkippedIsNoCommand : Type 0
+SkippedIsNoCommand = (line : List ℕ) (command : Command Edit) → IsSkipped line → HasCommand line command → ⊥
+
+-- a number that a script can write
+abbrev pub CanBeWritten : Option ℕ → Type 0
+CanBeWritten None = Unit {0}
+CanBeWritten (Some n) = n ≤ 4294967295
+
+-- an edit whose numbers a script can write
+abbrev pub HasNumbersOfScripts : Edit → Type 0
+HasNumbersOfScripts (SetValue nth name value) = CanBeWritten nth
+HasNumbersOfScripts (AppendValue nth name value) = CanBeWritten nth
+HasNumbersOfScripts (AddAssign place name flavor value) = CanBeWritten (nth_of_place place)
+HasNumbersOfScripts (RemoveAssign nth name) = CanBeWritten nth
+HasNumbersOfScripts (AddRule place targets colons prereqs) = CanBeWritten (nth_of_place place)
+HasNumbersOfScripts (RemoveRule nth target) = CanBeWritten nth
+HasNumbersOfScripts (AddPrereq order nth target word) = CanBeWritten nth
+HasNumbersOfScripts (RemovePrereq nth target word) = CanBeWritten nth
+HasNumbersOfScripts (AddRecipe nth target line) = CanBeWritten nth
+HasNumbersOfScripts (SetRecipe nth target number line) = CanBeWritten nth × (number ≤ 4294967295)
+HasNumbersOfScripts (RemoveRecipe nth target number) = CanBeWritten nth × (number ≤ 4294967295)
+HasNumbersOfScripts (RenameTarget old new) = Unit {0}
+
+abbrev pub HasLine : Command Edit → Type 0
+HasLine (Apply e) = HasNumbersOfScripts e
+HasLine command = Unit {0}
+
+-- Each command has a line.
+abbrev pub EachCommandHasALine : Type 0
+EachCommandHasALine = (command : Command Edit) → HasLine command → (line : List ℕ) × HasCommand line command
+
+-- ---- scripts
+
+-- A script has at most one list of commands.
+abbrev pub CommandsAreOne : Type 0
+CommandsAreOne = (script : List ℕ) (commands others : List CommandAt) → IsScript script commands → IsScript script others → commands ≡ others
+
+-- It has not both commands and a line without one.
+abbrev pub NotBoth : Type 0
+NotBoth = (script : List ℕ) (commands : List CommandAt) (number : ℕ) → IsScript script commands → HasNoCommand script number → ⊥
+
+-- At most one line is the first without a command.
+abbrev pub FaultIsOne : Type 0
+FaultIsOne = (script : List ℕ) (number other : ℕ) → HasNoCommand script number → HasNoCommand script other → number ≡ other
+
+-- Each script has commands, or a first line without one.
+abbrev pub EachScriptIsRead : Type 0
+EachScriptIsRead = (script : List ℕ) → ((commands : List CommandAt) × IsScript script commands) ⊎ ((number : ℕ) × HasNoCommand script number)

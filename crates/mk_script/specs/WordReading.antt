@@ -1,0 +1,47 @@
+-- Words of a script by tables.
+use Rattle.std.specs.Prelude.{ℕ, if◌then◌else◌, List, [], ◌∷◌, Option, Some, None, codes}
+use Rattle.std.specs.Str.{bytes_eq}
+use Rattle.mk_class.specs.declared.assignment.Flavor.{Flavor}
+use Rattle.mk_class.specs.declared.assignment.Flavor.TheVariants.{Recursive, Simple, PosixSimple, Immediate, Conditional, Append, Shell}
+use Rattle.mk_edit_laws.specs.Edits.{Edit}
+use Rattle.mk_edit_laws.specs.NewLines.{operator_text, colons_text}
+use Rattle.mk_edit_laws.specs.declared.edit.Colons.{Colons}
+use Rattle.mk_edit_laws.specs.declared.edit.Colons.TheVariants.{One, Two}
+use Rattle.mk_history.specs.Machine.{Command, Undo, Redo, Begin, End, Cancel}
+use Rattle.mk_script.specs.declared.word.EditWord.{EditWord}
+use Rattle.mk_script.specs.declared.word.EditWord.TheVariants as word
+use Rattle.mk_script.specs.declared.word.PlaceWord.{PlaceWord}
+use Rattle.mk_script.specs.declared.word.PlaceWord.TheVariants as place
+
+-- what the first pair of a table has whose text this is
+abbrev pub named : {K : Type 0} → List (K × List ℕ) → List ℕ → Option K
+named [] text = None
+named (entry ∷ table) text = if bytes_eq text entry.1 then Some entry.0 else named table text
+
+-- the calls of a session without an edit
+abbrev pub calls : List (Command Edit × List ℕ)
+calls = (Undo, codes "undo") ∷ (Redo, codes "redo") ∷ (Begin, codes "begin") ∷ (End, codes "end") ∷ (Cancel, codes "cancel") ∷ []
+
+-- the words of edits
+abbrev pub edit_words : List (EditWord × List ℕ)
+edit_words =
+    (word.Set, codes "set") ∷ (word.Append, codes "append") ∷ (word.Unset, codes "unset") ∷ (word.Assign, codes "assign")
+    ∷ (word.Rule, codes "rule") ∷ (word.Unrule, codes "unrule")
+    ∷ (word.Depend, codes "depend") ∷ (word.DependOrder, codes "depend-order") ∷ (word.Undepend, codes "undepend")
+    ∷ (word.Recipe, codes "recipe") ∷ (word.RecipeSet, codes "recipe-set") ∷ (word.RecipeDel, codes "recipe-del")
+    ∷ (word.Rename, codes "rename") ∷ []
+
+-- the first words of places
+abbrev pub places : List (PlaceWord × List ℕ)
+places =
+    (place.Bottom, codes "bottom") ∷ (place.BeforeVar, codes "before-var") ∷ (place.AfterVar, codes "after-var")
+    ∷ (place.BeforeRule, codes "before-rule") ∷ []
+
+abbrev pub operators : List (Flavor × List ℕ)
+operators =
+    (Recursive, operator_text Recursive) ∷ (Simple, operator_text Simple) ∷ (PosixSimple, operator_text PosixSimple)
+    ∷ (Immediate, operator_text Immediate) ∷ (Conditional, operator_text Conditional) ∷ (Append, operator_text Append)
+    ∷ (Shell, operator_text Shell) ∷ []
+
+abbrev pub separators : List (Colons × List ℕ)
+separators = (One, colons_text One) ∷ (Two, colons_text Two) ∷ []

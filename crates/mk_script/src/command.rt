@@ -1,0 +1,70 @@
+//! The command of a line: a call of a session by its word alone, or an edit, before which `nth` and a
+//! number may stand.
+ghost use Rattle.std.specs.Prelude.{◌≡◌};
+ghost use Rattle.mk_session.specs.CommandViews.{command_of};
+ghost use Rattle.mk_edit_parts.specs.EditViews.{edit_of};
+ghost use Rattle.mk_script.specs.SeenFields.{field_text};
+ghost use Rattle.mk_script.specs.CommandReading.{addressed_edit, command};
+ghost use Rattle.mk_script.specs.Readings.{IsRead, begins_comment, is_skipped};
+
+use crate::edit::read_edit;
+use crate::fault::LineFault;
+use crate::field::Field;
+use crate::fields::{first_field, is_blank};
+use crate::number::number_of;
+use crate::word::call;
+use mk_session::{Command, Edit};
+use std::alloc::Allocator;
+
+/// Whether a line is skipped: its first byte is `#`, or it is blanks.
+pub(crate) fn is_skipped(line: &[u8]) -> bool
+    ensures { result ≡ is_skipped line.now }
+{
+    begins_comment(line) || is_blank(line)
+}
+
+fn begins_comment(line: &[u8]) -> bool
+    ensures { result ≡ begins_comment line.now }
+{
+    match line {
+        [] => false,
+        [first, ..] => *first == b'#',
+    }
+}
+
+/// The command of a line that is not skipped.
+///
+/// # Errors
+///
+/// `NotACommand` where it is none; `NoMemory` where it is one, and a growth was refused.
+#[tactic(auto, using(crate::proofs::on_commands::TableLemmas::is_some_mapped))]
+pub(crate) fn read_command<A: Allocator + Copy>(
+    alloc: A,
+    line: &[u8],
+) -> Result<Command<A>, LineFault>
+    ensures { IsRead command_of (command line.now) result }
+{
+    let (word, rest) = first_field(line)?;
+    match call(word) {
+        Some(command) if is_blank(rest) => Ok(command),
+        Some(_) => Err(LineFault::NotACommand),
+        None => Ok(Command::Apply(read_addressed(alloc, word, rest)?)),
+    }
+}
+
+// The edit of a line, by its first word, which may be `nth`, and what follows that.
+fn read_addressed<A: Allocator + Copy>(
+    alloc: A,
+    word: Field<'_>,
+    rest: &[u8],
+) -> Result<Edit<A>, LineFault>
+    ensures { IsRead edit_of (addressed_edit (field_text word.entry) rest.now) result }
+{
+    if !word.is(b"nth") {
+        return read_edit(alloc, None, word, rest);
+    }
+    let (number, rest) = first_field(rest)?;
+    let nth = number_of(number)?;
+    let (word, rest) = first_field(rest)?;
+    read_edit(alloc, Some(nth), word, rest)
+}

@@ -1,0 +1,313 @@
+//! The edits, by the fields after their word.
+//!
+//! Fields stay in their line until all of them are known to make an edit. Then their bytes are copied,
+//! once each: memory is asked for only where there is an edit.
+ghost use Rattle.std.specs.Prelude.{◌≡◌, IfOk, true, false};
+ghost use Rattle.mk_edit_laws.specs.Edits as edits;
+ghost use Rattle.mk_edit_parts.specs.EditViews.{edit_of, place_of};
+ghost use Rattle.mk_script.specs.SeenFields.{field_text};
+ghost use Rattle.mk_script.specs.CommandReading.{assign_after, edit, of_one, of_two, place_at_front, remove_recipe_after, rename_of, rule_after, set_recipe_after};
+ghost use Rattle.mk_script.specs.FieldReading.{three_fields, two_fields};
+ghost use Rattle.mk_script.specs.Readings.{IsFound, IsRead, place_and_rest, written_place};
+
+use crate::fault::{LineFault, NotThere};
+use crate::field::Field;
+use crate::fields::{first_field, one_field, three_fields, two_fields};
+use crate::number::number_of;
+use crate::word::{EditWord, PlaceWord, colons, edit_word, flavor, place_word};
+use mk_session::{Edit, Place};
+use std::alloc::{AllocError, Allocator};
+
+/// A place whose text is still in the line.
+#[derive(Clone, Copy)]
+pub(crate) enum WrittenPlace<'a> {
+    Bottom,
+    BeforeVar(Option<u32>, Field<'a>),
+    AfterVar(Option<u32>, Field<'a>),
+    BeforeRule(Option<u32>, Field<'a>),
+}
+
+impl<'a> WrittenPlace<'a> {
+    // The place with a text of its own.
+    fn to_place<A: Allocator>(self, alloc: A) -> Result<Place<A>, AllocError>
+        ensures { IfOk result (λ place. place_of place ≡ written_place self.entry) }
+    {
+        match self {
+            WrittenPlace::Bottom => Ok(Place::Bottom),
+            WrittenPlace::BeforeVar(nth, name) => {
+                let name = name.to_vec(alloc)?;
+                Ok(Place::BeforeVar { nth, name })
+            }
+            WrittenPlace::AfterVar(nth, name) => {
+                let name = name.to_vec(alloc)?;
+                Ok(Place::AfterVar { nth, name })
+            }
+            WrittenPlace::BeforeRule(nth, target) => {
+                let target = target.to_vec(alloc)?;
+                Ok(Place::BeforeRule { nth, target })
+            }
+        }
+    }
+}
+
+// The place that a text begins with, and what follows it. No number may stand before `bottom`.
+fn place_at_front(nth: Option<u32>, text: &[u8]) -> Result<(WrittenPlace<'_>, &[u8]), NotThere>
+    ensures { IsFound place_and_rest (place_at_front nth text.now) result }
+{
+    let (word, rest) = first_field(text)?;
+    match place_word(word) {
+        None => Err(NotThere),
+        Some(PlaceWord::Bottom) => match nth {
+            None => Ok((WrittenPlace::Bottom, rest)),
+            Some(_) => Err(NotThere),
+        },
+        Some(PlaceWord::BeforeVar) => {
+            let (name, rest) = first_field(rest)?;
+            Ok((WrittenPlace::BeforeVar(nth, name), rest))
+        }
+        Some(PlaceWord::AfterVar) => {
+            let (name, rest) = first_field(rest)?;
+            Ok((WrittenPlace::AfterVar(nth, name), rest))
+        }
+        Some(PlaceWord::BeforeRule) => {
+            let (target, rest) = first_field(rest)?;
+            Ok((WrittenPlace::BeforeRule(nth, target), rest))
+        }
+    }
+}
+
+/// The edit that a word and the fields after it make. A number may stand before it.
+///
+/// # Errors
+///
+/// `NotACommand` where they make none; `NoMemory` where they do, and a growth was refused.
+pub(crate) fn read_edit<A: Allocator + Copy>(
+    alloc: A,
+    nth: Option<u32>,
+    word: Field<'_>,
+    rest: &[u8],
+) -> Result<Edit<A>, LineFault>
+    ensures { IsRead edit_of (edit nth (field_text word.entry) rest.now) result }
+{
+    let Some(word) = edit_word(word) else {
+        return Err(LineFault::NotACommand);
+    };
+    match word {
+        EditWord::Set => read_set(alloc, nth, rest),
+        EditWord::Append => read_append(alloc, nth, rest),
+        EditWord::Unset => read_unset(alloc, nth, rest),
+        EditWord::Assign => read_assign(alloc, nth, rest),
+        EditWord::Rule => read_rule(alloc, nth, rest),
+        EditWord::Unrule => read_unrule(alloc, nth, rest),
+        EditWord::Depend => read_depend(alloc, false, nth, rest),
+        EditWord::DependOrder => read_depend(alloc, true, nth, rest),
+        EditWord::Undepend => read_undepend(alloc, nth, rest),
+        EditWord::Recipe => read_recipe(alloc, nth, rest),
+        EditWord::RecipeSet => read_recipe_set(alloc, nth, rest),
+        EditWord::RecipeDel => read_recipe_del(alloc, nth, rest),
+        EditWord::Rename => read_rename(alloc, nth, rest),
+    }
+}
+
+// `set NAME VALUE`.
+fn read_set<A: Allocator + Copy>(
+    alloc: A,
+    nth: Option<u32>,
+    rest: &[u8],
+) -> Result<Edit<A>, LineFault>
+    ensures { IsRead edit_of (of_two (edits.SetValue nth) rest.now) result }
+{
+    let (name, value) = two_fields(rest)?;
+    let name = name.to_vec(alloc)?;
+    let value = value.to_vec(alloc)?;
+    Ok(Edit::SetValue { nth, name, value })
+}
+
+// `append NAME VALUE`.
+fn read_append<A: Allocator + Copy>(
+    alloc: A,
+    nth: Option<u32>,
+    rest: &[u8],
+) -> Result<Edit<A>, LineFault>
+    ensures { IsRead edit_of (of_two (edits.AppendValue nth) rest.now) result }
+{
+    let (name, value) = two_fields(rest)?;
+    let name = name.to_vec(alloc)?;
+    let value = value.to_vec(alloc)?;
+    Ok(Edit::AppendValue { nth, name, value })
+}
+
+// `unset NAME`.
+fn read_unset<A: Allocator + Copy>(
+    alloc: A,
+    nth: Option<u32>,
+    rest: &[u8],
+) -> Result<Edit<A>, LineFault>
+    ensures { IsRead edit_of (of_one (edits.RemoveAssign nth) rest.now) result }
+{
+    let name = one_field(rest)?.to_vec(alloc)?;
+    Ok(Edit::RemoveAssign { nth, name })
+}
+
+// `assign PLACE NAME OPERATOR VALUE`.
+fn read_assign<A: Allocator + Copy>(
+    alloc: A,
+    nth: Option<u32>,
+    rest: &[u8],
+) -> Result<Edit<A>, LineFault>
+    ensures { IsRead edit_of (assign_after (place_at_front nth rest.now)) result }
+{
+    let (place, rest) = place_at_front(nth, rest)?;
+    let (name, operator, value) = three_fields(rest)?;
+    let Some(flavor) = flavor(operator) else {
+        return Err(LineFault::NotACommand);
+    };
+    let place = place.to_place(alloc)?;
+    let name = name.to_vec(alloc)?;
+    let value = value.to_vec(alloc)?;
+    Ok(Edit::AddAssign {
+        place,
+        name,
+        flavor,
+        value,
+    })
+}
+
+// `rule PLACE TARGETS SEPARATOR PREREQUISITES`.
+fn read_rule<A: Allocator + Copy>(
+    alloc: A,
+    nth: Option<u32>,
+    rest: &[u8],
+) -> Result<Edit<A>, LineFault>
+    ensures { IsRead edit_of (rule_after (place_at_front nth rest.now)) result }
+{
+    let (place, rest) = place_at_front(nth, rest)?;
+    let (targets, separator, prereqs) = three_fields(rest)?;
+    let Some(colons) = colons(separator) else {
+        return Err(LineFault::NotACommand);
+    };
+    let place = place.to_place(alloc)?;
+    let targets = targets.to_vec(alloc)?;
+    let prereqs = prereqs.to_vec(alloc)?;
+    Ok(Edit::AddRule {
+        place,
+        targets,
+        colons,
+        prereqs,
+    })
+}
+
+// `unrule TARGET`.
+fn read_unrule<A: Allocator + Copy>(
+    alloc: A,
+    nth: Option<u32>,
+    rest: &[u8],
+) -> Result<Edit<A>, LineFault>
+    ensures { IsRead edit_of (of_one (edits.RemoveRule nth) rest.now) result }
+{
+    let target = one_field(rest)?.to_vec(alloc)?;
+    Ok(Edit::RemoveRule { nth, target })
+}
+
+// `depend TARGET WORD` and `depend-order TARGET WORD`.
+fn read_depend<A: Allocator + Copy>(
+    alloc: A,
+    order: bool,
+    nth: Option<u32>,
+    rest: &[u8],
+) -> Result<Edit<A>, LineFault>
+    ensures { IsRead edit_of (of_two (edits.AddPrereq order nth) rest.now) result }
+{
+    let (target, word) = two_fields(rest)?;
+    let target = target.to_vec(alloc)?;
+    let word = word.to_vec(alloc)?;
+    Ok(Edit::AddPrereq {
+        order,
+        nth,
+        target,
+        word,
+    })
+}
+
+// `undepend TARGET WORD`.
+fn read_undepend<A: Allocator + Copy>(
+    alloc: A,
+    nth: Option<u32>,
+    rest: &[u8],
+) -> Result<Edit<A>, LineFault>
+    ensures { IsRead edit_of (of_two (edits.RemovePrereq nth) rest.now) result }
+{
+    let (target, word) = two_fields(rest)?;
+    let target = target.to_vec(alloc)?;
+    let word = word.to_vec(alloc)?;
+    Ok(Edit::RemovePrereq { nth, target, word })
+}
+
+// `recipe TARGET LINE`.
+fn read_recipe<A: Allocator + Copy>(
+    alloc: A,
+    nth: Option<u32>,
+    rest: &[u8],
+) -> Result<Edit<A>, LineFault>
+    ensures { IsRead edit_of (of_two (edits.AddRecipe nth) rest.now) result }
+{
+    let (target, line) = two_fields(rest)?;
+    let target = target.to_vec(alloc)?;
+    let line = line.to_vec(alloc)?;
+    Ok(Edit::AddRecipe { nth, target, line })
+}
+
+// `recipe-set TARGET K LINE`.
+fn read_recipe_set<A: Allocator + Copy>(
+    alloc: A,
+    nth: Option<u32>,
+    rest: &[u8],
+) -> Result<Edit<A>, LineFault>
+    ensures { IsRead edit_of (set_recipe_after nth (three_fields rest.now)) result }
+{
+    let (target, number, line) = three_fields(rest)?;
+    let number = number_of(number)?;
+    let target = target.to_vec(alloc)?;
+    let line = line.to_vec(alloc)?;
+    Ok(Edit::SetRecipe {
+        nth,
+        target,
+        number,
+        line,
+    })
+}
+
+// `recipe-del TARGET K`.
+fn read_recipe_del<A: Allocator + Copy>(
+    alloc: A,
+    nth: Option<u32>,
+    rest: &[u8],
+) -> Result<Edit<A>, LineFault>
+    ensures { IsRead edit_of (remove_recipe_after nth (two_fields rest.now)) result }
+{
+    let (target, number) = two_fields(rest)?;
+    let number = number_of(number)?;
+    let target = target.to_vec(alloc)?;
+    Ok(Edit::RemoveRecipe {
+        nth,
+        target,
+        number,
+    })
+}
+
+// `rename OLD NEW`, before which no number may stand.
+fn read_rename<A: Allocator + Copy>(
+    alloc: A,
+    nth: Option<u32>,
+    rest: &[u8],
+) -> Result<Edit<A>, LineFault>
+    ensures { IsRead edit_of (rename_of nth rest.now) result }
+{
+    if nth.is_some() {
+        return Err(LineFault::NotACommand);
+    }
+    let (from, to) = two_fields(rest)?;
+    let from = from.to_vec(alloc)?;
+    let to = to.to_vec(alloc)?;
+    Ok(Edit::RenameTarget { from, to })
+}

@@ -1,0 +1,93 @@
+//! A field of a line.
+//!
+//! It is written as it is, where it is not empty, holds no blank and does not begin with a quote; or
+//! between quotes, with a backslash before each quote and each backslash of it.
+ghost use Rattle.std.specs.Prelude.{◌≡◌, ◌++◌, true, false, IfOk, OnOk};
+ghost use Rattle.std.specs.List.{list_any};
+ghost use Rattle.std.specs.Str.{bytes_eq};
+ghost use Rattle.mk_script.specs.Fields.{is_special};
+ghost use Rattle.mk_script.specs.FieldReading.{IsEscaped, unescaped};
+
+use std::alloc::{AllocError, Allocator};
+
+/// A field as it stands in its line.
+#[derive(Clone, Copy)]
+pub(crate) struct Field<'a> {
+    /// Its bytes in the line, without the quotes around them.
+    written: &'a [u8],
+    /// Whether there are quotes; then a backslash stands before each quote and backslash.
+    is_quoted: bool,
+    ghost escapes: { is_quoted ≡ true → IsEscaped written.now },
+}
+
+impl<'a> Field<'a> {
+    ghost use Rattle.mk_script.specs.SeenFields.{IsWrittenPlain, field_text};
+
+    /// A field that is written as it is.
+    pub(crate) fn bare(written: &'a [u8]) -> Self
+        ensures { field_text result ≡ written.now }
+    {
+        Field {
+            written,
+            is_quoted: false,
+        }
+    }
+
+    /// A field that is written between quotes, by what stands between them.
+    pub(crate) fn quoted(written: &'a [u8]) -> Self
+        requires { IsEscaped written.now }
+        ensures { field_text result ≡ unescaped false written.now }
+    {
+        Field {
+            written,
+            is_quoted: true,
+        }
+    }
+
+    /// Whether the field is this word, which has neither quotes nor backslashes.
+    pub(crate) fn is(self, word: &[u8]) -> bool
+        requires { list_any is_special word.now ≡ false }
+        ensures { result ≡ bytes_eq (field_text self.entry) word.now }
+    {
+        self.written == word
+    }
+
+    /// The bytes of the field in the line. They are those of the field, unless some are quotes or
+    /// backslashes.
+    pub(crate) fn written(self) -> &'a [u8]
+        ensures { IsWrittenPlain (field_text self.entry) result.now }
+    {
+        self.written
+    }
+
+    /// The bytes of the field.
+    pub(crate) fn to_vec<A: Allocator>(self, alloc: A) -> Result<Vec<u8, A>, AllocError>
+        ensures { IfOk result (λ text. text.items ≡ field_text self.entry) }
+    {
+        let mut text = Vec::with_capacity(alloc, self.written.len())?;
+        if self.is_quoted {
+            push_unescaped(&mut text, self.written)?;
+        } else {
+            text.extend_from_slice(self.written)?;
+        }
+        Ok(text)
+    }
+}
+
+// Puts the bytes of a field after a text: each byte but the backslashes that stand before others.
+fn push_unescaped<A: Allocator>(text: &mut Vec<u8, A>, written: &[u8]) -> Result<(), AllocError>
+    ensures { OnOk result (text.new.items ≡ text.old.items ++ unescaped false written.now) }
+{
+    let mut is_escaped = false;
+    for byte in written {
+        if is_escaped {
+            text.push(*byte)?;
+            is_escaped = false;
+        } else if *byte == b'\\' {
+            is_escaped = true;
+        } else {
+            text.push(*byte)?;
+        }
+    }
+    Ok(())
+}

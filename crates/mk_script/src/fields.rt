@@ -1,0 +1,158 @@
+//! The fields of a line, read from its front.
+//!
+//! Fields have blanks between them, before them and after them.
+ghost use Rattle.std.specs.Prelude.{◌≡◌, ◌≤◌, false, length, option_map};
+ghost use Rattle.mk_lines.specs.UnitWalk.{is_blank_byte};
+ghost use Rattle.mk_script.specs.Fields.{is_special};
+ghost use Rattle.mk_script.specs.FieldReading.{after_blanks, bare_len, blanks_before, ends_field, first_field, is_blank, one_field, quoted_field, three_fields, two_fields, until_quote};
+ghost use Rattle.mk_script.specs.SeenFields.{field_and_rest, field_text, three_texts, two_parts, two_texts};
+ghost use Rattle.mk_script.specs.Readings.{IsFound};
+
+use crate::fault::NotThere;
+use crate::field::Field;
+
+fn is_blank_byte(byte: u8) -> bool
+    ensures { result ≡ is_blank_byte byte }
+{
+    matches!(byte, b' ' | b'\t')
+}
+
+// How many blanks a text begins with.
+fn blanks_before(text: &[u8]) -> usize
+    ensures count { result ≡ blanks_before text.now }
+    ensures within { result ≤ length text.now }
+{
+    text.iter().take_while(|byte| is_blank_byte(**byte)).count()
+}
+
+// How many bytes stand before the first blank of a text.
+fn bare_len(text: &[u8]) -> usize
+    ensures count { result ≡ bare_len text.now }
+    ensures within { result ≤ length text.now }
+{
+    text.iter()
+        .take_while(|byte| !is_blank_byte(**byte))
+        .count()
+}
+
+fn after_blanks(text: &[u8]) -> &[u8]
+    ensures { result.now ≡ after_blanks text.now }
+{
+    &text[blanks_before(text)..]
+}
+
+/// Whether a text is blanks.
+pub(crate) fn is_blank(text: &[u8]) -> bool
+    ensures { result ≡ is_blank text.now }
+{
+    matches!(after_blanks(text), [])
+}
+
+// Whether a text is empty or begins with a blank.
+fn ends_field(text: &[u8]) -> bool
+    ensures { result ≡ ends_field text.now }
+{
+    match text {
+        [] => true,
+        [first, ..] => is_blank_byte(*first),
+    }
+}
+
+// A text up to the quote that ends a field, and what follows the quote. A backslash before a quote or
+// a backslash belongs to the field; no other may stand there.
+fn split_at_quote(text: &[u8]) -> Option<(&[u8], &[u8])>
+    ensures { option_map two_parts result ≡ until_quote false text.now }
+{
+    let mut is_escaped = false;
+    for (at, byte) in text.iter().enumerate() {
+        if is_escaped {
+            if !is_special(*byte) {
+                return None;
+            }
+            is_escaped = false;
+        } else if *byte == b'"' {
+            return Some((&text[..at], &text[at + 1..]));
+        } else {
+            is_escaped = *byte == b'\\';
+        }
+    }
+    None
+}
+
+// Whether a byte is a quote or a backslash.
+fn is_special(byte: u8) -> bool
+    ensures { result ≡ is_special byte }
+{
+    matches!(byte, b'"' | b'\\')
+}
+
+// The field that stands in a text after its opening quote, and what follows the field.
+fn quoted_field(text: &[u8]) -> Result<(Field<'_>, &[u8]), NotThere>
+    ensures { IsFound field_and_rest (quoted_field (until_quote false text.now)) result }
+{
+    match split_at_quote(text) {
+        Some((written, rest)) if ends_field(rest) => Ok((Field::quoted(written), rest)),
+        _ => Err(NotThere),
+    }
+}
+
+/// The first field of a line, and what follows it.
+///
+/// # Errors
+///
+/// Where the line is blanks, or begins with a field whose quotes are amiss.
+pub(crate) fn first_field(line: &[u8]) -> Result<(Field<'_>, &[u8]), NotThere>
+    ensures { IsFound field_and_rest (first_field line.now) result }
+{
+    let text = after_blanks(line);
+    match text {
+        [] => Err(NotThere),
+        [b'"', quoted @ ..] => quoted_field(quoted),
+        _ => {
+            let (written, rest) = text.split_at(bare_len(text));
+            Ok((Field::bare(written), rest))
+        }
+    }
+}
+
+/// The field of a line that has just one.
+///
+/// # Errors
+///
+/// Where the line has none, or another number of them, or its quotes are amiss.
+pub(crate) fn one_field(line: &[u8]) -> Result<Field<'_>, NotThere>
+    ensures { IsFound field_text (one_field line.now) result }
+{
+    let (field, rest) = first_field(line)?;
+    if is_blank(rest) {
+        Ok(field)
+    } else {
+        Err(NotThere)
+    }
+}
+
+/// The fields of a line that has just two.
+///
+/// # Errors
+///
+/// As of [`one_field`].
+pub(crate) fn two_fields(line: &[u8]) -> Result<(Field<'_>, Field<'_>), NotThere>
+    ensures { IsFound two_texts (two_fields line.now) result }
+{
+    let (first, rest) = first_field(line)?;
+    let second = one_field(rest)?;
+    Ok((first, second))
+}
+
+/// The fields of a line that has just three.
+///
+/// # Errors
+///
+/// As of [`one_field`].
+pub(crate) fn three_fields(line: &[u8]) -> Result<(Field<'_>, Field<'_>, Field<'_>), NotThere>
+    ensures { IsFound three_texts (three_fields line.now) result }
+{
+    let (first, rest) = first_field(line)?;
+    let (second, third) = two_fields(rest)?;
+    Ok((first, second, third))
+}

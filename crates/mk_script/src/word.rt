@@ -1,0 +1,162 @@
+//! The words that commands, places, operators and separators are known by. A word between quotes is
+//! the same word.
+ghost use Rattle.std.specs.Prelude.{◌≡◌, option_map};
+ghost use Rattle.mk_session.specs.CommandViews.{command_of};
+ghost use Rattle.mk_script.specs.SeenFields.{field_text};
+ghost use Rattle.mk_script.specs.WordReading.{calls, edit_words, named, operators, places, separators};
+
+use crate::field::Field;
+use mk_class::Flavor;
+use mk_session::{Colons, Command};
+use std::alloc::Allocator;
+
+/// The words of edits.
+#[derive(Clone, Copy, Debug)]
+pub(crate) enum EditWord {
+    /// `set`.
+    Set,
+    /// `append`.
+    Append,
+    /// `unset`.
+    Unset,
+    /// `assign`.
+    Assign,
+    /// `rule`.
+    Rule,
+    /// `unrule`.
+    Unrule,
+    /// `depend`.
+    Depend,
+    /// `depend-order`.
+    DependOrder,
+    /// `undepend`.
+    Undepend,
+    /// `recipe`.
+    Recipe,
+    /// `recipe-set`.
+    RecipeSet,
+    /// `recipe-del`.
+    RecipeDel,
+    /// `rename`.
+    Rename,
+}
+
+/// The first words of places.
+#[derive(Clone, Copy, Debug)]
+pub(crate) enum PlaceWord {
+    /// `bottom`.
+    Bottom,
+    /// `before-var`.
+    BeforeVar,
+    /// `after-var`.
+    AfterVar,
+    /// `before-rule`.
+    BeforeRule,
+}
+
+/// The edit that a word stands for.
+pub(crate) fn edit_word(word: Field<'_>) -> Option<EditWord>
+    ensures { result ≡ named edit_words (field_text word.entry) }
+{
+    if word.is(b"set") {
+        Some(EditWord::Set)
+    } else if word.is(b"append") {
+        Some(EditWord::Append)
+    } else if word.is(b"unset") {
+        Some(EditWord::Unset)
+    } else if word.is(b"assign") {
+        Some(EditWord::Assign)
+    } else if word.is(b"rule") {
+        Some(EditWord::Rule)
+    } else if word.is(b"unrule") {
+        Some(EditWord::Unrule)
+    } else if word.is(b"depend") {
+        Some(EditWord::Depend)
+    } else if word.is(b"depend-order") {
+        Some(EditWord::DependOrder)
+    } else if word.is(b"undepend") {
+        Some(EditWord::Undepend)
+    } else if word.is(b"recipe") {
+        Some(EditWord::Recipe)
+    } else if word.is(b"recipe-set") {
+        Some(EditWord::RecipeSet)
+    } else if word.is(b"recipe-del") {
+        Some(EditWord::RecipeDel)
+    } else if word.is(b"rename") {
+        Some(EditWord::Rename)
+    } else {
+        None
+    }
+}
+
+/// The call of a session that a word stands for, where it is none with an edit.
+pub(crate) fn call<A: Allocator>(word: Field<'_>) -> Option<Command<A>>
+    ensures { option_map command_of result ≡ named calls (field_text word.entry) }
+{
+    if word.is(b"undo") {
+        Some(Command::Undo)
+    } else if word.is(b"redo") {
+        Some(Command::Redo)
+    } else if word.is(b"begin") {
+        Some(Command::Begin)
+    } else if word.is(b"end") {
+        Some(Command::End)
+    } else if word.is(b"cancel") {
+        Some(Command::Cancel)
+    } else {
+        None
+    }
+}
+
+/// The place that begins with a word.
+pub(crate) fn place_word(word: Field<'_>) -> Option<PlaceWord>
+    ensures { result ≡ named places (field_text word.entry) }
+{
+    if word.is(b"bottom") {
+        Some(PlaceWord::Bottom)
+    } else if word.is(b"before-var") {
+        Some(PlaceWord::BeforeVar)
+    } else if word.is(b"after-var") {
+        Some(PlaceWord::AfterVar)
+    } else if word.is(b"before-rule") {
+        Some(PlaceWord::BeforeRule)
+    } else {
+        None
+    }
+}
+
+/// What an operator says.
+pub(crate) fn flavor(operator: Field<'_>) -> Option<Flavor>
+    ensures { result ≡ named operators (field_text operator.entry) }
+{
+    if operator.is(b"=") {
+        Some(Flavor::Recursive)
+    } else if operator.is(b":=") {
+        Some(Flavor::Simple)
+    } else if operator.is(b"::=") {
+        Some(Flavor::PosixSimple)
+    } else if operator.is(b":::=") {
+        Some(Flavor::Immediate)
+    } else if operator.is(b"?=") {
+        Some(Flavor::Conditional)
+    } else if operator.is(b"+=") {
+        Some(Flavor::Append)
+    } else if operator.is(b"!=") {
+        Some(Flavor::Shell)
+    } else {
+        None
+    }
+}
+
+/// The separator of a new rule.
+pub(crate) fn colons(separator: Field<'_>) -> Option<Colons>
+    ensures { result ≡ named separators (field_text separator.entry) }
+{
+    if separator.is(b":") {
+        Some(Colons::One)
+    } else if separator.is(b"::") {
+        Some(Colons::Two)
+    } else {
+        None
+    }
+}

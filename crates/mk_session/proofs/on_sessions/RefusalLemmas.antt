@@ -1,0 +1,205 @@
+-- The machine refuses nothing for want of memory.
+use Rattle.std.proofs.Common.{◌≡◌, refl, ap, ◌∙◌, ℕ, Bool, true, false, List, [], ◌∷◌, Option, Some, None, Ok, Err}
+use Rattle.std.specs.Prelude.{Result}
+use Rattle.mk_lines.specs.Pieces.{Replacement}
+use Rattle.mk_class.specs.ClassedLines.{ClassedLine, classed_lines}
+use Rattle.mk_history.specs.Machine as machine
+use Rattle.mk_history.specs.Machine.{Command, Apply, Undo, Redo, Begin, End, Cancel}
+use Rattle.mk_history.specs.Shown.{Shown, shown_edited, shown_ended, shown_back, shown_forward}
+use Rattle.mk_session.specs.Sessions.{answer, edited, text_with, session_refusal}
+use Rattle.mk_edit_laws.specs.Edits.{Place, Bottom, Edit, AppendValue, AddAssign, AddRule, RemoveRule, AddPrereq, RemovePrereq, AddRecipe, SetRecipe, RemoveRecipe, RenameTarget}
+use Rattle.mk_edit_laws.specs.Addresses.{Address, address}
+use Rattle.mk_edit_laws.specs.Spans.{spans_of}
+use Rattle.mk_edit_laws.specs.Causes.{where_holds}
+use Rattle.mk_edit_laws.specs.ArgumentCauses.{FieldTest, Tested, first_failed, field_tests, bad_argument, reserved}
+use Rattle.mk_edit_laws.specs.AddressCauses.{unread_prefix, no_such, no_such_line, ambiguous, ambiguous_line, prefix_led}
+use Rattle.mk_edit_laws.specs.RuleCauses.{absent, already, taken, shared_rule, straddles}
+use Rattle.mk_edit_laws.specs.LineCauses.{open_value, open_line, open_define, open_define_at, leaning, too_long}
+use Rattle.mk_edit_laws.specs.Refusals.{first_cause, unless_refused, causes, spans}
+use Rattle.mk_edit_laws.specs.declared.refusal.Refusal.{Refusal}
+use Rattle.mk_edit_laws.specs.declared.refusal.Refusal.TheVariants.{Reserved, RecipePrefix, NoSuch, Ambiguous, Absent, Already, Taken, SharedRule, Straddles, OpenValue, OpenLine, OpenDefine, Leans, TooLong, NoMemory}
+
+-- a cause that is not want of memory
+abbrev IsOther : Option Refusal → Type 0
+IsOther o = o ≡ Some NoMemory → ⊥
+
+-- a refusal that is not want of memory
+abbrev IsOtherRefusal : Refusal → Type 0
+IsOtherRefusal r = r ≡ NoMemory → ⊥
+
+-- ---- single causes
+
+nothing-other : IsOther None
+nothing-other h = absurd (cc)
+
+where_holds-other : (b : Bool) (r : Refusal) → IsOtherRefusal r → IsOther (where_holds b r)
+where_holds-other true r other h = let e : r ≡ NoMemory = cc in other e
+where_holds-other false r other h = absurd (cc)
+
+first_failed-other : (ts : List FieldTest) → IsOther (first_failed ts)
+first_failed-other [] h = absurd (cc)
+first_failed-other (Tested f true ∷ ts) h = first_failed-other ts h
+first_failed-other (Tested f false ∷ ts) h = absurd (cc)
+
+no_such_line-other : (ls : List ClassedLine) (a : Option Address) → IsOther (no_such_line ls a)
+no_such_line-other ls None h = absurd (cc)
+no_such_line-other ls (Some a) h = where_holds-other _ NoSuch (λ k. absurd (cc)) h
+
+no_such-other : (ls : List ClassedLine) (e : Edit) → IsOther (no_such ls e)
+no_such-other ls (RenameTarget o n) h = where_holds-other _ NoSuch (λ k. absurd (cc)) h
+no_such-other ls e h = no_such_line-other ls (address e) h
+
+ambiguous_line-other : (ls : List ClassedLine) (a : Option Address) → IsOther (ambiguous_line ls a)
+ambiguous_line-other ls None h = absurd (cc)
+ambiguous_line-other ls (Some a) h = where_holds-other _ (Ambiguous _) (λ k. absurd (cc)) h
+
+prefix_led-other : (ls : List ClassedLine) (e : Edit) → IsOther (prefix_led ls e)
+prefix_led-other ls (AddAssign p n f v) h = where_holds-other _ RecipePrefix (λ k. absurd (cc)) h
+prefix_led-other ls (AddRule p ts c ws) h = where_holds-other _ RecipePrefix (λ k. absurd (cc)) h
+prefix_led-other ls (RenameTarget o n) h = where_holds-other _ RecipePrefix (λ k. absurd (cc)) h
+prefix_led-other ls e h = nothing-other h
+
+absent-other : (ls : List ClassedLine) (e : Edit) → IsOther (absent ls e)
+absent-other ls (RemovePrereq nth t w) h = where_holds-other _ Absent (λ k. absurd (cc)) h
+absent-other ls (SetRecipe nth t k c) h = where_holds-other _ Absent (λ k. absurd (cc)) h
+absent-other ls (RemoveRecipe nth t k) h = where_holds-other _ Absent (λ k. absurd (cc)) h
+absent-other ls e h = nothing-other h
+
+already-other : (ls : List ClassedLine) (e : Edit) → IsOther (already ls e)
+already-other ls (AddPrereq true nth t w) h = where_holds-other _ Already (λ k. absurd (cc)) h
+already-other ls (AddPrereq false nth t w) h = where_holds-other _ Already (λ k. absurd (cc)) h
+already-other ls e h = nothing-other h
+
+taken-other : (ls : List ClassedLine) (e : Edit) → IsOther (taken ls e)
+taken-other ls (RenameTarget o n) h = where_holds-other _ Taken (λ k. absurd (cc)) h
+taken-other ls e h = nothing-other h
+
+shared_rule-other : (ls : List ClassedLine) (e : Edit) → IsOther (shared_rule ls e)
+shared_rule-other ls (RemoveRule nth t) h = where_holds-other _ (SharedRule _) (λ k. absurd (cc)) h
+shared_rule-other ls e h = nothing-other h
+
+straddles-other : (ls : List ClassedLine) (e : Edit) → IsOther (straddles ls e)
+straddles-other ls (RemoveRule nth t) h = where_holds-other _ Straddles (λ k. absurd (cc)) h
+straddles-other ls (AddRecipe nth t c) h = where_holds-other _ Straddles (λ k. absurd (cc)) h
+straddles-other ls e h = nothing-other h
+
+open_value-other : (ls : List ClassedLine) (e : Edit) → IsOther (open_value ls e)
+open_value-other ls (AppendValue nth n v) h = where_holds-other _ OpenValue (λ k. absurd (cc)) h
+open_value-other ls e h = nothing-other h
+
+open_define_at-other : (ls : List ClassedLine) (p : Place) → IsOther (open_define_at ls p)
+open_define_at-other ls Bottom h = where_holds-other _ OpenDefine (λ k. absurd (cc)) h
+open_define_at-other ls p h = nothing-other h
+
+open_define-other : (ls : List ClassedLine) (e : Edit) → IsOther (open_define ls e)
+open_define-other ls (AddAssign p n f v) h = open_define_at-other ls p h
+open_define-other ls (AddRule p ts c ws) h = open_define_at-other ls p h
+open_define-other ls e h = nothing-other h
+
+-- ---- the first of them
+
+first_cause-other : (o : Option Refusal) (cs : List (Option Refusal)) → IsOther o → IsOther (first_cause cs) → IsOther (first_cause (o ∷ cs))
+first_cause-other None cs first rest h = rest h
+first_cause-other (Some r) cs first rest h = first h
+
+causes-other : (t : List ℕ) (ls : List ClassedLine) (e : Edit) → IsOther (first_cause (causes t ls e))
+causes-other t ls e =
+    first_cause-other (bad_argument e) _ (first_failed-other (field_tests e))
+    (first_cause-other (reserved e) _ (where_holds-other _ Reserved (λ k. absurd (cc)))
+    (first_cause-other (unread_prefix ls) _ (where_holds-other _ RecipePrefix (λ k. absurd (cc)))
+    (first_cause-other (no_such ls e) _ (no_such-other ls e)
+    (first_cause-other (ambiguous ls e) _ (ambiguous_line-other ls (address e))
+    (first_cause-other (prefix_led ls e) _ (prefix_led-other ls e)
+    (first_cause-other (absent ls e) _ (absent-other ls e)
+    (first_cause-other (already ls e) _ (already-other ls e)
+    (first_cause-other (taken ls e) _ (taken-other ls e)
+    (first_cause-other (shared_rule ls e) _ (shared_rule-other ls e)
+    (first_cause-other (straddles ls e) _ (straddles-other ls e)
+    (first_cause-other (open_value ls e) _ (open_value-other ls e)
+    (first_cause-other (open_line ls e) _ (where_holds-other _ OpenLine (λ k. absurd (cc)))
+    (first_cause-other (open_define ls e) _ (open_define-other ls e)
+    (first_cause-other (leaning ls e) _ (where_holds-other _ Leans (λ k. absurd (cc)))
+    (first_cause-other (too_long t (spans_of t ls e)) [] (where_holds-other _ TooLong (λ k. absurd (cc)))
+    nothing-other)))))))))))))))
+
+unless_refused-other : (o : Option Refusal) (rs : List Replacement) → IsOther o → unless_refused o rs ≡ Err NoMemory → ⊥
+unless_refused-other None rs other h = absurd (cc)
+unless_refused-other (Some r) rs other h = let e : r ≡ NoMemory = cc in other (ap Some e)
+
+-- no edit is refused for want of memory by its causes
+pub spans-other : (t : List ℕ) (e : Edit) → spans t e ≡ Err NoMemory → ⊥
+spans-other t e h = unless_refused-other (first_cause (causes t (classed_lines t) e)) (spans_of t (classed_lines t) e) (causes-other t (classed_lines t) e) h
+
+edited-other : (t : List ℕ) (r : Result (List Replacement) Refusal) → (r ≡ Err NoMemory → ⊥) → text_with t r ≡ Err NoMemory → ⊥
+edited-other t (Ok rs) other h = absurd (cc)
+edited-other t (Err q) other h = let e : q ≡ NoMemory = cc in other (ap (λ x. Err x) e)
+
+-- ---- what a call answers
+
+-- no call but an edit is refused as an edit
+not_undo : (s : Shown (List ℕ)) (r : Refusal) → answer Undo s ≡ Err (machine.EditRefused r) → ⊥
+not_undo s r h = go s.begun s.back h
+  where
+    go : (b : Option (List ℕ)) (ts : List (List ℕ))
+        → elim b as (λ (x : Option (List ℕ)). Result (Shown (List ℕ)) (machine.Refusal Refusal)) [ Some t ↦ Err machine.GroupOpen | None ↦ shown_back s ts ] ≡ Err (machine.EditRefused r) → ⊥
+    go None [] k = absurd (cc)
+    go None (t ∷ ts) k = absurd (cc)
+    go (Some b) ts k = absurd (cc)
+
+not_redo : (s : Shown (List ℕ)) (r : Refusal) → answer Redo s ≡ Err (machine.EditRefused r) → ⊥
+not_redo s r h = go s.begun s.forward h
+  where
+    go : (b : Option (List ℕ)) (ts : List (List ℕ))
+        → elim b as (λ (x : Option (List ℕ)). Result (Shown (List ℕ)) (machine.Refusal Refusal)) [ Some t ↦ Err machine.GroupOpen | None ↦ shown_forward s ts ] ≡ Err (machine.EditRefused r) → ⊥
+    go None [] k = absurd (cc)
+    go None (t ∷ ts) k = absurd (cc)
+    go (Some b) ts k = absurd (cc)
+
+not_begin : (s : Shown (List ℕ)) (r : Refusal) → answer Begin s ≡ Err (machine.EditRefused r) → ⊥
+not_begin s r h = go s.begun h
+  where
+    go : (b : Option (List ℕ))
+        → elim b as (λ (x : Option (List ℕ)). Result (Shown (List ℕ)) (machine.Refusal Refusal)) [ Some t ↦ Err machine.GroupOpen | None ↦ Ok (record s { begun = Some s.text; pending = 0 }) ] ≡ Err (machine.EditRefused r) → ⊥
+    go None k = absurd (cc)
+    go (Some b) k = absurd (cc)
+
+not_end : (s : Shown (List ℕ)) (r : Refusal) → answer End s ≡ Err (machine.EditRefused r) → ⊥
+not_end s r h = go s.begun h
+  where
+    go : (b : Option (List ℕ))
+        → elim b as (λ (x : Option (List ℕ)). Result (Shown (List ℕ)) (machine.Refusal Refusal)) [ Some t ↦ Ok (shown_ended t s.pending s) | None ↦ Err machine.NoGroup ] ≡ Err (machine.EditRefused r) → ⊥
+    go None k = absurd (cc)
+    go (Some b) k = absurd (cc)
+
+not_cancel : (s : Shown (List ℕ)) (r : Refusal) → answer Cancel s ≡ Err (machine.EditRefused r) → ⊥
+not_cancel s r h = go s.begun h
+  where
+    go : (b : Option (List ℕ))
+        → elim b as (λ (x : Option (List ℕ)). Result (Shown (List ℕ)) (machine.Refusal Refusal)) [ Some t ↦ Ok (record s { text = t; begun = None; pending = 0 }) | None ↦ Err machine.NoGroup ] ≡ Err (machine.EditRefused r) → ⊥
+    go None k = absurd (cc)
+    go (Some b) k = absurd (cc)
+
+-- an edit is not refused for want of memory by the machine
+edit-other : (e : Edit) (s : Shown (List ℕ)) → answer (Apply e) s ≡ Err (machine.EditRefused NoMemory) → ⊥
+edit-other e s h = go (edited e s.text) refl h
+  where
+    go : (a : Result (List ℕ) Refusal) → edited e s.text ≡ a
+        → elim a as (λ (x : Result (List ℕ) Refusal). Result (Shown (List ℕ)) (machine.Refusal Refusal)) [ Ok new ↦ Ok (shown_edited new s) | Err x ↦ Err (machine.EditRefused x) ] ≡ Err (machine.EditRefused NoMemory) → ⊥
+    go (Ok new) k h = absurd (cc)
+    go (Err x) k h = let same : x ≡ NoMemory = cc in edited-other s.text (spans s.text e) (spans-other s.text e) (k ∙ ap (λ y. Err y) same)
+
+memory-refused : (c : Command Edit) (s : Shown (List ℕ)) → answer c s ≡ Err (machine.EditRefused NoMemory) → ⊥
+memory-refused (Apply e) s h = edit-other e s h
+memory-refused Undo s h = not_undo s NoMemory h
+memory-refused Redo s h = not_redo s NoMemory h
+memory-refused Begin s h = not_begin s NoMemory h
+memory-refused End s h = not_end s NoMemory h
+memory-refused Cancel s h = not_cancel s NoMemory h
+
+-- the machine refuses nothing for want of memory
+pub answer-other : (c : Command Edit) (s : Shown (List ℕ)) (q : machine.Refusal Refusal) → answer c s ≡ Err q → session_refusal q ≡ NoMemory → ⊥
+answer-other c s (machine.EditRefused r) h memory = memory-refused c s (h ∙ ap (λ x. Err (machine.EditRefused x)) memory)
+answer-other c s machine.NothingToUndo h memory = absurd (cc)
+answer-other c s machine.NothingToRedo h memory = absurd (cc)
+answer-other c s machine.GroupOpen h memory = absurd (cc)
+answer-other c s machine.NoGroup h memory = absurd (cc)

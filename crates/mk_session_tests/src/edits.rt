@@ -1,0 +1,106 @@
+//! Edits with their texts copied into memory of an allocator.
+//!
+//! Each means the only assignment of its name, or the only rule of its target.
+use mk_class::Flavor;
+use mk_session::{Edit, Place};
+use std::alloc::{AllocError, Allocator};
+
+/// Gives a variable another value.
+pub fn set<A: Allocator + Copy>(
+    alloc: A,
+    name: &[u8],
+    value: &[u8],
+) -> Result<Edit<A>, AllocError> {
+    let name = Vec::from_slice(alloc, name)?;
+    let value = Vec::from_slice(alloc, value)?;
+    Ok(Edit::SetValue {
+        nth: None,
+        name,
+        value,
+    })
+}
+
+/// Puts a text after the value of a variable.
+pub fn append<A: Allocator + Copy>(
+    alloc: A,
+    name: &[u8],
+    value: &[u8],
+) -> Result<Edit<A>, AllocError> {
+    let name = Vec::from_slice(alloc, name)?;
+    let value = Vec::from_slice(alloc, value)?;
+    Ok(Edit::AppendValue {
+        nth: None,
+        name,
+        value,
+    })
+}
+
+/// Puts `NAME := VALUE` at the end.
+pub fn assign<A: Allocator + Copy>(
+    alloc: A,
+    name: &[u8],
+    value: &[u8],
+) -> Result<Edit<A>, AllocError> {
+    let name = Vec::from_slice(alloc, name)?;
+    let value = Vec::from_slice(alloc, value)?;
+    Ok(Edit::AddAssign {
+        place: Place::Bottom,
+        name,
+        flavor: Flavor::Simple,
+        value,
+    })
+}
+
+/// Takes out the assignment of a name.
+pub fn unset<A: Allocator + Copy>(alloc: A, name: &[u8]) -> Result<Edit<A>, AllocError> {
+    let name = Vec::from_slice(alloc, name)?;
+    Ok(Edit::RemoveAssign { nth: None, name })
+}
+
+/// Takes out the rule of a target.
+pub fn unrule<A: Allocator + Copy>(alloc: A, target: &[u8]) -> Result<Edit<A>, AllocError> {
+    let target = Vec::from_slice(alloc, target)?;
+    Ok(Edit::RemoveRule { nth: None, target })
+}
+
+/// Puts a word after the order-only prerequisites of a target.
+pub fn depend_order<A: Allocator + Copy>(
+    alloc: A,
+    target: &[u8],
+    word: &[u8],
+) -> Result<Edit<A>, AllocError> {
+    let target = Vec::from_slice(alloc, target)?;
+    let word = Vec::from_slice(alloc, word)?;
+    Ok(Edit::AddPrereq {
+        order: true,
+        nth: None,
+        target,
+        word,
+    })
+}
+
+/// Takes a word out of the prerequisites of a target.
+pub fn undepend<A: Allocator + Copy>(
+    alloc: A,
+    target: &[u8],
+    word: &[u8],
+) -> Result<Edit<A>, AllocError> {
+    let target = Vec::from_slice(alloc, target)?;
+    let word = Vec::from_slice(alloc, word)?;
+    Ok(Edit::RemovePrereq {
+        nth: None,
+        target,
+        word,
+    })
+}
+
+/// Gives a target another name.
+pub fn rename<A: Allocator + Copy>(
+    alloc: A,
+    from: &[u8],
+    to: &[u8],
+) -> Result<Edit<A>, AllocError> {
+    let from = Vec::from_slice(alloc, from)?;
+    let to = Vec::from_slice(alloc, to)?;
+    Ok(Edit::RenameTarget { from, to })
+}

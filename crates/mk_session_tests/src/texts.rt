@@ -1,0 +1,35 @@
+//! The text of a document, and the document that a text has.
+use mk_class::Meter;
+use mk_lines::Fault;
+use mk_tree::Doc;
+use std::alloc::Allocator;
+use test_devices::MemorySink;
+
+/// As many bytes as a text may have.
+const ALL: usize = 16_777_216;
+
+/// The text of a document.
+pub fn text_of<A: Allocator>(rt: &HostRuntime, doc: &Doc<A>) -> Result<Vec<u8>, Fault> {
+    let mut sink = MemorySink::new(Vec::new(rt.alloc()), ALL);
+    doc.write_to(&mut sink)?;
+    Ok(Vec::from_slice(rt.alloc(), sink.bytes())?)
+}
+
+/// Whether a document has this text, and the lines of that text parsed anew, with their classes.
+pub fn is_as_parsed<A: Allocator>(
+    rt: &HostRuntime,
+    doc: &Doc<A>,
+    text: &[u8],
+) -> Result<bool, Fault> {
+    let written = text_of(rt, doc)?;
+    let parsed = Doc::parse(rt.alloc(), text, &mut Meter::new())?;
+    if written.as_slice() != text || doc.len() != parsed.len() {
+        return Ok(false);
+    }
+    for (line, other) in doc.iter().zip(parsed.iter()) {
+        if line.bytes() != other.bytes() || line.class() != other.class() {
+            return Ok(false);
+        }
+    }
+    Ok(true)
+}
