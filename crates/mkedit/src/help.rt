@@ -20,12 +20,12 @@ A line of the script is a command, a comment that begins with #, or blank:
     depend TARGET WORD        depend-order TARGET WORD    undepend TARGET WORD
     recipe TARGET LINE        recipe-set TARGET K LINE    recipe-del TARGET K
     undo    redo    begin    end    cancel
-PLACE is bottom, before-var NAME, after-var NAME or before-rule TARGET; OP an operator such as := ;
-SEP is : or :: . `nth N` before a command picks one of several lines that it could mean. A field
-with blanks in it stands between double quotes.
+PLACE is bottom, before-var NAME, after-var NAME or before-rule TARGET. OP is one of
+= := ::= :::= ?= += != and SEP one of : and ::. A field with blanks in it stands between double
+quotes. `nth N` before a command picks the N-th of several lines that it could mean.
 
 The text goes to standard output, or to OUT, which may be FILE. Where a command is refused, a line on
-standard error says which one and why, and nothing else is written, unless -k is given.
+standard error says which one and why, and no text goes out, unless -k is given.
 
 Example: with `CC = gcc # c` in config.mk, and `set CC clang` in use-clang,
     mkedit edit use-clang config.mk
