@@ -1,0 +1,2 @@
+pub mod PutLemmas
+pub mod SpacingLemmas

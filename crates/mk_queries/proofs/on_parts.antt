@@ -1,0 +1,3 @@
+pub mod ModifierLemmas
+pub mod ColonLemmas
+pub mod AssignmentPartLemmas

@@ -1,0 +1,4 @@
+pub mod NumberLemmas
+pub mod SaidLemmas
+pub mod UnreadLemmas
+pub mod VariableLemmas

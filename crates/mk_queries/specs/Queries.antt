@@ -1,0 +1,35 @@
+-- The texts that the queries write, of the text of a makefile.
+use Rattle.std.specs.Prelude.{ℕ, zero, suc, List, [], ◌∷◌, ◌++◌, map, codes, decimal}
+use Rattle.mk_lines.specs.Lists.{concat}
+use Rattle.mk_class.specs.Contexts.{Context}
+use Rattle.mk_class.specs.ClassedLines.{classed_lines}
+use Rattle.mk_tree.specs.LineTexts.{context_of}
+use Rattle.mk_tree.specs.Items.{Item, items_of_line}
+use Rattle.mk_queries.specs.StandingLines.{StandingLine, standing_lines, line_number, depth, recipe_count}
+use Rattle.mk_queries.specs.ItemLines.{variable_line, rule_line, unread_line}
+
+-- what is said of some lines in order: of each what is said of its item, where it has one
+abbrev pub said_of_lines : (StandingLine → Item → List ℕ) → List StandingLine → List ℕ
+said_of_lines say [] = []
+said_of_lines say (s ∷ ss) = concat (map (say s) (items_of_line s.line.class s.line.bytes)) ++ said_of_lines say ss
+
+-- the text of `vars`
+abbrev pub vars_text : List ℕ → List ℕ
+vars_text t = said_of_lines (λ s. variable_line (line_number s) (depth s)) (standing_lines t)
+
+-- the text of `rules`
+abbrev pub rules_text : List ℕ → List ℕ
+rules_text t = said_of_lines (λ s. rule_line (line_number s) (depth s) (recipe_count s)) (standing_lines t)
+
+-- a line on how many of a kind are open at the end of a text, where some are
+abbrev pub open_line : (kind : List ℕ) → (count : ℕ) → List ℕ
+open_line k zero = []
+open_line k (suc n) = codes "end: " ++ (k ++ (codes " " ++ (decimal (suc n) ++ codes "\n")))
+
+-- the lines on what is open at the end of a text
+abbrev pub end_lines : Context → List ℕ
+end_lines c = open_line (codes "conditionals") c.conditionals ++ open_line (codes "defines") c.defines
+
+-- the text of `check`
+abbrev pub check_text : List ℕ → List ℕ
+check_text t = said_of_lines (λ s. unread_line (line_number s)) (standing_lines t) ++ end_lines (context_of (classed_lines t))

@@ -1,0 +1,36 @@
+-- Walks over the lines of a document: what they say of the lines ahead.
+use Rattle.std.specs.Prelude.{◌==◌, ℕ, ◌+◌, if◌then◌else◌, List, [], ◌∷◌, ◌++◌, codes, decimal}
+use Rattle.mk_class.specs.Contexts.{Context, context_after_places}
+use Rattle.mk_class.specs.declared.class.Class as class
+use Rattle.mk_class.specs.declared.class.Class.TheVariants as variants
+use Rattle.mk_tree.specs.PlacedLines.{PlacedLine}
+use Rattle.mk_queries.specs.PlacedTexts.{text_of_line, variable_placed}
+
+-- how many line feeds there are in a text
+abbrev pub line_feeds : List ℕ → ℕ
+line_feeds [] = 0
+line_feeds (b ∷ t) = if b == 10 then 1 + line_feeds t else line_feeds t
+
+-- what is said of some lines, the first of which has this number and stands in this context: of each by its own
+abbrev pub said_ahead : (say : ℕ → Context → PlacedLine → List ℕ) → (number : ℕ) → Context → List PlacedLine → List ℕ
+said_ahead say n c [] = []
+said_ahead say n c (l ∷ ls) = say n c l ++ said_ahead say (n + line_feeds l.bytes) (context_after_places c l.class) ls
+
+-- ---- lines that are not read inside
+
+-- what is said of a line of this number and class
+abbrev pub unread_placed : (number : ℕ) → class.Class → List ℕ
+unread_placed n variants.Rough = decimal n ++ codes ": rough\n"
+unread_placed n variants.Opaque = decimal n ++ codes ": opaque\n"
+unread_placed n k = []
+
+-- what is said of some lines, the first of which has this number
+abbrev pub unread_ahead : (number : ℕ) → List PlacedLine → List ℕ
+unread_ahead n [] = []
+unread_ahead n (l ∷ ls) = unread_placed n l.class ++ unread_ahead (n + line_feeds l.bytes) ls
+
+-- ---- assignments
+
+-- what is said of some lines, the first of which has this number and stands in this context
+abbrev pub variables_ahead : (number : ℕ) → Context → List PlacedLine → List ℕ
+variables_ahead n c ls = said_ahead (λ n c l. variable_placed n c.conditionals (text_of_line l) l.class) n c ls

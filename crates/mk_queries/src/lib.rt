@@ -1,0 +1,29 @@
+//! Queries of a makefile.
+//!
+//! - [`vars`]: a line of text on each assignment.
+//! - [`check`]: a line of text on each line that is not read inside, and what is open at the end.
+//!
+//! A query walks over the lines of a document, reads none anew and takes no memory. The formats are
+//! this project's profile.
+//!
+//! The modules, lowest first:
+//!
+//! - `gathering`: texts that go out in few writes.
+//! - `spacing`: the words of a text, with spaces.
+//! - `line_part`: parts of a line by their places.
+//! - `place`: the numbers of lines, and where an item stands.
+//! - `targets`: targets with the separator after them.
+//! - `unread`: the query [`check`].
+//! - `variables`: the query [`vars`].
+#![tactic(auto)]
+
+mod gathering;
+mod line_part;
+mod place;
+mod spacing;
+mod targets;
+mod unread;
+mod variables;
+
+pub use unread::check;
+pub use variables::vars;

@@ -1,0 +1,25 @@
+//! Parts of a line's joined text, by their places.
+ghost use Rattle.std.specs.Prelude.{◌≡◌, ◌≤◌, length};
+ghost use Rattle.mk_lines.specs.Ranges.{text_at};
+ghost use Rattle.mk_tree.specs.Trees.{line_view};
+ghost use Rattle.mk_queries.specs.PlacedTexts.{text_of_line};
+
+use mk_lines::split::Span;
+use mk_tree::Line;
+use std::alloc::Allocator;
+
+/// The joined text of a line.
+pub(crate) fn text_of_line<A: Allocator>(line: &Line<A>) -> &[u8]
+    ensures { result.now ≡ text_of_line (line_view line.now) }
+{
+    line.cells().text(line.bytes())
+}
+
+/// A part of a text.
+pub(crate) fn part(text: &[u8], span: Span) -> &[u8]
+    requires rises { span.start ≤ span.end }
+    requires within { span.end ≤ length text.now }
+    ensures { result.now ≡ text_at text.now span }
+{
+    &text[span.start..span.end]
+}

@@ -1,0 +1,84 @@
+//! The words of a text, with spaces.
+ghost use Rattle.std.specs.Prelude.{◌≡◌, ◌++◌, false, true, IfErr, OnOk};
+ghost use Rattle.mk_lines.specs.Device.{AppendsPrefix};
+ghost use Rattle.mk_tree.specs.Printing.{AppendsSoFar};
+ghost use Rattle.mk_queries.specs.PlacedTexts.{words_in};
+ghost use Rattle.mk_queries.specs.Spacing.{each_after_space, each_before_space, spaced};
+
+use crate::gathering::{Gathered, put, put_parts};
+use mk_lines::sink::ByteSink;
+use mk_lines::{Fault, split_first_word};
+
+/// Puts each word of a text after a space behind the texts that are held back.
+///
+/// # Errors
+///
+/// As those of [`put`].
+pub(crate) fn put_each_after_space<W: ByteSink>(
+    gathered: &mut Gathered,
+    out: &mut W,
+    text: &[u8],
+) -> Result<(), Fault>
+    requires { W.failed out.old ≡ false }
+    ensures whole { OnOk result (AppendsSoFar (W.contents out.old) (W.contents out.new) (gathered.old.items ++ each_after_space (words_in text.now)) gathered.new.items) }
+    ensures prefix { AppendsPrefix (W.contents out.old) (W.contents out.new) (gathered.old.items ++ each_after_space (words_in text.now)) }
+    ensures works { OnOk result (W.failed out.new ≡ false) }
+    ensures fault { IfErr result (λ e. (e ≡ Fault.Write) × (W.failed out.new ≡ true)) }
+    ensures unflushed { W.flushes out.new ≡ W.flushes out.old }
+{
+    let mut rest = text;
+    'words: while let Some((word, after)) = split_first_word(rest) {
+        put_parts(gathered, out, &[b" ", word])?;
+        rest = after;
+    }
+    Ok(())
+}
+
+/// Puts each word of a text before a space behind the texts that are held back.
+///
+/// # Errors
+///
+/// As those of [`put`].
+pub(crate) fn put_each_before_space<W: ByteSink>(
+    gathered: &mut Gathered,
+    out: &mut W,
+    text: &[u8],
+) -> Result<(), Fault>
+    requires { W.failed out.old ≡ false }
+    ensures whole { OnOk result (AppendsSoFar (W.contents out.old) (W.contents out.new) (gathered.old.items ++ each_before_space (words_in text.now)) gathered.new.items) }
+    ensures prefix { AppendsPrefix (W.contents out.old) (W.contents out.new) (gathered.old.items ++ each_before_space (words_in text.now)) }
+    ensures works { OnOk result (W.failed out.new ≡ false) }
+    ensures fault { IfErr result (λ e. (e ≡ Fault.Write) × (W.failed out.new ≡ true)) }
+    ensures unflushed { W.flushes out.new ≡ W.flushes out.old }
+{
+    let mut rest = text;
+    'words: while let Some((word, after)) = split_first_word(rest) {
+        put_parts(gathered, out, &[word, b" "])?;
+        rest = after;
+    }
+    Ok(())
+}
+
+/// Puts the words of a text with one space between them behind the texts that are held back.
+///
+/// # Errors
+///
+/// As those of [`put`].
+pub(crate) fn put_spaced<W: ByteSink>(
+    gathered: &mut Gathered,
+    out: &mut W,
+    text: &[u8],
+) -> Result<(), Fault>
+    requires { W.failed out.old ≡ false }
+    ensures whole { OnOk result (AppendsSoFar (W.contents out.old) (W.contents out.new) (gathered.old.items ++ spaced (words_in text.now)) gathered.new.items) }
+    ensures prefix { AppendsPrefix (W.contents out.old) (W.contents out.new) (gathered.old.items ++ spaced (words_in text.now)) }
+    ensures works { OnOk result (W.failed out.new ≡ false) }
+    ensures fault { IfErr result (λ e. (e ≡ Fault.Write) × (W.failed out.new ≡ true)) }
+    ensures unflushed { W.flushes out.new ≡ W.flushes out.old }
+{
+    let Some((word, after)) = split_first_word(text) else {
+        return Ok(());
+    };
+    put(gathered, out, word)?;
+    put_each_after_space(gathered, out, after)
+}

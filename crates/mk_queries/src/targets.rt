@@ -1,0 +1,47 @@
+//! The targets of a rule, or of an assignment for targets, with the separator after them.
+ghost use Rattle.std.specs.Prelude.{◌≡◌, ◌++◌, false, true, IfErr, OnOk};
+ghost use Rattle.mk_lines.specs.Device.{AppendsPrefix};
+ghost use Rattle.mk_tree.specs.Printing.{AppendsSoFar};
+ghost use Rattle.mk_queries.specs.PlacedTexts.{words_in};
+ghost use Rattle.mk_queries.specs.PartTexts.{separator_text, targets_text};
+
+use crate::gathering::{Gathered, put};
+use crate::spacing::put_spaced;
+use mk_class::Separator;
+use mk_lines::Fault;
+use mk_lines::sink::ByteSink;
+
+/// The text of a separator.
+pub(crate) fn separator_text(separator: Separator) -> &'static str
+    ensures { result.now ≡ separator_text separator }
+{
+    match separator {
+        Separator::SingleColon => ":",
+        Separator::DoubleColon => "::",
+        Separator::GroupedColon => "&:",
+        Separator::GroupedDoubleColon => "&::",
+    }
+}
+
+/// Puts the targets that a text has, with one space between them, and a separator behind the texts that
+/// are held back.
+///
+/// # Errors
+///
+/// As those of [`put`].
+pub(crate) fn put_targets<W: ByteSink>(
+    gathered: &mut Gathered,
+    out: &mut W,
+    targets: &[u8],
+    separator: Separator,
+) -> Result<(), Fault>
+    requires { W.failed out.old ≡ false }
+    ensures whole { OnOk result (AppendsSoFar (W.contents out.old) (W.contents out.new) (gathered.old.items ++ targets_text (words_in targets.now) separator) gathered.new.items) }
+    ensures prefix { AppendsPrefix (W.contents out.old) (W.contents out.new) (gathered.old.items ++ targets_text (words_in targets.now) separator) }
+    ensures works { OnOk result (W.failed out.new ≡ false) }
+    ensures fault { IfErr result (λ e. (e ≡ Fault.Write) × (W.failed out.new ≡ true)) }
+    ensures unflushed { W.flushes out.new ≡ W.flushes out.old }
+{
+    put_spaced(gathered, out, targets)?;
+    put(gathered, out, separator_text(separator).as_bytes())
+}

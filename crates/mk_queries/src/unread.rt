@@ -1,0 +1,115 @@
+//! The query `check`: the lines that are kept and not read inside, and what is open at the end.
+ghost use Rattle.std.specs.Prelude.{◌≡◌, ◌++◌, false, true, IfErr, OnOk};
+ghost use Rattle.std.specs.Io.KnownBytes.{Appends};
+ghost use Rattle.mk_lines.specs.Device.{AppendsPrefix};
+ghost use Rattle.mk_tree.specs.Documents.{IsFaithful};
+ghost use Rattle.mk_tree.specs.PlacedLines.{placed_text};
+ghost use Rattle.mk_tree.specs.Printing.{AppendsSoFar};
+ghost use Rattle.mk_queries.specs.Queries.{check_text, end_lines, open_line};
+ghost use Rattle.mk_queries.specs.Walks.{unread_placed};
+
+use crate::gathering::{Gathered, put_parts};
+use crate::place::line_feeds;
+use mk_class::{Class, Context};
+use mk_lines::Fault;
+use mk_lines::sink::{ByteSink, write_all};
+use mk_tree::Doc;
+use std::alloc::Allocator;
+
+/// Writes a line of text on each line of the makefile that is kept and not read inside, in order, and
+/// then how many conditionals and defines are open at the end, where some are. Nothing is flushed.
+/// Takes no memory.
+///
+/// Such a line is *rough*, the line of a rule that is not read inside, or *opaque*, any other. The
+/// number that stands before it is that of its first physical line, from 1:
+///
+/// ```text
+/// 3: opaque
+/// 12: rough
+/// end: conditionals 2
+/// end: defines 1
+/// ```
+///
+/// It asks for a faithful document.
+///
+/// # Errors
+///
+/// [`Fault::Write`] where a write answered it or took nothing. A prefix of the text is out then.
+pub fn check<A: Allocator, W: ByteSink>(doc: &Doc<A>, out: &mut W) -> Result<(), Fault>
+    requires faithful { IsFaithful doc.now }
+    requires works { W.failed out.old ≡ false }
+    ensures whole { OnOk result (Appends (W.contents out.old) (W.contents out.new) (check_text (placed_text doc.now))) }
+    ensures prefix { AppendsPrefix (W.contents out.old) (W.contents out.new) (check_text (placed_text doc.now)) }
+    ensures works { OnOk result (W.failed out.new ≡ false) }
+    ensures fault { IfErr result (λ e. (e ≡ Fault.Write) × (W.failed out.new ≡ true)) }
+    ensures unflushed { W.flushes out.new ≡ W.flushes out.old }
+{
+    // The contract of `size` says that the lines are within the limit, and so is each number.
+    let _size = doc.size();
+    let mut gathered = Gathered::new();
+    let mut number = 1;
+    'lines: for line in doc.iter() {
+        put_unread(&mut gathered, out, number, &line.class())?;
+        number += line_feeds(line.bytes());
+    }
+    put_end(&mut gathered, out, doc.end_context())?;
+    write_all(out, &gathered)
+}
+
+// Puts what is said of a line of this number and class behind the texts that are held back.
+fn put_unread<W: ByteSink>(
+    gathered: &mut Gathered,
+    out: &mut W,
+    number: usize,
+    class: &Class,
+) -> Result<(), Fault>
+    requires { W.failed out.old ≡ false }
+    ensures whole { OnOk result (AppendsSoFar (W.contents out.old) (W.contents out.new) (gathered.old.items ++ unread_placed number class.now) gathered.new.items) }
+    ensures prefix { AppendsPrefix (W.contents out.old) (W.contents out.new) (gathered.old.items ++ unread_placed number class.now) }
+    ensures works { OnOk result (W.failed out.new ≡ false) }
+    ensures fault { IfErr result (λ e. (e ≡ Fault.Write) × (W.failed out.new ≡ true)) }
+    ensures unflushed { W.flushes out.new ≡ W.flushes out.old }
+{
+    let mut digits = itoa::Buffer::new();
+    let number = digits.format(number).as_bytes();
+    match class {
+        Class::Rough => put_parts(gathered, out, &[number, b": rough\n"]),
+        Class::Opaque => put_parts(gathered, out, &[number, b": opaque\n"]),
+        _ => Ok(()),
+    }
+}
+
+// Puts what is open in the context after all lines behind the texts that are held back.
+fn put_end<W: ByteSink>(gathered: &mut Gathered, out: &mut W, end: Context) -> Result<(), Fault>
+    requires { W.failed out.old ≡ false }
+    ensures whole { OnOk result (AppendsSoFar (W.contents out.old) (W.contents out.new) (gathered.old.items ++ end_lines end) gathered.new.items) }
+    ensures prefix { AppendsPrefix (W.contents out.old) (W.contents out.new) (gathered.old.items ++ end_lines end) }
+    ensures works { OnOk result (W.failed out.new ≡ false) }
+    ensures fault { IfErr result (λ e. (e ≡ Fault.Write) × (W.failed out.new ≡ true)) }
+    ensures unflushed { W.flushes out.new ≡ W.flushes out.old }
+{
+    put_open(gathered, out, b"conditionals", u32::from(end.conds()))?;
+    put_open(gathered, out, b"defines", end.defines())
+}
+
+// Puts a line on how many of a kind are open behind the texts that are held back, where some are.
+fn put_open<W: ByteSink>(
+    gathered: &mut Gathered,
+    out: &mut W,
+    kind: &[u8],
+    count: u32,
+) -> Result<(), Fault>
+    requires { W.failed out.old ≡ false }
+    ensures whole { OnOk result (AppendsSoFar (W.contents out.old) (W.contents out.new) (gathered.old.items ++ open_line kind.now count) gathered.new.items) }
+    ensures prefix { AppendsPrefix (W.contents out.old) (W.contents out.new) (gathered.old.items ++ open_line kind.now count) }
+    ensures works { OnOk result (W.failed out.new ≡ false) }
+    ensures fault { IfErr result (λ e. (e ≡ Fault.Write) × (W.failed out.new ≡ true)) }
+    ensures unflushed { W.flushes out.new ≡ W.flushes out.old }
+{
+    if count == 0 {
+        return Ok(());
+    }
+    let mut digits = itoa::Buffer::new();
+    let count = digits.format(count).as_bytes();
+    put_parts(gathered, out, &[b"end: ", kind, b" ", count, b"\n"])
+}

@@ -1,0 +1,178 @@
+//! The query `vars`: the assignments.
+ghost use Rattle.std.specs.Prelude.{◌≡◌, ◌≤◌, ◌++◌, false, true, IfErr, OnOk, codes, length};
+ghost use Rattle.std.specs.Io.KnownBytes.{Appends};
+ghost use Rattle.mk_lines.specs.Device.{AppendsPrefix};
+ghost use Rattle.mk_tree.specs.Documents.{IsFaithful};
+ghost use Rattle.mk_tree.specs.PlacedLines.{placed_text};
+ghost use Rattle.mk_tree.specs.Printing.{AppendsSoFar};
+ghost use Rattle.mk_tree.specs.Trees.{line_view};
+ghost use Rattle.mk_queries.specs.PartTexts.{operator_text};
+ghost use Rattle.mk_queries.specs.PlacedTexts.{IsAssignmentWithin, IsClassedIn, assigned_placed, assigned_start, target_assigned_placed, text_of_line, variable_placed};
+ghost use Rattle.mk_queries.specs.Queries.{vars_text};
+ghost use Rattle.mk_queries.specs.Spacing.{after_space};
+
+use crate::gathering::{Gathered, put, put_parts};
+use crate::line_part::{part, text_of_line};
+use crate::place::{line_feeds, put_place};
+use crate::spacing::put_each_before_space;
+use crate::targets::{put_targets, separator_text};
+use mk_class::{Assignment, Class, Context, Flavor, TargetAssignment};
+use mk_lines::Fault;
+use mk_lines::sink::{ByteSink, write_all};
+use mk_lines::split::Span;
+use mk_tree::{Doc, Line};
+use std::alloc::Allocator;
+
+/// Writes a line of text on each assignment of the makefile, in order. Nothing is flushed. Takes no
+/// memory.
+///
+/// Before it stand the number of its first physical line, from 1, and how many conditionals are open
+/// there. Then come, with one space between each two, the targets and the separator of an assignment for
+/// targets, the modifiers, the name, the operator, and the value where it is not empty. Folds are
+/// spaces, and comments are left out:
+///
+/// ```text
+/// 2:1: export CC ?= gcc
+/// 4:0: foo: X += 1
+/// 5:0: Y :=
+/// ```
+///
+/// It asks for a faithful document.
+///
+/// # Errors
+///
+/// [`Fault::Write`] where a write answered it or took nothing. A prefix of the text is out then.
+pub fn vars<A: Allocator, W: ByteSink>(doc: &Doc<A>, out: &mut W) -> Result<(), Fault>
+    requires faithful { IsFaithful doc.now }
+    requires works { W.failed out.old ≡ false }
+    ensures whole { OnOk result (Appends (W.contents out.old) (W.contents out.new) (vars_text (placed_text doc.now))) }
+    ensures prefix { AppendsPrefix (W.contents out.old) (W.contents out.new) (vars_text (placed_text doc.now)) }
+    ensures works { OnOk result (W.failed out.new ≡ false) }
+    ensures fault { IfErr result (λ e. (e ≡ Fault.Write) × (W.failed out.new ≡ true)) }
+    ensures unflushed { W.flushes out.new ≡ W.flushes out.old }
+{
+    // The contract of `size` says that the lines are within the limit, and so is each number.
+    let _size = doc.size();
+    let mut gathered = Gathered::new();
+    let mut number = 1;
+    'lines: for (context, line) in doc.lines_with_contexts() {
+        put_variable(&mut gathered, out, number, context, line)?;
+        number += line_feeds(line.bytes());
+    }
+    write_all(out, &gathered)
+}
+
+// Puts what is said of a line of this number, which stands in a context, behind the texts that are held
+// back.
+fn put_variable<A: Allocator, W: ByteSink>(
+    gathered: &mut Gathered,
+    out: &mut W,
+    number: usize,
+    context: Context,
+    line: &Line<A>,
+) -> Result<(), Fault>
+    requires works { W.failed out.old ≡ false }
+    requires classed { IsClassedIn context (line_view line.now) }
+    ensures whole { OnOk result (AppendsSoFar (W.contents out.old) (W.contents out.new) (gathered.old.items ++ variable_placed number context.conditionals (text_of_line (line_view line.now)) (line_view line.now).class) gathered.new.items) }
+    ensures prefix { AppendsPrefix (W.contents out.old) (W.contents out.new) (gathered.old.items ++ variable_placed number context.conditionals (text_of_line (line_view line.now)) (line_view line.now).class) }
+    ensures works { OnOk result (W.failed out.new ≡ false) }
+    ensures fault { IfErr result (λ e. (e ≡ Fault.Write) × (W.failed out.new ≡ true)) }
+    ensures unflushed { W.flushes out.new ≡ W.flushes out.old }
+{
+    let text = text_of_line(line);
+    match line.class() {
+        Class::Assign(assignment, _) => {
+            put_place(gathered, out, number, context.conds())?;
+            put_assigned(gathered, out, text, 0, &assignment)
+        }
+        Class::TargetAssign(assignment) => {
+            put_place(gathered, out, number, context.conds())?;
+            put_target_assigned(gathered, out, text, &assignment)
+        }
+        _ => Ok(()),
+    }
+}
+
+// Puts an assignment for targets, up to the end of its line, behind the texts that are held back.
+fn put_target_assigned<W: ByteSink>(
+    gathered: &mut Gathered,
+    out: &mut W,
+    text: &[u8],
+    at: &TargetAssignment,
+) -> Result<(), Fault>
+    requires works { W.failed out.old ≡ false }
+    requires targets_within { at.now.targets_end ≤ length text.now }
+    requires within { IsAssignmentWithin (length text.now) (assigned_start at.now) at.now.assignment }
+    ensures whole { OnOk result (AppendsSoFar (W.contents out.old) (W.contents out.new) (gathered.old.items ++ target_assigned_placed text.now at.now) gathered.new.items) }
+    ensures prefix { AppendsPrefix (W.contents out.old) (W.contents out.new) (gathered.old.items ++ target_assigned_placed text.now at.now) }
+    ensures works { OnOk result (W.failed out.new ≡ false) }
+    ensures fault { IfErr result (λ e. (e ≡ Fault.Write) × (W.failed out.new ≡ true)) }
+    ensures unflushed { W.flushes out.new ≡ W.flushes out.old }
+{
+    let targets = Span {
+        start: 0,
+        end: at.targets_end,
+    };
+    put_targets(gathered, out, part(text, targets), at.separator)?;
+    put(gathered, out, b" ")?;
+    let start = at.targets_end + separator_text(at.separator).len();
+    put_assigned(gathered, out, text, start, &at.assignment)
+}
+
+// Puts an assignment whose modifiers begin at a place, up to the end of its line, behind the texts that
+// are held back.
+fn put_assigned<W: ByteSink>(
+    gathered: &mut Gathered,
+    out: &mut W,
+    text: &[u8],
+    start: usize,
+    at: &Assignment,
+) -> Result<(), Fault>
+    requires works { W.failed out.old ≡ false }
+    requires within { IsAssignmentWithin (length text.now) start at.now }
+    ensures whole { OnOk result (AppendsSoFar (W.contents out.old) (W.contents out.new) (gathered.old.items ++ assigned_placed text.now start at.now) gathered.new.items) }
+    ensures prefix { AppendsPrefix (W.contents out.old) (W.contents out.new) (gathered.old.items ++ assigned_placed text.now start at.now) }
+    ensures works { OnOk result (W.failed out.new ≡ false) }
+    ensures fault { IfErr result (λ e. (e ≡ Fault.Write) × (W.failed out.new ≡ true)) }
+    ensures unflushed { W.flushes out.new ≡ W.flushes out.old }
+{
+    let modifiers = Span {
+        start,
+        end: at.name.start,
+    };
+    put_each_before_space(gathered, out, part(text, modifiers))?;
+    put_parts(gathered, out, &[part(text, at.name), b" "])?;
+    put(gathered, out, operator_text(at.flavor).as_bytes())?;
+    put_value(gathered, out, part(text, at.value))
+}
+
+// Puts a value after a space, where it is not empty, and the end of its line behind the texts that are
+// held back.
+fn put_value<W: ByteSink>(gathered: &mut Gathered, out: &mut W, value: &[u8]) -> Result<(), Fault>
+    requires { W.failed out.old ≡ false }
+    ensures whole { OnOk result (AppendsSoFar (W.contents out.old) (W.contents out.new) (gathered.old.items ++ (after_space value.now ++ codes "\n")) gathered.new.items) }
+    ensures prefix { AppendsPrefix (W.contents out.old) (W.contents out.new) (gathered.old.items ++ (after_space value.now ++ codes "\n")) }
+    ensures works { OnOk result (W.failed out.new ≡ false) }
+    ensures fault { IfErr result (λ e. (e ≡ Fault.Write) × (W.failed out.new ≡ true)) }
+    ensures unflushed { W.flushes out.new ≡ W.flushes out.old }
+{
+    match value {
+        [] => put(gathered, out, b"\n"),
+        _ => put_parts(gathered, out, &[b" ", value, b"\n"]),
+    }
+}
+
+// The text of an operator.
+fn operator_text(flavor: Flavor) -> &'static str
+    ensures { result.now ≡ operator_text flavor }
+{
+    match flavor {
+        Flavor::Recursive => "=",
+        Flavor::Simple => ":=",
+        Flavor::PosixSimple => "::=",
+        Flavor::Immediate => ":::=",
+        Flavor::Conditional => "?=",
+        Flavor::Append => "+=",
+        Flavor::Shell => "!=",
+    }
+}

@@ -1,0 +1,3 @@
+-- Definitions computed
+mod WorkedReadings
+mod RandomReadings

@@ -1,0 +1,211 @@
+#!/usr/bin/env python3
+"""Queries as equations that the checker computes.
+
+Turns a table into a file of equations, by which the checker computes the definitions of
+`crates/mk_queries/specs`. Where the file checks, the definitions give the text of each query.
+
+    query_rows.py TABLE > FILE
+
+The crates keep three files, made by
+
+    query_rows.py tests/cases/queries.tsv > crates/mk_queries/proofs/WorkedRows.antt
+    query_rows.py tests/cases/readings/worked.tsv > crates/mk_queries_rows/proofs/WorkedReadings.antt
+    query_rows.py tests/cases/readings/random.tsv > crates/mk_queries_rows/proofs/RandomReadings.antt
+
+A table with the columns name, query, makefile and stdout says the text of each query itself. A table
+with the columns name, makefile and reading says the items of each makefile (see reading_rows.py), and
+the texts of all three queries are made from these: the items are laid on the logical lines of the
+makefile, which are cut here; the text of an item, or its being none, says on which line it is.
+
+In a column \\\\\\\\, \\\\t, \\\\n, \\\\r and \\\\xHH stand for a backslash, a tab, a line end, a return and the byte HH.
+"""
+
+import re
+import sys
+from pathlib import Path
+
+from reading_rows import antt_text, rows_of, unescape
+
+BLANKS = b" \t"
+FOLD = re.compile(rb"[ \t]*\\\r?\n(?:[ \t]*\\\r?\n)*[ \t]*")
+RULE_KEEPERS = ("Recipe", "If", "Else", "Endif")
+
+
+def physical_lines(text):
+    """The physical lines of a text: it is divided after each line feed."""
+    return re.findall(rb"[^\n]*\n|[^\n]+", text)
+
+
+def without_line_end(line):
+    """A line without its line end."""
+    return re.sub(rb"\r?\n\Z", b"", line)
+
+
+def logical_lines(text):
+    """The logical lines of a text, each with the number of its first physical line."""
+    lines = []
+    is_continued = False
+    for number, line in enumerate(physical_lines(text), 1):
+        if is_continued:
+            lines[-1] = (lines[-1][0], lines[-1][1] + line)
+        else:
+            lines.append((number, line))
+        bare = without_line_end(line)
+        is_continued = (len(bare) - len(bare.rstrip(b"\\"))) % 2 == 1
+    return lines
+
+
+def joined(line):
+    """The text of a line with its folds as spaces, as far as the first word of it needs that."""
+    return FOLD.sub(b" ", without_line_end(line))
+
+
+def lay(text, reading):
+    """Lays the items of a reading on the lines of its text: pairs of a line's number and its item."""
+    laid = []
+    items = list(reading)
+    for number, line in logical_lines(text):
+        bare = without_line_end(line)
+        first = joined(line).lstrip(BLANKS)
+        item = items[0] if items else None
+        if item and item[0] == "Recipe":
+            is_here = bare[1:] == item[1]
+        elif item and len(item) == 2:
+            is_here = bare == item[1]
+        else:
+            is_here = first != b"" and not first.startswith(b"#")
+        if is_here:
+            laid.append((number, line, items.pop(0)))
+        elif first != b"" and not first.startswith(b"#"):
+            raise ValueError(f"no item for line {number}")
+    if items:
+        raise ValueError(f"{len(items)} items are left")
+    return laid
+
+
+def first_word(line):
+    """The first word of a line, as far as it is one of letters."""
+    return re.match(rb"[ \t]*([^ \t]*)", joined(line)).group(1)
+
+
+def prefix_after(prefix, depth, item):
+    """The recipe prefix after an item: an assignment of it outside of conditionals, without modifiers
+    and by an operator that sets, may change it."""
+    if item[0] != "Assign" or item[2] != b".RECIPEPREFIX":
+        return prefix
+    _, modifiers, _, operator, value = item
+    if modifiers or depth or operator not in (b"=", b":=", b"::="):
+        return prefix
+    if not value:
+        return b"\t"
+    mark = value[:1]
+    return mark if 0x21 <= mark[0] <= 0x7E and mark not in b"$\\" else prefix
+
+
+def assigned_text(modifiers, name, operator, value):
+    """The parts of an assignment as `vars` shows them."""
+    return b" ".join([*modifiers, name, operator] + ([value] if value else []))
+
+
+def vars_text(laid):
+    """The text of `vars`."""
+    out, depth = b"", 0
+    for number, _, item in laid:
+        kind, *parts = item
+        if kind == "Assign":
+            out += b"%d:%d: %s\n" % (number, depth, assigned_text(*parts))
+        elif kind == "TargetAssign":
+            targets, separator, *assigned = parts
+            out += b"%d:%d: %s%s %s\n" % (number, depth, b" ".join(targets), separator, assigned_text(*assigned))
+        depth += (kind == "If") - (kind == "Endif")
+    return out
+
+
+def recipe_count(items):
+    """How many recipe lines a header has, by the items after it."""
+    count = 0
+    for item in items:
+        if item[0] not in RULE_KEEPERS:
+            break
+        count += item[0] == "Recipe"
+    return count
+
+
+def rules_text(laid):
+    """The text of `rules`."""
+    out, depth = b"", 0
+    for at, (number, _, item) in enumerate(laid):
+        kind, *parts = item
+        if kind == "Header":
+            targets, separator, pattern, normal, order_only, inline = parts
+            count = recipe_count([item for _, _, item in laid[at + 1 :]]) + (inline is not None)
+            words = [] if pattern is None else [pattern + b":"]
+            words += list(normal)
+            words += [b"|", *order_only] if order_only else []
+            words.append(b"[%d]" % count)
+            out += b"%d:%d: %s%s %s\n" % (number, depth, b" ".join(targets), separator, b" ".join(words))
+        depth += (kind == "If") - (kind == "Endif")
+    return out
+
+
+def check_text(laid):
+    """The text of `check`."""
+    out, depth, defines, prefix = b"", 0, 0, b"\t"
+    for number, line, item in laid:
+        kind = item[0]
+        if kind in ("Rough", "Opaque"):
+            out += b"%d: %s\n" % (number, kind.lower().encode())
+        if kind == "DefineHead":
+            defines = 1
+        elif kind == "Endef":
+            defines = 0
+        elif kind == "Body" and not line.startswith(prefix):
+            defines += (first_word(line) == b"define") - (first_word(line) == b"endef")
+        prefix = prefix_after(prefix, depth, item)
+        depth += (kind == "If") - (kind == "Endif")
+    out += b"end: conditionals %d\n" % depth if depth else b""
+    out += b"end: defines %d\n" % defines if defines else b""
+    return out
+
+
+QUERIES = {"vars": vars_text, "rules": rules_text, "check": check_text}
+
+
+def given(table):
+    """The rows of a table that says the text of each query."""
+    head, *rows = [line.split("\t") for line in table.read_text().rstrip("\n").split("\n")]
+    for row in rows:
+        columns = dict(zip(head, row, strict=True))
+        text, out = (unescape(columns[name]).encode("latin-1") for name in ("makefile", "stdout"))
+        yield columns["name"], columns["query"], text, out
+
+
+def made(table):
+    """The rows of a table of readings."""
+    for name, text, reading in rows_of(table):
+        laid = lay(text, reading)
+        for query, text_of in QUERIES.items():
+            yield f"{name}-{query}", query, text, text_of(laid)
+
+
+def main():
+    if len(sys.argv) != 2:
+        sys.exit("usage: query_rows.py TABLE")
+    table = Path(sys.argv[1])
+    says_texts = table.read_text().split("\n", 1)[0].split("\t")[1] == "query"
+    rows = list(given(table) if says_texts else made(table))
+    names = [f"{query}_text" for query in QUERIES if any(row[1] == query for row in rows)]
+    where = table.name if says_texts else f"readings/{table.name}"
+    print(f"-- Queries and their texts. Made by `tests/definitions/query_rows.py tests/cases/{where}`.")
+    empty = ", []" if any(not text or not out for _, _, text, out in rows) else ""
+    print(f"use Rattle.std.proofs.Common.{{◌≡◌, refl{empty}}}")
+    print("use Rattle.std.specs.Prelude.{codes}")
+    print("use Rattle.std.specs.Fmt.{digits}")
+    print(f"use Rattle.mk_queries.specs.Queries.{{{', '.join(names)}}}")
+    for name, query, text, out in rows:
+        row = "row_" + name.replace("-", "_")
+        print(f"\n{row} : {query}_text {antt_text(text)} ≡ {antt_text(out)}\nunfolding digits\n{row} = refl")
+
+
+if __name__ == "__main__":
+    main()
