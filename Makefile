@@ -2,11 +2,11 @@
 # builds the crates; this file says what is made from what.
 #
 #   make            proves and builds the program, where a source has changed
-#   make demo       shows one script at work, and one that is refused
+#   make demo       shows scripts at work, one that is refused, and the queries
 #   make check      the whole test: the merge gate (rt ci) and tests/program over what it built;
 #                   the last line is 'N passed, M failed', the sum of both
 #   make install    puts the program into $(DESTDIR)$(PREFIX)/bin
-#   make bench      compares its processor time and memory with those of cat and sed, and measures
+#   make bench      compares its time and memory with those of cat and sed, and measures
 #                   the reading of lines, and edits of a large makefile
 #   make clean      removes all that was made, and what rt keeps between two checks
 #

@@ -8,7 +8,7 @@ BENCH = Path(__file__).resolve().parent
 DATA = BENCH / "data"
 SEED = 1
 # The largest leaves an edit room below mkedit's limit, 16,777,216 bytes.
-LARGE, QUARTER, SMALL = 16_000_000, 4_000_000, 300_000
+LARGE, QUARTER, SMALL, START = 16_000_000, 4_000_000, 300_000, 3_000
 GREATEST_RATIO = 5
 # sed and cat are fastest, so hardest to keep up with, where a character is a byte.
 ENVIRONMENT = {**os.environ, "LC_ALL": "C"}

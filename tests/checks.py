@@ -61,14 +61,17 @@ class Program:
     def is_there(self):
         return os.access(self.path, os.X_OK) and self.path.is_file()
 
-    def run(self, words, folder, closed=(), memory=None, nobody=False, meanwhile=None, **streams):
-        """Runs the program in a folder, with nothing on standard input.
+    def run(self, words, folder, **how):
+        """Runs the program in a folder.
 
-        closed: the descriptors, 1 or 2, that it starts without. memory: the bytes that it may
-        have mapped. nobody: run as the user nobody, where this process is root. meanwhile: what
-        is called with the process once it has started. streams: another stdout or stderr, which
-        the outcome then shows as empty.
+        given: the bytes on its standard input, by default none. closed: the descriptors that it
+        starts without. memory: the bytes that it may have mapped. nobody: run as the user nobody,
+        where this process is root. meanwhile: what is called with the process once it has started.
+        stdin, stdout, stderr: other streams; an outcome shows such an output as empty.
         """
+        given, closed = how.pop("given", b""), how.pop("closed", ())
+        memory, nobody = how.pop("memory", None), how.pop("nobody", False)
+        meanwhile = how.pop("meanwhile", None)
 
         def prepare():
             for descriptor in closed:
@@ -80,13 +83,15 @@ class Program:
                 os.setgid(NOBODY)
                 os.setuid(NOBODY)
 
-        streams = {"stdout": subprocess.PIPE, "stderr": subprocess.PIPE, **streams}
-        streams["stdin"] = subprocess.DEVNULL
-        process = subprocess.Popen([self.path, *words], cwd=folder, preexec_fn=prepare, **streams)
+        streams = {it: subprocess.PIPE for it in ("stdin", "stdout", "stderr")} | how
+        # a process without anything to prepare starts several times as fast
+        first = prepare if closed or memory or nobody else None
+        process = subprocess.Popen([self.path, *words], cwd=folder, preexec_fn=first, **streams)
         try:
             if meanwhile:
                 meanwhile(process)
-            out, err = process.communicate(timeout=SECONDS)
+            given = given if streams["stdin"] == subprocess.PIPE else None
+            out, err = process.communicate(given, timeout=SECONDS)
         except subprocess.TimeoutExpired:
             process.kill()
             process.communicate()

@@ -5,8 +5,8 @@ import select
 import signal
 import time
 
-from checks import SECONDS
-from rooms import EDITED, REFUSED, TEXT, TOO_LONG, WRITE_FAULT, Checks, silent
+from checks import SECONDS, Outcome
+from rooms import ANSWERS, EDITED, QUERIED, REFUSED, TEXT, TOO_LONG, WRITE_FAULT, Checks, silent
 
 check = Checks()
 
@@ -62,8 +62,32 @@ def a_program_that_is_stopped_and_goes_on_loses_nothing(room):
 
 
 @check
+def a_query_reads_a_pipe_to_its_end(room):
+    for query, answer in ANSWERS.items():
+        path = room.folder / f"pipe-{query}"
+        os.mkfifo(path)
+        meanwhile = feed(path, QUERIED, pause=0.002)
+        yield from room.differs(Outcome(answer, b"", 0), query, path.name, meanwhile=meanwhile)
+
+
+@check
+def standard_input_may_be_a_pipe_that_gives_single_bytes(room):
+    reader, writer = os.pipe()
+
+    def write(_):
+        os.close(reader)
+        for byte in TEXT:
+            os.write(writer, bytes([byte]))
+            time.sleep(0.005)
+        os.close(writer)
+
+    return room.differs(EDITED, "edit", "script", stdin=reader, meanwhile=write)
+
+
+@check
 def an_endless_file_is_too_long(room):
-    return room.differs(TOO_LONG, "edit", "script", "/dev/zero")
+    for words in (["edit", "script"], *([it] for it in ANSWERS)):
+        yield from room.differs(TOO_LONG, *words, "/dev/zero")
 
 
 @check
@@ -78,8 +102,25 @@ def a_full_device_is_a_write_fault(room):
 
 
 @check
+def a_query_to_a_full_device_is_a_write_fault(room):
+    for query in ANSWERS:
+        with open("/dev/full", "wb") as full:
+            yield from room.differs(WRITE_FAULT, query, "queried", stdout=full)
+
+
+@check
+def a_query_without_lines_needs_no_room(room):
+    for query in ANSWERS:
+        with open("/dev/full", "wb") as full:
+            yield from room.differs(silent(0), query, "empty", stdout=full)
+
+
+@check
 def a_closed_output_is_a_write_fault(room):
-    return room.differs(WRITE_FAULT, "edit", "script", "Makefile", closed=(1,))
+    wrong = room.differs(WRITE_FAULT, "edit", "script", "Makefile", closed=(1,))
+    for query in ANSWERS:
+        wrong += room.differs(WRITE_FAULT, query, "queried", closed=(1,))
+    return wrong
 
 
 @check
@@ -103,6 +144,20 @@ def a_reader_that_leaves_early_is_a_write_fault(room):
         os.close(reader)
 
     return room.differs(WRITE_FAULT, "edit", "empty", "long", stdout=writer, meanwhile=leave)
+
+
+@check
+def a_query_whose_reader_leaves_early_is_a_write_fault(room):
+    room.write("long", b"NAME = a value, and a line of forty bytes\n" * 25_000)
+    reader, writer = os.pipe()
+
+    def leave(process):
+        os.close(writer)
+        if select.select([reader], [], [], SECONDS)[0]:
+            os.read(reader, 1)
+        os.close(reader)
+
+    return room.differs(WRITE_FAULT, "vars", "long", stdout=writer, meanwhile=leave)
 
 
 @check

@@ -3,7 +3,7 @@
 import os
 
 from checks import Outcome, Program
-from rooms import EDITED, NO_COMMAND, READ_FAULT, TEXT, Checks, cannot_open, silent
+from rooms import ANSWERS, EDITED, NO_COMMAND, READ_FAULT, TEXT, Checks, cannot_open, silent
 
 check = Checks()
 
@@ -29,20 +29,51 @@ def a_missing_file_is_told_before_a_bad_script(room):
 
 
 @check
+def a_missing_script_is_told_where_the_makefile_is_standard_input(room):
+    return room.differs(cannot_open("absent"), "edit", "absent", given=TEXT)
+
+
+@check
+def a_query_of_a_missing_file_cannot_open_it(room):
+    for query in ANSWERS:
+        yield from room.differs(cannot_open("absent"), query, "absent")
+        yield from room.differs(cannot_open("absent/Makefile"), query, "absent/Makefile")
+
+
+@check
 def an_empty_name_cannot_be_opened(room):
-    return room.differs(cannot_open(""), "edit", "script", "")
+    wrong = room.differs(cannot_open(""), "edit", "script", "")
+    return wrong + room.differs(cannot_open(""), "check", "")
 
 
 @check
 def a_dash_is_the_name_of_a_file(room):
     wrong = room.differs(cannot_open("-"), "edit", "script", "-")
+    wrong += room.differs(cannot_open("-"), "edit", "script", "-", given=TEXT)
+    wrong += room.differs(cannot_open("-"), "vars", "-", given=TEXT)
     room.write("-", TEXT)
+    wrong += room.differs(Outcome(b"1:0: CC = gcc\n", b"", 0), "vars", "-")
     return wrong + room.differs(EDITED, "edit", "script", "-")
 
 
 @check
 def a_directory_as_file_is_a_read_fault(room):
-    return room.differs(READ_FAULT, "edit", "script", ".")
+    for words in (["edit", "script"], *([it] for it in ANSWERS)):
+        yield from room.differs(READ_FAULT, *words, ".")
+
+
+@check
+def a_directory_as_standard_input_is_a_read_fault(room):
+    for words in (["edit", "script"], *([it] for it in ANSWERS)):
+        folder = os.open(room.folder, os.O_RDONLY)
+        yield from room.differs(READ_FAULT, *words, stdin=folder)
+        os.close(folder)
+
+
+@check
+def a_closed_standard_input_is_a_read_fault(room):
+    for words in (["edit", "script"], *([it] for it in ANSWERS)):
+        yield from room.differs(READ_FAULT, *words, closed=(0,))
 
 
 @check
@@ -70,7 +101,8 @@ def copy_program(room):
 def an_unreadable_file_cannot_be_opened(room):
     copy_program(room)
     (room.folder / "locked").touch(mode=0)
-    return room.differs(cannot_open("locked"), "edit", "script", "locked", nobody=True)
+    wrong = room.differs(cannot_open("locked"), "edit", "script", "locked", nobody=True)
+    return wrong + room.differs(cannot_open("locked"), "rules", "locked", nobody=True)
 
 
 @check

@@ -8,15 +8,23 @@ import shutil
 import tempfile
 from pathlib import Path
 
-from checks import Outcome, differences
+from checks import Outcome, brief, differences
 
 TEXT = b"CC = gcc # c\n"
+# A makefile with a line for each query, and what they print.
+QUERIED = b"ifdef A\nCC = gcc # c\nall: main.o\n\tcc\n$(call it)\n"
+ANSWERS = {
+    "vars": b"2:1: CC = gcc\n",
+    "rules": b"3:1: all: main.o [1]\n",
+    "check": b"5: opaque\nend: conditionals 1\n",
+}
 FILES = {
     "Makefile": TEXT,
     "script": b"set CC clang\n",
     "empty": b"",
     "undo": b"undo\n",
     "bad": b"frobnicate\n",
+    "queried": QUERIED,
 }
 EDITED = Outcome(b"CC = clang # c\n", b"", 0)
 REFUSED = Outcome(b"", b"1: refused 16 NothingToUndo\n", 1)
@@ -89,6 +97,16 @@ class Room:
             if path.read_bytes() != content or path.stat().st_mtime_ns != time:
                 found.append(f"the file {name} was written to")
         return found
+
+    def holds(self, name, wanted):
+        """Says how a file differs from what is wanted, None where there has to be none.
+
+        The file may have been written to: changed() passes over it from now on.
+        """
+        self.written.pop(name, None)
+        path = self.folder / name
+        found = path.read_bytes() if path.is_file() else None
+        return [] if found == wanted else [f"{name} holds {brief(found)}, wanted {brief(wanted)}"]
 
     def run(self, *words, **how):
         return self.program.run(words, self.folder, **how)

@@ -1,4 +1,4 @@
-"""Cases in tables: tests/cases/*.tsv, and the list tests/cases/later.
+"""Cases in tables: tests/cases/*.tsv and tests/cases/edits/*.tsv.
 
 A table is a file of lines with columns between tabs; its first line names the columns.
 
@@ -7,10 +7,8 @@ A table is a file of lines with columns between tabs; its first line names the c
                                                         and nothing on standard error
 
 In a column \\\\, \\t, \\n, \\r and \\xHH stand for a backslash, a tab, a line end, a return and
-the byte HH; every other byte is itself. Flags have blanks between them. Each name stands once in
-all tables.
-
-tests/cases/later has a name on each line; lines that are empty or begin with # say nothing.
+the byte HH; every other byte is itself. Flags have blanks between them. A table may lack the flags,
+and may have other columns, which say nothing here. Each name stands once in its table.
 """
 
 import re
@@ -21,7 +19,15 @@ from checks import Outcome, differences
 from rooms import Room
 
 CASES = Path(__file__).resolve().parent / "cases"
-LATER = CASES / "later"
+TABLES = (
+    "queries",
+    "corner-queries",
+    "runs",
+    "corner-runs",
+    "random-runs",
+    "edits/corners",
+    "edits/random",
+)
 ESCAPES = {"\\\\": b"\\", "\\t": b"\t", "\\n": b"\n", "\\r": b"\r"}
 PIECE = re.compile(r"\\x[0-9A-Fa-f]{2}|\\[\\tnr]|[^\\]+")
 
@@ -50,16 +56,16 @@ def bytes_of(piece):
     return ESCAPES.get(piece, piece.encode())
 
 
-def case_of(row):
+def case_of(name, row):
     """The case in a row, a dictionary from the names of the columns to their texts."""
     files = {"Makefile": unescape(row["makefile"])}
     out = unescape(row["stdout"])
     if "query" in row:
-        return Case(row["name"], files, [row["query"], "Makefile"], Outcome(out, b"", 0))
+        return Case(name, files, [row["query"], "Makefile"], Outcome(out, b"", 0))
     files["script"] = unescape(row["script"])
-    words = ["edit", *row["flags"].split(), "script", "Makefile"]
+    words = ["edit", *row.get("flags", "").split(), "script", "Makefile"]
     wanted = Outcome(out, unescape(row["stderr"]), int(row["status"]))
-    return Case(row["name"], files, words, wanted)
+    return Case(name, files, words, wanted)
 
 
 def lines_of(path):
@@ -67,17 +73,23 @@ def lines_of(path):
     return re.sub(r"\n\Z", "", path.read_bytes().decode()).split("\n")
 
 
+def rows(table):
+    """The rows of a table, each with its place. A ValueError says which line is none."""
+    head, *lines = [line.split("\t") for line in lines_of(CASES / f"{table}.tsv")]
+    for number, line in enumerate(lines, 2):
+        if len(line) != len(head):
+            raise ValueError(f"{table}, line {number}: {len(line)} columns, not {len(head)}")
+        yield f"{table}, line {number}", dict(zip(head, line))
+
+
 def cases():
     """Every case of every table, in order. A ValueError or KeyError says which line is not one."""
-    for table in sorted(CASES.glob("*.tsv")):
-        head, *rows = [line.split("\t") for line in lines_of(table)]
-        for number, row in enumerate(rows, 2):
+    for table in TABLES:
+        for place, row in rows(table):
             try:
-                if len(row) != len(head):
-                    raise ValueError(f"{len(row)} columns, not {len(head)}")
-                yield case_of(dict(zip(head, row)))
+                yield case_of(f"{table}: {row['name']}", row)
             except (ValueError, KeyError) as fault:
-                raise ValueError(f"{table.name}, line {number}: {fault}") from fault
+                raise ValueError(f"{place}: {fault}") from fault
 
 
 def problems_of(program, case):
@@ -88,31 +100,14 @@ def problems_of(program, case):
         return differences(room.run(*case.words), case.wanted) + room.changed()
 
 
-def failing(program):
-    """The names of the cases that fail now."""
-    return [case.name for case in cases() if problems_of(program, case)]
-
-
 def run(program, tally):
-    """Runs every case, and returns how many stand in the list `later` and fail, as they have to."""
-    later = [it for it in lines_of(LATER) if it and not it.startswith("#")]
-    waiting, seen, failing_yet = set(later), set(), 0
-    for name in sorted({it for it in later if later.count(it) > 1}):
-        tally.add(name, ["stands twice in tests/cases/later"])
+    """Runs every case."""
+    seen = set()
     try:
         for case in cases():
             if case.name in seen:
                 tally.add(case.name, ["two cases have this name"])
             seen.add(case.name)
-            problems = problems_of(program, case)
-            if case.name not in waiting:
-                tally.add(case.name, problems)
-            elif problems:
-                failing_yet += 1
-            else:
-                tally.add(case.name, ["passes: take its name out of tests/cases/later"])
+            tally.add(case.name, problems_of(program, case))
     except ValueError as fault:
         tally.add("tables", [str(fault)])
-    for name in sorted(waiting - seen):
-        tally.add(name, ["stands in tests/cases/later, and is no case"])
-    return failing_yet

@@ -1,47 +1,109 @@
-//! What the program's words mean, as `clap` reads them.
+//! What the words of the command line ask for, as `clap` reads them.
 
-use clap::{Arg, Command};
+use crate::edit::EditWords;
+use crate::help;
+use clap::builder::ValueParser;
+use clap::error::ErrorKind;
+use clap::{Arg, ArgAction, ArgMatches, Command};
 use std::alloc::{AllocError, Global};
 
-/// The name of the word that names the script's file.
-pub const SCRIPT: &str = "SCRIPT";
+/// How many edits can be undone, where the command line does not say it.
+const DEFAULT_DEPTH: &str = "100";
 
-/// The name of the word that names the makefile.
-pub const FILE: &str = "FILE";
+/// The greatest depth, as `mk_run::run` takes it.
+const MAX_DEPTH: u64 = 10_000;
 
-const EXAMPLE: &str = "\
-Example: with `CC = gcc # c` in config.mk, and `set CC clang` in use-clang,
-    mkedit edit use-clang config.mk
-prints `CC = clang # c`.
-";
+const BAD_DEPTH: &str = "invalid value for '--depth <DEPTH>': only decimal digits may stand there";
 
-const EDIT_HELP: &str = "\
-A line of the script is `set NAME VALUE`, or `undo`, which takes back the last edit that stands.
-The text goes to standard output, and FILE stays as it is. Where a command is refused, no text is
-written, and a line on standard error says which command and why.
+// The names of the commands, and those by which their words are found.
+const EDIT: &str = "edit";
 
-Example: with `CC = gcc # c` in config.mk, and `set CC clang` in use-clang,
-    mkedit edit use-clang config.mk
-prints `CC = clang # c`.
+const SCRIPT: &str = "SCRIPT";
 
-Status: 0 done, 1 a command was refused, 2 a bad command line or script, 3 a fault of reading,
-writing, a limit or memory.
-";
+const FILE: &str = "FILE";
 
-/// The command line: the command `edit`, both of whose words are required.
-pub fn command_line<'a>(alloc: Global) -> Result<Command<'a>, AllocError> {
+const KEEP_GOING: &str = "keep-going";
+
+const DEPTH: &str = "depth";
+
+const OUTPUT: &str = "output";
+
+fn file<'a>(alloc: Global) -> Arg<'a> {
+    Arg::new(alloc, FILE).help("The makefile; standard input where none is named")
+}
+
+fn edit_command<'a>(alloc: Global) -> Result<Command<'a>, AllocError> {
+    let keep_going = Arg::new(alloc, KEEP_GOING)
+        .short('k')
+        .long("keep-going")
+        .action(ArgAction::SetTrue)
+        .help("Goes on after a refused command");
+    let depth = Arg::new(alloc, DEPTH)
+        .short('d')
+        .long("depth")
+        .value_name("DEPTH")
+        .value_parser(ValueParser::unsigned(1, MAX_DEPTH))
+        .default_value(DEFAULT_DEPTH)
+        .help("How many edits can be undone, from 1 to 10000");
+    let output = Arg::new(alloc, OUTPUT)
+        .short('o')
+        .long("output")
+        .value_name("OUT")
+        .help("Where the text goes; it may be FILE");
     let script = Arg::new(alloc, SCRIPT)
         .required(true)
         .help("The script: a command a line");
-    let file = Arg::new(alloc, FILE).required(true).help("The makefile");
-    let edit = Command::new(alloc, "edit")
-        .about("Runs a script of edits over a makefile, and prints the text")
-        .after_help(EDIT_HELP)
+    Command::new(alloc, EDIT)
+        .about(help::ABOUT_EDIT)
+        .after_help(help::EDIT)
+        .arg(keep_going)?
+        .arg(depth)?
+        .arg(output)?
         .arg(script)?
-        .arg(file)?;
+        .arg(file(alloc))
+}
+
+fn command_line<'a>(alloc: Global) -> Result<Command<'a>, AllocError> {
     Command::new(alloc, "mkedit")
         .about("Edits a makefile by a script, and keeps every byte that no edit concerns")
-        .after_help(EXAMPLE)
+        .after_help(help::PROGRAM)
         .subcommand_required(true)
-        .subcommand(edit)
+        .subcommand(edit_command(alloc)?)
+}
+
+// The depth: clap takes a `+` before the digits, and it is no digit.
+fn depth_of(matches: &ArgMatches<'_>) -> Option<u32> {
+    let word = matches.get_str(DEPTH)?;
+    if word.bytes().all(|byte| byte.is_ascii_digit()) {
+        matches.get_one::<u32>(DEPTH)
+    } else {
+        None
+    }
+}
+
+// What the words ask for; None where the depth is not written as one. clap has seen to the rest.
+fn asked<'a>(matches: &ArgMatches<'a>) -> Option<EditWords<'a>> {
+    let (_, matches) = matches.subcommand()?;
+    Some(EditWords {
+        keep_going: matches.get_flag(KEEP_GOING),
+        depth: depth_of(matches)?,
+        out: matches.get_str(OUTPUT),
+        script: matches.get_str(SCRIPT)?,
+        file: matches.get_str(FILE),
+    })
+}
+
+/// What the words, of which the first is the program's name, ask for.
+///
+/// # Errors
+///
+/// What `clap` finds wrong with them, which has its text, and help where it is asked for; a depth
+/// that is not written in decimal digits alone, or is not from 1 to 10,000.
+pub fn read_request<'a>(alloc: Global, words: &'a [String]) -> Result<EditWords<'a>, clap::Error> {
+    let mut command = command_line(alloc)?;
+    let matches = command.try_get_matches_from_mut(words)?;
+    match asked(&matches) {
+        Some(asked) => Ok(asked),
+        None => Err(command.error(ErrorKind::ValueValidation, BAD_DEPTH)?),
+    }
 }

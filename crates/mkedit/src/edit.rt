@@ -1,0 +1,87 @@
+//! `mkedit edit`: a script over a makefile.
+ghost use Rattle.std.specs.Prelude.{◌≡◌, false};
+
+use crate::files::{CannotOpen, open};
+use crate::out_file::OutFile;
+use mk_lines::{ByteSink, ByteSource, StdSink, StdSource};
+use mk_run::{Outcome, run};
+
+/// What the words of the command say.
+#[derive(Clone, Copy)]
+pub struct EditWords<'a> {
+    /// Whether the commands after a refused one are done.
+    pub keep_going: bool,
+    /// How many edits can be undone.
+    pub depth: u32,
+    /// The name of the file that the text goes to; without one it goes to standard output.
+    pub out: Option<&'a str>,
+    /// The name of the script.
+    pub script: &'a str,
+    /// The name of the makefile; without one it is standard input.
+    pub file: Option<&'a str>,
+}
+
+// Runs the script over the makefile, with the text to a sink.
+fn run_to<R: ByteSource, S: ByteSource, W: ByteSink>(
+    rt: &HostRuntime,
+    words: &EditWords<'_>,
+    makefile: &mut R,
+    script: &mut S,
+    out: &mut W,
+) -> Outcome
+    requires makefile_works { R.failed makefile.old ≡ false }
+    requires script_works { S.failed script.old ≡ false }
+    requires out_works { W.failed out.old ≡ false }
+{
+    let mut report = StdSink::new(rt.stderr());
+    run(
+        rt.alloc(),
+        makefile,
+        script,
+        words.depth,
+        words.keep_going,
+        out,
+        &mut report,
+    )
+}
+
+// Runs the script over the makefile, with the text to where the words say.
+fn run_over<R: ByteSource, S: ByteSource>(
+    rt: &HostRuntime,
+    words: &EditWords<'_>,
+    makefile: &mut R,
+    script: &mut S,
+) -> Outcome
+    requires makefile_works { R.failed makefile.old ≡ false }
+    requires script_works { S.failed script.old ≡ false }
+{
+    match words.out {
+        Some(name) => {
+            let mut out = OutFile::new(rt, name);
+            run_to(rt, words, makefile, script, &mut out)
+        }
+        None => {
+            let mut out = StdSink::new(rt.stdout());
+            run_to(rt, words, makefile, script, &mut out)
+        }
+    }
+}
+
+/// Opens the script, then the makefile, and runs the one over the other.
+///
+/// # Errors
+///
+/// [`CannotOpen`] where one of the two cannot be opened. Nothing is read then.
+pub fn edit<'a>(rt: &HostRuntime, words: &EditWords<'a>) -> Result<Outcome, CannotOpen<'a>> {
+    let mut script = StdSource::new(open(rt, words.script)?);
+    match words.file {
+        Some(name) => {
+            let mut makefile = StdSource::new(open(rt, name)?);
+            Ok(run_over(rt, words, &mut makefile, &mut script))
+        }
+        None => {
+            let mut makefile = StdSource::new(rt.stdin());
+            Ok(run_over(rt, words, &mut makefile, &mut script))
+        }
+    }
+}

@@ -1,0 +1,91 @@
+//! The file that a text goes to.
+ghost use Rattle.std.specs.Prelude.{◌≡◌, ◌≤◌, false, length, IfOk, IfErr};
+
+use crate::files::create;
+use mk_lines::{ByteSink, Fault, StdSink};
+use std::fs::File;
+
+/// A sink to the file of this name, which is opened and emptied at the first write or flush.
+///
+/// So a file to which nothing goes out stays as it was, and the file may be one that was read before.
+/// One that cannot be opened is a fault of that write or flush, as a full disk is.
+#[derive(Drop)]
+pub struct OutFile<'a> {
+    rt: &'a HostRuntime,
+    name: &'a str,
+    file: Option<StdSink<File>>,
+    is_failed: bool,
+}
+
+impl<'a> OutFile<'a> {
+    /// A sink to the file of this name, which has not failed. It opens nothing yet.
+    pub fn new(rt: &'a HostRuntime, name: &'a str) -> OutFile<'a>
+        ensures { result.is_failed ≡ false }
+    {
+        OutFile {
+            rt,
+            name,
+            file: None,
+            is_failed: false,
+        }
+    }
+
+    // The file; it is opened and emptied where it has not been yet.
+    fn take_file(&mut self) -> Result<StdSink<File>, Fault>
+        ensures fault { IfErr result (λ fault. fault ≡ Fault.Write) }
+        ensures same { self.new.is_failed ≡ self.old.is_failed }
+    {
+        if let Some(file) = self.file.take() {
+            return Ok(file);
+        }
+        match create(self.rt, self.name) {
+            Ok(file) => Ok(StdSink::new(file)),
+            Err(_) => Err(Fault::Write),
+        }
+    }
+
+    fn write_to_file(&mut self, text: &[u8]) -> Result<usize, Fault>
+        ensures bound { IfOk result (λ count. count ≤ length text.now) }
+        ensures fault { IfErr result (λ fault. fault ≡ Fault.Write) }
+        ensures same { self.new.is_failed ≡ self.old.is_failed }
+    {
+        let mut file = self.take_file()?;
+        let answer = file.write(text);
+        self.file = Some(file);
+        answer
+    }
+
+    fn flush_file(&mut self) -> Result<(), Fault>
+        ensures fault { IfErr result (λ fault. fault ≡ Fault.Write) }
+        ensures same { self.new.is_failed ≡ self.old.is_failed }
+    {
+        let mut file = self.take_file()?;
+        let answer = file.flush();
+        self.file = Some(file);
+        answer
+    }
+}
+
+impl ByteSink for OutFile<'_> {
+    ghost failed = { λ out. out.is_failed };
+
+    fn write(&mut self, text: &[u8]) -> Result<usize, Fault> {
+        let answer = self.write_to_file(text);
+        let is_refused = match answer {
+            Ok(count) => count == 0 && !text.is_empty(),
+            Err(_) => true,
+        };
+        self.is_failed = self.is_failed || is_refused;
+        answer
+    }
+
+    fn flush(&mut self) -> Result<(), Fault> {
+        let answer = self.flush_file();
+        self.is_failed = self.is_failed || answer.is_err();
+        answer
+    }
+
+    fn failed(&self) -> bool {
+        self.is_failed
+    }
+}
