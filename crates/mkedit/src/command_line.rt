@@ -2,6 +2,7 @@
 
 use crate::edit::EditWords;
 use crate::help;
+use crate::query::Query;
 use clap::builder::ValueParser;
 use clap::error::ErrorKind;
 use clap::{Arg, ArgAction, ArgMatches, Command};
@@ -18,6 +19,12 @@ const BAD_DEPTH: &str = "invalid value for '--depth <DEPTH>': only decimal digit
 // The names of the commands, and those by which their words are found.
 const EDIT: &str = "edit";
 
+const VARS: &str = "vars";
+
+const RULES: &str = "rules";
+
+const CHECK: &str = "check";
+
 const SCRIPT: &str = "SCRIPT";
 
 const FILE: &str = "FILE";
@@ -27,6 +34,15 @@ const KEEP_GOING: &str = "keep-going";
 const DEPTH: &str = "depth";
 
 const OUTPUT: &str = "output";
+
+/// What the command line asks for.
+#[derive(Clone, Copy)]
+pub enum Request<'a> {
+    /// A script over a makefile.
+    Edit(EditWords<'a>),
+    /// A query, and the makefile's name; without one the makefile is standard input.
+    Query(Query, Option<&'a str>),
+}
 
 fn file<'a>(alloc: Global) -> Arg<'a> {
     Arg::new(alloc, FILE).help("The makefile; standard input where none is named")
@@ -63,12 +79,40 @@ fn edit_command<'a>(alloc: Global) -> Result<Command<'a>, AllocError> {
         .arg(file(alloc))
 }
 
+fn query_command<'a>(
+    alloc: Global,
+    name: &'a str,
+    about: &'a str,
+    help: &'a str,
+) -> Result<Command<'a>, AllocError> {
+    Command::new(alloc, name)
+        .about(about)
+        .after_help(help)
+        .arg(file(alloc))
+}
+
 fn command_line<'a>(alloc: Global) -> Result<Command<'a>, AllocError> {
     Command::new(alloc, "mkedit")
         .about("Edits a makefile by a script, and keeps every byte that no edit concerns")
         .after_help(help::PROGRAM)
         .subcommand_required(true)
-        .subcommand(edit_command(alloc)?)
+        .subcommand(edit_command(alloc)?)?
+        .subcommand(query_command(alloc, VARS, help::ABOUT_VARS, help::VARS)?)?
+        .subcommand(query_command(alloc, RULES, help::ABOUT_RULES, help::RULES)?)?
+        .subcommand(query_command(alloc, CHECK, help::ABOUT_CHECK, help::CHECK)?)
+}
+
+// The query of a command's name.
+fn query_of(name: &str) -> Option<Query> {
+    if name == VARS {
+        Some(Query::Vars)
+    } else if name == RULES {
+        Some(Query::Rules)
+    } else if name == CHECK {
+        Some(Query::Check)
+    } else {
+        None
+    }
 }
 
 // The depth: clap takes a `+` before the digits, and it is no digit.
@@ -82,15 +126,19 @@ fn depth_of(matches: &ArgMatches<'_>) -> Option<u32> {
 }
 
 // What the words ask for; None where the depth is not written as one. clap has seen to the rest.
-fn asked<'a>(matches: &ArgMatches<'a>) -> Option<EditWords<'a>> {
-    let (_, matches) = matches.subcommand()?;
-    Some(EditWords {
+fn asked<'a>(matches: &ArgMatches<'a>) -> Option<Request<'a>> {
+    let (name, matches) = matches.subcommand()?;
+    let file = matches.get_str(FILE);
+    if let Some(query) = query_of(name) {
+        return Some(Request::Query(query, file));
+    }
+    Some(Request::Edit(EditWords {
         keep_going: matches.get_flag(KEEP_GOING),
         depth: depth_of(matches)?,
         out: matches.get_str(OUTPUT),
         script: matches.get_str(SCRIPT)?,
-        file: matches.get_str(FILE),
-    })
+        file,
+    }))
 }
 
 /// What the words, of which the first is the program's name, ask for.
@@ -99,11 +147,11 @@ fn asked<'a>(matches: &ArgMatches<'a>) -> Option<EditWords<'a>> {
 ///
 /// What `clap` finds wrong with them, which has its text, and help where it is asked for; a depth
 /// that is not written in decimal digits alone, or is not from 1 to 10,000.
-pub fn read_request<'a>(alloc: Global, words: &'a [String]) -> Result<EditWords<'a>, clap::Error> {
+pub fn read_request<'a>(alloc: Global, words: &'a [String]) -> Result<Request<'a>, clap::Error> {
     let mut command = command_line(alloc)?;
     let matches = command.try_get_matches_from_mut(words)?;
     match asked(&matches) {
-        Some(asked) => Ok(asked),
+        Some(request) => Ok(request),
         None => Err(command.error(ErrorKind::ValueValidation, BAD_DEPTH)?),
     }
 }

@@ -2,10 +2,11 @@
 
 /// Below the help of the program itself.
 pub const PROGRAM: &str = "\
-Example:
+Examples:
     mkedit edit use-clang config.mk     prints config.mk as the script use-clang edits it
+    mkedit vars config.mk               lists the assignments of config.mk
 
-`mkedit help edit` has another.
+`mkedit help COMMAND` has an example of each command.
 ";
 
 /// What `edit` does, in a line.
@@ -35,4 +36,51 @@ changes the file.
 
 Status: 0 done, 1 a command was refused, 2 a bad command line or script, 3 a fault of reading,
 writing, a limit or memory.
+";
+
+/// What `vars` does, in a line.
+pub const ABOUT_VARS: &str = "Lists the assignments of a makefile";
+
+/// Below the help of `vars`.
+pub const VARS: &str = "\
+A line for each assignment: the number of its line, how many conditionals are open there, and the
+assignment with its folds joined and without its comment.
+
+Example: with `ifdef DEBUG`, `export CFLAGS += -g  # slow`, `endif` and `all: CC = gcc` in config.mk,
+    mkedit vars config.mk
+prints
+    2:1: export CFLAGS += -g
+    4:0: all: CC = gcc
+";
+
+/// What `rules` does, in a line.
+pub const ABOUT_RULES: &str = "Lists the rules of a makefile";
+
+/// Below the help of `rules`.
+pub const RULES: &str = "\
+A line for each rule: the number of its line, how many conditionals are open there, the line with its
+folds joined, and how many recipe lines the rule has.
+
+Example: with `all: main.o | build ; ld main.o`, a recipe line below it, and `%.o: %.c` in a Makefile,
+    mkedit rules Makefile
+prints
+    1:0: all: main.o | build [2]
+    3:0: %.o: %.c [0]
+";
+
+/// What `check` does, in a line.
+pub const ABOUT_CHECK: &str = "Lists the lines of a makefile that are kept and not read inside";
+
+/// Below the help of `check`.
+pub const CHECK: &str = "\
+A line for each line that no edit and no other query looks into: the number of the line, and `rough`
+for a rule with something in it that is not read, such as a backslash, or `opaque` for any other line.
+Then how many conditionals and defines are still open at the end, where some are.
+
+Example: with `all: a\\ b`, `$(eval $(call rules,all))` and `ifdef DEBUG` in a Makefile,
+    mkedit check Makefile
+prints
+    1: rough
+    2: opaque
+    end: conditionals 1
 ";

@@ -3,6 +3,7 @@
 //! - `command_line`: what the words of the command line ask for.
 //! - `help`: the texts of help.
 //! - `edit`: a script over a makefile, by [`mk_run::run`].
+//! - `query`: what a makefile has, by [`mk_queries`].
 //! - `files`: files beside the standard streams.
 //! - `out_file`: the file that a text goes to.
 //! - `ending`: the message and the status.
@@ -14,8 +15,9 @@ mod ending;
 mod files;
 mod help;
 mod out_file;
+mod query;
 
-use command_line::read_request;
+use command_line::{Request, read_request};
 use ending::{BAD_COMMAND_LINE, answered, ended, not_opened};
 use mk_run::Outcome;
 use std::io::ErrorKind;
@@ -39,7 +41,8 @@ fn words(rt: &HostRuntime) -> Result<Vec<String>, ExitCode> {
 // Does what the command line asks for.
 fn done(rt: &HostRuntime, words: &[String]) -> ExitCode {
     let outcome = match read_request(rt.alloc(), words) {
-        Ok(words) => edit::edit(rt, &words),
+        Ok(Request::Edit(words)) => edit::edit(rt, &words),
+        Ok(Request::Query(query, file)) => query::ask(rt, query, file),
         Err(error) => return answered(rt, &error),
     };
     match outcome {

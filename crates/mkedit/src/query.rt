@@ -1,0 +1,119 @@
+//! `mkedit vars`, `mkedit rules` and `mkedit check`: what a makefile has, a line for each thing.
+ghost use Rattle.std.specs.Prelude.{◌≡◌, ◌↔◌, ◌<◌, ◌||◌, ◌^◌, ℕ, List, IsTrue, IfOk, IfErr, IfSome, OnOk, OnErr, false, true, length, is_ok};
+ghost use Rattle.std.specs.Io.KnownBytes.{Appends};
+ghost use Rattle.mk_lines.specs.Device.{AppendsPrefix, count_if};
+ghost use Rattle.mk_tree.specs.PlacedLines.{placed_text};
+ghost use Rattle.mk_tree.specs.Documents.{IsFaithful, IsTooDeep};
+ghost use Rattle.mkedit.specs.QueryTexts.{query_text};
+
+use crate::files::{CannotOpen, open};
+use mk_lines::source::read_all;
+use mk_lines::{ByteSink, ByteSource, Fault, StdSink, StdSource};
+use mk_queries::{check, rules, vars};
+use mk_run::Outcome;
+use mk_session::Session;
+use mk_tree::Doc;
+use std::alloc::Allocator;
+
+// A session that is only looked at: the least depth there is.
+const DEPTH: u32 = 1;
+
+/// What a makefile is asked for.
+#[derive(Clone, Copy)]
+pub enum Query {
+    /// Its assignments.
+    Vars,
+    /// Its rules.
+    Rules,
+    /// The lines that are kept and not read inside.
+    Check,
+}
+
+// Writes the answer, and flushes it once.
+fn put_out<A: Allocator, W: ByteSink>(query: Query, doc: &Doc<A>, out: &mut W) -> Result<(), Fault>
+    requires faithful { IsFaithful doc.now }
+    requires works { W.failed out.old ≡ false }
+    ensures whole { OnOk result (Appends (W.contents out.old) (W.contents out.new) (query_text query (placed_text doc.now))) }
+    ensures prefix { AppendsPrefix (W.contents out.old) (W.contents out.new) (query_text query (placed_text doc.now)) }
+    ensures works { OnOk result (W.failed out.new ≡ false) }
+    ensures fault { IfErr result (λ e. (e ≡ Fault.Write) × (W.failed out.new ≡ true)) }
+    ensures flushed { W.flushes out.new ≡ count_if (is_ok result) (W.flushes out.old) }
+    ensures settled { OnOk result (IfSome (W.pending out.new) (λ n. n ≡ 0)) }
+{
+    match query {
+        Query::Vars => vars(doc, out)?,
+        Query::Rules => rules(doc, out)?,
+        Query::Check => check(doc, out)?,
+    }
+    out.flush()
+}
+
+/// Reads a makefile to its end, and writes the answer, which it flushes once.
+///
+/// # Errors
+///
+/// - [`Fault::Read`] where a read answered it.
+/// - [`Fault::TooLong`] where the makefile has more than 16,777,216 bytes.
+/// - [`Fault::TooDeep`] where a 257th conditional opens in it.
+/// - [`Fault::NoMemory`] where a growth was refused.
+/// - [`Fault::Write`] where a write or the flush answered it, or a write took nothing. A prefix of the
+///   answer is out then; after any other fault nothing was written or flushed.
+pub fn answer<A, R, W>(alloc: A, query: Query, makefile: &mut R, out: &mut W) -> Result<(), Fault>
+where
+    A: Allocator + Copy,
+    R: ByteSource,
+    W: ByteSink,
+    requires makefile_works { R.failed makefile.old ≡ false }
+    requires out_works { W.failed out.old ≡ false }
+    ensures whole { OnOk result (IfSome (R.remaining makefile.old) (λ text.
+        Appends (W.contents out.old) (W.contents out.new) (query_text query text))) }
+    ensures prefix { IfSome (R.remaining makefile.old) (λ text.
+        AppendsPrefix (W.contents out.old) (W.contents out.new) (query_text query text)) }
+    ensures untouched { IfErr result (λ e. (e ≡ Fault.Write → ⊥) → out.new ≡ out.old) }
+    ensures read { result ≡ Err Fault.Read ↔ R.failed makefile.new ≡ true }
+    ensures write { result ≡ Err Fault.Write ↔ W.failed out.new ≡ true }
+    ensures depth { result ≡ Err Fault.BadDepth → ⊥ }
+    ensures too_long { result ≡ Err Fault.TooLong → IfSome (R.remaining makefile.old) (λ text. 2 ^ 24 < length text) }
+    ensures too_deep { result ≡ Err Fault.TooDeep → IfSome (R.remaining makefile.old) (λ text. IsTooDeep text) }
+    ensures shallow { OnOk result (IfSome (R.remaining makefile.old) (λ text. IsTooDeep text → ⊥)) }
+    ensures flushed { W.flushes out.new ≡ count_if (is_ok result) (W.flushes out.old) }
+    ensures settled { OnOk result (IfSome (W.pending out.new) (λ n. n ≡ 0)) }
+{
+    let text = read_all(alloc, makefile)?;
+    let session = Session::open_vec(alloc, text, DEPTH)?;
+    put_out(query, session.doc(), out)
+}
+
+// Answers on standard output.
+fn print<R: ByteSource>(rt: &HostRuntime, query: Query, makefile: &mut R) -> Outcome
+    requires { R.failed makefile.old ≡ false }
+{
+    let mut out = StdSink::new(rt.stdout());
+    match answer(rt.alloc(), query, makefile, &mut out) {
+        Ok(()) => Outcome::Done,
+        Err(fault) => Outcome::from(fault),
+    }
+}
+
+/// Answers what the makefile of this name is asked for, on standard output; without a name, what
+/// standard input is asked for.
+///
+/// # Errors
+///
+/// [`CannotOpen`] where it cannot be opened.
+pub fn ask<'a>(
+    rt: &HostRuntime,
+    query: Query,
+    file: Option<&'a str>,
+) -> Result<Outcome, CannotOpen<'a>> {
+    match file {
+        Some(name) => {
+            let mut makefile = StdSource::new(open(rt, name)?);
+            Ok(print(rt, query, &mut makefile))
+        }
+        None => {
+            let mut makefile = StdSource::new(rt.stdin());
+            Ok(print(rt, query, &mut makefile))
+        }
+    }
+}
