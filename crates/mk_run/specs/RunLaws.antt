@@ -35,12 +35,12 @@ abbrev pub tried : (keep_going : Bool) → List CommandAt → Shown (List ℕ) �
 tried k [] s = []
 tried k (c ∷ commands) s = tried_next k c.command s (λ t. tried k commands t) (answer c.command s)
 
--- A call does as stated: an edit that is granted changes the reading by exactly its stated change and no byte outside its spans; a
--- call that is not granted changes nothing.
+-- A call does as stated: it is the machine's step; an edit that is granted changes the reading by exactly its stated change and no
+-- byte outside its spans; a call that is not granted changes nothing.
 abbrev pub DoesAsStated : Call → (before after : Shown (List ℕ)) → Type 0
-DoesAsStated (Apply e, Granted) x y = IsMade e x.text y.text
-DoesAsStated (c, Granted) x y = Unit {0}
-DoesAsStated (c, Refused q) x y = y ≡ x
+DoesAsStated (Apply e, Granted) x y = (answer (Apply e) x ≡ Ok y) × IsMade e x.text y.text
+DoesAsStated (c, Granted) x y = answer c x ≡ Ok y
+DoesAsStated (c, Refused q) x y = (answer c x ≡ Err q) × (y ≡ x)
 DoesAsStated (c, NoMemory) x y = y ≡ x
 
 -- Calls in turn, each of which does.

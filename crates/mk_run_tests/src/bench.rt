@@ -17,6 +17,7 @@ pub struct Plan {
     pub out_takes_nothing_at: Option<u64>,
     pub flush_fails: bool,
     pub report_fails_at: Option<u64>,
+    pub report_takes_nothing_at: Option<u64>,
 }
 
 /// Devices that do not fail, and move at most `step` bytes a call.
@@ -29,6 +30,7 @@ pub fn moving(step: usize) -> Plan {
         out_takes_nothing_at: None,
         flush_fails: false,
         report_fails_at: None,
+        report_takes_nothing_at: None,
     }
 }
 
@@ -58,7 +60,9 @@ pub fn run_row<A: Allocator + Copy>(rt: &HostRuntime, alloc: A, row: &Row, plan:
         .failing_at(plan.out_fails_at)
         .taking_nothing_at(plan.out_takes_nothing_at)
         .with_flush_failing(plan.flush_fails);
-    let mut report = MemorySink::new(Vec::new(rt.alloc()), step).failing_at(plan.report_fails_at);
+    let mut report = MemorySink::new(Vec::new(rt.alloc()), step)
+        .failing_at(plan.report_fails_at)
+        .taking_nothing_at(plan.report_takes_nothing_at);
     let outcome = run(
         alloc,
         &mut makefile,

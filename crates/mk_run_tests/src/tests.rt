@@ -1,5 +1,5 @@
 use crate::bench::{Answer, moving, run_row};
-use crate::rows::{ROWS, Row};
+use crate::rows::{Row, kept_going, rows};
 use mk_run::{Outcome, message, run, status};
 use refusing::Refusing;
 use std::process::Abort;
@@ -14,12 +14,13 @@ fn assert_is(rt: &impl Abort, row: &Row, answer: &Answer) {
     assert_eq!(rt; status(&answer.outcome), row.status);
     assert_eq!(rt; answer.out.bytes(), row.out);
     assert_eq!(rt; answer.report.bytes(), row.report);
-    assert_eq!(rt; answer.out.flushes() == 1, row.writes());
+    assert_eq!(rt; answer.out.flushes(), u64::from(row.writes()));
+    assert_eq!(rt; answer.report.flushes(), 0);
 }
 
 #[test]
 fn rows_at_any_step(rt: HostRuntime) {
-    for row in &ROWS {
+    for row in &rows() {
         for step in 1..20usize {
             assert_is(&rt, row, &run_row(&rt, rt.alloc(), row, moving(step)));
         }
@@ -28,16 +29,14 @@ fn rows_at_any_step(rt: HostRuntime) {
 
 #[test]
 fn each_growth_refused_in_turn(rt: HostRuntime) {
-    for row in &ROWS {
+    for row in &rows() {
         for admitted in 0..1000 {
             let heap = Refusing::after(rt.alloc(), admitted);
             let answer = run_row(&rt, &heap, row, moving(ALL));
             if !heap.has_refused() {
                 assert_is(&rt, row, &answer);
-                // Every run but one that reads nothing takes some memory.
-                assert!(rt;
-                    admitted > 0 || row.makefile.is_empty() || row.outcome == Outcome::BadDepth
-                );
+                // Every run but one of a bad depth takes some memory.
+                assert_eq!(rt; admitted == 0, row.outcome == Outcome::BadDepth);
                 break;
             }
             assert_eq!(rt; answer.outcome, Outcome::NoMemory);
@@ -48,9 +47,32 @@ fn each_growth_refused_in_turn(rt: HostRuntime) {
     }
 }
 
+// Where the next command finds no memory, the line on the one before is out.
+#[test]
+fn a_refusal_is_reported_at_once(rt: HostRuntime) {
+    let row = kept_going(
+        b"X=0\n",
+        b"undo\nset X 1\n",
+        1,
+        b"X=1\n",
+        b"1: refused 16 NothingToUndo\n",
+    );
+    let mut is_met = false;
+    for admitted in 0..1000 {
+        let heap = Refusing::after(rt.alloc(), admitted);
+        let answer = run_row(&rt, &heap, &row, moving(ALL));
+        if !heap.has_refused() {
+            break;
+        }
+        assert_eq!(rt; answer.outcome, Outcome::NoMemory);
+        is_met = is_met || answer.report.bytes() == row.report;
+    }
+    assert!(rt; is_met);
+}
+
 #[test]
 fn each_read_fails_in_turn(rt: HostRuntime) {
-    for row in &ROWS {
+    for row in &rows() {
         for call in 1..200 {
             let mut plan = moving(1);
             plan.makefile_fails_at = Some(call);
@@ -68,7 +90,7 @@ fn each_read_fails_in_turn(rt: HostRuntime) {
 
 #[test]
 fn each_read_of_the_script_fails_in_turn(rt: HostRuntime) {
-    for row in &ROWS {
+    for row in &rows() {
         for call in 1..200 {
             let mut plan = moving(1);
             plan.script_fails_at = Some(call);
@@ -86,7 +108,7 @@ fn each_read_of_the_script_fails_in_turn(rt: HostRuntime) {
 
 #[test]
 fn each_write_fails_in_turn(rt: HostRuntime) {
-    for row in &ROWS {
+    for row in &rows() {
         for call in 1..200 {
             let mut fails = moving(3);
             fails.out_fails_at = Some(call);
@@ -114,7 +136,7 @@ fn each_write_fails_in_turn(rt: HostRuntime) {
 
 #[test]
 fn a_failed_flush_is_no_success(rt: HostRuntime) {
-    for row in &ROWS {
+    for row in &rows() {
         let mut plan = moving(ALL);
         plan.flush_fails = true;
         let answer = run_row(&rt, rt.alloc(), row, plan);
@@ -129,18 +151,27 @@ fn a_failed_flush_is_no_success(rt: HostRuntime) {
 
 #[test]
 fn a_failed_report_ends_the_run(rt: HostRuntime) {
-    for row in &ROWS {
+    for row in &rows() {
         for call in 1..200 {
-            let mut plan = moving(5);
-            plan.report_fails_at = Some(call);
-            let answer = run_row(&rt, rt.alloc(), row, plan);
-            if answer.report.writes() < call {
-                assert_is(&rt, row, &answer);
+            let mut fails = moving(5);
+            fails.report_fails_at = Some(call);
+            let mut takes_nothing = moving(5);
+            takes_nothing.report_takes_nothing_at = Some(call);
+            let mut met = false;
+            for plan in [fails, takes_nothing] {
+                let answer = run_row(&rt, rt.alloc(), row, plan);
+                if answer.report.writes() < call {
+                    assert_is(&rt, row, &answer);
+                    continue;
+                }
+                met = true;
+                assert_eq!(rt; answer.outcome, Outcome::Write);
+                assert!(rt; answer.out_is_untouched());
+                assert!(rt; row.report.starts_with(answer.report.bytes()));
+            }
+            if !met {
                 break;
             }
-            assert_eq!(rt; answer.outcome, Outcome::Write);
-            assert!(rt; answer.out_is_untouched());
-            assert!(rt; row.report.starts_with(answer.report.bytes()));
         }
     }
 }

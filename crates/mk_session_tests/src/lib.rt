@@ -1,11 +1,26 @@
-//! Tests of `mk_session`: worked rows.
+//! Tests of `mk_session`: worked rows, the lines that calls read again, growths that are refused and
+//! growths that are counted, and many calls over hostile makefiles.
 #![tactic(auto)]
 
 #[cfg(test)]
+mod any_command;
+#[cfg(test)]
+mod counted_growths;
+#[cfg(test)]
 mod edits;
+#[cfg(test)]
+mod many_calls;
+#[cfg(test)]
+mod numbers;
+#[cfg(test)]
+mod refused_growths;
+#[cfg(test)]
+mod refused_rows;
 #[cfg(test)]
 mod rows;
 #[cfg(test)]
 mod steps;
+#[cfg(test)]
+mod text_machine;
 #[cfg(test)]
 mod texts;

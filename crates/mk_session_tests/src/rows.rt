@@ -4,18 +4,22 @@ use mk_lines::Fault;
 use mk_session::{Refusal, Session};
 use std::test::Fail;
 
-// Calls of a session in turn.
+/// Calls of a session in turn.
 #[derive(Clone, Copy)]
-struct Row {
-    name: &'static str,
-    depth: u32,
-    text: &'static [u8],
-    steps: &'static [(Step, Answer)],
-    // How many lines they read again.
-    rereads: u64,
+pub struct Row {
+    /// What it shows.
+    pub name: &'static str,
+    /// The depth and the text that are opened.
+    pub depth: u32,
+    pub text: &'static [u8],
+    /// The calls with their answers.
+    pub steps: &'static [(Step, Answer)],
+    /// How many lines they read again.
+    pub rereads: u64,
 }
 
-const UNDO_ROWS: [Row; 4] = [
+/// Edits that are undone and redone.
+pub const UNDO_ROWS: [Row; 4] = [
     Row {
         name: "a folded value comes back",
         depth: 100,
@@ -69,7 +73,8 @@ const UNDO_ROWS: [Row; 4] = [
     },
 ];
 
-const GROUP_ROWS: [Row; 7] = [
+/// Groups.
+pub const GROUP_ROWS: [Row; 7] = [
     Row {
         name: "a group is undone and redone as one",
         depth: 100,
@@ -169,6 +174,7 @@ const GROUP_ROWS: [Row; 7] = [
     },
 ];
 
+// Lines that are read again, and lines that are not.
 const REREAD_ROWS: [Row; 5] = [
     Row {
         name: "a rename reads each line that it changes, and undo and redo read none",

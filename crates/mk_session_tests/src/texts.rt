@@ -15,15 +15,14 @@ pub fn text_of<A: Allocator>(rt: &HostRuntime, doc: &Doc<A>) -> Result<Vec<u8>, 
     Ok(Vec::from_slice(rt.alloc(), sink.bytes())?)
 }
 
-/// Whether a document has this text, and the lines of that text parsed anew, with their classes.
+/// Whether a document is that of a text parsed anew: it has the same lines, each with its class.
 pub fn is_as_parsed<A: Allocator>(
     rt: &HostRuntime,
     doc: &Doc<A>,
     text: &[u8],
 ) -> Result<bool, Fault> {
-    let written = text_of(rt, doc)?;
     let parsed = Doc::parse(rt.alloc(), text, &mut Meter::new())?;
-    if written.as_slice() != text || doc.len() != parsed.len() {
+    if doc.len() != parsed.len() || doc.size() != text.len() {
         return Ok(false);
     }
     for (line, other) in doc.iter().zip(parsed.iter()) {

@@ -47,13 +47,13 @@ are-calls k (c ∷ commands) s = calls-next k c s (λ t. obeyed k commands t) (�
 -- ---- each does as stated
 
 does-as_stated : (call : Call) (x y : Seen) → IsCall call x y → DoesAsStated call x.shown y.shown
-does-as_stated (Apply e, Granted) x y h = granted-made e x y h
-does-as_stated (Undo, Granted) x y h = tt
-does-as_stated (Redo, Granted) x y h = tt
-does-as_stated (Begin, Granted) x y h = tt
-does-as_stated (End, Granted) x y h = tt
-does-as_stated (Cancel, Granted) x y h = tt
-does-as_stated (c, Refused q) x y h = others-kept (c, Refused q) x y h (λ no. absurd (cc))
+does-as_stated (Apply e, Granted) x y h = (h.step, granted-made e x y h)
+does-as_stated (Undo, Granted) x y h = h.step
+does-as_stated (Redo, Granted) x y h = h.step
+does-as_stated (Begin, Granted) x y h = h.step
+does-as_stated (End, Granted) x y h = h.step
+does-as_stated (Cancel, Granted) x y h = h.step
+does-as_stated (c, Refused q) x y h = h.step
 does-as_stated (c, NoMemory) x y h = others-kept (c, NoMemory) x y h (λ no. absurd (cc))
 
 do-as_stated : (calls : List Call) (x z : Seen) → AreCalls calls x z → DoAsStated calls x.shown z.shown

@@ -5,21 +5,24 @@ use Rattle.mk_script.proofs.field.push_unescaped.Goals as goal
 use Rattle.mk_script.proofs.field.push_unescaped.Goals.{then-is_escaped+in_ok-push, else-is_escaped+then-byte-eq92, else-is_escaped+else-byte-eq92+in_ok-push-2}
 
 -- a byte after a backslash
-escaped-step : (done now text rest whole : List ℕ) (b : ℕ) (s t : Bool) → text ≡ b ∷ rest → s ≡ true → t ≡ false → now ≡ done ++ b ∷ []
+escaped-step : (done pushed now text rest whole : List ℕ) (b : ℕ) (s t : Bool) → text ≡ b ∷ rest → s ≡ true → t ≡ false → now ≡ pushed → pushed ≡ done ++ b ∷ []
     → done ++ unescaped s text ≡ whole → now ++ unescaped t rest ≡ whole
-escaped-step done now text rest whole b s t e f g h k =
+escaped-step done pushed now text rest whole b s t e f g h p k =
     let before : done ++ (b ∷ unescaped false rest) ≡ whole = rw (e, f) at k in
-    rw (g, h) (append_assoc done (b ∷ []) (unescaped false rest) ∙ before)
+    rw (g, h, p) (append_assoc done (b ∷ []) (unescaped false rest) ∙ before)
+
+-- a backslash, and any other byte
 
 backslash-step : (done now text rest whole : List ℕ) (b : ℕ) (s t : Bool) → text ≡ b ∷ rest → s ≡ false → t ≡ true → b ≡ 92 → now ≡ done
     → done ++ unescaped s text ≡ whole → now ++ unescaped t rest ≡ whole
 backslash-step done now text rest whole b s t e f g i h k = rw (g, h) (rw (e, f, i) at k)
 
-plain-step : (done now text rest whole : List ℕ) (b : ℕ) (s t : Bool) → text ≡ b ∷ rest → s ≡ false → t ≡ s → (b == 92) ≡ false → now ≡ done ++ b ∷ []
+plain-step : (done pushed now text rest whole : List ℕ) (b : ℕ) (s t : Bool) → text ≡ b ∷ rest → s ≡ false → t ≡ s → (b == 92) ≡ false → now ≡ pushed
+    → pushed ≡ done ++ b ∷ []
     → done ++ unescaped s text ≡ whole → now ++ unescaped t rest ≡ whole
-plain-step done now text rest whole b s t e f g i h k =
+plain-step done pushed now text rest whole b s t e f g i h p k =
     let before : done ++ (b ∷ unescaped false rest) ≡ whole = rw (e, f, i) at k in
-    rw (g, f, h) (append_assoc done (b ∷ []) (unescaped false rest) ∙ before)
+    rw (g, f, h, p) (append_assoc done (b ∷ []) (unescaped false rest) ∙ before)
 
 pub loop-byte-preserved : goal.loop-byte-preserved
 loop-byte-preserved g c =
@@ -31,12 +34,12 @@ loop-byte-preserved g c =
     let whole = c.args.text.now.items ++ unescaped false text in
     elim c.if-is_escaped.branch [
       | then-is_escaped+in_ok-push w ↦
-          escaped-step done c.if-is_escaped.text.items (drop i text) (drop (i + 1) text) whole b c.loop-byte.is_escaped c.if-is_escaped.is_escaped left w.if-is_escaped.true w.is_escaped-is
-          (ap (λ v. v.items) w.text-is ∙ w.in_ok-push.ensures.items) c.loop-byte.invariant
+          escaped-step done w.push.new.self.items c.if-is_escaped.text.items (drop i text) (drop (i + 1) text) whole b c.loop-byte.is_escaped c.if-is_escaped.is_escaped left w.if-is_escaped.true w.is_escaped-is
+          (ap (λ v. v.items) w.text-is) w.in_ok-push.ensures.items c.loop-byte.invariant
       | else-is_escaped+then-byte-eq92 w ↦
           backslash-step done c.if-is_escaped.text.items (drop i text) (drop (i + 1) text) whole b c.loop-byte.is_escaped c.if-is_escaped.is_escaped left w.if-is_escaped.false w.is_escaped-is
           w.if-byte-eq92.true (ap (λ v. v.items) w.text-is) c.loop-byte.invariant
       | else-is_escaped+else-byte-eq92+in_ok-push-2 w ↦
-          plain-step done c.if-is_escaped.text.items (drop i text) (drop (i + 1) text) whole b c.loop-byte.is_escaped c.if-is_escaped.is_escaped left w.if-is_escaped.false w.is_escaped-is
-          (ne_eqb b 92 w.if-byte-eq92.false) (ap (λ v. v.items) w.text-is ∙ w.in_ok-push-2.ensures.items) c.loop-byte.invariant
+          plain-step done w.push-else-byte-eq92.new.self.items c.if-is_escaped.text.items (drop i text) (drop (i + 1) text) whole b c.loop-byte.is_escaped c.if-is_escaped.is_escaped left w.if-is_escaped.false w.is_escaped-is
+          (ne_eqb b 92 w.if-byte-eq92.false) (ap (λ v. v.items) w.text-is) w.in_ok-push-2.ensures.items c.loop-byte.invariant
     ]

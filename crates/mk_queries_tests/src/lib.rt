@@ -1,0 +1,8 @@
+//! Tests of queries: rows with the texts that they give, sinks that move little, fail or take
+//! nothing, and texts longer than what is held back.
+#![tactic(auto)]
+
+#[cfg(test)]
+mod rows;
+#[cfg(test)]
+mod tests;

@@ -1,0 +1,245 @@
+//! Makefiles, and the texts that the queries give.
+
+ghost use Rattle.std.specs.Prelude.{◌≡◌, false};
+ghost use Rattle.mk_tree.specs.Documents.{IsFaithful};
+
+use mk_lines::{ByteSink, Fault};
+use mk_queries::{check, rules, vars};
+use mk_tree::Doc;
+use std::alloc::Allocator;
+
+/// A query.
+#[derive(Clone, Copy)]
+pub enum Query {
+    Vars,
+    Rules,
+    Check,
+}
+
+impl Query {
+    /// Asks it of a document.
+    pub fn ask<A: Allocator, W: ByteSink>(self, doc: &Doc<A>, out: &mut W) -> Result<(), Fault>
+        requires faithful { IsFaithful doc.now }
+        requires works { W.failed out.old ≡ false }
+    {
+        match self {
+            Query::Vars => vars(doc, out),
+            Query::Rules => rules(doc, out),
+            Query::Check => check(doc, out),
+        }
+    }
+}
+
+/// A makefile, and the text of a query of it.
+pub struct Row {
+    pub query: Query,
+    pub makefile: &'static [u8],
+    pub text: &'static [u8],
+}
+
+pub static ROWS: [Row; 34] = [
+    // vars of an empty file
+    Row {
+        query: Query::Vars,
+        makefile: b"",
+        text: b"",
+    },
+    // vars of a tab led assignment
+    Row {
+        query: Query::Vars,
+        makefile: b"foo:\nX = 1\n\tY = 2\n",
+        text: b"2:0: X = 1\n3:0: Y = 2\n",
+    },
+    // check lists opaque lines
+    Row {
+        query: Query::Check,
+        makefile: b"$(call t,x)\n\tZ = 1\n",
+        text: b"1: opaque\n2: opaque\n",
+    },
+    // check lists a rough line
+    Row {
+        query: Query::Check,
+        makefile: b"| a: b\n",
+        text: b"1: rough\n",
+    },
+    // rules with a reference
+    Row {
+        query: Query::Rules,
+        makefile: b"X = 1\na b:: $(subst x y,z,w) c\n",
+        text: b"2:0: a b:: $(subst x y,z,w) c [0]\n",
+    },
+    // vars with a depth a modifier and a target
+    Row {
+        query: Query::Vars,
+        makefile: b"ifdef A\nexport CC ?= gcc  # c\nendif\nfoo: X += 1\nY :=\n",
+        text: b"2:1: export CC ?= gcc\n4:0: foo: X += 1\n5:0: Y :=\n",
+    },
+    // rules with order only words a pattern and an inline recipe
+    Row {
+        query: Query::Rules,
+        makefile: b"%.o: %.c | out\n\tcc\nx.o y.o: %.o: %.c\nfoo &: a ; b\n",
+        text: b"1:0: %.o: %.c | out [1]\n3:0: x.o y.o: %.o: %.c [0]\n4:0: foo&: a [1]\n",
+    },
+    // check counts open conditionals
+    Row {
+        query: Query::Check,
+        makefile: b"foo: a\\ b\nbar: x y=1\nifdef A\n",
+        text: b"1: rough\n2: rough\nend: conditionals 1\n",
+    },
+    // check of a stray endif
+    Row {
+        query: Query::Check,
+        makefile: b"endif\n\tX = 1\n",
+        text: b"1: opaque\n2: opaque\n",
+    },
+    // check counts open defines
+    Row {
+        query: Query::Check,
+        makefile: b"define A\ndefine B\nendef\n",
+        text: b"end: defines 1\n",
+    },
+    // check lists a line with a nul
+    Row {
+        query: Query::Check,
+        makefile: b"A=1\0\nB=2\n",
+        text: b"1: opaque\n",
+    },
+    // check lists a line with a stray return
+    Row {
+        query: Query::Check,
+        makefile: b"A=1\r2\n",
+        text: b"1: opaque\n",
+    },
+    // check lists a bad fold
+    Row {
+        query: Query::Check,
+        makefile: b"A=1\\\\\\\n2\n",
+        text: b"1: opaque\n",
+    },
+    // vars of an assignment for no target
+    Row {
+        query: Query::Vars,
+        makefile: b": X = 1\n",
+        text: b"1:0: : X = 1\n",
+    },
+    // vars with each operator
+    Row {
+        query: Query::Vars,
+        makefile: b"A=1\nB:=1\nC::=1\nD:::=1\nE?=1\nF+=1\nG!=1\n",
+        text: b"1:0: A = 1\n2:0: B := 1\n3:0: C ::= 1\n4:0: D :::= 1\n5:0: E ?= 1\n6:0: F += 1\n7:0: G != 1\n",
+    },
+    // vars with three modifiers
+    Row {
+        query: Query::Vars,
+        makefile: b"private  override\texport X=\n",
+        text: b"1:0: private override export X =\n",
+    },
+    // vars with modifiers after targets
+    Row {
+        query: Query::Vars,
+        makefile: b"a b::override export X = 1 2 # c\n",
+        text: b"1:0: a b:: override export X = 1 2\n",
+    },
+    // vars by the numbers of physical lines
+    Row {
+        query: Query::Vars,
+        makefile: b"A = 1 \\\n  2\\\n3\nB = 4\n",
+        text: b"1:0: A = 1 2 3\n4:0: B = 4\n",
+    },
+    // vars at each depth
+    Row {
+        query: Query::Vars,
+        makefile: b"ifdef A\nX = 1\nifdef B\nY = 2\nelse\nY = 3\nendif\nendif\nZ = 4\n",
+        text: b"2:1: X = 1\n4:2: Y = 2\n6:2: Y = 3\n9:0: Z = 4\n",
+    },
+    // vars with returns and no last line end
+    Row {
+        query: Query::Vars,
+        makefile: b"A = 1\r\nB =\r\nC = 3",
+        text: b"1:0: A = 1\n2:0: B =\n3:0: C = 3\n",
+    },
+    // vars in a define are none
+    Row {
+        query: Query::Vars,
+        makefile: b"define D\nX = 1\nendef\nY = 2\n",
+        text: b"4:0: Y = 2\n",
+    },
+    // rules with an empty inline recipe
+    Row {
+        query: Query::Rules,
+        makefile: b"a: b ;\n",
+        text: b"1:0: a: b [1]\n",
+    },
+    // rules with an inline recipe and lines
+    Row {
+        query: Query::Rules,
+        makefile: b"a: ; x\n\ty\n\tz\n",
+        text: b"1:0: a: [3]\n",
+    },
+    // rules with a tab alone as a recipe
+    Row {
+        query: Query::Rules,
+        makefile: b"a:\n\t\n",
+        text: b"1:0: a: [1]\n",
+    },
+    // rules with a recipe among conditionals
+    Row {
+        query: Query::Rules,
+        makefile: b"a:\n\tx\nifdef B\n\n# c\n\ty\nelse\n\tz\nendif\nX = 1\n\tY = 2\n",
+        text: b"1:0: a: [3]\n",
+    },
+    // rules one after the other
+    Row {
+        query: Query::Rules,
+        makefile: b"a:\n\tx\nb:\nc:\n\ty \\\n\tz\n\tw\n",
+        text: b"1:0: a: [1]\n3:0: b: [0]\n4:0: c: [2]\n",
+    },
+    // rules end at a rough line
+    Row {
+        query: Query::Rules,
+        makefile: b"a:\n\tx\n| b: c\n\ty\n",
+        text: b"1:0: a: [1]\n",
+    },
+    // rules with no order only word behind the bar
+    Row {
+        query: Query::Rules,
+        makefile: b"a: b |\nc: | d\n",
+        text: b"1:0: a: b [0]\n2:0: c: | d [0]\n",
+    },
+    // rules with each separator
+    Row {
+        query: Query::Rules,
+        makefile: b"a : b\na  b::\nc &: d\ne&::\n",
+        text: b"1:0: a: b [0]\n2:0: a b:: [0]\n3:0: c&: d [0]\n4:0: e&:: [0]\n",
+    },
+    // rules with a fold and a comment
+    Row {
+        query: Query::Rules,
+        makefile: b"ifdef A\n\na: b\\\n  c # d\n",
+        text: b"3:1: a: b c [0]\n",
+    },
+    // rules of a pattern alone
+    Row {
+        query: Query::Rules,
+        makefile: b"a b:c:\n",
+        text: b"1:0: a b: c: [0]\n",
+    },
+    // check counts both that are open
+    Row {
+        query: Query::Check,
+        makefile: b"ifdef A\nifdef B\ndefine C\n",
+        text: b"end: conditionals 2\nend: defines 1\n",
+    },
+    // check of a clean file
+    Row {
+        query: Query::Check,
+        makefile: b"A = 1\na: b\n\tc\n",
+        text: b"",
+    },
+    // check by the numbers of physical lines
+    Row {
+        query: Query::Check,
+        makefile: b"A = 1\\\n2\n$(x)\n\n| a: b\n",
+        text: b"3: opaque\n5: rough\n",
+    },
+];

@@ -1,0 +1,153 @@
+//! How many growths calls take.
+use crate::steps::{Step, answers};
+use mk_class::Meter;
+use mk_session::{Command, Refusal, Session};
+use mk_tree::Doc;
+use std::alloc::Global;
+use std::test::Fail;
+use watched::{Growths, Watched};
+
+type Heap = Watched<Global>;
+
+const FIRST: &[u8] = b"X=0\nY=0\n";
+
+const EDITED: &[u8] = b"X=1\nY=0\n";
+
+const GROUPED: &[u8] = b"X=1\nY=2\n";
+
+// A session with an edit to undo, and an open group of two edits.
+fn in_a_group<'a>(rt: &HostRuntime, heap: &'a Heap) -> Result<Session<&'a Heap>, Fail> {
+    let mut session = Session::open(heap, FIRST, 10)?;
+    let steps = [
+        (Step::Set(b"X", b"1"), Ok(EDITED)),
+        (Step::Begin, Ok(EDITED)),
+        (Step::Set(b"Y", b"1"), Ok(b"X=1\nY=1\n".as_slice())),
+        (Step::Set(b"Y", b"2"), Ok(GROUPED)),
+    ];
+    if !answers(rt, heap, &mut session, FIRST, &steps)? {
+        return Err(Fail::from("the edits are not made"));
+    }
+    Ok(session)
+}
+
+#[test]
+fn end_undo_and_redo_take_no_memory(rt: HostRuntime) -> Result<(), Fail> {
+    let heap = Watched::new(rt.alloc());
+    let mut session = in_a_group(&rt, &heap)?;
+    let steps = [
+        (Step::End, Ok(GROUPED)),
+        (Step::Undo, Ok(EDITED)),
+        (Step::Undo, Ok(FIRST)),
+        (Step::Undo, Err(Refusal::NothingToUndo)),
+        (Step::Redo, Ok(EDITED)),
+        (Step::Redo, Ok(GROUPED)),
+        (Step::Redo, Err(Refusal::NothingToRedo)),
+    ];
+    heap.refuse_all();
+    assert!(rt; answers(&rt, &heap, &mut session, GROUPED, &steps)?);
+    assert!(rt; !heap.has_refused());
+    Ok(())
+}
+
+#[test]
+fn cancel_takes_no_memory(rt: HostRuntime) -> Result<(), Fail> {
+    let heap = Watched::new(rt.alloc());
+    let mut session = in_a_group(&rt, &heap)?;
+    heap.refuse_all();
+    let steps = [(Step::Cancel, Ok(EDITED)), (Step::Undo, Ok(FIRST))];
+    assert!(rt; answers(&rt, &heap, &mut session, GROUPED, &steps)?);
+    assert!(rt; !heap.has_refused());
+    Ok(())
+}
+
+// How many growths it takes to open a session of a depth.
+fn growths_of_open(heap: &Heap, depth: u32) -> Result<u64, Fail> {
+    heap.refuse_none();
+    let session = Session::open(heap, FIRST, depth)?;
+    drop(session);
+    Ok(heap.passed().count)
+}
+
+#[test]
+fn the_rings_of_the_greatest_depth_are_two_growths(rt: HostRuntime) -> Result<(), Fail> {
+    let heap = Watched::new(rt.alloc());
+    let doc = Doc::parse(&heap, FIRST, &mut Meter::new())?;
+    drop(doc);
+    let growths = heap.passed().count.saturating_add(2);
+    assert_eq!(rt; growths_of_open(&heap, 1)?, growths);
+    assert_eq!(rt; growths_of_open(&heap, 10_000)?, growths);
+    Ok(())
+}
+
+// The growths of a call.
+fn growths_of<'a>(
+    heap: &'a Heap,
+    session: &mut Session<&'a Heap>,
+    command: &Command<&'a Heap>,
+) -> Result<Growths, Fail> {
+    heap.refuse_none();
+    session.obey(command)?;
+    Ok(heap.passed())
+}
+
+// Whether 200 edits of a session of a depth take the same growths each.
+fn takes_the_same(heap: &Heap, depth: u32) -> Result<bool, Fail> {
+    let mut session = Session::open(heap, FIRST, depth)?;
+    let edit = Step::Set(b"X", b"1").command(heap)?;
+    let first = growths_of(heap, &mut session, &edit)?;
+    for _ in 1..200 {
+        if growths_of(heap, &mut session, &edit)? != first {
+            return Ok(false);
+        }
+    }
+    Ok(true)
+}
+
+#[test]
+fn no_ring_grows_by_an_edit(rt: HostRuntime) -> Result<(), Fail> {
+    let heap = Watched::new(rt.alloc());
+    assert!(rt; takes_the_same(&heap, 1)?);
+    assert!(rt; takes_the_same(&heap, 10_000)?);
+    Ok(())
+}
+
+// `A=1` and lines `B=1` after it.
+fn one_before(rt: &HostRuntime, lines: usize) -> Result<Vec<u8>, Fail> {
+    let mut text = Vec::from_slice(rt.alloc(), b"A=1\n")?;
+    for _ in 0..lines {
+        text.extend_from_slice(b"B=1\n")?;
+    }
+    Ok(text)
+}
+
+// The growths of a call on a text, after an edit that was made some times.
+fn growths_after<'a>(
+    heap: &'a Heap,
+    text: &[u8],
+    edit: &Command<&'a Heap>,
+    times: usize,
+    command: &Command<&'a Heap>,
+) -> Result<Growths, Fail> {
+    let mut session = Session::open(heap, text, 100)?;
+    for _ in 0..times {
+        session.obey(edit)?;
+    }
+    growths_of(heap, &mut session, command)
+}
+
+#[test]
+fn the_growths_of_an_edit_hang_on_its_line_alone(rt: HostRuntime) -> Result<(), Fail> {
+    let heap = Watched::new(rt.alloc());
+    let (few, many) = (one_before(&rt, 1)?, one_before(&rt, 1_000)?);
+    let edit = Step::Set(b"A", b"3").command(&heap)?;
+    for step in [Step::Set(b"A", b"2"), Step::Unset(b"A")] {
+        let command = step.command(&heap)?;
+        let growths = growths_after(&heap, few.as_slice(), &edit, 0, &command)?;
+        assert!(rt; growths.count > 0);
+        for times in [0, 50] {
+            let others = growths_after(&heap, many.as_slice(), &edit, times, &command)?;
+            assert_eq!(rt; others, growths);
+        }
+    }
+    Ok(())
+}

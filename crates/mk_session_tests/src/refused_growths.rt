@@ -1,0 +1,292 @@
+//! Growths that are refused: the call says so, the session is as it was, and the call can be made again.
+use crate::steps::{Answer, Step, answers};
+use crate::texts::is_as_parsed;
+use mk_lines::Fault;
+use mk_session::{Refusal, Session};
+use std::alloc::Global;
+use std::test::Fail;
+use watched::Watched;
+
+/// More growths than any call here takes.
+const MANY: u64 = 100;
+
+type Heap = Watched<Global>;
+
+const FIRST: &[u8] = b"X=0\nall: a a\na:\n\tc\nY = 1 \\\n  2";
+
+const NOW: &[u8] = b"X=1\nall: a a\na:\n\tc\nY = 1 \\\n  2";
+
+const UNDONE: &[u8] = b"X=2\nall: a a\na:\n\tc\nY = 1 \\\n  2";
+
+#[test]
+fn each_refused_growth_of_open_is_no_memory(rt: HostRuntime) -> Result<(), Fail> {
+    let heap = Watched::new(rt.alloc());
+    for admitted in 0..MANY {
+        heap.refuse_one_after(admitted);
+        match Session::open(&heap, FIRST, 10) {
+            Ok(session) => {
+                // the text and the count of its owners, the spans of the lines twice, a node of each
+                // line, three for the fold, and a ring each for undo and redo
+                assert_eq!(rt; (admitted, heap.has_refused()), (14, false));
+                assert!(rt; is_as_parsed(&rt, session.doc(), FIRST)?);
+                return Ok(());
+            }
+            Err(fault) => assert!(rt; heap.has_refused() && matches!(fault, Fault::NoMemory)),
+        }
+        assert!(rt; Session::open(&heap, FIRST, 10).is_ok());
+    }
+    Err(Fail::from("each growth was refused"))
+}
+
+// Where in a session a call is made. Its text is `NOW`.
+#[derive(Clone, Copy)]
+struct Stage {
+    // The calls that lead there from `FIRST`.
+    before: &'static [(Step, Answer)],
+    // How a session answers that has stayed there, and does so after these calls.
+    stays: &'static [(Step, Answer)],
+    // The text that an undo gives back after an edit there, and after the end of the group.
+    back: &'static [u8],
+}
+
+// Outside a group, with an edit to undo and an edit to redo.
+const ALONE: Stage = Stage {
+    before: &[
+        (Step::Set(b"X", b"1"), Ok(NOW)),
+        (Step::Set(b"X", b"2"), Ok(UNDONE)),
+        (Step::Undo, Ok(NOW)),
+    ],
+    stays: &[
+        (Step::Redo, Ok(UNDONE)),
+        (Step::Redo, Err(Refusal::NothingToRedo)),
+        (Step::Undo, Ok(NOW)),
+        (Step::Undo, Ok(FIRST)),
+        (Step::Undo, Err(Refusal::NothingToUndo)),
+        (Step::Redo, Ok(NOW)),
+    ],
+    back: NOW,
+};
+
+// In a group without edits, with the same to undo and redo.
+const IN_NEW_GROUP: Stage = Stage {
+    before: &[
+        (Step::Set(b"X", b"1"), Ok(NOW)),
+        (Step::Set(b"X", b"2"), Ok(UNDONE)),
+        (Step::Undo, Ok(NOW)),
+        (Step::Begin, Ok(NOW)),
+    ],
+    stays: &[
+        (Step::Undo, Err(Refusal::GroupOpen)),
+        (Step::End, Ok(NOW)),
+        (Step::Redo, Ok(UNDONE)),
+        (Step::Undo, Ok(NOW)),
+        (Step::Undo, Ok(FIRST)),
+        (Step::Redo, Ok(NOW)),
+        (Step::Begin, Ok(NOW)),
+    ],
+    back: NOW,
+};
+
+// In a group with an edit, with nothing else to undo or redo.
+const IN_GROUP: Stage = Stage {
+    before: &[(Step::Begin, Ok(FIRST)), (Step::Set(b"X", b"1"), Ok(NOW))],
+    stays: &[
+        (Step::Undo, Err(Refusal::GroupOpen)),
+        (Step::Redo, Err(Refusal::GroupOpen)),
+    ],
+    back: FIRST,
+};
+
+// Edits of `NOW`, each with the text that it makes.
+const EDITS: [(Step, &[u8]); 6] = [
+    (Step::Set(b"Y", b"5"), b"X=1\nall: a a\na:\n\tc\nY = 5"),
+    (Step::Unset(b"Y"), b"X=1\nall: a a\na:\n\tc\n"),
+    (
+        Step::Assign(b"Z", b"2"),
+        b"X=1\nall: a a\na:\n\tc\nY = 1 \\\n  2\nZ := 2\n",
+    ),
+    (
+        Step::Rename(b"a", b"b"),
+        b"X=1\nall: b b\nb:\n\tc\nY = 1 \\\n  2",
+    ),
+    (Step::Unrule(b"a"), b"X=1\nall: a a\nY = 1 \\\n  2"),
+    (
+        Step::DependOrder(b"a", b"d"),
+        b"X=1\nall: a a\na: | d\n\tc\nY = 1 \\\n  2",
+    ),
+];
+
+// A session at a stage.
+fn session_at<'a>(
+    rt: &HostRuntime,
+    heap: &'a Heap,
+    stage: Stage,
+) -> Result<Session<&'a Heap>, Fail> {
+    let mut session = Session::open(heap, FIRST, 10)?;
+    if !answers(rt, heap, &mut session, FIRST, stage.before)? {
+        return Err(Fail::from("the stage is not reached"));
+    }
+    Ok(session)
+}
+
+// Whether an edit that was made at a stage counts as it should: it is undone, with the edits before it in
+// its group, and redone, and nothing else can be redone.
+fn counts_at<'a>(
+    rt: &HostRuntime,
+    heap: &'a Heap,
+    mut session: Session<&'a Heap>,
+    stage: Stage,
+    text: &'static [u8],
+) -> Result<bool, Fail> {
+    if session.has_open_group() && session.end().is_err() {
+        return Ok(false);
+    }
+    let steps = [
+        (Step::Redo, Err(Refusal::NothingToRedo)),
+        (Step::Undo, Ok(stage.back)),
+        (Step::Redo, Ok(text)),
+    ];
+    answers(rt, heap, &mut session, text, &steps)
+}
+
+// Refuses a growth of an edit at a stage, and says whether the edit has so many. An edit that is refused
+// changes nothing, and can be made afterwards.
+fn is_refused(
+    rt: &HostRuntime,
+    heap: &Heap,
+    stage: Stage,
+    (edit, text): (Step, &'static [u8]),
+    admitted: u64,
+) -> Result<bool, Fail> {
+    let mut session = session_at(rt, heap, stage)?;
+    let command = edit.command(heap)?;
+    heap.refuse_one_after(admitted);
+    let answer = session.obey(&command);
+    let refused = heap.has_refused();
+    heap.refuse_none();
+    let stays = if refused {
+        answer == Err(Refusal::NoMemory)
+            && answers(rt, heap, &mut session, NOW, stage.stays)?
+            && session.obey(&command).is_ok()
+    } else {
+        answer.is_ok()
+    };
+    if stays
+        && is_as_parsed(rt, session.doc(), text)?
+        && counts_at(rt, heap, session, stage, text)?
+    {
+        return Ok(refused);
+    }
+    Err(Fail::from("an edit is not answered as it should be"))
+}
+
+// Refuses each growth of an edit at a stage in turn, and says how many there are.
+fn refused_in_turn(
+    rt: &HostRuntime,
+    heap: &Heap,
+    stage: Stage,
+    edit: (Step, &'static [u8]),
+) -> Result<u64, Fail> {
+    for admitted in 0..MANY {
+        if !is_refused(rt, heap, stage, edit, admitted)? {
+            return Ok(admitted);
+        }
+    }
+    Err(Fail::from("each growth was refused"))
+}
+
+#[test]
+fn each_refused_growth_of_an_edit_changes_nothing(rt: HostRuntime) -> Result<(), Fail> {
+    let heap = Watched::new(rt.alloc());
+    for stage in [ALONE, IN_NEW_GROUP, IN_GROUP] {
+        for edit in EDITS {
+            assert!(rt; refused_in_turn(&rt, &heap, stage, edit)? > 0);
+        }
+    }
+    Ok(())
+}
+
+// Refuses a growth of the begin of a group, and says whether it has so many. A begin that is refused
+// changes nothing, and can be made afterwards.
+fn is_begin_refused(rt: &HostRuntime, heap: &Heap, admitted: u64) -> Result<bool, Fail> {
+    let mut session = session_at(rt, heap, ALONE)?;
+    heap.refuse_one_after(admitted);
+    let answer = session.begin();
+    let refused = heap.has_refused();
+    heap.refuse_none();
+    let begun = if refused {
+        answer == Err(Refusal::NoMemory)
+            && !session.has_open_group()
+            && answers(rt, heap, &mut session, NOW, ALONE.stays)?
+            && session.begin().is_ok()
+    } else {
+        answer.is_ok()
+    };
+    if begun && answers(rt, heap, &mut session, NOW, IN_NEW_GROUP.stays)? {
+        return Ok(refused);
+    }
+    Err(Fail::from("a begin is not answered as it should be"))
+}
+
+#[test]
+fn each_refused_growth_of_a_begin_changes_nothing(rt: HostRuntime) -> Result<(), Fail> {
+    let heap = Watched::new(rt.alloc());
+    // a ring for the edits that are made, and one for those that wait while the group is taken back
+    assert!(rt; is_begin_refused(&rt, &heap, 0)? && is_begin_refused(&rt, &heap, 1)?);
+    assert!(rt; !is_begin_refused(&rt, &heap, 2)?);
+    Ok(())
+}
+
+// Edits that are refused, each with the text that it finds and the cause.
+const REFUSED_EDITS: [(&[u8], Step, Refusal); 6] = [
+    (b"foo:\nX = 1\n\tY = 2\n", Step::Unset(b"X"), Refusal::Leans),
+    (
+        b"ifdef A\nCC=x\nelse\nCC=y\nendif\n",
+        Step::Set(b"CC", b"z"),
+        Refusal::Ambiguous(2),
+    ),
+    (
+        b"X = $(foo\n",
+        Step::Append(b"X", b"${)#}"),
+        Refusal::OpenValue,
+    ),
+    (
+        b"all:\n",
+        Step::Rename(b"all", b"include"),
+        Refusal::Reserved,
+    ),
+    (b"foo: |\n", Step::Undepend(b"foo", b"a"), Refusal::Absent),
+    (b"a: b\nb:\n", Step::Rename(b"a", b"b"), Refusal::Taken),
+];
+
+// Whether an edit is refused for its cause where every growth is refused, and meets none.
+fn keeps_its_cause(
+    rt: &HostRuntime,
+    heap: &Heap,
+    in_group: bool,
+    (text, edit, cause): (&'static [u8], Step, Refusal),
+) -> Result<bool, Fail> {
+    let mut session = Session::open(heap, text, 10)?;
+    if in_group {
+        session.begin()?;
+    }
+    let command = edit.command(heap)?;
+    heap.refuse_all();
+    let answer = session.obey(&command);
+    let refused = heap.has_refused();
+    heap.refuse_none();
+    Ok(answer == Err(cause) && !refused && is_as_parsed(rt, session.doc(), text)?)
+}
+
+#[test]
+fn a_refused_edit_keeps_its_cause_where_all_growths_are_refused(
+    rt: HostRuntime,
+) -> Result<(), Fail> {
+    let heap = Watched::new(rt.alloc());
+    for edit in REFUSED_EDITS {
+        for in_group in [false, true] {
+            assert!(rt; keeps_its_cause(&rt, &heap, in_group, edit)?);
+        }
+    }
+    Ok(())
+}
