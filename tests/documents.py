@@ -1,0 +1,73 @@
+"""The examples of docs/EDITS.md, run through the program.
+
+In an example `⏎` is a line feed and `⇥` a tab. Three forms are run:
+
+    MAKEFILE          COMMAND          TEXT       a line, its columns at least two blanks apart
+    MAKEFILE          OUTPUT                      the lines below the title of a query, which has them
+                                                  side by side
+    | No. | Name | When | `MAKEFILE`, `COMMAND` | What to do |
+                                                  a row on a refusal; one without a makefile is run
+                                                  over ANY
+"""
+
+import re
+from pathlib import Path
+
+from checks import Outcome, differences
+from rooms import Room
+
+EDITS = Path(__file__).resolve().parent.parent / "docs/EDITS.md"
+ANY = "X = 1\nall:\n"
+COMMANDS = (
+    "set append unset assign rule unrule depend depend-order undepend recipe recipe-set recipe-del rename"
+)
+EXAMPLE = re.compile(
+    rf"^    (\S.*?⏎|X=1) {{2,}}((?:{COMMANDS.replace(' ', '|')}) .*?) {{2,}}(\S.*⏎)$", re.M
+)
+QUERY = re.compile(r"^### `mkedit (\w+)`\n(?:.*\n)*?\n((?:    .*\n)+)", re.M)
+REFUSAL = re.compile(r"^\| (\d+) \| `(\w+)`[^|]*\|.*?\| ((?:`[^`]*`(?:, )?)+)[^|]*\|", re.M)
+
+
+def text_of(shown):
+    """The bytes that an example shows."""
+    return shown.replace("⏎", "\n").replace("⇥", "\t").encode()
+
+
+def edit(room, makefile, command):
+    room.write("Makefile", text_of(makefile))
+    room.write("script", text_of(command) + b"\n")
+    return room.run("edit", "script", "Makefile")
+
+
+def check_edits(room, document):
+    for before, command, after in EXAMPLE.findall(document):
+        yield command, differences(edit(room, before, command), Outcome(text_of(after), b"", 0))
+
+
+def check_refusals(room, document):
+    for number, name, examples in REFUSAL.findall(document):
+        *makefile, command = re.findall(r"`([^`]*)`", examples)
+        got = edit(room, makefile[0] if makefile else ANY, command)
+        is_told = re.fullmatch(rf"1: refused {number} {name}( \w+)?\n", got.stderr.decode())
+        is_right = is_told and got.status == 1 and not got.stdout
+        yield f"{number} {name}", [] if is_right else [f"{command} gives {got}"]
+
+
+def check_queries(room, document):
+    for query, block in QUERY.findall(document):
+        rows = [re.fullmatch(r"    (\S.*?⏎) *(.*)\n", line) for line in block.splitlines(True)]
+        room.write("Makefile", b"".join(text_of(row[1]) for row in rows))
+        wanted = "".join(row[2] + "\n" for row in rows if row[2]).encode()
+        yield query, differences(room.run(query, "Makefile"), Outcome(wanted, b"", 0))
+
+
+def run(program, tally):
+    """Runs every example, and counts them, so that none drops out by its form."""
+    document = EDITS.read_text(encoding="utf-8")
+    with Room(program) as room:
+        for check, least in ((check_edits, 13), (check_refusals, 14), (check_queries, 3)):
+            found = list(check(room, document))
+            for name, problems in found:
+                tally.add(f"docs/EDITS.md: {name}", problems)
+            few = [f"{len(found)} examples, wanted {least}"] if len(found) < least else []
+            tally.add(f"docs/EDITS.md: {check.__name__.replace('_', '-')}", few)
