@@ -8,7 +8,7 @@ use Rattle.mk_session.specs.Sessions.{answer}
 use Rattle.mk_session.specs.Calls.{takes_memory}
 use Rattle.mk_script.specs.Scripts.{CommandAt, IsScript}
 use Rattle.mk_run.specs.Commands.{obeyed}
-use Rattle.mk_run.specs.Runs.{RunResult, IsRun}
+use Rattle.mk_run.specs.Runs.{RunResult, IsRun, result_after}
 use Rattle.mk_run.specs.declared.outcome.Outcome.{Outcome}
 use Rattle.mk_run.specs.declared.outcome.Outcome.TheVariants.{NoMemory, Read, Write}
 
@@ -54,11 +54,12 @@ pub record IsShort (keep_going : Bool) (commands : List CommandAt) (first : Show
   pub takes : takes_memory command.command ≡ true
   pub granted : answer command.command (obeyed keep_going earlier first).shown ≡ Ok new
 
--- So did one of a script's commands over a makefile.
-pub record IsShortRun (makefile script : List ℕ) (depth : ℕ) (keep_going : Bool) (report : Written) : Type 0 where
+-- So did one of the commands of a run that comes to this result.
+pub record IsShortRun (makefile script : List ℕ) (depth : ℕ) (keep_going : Bool) (result : RunResult) (report : Written) : Type 0 where
   pub commands : List CommandAt
   pub lines : List ℕ
   pub are_commands : IsScript script commands
+  pub result_is : result ≡ result_after keep_going (obeyed keep_going commands (shown_opened depth makefile))
   pub is_short : IsShort keep_going commands (shown_opened depth makefile) lines
   pub is_out : IsOut report lines
 
@@ -70,20 +71,20 @@ pub record IsWhole (result : RunResult) (outcome : Outcome) (report out : Writte
   pub reported : IsOut report result.report
   pub written : IfSome result.output (λ text. IsOut out text)
 
--- A write or the flush failed: one of the report, of which a prefix is out; or one of the text, of which a prefix is out after the
--- whole report.
+-- A write or the flush failed: a write of the report, of which a prefix is out then; or a write or the flush of the text, of which a
+-- prefix is out then, after the whole report.
 abbrev pub IsCut : RunResult → (report_failed : Bool) → (report out : Written) → Type 0
 IsCut result true report out = IsPrefixOut report result.report
 IsCut result false report out = IsOut report result.report × ((text : List ℕ) × (result.output ≡ Some text) × IsPrefixOut out text)
 
--- A run over these texts, which comes to this result, ended with this outcome.
+-- The run over these texts, which comes to this result, ended with this outcome.
 abbrev pub EndsAs : (makefile script : List ℕ) → (depth : ℕ) → (keep_going : Bool) → RunResult → (report_failed : Bool) → (report out : Written) → Outcome → Type 0
-EndsAs m s d k result failed report out NoMemory = IsKept report ⊎ IsShortRun m s d k report
+EndsAs m s d k result failed report out NoMemory = IsKept report ⊎ IsShortRun m s d k result report
 EndsAs m s d k result failed report out Read = IsKept report
 EndsAs m s d k result failed report out Write = IsCut result failed report out
 EndsAs m s d k result failed report out outcome = IsWhole result outcome report out
 
--- A run over a makefile and a script, both as their readers tell them, ended so. Of a reader that tells nothing it is some text.
+-- The run over a makefile and a script, each as its reader tells it, ended so. Where a reader tells nothing, it is some text.
 pub record IsRunOver (makefile script : Option (List ℕ)) (depth : ℕ) (keep_going : Bool) (outcome : Outcome) (report_failed : Bool) (report out : Written) : Type 0 where
   pub makefile_text : List ℕ
   pub script_text : List ℕ

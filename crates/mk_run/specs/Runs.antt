@@ -19,11 +19,12 @@ pub record RunResult : Type 0 where
 
 -- ---- the end of the commands
 
--- a group that is still open is ended
+-- what an answer shows; where it is a refusal, what was shown before
 abbrev pub shown_or : Shown (List ℕ) → Result (Shown (List ℕ)) (machine.Refusal Refusal) → Shown (List ℕ)
 shown_or s (Ok new) = new
 shown_or s (Err q) = s
 
+-- a group that is still open is ended, as by `end`
 abbrev pub ended : Shown (List ℕ) → Shown (List ℕ)
 ended s = shown_or s (answer End s)
 
@@ -32,7 +33,7 @@ abbrev pub outcome_after : (refused : ℕ) → o.Outcome
 outcome_after zero = Done
 outcome_after (suc n) = Refused (suc n)
 
--- the text, unless a refusal ended the run
+-- the text that goes out: none, where a refusal ended the run
 abbrev pub output_after : (keep_going : Bool) → (refused : ℕ) → (text : List ℕ) → Option (List ℕ)
 output_after true n text = Some text
 output_after false zero text = Some text
@@ -56,15 +57,16 @@ IsTooLong text = 2 ^ 24 < length text
 abbrev pub InCase : (Case Then Else : Type 0) → Type 0
 InCase Case Then Else = (Case × Then) ⊎ ((Case → ⊥) × Else)
 
--- The run of commands over a makefile comes to this result.
+-- The run of commands over a makefile comes to this result: by the first case that holds, of a makefile that is too long and one
+-- that is too deep; else each command is obeyed in its turn.
 abbrev pub IsRunOf : List CommandAt → (makefile : List ℕ) → (depth : ℕ) → (keep_going : Bool) → RunResult → Type 0
 IsRunOf commands makefile depth k result =
     InCase (IsTooLong makefile) (result ≡ stopped TooLong)
     (InCase (IsTooDeep makefile) (result ≡ stopped TooDeep)
     (result ≡ result_after k (obeyed k commands (shown_opened depth makefile))))
 
--- The run of a script over a makefile comes to this result: the first that fits, of a bad depth, a script that is too long, a line
--- of it that is no command, and its commands over the makefile.
+-- The run of a script over a makefile comes to this result: by the first case that holds, of a bad depth, a script that is too long,
+-- and a line of it that is no command; else it is the run of its commands.
 abbrev pub IsRun : (makefile script : List ℕ) → (depth : ℕ) → (keep_going : Bool) → RunResult → Type 0
 IsRun makefile script depth k result =
     InCase (IsBadDepth depth) (result ≡ stopped BadDepth)

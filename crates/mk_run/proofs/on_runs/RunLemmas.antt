@@ -177,7 +177,7 @@ module _ (makefile script : Option (List ℕ)) (depth : ℕ) (k : Bool) (command
       go : (outcome : o.Outcome) → StopsCommands k commands (shown_opened depth opens.text) failed report outcome → IsRunOver makefile script depth k outcome failed report (written out out)
       go (Refused n) (works, are) = of-commands (Refused n) failed report (written out out) (ended-by_refusal n report out are)
       go NoMemory (works, are) =
-          of-commands NoMemory failed report (written out out) (inr (record { commands = commands; lines = are.lines; are_commands = says.is_script; is_short = are.is_short; is_out = are.is_out }))
+          of-commands NoMemory failed report (written out out) (inr (record { commands = commands; lines = are.lines; are_commands = says.is_script; result_is = refl; is_short = are.is_short; is_out = are.is_out }))
       go Write (fails, cut) =
           of-commands Write failed report (written out out)
           (subst (λ (f : Bool). IsCut (result_after k (obeyed k commands (shown_opened depth opens.text))) f report (written out out)) (sym fails) cut)
