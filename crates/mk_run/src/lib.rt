@@ -18,4 +18,3 @@ pub use engine::run;
 pub use mk_script::{ScriptFault, parse_script};
 pub use mk_session::Command;
 pub use outcome::{Outcome, message, status};
-// pub use mk_queries::{check, rules, vars};
