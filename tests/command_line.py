@@ -50,6 +50,7 @@ def help_of_each_command_has_an_example(room):
 def help_of_edit_names_its_options(room):
     wrong, shown = helps(room, "edit", "--help")
     options = ("-k, --keep-going", "-d, --depth <DEPTH>", "-o, --output <OUT>")
+    options += ("-e, --expression <COMMAND>", "mkedit edit [OPTIONS] -e COMMAND... [FILE]")
     return wrong + [f"the help does not name {it!r}" for it in options if it not in shown]
 
 
@@ -73,6 +74,9 @@ def a_bad_command_line_is_told(room):
         ["edit", "-d", "1", "-d", "2", "script", "Makefile"],
         ["edit", "script", "Makefile", "-o"],
         ["edit", "script", "Makefile", "-d"],
+        ["edit", "script", "Makefile", "-e"],
+        ["edit", "-e", "undo", "script", "Makefile"],
+        ["edit", "script", "-e", "undo", "Makefile"],
         ["edit", "--keep-going=yes", "script", "Makefile"],
         ["vars", "Makefile", "more"],
         ["vars", "-k", "Makefile"],
@@ -83,6 +87,36 @@ def a_bad_command_line_is_told(room):
     for words in lines:
         yield from is_refused(room, *words)
         yield from room.holds("out", None)
+
+
+@check
+def commands_of_the_command_line_are_the_lines_of_a_script(room):
+    words = ("-e", "set CC clang")
+    for line in (words, ("-eset CC clang",), ("--expression", words[1]), (f"--expression={words[1]}",)):
+        yield from room.differs(EDITED, "edit", *line, "Makefile")
+        yield from room.differs(EDITED, "edit", "Makefile", *line)
+        yield from room.differs(EDITED, "edit", *line, given=TEXT)
+    several = ("-e", "set CC cc", "-e", "", "-e", "# a comment", "-e", "undo", "-e", "undo")
+    yield from room.differs(Outcome(b"", b"5: refused 16 NothingToUndo\n", 1), "edit", *several, "Makefile")
+    yield from room.differs(Outcome(TEXT, b"5: refused 16 NothingToUndo\n", 1), "edit", "-k", *several, "Makefile")
+
+
+@check
+def a_command_of_the_command_line_may_have_several_lines(room):
+    report = b"2: refused 16 NothingToUndo\n3: refused 17 NothingToRedo\n"
+    yield from room.differs(Outcome(EDITED.stdout, report, 1), "edit", "-k", "-e", "# a\nundo", "-e", "redo\nset CC clang", "Makefile")
+
+
+@check
+def what_is_no_command_is_told_by_its_line(room):
+    fault = Outcome(b"", b"mkedit: script line 2 is not a command\n", 2)
+    yield from room.differs(fault, "edit", "-e", "set CC clang", "-e", "frobnicate", "Makefile")
+
+
+@check
+def the_text_of_a_command_line_may_go_to_its_file(room):
+    yield from room.differs(silent(0), "edit", "-e", "set CC clang", "-o", "Makefile", "Makefile")
+    yield from room.holds("Makefile", EDITED.stdout)
 
 
 @check

@@ -1,6 +1,6 @@
 //! What the words of the command line ask for, as `clap` reads them.
 
-use crate::edit::EditWords;
+use crate::edit::{EditWords, Script};
 use crate::help;
 use crate::query::Query;
 use clap::builder::ValueParser;
@@ -15,6 +15,11 @@ const DEFAULT_DEPTH: &str = "100";
 const MAX_DEPTH: u64 = 10_000;
 
 const BAD_DEPTH: &str = "invalid value for '--depth <DEPTH>': only decimal digits may stand there";
+
+const NO_COMMAND: &str = "a command is required";
+
+const TWO_FILES: &str =
+    "with '--expression <COMMAND>' there is no SCRIPT, so at most one word may stand there, FILE";
 
 // The names of the commands, and those by which their words are found.
 const EDIT: &str = "edit";
@@ -35,8 +40,14 @@ const DEPTH: &str = "depth";
 
 const OUTPUT: &str = "output";
 
+const EXPRESSION: &str = "expression";
+
+// How `edit` is called.
+const EDIT_USAGE: &str = "mkedit edit [OPTIONS] SCRIPT [FILE]
+       mkedit edit [OPTIONS] -e COMMAND... [FILE]";
+
 /// What the command line asks for.
-#[derive(Clone, Copy)]
+#[derive(Drop)]
 pub enum Request<'a> {
     /// A script over a makefile.
     Edit(EditWords<'a>),
@@ -66,15 +77,23 @@ fn edit_command<'a>(alloc: Global) -> Result<Command<'a>, AllocError> {
         .long("output")
         .value_name("OUT")
         .help("Where the text goes; it may be FILE");
+    let expression = Arg::new(alloc, EXPRESSION)
+        .short('e')
+        .long("expression")
+        .value_name("COMMAND")
+        .action(ArgAction::Append)
+        .help("A command, in place of SCRIPT; several -e are the lines of a script");
     let script = Arg::new(alloc, SCRIPT)
-        .required(true)
+        .required_unless_present(EXPRESSION)?
         .help("The script: a command a line");
     Command::new(alloc, EDIT)
         .about(help::ABOUT_EDIT)
         .after_help(help::EDIT)
+        .override_usage(EDIT_USAGE)
         .arg(keep_going)?
         .arg(depth)?
         .arg(output)?
+        .arg(expression)?
         .arg(script)?
         .arg(file(alloc))
 }
@@ -125,20 +144,43 @@ fn depth_of(matches: &ArgMatches<'_>) -> Option<u32> {
     }
 }
 
-// What the words ask for; None where the depth is not written as one. clap has seen to the rest.
-fn asked<'a>(matches: &ArgMatches<'a>) -> Option<Request<'a>> {
-    let (name, matches) = matches.subcommand()?;
-    let file = matches.get_str(FILE);
-    if let Some(query) = query_of(name) {
-        return Some(Request::Query(query, file));
+// The script and the makefile; None where two files stand beside -e. After -e there is no word for a
+// script, so that the first word is the makefile.
+fn script_and_file<'a>(
+    alloc: Global,
+    matches: &ArgMatches<'a>,
+) -> Result<Option<(Script<'a>, Option<&'a str>)>, AllocError> {
+    let first = matches.get_str(SCRIPT);
+    let second = matches.get_str(FILE);
+    match (matches.get_strs(EXPRESSION), first, second) {
+        (Some(commands), file, None) => {
+            let lines = commands.join(alloc, "\n")?;
+            Ok(Some((Script::Lines(lines), file)))
+        }
+        (None, Some(script), file) => Ok(Some((Script::File(script), file))),
+        _ => Ok(None),
     }
-    Some(Request::Edit(EditWords {
+}
+
+// What the words of `edit` ask for. clap has seen to the rest.
+fn edit_words<'a>(
+    alloc: Global,
+    command: &mut Command<'a>,
+    matches: &ArgMatches<'a>,
+) -> Result<EditWords<'a>, clap::Error> {
+    let Some(depth) = depth_of(matches) else {
+        return Err(command.error(ErrorKind::ValueValidation, BAD_DEPTH)?);
+    };
+    let Some((script, file)) = script_and_file(alloc, matches)? else {
+        return Err(command.error(ErrorKind::TooManyValues, TWO_FILES)?);
+    };
+    Ok(EditWords {
         keep_going: matches.get_flag(KEEP_GOING),
-        depth: depth_of(matches)?,
+        depth,
         out: matches.get_str(OUTPUT),
-        script: matches.get_str(SCRIPT)?,
+        script,
         file,
-    }))
+    })
 }
 
 /// What the words, of which the first is the program's name, ask for.
@@ -146,12 +188,16 @@ fn asked<'a>(matches: &ArgMatches<'a>) -> Option<Request<'a>> {
 /// # Errors
 ///
 /// What `clap` finds wrong with them, which has its text, and help where it is asked for; a depth
-/// that is not written in decimal digits alone, or is not from 1 to 10,000.
+/// that is not written in decimal digits alone, or is not from 1 to 10,000; two files beside a
+/// command that `-e` gives.
 pub fn read_request<'a>(alloc: Global, words: &'a [String]) -> Result<Request<'a>, clap::Error> {
     let mut command = command_line(alloc)?;
     let matches = command.try_get_matches_from_mut(words)?;
-    match asked(&matches) {
-        Some(request) => Ok(request),
-        None => Err(command.error(ErrorKind::ValueValidation, BAD_DEPTH)?),
+    let Some((name, matches)) = matches.subcommand() else {
+        return Err(command.error(ErrorKind::MissingSubcommand, NO_COMMAND)?);
+    };
+    match query_of(name) {
+        Some(query) => Ok(Request::Query(query, matches.get_str(FILE))),
+        None => Ok(Request::Edit(edit_words(alloc, &mut command, matches)?)),
     }
 }

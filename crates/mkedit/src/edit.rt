@@ -6,8 +6,17 @@ use crate::out_file::OutFile;
 use mk_lines::{ByteSink, ByteSource, StdSink, StdSource};
 use mk_run::{Outcome, run};
 
+/// Where the commands come from.
+#[derive(Drop)]
+pub enum Script<'a> {
+    /// The file of this name.
+    File(&'a str),
+    /// The command line: these lines.
+    Lines(String),
+}
+
 /// What the words of the command say.
-#[derive(Clone, Copy)]
+#[derive(Drop)]
 pub struct EditWords<'a> {
     /// Whether the commands after a refused one are done.
     pub keep_going: bool,
@@ -15,8 +24,8 @@ pub struct EditWords<'a> {
     pub depth: u32,
     /// The name of the file that the text goes to; without one it goes to standard output.
     pub out: Option<&'a str>,
-    /// The name of the script.
-    pub script: &'a str,
+    /// Where the commands come from.
+    pub script: Script<'a>,
     /// The name of the makefile; without one it is standard input.
     pub file: Option<&'a str>,
 }
@@ -67,21 +76,40 @@ fn run_over<R: ByteSource, S: ByteSource>(
     }
 }
 
+// Opens the makefile, and runs the script over it.
+fn run_by<'a, S: ByteSource>(
+    rt: &HostRuntime,
+    words: &EditWords<'a>,
+    script: &mut S,
+) -> Result<Outcome, CannotOpen<'a>>
+    requires script_works { S.failed script.old ≡ false }
+{
+    match words.file {
+        Some(name) => {
+            let mut makefile = StdSource::new(open(rt, name)?);
+            Ok(run_over(rt, words, &mut makefile, script))
+        }
+        None => {
+            let mut makefile = StdSource::new(rt.stdin());
+            Ok(run_over(rt, words, &mut makefile, script))
+        }
+    }
+}
+
 /// Opens the script, then the makefile, and runs the one over the other.
 ///
 /// # Errors
 ///
 /// [`CannotOpen`] where one of the two cannot be opened. Nothing is read then.
 pub fn edit<'a>(rt: &HostRuntime, words: &EditWords<'a>) -> Result<Outcome, CannotOpen<'a>> {
-    let mut script = StdSource::new(open(rt, words.script)?);
-    match words.file {
-        Some(name) => {
-            let mut makefile = StdSource::new(open(rt, name)?);
-            Ok(run_over(rt, words, &mut makefile, &mut script))
+    match &words.script {
+        Script::File(name) => {
+            let mut script = StdSource::new(open(rt, name)?);
+            run_by(rt, words, &mut script)
         }
-        None => {
-            let mut makefile = StdSource::new(rt.stdin());
-            Ok(run_over(rt, words, &mut makefile, &mut script))
+        Script::Lines(lines) => {
+            let mut script = StdSource::new(lines.as_bytes());
+            run_by(rt, words, &mut script)
         }
     }
 }

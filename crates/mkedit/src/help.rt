@@ -3,8 +3,9 @@
 /// Below the help of the program itself.
 pub const PROGRAM: &str = "\
 Examples:
-    mkedit edit use-clang config.mk     prints config.mk as the script use-clang edits it
-    mkedit vars config.mk               lists the assignments of config.mk
+    mkedit edit use-clang config.mk              prints config.mk as the script use-clang edits it
+    mkedit edit -e 'set CC clang' config.mk      does so by the command that is given
+    mkedit vars config.mk                        lists the assignments of config.mk
 
 `mkedit help COMMAND` has an example of each command.
 ";
@@ -32,7 +33,9 @@ Example: with `CC = gcc # c` in config.mk, and `set CC clang` in use-clang,
     mkedit edit use-clang config.mk
 prints `CC = clang # c`, and
     mkedit edit -o config.mk use-clang config.mk
-changes the file.
+changes the file. Without a script,
+    mkedit edit -e 'set CC clang' -e 'unset LDFLAGS' config.mk
+runs these two commands, as lines 1 and 2.
 
 Status: 0 done, 1 a command was refused, 2 a bad command line or script, 3 a fault of reading,
 writing, a limit or memory.
