@@ -84,7 +84,7 @@ def number_of(field):
 
 
 def taken(fields, count):
-    """The fields, if there are so many."""
+    """The fields, where their number is this one."""
     if len(fields) != count:
         raise NoCommand
     return fields
