@@ -130,14 +130,12 @@ def edit_of(nth, word, fields):
 
 def command_of(fields):
     """The command of some fields."""
-    word, *rest = fields
-    if word in CALLS and not rest:
+    nth, (word, *rest) = None, fields
+    if not rest and word in CALLS:
         return (CALLS[word],)
-    if word != b"nth":
-        return edit_of(None, word, rest)
-    if len(rest) < 2:
-        raise NoCommand
-    return edit_of(number_of(rest[0]), rest[1], rest[2:])
+    if word == b"nth" and len(rest) > 1:
+        nth, (word, *rest) = number_of(rest[0]), rest[1:]
+    return edit_of(nth, word, rest)
 
 
 def meaning_of(script):
