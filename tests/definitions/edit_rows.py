@@ -155,33 +155,24 @@ def antt_span(span):
     return f"span {int(start)} {int(end)} {antt_text(bytes.fromhex(new))}"
 
 
-def equations_of(row):
-    """The equations of a row by what they say; none where its script is not one edit or the whole run fails."""
+def equation_of(row):
+    """The equation of a row; None where its script is not one edit or the whole run fails."""
     if row["status"] not in ("0", "1"):
-        return {}
+        return None
     commands = commands_of(unescape(row["script"]).encode("latin-1"))
-    if len(commands) != 1:
-        return {}
-    edit = antt_edit(commands[0])
+    edit = antt_edit(commands[0]) if len(commands) == 1 else None
     if edit is None:
-        return {}
-    text = antt_text(unescape(row["makefile"]).encode("latin-1"))
+        return None
+    asked = f"{antt_text(unescape(row['makefile']).encode('latin-1'))} {edit}"
     report = unescape(row["stderr"])
     if report:
-        equations = {"": f"outcome {text} {edit} ≡ Err {antt_refusal(report)}"}
-    else:
-        after = antt_text(unescape(row["stdout"]).encode("latin-1"))
-        equations = {
-            "": f"outcome {text} {edit} ≡ Ok {after}",
-            "_reading": f"reads_as_changed {text} {edit} {after} ≡ true",
-        }
-        if "spans" in row:
-            spans = antt_list([antt_span(it) for it in row["spans"].split(" ")])
-            equations["_spans"] = f"spans {text} {edit} ≡ Ok {spans}"
-            equations["_size"] = f"size {text} {edit} ≡ {int(row['size'])}"
-    if "cost" in row:
-        equations["_cost"] = f"cost {text} {edit} ≡ {int(row['cost'])}"
-    return equations
+        refusal = antt_refusal(report)
+        return f"account {asked} ≡ NotMade {int(row['cost'])} {refusal}" if "cost" in row else f"outcome {asked} ≡ Refused {refusal}"
+    outcome = f"Becomes {antt_text(unescape(row['stdout']).encode('latin-1'))}"
+    if "spans" not in row:
+        return f"outcome {asked} ≡ {outcome}"
+    spans = antt_list([antt_span(it) for it in row["spans"].split(" ")])
+    return f"account {asked} ≡ Accepted {int(row['cost'])} {int(row['size'])} {spans} ({outcome})"
 
 
 # ---- the file
@@ -189,7 +180,7 @@ def equations_of(row):
 # The modules that a file may need, and their names; it imports those that it has.
 IMPORTS = [
     ("Rattle.std.proofs.Common", ["◌≡◌", "refl", "[]", "◌∷◌", "Some", "None", "true", "false"]),
-    ("Rattle.std.specs.Prelude", ["codes", "Ok", "Err"]),
+    ("Rattle.std.specs.Prelude", ["codes"]),
     ("Rattle.mk_class.specs.declared.assignment.Flavor.TheVariants", list(FLAVORS.values())),
     ("Rattle.mk_edit_laws.specs.declared.edit.Colons.TheVariants", list(COLONS.values())),
     ("Rattle.mk_edit_laws.specs.declared.refusal.Refusal.TheVariants", list(REFUSALS.values())),
@@ -199,9 +190,8 @@ IMPORTS = [
         ["SetValue", "AppendValue", "AddAssign", "RemoveAssign", "AddRule", "RemoveRule", "AddPrereq", "RemovePrereq"]
         + ["AddRecipe", "SetRecipe", "RemoveRecipe", "RenameTarget"],
     ),
-    ("Rattle.mk_edit_laws.specs.Refusals", ["spans"]),
-    ("Rattle.mk_edit_laws.specs.Costs", ["cost", "size"]),
-    ("Rattle.mk_edit_laws_rows.proofs.Outcomes", ["outcome", "reads_as_changed", "span"]),
+    ("Rattle.mk_edit_laws_rows.proofs.Outcomes", ["outcome", "account", "span"]),
+    ("Rattle.mk_edit_laws_rows.proofs.Outcomes", ["Becomes", "Refused", "Accepted", "NotMade"]),
 ]
 
 
@@ -232,8 +222,9 @@ def main():
     body = ""
     for row in rows_of_table(table):
         name = "row_" + row["name"].replace("-", "_")
-        for ending, equation in equations_of(row).items():
-            body += f"\n{name}{ending} : {equation}\n{name}{ending} = refl\n"
+        equation = equation_of(row)
+        if equation:
+            body += f"\n{name} : {equation}\n{name} = refl\n"
     print(head_of(table, body) + body, end="")
 
 

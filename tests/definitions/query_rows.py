@@ -176,11 +176,26 @@ def given(table):
 
 
 def made(table):
-    """The rows of a table of readings."""
+    """The rows of a table of readings: the texts of all three queries."""
     for name, text, reading in rows_of(table):
         laid = lay(text, reading)
-        for query, text_of in QUERIES.items():
-            yield f"{name}-{query}", query, text, text_of(laid)
+        yield name, text, [text_of(laid) for text_of in QUERIES.values()]
+
+
+# What the two kinds of files import beside what both need.
+TEXTS = "Rattle.mk_queries.specs.Queries.{vars_text, rules_text, check_text}"
+ANSWERS = "Rattle.mk_queries_rows.proofs.Answers.{Answers, answers}"
+
+
+def print_file(imported, equations):
+    """Prints what a file imports, and its equations: a name, a question and its answer each."""
+    print("use Rattle.std.proofs.Common.{◌≡◌, refl, []}")
+    print("use Rattle.std.specs.Prelude.{codes}")
+    print("use Rattle.std.specs.Fmt.{digits}")
+    print(f"use {imported}")
+    for name, question, answer in equations:
+        row = "row_" + name.replace("-", "_")
+        print(f"\n{row} : {question} ≡ {answer}\nunfolding digits\n{row} = refl")
 
 
 def main():
@@ -188,18 +203,12 @@ def main():
         sys.exit("usage: query_rows.py TABLE")
     table = Path(sys.argv[1])
     says_texts = table.read_text().split("\n", 1)[0].split("\t")[1] == "query"
-    rows = list(given(table) if says_texts else made(table))
-    names = [f"{query}_text" for query in QUERIES if any(row[1] == query for row in rows)]
     where = table.name if says_texts else f"readings/{table.name}"
     print(f"-- Queries and their texts. Made by `tests/definitions/query_rows.py tests/cases/{where}`.")
-    empty = ", []" if any(not text or not out for _, _, text, out in rows) else ""
-    print(f"use Rattle.std.proofs.Common.{{◌≡◌, refl{empty}}}")
-    print("use Rattle.std.specs.Prelude.{codes}")
-    print("use Rattle.std.specs.Fmt.{digits}")
-    print(f"use Rattle.mk_queries.specs.Queries.{{{', '.join(names)}}}")
-    for name, query, text, out in rows:
-        row = "row_" + name.replace("-", "_")
-        print(f"\n{row} : {query}_text {antt_text(text)} ≡ {antt_text(out)}\nunfolding digits\n{row} = refl")
+    if says_texts:
+        print_file(TEXTS, ((name, f"{query}_text {antt_text(text)}", antt_text(out)) for name, query, text, out in given(table)))
+    else:
+        print_file(ANSWERS, ((name, f"answers {antt_text(text)}", " ".join(["Answers", *map(antt_text, outs)])) for name, text, outs in made(table)))
 
 
 if __name__ == "__main__":

@@ -4,8 +4,7 @@ use Rattle.mk_lines.specs.Pieces.{Replacement}
 use Rattle.mk_lines.specs.Cells.{Cell}
 use Rattle.mk_class.specs.declared.assignment.Flavor.{Flavor}
 use Rattle.mk_tree.specs.Readings.{reading}
-use Rattle.mk_edit_laws.specs.Edits.{Place, Edit, SetValue, AppendValue, AddAssign, RemoveAssign, AddRule, RemoveRule, AddRecipe, SetRecipe, RemoveRecipe}
-use Rattle.mk_edit_laws.specs.declared.edit.Colons.{Colons}
+use Rattle.mk_edit_laws.specs.Edits.{Place, Edit, AddAssign}
 use Rattle.mk_class.specs.ClassedLines.{classed_lines}
 use Rattle.mk_edit_laws.specs.Stretches.{Stretch, place_found, removal}
 use Rattle.mk_edit_laws.specs.NewLines.{assign_text}
@@ -23,42 +22,6 @@ ReadsAsChanged e = (text : List ℕ) (replacements : List Replacement) → spans
 -- each edit that no cause refuses changes the reading as its stated change says
 abbrev pub EditsReadAsChanged : Type 0
 EditsReadAsChanged = (edit : Edit) → ReadsAsChanged edit
-
--- an edit of a value changes the reading by this value alone
-abbrev pub SetReadsAsChanged : Type 0
-SetReadsAsChanged = (nth : Option ℕ) (name value : List ℕ) → ReadsAsChanged (SetValue nth name value)
-
--- a text appended to a value changes the reading by this value alone
-abbrev pub AppendReadsAsChanged : Type 0
-AppendReadsAsChanged = (nth : Option ℕ) (name value : List ℕ) → ReadsAsChanged (AppendValue nth name value)
-
--- an assignment removed removes its item from the reading alone
-abbrev pub UnsetReadsAsChanged : Type 0
-UnsetReadsAsChanged = (nth : Option ℕ) (name : List ℕ) → ReadsAsChanged (RemoveAssign nth name)
-
--- a rule removed removes the items of its header and its recipe lines from the reading alone
-abbrev pub UnruleReadsAsChanged : Type 0
-UnruleReadsAsChanged = (nth : Option ℕ) (target : List ℕ) → ReadsAsChanged (RemoveRule nth target)
-
--- a recipe line removed removes its item from the reading alone
-abbrev pub RecipeRemovedReadsAsChanged : Type 0
-RecipeRemovedReadsAsChanged = (nth : Option ℕ) (target : List ℕ) (number : ℕ) → ReadsAsChanged (RemoveRecipe nth target number)
-
--- a new recipe line puts its item into the reading, after those of its rule
-abbrev pub RecipeAddedReadsAsChanged : Type 0
-RecipeAddedReadsAsChanged = (nth : Option ℕ) (target command : List ℕ) → ReadsAsChanged (AddRecipe nth target command)
-
--- a new assignment puts its item into the reading at its place
-abbrev pub AssignReadsAsChanged : Type 0
-AssignReadsAsChanged = (place : Place) (name : List ℕ) (flavor : Flavor) (value : List ℕ) → ReadsAsChanged (AddAssign place name flavor value)
-
--- a recipe line changed has its new text in the reading
-abbrev pub RecipeSetReadsAsChanged : Type 0
-RecipeSetReadsAsChanged = (nth : Option ℕ) (target : List ℕ) (number : ℕ) (command : List ℕ) → ReadsAsChanged (SetRecipe nth target number command)
-
--- a new rule puts its item into the reading at its place
-abbrev pub RuleAddedReadsAsChanged : Type 0
-RuleAddedReadsAsChanged = (place : Place) (targets : List ℕ) (colons : Colons) (prereqs : List ℕ) → ReadsAsChanged (AddRule place targets colons prereqs)
 
 -- an accepted edit that takes lines out leaves the lines above and below them, each with its class
 abbrev pub OtherLinesStay : Type 0

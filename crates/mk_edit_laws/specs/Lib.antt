@@ -29,5 +29,4 @@ pub mod RenamedLines
 pub mod RuleTaken
 -- Statements of laws
 pub mod Laws
-pub mod WordLaws
 pub mod OutsideLaws

@@ -2,9 +2,7 @@
 -- function.
 use Rattle.std.specs.Prelude.{◌≡◌, ℕ, ◌+◌, List, ◌++◌, length, Bool, Option, Some, Ok}
 use Rattle.mk_lines.specs.Pieces.{Replacement}
-use Rattle.mk_edit_laws.specs.Edits.{Edit, Place, SetValue, AppendValue, AddAssign, AddRule, RemoveAssign, RemoveRule, AddPrereq, RemovePrereq, AddRecipe, SetRecipe, RemoveRecipe, RenameTarget}
-use Rattle.mk_class.specs.declared.assignment.Flavor.{Flavor}
-use Rattle.mk_edit_laws.specs.declared.edit.Colons.{Colons}
+use Rattle.mk_edit_laws.specs.Edits.{Edit, RenameTarget}
 use Rattle.mk_class.specs.ClassedLines.{classed_lines}
 use Rattle.mk_edit_laws.specs.Stretches.{Stretch, insertion, touched_by}
 use Rattle.mk_edit_laws.specs.EditedLines.{edited_lines}
@@ -37,55 +35,8 @@ EditedLinesStand = (text : List ℕ) (e : Edit) (replacements : List Replacement
 abbrev pub KeepsOthers : Edit → Type 0
 KeepsOthers e = (text : List ℕ) (replacements : List Replacement) → spans text e ≡ Ok replacements → AreOthersKept text e replacements
 
--- so it is of an edit of a value
-abbrev pub SetKeepsOthers : Type 0
-SetKeepsOthers = (nth : Option ℕ) (name value : List ℕ) → KeepsOthers (SetValue nth name value)
-
--- of a text appended to a value
-abbrev pub AppendKeepsOthers : Type 0
-AppendKeepsOthers = (nth : Option ℕ) (name value : List ℕ) → KeepsOthers (AppendValue nth name value)
-
--- of a recipe line changed
-abbrev pub RecipeSetKeepsOthers : Type 0
-RecipeSetKeepsOthers = (nth : Option ℕ) (target : List ℕ) (number : ℕ) (command : List ℕ) → KeepsOthers (SetRecipe nth target number command)
-
--- of a new prerequisite
-abbrev pub DependKeepsOthers : Type 0
-DependKeepsOthers = (order : Bool) (nth : Option ℕ) (target word : List ℕ) → KeepsOthers (AddPrereq order nth target word)
-
--- of a prerequisite removed
-abbrev pub UndependKeepsOthers : Type 0
-UndependKeepsOthers = (nth : Option ℕ) (target word : List ℕ) → KeepsOthers (RemovePrereq nth target word)
-
--- of a new assignment
-abbrev pub AssignKeepsOthers : Type 0
-AssignKeepsOthers = (place : Place) (name : List ℕ) (flavor : Flavor) (value : List ℕ) → KeepsOthers (AddAssign place name flavor value)
-
--- of a new rule
-abbrev pub RuleAddedKeepsOthers : Type 0
-RuleAddedKeepsOthers = (place : Place) (targets : List ℕ) (colons : Colons) (prereqs : List ℕ) → KeepsOthers (AddRule place targets colons prereqs)
-
--- of an assignment removed
-abbrev pub UnsetKeepsOthers : Type 0
-UnsetKeepsOthers = (nth : Option ℕ) (name : List ℕ) → KeepsOthers (RemoveAssign nth name)
-
--- of a rule removed
-abbrev pub UnruleKeepsOthers : Type 0
-UnruleKeepsOthers = (nth : Option ℕ) (target : List ℕ) → KeepsOthers (RemoveRule nth target)
-
--- of a recipe line removed
-abbrev pub RecipeRemovedKeepsOthers : Type 0
-RecipeRemovedKeepsOthers = (nth : Option ℕ) (target : List ℕ) (number : ℕ) → KeepsOthers (RemoveRecipe nth target number)
-
--- and of a new recipe line
-abbrev pub RecipeAddedKeepsOthers : Type 0
-RecipeAddedKeepsOthers = (nth : Option ℕ) (target command : List ℕ) → KeepsOthers (AddRecipe nth target command)
-
--- a rename leaves the lines that hold no word which it replaces, makes each other line in its place, and opens no conditional
-abbrev pub RenameKeepsOthers : Type 0
-RenameKeepsOthers = (old new text : List ℕ) (replacements : List Replacement) → spans text (RenameTarget old new) ≡ Ok replacements → AreOthersKeptByRename old new text replacements
-
--- what an edit leaves: of a rename, which may touch lines that stand apart, as above
+-- What an edit leaves. A rename, which may touch lines that stand apart, leaves the lines that hold no word which it replaces,
+-- makes each other line in its place, and opens no conditional.
 abbrev pub LeavesOthers : Edit → Type 0
 LeavesOthers (RenameTarget old new) = (text : List ℕ) (replacements : List Replacement) → spans text (RenameTarget old new) ≡ Ok replacements → AreOthersKeptByRename old new text replacements
 LeavesOthers e = KeepsOthers e

@@ -1,4 +1,4 @@
--- Spans, the text after an edit or its refusal, and readings compared, for checks by computation.
+-- What the definitions say of an edit, told as one value, so that a row is one equation.
 use Rattle.std.specs.Prelude.{ℕ, Bool, true, false, ◌&&◌, List, [], ◌∷◌, ◌++◌, map, length, Option, Some, None, Result, Ok, Err}
 use Rattle.mk_lines.specs.Pieces.{Replacement, replaced}
 use Rattle.mk_class.specs.Texts.{is_same_text}
@@ -12,20 +12,13 @@ use Rattle.mk_tree.specs.Readings.{reading}
 use Rattle.mk_edit_laws.specs.Edits.{Edit}
 use Rattle.mk_edit_laws.specs.NewLines.{operator_text}
 use Rattle.mk_edit_laws.specs.Refusals.{spans}
+use Rattle.mk_edit_laws.specs.Costs.{cost, size}
 use Rattle.mk_edit_laws.specs.Changes.{change}
 use Rattle.mk_edit_laws.specs.declared.refusal.Refusal.{Refusal}
 
 -- bytes that replace those from a place to another
 abbrev pub span : (start end : ℕ) → (new : List ℕ) → Replacement
 span s e n = record { start = s; end = e; new = n }
-
-abbrev outcome_of : List ℕ → Result (List Replacement) Refusal → Result (List ℕ) Refusal
-outcome_of t (Ok rs) = Ok (replaced 0 t rs)
-outcome_of t (Err r) = Err r
-
--- the text after an edit, or its refusal
-abbrev pub outcome : (text : List ℕ) → Edit → Result (List ℕ) Refusal
-outcome t e = outcome_of t (spans t e)
 
 -- ---- items told by texts, so that two readings are compared byte by byte
 
@@ -71,5 +64,38 @@ is_same_reading (x ∷ xs) (y ∷ ys) = are_same_texts (item_texts x) (item_text
 is_same_reading xs ys = false
 
 -- whether the stated change of the reading is what a text reads as
-abbrev pub reads_as_changed : (text : List ℕ) → Edit → (after : List ℕ) → Bool
+abbrev reads_as_changed : (text : List ℕ) → Edit → (after : List ℕ) → Bool
 reads_as_changed t e a = is_same_reading (change t e) (reading a)
+
+-- ---- what the rows say
+
+-- The text after an edit, or its refusal. `Misread` says that the stated change of the reading is not what the text after
+-- the edit reads as, so no row is equal to it.
+pub data Outcome : Type 0 where
+  Becomes : (after : List ℕ) → Outcome
+  Refused : Refusal → Outcome
+  Misread : Outcome
+
+abbrev becomes : (is_read_as_changed : Bool) → (after : List ℕ) → Outcome
+becomes true a = Becomes a
+becomes false a = Misread
+
+abbrev outcome_by : (text : List ℕ) → Edit → Result (List Replacement) Refusal → Outcome
+outcome_by t e (Ok rs) = becomes (reads_as_changed t e (replaced 0 t rs)) (replaced 0 t rs)
+outcome_by t e (Err r) = Refused r
+
+abbrev pub outcome : (text : List ℕ) → Edit → Outcome
+outcome t e = outcome_by t e (spans t e)
+
+-- The outcome with the measures of the edit: its cost (how many lines it reads again at most), and where it is accepted its size
+-- (how many lines it takes out or puts others in place of at most) and its spans.
+pub data Account : Type 0 where
+  Accepted : (cost size : ℕ) → (spans : List Replacement) → Outcome → Account
+  NotMade : (cost : ℕ) → Refusal → Account
+
+abbrev account_by : (text : List ℕ) → Edit → Result (List Replacement) Refusal → Account
+account_by t e (Ok rs) = Accepted (cost t e) (size t e) rs (outcome_by t e (Ok rs))
+account_by t e (Err r) = NotMade (cost t e) r
+
+abbrev pub account : (text : List ℕ) → Edit → Account
+account t e = account_by t e (spans t e)

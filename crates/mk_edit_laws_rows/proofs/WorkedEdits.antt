@@ -1,625 +1,392 @@
 -- Edits with their answers. Made by `tests/definitions/edit_rows.py tests/cases/runs.tsv`.
 use Rattle.std.proofs.Common.{◌≡◌, refl, [], Some, None, true, false}
-use Rattle.std.specs.Prelude.{codes, Ok, Err}
+use Rattle.std.specs.Prelude.{codes}
 use Rattle.mk_class.specs.declared.assignment.Flavor.TheVariants.{Recursive, Simple}
 use Rattle.mk_edit_laws.specs.declared.edit.Colons.TheVariants.{One, Two}
 use Rattle.mk_edit_laws.specs.declared.refusal.Refusal.TheVariants.{BadArgument, Reserved, RecipePrefix, NoSuch, Ambiguous, Absent, Taken, SharedRule, Straddles, OpenValue, OpenLine, OpenDefine, Leans}
 use Rattle.mk_edit_laws.specs.Edits.{Bottom, BeforeVar, AfterVar, BeforeRule}
 use Rattle.mk_edit_laws.specs.Edits.{SetValue, AppendValue, AddAssign, RemoveAssign, AddRule, RemoveRule, AddPrereq, RemovePrereq, AddRecipe, SetRecipe, RemoveRecipe, RenameTarget}
-use Rattle.mk_edit_laws_rows.proofs.Outcomes.{outcome, reads_as_changed}
+use Rattle.mk_edit_laws_rows.proofs.Outcomes.{outcome}
+use Rattle.mk_edit_laws_rows.proofs.Outcomes.{Becomes, Refused}
 use Rattle.mk_edit_laws.specs.declared.refusal.Field.TheVariants as field
 
-row_set_keeps_the_comment : outcome (codes "CC = gcc # c\n") (SetValue None (codes "CC") (codes "clang")) ≡ Ok (codes "CC = clang # c\n")
+row_set_keeps_the_comment : outcome (codes "CC = gcc # c\n") (SetValue None (codes "CC") (codes "clang")) ≡ Becomes (codes "CC = clang # c\n")
 row_set_keeps_the_comment = refl
 
-row_set_keeps_the_comment_reading : reads_as_changed (codes "CC = gcc # c\n") (SetValue None (codes "CC") (codes "clang")) (codes "CC = clang # c\n") ≡ true
-row_set_keeps_the_comment_reading = refl
-
-row_set_replaces_a_folded_value : outcome (codes "F = a \\\n    b\nG=1\n") (SetValue None (codes "F") (codes "x y")) ≡ Ok (codes "F = x y\nG=1\n")
+row_set_replaces_a_folded_value : outcome (codes "F = a \\\n    b\nG=1\n") (SetValue None (codes "F") (codes "x y")) ≡ Becomes (codes "F = x y\nG=1\n")
 row_set_replaces_a_folded_value = refl
 
-row_set_replaces_a_folded_value_reading : reads_as_changed (codes "F = a \\\n    b\nG=1\n") (SetValue None (codes "F") (codes "x y")) (codes "F = x y\nG=1\n") ≡ true
-row_set_replaces_a_folded_value_reading = refl
-
-row_assign_adds_the_missing_line_end : outcome (codes "X=1") (AddAssign Bottom (codes "Y") Simple (codes "2")) ≡ Ok (codes "X=1\nY := 2\n")
+row_assign_adds_the_missing_line_end : outcome (codes "X=1") (AddAssign Bottom (codes "Y") Simple (codes "2")) ≡ Becomes (codes "X=1\nY := 2\n")
 row_assign_adds_the_missing_line_end = refl
 
-row_assign_adds_the_missing_line_end_reading : reads_as_changed (codes "X=1") (AddAssign Bottom (codes "Y") Simple (codes "2")) (codes "X=1\nY := 2\n") ≡ true
-row_assign_adds_the_missing_line_end_reading = refl
-
-row_assign_after_an_open_line_is_refused : outcome (codes "X = a\\") (AddAssign Bottom (codes "Y") Recursive (codes "1")) ≡ Err OpenLine
+row_assign_after_an_open_line_is_refused : outcome (codes "X = a\\") (AddAssign Bottom (codes "Y") Recursive (codes "1")) ≡ Refused OpenLine
 row_assign_after_an_open_line_is_refused = refl
 
-row_undepend_keeps_the_comment_and_the_recipe : outcome (codes "foo: a \\\n b # c\n\tcmd\n") (RemovePrereq None (codes "foo") (codes "b")) ≡ Ok (codes "foo: a # c\n\tcmd\n")
+row_undepend_keeps_the_comment_and_the_recipe : outcome (codes "foo: a \\\n b # c\n\tcmd\n") (RemovePrereq None (codes "foo") (codes "b")) ≡ Becomes (codes "foo: a # c\n\tcmd\n")
 row_undepend_keeps_the_comment_and_the_recipe = refl
 
-row_undepend_keeps_the_comment_and_the_recipe_reading : reads_as_changed (codes "foo: a \\\n b # c\n\tcmd\n") (RemovePrereq None (codes "foo") (codes "b")) (codes "foo: a # c\n\tcmd\n") ≡ true
-row_undepend_keeps_the_comment_and_the_recipe_reading = refl
-
-row_unset_above_a_tab_led_line_is_refused : outcome (codes "foo:\nX = 1\n\tY = 2\n") (RemoveAssign None (codes "X")) ≡ Err Leans
+row_unset_above_a_tab_led_line_is_refused : outcome (codes "foo:\nX = 1\n\tY = 2\n") (RemoveAssign None (codes "X")) ≡ Refused Leans
 row_unset_above_a_tab_led_line_is_refused = refl
 
-row_unset_between_two_rules : outcome (codes "foo:\nX = 1\nbar:\n") (RemoveAssign None (codes "X")) ≡ Ok (codes "foo:\nbar:\n")
+row_unset_between_two_rules : outcome (codes "foo:\nX = 1\nbar:\n") (RemoveAssign None (codes "X")) ≡ Becomes (codes "foo:\nbar:\n")
 row_unset_between_two_rules = refl
 
-row_unset_between_two_rules_reading : reads_as_changed (codes "foo:\nX = 1\nbar:\n") (RemoveAssign None (codes "X")) (codes "foo:\nbar:\n") ≡ true
-row_unset_between_two_rules_reading = refl
-
-row_set_of_one_of_two_assignments_is_ambiguous : outcome (codes "ifdef A\nCC=x\nelse\nCC=y\nendif\n") (SetValue None (codes "CC") (codes "z")) ≡ Err (Ambiguous 2)
+row_set_of_one_of_two_assignments_is_ambiguous : outcome (codes "ifdef A\nCC=x\nelse\nCC=y\nendif\n") (SetValue None (codes "CC") (codes "z")) ≡ Refused (Ambiguous 2)
 row_set_of_one_of_two_assignments_is_ambiguous = refl
 
-row_nth_picks_the_second_assignment : outcome (codes "ifdef A\nCC=x\nelse\nCC=y\nendif\n") (SetValue (Some 2) (codes "CC") (codes "z")) ≡ Ok (codes "ifdef A\nCC=x\nelse\nCC=z\nendif\n")
+row_nth_picks_the_second_assignment : outcome (codes "ifdef A\nCC=x\nelse\nCC=y\nendif\n") (SetValue (Some 2) (codes "CC") (codes "z")) ≡ Becomes (codes "ifdef A\nCC=x\nelse\nCC=z\nendif\n")
 row_nth_picks_the_second_assignment = refl
 
-row_nth_picks_the_second_assignment_reading : reads_as_changed (codes "ifdef A\nCC=x\nelse\nCC=y\nendif\n") (SetValue (Some 2) (codes "CC") (codes "z")) (codes "ifdef A\nCC=x\nelse\nCC=z\nendif\n") ≡ true
-row_nth_picks_the_second_assignment_reading = refl
-
-row_rename_leaves_the_recipe_text : outcome (codes ".PHONY: clean\nall: clean\nclean:\n\t$(MAKE) clean\n") (RenameTarget (codes "clean") (codes "tidy")) ≡ Ok (codes ".PHONY: tidy\nall: tidy\ntidy:\n\t$(MAKE) clean\n")
+row_rename_leaves_the_recipe_text : outcome (codes ".PHONY: clean\nall: clean\nclean:\n\t$(MAKE) clean\n") (RenameTarget (codes "clean") (codes "tidy")) ≡ Becomes (codes ".PHONY: tidy\nall: tidy\ntidy:\n\t$(MAKE) clean\n")
 row_rename_leaves_the_recipe_text = refl
 
-row_rename_leaves_the_recipe_text_reading : reads_as_changed (codes ".PHONY: clean\nall: clean\nclean:\n\t$(MAKE) clean\n") (RenameTarget (codes "clean") (codes "tidy")) (codes ".PHONY: tidy\nall: tidy\ntidy:\n\t$(MAKE) clean\n") ≡ true
-row_rename_leaves_the_recipe_text_reading = refl
-
-row_append_to_an_open_reference_is_refused : outcome (codes "X = $(foo\n") (AppendValue None (codes "X") (codes "${)#}")) ≡ Err OpenValue
+row_append_to_an_open_reference_is_refused : outcome (codes "X = $(foo\n") (AppendValue None (codes "X") (codes "${)#}")) ≡ Refused OpenValue
 row_append_to_an_open_reference_is_refused = refl
 
-row_set_inside_a_define_finds_nothing : outcome (codes "define D\nX = 1\n\tendef\nendef\n") (SetValue None (codes "X") (codes "2")) ≡ Err NoSuch
+row_set_inside_a_define_finds_nothing : outcome (codes "define D\nX = 1\n\tendef\nendef\n") (SetValue None (codes "X") (codes "2")) ≡ Refused NoSuch
 row_set_inside_a_define_finds_nothing = refl
 
-row_assign_below_an_open_define_is_refused : outcome (codes "define D\nX = 1\n\tendef\n") (AddAssign Bottom (codes "Y") Recursive (codes "1")) ≡ Err OpenDefine
+row_assign_below_an_open_define_is_refused : outcome (codes "define D\nX = 1\n\tendef\n") (AddAssign Bottom (codes "Y") Recursive (codes "1")) ≡ Refused OpenDefine
 row_assign_below_an_open_define_is_refused = refl
 
-row_assign_follows_crlf : outcome (codes "A=1\r\n") (AddAssign Bottom (codes "B") Recursive (codes "2")) ≡ Ok (codes "A=1\r\nB = 2\r\n")
+row_assign_follows_crlf : outcome (codes "A=1\r\n") (AddAssign Bottom (codes "B") Recursive (codes "2")) ≡ Becomes (codes "A=1\r\nB = 2\r\n")
 row_assign_follows_crlf = refl
 
-row_assign_follows_crlf_reading : reads_as_changed (codes "A=1\r\n") (AddAssign Bottom (codes "B") Recursive (codes "2")) (codes "A=1\r\nB = 2\r\n") ≡ true
-row_assign_follows_crlf_reading = refl
-
-row_set_below_an_opaque_line_finds_nothing : outcome (codes "$(call t,x)\n\tZ = 1\n") (SetValue None (codes "Z") (codes "2")) ≡ Err NoSuch
+row_set_below_an_opaque_line_finds_nothing : outcome (codes "$(call t,x)\n\tZ = 1\n") (SetValue None (codes "Z") (codes "2")) ≡ Refused NoSuch
 row_set_below_an_opaque_line_finds_nothing = refl
 
-row_set_value_with_a_comment_sign_is_refused : outcome (codes "X=\n") (SetValue None (codes "X") (codes "a #b")) ≡ Err (BadArgument field.Value)
+row_set_value_with_a_comment_sign_is_refused : outcome (codes "X=\n") (SetValue None (codes "X") (codes "a #b")) ≡ Refused (BadArgument field.Value)
 row_set_value_with_a_comment_sign_is_refused = refl
 
-row_set_value_with_a_comment_sign_inside_a_reference : outcome (codes "X=\n") (SetValue None (codes "X") (codes "a$(p #)b")) ≡ Ok (codes "X=a$(p #)b\n")
+row_set_value_with_a_comment_sign_inside_a_reference : outcome (codes "X=\n") (SetValue None (codes "X") (codes "a$(p #)b")) ≡ Becomes (codes "X=a$(p #)b\n")
 row_set_value_with_a_comment_sign_inside_a_reference = refl
 
-row_set_value_with_a_comment_sign_inside_a_reference_reading : reads_as_changed (codes "X=\n") (SetValue None (codes "X") (codes "a$(p #)b")) (codes "X=a$(p #)b\n") ≡ true
-row_set_value_with_a_comment_sign_inside_a_reference_reading = refl
-
-row_rename_to_a_directive_word_is_refused : outcome (codes "all:\n") (RenameTarget (codes "all") (codes "include")) ≡ Err Reserved
+row_rename_to_a_directive_word_is_refused : outcome (codes "all:\n") (RenameTarget (codes "all") (codes "include")) ≡ Refused Reserved
 row_rename_to_a_directive_word_is_refused = refl
 
-row_recipe_begins_with_the_recipe_prefix : outcome (codes ".RECIPEPREFIX = >\nfoo:\n>echo\n") (AddRecipe None (codes "foo") (codes "ls")) ≡ Ok (codes ".RECIPEPREFIX = >\nfoo:\n>echo\n>ls\n")
+row_recipe_begins_with_the_recipe_prefix : outcome (codes ".RECIPEPREFIX = >\nfoo:\n>echo\n") (AddRecipe None (codes "foo") (codes "ls")) ≡ Becomes (codes ".RECIPEPREFIX = >\nfoo:\n>echo\n>ls\n")
 row_recipe_begins_with_the_recipe_prefix = refl
 
-row_recipe_begins_with_the_recipe_prefix_reading : reads_as_changed (codes ".RECIPEPREFIX = >\nfoo:\n>echo\n") (AddRecipe None (codes "foo") (codes "ls")) (codes ".RECIPEPREFIX = >\nfoo:\n>echo\n>ls\n") ≡ true
-row_recipe_begins_with_the_recipe_prefix_reading = refl
-
-row_depend_goes_before_the_order_only_bar : outcome (codes "foo:| b\n") (AddPrereq false None (codes "foo") (codes "c")) ≡ Ok (codes "foo: c | b\n")
+row_depend_goes_before_the_order_only_bar : outcome (codes "foo:| b\n") (AddPrereq false None (codes "foo") (codes "c")) ≡ Becomes (codes "foo: c | b\n")
 row_depend_goes_before_the_order_only_bar = refl
 
-row_depend_goes_before_the_order_only_bar_reading : reads_as_changed (codes "foo:| b\n") (AddPrereq false None (codes "foo") (codes "c")) (codes "foo: c | b\n") ≡ true
-row_depend_goes_before_the_order_only_bar_reading = refl
-
-row_depend_order_writes_the_bar : outcome (codes "foo: a\n") (AddPrereq true None (codes "foo") (codes "d")) ≡ Ok (codes "foo: a | d\n")
+row_depend_order_writes_the_bar : outcome (codes "foo: a\n") (AddPrereq true None (codes "foo") (codes "d")) ≡ Becomes (codes "foo: a | d\n")
 row_depend_order_writes_the_bar = refl
 
-row_depend_order_writes_the_bar_reading : reads_as_changed (codes "foo: a\n") (AddPrereq true None (codes "foo") (codes "d")) (codes "foo: a | d\n") ≡ true
-row_depend_order_writes_the_bar_reading = refl
-
-row_undepend_removes_every_equal_word : outcome (codes "foo: a a | a\n") (RemovePrereq None (codes "foo") (codes "a")) ≡ Ok (codes "foo: |\n")
+row_undepend_removes_every_equal_word : outcome (codes "foo: a a | a\n") (RemovePrereq None (codes "foo") (codes "a")) ≡ Becomes (codes "foo: |\n")
 row_undepend_removes_every_equal_word = refl
 
-row_undepend_removes_every_equal_word_reading : reads_as_changed (codes "foo: a a | a\n") (RemovePrereq None (codes "foo") (codes "a")) (codes "foo: |\n") ≡ true
-row_undepend_removes_every_equal_word_reading = refl
-
-row_depend_order_of_a_rough_line_finds_nothing : outcome (codes "| a: b\n") (AddPrereq true None (codes "a") (codes "c")) ≡ Err NoSuch
+row_depend_order_of_a_rough_line_finds_nothing : outcome (codes "| a: b\n") (AddPrereq true None (codes "a") (codes "c")) ≡ Refused NoSuch
 row_depend_order_of_a_rough_line_finds_nothing = refl
 
-row_set_to_nothing_keeps_the_comment : outcome (codes "X = a # c\n") (SetValue None (codes "X") []) ≡ Ok (codes "X = # c\n")
+row_set_to_nothing_keeps_the_comment : outcome (codes "X = a # c\n") (SetValue None (codes "X") []) ≡ Becomes (codes "X = # c\n")
 row_set_to_nothing_keeps_the_comment = refl
 
-row_set_to_nothing_keeps_the_comment_reading : reads_as_changed (codes "X = a # c\n") (SetValue None (codes "X") []) (codes "X = # c\n") ≡ true
-row_set_to_nothing_keeps_the_comment_reading = refl
-
-row_unrule_across_a_conditional_is_refused : outcome (codes "foo:\nifdef A\n\tx\nendif\n") (RemoveRule None (codes "foo")) ≡ Err Straddles
+row_unrule_across_a_conditional_is_refused : outcome (codes "foo:\nifdef A\n\tx\nendif\n") (RemoveRule None (codes "foo")) ≡ Refused Straddles
 row_unrule_across_a_conditional_is_refused = refl
 
-row_recipe_across_a_conditional_is_refused : outcome (codes "foo:\nifdef A\n\tx\nendif\n") (AddRecipe None (codes "foo") (codes "y")) ≡ Err Straddles
+row_recipe_across_a_conditional_is_refused : outcome (codes "foo:\nifdef A\n\tx\nendif\n") (AddRecipe None (codes "foo") (codes "y")) ≡ Refused Straddles
 row_recipe_across_a_conditional_is_refused = refl
 
-row_recipe_del_inside_a_conditional : outcome (codes "foo:\nifdef A\n\tx\nendif\n") (RemoveRecipe None (codes "foo") 1) ≡ Ok (codes "foo:\nifdef A\nendif\n")
+row_recipe_del_inside_a_conditional : outcome (codes "foo:\nifdef A\n\tx\nendif\n") (RemoveRecipe None (codes "foo") 1) ≡ Becomes (codes "foo:\nifdef A\nendif\n")
 row_recipe_del_inside_a_conditional = refl
 
-row_recipe_del_inside_a_conditional_reading : reads_as_changed (codes "foo:\nifdef A\n\tx\nendif\n") (RemoveRecipe None (codes "foo") 1) (codes "foo:\nifdef A\nendif\n") ≡ true
-row_recipe_del_inside_a_conditional_reading = refl
-
-row_recipe_set_replaces_a_folded_line : outcome (codes "all:\n\ta \\\n\tb\n\tc\n") (SetRecipe None (codes "all") 1 (codes "x y")) ≡ Ok (codes "all:\n\tx y\n\tc\n")
+row_recipe_set_replaces_a_folded_line : outcome (codes "all:\n\ta \\\n\tb\n\tc\n") (SetRecipe None (codes "all") 1 (codes "x y")) ≡ Becomes (codes "all:\n\tx y\n\tc\n")
 row_recipe_set_replaces_a_folded_line = refl
 
-row_recipe_set_replaces_a_folded_line_reading : reads_as_changed (codes "all:\n\ta \\\n\tb\n\tc\n") (SetRecipe None (codes "all") 1 (codes "x y")) (codes "all:\n\tx y\n\tc\n") ≡ true
-row_recipe_set_replaces_a_folded_line_reading = refl
-
-row_unrule_takes_blank_and_comment_lines_between_recipes : outcome (codes "c:\n\tx\n\n# n\n\ty\nd:\n") (RemoveRule None (codes "c")) ≡ Ok (codes "d:\n")
+row_unrule_takes_blank_and_comment_lines_between_recipes : outcome (codes "c:\n\tx\n\n# n\n\ty\nd:\n") (RemoveRule None (codes "c")) ≡ Becomes (codes "d:\n")
 row_unrule_takes_blank_and_comment_lines_between_recipes = refl
 
-row_unrule_takes_blank_and_comment_lines_between_recipes_reading : reads_as_changed (codes "c:\n\tx\n\n# n\n\ty\nd:\n") (RemoveRule None (codes "c")) (codes "d:\n") ≡ true
-row_unrule_takes_blank_and_comment_lines_between_recipes_reading = refl
-
-row_unrule_of_a_shared_rule_is_refused : outcome (codes "a b: c\n") (RemoveRule None (codes "a")) ≡ Err (SharedRule 2)
+row_unrule_of_a_shared_rule_is_refused : outcome (codes "a b: c\n") (RemoveRule None (codes "a")) ≡ Refused (SharedRule 2)
 row_unrule_of_a_shared_rule_is_refused = refl
 
-row_rule_with_two_targets_and_a_reference : outcome (codes "X = 1\n") (AddRule Bottom (codes "a b") Two (codes "$(subst x y,z,w) c")) ≡ Ok (codes "X = 1\na b:: $(subst x y,z,w) c\n")
+row_rule_with_two_targets_and_a_reference : outcome (codes "X = 1\n") (AddRule Bottom (codes "a b") Two (codes "$(subst x y,z,w) c")) ≡ Becomes (codes "X = 1\na b:: $(subst x y,z,w) c\n")
 row_rule_with_two_targets_and_a_reference = refl
 
-row_rule_with_two_targets_and_a_reference_reading : reads_as_changed (codes "X = 1\n") (AddRule Bottom (codes "a b") Two (codes "$(subst x y,z,w) c")) (codes "X = 1\na b:: $(subst x y,z,w) c\n") ≡ true
-row_rule_with_two_targets_and_a_reference_reading = refl
-
-row_rule_above_a_tab_led_line_is_refused : outcome (codes "A=1\n\tB=2\n") (AddRule (AfterVar None (codes "A")) (codes "t") One []) ≡ Err Leans
+row_rule_above_a_tab_led_line_is_refused : outcome (codes "A=1\n\tB=2\n") (AddRule (AfterVar None (codes "A")) (codes "t") One []) ≡ Refused Leans
 row_rule_above_a_tab_led_line_is_refused = refl
 
-row_assign_above_a_tab_led_line : outcome (codes "A=1\n\tB=2\n") (AddAssign (AfterVar None (codes "A")) (codes "C") Recursive (codes "3")) ≡ Ok (codes "A=1\nC = 3\n\tB=2\n")
+row_assign_above_a_tab_led_line : outcome (codes "A=1\n\tB=2\n") (AddAssign (AfterVar None (codes "A")) (codes "C") Recursive (codes "3")) ≡ Becomes (codes "A=1\nC = 3\n\tB=2\n")
 row_assign_above_a_tab_led_line = refl
 
-row_assign_above_a_tab_led_line_reading : reads_as_changed (codes "A=1\n\tB=2\n") (AddAssign (AfterVar None (codes "A")) (codes "C") Recursive (codes "3")) (codes "A=1\nC = 3\n\tB=2\n") ≡ true
-row_assign_above_a_tab_led_line_reading = refl
-
-row_rename_to_a_present_target_is_refused : outcome (codes "a: b\nb:\n") (RenameTarget (codes "a") (codes "b")) ≡ Err Taken
+row_rename_to_a_present_target_is_refused : outcome (codes "a: b\nb:\n") (RenameTarget (codes "a") (codes "b")) ≡ Refused Taken
 row_rename_to_a_present_target_is_refused = refl
 
-row_rename_of_no_target_is_refused : outcome (codes "a: b\nb:\n") (RenameTarget (codes "c") (codes "d")) ≡ Err NoSuch
+row_rename_of_no_target_is_refused : outcome (codes "a: b\nb:\n") (RenameTarget (codes "c") (codes "d")) ≡ Refused NoSuch
 row_rename_of_no_target_is_refused = refl
 
-row_rename_of_a_target_and_a_prerequisite : outcome (codes "a: b\nb:\n") (RenameTarget (codes "b") (codes "d")) ≡ Ok (codes "a: d\nd:\n")
+row_rename_of_a_target_and_a_prerequisite : outcome (codes "a: b\nb:\n") (RenameTarget (codes "b") (codes "d")) ≡ Becomes (codes "a: d\nd:\n")
 row_rename_of_a_target_and_a_prerequisite = refl
 
-row_rename_of_a_target_and_a_prerequisite_reading : reads_as_changed (codes "a: b\nb:\n") (RenameTarget (codes "b") (codes "d")) (codes "a: d\nd:\n") ≡ true
-row_rename_of_a_target_and_a_prerequisite_reading = refl
-
-row_append_writes_a_space : outcome (codes "X = a\n") (AppendValue None (codes "X") (codes "b")) ≡ Ok (codes "X = a b\n")
+row_append_writes_a_space : outcome (codes "X = a\n") (AppendValue None (codes "X") (codes "b")) ≡ Becomes (codes "X = a b\n")
 row_append_writes_a_space = refl
 
-row_append_writes_a_space_reading : reads_as_changed (codes "X = a\n") (AppendValue None (codes "X") (codes "b")) (codes "X = a b\n") ≡ true
-row_append_writes_a_space_reading = refl
-
-row_append_to_an_empty_value_writes_no_space : outcome (codes "X=\n") (AppendValue None (codes "X") (codes "b")) ≡ Ok (codes "X=b\n")
+row_append_to_an_empty_value_writes_no_space : outcome (codes "X=\n") (AppendValue None (codes "X") (codes "b")) ≡ Becomes (codes "X=b\n")
 row_append_to_an_empty_value_writes_no_space = refl
 
-row_append_to_an_empty_value_writes_no_space_reading : reads_as_changed (codes "X=\n") (AppendValue None (codes "X") (codes "b")) (codes "X=b\n") ≡ true
-row_append_to_an_empty_value_writes_no_space_reading = refl
-
-row_recipe_after_an_open_line_is_refused : outcome (codes "foo:\n\tx\r") (AddRecipe None (codes "foo") (codes "y")) ≡ Err OpenLine
+row_recipe_after_an_open_line_is_refused : outcome (codes "foo:\n\tx\r") (AddRecipe None (codes "foo") (codes "y")) ≡ Refused OpenLine
 row_recipe_after_an_open_line_is_refused = refl
 
-row_set_of_a_variable_named_ifdef : outcome (codes "ifdef = x\n") (SetValue None (codes "ifdef") (codes "y")) ≡ Ok (codes "ifdef = y\n")
+row_set_of_a_variable_named_ifdef : outcome (codes "ifdef = x\n") (SetValue None (codes "ifdef") (codes "y")) ≡ Becomes (codes "ifdef = y\n")
 row_set_of_a_variable_named_ifdef = refl
 
-row_set_of_a_variable_named_ifdef_reading : reads_as_changed (codes "ifdef = x\n") (SetValue None (codes "ifdef") (codes "y")) (codes "ifdef = y\n") ≡ true
-row_set_of_a_variable_named_ifdef_reading = refl
-
-row_nth_beyond_the_last_finds_nothing : outcome (codes "X=1\n") (SetValue (Some 2) (codes "X") (codes "3")) ≡ Err NoSuch
+row_nth_beyond_the_last_finds_nothing : outcome (codes "X=1\n") (SetValue (Some 2) (codes "X") (codes "3")) ≡ Refused NoSuch
 row_nth_beyond_the_last_finds_nothing = refl
 
-row_nth_zero_finds_nothing : outcome (codes "X=1\n") (SetValue (Some 0) (codes "X") (codes "3")) ≡ Err NoSuch
+row_nth_zero_finds_nothing : outcome (codes "X=1\n") (SetValue (Some 0) (codes "X") (codes "3")) ≡ Refused NoSuch
 row_nth_zero_finds_nothing = refl
 
-row_assign_before_a_rule : outcome (codes "all:\n\tx\n") (AddAssign (BeforeRule None (codes "all")) (codes "V") Recursive (codes "1")) ≡ Ok (codes "V = 1\nall:\n\tx\n")
+row_assign_before_a_rule : outcome (codes "all:\n\tx\n") (AddAssign (BeforeRule None (codes "all")) (codes "V") Recursive (codes "1")) ≡ Becomes (codes "V = 1\nall:\n\tx\n")
 row_assign_before_a_rule = refl
 
-row_assign_before_a_rule_reading : reads_as_changed (codes "all:\n\tx\n") (AddAssign (BeforeRule None (codes "all")) (codes "V") Recursive (codes "1")) (codes "V = 1\nall:\n\tx\n") ≡ true
-row_assign_before_a_rule_reading = refl
-
-row_set_below_a_rule : outcome (codes "foo:\nX=1\n") (SetValue None (codes "X") (codes "2")) ≡ Ok (codes "foo:\nX=2\n")
+row_set_below_a_rule : outcome (codes "foo:\nX=1\n") (SetValue None (codes "X") (codes "2")) ≡ Becomes (codes "foo:\nX=2\n")
 row_set_below_a_rule = refl
 
-row_set_below_a_rule_reading : reads_as_changed (codes "foo:\nX=1\n") (SetValue None (codes "X") (codes "2")) (codes "foo:\nX=2\n") ≡ true
-row_set_below_a_rule_reading = refl
-
-row_set_to_nothing_after_a_fold_on_the_last_line : outcome (codes "X = \\\nb") (SetValue None (codes "X") []) ≡ Ok (codes "X = \\\n")
+row_set_to_nothing_after_a_fold_on_the_last_line : outcome (codes "X = \\\nb") (SetValue None (codes "X") []) ≡ Becomes (codes "X = \\\n")
 row_set_to_nothing_after_a_fold_on_the_last_line = refl
 
-row_set_to_nothing_after_a_fold_on_the_last_line_reading : reads_as_changed (codes "X = \\\nb") (SetValue None (codes "X") []) (codes "X = \\\n") ≡ true
-row_set_to_nothing_after_a_fold_on_the_last_line_reading = refl
-
-row_assign_after_an_endif_without_line_end : outcome (codes "ifdef A\nendif") (AddAssign Bottom (codes "Y") Recursive (codes "1")) ≡ Ok (codes "ifdef A\nendif\nY = 1\n")
+row_assign_after_an_endif_without_line_end : outcome (codes "ifdef A\nendif") (AddAssign Bottom (codes "Y") Recursive (codes "1")) ≡ Becomes (codes "ifdef A\nendif\nY = 1\n")
 row_assign_after_an_endif_without_line_end = refl
 
-row_assign_after_an_endif_without_line_end_reading : reads_as_changed (codes "ifdef A\nendif") (AddAssign Bottom (codes "Y") Recursive (codes "1")) (codes "ifdef A\nendif\nY = 1\n") ≡ true
-row_assign_after_an_endif_without_line_end_reading = refl
-
-row_set_below_a_line_with_a_nul : outcome (codes "A=1\0\nB=2\n") (SetValue None (codes "B") (codes "3")) ≡ Ok (codes "A=1\0\nB=3\n")
+row_set_below_a_line_with_a_nul : outcome (codes "A=1\0\nB=2\n") (SetValue None (codes "B") (codes "3")) ≡ Becomes (codes "A=1\0\nB=3\n")
 row_set_below_a_line_with_a_nul = refl
 
-row_set_below_a_line_with_a_nul_reading : reads_as_changed (codes "A=1\0\nB=2\n") (SetValue None (codes "B") (codes "3")) (codes "A=1\0\nB=3\n") ≡ true
-row_set_below_a_line_with_a_nul_reading = refl
-
-row_assign_follows_the_first_line_end : outcome (codes "A=1\nB=2\r\n") (AddAssign Bottom (codes "C") Recursive (codes "3")) ≡ Ok (codes "A=1\nB=2\r\nC = 3\n")
+row_assign_follows_the_first_line_end : outcome (codes "A=1\nB=2\r\n") (AddAssign Bottom (codes "C") Recursive (codes "3")) ≡ Becomes (codes "A=1\nB=2\r\nC = 3\n")
 row_assign_follows_the_first_line_end = refl
 
-row_assign_follows_the_first_line_end_reading : reads_as_changed (codes "A=1\nB=2\r\n") (AddAssign Bottom (codes "C") Recursive (codes "3")) (codes "A=1\nB=2\r\nC = 3\n") ≡ true
-row_assign_follows_the_first_line_end_reading = refl
-
-row_set_keeps_crlf : outcome (codes "A=1\nB=2\r\n") (SetValue None (codes "B") (codes "4")) ≡ Ok (codes "A=1\nB=4\r\n")
+row_set_keeps_crlf : outcome (codes "A=1\nB=2\r\n") (SetValue None (codes "B") (codes "4")) ≡ Becomes (codes "A=1\nB=4\r\n")
 row_set_keeps_crlf = refl
 
-row_set_keeps_crlf_reading : reads_as_changed (codes "A=1\nB=2\r\n") (SetValue None (codes "B") (codes "4")) (codes "A=1\nB=4\r\n") ≡ true
-row_set_keeps_crlf_reading = refl
-
-row_set_inside_a_folded_comment_finds_nothing : outcome (codes "# a \\\nX = 1\n") (SetValue None (codes "X") (codes "2")) ≡ Err NoSuch
+row_set_inside_a_folded_comment_finds_nothing : outcome (codes "# a \\\nX = 1\n") (SetValue None (codes "X") (codes "2")) ≡ Refused NoSuch
 row_set_inside_a_folded_comment_finds_nothing = refl
 
-row_recipe_below_a_prefix_that_is_reset : outcome (codes ".RECIPEPREFIX = >\nfoo:\n>a\n.RECIPEPREFIX =\nbar:\n\tb\n") (AddRecipe None (codes "bar") (codes "c")) ≡ Ok (codes ".RECIPEPREFIX = >\nfoo:\n>a\n.RECIPEPREFIX =\nbar:\n\tb\n\tc\n")
+row_recipe_below_a_prefix_that_is_reset : outcome (codes ".RECIPEPREFIX = >\nfoo:\n>a\n.RECIPEPREFIX =\nbar:\n\tb\n") (AddRecipe None (codes "bar") (codes "c")) ≡ Becomes (codes ".RECIPEPREFIX = >\nfoo:\n>a\n.RECIPEPREFIX =\nbar:\n\tb\n\tc\n")
 row_recipe_below_a_prefix_that_is_reset = refl
 
-row_recipe_below_a_prefix_that_is_reset_reading : reads_as_changed (codes ".RECIPEPREFIX = >\nfoo:\n>a\n.RECIPEPREFIX =\nbar:\n\tb\n") (AddRecipe None (codes "bar") (codes "c")) (codes ".RECIPEPREFIX = >\nfoo:\n>a\n.RECIPEPREFIX =\nbar:\n\tb\n\tc\n") ≡ true
-row_recipe_below_a_prefix_that_is_reset_reading = refl
-
-row_recipe_above_a_prefix_that_is_reset : outcome (codes ".RECIPEPREFIX = >\nfoo:\n>a\n.RECIPEPREFIX =\nbar:\n\tb\n") (AddRecipe None (codes "foo") (codes "d")) ≡ Ok (codes ".RECIPEPREFIX = >\nfoo:\n>a\n>d\n.RECIPEPREFIX =\nbar:\n\tb\n")
+row_recipe_above_a_prefix_that_is_reset : outcome (codes ".RECIPEPREFIX = >\nfoo:\n>a\n.RECIPEPREFIX =\nbar:\n\tb\n") (AddRecipe None (codes "foo") (codes "d")) ≡ Becomes (codes ".RECIPEPREFIX = >\nfoo:\n>a\n>d\n.RECIPEPREFIX =\nbar:\n\tb\n")
 row_recipe_above_a_prefix_that_is_reset = refl
 
-row_recipe_above_a_prefix_that_is_reset_reading : reads_as_changed (codes ".RECIPEPREFIX = >\nfoo:\n>a\n.RECIPEPREFIX =\nbar:\n\tb\n") (AddRecipe None (codes "foo") (codes "d")) (codes ".RECIPEPREFIX = >\nfoo:\n>a\n>d\n.RECIPEPREFIX =\nbar:\n\tb\n") ≡ true
-row_recipe_above_a_prefix_that_is_reset_reading = refl
-
-row_prefix_set_if_absent_refuses_every_edit : outcome (codes ".RECIPEPREFIX ?= >\nX = 1\n") (SetValue None (codes "X") (codes "2")) ≡ Err RecipePrefix
+row_prefix_set_if_absent_refuses_every_edit : outcome (codes ".RECIPEPREFIX ?= >\nX = 1\n") (SetValue None (codes "X") (codes "2")) ≡ Refused RecipePrefix
 row_prefix_set_if_absent_refuses_every_edit = refl
 
-row_prefix_in_a_branch_refuses_every_edit : outcome (codes "ifdef A\n.RECIPEPREFIX = >\nendif\nX = 1\n") (SetValue None (codes "X") (codes "2")) ≡ Err RecipePrefix
+row_prefix_in_a_branch_refuses_every_edit : outcome (codes "ifdef A\n.RECIPEPREFIX = >\nendif\nX = 1\n") (SetValue None (codes "X") (codes "2")) ≡ Refused RecipePrefix
 row_prefix_in_a_branch_refuses_every_edit = refl
 
-row_unset_above_a_prefix_led_line_is_refused : outcome (codes ".RECIPEPREFIX = >\nfoo:\nX = 1\n>y\n") (RemoveAssign None (codes "X")) ≡ Err Leans
+row_unset_above_a_prefix_led_line_is_refused : outcome (codes ".RECIPEPREFIX = >\nfoo:\nX = 1\n>y\n") (RemoveAssign None (codes "X")) ≡ Refused Leans
 row_unset_above_a_prefix_led_line_is_refused = refl
 
-row_unset_above_a_tab_led_line_under_another_prefix : outcome (codes ".RECIPEPREFIX = >\nfoo:\nX = 1\n\ty\n") (RemoveAssign None (codes "X")) ≡ Ok (codes ".RECIPEPREFIX = >\nfoo:\n\ty\n")
+row_unset_above_a_tab_led_line_under_another_prefix : outcome (codes ".RECIPEPREFIX = >\nfoo:\nX = 1\n\ty\n") (RemoveAssign None (codes "X")) ≡ Becomes (codes ".RECIPEPREFIX = >\nfoo:\n\ty\n")
 row_unset_above_a_tab_led_line_under_another_prefix = refl
 
-row_unset_above_a_tab_led_line_under_another_prefix_reading : reads_as_changed (codes ".RECIPEPREFIX = >\nfoo:\nX = 1\n\ty\n") (RemoveAssign None (codes "X")) (codes ".RECIPEPREFIX = >\nfoo:\n\ty\n") ≡ true
-row_unset_above_a_tab_led_line_under_another_prefix_reading = refl
-
-row_assign_that_would_begin_with_the_prefix_is_refused : outcome (codes ".RECIPEPREFIX = X\nA = 1\n") (AddAssign Bottom (codes "X") Recursive (codes "2")) ≡ Err RecipePrefix
+row_assign_that_would_begin_with_the_prefix_is_refused : outcome (codes ".RECIPEPREFIX = X\nA = 1\n") (AddAssign Bottom (codes "X") Recursive (codes "2")) ≡ Refused RecipePrefix
 row_assign_that_would_begin_with_the_prefix_is_refused = refl
 
-row_no_such_place_comes_before_the_prefix : outcome (codes ".RECIPEPREFIX = X\nA = 1\n") (AddAssign (BeforeVar None (codes "B")) (codes "X") Recursive (codes "2")) ≡ Err NoSuch
+row_no_such_place_comes_before_the_prefix : outcome (codes ".RECIPEPREFIX = X\nA = 1\n") (AddAssign (BeforeVar None (codes "B")) (codes "X") Recursive (codes "2")) ≡ Refused NoSuch
 row_no_such_place_comes_before_the_prefix = refl
 
-row_assign_that_does_not_begin_with_the_prefix : outcome (codes ".RECIPEPREFIX = X\nA = 1\n") (AddAssign Bottom (codes "Y") Recursive (codes "2")) ≡ Ok (codes ".RECIPEPREFIX = X\nA = 1\nY = 2\n")
+row_assign_that_does_not_begin_with_the_prefix : outcome (codes ".RECIPEPREFIX = X\nA = 1\n") (AddAssign Bottom (codes "Y") Recursive (codes "2")) ≡ Becomes (codes ".RECIPEPREFIX = X\nA = 1\nY = 2\n")
 row_assign_that_does_not_begin_with_the_prefix = refl
 
-row_assign_that_does_not_begin_with_the_prefix_reading : reads_as_changed (codes ".RECIPEPREFIX = X\nA = 1\n") (AddAssign Bottom (codes "Y") Recursive (codes "2")) (codes ".RECIPEPREFIX = X\nA = 1\nY = 2\n") ≡ true
-row_assign_that_does_not_begin_with_the_prefix_reading = refl
-
-row_rename_that_would_begin_with_the_prefix_is_refused : outcome (codes ".RECIPEPREFIX = t\nall: a\n") (RenameTarget (codes "all") (codes "tidy")) ≡ Err RecipePrefix
+row_rename_that_would_begin_with_the_prefix_is_refused : outcome (codes ".RECIPEPREFIX = t\nall: a\n") (RenameTarget (codes "all") (codes "tidy")) ≡ Refused RecipePrefix
 row_rename_that_would_begin_with_the_prefix_is_refused = refl
 
-row_rename_that_does_not_begin_with_the_prefix : outcome (codes ".RECIPEPREFIX = t\nall: a\n") (RenameTarget (codes "all") (codes "new")) ≡ Ok (codes ".RECIPEPREFIX = t\nnew: a\n")
+row_rename_that_does_not_begin_with_the_prefix : outcome (codes ".RECIPEPREFIX = t\nall: a\n") (RenameTarget (codes "all") (codes "new")) ≡ Becomes (codes ".RECIPEPREFIX = t\nnew: a\n")
 row_rename_that_does_not_begin_with_the_prefix = refl
 
-row_rename_that_does_not_begin_with_the_prefix_reading : reads_as_changed (codes ".RECIPEPREFIX = t\nall: a\n") (RenameTarget (codes "all") (codes "new")) (codes ".RECIPEPREFIX = t\nnew: a\n") ≡ true
-row_rename_that_does_not_begin_with_the_prefix_reading = refl
-
-row_set_of_the_prefix_is_refused : outcome (codes ".RECIPEPREFIX = t\nall: a\n") (SetValue None (codes ".RECIPEPREFIX") (codes "x")) ≡ Err Reserved
+row_set_of_the_prefix_is_refused : outcome (codes ".RECIPEPREFIX = t\nall: a\n") (SetValue None (codes ".RECIPEPREFIX") (codes "x")) ≡ Refused Reserved
 row_set_of_the_prefix_is_refused = refl
 
-row_set_of_a_value_that_is_a_lone_backslash : outcome (codes "X = \\\n") (SetValue None (codes "X") (codes "b")) ≡ Ok (codes "X = b\n")
+row_set_of_a_value_that_is_a_lone_backslash : outcome (codes "X = \\\n") (SetValue None (codes "X") (codes "b")) ≡ Becomes (codes "X = b\n")
 row_set_of_a_value_that_is_a_lone_backslash = refl
 
-row_set_of_a_value_that_is_a_lone_backslash_reading : reads_as_changed (codes "X = \\\n") (SetValue None (codes "X") (codes "b")) (codes "X = b\n") ≡ true
-row_set_of_a_value_that_is_a_lone_backslash_reading = refl
-
-row_set_to_nothing_of_a_lone_backslash : outcome (codes "X = \\\n") (SetValue None (codes "X") []) ≡ Ok (codes "X = \n")
+row_set_to_nothing_of_a_lone_backslash : outcome (codes "X = \\\n") (SetValue None (codes "X") []) ≡ Becomes (codes "X = \n")
 row_set_to_nothing_of_a_lone_backslash = refl
 
-row_set_to_nothing_of_a_lone_backslash_reading : reads_as_changed (codes "X = \\\n") (SetValue None (codes "X") []) (codes "X = \n") ≡ true
-row_set_to_nothing_of_a_lone_backslash_reading = refl
-
-row_append_to_a_lone_backslash_is_refused : outcome (codes "X = \\\n") (AppendValue None (codes "X") (codes "b")) ≡ Err OpenValue
+row_append_to_a_lone_backslash_is_refused : outcome (codes "X = \\\n") (AppendValue None (codes "X") (codes "b")) ≡ Refused OpenValue
 row_append_to_a_lone_backslash_is_refused = refl
 
-row_assign_follows_the_first_physical_line_of_a_fold : outcome (codes "A=\\\r\n1\nB=2\n") (AddAssign Bottom (codes "C") Recursive (codes "3")) ≡ Ok (codes "A=\\\r\n1\nB=2\nC = 3\r\n")
+row_assign_follows_the_first_physical_line_of_a_fold : outcome (codes "A=\\\r\n1\nB=2\n") (AddAssign Bottom (codes "C") Recursive (codes "3")) ≡ Becomes (codes "A=\\\r\n1\nB=2\nC = 3\r\n")
 row_assign_follows_the_first_physical_line_of_a_fold = refl
 
-row_assign_follows_the_first_physical_line_of_a_fold_reading : reads_as_changed (codes "A=\\\r\n1\nB=2\n") (AddAssign Bottom (codes "C") Recursive (codes "3")) (codes "A=\\\r\n1\nB=2\nC = 3\r\n") ≡ true
-row_assign_follows_the_first_physical_line_of_a_fold_reading = refl
-
-row_assign_adds_a_missing_crlf : outcome (codes "A=1\r\nB=2") (AddAssign Bottom (codes "C") Recursive (codes "3")) ≡ Ok (codes "A=1\r\nB=2\r\nC = 3\r\n")
+row_assign_adds_a_missing_crlf : outcome (codes "A=1\r\nB=2") (AddAssign Bottom (codes "C") Recursive (codes "3")) ≡ Becomes (codes "A=1\r\nB=2\r\nC = 3\r\n")
 row_assign_adds_a_missing_crlf = refl
 
-row_assign_adds_a_missing_crlf_reading : reads_as_changed (codes "A=1\r\nB=2") (AddAssign Bottom (codes "C") Recursive (codes "3")) (codes "A=1\r\nB=2\r\nC = 3\r\n") ≡ true
-row_assign_adds_a_missing_crlf_reading = refl
-
-row_assign_after_a_comment_ending_in_cr_is_refused : outcome (codes "# c\r") (AddAssign Bottom (codes "C") Recursive (codes "3")) ≡ Err OpenLine
+row_assign_after_a_comment_ending_in_cr_is_refused : outcome (codes "# c\r") (AddAssign Bottom (codes "C") Recursive (codes "3")) ≡ Refused OpenLine
 row_assign_after_a_comment_ending_in_cr_is_refused = refl
 
-row_set_of_nothing_to_nothing : outcome (codes "X=\n") (SetValue None (codes "X") []) ≡ Ok (codes "X=\n")
+row_set_of_nothing_to_nothing : outcome (codes "X=\n") (SetValue None (codes "X") []) ≡ Becomes (codes "X=\n")
 row_set_of_nothing_to_nothing = refl
 
-row_set_of_nothing_to_nothing_reading : reads_as_changed (codes "X=\n") (SetValue None (codes "X") []) (codes "X=\n") ≡ true
-row_set_of_nothing_to_nothing_reading = refl
-
-row_set_of_an_empty_value_touches_the_comment : outcome (codes "X =   # c\n") (SetValue None (codes "X") (codes "b")) ≡ Ok (codes "X =   b# c\n")
+row_set_of_an_empty_value_touches_the_comment : outcome (codes "X =   # c\n") (SetValue None (codes "X") (codes "b")) ≡ Becomes (codes "X =   b# c\n")
 row_set_of_an_empty_value_touches_the_comment = refl
 
-row_set_of_an_empty_value_touches_the_comment_reading : reads_as_changed (codes "X =   # c\n") (SetValue None (codes "X") (codes "b")) (codes "X =   b# c\n") ≡ true
-row_set_of_an_empty_value_touches_the_comment_reading = refl
-
-row_set_of_an_empty_value_after_a_fold : outcome (codes "X = \\\n\n") (SetValue None (codes "X") (codes "b")) ≡ Ok (codes "X = \\\nb\n")
+row_set_of_an_empty_value_after_a_fold : outcome (codes "X = \\\n\n") (SetValue None (codes "X") (codes "b")) ≡ Becomes (codes "X = \\\nb\n")
 row_set_of_an_empty_value_after_a_fold = refl
 
-row_set_of_an_empty_value_after_a_fold_reading : reads_as_changed (codes "X = \\\n\n") (SetValue None (codes "X") (codes "b")) (codes "X = \\\nb\n") ≡ true
-row_set_of_an_empty_value_after_a_fold_reading = refl
-
-row_set_of_an_empty_value_after_a_fold_and_before_a_comment : outcome (codes "X = \\\n # c\n") (SetValue None (codes "X") (codes "b")) ≡ Ok (codes "X = \\\n b# c\n")
+row_set_of_an_empty_value_after_a_fold_and_before_a_comment : outcome (codes "X = \\\n # c\n") (SetValue None (codes "X") (codes "b")) ≡ Becomes (codes "X = \\\n b# c\n")
 row_set_of_an_empty_value_after_a_fold_and_before_a_comment = refl
 
-row_set_of_an_empty_value_after_a_fold_and_before_a_comment_reading : reads_as_changed (codes "X = \\\n # c\n") (SetValue None (codes "X") (codes "b")) (codes "X = \\\n b# c\n") ≡ true
-row_set_of_an_empty_value_after_a_fold_and_before_a_comment_reading = refl
-
-row_set_to_nothing_takes_the_fold_before_the_comment : outcome (codes "X = a \\\n # c\n") (SetValue None (codes "X") []) ≡ Ok (codes "X = # c\n")
+row_set_to_nothing_takes_the_fold_before_the_comment : outcome (codes "X = a \\\n # c\n") (SetValue None (codes "X") []) ≡ Becomes (codes "X = # c\n")
 row_set_to_nothing_takes_the_fold_before_the_comment = refl
 
-row_set_to_nothing_takes_the_fold_before_the_comment_reading : reads_as_changed (codes "X = a \\\n # c\n") (SetValue None (codes "X") []) (codes "X = # c\n") ≡ true
-row_set_to_nothing_takes_the_fold_before_the_comment_reading = refl
-
-row_set_to_nothing_takes_the_fold_after_the_value : outcome (codes "X = a \\\n\n") (SetValue None (codes "X") []) ≡ Ok (codes "X = \n")
+row_set_to_nothing_takes_the_fold_after_the_value : outcome (codes "X = a \\\n\n") (SetValue None (codes "X") []) ≡ Becomes (codes "X = \n")
 row_set_to_nothing_takes_the_fold_after_the_value = refl
 
-row_set_to_nothing_takes_the_fold_after_the_value_reading : reads_as_changed (codes "X = a \\\n\n") (SetValue None (codes "X") []) (codes "X = \n") ≡ true
-row_set_to_nothing_takes_the_fold_after_the_value_reading = refl
-
-row_set_to_nothing_takes_the_blanks_after_the_value : outcome (codes "X = a  \n") (SetValue None (codes "X") []) ≡ Ok (codes "X = \n")
+row_set_to_nothing_takes_the_blanks_after_the_value : outcome (codes "X = a  \n") (SetValue None (codes "X") []) ≡ Becomes (codes "X = \n")
 row_set_to_nothing_takes_the_blanks_after_the_value = refl
 
-row_set_to_nothing_takes_the_blanks_after_the_value_reading : reads_as_changed (codes "X = a  \n") (SetValue None (codes "X") []) (codes "X = \n") ≡ true
-row_set_to_nothing_takes_the_blanks_after_the_value_reading = refl
-
-row_set_to_nothing_keeps_the_fold_before_the_value : outcome (codes "X = \\\nb\n") (SetValue None (codes "X") []) ≡ Ok (codes "X = \\\n\n")
+row_set_to_nothing_keeps_the_fold_before_the_value : outcome (codes "X = \\\nb\n") (SetValue None (codes "X") []) ≡ Becomes (codes "X = \\\n\n")
 row_set_to_nothing_keeps_the_fold_before_the_value = refl
 
-row_set_to_nothing_keeps_the_fold_before_the_value_reading : reads_as_changed (codes "X = \\\nb\n") (SetValue None (codes "X") []) (codes "X = \\\n\n") ≡ true
-row_set_to_nothing_keeps_the_fold_before_the_value_reading = refl
-
-row_set_to_nothing_leaves_a_blank_last_line : outcome (codes "X = \\\n b") (SetValue None (codes "X") []) ≡ Ok (codes "X = \\\n ")
+row_set_to_nothing_leaves_a_blank_last_line : outcome (codes "X = \\\n b") (SetValue None (codes "X") []) ≡ Becomes (codes "X = \\\n ")
 row_set_to_nothing_leaves_a_blank_last_line = refl
 
-row_set_to_nothing_leaves_a_blank_last_line_reading : reads_as_changed (codes "X = \\\n b") (SetValue None (codes "X") []) (codes "X = \\\n ") ≡ true
-row_set_to_nothing_leaves_a_blank_last_line_reading = refl
-
-row_set_to_nothing_leaves_a_backslash_before_crlf : outcome (codes "X = \\\r\nb") (SetValue None (codes "X") []) ≡ Ok (codes "X = \\\r\n")
+row_set_to_nothing_leaves_a_backslash_before_crlf : outcome (codes "X = \\\r\nb") (SetValue None (codes "X") []) ≡ Becomes (codes "X = \\\r\n")
 row_set_to_nothing_leaves_a_backslash_before_crlf = refl
 
-row_set_to_nothing_leaves_a_backslash_before_crlf_reading : reads_as_changed (codes "X = \\\r\nb") (SetValue None (codes "X") []) (codes "X = \\\r\n") ≡ true
-row_set_to_nothing_leaves_a_backslash_before_crlf_reading = refl
-
-row_set_to_nothing_of_a_backslash_after_a_fold : outcome (codes "X = \\\n\\") (SetValue None (codes "X") []) ≡ Ok (codes "X = \\\n")
+row_set_to_nothing_of_a_backslash_after_a_fold : outcome (codes "X = \\\n\\") (SetValue None (codes "X") []) ≡ Becomes (codes "X = \\\n")
 row_set_to_nothing_of_a_backslash_after_a_fold = refl
 
-row_set_to_nothing_of_a_backslash_after_a_fold_reading : reads_as_changed (codes "X = \\\n\\") (SetValue None (codes "X") []) (codes "X = \\\n") ≡ true
-row_set_to_nothing_of_a_backslash_after_a_fold_reading = refl
-
-row_append_after_a_dollar_and_a_fold : outcome (codes "X = a$\\\n\n") (AppendValue None (codes "X") (codes "b")) ≡ Ok (codes "X = a$\\\n b\n")
+row_append_after_a_dollar_and_a_fold : outcome (codes "X = a$\\\n\n") (AppendValue None (codes "X") (codes "b")) ≡ Becomes (codes "X = a$\\\n b\n")
 row_append_after_a_dollar_and_a_fold = refl
 
-row_append_after_a_dollar_and_a_fold_reading : reads_as_changed (codes "X = a$\\\n\n") (AppendValue None (codes "X") (codes "b")) (codes "X = a$\\\n b\n") ≡ true
-row_append_after_a_dollar_and_a_fold_reading = refl
-
-row_append_after_a_dollar_and_a_blank : outcome (codes "X = a$ # c\n") (AppendValue None (codes "X") (codes "b")) ≡ Ok (codes "X = a$  b# c\n")
+row_append_after_a_dollar_and_a_blank : outcome (codes "X = a$ # c\n") (AppendValue None (codes "X") (codes "b")) ≡ Becomes (codes "X = a$  b# c\n")
 row_append_after_a_dollar_and_a_blank = refl
 
-row_append_after_a_dollar_and_a_blank_reading : reads_as_changed (codes "X = a$ # c\n") (AppendValue None (codes "X") (codes "b")) (codes "X = a$  b# c\n") ≡ true
-row_append_after_a_dollar_and_a_blank_reading = refl
-
-row_append_after_a_backslash_and_a_blank : outcome (codes "X = a\\ \n") (AppendValue None (codes "X") (codes "b")) ≡ Ok (codes "X = a\\  b\n")
+row_append_after_a_backslash_and_a_blank : outcome (codes "X = a\\ \n") (AppendValue None (codes "X") (codes "b")) ≡ Becomes (codes "X = a\\  b\n")
 row_append_after_a_backslash_and_a_blank = refl
 
-row_append_after_a_backslash_and_a_blank_reading : reads_as_changed (codes "X = a\\ \n") (AppendValue None (codes "X") (codes "b")) (codes "X = a\\  b\n") ≡ true
-row_append_after_a_backslash_and_a_blank_reading = refl
-
-row_append_after_a_dollar_and_a_backslash : outcome (codes "X = a$\\\n") (AppendValue None (codes "X") (codes "b")) ≡ Ok (codes "X = a$\\ b\n")
+row_append_after_a_dollar_and_a_backslash : outcome (codes "X = a$\\\n") (AppendValue None (codes "X") (codes "b")) ≡ Becomes (codes "X = a$\\ b\n")
 row_append_after_a_dollar_and_a_backslash = refl
 
-row_append_after_a_dollar_and_a_backslash_reading : reads_as_changed (codes "X = a$\\\n") (AppendValue None (codes "X") (codes "b")) (codes "X = a$\\ b\n") ≡ true
-row_append_after_a_dollar_and_a_backslash_reading = refl
-
-row_append_to_an_empty_value_before_a_comment : outcome (codes "X = # c\n") (AppendValue None (codes "X") (codes "b")) ≡ Ok (codes "X = b# c\n")
+row_append_to_an_empty_value_before_a_comment : outcome (codes "X = # c\n") (AppendValue None (codes "X") (codes "b")) ≡ Becomes (codes "X = b# c\n")
 row_append_to_an_empty_value_before_a_comment = refl
 
-row_append_to_an_empty_value_before_a_comment_reading : reads_as_changed (codes "X = # c\n") (AppendValue None (codes "X") (codes "b")) (codes "X = b# c\n") ≡ true
-row_append_to_an_empty_value_before_a_comment_reading = refl
-
-row_set_of_a_value_with_a_dollar_and_a_comment_sign : outcome (codes "X = a$# b\n") (SetValue None (codes "X") (codes "c")) ≡ Ok (codes "X = c\n")
+row_set_of_a_value_with_a_dollar_and_a_comment_sign : outcome (codes "X = a$# b\n") (SetValue None (codes "X") (codes "c")) ≡ Becomes (codes "X = c\n")
 row_set_of_a_value_with_a_dollar_and_a_comment_sign = refl
 
-row_set_of_a_value_with_a_dollar_and_a_comment_sign_reading : reads_as_changed (codes "X = a$# b\n") (SetValue None (codes "X") (codes "c")) (codes "X = c\n") ≡ true
-row_set_of_a_value_with_a_dollar_and_a_comment_sign_reading = refl
-
-row_prefix_comes_before_a_taken_name : outcome (codes ".RECIPEPREFIX = t\nall:\n tidy:\n") (RenameTarget (codes "all") (codes "tidy")) ≡ Err RecipePrefix
+row_prefix_comes_before_a_taken_name : outcome (codes ".RECIPEPREFIX = t\nall:\n tidy:\n") (RenameTarget (codes "all") (codes "tidy")) ≡ Refused RecipePrefix
 row_prefix_comes_before_a_taken_name = refl
 
-row_prefix_comes_before_an_open_line : outcome (codes ".RECIPEPREFIX = t\nX = a\\") (AddAssign Bottom (codes "t") Recursive (codes "1")) ≡ Err RecipePrefix
+row_prefix_comes_before_an_open_line : outcome (codes ".RECIPEPREFIX = t\nX = a\\") (AddAssign Bottom (codes "t") Recursive (codes "1")) ≡ Refused RecipePrefix
 row_prefix_comes_before_an_open_line = refl
 
-row_prefix_comes_before_an_open_define : outcome (codes ".RECIPEPREFIX = t\ndefine D\n") (AddAssign Bottom (codes "t") Recursive (codes "1")) ≡ Err RecipePrefix
+row_prefix_comes_before_an_open_define : outcome (codes ".RECIPEPREFIX = t\ndefine D\n") (AddAssign Bottom (codes "t") Recursive (codes "1")) ≡ Refused RecipePrefix
 row_prefix_comes_before_an_open_define = refl
 
-row_rename_of_an_indented_target_under_a_prefix : outcome (codes ".RECIPEPREFIX = t\n all: a\n") (RenameTarget (codes "all") (codes "tidy")) ≡ Ok (codes ".RECIPEPREFIX = t\n tidy: a\n")
+row_rename_of_an_indented_target_under_a_prefix : outcome (codes ".RECIPEPREFIX = t\n all: a\n") (RenameTarget (codes "all") (codes "tidy")) ≡ Becomes (codes ".RECIPEPREFIX = t\n tidy: a\n")
 row_rename_of_an_indented_target_under_a_prefix = refl
 
-row_rename_of_an_indented_target_under_a_prefix_reading : reads_as_changed (codes ".RECIPEPREFIX = t\n all: a\n") (RenameTarget (codes "all") (codes "tidy")) (codes ".RECIPEPREFIX = t\n tidy: a\n") ≡ true
-row_rename_of_an_indented_target_under_a_prefix_reading = refl
-
-row_define_of_the_prefix_with_an_operator_sets_none : outcome (codes "define .RECIPEPREFIX=\nendef\nX=1\n") (SetValue None (codes "X") (codes "2")) ≡ Ok (codes "define .RECIPEPREFIX=\nendef\nX=2\n")
+row_define_of_the_prefix_with_an_operator_sets_none : outcome (codes "define .RECIPEPREFIX=\nendef\nX=1\n") (SetValue None (codes "X") (codes "2")) ≡ Becomes (codes "define .RECIPEPREFIX=\nendef\nX=2\n")
 row_define_of_the_prefix_with_an_operator_sets_none = refl
 
-row_define_of_the_prefix_with_an_operator_sets_none_reading : reads_as_changed (codes "define .RECIPEPREFIX=\nendef\nX=1\n") (SetValue None (codes "X") (codes "2")) (codes "define .RECIPEPREFIX=\nendef\nX=2\n") ≡ true
-row_define_of_the_prefix_with_an_operator_sets_none_reading = refl
-
-row_target_assignment_of_the_prefix_sets_none : outcome (codes "a: .RECIPEPREFIX = >\nX=1\n") (SetValue None (codes "X") (codes "2")) ≡ Ok (codes "a: .RECIPEPREFIX = >\nX=2\n")
+row_target_assignment_of_the_prefix_sets_none : outcome (codes "a: .RECIPEPREFIX = >\nX=1\n") (SetValue None (codes "X") (codes "2")) ≡ Becomes (codes "a: .RECIPEPREFIX = >\nX=2\n")
 row_target_assignment_of_the_prefix_sets_none = refl
 
-row_target_assignment_of_the_prefix_sets_none_reading : reads_as_changed (codes "a: .RECIPEPREFIX = >\nX=1\n") (SetValue None (codes "X") (codes "2")) (codes "a: .RECIPEPREFIX = >\nX=2\n") ≡ true
-row_target_assignment_of_the_prefix_sets_none_reading = refl
-
-row_prefix_that_begins_with_a_dollar_refuses_every_edit : outcome (codes ".RECIPEPREFIX = $(x)\nX=1\n") (SetValue None (codes "X") (codes "2")) ≡ Err RecipePrefix
+row_prefix_that_begins_with_a_dollar_refuses_every_edit : outcome (codes ".RECIPEPREFIX = $(x)\nX=1\n") (SetValue None (codes "X") (codes "2")) ≡ Refused RecipePrefix
 row_prefix_that_begins_with_a_dollar_refuses_every_edit = refl
 
-row_bad_value_comes_before_a_reserved_name : outcome (codes "X=1\n") (AddAssign Bottom (codes ".RECIPEPREFIX") Recursive (codes "a #")) ≡ Err (BadArgument field.Value)
+row_bad_value_comes_before_a_reserved_name : outcome (codes "X=1\n") (AddAssign Bottom (codes ".RECIPEPREFIX") Recursive (codes "a #")) ≡ Refused (BadArgument field.Value)
 row_bad_value_comes_before_a_reserved_name = refl
 
-row_rename_of_a_directive_word_is_refused : outcome (codes "include: x\n") (RenameTarget (codes "include") (codes "y")) ≡ Err Reserved
+row_rename_of_a_directive_word_is_refused : outcome (codes "include: x\n") (RenameTarget (codes "include") (codes "y")) ≡ Refused Reserved
 row_rename_of_a_directive_word_is_refused = refl
 
-row_depend_of_a_directive_word_is_refused : outcome (codes "include: x\n") (AddPrereq false None (codes "include") (codes "y")) ≡ Err Reserved
+row_depend_of_a_directive_word_is_refused : outcome (codes "include: x\n") (AddPrereq false None (codes "include") (codes "y")) ≡ Refused Reserved
 row_depend_of_a_directive_word_is_refused = refl
 
-row_depend_on_a_directive_word : outcome (codes "a:\n") (AddPrereq false None (codes "a") (codes "include")) ≡ Ok (codes "a: include\n")
+row_depend_on_a_directive_word : outcome (codes "a:\n") (AddPrereq false None (codes "a") (codes "include")) ≡ Becomes (codes "a: include\n")
 row_depend_on_a_directive_word = refl
 
-row_depend_on_a_directive_word_reading : reads_as_changed (codes "a:\n") (AddPrereq false None (codes "a") (codes "include")) (codes "a: include\n") ≡ true
-row_depend_on_a_directive_word_reading = refl
-
-row_open_line_comes_before_an_open_define : outcome (codes "define D\nx\\") (AddAssign Bottom (codes "Y") Recursive (codes "1")) ≡ Err OpenLine
+row_open_line_comes_before_an_open_define : outcome (codes "define D\nx\\") (AddAssign Bottom (codes "Y") Recursive (codes "1")) ≡ Refused OpenLine
 row_open_line_comes_before_an_open_define = refl
 
-row_unrule_of_a_target_named_twice_is_refused : outcome (codes "a a: b\n") (RemoveRule None (codes "a")) ≡ Err (SharedRule 2)
+row_unrule_of_a_target_named_twice_is_refused : outcome (codes "a a: b\n") (RemoveRule None (codes "a")) ≡ Refused (SharedRule 2)
 row_unrule_of_a_target_named_twice_is_refused = refl
 
-row_rename_to_itself_is_refused : outcome (codes "a:\n") (RenameTarget (codes "a") (codes "a")) ≡ Err Taken
+row_rename_to_itself_is_refused : outcome (codes "a:\n") (RenameTarget (codes "a") (codes "a")) ≡ Refused Taken
 row_rename_to_itself_is_refused = refl
 
-row_unset_above_a_tab_led_comment_is_refused : outcome (codes "foo:\nX = 1\n\t# c\n") (RemoveAssign None (codes "X")) ≡ Err Leans
+row_unset_above_a_tab_led_comment_is_refused : outcome (codes "foo:\nX = 1\n\t# c\n") (RemoveAssign None (codes "X")) ≡ Refused Leans
 row_unset_above_a_tab_led_comment_is_refused = refl
 
-row_unset_between_opaque_lines_is_refused : outcome (codes "$(x)\nX = 1\n\tfoo\n") (RemoveAssign None (codes "X")) ≡ Err Leans
+row_unset_between_opaque_lines_is_refused : outcome (codes "$(x)\nX = 1\n\tfoo\n") (RemoveAssign None (codes "X")) ≡ Refused Leans
 row_unset_between_opaque_lines_is_refused = refl
 
-row_recipe_of_a_rule_without_one_goes_before_the_conditional : outcome (codes "foo:\nifdef A\nendif\n") (AddRecipe None (codes "foo") (codes "y")) ≡ Ok (codes "foo:\n\ty\nifdef A\nendif\n")
+row_recipe_of_a_rule_without_one_goes_before_the_conditional : outcome (codes "foo:\nifdef A\nendif\n") (AddRecipe None (codes "foo") (codes "y")) ≡ Becomes (codes "foo:\n\ty\nifdef A\nendif\n")
 row_recipe_of_a_rule_without_one_goes_before_the_conditional = refl
 
-row_recipe_of_a_rule_without_one_goes_before_the_conditional_reading : reads_as_changed (codes "foo:\nifdef A\nendif\n") (AddRecipe None (codes "foo") (codes "y")) (codes "foo:\n\ty\nifdef A\nendif\n") ≡ true
-row_recipe_of_a_rule_without_one_goes_before_the_conditional_reading = refl
-
-row_inline_recipe_has_no_number : outcome (codes "foo: ; x\n") (RemoveRecipe None (codes "foo") 1) ≡ Err Absent
+row_inline_recipe_has_no_number : outcome (codes "foo: ; x\n") (RemoveRecipe None (codes "foo") 1) ≡ Refused Absent
 row_inline_recipe_has_no_number = refl
 
-row_depend_of_a_target_assignment_finds_nothing : outcome (codes "a: X = 1\n") (AddPrereq false None (codes "a") (codes "b")) ≡ Err NoSuch
+row_depend_of_a_target_assignment_finds_nothing : outcome (codes "a: X = 1\n") (AddPrereq false None (codes "a") (codes "b")) ≡ Refused NoSuch
 row_depend_of_a_target_assignment_finds_nothing = refl
 
-row_rename_in_a_target_assignment : outcome (codes "a: X = 1\n") (RenameTarget (codes "a") (codes "b")) ≡ Ok (codes "b: X = 1\n")
+row_rename_in_a_target_assignment : outcome (codes "a: X = 1\n") (RenameTarget (codes "a") (codes "b")) ≡ Becomes (codes "b: X = 1\n")
 row_rename_in_a_target_assignment = refl
 
-row_rename_in_a_target_assignment_reading : reads_as_changed (codes "a: X = 1\n") (RenameTarget (codes "a") (codes "b")) (codes "b: X = 1\n") ≡ true
-row_rename_in_a_target_assignment_reading = refl
-
-row_target_that_ends_in_an_ampersand_is_refused : outcome [] (AddRule Bottom (codes "$&") One []) ≡ Err (BadArgument field.Targets)
+row_target_that_ends_in_an_ampersand_is_refused : outcome [] (AddRule Bottom (codes "$&") One []) ≡ Refused (BadArgument field.Targets)
 row_target_that_ends_in_an_ampersand_is_refused = refl
 
-row_empty_place_is_refused : outcome (codes "X=1\n") (AddAssign (BeforeVar None []) (codes "Y") Recursive (codes "1")) ≡ Err (BadArgument field.Place)
+row_empty_place_is_refused : outcome (codes "X=1\n") (AddAssign (BeforeVar None []) (codes "Y") Recursive (codes "1")) ≡ Refused (BadArgument field.Place)
 row_empty_place_is_refused = refl
 
-row_rule_without_a_target_is_refused : outcome (codes "X=1\n") (AddRule Bottom (codes " ") One []) ≡ Err (BadArgument field.Targets)
+row_rule_without_a_target_is_refused : outcome (codes "X=1\n") (AddRule Bottom (codes " ") One []) ≡ Refused (BadArgument field.Targets)
 row_rule_without_a_target_is_refused = refl
 
-row_rule_joins_prerequisites_by_one_space : outcome (codes "X=1\n") (AddRule Bottom (codes "a") One (codes "b\tc ")) ≡ Ok (codes "X=1\na: b c\n")
+row_rule_joins_prerequisites_by_one_space : outcome (codes "X=1\n") (AddRule Bottom (codes "a") One (codes "b\tc ")) ≡ Becomes (codes "X=1\na: b c\n")
 row_rule_joins_prerequisites_by_one_space = refl
 
-row_rule_joins_prerequisites_by_one_space_reading : reads_as_changed (codes "X=1\n") (AddRule Bottom (codes "a") One (codes "b\tc ")) (codes "X=1\na: b c\n") ≡ true
-row_rule_joins_prerequisites_by_one_space_reading = refl
-
-row_undepend_keeps_the_fold_after_the_last_word : outcome (codes "a: x b b\\\n c\n") (RemovePrereq None (codes "a") (codes "b")) ≡ Ok (codes "a: x\\\n c\n")
+row_undepend_keeps_the_fold_after_the_last_word : outcome (codes "a: x b b\\\n c\n") (RemovePrereq None (codes "a") (codes "b")) ≡ Becomes (codes "a: x\\\n c\n")
 row_undepend_keeps_the_fold_after_the_last_word = refl
 
-row_undepend_keeps_the_fold_after_the_last_word_reading : reads_as_changed (codes "a: x b b\\\n c\n") (RemovePrereq None (codes "a") (codes "b")) (codes "a: x\\\n c\n") ≡ true
-row_undepend_keeps_the_fold_after_the_last_word_reading = refl
-
-row_undepend_after_a_pattern : outcome (codes "a: p: b\n") (RemovePrereq None (codes "a") (codes "b")) ≡ Ok (codes "a: p:\n")
+row_undepend_after_a_pattern : outcome (codes "a: p: b\n") (RemovePrereq None (codes "a") (codes "b")) ≡ Becomes (codes "a: p:\n")
 row_undepend_after_a_pattern = refl
 
-row_undepend_after_a_pattern_reading : reads_as_changed (codes "a: p: b\n") (RemovePrereq None (codes "a") (codes "b")) (codes "a: p:\n") ≡ true
-row_undepend_after_a_pattern_reading = refl
-
-row_pattern_is_no_prerequisite : outcome (codes "a: p: b\n") (RemovePrereq None (codes "a") (codes "p")) ≡ Err Absent
+row_pattern_is_no_prerequisite : outcome (codes "a: p: b\n") (RemovePrereq None (codes "a") (codes "p")) ≡ Refused Absent
 row_pattern_is_no_prerequisite = refl
 
-row_depend_after_a_pattern : outcome (codes "a: p:\n") (AddPrereq false None (codes "a") (codes "b")) ≡ Ok (codes "a: p: b\n")
+row_depend_after_a_pattern : outcome (codes "a: p:\n") (AddPrereq false None (codes "a") (codes "b")) ≡ Becomes (codes "a: p: b\n")
 row_depend_after_a_pattern = refl
 
-row_depend_after_a_pattern_reading : reads_as_changed (codes "a: p:\n") (AddPrereq false None (codes "a") (codes "b")) (codes "a: p: b\n") ≡ true
-row_depend_after_a_pattern_reading = refl
-
-row_depend_before_a_glued_inline_recipe : outcome (codes "a:;x\n") (AddPrereq false None (codes "a") (codes "b")) ≡ Ok (codes "a: b;x\n")
+row_depend_before_a_glued_inline_recipe : outcome (codes "a:;x\n") (AddPrereq false None (codes "a") (codes "b")) ≡ Becomes (codes "a: b;x\n")
 row_depend_before_a_glued_inline_recipe = refl
 
-row_depend_before_a_glued_inline_recipe_reading : reads_as_changed (codes "a:;x\n") (AddPrereq false None (codes "a") (codes "b")) (codes "a: b;x\n") ≡ true
-row_depend_before_a_glued_inline_recipe_reading = refl
-
-row_depend_order_before_a_glued_comment : outcome (codes "a:#c\n") (AddPrereq true None (codes "a") (codes "b")) ≡ Ok (codes "a: | b#c\n")
+row_depend_order_before_a_glued_comment : outcome (codes "a:#c\n") (AddPrereq true None (codes "a") (codes "b")) ≡ Becomes (codes "a: | b#c\n")
 row_depend_order_before_a_glued_comment = refl
 
-row_depend_order_before_a_glued_comment_reading : reads_as_changed (codes "a:#c\n") (AddPrereq true None (codes "a") (codes "b")) (codes "a: | b#c\n") ≡ true
-row_depend_order_before_a_glued_comment_reading = refl
-
-row_depend_order_after_a_glued_bar : outcome (codes "a:|;x\n") (AddPrereq true None (codes "a") (codes "b")) ≡ Ok (codes "a:| b;x\n")
+row_depend_order_after_a_glued_bar : outcome (codes "a:|;x\n") (AddPrereq true None (codes "a") (codes "b")) ≡ Becomes (codes "a:| b;x\n")
 row_depend_order_after_a_glued_bar = refl
 
-row_depend_order_after_a_glued_bar_reading : reads_as_changed (codes "a:|;x\n") (AddPrereq true None (codes "a") (codes "b")) (codes "a:| b;x\n") ≡ true
-row_depend_order_after_a_glued_bar_reading = refl
-
-row_depend_before_a_fold_and_a_bar : outcome (codes "a:\\\n | b\n") (AddPrereq false None (codes "a") (codes "c")) ≡ Ok (codes "a: c\\\n | b\n")
+row_depend_before_a_fold_and_a_bar : outcome (codes "a:\\\n | b\n") (AddPrereq false None (codes "a") (codes "c")) ≡ Becomes (codes "a: c\\\n | b\n")
 row_depend_before_a_fold_and_a_bar = refl
 
-row_depend_before_a_fold_and_a_bar_reading : reads_as_changed (codes "a:\\\n | b\n") (AddPrereq false None (codes "a") (codes "c")) (codes "a: c\\\n | b\n") ≡ true
-row_depend_before_a_fold_and_a_bar_reading = refl
-
-row_same_word_in_both_lists : outcome (codes "a: b\n") (AddPrereq true None (codes "a") (codes "b")) ≡ Ok (codes "a: b | b\n")
+row_same_word_in_both_lists : outcome (codes "a: b\n") (AddPrereq true None (codes "a") (codes "b")) ≡ Becomes (codes "a: b | b\n")
 row_same_word_in_both_lists = refl
 
-row_same_word_in_both_lists_reading : reads_as_changed (codes "a: b\n") (AddPrereq true None (codes "a") (codes "b")) (codes "a: b | b\n") ≡ true
-row_same_word_in_both_lists_reading = refl
-
-row_rename_of_a_reference_with_a_fold : outcome (codes "a: $(a \\\n b)\n$(a b):\n") (RenameTarget (codes "$(a b)") (codes "c")) ≡ Ok (codes "a: c\nc:\n")
+row_rename_of_a_reference_with_a_fold : outcome (codes "a: $(a \\\n b)\n$(a b):\n") (RenameTarget (codes "$(a b)") (codes "c")) ≡ Becomes (codes "a: c\nc:\n")
 row_rename_of_a_reference_with_a_fold = refl
 
-row_rename_of_a_reference_with_a_fold_reading : reads_as_changed (codes "a: $(a \\\n b)\n$(a b):\n") (RenameTarget (codes "$(a b)") (codes "c")) (codes "a: c\nc:\n") ≡ true
-row_rename_of_a_reference_with_a_fold_reading = refl
-
-row_quoted_command_word : outcome (codes "X=1\n") (SetValue None (codes "X") (codes "2")) ≡ Ok (codes "X=2\n")
+row_quoted_command_word : outcome (codes "X=1\n") (SetValue None (codes "X") (codes "2")) ≡ Becomes (codes "X=2\n")
 row_quoted_command_word = refl
 
-row_quoted_command_word_reading : reads_as_changed (codes "X=1\n") (SetValue None (codes "X") (codes "2")) (codes "X=2\n") ≡ true
-row_quoted_command_word_reading = refl
-
-row_quoted_number : outcome (codes "X=1\n") (SetValue (Some 1) (codes "X") (codes "2")) ≡ Ok (codes "X=2\n")
+row_quoted_number : outcome (codes "X=1\n") (SetValue (Some 1) (codes "X") (codes "2")) ≡ Becomes (codes "X=2\n")
 row_quoted_number = refl
 
-row_quoted_number_reading : reads_as_changed (codes "X=1\n") (SetValue (Some 1) (codes "X") (codes "2")) (codes "X=2\n") ≡ true
-row_quoted_number_reading = refl
-
-row_quoted_place_and_operator : outcome (codes "X=1\n") (AddAssign Bottom (codes "Y") Recursive (codes "1")) ≡ Ok (codes "X=1\nY = 1\n")
+row_quoted_place_and_operator : outcome (codes "X=1\n") (AddAssign Bottom (codes "Y") Recursive (codes "1")) ≡ Becomes (codes "X=1\nY = 1\n")
 row_quoted_place_and_operator = refl
 
-row_quoted_place_and_operator_reading : reads_as_changed (codes "X=1\n") (AddAssign Bottom (codes "Y") Recursive (codes "1")) (codes "X=1\nY = 1\n") ≡ true
-row_quoted_place_and_operator_reading = refl
-
-row_number_of_ten_digits : outcome (codes "X=1\n") (SetValue (Some 1) (codes "X") (codes "2")) ≡ Ok (codes "X=2\n")
+row_number_of_ten_digits : outcome (codes "X=1\n") (SetValue (Some 1) (codes "X") (codes "2")) ≡ Becomes (codes "X=2\n")
 row_number_of_ten_digits = refl
 
-row_number_of_ten_digits_reading : reads_as_changed (codes "X=1\n") (SetValue (Some 1) (codes "X") (codes "2")) (codes "X=2\n") ≡ true
-row_number_of_ten_digits_reading = refl
-
-row_script_without_line_end_that_ends_in_cr : outcome (codes "X=1\n") (SetValue None (codes "X") (codes "1\r")) ≡ Err (BadArgument field.Value)
+row_script_without_line_end_that_ends_in_cr : outcome (codes "X=1\n") (SetValue None (codes "X") (codes "1\r")) ≡ Refused (BadArgument field.Value)
 row_script_without_line_end_that_ends_in_cr = refl
 
-row_quote_inside_a_bare_field : outcome (codes "X=1\n") (SetValue None (codes "X") (codes "a\"b")) ≡ Ok (codes "X=a\"b\n")
+row_quote_inside_a_bare_field : outcome (codes "X=1\n") (SetValue None (codes "X") (codes "a\"b")) ≡ Becomes (codes "X=a\"b\n")
 row_quote_inside_a_bare_field = refl
 
-row_quote_inside_a_bare_field_reading : reads_as_changed (codes "X=1\n") (SetValue None (codes "X") (codes "a\"b")) (codes "X=a\"b\n") ≡ true
-row_quote_inside_a_bare_field_reading = refl
-
-row_nth_before_a_place : outcome (codes "X=1\n") (AddAssign (AfterVar (Some 1) (codes "X")) (codes "Y") Recursive (codes "1")) ≡ Ok (codes "X=1\nY = 1\n")
+row_nth_before_a_place : outcome (codes "X=1\n") (AddAssign (AfterVar (Some 1) (codes "X")) (codes "Y") Recursive (codes "1")) ≡ Becomes (codes "X=1\nY = 1\n")
 row_nth_before_a_place = refl
 
-row_nth_before_a_place_reading : reads_as_changed (codes "X=1\n") (AddAssign (AfterVar (Some 1) (codes "X")) (codes "Y") Recursive (codes "1")) (codes "X=1\nY = 1\n") ≡ true
-row_nth_before_a_place_reading = refl
-
-row_recipe_line_zero_is_refused : outcome (codes "a:\n\tx\n") (RemoveRecipe None (codes "a") 0) ≡ Err Absent
+row_recipe_line_zero_is_refused : outcome (codes "a:\n\tx\n") (RemoveRecipe None (codes "a") 0) ≡ Refused Absent
 row_recipe_line_zero_is_refused = refl

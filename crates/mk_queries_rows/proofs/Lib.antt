@@ -1,3 +1,4 @@
 -- Definitions computed
+mod Answers
 mod WorkedReadings
 mod RandomReadings

@@ -1,5 +1,5 @@
 //! What an edit leaves as it was: the bytes outside its spans, and the lines that these do not touch.
-ghost use Rattle.mk_edit_laws.specs.OutsideLaws.{AppendKeepsOthers, AssignKeepsOthers, DependKeepsOthers, EditedLinesStand, EditsKeepOthers, LengthsAddUp, OnlySpansAreReplaced, RecipeAddedKeepsOthers, RecipeRemovedKeepsOthers, RecipeSetKeepsOthers, RenameKeepsOthers, RuleAddedKeepsOthers, SetKeepsOthers, SpansTouchFewLines, UndependKeepsOthers, UnruleKeepsOthers, UnsetKeepsOthers};
+ghost use Rattle.mk_edit_laws.specs.OutsideLaws.{EditedLinesStand, EditsKeepOthers, LengthsAddUp, OnlySpansAreReplaced, SpansTouchFewLines};
 
 /// The spans of an accepted edit stand in the text in order and apart, and the bytes outside them
 /// are as before: the text after it is the text with each span replaced.
@@ -29,87 +29,20 @@ pub fn edited_lines_stand()
     ensures { EditedLinesStand }
 {}
 
-/// An accepted edit of a value touches one line. The lines above and below it are as before, with
-/// their classes, and no more conditionals are open at once.
-pub fn set_keeps_others()
-    ensures { SetKeepsOthers }
-{}
-
-/// An accepted edit that appends to a value touches one line. The lines above and below it are as
-/// before, with their classes, and no more conditionals are open at once.
-pub fn append_keeps_others()
-    ensures { AppendKeepsOthers }
-{}
-
-/// An accepted removal of an assignment takes out one line. The lines above and below it are as
-/// before, with their classes, and no more conditionals are open at once.
-pub fn unset_keeps_others()
-    ensures { UnsetKeepsOthers }
-{}
-
-/// An accepted removal of a rule takes out its header and the lines down to its last recipe line.
-/// The lines above and below these are as before, with their classes, and no more conditionals are
-/// open at once.
-pub fn unrule_keeps_others()
-    ensures { UnruleKeepsOthers }
-{}
-
-/// An accepted removal of a recipe line takes out one line. The lines above and below it are as
-/// before, with their classes, and no more conditionals are open at once.
-pub fn recipe_removed_keeps_others()
-    ensures { RecipeRemovedKeepsOthers }
-{}
-
-/// An accepted new recipe line is one line more. The lines above and below it are as before, with
-/// their classes, but that a last line without line end gets one where the new line follows it; and
-/// no more conditionals are open at once.
-pub fn recipe_added_keeps_others()
-    ensures { RecipeAddedKeepsOthers }
-{}
-
-/// An accepted edit of a recipe line touches this line alone. The lines above and below it are as
-/// before, with their classes, and no more conditionals are open at once.
-pub fn recipe_set_keeps_others()
-    ensures { RecipeSetKeepsOthers }
-{}
-
-/// An accepted new prerequisite touches one line, the header. The lines above and below it are as
-/// before, with their classes, and no more conditionals are open at once.
-pub fn depend_keeps_others()
-    ensures { DependKeepsOthers }
-{}
-
-/// An accepted removal of a prerequisite touches one line, the header. The lines above and below it
-/// are as before, with their classes, and no more conditionals are open at once.
-pub fn undepend_keeps_others()
-    ensures { UndependKeepsOthers }
-{}
-
-/// An accepted new assignment is one line more. The lines above and below it are as before, with
-/// their classes, but that a last line without line end gets one where the new line follows it; and
-/// no more conditionals are open at once.
-pub fn assign_keeps_others()
-    ensures { AssignKeepsOthers }
-{}
-
-/// An accepted new rule is one line more. The lines above and below it are as before, with their
-/// classes, but that a last line without line end gets one where the new line follows it; and no
-/// more conditionals are open at once.
-pub fn rule_added_keeps_others()
-    ensures { RuleAddedKeepsOthers }
-{}
-
-/// After an accepted rename each line stands in its place, and is the line before with the new word
+/// Each accepted edit, of every kind, leaves the lines that its spans do not touch, and no more
+/// conditionals are open at once.
+///
+/// A value that is set or appended to, a recipe line that is changed, and a prerequisite that is put
+/// in or taken out touch one line. A new assignment, rule or recipe line is one line more, and a last
+/// line without line end gets one where the new line follows it. An assignment or a recipe line that
+/// is removed is one line less; a rule that is removed takes with it the lines down to its last
+/// recipe line. The lines above and below are as before, with their classes.
+///
+/// After a rename each line stands in its place, and is the line before with the new word
 /// for each that is the old one: one logical line, of its class in the same context, and of no
 /// conditional where a word is renamed. The contexts between lines are as before. A line that holds
 /// no word to rename is the same, with its class, and at most as many lines differ as the rename
 /// costs. The spans stand within the other lines, and no more conditionals are open at once.
-pub fn rename_keeps_others()
-    ensures { RenameKeepsOthers }
-{}
-
-/// Each accepted edit, of every kind, leaves the lines that its spans do not touch, and no more
-/// conditionals are open at once.
 pub fn edits_keep_others()
     ensures { EditsKeepOthers }
 {}
