@@ -3,8 +3,9 @@
 #
 #   make            proves and builds the program, where a source has changed
 #   make demo       shows scripts at work, one that is refused, and the queries
-#   make check      the whole test: the merge gate (rt ci) and tests/program over what it built;
-#                   the last line is 'N passed, M failed', the sum of both
+#   make check      the whole test: tests/rows, the merge gate (rt ci), and tests/program over what
+#                   the gate built; the last line is 'N passed, M failed', the sum of all three
+#   make rows       makes the stored files of rows anew, after a table of tests/cases has changed
 #   make install    puts the program into $(DESTDIR)$(PREFIX)/bin
 #   make bench      compares its time and memory with those of cat and sed, and measures
 #                   the reading of lines, and edits of a large makefile
@@ -12,7 +13,7 @@
 #
 # It is written for POSIX.1-2024 make, which GNU make 4 reads as well.
 .POSIX:
-.PHONY: all demo check install bench clean
+.PHONY: all demo check rows install bench clean
 
 PREFIX ?= /usr/local
 PROGRAM = crates/mkedit/out/mkedit
@@ -34,6 +35,9 @@ demo: $(PROGRAM)
 # Needs no program: the gate proves and builds its own, from nothing.
 check:
 	@tests/check
+
+rows:
+	@tests/rows --write
 
 install: $(PROGRAM)
 	install -d "$(DESTDIR)$(PREFIX)/bin"

@@ -1,5 +1,5 @@
 #!/usr/bin/env python3
-"""Writes a makefile of exactly so many bytes to standard output, the same for the same arguments.
+"""Writes a makefile of exactly BYTES bytes to standard output, the same for the same arguments.
 
     make_makefile.py [--kind KIND] SEED BYTES
 
@@ -158,7 +158,7 @@ def texts(kind, seed, size):
 
 
 def main():
-    parser = argparse.ArgumentParser(description="Writes a makefile of so many bytes.")
+    parser = argparse.ArgumentParser(description="Writes a makefile of BYTES bytes.")
     parser.add_argument("--kind", choices=KINDS, default="makefile")
     parser.add_argument("seed", type=int)
     parser.add_argument("bytes", type=int)

@@ -5,10 +5,10 @@ Answers the five tests on random short texts by plain programs written from the 
 prints a file of equations by which the checker computes the definitions of
 `crates/mk_class/specs/Arguments.antt` on the same texts. Where the file checks, both agree on each.
 
-    argument_rows.py COUNT SEED > crates/mk_class/proofs/RandomArguments.antt
+    argument_rows.py COUNT SEED
 
-COUNT texts are drawn by SEED; one text may be drawn twice. The rows that the crate keeps are those of
-`argument_rows.py 500 1`. Other rows are for a copy of the crate.
+COUNT texts are drawn by SEED; one text may be drawn twice. tests/rows says which rows the crate keeps.
+Other rows are for a copy of the crate.
 """
 
 import random

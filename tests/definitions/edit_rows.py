@@ -8,26 +8,22 @@ text reads as; of a refused one the refusal. Where the table says them, also the
 edit, its cost (how many lines it reads again at most) and its size (how many lines it takes out or
 puts others in place of, at most), and the cost of a refused one.
 
-    edit_rows.py TABLE > crates/mk_edit_laws_rows/proofs/NAME.antt
+    edit_rows.py TABLE
 
-Rows whose script is not one edit alone are left out. The crate keeps three files, made by
+Rows whose script is not one edit alone are left out. tests/rows says which files the crate
+mk_edit_laws_rows keeps.
 
-    edit_rows.py tests/cases/runs.tsv > crates/mk_edit_laws_rows/proofs/WorkedEdits.antt
-    edit_rows.py tests/cases/edits/random.tsv > crates/mk_edit_laws_rows/proofs/RandomEdits.antt
-    edit_rows.py tests/cases/edits/corners.tsv > crates/mk_edit_laws_rows/proofs/CornerEdits.antt
-
-A table has the columns name, makefile, script, stdout, stderr and status, and perhaps more, between
-tabs. The columns spans, cost and size may stand there too, all three together: a span is its start,
-its end and the new bytes in hexadecimal between colons, and blanks stand between spans; the spans and
-the size of a refused edit are empty. In another column \\\\, \\t, \\n, \\r and \\xHH stand for a backslash, a tab, a line end, a return and
-the byte HH.
+A table (row_tables.py) has the columns name, makefile, script, stdout, stderr and status, and perhaps
+more. The columns spans, cost and size may stand there too, all three together: a span is its start, its
+end and the new bytes in hexadecimal between colons, and blanks stand between spans; the spans and the
+size of a refused edit are empty.
 """
 
 import re
 import sys
-from pathlib import Path
 
-from reading_rows import FLAVORS, antt_list, antt_text, unescape
+from reading_rows import FLAVORS, antt_list, antt_text
+from row_tables import rows_of_table, unescape
 
 COLONS = {b":": "One", b"::": "Two"}
 
@@ -223,9 +219,8 @@ def main():
     if len(sys.argv) != 2:
         sys.exit("usage: edit_rows.py TABLE")
     table = sys.argv[1]
-    head, *rows = [line.split("\t") for line in Path(table).read_text().rstrip("\n").split("\n")]
     body = ""
-    for row in [dict(zip(head, row, strict=True)) for row in rows]:
+    for row in rows_of_table(table):
         name = "row_" + row["name"].replace("-", "_")
         equation = equation_of(row)
         if equation:

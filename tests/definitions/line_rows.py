@@ -5,10 +5,10 @@ Reads random short texts by plain programs written from the rules in words (regu
 loops), and prints a file of equations by which the checker computes the definitions of
 `crates/mk_lines/specs` on the same texts. Where the file checks, both agree on every text.
 
-    line_rows.py COUNT SEED > crates/mk_lines/proofs/RandomRows.antt
+    line_rows.py COUNT SEED
 
-COUNT texts are drawn by SEED; one text may be drawn twice. The rows that the crate keeps are those of
-`line_rows.py 250 1`. Other rows are for a copy of the crate.
+COUNT texts are drawn by SEED; one text may be drawn twice. tests/rows says which rows the crate keeps.
+Other rows are for a copy of the crate.
 """
 
 import random

@@ -4,12 +4,13 @@
 Puts the tables of edits, with the answers that they expect, into the form that the program reads. It
 runs each row through the library, and prints which rows it answers in another way.
 
-    plan_rows.py > crates/edit_rows/stdin
+    plan_rows.py            the rows, which the crate keeps as its file stdin
+    plan_rows.py --answer   what the program prints where no row differs, its file stdout
 
 The tables are tests/cases/edits/corners.tsv, tests/cases/edits/random.tsv, tests/cases/runs.tsv and
-tests/cases/random-runs.tsv; a name given after `plan_rows.py`, as `corners`, takes that table alone. The
-rows whose script or command line has a fault, so that no command runs, are left out (status 2), and
-the queries, which are no edits.
+tests/cases/random-runs.tsv; a name given last, as `corners`, takes that table alone. The rows whose
+script or command line has a fault, so that no command runs, are left out (status 2), and the queries,
+which are no edits.
 
 A line of two columns, `table` and a name, begins a table. Each line below it is a row of the columns
 
@@ -37,7 +38,7 @@ import sys
 from pathlib import Path
 
 from edit_rows import commands_of
-from reading_rows import unescape
+from row_tables import rows_of_table, unescape
 
 CASES = Path(__file__).resolve().parent.parent / "cases"
 TABLES = {
@@ -123,19 +124,29 @@ def row_columns(row):
 
 def rows_of(table):
     """The rows of a table in which the commands run."""
-    head, *lines = [line.split("\t") for line in table.read_text().rstrip("\n").split("\n")]
-    rows = [dict(zip(head, line, strict=True)) for line in lines]
-    return [row for row in rows if row["status"] != BAD_RUN]
+    return [row for row in rows_of_table(table) if row["status"] != BAD_RUN]
+
+
+def print_rows(name):
+    """Prints the rows of a table."""
+    print("table", name, sep="\t")
+    for row in rows_of(TABLES[name]):
+        print(*row_columns(row), sep="\t")
+
+
+def print_answer(name):
+    """Prints what the program says of a table none of whose rows differs."""
+    print(f"{name}: {len(rows_of(TABLES[name]))} rows, 0 differ")
 
 
 def main():
-    names = sys.argv[1:] or list(TABLES)
+    words = sys.argv[1:]
+    show = print_answer if words[:1] == ["--answer"] else print_rows
+    names = words[words[:1] == ["--answer"] :] or list(TABLES)
     if not set(names) <= set(TABLES):
-        sys.exit(f"usage: plan_rows.py [{'|'.join(TABLES)}]..")
+        sys.exit(f"usage: plan_rows.py [--answer] [{'|'.join(TABLES)}]..")
     for name in names:
-        print("table", name, sep="\t")
-        for row in rows_of(TABLES[name]):
-            print(*row_columns(row), sep="\t")
+        show(name)
 
 
 if __name__ == "__main__":

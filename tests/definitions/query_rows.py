@@ -4,27 +4,24 @@
 Turns a table into a file of equations, by which the checker computes the definitions of
 `crates/mk_queries/specs`. Where the file checks, the definitions give the text of each query.
 
-    query_rows.py TABLE > FILE
+    query_rows.py TABLE
 
-The crates keep three files, made by
-
-    query_rows.py tests/cases/queries.tsv > crates/mk_queries/proofs/WorkedRows.antt
-    query_rows.py tests/cases/readings/worked.tsv > crates/mk_queries_rows/proofs/WorkedReadings.antt
-    query_rows.py tests/cases/readings/random.tsv > crates/mk_queries_rows/proofs/RandomReadings.antt
+tests/rows says which files the crates keep.
 
 A table with the columns name, query, makefile and stdout says the text of each query itself. A table
 with the columns name, makefile and reading says the items of each makefile (see reading_rows.py), and
 the texts of all three queries are made from these: the items are laid on the logical lines of the
 makefile, which are cut here; the text of an item, or its being none, says on which line it is.
 
-In a column \\\\\\\\, \\\\t, \\\\n, \\\\r and \\\\xHH stand for a backslash, a tab, a line end, a return and the byte HH.
+row_tables.py says how a table is written.
 """
 
 import re
 import sys
 from pathlib import Path
 
-from reading_rows import antt_text, rows_of, unescape
+from reading_rows import antt_text, rows_of
+from row_tables import rows_of_table, unescape
 
 BLANKS = b" \t"
 FOLD = re.compile(rb"[ \t]*\\\r?\n(?:[ \t]*\\\r?\n)*[ \t]*")
@@ -173,9 +170,7 @@ QUERIES = {"vars": vars_text, "rules": rules_text, "check": check_text}
 
 def given(table):
     """The rows of a table that says the text of each query."""
-    head, *rows = [line.split("\t") for line in table.read_text().rstrip("\n").split("\n")]
-    for row in rows:
-        columns = dict(zip(head, row, strict=True))
+    for columns in rows_of_table(table):
         text, out = (unescape(columns[name]).encode("latin-1") for name in ("makefile", "stdout"))
         yield columns["name"], columns["query"], text, out
 

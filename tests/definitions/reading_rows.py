@@ -5,16 +5,12 @@ Turns a table of texts and their readings into a file of equations, by which the
 definitions of `crates/mk_class/specs` and, of the reading itself, `crates/mk_tree/specs`. Where the
 file checks, the definitions give each reading.
 
-    reading_rows.py TABLE [COUNT] > crates/mk_tree/proofs/NAME.antt
+    reading_rows.py TABLE [COUNT]
 
-With COUNT only the first COUNT rows are taken. The crate keeps two files, made by
+With COUNT only the first COUNT rows are taken. tests/rows says which files the crate keeps.
 
-    reading_rows.py tests/cases/readings/worked.tsv > crates/mk_tree/proofs/WorkedReadings.antt
-    reading_rows.py tests/cases/readings/random.tsv > crates/mk_tree/proofs/RandomReadings.antt
-
-A table has the columns name, makefile and reading, between tabs. In a column \\\\, \\t, \\n, \\r and
-\\xHH stand for a backslash, a tab, a line end, a return and the byte HH. A reading is a Python tuple
-of items, one for each line that is neither blank nor a comment:
+A table (row_tables.py) has the columns name, makefile and reading. A reading is a Python tuple of items,
+one for each line that is neither blank nor a comment:
 
     Assign          modifiers, name, operator, value
     TargetAssign    targets, separator, modifiers, name, operator, value
@@ -29,8 +25,7 @@ import re
 import sys
 from pathlib import Path
 
-ESCAPES = {"\\\\": "\\", "\\t": "\t", "\\n": "\n", "\\r": "\r"}
-ESCAPE = re.compile(r"\\x[0-9A-Fa-f]{2}|\\[\\tnr]")
+from row_tables import rows_of_table, unescape
 
 FLAVORS = {
     b"=": "Recursive",
@@ -48,11 +43,6 @@ SEPARATORS = {
     b"&::": "GroupedDoubleColon",
 }
 MODIFIERS = {b"override": "Override", b"export": "Export", b"private": "Private"}
-
-
-def unescape(column):
-    """The text that a column stands for, a byte as the character of its number."""
-    return ESCAPE.sub(lambda found: ESCAPES.get(found.group()) or chr(int(found.group()[2:], 16)), column)
 
 
 def antt_text(text):
@@ -105,9 +95,7 @@ def antt_item(item):
 
 def rows_of(table):
     """The names, texts and readings of a table."""
-    head, *rows = [line.split("\t") for line in table.read_text().rstrip("\n").split("\n")]
-    for row in rows:
-        columns = dict(zip(head, row, strict=True))
+    for columns in rows_of_table(table):
         text = unescape(columns["makefile"]).encode("latin-1")
         yield columns["name"], text, ast.literal_eval(unescape(columns["reading"]))
 

@@ -5,22 +5,21 @@ Turns a table of runs with their answers into a file of equations, by which the 
 definitions of `crates/mk_run/specs`. Where the file checks, these give each run its outcome, its report
 and its output.
 
-    run_rows.py TABLE > crates/mk_run/proofs/RunRows.antt
+    run_rows.py TABLE
 
-The crate keeps the file that is made of `tests/cases/runs.tsv`. Of the rows whose script is one edit alone
-the first for each refusal is taken, and the first that is done: the others are equations of
-`crates/mk_edit_laws_rows`. Rows whose script has a fault (status 2) are left out.
+tests/rows says which file the crate keeps. Of the rows whose script is one edit alone the first for each
+refusal is taken, and the first that is done: the others are equations of `crates/mk_edit_laws_rows`. Rows
+whose script has a fault (status 2) are left out.
 
-A table has the columns name, makefile, script, flags, stdout, stderr and status between tabs. In a column
-\\\\, \\t, \\n, \\r and \\xHH stand for a backslash, a tab, a line end, a return and the byte HH.
+A table (row_tables.py) has the columns name, makefile, script, flags, stdout, stderr and status.
 """
 
 import re
 import sys
-from pathlib import Path
 
 from edit_rows import COLONS, antt_edit, fields_of
-from reading_rows import FLAVORS, antt_list, antt_text, unescape
+from reading_rows import FLAVORS, antt_list, antt_text
+from row_tables import rows_of_table, unescape
 
 # How many edits a run lets undo where the row does not say it.
 DEPTH = 100
@@ -124,9 +123,8 @@ def main():
     if len(sys.argv) != 2:
         sys.exit("usage: run_rows.py TABLE")
     table = sys.argv[1]
-    head, *rows = [line.split("\t") for line in Path(table).read_text().rstrip("\n").split("\n")]
     body = HELPERS
-    for row in chosen([dict(zip(head, row, strict=True)) for row in rows]):
+    for row in chosen(rows_of_table(table)):
         name = "row_" + row["name"].replace("-", "_")
         opened = "unfolding digits\n" if row["stderr"] else ""
         body += f"\n{name} : {equation_of(row)}\n{opened}{name} = refl\n"

@@ -7,27 +7,22 @@ by other means: its lines and fields by regular expressions, its commands by the
 table has the column `meaning`, which was written by hand, the answer is the table's, and this reading
 has to agree with it.
 
-    script_rows.py TABLE.. > crates/mk_script/proofs/rows/NAME.antt
+    script_rows.py TABLE..
 
-The crate keeps three files, made by
+tests/rows says which files the crate keeps.
 
-    script_rows.py tests/cases/runs.tsv > crates/mk_script/proofs/rows/WorkedScripts.antt
-    script_rows.py tests/cases/random-runs.tsv > crates/mk_script/proofs/rows/RandomScripts.antt
-    script_rows.py tests/cases/scripts/corners.tsv > crates/mk_script/proofs/rows/CornerScripts.antt
-
-A table has the columns name and script, and perhaps more, between tabs; of scripts that are alike the
-first is taken. In a column \\\\, \\t, \\n, \\r and \\xHH stand for a backslash, a tab, a line end, a return
-and the byte HH. A meaning is the number of the first line that is no command, or a Python list of
+A table (row_tables.py) has the columns name and script, and perhaps more; of scripts that are alike the
+first is taken. A meaning is the number of the first line that is no command, or a Python list of
 commands: each the number of its line, the name of the edit or call, and its arguments.
 """
 
 import ast
 import re
 import sys
-from pathlib import Path
 
 import reading_rows
-from reading_rows import FLAVORS, unescape
+from reading_rows import FLAVORS
+from row_tables import rows_of_table, unescape
 
 COLONS = {b":": "One", b"::": "Two"}
 MOST = 4294967295
@@ -89,7 +84,7 @@ def number_of(field):
 
 
 def taken(fields, count):
-    """The fields, if there are so many."""
+    """The fields, where their number is this one."""
     if len(fields) != count:
         raise NoCommand
     return fields
@@ -97,11 +92,10 @@ def taken(fields, count):
 
 def place_of(nth, fields):
     """The place at the front of fields, and the fields after it."""
-    match fields:
-        case [b"bottom", *rest] if nth is None:
-            return ("Bottom",), rest
-        case [word, field, *rest] if word in PLACES:
-            return (PLACES[word], nth, field), rest
+    if fields[:1] == [b"bottom"] and nth is None:
+        return ("Bottom",), fields[1:]
+    if len(fields) > 1 and fields[0] in PLACES:
+        return (PLACES[fields[0]], nth, fields[1]), fields[2:]
     raise NoCommand
 
 
@@ -136,14 +130,12 @@ def edit_of(nth, word, fields):
 
 def command_of(fields):
     """The command of some fields."""
-    match fields:
-        case [word] if word in CALLS:
-            return (CALLS[word],)
-        case [b"nth", number, word, *rest]:
-            return edit_of(number_of(number), word, rest)
-        case [word, *rest] if word != b"nth":
-            return edit_of(None, word, rest)
-    raise NoCommand
+    nth, (word, *rest) = None, fields
+    if not rest and word in CALLS:
+        return (CALLS[word],)
+    if word == b"nth" and len(rest) > 1:
+        nth, (word, *rest) = number_of(rest[0]), rest[1:]
+    return edit_of(nth, word, rest)
 
 
 def meaning_of(script):
@@ -258,8 +250,7 @@ def head_of(tables, body):
 
 def rows_of(table):
     """The names, scripts and meanings of a table."""
-    head, *rows = [line.split("\t") for line in Path(table).read_text().rstrip("\n").split("\n")]
-    for row in [dict(zip(head, row, strict=True)) for row in rows]:
+    for row in rows_of_table(table):
         script = unescape(row["script"]).encode("latin-1")
         meaning = meaning_of(script)
         if "meaning" in row:

@@ -1,0 +1,28 @@
+"""Tables of rows, which the scripts beside this one turn into equations and other rows.
+
+A table is a file of lines with columns between tabs; its first line names the columns. In a column
+\\\\, \\t, \\n, \\r and \\xHH stand for a backslash, a tab, a line end, a return and the byte HH.
+"""
+
+import re
+from pathlib import Path
+
+ESCAPES = {"\\\\": "\\", "\\t": "\t", "\\n": "\n", "\\r": "\r"}
+ESCAPE = re.compile(r"\\x[0-9A-Fa-f]{2}|\\[\\tnr]")
+
+
+def unescape(column):
+    """The text that a column stands for, a byte as the character of its number."""
+    return ESCAPE.sub(lambda found: ESCAPES.get(found.group()) or chr(int(found.group()[2:], 16)), column)
+
+
+def rows_of_table(path):
+    """The rows of a table, each a dictionary from the names of the columns to their texts.
+
+    A ValueError says which line has another number of columns than the first.
+    """
+    head, *lines = [line.split("\t") for line in Path(path).read_text("ascii").rstrip("\n").split("\n")]
+    for number, line in enumerate(lines, 2):
+        if len(line) != len(head):
+            raise ValueError(f"{path}, line {number}: {len(line)} columns, not {len(head)}")
+    return [dict(zip(head, line)) for line in lines]
