@@ -10,7 +10,7 @@ In an example `⏎` is a line feed, `⇥` a tab and `␌` a form feed. Three for
                                                   over ANY
 
 In the last chapter of docs/LANGUAGE.md each section with an example also names, as `5: opaque`, what
-`mkedit check` prints of the section's first makefile.
+`mkedit check` prints of the section's first makefile. docs/LIBRARY.md shows lines of two files.
 """
 
 import re
@@ -22,6 +22,8 @@ from rooms import Room
 TOP = Path(__file__).resolve().parent.parent
 EDITS = TOP / "docs/EDITS.md"
 LANGUAGE = TOP / "docs/LANGUAGE.md"
+LIBRARY = TOP / "docs/LIBRARY.md"
+QUOTED = ("crates/session_example/src/main.rt", "crates/mk_session/src/session.rt")
 LAST_CHAPTER = "## 8. Where make reads otherwise\n"
 ANY = "X = 1\nall:\n"
 COMMANDS = (
@@ -33,6 +35,7 @@ EXAMPLE = re.compile(
 QUERY = re.compile(r"^### `mkedit (\w+)`\n(?:.*\n)*?\n((?:    .*\n)+)", re.M)
 SECTION = re.compile(r"^### (.*)\n((?:(?!### ).*\n)*)", re.M)
 UNREAD = re.compile(r"`(\d+: (?:rough|opaque))`")
+CODE = re.compile(r"^```rust\n((?:(?!```).*\n)*)```\n", re.M)
 REFUSAL = re.compile(r"^\| (\d+) \| `(\w+)`[^|]*\|.*?\| ((?:`[^`]*`(?:, )?)+)[^|]*\|", re.M)
 
 
@@ -78,6 +81,15 @@ def check_unread(room, chapter):
             yield title, differences(room.run("check", "Makefile"), Outcome(wanted, b"", 0))
 
 
+def check_code(_, document):
+    """The blocks of code: their lines have to stand in the files of QUOTED, apart from indentation."""
+    code = "\n".join((TOP / it).read_text(encoding="utf-8") for it in QUOTED)
+    code = re.sub(r"^ +", "", code, flags=re.M)
+    for block in CODE.findall(document):
+        shown = re.sub(r"^ +", "", block, flags=re.M)
+        yield shown.splitlines()[0], [] if shown in code else ["it does not stand in the crates"]
+
+
 def last_chapter():
     """The chapter of docs/LANGUAGE.md on what make reads otherwise."""
     return LANGUAGE.read_text(encoding="utf-8").partition(LAST_CHAPTER)[2]
@@ -92,6 +104,7 @@ def run(program, tally):
         (EDITS, check_queries, edits, 3),
         (LANGUAGE, check_edits, last_chapter(), 12),
         (LANGUAGE, check_unread, last_chapter(), 10),
+        (LIBRARY, check_code, LIBRARY.read_text(encoding="utf-8"), 4),
     )
     with Room(program) as room:
         for document, check, text, least in checks:
