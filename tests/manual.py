@@ -28,7 +28,7 @@ ESCAPED = {"e": "\\", "&": ""}
 REPORT = re.compile(r"\d+: refused .*\n")
 # What mandoc says of the pages of other programs, which this machine may not have.
 OTHER_PAGES = re.compile(r"referenced manual not found|outdated mandoc\.db")
-EXAMPLES = 38
+EXAMPLES = 41
 
 check = Checks()
 
