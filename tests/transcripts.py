@@ -30,15 +30,14 @@ class Shell:
     def run(self, command):
         """What a command prints, both outputs in one; `$?` is the status of the one before."""
         environment = {**os.environ, "LC_ALL": "C", "PATH": f"{self.names}:{os.environ['PATH']}"}
-        ran = subprocess.run(
-            ["sh", "-c", f"(exit {self.status})\n{command}"],
-            cwd=self.folder,
-            env=environment,
-            stdin=subprocess.DEVNULL,
-            stdout=subprocess.PIPE,
-            stderr=subprocess.STDOUT,
-            timeout=SECONDS,
-        )
+        streams = {"stdin": subprocess.DEVNULL, "stdout": subprocess.PIPE, "stderr": subprocess.STDOUT}
+        words = ["sh", "-c", f"(exit {self.status})\n{command}"]
+        try:
+            ran = subprocess.run(
+                words, cwd=self.folder, env=environment, timeout=SECONDS, **streams
+            )
+        except subprocess.TimeoutExpired:
+            return b"(no end)"
         self.status = ran.returncode
         return ran.stdout
 
