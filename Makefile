@@ -8,6 +8,8 @@
 #   make install    puts the program into $(DESTDIR)$(PREFIX)/bin, and the manual page and the
 #                   completions of bash, zsh and fish where each belongs
 #   make uninstall  takes away what make install puts there
+#                   (PREFIX, BINDIR, MANDIR, BASHCOMPDIR, ZSHCOMPDIR and FISHCOMPDIR say where,
+#                   and DESTDIR stands before each)
 #   make bench      compares its time and memory with those of cat and sed, and measures
 #                   the reading of lines, and edits of a large makefile
 #   make clean      removes all that was made, and what rt keeps between two checks
