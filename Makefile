@@ -6,16 +6,25 @@
 #   make check      the whole test: tests/rows, the merge gate (rt ci), and tests/program over what
 #                   the gate built; the last line is 'N passed, M failed', the sum of all three
 #   make rows       makes the stored files of rows anew, after a table of tests/cases has changed
-#   make install    puts the program into $(DESTDIR)$(PREFIX)/bin
+#   make install    puts the program into $(DESTDIR)$(PREFIX)/bin, and the manual page and the
+#                   completions of bash, zsh and fish where each belongs
+#   make uninstall  takes away what make install puts there
+#                   (PREFIX, BINDIR, MANDIR, BASHCOMPDIR, ZSHCOMPDIR and FISHCOMPDIR say where,
+#                   and DESTDIR stands before each)
 #   make bench      compares its time and memory with those of cat and sed, and measures
 #                   the reading of lines, and edits of a large makefile
 #   make clean      removes all that was made, and what rt keeps between two checks
 #
 # It is written for POSIX.1-2024 make, which GNU make 4 reads as well.
 .POSIX:
-.PHONY: all demo check rows install bench clean
+.PHONY: all demo check rows install uninstall bench clean
 
 PREFIX ?= /usr/local
+BINDIR ?= $(PREFIX)/bin
+MANDIR ?= $(PREFIX)/share/man
+BASHCOMPDIR ?= $(PREFIX)/share/bash-completion/completions
+ZSHCOMPDIR ?= $(PREFIX)/share/zsh/site-functions
+FISHCOMPDIR ?= $(PREFIX)/share/fish/vendor_completions.d
 PROGRAM = crates/mkedit/out/mkedit
 LINE_BENCH = crates/line_bench/out/line_bench
 EDIT_BENCH = crates/edit_bench/out/edit_bench
@@ -40,8 +49,19 @@ rows:
 	@tests/rows --write
 
 install: $(PROGRAM)
-	install -d "$(DESTDIR)$(PREFIX)/bin"
-	install -m 755 $(PROGRAM) "$(DESTDIR)$(PREFIX)/bin/mkedit"
+	install -d "$(DESTDIR)$(BINDIR)" "$(DESTDIR)$(MANDIR)/man1" "$(DESTDIR)$(BASHCOMPDIR)"
+	install -d "$(DESTDIR)$(ZSHCOMPDIR)" "$(DESTDIR)$(FISHCOMPDIR)"
+	install -m 755 $(PROGRAM) "$(DESTDIR)$(BINDIR)/mkedit"
+	install -m 644 docs/mkedit.1 "$(DESTDIR)$(MANDIR)/man1/mkedit.1"
+	install -m 644 completions/mkedit.bash "$(DESTDIR)$(BASHCOMPDIR)/mkedit"
+	install -m 644 completions/mkedit.zsh "$(DESTDIR)$(ZSHCOMPDIR)/_mkedit"
+	install -m 644 completions/mkedit.fish "$(DESTDIR)$(FISHCOMPDIR)/mkedit.fish"
+
+# The folders stay, since others may use them.
+uninstall:
+	rm -f "$(DESTDIR)$(BINDIR)/mkedit" "$(DESTDIR)$(MANDIR)/man1/mkedit.1"
+	rm -f "$(DESTDIR)$(BASHCOMPDIR)/mkedit" "$(DESTDIR)$(ZSHCOMPDIR)/_mkedit"
+	rm -f "$(DESTDIR)$(FISHCOMPDIR)/mkedit.fish"
 
 # Without a file to measure, line_bench says how to use it and fails, but it is linked then.
 $(LINE_BENCH): crates.txt HANDLES $(SOURCES)

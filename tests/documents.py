@@ -1,6 +1,6 @@
-"""The examples of docs/EDITS.md, run through the program.
+"""The examples of docs/EDITS.md and of the last chapter of docs/LANGUAGE.md, run through the program.
 
-In an example `⏎` is a line feed and `⇥` a tab. Three forms are run:
+In an example `⏎` is a line feed, `⇥` a tab and `␌` a form feed. Three forms are run:
 
     MAKEFILE          COMMAND          TEXT       a line, its columns at least two blanks apart
     MAKEFILE          OUTPUT                      the lines below the title of a query, which has them
@@ -8,6 +8,9 @@ In an example `⏎` is a line feed and `⇥` a tab. Three forms are run:
     | No. | Name | When | `MAKEFILE`, `COMMAND` | What to do |
                                                   a row on a refusal; one without a makefile is run
                                                   over ANY
+
+In the last chapter of docs/LANGUAGE.md each section with an example also names, as `5: opaque`, what
+`mkedit check` prints of the section's first makefile. docs/LIBRARY.md shows lines of two files.
 """
 
 import re
@@ -16,7 +19,12 @@ from pathlib import Path
 from checks import Outcome, differences
 from rooms import Room
 
-EDITS = Path(__file__).resolve().parent.parent / "docs/EDITS.md"
+TOP = Path(__file__).resolve().parent.parent
+EDITS = TOP / "docs/EDITS.md"
+LANGUAGE = TOP / "docs/LANGUAGE.md"
+LIBRARY = TOP / "docs/LIBRARY.md"
+QUOTED = ("crates/session_example/src/main.rt", "crates/mk_session/src/session.rt")
+LAST_CHAPTER = "## 8. Where make reads otherwise\n"
 ANY = "X = 1\nall:\n"
 COMMANDS = (
     "set append unset assign rule unrule depend depend-order undepend recipe recipe-set recipe-del rename"
@@ -25,12 +33,15 @@ EXAMPLE = re.compile(
     rf"^    (\S.*?⏎|X=1) {{2,}}((?:{COMMANDS.replace(' ', '|')}) .*?) {{2,}}(\S.*⏎)$", re.M
 )
 QUERY = re.compile(r"^### `mkedit (\w+)`\n(?:.*\n)*?\n((?:    .*\n)+)", re.M)
+SECTION = re.compile(r"^### (.*)\n((?:(?!### ).*\n)*)", re.M)
+UNREAD = re.compile(r"`(\d+: (?:rough|opaque))`")
+CODE = re.compile(r"^```rust\n((?:(?!```).*\n)*)```\n", re.M)
 REFUSAL = re.compile(r"^\| (\d+) \| `(\w+)`[^|]*\|.*?\| ((?:`[^`]*`(?:, )?)+)[^|]*\|", re.M)
 
 
 def text_of(shown):
     """The bytes that an example shows."""
-    return shown.replace("⏎", "\n").replace("⇥", "\t").encode()
+    return shown.replace("⏎", "\n").replace("⇥", "\t").replace("␌", "\f").encode()
 
 
 def edit(room, makefile, command):
@@ -61,13 +72,44 @@ def check_queries(room, document):
         yield query, differences(room.run(query, "Makefile"), Outcome(wanted, b"", 0))
 
 
+def check_unread(room, chapter):
+    for title, section in SECTION.findall(chapter):
+        example = EXAMPLE.search(section)
+        if example:
+            room.write("Makefile", text_of(example[1]))
+            wanted = "".join(f"{it}\n" for it in UNREAD.findall(section)).encode()
+            yield title, differences(room.run("check", "Makefile"), Outcome(wanted, b"", 0))
+
+
+def check_code(_, document):
+    """The blocks of code: their lines have to stand in the files of QUOTED, apart from indentation."""
+    code = "\n".join((TOP / it).read_text(encoding="utf-8") for it in QUOTED)
+    code = re.sub(r"^ +", "", code, flags=re.M)
+    for block in CODE.findall(document):
+        shown = re.sub(r"^ +", "", block, flags=re.M)
+        yield shown.splitlines()[0], [] if shown in code else ["it does not stand in the crates"]
+
+
+def last_chapter():
+    """The chapter of docs/LANGUAGE.md on what make reads otherwise."""
+    return LANGUAGE.read_text(encoding="utf-8").partition(LAST_CHAPTER)[2]
+
+
 def run(program, tally):
     """Runs every example, and counts them, so that none drops out by its form."""
-    document = EDITS.read_text(encoding="utf-8")
+    edits = EDITS.read_text(encoding="utf-8")
+    checks = (
+        (EDITS, check_edits, edits, 13),
+        (EDITS, check_refusals, edits, 14),
+        (EDITS, check_queries, edits, 3),
+        (LANGUAGE, check_edits, last_chapter(), 12),
+        (LANGUAGE, check_unread, last_chapter(), 10),
+        (LIBRARY, check_code, LIBRARY.read_text(encoding="utf-8"), 4),
+    )
     with Room(program) as room:
-        for check, least in ((check_edits, 13), (check_refusals, 14), (check_queries, 3)):
-            found = list(check(room, document))
+        for document, check, text, least in checks:
+            found = list(check(room, text))
             for name, problems in found:
-                tally.add(f"docs/EDITS.md: {name}", problems)
+                tally.add(f"docs/{document.name}: {name}", problems)
             few = [f"{len(found)} examples, wanted {least}"] if len(found) < least else []
-            tally.add(f"docs/EDITS.md: {check.__name__.replace('_', '-')}", few)
+            tally.add(f"docs/{document.name}: {check.__name__.replace('_', '-')}", few)

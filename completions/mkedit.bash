@@ -1,0 +1,30 @@
+# Completion of mkedit's command line for bash.
+# make install puts this file where bash-completion finds it; `source` of it works as well.
+
+# The options of a command, in the order of `mkedit COMMAND --help`.
+_mkedit_options() {
+    case $1 in
+        edit) echo "-k --keep-going -d --depth -o --output -e --expression -h --help" ;;
+        help) ;;
+        *) echo "-h --help" ;;
+    esac
+}
+
+_mkedit() {
+    local word=${COMP_WORDS[COMP_CWORD]} before=${COMP_WORDS[COMP_CWORD - 1]}
+    local command= commands="edit vars rules check help"
+    ((COMP_CWORD > 1)) && command=${COMP_WORDS[1]}
+    COMPREPLY=()
+    if [[ $command == edit && $before == @(-d|--depth|-e|--expression) ]]; then
+        return # a number, or a command of a script
+    elif [[ $word == -* && $before != @(-o|--output) ]]; then
+        mapfile -t COMPREPLY < <(compgen -W "$(_mkedit_options "$command")" -- "$word")
+    elif ((COMP_CWORD == 1)) || [[ $command == help && COMP_CWORD -eq 2 ]]; then
+        mapfile -t COMPREPLY < <(compgen -W "$commands" -- "$word")
+    elif [[ $command != help ]]; then
+        compopt -o filenames 2>/dev/null
+        mapfile -t COMPREPLY < <(compgen -f -- "$word")
+    fi
+}
+
+complete -F _mkedit mkedit

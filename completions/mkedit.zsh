@@ -1,0 +1,54 @@
+#compdef mkedit
+# Completion of mkedit's command line for zsh.
+# make install puts this file into a folder of $fpath, under the name _mkedit.
+
+_mkedit_commands() {
+    local -a commands
+    commands=(
+        'edit:Runs a script of edits over a makefile, and prints the text'
+        'vars:Lists the assignments of a makefile'
+        'rules:Lists the rules of a makefile'
+        'check:Lists the lines of a makefile that are kept and not read inside'
+        'help:Prints help for a command'
+    )
+    _describe -t commands 'command' commands
+}
+
+_mkedit_edit() {
+    local -a files
+    if (( $words[(I)(-e*|--expression*)] )); then
+        files=('1:makefile:_files')
+    else
+        files=('1:script:_files' '2:makefile:_files')
+    fi
+    _arguments -s \
+        '(-k --keep-going)'{-k,--keep-going}'[go on after a refused command]' \
+        '(-d --depth)'{-d+,--depth=}'[how many edits can be undone, from 1 to 10000]:depth: ' \
+        '(-o --output)'{-o+,--output=}'[where the text goes; it may be FILE]:output:_files' \
+        '*'{-e+,--expression=}'[a command, in place of the script]:command: ' \
+        '(-h --help)'{-h,--help}'[print help]' \
+        $files
+}
+
+_mkedit_query() {
+    _arguments -s \
+        '(-h --help)'{-h,--help}'[print help]' \
+        '1:makefile:_files'
+}
+
+_mkedit() {
+    local context state state_descr line
+    typeset -A opt_args
+    _arguments -C \
+        '(-h --help)'{-h,--help}'[print help]' \
+        '1:command:_mkedit_commands' \
+        '*::argument:->argument'
+    [[ $state == argument ]] || return
+    case $line[1] in
+        edit) _mkedit_edit ;;
+        vars | rules | check) _mkedit_query ;;
+        help) _arguments '1:command:_mkedit_commands' ;;
+    esac
+}
+
+_mkedit "$@"
