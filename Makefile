@@ -3,8 +3,8 @@
 #
 #   make            proves and builds the program, where a source has changed
 #   make demo       shows scripts at work, one that is refused, and the queries
-#   make check      the whole test: the merge gate (rt ci) and tests/program over what it built;
-#                   the last line is 'N passed, M failed', the sum of both
+#   make check      the whole test: tests/house, the merge gate (rt ci) and tests/program over
+#                   what it built; the last line is 'N passed, M failed', the sum of all
 #   make install    puts the program into $(DESTDIR)$(PREFIX)/bin
 #   make bench      compares its time and memory with those of cat and sed, and measures
 #                   the reading of lines, and edits of a large makefile

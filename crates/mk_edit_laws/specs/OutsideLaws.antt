@@ -34,7 +34,7 @@ EditedLinesStand = (text : List ℕ) (e : Edit) (replacements : List Replacement
     → classed_lines (text_after text e) ≡ above_after text (insertion (classed_lines text) e) touched ++ (edited_lines text e touched replacements ++ touched.below)
 
 -- an edit leaves the lines that its spans do not touch, touches few, and opens no conditional
-abbrev pub KeepsOthers : Edit → Type 0
+abbrev KeepsOthers : Edit → Type 0
 KeepsOthers e = (text : List ℕ) (replacements : List Replacement) → spans text e ≡ Ok replacements → AreOthersKept text e replacements
 
 -- so it is of an edit of a value
