@@ -3,8 +3,8 @@
 #
 #   make            proves and builds the program, where a source has changed
 #   make demo       shows scripts at work, one that is refused, and the queries
-#   make check      the whole test: tests/rows, the merge gate (rt ci), and tests/program over what
-#                   the gate built; the last line is 'N passed, M failed', the sum of all three
+#   make check      the whole test: tests/house, tests/rows, the merge gate (rt ci), and tests/program
+#                   over what the gate built; the last line is 'N passed, M failed', the sum of all
 #   make rows       makes the stored files of rows anew, after a table of tests/cases has changed
 #   make install    puts the program into $(DESTDIR)$(PREFIX)/bin, and the manual page and the
 #                   completions of bash, zsh and fish where each belongs

@@ -25,6 +25,7 @@ use Rattle.std.specs.Option.{is_some}
 use Rattle.mk_lines.proofs.on_units.UnitLemmas.{concat-units}
 use Rattle.mk_class.specs.FirstWords.{modifier}
 use Rattle.mk_class.proofs.ScanLemmas.{after_leading-same, other-gap, units-unmarked, width-before, width-append, width-units, leading-before, until-before, trim_end-before, take-before, until-none}
+use Rattle.mk_class.proofs.on_classes.FirstWordLemmas.{map-itself}
 
 -- a text that begins with a byte that means nothing to units
 pub units-at : (s : List ℕ) (b : ℕ) → byte_mark b ≡ Unmarked → 1 ≤ length s → get_or s 0 0 ≡ b → units itself s ≡ (b ∷ []) ∷ units itself (take (length s - 1) (drop 1 s))
@@ -64,7 +65,7 @@ pub definition-parts : (us N R O : List (List ℕ)) → N ≡ after_blanks itsel
 definition-parts us N R O h k l = rw (l, k, h) refl
 
 -- the places of an assignment
-abbrev pub made : Flavor → (name_start name_end value_start value_end end : ℕ) → places.Assignment
+abbrev made : Flavor → (name_start name_end value_start value_end end : ℕ) → places.Assignment
 made f a b c d e = record { flavor = f; name = record { start = a; end = b }; value = record { start = c; end = d }; end = e }
 
 made-same : (f : Flavor) (a b c d e A B C D E : ℕ) → a ≡ A → b ≡ B → c ≡ C → d ≡ D → e ≡ E → made f a b c d e ≡ made f A B C D E
@@ -140,7 +141,7 @@ definition_unnamed at t nm an h i q =
 -- ---- modifiers
 
 -- whether a unit is no gap
-abbrev pub no_gap : List ℕ → Bool
+abbrev no_gap : List ℕ → Bool
 no_gap u = not (is_gap itself u)
 
 -- the first word of some units, and what follows it
@@ -227,10 +228,6 @@ definition-first at us r h k = h ∙ go (definition itself us) refl (ap is_some 
     go : (d : Option (Assignment ℕ)) → definition itself us ≡ d → is_some (placed at d) ≡ true → placed at d ≡ placed at (assignment itself us)
     go None e z = cc
     go (Some a) e z = ap (placed at) (sym (assignment-step us ∙ ap (λ d. or_modified d (modifier_of itself (first_word us)) (blanks itself us) (first_word us) (assignment itself (after_first_word us))) e))
-
-pub map-itself : (xs : List ℕ) → map itself xs ≡ xs
-map-itself [] = refl
-map-itself (x ∷ xs) = ap (λ z. x ∷ z) (map-itself xs)
 
 -- the modifier that the units of a word are
 modifier-word : (s : List ℕ) (w : List (List ℕ)) → units itself s ≡ w → modifier_of itself w ≡ modifier s

@@ -2,12 +2,13 @@
 use Rattle.std.proofs.Common.{◌≡◌, refl, sym, ap, ◌∙◌, ℕ, List, [], ◌∷◌, Bool, true, false, not, ◌||◌, subst, length, take, drop, get_or, ◌-◌, ◌≤◌, ◌==◌, cond, eq-eqb, Bor}
 use Rattle.std.specs.Prelude.{MatchOption, Option}
 use Rattle.std.proofs.lemmas.Bool.{eqb-true}
+use Rattle.std.proofs.Math.Bool.{not-not, or-false}
 use Rattle.mk_lines.specs.Lists.{leading}
 use Rattle.mk_lines.specs.Units.Mark.{Dollar, Escape, OpenParen, CloseParen, OpenBrace, CloseBrace, Unmarked}
 use Rattle.mk_class.specs.Lists.{first_passes, any}
 use Rattle.mk_class.specs.Symbols.{Symbol, byte_symbol, is_hash, is_colon, is_bar, is_equals_symbol, is_hash_symbol, is_colon_symbol, is_semicolon_symbol, is_bar_symbol, is_equals, is_escape, is_dollar_before_blank}
 use Rattle.mk_class.specs.Symbols.Symbol.{Hash, Colon, Semicolon, Equals, Plus, Question, Exclamation, Bar, Ampersand, NoSymbol}
-use Rattle.mk_class.proofs.on_symbols.SymbolLemmas.{symbol_byte, byte_symbol-byte}
+use Rattle.mk_class.proofs.on_symbols.SymbolLemmas.{symbol_byte, byte_symbol-byte, equals_symbol-is, hash_symbol-is, colon_symbol-is, semicolon_symbol-is, bar_symbol-is}
 use Rattle.mk_class.specs.CutTexts.{is_head_end_symbol, is_in_head}
 use Rattle.mk_class.specs.Separators.{begins_separator}
 use Rattle.mk_class.specs.Scans.{IsSeparatorAt, is_one_byte_of, is_other}
@@ -77,16 +78,12 @@ lone_backslash (x ∷ []) h = escape_mark x h
 lone_backslash (x ∷ y ∷ u) h = cc
 
 -- a unit may stand in no word where it is amiss or leaves the text open
-pub unreadable-open : (us : List (List ℕ)) → has_unreadable itself us ≡ (any is_amiss us || leaves_open itself us)
+unreadable-open : (us : List (List ℕ)) → has_unreadable itself us ≡ (any is_amiss us || leaves_open itself us)
 unreadable-open [] = refl
 unreadable-open (u ∷ []) = escape_test (is_equals itself u) (is_escape itself u) (is_dollar_before_blank itself u) (is_unclosed_unit itself u) (is_lone_backslash itself u) (lone_backslash u)
 unreadable-open (u ∷ v ∷ us) =
     ap (λ z. (is_equals itself u || (is_escape itself u || (is_dollar_before_blank itself u || is_unclosed_unit itself u))) || z) (unreadable-open (v ∷ us))
     ∙ more_tests (is_equals itself u) (is_escape itself u) (is_dollar_before_blank itself u) (is_unclosed_unit itself u) (any is_amiss (v ∷ us)) (leaves_open itself (v ∷ us))
-
-twice_not : (b : Bool) → not (not b) ≡ b
-twice_not true = refl
-twice_not false = refl
 
 -- a text that is amiss, and one that is not
 pub unreadable-amiss : (t : List ℕ) → any is_amiss (units itself t) ≡ true → true ≡ has_unreadable itself (units itself t)
@@ -95,7 +92,7 @@ unreadable-amiss t h = sym (unreadable-open (units itself t) ∙ ap (λ z. z || 
 pub unreadable-closed : (t : List ℕ) → any is_amiss (units itself t) ≡ false → not (is_closed itself t) ≡ has_unreadable itself (units itself t)
 unreadable-closed t h =
     ap not (is_closed-leaves_open itself t)
-    ∙ (twice_not (leaves_open itself (units itself t))
+    ∙ (not-not (leaves_open itself (units itself t))
     ∙ sym (unreadable-open (units itself t) ∙ ap (λ z. z || leaves_open itself (units itself t)) h))
 
 -- ---- separators
@@ -109,66 +106,6 @@ grouped_separator s r h e k =
     (sym (units-at s 38 refl h e)) k
 
 -- ---- symbols and their bytes
-
-hash_symbol-is : (s : Symbol) → is_hash_symbol s ≡ true → s ≡ Hash
-hash_symbol-is Hash h = refl
-hash_symbol-is Colon h = cc
-hash_symbol-is Semicolon h = cc
-hash_symbol-is Equals h = cc
-hash_symbol-is Plus h = cc
-hash_symbol-is Question h = cc
-hash_symbol-is Exclamation h = cc
-hash_symbol-is Bar h = cc
-hash_symbol-is Ampersand h = cc
-hash_symbol-is NoSymbol h = cc
-
-colon_symbol-is : (s : Symbol) → is_colon_symbol s ≡ true → s ≡ Colon
-colon_symbol-is Hash h = cc
-colon_symbol-is Colon h = refl
-colon_symbol-is Semicolon h = cc
-colon_symbol-is Equals h = cc
-colon_symbol-is Plus h = cc
-colon_symbol-is Question h = cc
-colon_symbol-is Exclamation h = cc
-colon_symbol-is Bar h = cc
-colon_symbol-is Ampersand h = cc
-colon_symbol-is NoSymbol h = cc
-
-semicolon_symbol-is : (s : Symbol) → is_semicolon_symbol s ≡ true → s ≡ Semicolon
-semicolon_symbol-is Hash h = cc
-semicolon_symbol-is Colon h = cc
-semicolon_symbol-is Semicolon h = refl
-semicolon_symbol-is Equals h = cc
-semicolon_symbol-is Plus h = cc
-semicolon_symbol-is Question h = cc
-semicolon_symbol-is Exclamation h = cc
-semicolon_symbol-is Bar h = cc
-semicolon_symbol-is Ampersand h = cc
-semicolon_symbol-is NoSymbol h = cc
-
-bar_symbol-is : (s : Symbol) → is_bar_symbol s ≡ true → s ≡ Bar
-bar_symbol-is Hash h = cc
-bar_symbol-is Colon h = cc
-bar_symbol-is Semicolon h = cc
-bar_symbol-is Equals h = cc
-bar_symbol-is Plus h = cc
-bar_symbol-is Question h = cc
-bar_symbol-is Exclamation h = cc
-bar_symbol-is Bar h = refl
-bar_symbol-is Ampersand h = cc
-bar_symbol-is NoSymbol h = cc
-
-equals_symbol-is : (s : Symbol) → is_equals_symbol s ≡ true → s ≡ Equals
-equals_symbol-is Hash h = cc
-equals_symbol-is Colon h = cc
-equals_symbol-is Semicolon h = cc
-equals_symbol-is Equals h = refl
-equals_symbol-is Plus h = cc
-equals_symbol-is Question h = cc
-equals_symbol-is Exclamation h = cc
-equals_symbol-is Bar h = cc
-equals_symbol-is Ampersand h = cc
-equals_symbol-is NoSymbol h = cc
 
 head_end-symbol : (s : Symbol) → (is_semicolon_symbol s || (is_hash_symbol s || false)) ≡ is_head_end_symbol s
 head_end-symbol Hash = refl
@@ -207,24 +144,20 @@ semicolon-test x = byte-test 59 Semicolon is_semicolon_symbol refl refl (λ e. c
 pub equals-test : (x : ℕ) → (61 == x) ≡ is_equals_symbol (byte_symbol x)
 equals-test x = byte-test 61 Equals is_equals_symbol refl refl (λ e. cc) refl equals_symbol-is x
 
-or_false : (b : Bool) → (b || false) ≡ b
-or_false true = refl
-or_false false = refl
-
 -- the units that are such a byte
 pub is_colon-byte : (u : List ℕ) → is_one_byte_of (58 ∷ []) u ≡ is_colon itself u
 is_colon-byte [] = refl
-is_colon-byte (x ∷ []) = or_false (58 == x) ∙ colon-test x
+is_colon-byte (x ∷ []) = or-false (58 == x) ∙ colon-test x
 is_colon-byte (x ∷ y ∷ u) = refl
 
 pub is_bar-byte : (u : List ℕ) → is_one_byte_of (124 ∷ []) u ≡ is_bar itself u
 is_bar-byte [] = refl
-is_bar-byte (x ∷ []) = or_false (124 == x) ∙ bar-test x
+is_bar-byte (x ∷ []) = or-false (124 == x) ∙ bar-test x
 is_bar-byte (x ∷ y ∷ u) = refl
 
 pub is_hash-byte : (u : List ℕ) → is_one_byte_of (35 ∷ []) u ≡ is_hash itself u
 is_hash-byte [] = refl
-is_hash-byte (x ∷ []) = or_false (35 == x) ∙ hash-test x
+is_hash-byte (x ∷ []) = or-false (35 == x) ∙ hash-test x
 is_hash-byte (x ∷ y ∷ u) = refl
 
 pub is_in_head-byte : (u : List ℕ) → is_other (59 ∷ 35 ∷ []) u ≡ is_in_head itself u

@@ -12,13 +12,12 @@ use Rattle.std.proofs.lemmas.List.{take-append-drop}
 use Rattle.mk_class.specs.Lists.{any, first_passes, last_passes, until, from, is_empty}
 use Rattle.mk_class.proofs.on_symbols.ListLemmas.{until-from}
 use Rattle.mk_class.specs.ClassPlaces.{width}
-use Rattle.mk_lines.specs.Bytes.{byte_kind, is_blank_kind, ByteKind}
+use Rattle.mk_lines.specs.Bytes.{byte_kind, is_blank_kind, ByteKind, is_blank_byte}
 use Rattle.mk_lines.specs.Units.{byte_mark, units, unit_step, unit_begins}
 use Rattle.mk_lines.specs.Units.Mark.{Unmarked}
 use Rattle.mk_lines.specs.Units.UnitState.{Between}
 use Rattle.mk_lines.specs.Cut.{continuation}
 use Rattle.mk_lines.proofs.on_units.UnitLemmas.{concat-units, units-first}
-use Rattle.mk_lines.specs.UnitWalk.{is_blank_byte}
 use Rattle.mk_lines.specs.FirstUnit.{first_unit, after_first_unit, unit_at}
 use Rattle.mk_lines.proofs.on_units.FirstUnitLemmas.{units-first_unit}
 use Rattle.mk_lines.specs.Words.{is_gap}
@@ -41,7 +40,7 @@ first_unit-begins : (x : ℕ) (t : List ℕ) → first_unit itself (x ∷ t) ≡
 first_unit-begins x t = cc (units-first_unit itself x t)
 
 -- a byte that means nothing to units is one by itself
-pub first_unit-unmarked : (x : ℕ) (t : List ℕ) → byte_mark x ≡ Unmarked → first_unit itself (x ∷ t) ≡ x ∷ []
+first_unit-unmarked : (x : ℕ) (t : List ℕ) → byte_mark x ≡ Unmarked → first_unit itself (x ∷ t) ≡ x ∷ []
 first_unit-unmarked x t h = ap (λ m. unit_at itself m x t) h
 
 -- and what follows it is the rest of the text
@@ -49,7 +48,7 @@ pub units-unmarked : (x : ℕ) (t : List ℕ) → byte_mark x ≡ Unmarked → u
 units-unmarked x t h = units-first_unit itself x t ∙ ap (λ u. u ∷ units itself (drop (length u) (x ∷ t))) (first_unit-unmarked x t h)
 
 -- the first unit is a gap where the first byte is a blank
-pub first_unit-gap : (x : ℕ) (t : List ℕ) → is_gap itself (first_unit itself (x ∷ t)) ≡ is_blank_byte x
+first_unit-gap : (x : ℕ) (t : List ℕ) → is_gap itself (first_unit itself (x ∷ t)) ≡ is_blank_byte x
 first_unit-gap x t = go (is_blank_byte x) refl
   where
     none : (u : List ℕ) → is_blank_byte x ≡ false → is_gap itself (x ∷ u) ≡ false
@@ -69,7 +68,7 @@ any-unmarked (b ∷ bs) x a h = go (b == x) refl h (λ k. any-unmarked bs x a.1 
     go false e k ih = ih k
 
 -- the first unit is one of some bytes where the first byte is
-pub first_unit-other : (stops : List ℕ) (x : ℕ) (t : List ℕ) → AreUnmarked stops → is_other stops (first_unit itself (x ∷ t)) ≡ not (list_any (λ b. b == x) stops)
+first_unit-other : (stops : List ℕ) (x : ℕ) (t : List ℕ) → AreUnmarked stops → is_other stops (first_unit itself (x ∷ t)) ≡ not (list_any (λ b. b == x) stops)
 first_unit-other stops x t a = go (list_any (λ b. b == x) stops) refl
   where
     none : (u : List ℕ) → list_any (λ b. b == x) stops ≡ false → is_other stops (x ∷ u) ≡ true
@@ -84,14 +83,14 @@ first_unit-other stops x t a = go (list_any (λ b. b == x) stops) refl
 
 module _ (p : List ℕ → Bool) where
   -- over a first unit that passes the test
-  pub after_leading-over : (x : ℕ) (t r : List ℕ) → r ≡ after_first_unit itself (x ∷ t) → p (first_unit itself (x ∷ t)) ≡ true
+  after_leading-over : (x : ℕ) (t r : List ℕ) → r ≡ after_first_unit itself (x ∷ t) → p (first_unit itself (x ∷ t)) ≡ true
       → after_leading p (units itself r) ≡ after_leading p (units itself (x ∷ t))
   after_leading-over x t r e h =
       ap (λ z. after_leading p (units itself z)) e
       ∙ sym (ap (after_leading p) (units-first_unit itself x t) ∙ ap (λ c. cond c (after_leading p (units itself (after_first_unit itself (x ∷ t)))) (first_unit itself (x ∷ t) ∷ units itself (after_first_unit itself (x ∷ t)))) h)
 
   -- and at one that fails it
-  pub after_leading-at : (x : ℕ) (t : List ℕ) → p (first_unit itself (x ∷ t)) ≡ false → units itself (x ∷ t) ≡ after_leading p (units itself (x ∷ t))
+  after_leading-at : (x : ℕ) (t : List ℕ) → p (first_unit itself (x ∷ t)) ≡ false → units itself (x ∷ t) ≡ after_leading p (units itself (x ∷ t))
   after_leading-at x t h =
       units-first_unit itself x t
       ∙ sym (ap (after_leading p) (units-first_unit itself x t) ∙ ap (λ c. cond c (after_leading p (units itself (after_first_unit itself (x ∷ t)))) (first_unit itself (x ∷ t) ∷ units itself (after_first_unit itself (x ∷ t)))) h)
@@ -188,7 +187,7 @@ module _ (p : List ℕ → Bool) where
       go false h ih = cc
 
   -- where all pass, all are trailing
-  pub trailing-whole : (us : List (List ℕ)) → after_leading p us ≡ [] → trailing p us ≡ us
+  trailing-whole : (us : List (List ℕ)) → after_leading p us ≡ [] → trailing p us ≡ us
   trailing-whole [] h = refl
   trailing-whole (u ∷ us) h = go (p u) h (λ k. trailing-whole us k)
     where
@@ -197,7 +196,7 @@ module _ (p : List ℕ → Bool) where
       go false h ih = cc
 
   -- where some fail, those before them do not matter
-  pub trailing-after : (us : List (List ℕ)) (v : List ℕ) (vs : List (List ℕ)) → after_leading p us ≡ v ∷ vs → trailing p (after_leading p us) ≡ trailing p us
+  trailing-after : (us : List (List ℕ)) (v : List ℕ) (vs : List (List ℕ)) → after_leading p us ≡ v ∷ vs → trailing p (after_leading p us) ≡ trailing p us
   trailing-after [] v vs h = cc
   trailing-after (u ∷ us) v vs h = go (p u) refl (trim_end p us) refl h (λ k. trailing-after us v vs k)
     where
@@ -305,10 +304,6 @@ split_at_unit-some byte t (x ∷ s) front after m h k f e =
     of true e h = eqb-true byte x e
     of false e h = cc
 
-pub split_at_unit-none : (byte : ℕ) (t rest : List ℕ) → units itself rest ≡ after_leading (is_other (byte ∷ [])) (units itself t) → (length rest == 0) ≡ true → after_leading (is_other (byte ∷ [])) (units itself t) ≡ []
-split_at_unit-none byte t [] h k = sym h
-split_at_unit-none byte t (x ∷ s) h k = absurd (let z : (suc (length s) == 0) ≡ false = zero_other (length s) in cc)
-
 pub has_unit-left : (byte : ℕ) (t rest : List ℕ) → units itself rest ≡ after_leading (is_other (byte ∷ [])) (units itself t) → not (length rest == 0) ≡ any (is_one_byte_of (byte ∷ [])) (units itself t)
 has_unit-left byte t rest h = ap not (sym (empty-units rest) ∙ ap is_empty h) ∙ sym (any-left (is_one_byte_of (byte ∷ [])) (units itself t))
 
@@ -328,7 +323,7 @@ from-over p (x ∷ t) r h k e =
     ap (λ z. from p (units itself z)) e ∙ sym (ap (from p) cut ∙ ap (λ c. cond c (first_unit itself (x ∷ t) ∷ us) (from p us)) (ap p (sym cut) ∙ k))
 
 -- the last unit is no gap where no blanks are trailing
-pub last-no_gap : (us : List (List ℕ)) → last_passes (λ u. not (is_gap itself u)) us ≡ (not (is_empty us) && is_empty (trailing (is_gap itself) us))
+last-no_gap : (us : List (List ℕ)) → last_passes (λ u. not (is_gap itself u)) us ≡ (not (is_empty us) && is_empty (trailing (is_gap itself) us))
 last-no_gap [] = refl
 last-no_gap (u ∷ []) = go (is_gap itself u)
   where

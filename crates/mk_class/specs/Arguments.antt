@@ -1,6 +1,6 @@
 -- The tests of what an edit may write: values, words, targets, names and commands.
 use Rattle.std.specs.Prelude.{ℕ, ◌==◌, Bool, true, false, not, ◌&&◌, ◌||◌, nat_le, List}
-use Rattle.mk_lines.specs.Bytes.{ByteKind, LineFeed, CarriageReturn, byte_kind, is_blank_kind, is_backslash_kind}
+use Rattle.mk_lines.specs.Bytes.{ByteKind, LineFeed, CarriageReturn, byte_kind, is_backslash_kind, is_blank_byte}
 use Rattle.mk_lines.specs.Units.{units, is_closed}
 use Rattle.mk_lines.specs.Words.{is_gap}
 use Rattle.mk_class.specs.Lists.{is_empty, any, first_passes, last_passes}
@@ -21,10 +21,6 @@ is_barred_byte b = is_line_end_kind (byte_kind b) || (b == 0)
 -- whether a text has none of these
 abbrev pub is_clean : List ℕ → Bool
 is_clean t = not (any is_barred_byte t)
-
--- whether a byte is a blank
-abbrev pub is_blank_byte : ℕ → Bool
-is_blank_byte b = is_blank_kind (byte_kind b)
 
 -- whether a byte is a backslash
 abbrev pub is_backslash_byte : ℕ → Bool

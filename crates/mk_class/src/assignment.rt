@@ -10,6 +10,7 @@ ghost use Rattle.mk_class.specs.Assignments.{assignment, definition, ends_name, 
 ghost use Rattle.mk_class.specs.TextClasses.{itself};
 ghost use Rattle.mk_class.specs.Scans.{IsOperatorAt};
 ghost use Rattle.mk_class.specs.AssignmentPlaces.{placed};
+ghost use Rattle.mk_class.specs.OperatorTexts.{operator_text};
 
 use crate::keyword::modifier_of;
 use crate::rule::Separator;
@@ -37,6 +38,23 @@ pub enum Flavor {
     Append,
     /// `!=`: the value is a command, whose output the variable gets.
     Shell,
+}
+
+impl Flavor {
+    /// The operator, as a makefile has it.
+    pub fn text(self) -> &'static str
+        ensures { result.now ≡ operator_text self }
+    {
+        match self {
+            Flavor::Recursive => "=",
+            Flavor::Simple => ":=",
+            Flavor::PosixSimple => "::=",
+            Flavor::Immediate => ":::=",
+            Flavor::Conditional => "?=",
+            Flavor::Append => "+=",
+            Flavor::Shell => "!=",
+        }
+    }
 }
 
 /// A word before an assignment or a `define`, in the GNU make manual's sections on `override`, on variables for

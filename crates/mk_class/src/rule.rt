@@ -1,4 +1,6 @@
 //! Rules: their separators, and where the parts of their lines stand.
+ghost use Rattle.std.specs.Prelude.{◌≡◌};
+ghost use Rattle.mk_class.specs.OperatorTexts.{separator_text};
 
 /// What stands between the targets and the prerequisites of a rule.
 ///
@@ -14,6 +16,20 @@ pub enum Separator {
     GroupedColon,
     /// `&::`: both.
     GroupedDoubleColon,
+}
+
+impl Separator {
+    /// The separator, as a makefile has it.
+    pub fn text(self) -> &'static str
+        ensures { result.now ≡ separator_text self }
+    {
+        match self {
+            Separator::SingleColon => ":",
+            Separator::DoubleColon => "::",
+            Separator::GroupedColon => "&:",
+            Separator::GroupedDoubleColon => "&::",
+        }
+    }
 }
 
 /// Where the parts of a header, the line of a rule, stand, as places in the line's joined text.

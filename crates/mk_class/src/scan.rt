@@ -8,7 +8,7 @@ ghost use Rattle.std.specs.Prelude.{◌≡◌, ◌≤◌, ◌+◌, ◌++◌, Lis
 ghost use Rattle.mk_lines.specs.Lists.{after_leading, trailing};
 ghost use Rattle.mk_lines.specs.Units.{byte_mark, units, Unmarked};
 ghost use Rattle.mk_lines.specs.Words.{is_gap};
-ghost use Rattle.mk_lines.specs.UnitWalk.{is_blank_byte};
+ghost use Rattle.mk_lines.specs.Bytes.{is_blank_byte};
 ghost use Rattle.mk_class.specs.CutTexts.{after_head, cut_text, head};
 ghost use Rattle.mk_class.specs.TextClasses.{itself};
 ghost use Rattle.mk_class.specs.Scans.{AreUnmarked, IsSplitAt, is_one_byte_of, is_other};

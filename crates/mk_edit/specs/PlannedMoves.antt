@@ -6,7 +6,6 @@ use Rattle.mk_class.specs.ClassedLines.{ClassedLine, classed_lines}
 use Rattle.mk_tree.specs.LineTexts.{context_of, line_in}
 use Rattle.mk_tree.specs.PlacedLines.{PlacedLine, placed_line, placed_text, size_of, bytes_of_line, last_line}
 use Rattle.mk_edit_laws.specs.Stretches.{Stretch}
-use Rattle.mk_edit_parts.specs.declared.seek.Found.{Found}
 use Rattle.mk_patch.specs.Moves.{Move, PutIn, TakeOut, Exchange, SwapEnd, IsPlain}
 
 -- a line of these bytes, with its class in the context of the lines before a place

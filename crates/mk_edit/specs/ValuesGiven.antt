@@ -4,8 +4,7 @@ use Rattle.mk_lines.specs.Ranges.{text_at}
 use Rattle.mk_class.specs.Lists.{is_empty}
 use Rattle.mk_class.specs.declared.class.Class as class
 use Rattle.mk_class.specs.declared.class.Class.TheVariants as variants
-use Rattle.mk_tree.specs.PlacedLines.{PlacedLine}
-use Rattle.mk_edit_parts.specs.PlacedParts.{text_of_line}
+use Rattle.mk_tree.specs.PlacedLines.{PlacedLine, text_of_line}
 use Rattle.mk_edit_laws.specs.Edits.{Edit, SetValue, AppendValue}
 
 -- an edit sets a variable to this value
@@ -21,7 +20,7 @@ pub record IsAppended (e : Edit) (value : List ℕ) : Type 0 where
   pub is : e ≡ AppendValue nth name value
 
 -- the text of the value of an assignment's line of this joined text and class; none of another line
-abbrev pub value_text_in : (text : List ℕ) → class.Class → List ℕ
+abbrev value_text_in : (text : List ℕ) → class.Class → List ℕ
 value_text_in t (variants.Assign at p) = text_at t at.value
 value_text_in t k = []
 

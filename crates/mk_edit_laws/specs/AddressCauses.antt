@@ -10,10 +10,11 @@ use Rattle.mk_class.specs.Classes.Class.{Assign, DefineHead}
 use Rattle.mk_class.specs.Contexts.{Context, start, context_after}
 use Rattle.mk_class.specs.ClassedLines.{ClassedLine}
 use Rattle.mk_edit_laws.specs.Edits.{Edit, AddAssign, AddRule, RenameTarget}
-use Rattle.mk_edit_laws.specs.Spots.{Spot, nth_of}
+use Rattle.mk_edit_laws.specs.Spots.{nth_of}
 use Rattle.mk_edit_laws.specs.Addresses.{Address, candidates, nth_meant, address, is_a_target}
 use Rattle.mk_edit_laws.specs.Stretches.{Stretch, insertion}
 use Rattle.mk_tree.specs.Documents.{context_of}
+use Rattle.mk_tree.specs.LineTexts.{StandingLine}
 use Rattle.mk_edit_laws.specs.NewLines.{new_text}
 use Rattle.mk_edit_laws.specs.WordPieces.{renamed_pieces, is_replaced}
 use Rattle.mk_edit_laws.specs.Causes.{where_holds}
@@ -34,7 +35,7 @@ unread_prefix ls = where_holds (any (λ l. is_unread_prefix l.class) ls) RecipeP
 -- ---- NoSuch: there is no such line, or no nth of them; a rename's old name is no target
 
 -- whether there is none, or no nth
-abbrev pub is_missing : Option ℕ → List Spot → Bool
+abbrev pub is_missing : Option ℕ → List StandingLine → Bool
 is_missing None ss = is_empty ss
 is_missing (Some n) ss = not (is_some (nth_of n ss))
 
@@ -49,7 +50,7 @@ no_such ls e = no_such_line ls (address e)
 -- ---- Ambiguous: no number is given, and there are several
 
 -- whether no number is given and there are several
-abbrev pub is_several : Option ℕ → List Spot → Bool
+abbrev pub is_several : Option ℕ → List StandingLine → Bool
 is_several None (s ∷ s' ∷ ss) = true
 is_several nth ss = false
 

@@ -1,13 +1,14 @@
 -- Which line an edit speaks of.
-use Rattle.std.specs.Prelude.{ℕ, Bool, false, List, [], Option, Some, None, option_and_then}
+use Rattle.std.specs.Prelude.{ℕ, Bool, false, List, [], Option, Some, None}
 use Rattle.mk_lines.specs.Cells.{Cell, joined_byte}
 use Rattle.mk_class.specs.Lists.{any}
 use Rattle.mk_class.specs.Texts.{is_same_text, is_one_of, unit_text, word_texts}
 use Rattle.mk_class.specs.Classes.{Class}
 use Rattle.mk_class.specs.Classes.Class.{Assign, TargetAssign, Header}
 use Rattle.mk_class.specs.ClassedLines.{ClassedLine}
+use Rattle.mk_tree.specs.LineTexts.{StandingLine}
 use Rattle.mk_edit_laws.specs.Edits.{Place, Bottom, BeforeVar, AfterVar, BeforeRule, Edit, SetValue, AppendValue, AddAssign, RemoveAssign, AddRule, RemoveRule, AddPrereq, RemovePrereq, AddRecipe, SetRecipe, RemoveRecipe, RenameTarget}
-use Rattle.mk_edit_laws.specs.Spots.{Spot, spots, picked}
+use Rattle.mk_edit_laws.specs.Spots.{spots, picked}
 
 -- a variable by its name among the assignments, or a rule by a target among the headers
 pub data Address : Type 0 where
@@ -25,7 +26,7 @@ is_rule_for t (Header h) = is_one_of t (word_texts joined_byte h.targets)
 is_rule_for t k = false
 
 -- the lines that an address may mean
-abbrev pub candidates : List ClassedLine → Address → List Spot
+abbrev pub candidates : List ClassedLine → Address → List StandingLine
 candidates ls (Variable nth n) = spots (λ l. assigns n l.class) ls
 candidates ls (Rule nth t) = spots (λ l. is_rule_for t l.class) ls
 
@@ -35,7 +36,7 @@ nth_meant (Variable nth n) = nth
 nth_meant (Rule nth t) = nth
 
 -- the line that an address means
-abbrev pub found : List ClassedLine → Address → Option Spot
+abbrev pub found : List ClassedLine → Address → Option StandingLine
 found ls a = picked (nth_meant a) (candidates ls a)
 
 -- the address of a place
@@ -59,10 +60,6 @@ address (AddRecipe nth t c) = Some (Rule nth t)
 address (SetRecipe nth t k c) = Some (Rule nth t)
 address (RemoveRecipe nth t k) = Some (Rule nth t)
 address (RenameTarget o n) = None
-
--- the line that an edit speaks of
-abbrev pub addressed : List ClassedLine → Edit → Option Spot
-addressed ls e = option_and_then (found ls) (address e)
 
 -- the targets of a header or of a target assignment
 abbrev pub targets_of : Class Cell → List (List ℕ)

@@ -1,11 +1,11 @@
 -- The causes that the fields of an edit decide: BadArgument and Reserved.
 use Rattle.std.specs.Prelude.{ℕ, Bool, true, false, not, ◌&&◌, ◌||◌, List, [], ◌∷◌, ◌++◌, Option, Some, None}
+use Rattle.mk_lines.specs.Words.{words_in}
 use Rattle.mk_class.specs.Lists.{is_empty, any}
 use Rattle.mk_class.specs.Keywords.{is_reserved_word}
 use Rattle.mk_class.specs.RecipePrefix.{is_prefix_name}
 use Rattle.mk_class.specs.Arguments.{is_value, is_word, is_target, is_name, is_command}
 use Rattle.mk_edit_laws.specs.Edits.{Place, Bottom, BeforeVar, AfterVar, BeforeRule, Edit, SetValue, AppendValue, AddAssign, RemoveAssign, AddRule, RemoveRule, AddPrereq, RemovePrereq, AddRecipe, SetRecipe, RemoveRecipe, RenameTarget}
-use Rattle.mk_edit_laws.specs.NewLines.{words_in}
 use Rattle.mk_edit_laws.specs.Causes.{where_holds}
 use Rattle.mk_edit_laws.specs.declared.refusal.Field.{Field}
 use Rattle.mk_edit_laws.specs.declared.refusal.Field.TheVariants as field

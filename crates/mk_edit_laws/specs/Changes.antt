@@ -4,6 +4,7 @@ use Rattle.mk_lines.specs.Lists.{concat}
 use Rattle.mk_lines.specs.Cells.{Cell, joined_byte}
 use Rattle.mk_lines.specs.CellFaults.{is_fold}
 use Rattle.mk_lines.specs.Pieces.{Replacement}
+use Rattle.mk_lines.specs.Words.{words_in}
 use Rattle.mk_class.specs.Lists.{is_empty, last_passes}
 use Rattle.mk_class.specs.Texts.{is_same_text, unit_text}
 use Rattle.mk_class.specs.Assignments.{Assignment}
@@ -15,11 +16,10 @@ use Rattle.mk_class.specs.declared.rule.Separator.{Separator}
 use Rattle.mk_class.specs.declared.rule.Separator.TheVariants.{SingleColon, DoubleColon}
 use Rattle.mk_tree.specs.Documents.{text_of}
 use Rattle.mk_tree.specs.Items.{Item, Assign, TargetAssign, Header, Recipe, Sets, items, header_item}
+use Rattle.mk_tree.specs.LineTexts.{StandingLine}
 use Rattle.mk_edit_laws.specs.Edits.{Edit, SetValue, AppendValue, AddAssign, RemoveAssign, AddRule, RemoveRule, AddPrereq, RemovePrereq, AddRecipe, SetRecipe, RemoveRecipe, RenameTarget}
-use Rattle.mk_edit_laws.specs.Spots.{Spot}
 use Rattle.mk_edit_laws.specs.Addresses.{Variable, Rule, found}
 use Rattle.mk_edit_laws.specs.Stretches.{Stretch, insertion, removal, recipe_found}
-use Rattle.mk_edit_laws.specs.NewLines.{words_in}
 use Rattle.mk_edit_laws.specs.ValueSpans.{set_value_span}
 use Rattle.mk_edit_laws.specs.Spans.{where_found}
 use Rattle.mk_edit_laws.specs.declared.edit.Colons.{Colons}
@@ -28,7 +28,7 @@ use Rattle.mk_edit_laws.specs.declared.edit.Colons.TheVariants.{One, Two}
 -- ---- the items of the other lines stay
 
 -- the items of a text with these for one line
-abbrev pub with_items : List Item → Spot → List Item
+abbrev pub with_items : List Item → StandingLine → List Item
 with_items is s = items s.above ++ (is ++ items s.below)
 
 -- the items of a text with one for a stretch
@@ -50,7 +50,7 @@ abbrev pub value_item : (ℕ → Assignment Cell → List ℕ) → (line_start :
 value_item f at (AssignLine a p) = item_with_value a (f at a) ∷ []
 value_item f at k = []
 
-abbrev pub with_value : (ℕ → Assignment Cell → List ℕ) → Spot → List Item
+abbrev pub with_value : (ℕ → Assignment Cell → List ℕ) → StandingLine → List Item
 with_value f s = with_items (value_item f (length (text_of s.above)) s.line.class) s
 
 -- whether a line feed stands directly before a span, and the span reaches the end of the text
@@ -74,7 +74,7 @@ abbrev pub header_items : (Item → Item) → Class Cell → List Item
 header_items f (HeaderLine h) = f (header_item h) ∷ []
 header_items f k = []
 
-abbrev pub with_header : (Item → Item) → Spot → List Item
+abbrev pub with_header : (Item → Item) → StandingLine → List Item
 with_header f s = with_items (header_items f s.line.class) s
 
 -- a word put last in a list of prerequisites
@@ -120,7 +120,7 @@ new_header ts c ws = Header (words_in ts) (separator_of c) [] (words_in ws) [] N
 -- ---- the change
 
 -- the reading after an edit that no cause refuses
-abbrev pub change_of : (text : List ℕ) → List ClassedLine → Edit → List Item
+abbrev change_of : (text : List ℕ) → List ClassedLine → Edit → List Item
 change_of t ls (SetValue nth n v) = where_found (with_value (value_set t v)) (found ls (Variable nth n))
 change_of t ls (AppendValue nth n v) = where_found (with_value (λ at. value_appended v)) (found ls (Variable nth n))
 change_of t ls (AddAssign p n f v) = where_found (with_item (new_assign n f v)) (insertion ls (AddAssign p n f v))

@@ -1,5 +1,5 @@
 -- Laws of edits, each the contract of a public function.
-use Rattle.std.specs.Prelude.{◌≡◌, ℕ, List, ◌∷◌, ◌++◌, Option, Some, Ok, Err}
+use Rattle.std.specs.Prelude.{◌≡◌, ℕ, List, ◌∷◌, ◌++◌, Some, Ok, Err}
 use Rattle.mk_lines.specs.Pieces.{Replacement}
 use Rattle.mk_lines.specs.Cells.{Cell}
 use Rattle.mk_class.specs.declared.assignment.Flavor.{Flavor}

@@ -3,9 +3,9 @@ use Rattle.std.specs.Prelude.{ℕ, List, [], ◌∷◌, ◌++◌, map, drop, len
 use Rattle.mk_lines.specs.Lists.{concat}
 use Rattle.mk_lines.specs.PhysicalLines.{line_end_bytes, file_line_end}
 use Rattle.mk_lines.specs.Pieces.{Replacement}
-use Rattle.mk_lines.specs.Words.{words}
+use Rattle.mk_lines.specs.Words.{words_in}
 use Rattle.mk_class.specs.declared.assignment.Flavor.{Flavor}
-use Rattle.mk_class.specs.declared.assignment.Flavor.TheVariants.{Recursive, Simple, PosixSimple, Immediate, Conditional, Append, Shell}
+use Rattle.mk_class.specs.OperatorTexts.{operator_text}
 use Rattle.mk_tree.specs.Documents.{text_of, context_of}
 use Rattle.mk_tree.specs.NewLines.{missing_line_end}
 use Rattle.mk_edit_laws.specs.Edits.{Edit, AddAssign, AddRule, AddRecipe}
@@ -14,10 +14,6 @@ use Rattle.mk_edit_laws.specs.declared.edit.Colons.{Colons}
 use Rattle.mk_edit_laws.specs.declared.edit.Colons.TheVariants.{One, Two}
 
 -- ---- words of an argument
-
--- the words of an argument that may have several
-abbrev pub words_in : List ℕ → List (List ℕ)
-words_in t = words (λ b. b) t
 
 -- a space before a text that is not empty
 abbrev pub spaced : List ℕ → List ℕ
@@ -33,16 +29,6 @@ abbrev pub joined_by_space : List (List ℕ) → List ℕ
 joined_by_space ws = drop 1 (each_spaced ws)
 
 -- ---- the text of a new line, without its line end
-
--- an operator
-abbrev pub operator_text : Flavor → List ℕ
-operator_text Recursive = 61 ∷ []
-operator_text Simple = 58 ∷ 61 ∷ []
-operator_text PosixSimple = 58 ∷ 58 ∷ 61 ∷ []
-operator_text Immediate = 58 ∷ 58 ∷ 58 ∷ 61 ∷ []
-operator_text Conditional = 63 ∷ 61 ∷ []
-operator_text Append = 43 ∷ 61 ∷ []
-operator_text Shell = 33 ∷ 61 ∷ []
 
 -- an assignment: its name, a space, its operator, and, where its value is not empty, a space and the value
 abbrev pub assign_text : (name : List ℕ) → Flavor → (value : List ℕ) → List ℕ

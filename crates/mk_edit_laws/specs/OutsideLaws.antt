@@ -1,6 +1,6 @@
 -- Laws of what an edit leaves: the bytes outside its spans, and the lines that these do not touch; each the contract of a public
 -- function.
-use Rattle.std.specs.Prelude.{◌≡◌, ℕ, ◌+◌, List, ◌++◌, length, Bool, Option, Some, Ok}
+use Rattle.std.specs.Prelude.{◌≡◌, ℕ, ◌+◌, List, ◌++◌, length, Some, Ok}
 use Rattle.mk_lines.specs.Pieces.{Replacement}
 use Rattle.mk_edit_laws.specs.Edits.{Edit, RenameTarget}
 use Rattle.mk_class.specs.ClassedLines.{classed_lines}
@@ -32,7 +32,7 @@ EditedLinesStand = (text : List ℕ) (e : Edit) (replacements : List Replacement
     → classed_lines (text_after text e) ≡ above_after text (insertion (classed_lines text) e) touched ++ (edited_lines text e touched replacements ++ touched.below)
 
 -- an edit leaves the lines that its spans do not touch, touches few, and opens no conditional
-abbrev pub KeepsOthers : Edit → Type 0
+abbrev KeepsOthers : Edit → Type 0
 KeepsOthers e = (text : List ℕ) (replacements : List Replacement) → spans text e ≡ Ok replacements → AreOthersKept text e replacements
 
 -- What an edit leaves. A rename, which may touch lines that stand apart, leaves the lines that hold no word which it replaces,

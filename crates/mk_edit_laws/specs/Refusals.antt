@@ -54,8 +54,3 @@ text_by t (Err r) = t
 -- the text after an edit
 abbrev pub text_after : (text : List ℕ) → Edit → List ℕ
 text_after t e = text_by t (spans t e)
-
--- the text after some edits, one after the other
-abbrev pub text_after_all : (text : List ℕ) → List Edit → List ℕ
-text_after_all t [] = t
-text_after_all t (e ∷ es) = text_after_all (text_after t e) es

@@ -8,8 +8,8 @@ use Rattle.mk_class.specs.Classes.{Class, is_conditional}
 use Rattle.mk_class.specs.Classes.Class.{Header}
 use Rattle.mk_class.specs.ClassedLines.{ClassedLine}
 use Rattle.mk_tree.specs.RecipeLines.{recipe_run}
+use Rattle.mk_tree.specs.LineTexts.{StandingLine}
 use Rattle.mk_edit_laws.specs.Edits.{Edit, AddPrereq, RemovePrereq, RemoveRule, AddRecipe, SetRecipe, RemoveRecipe, RenameTarget}
-use Rattle.mk_edit_laws.specs.Spots.{Spot}
 use Rattle.mk_edit_laws.specs.Addresses.{Rule, found, targets_of, is_a_target}
 use Rattle.mk_edit_laws.specs.Stretches.{recipe_found}
 use Rattle.mk_edit_laws.specs.Causes.{where_holds}
@@ -17,12 +17,12 @@ use Rattle.mk_edit_laws.specs.declared.refusal.Refusal.{Refusal}
 use Rattle.mk_edit_laws.specs.declared.refusal.Refusal.TheVariants.{Absent, Already, Taken, SharedRule, Straddles}
 
 -- the class of what is found
-abbrev pub class_found : Option Spot → Option (Class Cell)
+abbrev pub class_found : Option StandingLine → Option (Class Cell)
 class_found None = None
 class_found (Some s) = Some s.line.class
 
 -- the class of the header of a rule
-abbrev pub rule_class_found : List ClassedLine → (nth : Option ℕ) → (target : List ℕ) → Option (Class Cell)
+abbrev rule_class_found : List ClassedLine → (nth : Option ℕ) → (target : List ℕ) → Option (Class Cell)
 rule_class_found ls nth t = class_found (found ls (Rule nth t))
 
 -- whether it is found, and passes the test
@@ -76,7 +76,7 @@ shared_rule ls e = None
 -- ---- Straddles: the line of a conditional stands between a header and its last recipe line
 
 -- whether one does
-abbrev pub has_conditional : Option Spot → Bool
+abbrev pub has_conditional : Option StandingLine → Bool
 has_conditional None = false
 has_conditional (Some h) = any (λ l. is_conditional l.class) (recipe_run h.below)
 

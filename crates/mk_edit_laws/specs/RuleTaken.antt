@@ -14,8 +14,8 @@ use Rattle.mk_class.specs.ClassedLines.{ClassedLine, classed_lines}
 use Rattle.mk_tree.specs.RecipeLines.{ends_rule}
 use Rattle.mk_tree.specs.Items.{Item, Recipe, items, header_item}
 use Rattle.mk_tree.specs.Readings.{reading}
+use Rattle.mk_tree.specs.LineTexts.{StandingLine}
 use Rattle.mk_edit_laws.specs.Edits.{RemoveRule}
-use Rattle.mk_edit_laws.specs.Spots.{Spot}
 use Rattle.mk_edit_laws.specs.Addresses.{Rule, found}
 use Rattle.mk_edit_laws.specs.Refusals.{spans, text_after}
 
@@ -55,7 +55,7 @@ is_recipe_item i = false
 -- and below these stay, and none of those below is a recipe line of the rule. The lines that go read as the item of the header and,
 -- after it, those of the recipe lines; these items go from the reading, and the next item is of no recipe line.
 pub record TakesTheRuleAlone (nth : Option ℕ) (target text : List ℕ) : Type 0 where
-  pub rule : Spot
+  pub rule : StandingLine
   pub header : Header Cell
   pub recipe : List ClassedLine
   pub rest : List ClassedLine

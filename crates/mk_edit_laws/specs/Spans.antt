@@ -8,8 +8,8 @@ use Rattle.mk_class.specs.Classes.{Class}
 use Rattle.mk_class.specs.Classes.Class.{Header}
 use Rattle.mk_class.specs.ClassedLines.{ClassedLine}
 use Rattle.mk_tree.specs.Documents.{text_of}
+use Rattle.mk_tree.specs.LineTexts.{StandingLine}
 use Rattle.mk_edit_laws.specs.Edits.{Edit, SetValue, AppendValue, AddAssign, RemoveAssign, AddRule, RemoveRule, AddPrereq, RemovePrereq, AddRecipe, SetRecipe, RemoveRecipe, RenameTarget}
-use Rattle.mk_edit_laws.specs.Spots.{Spot}
 use Rattle.mk_edit_laws.specs.Addresses.{Variable, Rule, found}
 use Rattle.mk_edit_laws.specs.Stretches.{Stretch, insertion, removal, recipe_found}
 use Rattle.mk_edit_laws.specs.NewLines.{new_line_span}
@@ -27,7 +27,7 @@ abbrev pub header_spans : (Headers.Header Cell → List Piece) → (line_start :
 header_spans f at (Header h) = replacements at (f h)
 header_spans f at k = []
 
-abbrev pub word_spans : (Headers.Header Cell → List Piece) → Spot → List Replacement
+abbrev pub word_spans : (Headers.Header Cell → List Piece) → StandingLine → List Replacement
 word_spans f s = header_spans f (length (text_of s.above)) s.line.class
 
 -- each target and prerequisite that is the old word, in lines the first of which begins at a place
@@ -36,7 +36,7 @@ renamed_spans o n at [] = []
 renamed_spans o n at (l ∷ ls) = replacements at (renamed_pieces o n l.class) ++ renamed_spans o n (at + length l.bytes) ls
 
 -- all after the first byte of a recipe line, up to its line end
-abbrev pub recipe_span : (command : List ℕ) → Spot → List Replacement
+abbrev pub recipe_span : (command : List ℕ) → StandingLine → List Replacement
 recipe_span c s =
     let at = length (text_of s.above) in
     record { start = at + 1; end = at + length (without_line_end s.line.bytes); new = c } ∷ []

@@ -1,23 +1,19 @@
 -- Spots: a line with those above and below it, so that a place is no number.
 use Rattle.std.specs.Prelude.{ℕ, suc, zero, Bool, true, false, List, [], ◌∷◌, map, Option, Some, None}
 use Rattle.mk_class.specs.ClassedLines.{ClassedLine}
-
-pub record Spot : Type 0 where
-  pub above : List ClassedLine
-  pub line : ClassedLine
-  pub below : List ClassedLine
+use Rattle.mk_tree.specs.LineTexts.{StandingLine}
 
 -- a spot with one more line above it
-abbrev pub under : ClassedLine → Spot → Spot
+abbrev pub under : ClassedLine → StandingLine → StandingLine
 under l s = record s { above = l ∷ s.above }
 
 -- a spot before others, where it is one
-abbrev pub spot_if : Bool → Spot → List Spot → List Spot
+abbrev pub spot_if : Bool → StandingLine → List StandingLine → List StandingLine
 spot_if true s ss = s ∷ ss
 spot_if false s ss = ss
 
 -- the spots of the lines that pass the test, in order
-abbrev pub spots : (ClassedLine → Bool) → List ClassedLine → List Spot
+abbrev pub spots : (ClassedLine → Bool) → List ClassedLine → List StandingLine
 spots test [] = []
 spots test (l ∷ ls) = spot_if (test l) (record { above = []; line = l; below = ls }) (map (under l) (spots test ls))
 

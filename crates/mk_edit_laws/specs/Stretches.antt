@@ -3,8 +3,9 @@ use Rattle.std.specs.Prelude.{ℕ, List, [], ◌∷◌, ◌++◌, map, take, len
 use Rattle.mk_class.specs.Classes.{is_recipe}
 use Rattle.mk_class.specs.ClassedLines.{ClassedLine}
 use Rattle.mk_tree.specs.RecipeLines.{recipe_run, after_recipe, recipe_lines}
+use Rattle.mk_tree.specs.LineTexts.{StandingLine}
 use Rattle.mk_edit_laws.specs.Edits.{Place, Bottom, BeforeVar, AfterVar, BeforeRule, Edit, SetValue, AppendValue, AddAssign, RemoveAssign, AddRule, RemoveRule, AddPrereq, RemovePrereq, AddRecipe, SetRecipe, RemoveRecipe, RenameTarget}
-use Rattle.mk_edit_laws.specs.Spots.{Spot, spots, nth_of}
+use Rattle.mk_edit_laws.specs.Spots.{spots, nth_of}
 use Rattle.mk_edit_laws.specs.Addresses.{Variable, Rule, found}
 
 -- some lines, or none, with those above and below them
@@ -14,15 +15,15 @@ pub record Stretch : Type 0 where
   pub below : List ClassedLine
 
 -- a line alone
-abbrev pub this_line : Spot → Stretch
+abbrev pub this_line : StandingLine → Stretch
 this_line s = record { above = s.above; lines = s.line ∷ []; below = s.below }
 
 -- no line, directly before a line
-abbrev pub before_line : Spot → Stretch
+abbrev pub before_line : StandingLine → Stretch
 before_line s = record { above = s.above; lines = []; below = s.line ∷ s.below }
 
 -- no line, directly after a line
-abbrev pub after_line : Spot → Stretch
+abbrev pub after_line : StandingLine → Stretch
 after_line s = record { above = s.above ++ s.line ∷ []; lines = []; below = s.below }
 
 -- no line, at the end
@@ -30,27 +31,27 @@ abbrev pub bottom : List ClassedLine → Stretch
 bottom ls = record { above = ls; lines = []; below = [] }
 
 -- a header with its recipe lines, and what stands between them
-abbrev pub whole_rule : Spot → Stretch
+abbrev pub whole_rule : StandingLine → Stretch
 whole_rule h = record { above = h.above; lines = h.line ∷ recipe_run h.below; below = after_recipe h.below }
 
 -- no line, directly after the last recipe line of a header, or after the header where it has none
-abbrev pub after_rule : Spot → Stretch
+abbrev pub after_rule : StandingLine → Stretch
 after_rule h = record { above = h.above ++ h.line ∷ recipe_run h.below; lines = []; below = after_recipe h.below }
 
 -- a spot below a header, as a spot of the whole text
-abbrev pub below_header : Spot → Spot → Spot
+abbrev pub below_header : StandingLine → StandingLine → StandingLine
 below_header h s = record { above = h.above ++ h.line ∷ s.above; line = s.line; below = s.below }
 
 -- the recipe lines of a header
-abbrev pub recipe_spots : Spot → List Spot
+abbrev pub recipe_spots : StandingLine → List StandingLine
 recipe_spots h = map (below_header h) (take (length (recipe_lines h.below)) (spots (λ l. is_recipe l.class) h.below))
 
 -- the recipe line of this number, from 1
-abbrev pub recipe_spot : ℕ → Spot → Option Spot
+abbrev pub recipe_spot : ℕ → StandingLine → Option StandingLine
 recipe_spot k h = nth_of k (recipe_spots h)
 
 -- the recipe line of this number of a rule
-abbrev pub recipe_found : List ClassedLine → (nth : Option ℕ) → (target : List ℕ) → ℕ → Option Spot
+abbrev pub recipe_found : List ClassedLine → (nth : Option ℕ) → (target : List ℕ) → ℕ → Option StandingLine
 recipe_found ls nth t k = option_and_then (recipe_spot k) (found ls (Rule nth t))
 
 -- where a new line of this place goes

@@ -1,29 +1,25 @@
 -- The spans of edits of a value.
 use Rattle.std.specs.Prelude.{ℕ, ◌+◌, if◌then◌else◌, List, [], ◌∷◌, length}
-use Rattle.mk_lines.specs.Lists.{concat}
-use Rattle.mk_lines.specs.Cells.{Cell, raw_text}
+use Rattle.mk_lines.specs.Cells.{Cell}
 use Rattle.mk_lines.specs.Pieces.{Replacement}
 use Rattle.mk_class.specs.Lists.{is_empty}
 use Rattle.mk_class.specs.Assignments.{Assignment, before_value}
 use Rattle.mk_class.specs.Classes.{Class}
 use Rattle.mk_class.specs.Classes.Class.{Assign}
+use Rattle.mk_class.specs.PartPlaces.{raw_width}
 use Rattle.mk_tree.specs.Documents.{text_of}
-use Rattle.mk_edit_laws.specs.Spots.{Spot}
-
--- how many raw bytes units have
-abbrev pub raw_length : List (List Cell) → ℕ
-raw_length us = length (raw_text (concat us))
+use Rattle.mk_tree.specs.LineTexts.{StandingLine}
 
 -- where the value of an assignment begins, whose line begins at a place; where it ends; and where the blanks and folds after
 -- it do
 abbrev pub value_start : (line_start : ℕ) → Assignment Cell → ℕ
-value_start at a = at + raw_length (before_value a)
+value_start at a = at + raw_width (before_value a)
 
 abbrev pub value_end : (line_start : ℕ) → Assignment Cell → ℕ
-value_end at a = value_start at a + raw_length a.value
+value_end at a = value_start at a + raw_width a.value
 
 abbrev pub blanks_end : (line_start : ℕ) → Assignment Cell → ℕ
-blanks_end at a = value_end at a + raw_length a.after
+blanks_end at a = value_end at a + raw_width a.after
 
 -- the value; where the new one is empty, with the blanks and folds after it
 abbrev pub set_value_span : (value : List ℕ) → (line_start : ℕ) → Assignment Cell → Replacement
@@ -47,5 +43,5 @@ assignment_span f at (Assign a p) = f at a ∷ []
 assignment_span f at k = []
 
 -- the span in an assignment's line
-abbrev pub value_span : (ℕ → Assignment Cell → Replacement) → Spot → List Replacement
+abbrev pub value_span : (ℕ → Assignment Cell → Replacement) → StandingLine → List Replacement
 value_span f s = assignment_span f (length (text_of s.above)) s.line.class

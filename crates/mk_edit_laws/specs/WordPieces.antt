@@ -65,7 +65,7 @@ abbrev pub normal_pieces : (word : List ℕ) → Header Cell → List Piece
 normal_pieces w h = header_pieces h (kept h.targets) (put_last (prerequisite_text w h) h.normal) (kept h.order_only)
 
 -- a word is put last among the order-only prerequisites; where there is no `|`, one is put after the normal ones
-abbrev pub order_only_pieces : (word : List ℕ) → Header Cell → List Piece
+abbrev order_only_pieces : (word : List ℕ) → Header Cell → List Piece
 order_only_pieces w h =
     if is_empty h.bar
     then header_pieces h (kept h.targets) (put_last (codes " | " ++ w) h.normal) (kept h.order_only)

@@ -6,11 +6,11 @@ use Rattle.mk_class.specs.declared.assignment.Modifier.{Modifier}
 use Rattle.mk_class.specs.declared.assignment.Modifier.TheVariants.{Override, Export, Private}
 use Rattle.mk_class.specs.declared.rule.Separator.{Separator}
 use Rattle.mk_class.specs.declared.rule.Separator.TheVariants.{SingleColon, DoubleColon, GroupedColon, GroupedDoubleColon}
+use Rattle.mk_class.specs.OperatorTexts.{operator_text}
 use Rattle.mk_tree.specs.Items.{Sets, Item}
 use Rattle.mk_tree.specs.Items.Item.{Assign, TargetAssign, Header, Recipe, Endef, Body, Opaque, DefineHead, If, Else, Endif, Directive, Rough}
 use Rattle.mk_tree.specs.Readings.{reading}
 use Rattle.mk_edit_laws.specs.Edits.{Edit}
-use Rattle.mk_edit_laws.specs.NewLines.{operator_text}
 use Rattle.mk_edit_laws.specs.Refusals.{spans}
 use Rattle.mk_edit_laws.specs.Costs.{cost, size}
 use Rattle.mk_edit_laws.specs.Changes.{change}

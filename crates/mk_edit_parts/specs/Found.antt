@@ -3,8 +3,8 @@ use Rattle.std.specs.Prelude.{◌≡◌, List, [], ◌∷◌, length, take, Opti
 use Rattle.mk_class.specs.ClassedLines.{ClassedLine, classed_lines}
 use Rattle.mk_tree.specs.Documents.{context_of}
 use Rattle.mk_tree.specs.PlacedLines.{PlacedLine, placed_text}
+use Rattle.mk_tree.specs.LineTexts.{StandingLine}
 use Rattle.mk_edit_laws.specs.Edits.{Edit}
-use Rattle.mk_edit_laws.specs.Spots.{Spot}
 use Rattle.mk_edit_laws.specs.Addresses.{Address, address, found}
 use Rattle.mk_edit_laws.specs.ArgumentCauses.{bad_argument, reserved}
 use Rattle.mk_edit_laws.specs.AddressCauses.{unread_prefix, no_such, no_such_line, ambiguous, ambiguous_line}
@@ -14,7 +14,7 @@ use Rattle.mk_edit_parts.specs.declared.seek.Found.{Found}
 
 -- the line that an address means stands at a place, in a context
 pub record IsFoundAt (ls : List ClassedLine) (a : Address) (f : Found) : Type 0 where
-  pub spot : Spot
+  pub spot : StandingLine
   pub found_is : found ls a ≡ Some spot
   pub place_is : length spot.above ≡ f.at
   pub context_is : context_of spot.above ≡ f.context

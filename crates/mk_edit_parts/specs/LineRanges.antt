@@ -10,7 +10,7 @@ use Rattle.mk_tree.specs.PlacedLines.{PlacedLine}
 
 -- where the value of an assignment's line stands among its raw bytes, or the value with the blanks and folds after it; nowhere
 -- in another line
-abbrev pub value_range_in : (with_blanks : Bool) → List Cell → class.Class → Span
+abbrev value_range_in : (with_blanks : Bool) → List Cell → class.Class → Span
 value_range_in b cs (variants.Assign at p) = raw_range cs at.value.start (if b then at.end else at.value.end)
 value_range_in b cs k = record { start = 0; end = 0 }
 

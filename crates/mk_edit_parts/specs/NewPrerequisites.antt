@@ -3,7 +3,7 @@ use Rattle.std.specs.Prelude.{ℕ, ◌+◌, ◌==◌, ◌&&◌, if◌then◌else
 use Rattle.mk_lines.specs.Ranges.{text_at, word_ranges}
 use Rattle.mk_lines.specs.declared.split.Span.{Span}
 use Rattle.mk_class.specs.declared.rule.Header as header
-use Rattle.mk_edit_parts.specs.SeenHeaders.{normal_span, order_only_span}
+use Rattle.mk_class.specs.LineParts.{normal_span, order_only_span}
 use Rattle.mk_edit_parts.specs.WordCuts.{last_end}
 
 -- where the last word of a part of a text ends; the start of the part where it has none
@@ -11,7 +11,7 @@ abbrev pub words_end : (text : List ℕ) → Span → ℕ
 words_end t s = s.start + last_end 0 (word_ranges (text_at t s))
 
 -- whether a new order-only prerequisite gets a `|` of its own
-abbrev pub brings_bar : (order : Bool) → header.Header → Bool
+abbrev brings_bar : (order : Bool) → header.Header → Bool
 brings_bar order at = order && not at.has_order_only
 
 -- the part that it is put last in

@@ -1,7 +1,8 @@
 -- What a document shows of a line by the places of its parts: the tests of lines that a walk over a document makes.
 use Rattle.std.specs.Prelude.{not, ◌&&◌, is_some, ◌≡◌, ℕ, Bool, false, List, [], ◌∷◌}
-use Rattle.mk_lines.specs.Cells.{joined_byte, joined_text, line_cells}
+use Rattle.mk_lines.specs.Cells.{joined_byte}
 use Rattle.mk_lines.specs.Ranges.{text_at}
+use Rattle.mk_lines.specs.Words.{words_in}
 use Rattle.mk_class.specs.Texts.{is_same_text, is_one_of}
 use Rattle.mk_class.specs.RecipePrefix.{is_prefix_name}
 use Rattle.mk_class.specs.Contexts.{Context}
@@ -9,8 +10,7 @@ use Rattle.mk_class.specs.ClassTable.{class_of}
 use Rattle.mk_class.specs.ClassPlaces.{class_places}
 use Rattle.mk_class.specs.declared.class.Class as class
 use Rattle.mk_class.specs.declared.class.Class.TheVariants as variants
-use Rattle.mk_tree.specs.PlacedLines.{PlacedLine}
-use Rattle.mk_edit_laws.specs.NewLines.{words_in}
+use Rattle.mk_tree.specs.PlacedLines.{PlacedLine, text_of_line}
 
 -- a line with the class that it has in some context
 pub record IsClassed (l : PlacedLine) : Type 0 where
@@ -20,10 +20,6 @@ pub record IsClassed (l : PlacedLine) : Type 0 where
 abbrev pub AreEachClassed : List PlacedLine → Type 0
 AreEachClassed [] = Unit {0}
 AreEachClassed (l ∷ ls) = IsClassed l × AreEachClassed ls
-
--- the joined text of a line
-abbrev pub text_of_line : PlacedLine → List ℕ
-text_of_line l = joined_text (line_cells l.bytes)
 
 -- the words that stand before a place in a text
 abbrev pub words_before : (end : ℕ) → List ℕ → List (List ℕ)

@@ -4,10 +4,11 @@ use Rattle.mk_class.specs.declared.class.Class.{Class}
 use Rattle.mk_class.specs.declared.class.Class.TheVariants.{Recipe, Blank, Comment, If, Else, Endif, Header}
 use Rattle.mk_class.specs.Classes as classes
 use Rattle.mk_class.specs.ClassedLines.{ClassedLine, classed_lines}
-use Rattle.mk_tree.specs.PlacedLines.{PlacedLine, placed_text, is_conditional_places}
+use Rattle.mk_tree.specs.PlacedLines.{PlacedLine, placed_text, is_conditional_places, text_of_line}
 use Rattle.mk_tree.specs.RecipeLines.{recipe_lines}
-use Rattle.mk_edit_laws.specs.Spots.{Spot, spots}
-use Rattle.mk_edit_parts.specs.PlacedParts.{text_of_line, words_before}
+use Rattle.mk_tree.specs.LineTexts.{StandingLine}
+use Rattle.mk_edit_laws.specs.Spots.{spots}
+use Rattle.mk_edit_parts.specs.PlacedParts.{words_before}
 use Rattle.mk_edit_parts.specs.declared.recipe.Recipe as recipe
 
 -- the lines of a document's text from a place on
@@ -15,7 +16,7 @@ abbrev pub lines_from : List PlacedLine → (at : ℕ) → List ClassedLine
 lines_from ls at = drop at (classed_lines (placed_text ls))
 
 -- the recipe lines of a header among the lines after it
-abbrev pub recipe_spots_in : List ClassedLine → List Spot
+abbrev pub recipe_spots_in : List ClassedLine → List StandingLine
 recipe_spots_in after = take (length (recipe_lines after)) (spots (λ l. classes.is_recipe l.class) after)
 
 -- whether a line of this class is one of a recipe

@@ -3,20 +3,16 @@ use Rattle.std.specs.Prelude.{ℕ, ◌≤◌, List, [], ◌∷◌, ◌++◌, dro
 use Rattle.mk_lines.specs.declared.split.Span.{Span}
 use Rattle.mk_tree.specs.PlacedLines.{PlacedLine}
 use Rattle.mk_edit_parts.specs.RenamedPlaces.{renamed_places}
+use Rattle.mk_edit_parts.specs.WordCuts.{last_end}
 
 -- what is written of a line from a place up to the end of the last range: the line, with a text for each range
 abbrev pub written : (line : List ℕ) → (from : ℕ) → (new : List ℕ) → List Span → List ℕ
 written l at n [] = []
 written l at n (s ∷ ss) = slice_range l at s.start ++ (n ++ written l s.end n ss)
 
--- the end of the last range, or the place itself where there is none
-abbrev pub written_to : (from : ℕ) → List Span → ℕ
-written_to at [] = at
-written_to at (s ∷ ss) = written_to s.end ss
-
 -- the whole line with a text for each range
 abbrev pub rewritten : (line new : List ℕ) → List Span → List ℕ
-rewritten l n ss = written l 0 n ss ++ drop (written_to 0 ss) l
+rewritten l n ss = written l 0 n ss ++ drop (last_end 0 ss) l
 
 -- a line after a rename, as a document shows it
 abbrev pub renamed_text : (old new : List ℕ) → PlacedLine → List ℕ

@@ -6,7 +6,8 @@ use Rattle.mk_class.specs.ClassedLines.{ClassedLine}
 use Rattle.mk_class.specs.declared.class.Class as class
 use Rattle.mk_tree.specs.Documents.{context_of}
 use Rattle.mk_tree.specs.PlacedLines.{PlacedLine}
-use Rattle.mk_edit_laws.specs.Spots.{Spot, nth_of}
+use Rattle.mk_tree.specs.LineTexts.{StandingLine}
+use Rattle.mk_edit_laws.specs.Spots.{nth_of}
 use Rattle.mk_edit_laws.specs.Addresses.{Address, Variable, Rule, candidates, nth_meant}
 use Rattle.mk_edit_laws.specs.AddressCauses.{is_unread_prefix}
 use Rattle.mk_edit_parts.specs.PlacedParts.{assigns_placed, is_rule_for_placed, is_unread_placed}
@@ -20,7 +21,7 @@ may_mean (Some (Variable nth n)) l = assigns_placed n l
 may_mean (Some (Rule nth t)) l = is_rule_for_placed t l
 
 -- the number that is sought, from 1: the first where none is given
-abbrev pub wanted_of : Option ℕ → ℕ
+abbrev wanted_of : Option ℕ → ℕ
 wanted_of None = 1
 wanted_of (Some n) = n
 
@@ -54,11 +55,11 @@ nothing_seen = record { count = 0; found = None; has_unread_prefix = false; end 
 -- ---- what it finds, on lines as they are defined
 
 -- where a line stands: how many lines are above it, and what they leave
-abbrev pub place_found : Spot → Found
+abbrev pub place_found : StandingLine → Found
 place_found s = record { at = length s.above; context = context_of s.above }
 
 -- the lines that an address may mean
-abbrev pub candidates_of : List ClassedLine → Option Address → List Spot
+abbrev pub candidates_of : List ClassedLine → Option Address → List StandingLine
 candidates_of ls None = []
 candidates_of ls (Some a) = candidates ls a
 

@@ -1,9 +1,8 @@
 -- The line of a rule as a document shows it: the places of its parts, and the header that they are of.
-use Rattle.std.specs.Prelude.{◌≡◌, ◌+◌, if◌then◌else◌, ◌++◌}
+use Rattle.std.specs.Prelude.{◌≡◌, ◌++◌}
 use Rattle.mk_lines.specs.PhysicalLines.{line_end, line_end_bytes}
 use Rattle.mk_lines.specs.Cells.{Cell, joined_byte, line_cells, raw_text}
 use Rattle.mk_lines.specs.Lists.{concat}
-use Rattle.mk_lines.specs.declared.split.Span.{Span}
 use Rattle.mk_class.specs.Headers
 use Rattle.mk_class.specs.Headers.{header_units}
 use Rattle.mk_class.specs.ClassPlaces.{header_places}
@@ -25,13 +24,6 @@ pub record IsHeaderSeen (l : PlacedLine) (at : header.Header) (h : Headers.Heade
 pub record HasHeader (l : PlacedLine) (at : header.Header) : Type 0 where
   pub header : Headers.Header Cell
   pub seen : IsHeaderSeen l at header
-
--- where the normal and the order-only prerequisites stand in the joined text
-abbrev pub normal_span : header.Header → Span
-normal_span at = record { start = at.normal_start; end = at.normal_end }
-
-abbrev pub order_only_span : header.Header → Span
-order_only_span at = record { start = at.normal_end + (if at.has_order_only then 1 else 0); end = at.head_end }
 
 -- the parts of a rule's line stand at these places
 abbrev pub IsPlacedIn : PlacedLine → header.Header → Type 0

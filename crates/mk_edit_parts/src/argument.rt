@@ -5,7 +5,7 @@ ghost use Rattle.mk_class.specs.Keywords.{is_reserved_word};
 ghost use Rattle.mk_class.specs.Lists.{any};
 ghost use Rattle.mk_class.specs.RecipePrefix.{is_prefix_name};
 ghost use Rattle.mk_edit_laws.specs.ArgumentCauses.{Tested, are_targets, are_words, bad_argument, first_failed, is_place, names, place_names, place_targets, targets};
-ghost use Rattle.mk_edit_laws.specs.NewLines.{words_in};
+ghost use Rattle.mk_lines.specs.Words.{words_in};
 ghost use Rattle.mk_edit_parts.specs.EditViews.{edit_of, field_refusal, place_of};
 
 use crate::edit::{Edit, Place};

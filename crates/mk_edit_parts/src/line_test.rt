@@ -2,12 +2,12 @@
 //! recipe prefix unread.
 //!
 //! Each is given the class of the line, which the caller has at hand.
-ghost use Rattle.std.specs.Prelude.{◌≡◌, ◌≤◌};
+ghost use Rattle.std.specs.Prelude.{◌≡◌, ◌≤◌, length};
 ghost use Rattle.mk_class.specs.Texts.{is_one_of};
-ghost use Rattle.mk_edit_parts.specs.PlacedParts.{IsClassed, assigns_placed, is_rule_for_placed, is_target_placed, is_unread_placed, text_of_line, words_before};
+ghost use Rattle.mk_edit_parts.specs.PlacedParts.{IsClassed, assigns_placed, is_rule_for_placed, is_target_placed, is_unread_placed, words_before};
+ghost use Rattle.mk_tree.specs.PlacedLines.{text_of_line};
 ghost use Rattle.mk_lines.specs.Cells.{line_cells};
 ghost use Rattle.mk_tree.specs.Trees.{line_view};
-ghost use Rattle.std.specs.Prelude.{length};
 
 use crate::part::{part, text_of_line};
 use crate::text::{has_word, is_prefix_name, is_same_text};

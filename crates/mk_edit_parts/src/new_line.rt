@@ -3,7 +3,8 @@ ghost use Rattle.std.specs.Prelude.{◌≡◌, ◌==◌, ◌-◌, ◌*◌, ◌�
 ghost use Rattle.mk_class.specs.RecipePrefix.{is_prefix_led};
 ghost use Rattle.mk_lines.specs.PhysicalLines.{line_end_bytes};
 ghost use Rattle.mk_edit_laws.specs.declared.edit.Colons as colons;
-ghost use Rattle.mk_edit_laws.specs.NewLines.{assign_text, colons_text, each_spaced, joined_by_space, new_text, operator_text, rule_text, spaced, words_in};
+ghost use Rattle.mk_edit_laws.specs.NewLines.{assign_text, colons_text, each_spaced, joined_by_space, new_text, rule_text, spaced};
+ghost use Rattle.mk_lines.specs.Words.{words_in};
 ghost use Rattle.mk_edit_parts.specs.EditViews.{edit_of};
 
 use crate::edit::Edit;
@@ -12,21 +13,6 @@ use mk_edit_laws::Colons;
 use mk_lines::ends::End;
 use mk_lines::split_first_word;
 use std::alloc::{AllocError, Allocator};
-
-// The text of an operator.
-fn operator_text(flavor: Flavor) -> &'static [u8]
-    ensures { result.now ≡ operator_text flavor }
-{
-    match flavor {
-        Flavor::Recursive => b"=",
-        Flavor::Simple => b":=",
-        Flavor::PosixSimple => b"::=",
-        Flavor::Immediate => b":::=",
-        Flavor::Conditional => b"?=",
-        Flavor::Append => b"+=",
-        Flavor::Shell => b"!=",
-    }
-}
 
 // The text of a separator.
 fn colons_text(colons: Colons) -> &'static [u8]
@@ -96,7 +82,7 @@ pub fn new_len<A: Allocator>(edit: &Edit<A>) -> usize
 fn assign_len(name: &[u8], flavor: Flavor, value: &[u8]) -> usize
     ensures { result ≡ min (length (assign_text name.now flavor value.now)) (2 ^ 64 - 1) }
 {
-    let operator = operator_text(flavor).len();
+    let operator = flavor.text().len();
     name.len()
         .saturating_add(1 + operator)
         .saturating_add(spaced_len(value))
@@ -157,7 +143,7 @@ fn push_assign<A: Allocator>(
 {
     bytes.extend_from_slice(name)?;
     bytes.push(b' ')?;
-    bytes.extend_from_slice(operator_text(flavor))?;
+    bytes.extend_from_slice(flavor.text().as_bytes())?;
     push_spaced(bytes, value)
 }
 

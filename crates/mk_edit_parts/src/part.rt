@@ -2,7 +2,7 @@
 ghost use Rattle.std.specs.Prelude.{◌≡◌, ◌≤◌, drop, length};
 ghost use Rattle.mk_lines.specs.Ranges.{text_at};
 ghost use Rattle.mk_tree.specs.Trees.{line_view};
-ghost use Rattle.mk_edit_parts.specs.PlacedParts.{text_of_line};
+ghost use Rattle.mk_tree.specs.PlacedLines.{text_of_line};
 
 use mk_lines::split::Span;
 use mk_tree::Line;

@@ -2,16 +2,16 @@
 //! less.
 ghost use Rattle.std.specs.Prelude.{◌≡◌, ◌≤◌, ◌<◌, ◌+◌, ◌++◌, ◌^◌, ◌&&◌, ◌==◌, not, if◌then◌else◌, length, drop, IfOk, IsOk};
 ghost use Rattle.mk_lines.specs.PhysicalLines.{line_end, line_end_bytes};
-ghost use Rattle.mk_lines.specs.Cells.{Cell, line_cells, joined_text};
-ghost use Rattle.mk_lines.specs.Cells.{raw_text};
+ghost use Rattle.mk_lines.specs.Cells.{Cell, line_cells, joined_text, raw_text};
 ghost use Rattle.mk_lines.specs.Pieces.{new_bytes};
 ghost use Rattle.mk_lines.specs.Ranges.{text_at, word_ranges};
 ghost use Rattle.mk_class.specs.Headers;
 ghost use Rattle.mk_tree.specs.Trees.{line_view};
 ghost use Rattle.mk_edit_laws.specs.RuleCauses.{is_normal, is_order_only};
 ghost use Rattle.mk_edit_laws.specs.WordPieces.{add_pieces, remove_pieces};
-ghost use Rattle.mk_edit_parts.specs.PlacedParts.{text_of_line};
-ghost use Rattle.mk_edit_parts.specs.SeenHeaders.{HasHeader, IsHeaderSeen, normal_span, order_only_span};
+ghost use Rattle.mk_tree.specs.PlacedLines.{text_of_line};
+ghost use Rattle.mk_edit_parts.specs.SeenHeaders.{HasHeader, IsHeaderSeen};
+ghost use Rattle.mk_class.specs.LineParts.{order_only_span, normal_span};
 ghost use Rattle.mk_edit_parts.specs.WordCuts.{raw_between, without_words};
 ghost use Rattle.mk_edit_parts.specs.NewPrerequisites.{after_new, before_new, new_text, part_of_new, place_of_new, words_end};
 

@@ -4,7 +4,8 @@ ghost use Rattle.mk_lines.specs.Cells.{line_cells};
 ghost use Rattle.mk_tree.specs.Trees.{line_view};
 ghost use Rattle.mk_edit_parts.specs.PlacedParts.{IsClassed};
 ghost use Rattle.mk_edit_parts.specs.RenamedPlaces.{IsWithin, part_places, renamed_places};
-ghost use Rattle.mk_edit_parts.specs.RenamedTexts.{AreApart, renamed_text, written, written_to};
+ghost use Rattle.mk_edit_parts.specs.RenamedTexts.{AreApart, renamed_text, written};
+ghost use Rattle.mk_edit_parts.specs.WordCuts.{last_end};
 
 use crate::part::{part, rest, text_of_line};
 use crate::word_parts::{parts_of, place_of_word};
@@ -54,7 +55,7 @@ fn write_part<A: Allocator + Copy>(
 ) -> Result<usize, AllocError>
     requires within { IsWithin (length (line_cells (line_view line.now).bytes)) span }
     requires apart { AreApart done (length (line_view line.now).bytes) (part_places (line_cells (line_view line.now).bytes) from.now span) }
-    ensures end { IfOk result (λ end. end ≡ written_to done (part_places (line_cells (line_view line.now).bytes) from.now span)) }
+    ensures end { IfOk result (λ end. end ≡ last_end done (part_places (line_cells (line_view line.now).bytes) from.now span)) }
     ensures written { IfOk result (λ end. bytes.new.items ≡ bytes.old.items ++ written (line_view line.now).bytes done to.now (part_places (line_cells (line_view line.now).bytes) from.now span)) }
 {
     let mut done = done;

@@ -2,7 +2,7 @@
 ghost use Rattle.std.specs.Prelude.{◌≡◌};
 ghost use Rattle.mk_class.specs.RecipePrefix.{is_prefix_name};
 ghost use Rattle.mk_class.specs.Texts.{is_one_of, is_same_text};
-ghost use Rattle.mk_edit_laws.specs.NewLines.{words_in};
+ghost use Rattle.mk_lines.specs.Words.{words_in};
 
 use mk_lines::split_first_word;
 

@@ -4,11 +4,11 @@ use Rattle.std.specs.Prelude.{ℕ, nat_lt, if◌then◌else◌, List, [], ◌∷
 use Rattle.mk_history.specs.Machine.{Command, Refusal, EditRefused, NothingToUndo, NothingToRedo, GroupOpen, NoGroup, Machine, opened, answer, next, after_calls}
 use Rattle.mk_history.specs.Shown.{Shown, shown}
 
-abbrev pub append : ℕ → List ℕ → Result (List ℕ) ℕ
+abbrev append : ℕ → List ℕ → Result (List ℕ) ℕ
 append e t = if nat_lt e (length t) then Err 14 else Ok (t ++ e ∷ [])
 
 -- 0 where a call is done, 14 where the edit is refused, and else the number of the refusal
-abbrev pub reply_number : {X : Type 0} → Result X (Refusal ℕ) → ℕ
+abbrev reply_number : {X : Type 0} → Result X (Refusal ℕ) → ℕ
 reply_number (Ok x) = 0
 reply_number (Err (EditRefused r)) = r
 reply_number (Err NothingToUndo) = 16
@@ -16,7 +16,7 @@ reply_number (Err NothingToRedo) = 17
 reply_number (Err GroupOpen) = 18
 reply_number (Err NoGroup) = 19
 
-abbrev pub replies_from : (depth : ℕ) → List (Command ℕ) → Machine ℕ (List ℕ) → List ℕ
+abbrev replies_from : (depth : ℕ) → List (Command ℕ) → Machine ℕ (List ℕ) → List ℕ
 replies_from depth [] m = []
 replies_from depth (c ∷ cs) m = reply_number (answer append depth c m) ∷ replies_from depth cs (next append depth c m)
 

@@ -1,5 +1,6 @@
 -- What is promised of the session machine, of what is seen of it, and of a history as it is seen.
 use Rattle.std.specs.Prelude.{◌≡◌, ◌↔◌, ◌⊎◌, ℕ, ◌+◌, ◌≤◌, ◌<◌, List, [], ◌∷◌, ◌++◌, length, map, take, reverse, replicate, Option, Some, None, Result, Ok, Err, OnOk, OnErr, IfErr}
+use Rattle.mk_lines.specs.Lists.{concat}
 use Rattle.mk_history.specs.declared.history.HistoryError.{HistoryError}
 use Rattle.mk_history.specs.declared.history.HistoryError.TheVariants as error
 use Rattle.mk_history.specs.Chain.{Moves}
@@ -7,11 +8,6 @@ use Rattle.mk_history.specs.Stacks.{Stacks, Several, after_in_turn}
 use Rattle.mk_history.specs.Machine.{Command, Apply, Undo, Redo, Begin, End, Cancel, Refusal, NothingToUndo, NothingToRedo, GroupOpen, NoGroup, Machine, opened, answer, next, after_calls, text, settled, replay}
 use Rattle.mk_history.specs.Shown.{Shown, shown, shown_opened, shown_answer, shown_history, shown_session}
 use Rattle.mk_history.specs.Steps.{Reply, Granted, Refused, NoMemory, IsStep, IsRun}
-
--- the members' edits, one after the other
-abbrev pub flat : {E : Type 0} → List (List E) → List E
-flat [] = []
-flat (es ∷ members) = es ++ flat members
 
 -- once a group has an edit, nothing can be redone
 abbrev pub IsFresh : {E : Type 0} → (group : Option (List E)) → (undone : List (List E)) → Type 0
@@ -52,7 +48,7 @@ module _ {E T R : Type 0} (act : E → T → Result T R) where
 
   -- the text of the members is the first one after the edits that stand, in the order in which they were made
   abbrev pub Stands : Type 0
-  Stands = (m : Machine E T) → settled act m ≡ replay act m.first (flat (reverse m.done))
+  Stands = (m : Machine E T) → settled act m ≡ replay act m.first (concat (reverse m.done))
 
   -- the bounds hold after any calls
   abbrev pub StaysWithin : Type 0

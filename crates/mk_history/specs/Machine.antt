@@ -45,18 +45,18 @@ module _ {E T : Type 0} where
   ]
 
   -- the group was ended; an empty one leaves no member
-  abbrev pub ended : (depth : ℕ) → List E → Machine E T → Machine E T
+  abbrev ended : (depth : ℕ) → List E → Machine E T → Machine E T
   ended depth [] m = record m { group = None }
   ended depth (e ∷ es) m = closed depth (e ∷ es) (record m { group = None })
 
 module _ {E T R : Type 0} where
   -- the newest member is undone, if it is not among those that can't be
-  abbrev pub stepped_back : Machine E T → List (List E) → Result (Machine E T) (Refusal R)
+  abbrev stepped_back : Machine E T → List (List E) → Result (Machine E T) (Refusal R)
   stepped_back m [] = Err NothingToUndo
   stepped_back m (es ∷ done) = if nat_lt m.floor (length (es ∷ done)) then Ok (record m { done = done; undone = es ∷ m.undone }) else Err NothingToUndo
 
   -- the first of the undone members is made again
-  abbrev pub stepped_forward : Machine E T → List (List E) → Result (Machine E T) (Refusal R)
+  abbrev stepped_forward : Machine E T → List (List E) → Result (Machine E T) (Refusal R)
   stepped_forward m [] = Err NothingToRedo
   stepped_forward m (es ∷ undone) = Ok (record m { done = es ∷ m.done; undone = undone })
 

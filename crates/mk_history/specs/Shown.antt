@@ -29,7 +29,7 @@ module _ {E T R : Type 0} (act : E → T → Result T R) where
   texts_before t (es ∷ done) = text_of act t done ∷ texts_before t done
 
   -- the texts after each of the undone members
-  abbrev pub texts_after : T → List (List E) → List T
+  abbrev texts_after : T → List (List E) → List T
   texts_after t [] = []
   texts_after t (es ∷ undone) = replay act t es ∷ texts_after (replay act t es) undone
 

@@ -7,8 +7,8 @@
 //! edits, `T` the texts, `R` the causes for which an edit is refused, and `act` says what an edit
 //! makes of a text.
 //!
-//! Proofs cite the same laws from `proofs/on_histories`: `MachineLemmas`, `ShownLemmas` and
-//! `HistoryLemmas`.
+//! `proofs/on_histories` has the lemmas of those that the prover does not find by itself, which the
+//! crates above cite too: `MachineLemmas`, `ShownLemmas` and `HistoryLemmas`.
 ghost use Rattle.std.specs.Prelude.{Result};
 ghost use Rattle.mk_history.specs.Claims.{UndoesAll, RedoesUndo, Accepts, Cancels, Ends, Stands, StaysWithin, IsSeen, Follows, FollowsOpened, EditSteps, UndoSteps, RedoSteps, BeginSteps, GroupEditSteps, EndSteps, EmptyEndSteps, CancelSteps, GroupRefuses};
 

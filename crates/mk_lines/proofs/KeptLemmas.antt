@@ -1,21 +1,22 @@
 -- Lemmas on what is kept of the cells of a line.
 use Rattle.std.proofs.Common.{◌≡◌, refl, sym, ap, ◌∙◌, subst, ℕ, zero, suc, ◌+◌, ◌-◌, ◌<◌, ◌≤◌, Bool, true, false, cond, List, [], ◌∷◌, ◌++◌, map, length, take, ◌^◌, length-append, zero-add, get_or, arith}
 use Rattle.std.proofs.lemmas.List.{length-map}
-use Rattle.std.specs.Prelude.{nat_lt, ◌==◌, ◌&&◌, ◌||◌, All}
+use Rattle.std.specs.Prelude.{nat_lt, ◌==◌, ◌||◌, All}
 use Rattle.std.specs.List.{list_any}
 use Rattle.std.specs.List.Sorted.{IsNonDecreasingBy, IsPartitionPoint}
 use Rattle.std.proofs.lemmas.List.Elements.{All-nil, All-cons, All-push, All-weaker, All-head, All-tail}
 use Rattle.std.proofs.lemmas.List.Sorted.{IsNonDecreasingBy-short, IsNonDecreasingBy-push}
 use Rattle.std.proofs.lemmas.Bool.Decides.{nat_tests}
-use Rattle.mk_lines.specs.Bytes.{ByteKind, LineFeed, CarriageReturn, Backslash, Blank, Ordinary, byte_kind, is_backslash_kind}
+use Rattle.mk_lines.specs.Bytes.{ByteKind, LineFeed, CarriageReturn, Backslash, Blank, Ordinary, byte_kind}
 use Rattle.mk_lines.proofs.on_lists.ByteLemmas.{line_feed-byte}
 use Rattle.mk_lines.specs.PhysicalLines.{without_line_end}
 use Rattle.mk_lines.specs.Cells.{Cell, Byte, Fold, LfEnd, CrLfEnd, raw_text, raw_bytes, joined_byte, joined_text, prepend, cells, line_cells}
-use Rattle.mk_lines.specs.CellFaults.{has_bad_fold, is_fold_first, has_stray, is_stray, is_stray_by}
+use Rattle.mk_lines.specs.CellFaults.{has_bad_fold, has_stray, is_stray, is_stray_by}
 use Rattle.mk_lines.specs.Ranges.{raw_place}
 use Rattle.mk_lines.proofs.on_cells.CellLemmas.{AreCells, IsCell, cells-are_cells, raw_text-cells}
 use Rattle.mk_lines.specs.KeptCells.{KeptCells, AreCellsOf, AreInOrder, fold_ends, kept_cells, kept_text, kept_place, place_by_ends}
 use Rattle.mk_lines.specs.declared.cells.kept.FoldEnd.{FoldEnd}
+use Rattle.mk_lines.proofs.on_cells.LineCells.{bytes-no_bad_fold}
 
 -- ---- raw places
 
@@ -57,7 +58,7 @@ behind_fold at r cs n h i =
     ∙ (ap (place_by_ends (fold_ends (at + length r) cs) (length cs - n)) e ∙ (i ∙ l)))
 
 -- The folds' ends give the raw places. The first of the cells begins at `at`.
-pub place_by_fold_ends : (at : ℕ) (cs : List Cell) (n : ℕ) → n ≤ length cs → place_by_ends (fold_ends at cs) (length cs - n) (at + n) ≡ at + raw_place cs n
+place_by_fold_ends : (at : ℕ) (cs : List Cell) (n : ℕ) → n ≤ length cs → place_by_ends (fold_ends at cs) (length cs - n) (at + n) ≡ at + raw_place cs n
 place_by_fold_ends at [] zero h = refl
 place_by_fold_ends at [] (suc n) h = absurd (omega arith)
 place_by_fold_ends at (c ∷ cs) zero h = before_first at (c ∷ cs) (length (c ∷ cs) - 0) (at + 0) (omega arith)
@@ -93,7 +94,7 @@ rising_push end cs h =
     IsNonDecreasingBy-push (λ e. e.after) (fold_ends end cs) (record { after = length cs; raw_end = end }) h
     (λ d k. let l : length (fold_ends end cs) - 1 < length (fold_ends end cs) = omega arith in let m = below (length (fold_ends end cs) - 1) d l in omega (arith, m))
 
-pub ends_rise : (at : ℕ) (cs : List Cell) → IsNonDecreasingBy (λ e. e.after) (fold_ends at cs)
+ends_rise : (at : ℕ) (cs : List Cell) → IsNonDecreasingBy (λ e. e.after) (fold_ends at cs)
 ends_rise at [] = IsNonDecreasingBy-short (λ e. e.after) [] (omega arith)
 ends_rise at (Byte b ∷ cs) = ends_rise (at + 1) cs
 ends_rise at (Fold r ∷ cs) = rising_push (at + length r) cs (ends_rise (at + length r) cs)
@@ -122,7 +123,7 @@ within_push at r cs limit h k i =
     All-push (λ e. e.raw_end + e.after ≤ limit) (fold_ends (at + length r) cs) (record { after = length cs; raw_end = at + length r }) i (omega (arith, length-append r (raw_text cs)))
 
 -- the numbers of the folds' ends lie within the raw bytes
-pub ends_within : (at : ℕ) (cs : List Cell) (limit : ℕ) → AreCells cs → at + length (raw_text cs) ≤ limit → All (λ e. e.raw_end + e.after ≤ limit) (fold_ends at cs)
+ends_within : (at : ℕ) (cs : List Cell) (limit : ℕ) → AreCells cs → at + length (raw_text cs) ≤ limit → All (λ e. e.raw_end + e.after ≤ limit) (fold_ends at cs)
 ends_within at [] limit f h = All-nil (λ e. e.raw_end + e.after ≤ limit)
 ends_within at (Byte b ∷ cs) limit f h = ends_within (at + 1) cs limit f.2 (omega arith)
 ends_within at (Fold r ∷ cs) limit f h = within_push at r cs limit h (length-raw_text cs f.2) (ends_within (at + length r) cs limit f.2 (omega (arith, length-append r (raw_text cs))))
@@ -136,7 +137,7 @@ snoc-not_empty [] x h = cc
 snoc-not_empty (y ∷ xs) x h = cc
 
 -- the joined text of cells without folds is their raw text
-pub joined_text-no_ends : (at : ℕ) (cs : List Cell) → fold_ends at cs ≡ [] → joined_text cs ≡ raw_text cs
+joined_text-no_ends : (at : ℕ) (cs : List Cell) → fold_ends at cs ≡ [] → joined_text cs ≡ raw_text cs
 joined_text-no_ends at [] h = refl
 joined_text-no_ends at (Byte b ∷ cs) h = ap (λ z. b ∷ z) (joined_text-no_ends (at + 1) cs h)
 joined_text-no_ends at (Fold r ∷ cs) h = absurd (snoc-not_empty (fold_ends (at + length r) cs) (record { after = length cs; raw_end = at + length r }) h)
@@ -147,7 +148,7 @@ not_ten : (b : ℕ) → (byte_kind b ≡ LineFeed → ⊥) → b ≡ 10 → ⊥
 not_ten b h e = h (ap byte_kind e)
 
 -- they have no line feed
-pub no_ends-no_line_feed : (at : ℕ) (cs : List Cell) → AreCells cs → fold_ends at cs ≡ [] → All (λ b. b ≡ 10 → ⊥) (raw_text cs)
+no_ends-no_line_feed : (at : ℕ) (cs : List Cell) → AreCells cs → fold_ends at cs ≡ [] → All (λ b. b ≡ 10 → ⊥) (raw_text cs)
 no_ends-no_line_feed at [] f h = All-nil (λ b. b ≡ 10 → ⊥)
 no_ends-no_line_feed at (Byte b ∷ cs) f h = All-cons (λ b. b ≡ 10 → ⊥) b (raw_text cs) (not_ten b f.0) (no_ends-no_line_feed (at + 1) cs f.2 h)
 no_ends-no_line_feed at (Fold r ∷ cs) f h = absurd (snoc-not_empty (fold_ends (at + length r) cs) (record { after = length cs; raw_end = at + length r }) h)
@@ -165,30 +166,20 @@ prepend-bytes Blank b [] h = refl
 prepend-bytes Blank b (x ∷ t) h = refl
 prepend-bytes Ordinary b t h = refl
 
-pub cells-no_line_feed : (t : List ℕ) → All (λ b. b ≡ 10 → ⊥) t → cells t ≡ map Byte t
+cells-no_line_feed : (t : List ℕ) → All (λ b. b ≡ 10 → ⊥) t → cells t ≡ map Byte t
 cells-no_line_feed [] h = refl
 cells-no_line_feed (b ∷ t) h =
     ap (prepend (byte_kind b) b) (cells-no_line_feed t (All-tail (λ b. b ≡ 10 → ⊥) b t h))
     ∙ prepend-bytes (byte_kind b) b t (λ e. All-head (λ b. b ≡ 10 → ⊥) b t h (line_feed-byte b e))
 
-pub fold_ends-bytes : (at : ℕ) (t : List ℕ) → fold_ends at (map Byte t) ≡ []
+fold_ends-bytes : (at : ℕ) (t : List ℕ) → fold_ends at (map Byte t) ≡ []
 fold_ends-bytes at [] = refl
 fold_ends-bytes at (b ∷ t) = fold_ends-bytes (at + 1) t
-
-pub has_bad_fold-bytes : (t : List ℕ) → has_bad_fold (map Byte t) ≡ false
-has_bad_fold-bytes [] = refl
-has_bad_fold-bytes (b ∷ t) = go t (is_backslash_kind (byte_kind b)) (has_bad_fold-bytes t)
-  where
-    go : (t : List ℕ) (c : Bool) → has_bad_fold (map Byte t) ≡ false → ((c && is_fold_first (map Byte t)) || has_bad_fold (map Byte t)) ≡ false
-    go [] true h = refl
-    go [] false h = refl
-    go (x ∷ t) true h = h
-    go (x ∷ t) false h = h
 
 -- ---- stray bytes
 
 -- whether cells have a stray byte is told by their joined text
-pub has_stray-joined_text : (cs : List Cell) → has_stray cs ≡ list_any (λ b. is_stray_by (byte_kind b) (b == 0)) (joined_text cs)
+has_stray-joined_text : (cs : List Cell) → has_stray cs ≡ list_any (λ b. is_stray_by (byte_kind b) (b == 0)) (joined_text cs)
 has_stray-joined_text [] = refl
 has_stray-joined_text (c ∷ cs) = ap (λ z. is_stray c || z) (has_stray-joined_text cs)
 
@@ -197,13 +188,6 @@ has_stray-joined_text (c ∷ cs) = ap (λ z. is_stray c || z) (has_stray-joined_
 kept_text-some : (es : List FoldEnd) (cs : List Cell) → (es ≡ [] → ⊥) → kept_text es cs ≡ joined_text cs
 kept_text-some [] cs h = absurd (h refl)
 kept_text-some (e ∷ es) cs h = refl
-
--- a fold's end that a search finds
-pub found-not_below : (es : List FoldEnd) (after i : ℕ) → IsPartitionPoint (λ e. nat_lt e.after after ≡ true) (λ e. nat_lt e.after after ≡ false) es i
-    → (e : FoldEnd) → i < length es → e ≡ get_or es i e → after ≤ e.after
-found-not_below es after i h e l k =
-    let n : nat_lt e.after after ≡ false = ap (λ z. nat_lt z.after after) k ∙ h.1 i e (omega arith) l in
-    grind (arith, nat_tests)
 
 -- without folds the joined text is the line's own text
 pub plain-text : (kept : KeptCells) (line : List ℕ) → AreCellsOf kept line → [] ≡ kept.ends → without_line_end line ≡ joined_text (line_cells line)
@@ -274,7 +258,7 @@ plain_kept t h j e s p q r =
     ap (λ z. record { count = length t; joined = j; ends = e; bad_fold = false; stray = z }) r
     ∙ (kept_same (length t) (length (map Byte t)) j (kept_text (fold_ends 0 (map Byte t)) (map Byte t)) e (fold_ends 0 (map Byte t)) false (has_bad_fold (map Byte t))
     (list_any (λ b. is_stray_by (byte_kind b) (b == 0)) t) (has_stray (map Byte t))
-    (sym (length-map t Byte)) (p ∙ sym (kept_text-none (fold_ends 0 (map Byte t)) (map Byte t) f)) (q ∙ sym f) (sym (has_bad_fold-bytes t))
+    (sym (length-map t Byte)) (p ∙ sym (kept_text-none (fold_ends 0 (map Byte t)) (map Byte t) f)) (q ∙ sym f) (sym (bytes-no_bad_fold t))
     (ap (list_any (λ b. is_stray_by (byte_kind b) (b == 0))) (sym (joined_text-bytes t)) ∙ sym (has_stray-joined_text (map Byte t)))
     ∙ ap kept_cells (sym c))
 

@@ -147,7 +147,7 @@ line-from text last at first passes =
 -- ---- the ranges so far
 
 -- lines with the part of the first of them that was read before, if there is any
-abbrev pub with_begun : List ℕ → List (List ℕ) → List (List ℕ)
+abbrev with_begun : List ℕ → List (List ℕ) → List (List ℕ)
 with_begun [] lines = lines
 with_begun (b ∷ begun) lines = onto_first (b ∷ begun) lines
 

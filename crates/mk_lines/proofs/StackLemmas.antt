@@ -1,16 +1,16 @@
 -- Lemmas on the stack of cells, and on the bytes that make cells.
-use Rattle.std.proofs.Common.{◌≡◌, refl, sym, ap, ◌∙◌, subst, ℕ, zero, suc, ◌+◌, ◌-◌, ◌<◌, ◌≤◌, Bool, true, false, cond, not, ◌⊎◌, inl, inr, List, [], ◌∷◌, ◌++◌, map, length, take, drop, length-append, length-drop, get_or, arith, Option, None, Some, is_some, ⊎_elim}
+use Rattle.std.proofs.Common.{◌≡◌, refl, sym, ap, ◌∙◌, subst, ℕ, suc, ◌+◌, ◌-◌, ◌<◌, ◌≤◌, Bool, true, false, cond, not, ◌⊎◌, inl, inr, List, [], ◌∷◌, ◌++◌, map, length, take, drop, length-append, length-drop, get_or, arith, Option, None, Some, is_some, ⊎_elim}
 use Rattle.std.specs.Prelude.{◌==◌, ◌&&◌, ◌||◌, All}
 use Rattle.std.specs.List.{list_any, prefix_len}
 use Rattle.std.proofs.lemmas.List.{append-nil, drop-drop, take-append-drop, get_or-take, get_or-drop, length-take-le}
 use Rattle.std.proofs.lemmas.List.Elements.{All-from_get_or, All-head, All-tail}
-use Rattle.std.proofs.lemmas.Bool.{cases_lt}
+use Rattle.std.proofs.lemmas.Bool.{cases_lt, eqb-true}
 use Rattle.std.proofs.lemmas.Bool.Decides.{Decides-eqb}
 use Rattle.std.proofs.Math.Seq.{drop-append_seam, take-length}
 use Rattle.memchr.specs.Find.{IsFirstByte, Nowhere, Passes, is_byte, is_byte3}
 use Rattle.mk_lines.specs.Lists.{leading, after_leading, FirstFails}
 use Rattle.mk_lines.specs.Bytes.{ByteKind, LineFeed, CarriageReturn, Backslash, Blank, Ordinary, byte_kind, is_blank_kind, is_backslash_kind}
-use Rattle.mk_lines.proofs.on_lists.ByteLemmas.{line_feed-byte, carriage_return-byte, blank-byte}
+use Rattle.mk_lines.proofs.on_lists.ByteLemmas.{line_feed-byte, carriage_return-byte, blank-byte, search-any}
 use Rattle.mk_lines.specs.Cells.{Cell, Byte, Fold, LfEnd, CrLfEnd, raw_text, joined_byte, joined_text, is_blank_cell, prepend, cells}
 use Rattle.mk_lines.specs.CellFaults.{has_bad_fold, is_fold_first, is_stray_by}
 use Rattle.mk_lines.proofs.on_lists.ListLemmas.{leading-after_leading, leading-append_all, after_leading-append_all}
@@ -22,9 +22,6 @@ use Rattle.mk_lines.specs.declared.cells.stack.Top.{Top}
 use Rattle.mk_lines.specs.declared.cells.stack.Top.TheVariants as top
 
 -- ---- bytes
-
-equal : (b n : ℕ) → (b == n) ≡ true → b ≡ n
-equal b n h = (Decides-eqb b n).0 h
 
 different : (b n : ℕ) → (b == n) ≡ false → b ≡ n → ⊥
 different b n h e = let g : (b == n) ≡ true = (Decides-eqb b n).1 e in cc
@@ -45,12 +42,12 @@ blank_test b = split (b == 32) refl (b == 9) refl
         go (inr e) = absurd (n e)
 
     split : (c : Bool) → (b == 32) ≡ c → (d : Bool) → (b == 9) ≡ d → is_blank_kind (byte_kind b) ≡ (c || d)
-    split true e d f = ap (λ z. is_blank_kind (byte_kind z)) (equal b 32 e)
-    split false e true f = ap (λ z. is_blank_kind (byte_kind z)) (equal b 9 f)
+    split true e d f = ap (λ z. is_blank_kind (byte_kind z)) (eqb-true b 32 e)
+    split false e true f = ap (λ z. is_blank_kind (byte_kind z)) (eqb-true b 9 f)
     split false e false f = other (byte_kind b) refl (different b 32 e) (different b 9 f)
 
 -- how many blanks a text begins with
-pub prefix_len-blanks : (t : List ℕ) → prefix_len (λ b. b == 32 || b == 9) t ≡ length (leading (λ b. is_blank_kind (byte_kind b)) t)
+prefix_len-blanks : (t : List ℕ) → prefix_len (λ b. b == 32 || b == 9) t ≡ length (leading (λ b. is_blank_kind (byte_kind b)) t)
 prefix_len-blanks [] = refl
 prefix_len-blanks (b ∷ t) =
     ap (λ c. cond c (1 + prefix_len (λ b. b == 32 || b == 9) t) 0) (sym (blank_test b)) ∙ go (is_blank_kind (byte_kind b)) (leading (λ b. is_blank_kind (byte_kind b)) t) (prefix_len-blanks t)
@@ -65,17 +62,8 @@ counted-blanks text k n h =
     let w : take (length text - k) (drop k text) ≡ drop k text = ap (λ m. take m (drop k text)) (sym (length-drop k text)) ∙ take-length (drop k text) in
     h ∙ (ap (prefix_len (λ b. b == 32 || b == 9)) w ∙ prefix_len-blanks (drop k text))
 
--- no more than it has bytes
-pub length-blanks : (t : List ℕ) → length (leading (λ b. is_blank_kind (byte_kind b)) t) ≤ length t
-length-blanks [] = omega arith
-length-blanks (b ∷ t) = go (is_blank_kind (byte_kind b)) (leading (λ b. is_blank_kind (byte_kind b)) t) (length-blanks t)
-  where
-    go : (c : Bool) (l : List ℕ) → length l ≤ length t → length (cond c (b ∷ l) []) ≤ suc (length t)
-    go true l h = omega arith
-    go false l h = omega arith
-
 -- a stray byte is a NUL, a line feed or a carriage return
-pub stray_test : (b : ℕ) → is_stray_by (byte_kind b) (b == 0) ≡ is_byte3 0 10 13 b
+stray_test : (b : ℕ) → is_stray_by (byte_kind b) (b == 0) ≡ is_byte3 0 10 13 b
 stray_test b = split (b == 10) refl (b == 13) refl
   where
     or_false : (z : Bool) → z ≡ ((z || false) || false)
@@ -90,35 +78,13 @@ stray_test b = split (b == 10) refl (b == 13) refl
     other Blank h m n = or_false (b == 0)
 
     split : (c : Bool) → (b == 10) ≡ c → (d : Bool) → (b == 13) ≡ d → is_stray_by (byte_kind b) (b == 0) ≡ ((b == 0 || c) || d)
-    split true e d f = rw (equal b 10 e) refl
-    split false e true f = rw (equal b 13 f) refl
+    split true e d f = rw (eqb-true b 10 e) refl
+    split false e true f = rw (eqb-true b 13 f) refl
     split false e false f = other (byte_kind b) refl (different b 10 e) (different b 13 f)
-
-pub any_none : (test : ℕ → Bool) (t : List ℕ) → ((k : ℕ) → k < length t → test (get_or t k 0) ≡ true → ⊥) → list_any test t ≡ false
-any_none test [] h = refl
-any_none test (x ∷ t) h = go (test x) refl (any_none test t (λ k l. h (suc k) (omega arith)))
-  where
-    go : (c : Bool) → test x ≡ c → list_any test t ≡ false → (c || list_any test t) ≡ false
-    go true e i = absurd (h 0 (omega arith) e)
-    go false e i = i
-
-pub any_some : (test : ℕ → Bool) (t : List ℕ) (k : ℕ) → k < length t → test (get_or t k 0) ≡ true → list_any test t ≡ true
-any_some test [] k l h = absurd (omega arith)
-any_some test (x ∷ t) zero l h = rw h refl
-any_some test (x ∷ t) (suc k) l h = go (test x) (any_some test t k (omega arith) h)
-  where
-    go : (c : Bool) → list_any test t ≡ true → (c || list_any test t) ≡ true
-    go true i = refl
-    go false i = i
 
 any_same : (p q : ℕ → Bool) → ((b : ℕ) → p b ≡ q b) → (t : List ℕ) → list_any p t ≡ list_any q t
 any_same p q h [] = refl
 any_same p q h (b ∷ t) = rw (h b, any_same p q h t) refl
-
--- a search finds a byte where there is one
-search-any : (test : ℕ → Bool) (t : List ℕ) (r : Option ℕ) → IsFirstByte test t r → is_some r ≡ list_any test t
-search-any test t None h = sym (any_none test t (λ k l. h k (omega arith) l))
-search-any test t (Some k) h = sym (any_some test t k h.0.high h.1)
 
 -- a search for stray bytes
 pub search-stray : (t : List ℕ) (r : Option ℕ) → IsFirstByte (is_byte3 0 10 13) t r → is_some r ≡ list_any (λ b. is_stray_by (byte_kind b) (b == 0)) t
@@ -129,7 +95,7 @@ pub search-no_line_feed : (t : List ℕ) → IsFirstByte (is_byte 10) t None →
 search-no_line_feed t h = All-from_get_or (λ b. b ≡ 10 → ⊥) t 0 (λ k l e. h k (omega arith) l ((Decides-eqb (get_or t k 0) 10).1 e))
 
 -- a place that was found behind another, by the place in the whole text
-abbrev pub further : ℕ → Option ℕ → Option ℕ
+abbrev further : ℕ → Option ℕ → Option ℕ
 further first None = None
 further first (Some n) = Some (first + n)
 
@@ -138,7 +104,7 @@ pub search-further : (t : List ℕ) (first : ℕ) (r : Option ℕ) → IsFirstBy
 search-further t first r h g = moved r (subst (λ u. IsFirstByte (is_byte 10) u r) (ap (λ m. take m (drop first t)) (sym (length-drop first t)) ∙ take-length (drop first t)) g)
   where
     before : (k : ℕ) → k < first → Passes (is_byte 10) t k → ⊥
-    before k l e = let feed : get_or t k 0 ≡ 10 = equal (get_or t k 0) 10 e in h.0.before k (omega arith) l (rw feed refl)
+    before k l e = let feed : get_or t k 0 ≡ 10 = eqb-true (get_or t k 0) 10 e in h.0.before k (omega arith) l (rw feed refl)
 
     -- at a place behind the first stray byte
     at : (k : ℕ) → first ≤ k → get_or (drop first t) (k - first) 0 ≡ get_or t k 0

@@ -4,11 +4,12 @@ use Rattle.std.specs.Prelude.{◌==◌, Option, Some, None, MatchOption}
 use Rattle.std.specs.Option.{UnwrapsOrElse}
 use Rattle.std.proofs.lemmas.Bool.Decides.{Decides-eqb}
 use Rattle.std.proofs.Math.Seq.{take-length, take-append_seam, drop-append_seam}
+use Rattle.std.proofs.lemmas.Bool.{eqb-true}
 use Rattle.mk_lines.specs.Lists.{concat, leading, after_leading, FirstFails}
 use Rattle.mk_lines.proofs.on_lists.ListLemmas.{leading-after_leading, after_leading-first_fails, concat-append}
 use Rattle.mk_lines.specs.Cut.{state_after, continuation, pieces}
 use Rattle.mk_lines.proofs.on_lists.CutLemmas.{continuation-start}
-use Rattle.mk_lines.specs.Bytes.{byte_kind, is_blank_kind, ByteKind}
+use Rattle.mk_lines.specs.Bytes.{byte_kind, is_blank_kind, ByteKind, is_blank_byte}
 use Rattle.mk_lines.specs.Bytes.ByteKind.{LineFeed, CarriageReturn, Backslash, Blank, Ordinary}
 use Rattle.mk_lines.proofs.on_lists.ByteLemmas.{blank-mark}
 use Rattle.mk_lines.specs.Units.{Mark, byte_mark, UnitState, next_unit_state, begins_unit, is_between, units, unit_step, unit_begins, is_closed}
@@ -19,26 +20,23 @@ use Rattle.mk_lines.specs.FirstUnit.{first_unit, after_first_unit}
 use Rattle.mk_lines.proofs.on_units.FirstUnitLemmas.{units-first_unit}
 use Rattle.mk_lines.specs.Words.{Token, Gap, Word, tokens, token_words, words, before_tokens, is_gap}
 use Rattle.mk_lines.specs.Ranges.{piece_ranges, word_token_ranges}
-use Rattle.mk_lines.specs.UnitWalk.{after_close, is_blank_byte, after_word, units_left, words_left}
+use Rattle.mk_lines.specs.UnitWalk.{after_close, after_word, units_left, words_left}
 use Rattle.mk_lines.specs.declared.split.Span.{Span}
 
 -- ---- bytes and marks
-
-same_byte : (b n : ℕ) → (b == n) ≡ true → b ≡ n
-same_byte b n h = (Decides-eqb b n).0 h
 
 other_byte : (b n : ℕ) → b ≢ n → (b == n) ≡ false
 other_byte b n h = go (b == n) refl
   where
     go : (c : Bool) → (b == n) ≡ c → c ≡ false
-    go true e = absurd (h (same_byte b n e))
+    go true e = absurd (h (eqb-true b n e))
     go false e = refl
 
 choice : (P : Mark → Type 0) (b n : ℕ) (m l : Mark) → (b ≡ n → P m) → (b ≢ n → P l) → P (cond (b == n) m l)
 choice P b n m l h k = go (b == n) refl
   where
     go : (c : Bool) → (b == n) ≡ c → P (cond c m l)
-    go true e = h (same_byte b n e)
+    go true e = h (eqb-true b n e)
     go false e = k (λ f. (cc ((Decides-eqb b n).1 f, e)))
 
 -- what holds of the mark of a byte holds of its six and of no mark
@@ -133,18 +131,18 @@ module _ (inside : ℕ → UnitState) (opening closing : ℕ) (laws : IsReferenc
           (cond d (cond (n == 0) (Some t) (after_close opening closing (n - 1) t)) (after_close opening closing n t)))
       by_tests n true e d f ih =
           let g : n + 1 ≡ suc n = omega arith in
-          one_more n b t (inside (suc n)) _ (laws.at_open n b (same_byte b opening e)) (rw g (ih (suc n)))
-      by_tests zero false e true f ih = one_more zero b t Between (Some t) (laws.at_last b (same_byte b closing f)) (after_piece-between t, refl)
+          one_more n b t (inside (suc n)) _ (laws.at_open n b (eqb-true b opening e)) (rw g (ih (suc n)))
+      by_tests zero false e true f ih = one_more zero b t Between (Some t) (laws.at_last b (eqb-true b closing f)) (after_piece-between t, refl)
       by_tests (suc n) false e true f ih =
           let g : suc n - 1 ≡ n = omega arith in
           let z : (suc n == 0) ≡ false = other_byte (suc n) 0 (λ h. absurd (omega arith)) in
-          one_more (suc n) b t (inside n) _ (laws.at_close n b (same_byte b closing f)) (rw (z, g) (ih n))
+          one_more (suc n) b t (inside n) _ (laws.at_close n b (eqb-true b closing f)) (rw (z, g) (ih n))
       by_tests n false e false f ih = one_more n b t (inside n) _ (laws.at_other n b (λ h. (cc ((Decides-eqb b opening).1 h, e))) (λ h. (cc ((Decides-eqb b closing).1 h, f)))) (ih n)
 
 -- ---- the unit at the front of a text
 
 -- what an answer on what follows the first unit of a text says
-abbrev pub AfterUnit : List ℕ → Option (List ℕ) → Type 0
+abbrev AfterUnit : List ℕ → Option (List ℕ) → Type 0
 AfterUnit t None = (after_first_unit (λ b. b) t ≡ []) × (is_closed (λ b. b) t ≡ false)
 AfterUnit t (Some r) = (r ≡ after_first_unit (λ b. b) t) × (is_closed (λ b. b) t ≡ is_closed (λ b. b) r)
 
@@ -160,22 +158,22 @@ after_reference b s t None e h = (after_first_unit-piece 36 (b ∷ t) ∙ rw e (
 after_reference b s t (Some r) e h = (sym (after_first_unit-piece 36 (b ∷ t) ∙ rw e (h.0)), rw e (ap is_between h.1))
 
 -- a reference in parentheses, and one in braces
-pub AfterUnit-parens : (t : List ℕ) → AfterUnit (36 ∷ 40 ∷ t) (after_close 40 41 0 t)
+AfterUnit-parens : (t : List ℕ) → AfterUnit (36 ∷ 40 ∷ t) (after_close 40 41 0 t)
 AfterUnit-parens t = after_reference 40 (InParens 0) t (after_close 40 41 0 t) refl (after_close-agrees InParens 40 41 parens 0 t)
 
-pub AfterUnit-braces : (t : List ℕ) → AfterUnit (36 ∷ 123 ∷ t) (after_close 123 125 0 t)
+AfterUnit-braces : (t : List ℕ) → AfterUnit (36 ∷ 123 ∷ t) (after_close 123 125 0 t)
 AfterUnit-braces t = after_reference 123 (InBraces 0) t (after_close 123 125 0 t) refl (after_close-agrees InBraces 123 125 braces 0 t)
 
 -- ---- the ranges of the units that are left
 
 -- the first unit and what follows it are the text
-pub first_unit-after : (x : ℕ) (t : List ℕ) → first_unit (λ b. b) (x ∷ t) ++ after_first_unit (λ b. b) (x ∷ t) ≡ x ∷ t
+first_unit-after : (x : ℕ) (t : List ℕ) → first_unit (λ b. b) (x ∷ t) ++ after_first_unit (λ b. b) (x ∷ t) ≡ x ∷ t
 first_unit-after x t =
     ap (λ r. first_unit (λ b. b) (x ∷ t) ++ r) (sym (concat-units (λ b. b) (after_first_unit (λ b. b) (x ∷ t))))
     ∙ (ap concat (sym (units-first_unit (λ b. b) x t)) ∙ concat-units (λ b. b) (x ∷ t))
 
 -- what follows the first unit is shorter than the text
-pub after_first_unit-shorter : (x : ℕ) (t : List ℕ) → length (after_first_unit (λ b. b) (x ∷ t)) < length (x ∷ t)
+after_first_unit-shorter : (x : ℕ) (t : List ℕ) → length (after_first_unit (λ b. b) (x ∷ t)) < length (x ∷ t)
 after_first_unit-shorter x t =
     let n : length (first_unit (λ b. b) (x ∷ t)) + length (after_first_unit (λ b. b) (x ∷ t)) ≡ length (x ∷ t) =
     sym (length-append (first_unit (λ b. b) (x ∷ t)) (after_first_unit (λ b. b) (x ∷ t))) ∙ ap length (first_unit-after x t) in
@@ -187,7 +185,7 @@ end_of_first : (n a b c : ℕ) → a + b ≡ c → c ≤ n → n - c + a ≡ n -
 end_of_first n a b c e h = omega arith
 
 -- the first of the units that are left, and the others
-pub units_left-first : (n x : ℕ) (t r : List ℕ) → r ≡ after_first_unit (λ b. b) (x ∷ t) → length (x ∷ t) ≤ n
+units_left-first : (n x : ℕ) (t r : List ℕ) → r ≡ after_first_unit (λ b. b) (x ∷ t) → length (x ∷ t) ≤ n
     → units_left n (x ∷ t) ≡ record { start = n - length (x ∷ t); end = n - length r } ∷ units_left n r
 units_left-first n x t r e h =
     let u = first_unit (λ b. b) (x ∷ t) in
@@ -260,7 +258,7 @@ units-after_word t =
     units-last (λ b. b) t (leading p (units (λ b. b) t)) (after_leading p (units (λ b. b) t)) (sym (leading-after_leading p (units (λ b. b) t)))
 
 -- what follows a word is no longer than the text
-pub after_word-length : (t : List ℕ) → length (after_word t) ≤ length t
+after_word-length : (t : List ℕ) → length (after_word t) ≤ length t
 after_word-length t =
     let n : length (concat (leading (λ u. not (is_gap (λ b. b) u)) (units (λ b. b) t))) + length (after_word t) ≡ length t =
     sym (length-append (concat (leading (λ u. not (is_gap (λ b. b) u)) (units (λ b. b) t))) (after_word t)) ∙ ap length (after_word-split t) in
@@ -285,7 +283,7 @@ tokens-word_first x t h =
         ∙ ap (λ g. cond (not g) (after_leading (λ u. not (is_gap (λ b. b) u)) (units (λ b. b) (after_first_unit (λ b. b) (x ∷ t)))) (first_unit (λ b. b) (x ∷ t) ∷ units (λ b. b) (after_first_unit (λ b. b) (x ∷ t)))) (first_unit-not_gap x t h)
 
 -- the first of the words that are left, and the others
-pub words_left-first : (n x : ℕ) (t : List ℕ) → is_blank_byte x ≡ false → length (x ∷ t) ≤ n
+words_left-first : (n x : ℕ) (t : List ℕ) → is_blank_byte x ≡ false → length (x ∷ t) ≤ n
     → words_left n (x ∷ t) ≡ record { start = n - length (x ∷ t); end = n - length (after_word (x ∷ t)) } ∷ words_left n (after_word (x ∷ t))
 words_left-first n x t h k =
     let w = leading (λ u. not (is_gap (λ b. b) u)) (units (λ b. b) (x ∷ t)) in
@@ -367,7 +365,7 @@ two_first (x ∷ y ∷ t) a b h e f =
     rw (n, take-length t, e, f) refl
 
 -- what the answer on a closing bracket says of the first unit
-abbrev pub IsAfterUnit : List ℕ → Option (Bor (List ℕ)) → Type 0
+abbrev IsAfterUnit : List ℕ → Option (Bor (List ℕ)) → Type 0
 IsAfterUnit s r =
     MatchOption r (after_first_unit (λ b. b) s ≡ []) (λ q. q.now ≡ after_first_unit (λ b. b) s)
     × MatchOption r (is_closed (λ b. b) s ≡ false) (λ q. is_closed (λ b. b) s ≡ is_closed (λ b. b) q.now)
@@ -430,11 +428,6 @@ after_first_unit-length s = omega (arith, length-drop (length (first_unit (λ b.
 pub after_first_unit-less : (s r : List ℕ) → r ≡ after_first_unit (λ b. b) s → 0 < length s → length r < length s
 after_first_unit-less [] r e h = absurd (omega arith)
 after_first_unit-less (x ∷ t) r e h = omega (arith, ap length e, after_first_unit-shorter x t)
-
--- the empty text has no unit to follow
-pub after_first_unit-empty : (s : List ℕ) → (length s == 0) ≡ true → s ≡ after_first_unit (λ b. b) s
-after_first_unit-empty [] h = refl
-after_first_unit-empty (x ∷ t) h = absurd (let z : (suc (length t) == 0) ≡ false = other_byte (suc (length t)) 0 (λ i. absurd (omega arith)) in cc)
 
 -- ---- the first of a text cut off
 

@@ -4,4 +4,3 @@ pub mod LineCells
 pub mod LineOfCells
 pub mod CellsOfLine
 pub mod CellsReplaced
-pub mod KeptCellLemmas

@@ -24,6 +24,10 @@ abbrev pub is_blank_kind : ByteKind → Bool
 is_blank_kind Blank = true
 is_blank_kind k = false
 
+-- whether a byte is a blank
+abbrev pub is_blank_byte : ℕ → Bool
+is_blank_byte b = is_blank_kind (byte_kind b)
+
 -- whether a byte of this kind is a backslash
 abbrev pub is_backslash_kind : ByteKind → Bool
 is_backslash_kind Backslash = true

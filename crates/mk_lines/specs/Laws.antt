@@ -2,7 +2,7 @@
 use Rattle.std.specs.Prelude.{◌≡◌, ℕ, List, [], ◌∷◌, ◌++◌, map, true, not, take, drop}
 use Rattle.mk_lines.specs.Lists.{concat}
 use Rattle.mk_lines.specs.PhysicalLines.{line_end, line_end_bytes, without_line_end, file_line_end}
-use Rattle.mk_lines.specs.LogicalLines.{logical_lines, ends_line}
+use Rattle.mk_lines.specs.LogicalLines.{logical_lines, EndsWhereFollowed}
 use Rattle.mk_lines.specs.Cells.{joined_byte, joined_text, raw_text, line_cells, NoLineEnds}
 use Rattle.mk_lines.specs.Units.{units, is_closed}
 use Rattle.mk_lines.specs.FirstUnit.{first_unit, after_first_unit, leaves_open}
@@ -18,11 +18,6 @@ LinesJoined = (text : List ℕ) → concat (logical_lines text) ≡ text
 -- each logical line is, by itself, one logical line
 abbrev pub LinesAreSingle : Type 0
 LinesAreSingle = (text line : List ℕ) (above below : List (List ℕ)) → logical_lines text ≡ above ++ line ∷ below → logical_lines line ≡ line ∷ []
-
--- where some lines follow a text, it ends a line
-abbrev pub EndsWhereFollowed : List ℕ → List (List ℕ) → Type 0
-EndsWhereFollowed text [] = Unit {0}
-EndsWhereFollowed text (line ∷ lines) = ends_line text ≡ true
 
 -- Logical lines are local: where a run of lines is replaced by a text, the lines above and below stay, and those of the text
 -- stand between them. The text has to end a line where lines stand below; and where the run is empty and nothing stands

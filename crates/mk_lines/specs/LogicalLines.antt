@@ -57,6 +57,6 @@ ends_line [] = true
 ends_line (b ∷ t) = not (has_no_line_end (line_end (b ∷ t))) && not (is_continued (b ∷ t))
 
 -- a text ends a line where lines follow it
-abbrev pub EndsLineBefore : List ℕ → List (List ℕ) → Type 0
-EndsLineBefore t [] = Unit {0}
-EndsLineBefore t (l ∷ ls) = ends_line t ≡ true
+abbrev pub EndsWhereFollowed : List ℕ → List (List ℕ) → Type 0
+EndsWhereFollowed t [] = Unit {0}
+EndsWhereFollowed t (l ∷ ls) = ends_line t ≡ true

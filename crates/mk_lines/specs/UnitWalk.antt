@@ -1,7 +1,6 @@
 -- Units and words one after the other: what follows the first of a text, and the ranges of those that are left of it.
-use Rattle.std.specs.Prelude.{ℕ, ◌+◌, ◌-◌, ◌==◌, if◌then◌else◌, Bool, not, Option, Some, None, List, [], ◌∷◌, length}
+use Rattle.std.specs.Prelude.{ℕ, ◌+◌, ◌-◌, ◌==◌, if◌then◌else◌, not, Option, Some, None, List, [], ◌∷◌, length}
 use Rattle.mk_lines.specs.Lists.{concat, after_leading}
-use Rattle.mk_lines.specs.Bytes.{byte_kind, is_blank_kind}
 use Rattle.mk_lines.specs.Units.{units}
 use Rattle.mk_lines.specs.Words.{is_gap, tokens}
 use Rattle.mk_lines.specs.Ranges.{piece_ranges, word_token_ranges}
@@ -15,10 +14,6 @@ after_close opening closing depth (b ∷ t) =
     if b == opening then after_close opening closing (depth + 1) t else
     if b == closing then (if depth == 0 then Some t else after_close opening closing (depth - 1) t) else
     after_close opening closing depth t
-
--- whether a byte is a blank
-abbrev pub is_blank_byte : ℕ → Bool
-is_blank_byte b = is_blank_kind (byte_kind b)
 
 -- a text from its first unit on that is a single blank
 abbrev pub after_word : List ℕ → List ℕ

@@ -59,3 +59,7 @@ module _ {A : Type 0} (byte : A → ℕ) where
   AreTokens [] = Unit {0}
   AreTokens (Gap u ∷ ts) = (is_gap u ≡ true) × AreTokens ts
   AreTokens (Word w ∷ ts) = IsWord w × (is_word_first ts ≡ false) × AreTokens ts
+
+-- the words of an argument that may have several
+abbrev pub words_in : List ℕ → List (List ℕ)
+words_in t = words (λ b. b) t

@@ -9,7 +9,8 @@ ghost use Rattle.std.specs.Prelude.{◌≡◌, ◌<◌, ◌≤◌, [], ◌∷◌
 ghost use Rattle.mk_lines.specs.Lists.{after_leading};
 ghost use Rattle.mk_lines.specs.Ranges.{word_ranges};
 ghost use Rattle.mk_lines.specs.Words.{words};
-ghost use Rattle.mk_lines.specs.UnitWalk.{is_blank_byte, after_word};
+ghost use Rattle.mk_lines.specs.UnitWalk.{after_word};
+ghost use Rattle.mk_lines.specs.Bytes.{is_blank_byte};
 
 use crate::iter::Words;
 use crate::unit::after_first_unit;

@@ -1,11 +1,9 @@
 -- The text of what an assignment and the header of a rule consist of.
 use Rattle.std.specs.Prelude.{ℕ, List, [], ◌∷◌, ◌++◌, map, Option, Some, None, codes, decimal}
-use Rattle.mk_class.specs.declared.assignment.Flavor.{Flavor}
-use Rattle.mk_class.specs.declared.assignment.Flavor.TheVariants.{Recursive, Simple, PosixSimple, Immediate, Conditional, Append, Shell}
 use Rattle.mk_class.specs.declared.assignment.Modifier.{Modifier}
 use Rattle.mk_class.specs.declared.assignment.Modifier.TheVariants.{Override, Export, Private}
 use Rattle.mk_class.specs.declared.rule.Separator.{Separator}
-use Rattle.mk_class.specs.declared.rule.Separator.TheVariants.{SingleColon, DoubleColon, GroupedColon, GroupedDoubleColon}
+use Rattle.mk_class.specs.OperatorTexts.{operator_text, separator_text}
 use Rattle.mk_tree.specs.Items.{Assigned, Sets}
 use Rattle.mk_queries.specs.Spacing.{spaced, each_after_space, each_before_space, after_space}
 
@@ -16,27 +14,12 @@ modifier_text Override = codes "override"
 modifier_text Export = codes "export"
 modifier_text Private = codes "private"
 
-abbrev pub operator_text : Flavor → List ℕ
-operator_text Recursive = codes "="
-operator_text Simple = codes ":="
-operator_text PosixSimple = codes "::="
-operator_text Immediate = codes ":::="
-operator_text Conditional = codes "?="
-operator_text Append = codes "+="
-operator_text Shell = codes "!="
-
 -- an assignment up to the end of its line: each modifier before a space, the name, a space, the operator, and the value after a
 -- space where it is not empty
 abbrev pub assigned_text : Assigned → List ℕ
 assigned_text (Sets ms n f v) = each_before_space (map modifier_text ms) ++ (n ++ (codes " " ++ (operator_text f ++ (after_space v ++ codes "\n"))))
 
 -- ---- headers
-
-abbrev pub separator_text : Separator → List ℕ
-separator_text SingleColon = codes ":"
-separator_text DoubleColon = codes "::"
-separator_text GroupedColon = codes "&:"
-separator_text GroupedDoubleColon = codes "&::"
 
 -- targets with one space between them, and the separator
 abbrev pub targets_text : List (List ℕ) → Separator → List ℕ

@@ -1,9 +1,9 @@
 -- What the code says of a line, by the places of its parts in the joined text of the line.
 use Rattle.std.specs.Prelude.{◌≡◌, ℕ, ◌+◌, ◌-◌, ◌≤◌, if◌then◌else◌, List, [], ◌++◌, Option, Some, None, codes}
-use Rattle.mk_lines.specs.Cells.{joined_byte, joined_text, line_cells}
+use Rattle.mk_lines.specs.Cells.{joined_byte}
 use Rattle.mk_lines.specs.Ranges.{text_at}
 use Rattle.mk_lines.specs.declared.split.Span.{Span}
-use Rattle.mk_lines.specs.Words.{words}
+use Rattle.mk_lines.specs.Words.{words_in}
 use Rattle.mk_class.specs.Separators.{separator_length}
 use Rattle.mk_class.specs.Contexts.{Context}
 use Rattle.mk_class.specs.ClassTable.{class_of}
@@ -13,22 +13,16 @@ use Rattle.mk_class.specs.declared.assignment.TargetAssignment as target_assignm
 use Rattle.mk_class.specs.declared.rule.Header as header
 use Rattle.mk_class.specs.declared.class.Class as class
 use Rattle.mk_class.specs.declared.class.Class.TheVariants as variants
+use Rattle.mk_class.specs.LineParts.{normal_span, order_only_span}
+use Rattle.mk_class.specs.OperatorTexts.{operator_text}
 use Rattle.mk_tree.specs.PlacedLines.{PlacedLine}
 use Rattle.mk_queries.specs.Spacing.{each_after_space, each_before_space, after_space}
-use Rattle.mk_queries.specs.PartTexts.{operator_text, targets_text, pattern_text, order_only_text, count_text}
+use Rattle.mk_queries.specs.PartTexts.{targets_text, pattern_text, order_only_text, count_text}
 use Rattle.mk_queries.specs.ItemLines.{place_text}
 
 -- a line has the class that it has in a context
 abbrev pub IsClassedIn : Context → PlacedLine → Type 0
 IsClassedIn c l = l.class ≡ class_places joined_byte (class_of c l.bytes)
-
--- the joined text of a line
-abbrev pub text_of_line : PlacedLine → List ℕ
-text_of_line l = joined_text (line_cells l.bytes)
-
--- the words of a text
-abbrev pub words_in : List ℕ → List (List ℕ)
-words_in t = words (λ b. b) t
 
 -- the words of a part of a text
 abbrev pub words_at : List ℕ → (start end : ℕ) → List (List ℕ)
@@ -68,13 +62,6 @@ variable_placed n d t k = []
 -- where the pattern stands, and the second `:` after it, where there is one
 abbrev pub pattern_span : header.Header → Span
 pattern_span at = record { start = at.targets_end + separator_length at.separator; end = at.normal_start - (if at.has_pattern then 1 else 0) }
-
--- where the normal and the order-only prerequisites stand
-abbrev pub normal_span : header.Header → Span
-normal_span at = record { start = at.normal_start; end = at.normal_end }
-
-abbrev pub order_only_span : header.Header → Span
-order_only_span at = record { start = at.normal_end + (if at.has_order_only then 1 else 0); end = at.head_end }
 
 -- a range stands in a text of a length
 pub record IsSpanWithin (length : ℕ) (s : Span) : Type 0 where

@@ -3,9 +3,9 @@ use Rattle.std.specs.Prelude.{ℕ, zero, suc, List, [], ◌∷◌, ◌++◌, map
 use Rattle.mk_lines.specs.Lists.{concat}
 use Rattle.mk_class.specs.Contexts.{Context}
 use Rattle.mk_class.specs.ClassedLines.{classed_lines}
-use Rattle.mk_tree.specs.LineTexts.{context_of}
+use Rattle.mk_tree.specs.LineTexts.{context_of, StandingLine}
 use Rattle.mk_tree.specs.Items.{Item, items_of_line}
-use Rattle.mk_queries.specs.StandingLines.{StandingLine, standing_lines, line_number, depth, recipe_count}
+use Rattle.mk_queries.specs.StandingLines.{standing_lines, line_number, depth, recipe_count}
 use Rattle.mk_queries.specs.ItemLines.{variable_line, rule_line, unread_line}
 
 -- what is said of some lines in order: of each what is said of its item, where it has one

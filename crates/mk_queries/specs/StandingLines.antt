@@ -2,13 +2,8 @@
 use Rattle.std.specs.Prelude.{ℕ, ◌+◌, List, [], ◌∷◌, ◌++◌, length}
 use Rattle.mk_lines.specs.PhysicalLines.{physical_lines}
 use Rattle.mk_class.specs.ClassedLines.{ClassedLine, classed_lines}
-use Rattle.mk_tree.specs.LineTexts.{text_of, context_of}
+use Rattle.mk_tree.specs.LineTexts.{text_of, context_of, StandingLine}
 use Rattle.mk_tree.specs.RecipeLines.{recipe_lines}
-
-pub record StandingLine : Type 0 where
-  pub above : List ClassedLine
-  pub line : ClassedLine
-  pub below : List ClassedLine
 
 -- some lines where they stand, below others
 abbrev pub standing_below : (above : List ClassedLine) → List ClassedLine → List StandingLine

@@ -3,8 +3,8 @@ use Rattle.std.specs.Prelude.{◌==◌, ℕ, ◌+◌, if◌then◌else◌, Optio
 use Rattle.mk_class.specs.Contexts.{Context, context_after_places}
 use Rattle.mk_class.specs.declared.class.Class as class
 use Rattle.mk_class.specs.declared.class.Class.TheVariants as variants
-use Rattle.mk_tree.specs.PlacedLines.{PlacedLine}
-use Rattle.mk_queries.specs.PlacedTexts.{text_of_line, variable_placed, count_placed, rule_placed, counted_after}
+use Rattle.mk_tree.specs.PlacedLines.{PlacedLine, text_of_line}
+use Rattle.mk_queries.specs.PlacedTexts.{variable_placed, count_placed, rule_placed, counted_after}
 
 -- how many line feeds there are in a text
 abbrev pub line_feeds : List ℕ → ℕ

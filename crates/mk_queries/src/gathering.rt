@@ -1,44 +1,11 @@
-//! Texts on their way to a sink. Short ones are held back, so that they go out together in few writes.
+//! Several texts that are held back on their way to a sink.
 ghost use Rattle.std.specs.Prelude.{◌≡◌, ◌++◌, false, true, IfErr, OnOk};
 ghost use Rattle.mk_lines.specs.Device.{AppendsPrefix, text_of_parts};
 ghost use Rattle.mk_tree.specs.Printing.{AppendsSoFar};
 
-use arrayvec::ArrayVec;
 use mk_lines::Fault;
-use mk_lines::sink::{ByteSink, write_all};
-
-/// The bytes that are held back. They stand here, so that no memory is taken.
-pub(crate) type Gathered = ArrayVec<u8, 16_384>;
-
-/// Puts a text behind those that are held back. Where it has no room, those go out first.
-///
-/// # Errors
-///
-/// [`Fault::Write`] where a write answered it or took nothing. A prefix of what was held back and of
-/// the text is out then.
-pub(crate) fn put<W: ByteSink>(
-    gathered: &mut Gathered,
-    out: &mut W,
-    text: &[u8],
-) -> Result<(), Fault>
-    requires { W.failed out.old ≡ false }
-    ensures whole { OnOk result (AppendsSoFar (W.contents out.old) (W.contents out.new) (gathered.old.items ++ text.now) gathered.new.items) }
-    ensures prefix { AppendsPrefix (W.contents out.old) (W.contents out.new) (gathered.old.items ++ text.now) }
-    ensures works { OnOk result (W.failed out.new ≡ false) }
-    ensures fault { IfErr result (λ e. (e ≡ Fault.Write) × (W.failed out.new ≡ true)) }
-    ensures unflushed { W.flushes out.new ≡ W.flushes out.old }
-{
-    if gathered.try_extend_from_slice(text).is_ok() {
-        return Ok(());
-    }
-    write_all(out, gathered)?;
-    gathered.clear();
-    if gathered.try_extend_from_slice(text).is_ok() {
-        return Ok(());
-    }
-    write_all(out, text)?;
-    Ok(())
-}
+use mk_lines::sink::ByteSink;
+use mk_tree::gathering::{Gathered, put};
 
 /// Puts some texts behind those that are held back, one after the other.
 ///

@@ -4,22 +4,25 @@ ghost use Rattle.std.specs.Io.KnownBytes.{Appends};
 ghost use Rattle.mk_lines.specs.Device.{AppendsPrefix};
 ghost use Rattle.mk_lines.specs.Ranges.{text_at};
 ghost use Rattle.mk_tree.specs.Documents.{IsFaithful};
-ghost use Rattle.mk_tree.specs.PlacedLines.{placed_text};
+ghost use Rattle.mk_tree.specs.PlacedLines.{placed_text, text_of_line};
 ghost use Rattle.mk_tree.specs.Printing.{AppendsSoFar};
 ghost use Rattle.mk_tree.specs.Trees.{line_view};
 ghost use Rattle.mk_queries.specs.PartTexts.{order_only_text, pattern_text};
-ghost use Rattle.mk_queries.specs.PlacedTexts.{IsClassedIn, IsHeaderWithin, count_of, count_placed, counted_after, header_placed, one_more, order_only_span, pattern_span, rule_placed, text_of_line, words_in};
+ghost use Rattle.mk_queries.specs.PlacedTexts.{IsClassedIn, IsHeaderWithin, count_of, count_placed, counted_after, header_placed, one_more, pattern_span, rule_placed};
+ghost use Rattle.mk_class.specs.LineParts.{order_only_span};
+ghost use Rattle.mk_lines.specs.Words.{words_in};
 ghost use Rattle.mk_queries.specs.Queries.{rules_text};
 
-use crate::gathering::{Gathered, put_parts};
+use crate::gathering::put_parts;
 use crate::line_part::{part, text_of_line};
 use crate::place::{line_feeds, put_place};
 use crate::spacing::put_each_after_space;
-use crate::targets::{put_targets, separator_text};
+use crate::targets::put_targets;
 use mk_class::{Class, Context, Header};
 use mk_lines::sink::{ByteSink, write_all};
 use mk_lines::split::Span;
 use mk_lines::{Fault, split_first_word};
+use mk_tree::gathering::Gathered;
 use mk_tree::{Doc, Line};
 use std::alloc::Allocator;
 
@@ -166,7 +169,7 @@ fn pattern<'a>(text: &'a [u8], at: &Header) -> &'a [u8]
     requires { IsHeaderWithin (length text.now) at.now }
     ensures { result.now ≡ text_at text.now (pattern_span at.now) }
 {
-    let start = at.targets_end + separator_text(at.separator).len();
+    let start = at.targets_end + at.separator.text().len();
     let end = at.normal_start - usize::from(at.has_pattern);
     part(text, Span { start, end })
 }

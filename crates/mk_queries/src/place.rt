@@ -5,10 +5,11 @@ ghost use Rattle.mk_tree.specs.Printing.{AppendsSoFar};
 ghost use Rattle.mk_queries.specs.ItemLines.{place_text};
 ghost use Rattle.mk_queries.specs.Walks.{line_feeds};
 
-use crate::gathering::{Gathered, put_parts};
+use crate::gathering::put_parts;
 use memchr::memchr_iter;
 use mk_lines::Fault;
 use mk_lines::sink::ByteSink;
+use mk_tree::gathering::Gathered;
 
 /// How many line feeds there are in a text.
 pub(crate) fn line_feeds(text: &[u8]) -> usize

@@ -2,12 +2,13 @@
 ghost use Rattle.std.specs.Prelude.{◌≡◌, ◌++◌, false, true, IfErr, OnOk};
 ghost use Rattle.mk_lines.specs.Device.{AppendsPrefix};
 ghost use Rattle.mk_tree.specs.Printing.{AppendsSoFar};
-ghost use Rattle.mk_queries.specs.PlacedTexts.{words_in};
+ghost use Rattle.mk_lines.specs.Words.{words_in};
 ghost use Rattle.mk_queries.specs.Spacing.{each_after_space, each_before_space, spaced};
 
-use crate::gathering::{Gathered, put, put_parts};
+use crate::gathering::put_parts;
 use mk_lines::sink::ByteSink;
 use mk_lines::{Fault, split_first_word};
+use mk_tree::gathering::{Gathered, put};
 
 /// Puts each word of a text after a space behind the texts that are held back.
 ///

@@ -2,26 +2,14 @@
 ghost use Rattle.std.specs.Prelude.{◌≡◌, ◌++◌, false, true, IfErr, OnOk};
 ghost use Rattle.mk_lines.specs.Device.{AppendsPrefix};
 ghost use Rattle.mk_tree.specs.Printing.{AppendsSoFar};
-ghost use Rattle.mk_queries.specs.PlacedTexts.{words_in};
-ghost use Rattle.mk_queries.specs.PartTexts.{separator_text, targets_text};
+ghost use Rattle.mk_lines.specs.Words.{words_in};
+ghost use Rattle.mk_queries.specs.PartTexts.{targets_text};
 
-use crate::gathering::{Gathered, put};
 use crate::spacing::put_spaced;
 use mk_class::Separator;
 use mk_lines::Fault;
 use mk_lines::sink::ByteSink;
-
-/// The text of a separator.
-pub(crate) fn separator_text(separator: Separator) -> &'static str
-    ensures { result.now ≡ separator_text separator }
-{
-    match separator {
-        Separator::SingleColon => ":",
-        Separator::DoubleColon => "::",
-        Separator::GroupedColon => "&:",
-        Separator::GroupedDoubleColon => "&::",
-    }
-}
+use mk_tree::gathering::{Gathered, put};
 
 /// Puts the targets that a text has, with one space between them, and a separator behind the texts that
 /// are held back.
@@ -43,5 +31,5 @@ pub(crate) fn put_targets<W: ByteSink>(
     ensures unflushed { W.flushes out.new ≡ W.flushes out.old }
 {
     put_spaced(gathered, out, targets)?;
-    put(gathered, out, separator_text(separator).as_bytes())
+    put(gathered, out, separator.text().as_bytes())
 }

@@ -8,12 +8,13 @@ ghost use Rattle.mk_tree.specs.Printing.{AppendsSoFar};
 ghost use Rattle.mk_queries.specs.Queries.{check_text, end_lines, open_line};
 ghost use Rattle.mk_queries.specs.Walks.{unread_placed};
 
-use crate::gathering::{Gathered, put_parts};
+use crate::gathering::put_parts;
 use crate::place::line_feeds;
 use mk_class::{Class, Context};
 use mk_lines::Fault;
 use mk_lines::sink::{ByteSink, write_all};
 use mk_tree::Doc;
+use mk_tree::gathering::Gathered;
 use std::alloc::Allocator;
 
 /// Writes a line of text on each line of the makefile that is kept and not read inside, in order, and

@@ -3,23 +3,23 @@ ghost use Rattle.std.specs.Prelude.{◌≡◌, ◌≤◌, ◌++◌, false, true,
 ghost use Rattle.std.specs.Io.KnownBytes.{Appends};
 ghost use Rattle.mk_lines.specs.Device.{AppendsPrefix};
 ghost use Rattle.mk_tree.specs.Documents.{IsFaithful};
-ghost use Rattle.mk_tree.specs.PlacedLines.{placed_text};
+ghost use Rattle.mk_tree.specs.PlacedLines.{placed_text, text_of_line};
 ghost use Rattle.mk_tree.specs.Printing.{AppendsSoFar};
 ghost use Rattle.mk_tree.specs.Trees.{line_view};
-ghost use Rattle.mk_queries.specs.PartTexts.{operator_text};
-ghost use Rattle.mk_queries.specs.PlacedTexts.{IsAssignmentWithin, IsClassedIn, assigned_placed, assigned_start, target_assigned_placed, text_of_line, variable_placed};
+ghost use Rattle.mk_queries.specs.PlacedTexts.{IsAssignmentWithin, IsClassedIn, assigned_placed, assigned_start, target_assigned_placed, variable_placed};
 ghost use Rattle.mk_queries.specs.Queries.{vars_text};
 ghost use Rattle.mk_queries.specs.Spacing.{after_space};
 
-use crate::gathering::{Gathered, put, put_parts};
+use crate::gathering::put_parts;
 use crate::line_part::{part, text_of_line};
 use crate::place::{line_feeds, put_place};
 use crate::spacing::put_each_before_space;
-use crate::targets::{put_targets, separator_text};
-use mk_class::{Assignment, Class, Context, Flavor, TargetAssignment};
+use crate::targets::put_targets;
+use mk_class::{Assignment, Class, Context, TargetAssignment};
 use mk_lines::Fault;
 use mk_lines::sink::{ByteSink, write_all};
 use mk_lines::split::Span;
+use mk_tree::gathering::{Gathered, put};
 use mk_tree::{Doc, Line};
 use std::alloc::Allocator;
 
@@ -115,7 +115,7 @@ fn put_target_assigned<W: ByteSink>(
     };
     put_targets(gathered, out, part(text, targets), at.separator)?;
     put(gathered, out, b" ")?;
-    let start = at.targets_end + separator_text(at.separator).len();
+    let start = at.targets_end + at.separator.text().len();
     put_assigned(gathered, out, text, start, &at.assignment)
 }
 
@@ -142,7 +142,7 @@ fn put_assigned<W: ByteSink>(
     };
     put_each_before_space(gathered, out, part(text, modifiers))?;
     put_parts(gathered, out, &[part(text, at.name), b" "])?;
-    put(gathered, out, operator_text(at.flavor).as_bytes())?;
+    put(gathered, out, at.flavor.text().as_bytes())?;
     put_value(gathered, out, part(text, at.value))
 }
 
@@ -159,20 +159,5 @@ fn put_value<W: ByteSink>(gathered: &mut Gathered, out: &mut W, value: &[u8]) ->
     match value {
         [] => put(gathered, out, b"\n"),
         _ => put_parts(gathered, out, &[b" ", value, b"\n"]),
-    }
-}
-
-// The text of an operator.
-fn operator_text(flavor: Flavor) -> &'static str
-    ensures { result.now ≡ operator_text flavor }
-{
-    match flavor {
-        Flavor::Recursive => "=",
-        Flavor::Simple => ":=",
-        Flavor::PosixSimple => "::=",
-        Flavor::Immediate => ":::=",
-        Flavor::Conditional => "?=",
-        Flavor::Append => "+=",
-        Flavor::Shell => "!=",
     }
 }

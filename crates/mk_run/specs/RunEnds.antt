@@ -25,7 +25,7 @@ abbrev pub written : (before after : Option (List ℕ)) → Written
 written b a = record { before = b; after = a }
 
 -- nothing went out
-abbrev pub IsKept : Written → Type 0
+abbrev IsKept : Written → Type 0
 IsKept w = Keeps w.before w.after
 
 -- just this text went out

@@ -58,14 +58,14 @@ AreUndos (c ∷ commands) = (c.command ≡ Undo) × AreUndos commands
 -- A run of commands over a makefile.
 module _ (keep_going : Bool) (commands : List CommandAt) (makefile : List ℕ) (depth : ℕ) where
   -- what is shown before them, and after them
-  abbrev pub first : Shown (List ℕ)
+  abbrev first : Shown (List ℕ)
   first = shown_opened depth makefile
 
-  abbrev pub last : Shown (List ℕ)
+  abbrev last : Shown (List ℕ)
   last = (obeyed keep_going commands first).shown
 
   -- those that were tried, with their replies, and the session machine after them
-  abbrev pub calls : List Call
+  abbrev calls : List Call
   calls = tried keep_going commands first
 
   abbrev pub machine_after : EditMachine

@@ -1,3 +1,4 @@
 mod WorkedScripts
+mod RowMeanings
 mod RandomScripts
 mod CornerScripts

@@ -1,7 +1,7 @@
 -- How the fields of a line are read: one after the other, from the front.
 use Rattle.std.specs.Prelude.{◌≡◌, ℕ, Bool, true, false, not, ◌==◌, if◌then◌else◌, List, [], ◌∷◌, take, drop, Option, Some, None, option_map}
 use Rattle.std.specs.List.{prefix_len}
-use Rattle.mk_lines.specs.UnitWalk.{is_blank_byte}
+use Rattle.mk_lines.specs.Bytes.{is_blank_byte}
 use Rattle.mk_script.specs.Fields.{is_special, escaped}
 
 -- ---- blanks

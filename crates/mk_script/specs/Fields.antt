@@ -1,7 +1,7 @@
 -- The fields of a line of a script, and how they are written in it.
 use Rattle.std.specs.Prelude.{◌≡◌, ◌⊎◌, ℕ, Bool, true, false, not, ◌==◌, ◌||◌, if◌then◌else◌, List, [], ◌∷◌, ◌++◌}
 use Rattle.mk_lines.specs.Lists.{Each}
-use Rattle.mk_lines.specs.UnitWalk.{is_blank_byte}
+use Rattle.mk_lines.specs.Bytes.{is_blank_byte}
 
 -- ---- one field
 

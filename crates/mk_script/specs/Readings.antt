@@ -14,9 +14,6 @@ abbrev pub IsFound : {V X E : Type 0} → (seen : V → X) → Option X → Resu
 IsFound seen stands (Ok v) = stands ≡ Some (seen v)
 IsFound seen stands (Err e) = stands ≡ None
 
-abbrev pub itself : ℕ → ℕ
-itself n = n
-
 abbrev pub is_short : LineFault → Bool
 is_short NotACommand = false
 is_short NoMemory = true

@@ -49,7 +49,7 @@ HasNumbersOfScripts (SetRecipe nth target number line) = CanBeWritten nth × (nu
 HasNumbersOfScripts (RemoveRecipe nth target number) = CanBeWritten nth × (number ≤ 4294967295)
 HasNumbersOfScripts (RenameTarget old new) = Unit {0}
 
-abbrev pub HasLine : Command Edit → Type 0
+abbrev HasLine : Command Edit → Type 0
 HasLine (Apply e) = HasNumbersOfScripts e
 HasLine command = Unit {0}
 

@@ -46,7 +46,7 @@ abbrev pub HasNoCommand : (script : List ℕ) → (number : ℕ) → Type 0
 HasNoCommand script number = IsReached (λ line. IsReadable line → ⊥) script number
 
 -- The line of this number is a command, and so is each line before it that is not skipped.
-abbrev pub ReachesCommand : (script : List ℕ) → (number : ℕ) → Type 0
+abbrev ReachesCommand : (script : List ℕ) → (number : ℕ) → Type 0
 ReachesCommand script number = IsReached (λ line. (command : Command Edit) × HasCommand line command) script number
 
 -- ---- what the code gives

@@ -2,7 +2,7 @@
 //!
 //! Fields have blanks between them, before them and after them.
 ghost use Rattle.std.specs.Prelude.{◌≡◌, ◌≤◌, false, length, option_map};
-ghost use Rattle.mk_lines.specs.UnitWalk.{is_blank_byte};
+ghost use Rattle.mk_lines.specs.Bytes.{is_blank_byte};
 ghost use Rattle.mk_script.specs.Fields.{is_special};
 ghost use Rattle.mk_script.specs.FieldReading.{after_blanks, bare_len, blanks_before, ends_field, first_field, is_blank, one_field, quoted_field, three_fields, two_fields, until_quote};
 ghost use Rattle.mk_script.specs.SeenFields.{field_and_rest, field_text, three_texts, two_parts, two_texts};

@@ -1,5 +1,6 @@
 -- Calls of a session in turn, each with its reply, as the contracts of the calls say it; and the session machine after them.
 use Rattle.std.specs.Prelude.{◌≡◌, ℕ, ◌+◌, ◌≤◌, Bool, true, false, List, [], ◌∷◌, ◌++◌, reverse, Option, Some, None, Result, Ok, Err}
+use Rattle.mk_lines.specs.Lists.{concat}
 use Rattle.mk_edit_laws.specs.Edits.{Edit}
 use Rattle.mk_edit_laws.specs.Costs.{cost}
 use Rattle.mk_edit_laws.specs.declared.refusal.Refusal.{Refusal}
@@ -9,7 +10,6 @@ use Rattle.mk_history.specs.Machine.{Command, Apply, Begin, Machine, next, text}
 use Rattle.mk_history.specs.Shown.{Shown}
 use Rattle.mk_history.specs.Steps as steps
 use Rattle.mk_history.specs.Steps.{Granted, Refused, NoMemory, IsStep}
-use Rattle.mk_history.specs.Claims.{flat}
 use Rattle.mk_session.specs.Sessions.{Seen, answer, edited, session_refusal}
 
 -- what a call replies: it was done, it was refused, or it found no memory
@@ -81,7 +81,7 @@ edits_of_group (Some es) = es
 
 -- the edits that stand, in the order in which they were made
 abbrev pub standing : EditMachine → List Edit
-standing m = flat (reverse m.done) ++ edits_of_group m.group
+standing m = concat (reverse m.done) ++ edits_of_group m.group
 
 -- the lines that calls read again, at most
 abbrev pub costs_of : (depth : ℕ) → List Call → EditMachine → ℕ

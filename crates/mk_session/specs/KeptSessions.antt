@@ -20,7 +20,7 @@ abbrev pub shown_kept : Stacks Patches → (group : Option Patches) → (doc : L
 shown_kept h g doc = shown_session after_moves placed_text h g doc
 
 -- the document at the beginning of the open group, or now
-abbrev pub settled : (group : Option Patches) → (doc : List PlacedLine) → List PlacedLine
+abbrev settled : (group : Option Patches) → (doc : List PlacedLine) → List PlacedLine
 settled None doc = doc
 settled (Some g) doc = after_patches g doc
 

@@ -1,5 +1,5 @@
 -- The lines of a text are admitted where they stand.
-use Rattle.std.proofs.Common.{◌≡◌, ℕ, zero, suc, ◌+◌, ◌<◌, ◌≤◌, ◌^◌, refl, sym, ap, ◌∙◌, subst, arith, List, [], ◌∷◌, ◌++◌, length, take, drop, suc-add}
+use Rattle.std.proofs.Common.{◌≡◌, ℕ, zero, suc, ◌+◌, ◌<◌, ◌≤◌, ◌^◌, refl, sym, ap, ◌∙◌, subst, arith, List, [], ◌∷◌, length, take, drop, suc-add}
 use Rattle.mk_lines.specs.LogicalLines.{logical_lines}
 use Rattle.mk_lines.specs.Cells.{Cell, joined_byte}
 use Rattle.mk_class.specs.Classes.{Class}
@@ -58,7 +58,7 @@ defines-fit n c Rough few h = tt
 defines-fit n c (Header x) few h = tt
 
 -- the lines of a text are admitted where their conditionals fit and they are few
-pub admitted-classed : (c : Context) (ls : List (List ℕ)) → AreConditionalsFit c.conditionals (placed_lines (classed c ls)) → c.defines + length ls ≤ 2 ^ 24 → AreAdmitted c (placed_lines (classed c ls))
+admitted-classed : (c : Context) (ls : List (List ℕ)) → AreConditionalsFit c.conditionals (placed_lines (classed c ls)) → c.defines + length ls ≤ 2 ^ 24 → AreAdmitted c (placed_lines (classed c ls))
 admitted-classed c [] h few = tt
 admitted-classed c (l ∷ ls) h few =
     let k = class_of c l in
@@ -116,13 +116,8 @@ context_after-step c [] left x (suc n) e = cc
 context_after-step c (l ∷ ls) left x zero e = let same : l ≡ x = cc in ap (λ (z : PlacedLine). context_after_places c z.class) same
 context_after-step c (l ∷ ls) left x (suc n) e = rw (suc-add n 1) (context_after-step (context_after_places c l.class) ls left x n e)
 
--- the same of lines that a walk with contexts has passed
-pub context_after_placed-last : (c : Context) (passed : List PlacedLine) (x : PlacedLine) → context_after_placed c (passed ++ x ∷ []) ≡ context_after_places (context_after_placed c passed) x.class
-context_after_placed-last c [] x = refl
-context_after_placed-last c (l ∷ passed) x = context_after_placed-last (context_after_places c l.class) passed x
-
 -- the lines that are left after one more
-pub drop-step : (ls left : List PlacedLine) (x : PlacedLine) (n : ℕ) → drop n ls ≡ x ∷ left → drop (n + 1) ls ≡ left
+drop-step : (ls left : List PlacedLine) (x : PlacedLine) (n : ℕ) → drop n ls ≡ x ∷ left → drop (n + 1) ls ≡ left
 drop-step [] left x zero e = cc
 drop-step [] left x (suc n) e = cc
 drop-step (l ∷ ls) left x zero e = cc
@@ -148,7 +143,7 @@ walk-step ls ahead left x n c next k at e here fits same step =
 
 -- ---- the context of the definitions
 
-pub context_after_placed-lines : (c : Context) (ls : List ClassedLine) → context_after_placed c (placed_lines ls) ≡ context_after_lines c ls
+context_after_placed-lines : (c : Context) (ls : List ClassedLine) → context_after_placed c (placed_lines ls) ≡ context_after_lines c ls
 context_after_placed-lines c [] = refl
 context_after_placed-lines c (l ∷ ls) =
     context_after_placed-lines (context_after c l.class) ls

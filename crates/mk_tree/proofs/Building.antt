@@ -4,7 +4,7 @@ use Rattle.mk_tree.specs.Trees.{DifferByAtMost, IsLowest}
 use Rattle.mk_tree.proofs.Lowness.{lowest-join}
 
 -- one less than a number falls into halves
-pub halves : (n half : ℕ) → half ≡ (n - 1) / 2 → (n ≡ 0 → ⊥) → (half ≤ n - 1 - half) × (n - 1 - half ≤ half + 1) × (n ≡ n - 1 - half + 1 + half)
+halves : (n half : ℕ) → half ≡ (n - 1) / 2 → (n ≡ 0 → ⊥) → (half ≤ n - 1 - half) × (n - 1 - half ≤ half + 1) × (n ≡ n - 1 - half + 1 + half)
 halves n half e h = (omega (arith, e), omega (arith, e), omega (arith, e, h))
 
 -- the height of the halves and a line between them

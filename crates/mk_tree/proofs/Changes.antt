@@ -47,7 +47,7 @@ conditionals-fit n (Header x) h = tt
 fit-before : (n : ℕ) (x : PlacedLine) (ls : List PlacedLine) → is_conditional_places x.class ≡ false → AreConditionalsFit n ls → AreConditionalsFit n (x ∷ ls)
 fit-before n x ls p h = (conditionals-fit n x.class p, rw (conditionals-left n x.class p) h)
 
-pub fit-insert : (n : ℕ) (x : PlacedLine) (ls : List PlacedLine) (at : ℕ) → is_conditional_places x.class ≡ false → AreConditionalsFit n ls → AreConditionalsFit n (take at ls ++ x ∷ drop at ls)
+fit-insert : (n : ℕ) (x : PlacedLine) (ls : List PlacedLine) (at : ℕ) → is_conditional_places x.class ≡ false → AreConditionalsFit n ls → AreConditionalsFit n (take at ls ++ x ∷ drop at ls)
 fit-insert n x ls zero p h = fit-before n x ls p h
 fit-insert n x [] (suc at) p h = fit-before n x [] p h
 fit-insert n x (l ∷ ls) (suc at) p h = (h.0, fit-insert (conditionals_after_places n l.class) x ls at p h.1)
@@ -57,7 +57,7 @@ fit-insert n x (l ∷ ls) (suc at) p h = (h.0, fit-insert (conditionals_after_pl
 fit-after : (n : ℕ) (l : PlacedLine) (ls : List PlacedLine) → is_conditional_places l.class ≡ false → AreConditionalsFit n (l ∷ ls) → AreConditionalsFit n ls
 fit-after n l ls p h = rw (conditionals-left n l.class p) at h.1
 
-pub fit-remove : (n : ℕ) (ls : List PlacedLine) (at : ℕ) → IfSome (slice_get ls at) (λ l. is_conditional_places l.class ≡ false) → AreConditionalsFit n ls → AreConditionalsFit n (take at ls ++ drop (at + 1) ls)
+fit-remove : (n : ℕ) (ls : List PlacedLine) (at : ℕ) → IfSome (slice_get ls at) (λ l. is_conditional_places l.class ≡ false) → AreConditionalsFit n ls → AreConditionalsFit n (take at ls ++ drop (at + 1) ls)
 fit-remove n [] zero p h = tt
 fit-remove n [] (suc at) p h = rw (suc-add at 1) tt
 fit-remove n (l ∷ ls) zero p h = fit-after n l ls p h
@@ -65,14 +65,14 @@ fit-remove n (l ∷ ls) (suc at) p h = (h.0, rw (suc-add at 1) (fit-remove (cond
 
 -- ---- one line for another
 
-pub fit-replace : (n : ℕ) (x : PlacedLine) (ls : List PlacedLine) (at : ℕ) → IfSome (slice_get ls at) (λ l. is_conditional_places l.class ≡ false) → is_conditional_places x.class ≡ false
+fit-replace : (n : ℕ) (x : PlacedLine) (ls : List PlacedLine) (at : ℕ) → IfSome (slice_get ls at) (λ l. is_conditional_places l.class ≡ false) → is_conditional_places x.class ≡ false
     → AreConditionalsFit n ls → AreConditionalsFit n (take at ls ++ x ∷ drop (at + 1) ls)
 fit-replace n x [] zero p q h = fit-before n x [] q h
 fit-replace n x [] (suc at) p q h = rw (suc-add at 1) (fit-before n x [] q h)
 fit-replace n x (l ∷ ls) zero p q h = fit-before n x ls q (fit-after n l ls p h)
 fit-replace n x (l ∷ ls) (suc at) p q h = (h.0, rw (suc-add at 1) (fit-replace (conditionals_after_places n l.class) x ls at p q h.1))
 
-pub size_of-replace : (x : PlacedLine) (ls : List PlacedLine) (at : ℕ) → at < length ls → size_of (take at ls ++ x ∷ drop (at + 1) ls) + size_of_line (slice_get ls at) ≡ size_of ls + length x.bytes
+size_of-replace : (x : PlacedLine) (ls : List PlacedLine) (at : ℕ) → at < length ls → size_of (take at ls ++ x ∷ drop (at + 1) ls) + size_of_line (slice_get ls at) ≡ size_of ls + length x.bytes
 size_of-replace x [] at h = absurd (omega (arith, h))
 size_of-replace x (l ∷ ls) zero h = omega arith
 size_of-replace x (l ∷ ls) (suc at) h = rw (suc-add at 1) (omega (arith, size_of-replace x ls at (omega (arith, h))))

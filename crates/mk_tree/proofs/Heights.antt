@@ -5,7 +5,7 @@ use Rattle.std.proofs.lemmas.Bool.{ltb-true, ltb-false}
 use Rattle.mk_tree.specs.Trees.{fewest_lines, DifferByAtMost}
 
 -- a higher tree has no fewer lines
-pub fewest_lines-step : (h : ℕ) → fewest_lines h ≤ fewest_lines (suc h)
+fewest_lines-step : (h : ℕ) → fewest_lines h ≤ fewest_lines (suc h)
 fewest_lines-step zero = omega arith
 fewest_lines-step (suc h) = omega arith
 

@@ -5,7 +5,7 @@ use Rattle.std.proofs.lemmas.List.{take-append-le, drop-append-le}
 use Rattle.std.proofs.Math.Seq.{take-append-add, drop-append-add, take-append_seam}
 use Rattle.mk_tree.specs.PlacedLines.{PlacedLine, size_of}
 
-pub get_left : {X : Type 0} (l m : List X) (at : ℕ) → at < length l → slice_get (l ++ m) at ≡ slice_get l at
+get_left : {X : Type 0} (l m : List X) (at : ℕ) → at < length l → slice_get (l ++ m) at ≡ slice_get l at
 get_left [] m at h = absurd (omega arith)
 get_left (x ∷ l) m zero h = refl
 get_left (x ∷ l) m (suc at) h = get_left l m at (omega arith)
@@ -18,17 +18,17 @@ get_add : {X : Type 0} (l r : List X) (k : ℕ) → slice_get (l ++ r) (length l
 get_add [] r k = rw zero-add refl
 get_add (y ∷ l) r k = rw (suc-add (length l) k) (get_add l r k)
 
-pub get_right : {X : Type 0} (l r : List X) (x : X) (at : ℕ) → length l < at → slice_get (l ++ x ∷ r) at ≡ slice_get r (at - length l - 1)
+get_right : {X : Type 0} (l r : List X) (x : X) (at : ℕ) → length l < at → slice_get (l ++ x ∷ r) at ≡ slice_get r (at - length l - 1)
 get_right l r x at h =
     let e : at ≡ length l + suc (at - length l - 1) = omega arith in
     ap (λ i. slice_get (l ++ x ∷ r) i) e ∙ get_add l (x ∷ r) (suc (at - length l - 1))
 
-pub take_right : {X : Type 0} (l r : List X) (x : X) (at : ℕ) → length l < at → take at (l ++ x ∷ r) ≡ l ++ x ∷ take (at - length l - 1) r
+take_right : {X : Type 0} (l r : List X) (x : X) (at : ℕ) → length l < at → take at (l ++ x ∷ r) ≡ l ++ x ∷ take (at - length l - 1) r
 take_right l r x at h =
     let e : at ≡ length l + suc (at - length l - 1) = omega arith in
     ap (λ i. take i (l ++ x ∷ r)) e ∙ take-append-add l (x ∷ r) (suc (at - length l - 1))
 
-pub drop_right : {X : Type 0} (l r : List X) (x : X) (at : ℕ) → length l < at → drop at (l ++ x ∷ r) ≡ drop (at - length l - 1) r
+drop_right : {X : Type 0} (l r : List X) (x : X) (at : ℕ) → length l < at → drop at (l ++ x ∷ r) ≡ drop (at - length l - 1) r
 drop_right l r x at h =
     let e : at ≡ length l + suc (at - length l - 1) = omega arith in
     ap (λ i. drop i (l ++ x ∷ r)) e ∙ drop-append-add l (x ∷ r) (suc (at - length l - 1))
@@ -47,19 +47,19 @@ pub size_of-whole : (l r : List PlacedLine) (x : PlacedLine) → size_of (l ++ x
 size_of-whole l r x = omega (arith, size_of-append l (x ∷ r))
 
 -- a member put in, or taken out, right of the middle
-pub insert_right : {X : Type 0} (l r : List X) (x y : X) (at n : ℕ) → n ≡ length l → n < at → take at (l ++ x ∷ r) ++ y ∷ drop at (l ++ x ∷ r) ≡ l ++ x ∷ (take (at - n - 1) r ++ y ∷ drop (at - n - 1) r)
+insert_right : {X : Type 0} (l r : List X) (x y : X) (at n : ℕ) → n ≡ length l → n < at → take at (l ++ x ∷ r) ++ y ∷ drop at (l ++ x ∷ r) ≡ l ++ x ∷ (take (at - n - 1) r ++ y ∷ drop (at - n - 1) r)
 insert_right l r x y at n e h =
     let k : length l < at = omega arith in
     rw (take_right l r x at k, drop_right l r x at k, e, append_assoc) refl
 
-pub remove_right : {X : Type 0} (l r : List X) (x : X) (at n : ℕ) → n ≡ length l → n < at → take at (l ++ x ∷ r) ++ drop (at + 1) (l ++ x ∷ r) ≡ l ++ x ∷ (take (at - n - 1) r ++ drop (at - n - 1 + 1) r)
+remove_right : {X : Type 0} (l r : List X) (x : X) (at n : ℕ) → n ≡ length l → n < at → take at (l ++ x ∷ r) ++ drop (at + 1) (l ++ x ∷ r) ≡ l ++ x ∷ (take (at - n - 1) r ++ drop (at - n - 1 + 1) r)
 remove_right l r x at n e h =
     let k : length l < at = omega arith in
     let k' : length l < at + 1 = omega arith in
     let d : at + 1 - length l - 1 ≡ at - n - 1 + 1 = omega arith in
     rw (take_right l r x at k, drop_right l r x (at + 1) k', d, e, append_assoc) refl
 
-pub replace_right : {X : Type 0} (l r : List X) (x y : X) (at n : ℕ) → n ≡ length l → n < at → take at (l ++ x ∷ r) ++ y ∷ drop (at + 1) (l ++ x ∷ r) ≡ l ++ x ∷ (take (at - n - 1) r ++ y ∷ drop (at - n - 1 + 1) r)
+replace_right : {X : Type 0} (l r : List X) (x y : X) (at n : ℕ) → n ≡ length l → n < at → take at (l ++ x ∷ r) ++ y ∷ drop (at + 1) (l ++ x ∷ r) ≡ l ++ x ∷ (take (at - n - 1) r ++ y ∷ drop (at - n - 1 + 1) r)
 replace_right l r x y at n e h =
     let k : length l < at = omega arith in
     let k' : length l < at + 1 = omega arith in

@@ -1,23 +1,13 @@
 -- A text that goes out in parts, the end of what there is of it so far being held back.
-use Rattle.std.proofs.Common.{◌≡◌, ℕ, ◌+◌, List, [], ◌∷◌, ◌++◌, length, take, sym, ap, ◌∙◌, subst, arith, length-append, append_assoc, append-nil}
+use Rattle.std.proofs.Common.{◌≡◌, ℕ, List, [], ◌∷◌, ◌++◌, length, take, sym, ap, ◌∙◌, subst, arith, append_assoc, append-nil}
 use Rattle.std.specs.Prelude.{Option}
 use Rattle.std.specs.Io.KnownBytes.{Appends}
 use Rattle.std.proofs.KnownBytes.{Appends-nil, Appends-trans}
-use Rattle.std.proofs.Math.Seq.{take-append-add, take-append_seam}
-use Rattle.std.proofs.lemmas.List.{take-append-le}
+use Rattle.std.proofs.Math.Seq.{take-append_seam}
 use Rattle.mk_lines.specs.Device.{AppendsPrefix}
+use Rattle.mk_lines.proofs.PrefixLemmas.{AppendsPrefix-more}
 use Rattle.mk_tree.specs.PlacedLines.{PlacedLine, placed_text}
 use Rattle.mk_tree.specs.Printing.{AppendsSoFar}
-
--- a prefix of the first piece is one of the whole
-pub AppendsPrefix-front : (a b : Option (List ℕ)) (x y : List ℕ) → AppendsPrefix a b x → AppendsPrefix a b (x ++ y)
-AppendsPrefix-front a b x y (k, within, out) =
-    (k, omega (arith, length-append x y), subst (Appends a b) (sym (take-append-le k x y within)) out)
-
--- the first piece is out, and a prefix of the rest
-pub AppendsPrefix-more : (a b c : Option (List ℕ)) (x y : List ℕ) → Appends a b x → AppendsPrefix b c y → AppendsPrefix a c (x ++ y)
-AppendsPrefix-more a b c x y whole (k, within, out) =
-    (length x + k, omega (arith, length-append x y), subst (Appends a c) (sym (take-append-add x y k)) (Appends-trans a b c x (take k y) whole out))
 
 -- the whole is a prefix
 pub AppendsPrefix-whole : (a b : Option (List ℕ)) (x : List ℕ) → Appends a b x → AppendsPrefix a b x

@@ -1,5 +1,5 @@
 -- The lines of a text, read one after the other.
-use Rattle.std.proofs.Common.{◌≡◌, ℕ, suc, ◌+◌, ◌<◌, ◌≤◌, ◌^◌, refl, sym, ap, ◌∙◌, subst, arith, List, [], ◌∷◌, ◌++◌, length, length-append, append_assoc, append-nil}
+use Rattle.std.proofs.Common.{◌≡◌, ℕ, suc, ◌+◌, ◌<◌, ◌≤◌, ◌^◌, refl, sym, ap, ◌∙◌, subst, arith, List, [], ◌∷◌, ◌++◌, length, append_assoc, append-nil}
 use Rattle.std.specs.Prelude.{Result, Ok, Err, IsErr, IsErrAnd, IfErr}
 use Rattle.mk_lines.specs.Spans.{Tiles}
 use Rattle.mk_lines.specs.LogicalLines.{logical_lines}
@@ -18,7 +18,7 @@ use Rattle.mk_class.proofs.on_classes.ClassLemmas.{class_of-counts}
 use Rattle.mk_class.specs.ClassedLines.{ClassedLine, classed}
 use Rattle.mk_class.specs.LineReads.{IsRead}
 use Rattle.mk_class.specs.LineReads as line_reads
-use Rattle.mk_tree.specs.PlacedLines.{PlacedLine, placed_lines, placed_text, size_of, AreConditionalsFit}
+use Rattle.mk_tree.specs.PlacedLines.{PlacedLine, placed_lines, size_of, AreConditionalsFit}
 use Rattle.mk_tree.proofs.on_documents.DocumentLemmas.{faithful-text}
 use Rattle.mk_tree.specs.Documents.{document_lines, most_conditionals, IsTooDeep}
 use Rattle.mk_lines.specs.declared.fault.Fault.{Fault}
@@ -27,6 +27,7 @@ use Rattle.mk_tree.specs.Faults.{IsReadingFault}
 use Rattle.mk_tree.specs.Unread.{UnreadLines, shown, AreTooDeep, AreReadFrom, AreUnread, AreSingle, texts_at}
 use Rattle.mk_tree.proofs.AdmissionLemmas.{length-classed}
 use Rattle.mk_tree.proofs.Places.{size_of-append, size_of-whole}
+use Rattle.mk_tree.proofs.on_changes.Sizes.{size_of-text}
 
 -- ---- spans
 
@@ -35,7 +36,7 @@ tiles-order [] from to h = omega (arith, h)
 tiles-order (s ∷ ss) from to h = omega (arith, h.1, tiles-order ss s.end to h.2)
 
 -- the first of some spans that follow one another lies between the ends
-pub first-within : (s : Span) (ss : List Span) (to : ℕ) → ((from : ℕ) × Tiles (s ∷ ss) from to) → (s.start ≤ s.end) × (s.end ≤ to)
+first-within : (s : Span) (ss : List Span) (to : ℕ) → ((from : ℕ) × Tiles (s ∷ ss) from to) → (s.start ≤ s.end) × (s.end ≤ to)
 first-within s ss to (from, (e, some, rest)) = (omega (arith, e, some), omega (arith, tiles-order ss s.end to rest))
 
 -- there are no more spans than bytes
@@ -221,10 +222,6 @@ handed_on (Ok x) Q P h f = tt
 handed_on (Err e) Q P h f = f e h.1
 
 -- ---- the bytes of a document
-
-size_of-text : (ls : List PlacedLine) → size_of ls ≡ length (placed_text ls)
-size_of-text [] = refl
-size_of-text (l ∷ ls) = omega (arith, size_of-text ls, length-append l.bytes (placed_text ls))
 
 -- the lines of a text have its bytes
 pub size_of-document : (t : List ℕ) → size_of (document_lines t) ≡ length t

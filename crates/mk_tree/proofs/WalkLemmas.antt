@@ -1,18 +1,18 @@
 -- A walk over the lines of a tree: one more line passed on its left side.
-use Rattle.std.proofs.Common.{◌≡◌, ℕ, ◌+◌, ◌<◌, ◌≤◌, refl, sym, ap, ◌∙◌, arith, List, [], ◌∷◌, ◌++◌, length, Option, Some, None, append_assoc, append-nil}
+use Rattle.std.proofs.Common.{◌≡◌, ℕ, ◌+◌, ◌<◌, ◌≤◌, sym, ap, ◌∙◌, arith, List, [], ◌∷◌, ◌++◌, length, Option, Some, None, append_assoc, append-nil}
 use Rattle.std.specs.Borrow.{Bor}
 use Rattle.mk_tree.specs.PlacedLines.{PlacedLine}
 use Rattle.mk_tree.specs.Trees.{line_view, IsTop}
 use Rattle.mk_tree.specs.Walks.{lines_ahead, AreWithin}
 use Rattle.mk_tree.specs.declared.tree.Line.{Line}
 
-pub lines_ahead-push : {A : _} (passed : List (Option (Bor (Line A)))) (l : Bor (Line A)) → lines_ahead (passed ++ Some l ∷ []) ≡ line_view l.now ∷ l.now.node.value.right.0 ++ lines_ahead passed
+lines_ahead-push : {A : _} (passed : List (Option (Bor (Line A)))) (l : Bor (Line A)) → lines_ahead (passed ++ Some l ∷ []) ≡ line_view l.now ∷ l.now.node.value.right.0 ++ lines_ahead passed
 lines_ahead-push [] l = sym (append-nil (line_view l.now ∷ l.now.node.value.right.0))
 lines_ahead-push (None ∷ passed) l = lines_ahead-push passed l
 lines_ahead-push (Some x ∷ passed) l =
     ap (λ z. z ++ line_view x.now ∷ x.now.node.value.right.0) (lines_ahead-push passed l) ∙ append_assoc (line_view l.now ∷ l.now.node.value.right.0) (lines_ahead passed) (line_view x.now ∷ x.now.node.value.right.0)
 
-pub AreWithin-push : {A : _} (depth : ℕ) (passed : List (Option (Bor (Line A)))) (l : Bor (Line A)) → AreWithin depth passed → depth + length passed + l.now.node.value.right.1 < 34 → AreWithin depth (passed ++ Some l ∷ [])
+AreWithin-push : {A : _} (depth : ℕ) (passed : List (Option (Bor (Line A)))) (l : Bor (Line A)) → AreWithin depth passed → depth + length passed + l.now.node.value.right.1 < 34 → AreWithin depth (passed ++ Some l ∷ [])
 AreWithin-push depth [] l h k = (omega (arith, k), tt)
 AreWithin-push depth (None ∷ passed) l h k = elim h [ ]
 AreWithin-push depth (Some x ∷ passed) l h k = (h.0, AreWithin-push (depth + 1) passed l h.1 (omega (arith, k)))
@@ -31,11 +31,11 @@ down-step passed new l tree before whole n m count more e b top room within ahea
     )
 
 -- the last line that was passed, if there is one, and the room below it
-abbrev pub IsLastPassed : {A : _} → ℕ → Option (Bor (Line A)) → Type 0
+abbrev IsLastPassed : {A : _} → ℕ → Option (Bor (Line A)) → Type 0
 IsLastPassed depth None = ⊥
 IsLastPassed depth (Some l) = depth + l.now.node.value.right.1 < 34
 
-pub AreWithin-pop : {A : _} (depth : ℕ) (passed : List (Option (Bor (Line A)))) (last : Option (Bor (Line A))) → AreWithin depth (passed ++ last ∷ []) → AreWithin depth passed × IsLastPassed (depth + length passed) last
+AreWithin-pop : {A : _} (depth : ℕ) (passed : List (Option (Bor (Line A)))) (last : Option (Bor (Line A))) → AreWithin depth (passed ++ last ∷ []) → AreWithin depth passed × IsLastPassed (depth + length passed) last
 AreWithin-pop depth [] None h = elim h [ ]
 AreWithin-pop depth [] (Some l) h = (tt, omega (arith, h.0))
 AreWithin-pop depth (None ∷ passed) last h = elim h [ ]
@@ -43,11 +43,6 @@ AreWithin-pop depth (Some x ∷ passed) None h = elim (AreWithin-pop (depth + 1)
 AreWithin-pop depth (Some x ∷ passed) (Some l) h =
     let rest = AreWithin-pop (depth + 1) passed (Some l) h.1 in
     ((h.0, rest.0), omega (arith, rest.1))
-
--- nothing was passed
-pub empty_passed : {X : Type 0} (xs : List X) → (0 < length xs → ⊥) → xs ≡ []
-empty_passed [] h = refl
-empty_passed (x ∷ xs) h = absurd (h (omega arith))
 
 -- ---- the last line that was passed, taken off
 

@@ -1,9 +1,8 @@
 -- Laws of documents that change, each the contract of a public function.
 use Rattle.std.specs.Prelude.{◌≡◌, ℕ, ◌+◌, true, false, not, ◌&&◌, List, [], ◌∷◌, ◌++◌, length}
 use Rattle.mk_lines.specs.PhysicalLines.{line_end_bytes, file_line_end}
-use Rattle.mk_lines.specs.LogicalLines.{logical_lines, is_open}
+use Rattle.mk_lines.specs.LogicalLines.{logical_lines, is_open, EndsWhereFollowed}
 use Rattle.mk_lines.specs.Pieces.{replaced}
-use Rattle.mk_lines.specs.Laws.{EndsWhereFollowed}
 use Rattle.mk_class.specs.Lists.{is_empty, any, last_passes}
 use Rattle.mk_class.specs.Arguments.{is_clean, is_backslash_byte}
 use Rattle.mk_class.specs.Classes.{leaves_flag}

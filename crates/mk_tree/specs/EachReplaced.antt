@@ -1,6 +1,6 @@
 -- Several lines of a text, of which each can be replaced by another.
 use Rattle.std.specs.Prelude.{◌≡◌, List, [], ◌∷◌, ◌++◌}
-use Rattle.mk_lines.specs.LogicalLines.{logical_lines, EndsLineBefore}
+use Rattle.mk_lines.specs.LogicalLines.{logical_lines, EndsWhereFollowed}
 use Rattle.mk_class.specs.Contexts.{Context, context_after}
 use Rattle.mk_class.specs.ClassTable.{class_of}
 use Rattle.mk_class.specs.ClassedLines.{ClassedLine}
@@ -10,7 +10,7 @@ use Rattle.mk_tree.specs.LineTexts.{bytes_of}
 -- context after it is the same.
 pub record ReplacesLine (c : Context) (old new : ClassedLine) (following : List ClassedLine) : Type 0 where
   pub one : logical_lines new.bytes ≡ new.bytes ∷ []
-  pub ends : EndsLineBefore new.bytes (bytes_of following)
+  pub ends : EndsWhereFollowed new.bytes (bytes_of following)
   pub class : class_of c new.bytes ≡ new.class
   pub context : context_after c new.class ≡ context_after c old.class
 

@@ -21,3 +21,8 @@ context_of ls = context_after_lines start ls
 -- a line with the class that it has in a context
 abbrev pub line_in : Context → List ℕ → ClassedLine
 line_in c l = record { bytes = l; class = class_of c l }
+
+pub record StandingLine : Type 0 where
+  pub above : List ClassedLine
+  pub line : ClassedLine
+  pub below : List ClassedLine

@@ -1,6 +1,6 @@
 -- A line as a document shows it: its bytes, and its class with the places of its parts in the joined text.
 use Rattle.std.specs.Prelude.{ℕ, ◌+◌, Bool, true, false, List, [], ◌∷◌, ◌++◌, length, map, Option, Some, None}
-use Rattle.mk_lines.specs.Cells.{joined_byte}
+use Rattle.mk_lines.specs.Cells.{joined_byte, joined_text, line_cells}
 use Rattle.mk_class.specs.Contexts.{Context}
 use Rattle.mk_class.specs.ClassedLines.{ClassedLine}
 use Rattle.mk_class.specs.ClassPlaces.{class_places}
@@ -69,3 +69,7 @@ is_conditional_places k = false
 abbrev pub AreConditionalsFit : ℕ → List PlacedLine → Type 0
 AreConditionalsFit n [] = Unit {0}
 AreConditionalsFit n (l ∷ ls) = FitsConditionals n l.class × AreConditionalsFit (conditionals_after_places n l.class) ls
+
+-- the joined text of a line
+abbrev pub text_of_line : PlacedLine → List ℕ
+text_of_line l = joined_text (line_cells l.bytes)

@@ -32,13 +32,13 @@ after_recipe after = drop (length (recipe_run after)) after
 -- ---- the same, told by the flag
 
 -- whether a line of this class begins a rule
-abbrev pub begins_rule : Class Cell → Bool
+abbrev begins_rule : Class Cell → Bool
 begins_rule Rough = true
 begins_rule (Header h) = true
 begins_rule k = false
 
 -- whether the flag says that a rule is open
-abbrev pub is_rule_flag : Flag → Bool
+abbrev is_rule_flag : Flag → Bool
 is_rule_flag Rule = true
 is_rule_flag f = false
 

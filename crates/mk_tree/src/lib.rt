@@ -12,6 +12,7 @@
 mod content;
 mod contexts;
 pub mod document;
+pub mod gathering;
 pub mod iter;
 mod kept_class;
 pub mod laws;

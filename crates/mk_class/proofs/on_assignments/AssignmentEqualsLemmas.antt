@@ -396,7 +396,7 @@ module _ {A : Type 0} (byte : A → ℕ) where
   tokens-glue (u ∷ b) e r w ts h = ap (before_tokens (is_gap byte u) u) (tokens-glue b e r w ts h) ∙ glue-before (is_gap byte u) u (tokens byte b) e w ts
 
   -- the word that a unit begins
-  pub record BeginsWord (e : List A) (r : List (List A)) : Type 0 where
+  record BeginsWord (e : List A) (r : List (List A)) : Type 0 where
     pub word : List (List A)
     pub rest : List (Token A)
     pub cut : tokens byte (e ∷ r) ≡ Word (e ∷ word) ∷ rest

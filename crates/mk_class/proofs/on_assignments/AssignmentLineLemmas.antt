@@ -16,9 +16,9 @@ use Rattle.mk_lines.proofs.on_cells.CellsReplaced.{IsSafeTail, cells-replaced, r
 use Rattle.mk_lines.specs.Units.{units}
 use Rattle.mk_lines.proofs.on_units.UnitLemmas.{concat-units, EndsPlain, EndsPlain-split}
 use Rattle.mk_lines.specs.Words.{is_gap}
-use Rattle.mk_class.specs.Symbols.{Symbol, byte_symbol, is_hash, is_hash_symbol}
-use Rattle.mk_class.specs.Symbols.Symbol.{Hash, Colon, Semicolon, Equals, Plus, Question, Exclamation, Bar, Ampersand, NoSymbol}
-use Rattle.mk_class.proofs.on_symbols.SymbolLemmas.{byte_symbol-byte}
+use Rattle.mk_class.specs.Symbols.{byte_symbol, is_hash, is_hash_symbol}
+use Rattle.mk_class.specs.Symbols.Symbol.{Hash}
+use Rattle.mk_class.proofs.on_symbols.SymbolLemmas.{byte_symbol-byte, hash_symbol-is}
 use Rattle.mk_class.specs.CutTexts.{cut_text, comment, is_no_hash}
 use Rattle.mk_class.specs.Assignments.{Assignment, assignment, before_value}
 use Rattle.mk_class.proofs.on_assignments.AssignmentsWhole.{IsAssignment, assignment-is, assignment_units, units-value_replaced}
@@ -46,7 +46,7 @@ pub some_raw : (cs : List Cell) (d : Cell) (D : List Cell) → cs ≡ d ∷ D �
 some_raw [] d D e h = cc
 some_raw (c ∷ cs) d D e h = let s = some_bytes c h.are_cells.0 in (s.0, s.1 ++ raw_text cs, ap (λ z. z ++ raw_text cs) s.2)
 
-some_cell : (a b : List Cell) (x : Cell) → (d : Cell) × (D : List Cell) × (a ++ x ∷ b ≡ d ∷ D)
+pub some_cell : (a b : List Cell) (x : Cell) → (d : Cell) × (D : List Cell) × (a ++ x ∷ b ≡ d ∷ D)
 some_cell [] b x = (x, b, refl)
 some_cell (c ∷ a) b x = (c, a ++ x ∷ b, refl)
 
@@ -75,23 +75,11 @@ blank-reset b h = go (byte_kind b) h
     go Blank e = refl
     go Ordinary e = cc
 
-gap_cell-reset : (c : Cell) → is_blank_kind (byte_kind (joined_byte c)) ≡ true → is_reset c ≡ true
+pub gap_cell-reset : (c : Cell) → is_blank_kind (byte_kind (joined_byte c)) ≡ true → is_reset c ≡ true
 gap_cell-reset (Byte b) h = blank-reset b h
 gap_cell-reset (Fold r) h = refl
 gap_cell-reset (LfEnd r) h = cc
 gap_cell-reset (CrLfEnd r) h = cc
-
-hash_symbol-is : (s : Symbol) → is_hash_symbol s ≡ true → s ≡ Hash
-hash_symbol-is Hash h = refl
-hash_symbol-is Colon h = cc
-hash_symbol-is Semicolon h = cc
-hash_symbol-is Equals h = cc
-hash_symbol-is Plus h = cc
-hash_symbol-is Question h = cc
-hash_symbol-is Exclamation h = cc
-hash_symbol-is Bar h = cc
-hash_symbol-is Ampersand h = cc
-hash_symbol-is NoSymbol h = cc
 
 hash_cell-reset : (c : Cell) → is_hash_symbol (byte_symbol (joined_byte c)) ≡ true → is_reset c ≡ true
 hash_cell-reset (Byte b) h = rw (byte_symbol-byte b Hash (λ x. cc) (hash_symbol-is (byte_symbol b) h)) refl
@@ -197,8 +185,8 @@ pub record IsLineWith (c : Context) (l : List ℕ) (below : List (List ℕ)) (a 
   pub class : class_of c (line_with a parts.rest v (line_end_bytes (line_end l))) ≡ Assign (with_text a v) (prefix_set_by joined_byte (nat_lt 0 c.conditionals) (with_text a v))
 
 -- the class of cells in a context, as prefix-led or not
-abbrev read : Context → Bool → List Cell → Class Cell
-read c led cs = class_at joined_byte led c.defines c.flag (nat_lt 0 c.conditionals) (is_unreadable cs) (units joined_byte cs)
+abbrev pub cells_class : Context → Bool → List Cell → Class Cell
+cells_class c led cs = class_at joined_byte led c.defines c.flag (nat_lt 0 c.conditionals) (is_unreadable cs) (units joined_byte cs)
 
 -- a line of class Assign with its value replaced by a text that may be one
 pub line-with_value : (c : Context) (l : List ℕ) (below : List (List ℕ)) (a : Assignment Cell) (sets : Option ℕ) (v : List ℕ) → IsValueText v → class_of c l ≡ Assign a sets
@@ -225,8 +213,8 @@ line-with_value c l below a sets v t h o n =
       parts = p;
       line = s;
       class =
-          ap (λ z. read c z (line_cells m)) led
-          ∙ (ap (λ z. read c (is_prefix_led c.prefix l) z) s.same_cells
+          ap (λ z. cells_class c z (line_cells m)) led
+          ∙ (ap (λ z. cells_class c (is_prefix_led c.prefix l) z) s.same_cells
           ∙ (r.also (P ++ (map Byte v ++ Q)) (units joined_byte (P ++ (map Byte v ++ Q)))
           ∙ assign-plain_class (is_prefix_led c.prefix l) (nat_lt 0 c.conditionals) (P ++ (map Byte v ++ Q)) (units joined_byte (P ++ (map Byte v ++ Q))) (with_text a v) g));
     }

@@ -36,16 +36,16 @@ module _ {A B : Type 0} (f : A → B) (byte : B → ℕ) where
   -- ---- definitions
 
   -- a name ends before the images of units where it ends before the units
-  pub ends_name-map : (us : List (List A)) → ends_name byte (map (map f) us) ≡ ends_name (λ x. byte (f x)) us
+  ends_name-map : (us : List (List A)) → ends_name byte (map (map f) us) ≡ ends_name (λ x. byte (f x)) us
   ends_name-map [] = refl
   ends_name-map (u ∷ us) = rw (is_gap-map f byte u, symbol-map f byte u, first_passes-map (map f) (is_equals (λ x. byte (f x))) (is_equals byte) (is_equals-map f byte) us) refl
 
   -- the blanks at the front of the images of units
-  pub blanks-map : (us : List (List A)) → blanks byte (map (map f) us) ≡ map (map f) (blanks (λ x. byte (f x)) us)
+  blanks-map : (us : List (List A)) → blanks byte (map (map f) us) ≡ map (map f) (blanks (λ x. byte (f x)) us)
   blanks-map us = leading-map (map f) (is_gap (λ x. byte (f x))) (is_gap byte) (is_gap-map f byte) us
 
   -- what stands after them
-  pub after_blanks-map : (us : List (List A)) → after_blanks byte (map (map f) us) ≡ map (map f) (after_blanks (λ x. byte (f x)) us)
+  after_blanks-map : (us : List (List A)) → after_blanks byte (map (map f) us) ≡ map (map f) (after_blanks (λ x. byte (f x)) us)
   after_blanks-map us = after_leading-map (map f) (is_gap (λ x. byte (f x))) (is_gap byte) (is_gap-map f byte) us
 
   -- the operator with the blanks around it
@@ -81,13 +81,13 @@ module _ {A B : Type 0} (f : A → B) (byte : B → ℕ) where
       ) (defined_by-map (operator_at (map (symbol (λ x. byte (f x))) (after_blanks (λ x. byte (f x)) F))) b N (blanks (λ x. byte (f x)) F) (after_blanks (λ x. byte (f x)) F))
 
   -- the definition that the images of units are
-  pub definition-map : (us : List (List A)) → definition byte (map (map f) us) ≡ map_assigned f (definition (λ x. byte (f x)) us)
+  definition-map : (us : List (List A)) → definition byte (map (map f) us) ≡ map_assigned f (definition (λ x. byte (f x)) us)
   definition-map us = rw (blanks-map us, after_blanks-map us) (definition_of-map (blanks (λ x. byte (f x)) us) (after_blanks (λ x. byte (f x)) us))
 
   -- ---- modifiers
 
   -- the image of a word is the same modifier
-  pub modifier_of-map : (w : List (List A)) → modifier_of byte (map (map f) w) ≡ modifier_of (λ x. byte (f x)) w
+  modifier_of-map : (w : List (List A)) → modifier_of byte (map (map f) w) ≡ modifier_of (λ x. byte (f x)) w
   modifier_of-map w = rw (unit_text-map f byte w) refl
 
   after_units-map : (us : List (List A)) (o : Option (Assignment A)) → after_units byte (map (map f) us) (map_assigned f o) ≡ map_assigned f (after_units (λ x. byte (f x)) us o)
@@ -109,7 +109,7 @@ module _ {A B : Type 0} (f : A → B) (byte : B → ℕ) where
   or_modified-map None None w o = refl
 
   -- the assignment that the images of words and gaps are
-  pub assignment_of-map : (ts : List (Token A)) → assignment_of byte (map (map_token f) ts) ≡ map_assigned f (assignment_of (λ x. byte (f x)) ts)
+  assignment_of-map : (ts : List (Token A)) → assignment_of byte (map (map_token f) ts) ≡ map_assigned f (assignment_of (λ x. byte (f x)) ts)
   assignment_of-map [] = refl
   assignment_of-map (Gap u ∷ ts) = ap (after_units byte (map f u ∷ [])) (assignment_of-map ts) ∙ after_units-map (u ∷ []) (assignment_of (λ x. byte (f x)) ts)
   assignment_of-map (Word w ∷ ts) =

@@ -12,24 +12,12 @@ use Rattle.mk_class.specs.Texts.{unit_text}
 use Rattle.mk_class.specs.Symbols.{Symbol, symbol, is_equals, is_semicolon, is_semicolon_symbol, is_equals_symbol}
 use Rattle.mk_class.specs.Symbols.Symbol.{Hash, Colon, Semicolon, Equals, Plus, Question, Exclamation, Bar, Ampersand, NoSymbol}
 use Rattle.mk_class.specs.CutTexts.{FollowsHead}
-use Rattle.mk_class.proofs.on_symbols.SymbolLemmas.{symbol-unit, gap-no_symbol}
+use Rattle.mk_class.proofs.on_symbols.SymbolLemmas.{symbol-unit, gap-no_symbol, semicolon_symbol-is}
 use Rattle.mk_class.specs.Assignments.{ends_name_by, after_blanks, blanks, modifier_of, assignment}
 use Rattle.mk_class.specs.AssignmentsAtEquals.{flavor_before_equals, ends_name_before_equals, front_by, definition_front, front_after_units, front_after_modifier, front_of, with_value, is_no_equals}
 use Rattle.mk_class.proofs.on_assignments.AssignmentEqualsLemmas.{assignment-equals, no_assignment, not_same, or_front, front_of-word}
 use Rattle.mk_class.specs.declared.assignment.Flavor.{Flavor}
 use Rattle.mk_class.specs.declared.assignment.Modifier.{Modifier}
-
-semicolon_symbol-is : (s : Symbol) → is_semicolon_symbol s ≡ true → s ≡ Semicolon
-semicolon_symbol-is Hash h = cc
-semicolon_symbol-is Colon h = cc
-semicolon_symbol-is Semicolon h = refl
-semicolon_symbol-is Equals h = cc
-semicolon_symbol-is Plus h = cc
-semicolon_symbol-is Question h = cc
-semicolon_symbol-is Exclamation h = cc
-semicolon_symbol-is Bar h = cc
-semicolon_symbol-is Ampersand h = cc
-semicolon_symbol-is NoSymbol h = cc
 
 -- no operator has a `;`
 flavor-semicolon : (s : List Symbol) → any is_semicolon_symbol s ≡ true → flavor_before_equals s ≡ None
@@ -171,7 +159,7 @@ module _ {A : Type 0} (byte : A → ℕ) where
       go false e (Some m) j k = ap (front_after_modifier byte m w) (k (sym (semicolon-append w (token_units ts) e) ∙ h))
 
   -- there is no assignment where a `;` stands before the first `=`
-  pub no_assignment-semicolon : (b : List (List A)) (e : List A) (r : List (List A)) → Each (is_no_equals byte) b → is_equals byte e ≡ true → has_semicolon b ≡ true → assignment byte (b ++ e ∷ r) ≡ None
+  no_assignment-semicolon : (b : List (List A)) (e : List A) (r : List (List A)) → Each (is_no_equals byte) b → is_equals byte e ≡ true → has_semicolon b ≡ true → assignment byte (b ++ e ∷ r) ≡ None
   no_assignment-semicolon b e r n k h =
       assignment-equals byte b e r n k
       ∙ ap (λ z. with_value byte z e r) (no_front-semicolon (tokens byte b) (ap has_semicolon (token_units-tokens byte b) ∙ h) (tokens-are_tokens byte b))

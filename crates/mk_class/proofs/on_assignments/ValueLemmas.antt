@@ -2,22 +2,23 @@
 use Rattle.std.proofs.Common.{◌≡◌, refl, sym, ap, ◌∙◌, subst, ℕ, List, [], ◌∷◌, ◌++◌, map, Bool, true, false, not, ◌||◌, ◌==◌}
 use Rattle.std.proofs.lemmas.Bool.{and_parts, not-true}
 use Rattle.mk_lines.specs.Lists.{concat, Each, FirstFails, LastFails}
-use Rattle.mk_lines.specs.Bytes.{ByteKind, byte_kind, is_blank_kind, is_backslash_kind}
+use Rattle.mk_lines.specs.Bytes.{ByteKind, byte_kind, is_blank_kind, is_backslash_kind, is_blank_byte}
 use Rattle.mk_lines.specs.Bytes.ByteKind.{LineFeed, CarriageReturn, Backslash, Blank, Ordinary}
 use Rattle.mk_lines.specs.Cells.{Cell, Byte, joined_byte}
 use Rattle.mk_lines.specs.CellFaults.{has_stray, is_stray_by}
-use Rattle.mk_lines.proofs.on_cells.LineCells.{HasNoLineEnd, is_no_line_end_kind, or-left_false, or-right_false}
+use Rattle.mk_lines.proofs.on_cells.LineCells.{HasNoLineEnd, is_no_line_end_kind}
 use Rattle.mk_lines.proofs.on_cells.CellsReplaced.{IsPlainText, ends_ordinary, is_ordinary_kind}
 use Rattle.mk_lines.specs.Cut.{continuation}
 use Rattle.mk_lines.specs.Units.{units, is_closed, unit_step, unit_begins}
 use Rattle.mk_lines.specs.Units.UnitState.{Between}
 use Rattle.mk_lines.proofs.on_units.UnitLemmas.{units-map, is_closed-map, concat-units}
 use Rattle.mk_lines.specs.Words.{is_gap}
+use Rattle.mk_lines.proofs.on_lists.BoolLemmas.{or-left_false, or-right_false}
 use Rattle.mk_class.specs.Lists.{any, last_passes}
 use Rattle.mk_class.specs.Symbols.{symbol, is_hash, is_hash_symbol}
 use Rattle.mk_class.specs.CutTexts.{is_no_hash}
 use Rattle.mk_class.proofs.on_assignments.AssignmentsWhole.{AreValue}
-use Rattle.mk_class.specs.Arguments.{is_value, is_clean, is_barred_byte, is_line_end_kind, is_blank_byte, is_backslash_byte}
+use Rattle.mk_class.specs.Arguments.{is_value, is_clean, is_barred_byte, is_line_end_kind, is_backslash_byte}
 
 -- what a value, not empty, is among cells
 pub record IsValueText (v : List ℕ) : Type 0 where
@@ -53,7 +54,7 @@ last-right p (c ∷ []) (d ∷ b) h = h
 last-right p (c ∷ d ∷ a) b h = last-right p (d ∷ a) b h
 
 -- units whose text does not end in a blank do not end in a gap
-pub last_unit-no_gap : (us : List (List ℕ)) → last_passes is_blank_byte (concat us) ≡ false → LastFails (is_gap (λ b. b)) us
+last_unit-no_gap : (us : List (List ℕ)) → last_passes is_blank_byte (concat us) ≡ false → LastFails (is_gap (λ b. b)) us
 last_unit-no_gap [] h = tt
 last_unit-no_gap ([] ∷ []) h = refl
 last_unit-no_gap ((x ∷ []) ∷ []) h = h
@@ -66,7 +67,7 @@ last-bytes (u ∷ []) h = is_gap-bytes u ∙ h
 last-bytes (u ∷ w ∷ us) h = last-bytes (w ∷ us) h
 
 -- the first unit of a text that does not begin with a blank is no gap
-pub first_unit-no_gap : (b : ℕ) (r : List ℕ) → is_blank_byte b ≡ false → FirstFails (is_gap (λ b. b)) (units (λ b. b) (b ∷ r))
+first_unit-no_gap : (b : ℕ) (r : List ℕ) → is_blank_byte b ≡ false → FirstFails (is_gap (λ b. b)) (units (λ b. b) (b ∷ r))
 first_unit-no_gap b r h = go (continuation (unit_step (λ b. b)) (unit_begins (λ b. b)) (unit_step (λ b. b) Between b) r)
   where
     go : (u : List ℕ) → is_gap (λ b. b) (b ∷ u) ≡ false
@@ -117,7 +118,7 @@ ordinary-kind Blank h i j = cc
 ordinary-kind Ordinary h i j = refl
 
 -- a text, not empty, without LF, CR and NUL, whose last byte is no blank and no backslash, ends in an ordinary byte
-pub clean-ends_ordinary : (b : ℕ) (v : List ℕ) → any is_barred_byte (b ∷ v) ≡ false → last_passes is_blank_byte (b ∷ v) ≡ false → last_passes is_backslash_byte (b ∷ v) ≡ false → ends_ordinary (b ∷ v) ≡ true
+clean-ends_ordinary : (b : ℕ) (v : List ℕ) → any is_barred_byte (b ∷ v) ≡ false → last_passes is_blank_byte (b ∷ v) ≡ false → last_passes is_backslash_byte (b ∷ v) ≡ false → ends_ordinary (b ∷ v) ≡ true
 clean-ends_ordinary b [] h i j = ordinary-kind (byte_kind b) (or-left_false (is_line_end_kind (byte_kind b)) (b == 0) (or-left_false (is_barred_byte b) false h)) i j
 clean-ends_ordinary b (c ∷ v) h i j = clean-ends_ordinary c v (or-right_false (is_barred_byte b) (any is_barred_byte (c ∷ v)) h) i j
 

@@ -1,14 +1,16 @@
 -- Which lines have which class: what a class says of the context that the line stands in, and of the line.
 use Rattle.std.proofs.Common.{subst, ◌≡◌, refl, sym, ap, ◌∙◌, ℕ, List, [], ◌∷◌, ◌++◌, Bool, true, false, not, ◌||◌, cond, Option, Some, None, zero, suc}
 use Rattle.std.specs.Prelude.{nat_lt}
+use Rattle.std.proofs.lemmas.Bool.{or_from}
 use Rattle.mk_lines.specs.Lists.{after_leading, Each}
 use Rattle.mk_lines.specs.Cells.{Cell, Byte, Fold, LfEnd, CrLfEnd, joined_byte, line_cells, NoLineEnds}
 use Rattle.mk_lines.specs.CellFaults.{has_stray, is_stray, has_bad_fold}
 use Rattle.mk_lines.proofs.on_cells.LineOfCells.{IsClean}
-use Rattle.mk_lines.proofs.on_cells.LineCells.{AreLineCells, cells-are_line_cells, or-left_false, or-right_false, or-both_false}
+use Rattle.mk_lines.proofs.on_cells.LineCells.{AreLineCells, cells-are_line_cells}
 use Rattle.mk_lines.specs.PhysicalLines.{without_line_end}
 use Rattle.mk_lines.specs.Units.{units}
 use Rattle.mk_lines.specs.Words.{is_gap}
+use Rattle.mk_lines.proofs.on_lists.BoolLemmas.{or-left_false, or-right_false}
 use Rattle.mk_class.specs.Lists.{is_empty, any}
 use Rattle.mk_class.specs.Texts.{word_texts}
 use Rattle.mk_class.specs.Symbols.{is_hash, is_equals, is_equals_symbol}
@@ -34,7 +36,7 @@ use Rattle.mk_class.specs.CountsOfClasses.{FitsCounts}
 -- ---- the context that a line of a class stands in
 
 -- a class that a line outside defines may have
-abbrev pub FitsOutside : (in_conditional : Bool) → Class Cell → Type 0
+abbrev FitsOutside : (in_conditional : Bool) → Class Cell → Type 0
 FitsOutside c Endef = ⊥
 FitsOutside c (Body n) = ⊥
 FitsOutside c Else = c ≡ true
@@ -246,7 +248,7 @@ no_stray-no_line_ends (LfEnd r ∷ cs) h = absurd (cc)
 no_stray-no_line_ends (CrLfEnd r ∷ cs) h = absurd (cc)
 
 -- cells that can be read have no line end and no bad fold
-pub readable-clean : (cs : List Cell) → is_unreadable cs ≡ false → IsClean cs
+readable-clean : (cs : List Cell) → is_unreadable cs ≡ false → IsClean cs
 readable-clean cs h = (no_stray-no_line_ends cs (or-left_false (has_stray cs) (has_bad_fold cs) h), or-right_false (has_stray cs) (has_bad_fold cs) h)
 
 -- the cells of a line that can be read are cells that a line may have
@@ -257,12 +259,12 @@ readable-are_line_cells l h = cells-are_line_cells (without_line_end l) (readabl
 pub has_stray-append : (a b : List Cell) → has_stray a ≡ false → has_stray b ≡ false → has_stray (a ++ b) ≡ false
 has_stray-append [] b h k = k
 has_stray-append (c ∷ a) b h k =
-    or-both_false (is_stray c) (has_stray (a ++ b)) (or-left_false (is_stray c) (has_stray a) h) (has_stray-append a b (or-right_false (is_stray c) (has_stray a) h) k)
+    or_from (is_stray c) (has_stray (a ++ b)) (or-left_false (is_stray c) (has_stray a) h) (has_stray-append a b (or-right_false (is_stray c) (has_stray a) h) k)
 
 -- the first of cells without stray bytes have none
 pub has_stray-left : (a b : List Cell) → has_stray (a ++ b) ≡ false → has_stray a ≡ false
 has_stray-left [] b h = refl
-has_stray-left (c ∷ a) b h = or-both_false (is_stray c) (has_stray a) (or-left_false (is_stray c) (has_stray (a ++ b)) h) (has_stray-left a b (or-right_false (is_stray c) (has_stray (a ++ b)) h))
+has_stray-left (c ∷ a) b h = or_from (is_stray c) (has_stray a) (or-left_false (is_stray c) (has_stray (a ++ b)) h) (has_stray-left a b (or-right_false (is_stray c) (has_stray (a ++ b)) h))
 
 -- and the last have none
 pub has_stray-right : (a b : List Cell) → has_stray (a ++ b) ≡ false → has_stray b ≡ false
@@ -273,7 +275,7 @@ has_stray-right (c ∷ a) b h = has_stray-right a b (or-right_false (is_stray c)
 pub readable-replaced : (P W V Q : List Cell) → is_unreadable (P ++ (W ++ Q)) ≡ false → has_stray V ≡ false → AreLineCells (P ++ (V ++ Q)) → is_unreadable (P ++ (V ++ Q)) ≡ false
 readable-replaced P W V Q h v g =
     let s = or-left_false (has_stray (P ++ (W ++ Q))) (has_bad_fold (P ++ (W ++ Q))) h in
-    or-both_false (has_stray (P ++ (V ++ Q))) (has_bad_fold (P ++ (V ++ Q)))
+    or_from (has_stray (P ++ (V ++ Q))) (has_bad_fold (P ++ (V ++ Q)))
     (has_stray-append P (V ++ Q) (has_stray-left P (W ++ Q) s) (has_stray-append V Q v (has_stray-right W Q (has_stray-right P (W ++ Q) s)))) g.clean.1
 
 -- ---- an assignment has something in it

@@ -122,7 +122,7 @@ module _ {A B : Type 0} (f : A → B) (byte : B → ℕ) where
   same-undefined false k c unreadable us = same-plain false c unreadable us
 
   -- the class of the images of units has the places of the class of the units
-  pub class_at-map : (led : Bool) (defines : ℕ) (k : Flag) (c unreadable : Bool) (us : List (List A))
+  class_at-map : (led : Bool) (defines : ℕ) (k : Flag) (c unreadable : Bool) (us : List (List A))
       → class_places byte (class_at byte led defines k c unreadable (map (map f) us)) ≡ class_places (λ x. byte (f x)) (class_at (λ x. byte (f x)) led defines k c unreadable us)
   class_at-map led zero k c unreadable us = same-undefined led k c unreadable us
   class_at-map led (suc n) k c unreadable us = rw (word_texts-map f byte us) (same-said (body_class led (suc n) (word_texts (λ x. byte (f x)) us)))

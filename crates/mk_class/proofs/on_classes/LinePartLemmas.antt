@@ -1,14 +1,14 @@
 -- The parts of a line by the class that the code has for it: what stands in each range that it places, for assignments,
 -- assignments for targets and headers.
-use Rattle.std.proofs.Common.{◌≡◌, refl, sym, ap, ◌∙◌, subst, arith, ℕ, suc, ◌+◌, ◌-◌, List, [], ◌∷◌, ◌++◌, map, length, append_assoc, Bool, true, not}
+use Rattle.std.proofs.Common.{◌≡◌, refl, sym, ap, ◌∙◌, subst, arith, ℕ, suc, ◌+◌, List, [], ◌∷◌, ◌++◌, map, length, append_assoc, Bool, not}
 use Rattle.std.specs.Prelude.{nat_lt, if◌then◌else◌}
 use Rattle.mk_lines.proofs.on_lists.ListLemmas.{leading-after_leading}
 use Rattle.mk_lines.specs.Cells.{Cell, joined_byte, line_cells}
 use Rattle.mk_lines.specs.Units.{units}
 use Rattle.mk_class.specs.Lists.{is_empty}
-use Rattle.mk_class.specs.Symbols.{Symbol, symbol, is_colon_symbol, is_bar_symbol}
-use Rattle.mk_class.specs.Symbols.Symbol.{Colon, Ampersand, Bar, NoSymbol}
-use Rattle.mk_class.proofs.on_symbols.SymbolLemmas.{symbol-unit}
+use Rattle.mk_class.specs.Symbols.{Symbol, symbol}
+use Rattle.mk_class.specs.Symbols.Symbol.{Colon, Bar, NoSymbol}
+use Rattle.mk_class.proofs.on_symbols.SymbolLemmas.{symbol-unit, colon_symbol-is, bar_symbol-is}
 use Rattle.mk_class.specs.CutTexts.{cut_text, comment, is_no_hash}
 use Rattle.mk_class.specs.Assignments.{Assignment}
 use Rattle.mk_class.proofs.on_assignments.AssignmentsWhole.{assignment_units, assignment-is}
@@ -26,53 +26,25 @@ use Rattle.mk_class.specs.ClassTable.{class_of, is_unreadable}
 use Rattle.mk_class.specs.ClassPlaces.{width, class_places, assignment_places, target_assignment_places, header_places}
 use Rattle.mk_class.proofs.on_classes.ClassHolds.{IsTarget, IsHeader, Holds, class_at-holds}
 use Rattle.mk_class.proofs.on_classes.PartPlaceLemmas.{part-is, width-append}
-use Rattle.mk_class.specs.declared.assignment.Assignment as places
-use Rattle.mk_class.specs.declared.assignment.TargetAssignment as target_places
-use Rattle.mk_class.specs.declared.rule.Header as header_place
 use Rattle.mk_class.specs.declared.rule.Separator.{Separator}
 use Rattle.mk_class.specs.declared.rule.Separator.TheVariants.{SingleColon, DoubleColon, GroupedColon, GroupedDoubleColon}
 use Rattle.mk_class.specs.declared.class.Class as class
-use Rattle.mk_class.specs.declared.class.Class.TheVariants as variants
 use Rattle.mk_class.specs.LineParts.{IsHeaderPlaced, IsAssignmentPlaced, IsTargetAssignmentPlaced, ArePartsPlaced}
 
 -- ---- headers
-
-bar-symbol : (s : Symbol) → is_bar_symbol s ≡ true → s ≡ Bar
-bar-symbol Bar h = refl
-bar-symbol Symbol.Hash h = cc
-bar-symbol Colon h = cc
-bar-symbol Symbol.Semicolon h = cc
-bar-symbol Symbol.Equals h = cc
-bar-symbol Symbol.Plus h = cc
-bar-symbol Symbol.Question h = cc
-bar-symbol Symbol.Exclamation h = cc
-bar-symbol Ampersand h = cc
-bar-symbol NoSymbol h = cc
-
-colon-symbol : (s : Symbol) → is_colon_symbol s ≡ true → s ≡ Colon
-colon-symbol Bar h = cc
-colon-symbol Symbol.Hash h = cc
-colon-symbol Colon h = refl
-colon-symbol Symbol.Semicolon h = cc
-colon-symbol Symbol.Equals h = cc
-colon-symbol Symbol.Plus h = cc
-colon-symbol Symbol.Question h = cc
-colon-symbol Symbol.Exclamation h = cc
-colon-symbol Ampersand h = cc
-colon-symbol NoSymbol h = cc
 
 -- a unit that is a symbol has one byte
 symbol-width : (u : List Cell) (s : Symbol) (us : List (List Cell)) → (NoSymbol ≡ s → ⊥) → symbol joined_byte u ≡ s → width (u ∷ us) ≡ suc (width us)
 symbol-width u s us n h = ap (λ z. width (z ∷ us)) (symbol-unit joined_byte u s n h).1
 
-bar-width : (b o : List (List Cell)) → FitsBar joined_byte b o → width b ≡ (if not (is_empty b) then 1 else 0)
+pub bar-width : (b o : List (List Cell)) → FitsBar joined_byte b o → width b ≡ (if not (is_empty b) then 1 else 0)
 bar-width [] o h = refl
-bar-width (u ∷ []) o h = symbol-width u Bar [] (λ x. cc) (bar-symbol (symbol joined_byte u) h)
+bar-width (u ∷ []) o h = symbol-width u Bar [] (λ x. cc) (bar_symbol-is (symbol joined_byte u) h)
 bar-width (u ∷ v ∷ b) o h = absurd h
 
 pattern-width : (p c us : List (List Cell)) → FitsPattern joined_byte p c us → width c ≡ (if not (is_empty c) then 1 else 0)
 pattern-width p [] us h = refl
-pattern-width p (u ∷ []) us h = symbol-width u Colon [] (λ x. cc) (colon-symbol (symbol joined_byte u) h.0)
+pattern-width p (u ∷ []) us h = symbol-width u Colon [] (λ x. cc) (colon_symbol-is (symbol joined_byte u) h.0)
 pattern-width p (u ∷ v ∷ c) us h = absurd h
 
 abbrev AreSymbols : List Symbol → Type 0
@@ -189,3 +161,18 @@ line-parts_placed c l k h =
     subst (ArePartsPlaced cs (class_of c l)) (sym h) (
     parts_placed (is_prefix_led c.prefix l) (nat_lt 0 c.conditionals) (is_unreadable cs) cs (class_of c l) (class_at-holds joined_byte (units joined_byte cs) (is_prefix_led c.prefix l) (nat_lt 0 c.conditionals) (is_unreadable cs) c.defines c.flag)
     )
+
+-- the places of the parts of a header
+pub header-placed : (c : Context) (l : List ℕ) (h : Headers.Header Cell) → class_of c l ≡ Header h → IsHeaderPlaced (line_cells l) (header_places joined_byte h) h
+header-placed c l h e =
+    let s = line-parts_placed c l (class_places joined_byte (Header h)) (ap (class_places joined_byte) (sym e)) in
+    let q : Header s.0 ≡ Header h = sym s.1 ∙ e in
+    let r : s.0 ≡ h = cc in
+    subst (IsHeaderPlaced (line_cells l) (header_places joined_byte h)) r s.2
+
+pub target-placed : (c : Context) (l : List ℕ) (t : TargetAssignment Cell) → class_of c l ≡ TargetAssign t → IsTargetAssignmentPlaced (line_cells l) (target_assignment_places t) t
+target-placed c l t e =
+    let s = line-parts_placed c l (class_places joined_byte (TargetAssign t)) (ap (class_places joined_byte) (sym e)) in
+    let q : TargetAssign s.0 ≡ TargetAssign t = sym s.1 ∙ e in
+    let r : s.0 ≡ t = cc in
+    subst (IsTargetAssignmentPlaced (line_cells l) (target_assignment_places t)) r s.2

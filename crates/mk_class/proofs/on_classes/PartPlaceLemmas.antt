@@ -28,7 +28,7 @@ slice-between s e p w q h k =
     ap (λ m. take m (drop s (p ++ (w ++ q)))) n
     ∙ (ap (λ m. take (length w) (drop m (p ++ (w ++ q)))) h ∙ (ap (take (length w)) (drop-append_seam p (w ++ q)) ∙ take-append_seam w q))
 
-place-after : (cs p q : List Cell) (n : ℕ) → cs ≡ p ++ q → n ≡ length p → raw_place cs n ≡ length (raw_text p)
+pub place-after : (cs p q : List Cell) (n : ℕ) → cs ≡ p ++ q → n ≡ length p → raw_place cs n ≡ length (raw_text p)
 place-after cs p q n h k = ap (λ z. raw_place z n) h ∙ (ap (raw_place (p ++ q)) k ∙ raw_place-append p q)
 
 -- the range of some of a line's units is as wide as those before it and these

@@ -1,7 +1,8 @@
 -- Laws of the step over a line: each line of a text may be stepped over within the limits, and the recipe prefix in force is a
 -- tab or a byte that an assignment may set.
-use Rattle.std.proofs.Common.{◌≡◌, refl, sym, ◌∙◌, subst, ℕ, ◌<◌, ◌^◌, List, [], ◌∷◌, Bool, true, false, ◌||◌, Option, Some, None, arith}
+use Rattle.std.proofs.Common.{◌≡◌, refl, sym, ◌∙◌, subst, ℕ, ◌<◌, ◌^◌, List, [], ◌∷◌, Bool, true, false, Option, Some, None, arith}
 use Rattle.std.specs.Prelude.{◌==◌, nat_lt, if◌then◌else◌}
+use Rattle.std.proofs.lemmas.Bool.{or_right}
 use Rattle.mk_lines.specs.Cells.{Cell, joined_byte, line_cells}
 use Rattle.mk_lines.specs.Units.{units}
 use Rattle.mk_class.specs.Texts.{unit_text}
@@ -20,7 +21,7 @@ use Rattle.mk_class.specs.declared.context.Nesting.TheVariants.{Opens, Closes, K
 
 -- a class that fits the counts may be stepped over, where a line that opens a conditional finds fewer than 256 open, and fewer
 -- than 2 ^ 24 defines are open
-pub Admits-counts : (c : Context) (k : Class Cell) → FitsCounts c.defines c.conditionals k → (k ≡ Class.If → c.conditionals < 256) → c.defines < 2 ^ 24 → Admits c (class_places joined_byte k)
+Admits-counts : (c : Context) (k : Class Cell) → FitsCounts c.defines c.conditionals k → (k ≡ Class.If → c.conditionals < 256) → c.defines < 2 ^ 24 → Admits c (class_places joined_byte k)
 Admits-counts c Class.Endef f h d = (tt, omega arith)
 Admits-counts c (Class.Body Opens) f h d = (tt, d)
 Admits-counts c (Class.Body Closes) f h d = (tt, omega (arith, f.1))
@@ -43,10 +44,6 @@ Admits-counts c (Class.Header x) f h d = (tt, tt)
 pub class_of-admits : (c : Context) (l : List ℕ) → (class_of c l ≡ Class.If → c.conditionals < 256) → c.defines < 2 ^ 24 → Admits c (class_places joined_byte (class_of c l))
 class_of-admits c l = Admits-counts c (class_of c l) (class_of-counts c l)
 
-or_true : (b c : Bool) → c ≡ true → (b || c) ≡ true
-or_true true c h = refl
-or_true false c h = h
-
 some_same : (a b : ℕ) → Some a ≡ Some b → a ≡ b
 some_same a b h = cc
 
@@ -55,7 +52,7 @@ prefix_of_value-byte [] b h = subst (λ z. is_prefix_byte z ≡ true) (some_same
 prefix_of_value-byte (x ∷ v) b h = go (may_be_prefix x) refl h
   where
     go : (c : Bool) → may_be_prefix x ≡ c → (if c then Some x else None) ≡ Some b → is_prefix_byte b ≡ true
-    go true e k = subst (λ z. is_prefix_byte z ≡ true) (some_same x b k) (or_true (x == tab) (may_be_prefix x) e)
+    go true e k = subst (λ z. is_prefix_byte z ≡ true) (some_same x b k) (or_right (x == tab) (may_be_prefix x) e)
     go false e k = absurd (cc)
 
 prefix_set_by-byte : (c : Bool) (a : Assignment Cell) (b : ℕ) → prefix_set_by joined_byte c a ≡ Some b → is_prefix_byte b ≡ true
@@ -69,7 +66,7 @@ same_prefix : (a : Assignment Cell) (p q : Option ℕ) → Class.Assign a p ≡ 
 same_prefix a p q h = cc
 
 -- a line that sets the prefix sets such a byte
-pub class_of-prefix_byte : (c : Context) (l : List ℕ) (a : Assignment Cell) (b : ℕ) → class_of c l ≡ Class.Assign a (Some b) → is_prefix_byte b ≡ true
+class_of-prefix_byte : (c : Context) (l : List ℕ) (a : Assignment Cell) (b : ℕ) → class_of c l ≡ Class.Assign a (Some b) → is_prefix_byte b ≡ true
 class_of-prefix_byte c l a b h =
     let led = is_prefix_led c.prefix l in
     let open_conditional = nat_lt 0 c.conditionals in

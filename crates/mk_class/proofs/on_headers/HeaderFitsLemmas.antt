@@ -1,9 +1,10 @@
 -- The parts of a header's line fit: they are read again from their units, also where some are replaced.
 use Rattle.std.proofs.Common.{◌≡◌, refl, sym, ap, ◌∙◌, subst, ℕ, List, [], ◌∷◌, ◌++◌, map, Bool, true, false, not, ◌&&◌, ◌||◌, cond, take, drop}
 use Rattle.std.proofs.lemmas.List.{take-append-drop, take-map, drop-map}
+use Rattle.std.proofs.lemmas.Bool.{not-false}
 use Rattle.mk_lines.specs.Lists.{leading, after_leading, Each, FirstFails}
 use Rattle.mk_lines.proofs.on_lists.ListLemmas.{leading-after_leading, leading-each, after_leading-first_fails}
-use Rattle.mk_lines.proofs.on_cells.LineCells.{or-left_false, or-right_false}
+use Rattle.mk_lines.proofs.on_lists.BoolLemmas.{or-left_false, or-right_false}
 use Rattle.mk_class.specs.Lists.{is_empty, until, from, first_passes, last_passes}
 use Rattle.mk_class.specs.Symbols.{Symbol, symbol, is_colon, is_bar, is_ampersand, is_colon_symbol, is_ampersand_symbol}
 use Rattle.mk_class.specs.Symbols.Symbol.{Hash, Colon, Semicolon, Equals, Plus, Question, Exclamation, Bar, Ampersand, NoSymbol}
@@ -134,10 +135,6 @@ module _ {A : Type 0} (byte : A → ℕ) where
 
   -- ---- what follows the separator
 
-  is-colon : (c : Bool) → not c ≡ false → c ≡ true
-  is-colon true h = refl
-  is-colon false h = cc
-
   -- a text with a `:`, from there on
   record FromColon (us : List (List A)) : Type 0 where
     colon : List A
@@ -158,19 +155,15 @@ module _ {A : Type 0} (byte : A → ℕ) where
 
       go : (r : List (List A)) → after_leading (is_no_colon byte) us ≡ r → FirstFails (is_no_colon byte) r → FromColon us
       go [] e f = absurd (let k : false ≡ true = sym (none us e) ∙ h in cc)
-      go (c ∷ r) e f = record { colon = c; rest = r; is = e; passes = is-colon (is_colon byte c) f }
+      go (c ∷ r) e f = record { colon = c; rest = r; is = e; passes = not-false (is_colon byte c) f }
 
   no_colon-each : (us : List (List A)) → has_colon byte us ≡ false → Each (is_no_colon byte) us
   no_colon-each [] h = tt
   no_colon-each (u ∷ us) h = (ap not (or-left_false (is_colon byte u) (has_colon byte us) h), no_colon-each us (or-right_false (is_colon byte u) (has_colon byte us) h))
 
-  first-has_colon : (us : List (List A)) → first_passes (is_colon byte) us ≡ true → has_colon byte us ≡ true
-  first-has_colon [] h = cc
-  first-has_colon (u ∷ us) h = ap (λ z. z || has_colon byte us) h
-
   bar-fits : (r : List (List A)) → FirstFails (is_no_bar byte) r → FitsBar byte (take 1 r) (drop 1 r)
   bar-fits [] h = refl
-  bar-fits (b ∷ r) h = is-colon (is_bar byte b) h
+  bar-fits (b ∷ r) h = not-false (is_bar byte b) h
 
   prerequisites-are : (us : List (List A)) → leading (is_no_bar byte) us ++ (take 1 (after_leading (is_no_bar byte) us) ++ drop 1 (after_leading (is_no_bar byte) us)) ≡ us
   prerequisites-are us = ap (λ z. leading (is_no_bar byte) us ++ z) (take-append-drop 1 (after_leading (is_no_bar byte) us)) ∙ leading-after_leading (is_no_bar byte) us

@@ -52,7 +52,7 @@ module _ {A B : Type 0} (f : A → B) (byte : B → ℕ) where
   first_ampersand-map us = first_passes-map (map f) (is_ampersand (λ x. byte (f x))) (is_ampersand byte) (is_ampersand-map f byte) us
 
   -- a separator stands at the front of the images of units where one stands at the front of the units
-  pub begins_separator-map : (us : List (List A)) → begins_separator byte (map (map f) us) ≡ begins_separator (λ x. byte (f x)) us
+  begins_separator-map : (us : List (List A)) → begins_separator byte (map (map f) us) ≡ begins_separator (λ x. byte (f x)) us
   begins_separator-map us =
       let e : first_passes (is_colon byte) (drop 1 (map (map f) us)) ≡ first_passes (is_colon (λ x. byte (f x))) (drop 1 us) = ap (first_passes (is_colon byte)) (drop-map (map f) 1 us) ∙ first_colon-map (drop 1 us) in
       ap (λ z. z || (first_passes (is_ampersand byte) (map (map f) us) && first_passes (is_colon byte) (drop 1 (map (map f) us)))) (first_colon-map us)

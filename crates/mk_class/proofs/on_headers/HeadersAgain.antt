@@ -1,6 +1,8 @@
 -- Headers made of parts: what parts fit, that the parts of a header's line do, and that parts which fit are read again from
 -- their units.
 use Rattle.std.proofs.Common.{◌≡◌, refl, sym, ap, ◌∙◌, ℕ, List, [], ◌∷◌, ◌++◌, map, Bool, true, false, not, ◌&&◌, ◌||◌, cond, append_assoc, take, drop}
+use Rattle.std.proofs.Math.Bool.{and-false}
+use Rattle.std.proofs.lemmas.Bool.{not-true}
 use Rattle.mk_lines.specs.Lists.{leading, after_leading, Each}
 use Rattle.mk_lines.proofs.on_lists.ListLemmas.{leading-append_all, after_leading-append_all}
 use Rattle.mk_class.specs.Lists.{until, from, first_passes, last_passes}
@@ -86,27 +88,19 @@ module _ {A : Type 0} (byte : A → ℕ) where
       record { same = rw (e, f, g) refl; taken = refl; left = refl; begins = rw (e, f) refl; colon = refl }
   reads-separator GroupedDoubleColon (u ∷ v ∷ w ∷ x ∷ C) R h k = cc
 
-  is-not : (c : Bool) → not c ≡ true → c ≡ false
-  is-not true h = cc
-  is-not false h = refl
-
   -- no separator begins at a target
   no_separator : (u : List A) (X : List (List A)) → is_colon byte u ≡ false → (is_ampersand byte u && first_passes (is_colon byte) X) ≡ false → begins_separator byte (u ∷ X) ≡ false
   no_separator u X h k = rw (h, k) refl
-
-  no-and : (c : Bool) → (c && false) ≡ false
-  no-and true = refl
-  no-and false = refl
 
   until-separator : (T X : List (List A)) → Each (is_no_colon byte) T → (last_passes (is_ampersand byte) T && first_passes (is_colon byte) X) ≡ false → begins_separator byte X ≡ true
       → until (begins_separator byte) (T ++ X) ≡ T
   until-separator [] [] n a b = refl
   until-separator [] (x ∷ X) n a b = ap (λ c. cond c [] (x ∷ until (begins_separator byte) X)) b
   until-separator (u ∷ []) X n a b =
-      ap (λ c. cond c [] (u ∷ until (begins_separator byte) X)) (no_separator u X (is-not (is_colon byte u) n.0) a) ∙ ap (λ z. u ∷ z) (until-separator [] X tt refl b)
+      ap (λ c. cond c [] (u ∷ until (begins_separator byte) X)) (no_separator u X (not-true (is_colon byte u) n.0) a) ∙ ap (λ z. u ∷ z) (until-separator [] X tt refl b)
   until-separator (u ∷ v ∷ T) X n a b =
       ap (λ c. cond c [] (u ∷ until (begins_separator byte) (v ∷ (T ++ X))))
-      (no_separator u (v ∷ (T ++ X)) (is-not (is_colon byte u) n.0) (ap (λ z. is_ampersand byte u && z) (is-not (is_colon byte v) n.1.0) ∙ no-and (is_ampersand byte u)))
+      (no_separator u (v ∷ (T ++ X)) (not-true (is_colon byte u) n.0) (ap (λ z. is_ampersand byte u && z) (not-true (is_colon byte v) n.1.0) ∙ and-false (is_ampersand byte u)))
       ∙ ap (λ z. u ∷ z) (until-separator (v ∷ T) X n.1 a b)
 
   from-separator : (T X : List (List A)) → Each (is_no_colon byte) T → (last_passes (is_ampersand byte) T && first_passes (is_colon byte) X) ≡ false → begins_separator byte X ≡ true
@@ -114,10 +108,10 @@ module _ {A : Type 0} (byte : A → ℕ) where
   from-separator [] [] n a b = refl
   from-separator [] (x ∷ X) n a b = ap (λ c. cond c (x ∷ X) (from (begins_separator byte) X)) b
   from-separator (u ∷ []) X n a b =
-      ap (λ c. cond c (u ∷ X) (from (begins_separator byte) X)) (no_separator u X (is-not (is_colon byte u) n.0) a) ∙ from-separator [] X tt refl b
+      ap (λ c. cond c (u ∷ X) (from (begins_separator byte) X)) (no_separator u X (not-true (is_colon byte u) n.0) a) ∙ from-separator [] X tt refl b
   from-separator (u ∷ v ∷ T) X n a b =
       ap (λ c. cond c (u ∷ v ∷ (T ++ X)) (from (begins_separator byte) (v ∷ (T ++ X))))
-      (no_separator u (v ∷ (T ++ X)) (is-not (is_colon byte u) n.0) (ap (λ z. is_ampersand byte u && z) (is-not (is_colon byte v) n.1.0) ∙ no-and (is_ampersand byte u)))
+      (no_separator u (v ∷ (T ++ X)) (not-true (is_colon byte u) n.0) (ap (λ z. is_ampersand byte u && z) (not-true (is_colon byte v) n.1.0) ∙ and-false (is_ampersand byte u)))
       ∙ from-separator (v ∷ T) X n.1 a b
 
   -- the targets, the separator and what follows are read again
@@ -133,7 +127,7 @@ module _ {A : Type 0} (byte : A → ℕ) where
 
   no_colons : (us : List (List A)) → Each (is_no_colon byte) us → has_colon byte us ≡ false
   no_colons [] h = refl
-  no_colons (u ∷ us) h = ap (λ z. z || has_colon byte us) (is-not (is_colon byte u) h.0) ∙ no_colons us h.1
+  no_colons (u ∷ us) h = ap (λ z. z || has_colon byte us) (not-true (is_colon byte u) h.0) ∙ no_colons us h.1
 
   some_colon : (p us : List (List A)) (c : List A) → is_colon byte c ≡ true → has_colon byte (p ++ c ∷ us) ≡ true
   some_colon [] us c h = ap (λ z. z || has_colon byte us) h

@@ -13,12 +13,12 @@ use Rattle.mk_class.specs.RecipePrefix.{prefix_set_by}
 use Rattle.mk_class.specs.ClassPlaces.{width, assignment_places, target_assignment_places, header_places}
 
 -- the image of an assignment for targets
-abbrev pub map_target : {A B : Type 0} → (A → B) → TargetAssignment A → TargetAssignment B
+abbrev map_target : {A B : Type 0} → (A → B) → TargetAssignment A → TargetAssignment B
 map_target f t = record { separator = t.separator; targets = map (map f) t.targets; colons = map (map f) t.colons; assigned = map_assignment f t.assigned }
 
 module _ {A B : Type 0} (f : A → B) where
   -- images of units are as wide as the units
-  pub width-map : (us : List (List A)) → width (map (map f) us) ≡ width us
+  width-map : (us : List (List A)) → width (map (map f) us) ≡ width us
   width-map us = ap length (concat-map f us) ∙ length-map (concat us) f
 
   -- the image of an assignment has its places

@@ -8,7 +8,7 @@ use Rattle.mk_lines.specs.Bytes.ByteKind.{LineFeed, CarriageReturn, Backslash, B
 use Rattle.mk_lines.proofs.on_lists.ByteLemmas.{blank-byte, blank-mark}
 use Rattle.mk_lines.specs.Words.{is_gap}
 use Rattle.mk_lines.proofs.on_units.UnitLemmas.{IsPlainUnit}
-use Rattle.mk_class.specs.Symbols.{Symbol, byte_symbol, symbol, is_equals, is_equals_symbol}
+use Rattle.mk_class.specs.Symbols.{Symbol, byte_symbol, symbol, is_equals, is_equals_symbol, is_hash_symbol, is_colon_symbol, is_semicolon_symbol, is_bar_symbol}
 use Rattle.mk_class.specs.Symbols.Symbol.{Hash, Colon, Semicolon, Equals, Plus, Question, Exclamation, Bar, Ampersand, NoSymbol}
 
 -- the byte of a symbol
@@ -44,7 +44,7 @@ byte_symbol-byte b s n =
     λ h. absurd (n h))))))))))
 
 -- a blank is no symbol
-pub blank-no_symbol : (b : ℕ) → is_blank_kind (byte_kind b) ≡ true → byte_symbol b ≡ NoSymbol
+blank-no_symbol : (b : ℕ) → is_blank_kind (byte_kind b) ≡ true → byte_symbol b ≡ NoSymbol
 blank-no_symbol b h = go (byte_kind b) refl h
   where
     of : (b ≡ 32) ⊎ (b ≡ 9) → byte_symbol b ≡ NoSymbol
@@ -81,6 +81,54 @@ equals_symbol-is Exclamation h = cc
 equals_symbol-is Bar h = cc
 equals_symbol-is Ampersand h = cc
 equals_symbol-is NoSymbol h = cc
+
+pub bar_symbol-is : (s : Symbol) → is_bar_symbol s ≡ true → s ≡ Bar
+bar_symbol-is Hash h = cc
+bar_symbol-is Colon h = cc
+bar_symbol-is Semicolon h = cc
+bar_symbol-is Equals h = cc
+bar_symbol-is Plus h = cc
+bar_symbol-is Question h = cc
+bar_symbol-is Exclamation h = cc
+bar_symbol-is Bar h = refl
+bar_symbol-is Ampersand h = cc
+bar_symbol-is NoSymbol h = cc
+
+pub semicolon_symbol-is : (s : Symbol) → is_semicolon_symbol s ≡ true → s ≡ Semicolon
+semicolon_symbol-is Hash h = cc
+semicolon_symbol-is Colon h = cc
+semicolon_symbol-is Semicolon h = refl
+semicolon_symbol-is Equals h = cc
+semicolon_symbol-is Plus h = cc
+semicolon_symbol-is Question h = cc
+semicolon_symbol-is Exclamation h = cc
+semicolon_symbol-is Bar h = cc
+semicolon_symbol-is Ampersand h = cc
+semicolon_symbol-is NoSymbol h = cc
+
+pub colon_symbol-is : (s : Symbol) → is_colon_symbol s ≡ true → s ≡ Colon
+colon_symbol-is Hash h = cc
+colon_symbol-is Colon h = refl
+colon_symbol-is Semicolon h = cc
+colon_symbol-is Equals h = cc
+colon_symbol-is Plus h = cc
+colon_symbol-is Question h = cc
+colon_symbol-is Exclamation h = cc
+colon_symbol-is Bar h = cc
+colon_symbol-is Ampersand h = cc
+colon_symbol-is NoSymbol h = cc
+
+pub hash_symbol-is : (s : Symbol) → is_hash_symbol s ≡ true → s ≡ Hash
+hash_symbol-is Hash h = refl
+hash_symbol-is Colon h = cc
+hash_symbol-is Semicolon h = cc
+hash_symbol-is Equals h = cc
+hash_symbol-is Plus h = cc
+hash_symbol-is Question h = cc
+hash_symbol-is Exclamation h = cc
+hash_symbol-is Bar h = cc
+hash_symbol-is Ampersand h = cc
+hash_symbol-is NoSymbol h = cc
 
 module _ {A : Type 0} (byte : A → ℕ) where
   -- a gap is no symbol

@@ -79,7 +79,7 @@ module _ {A B : Type 0} (f : A → B) (byte : B → ℕ) where
   is_unclosed_by-map Unmarked t = refl
 
   -- the image of a unit is unclosed where the unit is
-  pub is_unclosed_unit-map : (u : List A) → is_unclosed_unit byte (map f u) ≡ is_unclosed_unit (λ x. byte (f x)) u
+  is_unclosed_unit-map : (u : List A) → is_unclosed_unit byte (map f u) ≡ is_unclosed_unit (λ x. byte (f x)) u
   is_unclosed_unit-map [] = refl
   is_unclosed_unit-map (x ∷ u) = is_unclosed_by-map (byte_mark (byte (f x))) u
 

@@ -13,9 +13,10 @@ use Rattle.mk_edit_laws.specs.Stretches.{Stretch, bottom, before_line, after_lin
 use Rattle.mk_edit_laws.proofs.on_edits.EditPlaces.{found-spot}
 use Rattle.mk_edit_parts.specs.Found.{IsFoundAt, IsEnd, IsMeant, IsPlaceOf}
 use Rattle.mk_edit.specs.Insertions.{IsInsertedAt}
+use Rattle.mk_edit.proofs.on_plans.RemovalPlans.{place-found}
 use Rattle.mk_edit_parts.specs.declared.seek.Found.{Found}
 
-pub inserted-bottom : (ls : List PlacedLine) (f : Found) → IsEnd (classed_lines (placed_text ls)) f → IsInsertedAt ls (Some (bottom (classed_lines (placed_text ls)))) f
+inserted-bottom : (ls : List PlacedLine) (f : Found) → IsEnd (classed_lines (placed_text ls)) f → IsInsertedAt ls (Some (bottom (classed_lines (placed_text ls)))) f
 inserted-bottom ls f E = record {
   stretch = bottom (classed_lines (placed_text ls));
   stretch_is = refl;
@@ -24,7 +25,7 @@ inserted-bottom ls f E = record {
   context_is = E.context_is;
 }
 
-pub inserted-before : (ls : List PlacedLine) (a : Address) (f : Found) → IsFoundAt (classed_lines (placed_text ls)) a f
+inserted-before : (ls : List PlacedLine) (a : Address) (f : Found) → IsFoundAt (classed_lines (placed_text ls)) a f
     → IsInsertedAt ls (option_map before_line (found (classed_lines (placed_text ls)) a)) f
 inserted-before ls a f F = record {
   stretch = before_line F.spot;
@@ -34,16 +35,8 @@ inserted-before ls a f F = record {
   context_is = F.context_is;
 }
 
--- the place of a line that is found
-pub found-place : (ls : List PlacedLine) (a : Address) (f : Found) → IsFoundAt (classed_lines (placed_text ls)) a f → IsPlaceOf ls f
-found-place ls a f F =
-    let s = F.spot in
-    let whole = found-spot (classed_lines (placed_text ls)) a s F.found_is in
-    let front : take f.at (classed_lines (placed_text ls)) ≡ s.above = ap (take f.at) whole ∙ (ap (λ m. take m (s.above ++ s.line ∷ s.below)) (sym F.place_is) ∙ take-append_seam s.above (s.line ∷ s.below)) in
-    ap (λ (z : List ClassedLine). context_of z) front ∙ F.context_is
-
 -- one line is there to go after
-pub found-within : (ls : List PlacedLine) (a : Address) (f : Found) → IsFaithful ls → IsFoundAt (classed_lines (placed_text ls)) a f → f.at + 1 ≤ length ls
+found-within : (ls : List PlacedLine) (a : Address) (f : Found) → IsFaithful ls → IsFoundAt (classed_lines (placed_text ls)) a f → f.at + 1 ≤ length ls
 found-within ls a f h F =
     let s = F.spot in
     let w = found-spot (classed_lines (placed_text ls)) a s F.found_is in
@@ -56,7 +49,7 @@ inserted-between ls o s g found whole at context =
     let front : take g.at (classed_lines (placed_text ls)) ≡ s.above = ap (take g.at) whole ∙ (ap (λ m. take m (s.above ++ s.below)) (sym at) ∙ take-append_seam s.above s.below) in
     record { stretch = s; stretch_is = found; whole = whole; place_is = at; context_is = sym (ap (λ (z : List ClassedLine). context_of z) front) ∙ context }
 
-pub inserted-after : (ls : List PlacedLine) (a : Address) (f g : Found) → IsFoundAt (classed_lines (placed_text ls)) a f → g.at ≡ f.at + 1
+inserted-after : (ls : List PlacedLine) (a : Address) (f g : Found) → IsFoundAt (classed_lines (placed_text ls)) a f → g.at ≡ f.at + 1
     → IsPlaceOf ls g → IsInsertedAt ls (option_map after_line (found (classed_lines (placed_text ls)) a)) g
 inserted-after ls a f g F at context =
     let s = F.spot in
@@ -126,7 +119,7 @@ inserted-after_var ls (BeforeRule nth' t) nth n f g e m at context = absurd (cc)
 pub after_var-place : (ls : List PlacedLine) (p : Place) (nth : Option ℕ) (n : List ℕ) (f : Found) → p ≡ AfterVar nth n → IsMeant (classed_lines (placed_text ls)) (place_address p) f → IsPlaceOf ls f
 after_var-place ls Bottom nth n f e m = absurd (cc)
 after_var-place ls (BeforeVar nth' n') nth n f e m = absurd (cc)
-after_var-place ls (AfterVar nth' n') nth n f e m = found-place ls (Variable nth' n') f m
+after_var-place ls (AfterVar nth' n') nth n f e m = place-found ls (Variable nth' n') f m
 after_var-place ls (BeforeRule nth' t) nth n f e m = absurd (cc)
 
 pub after_var-within : (ls : List PlacedLine) (p : Place) (nth : Option ℕ) (n : List ℕ) (f : Found) → p ≡ AfterVar nth n → IsFaithful ls → IsMeant (classed_lines (placed_text ls)) (place_address p) f → f.at + 1 ≤ length ls

@@ -2,6 +2,7 @@
 use Rattle.std.proofs.Common.{◌≡◌, refl, sym, ap, ◌∙◌, arith, ℕ, ◌+◌, ◌-◌, ◌==◌, ◌&&◌, ◌||◌, Bool, true, false, not, cond, List, [], ◌∷◌, ◌++◌, length, take, drop, length-append, Some, None}
 use Rattle.std.specs.Prelude.{nat_lt}
 use Rattle.std.proofs.lemmas.List.{take-append-drop}
+use Rattle.std.proofs.Math.Bool.{or-false}
 use Rattle.mk_lines.specs.LogicalLines.{is_open}
 use Rattle.mk_lines.specs.PhysicalLines.{line_end_bytes, file_line_end}
 use Rattle.mk_lines.specs.Pieces.{replaced}
@@ -90,10 +91,6 @@ none-removed ls (RemovePrereq nth g w) u = absurd u
 none-removed ls (SetRecipe nth g k c) u = absurd u
 none-removed ls (RemoveRecipe nth g k) u = absurd u
 none-removed ls (RenameTarget o n) u = absurd u
-
-or-false : (b : Bool) → (b || false) ≡ b
-or-false true = refl
-or-false false = refl
 
 pub leaning-at : (ls : List PlacedLine) (e : Edit) (f : Found) (b : Bool) → IsFaithful ls → IsOfNewLine e → IsInsertedAt ls (insertion (classed_lines (placed_text ls)) e) f
     → b ≡ (not (is_same_flag (flag_below_new e) f.context.flag) && is_led_first_placed f.context.prefix (drop f.at ls))

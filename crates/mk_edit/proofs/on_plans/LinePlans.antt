@@ -4,10 +4,9 @@ use Rattle.std.specs.Prelude.{Ok}
 use Rattle.mk_lines.specs.Pieces.{Replacement}
 use Rattle.mk_class.specs.ClassedLines.{classed_lines}
 use Rattle.mk_tree.specs.Documents.{IsFaithful, context_of}
-use Rattle.mk_tree.specs.LineTexts.{line_in}
+use Rattle.mk_tree.specs.LineTexts.{line_in, StandingLine}
 use Rattle.mk_tree.specs.PlacedLines.{PlacedLine, placed_line, placed_lines, placed_text}
 use Rattle.mk_edit_laws.specs.Edits.{Edit}
-use Rattle.mk_edit_laws.specs.Spots.{Spot}
 use Rattle.mk_edit_laws.specs.Stretches.{Stretch, this_line, touched_by}
 use Rattle.mk_edit_laws.specs.Costs.{cost, size}
 use Rattle.mk_edit_laws.specs.EditedLines.{edited_bytes}
@@ -28,7 +27,7 @@ pub record IsReplaced (e : Edit) (ls : List PlacedLine) (at : ℕ) (m : List ℕ
   pub can : CanReplace ls at m
   pub planned : IsPlanned e ls (replacing_moves ls at m)
 
-pub line-replaced : (e : Edit) (ls : List PlacedLine) (rs : List Replacement) (s : Spot) (at : ℕ) (m : List ℕ) → IsFaithful ls → spans (placed_text ls) e ≡ Ok rs
+pub line-replaced : (e : Edit) (ls : List PlacedLine) (rs : List Replacement) (s : StandingLine) (at : ℕ) (m : List ℕ) → IsFaithful ls → spans (placed_text ls) e ≡ Ok rs
     → touched_by (classed_lines (placed_text ls)) e ≡ Some (this_line s) → length s.above ≡ at → edited_bytes (placed_text ls) e (this_line s) rs ≡ m ∷ [] → IsReplaced e ls at m
 line-replaced e ls rs s at m f h p place b =
     let t = placed_text ls in

@@ -1,5 +1,5 @@
 -- Plans of edits that put a text in the place of one range of a line's bytes.
-use Rattle.std.proofs.Common.{◌≡◌, refl, sym, ap, ◌∙◌, subst, arith, ℕ, zero, suc, ◌+◌, ◌-◌, ◌^◌, ◌<◌, ◌≤◌, List, [], ◌∷◌, ◌++◌, Bool, true, false, length, take, drop, Some}
+use Rattle.std.proofs.Common.{◌≡◌, refl, sym, ap, ◌∙◌, subst, arith, ℕ, zero, suc, ◌+◌, ◌-◌, ◌^◌, ◌<◌, ◌≤◌, List, [], ◌∷◌, ◌++◌, true, false, length, take, drop, Some}
 use Rattle.std.specs.Prelude.{Ok, Err, nat_lt, slice_get}
 use Rattle.std.proofs.lemmas.List.{append-nil}
 use Rattle.std.proofs.lemmas.Bool.{lt-ltb, le-ltb}
@@ -9,8 +9,8 @@ use Rattle.mk_class.specs.ClassedLines.{classed_lines}
 use Rattle.mk_tree.specs.Documents.{IsFaithful, text_of}
 use Rattle.mk_tree.specs.PlacedLines.{PlacedLine, placed_text, size_of}
 use Rattle.mk_tree.proofs.on_changes.Sizes.{size_of-text}
+use Rattle.mk_tree.specs.LineTexts.{StandingLine}
 use Rattle.mk_edit_laws.specs.Edits.{Edit}
-use Rattle.mk_edit_laws.specs.Spots.{Spot}
 use Rattle.mk_edit_laws.specs.Stretches.{this_line, touched_by}
 use Rattle.mk_edit_laws.specs.Causes.{where_holds}
 use Rattle.mk_edit_laws.specs.EditedLines.{respanned_bytes, edited_bytes}
@@ -33,7 +33,7 @@ line-short (x ∷ ls) (suc at) l h = omega (arith, line-short ls at l h)
 -- An edit that puts a text in the place of a range of the bytes of the line at a place. No cause holds but that the result is
 -- too long.
 pub record IsRangeEdit (e : Edit) (ls : List PlacedLine) (at : ℕ) (l : PlacedLine) (r : Span) (new : List ℕ) : Type 0 where
-  pub spot : Spot
+  pub spot : StandingLine
   pub place_is : length spot.above ≡ at
   pub touched_is : touched_by (classed_lines (placed_text ls)) e ≡ Some (this_line spot)
   pub left_is : (rs : List Replacement) → edited_bytes (placed_text ls) e (this_line spot) rs ≡ respanned_bytes (this_line spot) rs ∷ []

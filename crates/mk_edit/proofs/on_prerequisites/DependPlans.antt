@@ -15,12 +15,12 @@ use Rattle.mk_class.specs.Classes.{Class}
 use Rattle.mk_class.specs.ClassedLines.{ClassedLine, classed_lines}
 use Rattle.mk_class.specs.declared.rule.Header as header
 use Rattle.mk_tree.specs.Documents.{IsFaithful, text_of}
-use Rattle.mk_tree.specs.PlacedLines.{PlacedLine, placed_text, size_of}
+use Rattle.mk_tree.specs.PlacedLines.{PlacedLine, placed_text, size_of, text_of_line}
 use Rattle.mk_tree.proofs.on_changes.Sizes.{size_of-text}
+use Rattle.mk_tree.specs.LineTexts.{StandingLine}
 use Rattle.mk_edit_laws.specs.Addresses.{Rule}
 use Rattle.mk_edit_laws.specs.Edits.{Edit, AddPrereq}
 use Rattle.mk_edit_laws.specs.Lengths.{bytes_put, bytes_taken}
-use Rattle.mk_edit_laws.specs.Spots.{Spot}
 use Rattle.mk_edit_laws.specs.Stretches.{this_line}
 use Rattle.mk_edit_laws.specs.Spans.{spans_of, word_spans, where_found}
 use Rattle.mk_edit_laws.specs.Causes.{where_holds}
@@ -33,7 +33,6 @@ use Rattle.mk_edit_laws.proofs.on_prerequisites.HeaderEdits.{header_pieces-whole
 use Rattle.mk_edit_laws.proofs.on_prerequisites.DependLemmas.{put_last-old}
 use Rattle.mk_edit_parts.specs.Found.{IsAddressed, IsPlaceOf}
 use Rattle.mk_edit_parts.specs.NewPrerequisites.{after_new, before_new, new_text, place_of_new}
-use Rattle.mk_edit_parts.specs.PlacedParts.{text_of_line}
 use Rattle.mk_edit.specs.PrerequisiteEdits.{IsPrerequisiteAdded, is_in_list}
 use Rattle.mk_edit_parts.specs.SeenHeaders.{IsHeaderSeen, IsPlacedIn, IsRuleLine}
 use Rattle.mk_edit_parts.specs.WordCuts.{raw_between}
@@ -60,7 +59,7 @@ add-old true w h = go (is_empty h.bar)
     go false = header_pieces-whole h (kept h.targets) (kept h.normal) (put_last (32 ∷ w) h.order_only) (kept-old h.targets) (kept-old h.normal) (put_last-old (32 ∷ w) h.order_only)
 
 -- what a line gets by a new prerequisite
-abbrev pub line_text_new : (order : Bool) → (word : List ℕ) → PlacedLine → header.Header → List ℕ
+abbrev line_text_new : (order : Bool) → (word : List ℕ) → PlacedLine → header.Header → List ℕ
 line_text_new order w l at = new_text order (place_of_new order (text_of_line l) at) w at
 
 -- the word is no longer than that
@@ -122,10 +121,10 @@ pub record IsDependOf (order : Bool) (w : List ℕ) (e : Edit) (ls : List Placed
 already-asked : (order : Bool) (nth : Option ℕ) (g w : List ℕ) (ls : List PlacedLine) (f : Found) (b : Bool) → (R : IsRuleAt ls nth g f) → b ≡ is_in_list order w R.header
     → already (classed_lines (placed_text ls)) (AddPrereq order nth g w) ≡ where_holds b Already
 already-asked true nth g w ls f b R q =
-    ap (λ (o : Option Spot). where_holds (header_passes (is_order_only w) (class_found o)) Already) R.found_is
+    ap (λ (o : Option StandingLine). where_holds (header_passes (is_order_only w) (class_found o)) Already) R.found_is
     ∙ (ap (λ (k : Class Cell). where_holds (header_passes (is_order_only w) (Some k)) Already) R.class_is ∙ ap (λ b. where_holds b Already) (sym q))
 already-asked false nth g w ls f b R q =
-    ap (λ (o : Option Spot). where_holds (header_passes (is_normal w) (class_found o)) Already) R.found_is
+    ap (λ (o : Option StandingLine). where_holds (header_passes (is_normal w) (class_found o)) Already) R.found_is
     ∙ (ap (λ (k : Class Cell). where_holds (header_passes (is_normal w) (Some k)) Already) R.class_is ∙ ap (λ b. where_holds b Already) (sym q))
 
 depend : (order : Bool) (nth : Option ℕ) (g w : List ℕ) (ls : List PlacedLine) (f : Found) → IsFaithful ls → IsAddressed (AddPrereq order nth g w) ls f → IsDependOf order w (AddPrereq order nth g w) ls f
@@ -159,7 +158,7 @@ depend order nth g w ls f h A = record {
     R : IsRuleAt ls nth g f
     R = rule-at ls nth g f h A.is_there A.is_one A.meant
 
-    s : Spot
+    s : StandingLine
     s = R.spot
 
     x : Headers.Header Cell

@@ -14,10 +14,10 @@ use Rattle.mk_class.specs.declared.rule.Header as header
 use Rattle.mk_tree.specs.Documents.{IsFaithful, text_of}
 use Rattle.mk_tree.specs.PlacedLines.{PlacedLine, placed_text, size_of}
 use Rattle.mk_tree.proofs.on_changes.Sizes.{size_of-text}
+use Rattle.mk_tree.specs.LineTexts.{StandingLine}
 use Rattle.mk_edit_laws.specs.Addresses.{Rule}
 use Rattle.mk_edit_laws.specs.Edits.{Edit, RemovePrereq}
 use Rattle.mk_edit_laws.specs.Lengths.{bytes_put}
-use Rattle.mk_edit_laws.specs.Spots.{Spot}
 use Rattle.mk_edit_laws.specs.Stretches.{this_line}
 use Rattle.mk_edit_laws.specs.Spans.{spans_of, word_spans, where_found}
 use Rattle.mk_edit_laws.specs.Causes.{where_holds}
@@ -94,7 +94,7 @@ undepend nth g w ls f h A = record {
     R : IsRuleAt ls nth g f
     R = rule-at ls nth g f h A.is_there A.is_one A.meant
 
-    s : Spot
+    s : StandingLine
     s = R.spot
 
     x : Headers.Header Cell
@@ -105,7 +105,7 @@ undepend nth g w ls f h A = record {
 
     asked : (b : Bool) → b ≡ (is_normal w x || is_order_only w x) → absent lines e ≡ where_holds (not b) Absent
     asked b q =
-        ap (λ (o : Option Spot). where_holds (not (header_passes test (class_found o))) Absent) R.found_is
+        ap (λ (o : Option StandingLine). where_holds (not (header_passes test (class_found o))) Absent) R.found_is
         ∙ (ap (λ (k : Class Cell). where_holds (not (header_passes test (Some k))) Absent) R.class_is ∙ ap (λ b. where_holds (not b) Absent) (sym q))
 
     spans_are : spans_of t lines e ≡ replacements (length (text_of s.above)) (remove_pieces w x)

@@ -13,9 +13,9 @@ use Rattle.mk_class.specs.ClassedLines.{classed_lines}
 use Rattle.mk_class.specs.declared.rule.Header as header
 use Rattle.mk_tree.specs.Documents.{IsFaithful, text_of}
 use Rattle.mk_tree.specs.PlacedLines.{PlacedLine, placed_text}
+use Rattle.mk_tree.specs.LineTexts.{StandingLine}
 use Rattle.mk_edit_laws.specs.Edits.{Edit}
 use Rattle.mk_edit_laws.specs.Lengths.{bytes_taken, bytes_put}
-use Rattle.mk_edit_laws.specs.Spots.{Spot}
 use Rattle.mk_edit_laws.specs.Stretches.{this_line, touched_by}
 use Rattle.mk_edit_laws.specs.Spans.{spans_of}
 use Rattle.mk_edit_laws.specs.EditedLines.{respanned_bytes, edited_bytes}
@@ -26,7 +26,7 @@ use Rattle.mk_edit.proofs.on_plans.LinePlans.{IsReplaced, line-replaced}
 
 -- An edit that makes these pieces of the line at a place, whose line end stays.
 pub record IsWordEdit (e : Edit) (ls : List PlacedLine) (at : ℕ) (l : PlacedLine) (ps : List Piece) : Type 0 where
-  pub spot : Spot
+  pub spot : StandingLine
   pub place_is : length spot.above ≡ at
   pub touched_is : touched_by (classed_lines (placed_text ls)) e ≡ Some (this_line spot)
   pub left_is : (rs : List Replacement) → edited_bytes (placed_text ls) e (this_line spot) rs ≡ respanned_bytes (this_line spot) rs ∷ []

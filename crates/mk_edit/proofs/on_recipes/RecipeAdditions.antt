@@ -20,11 +20,12 @@ use Rattle.mk_edit.specs.RecipeEdits.{IsRecipeAddition}
 use Rattle.mk_edit_parts.specs.RecipeWalks.{lines_from}
 use Rattle.mk_edit_parts.specs.declared.seek.Found.{Found}
 use Rattle.mk_edit_parts.proofs.CauseLemmas.{passed, holds}
-use Rattle.mk_edit.proofs.on_new_lines.InsertionLemmas.{found-place, inserted-between}
+use Rattle.mk_edit.proofs.on_new_lines.InsertionLemmas.{inserted-between}
 use Rattle.mk_edit.proofs.on_plans.CausePlans.{addressed-own}
 use Rattle.mk_edit.proofs.on_recipes.OwnCauses.{own-refused}
 use Rattle.mk_edit.proofs.on_recipes.RulePlaces.{IsRuleAt, rule-at, rule-within}
 use Rattle.mk_edit.proofs.on_recipes.RuleRemovals.{straddles-is}
+use Rattle.mk_edit.proofs.on_plans.RemovalPlans.{place-found}
 
 -- the place after the recipe of a rule is the one of its new line
 inserted-after_rule : (ls : List PlacedLine) (nth : Option ℕ) (t c : List ℕ) (f g : Found) → IsRuleAt ls nth t f → g.at ≡ f.at + 1 + length (recipe_run (lines_from ls (f.at + 1)))
@@ -56,7 +57,7 @@ recipe-addition nth t c ls f h A =
     let cls = classed_lines text in
     let R = rule-at ls nth t f h A.is_there A.is_one A.meant in
     record {
-      place = found-place ls (Rule nth t) f A.meant;
+      place = place-found ls (Rule nth t) f A.meant;
       within = R.line.within;
       end_within = rule-within ls nth t f h R;
       straddling = λ b. own-refused e ls f Straddles A (holds (straddles cls e) _ Straddles (straddles-is ls nth t f true R b));

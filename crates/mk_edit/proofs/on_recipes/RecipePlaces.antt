@@ -1,18 +1,16 @@
 -- The recipe line of a number of a rule, as it stands in a document.
-use Rattle.std.proofs.Common.{◌≡◌, refl, sym, ap, ◌∙◌, subst, arith, ℕ, zero, suc, ◌+◌, ◌<◌, true, not, List, [], ◌∷◌, ◌++◌, map, length, length-append, Option, Some, None, is_some, option_map}
+use Rattle.std.proofs.Common.{◌≡◌, refl, sym, ap, ◌∙◌, arith, ℕ, zero, suc, ◌+◌, ◌<◌, true, List, [], ◌∷◌, ◌++◌, map, length, length-append, Option, Some, None, option_map}
 use Rattle.std.specs.Prelude.{option_and_then}
 use Rattle.std.proofs.lemmas.List.{length-map}
-use Rattle.mk_lines.specs.Cells.{Cell}
 use Rattle.mk_class.specs.Classes.{Class, is_recipe}
-use Rattle.mk_class.specs.ClassTable.{class_of}
 use Rattle.mk_class.specs.Contexts.{Context, context_after}
-use Rattle.mk_class.specs.ClassedLines.{ClassedLine, classed_lines}
+use Rattle.mk_class.specs.ClassedLines.{classed_lines}
 use Rattle.mk_class.specs.declared.context.Flag.TheVariants as flag
 use Rattle.mk_tree.specs.Documents.{IsFaithful, context_of}
 use Rattle.mk_tree.specs.PlacedLines.{PlacedLine, placed_line, placed_text}
 use Rattle.mk_tree.proofs.on_documents.LinePlaces.{located, context_of-last}
-use Rattle.mk_edit_laws.specs.Spots.{Spot, nth_of}
-use Rattle.mk_edit_laws.specs.Addresses.{Rule}
+use Rattle.mk_tree.specs.LineTexts.{StandingLine}
+use Rattle.mk_edit_laws.specs.Spots.{nth_of}
 use Rattle.mk_edit_laws.specs.Stretches.{below_header, recipe_spot, recipe_found}
 use Rattle.mk_edit_laws.proofs.on_edits.EditPlaces.{recipe_found-spot, recipe_found-recipe}
 use Rattle.mk_edit_laws.proofs.on_lines.SpotLemmas.{recipe-class}
@@ -42,13 +40,13 @@ found-below ls nth g f n R =
 pub found-none : (ls : List PlacedLine) (nth : Option ℕ) (g : List ℕ) (f : Found) (n : ℕ) → IsRuleAt ls nth g f → None ≡ place_in_rule ls (f.at + 1) n → recipe_found (classed_lines (placed_text ls)) nth g n ≡ None
 found-none ls nth g f n R h = found-below ls nth g f n R ∙ go (nth_of n (recipe_spots_in (lines_from ls (f.at + 1)))) h
   where
-    go : (o : Option Spot) → None ≡ option_map (λ (s : Spot). f.at + 1 + length s.above) o → option_map (below_header R.spot) o ≡ None
+    go : (o : Option StandingLine) → None ≡ option_map (λ (s : StandingLine). f.at + 1 + length s.above) o → option_map (below_header R.spot) o ≡ None
     go None e = refl
     go (Some q) e = absurd (cc)
 
 -- what is known of a document where a recipe line stands
 pub record IsRecipeAt (ls : List PlacedLine) (nth : Option ℕ) (g : List ℕ) (n at : ℕ) : Type 0 where
-  pub spot : Spot
+  pub spot : StandingLine
   pub found_is : recipe_found (classed_lines (placed_text ls)) nth g n ≡ Some spot
   pub lines : classed_lines (placed_text ls) ≡ spot.above ++ spot.line ∷ spot.below
   pub place_is : length spot.above ≡ at
@@ -58,7 +56,7 @@ pub record IsRecipeAt (ls : List PlacedLine) (nth : Option ℕ) (g : List ℕ) (
   pub flag_before : (context_of spot.above).flag ≡ flag.Rule
   pub flag_after : (context_of (spot.above ++ spot.line ∷ [])).flag ≡ flag.Rule
 
-recipe-at : (ls : List PlacedLine) (nth : Option ℕ) (g : List ℕ) (n at : ℕ) (s : Spot) → IsFaithful ls → recipe_found (classed_lines (placed_text ls)) nth g n ≡ Some s → length s.above ≡ at → IsRecipeAt ls nth g n at
+recipe-at : (ls : List PlacedLine) (nth : Option ℕ) (g : List ℕ) (n at : ℕ) (s : StandingLine) → IsFaithful ls → recipe_found (classed_lines (placed_text ls)) nth g n ≡ Some s → length s.above ≡ at → IsRecipeAt ls nth g n at
 recipe-at ls nth g n at s h e p =
     let lines = classed_lines (placed_text ls) in
     let whole : lines ≡ s.above ++ s.line ∷ s.below = recipe_found-spot lines nth g n s e in
@@ -82,7 +80,7 @@ recipe-at ls nth g n at s h e p =
 pub found-some : (ls : List PlacedLine) (nth : Option ℕ) (g : List ℕ) (f : Found) (n at : ℕ) → IsFaithful ls → IsRuleAt ls nth g f → Some at ≡ place_in_rule ls (f.at + 1) n → IsRecipeAt ls nth g n at
 found-some ls nth g f n at h R e = go (nth_of n (recipe_spots_in (lines_from ls (f.at + 1)))) e (found-below ls nth g f n R)
   where
-    go : (o : Option Spot) → Some at ≡ option_map (λ (s : Spot). f.at + 1 + length s.above) o → recipe_found (classed_lines (placed_text ls)) nth g n ≡ option_map (below_header R.spot) o → IsRecipeAt ls nth g n at
+    go : (o : Option StandingLine) → Some at ≡ option_map (λ (s : StandingLine). f.at + 1 + length s.above) o → recipe_found (classed_lines (placed_text ls)) nth g n ≡ option_map (below_header R.spot) o → IsRecipeAt ls nth g n at
     go None e k = absurd (cc)
     go (Some q) e k =
         let m : at ≡ f.at + 1 + length q.above = cc in

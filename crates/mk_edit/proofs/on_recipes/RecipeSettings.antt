@@ -8,10 +8,11 @@ use Rattle.mk_lines.proofs.on_lines.LineEndLemmas.{without_line_end-line_end}
 use Rattle.mk_class.specs.ClassedLines.{classed_lines}
 use Rattle.mk_tree.specs.Documents.{IsFaithful, text_of}
 use Rattle.mk_tree.specs.PlacedLines.{PlacedLine, placed_line, placed_lines, placed_text}
+use Rattle.mk_tree.specs.LineTexts.{StandingLine}
 use Rattle.mk_patch.proofs.on_moves.ShapeLemmas.{get-between}
 use Rattle.mk_edit_laws.specs.Addresses.{Rule}
 use Rattle.mk_edit_laws.specs.Edits.{Edit, SetRecipe}
-use Rattle.mk_edit_laws.specs.Spots.{Spot, nth_of}
+use Rattle.mk_edit_laws.specs.Spots.{nth_of}
 use Rattle.mk_edit_laws.specs.Stretches.{this_line}
 use Rattle.mk_edit_laws.specs.Spans.{recipe_span, spans_of, where_found}
 use Rattle.mk_edit_laws.specs.Causes.{where_holds}
@@ -36,7 +37,7 @@ use Rattle.mk_edit.proofs.on_recipes.RecipePlaces.{place_in_rule, found-none, Is
 place-below : (ls : List PlacedLine) (from n at : ℕ) → Some at ≡ place_in_rule ls from n → from ≤ at
 place-below ls from n at h = go (nth_of n (recipe_spots_in (lines_from ls from))) h
   where
-    go : (o : Option Spot) → Some at ≡ option_map (λ (s : Spot). from + length s.above) o → from ≤ at
+    go : (o : Option StandingLine) → Some at ≡ option_map (λ (s : StandingLine). from + length s.above) o → from ≤ at
     go None e = absurd (cc)
     go (Some s) e = let m : at ≡ from + length s.above = cc in omega (arith, m)
 
@@ -73,7 +74,7 @@ setting-range nth g n c ls f at l h A R k =
       rises = omega (arith, rises.1);
       within = omega (arith, ap length (without_line_end-line_end l.bytes), length-append (without_line_end l.bytes) (line_end_bytes (line_end l.bytes)));
       spans_are = one;
-      causes_are = addressed-own e ls f _ A (passed (absent cs e) _ _ (ap (λ (o : Option Spot). where_holds (not (is_some o)) Absent) R.found_is) refl);
+      causes_are = addressed-own e ls f _ A (passed (absent cs e) _ _ (ap (λ (o : Option StandingLine). where_holds (not (is_some o)) Absent) R.found_is) refl);
     }
 
 -- What the code asks of a document where a recipe line gets another command, and what follows from the answers.
@@ -89,7 +90,7 @@ recipe-setting : (nth : Option ℕ) (g : List ℕ) (n : ℕ) (c : List ℕ) (ls 
 recipe-setting nth g n c ls f h A = record {
   within = R.line.within;
   place = place-found ls (Rule nth g) f A.meant;
-  missing = λ m. own-refused e ls f Absent A (holds (absent (classed_lines (placed_text ls)) e) _ Absent (ap (λ (o : Option Spot). where_holds (not (is_some o)) Absent) (found-none ls nth g f n R m)));
+  missing = λ m. own-refused e ls f Absent A (holds (absent (classed_lines (placed_text ls)) e) _ Absent (ap (λ (o : Option StandingLine). where_holds (not (is_some o)) Absent) (found-none ls nth g f n R m)));
   below = λ at m. omega (arith, place-below ls (f.at + 1) n at m);
   in_range = λ at m. (found-some ls nth g f n at h R m).within;
   range = λ at l r m k i. subst (λ (z : Span). IsRangeEdit e ls at l z c) (sym i) (setting-range nth g n c ls f at l h A (found-some ls nth g f n at h R m) k);

@@ -1,7 +1,7 @@
 -- The rule that an edit means, as it stands in a document: its header, its recipe, and the lines below.
-use Rattle.std.proofs.Common.{◌≡◌, sym, ap, ◌∙◌, arith, ℕ, ◌+◌, ◌≤◌, List, ◌∷◌, ◌++◌, length, length-append, drop, drop-drop, Option, Some, None, refl, subst, [], take}
+use Rattle.std.proofs.Common.{◌≡◌, sym, ap, ◌∙◌, arith, ℕ, ◌+◌, ◌≤◌, List, ◌∷◌, ◌++◌, length, length-append, drop, drop-drop, Option, Some, None}
 use Rattle.std.proofs.lemmas.List.{drop-map, length-map}
-use Rattle.std.proofs.Math.Seq.{drop-append-add, take-append_seam}
+use Rattle.std.proofs.Math.Seq.{drop-append-add}
 use Rattle.mk_lines.specs.Cells.{Cell}
 use Rattle.mk_class.specs.Headers
 use Rattle.mk_class.specs.Classes.Class.{Header}
@@ -13,7 +13,7 @@ use Rattle.mk_tree.specs.PlacedLines.{PlacedLine, placed_line, placed_lines, pla
 use Rattle.mk_tree.specs.RecipeLines.{recipe_run, after_recipe}
 use Rattle.mk_tree.proofs.on_documents.LinePlaces.{located, context_of-append}
 use Rattle.mk_tree.proofs.on_changes.RecipeRunLemmas.{rule-context, recipe_run-after, recipe_run-stays}
-use Rattle.mk_edit_laws.specs.Spots.{Spot}
+use Rattle.mk_tree.specs.LineTexts.{StandingLine}
 use Rattle.mk_edit_laws.specs.Addresses.{Rule, found}
 use Rattle.mk_edit_laws.specs.AddressCauses.{no_such_line, ambiguous_line}
 use Rattle.mk_edit_laws.proofs.on_edits.Accepted.{where_holds-none}
@@ -26,7 +26,7 @@ use Rattle.mk_edit_parts.proofs.on_finding.PlaceLemmas.{IsLineAt, line-at}
 
 -- what is known of a document where the header of a rule stands
 pub record IsRuleAt (ls : List PlacedLine) (nth : Option ℕ) (g : List ℕ) (f : Found) : Type 0 where
-  pub spot : Spot
+  pub spot : StandingLine
   pub found_is : found (classed_lines (placed_text ls)) (Rule nth g) ≡ Some spot
   pub line : IsLineAt ls f spot
   pub place_is : length spot.above ≡ f.at
@@ -49,7 +49,7 @@ rule-at ls nth g f h there one F =
     let R = rule-found lines nth g (where_holds-none _ NoSuch there) (where_holds-none _ _ one) in
     let q : Some R.spot ≡ Some s = sym R.found_is ∙ F.found_is in
     let same : R.spot ≡ s = cc in
-    let k : s.line.class ≡ Header R.header = ap (λ (z : Spot). z.line.class) (sym same) ∙ R.class_is in
+    let k : s.line.class ≡ Header R.header = ap (λ (z : StandingLine). z.line.class) (sym same) ∙ R.class_is in
     let run = recipe_run s.below in
     let below : lines_from ls (f.at + 1) ≡ s.below =
     ap (drop (f.at + 1)) L.lines ∙ (ap (λ n. drop (n + 1) (s.above ++ s.line ∷ s.below)) (sym F.place_is) ∙ drop-append-add s.above (s.line ∷ s.below) 1) in

@@ -3,10 +3,8 @@ use Rattle.std.proofs.Common.{◌≡◌, refl, sym, ap, ◌∙◌, arith, ℕ, �
 use Rattle.std.specs.Prelude.{Ok, Err, nat_lt, slice_get}
 use Rattle.std.proofs.lemmas.Bool.{lt-ltb, le-ltb}
 use Rattle.mk_lines.specs.Cells.{Cell, joined_byte, joined_text, line_cells}
-use Rattle.mk_lines.specs.Ranges.{text_at}
 use Rattle.mk_lines.specs.Pieces.{Replacement}
 use Rattle.mk_class.specs.Lists.{any}
-use Rattle.mk_class.specs.Texts.{word_texts}
 use Rattle.mk_class.specs.Headers
 use Rattle.mk_class.specs.Classes.{is_conditional}
 use Rattle.mk_class.specs.Classes.Class.{Header}
@@ -14,8 +12,6 @@ use Rattle.mk_class.specs.ClassPlaces.{class_places}
 use Rattle.mk_class.specs.Contexts.{Context}
 use Rattle.mk_class.specs.ClassTable.{class_of}
 use Rattle.mk_class.specs.ClassedLines.{ClassedLine, classed_lines}
-use Rattle.mk_class.specs.PartPlaces.{IsPart}
-use Rattle.mk_class.proofs.on_classes.FirstWordLemmas.{text_words-words}
 use Rattle.mk_class.proofs.on_classes.LinePartLemmas.{line-parts_placed}
 use Rattle.mk_class.specs.declared.context.Flag.{Flag}
 use Rattle.mk_class.specs.declared.context.Flag.TheVariants as flag
@@ -24,8 +20,8 @@ use Rattle.mk_tree.specs.Leaning.{is_same_flag, leans}
 use Rattle.mk_tree.specs.PlacedLines.{PlacedLine, placed_line, placed_lines, placed_text, size_of}
 use Rattle.mk_tree.specs.RecipeLines.{recipe_run, after_recipe}
 use Rattle.mk_tree.proofs.on_changes.Sizes.{size_of-text}
+use Rattle.mk_tree.specs.LineTexts.{StandingLine}
 use Rattle.mk_edit_laws.specs.Edits.{Edit, RemoveRule}
-use Rattle.mk_edit_laws.specs.Spots.{Spot}
 use Rattle.mk_edit_laws.specs.Addresses.{Rule, targets_of, found}
 use Rattle.mk_edit_laws.specs.Stretches.{whole_rule}
 use Rattle.mk_edit_laws.specs.Spans.{removed_span, spans_of, where_found}
@@ -37,23 +33,19 @@ use Rattle.mk_edit_laws.specs.Lengths.{bytes_put}
 use Rattle.mk_edit_laws.specs.Refusals.{spans}
 use Rattle.mk_edit_laws.specs.declared.refusal.Refusal.TheVariants.{SharedRule, Straddles, Leans}
 use Rattle.mk_edit_parts.specs.Found.{IsAddressed}
-use Rattle.mk_edit_parts.specs.PlacedParts.{words_before}
 use Rattle.mk_edit_parts.specs.LineRanges.{is_led_first_placed}
 use Rattle.mk_edit.specs.RecipeEdits.{IsRuleRemoval}
 use Rattle.mk_edit_parts.specs.RecipeWalks.{lines_from, header_targets_in, header_targets_placed}
 use Rattle.mk_edit_parts.specs.declared.seek.Found.{Found}
 use Rattle.mk_edit_parts.proofs.CauseLemmas.{passed, holds}
 use Rattle.mk_edit_parts.proofs.on_finding.LeanLemmas.{led_first-placed}
+use Rattle.mk_edit_parts.proofs.on_finding.PartLemmas.{words-part}
 use Rattle.mk_edit.proofs.on_plans.CausePlans.{never-long}
 use Rattle.mk_edit.proofs.on_plans.LinePlans.{IsTakenOut, lines-taken_out}
 use Rattle.mk_edit.proofs.on_recipes.OwnCauses.{own-refused, own-accepted}
 use Rattle.mk_edit.proofs.on_recipes.RulePlaces.{IsRuleAt, rule-at, rule-within}
 
 -- ---- the targets of a header
-
--- the words of a part
-words-part : (cs : List Cell) (end : ℕ) (before part : List (List Cell)) → IsPart cs 0 end before part → words_before end (joined_text cs) ≡ word_texts joined_byte part
-words-part cs end before part h = sym (text_words-words (text_at (joined_text cs) (record { start = 0; end = end }))) ∙ h.words_are
 
 header-targets : (c : Context) (l : ClassedLine) (x : Headers.Header Cell) → class_of c l.bytes ≡ l.class → l.class ≡ Header x → header_targets_placed (placed_line l) ≡ targets_of l.class
 header-targets c l x h k =
@@ -69,12 +61,12 @@ shared-is ls nth g f l n R h k =
     let q : Some l ≡ Some (placed_line s.line) = h ∙ R.line.line_is in
     let same : l ≡ placed_line s.line = cc in
     let m : n ≡ length (targets_of s.line.class) = k ∙ (ap (λ (z : PlacedLine). length (header_targets_placed z)) same ∙ ap length (header-targets f.context s.line R.header R.line.class_is R.class_is)) in
-    ap (λ (o : Option Spot). shared_by (targets_found (class_found o))) R.found_is ∙ ap (λ n. where_holds (nat_lt 1 n) (SharedRule n)) (sym m)
+    ap (λ (o : Option StandingLine). shared_by (targets_found (class_found o))) R.found_is ∙ ap (λ n. where_holds (nat_lt 1 n) (SharedRule n)) (sym m)
 
 pub straddles-is : (ls : List PlacedLine) (nth : Option ℕ) (g : List ℕ) (f : Found) (b : Bool) → IsRuleAt ls nth g f → b ≡ any (λ l. is_conditional l.class) (recipe_run (lines_from ls (f.at + 1)))
     → where_holds (has_conditional (found (classed_lines (placed_text ls)) (Rule nth g))) Straddles ≡ where_holds b Straddles
 straddles-is ls nth g f b R h =
-    ap (λ (o : Option Spot). where_holds (has_conditional o) Straddles) R.found_is
+    ap (λ (o : Option StandingLine). where_holds (has_conditional o) Straddles) R.found_is
     ∙ ap (λ b. where_holds b Straddles) (sym (h ∙ ap (λ z. any (λ l. is_conditional l.class) (recipe_run z)) R.below_is))
 
 leaning-is : (ls : List PlacedLine) (nth : Option ℕ) (g : List ℕ) (f : Found) (end : ℕ) (b : Bool) → IsRuleAt ls nth g f → end ≡ f.at + 1 + length (recipe_run (lines_from ls (f.at + 1)))
@@ -88,13 +80,13 @@ leaning-is ls nth g f end b R e h =
     ap (λ z. leans C.prefix C.flag z (after_recipe s.below)) R.flag_is
     ∙ (ap (λ (c : Context). leans c.prefix c.flag flag.Rule (after_recipe s.below)) R.line.context_is
     ∙ (ap (λ z. not (is_same_flag f.context.flag flag.Rule) && z) (sym (ap (is_led_first_placed f.context.prefix) rest ∙ led_first-placed f.context.prefix (after_recipe s.below))) ∙ sym h)) in
-    ap (λ (o : Option Spot). where_holds (removal_leans (option_map whole_rule o)) Leans) R.found_is ∙ ap (λ z. where_holds z Leans) same
+    ap (λ (o : Option StandingLine). where_holds (removal_leans (option_map whole_rule o)) Leans) R.found_is ∙ ap (λ z. where_holds z Leans) same
 
 -- what is left is no longer than the text
 within-limit : (ls : List PlacedLine) (nth : Option ℕ) (g : List ℕ) (f : Found) → IsRuleAt ls nth g f → size_of ls ≤ 2 ^ 24
     → too_long (placed_text ls) (spans_of (placed_text ls) (classed_lines (placed_text ls)) (RemoveRule nth g)) ≡ None
 within-limit ls nth g f R z =
-    never-long (placed_text ls) (RemoveRule nth g) (ap (λ (o : Option Spot). bytes_put (where_found removed_span (option_map whole_rule o))) R.found_is) (omega (arith, size_of-text ls, z))
+    never-long (placed_text ls) (RemoveRule nth g) (ap (λ (o : Option StandingLine). bytes_put (where_found removed_span (option_map whole_rule o))) R.found_is) (omega (arith, size_of-text ls, z))
 
 -- ---- the whole
 
@@ -138,7 +130,7 @@ rule-removal nth g ls f h A = record {
       (passed (straddles lines e) _ None (straddles-is ls nth g f false R b)
       (passed (leaning lines e) _ None (leaning-is ls nth g f end false R p q) (passed (too_long t (spans_of t lines e)) [] None (within-limit ls nth g f R z) refl)))) in
       let many : length (whole_rule s).lines ≡ end - f.at = omega (arith, p, ap (λ z. length (recipe_run z)) R.below_is) in
-      (spans_of t lines e, taken, lines-taken_out e ls (spans_of t lines e) (whole_rule s) f.at (end - f.at) h taken (ap (option_map whole_rule) R.found_is) R.place_is many refl refl (ap (λ (o : Option Spot). line_count (option_map whole_rule o)) R.found_is ∙ many));
+      (spans_of t lines e, taken, lines-taken_out e ls (spans_of t lines e) (whole_rule s) f.at (end - f.at) h taken (ap (option_map whole_rule) R.found_is) R.place_is many refl refl (ap (λ (o : Option StandingLine). line_count (option_map whole_rule o)) R.found_is ∙ many));
 }
   where
     t : List ℕ
@@ -153,7 +145,7 @@ rule-removal nth g ls f h A = record {
     R : IsRuleAt ls nth g f
     R = rule-at ls nth g f h A.is_there A.is_one A.meant
 
-    s : Spot
+    s : StandingLine
     s = R.spot
 
     one : (l : PlacedLine) (n : ℕ) → Some l ≡ slice_get ls f.at → n ≡ length (header_targets_placed l) → n ≤ 1 → shared_rule lines e ≡ None

@@ -1,20 +1,19 @@
 -- Whether a rename makes a line begin with the recipe prefix: a word at the very front of the line is replaced, and the new word
 -- begins with the prefix.
-use Rattle.std.proofs.Common.{◌≡◌, refl, sym, ap, ◌∙◌, subst, arith, ℕ, ◌+◌, ◌==◌, ◌<◌, ◌&&◌, ◌||◌, Bool, true, false, List, [], ◌∷◌, ◌++◌, length}
-use Rattle.std.specs.Prelude.{nat_lt}
+use Rattle.std.proofs.Common.{◌≡◌, refl, sym, ap, ◌∙◌, arith, ℕ, ◌+◌, ◌==◌, ◌<◌, ◌&&◌, ◌||◌, false, List, [], ◌∷◌, ◌++◌, length}
 use Rattle.std.proofs.lemmas.Bool.{ne_eqb}
-use Rattle.mk_lines.specs.Cells.{Cell, joined_byte, line_cells, raw_text}
+use Rattle.std.proofs.Math.Bool.{and-false}
+use Rattle.mk_lines.specs.Cells.{Cell, raw_text}
 use Rattle.mk_lines.specs.Pieces.{Piece, Keep, Replace, Replacement, new_bytes, old_bytes, replacements}
-use Rattle.mk_lines.specs.Units.{units}
 use Rattle.mk_lines.specs.declared.split.Span.{Span}
 use Rattle.mk_class.specs.Lists.{any}
 use Rattle.mk_class.specs.RecipePrefix.{is_prefix_led}
 use Rattle.mk_class.specs.Classes.{Class}
 use Rattle.mk_class.specs.Classes.Class.{Endef, Body, Recipe, Opaque, Blank, Comment, Assign, DefineHead, If, Else, Endif, Directive, TargetAssign, Rough, Header}
-use Rattle.mk_class.specs.ClassTable.{class_of, is_unreadable}
+use Rattle.mk_class.specs.ClassTable.{class_of}
 use Rattle.mk_class.specs.ClassedLines.{ClassedLine, classed_lines}
 use Rattle.mk_class.specs.Contexts.{Context, start, context_after}
-use Rattle.mk_class.proofs.on_classes.ClassHolds.{Holds, class_at-holds}
+use Rattle.mk_class.proofs.on_classes.ClassHolds.{HoldsOf, holds-as}
 use Rattle.mk_tree.specs.Documents.{IsFaithful}
 use Rattle.mk_tree.specs.PlacedLines.{PlacedLine, placed_line, placed_lines, placed_text}
 use Rattle.mk_tree.proofs.on_documents.LinePlaces.{AreClassed, AreClassed-class, AreClassed-tail, AreClassed-lines}
@@ -24,10 +23,6 @@ use Rattle.mk_edit_parts.specs.RenamedPlaces.{is_at_front, renamed_places}
 use Rattle.mk_edit.specs.RenameEffects.{begins_some_line}
 use Rattle.mk_edit_parts.proofs.on_renaming.PiecePlaces.{replacing}
 use Rattle.mk_edit_parts.proofs.on_renaming.LinePieces.{BeginsWith, line-begins, line-pieces}
-
-and-false : (b : Bool) → (b && false) ≡ false
-and-false true = refl
-and-false false = refl
 
 -- ---- pieces
 
@@ -83,18 +78,11 @@ begin-unled : (p : ℕ) (x y l : List ℕ) → l ≡ x ++ y → is_prefix_led p 
 begin-unled p [] y l e h = refl
 begin-unled p (b ∷ x) y l e h = ap (is_prefix_led p) (sym e) ∙ h
 
--- what the table of classes says of a line of a class
-abbrev Said : (c : Context) (line : List ℕ) → Class Cell → Type 0
-Said c l k = Holds joined_byte (units joined_byte (line_cells l)) (is_prefix_led c.prefix l) (nat_lt 0 c.conditionals) (is_unreadable (line_cells l)) k
-
-said : (c : Context) (l : List ℕ) (k : Class Cell) → class_of c l ≡ k → Said c l k
-said c l k e = subst (Said c l) e (class_at-holds joined_byte (units joined_byte (line_cells l)) (is_prefix_led c.prefix l) (nat_lt 0 c.conditionals) (is_unreadable (line_cells l)) c.defines c.flag)
-
 -- a line with words to rename does not begin with the prefix in force
 line-unled : (c : Context) (l : ClassedLine) (o n : List ℕ) → class_of c l.bytes ≡ l.class → is_prefix_led c.prefix (old_bytes (renamed_pieces o n l.class)) ≡ false
-line-unled c l o n h = go l.class (said c l.bytes l.class h) (line-begins c l o n h)
+line-unled c l o n h = go l.class (holds-as c l.bytes l.class h) (line-begins c l o n h)
   where
-    go : (k : Class Cell) → Said c l.bytes k → BeginsWith l.bytes (renamed_pieces o n k) → is_prefix_led c.prefix (old_bytes (renamed_pieces o n k)) ≡ false
+    go : (k : Class Cell) → HoldsOf c l.bytes k → BeginsWith l.bytes (renamed_pieces o n k) → is_prefix_led c.prefix (old_bytes (renamed_pieces o n k)) ≡ false
     go (Header x) s b = begin-unled c.prefix (old_bytes (renamed_pieces o n (Header x))) b.rest l.bytes b.is s.rule.not_led
     go (TargetAssign t) s b = begin-unled c.prefix (old_bytes (renamed_pieces o n (TargetAssign t))) b.rest l.bytes b.is s.rule.not_led
     go (Assign a q) s b = refl

@@ -79,7 +79,7 @@ reserved-first t ls e r b h =
 -- ---- the causes after those of the fields
 
 -- the first of them, by what each asks
-abbrev pub rename_refusal : (is_unread is_there is_led is_taken is_long : Bool) → Option Refusal
+abbrev rename_refusal : (is_unread is_there is_led is_taken is_long : Bool) → Option Refusal
 rename_refusal u f l k g = first_cause (where_holds u RecipePrefix ∷ where_holds (not f) NoSuch ∷ where_holds l RecipePrefix ∷ where_holds k Taken ∷ where_holds g TooLong ∷ [])
 
 -- some causes say the same after one that holds or does not

@@ -20,7 +20,8 @@ use Rattle.mk_edit_parts.specs.RenamedPlaces.{renamed_places}
 use Rattle.mk_edit_parts.specs.RenamedTexts.{renamed_text}
 use Rattle.mk_edit.specs.RenamePatches.{holds_word, line_renamed, HasFewWords, HaveFewWords, CanBeRenamed, CanEachBeRenamed}
 use Rattle.mk_edit_parts.proofs.on_renaming.LinePieces.{line-begins}
-use Rattle.mk_edit.proofs.on_renaming.LinesRenamed.{apart-bytes, line-apart, line-rewritten, holds-renamed, renamed-few}
+use Rattle.mk_edit.proofs.on_renaming.LinesRenamed.{apart-bytes, line-apart, line-rewritten, holds-renamed}
+use Rattle.mk_edit.proofs.on_renaming.SizesOfWords.{renamed-few}
 
 -- a line, or the one after the rename
 abbrev pub line_where : (is_renamed : Bool) → (renamed line : PlacedLine) → PlacedLine

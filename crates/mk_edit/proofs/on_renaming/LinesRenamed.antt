@@ -1,18 +1,11 @@
 -- One line after a rename: its bytes, by its pieces; where its words stand, and how many there are; how long it is.
-use Rattle.std.proofs.Common.{◌≡◌, refl, sym, ap, ◌∙◌, subst, arith, ℕ, ◌+◌, ◌-◌, ◌*◌, ◌≤◌, List, [], ◌∷◌, ◌++◌, drop, length, length-append, append_assoc, Option, Some, None}
+use Rattle.std.proofs.Common.{◌≡◌, refl, sym, ap, ◌∙◌, subst, arith, ℕ, ◌+◌, ◌-◌, ◌*◌, ◌≤◌, List, [], ◌∷◌, ◌++◌, drop, length, length-append, append_assoc}
 use Rattle.std.specs.Prelude.{slice_range, nat_lt}
-use Rattle.std.proofs.lemmas.List.{length-map, length-drop, length-take, length-take-le, drop-drop}
+use Rattle.std.proofs.lemmas.List.{length-drop, length-take-le, drop-drop}
 use Rattle.std.proofs.lemmas.Bool.{lt-ltb}
-use Rattle.mk_lines.specs.Cells.{Cell, joined_byte, joined_text, line_cells, raw_text}
+use Rattle.mk_lines.specs.Cells.{raw_text}
 use Rattle.mk_lines.specs.Pieces.{Piece, Keep, Replace, old_bytes, new_bytes, replaced, replacements}
-use Rattle.mk_lines.specs.PhysicalLines.{without_line_end}
-use Rattle.mk_lines.specs.Ranges.{text_at, word_ranges, word_token_ranges}
-use Rattle.mk_lines.specs.Units.{units}
-use Rattle.mk_lines.specs.Words.{tokens}
 use Rattle.mk_lines.specs.declared.split.Span.{Span}
-use Rattle.mk_lines.proofs.UnitWalkLemmas.{words_left-count}
-use Rattle.mk_lines.proofs.KeptLemmas.{length-raw_text}
-use Rattle.mk_lines.proofs.on_cells.CellLemmas.{cells-are_cells}
 use Rattle.mk_lines.proofs.on_lists.PieceLemmas.{replaced-pieces}
 use Rattle.mk_class.specs.Lists.{any}
 use Rattle.mk_class.specs.Contexts.{Context}
@@ -23,12 +16,12 @@ use Rattle.mk_edit_laws.specs.WordPieces.{renamed_pieces, is_replaced}
 use Rattle.mk_edit_laws.specs.Costs.{is_renamed}
 use Rattle.mk_edit_laws.specs.RisingSpans.{Rise}
 use Rattle.mk_edit_laws.proofs.on_edits.RisingSpanLemmas.{Rise-until, Rise-pieces}
-use Rattle.mk_edit_parts.specs.RenamedPlaces.{place_in, places_in, before_places, part_places, renamed_places, bytes_in, word_parts}
-use Rattle.mk_edit_parts.specs.RenamedTexts.{AreApart, written, written_to, renamed_text}
+use Rattle.mk_edit_parts.specs.RenamedPlaces.{renamed_places, bytes_in}
+use Rattle.mk_edit_parts.specs.RenamedTexts.{AreApart, written, renamed_text}
 use Rattle.mk_edit.specs.RenamePatches.{holds_word}
-use Rattle.mk_edit_parts.proofs.on_renaming.PlaceLemmas.{cells-within}
 use Rattle.mk_edit_parts.proofs.on_renaming.PiecePlaces.{replacing}
 use Rattle.mk_edit_parts.proofs.on_renaming.LinePieces.{line-pieces}
+use Rattle.mk_edit_parts.specs.WordCuts.{last_end}
 
 -- ---- ranges that stand apart
 
@@ -43,24 +36,24 @@ apart-bytes a b [] h = omega (arith, h)
 apart-bytes a b (s ∷ ss) h = omega (arith, h.0, h.1, apart-bytes s.end b ss h.2)
 
 -- a text from a place on with a text for each of them is the text with the replacements made
-written-replaced : (l : List ℕ) (at : ℕ) (n : List ℕ) (ss : List Span) → AreApart at (length l) ss → written l at n ss ++ drop (written_to at ss) l ≡ replaced at (drop at l) (replacing n ss)
+written-replaced : (l : List ℕ) (at : ℕ) (n : List ℕ) (ss : List Span) → AreApart at (length l) ss → written l at n ss ++ drop (last_end at ss) l ≡ replaced at (drop at l) (replacing n ss)
 written-replaced l at n [] h = refl
 written-replaced l at n (s ∷ ss) h =
     let S = slice_range l at s.start in
     let W = written l s.end n ss in
-    let D = drop (written_to s.end ss) l in
+    let D = drop (last_end s.end ss) l in
     let m : at + (s.end - at) ≡ s.end = omega (arith, h.0, h.1) in
     let d : drop (s.end - at) (drop at l) ≡ drop s.end l = drop-drop (s.end - at) at l ∙ ap (λ k. drop k l) m in
     append_assoc S (n ++ W) D
     ∙ ap (λ z. S ++ z) (append_assoc n W D ∙ ap (λ z. n ++ z) (written-replaced l s.end n ss h.2 ∙ ap (λ z. replaced s.end z (replacing n ss)) (sym d)))
 
 -- how long it is
-written-length : (l : List ℕ) (at : ℕ) (n : List ℕ) (ss : List Span) → AreApart at (length l) ss → length (written l at n ss ++ drop (written_to at ss) l) + (bytes_in ss + at) ≡ length l + length ss * length n
+written-length : (l : List ℕ) (at : ℕ) (n : List ℕ) (ss : List Span) → AreApart at (length l) ss → length (written l at n ss ++ drop (last_end at ss) l) + (bytes_in ss + at) ≡ length l + length ss * length n
 written-length l at n [] h = omega (arith, length-drop at l, h)
 written-length l at n (s ∷ ss) h =
     let S = slice_range l at s.start in
     let W = written l s.end n ss in
-    let D = drop (written_to s.end ss) l in
+    let D = drop (last_end s.end ss) l in
     let i = written-length l s.end n ss h.2 in
     let b = apart-bytes s.end (length l) ss h.2 in
     let k : length S ≡ s.start - at = length-take-le (s.start - at) (drop at l) (omega (arith, length-drop at l, h.0, h.1, b)) in
@@ -107,39 +100,3 @@ pub holds-renamed : (c : Context) (l : ClassedLine) (o n : List ℕ) → class_o
 holds-renamed c l o n h =
     let places = renamed_places o (placed_line l) in
     ap (nat_lt 0) (sym (replacing-number n places) ∙ ap length (line-pieces c l o n h)) ∙ replaced-some 0 (renamed_pieces o n l.class)
-
--- ---- how many words there are
-
-places-few : (cs : List Cell) (at : ℕ) (o : List ℕ) (ws : List Span) → length (places_in cs at o ws) ≤ length ws
-places-few cs at o [] = omega arith
-places-few cs at o (w ∷ ws) = go (place_in cs at o w) (places-few cs at o ws)
-  where
-    go : (p : Option Span) → length (places_in cs at o ws) ≤ length ws → length (before_places p (places_in cs at o ws)) ≤ length (w ∷ ws)
-    go None h = omega (arith, h)
-    go (Some s) h = omega (arith, h)
-
-words-few : (t : List ℕ) → length (word_ranges t) ≤ length t
-words-few t =
-    let e : length t - length t ≡ 0 = omega arith in
-    subst (λ m. length (word_token_ranges m (tokens (λ b. b) (units (λ b. b) t))) ≤ length t) e (words_left-count (length t) t)
-
-part-few : (t : List ℕ) (p : Span) → length (text_at t p) ≤ length t
-part-few t p = omega (arith, length-take (p.end - p.start) (drop p.start t), length-drop p.start t)
-
-part_places-few : (cs : List Cell) (o : List ℕ) (p : Span) → length (part_places cs o p) ≤ length cs
-part_places-few cs o p =
-    let t = text_at (joined_text cs) p in
-    omega (arith, places-few cs p.start o (word_ranges t), words-few t, part-few (joined_text cs) p, length-map cs joined_byte)
-
-cells-few : (l : List ℕ) → length (line_cells l) ≤ length l
-cells-few l = omega (arith, length-raw_text (line_cells l) (cells-are_cells (without_line_end l)), cells-within l)
-
--- in each part no more than the line has bytes
-pub renamed-few : (o : List ℕ) (l : PlacedLine) → length (renamed_places o l) ≤ 3 * length l.bytes
-renamed-few o l =
-    let cs = line_cells l.bytes in
-    let p = word_parts l.class in
-    let a = part_places cs o p.targets in
-    let b = part_places cs o p.normal in
-    let c = part_places cs o p.order_only in
-    omega (arith, length-append a (b ++ c), length-append b c, part_places-few cs o p.targets, part_places-few cs o p.normal, part_places-few cs o p.order_only, cells-few l.bytes)

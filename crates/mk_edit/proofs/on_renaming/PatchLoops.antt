@@ -23,17 +23,8 @@ pub record IsTurnBuilt (t : Turn) (o n : List ℕ) (document : List PlacedLine) 
   pub few_read : meter_now + exchanged_count t o n ahead.lines ≤ meter_before + exchanged_count t o n document
   pub forward : meter_before ≤ meter_now
 
-module _ (t : Turn) (o n : List ℕ) (d : List PlacedLine) (before : MovesWithRoom) (meter : ℕ) where
-  -- at the start
-  pub turn-begun : (ahead : LinesInContext) → ahead ≡ record { context = start; lines = d } → CanEachBeRenamed o n start d → length d ≤ 2 ^ 24 → length before.moves + exchanged_count t o n d ≤ before.room
-      → IsTurnBuilt t o n d before before 0 ahead meter meter
-  turn-begun ahead e C few room =
-      let all : LinesInContext = record { context = start; lines = d } in
-      let B : IsTurnBuilt t o n d before before 0 all meter meter = record { can = C; few = omega (arith, few); room = refl; fits = room; moves = refl; counted = refl; few_read = omega arith; forward = omega arith } in
-      subst (λ (z : LinesInContext). IsTurnBuilt t o n d before before 0 z meter meter) (sym e) B
-
 -- a patch with the step of a line that is exchanged at a place, where it is
-abbrev pub with_step : MovesWithRoom → (at : ℕ) → Option PlacedLine → MovesWithRoom
+abbrev with_step : MovesWithRoom → (at : ℕ) → Option PlacedLine → MovesWithRoom
 with_step p at None = p
 with_step p at (Some x) = record p { moves = p.moves ++ Exchange at x ∷ [] }
 

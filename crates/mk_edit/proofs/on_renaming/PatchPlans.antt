@@ -242,7 +242,7 @@ module _ (o n : List ℕ) where
 -- ---- the whole rename
 
 -- The lines of a faithful document within the limit have few words.
-pub document-few_words : (o : List ℕ) (ls : List PlacedLine) → IsFaithful ls → size_of ls ≤ 2 ^ 24 → HaveFewWords o ls
+document-few_words : (o : List ℕ) (ls : List PlacedLine) → IsFaithful ls → size_of ls ≤ 2 ^ 24 → HaveFewWords o ls
 document-few_words o ls f few =
     let ds = classed_lines (placed_text ls) in
     subst (HaveFewWords o) (sym f) (lines-few_words o start ds (AreClassed-lines (placed_text ls) ds refl) (subst (λ (z : List PlacedLine). size_of z ≤ 2 ^ 24) f few))

@@ -1,7 +1,7 @@
 -- The turn in which a line of a rename is exchanged: what it says of the line, and what the code counts for it.
-use Rattle.std.proofs.Common.{◌≡◌, refl, sym, ap, ◌∙◌, subst, arith, ℕ, zero, suc, ◌+◌, ◌-◌, ◌*◌, ◌^◌, ◌<◌, ◌≤◌, Bool, true, false, not, List, length, Some, None}
+use Rattle.std.proofs.Common.{◌≡◌, sym, ap, ◌∙◌, subst, arith, ℕ, zero, suc, ◌+◌, ◌-◌, ◌*◌, ◌^◌, ◌<◌, ◌≤◌, Bool, true, false, not, List, length, Some, None}
 use Rattle.std.specs.Prelude.{nat_lt, if◌then◌else◌}
-use Rattle.std.proofs.lemmas.Bool.{and_parts, lt-ltb, ltb-true, ltb-false}
+use Rattle.std.proofs.lemmas.Bool.{and_parts, lt-ltb, ltb-true, ltb-false, not-true}
 use Rattle.mk_class.specs.Contexts.{Context}
 use Rattle.mk_tree.specs.Counting.{AreCounted}
 use Rattle.mk_tree.specs.PlacedLines.{PlacedLine}
@@ -23,11 +23,6 @@ some-words (suc w) b n h = omega arith
 turn-words : (t : Turn) (w b n : ℕ) → is_turn_of t w b n ≡ true → nat_lt 0 w ≡ true
 turn-words turn.NoLonger w b n h = (and_parts (nat_lt 0 w) (not (nat_lt b (w * n))) h).0
 turn-words turn.Longer w b n h = lt-ltb 0 w (some-words w b n (ltb-true b (w * n) h))
-
--- in the first turn it gets no longer, in the second it does
-not-true : (b : Bool) → not b ≡ true → b ≡ false
-not-true false h = refl
-not-true true h = cc
 
 no-longer : (w b n : ℕ) → is_turn_of turn.NoLonger w b n ≡ true → w * n ≤ b
 no-longer w b n h = ltb-false b (w * n) (not-true (nat_lt b (w * n)) (and_parts (nat_lt 0 w) (not (nat_lt b (w * n))) h).1)

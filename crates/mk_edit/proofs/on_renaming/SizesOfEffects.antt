@@ -1,5 +1,6 @@
 -- The effect of a rename, gathered by a walk over the lines of a document: there is room for each sum, and it is that on all lines.
-use Rattle.std.proofs.Common.{◌≡◌, refl, sym, ap, ◌∙◌, arith, ℕ, ◌+◌, ◌*◌, ◌^◌, ◌≤◌, ◌||◌, Bool, true, false, List, [], ◌∷◌, length}
+use Rattle.std.proofs.Common.{◌≡◌, refl, sym, ap, ◌∙◌, arith, ℕ, ◌+◌, ◌*◌, ◌^◌, ◌≤◌, Bool, List, [], ◌∷◌, length}
+use Rattle.std.proofs.Math.Bool.{or-false, or_assoc}
 use Rattle.mk_class.specs.Contexts.{Context, start, context_after_places}
 use Rattle.mk_class.specs.RecipePrefix.{is_prefix_led}
 use Rattle.mk_tree.specs.Documents.{IsFaithful}
@@ -17,14 +18,6 @@ same-effect : (e f : Effect) → e.words ≡ f.words → e.bytes ≡ f.bytes →
 same-effect e f h i j =
     let mk : ℕ → ℕ → Bool → Effect = λ w b l. record { words = w; bytes = b; begins_line = l } in
     ap (λ z. mk z e.bytes e.begins_line) h ∙ (ap (λ z. mk f.words z e.begins_line) i ∙ ap (mk f.words f.bytes) j)
-
-or-assoc : (a b c : Bool) → ((a || b) || c) ≡ (a || (b || c))
-or-assoc true b c = refl
-or-assoc false b c = refl
-
-or-false : (a : Bool) → (a || false) ≡ a
-or-false true = refl
-or-false false = refl
 
 -- at the start of the walk
 pub walk-from : (o n : List ℕ) (d : List PlacedLine) (w : LinesInContext) → w ≡ record { context = start; lines = d } → IsFaithful d
@@ -53,7 +46,7 @@ walk-on o n e f whole t b c a l ahead rest h i j s k inv =
     let E = effect_on o n (context_after_places c l.class) rest in
     let here = effect_of_line (tallied no_words (renamed_places o l)) (is_prefix_led c.prefix n) in
     let g : joined (joined e here) E ≡ joined e (effect_on o n c (l ∷ rest)) =
-    same-effect (joined (joined e here) E) (joined e (effect_on o n c (l ∷ rest))) (omega arith) (omega arith) (or-assoc e.begins_line here.begins_line E.begins_line) in
+    same-effect (joined (joined e here) E) (joined e (effect_on o n c (l ∷ rest))) (omega arith) (omega arith) (or_assoc e.begins_line here.begins_line E.begins_line) in
     ap (λ z. joined f (effect_on o n z rest)) k
     ∙ (ap (λ z. joined z E) (h ∙ (ap (λ z. joined e (effect_of_line z b)) i ∙ ap (λ z. joined e (effect_of_line (tallied no_words (renamed_places o l)) z)) j))
     ∙ (g ∙ (ap (λ z. joined e (effect_on o n c z)) (sym s) ∙ inv)))

@@ -18,10 +18,10 @@ use Rattle.mk_edit_laws.specs.Lengths.{bytes_taken, bytes_put}
 use Rattle.mk_edit_laws.specs.RisingSpans.{Rise}
 use Rattle.mk_edit_laws.specs.WordPieces.{renamed_pieces}
 use Rattle.mk_edit_laws.proofs.on_edits.RisingSpanLemmas.{Rise-pieces}
+use Rattle.mk_edit_laws.proofs.on_lines.ClassParts.{cells-within}
 use Rattle.mk_edit_parts.specs.PlacedParts.{IsClassed, AreEachClassed}
 use Rattle.mk_edit_parts.specs.RenamedPlaces.{before_places, bytes_in, part_places, place_in, places_in, renamed_places, word_parts}
 use Rattle.mk_edit.specs.RenameEffects.{replaced_bytes, replaced_words}
-use Rattle.mk_edit_parts.proofs.on_renaming.PlaceLemmas.{cells-within}
 use Rattle.mk_edit_parts.proofs.on_renaming.PiecePlaces.{replacing}
 use Rattle.mk_edit_parts.proofs.on_renaming.LinePieces.{line-begins, line-pieces}
 
@@ -51,8 +51,8 @@ part-count cs o p =
     omega (arith, places-count cs p.start o (word_ranges (text_at (joined_text cs) p)), words-count (text_at (joined_text cs) p), part-short (joined_text cs) p, length-map cs joined_byte)
 
 -- each of the three parts of a line has no more words than the line has bytes
-pub few-words : (o : List ℕ) (l : PlacedLine) → length (renamed_places o l) ≤ 3 * length l.bytes
-few-words o l =
+pub renamed-few : (o : List ℕ) (l : PlacedLine) → length (renamed_places o l) ≤ 3 * length l.bytes
+renamed-few o l =
     let cs = line_cells l.bytes in
     let p = word_parts l.class in
     let T = part_places cs o p.targets in
@@ -78,7 +78,7 @@ put-replacing n [] = omega arith
 put-replacing n (s ∷ ss) = omega (arith, put-replacing n ss)
 
 -- they have no more than the line
-pub few-bytes : (o : List ℕ) (l : PlacedLine) → IsClassed l → bytes_in (renamed_places o l) ≤ length l.bytes
+few-bytes : (o : List ℕ) (l : PlacedLine) → IsClassed l → bytes_in (renamed_places o l) ≤ length l.bytes
 few-bytes o l h =
     let d : ClassedLine = record { bytes = l.bytes; class = class_of h.context l.bytes } in
     let ps = renamed_pieces o o d.class in
@@ -93,7 +93,7 @@ few-bytes o l h =
 
 pub all-words : (o : List ℕ) (ls : List PlacedLine) → replaced_words o ls ≤ 3 * size_of ls
 all-words o [] = omega arith
-all-words o (l ∷ ls) = omega (arith, few-words o l, all-words o ls)
+all-words o (l ∷ ls) = omega (arith, renamed-few o l, all-words o ls)
 
 pub all-bytes : (o : List ℕ) (ls : List PlacedLine) → AreEachClassed ls → replaced_bytes o ls ≤ size_of ls
 all-bytes o [] h = omega arith

@@ -1,30 +1,28 @@
 -- An edit that appends to a value is one of an empty range of a line, where the value is closed.
-use Rattle.std.proofs.Common.{◌≡◌, refl, sym, ap, ◌∙◌, subst, arith, ℕ, ◌+◌, ◌≤◌, List, [], ◌∷◌, ◌++◌, Bool, true, false, if◌then◌else◌, not, map, length, append_assoc, take, drop, Option, Some, None, option_map}
+use Rattle.std.proofs.Common.{◌≡◌, refl, sym, ap, ◌∙◌, subst, arith, ℕ, ◌+◌, List, [], ◌∷◌, ◌++◌, Bool, true, false, if◌then◌else◌, not, map, length, append_assoc, take, drop, Option, Some, None, option_map}
 use Rattle.std.specs.Prelude.{slice_get, Err}
 use Rattle.mk_lines.specs.Lists.{concat}
-use Rattle.mk_lines.specs.Cells.{Cell, joined_byte, line_cells}
+use Rattle.mk_lines.specs.Cells.{Cell, joined_byte}
 use Rattle.mk_lines.specs.Units.{is_closed, units}
 use Rattle.mk_lines.proofs.on_units.UnitLemmas.{is_closed-map}
-use Rattle.mk_lines.specs.Pieces.{Replacement}
 use Rattle.mk_lines.specs.declared.split.Span.{Span}
 use Rattle.mk_class.specs.Lists.{is_empty}
 use Rattle.mk_class.specs.TextClasses.{itself}
-use Rattle.mk_class.specs.Assignments.{Assignment, before_value}
+use Rattle.mk_class.specs.Assignments.{Assignment}
 use Rattle.mk_class.specs.Classes.{Class}
 use Rattle.mk_class.specs.Classes.Class.{Assign}
 use Rattle.mk_class.specs.ClassPlaces.{class_places}
 use Rattle.mk_class.specs.ClassedLines.{classed_lines}
 use Rattle.mk_tree.specs.Documents.{IsFaithful, text_of}
-use Rattle.mk_tree.specs.PlacedLines.{PlacedLine, placed_line, placed_text}
+use Rattle.mk_tree.specs.PlacedLines.{PlacedLine, placed_text}
+use Rattle.mk_tree.specs.LineTexts.{StandingLine}
 use Rattle.mk_edit_laws.specs.Edits.{Edit, AppendValue}
-use Rattle.mk_edit_laws.specs.Spots.{Spot}
 use Rattle.mk_edit_laws.specs.Stretches.{this_line}
-use Rattle.mk_edit_laws.specs.Addresses.{Variable, found}
 use Rattle.mk_edit_laws.specs.RuleCauses.{class_found}
 use Rattle.mk_edit_laws.specs.LineCauses.{has_open_value, open_value}
 use Rattle.mk_edit_laws.specs.Causes.{where_holds}
-use Rattle.mk_edit_laws.specs.ValueSpans.{raw_length, value_end, append_value_span, value_span, assignment_span}
-use Rattle.mk_edit_laws.specs.Spans.{spans_of, where_found}
+use Rattle.mk_edit_laws.specs.ValueSpans.{value_end, append_value_span, value_span, assignment_span}
+use Rattle.mk_edit_laws.specs.Spans.{where_found}
 use Rattle.mk_edit_laws.specs.Refusals.{spans}
 use Rattle.mk_edit_laws.specs.declared.refusal.Refusal.TheVariants.{OpenValue}
 use Rattle.mk_edit_laws.proofs.on_values.SetLemmas.{not_prefix}
@@ -40,7 +38,7 @@ use Rattle.mk_edit.proofs.on_values.ValuePlaces.{IsValueRange, IsValuePlace, val
 -- ---- the text of the value
 
 -- the text of an assignment's value tells whether the value is empty, and whether it is closed
-pub record IsValueText (a : Assignment Cell) (text : List ℕ) : Type 0 where
+record IsValueText (a : Assignment Cell) (text : List ℕ) : Type 0 where
   pub empty_is : is_empty text ≡ is_empty a.value
   pub closed_is : is_closed (λ b. b) text ≡ is_closed joined_byte (concat a.value)
 
@@ -68,7 +66,7 @@ value-text ls nth n f l b r text P h =
 append-open_value : (ls : List PlacedLine) (nth : Option ℕ) (n v : List ℕ) (f : Found) (l : PlacedLine) (b : Bool) (r : Span) (text : List ℕ) → IsValuePlace ls nth n f l b r → text ≡ value_text_placed l
     → open_value (classed_lines (placed_text ls)) (AppendValue nth n v) ≡ where_holds (not (is_closed (λ b. b) text)) OpenValue
 append-open_value ls nth n v f l b r text P h =
-    ap (λ (o : Option Spot). where_holds (has_open_value (class_found o)) OpenValue) P.found_is
+    ap (λ (o : Option StandingLine). where_holds (has_open_value (class_found o)) OpenValue) P.found_is
     ∙ (ap (λ (k : Class Cell). where_holds (has_open_value (Some k)) OpenValue) P.class_is ∙ ap (λ q. where_holds (not q) OpenValue) (sym (value-text ls nth n f l b r text P h).closed_is))
 
 open_of : (ls : List PlacedLine) (nth : Option ℕ) (n v : List ℕ) (f : Found) (l : PlacedLine) (text : List ℕ) → IsFaithful ls → IsAddressed (AppendValue nth n v) ls f → Some l ≡ slice_get ls f.at

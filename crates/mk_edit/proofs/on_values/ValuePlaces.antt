@@ -1,12 +1,8 @@
 -- The line of an assignment that an edit means, and where its value stands among the line's bytes.
-use Rattle.std.proofs.Common.{◌≡◌, refl, sym, ap, ◌∙◌, subst, arith, ℕ, suc, ◌+◌, ◌<◌, ◌≤◌, List, [], ◌∷◌, ◌++◌, Bool, true, false, if◌then◌else◌, length, length-append, take, drop, Option, Some, None}
+use Rattle.std.proofs.Common.{◌≡◌, sym, ap, ◌∙◌, subst, arith, ℕ, ◌+◌, ◌<◌, ◌≤◌, List, [], ◌∷◌, ◌++◌, Bool, true, false, if◌then◌else◌, length, take, Option, Some, None}
 use Rattle.std.specs.Prelude.{slice_get}
-use Rattle.std.proofs.lemmas.List.{take-append-drop}
 use Rattle.std.proofs.Math.Seq.{take-append_seam}
-use Rattle.mk_lines.specs.PhysicalLines.{without_line_end, line_end, line_end_bytes}
-use Rattle.mk_lines.proofs.on_lines.LineEndLemmas.{without_line_end-line_end}
-use Rattle.mk_lines.specs.Cells.{Cell, joined_byte, raw_text, line_cells}
-use Rattle.mk_lines.proofs.on_cells.CellLemmas.{raw_text-append, raw_text-cells}
+use Rattle.mk_lines.specs.Cells.{Cell, joined_byte, line_cells}
 use Rattle.mk_lines.specs.Ranges.{raw_place}
 use Rattle.mk_lines.specs.declared.split.Span.{Span}
 use Rattle.mk_class.specs.Assignments.{Assignment, before_value}
@@ -20,13 +16,13 @@ use Rattle.mk_class.specs.ClassedLines.{classed_lines}
 use Rattle.mk_class.specs.LineParts.{IsAssignmentPlaced}
 use Rattle.mk_class.proofs.on_classes.LinePartLemmas.{line-parts_placed}
 use Rattle.mk_class.specs.declared.class.Class.TheVariants as variants
+use Rattle.mk_class.specs.PartPlaces.{raw_width}
 use Rattle.mk_tree.specs.Documents.{IsFaithful, context_of}
 use Rattle.mk_tree.specs.PlacedLines.{PlacedLine, placed_line, placed_text}
-use Rattle.mk_edit_laws.specs.Spots.{Spot}
+use Rattle.mk_tree.specs.LineTexts.{StandingLine}
 use Rattle.mk_edit_laws.specs.Edits.{Edit}
 use Rattle.mk_edit_laws.specs.Addresses.{Variable, address, found}
 use Rattle.mk_edit_laws.specs.AddressCauses.{no_such_line, ambiguous_line}
-use Rattle.mk_edit_laws.specs.ValueSpans.{raw_length}
 use Rattle.mk_edit_laws.proofs.on_edits.Accepted.{where_holds-none}
 use Rattle.mk_edit_laws.proofs.on_values.FoundAssignments.{assignment-found}
 use Rattle.mk_edit_laws.proofs.on_edits.EditPlaces.{found-spot}
@@ -34,24 +30,16 @@ use Rattle.mk_edit_parts.specs.Found.{IsAddressed, IsFoundAt, IsMeant, IsPlaceOf
 use Rattle.mk_edit_parts.specs.LineRanges.{value_range_placed}
 use Rattle.mk_edit_parts.specs.declared.seek.Found.{Found}
 use Rattle.mk_edit_parts.proofs.on_finding.PlaceLemmas.{line-at}
+use Rattle.mk_edit_parts.proofs.on_prerequisites.RawPartLemmas.{raw-within}
 
 -- ---- the range of a value
 
 -- where the value of an assignment's line stands, or the value with the blanks and folds after it
 pub record IsValueRange (l : List ℕ) (a : Assignment Cell) (b : Bool) (r : Span) : Type 0 where
-  pub start_is : r.start ≡ raw_length (before_value a)
-  pub end_is : r.end ≡ raw_length (before_value a) + raw_length a.value + (if b then raw_length a.after else 0)
+  pub start_is : r.start ≡ raw_width (before_value a)
+  pub end_is : r.end ≡ raw_width (before_value a) + raw_width a.value + (if b then raw_width a.after else 0)
   pub rises : r.start ≤ r.end
   pub within : r.end ≤ length l
-
--- the raw bytes of a line's cells are bytes of the line
-raw-within : (l : List ℕ) (n : ℕ) → raw_place (line_cells l) n ≤ length l
-raw-within l n =
-    let whole : l ≡ without_line_end l ++ line_end_bytes (line_end l) = sym (without_line_end-line_end l) in
-    let cut : line_cells l ≡ take n (line_cells l) ++ drop n (line_cells l) = sym (take-append-drop n (line_cells l)) in
-    let raw : raw_text (take n (line_cells l)) ++ raw_text (drop n (line_cells l)) ≡ without_line_end l =
-    sym (raw_text-append (take n (line_cells l)) (drop n (line_cells l))) ∙ (ap raw_text (sym cut) ∙ raw_text-cells (without_line_end l)) in
-    omega (arith, ap length whole, length-append (without_line_end l) (line_end_bytes (line_end l)), ap length raw, length-append (raw_text (take n (line_cells l))) (raw_text (drop n (line_cells l))))
 
 -- the parts of an assignment's line
 pub assignment-placed : (c : Context) (l : List ℕ) (a : Assignment Cell) → class_of c l ≡ Assign a None → IsAssignmentPlaced (line_cells l) (assignment_places 0 a) [] a
@@ -61,20 +49,20 @@ assignment-placed c l a h =
     let same : P.0 ≡ a = cc in
     subst (λ (z : Assignment Cell). IsAssignmentPlaced (line_cells l) (assignment_places 0 a) [] z) same P.2
 
-pub value-range : (c : Context) (l : List ℕ) (a : Assignment Cell) (b : Bool) → class_of c l ≡ Assign a None
+value-range : (c : Context) (l : List ℕ) (a : Assignment Cell) (b : Bool) → class_of c l ≡ Assign a None
     → IsValueRange l a b (value_range_placed b (record { bytes = l; class = class_places joined_byte (Assign a None) }))
 value-range c l a b h =
     let P = assignment-placed c l a h in
     let at = assignment_places 0 a in
     let cs = line_cells l in
-    let s : raw_place cs at.value.start ≡ raw_length (before_value a) = P.value.raw_start in
-    let v : raw_place cs at.value.end ≡ raw_length (before_value a) + raw_length a.value = P.value.raw_end in
-    let w : raw_place cs at.end ≡ raw_place cs at.value.end + raw_length a.after = P.after.raw_end ∙ ap (λ n. n + raw_length a.after) (sym P.after.raw_start) in
+    let s : raw_place cs at.value.start ≡ raw_width (before_value a) = P.value.raw_start in
+    let v : raw_place cs at.value.end ≡ raw_width (before_value a) + raw_width a.value = P.value.raw_end in
+    let w : raw_place cs at.end ≡ raw_place cs at.value.end + raw_width a.after = P.after.raw_end ∙ ap (λ n. n + raw_width a.after) (sym P.after.raw_start) in
     go b s v w
   where
-    go : (b : Bool) → raw_place (line_cells l) (assignment_places 0 a).value.start ≡ raw_length (before_value a)
-        → raw_place (line_cells l) (assignment_places 0 a).value.end ≡ raw_length (before_value a) + raw_length a.value
-        → raw_place (line_cells l) (assignment_places 0 a).end ≡ raw_place (line_cells l) (assignment_places 0 a).value.end + raw_length a.after
+    go : (b : Bool) → raw_place (line_cells l) (assignment_places 0 a).value.start ≡ raw_width (before_value a)
+        → raw_place (line_cells l) (assignment_places 0 a).value.end ≡ raw_width (before_value a) + raw_width a.value
+        → raw_place (line_cells l) (assignment_places 0 a).end ≡ raw_place (line_cells l) (assignment_places 0 a).value.end + raw_width a.after
         → IsValueRange l a b (value_range_placed b (record { bytes = l; class = class_places joined_byte (Assign a None) }))
     go true s v w = record { start_is = s; end_is = omega (arith, v, w); rises = omega (arith, s, v, w); within = raw-within l (assignment_places 0 a).end }
     go false s v w = record { start_is = s; end_is = omega (arith, v); rises = omega (arith, s, v); within = raw-within l (assignment_places 0 a).value.end }
@@ -97,7 +85,7 @@ variable-place e ls f nth n h a A =
 
 -- what is known of the line that the address of a variable means, and of the range of its value
 pub record IsValuePlace (ls : List PlacedLine) (nth : Option ℕ) (n : List ℕ) (f : Found) (l : PlacedLine) (b : Bool) (r : Span) : Type 0 where
-  pub spot : Spot
+  pub spot : StandingLine
   pub place_is : length spot.above ≡ f.at
   pub found_is : found (classed_lines (placed_text ls)) (Variable nth n) ≡ Some spot
   pub assigned : Assignment Cell
@@ -116,7 +104,7 @@ value-place ls nth n f l b r h there one free F g k =
     let A = assignment-found t n nth (where_holds-none _ _ there) (where_holds-none _ _ one) free in
     let e : Some A.spot ≡ Some s = sym A.found_is ∙ F.found_is in
     let same : A.spot ≡ s = cc in
-    let class_is : s.line.class ≡ Assign A.assigned None = ap (λ (z : Spot). z.line.class) (sym same) ∙ A.class_is in
+    let class_is : s.line.class ≡ Assign A.assigned None = ap (λ (z : StandingLine). z.line.class) (sym same) ∙ A.class_is in
     let here : class_of f.context s.line.bytes ≡ Assign A.assigned None = L.class_is ∙ class_is in
     let shown : Some l ≡ Some (placed_line s.line) = g ∙ L.line_is in
     let line_is : l ≡ placed_line s.line = cc in

@@ -1,19 +1,19 @@
 -- An edit that sets a value is one of a range of a line.
-use Rattle.std.proofs.Common.{◌≡◌, refl, sym, ap, ◌∙◌, subst, arith, ℕ, suc, ◌+◌, ◌≤◌, List, [], ◌∷◌, Bool, true, false, length, Option, Some, None, option_map}
+use Rattle.std.proofs.Common.{◌≡◌, refl, sym, ap, ◌∙◌, subst, arith, ℕ, suc, ◌+◌, List, [], ◌∷◌, length, Option, Some, option_map}
 use Rattle.std.specs.Prelude.{slice_get, ◌==◌}
 use Rattle.std.proofs.lemmas.Bool.{ne_eqb}
 use Rattle.mk_lines.specs.Cells.{Cell}
-use Rattle.mk_lines.specs.Pieces.{Replacement}
 use Rattle.mk_lines.specs.declared.split.Span.{Span}
 use Rattle.mk_class.specs.Lists.{is_empty}
 use Rattle.mk_class.specs.Assignments.{Assignment, before_value}
 use Rattle.mk_class.specs.ClassedLines.{classed_lines}
+use Rattle.mk_class.specs.PartPlaces.{raw_width}
 use Rattle.mk_tree.specs.Documents.{IsFaithful, text_of}
 use Rattle.mk_tree.specs.PlacedLines.{PlacedLine, placed_text}
 use Rattle.mk_edit_laws.specs.Edits.{Edit, SetValue}
 use Rattle.mk_edit_laws.specs.Stretches.{this_line}
-use Rattle.mk_edit_laws.specs.ValueSpans.{raw_length, set_value_span, value_span, assignment_span}
-use Rattle.mk_edit_laws.specs.Spans.{spans_of, where_found}
+use Rattle.mk_edit_laws.specs.ValueSpans.{set_value_span, value_span, assignment_span}
+use Rattle.mk_edit_laws.specs.Spans.{where_found}
 use Rattle.mk_edit_laws.proofs.on_values.SetLemmas.{not_prefix}
 use Rattle.mk_edit_parts.specs.Found.{IsAddressed}
 use Rattle.mk_edit_parts.specs.LineRanges.{value_range_placed}
@@ -21,10 +21,10 @@ use Rattle.mk_edit.specs.ValuesGiven.{IsSetTo}
 use Rattle.mk_edit_parts.specs.declared.seek.Found.{Found}
 use Rattle.mk_edit.proofs.on_plans.CausePlans.{addressed-own}
 use Rattle.mk_edit.proofs.on_plans.RangePlans.{IsRangeEdit}
-use Rattle.mk_edit.proofs.on_values.ValuePlaces.{IsValueRange, IsValuePlace, value-place}
+use Rattle.mk_edit.proofs.on_values.ValuePlaces.{IsValueRange, value-place}
 
 -- a text is empty where it has no bytes
-pub is_empty-length : (v : List ℕ) → is_empty v ≡ (length v == 0)
+is_empty-length : (v : List ℕ) → is_empty v ≡ (length v == 0)
 is_empty-length [] = refl
 is_empty-length (b ∷ v) = sym (ne_eqb (suc (length v)) 0 (λ e. absurd (omega (arith, e))))
 
@@ -34,13 +34,13 @@ is_empty-length (b ∷ v) = sym (ne_eqb (suc (length v)) 0 (λ e. absurd (omega 
 set_span-range : (l : List ℕ) (a : Assignment Cell) (v : List ℕ) (at : ℕ) (r : Span) → IsValueRange l a (is_empty v) r
     → set_value_span v at a ≡ record { start = at + r.start; end = at + r.end; new = v }
 set_span-range l a [] at r R =
-    let i : at + raw_length (before_value a) ≡ at + r.start = omega (arith, R.start_is) in
-    let j : at + raw_length (before_value a) + raw_length a.value + raw_length a.after ≡ at + r.end = omega (arith, R.end_is) in
-    ap (λ (n : ℕ). record { start = n; end = at + raw_length (before_value a) + raw_length a.value + raw_length a.after; new = [] }) i ∙ ap (λ (n : ℕ). record { start = at + r.start; end = n; new = [] }) j
+    let i : at + raw_width (before_value a) ≡ at + r.start = omega (arith, R.start_is) in
+    let j : at + raw_width (before_value a) + raw_width a.value + raw_width a.after ≡ at + r.end = omega (arith, R.end_is) in
+    ap (λ (n : ℕ). record { start = n; end = at + raw_width (before_value a) + raw_width a.value + raw_width a.after; new = [] }) i ∙ ap (λ (n : ℕ). record { start = at + r.start; end = n; new = [] }) j
 set_span-range l a (b ∷ v) at r R =
-    let i : at + raw_length (before_value a) ≡ at + r.start = omega (arith, R.start_is) in
-    let j : at + raw_length (before_value a) + raw_length a.value ≡ at + r.end = omega (arith, R.end_is) in
-    ap (λ (n : ℕ). record { start = n; end = at + raw_length (before_value a) + raw_length a.value; new = b ∷ v }) i ∙ ap (λ (n : ℕ). record { start = at + r.start; end = n; new = b ∷ v }) j
+    let i : at + raw_width (before_value a) ≡ at + r.start = omega (arith, R.start_is) in
+    let j : at + raw_width (before_value a) + raw_width a.value ≡ at + r.end = omega (arith, R.end_is) in
+    ap (λ (n : ℕ). record { start = n; end = at + raw_width (before_value a) + raw_width a.value; new = b ∷ v }) i ∙ ap (λ (n : ℕ). record { start = at + r.start; end = n; new = b ∷ v }) j
 
 set-range_of : (ls : List PlacedLine) (nth : Option ℕ) (n v : List ℕ) (f : Found) (l : PlacedLine) (r : Span) → IsFaithful ls → IsAddressed (SetValue nth n v) ls f → Some l ≡ slice_get ls f.at
     → r ≡ value_range_placed (is_empty v) l → IsRangeEdit (SetValue nth n v) ls f.at l r v

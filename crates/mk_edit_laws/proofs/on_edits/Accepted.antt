@@ -1,12 +1,11 @@
 -- What it says of an edit that no cause refuses it.
-use Rattle.std.proofs.Common.{◌≡◌, refl, ap, ◌∙◌, ℕ, List, [], ◌∷◌, Bool, true, false, not, ◌==◌, Option, Some, None, is_some}
-use Rattle.std.proofs.lemmas.Bool.{and_parts, eqb-true}
+use Rattle.std.proofs.Common.{◌≡◌, refl, ℕ, List, [], ◌∷◌, Bool, true, false, not, Option, Some, None, is_some}
 use Rattle.std.specs.Prelude.{Ok}
 use Rattle.mk_lines.specs.Pieces.{Replacement}
-use Rattle.mk_class.specs.Texts.{is_same_text}
 use Rattle.mk_class.specs.ClassedLines.{classed_lines}
+use Rattle.mk_tree.specs.LineTexts.{StandingLine}
 use Rattle.mk_edit_laws.specs.Edits.{Edit}
-use Rattle.mk_edit_laws.specs.Spots.{Spot, nth_of, picked}
+use Rattle.mk_edit_laws.specs.Spots.{nth_of, picked}
 use Rattle.mk_edit_laws.specs.Spans.{spans_of}
 use Rattle.mk_edit_laws.specs.Causes.{where_holds}
 use Rattle.mk_edit_laws.specs.ArgumentCauses.{Tested, first_failed, bad_argument, reserved}
@@ -92,21 +91,17 @@ accepted t e rs h =
     }
 
 -- an address that is neither missing nor one of several means a line
-pub spot-picked : (nth : Option ℕ) (ss : List Spot) → is_missing nth ss ≡ false → is_several nth ss ≡ false → (s : Spot) × (picked nth ss ≡ Some s)
+pub spot-picked : (nth : Option ℕ) (ss : List StandingLine) → is_missing nth ss ≡ false → is_several nth ss ≡ false → (s : StandingLine) × (picked nth ss ≡ Some s)
 spot-picked None [] h k = absurd (cc)
 spot-picked None (s ∷ []) h k = (s, refl)
 spot-picked None (s ∷ s' ∷ ss) h k = absurd (cc)
 spot-picked (Some n) ss h k = go (nth_of n ss) refl h
   where
-    go : (o : Option Spot) → nth_of n ss ≡ o → not (is_some o) ≡ false → (s : Spot) × (nth_of n ss ≡ Some s)
+    go : (o : Option StandingLine) → nth_of n ss ≡ o → not (is_some o) ≡ false → (s : StandingLine) × (nth_of n ss ≡ Some s)
     go None e h = absurd (cc)
     go (Some s) e h = (s, e)
 
 -- fields that pass their tests
-pub one-passed : (f : Field) (x : Bool) → first_failed (Tested f x ∷ []) ≡ None → x ≡ true
-one-passed f true h = refl
-one-passed f false h = absurd (cc)
-
 pub two-passed : (f g : Field) (x y : Bool) → first_failed (Tested f x ∷ Tested g y ∷ []) ≡ None → (x ≡ true) × (y ≡ true)
 two-passed f g true true h = (refl, refl)
 two-passed f g true false h = absurd (cc)
@@ -117,12 +112,3 @@ three-passed f g h true true true e = (refl, (refl, refl))
 three-passed f g h true true false e = absurd (cc)
 three-passed f g h true false z e = absurd (cc)
 three-passed f g h false y z e = absurd (cc)
-
--- texts that are the same
-pub same_text-is : (x y : List ℕ) → is_same_text x y ≡ true → x ≡ y
-same_text-is [] [] h = refl
-same_text-is [] (b ∷ y) h = absurd (cc)
-same_text-is (a ∷ x) [] h = absurd (cc)
-same_text-is (a ∷ x) (b ∷ y) h =
-    let p = and_parts (a == b) (is_same_text x y) h in
-    ap (λ z. z ∷ x) (eqb-true a b p.0) ∙ ap (λ z. b ∷ z) (same_text-is x y p.1)

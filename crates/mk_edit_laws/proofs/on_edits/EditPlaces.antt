@@ -5,14 +5,14 @@ use Rattle.mk_class.specs.Classes.{is_recipe}
 use Rattle.mk_class.specs.ClassedLines.{ClassedLine}
 use Rattle.mk_tree.specs.RecipeLines.{recipe_run, after_recipe}
 use Rattle.mk_tree.proofs.on_changes.RecipeRunLemmas.{recipe_run-after}
+use Rattle.mk_tree.specs.LineTexts.{StandingLine}
 use Rattle.mk_edit_laws.specs.Edits.{Place, Bottom, BeforeVar, AfterVar, BeforeRule, Edit, SetValue, AppendValue, AddAssign, RemoveAssign, AddRule, RemoveRule, AddPrereq, RemovePrereq, AddRecipe, SetRecipe, RemoveRecipe, RenameTarget}
-use Rattle.mk_edit_laws.specs.Spots.{Spot}
 use Rattle.mk_edit_laws.specs.Addresses.{Address, Variable, Rule, assigns, is_rule_for, found}
 use Rattle.mk_edit_laws.specs.Stretches.{Stretch, this_line, before_line, after_line, bottom, whole_rule, after_rule, recipe_found, place_found, insertion, removal, IsStretchOf}
 use Rattle.mk_edit_laws.proofs.on_lines.SpotLemmas.{picked-is, recipe-found}
 
 -- a spot of the text's lines
-abbrev pub IsSpotOf : List ClassedLine → Spot → Type 0
+abbrev pub IsSpotOf : List ClassedLine → StandingLine → Type 0
 IsSpotOf ls s = ls ≡ s.above ++ s.line ∷ s.below
 
 -- what is known of each image of what is found is known of the one that is found
@@ -23,40 +23,40 @@ mapped P f (Some x) h y e = let k : f x ≡ y = cc in subst P k (h x refl)
 -- ---- spots
 
 -- what an address means
-pub found-spot : (ls : List ClassedLine) (a : Address) (s : Spot) → found ls a ≡ Some s → IsSpotOf ls s
+pub found-spot : (ls : List ClassedLine) (a : Address) (s : StandingLine) → found ls a ≡ Some s → IsSpotOf ls s
 found-spot ls (Variable nth n) s e = (picked-is (λ l. assigns n l.class) ls nth s e).whole
 found-spot ls (Rule nth t) s e = (picked-is (λ l. is_rule_for t l.class) ls nth s e).whole
 
-same_spot : {p q : Spot} → Some p ≡ Some q → p ≡ q
+same_spot : {p q : StandingLine} → Some p ≡ Some q → p ≡ q
 same_spot h = cc
 
 -- what the number of a recipe line means
-pub recipe_found-spot : (ls : List ClassedLine) (nth : Option ℕ) (g : List ℕ) (k : ℕ) (s : Spot) → recipe_found ls nth g k ≡ Some s → IsSpotOf ls s
+pub recipe_found-spot : (ls : List ClassedLine) (nth : Option ℕ) (g : List ℕ) (k : ℕ) (s : StandingLine) → recipe_found ls nth g k ≡ Some s → IsSpotOf ls s
 recipe_found-spot ls nth g k s e =
-    let F = recipe-found ls nth g k (ap (λ (o : Option Spot). not (is_some o)) e) in
+    let F = recipe-found ls nth g k (ap (λ (o : Option StandingLine). not (is_some o)) e) in
     subst (IsSpotOf ls) (same_spot (sym F.found_is ∙ e)) F.whole
 
 -- is a recipe line
-pub recipe_found-recipe : (ls : List ClassedLine) (nth : Option ℕ) (g : List ℕ) (k : ℕ) (s : Spot) → recipe_found ls nth g k ≡ Some s → is_recipe s.line.class ≡ true
+pub recipe_found-recipe : (ls : List ClassedLine) (nth : Option ℕ) (g : List ℕ) (k : ℕ) (s : StandingLine) → recipe_found ls nth g k ≡ Some s → is_recipe s.line.class ≡ true
 recipe_found-recipe ls nth g k s e =
-    let F = recipe-found ls nth g k (ap (λ (o : Option Spot). not (is_some o)) e) in
-    subst (λ (z : Spot). is_recipe z.line.class ≡ true) (same_spot (sym F.found_is ∙ e)) F.is_recipe_line
+    let F = recipe-found ls nth g k (ap (λ (o : Option StandingLine). not (is_some o)) e) in
+    subst (λ (z : StandingLine). is_recipe z.line.class ≡ true) (same_spot (sym F.found_is ∙ e)) F.is_recipe_line
 
 -- ---- stretches
 
-this-stretch : (ls : List ClassedLine) (s : Spot) → IsSpotOf ls s → IsStretchOf ls (this_line s)
+this-stretch : (ls : List ClassedLine) (s : StandingLine) → IsSpotOf ls s → IsStretchOf ls (this_line s)
 this-stretch ls s h = h
 
-before-stretch : (ls : List ClassedLine) (s : Spot) → IsSpotOf ls s → IsStretchOf ls (before_line s)
+before-stretch : (ls : List ClassedLine) (s : StandingLine) → IsSpotOf ls s → IsStretchOf ls (before_line s)
 before-stretch ls s h = h
 
-after-stretch : (ls : List ClassedLine) (s : Spot) → IsSpotOf ls s → IsStretchOf ls (after_line s)
+after-stretch : (ls : List ClassedLine) (s : StandingLine) → IsSpotOf ls s → IsStretchOf ls (after_line s)
 after-stretch ls s h = h ∙ sym (append_assoc s.above (s.line ∷ []) s.below)
 
-pub rule-stretch : (ls : List ClassedLine) (s : Spot) → IsSpotOf ls s → IsStretchOf ls (whole_rule s)
+pub rule-stretch : (ls : List ClassedLine) (s : StandingLine) → IsSpotOf ls s → IsStretchOf ls (whole_rule s)
 rule-stretch ls s h = h ∙ ap (λ z. s.above ++ s.line ∷ z) (sym (recipe_run-after s.below))
 
-pub after_rule-stretch : (ls : List ClassedLine) (s : Spot) → IsSpotOf ls s → IsStretchOf ls (after_rule s)
+after_rule-stretch : (ls : List ClassedLine) (s : StandingLine) → IsSpotOf ls s → IsStretchOf ls (after_rule s)
 after_rule-stretch ls s h =
     rule-stretch ls s h ∙ sym (append_assoc s.above (s.line ∷ recipe_run s.below) (after_recipe s.below))
 

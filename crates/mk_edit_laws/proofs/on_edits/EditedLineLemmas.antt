@@ -1,7 +1,7 @@
 -- The lines after an edit of one place: for code that builds the bytes of its new line.
 use Rattle.std.proofs.Common.{◌≡◌, sym, ap, ◌∙◌, subst, arith, ℕ, ◌+◌, ◌-◌, List, [], ◌∷◌, ◌++◌, not, true, length, length-append, take, drop}
 use Rattle.std.specs.Prelude.{Ok, Some}
-use Rattle.std.proofs.lemmas.List.{append-nil, append_cancel_left, append_cancel_right}
+use Rattle.std.proofs.lemmas.List.{append-nil, append_cancel_left}
 use Rattle.mk_lines.specs.LogicalLines.{logical_lines}
 use Rattle.mk_lines.proofs.on_lines.LineLemmas.{OneLine-logical}
 use Rattle.mk_lines.specs.Pieces.{Replacement, replaced, Piece, old_bytes, new_bytes, replacements}
@@ -11,7 +11,7 @@ use Rattle.mk_class.specs.ClassTable.{class_of}
 use Rattle.mk_class.specs.ClassedLines.{classed, classed_lines}
 use Rattle.mk_tree.specs.Documents.{text_of, context_of, AreUnconditional}
 use Rattle.mk_tree.specs.LineTexts.{line_in}
-use Rattle.mk_tree.proofs.on_documents.LinePlaces.{located, located-run}
+use Rattle.mk_tree.proofs.on_documents.LinePlaces.{located}
 use Rattle.mk_edit_laws.specs.Edits.{Edit, SetValue, AppendValue, AddAssign, RemoveAssign, AddRule, RemoveRule, AddPrereq, RemovePrereq, AddRecipe, SetRecipe, RemoveRecipe, RenameTarget}
 use Rattle.mk_edit_laws.specs.Stretches.{Stretch, insertion, touched_by}
 use Rattle.mk_edit_laws.specs.EditedLines.{respanned_bytes, edited_bytes, edited_lines}
@@ -24,7 +24,7 @@ use Rattle.mk_edit_laws.proofs.on_edits.KeptLemmas.{edits-keep}
 -- ---- the lines after it
 
 -- an edit that touches some lines is none but of one place
-pub place-kept : (t : List ℕ) (e : Edit) (rs : List Replacement) (s : Stretch) → touched_by (classed_lines t) e ≡ Some s → spans t e ≡ Ok rs → AreOthersKept t e rs
+place-kept : (t : List ℕ) (e : Edit) (rs : List Replacement) (s : Stretch) → touched_by (classed_lines t) e ≡ Some s → spans t e ≡ Ok rs → AreOthersKept t e rs
 place-kept t (SetValue nth n v) rs s p h = edits-keep (SetValue nth n v) t rs h
 place-kept t (AppendValue nth n v) rs s p h = edits-keep (AppendValue nth n v) t rs h
 place-kept t (AddAssign q n f v) rs s p h = edits-keep (AddAssign q n f v) t rs h
@@ -86,16 +86,7 @@ taken-out t e rs s p h b =
 
 -- ---- the bytes of touched lines with their spans replaced
 
--- by the whole text after the replacements
-pub respanned-text : (t : List ℕ) (e : Edit) (rs : List Replacement) (s : Stretch) (m : List ℕ) → touched_by (classed_lines t) e ≡ Some s → spans t e ≡ Ok rs
-    → replaced 0 t rs ≡ text_of s.above ++ (m ++ text_of s.below) → respanned_bytes s rs ≡ m
-respanned-text t e rs s m p h k =
-    let E = edited t e rs s p h in
-    append_cancel_right (respanned_bytes s rs) m (text_of s.below)
-    (append_cancel_left (text_of s.above) (respanned_bytes s rs ++ text_of s.below) (m ++ text_of s.below)
-    (sym (ap (λ z. replaced 0 z rs) (located-run t s.above s.lines s.below E.before).text ∙ Rise-within (text_of s.above) (text_of s.lines) (text_of s.below) rs E.within) ∙ k))
-
--- of one range, by its places in these lines
+-- the bytes with one range replaced, by its places in these lines
 pub respanned-one : (s : Stretch) (start end a b : ℕ) (v : List ℕ) → start ≡ length (text_of s.above) + a → end ≡ length (text_of s.above) + b
     → respanned_bytes s (record { start = start; end = end; new = v } ∷ []) ≡ take a (text_of s.lines) ++ (v ++ drop b (text_of s.lines))
 respanned-one s start end a b v h k =

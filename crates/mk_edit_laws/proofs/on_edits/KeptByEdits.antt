@@ -1,11 +1,11 @@
 -- The edits that leave the lines that their spans do not touch.
 use Rattle.std.proofs.Common.{◌≡◌, refl, sym, ap, ◌∙◌, subst, arith, ℕ, List, [], ◌∷◌, ◌++◌, Bool, true, false, not, ◌&&◌, length, ◌+◌, ◌≤◌, Option, Some, None, option_map}
-use Rattle.std.proofs.lemmas.Bool.{and_parts}
+use Rattle.std.proofs.lemmas.Bool.{and_parts, not_from_false}
 use Rattle.std.specs.Prelude.{Ok}
 use Rattle.mk_lines.specs.PhysicalLines.{line_end_bytes, file_line_end}
-use Rattle.mk_lines.proofs.on_cells.LineCells.{or-left_false, or-right_false}
 use Rattle.mk_lines.specs.Cells.{Cell}
 use Rattle.mk_lines.specs.Pieces.{Replacement, Piece, replacements, replaced}
+use Rattle.mk_lines.proofs.on_lists.BoolLemmas.{or-left_false, or-right_false}
 use Rattle.mk_class.specs.Lists.{any}
 use Rattle.mk_class.specs.Assignments.{Assignment}
 use Rattle.mk_class.specs.Headers
@@ -21,12 +21,12 @@ use Rattle.mk_tree.specs.Leaning.{AgreeButForFlag}
 use Rattle.mk_tree.proofs.on_documents.LinePlaces.{located, context_of-last, context_of-append}
 use Rattle.mk_tree.specs.NewLines.{above_ended, missing_line_end}
 use Rattle.mk_tree.proofs.on_changes.RecipeRunLemmas.{recipe_run-stays, rule-agrees, assign-agrees, recipe-agrees}
+use Rattle.mk_tree.specs.LineTexts.{StandingLine}
 use Rattle.mk_edit_laws.specs.Edits.{Edit, Place, SetValue, AppendValue, AddAssign, RemoveAssign, AddRule, RemoveRule, AddPrereq, RemovePrereq, AddRecipe, SetRecipe, RemoveRecipe}
 use Rattle.mk_edit_laws.specs.Addresses.{Variable, Rule, found}
-use Rattle.mk_edit_laws.specs.Spots.{Spot}
 use Rattle.mk_edit_laws.specs.Stretches.{Stretch, this_line, whole_rule, between, insertion, removal, touched_by}
 use Rattle.mk_edit_laws.specs.NewLines.{assign_text, new_text, new_line_span}
-use Rattle.mk_edit_laws.specs.ValueSpans.{set_value_span, append_value_span, value_span, assignment_span, raw_length}
+use Rattle.mk_edit_laws.specs.ValueSpans.{set_value_span, append_value_span, value_span, assignment_span}
 use Rattle.mk_edit_laws.specs.WordPieces.{add_pieces, remove_pieces}
 use Rattle.mk_edit_laws.specs.Spans.{removed_span, recipe_span, header_spans, word_spans, where_found}
 use Rattle.mk_edit_laws.specs.RuleCauses.{has_conditional}
@@ -47,6 +47,7 @@ use Rattle.mk_edit_laws.proofs.on_new_lines.NewLineStands.{StandsAt, stands-span
 use Rattle.mk_edit_laws.proofs.on_new_lines.NewAssignLemmas.{new_assignment, accepted-stands, no_name}
 use Rattle.mk_edit_laws.proofs.on_new_lines.NewRules.{rule-stands}
 use Rattle.mk_class.specs.declared.assignment.Flavor.{Flavor}
+use Rattle.mk_class.specs.PartPlaces.{raw_width}
 use Rattle.mk_edit_laws.specs.declared.edit.Colons.{Colons}
 use Rattle.mk_edit_laws.proofs.on_prerequisites.UndependLemmas.{undepend-line}
 use Rattle.mk_edit_laws.proofs.on_recipes.RecipeLemmas.{recipe-set, recipe_added-stands}
@@ -73,8 +74,8 @@ unset-keeps nth n t rs h =
     let A = accepted t e rs h in
     let F = assignment-found t n nth (where_holds-none _ _ A.is_there) (where_holds-none _ _ A.is_one) (not_prefix n A.not_reserved) in
     let s = F.spot in
-    let free : removal_leans (Some (this_line s)) ≡ false = subst (λ (z : Option Spot). removal_leans (option_map this_line z) ≡ false) F.found_is (where_holds-none _ _ A.not_leaning) in
-    let y : removed_span (this_line s) ≡ rs = subst (λ (z : Option Spot). where_found removed_span (option_map this_line z) ≡ rs) F.found_is A.spans_are in
+    let free : removal_leans (Some (this_line s)) ≡ false = subst (λ (z : Option StandingLine). removal_leans (option_map this_line z) ≡ false) F.found_is (where_holds-none _ _ A.not_leaning) in
+    let y : removed_span (this_line s) ≡ rs = subst (λ (z : Option StandingLine). where_found removed_span (option_map this_line z) ≡ rs) F.found_is A.spans_are in
     stretch-kept t e rs (this_line s) h (ap (option_map this_line) F.found_is) F.whole y (agrees-last s.above s.line (Class.Assign F.assigned None) F.class_is (assign-agrees (context_of s.above) F.assigned)) free refl refl (omega arith)
     (unconditional-class s.line.class (Class.Assign F.assigned None) F.class_is refl, tt)
 
@@ -87,21 +88,18 @@ recipe_removed-keeps nth g k t rs h =
     let F = recipe-found (classed_lines t) nth g k (where_holds-none _ _ A.not_absent) in
     let s = F.spot in
     let r : s.line.class ≡ Class.Recipe = recipe-class s.line.class F.is_recipe_line in
-    let free : removal_leans (Some (this_line s)) ≡ false = subst (λ (z : Option Spot). removal_leans (option_map this_line z) ≡ false) F.found_is (where_holds-none _ _ A.not_leaning) in
-    let y : removed_span (this_line s) ≡ rs = subst (λ (z : Option Spot). where_found removed_span (option_map this_line z) ≡ rs) F.found_is A.spans_are in
+    let free : removal_leans (Some (this_line s)) ≡ false = subst (λ (z : Option StandingLine). removal_leans (option_map this_line z) ≡ false) F.found_is (where_holds-none _ _ A.not_leaning) in
+    let y : removed_span (this_line s) ≡ rs = subst (λ (z : Option StandingLine). where_found removed_span (option_map this_line z) ≡ rs) F.found_is A.spans_are in
     stretch-kept t e rs (this_line s) h (ap (option_map this_line) F.found_is) F.whole y (agrees-last s.above s.line Class.Recipe r (recipe-agrees (context_of s.above))) free refl refl (omega arith)
     (unconditional-class s.line.class Class.Recipe r refl, tt)
 
 -- ---- a rule taken out
 
-not-any : (b : Bool) → b ≡ false → not b ≡ true
-not-any b h = ap not h
-
 unconditional : (ls : List ClassedLine) → any (λ l. is_conditional l.class) ls ≡ false → AreUnconditional ls
 unconditional [] h = tt
 unconditional (l ∷ ls) h =
     let c = is_conditional l.class in
-    (not-any c (or-left_false c (any (λ m. is_conditional m.class) ls) h), unconditional ls (or-right_false c (any (λ m. is_conditional m.class) ls) h))
+    (not_from_false c (or-left_false c (any (λ m. is_conditional m.class) ls) h), unconditional ls (or-right_false c (any (λ m. is_conditional m.class) ls) h))
 
 pub rule_removed-keeps : (nth : Option ℕ) (g t : List ℕ) (rs : List Replacement) → spans t (RemoveRule nth g) ≡ Ok rs → AreOthersKept t (RemoveRule nth g) rs
 rule_removed-keeps nth g t rs h =
@@ -111,10 +109,10 @@ rule_removed-keeps nth g t rs h =
     let F = rule-found ls nth g (where_holds-none _ _ A.is_there) (where_holds-none _ _ A.is_one) in
     let s = F.spot in
     let R = recipe_run s.below in
-    let free : removal_leans (Some (whole_rule s)) ≡ false = subst (λ (z : Option Spot). removal_leans (option_map whole_rule z) ≡ false) F.found_is (where_holds-none _ _ A.not_leaning) in
-    let plain : has_conditional (Some s) ≡ false = subst (λ (z : Option Spot). has_conditional z ≡ false) F.found_is (where_holds-none _ _ A.not_straddling) in
-    let y : removed_span (whole_rule s) ≡ rs = subst (λ (z : Option Spot). where_found removed_span (option_map whole_rule z) ≡ rs) F.found_is A.spans_are in
-    let many : line_count (removal ls e) ≡ length (s.line ∷ R) = ap (λ (z : Option Spot). line_count (option_map whole_rule z)) F.found_is in
+    let free : removal_leans (Some (whole_rule s)) ≡ false = subst (λ (z : Option StandingLine). removal_leans (option_map whole_rule z) ≡ false) F.found_is (where_holds-none _ _ A.not_leaning) in
+    let plain : has_conditional (Some s) ≡ false = subst (λ (z : Option StandingLine). has_conditional z ≡ false) F.found_is (where_holds-none _ _ A.not_straddling) in
+    let y : removed_span (whole_rule s) ≡ rs = subst (λ (z : Option StandingLine). where_found removed_span (option_map whole_rule z) ≡ rs) F.found_is A.spans_are in
+    let many : line_count (removal ls e) ≡ length (s.line ∷ R) = ap (λ (z : Option StandingLine). line_count (option_map whole_rule z)) F.found_is in
     let u = unconditional R plain in
     let agree : AgreeButForFlag (context_of s.above) (context_of (s.above ++ s.line ∷ R)) =
     subst (AgreeButForFlag (context_of s.above)) (sym (context_of-append s.above (s.line ∷ R)))
@@ -131,7 +129,7 @@ value-keeps : (t n : List ℕ) (nth : Option ℕ) (e : Edit) (rs : List Replacem
 value-keeps t n nth e rs f i F g h w r p q d c z =
     let s = F.spot in
     let at = length (text_of s.above) in
-    let x : assignment_span f at s.line.class ≡ rs = subst (λ (o : Option Spot). where_found (value_span f) o ≡ rs) F.found_is w in
+    let x : assignment_span f at s.line.class ≡ rs = subst (λ (o : Option StandingLine). where_found (value_span f) o ≡ rs) F.found_is w in
     let y : f at F.assigned ∷ [] ≡ rs = subst (λ (k : Class Cell). assignment_span f at k ≡ rs) F.class_is x in
     replaced-kept t e rs s i h p F.whole (replaced-same _ _ s.above s.below i i (ap (replaced 0 t) y) refl r) (subst (Rise at (at + length s.line.bytes)) x (value-rises t s f F.whole g)) q d c z
     (unconditional-class s.line.class (Class.Assign F.assigned None) F.class_is refl)
@@ -169,21 +167,21 @@ recipe_set-keeps nth g k c t rs h =
     let F = recipe-found (classed_lines t) nth g k (where_holds-none _ _ A.not_absent) in
     let s = F.spot in
     let at = length (text_of s.above) in
-    let y : recipe_span c s ≡ rs = subst (λ (z : Option Spot). where_found (recipe_span c) z ≡ rs) F.found_is A.spans_are in
+    let y : recipe_span c s ≡ rs = subst (λ (z : Option StandingLine). where_found (recipe_span c) z ≡ rs) F.found_is A.spans_are in
     replaced-kept t e rs s (Recipe c) h (ap (option_map this_line) F.found_is) F.whole (replaced-same _ _ s.above s.below _ _ (ap (replaced 0 t) y) refl (recipe-set t s c F.whole F.is_recipe_line i))
     (subst (Rise at (at + length s.line.bytes)) y (recipe-rises t c s F.whole F.is_recipe_line)) refl refl (omega arith) (omega arith)
     (unconditional-class s.line.class Class.Recipe (recipe-class s.line.class F.is_recipe_line) refl)
 
 -- the words of a header's line
 words-keep : (t g : List ℕ) (nth : Option ℕ) (e : Edit) (rs : List Replacement) (f : Headers.Header Cell → List Piece) (i : Item) (F : FoundRule (classed_lines t) nth g)
-    → ((h : Headers.Header Cell) → old_length (f h) ≡ raw_length (header_units h)) → spans t e ≡ Ok rs → where_found (word_spans f) (found (classed_lines t) (Rule nth g)) ≡ rs
+    → ((h : Headers.Header Cell) → old_length (f h) ≡ raw_width (header_units h)) → spans t e ≡ Ok rs → where_found (word_spans f) (found (classed_lines t) (Rule nth g)) ≡ rs
     → IsLineReplaced (replaced 0 t (replacements (length (text_of F.spot.above)) (f F.header))) F.spot.above F.spot.below i
     → touched_by (classed_lines t) e ≡ Some (this_line F.spot) → insertion (classed_lines t) e ≡ None → edited_bytes t e (this_line F.spot) rs ≡ respanned_bytes (this_line F.spot) rs ∷ []
     → 1 ≤ cost t e → 1 ≤ size t e → AreOthersKept t e rs
 words-keep t g nth e rs f i F l h w r p q d c z =
     let s = F.spot in
     let at = length (text_of s.above) in
-    let x : word_spans f s ≡ rs = subst (λ (o : Option Spot). where_found (word_spans f) o ≡ rs) F.found_is w in
+    let x : word_spans f s ≡ rs = subst (λ (o : Option StandingLine). where_found (word_spans f) o ≡ rs) F.found_is w in
     let y : replacements at (f F.header) ≡ rs = sym (word_spans-header f s F.header F.class_is) ∙ x in
     replaced-kept t e rs s i h p F.whole (replaced-same _ _ s.above s.below i i (ap (replaced 0 t) y) refl r)
     (subst (Rise at (at + length s.line.bytes)) x (spot-rises t s (header_spans f) F.whole (rise-header f l))) q d c z (unconditional-class s.line.class (Class.Header F.header) F.class_is refl)

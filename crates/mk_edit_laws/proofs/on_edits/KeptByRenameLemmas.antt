@@ -4,7 +4,7 @@ use Rattle.std.proofs.lemmas.Bool.{eq-eqb}
 use Rattle.std.specs.Prelude.{Ok, if◌then◌else◌}
 use Rattle.mk_lines.specs.LogicalLines.{logical_lines}
 use Rattle.mk_lines.specs.Cells.{Cell, raw_text}
-use Rattle.mk_lines.specs.Pieces.{Replacement, Piece, Keep, Replace, old_bytes, new_bytes, replacements, replaced}
+use Rattle.mk_lines.specs.Pieces.{Replacement, Piece, Keep, Replace, old_bytes, replacements, replaced}
 use Rattle.mk_class.specs.Lists.{any}
 use Rattle.mk_class.specs.Texts.{is_same_text}
 use Rattle.mk_class.specs.Classes.{Class, is_conditional}
@@ -23,16 +23,12 @@ use Rattle.mk_edit_laws.specs.Costs.{cost, is_renamed}
 use Rattle.mk_edit_laws.specs.Refusals.{spans, text_by, text_after}
 use Rattle.mk_edit_laws.proofs.on_edits.Accepted.{accepted, where_holds-none}
 use Rattle.mk_edit_laws.proofs.on_edits.RisingSpanLemmas.{Rise-until, Rise-pieces}
-use Rattle.mk_edit_laws.proofs.on_renames.RenamedTexts.{renamed_class, lines-renamed}
+use Rattle.mk_edit_laws.proofs.on_renames.RenamedTexts.{renamed_class, lines-renamed, line_pieces, line_class}
 use Rattle.mk_edit_laws.proofs.on_renames.RenameLemmas.{rename-words}
 use Rattle.mk_edit_laws.specs.RenamedLines.{renamed_bytes, differing, AreLinesRenamedInPlace, StandInLines, AreOthersKeptByRename}
+use Rattle.mk_edit_laws.proofs.on_renames.RenamedHeaders.{none-replaced}
 
 -- ---- pieces of which none is replaced
-
-pub unreplaced-bytes : (ps : List Piece) → any is_replaced ps ≡ false → new_bytes ps ≡ old_bytes ps
-unreplaced-bytes [] h = refl
-unreplaced-bytes (Keep cs ∷ ps) h = ap (λ z. raw_text cs ++ z) (unreplaced-bytes ps h)
-unreplaced-bytes (Replace cs v ∷ ps) h = cc
 
 unreplaced-spans : (at : ℕ) (ps : List Piece) → any is_replaced ps ≡ false → replacements at ps ≡ []
 unreplaced-spans at [] h = refl
@@ -69,7 +65,7 @@ renamed-plain o n Class.Rough e = (refl, refl)
 -- ---- contexts
 
 -- lines in the place of others, after each of which the context is the same, lead to the same contexts
-pub each-contexts : (c : Context) (old new below : List ClassedLine) → ReplaceEach c old new below → (number : ℕ) → context_after_lines c (take number new) ≡ context_after_lines c (take number old)
+each-contexts : (c : Context) (old new below : List ClassedLine) → ReplaceEach c old new below → (number : ℕ) → context_after_lines c (take number new) ≡ context_after_lines c (take number old)
 each-contexts c old new below h zero = refl
 each-contexts c [] [] below h (suc i) = refl
 each-contexts c [] (m ∷ ms) below h (suc i) = absurd h
@@ -80,29 +76,22 @@ each-contexts c (l ∷ ls) (m ∷ ms) below h (suc i) =
 -- ---- lines
 
 module _ (o n : List ℕ) where
-  -- the pieces of a line, and its class after the rename
-  abbrev line_pieces : ClassedLine → List Piece
-  line_pieces l = renamed_pieces o n l.class
-
-  abbrev line_class : ClassedLine → Class Cell
-  line_class l = renamed_class o n l.class
-
   -- the bytes of such lines
-  pub bytes_of-renamed : (ls : List ClassedLine) → bytes_of (map (with_pieces line_pieces line_class) ls) ≡ map (renamed_bytes o n) ls
+  bytes_of-renamed : (ls : List ClassedLine) → bytes_of (map (with_pieces (line_pieces o n) (line_class o n)) ls) ≡ map (renamed_bytes o n) ls
   bytes_of-renamed [] = refl
   bytes_of-renamed (l ∷ ls) = ap (λ z. renamed_bytes o n l ∷ z) (bytes_of-renamed ls)
 
   -- a line without word to rename keeps its bytes
-  pub renamed-same : (l : ClassedLine) → l.bytes ≡ old_bytes (line_pieces l) ++ after_pieces line_pieces l → any is_replaced (line_pieces l) ≡ false → renamed_bytes o n l ≡ l.bytes
-  renamed-same l b h = ap (λ x. x ++ after_pieces line_pieces l) (unreplaced-bytes (line_pieces l) h) ∙ sym b
+  renamed-same : (l : ClassedLine) → l.bytes ≡ old_bytes (line_pieces o n l) ++ after_pieces (line_pieces o n) l → any is_replaced (line_pieces o n l) ≡ false → renamed_bytes o n l ≡ l.bytes
+  renamed-same l b h = ap (λ x. x ++ after_pieces (line_pieces o n) l) (none-replaced (line_pieces o n l) h) ∙ sym b
 
   -- lines that can stand in the place of others do so
-  pub renamed-in_place : (c : Context) (ls : List ClassedLine) → BeginWithPieces line_pieces ls → ReplaceEach c ls (map (with_pieces line_pieces line_class) ls) [] → ReplaceEach c ls ls []
-      → AreLinesRenamedInPlace o n c ls (map (with_pieces line_pieces line_class) ls)
+  renamed-in_place : (c : Context) (ls : List ClassedLine) → BeginWithPieces (line_pieces o n) ls → ReplaceEach c ls (map (with_pieces (line_pieces o n) (line_class o n)) ls) [] → ReplaceEach c ls ls []
+      → AreLinesRenamedInPlace o n c ls (map (with_pieces (line_pieces o n) (line_class o n)) ls)
   renamed-in_place c [] b r s = tt
   renamed-in_place c (l ∷ ls) b r s = (
     record {
-      rest = after_pieces line_pieces l;
+      rest = after_pieces (line_pieces o n) l;
       old_line = b.0;
       new_line = refl;
       one_line = r.0.one;
@@ -110,7 +99,7 @@ module _ (o n : List ℕ) where
       context_stays = r.0.context;
       same = λ z.
           let e = renamed-same l b.0 z in
-          same-line l (renamed_bytes o n l) (line_class l) e (sym r.0.class ∙ (ap (class_of c) e ∙ s.0.class));
+          same-line l (renamed_bytes o n l) (line_class o n l) e (sym r.0.class ∙ (ap (class_of c) e ∙ s.0.class));
       plain = renamed-plain o n l.class;
     },
     renamed-in_place (context_after c l.class) ls b.1 r.1 s.1,

@@ -17,8 +17,8 @@ use Rattle.mk_tree.specs.NewLines.{above_ended, last_ended, lacks_line_end, with
 use Rattle.mk_tree.proofs.on_documents.LinePlaces.{located}
 use Rattle.mk_tree.proofs.on_changes.RunsReplaced.{text-run_replaced, run-removed}
 use Rattle.mk_tree.proofs.on_documents.ConditionalLemmas.{most_conditionals-run_replaced, most_conditionals-without}
+use Rattle.mk_tree.specs.LineTexts.{StandingLine}
 use Rattle.mk_edit_laws.specs.Edits.{Edit}
-use Rattle.mk_edit_laws.specs.Spots.{Spot}
 use Rattle.mk_edit_laws.specs.Stretches.{Stretch, this_line, insertion, touched_by, IsStretchOf}
 use Rattle.mk_edit_laws.specs.Spans.{removed_span}
 use Rattle.mk_edit_laws.specs.LineCauses.{removal_leans}
@@ -38,7 +38,7 @@ one-line : (c : Context) (m : ClassedLine) (b : List ℕ) → m.bytes ≡ b → 
 one-line c m b h k =
     ap (λ (q : Class Cell). record { bytes = m.bytes; class = q } ∷ []) (sym k) ∙ ap (λ z. record { bytes = z; class = class_of c z } ∷ []) h
 
-pub line-kept : (t : List ℕ) (e : Edit) (rs : List Replacement) (s : Spot) (m : ClassedLine) → spans t e ≡ Ok rs → touched_by (classed_lines t) e ≡ Some (this_line s) → IsSpotOf (classed_lines t) s
+line-kept : (t : List ℕ) (e : Edit) (rs : List Replacement) (s : StandingLine) (m : ClassedLine) → spans t e ≡ Ok rs → touched_by (classed_lines t) e ≡ Some (this_line s) → IsSpotOf (classed_lines t) s
     → classed_lines (replaced 0 t rs) ≡ s.above ++ m ∷ s.below
     → Rise (length (text_of s.above)) (length (text_of s.above) + length s.line.bytes) rs
     → insertion (classed_lines t) e ≡ None → edited_bytes t e (this_line s) rs ≡ respanned_bytes (this_line s) rs ∷ []
@@ -70,7 +70,7 @@ line-kept t e rs s m h p w k r i d c z u v =
     }
 
 -- so it is of a text with one line replaced
-pub replaced-kept : (t : List ℕ) (e : Edit) (rs : List Replacement) (s : Spot) (i : Item) → spans t e ≡ Ok rs → touched_by (classed_lines t) e ≡ Some (this_line s) → IsSpotOf (classed_lines t) s → IsLineReplaced (replaced 0 t rs) s.above s.below i
+pub replaced-kept : (t : List ℕ) (e : Edit) (rs : List Replacement) (s : StandingLine) (i : Item) → spans t e ≡ Ok rs → touched_by (classed_lines t) e ≡ Some (this_line s) → IsSpotOf (classed_lines t) s → IsLineReplaced (replaced 0 t rs) s.above s.below i
     → Rise (length (text_of s.above)) (length (text_of s.above) + length s.line.bytes) rs
     → insertion (classed_lines t) e ≡ None → edited_bytes t e (this_line s) rs ≡ respanned_bytes (this_line s) rs ∷ []
     → 1 ≤ cost t e → 1 ≤ size t e → not (is_conditional s.line.class) ≡ true → AreOthersKept t e rs

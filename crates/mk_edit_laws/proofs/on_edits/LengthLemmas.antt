@@ -4,11 +4,9 @@ use Rattle.std.proofs.lemmas.List.{length-take-le, length-drop}
 use Rattle.std.proofs.lemmas.Bool.{ltb-false}
 use Rattle.std.specs.Prelude.{Ok}
 use Rattle.mk_lines.specs.Pieces.{Replacement, replaced}
-use Rattle.mk_class.specs.ClassedLines.{classed_lines}
 use Rattle.mk_tree.specs.PlacedLines.{size_of}
 use Rattle.mk_tree.specs.Documents.{document_lines}
-use Rattle.mk_tree.proofs.on_documents.LinePlaces.{text_of-classed_lines}
-use Rattle.mk_tree.proofs.on_changes.Sizes.{size_of-placed}
+use Rattle.mk_tree.proofs.Reading.{size_of-document}
 use Rattle.mk_edit_laws.specs.Edits.{Edit}
 use Rattle.mk_edit_laws.specs.LineCauses.{greatest_length, too_long}
 use Rattle.mk_edit_laws.proofs.on_edits.Accepted.{accepted, where_holds-none}
@@ -42,15 +40,7 @@ length-after t e rs h =
 
 -- ---- documents
 
--- the document of a text has its bytes
-pub size_of-document : (t : List ℕ) → size_of (document_lines t) ≡ length t
-size_of-document t = size_of-placed (classed_lines t) ∙ ap length (text_of-classed_lines t)
-
--- so its size after an accepted edit is such a sum
-pub size-after : (t : List ℕ) (e : Edit) (rs : List Replacement) → spans t e ≡ Ok rs → size_of (document_lines (text_after t e)) + bytes_taken rs ≡ size_of (document_lines t) + bytes_put rs
-size-after t e rs h = omega (arith, length-after t e rs h, size_of-document t, size_of-document (text_after t e))
-
--- and within the limit
+-- the size of a document after an accepted edit is within the limit
 pub size-fits : (t : List ℕ) (e : Edit) (rs : List Replacement) → spans t e ≡ Ok rs → size_of (document_lines (text_after t e)) ≤ 2 ^ 24
 size-fits t e rs h =
     let A = accepted t e rs h in

@@ -8,9 +8,9 @@ use Rattle.mk_lines.specs.PhysicalLines.{line_end, line_end_bytes, without_line_
 use Rattle.mk_lines.proofs.on_lines.LineEndLemmas.{without_line_end-line_end}
 use Rattle.mk_lines.proofs.on_lists.ListLemmas.{concat-append, trim_end-trailing}
 use Rattle.mk_lines.specs.Cells.{Cell, joined_byte, raw_text}
-use Rattle.mk_lines.specs.Words.{Token, Gap, Word, tokens, is_gap}
-use Rattle.mk_lines.proofs.on_units.TokenLemmas.{token_text, token_text-tokens}
-use Rattle.mk_lines.specs.Pieces.{Replacement, Piece, Keep, Replace, old_cells, old_bytes, replacements}
+use Rattle.mk_lines.specs.Words.{tokens, is_gap}
+use Rattle.mk_lines.proofs.on_units.TokenLemmas.{token_text-tokens}
+use Rattle.mk_lines.specs.Pieces.{Replacement, Piece, old_cells, old_bytes, replacements}
 use Rattle.mk_lines.proofs.on_lists.PieceLemmas.{raw_text-old_cells, old_bytes-append}
 use Rattle.mk_class.specs.Lists.{is_empty}
 use Rattle.mk_class.specs.Assignments.{Assignment, before_value}
@@ -25,15 +25,17 @@ use Rattle.mk_lines.specs.declared.ends.End.TheVariants as ends
 use Rattle.mk_class.specs.Classes.Class.{Endef, Body, Recipe, Opaque, Blank, Comment, Assign, DefineHead, If, Else, Endif, Directive, TargetAssign, Rough, Header}
 use Rattle.mk_class.specs.Contexts.{Context, start, context_after}
 use Rattle.mk_class.specs.ClassedLines.{ClassedLine, classed_lines}
+use Rattle.mk_class.specs.PartPlaces.{raw_width}
 use Rattle.mk_tree.specs.Documents.{text_of, context_of}
-use Rattle.mk_tree.proofs.on_documents.LinePlaces.{located, located-run, text_of-classed_lines, AreClassed, AreClassed-class, AreClassed-tail, AreClassed-lines}
+use Rattle.mk_tree.proofs.on_documents.LinePlaces.{located, located-run, AreClassed, AreClassed-class, AreClassed-tail, AreClassed-lines}
+use Rattle.mk_tree.proofs.on_documents.DocumentLemmas.{text_of-classed_lines}
+use Rattle.mk_tree.specs.LineTexts.{StandingLine}
 use Rattle.mk_edit_laws.specs.Edits.{Edit, SetValue, AppendValue, AddAssign, RemoveAssign, AddRule, RemoveRule, AddPrereq, RemovePrereq, AddRecipe, SetRecipe, RemoveRecipe, RenameTarget}
-use Rattle.mk_edit_laws.specs.Spots.{Spot}
 use Rattle.mk_edit_laws.specs.Addresses.{Variable, Rule, found}
 use Rattle.mk_edit_laws.specs.Stretches.{Stretch, insertion, removal, recipe_found, IsStretchOf}
 use Rattle.mk_edit_laws.specs.NewLines.{new_line_span}
-use Rattle.mk_edit_laws.specs.ValueSpans.{raw_length, value_span, set_value_span, append_value_span, assignment_span}
-use Rattle.mk_edit_laws.specs.WordPieces.{add_pieces, remove_pieces, rename_pieces, renamed_pieces, header_pieces, kept, put_last, prerequisite_text, removed_words, renamed_words, renamed_tokens, is_word_of}
+use Rattle.mk_edit_laws.specs.ValueSpans.{value_span, set_value_span, append_value_span, assignment_span}
+use Rattle.mk_edit_laws.specs.WordPieces.{add_pieces, remove_pieces, rename_pieces, renamed_pieces, header_pieces, kept, put_last, prerequisite_text, removed_words, renamed_words}
 use Rattle.mk_edit_laws.proofs.on_prerequisites.WordsRemoved.{removed-old_cells}
 use Rattle.mk_edit_laws.specs.Spans.{removed_span, header_spans, word_spans, renamed_spans, recipe_span, where_found, spans_of}
 use Rattle.mk_edit_laws.specs.Refusals.{spans, text_by, text_after}
@@ -43,7 +45,8 @@ use Rattle.mk_edit_laws.proofs.on_edits.RisingSpanLemmas.{Rise-until, Rise-since
 use Rattle.mk_edit_laws.proofs.on_recipes.RecipeClassLemmas.{recipe-stands}
 use Rattle.mk_edit_laws.proofs.on_lines.PrefixLemmas.{CanBegin, context-can_begin}
 use Rattle.mk_edit_laws.proofs.on_edits.EditPlaces.{IsSpotOf, found-spot, recipe_found-spot, recipe_found-recipe, insertion-stretch, removal-stretch}
-use Rattle.mk_edit_laws.proofs.on_lines.ClassParts.{part_units, parts-within, raw_length-append}
+use Rattle.mk_edit_laws.proofs.on_lines.ClassParts.{part_units, parts-within, raw_width-append}
+use Rattle.mk_edit_laws.proofs.on_renames.WordsRenamed.{renamed-old_cells}
 
 -- spans that rise within a text
 abbrev RiseIn : List ℕ → List Replacement → Type 0
@@ -69,7 +72,7 @@ rise-inserted t e s h =
 -- ---- inside a line
 
 -- what a line and the lines above it have together is within the text
-line-within : (t : List ℕ) (s : Spot) → IsSpotOf (classed_lines t) s → length (text_of s.above) + length s.line.bytes ≤ length t
+line-within : (t : List ℕ) (s : StandingLine) → IsSpotOf (classed_lines t) s → length (text_of s.above) + length s.line.bytes ≤ length t
 line-within t s h =
     let P = located t s.above s.line s.below h in
     let e : length t ≡ length (text_of s.above) + (length s.line.bytes + length (text_of s.below)) =
@@ -77,28 +80,28 @@ line-within t s h =
     omega (arith, e)
 
 -- and so are its parts
-spot-parts : (t : List ℕ) (s : Spot) → IsSpotOf (classed_lines t) s → raw_length (part_units s.line.class) ≤ length s.line.bytes
+spot-parts : (t : List ℕ) (s : StandingLine) → IsSpotOf (classed_lines t) s → raw_width (part_units s.line.class) ≤ length s.line.bytes
 spot-parts t s h =
     let P = located t s.above s.line s.below h in
-    subst (λ (z : Class Cell). raw_length (part_units z) ≤ length s.line.bytes) P.class (parts-within (context_of s.above) s.line.bytes)
+    subst (λ (z : Class Cell). raw_width (part_units z) ≤ length s.line.bytes) P.class (parts-within (context_of s.above) s.line.bytes)
 
 -- ---- values
 
-assignment-length : (a : Assignment Cell) → raw_length (assignment_units a) ≡ raw_length (before_value a) + (raw_length a.value + raw_length a.after)
+assignment-length : (a : Assignment Cell) → raw_width (assignment_units a) ≡ raw_width (before_value a) + (raw_width a.value + raw_width a.after)
 assignment-length a =
     let s : assignment_units a ≡ before_value a ++ (a.value ++ a.after) = simp append_assoc in
-    ap raw_length s ∙ (raw_length-append (before_value a) (a.value ++ a.after) ∙ ap (λ z. raw_length (before_value a) + z) (raw_length-append a.value a.after))
+    ap raw_width s ∙ (raw_width-append (before_value a) (a.value ++ a.after) ∙ ap (λ z. raw_width (before_value a) + z) (raw_width-append a.value a.after))
 
 -- spans that rise within each line which has an assignment
 abbrev pub RisesInAssignment : (ℕ → Assignment Cell → Replacement) → Type 0
-RisesInAssignment f = (at : ℕ) (a : Assignment Cell) (n : ℕ) → raw_length (assignment_units a) ≤ n → Rise at (at + n) (f at a ∷ [])
+RisesInAssignment f = (at : ℕ) (a : Assignment Cell) (n : ℕ) → raw_width (assignment_units a) ≤ n → Rise at (at + n) (f at a ∷ [])
 
 -- the value that is set
 pub set-rises : (v : List ℕ) → RisesInAssignment (set_value_span v)
 set-rises v at a n h = go (is_empty v) (assignment-length a)
   where
-    go : (b : Bool) → raw_length (assignment_units a) ≡ raw_length (before_value a) + (raw_length a.value + raw_length a.after)
-        → Rise at (at + n) (record { start = at + raw_length (before_value a); end = cond b (at + raw_length (before_value a) + raw_length a.value + raw_length a.after) (at + raw_length (before_value a) + raw_length a.value); new = v } ∷ [])
+    go : (b : Bool) → raw_width (assignment_units a) ≡ raw_width (before_value a) + (raw_width a.value + raw_width a.after)
+        → Rise at (at + n) (record { start = at + raw_width (before_value a); end = cond b (at + raw_width (before_value a) + raw_width a.value + raw_width a.after) (at + raw_width (before_value a) + raw_width a.value); new = v } ∷ [])
     go true e = (omega arith, omega arith, omega (arith, e, h))
     go false e = (omega arith, omega arith, omega (arith, e, h))
 
@@ -107,8 +110,8 @@ pub append-rises : (v : List ℕ) → RisesInAssignment (append_value_span v)
 append-rises v at a n h = let e = assignment-length a in (omega arith, omega arith, omega (arith, e, h))
 
 -- spans that rise within a line, which begins at a place and has n bytes, whatever its class
-abbrev pub RisesInLine : (ℕ → Class Cell → List Replacement) → Type 0
-RisesInLine f = (at n : ℕ) (k : Class Cell) → raw_length (part_units k) ≤ n → Rise at (at + n) (f at k)
+abbrev RisesInLine : (ℕ → Class Cell → List Replacement) → Type 0
+RisesInLine f = (at n : ℕ) (k : Class Cell) → raw_width (part_units k) ≤ n → Rise at (at + n) (f at k)
 
 rise-value : (f : ℕ → Assignment Cell → Replacement) → RisesInAssignment f → RisesInLine (assignment_span f)
 rise-value f g at n (Assign a p) h = g at a n h
@@ -128,18 +131,18 @@ rise-value f g at n Rough h = omega arith
 rise-value f g at n (Header x) h = omega arith
 
 -- spans in the line of a spot
-pub spot-rises : (t : List ℕ) (s : Spot) (f : ℕ → Class Cell → List Replacement) → IsSpotOf (classed_lines t) s → RisesInLine f
+pub spot-rises : (t : List ℕ) (s : StandingLine) (f : ℕ → Class Cell → List Replacement) → IsSpotOf (classed_lines t) s → RisesInLine f
     → Rise (length (text_of s.above)) (length (text_of s.above) + length s.line.bytes) (f (length (text_of s.above)) s.line.class)
 spot-rises t s f h g = g (length (text_of s.above)) (length s.line.bytes) s.line.class (spot-parts t s h)
 
-rise-spot : (t : List ℕ) (s : Spot) (f : ℕ → Class Cell → List Replacement) → IsSpotOf (classed_lines t) s → RisesInLine f → RiseIn t (f (length (text_of s.above)) s.line.class)
+rise-spot : (t : List ℕ) (s : StandingLine) (f : ℕ → Class Cell → List Replacement) → IsSpotOf (classed_lines t) s → RisesInLine f → RiseIn t (f (length (text_of s.above)) s.line.class)
 rise-spot t s f h g =
     let at = length (text_of s.above) in
     let rs = f at s.line.class in
     Rise-since 0 at (length t) rs (Rise-until at (at + length s.line.bytes) (length t) rs (spot-rises t s f h g) (line-within t s h)) (omega arith)
 
 -- the spans of a value in the line of a spot
-pub value-rises : (t : List ℕ) (s : Spot) (f : ℕ → Assignment Cell → Replacement) → IsSpotOf (classed_lines t) s → RisesInAssignment f
+pub value-rises : (t : List ℕ) (s : StandingLine) (f : ℕ → Assignment Cell → Replacement) → IsSpotOf (classed_lines t) s → RisesInAssignment f
     → Rise (length (text_of s.above)) (length (text_of s.above) + length s.line.bytes) (value_span f s)
 value-rises t s f h g = spot-rises t s (assignment_span f) h (rise-value f g)
 
@@ -152,36 +155,27 @@ old_length ps = length (old_bytes ps)
 old_length-append : (ps qs : List Piece) → old_length (ps ++ qs) ≡ old_length ps + old_length qs
 old_length-append ps qs = ap length (old_bytes-append ps qs) ∙ length-append (old_bytes ps) (old_bytes qs)
 
-old_length-cells : (ps : List Piece) (us : List (List Cell)) → old_cells ps ≡ concat us → old_length ps ≡ raw_length us
+old_length-cells : (ps : List Piece) (us : List (List Cell)) → old_cells ps ≡ concat us → old_length ps ≡ raw_width us
 old_length-cells ps us h = ap length (sym (raw_text-old_cells ps)) ∙ ap (λ z. length (raw_text z)) h
 
-kept-length : (us : List (List Cell)) → old_length (kept us) ≡ raw_length us
+kept-length : (us : List (List Cell)) → old_length (kept us) ≡ raw_width us
 kept-length us = old_length-cells (kept us) us (append-nil (concat us))
 
-removed-length : (w : List ℕ) (us : List (List Cell)) → old_length (removed_words w us) ≡ raw_length us
+removed-length : (w : List ℕ) (us : List (List Cell)) → old_length (removed_words w us) ≡ raw_width us
 removed-length w us = old_length-cells (removed_words w us) us (removed-old_cells w [] (tokens joined_byte us) ∙ token_text-tokens joined_byte us)
 
-put_last-length : (v : List ℕ) (us : List (List Cell)) → old_length (put_last v us) ≡ raw_length us
+put_last-length : (v : List ℕ) (us : List (List Cell)) → old_length (put_last v us) ≡ raw_width us
 put_last-length v us =
     let A = trim_end (is_gap joined_byte) us in
     let B = trailing (is_gap joined_byte) us in
     old_length-cells (put_last v us) us (ap (λ z. concat A ++ z) (append-nil (concat B)) ∙ (sym (concat-append A B) ∙ ap concat (trim_end-trailing (is_gap joined_byte) us)))
 
-renamed_tokens-old : (o n : List ℕ) (ts : List (Token Cell)) → old_cells (renamed_tokens o n ts) ≡ token_text ts
-renamed_tokens-old o n [] = refl
-renamed_tokens-old o n (Gap u ∷ ts) = ap (λ z. u ++ z) (renamed_tokens-old o n ts)
-renamed_tokens-old o n (Word w ∷ ts) = go (is_word_of o w) (renamed_tokens-old o n ts)
-  where
-    go : (b : Bool) → old_cells (renamed_tokens o n ts) ≡ token_text ts → old_cells (cond b (Replace (concat w) n) (Keep (concat w)) ∷ renamed_tokens o n ts) ≡ concat w ++ token_text ts
-    go true h = ap (λ z. concat w ++ z) h
-    go false h = ap (λ z. concat w ++ z) h
-
-renamed-length : (o n : List ℕ) (us : List (List Cell)) → old_length (renamed_words o n us) ≡ raw_length us
-renamed-length o n us = old_length-cells (renamed_words o n us) us (renamed_tokens-old o n (tokens joined_byte us) ∙ token_text-tokens joined_byte us)
+renamed-length : (o n : List ℕ) (us : List (List Cell)) → old_length (renamed_words o n us) ≡ raw_width us
+renamed-length o n us = old_length-cells (renamed_words o n us) us (renamed-old_cells o n (tokens joined_byte us) ∙ token_text-tokens joined_byte us)
 
 -- the pieces of a header's line are of all its parts
-header-length : (h : Headers.Header Cell) (t n o : List Piece) → old_length t ≡ raw_length h.targets → old_length n ≡ raw_length h.normal → old_length o ≡ raw_length h.order_only
-    → old_length (header_pieces h t n o) ≡ raw_length (header_units h)
+header-length : (h : Headers.Header Cell) (t n o : List Piece) → old_length t ≡ raw_width h.targets → old_length n ≡ raw_width h.normal → old_length o ≡ raw_width h.order_only
+    → old_length (header_pieces h t n o) ≡ raw_width (header_units h)
 header-length h t n o i j k =
     let C = h.colons ++ (h.pattern ++ h.second_colon) in
     let p5 = old_length-append o (kept h.tail) in
@@ -192,38 +186,38 @@ header-length h t n o i j k =
     let c = kept-length C in
     let b = kept-length h.bar in
     let e = kept-length h.tail in
-    let q7 = raw_length-append h.order_only h.tail in
-    let q6 = raw_length-append h.bar (h.order_only ++ h.tail) in
-    let q5 = raw_length-append h.normal (h.bar ++ (h.order_only ++ h.tail)) in
-    let q4 = raw_length-append h.second_colon (h.normal ++ (h.bar ++ (h.order_only ++ h.tail))) in
-    let q3 = raw_length-append h.pattern (h.second_colon ++ (h.normal ++ (h.bar ++ (h.order_only ++ h.tail)))) in
-    let q2 = raw_length-append h.colons (h.pattern ++ (h.second_colon ++ (h.normal ++ (h.bar ++ (h.order_only ++ h.tail))))) in
-    let q1 = raw_length-append h.targets (h.colons ++ (h.pattern ++ (h.second_colon ++ (h.normal ++ (h.bar ++ (h.order_only ++ h.tail)))))) in
-    let c1 = raw_length-append h.colons (h.pattern ++ h.second_colon) in
-    let c2 = raw_length-append h.pattern h.second_colon in
+    let q7 = raw_width-append h.order_only h.tail in
+    let q6 = raw_width-append h.bar (h.order_only ++ h.tail) in
+    let q5 = raw_width-append h.normal (h.bar ++ (h.order_only ++ h.tail)) in
+    let q4 = raw_width-append h.second_colon (h.normal ++ (h.bar ++ (h.order_only ++ h.tail))) in
+    let q3 = raw_width-append h.pattern (h.second_colon ++ (h.normal ++ (h.bar ++ (h.order_only ++ h.tail)))) in
+    let q2 = raw_width-append h.colons (h.pattern ++ (h.second_colon ++ (h.normal ++ (h.bar ++ (h.order_only ++ h.tail))))) in
+    let q1 = raw_width-append h.targets (h.colons ++ (h.pattern ++ (h.second_colon ++ (h.normal ++ (h.bar ++ (h.order_only ++ h.tail)))))) in
+    let c1 = raw_width-append h.colons (h.pattern ++ h.second_colon) in
+    let c2 = raw_width-append h.pattern h.second_colon in
     p1 ∙ (ap (λ z. old_length t + z) (p2 ∙ ap (λ z. old_length (kept C) + z) (p3 ∙ ap (λ z. old_length n + z) (p4 ∙ ap (λ z. old_length (kept h.bar) + z) p5)))
-    ∙ (sums (old_length t) (old_length (kept C)) (old_length n) (old_length (kept h.bar)) (old_length o) (old_length (kept h.tail)) (raw_length h.targets) (raw_length h.colons) (raw_length h.pattern) (raw_length h.second_colon) (raw_length h.normal) (raw_length h.bar) (raw_length h.order_only) (raw_length h.tail)
-    i (c ∙ (c1 ∙ ap (λ z. raw_length h.colons + z) c2)) j b k e
-    ∙ sym (q1 ∙ ap (λ z. raw_length h.targets + z) (q2 ∙ ap (λ z. raw_length h.colons + z) (q3 ∙ ap (λ z. raw_length h.pattern + z) (q4 ∙ ap (λ z. raw_length h.second_colon + z) (q5 ∙ ap (λ z. raw_length h.normal + z) (q6 ∙ ap (λ z. raw_length h.bar + z) q7))))))))
+    ∙ (sums (old_length t) (old_length (kept C)) (old_length n) (old_length (kept h.bar)) (old_length o) (old_length (kept h.tail)) (raw_width h.targets) (raw_width h.colons) (raw_width h.pattern) (raw_width h.second_colon) (raw_width h.normal) (raw_width h.bar) (raw_width h.order_only) (raw_width h.tail)
+    i (c ∙ (c1 ∙ ap (λ z. raw_width h.colons + z) c2)) j b k e
+    ∙ sym (q1 ∙ ap (λ z. raw_width h.targets + z) (q2 ∙ ap (λ z. raw_width h.colons + z) (q3 ∙ ap (λ z. raw_width h.pattern + z) (q4 ∙ ap (λ z. raw_width h.second_colon + z) (q5 ∙ ap (λ z. raw_width h.normal + z) (q6 ∙ ap (λ z. raw_width h.bar + z) q7))))))))
   where
     sums : (a b c d e f ta co pa se nl ba oo tl : ℕ) → a ≡ ta → b ≡ co + (pa + se) → c ≡ nl → d ≡ ba → e ≡ oo → f ≡ tl → a + (b + (c + (d + (e + f)))) ≡ ta + (co + (pa + (se + (nl + (ba + (oo + tl))))))
     sums a b c d e f ta co pa se nl ba oo tl h1 h2 h3 h4 h5 h6 = omega (arith, h1, h2, h3, h4, h5, h6)
 
-rename-length : (o n : List ℕ) (h : Headers.Header Cell) → old_length (rename_pieces o n h) ≡ raw_length (header_units h)
+rename-length : (o n : List ℕ) (h : Headers.Header Cell) → old_length (rename_pieces o n h) ≡ raw_width (header_units h)
 rename-length o n h = header-length h (renamed_words o n h.targets) (renamed_words o n h.normal) (renamed_words o n h.order_only) (renamed-length o n h.targets) (renamed-length o n h.normal) (renamed-length o n h.order_only)
 
-pub remove-length : (w : List ℕ) (h : Headers.Header Cell) → old_length (remove_pieces w h) ≡ raw_length (header_units h)
+pub remove-length : (w : List ℕ) (h : Headers.Header Cell) → old_length (remove_pieces w h) ≡ raw_width (header_units h)
 remove-length w h = header-length h (kept h.targets) (removed_words w h.normal) (removed_words w h.order_only) (kept-length h.targets) (removed-length w h.normal) (removed-length w h.order_only)
 
-pub add-length : (order : Bool) (w : List ℕ) (h : Headers.Header Cell) → old_length (add_pieces order w h) ≡ raw_length (header_units h)
+pub add-length : (order : Bool) (w : List ℕ) (h : Headers.Header Cell) → old_length (add_pieces order w h) ≡ raw_width (header_units h)
 add-length false w h = header-length h (kept h.targets) (put_last (prerequisite_text w h) h.normal) (kept h.order_only) (kept-length h.targets) (put_last-length (prerequisite_text w h) h.normal) (kept-length h.order_only)
 add-length true w h = go (is_empty h.bar)
   where
-    go : (b : Bool) → old_length (cond b (header_pieces h (kept h.targets) (put_last (codes " | " ++ w) h.normal) (kept h.order_only)) (header_pieces h (kept h.targets) (kept h.normal) (put_last (32 ∷ w) h.order_only))) ≡ raw_length (header_units h)
+    go : (b : Bool) → old_length (cond b (header_pieces h (kept h.targets) (put_last (codes " | " ++ w) h.normal) (kept h.order_only)) (header_pieces h (kept h.targets) (kept h.normal) (put_last (32 ∷ w) h.order_only))) ≡ raw_width (header_units h)
     go true = header-length h (kept h.targets) (put_last (codes " | " ++ w) h.normal) (kept h.order_only) (kept-length h.targets) (put_last-length (codes " | " ++ w) h.normal) (kept-length h.order_only)
     go false = header-length h (kept h.targets) (kept h.normal) (put_last (32 ∷ w) h.order_only) (kept-length h.targets) (kept-length h.normal) (put_last-length (32 ∷ w) h.order_only)
 
-pub rise-header : (f : Headers.Header Cell → List Piece) → ((h : Headers.Header Cell) → old_length (f h) ≡ raw_length (header_units h)) → RisesInLine (header_spans f)
+pub rise-header : (f : Headers.Header Cell → List Piece) → ((h : Headers.Header Cell) → old_length (f h) ≡ raw_width (header_units h)) → RisesInLine (header_spans f)
 rise-header f g at n (Header x) h = Rise-until at (at + old_length (f x)) (at + n) (replacements at (f x)) (Rise-pieces at (f x)) (omega (arith, g x, h))
 rise-header f g at n Endef h = omega arith
 rise-header f g at n (Body d) h = omega arith
@@ -242,7 +236,7 @@ rise-header f g at n Rough h = omega arith
 
 -- ---- renames
 
-renamed-within : (o n : List ℕ) (k : Class Cell) → old_length (renamed_pieces o n k) ≤ raw_length (part_units k)
+renamed-within : (o n : List ℕ) (k : Class Cell) → old_length (renamed_pieces o n k) ≤ raw_width (part_units k)
 renamed-within o n (Header x) = let e = rename-length o n x in omega (arith, e)
 renamed-within o n (TargetAssign x) = let e = renamed-length o n x.targets in omega (arith, e)
 renamed-within o n Endef = omega arith
@@ -264,7 +258,7 @@ rise-renamed o n c [] at h = omega arith
 rise-renamed o n c (l ∷ ls) at h =
     let ps = renamed_pieces o n l.class in
     let m = at + length l.bytes in
-    let short : raw_length (part_units l.class) ≤ length l.bytes = subst (λ (z : Class Cell). raw_length (part_units z) ≤ length l.bytes) (AreClassed-class c l ls h) (parts-within c l.bytes) in
+    let short : raw_width (part_units l.class) ≤ length l.bytes = subst (λ (z : Class Cell). raw_width (part_units z) ≤ length l.bytes) (AreClassed-class c l ls h) (parts-within c l.bytes) in
     let w = renamed-within o n l.class in
     let e : m + length (text_of ls) ≡ at + length (l.bytes ++ text_of ls) = omega (arith, length-append l.bytes (text_of ls)) in
     Rise-append at m (at + length (l.bytes ++ text_of ls)) (replacements at ps) (renamed_spans o n m ls)
@@ -285,7 +279,7 @@ some-text p (b ∷ r) h k = go (without_line_end (b ∷ r)) (line_end (b ∷ r))
     go [] ends.CrLf i n = absurd (let z : 13 ≡ b = cc in let w : is_barred_byte 13 ≡ false = subst (λ q. is_barred_byte q ≡ false) (sym z) n in cc)
 
 -- the text of a recipe line
-pub recipe-rises : (t c : List ℕ) (s : Spot) → IsSpotOf (classed_lines t) s → is_recipe s.line.class ≡ true
+pub recipe-rises : (t c : List ℕ) (s : StandingLine) → IsSpotOf (classed_lines t) s → is_recipe s.line.class ≡ true
     → Rise (length (text_of s.above)) (length (text_of s.above) + length s.line.bytes) (recipe_span c s)
 recipe-rises t c s h r =
     let P = located t s.above s.line s.below h in
@@ -296,7 +290,7 @@ recipe-rises t c s h r =
     ap length (sym (without_line_end-line_end s.line.bytes)) ∙ length-append (without_line_end s.line.bytes) (line_end_bytes (line_end s.line.bytes)) in
     (omega arith, omega (arith, text), omega (arith, whole))
 
-rise-recipe : (t c : List ℕ) (s : Spot) → IsSpotOf (classed_lines t) s → is_recipe s.line.class ≡ true → RiseIn t (recipe_span c s)
+rise-recipe : (t c : List ℕ) (s : StandingLine) → IsSpotOf (classed_lines t) s → is_recipe s.line.class ≡ true → RiseIn t (recipe_span c s)
 rise-recipe t c s h r =
     let at = length (text_of s.above) in
     Rise-since 0 at (length t) (recipe_span c s) (Rise-until at (at + length s.line.bytes) (length t) (recipe_span c s) (recipe-rises t c s h r) (line-within t s h)) (omega arith)

@@ -5,8 +5,8 @@ use Rattle.std.specs.Prelude.{Ok}
 use Rattle.mk_lines.specs.Pieces.{Replacement}
 use Rattle.mk_class.specs.ClassedLines.{classed_lines}
 use Rattle.mk_tree.specs.Documents.{text_of}
+use Rattle.mk_tree.specs.LineTexts.{StandingLine}
 use Rattle.mk_edit_laws.specs.Edits.{Edit, SetValue, AppendValue, AddAssign, RemoveAssign, AddRule, RemoveRule, AddPrereq, RemovePrereq, AddRecipe, SetRecipe, RemoveRecipe, RenameTarget}
-use Rattle.mk_edit_laws.specs.Spots.{Spot}
 use Rattle.mk_edit_laws.specs.Addresses.{Variable, Rule, found}
 use Rattle.mk_edit_laws.specs.Stretches.{Stretch, this_line, bottom, insertion, removal, recipe_found, IsStretchOf}
 use Rattle.mk_edit_laws.specs.NewLines.{new_line_span}
@@ -26,7 +26,7 @@ few-found t e f None h = record { touched = bottom (classed_lines t); stretch = 
 few-found t e f (Some x) h = h x refl
 
 -- in one line
-few-spot : (t : List ℕ) (e : Edit) (rs : List Replacement) (s : Spot) → IsSpotOf (classed_lines t) s → Rise (length (text_of s.above)) (length (text_of s.above) + length s.line.bytes) rs
+few-spot : (t : List ℕ) (e : Edit) (rs : List Replacement) (s : StandingLine) → IsSpotOf (classed_lines t) s → Rise (length (text_of s.above)) (length (text_of s.above) + length s.line.bytes) rs
     → 1 ≤ size t e → TouchFew t e rs
 few-spot t e rs s w r z = record {
   touched = this_line s;
@@ -48,7 +48,7 @@ few-inserted t e s w = record {
 few-removed : (t : List ℕ) (e : Edit) (s : Stretch) → IsStretchOf (classed_lines t) s → length s.lines ≤ size t e → TouchFew t e (removed_span s)
 few-removed t e s w z = record { touched = s; stretch = w; within = (omega arith, omega arith, omega arith); few = z }
 
-one-gone : (o : Option Spot) (s : Stretch) → option_map this_line o ≡ Some s → length s.lines ≤ 1
+one-gone : (o : Option StandingLine) (s : Stretch) → option_map this_line o ≡ Some s → length s.lines ≤ 1
 one-gone None s i = absurd (cc)
 one-gone (Some x) s i = let k : this_line x ≡ s = cc in subst (λ (z : Stretch). length z.lines ≤ 1) k (omega arith)
 

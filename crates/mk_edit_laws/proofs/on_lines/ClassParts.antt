@@ -26,7 +26,7 @@ use Rattle.mk_class.specs.Contexts.{Context}
 use Rattle.mk_class.specs.ClassTable.{class_of, class_at, define_class, header_class, target_class, rule_class, assign_class, or_class, is_all_blanks, is_unreadable, plain_class, directive}
 use Rattle.mk_class.specs.declared.context.Flag.{Flag}
 use Rattle.mk_class.specs.declared.context.Flag.TheVariants.{Off, Rule, Unknown}
-use Rattle.mk_edit_laws.specs.ValueSpans.{raw_length}
+use Rattle.mk_class.specs.PartPlaces.{raw_width}
 
 -- the units of the parts that a class tells of
 abbrev pub part_units : Class Cell → List (List Cell)
@@ -37,16 +37,16 @@ part_units k = []
 
 -- these have no more raw bytes than a line's units
 abbrev AreWithin : List (List Cell) → Class Cell → Type 0
-AreWithin us k = raw_length (part_units k) ≤ raw_length us
+AreWithin us k = raw_width (part_units k) ≤ raw_width us
 
 -- the raw bytes of two runs of units
-pub raw_length-append : (a b : List (List Cell)) → raw_length (a ++ b) ≡ raw_length a + raw_length b
-raw_length-append a b = ap (λ z. length (raw_text z)) (concat-append a b) ∙ (ap length (raw_text-append (concat a) (concat b)) ∙ length-append (raw_text (concat a)) (raw_text (concat b)))
+pub raw_width-append : (a b : List (List Cell)) → raw_width (a ++ b) ≡ raw_width a + raw_width b
+raw_width-append a b = ap (λ z. length (raw_text z)) (concat-append a b) ∙ (ap length (raw_text-append (concat a) (concat b)) ∙ length-append (raw_text (concat a)) (raw_text (concat b)))
 
-within-cut : (us : List (List Cell)) → raw_length (cut_text joined_byte us) ≤ raw_length us
+within-cut : (us : List (List Cell)) → raw_width (cut_text joined_byte us) ≤ raw_width us
 within-cut us =
-    let e : raw_length us ≡ raw_length (cut_text joined_byte us) + raw_length (comment joined_byte us) =
-    ap raw_length (sym (leading-after_leading (is_no_hash joined_byte) us)) ∙ raw_length-append (cut_text joined_byte us) (comment joined_byte us) in
+    let e : raw_width us ≡ raw_width (cut_text joined_byte us) + raw_width (comment joined_byte us) =
+    ap raw_width (sym (leading-after_leading (is_no_hash joined_byte) us)) ∙ raw_width-append (cut_text joined_byte us) (comment joined_byte us) in
     omega (arith, e)
 
 short-cond : (us : List (List Cell)) (b : Bool) (x y : Class Cell) → AreWithin us x → AreWithin us y → AreWithin us (cond b x y)
@@ -56,25 +56,25 @@ short-cond us false x y h k = k
 short-assign : (us : List (List Cell)) (c : Bool) (o : Option (Assignment Cell)) (x : Class Cell) → assignment joined_byte (cut_text joined_byte us) ≡ o → AreWithin us x → AreWithin us (assign_class joined_byte c o x)
 short-assign us c None x e h = h
 short-assign us c (Some a) x e h =
-    let w : raw_length (assignment_units a) ≡ raw_length (cut_text joined_byte us) = ap raw_length (assignment-is joined_byte (cut_text joined_byte us) a e).whole in
+    let w : raw_width (assignment_units a) ≡ raw_width (cut_text joined_byte us) = ap raw_width (assignment-is joined_byte (cut_text joined_byte us) a e).whole in
     let k = within-cut us in
     omega (arith, w, k)
 
-short-target : (us : List (List Cell)) (s : Separated Cell) (o : Option (Assignment Cell)) (x : Class Cell) → raw_length s.targets ≤ raw_length us → AreWithin us x → AreWithin us (target_class s o x)
+short-target : (us : List (List Cell)) (s : Separated Cell) (o : Option (Assignment Cell)) (x : Class Cell) → raw_width s.targets ≤ raw_width us → AreWithin us x → AreWithin us (target_class s o x)
 short-target us s None x n h = h
 short-target us s (Some a) x n h = n
 
 short-rule : (us : List (List Cell)) → AreWithin us (rule_class joined_byte us)
 short-rule us =
-    let w : raw_length (header_units (header joined_byte us)) ≡ raw_length us = ap raw_length (header-whole joined_byte us) in
+    let w : raw_width (header_units (header joined_byte us)) ≡ raw_width us = ap raw_width (header-whole joined_byte us) in
     let cut = cut_text joined_byte us in
     let s = separated joined_byte cut in
     let own : AreWithin us (header_class joined_byte us) = short-cond us (is_rough joined_byte (head joined_byte us) (header joined_byte us)) Rough (Header (header joined_byte us)) (omega arith) (omega (arith, w)) in
-    let t : raw_length cut ≡ raw_length s.targets + raw_length (s.colons ++ s.rest) = ap raw_length (sym (separated-whole joined_byte cut)) ∙ raw_length-append s.targets (s.colons ++ s.rest) in
+    let t : raw_width cut ≡ raw_width s.targets + raw_width (s.colons ++ s.rest) = ap raw_width (sym (separated-whole joined_byte cut)) ∙ raw_width-append s.targets (s.colons ++ s.rest) in
     let k = within-cut us in
     short-cond us (takes_assignment s.separator) (target_class s (assignment joined_byte s.rest) (header_class joined_byte us)) (header_class joined_byte us) (short-target us s (assignment joined_byte s.rest) (header_class joined_byte us) (omega (arith, t, k)) own) own
 
-short-said : (us : List (List Cell)) (s : Said) → 0 ≤ raw_length us → AreWithin us (class_said s)
+short-said : (us : List (List Cell)) (s : Said) → 0 ≤ raw_width us → AreWithin us (class_said s)
 short-said us Said.Endef z = z
 short-said us (Said.Body n) z = z
 short-said us (Said.DefineHead p) z = z
@@ -83,13 +83,13 @@ short-said us Said.Else z = z
 short-said us Said.Endif z = z
 short-said us Said.Directive z = z
 
-short-or : (us : List (List Cell)) (o : Option Said) (x : Class Cell) → 0 ≤ raw_length us → AreWithin us x → AreWithin us (or_class o x)
+short-or : (us : List (List Cell)) (o : Option Said) (x : Class Cell) → 0 ≤ raw_width us → AreWithin us x → AreWithin us (or_class o x)
 short-or us None x z h = h
 short-or us (Some s) x z h = short-said us s z
 
 short-plain : (led c : Bool) (cs : List Cell) (us : List (List Cell)) → AreWithin us (plain_class joined_byte led c (is_unreadable cs) us)
 short-plain led c cs us =
-    let z : 0 ≤ raw_length us = omega arith in
+    let z : 0 ≤ raw_width us = omega arith in
     short-cond us (is_all_blanks joined_byte (cut_text joined_byte us)) _ _ (short-cond us (any (is_hash joined_byte) us) Comment Blank z z) (
     short-cond us (is_unreadable cs) Opaque _ z (
     short-assign us c (assignment joined_byte (cut_text joined_byte us)) _ refl (
@@ -115,10 +115,10 @@ cells-within l =
     omega (arith, e)
 
 -- the parts of a line are no longer than it
-pub parts-within : (c : Context) (l : List ℕ) → raw_length (part_units (class_of c l)) ≤ length l
+pub parts-within : (c : Context) (l : List ℕ) → raw_width (part_units (class_of c l)) ≤ length l
 parts-within c l =
     let us = units joined_byte (line_cells l) in
-    let s : raw_length (part_units (class_of c l)) ≤ raw_length us = short-at (is_prefix_led c.prefix l) c.defines c.flag (nat_lt 0 c.conditionals) (line_cells l) us in
-    let e : raw_length us ≡ length (raw_text (line_cells l)) = ap (λ z. length (raw_text z)) (concat-units joined_byte (line_cells l)) in
+    let s : raw_width (part_units (class_of c l)) ≤ raw_width us = short-at (is_prefix_led c.prefix l) c.defines c.flag (nat_lt 0 c.conditionals) (line_cells l) us in
+    let e : raw_width us ≡ length (raw_text (line_cells l)) = ap (λ z. length (raw_text z)) (concat-units joined_byte (line_cells l)) in
     let w = cells-within l in
     omega (arith, s, e, w)

@@ -108,7 +108,7 @@ abbrev pub is_modifier : List ℕ → Bool
 is_modifier w = is_one_of w modifier_words
 
 -- a text with a `:`
-abbrev pub HasColon : List ℕ → Type 0
+abbrev HasColon : List ℕ → Type 0
 HasColon x = (a c : List ℕ) × (x ≡ a ++ 58 ∷ c)
 
 -- words that say the same as first words up to one with a `:`

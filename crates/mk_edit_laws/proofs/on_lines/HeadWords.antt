@@ -1,17 +1,15 @@
 -- Words and gaps of a rule line's head, as tokens: what lists of them are as units and as cells.
-use Rattle.std.proofs.Common.{◌≡◌, refl, sym, ap, ◌∙◌, subst, ℕ, List, [], ◌∷◌, ◌++◌, Bool, true, false, not, append_assoc}
+use Rattle.std.proofs.Common.{◌≡◌, refl, sym, ap, ◌∙◌, subst, List, [], ◌∷◌, ◌++◌, Bool, true, false, not, append_assoc}
 use Rattle.std.proofs.lemmas.List.{append-nil}
 use Rattle.std.specs.Prelude.{◌⊎◌}
 use mathlib.Core.Logic.{inl, inr}
 use Rattle.mk_lines.specs.Lists.{concat}
 use Rattle.mk_lines.proofs.on_lists.ListLemmas.{concat-append}
-use Rattle.mk_lines.specs.Bytes.{ByteKind, byte_kind, is_blank_kind}
-use Rattle.mk_lines.specs.Bytes.ByteKind.{LineFeed, CarriageReturn, Backslash, Blank, Ordinary}
-use Rattle.mk_lines.specs.Cells.{Cell, Byte, Fold, LfEnd, CrLfEnd, joined_byte}
-use Rattle.mk_lines.proofs.on_cells.LineOfCells.{is_reset, is_reset_kind}
+use Rattle.mk_lines.specs.Cells.{Cell, joined_byte}
 use Rattle.mk_lines.specs.Words.{Token, Gap, Word, token_words, token_units, is_word_first, is_gap, IsWord, AreTokens}
 use Rattle.mk_lines.proofs.on_units.TokenLemmas.{token_text}
 use Rattle.mk_class.specs.Lists.{first_passes, last_passes}
+use Rattle.mk_class.proofs.on_assignments.AssignmentLineLemmas.{gap_cell-reset}
 use Rattle.mk_edit_laws.proofs.on_lines.HeadUnits.{AllAre, IsHeadUnit, IsSolid, BeginsSolid-before, EndsSolid-after, head_unit-solid}
 use Rattle.mk_edit_laws.proofs.on_lines.LineTails.{EndsAs, EndsEmpty, EndsAs-same}
 
@@ -58,22 +56,6 @@ pub gaps-no_word_first : (g : List (Token Cell)) → AreGaps g → is_word_first
 gaps-no_word_first [] h = refl
 gaps-no_word_first (Gap u ∷ g) h = refl
 gaps-no_word_first (Word w ∷ g) h = absurd h.0
-
-blank-reset : (b : ℕ) → is_blank_kind (byte_kind b) ≡ true → is_reset_kind (byte_kind b) ≡ true
-blank-reset b h = go (byte_kind b) h
-  where
-    go : (k : ByteKind) → is_blank_kind k ≡ true → is_reset_kind k ≡ true
-    go LineFeed e = cc
-    go CarriageReturn e = cc
-    go Backslash e = cc
-    go Blank e = refl
-    go Ordinary e = cc
-
-gap_cell-reset : (c : Cell) → is_blank_kind (byte_kind (joined_byte c)) ≡ true → is_reset c ≡ true
-gap_cell-reset (Byte b) h = blank-reset b h
-gap_cell-reset (Fold r) h = refl
-gap_cell-reset (LfEnd r) h = cc
-gap_cell-reset (CrLfEnd r) h = cc
 
 -- a unit that is a gap, before any cells, ends as it did
 pub gap-ends : (u : List Cell) (D : List Cell) → is_gap joined_byte u ≡ true → EndsAs (u ++ D) (u ++ D)

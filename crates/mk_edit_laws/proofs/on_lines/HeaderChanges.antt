@@ -14,19 +14,18 @@ use Rattle.mk_lines.proofs.on_lines.LineEndLemmas.{KeepsApart, without_line_end-
 use Rattle.mk_lines.proofs.on_cells.LineOfCells.{is_reset, is_reset_kind}
 use Rattle.mk_lines.proofs.on_cells.LineCells.{AreLineCells, AreLineCells-left, AreLineCells-right, EndLineBefore, IsLineOf, line-of_cells, line-ends, line-keeps_apart, bytes-are_line_cells}
 use Rattle.mk_lines.specs.Units.{units}
-use Rattle.mk_class.specs.Symbols.{Symbol, symbol, is_colon, is_colon_symbol}
+use Rattle.mk_class.specs.Symbols.{Symbol, symbol, is_colon}
 use Rattle.mk_class.specs.Symbols.Symbol.{Hash, Colon, Semicolon, Equals, Plus, Question, Exclamation, Bar, Ampersand, NoSymbol}
-use Rattle.mk_class.proofs.on_symbols.SymbolLemmas.{symbol-unit}
+use Rattle.mk_class.proofs.on_symbols.SymbolLemmas.{symbol-unit, colon_symbol-is}
 use Rattle.mk_class.specs.CutTexts.{is_in_head, is_head_end_symbol}
 use Rattle.mk_class.specs.Headers
 use Rattle.mk_class.specs.Headers.{header_units}
 use Rattle.mk_class.specs.HeaderFits.{FitsPattern, FitsBar, after_separator, prerequisite_units}
-use Rattle.mk_class.proofs.on_assignments.AssignmentLineLemmas.{led-same}
+use Rattle.mk_class.proofs.on_assignments.AssignmentLineLemmas.{led-same, cells_class}
 use Rattle.mk_class.specs.RecipePrefix.{is_prefix_led}
 use Rattle.mk_class.specs.Contexts.{Context}
-use Rattle.mk_class.specs.Classes.{Class}
 use Rattle.mk_class.specs.Classes.Class.{Header}
-use Rattle.mk_class.specs.ClassTable.{is_unreadable, class_of, class_at, plain_class}
+use Rattle.mk_class.specs.ClassTable.{is_unreadable, class_of, plain_class}
 use Rattle.mk_class.proofs.on_classes.ClassLemmas.{readable-are_line_cells}
 use Rattle.mk_edit_laws.proofs.on_lines.HeadUnits.{AllAre, AllAre-left, AllAre-right, IsHeadUnit, IsSolid, EndsSolid, BeginsSolid-before, EndsSolid-after, line_cells-after_solid, line_cells-before_solid}
 use Rattle.mk_edit_laws.proofs.on_lines.LineTails.{EndsAs, EndsAs-before, KeepsLineEnd, line_end-kept}
@@ -51,18 +50,6 @@ header-cells h =
     ∙ ap (λ z. concat h.normal ++ z) (concat-append h.bar (h.order_only ++ h.tail)
     ∙ ap (λ z. concat h.bar ++ z) (concat-append h.order_only h.tail)))))
 
-colon_symbol-is : (s : Symbol) → is_colon_symbol s ≡ true → s ≡ Colon
-colon_symbol-is Hash h = cc
-colon_symbol-is Colon h = refl
-colon_symbol-is Semicolon h = cc
-colon_symbol-is Equals h = cc
-colon_symbol-is Plus h = cc
-colon_symbol-is Question h = cc
-colon_symbol-is Exclamation h = cc
-colon_symbol-is Bar h = cc
-colon_symbol-is Ampersand h = cc
-colon_symbol-is NoSymbol h = cc
-
 -- a `:` that ends cells
 colon-ends : (u : List Cell) → is_colon joined_byte u ≡ true → EndsSolid (concat (u ∷ []))
 colon-ends u h = record { front = []; last = 58; is = ap (λ z. concat (z ∷ [])) (colon-is u (colon_symbol-is (symbol joined_byte u) h)); ordinary = refl }
@@ -84,7 +71,7 @@ middle-solid c cs h k =
 -- ---- what follows the head
 
 -- nothing, or a `;` or `#` and any cells
-pub data TailCells (us : List (List Cell)) : Type 0 where
+data TailCells (us : List (List Cell)) : Type 0 where
   NoTail : concat us ≡ [] → TailCells us
   SomeTail : (b : ℕ) (D : List Cell) → concat us ≡ Byte b ∷ D → byte_kind b ≡ Ordinary → TailCells us
 
@@ -110,7 +97,7 @@ head_end-byte u us Bar e h = absurd (cc)
 head_end-byte u us Ampersand e h = absurd (cc)
 head_end-byte u us NoSymbol e h = absurd (cc)
 
-pub tail-cells : (us : List (List Cell)) → FirstFails (is_in_head joined_byte) us → TailCells us
+tail-cells : (us : List (List Cell)) → FirstFails (is_in_head joined_byte) us → TailCells us
 tail-cells [] h = NoTail refl
 tail-cells (u ∷ us) h = head_end-byte u us (symbol joined_byte u) refl h
 
@@ -170,15 +157,11 @@ pub record IsHeaderWith (c : Context) (l : List ℕ) (below : List (List ℕ)) (
   pub line : IsLineOf (line_of h (line_end_bytes (line_end l))) (concat (header_units h)) (line_end l) below
   pub class : class_of c (line_of h (line_end_bytes (line_end l))) ≡ Header h
 
--- the class of cells in a context, as prefix-led or not
-abbrev read : Context → Bool → List Cell → Class Cell
-read c led cs = class_at joined_byte led c.defines c.flag (nat_lt 0 c.conditionals) (is_unreadable cs) (units joined_byte cs)
-
 -- a line of class Header that is read: its parts, and what it is in its context
 pub record HeaderHere (c : Context) (l : List ℕ) (h : Headers.Header Cell) : Type 0 where
   pub known : HeaderKnown (nat_lt 0 c.conditionals) (line_cells l) h
   pub not_led : is_prefix_led c.prefix l ≡ false
-  pub also : (cs : List Cell) → read c false cs ≡ plain_class joined_byte false (nat_lt 0 c.conditionals) (is_unreadable cs) (units joined_byte cs)
+  pub also : (cs : List Cell) → cells_class c false cs ≡ plain_class joined_byte false (nat_lt 0 c.conditionals) (is_unreadable cs) (units joined_byte cs)
   pub whole : l ≡ line_of h (line_end_bytes (line_end l))
 
 -- each line of class Header is such
@@ -190,7 +173,7 @@ header-here c l h e =
     record {
       known = k;
       not_led = r.here.not_led;
-      also = λ cs. ap (λ z. read c z cs) (sym r.here.not_led) ∙ (r.also cs (units joined_byte cs) ∙ ap (λ z. plain_class joined_byte z (nat_lt 0 c.conditionals) (is_unreadable cs) (units joined_byte cs)) r.here.not_led);
+      also = λ cs. ap (λ z. cells_class c z cs) (sym r.here.not_led) ∙ (r.also cs (units joined_byte cs) ∙ ap (λ z. plain_class joined_byte z (nat_lt 0 c.conditionals) (is_unreadable cs) (units joined_byte cs)) r.here.not_led);
       whole = sym (without_line_end-line_end l) ∙ ap (λ z. z ++ line_end_bytes (line_end l)) (sym (raw_text-cells (without_line_end l)) ∙ ap raw_text k.cells_are);
     }
 
@@ -235,8 +218,8 @@ header-changed c l below h T N B O H o n f g led =
     record {
       line = line;
       class =
-          ap (λ z. read c z (line_cells (line_of new end))) led
-          ∙ (ap (read c false) line.same_cells
+          ap (λ z. cells_class c z (line_cells (line_of new end))) led
+          ∙ (ap (cells_class c false) line.same_cells
           ∙ (H.also (concat (header_units new)) ∙ changed-header (nat_lt 0 c.conditionals) (line_cells l) h T N B O k f all));
     }
 

@@ -40,7 +40,7 @@ pub record IsHeaderLine (led c : Bool) (cs : List Cell) (us : List (List Cell)) 
   pub is : header joined_byte us ≡ h
 
 -- a line outside defines and recipes that is of class Header
-pub plain_class-header : (led c : Bool) (cs : List Cell) (us : List (List Cell)) (h : Headers.Header Cell) → plain_class joined_byte led c (is_unreadable cs) us ≡ Header h → IsHeaderLine led c cs us h
+plain_class-header : (led c : Bool) (cs : List Cell) (us : List (List Cell)) (h : Headers.Header Cell) → plain_class joined_byte led c (is_unreadable cs) us ≡ Header h → IsHeaderLine led c cs us h
 plain_class-header led c cs us h k =
     let H = subst (Holds joined_byte us led c (is_unreadable cs)) k (plain_class-holds joined_byte us led c (is_unreadable cs)) in
     record { not_led = H.rule.not_led; readable = H.rule.readable; undirected = H.rule.undirected; colon = H.rule.colon; not_rough = H.not_rough; is = H.is }
@@ -98,7 +98,7 @@ separator-colon GroupedColon = refl
 separator-colon GroupedDoubleColon = refl
 
 -- a separator has a `:`
-pub separator-has_colon : (us : List (List Cell)) (s : Separator) → map (symbol joined_byte) us ≡ separator_symbols s → has_colon joined_byte us ≡ true
+separator-has_colon : (us : List (List Cell)) (s : Separator) → map (symbol joined_byte) us ≡ separator_symbols s → has_colon joined_byte us ≡ true
 separator-has_colon us s h = sym (colon-symbols us) ∙ (ap (any is_colon_symbol) h ∙ separator-colon s)
 
 -- units with a `:` are not all blanks

@@ -1,21 +1,21 @@
 -- The parts of a header's line, and other parts put in the place of the words: a line of class Header again.
 use Rattle.std.proofs.Common.{◌≡◌, refl, sym, ap, ◌∙◌, subst, ℕ, List, [], ◌∷◌, ◌++◌, map, Bool, true, false, not, ◌&&◌, ◌||◌, None, append_assoc}
-use Rattle.std.proofs.lemmas.Bool.{or_parts}
+use Rattle.std.proofs.lemmas.Bool.{or_parts, or_from}
 use Rattle.std.proofs.lemmas.List.{map-append}
 use Rattle.mk_lines.specs.Lists.{concat, Each}
 use Rattle.mk_lines.proofs.on_lists.ListLemmas.{Each-append, concat-append, leading-append_all}
 use Rattle.mk_lines.specs.Cells.{Cell, Byte, Fold, LfEnd, CrLfEnd, joined_byte}
 use Rattle.mk_lines.specs.CellFaults.{has_stray, has_bad_fold}
-use Rattle.mk_lines.proofs.on_cells.LineCells.{AreLineCells, or-both_false}
+use Rattle.mk_lines.proofs.on_cells.LineCells.{AreLineCells}
 use Rattle.mk_lines.specs.Units.{units}
 use Rattle.mk_lines.proofs.on_units.UnitLemmas.{units-last, concat-units}
 use Rattle.mk_lines.specs.Words.{Token, Gap, Word, tokens, before_tokens, token_units, is_gap, IsWord}
 use Rattle.mk_lines.proofs.on_units.TokenLemmas.{token_units-tokens, tokens-are_tokens}
 use Rattle.mk_class.specs.Lists.{any, is_empty, first_passes, last_passes}
 use Rattle.mk_class.specs.Texts.{word_texts}
-use Rattle.mk_class.specs.Symbols.{Symbol, symbol, is_colon, is_bar, is_ampersand, is_bar_symbol}
-use Rattle.mk_class.specs.Symbols.Symbol.{Hash, Colon, Semicolon, Equals, Plus, Question, Exclamation, Bar, Ampersand, NoSymbol}
-use Rattle.mk_class.proofs.on_symbols.SymbolLemmas.{symbol-unit, symbol-no_gap}
+use Rattle.mk_class.specs.Symbols.{Symbol, symbol, is_colon, is_bar, is_ampersand}
+use Rattle.mk_class.specs.Symbols.Symbol.{Colon, Bar, Ampersand, NoSymbol}
+use Rattle.mk_class.proofs.on_symbols.SymbolLemmas.{symbol-unit, symbol-no_gap, bar_symbol-is}
 use Rattle.mk_class.specs.CutTexts.{cut_text, head as head_at, is_in_head}
 use Rattle.mk_class.specs.Separators.{has_colon}
 use Rattle.mk_class.specs.Headers
@@ -84,18 +84,6 @@ one_byte (Byte x) b h n m = ap Byte h
 one_byte (Fold r) b h n m = absurd (n (sym h))
 one_byte (LfEnd r) b h n m = absurd (m (sym h))
 one_byte (CrLfEnd r) b h n m = absurd (m (sym h))
-
-bar_symbol-is : (s : Symbol) → is_bar_symbol s ≡ true → s ≡ Bar
-bar_symbol-is Hash h = cc
-bar_symbol-is Colon h = cc
-bar_symbol-is Semicolon h = cc
-bar_symbol-is Equals h = cc
-bar_symbol-is Plus h = cc
-bar_symbol-is Question h = cc
-bar_symbol-is Exclamation h = cc
-bar_symbol-is Bar h = refl
-bar_symbol-is Ampersand h = cc
-bar_symbol-is NoSymbol h = cc
 
 -- the unit of a `|`
 pub bar-is : (u : List Cell) → is_bar joined_byte u ≡ true → u ≡ Byte 124 ∷ []
@@ -369,13 +357,13 @@ changed-header c cs h T N B O k f a =
     ap (λ z. units joined_byte (concat z)) (header_units-head g) ∙ (head_units-again (head_units g) h.tail all tail ∙ sym (header_units-head g)) in
     let m : MakeHeader c (concat (header_units g)) g = record {
       fits = fits;
-      readable = or-both_false (has_stray (concat (header_units g))) (has_bad_fold (concat (header_units g))) stray a.clean.1;
+      readable = or_from (has_stray (concat (header_units g))) (has_bad_fold (concat (header_units g))) stray a.clean.1;
       units_readable = head_units-readable (head_units g) all;
       not_rough =
-          or-both_false (has_colon_after_other joined_byte g) _ k.colon_after
-          (or-both_false (has_third_separator joined_byte g) _ (or-both_false (has_colon joined_byte N) (has_colon joined_byte O) (part-has_colon N f.normal) (part-has_colon O f.order_only))
-          (or-both_false (has_bar_amiss joined_byte g) _ (or-both_false (any (is_bar joined_byte) T || any (is_bar joined_byte) h.pattern) (is_bar_glued N B O) (or-both_false (any (is_bar joined_byte) T) (any (is_bar joined_byte) h.pattern) (part-any_bar T f.targets) k.pattern_no_bar) f.bar_apart)
-          (or-both_false (has_second_bar joined_byte g) (has_pattern_amiss joined_byte g) (part-any_bar O f.order_only) k.pattern_one)));
+          or_from (has_colon_after_other joined_byte g) _ k.colon_after
+          (or_from (has_third_separator joined_byte g) _ (or_from (has_colon joined_byte N) (has_colon joined_byte O) (part-has_colon N f.normal) (part-has_colon O f.order_only))
+          (or_from (has_bar_amiss joined_byte g) _ (or_from (any (is_bar joined_byte) T || any (is_bar joined_byte) h.pattern) (is_bar_glued N B O) (or_from (any (is_bar joined_byte) T) (any (is_bar joined_byte) h.pattern) (part-any_bar T f.targets) k.pattern_no_bar) f.bar_apart)
+          (or_from (has_second_bar joined_byte g) (has_pattern_amiss joined_byte g) (part-any_bar O f.order_only) k.pattern_one)));
       undirected = changed-undirected c h T N B O k.fits fits f.alike k.undirected;
     } in
     ap (plain_class joined_byte false c (is_unreadable (concat (header_units g)))) again ∙ made-header c (concat (header_units g)) g m

@@ -19,11 +19,7 @@ pub data EndsAs (new old : List Cell) : Type 0 where
   -- in the same cells, the first of which is a blank, a fold or an ordinary byte
   EndsSame : (a b : List Cell) (d : Cell) (D : List Cell) → new ≡ a ++ d ∷ D → old ≡ b ++ d ∷ D → is_reset d ≡ true → EndsAs new old
 
--- cells that end in an ordinary byte
-pub EndsAs-solid : (a b : List Cell) → EndsSolid a → EndsAs a b
-EndsAs-solid a b h = EndsOrdinary h.front h.last h.is h.ordinary
-
--- the same cells, the first of which is such
+-- cells end in themselves, where the first of them is a blank, a fold or an ordinary byte
 pub EndsAs-same : (d : Cell) (D : List Cell) → is_reset d ≡ true → EndsAs (d ∷ D) (d ∷ D)
 EndsAs-same d D h = EndsSame [] [] d D refl refl h
 

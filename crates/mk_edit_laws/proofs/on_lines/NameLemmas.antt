@@ -137,10 +137,7 @@ unit_text-singles (b ∷ s) = ap (λ z. b ∷ z) (unit_text-singles s)
 single-closed : (b : ℕ) → byte_mark b ≡ Unmarked → is_closed joined_byte (Byte b ∷ []) ≡ true
 single-closed b h = rw h refl
 
-single-units : (b : ℕ) → units joined_byte (Byte b ∷ []) ≡ (Byte b ∷ []) ∷ []
-single-units b = refl
-
--- such a text is closed, and these are its units
+-- a text without marks is closed, and its units are its bytes
 pub unmarked-closed : (s : List ℕ) → AreUnmarked s → is_closed joined_byte (map Byte s) ≡ true
 unmarked-closed [] h = refl
 unmarked-closed (b ∷ s) h = is_closed-append joined_byte (Byte b ∷ []) (map Byte s) (single-closed b h.0) ∙ unmarked-closed s h.1

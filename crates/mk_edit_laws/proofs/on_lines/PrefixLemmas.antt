@@ -5,7 +5,7 @@ use Rattle.std.specs.Prelude.{nat_lt, nat_le}
 use Rattle.mk_lines.specs.Bytes.{byte_kind}
 use Rattle.mk_lines.specs.Bytes.ByteKind.{Ordinary}
 use Rattle.mk_lines.specs.Cells.{Cell, joined_byte}
-use Rattle.mk_lines.proofs.on_cells.LineCells.{or-right_false}
+use Rattle.mk_lines.proofs.on_lists.BoolLemmas.{or-right_false}
 use Rattle.mk_class.specs.Texts.{unit_text}
 use Rattle.mk_class.specs.Assignments.{Assignment}
 use Rattle.mk_class.specs.RecipePrefix.{may_be_prefix, prefix_of_value, prefix_set_by, is_read_for_prefix}

@@ -6,23 +6,24 @@ use Rattle.mk_class.specs.Headers.{Header}
 use Rattle.mk_class.specs.Classes.{Class, is_recipe}
 use Rattle.mk_class.specs.ClassedLines.{ClassedLine}
 use Rattle.mk_tree.specs.RecipeLines.{recipe_lines}
+use Rattle.mk_tree.specs.LineTexts.{StandingLine}
 use Rattle.mk_edit_laws.specs.Addresses.{Rule, is_rule_for, found}
 use Rattle.mk_edit_laws.specs.AddressCauses.{is_missing, is_several}
 use Rattle.mk_edit_laws.specs.Stretches.{below_header, recipe_spots, recipe_spot, recipe_found}
 use Rattle.mk_edit_laws.proofs.on_edits.Accepted.{spot-picked}
-use Rattle.mk_edit_laws.specs.Spots.{Spot, spots, spot_if, under, nth_of, picked}
+use Rattle.mk_edit_laws.specs.Spots.{spots, spot_if, under, nth_of, picked}
 
 -- a spot of some lines, whose line passes the test
-pub record IsSpot (test : ClassedLine → Bool) (ls : List ClassedLine) (s : Spot) : Type 0 where
+pub record IsSpot (test : ClassedLine → Bool) (ls : List ClassedLine) (s : StandingLine) : Type 0 where
   pub whole : ls ≡ s.above ++ s.line ∷ s.below
   pub passes : test s.line ≡ true
 
 -- spots of some lines
-abbrev AreSpots : (ClassedLine → Bool) → List ClassedLine → List Spot → Type 0
+abbrev AreSpots : (ClassedLine → Bool) → List ClassedLine → List StandingLine → Type 0
 AreSpots test ls [] = Unit {0}
 AreSpots test ls (s ∷ ss) = IsSpot test ls s × AreSpots test ls ss
 
-under-spots : (test : ClassedLine → Bool) (l : ClassedLine) (ls : List ClassedLine) (ss : List Spot) → AreSpots test ls ss → AreSpots test (l ∷ ls) (map (under l) ss)
+under-spots : (test : ClassedLine → Bool) (l : ClassedLine) (ls : List ClassedLine) (ss : List StandingLine) → AreSpots test ls ss → AreSpots test (l ∷ ls) (map (under l) ss)
 under-spots test l ls [] h = tt
 under-spots test l ls (s ∷ ss) h = (record { whole = ap (λ z. l ∷ z) h.0.whole; passes = h.0.passes }, under-spots test l ls ss h.1)
 
@@ -35,30 +36,30 @@ spots-are test (l ∷ ls) = go (test l) refl (under-spots test l ls (spots test 
     go true e h = (record { whole = refl; passes = e }, h)
     go false e h = h
 
-nth-is : (test : ClassedLine → Bool) (ls : List ClassedLine) (n : ℕ) (ss : List Spot) (s : Spot) → AreSpots test ls ss → nth_of n ss ≡ Some s → IsSpot test ls s
+nth-is : (test : ClassedLine → Bool) (ls : List ClassedLine) (n : ℕ) (ss : List StandingLine) (s : StandingLine) → AreSpots test ls ss → nth_of n ss ≡ Some s → IsSpot test ls s
 nth-is test ls n [] s h e = absurd (cc)
 nth-is test ls zero (q ∷ ss) s h e = absurd (cc)
 nth-is test ls (suc zero) (q ∷ ss) s h e = let k : q ≡ s = cc in subst (IsSpot test ls) k h.0
 nth-is test ls (suc (suc n)) (q ∷ ss) s h e = nth-is test ls (suc n) ss s h.1 e
 
-only-is : (test : ClassedLine → Bool) (ls : List ClassedLine) (ss : List Spot) (s : Spot) → AreSpots test ls ss → picked None ss ≡ Some s → IsSpot test ls s
+only-is : (test : ClassedLine → Bool) (ls : List ClassedLine) (ss : List StandingLine) (s : StandingLine) → AreSpots test ls ss → picked None ss ≡ Some s → IsSpot test ls s
 only-is test ls [] s h e = absurd (cc)
 only-is test ls (q ∷ []) s h e = let k : q ≡ s = cc in subst (IsSpot test ls) k h.0
 only-is test ls (q ∷ r ∷ ss) s h e = absurd (cc)
 
 -- what is picked of the spots is one
-pub picked-is : (test : ClassedLine → Bool) (ls : List ClassedLine) (nth : Option ℕ) (s : Spot) → picked nth (spots test ls) ≡ Some s → IsSpot test ls s
+pub picked-is : (test : ClassedLine → Bool) (ls : List ClassedLine) (nth : Option ℕ) (s : StandingLine) → picked nth (spots test ls) ≡ Some s → IsSpot test ls s
 picked-is test ls None s e = only-is test ls (spots test ls) s (spots-are test ls) e
 picked-is test ls (Some n) s e = nth-is test ls n (spots test ls) s (spots-are test ls) e
 
 -- ---- recipe lines
 
-take-spots : (test : ClassedLine → Bool) (ls : List ClassedLine) (n : ℕ) (ss : List Spot) → AreSpots test ls ss → AreSpots test ls (take n ss)
+take-spots : (test : ClassedLine → Bool) (ls : List ClassedLine) (n : ℕ) (ss : List StandingLine) → AreSpots test ls ss → AreSpots test ls (take n ss)
 take-spots test ls zero ss h = tt
 take-spots test ls (suc n) [] h = tt
 take-spots test ls (suc n) (s ∷ ss) h = (h.0, take-spots test ls n ss h.1)
 
-below-spots : (test : ClassedLine → Bool) (ls : List ClassedLine) (h : Spot) (ss : List Spot) → ls ≡ h.above ++ h.line ∷ h.below → AreSpots test h.below ss → AreSpots test ls (map (below_header h) ss)
+below-spots : (test : ClassedLine → Bool) (ls : List ClassedLine) (h : StandingLine) (ss : List StandingLine) → ls ≡ h.above ++ h.line ∷ h.below → AreSpots test h.below ss → AreSpots test ls (map (below_header h) ss)
 below-spots test ls h [] e k = tt
 below-spots test ls h (s ∷ ss) e k = (
   record {
@@ -69,7 +70,7 @@ below-spots test ls h (s ∷ ss) e k = (
 )
 
 -- a recipe line of a header is a spot of the text
-recipe_spot-is : (ls : List ClassedLine) (h : Spot) (k : ℕ) (s : Spot) → ls ≡ h.above ++ h.line ∷ h.below → recipe_spot k h ≡ Some s → IsSpot (λ l. is_recipe l.class) ls s
+recipe_spot-is : (ls : List ClassedLine) (h : StandingLine) (k : ℕ) (s : StandingLine) → ls ≡ h.above ++ h.line ∷ h.below → recipe_spot k h ≡ Some s → IsSpot (λ l. is_recipe l.class) ls s
 recipe_spot-is ls h k s e i =
     let ss = spots (λ l. is_recipe l.class) h.below in
     let n = length (recipe_lines h.below) in
@@ -78,7 +79,7 @@ recipe_spot-is ls h k s e i =
 
 -- the recipe line that a rule and a number mean
 pub record FoundRecipe (ls : List ClassedLine) (nth : Option ℕ) (t : List ℕ) (k : ℕ) : Type 0 where
-  pub spot : Spot
+  pub spot : StandingLine
   pub found_is : recipe_found ls nth t k ≡ Some spot
   pub whole : ls ≡ spot.above ++ spot.line ∷ spot.below
   pub is_recipe_line : is_recipe spot.line.class ≡ true
@@ -87,7 +88,7 @@ pub record FoundRecipe (ls : List ClassedLine) (nth : Option ℕ) (t : List ℕ)
 pub recipe-found : (ls : List ClassedLine) (nth : Option ℕ) (t : List ℕ) (k : ℕ) → not (is_some (recipe_found ls nth t k)) ≡ false → FoundRecipe ls nth t k
 recipe-found ls nth t k h = header (found ls (Rule nth t)) refl h
   where
-    line : (p : Spot) → found ls (Rule nth t) ≡ Some p → (o : Option Spot) → recipe_spot k p ≡ o → not (is_some o) ≡ false → FoundRecipe ls nth t k
+    line : (p : StandingLine) → found ls (Rule nth t) ≡ Some p → (o : Option StandingLine) → recipe_spot k p ≡ o → not (is_some o) ≡ false → FoundRecipe ls nth t k
     line p e None i n = absurd (cc)
     line p e (Some s) i n =
         let q = picked-is (λ l. is_rule_for t l.class) ls nth p e in
@@ -99,7 +100,7 @@ recipe-found ls nth t k h = header (found ls (Rule nth t)) refl h
           is_recipe_line = r.passes;
         }
 
-    header : (o : Option Spot) → found ls (Rule nth t) ≡ o → not (is_some (option_and_then (recipe_spot k) o)) ≡ false → FoundRecipe ls nth t k
+    header : (o : Option StandingLine) → found ls (Rule nth t) ≡ o → not (is_some (option_and_then (recipe_spot k) o)) ≡ false → FoundRecipe ls nth t k
     header None e n = absurd (cc)
     header (Some p) e n = line p e (recipe_spot k p) refl n
 
@@ -107,7 +108,7 @@ recipe-found ls nth t k h = header (found ls (Rule nth t)) refl h
 
 -- the header that an address means
 pub record FoundRule (ls : List ClassedLine) (nth : Option ℕ) (t : List ℕ) : Type 0 where
-  pub spot : Spot
+  pub spot : StandingLine
   pub found_is : found ls (Rule nth t) ≡ Some spot
   pub whole : ls ≡ spot.above ++ spot.line ∷ spot.below
   pub header : Header Cell

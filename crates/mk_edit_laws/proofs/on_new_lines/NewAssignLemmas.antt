@@ -1,20 +1,23 @@
 -- An accepted new assignment puts its item into the reading, and no other item changes.
 use Rattle.std.proofs.Common.{◌≡◌, refl, sym, ap, ◌∙◌, subst, ℕ, List, [], ◌∷◌, ◌++◌, map, Bool, true, false, not, ◌||◌, Option, Some, None, append_assoc}
 use Rattle.std.proofs.lemmas.List.{append-nil, map-append}
-use Rattle.std.proofs.lemmas.Bool.{and_parts, not-true}
+use Rattle.std.proofs.lemmas.Bool.{and_parts, not-true, or_from, not_from_false}
 use Rattle.std.specs.Prelude.{Ok, nat_lt}
+use Rattle.std.proofs.lemmas.Option.{same_Some}
 use Rattle.mk_lines.specs.Lists.{leading, after_leading, trim_end, trailing, Each, FirstFails, LastFails}
 use Rattle.mk_lines.proofs.on_lists.ListLemmas.{Each-append, leading-append_all, trim_end-append, trailing-append}
 use Rattle.mk_lines.specs.PhysicalLines.{line_end_bytes, file_line_end}
 use Rattle.mk_lines.specs.Cells.{Cell, Byte, joined_byte, cells, line_cells}
 use Rattle.mk_lines.proofs.on_cells.CellLemmas.{raw_text-bytes}
-use Rattle.mk_lines.proofs.on_cells.LineCells.{AreLineCells-cells, bytes-are_line_cells, or-left_false, or-right_false, or-both_false}
+use Rattle.mk_lines.proofs.on_cells.LineCells.{AreLineCells-cells, bytes-are_line_cells}
 use Rattle.mk_lines.proofs.on_lines.LineEndAdded.{IsEnded}
 use Rattle.mk_lines.specs.Pieces.{Replacement, replaced}
 use Rattle.mk_lines.specs.Units.{units, is_closed}
 use Rattle.mk_lines.proofs.on_units.UnitLemmas.{units-append}
 use Rattle.mk_lines.specs.Words.{Token, Gap, Word, tokens, token_units, before_tokens, is_gap}
 use Rattle.mk_lines.proofs.on_units.TokenLemmas.{token_units-tokens}
+use Rattle.mk_lines.proofs.on_lists.BoolLemmas.{or-left_false, or-right_false}
+use Rattle.mk_lines.specs.Bytes.{is_blank_byte}
 use Rattle.mk_class.specs.Lists.{any, until, from, first_passes, last_passes}
 use Rattle.mk_class.specs.Texts.{unit_text}
 use Rattle.mk_class.specs.Symbols.{symbol, is_hash}
@@ -24,7 +27,7 @@ use Rattle.mk_class.specs.AssignmentsAtEquals.{Front, ends_name_before_equals, f
 use Rattle.mk_class.proofs.on_assignments.AssignmentEqualsLemmas.{assignment-equals}
 use Rattle.mk_class.proofs.on_assignments.ValueLemmas.{value-text, clean-no_stray}
 use Rattle.mk_class.specs.RecipePrefix.{is_prefix_led, is_prefix_name, prefix_set_by}
-use Rattle.mk_class.specs.Arguments.{is_barred_byte, is_backslash_byte, is_blank_byte, is_clean, is_name, is_value}
+use Rattle.mk_class.specs.Arguments.{is_barred_byte, is_backslash_byte, is_clean, is_name, is_value}
 use Rattle.mk_class.specs.Classes.{Class}
 use Rattle.mk_class.specs.Contexts.{Context}
 use Rattle.mk_class.specs.ClassTable.{is_unreadable, class_of, class_at}
@@ -32,6 +35,8 @@ use Rattle.mk_class.proofs.on_classes.ClassLemmas.{IsAssignLine, assign-plain_cl
 use Rattle.mk_class.specs.ClassedLines.{classed_lines}
 use Rattle.mk_class.specs.declared.assignment.Flavor.{Flavor}
 use Rattle.mk_class.specs.declared.assignment.Flavor.TheVariants.{Recursive, Simple, PosixSimple, Immediate, Conditional, Append, Shell}
+use Rattle.mk_class.proofs.on_assignments.AssignmentLineLemmas.{cells_class}
+use Rattle.mk_class.specs.OperatorTexts.{operator_text}
 use Rattle.mk_tree.specs.Documents.{context_of}
 use Rattle.mk_tree.specs.Items.{items, Assign, Sets}
 use Rattle.mk_tree.specs.Readings.{reading}
@@ -41,7 +46,7 @@ use Rattle.mk_edit_laws.specs.Edits.{Place, AddAssign}
 use Rattle.mk_edit_laws.specs.Stretches.{Stretch, place_found}
 use Rattle.mk_edit_laws.specs.ArgumentCauses.{is_place, place_names}
 use Rattle.mk_edit_laws.specs.AddressCauses.{begins_new_line}
-use Rattle.mk_edit_laws.specs.NewLines.{spaced, operator_text, assign_text, new_line_span}
+use Rattle.mk_edit_laws.specs.NewLines.{spaced, assign_text, new_line_span}
 use Rattle.mk_edit_laws.specs.Spans.{where_found}
 use Rattle.mk_edit_laws.specs.LineCauses.{follows_open_line, new_line_leans}
 use Rattle.mk_edit_laws.specs.Refusals.{spans, text_by, text_after}
@@ -55,6 +60,7 @@ use Rattle.mk_tree.specs.NewLines.{above_ended}
 use Rattle.mk_edit_laws.proofs.on_lines.NameLemmas.{AreNameBytes, name-bytes_are, name-clean, AreUnmarked, name-unmarked, unmarked-append, singles, singles-append, unit_text-singles, unmarked-closed, unmarked-units}
 use Rattle.mk_edit_laws.specs.declared.refusal.Field.TheVariants as field
 use Rattle.mk_edit_laws.specs.declared.refusal.Refusal.TheVariants.{RecipePrefix, OpenLine, Leans, Reserved}
+use Rattle.mk_edit_laws.proofs.on_values.SetEmptyLemmas.{last-append}
 
 -- ---- the operator
 
@@ -282,7 +288,7 @@ new-assigned b n f v h k =
 
 any-append : (p : ℕ → Bool) (a b : List ℕ) → any p a ≡ false → any p b ≡ false → any p (a ++ b) ≡ false
 any-append p [] b h k = k
-any-append p (x ∷ a) b h k = or-both_false (p x) (any p (a ++ b)) (or-left_false (p x) (any p a) h) (any-append p a b (or-right_false (p x) (any p a) h) k)
+any-append p (x ∷ a) b h k = or_from (p x) (any p (a ++ b)) (or-left_false (p x) (any p a) h) (any-append p a b (or-right_false (p x) (any p a) h) k)
 
 gap-clean : (v : List ℕ) → any is_barred_byte (value_gap v) ≡ false
 gap-clean [] = refl
@@ -293,11 +299,6 @@ line-unbarred n f v h k =
     ap (any is_barred_byte) (assign_text-split n f v)
     ∙ any-append is_barred_byte (front_text n f v) v
     (any-append is_barred_byte n (32 ∷ (operator_front f ++ (61 ∷ value_gap v))) (name-clean n h) (any-append is_barred_byte (operator_front f) (61 ∷ value_gap v) (operator-clean f) (gap-clean v))) k.clean
-
-last-append : (p : ℕ → Bool) (a : List ℕ) (x : ℕ) (b : List ℕ) → last_passes p (a ++ x ∷ b) ≡ last_passes p (x ∷ b)
-last-append p [] x b = refl
-last-append p (y ∷ []) x b = refl
-last-append p (y ∷ z ∷ a) x b = last-append p (z ∷ a) x b
 
 line-no_backslash : (n : List ℕ) (f : Flavor) (v : List ℕ) → is_value v ≡ true → last_passes is_backslash_byte (assign_text n f v) ≡ false
 line-no_backslash n f [] h =
@@ -311,14 +312,6 @@ line-no_backslash n f (b ∷ v) h =
     let p5 = and_parts (not (any (is_hash (λ x. x)) (units (λ x. x) (b ∷ v)))) _ p4.1 in
     ap (last_passes is_backslash_byte) (assign_text-split n f (b ∷ v)) ∙ (last-append is_backslash_byte (front_text n f (b ∷ v)) b v ∙ not-true (last_passes is_backslash_byte (b ∷ v)) p5.1)
 
-not-false : (b : Bool) → b ≡ false → not b ≡ true
-not-false true h = cc
-not-false false h = refl
-
--- the class of the cells of a line in a context, as prefix-led or not
-abbrev read : Context → Bool → List Cell → Class Cell
-read c led cs = class_at joined_byte led c.defines c.flag (nat_lt 0 c.conditionals) (is_unreadable cs) (units joined_byte cs)
-
 new-class : (c : Context) (b : ℕ) (n : List ℕ) (f : Flavor) (v m : List ℕ) → c.defines ≡ 0 → AreNameBytes (b ∷ n) → AreValueUnits v
     → line_cells m ≡ map Byte (assign_text (b ∷ n) f v) → is_prefix_led c.prefix m ≡ false
     → class_of c m ≡ Class.Assign (new_assignment (b ∷ n) f v) (prefix_set_by joined_byte (nat_lt 0 c.conditionals) (new_assignment (b ∷ n) f v))
@@ -327,14 +320,14 @@ new-class c b n f v m d h k e p =
     let a = new_assignment (b ∷ n) f v in
     let unbarred = line-unbarred (b ∷ n) f v h k in
     let assigned = new-assigned b n f v h k in
-    let line = bytes-are_line_cells x (clean-no_line_end x (not-false (any is_barred_byte x) unbarred)) in
+    let line = bytes-are_line_cells x (clean-no_line_end x (not_from_false (any is_barred_byte x) unbarred)) in
     let is : IsAssignLine (map Byte x) (units joined_byte (map Byte x)) a = record {
       filled = assignment-filled (cut_text joined_byte (units joined_byte (map Byte x))) a assigned;
-      readable = or-both_false _ _ (clean-no_stray x unbarred) line.clean.1;
+      readable = or_from _ _ (clean-no_stray x unbarred) line.clean.1;
       assigned = assigned;
     } in
-    ap (λ z. read c z (line_cells m)) p
-    ∙ (ap (λ z. read c false z) e
+    ap (λ z. cells_class c z (line_cells m)) p
+    ∙ (ap (λ z. cells_class c false z) e
     ∙ (ap (λ z. class_at joined_byte false z c.flag (nat_lt 0 c.conditionals) (is_unreadable (map Byte x)) (units joined_byte (map Byte x))) d
     ∙ assign-plain_class false (nat_lt 0 c.conditionals) (map Byte x) (units joined_byte (map Byte x)) a is))
 
@@ -352,7 +345,7 @@ assign-stands t s p b n f v whole d h k named led unopened leans =
     let V = value-units v k in
     let a = new_assignment (b ∷ n) f v in
     let unbarred = line-unbarred (b ∷ n) f v N V in
-    let clean = not-false (any is_barred_byte x) unbarred in
+    let clean = not_from_false (any is_barred_byte x) unbarred in
     let ended : IsEnded x e = new_line-clean x e clean (line-no_backslash (b ∷ n) f v k) (file_line_end-some t) in
     let same : line_cells (x ++ line_end_bytes e) ≡ map Byte x =
     ap cells (ended.same_text ∙ sym (raw_text-bytes x)) ∙ AreLineCells-cells (map Byte x) (bytes-are_line_cells x (clean-no_line_end x clean)) in
@@ -415,16 +408,13 @@ assign-reads p (b ∷ n) f v t rs h =
     ap (λ q. reading (text_by t q)) h
     ∙ (ap (λ q. reading (replaced 0 t q)) (sym S.spans_are) ∙ (assign-item t S.place.stretch b n f v S.stands ∙ sym z))
 
-some-same : {A : Type 0} (x y : A) → Some x ≡ Some y → x ≡ y
-some-same x y h = cc
-
 -- the lines after it
 pub assign-lines : (p : Place) (n : List ℕ) (f : Flavor) (v t : List ℕ) (rs : List Replacement) (s : Stretch) → spans t (AddAssign p n f v) ≡ Ok rs → place_found (classed_lines t) p ≡ Some s
     → (k : Class Cell) × (classed_lines (text_after t (AddAssign p n f v)) ≡ above_ended (file_line_end t) s.above s.below ++ record { bytes = assign_text n f v ++ line_end_bytes (file_line_end t); class = k } ∷ s.below)
 assign-lines p [] f v t rs s h e = absurd (no_name p f v t rs h)
 assign-lines p (b ∷ n) f v t rs s h e =
     let S = accepted-stands t p b n f v rs h in
-    let i : S.place.stretch ≡ s = some-same S.place.stretch s (sym S.place.found_is ∙ e) in
+    let i : S.place.stretch ≡ s = same_Some S.place.stretch s (sym S.place.found_is ∙ e) in
     let x = assign_text (b ∷ n) f v in
     let k = Class.Assign (new_assignment (b ∷ n) f v) None in (
       k,

@@ -3,7 +3,7 @@ use Rattle.std.proofs.Common.{◌≡◌, refl, sym, ap, ◌∙◌, subst, ℕ, L
 use Rattle.std.proofs.lemmas.List.{append-nil}
 use Rattle.std.proofs.lemmas.Bool.{ltb-false}
 use Rattle.std.specs.Prelude.{nat_lt}
-use Rattle.mk_lines.proofs.on_cells.LineCells.{or-left_false}
+use Rattle.mk_lines.proofs.on_lists.BoolLemmas.{or-left_false}
 use Rattle.mk_class.specs.Lists.{any}
 use Rattle.mk_class.specs.RecipePrefix.{is_prefix_name}
 use Rattle.mk_class.specs.Classes.{Class}

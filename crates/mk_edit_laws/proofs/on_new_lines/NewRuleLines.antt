@@ -1,7 +1,7 @@
 -- The line of a new rule: its words, joined by single spaces round its separator, are read again as they are.
 use Rattle.std.proofs.Common.{◌≡◌, refl, sym, ap, ◌∙◌, subst, ℕ, List, [], ◌∷◌, ◌++◌, map, Bool, true, false, not, ◌&&◌, ◌||◌, ◌==◌, cond, append_assoc, None}
 use Rattle.std.specs.Prelude.{codes, nat_lt}
-use Rattle.std.proofs.lemmas.Bool.{or_parts}
+use Rattle.std.proofs.lemmas.Bool.{or_parts, not-true}
 use Rattle.std.proofs.lemmas.List.{append-nil, map-append}
 use Rattle.mk_lines.specs.Lists.{concat, leading, after_leading, Each}
 use Rattle.mk_lines.proofs.on_lists.ListLemmas.{Each-append, concat-append, leading-append_all}
@@ -35,6 +35,7 @@ use Rattle.mk_class.specs.Contexts.{Context}
 use Rattle.mk_class.specs.ClassTable.{class_of, directive, plain_class, undefined_class, is_all_blanks, is_unreadable, rule_class, header_class, separated_class, assign_class, or_class}
 use Rattle.mk_class.specs.declared.context.Flag.{Flag}
 use Rattle.mk_class.specs.declared.context.Flag.TheVariants.{Off, Rule, Unknown}
+use Rattle.mk_class.proofs.on_assignments.ValueLemmas.{clean-no_stray}
 use Rattle.mk_tree.specs.Items.{header_item}
 use Rattle.mk_tree.specs.Items as item
 use Rattle.mk_tree.proofs.on_changes.NewLineLemmas.{clean-no_line_end, new_line-clean}
@@ -43,7 +44,7 @@ use Rattle.mk_edit_laws.specs.Changes.{separator_of}
 use Rattle.mk_edit_laws.specs.declared.edit.Colons.{Colons}
 use Rattle.mk_edit_laws.specs.declared.edit.Colons.TheVariants.{One, Two}
 use Rattle.mk_edit_laws.proofs.on_lines.HeadWords.{last-more}
-use Rattle.mk_edit_laws.proofs.on_prerequisites.NewWords.{is_rule_unit, rule_units-bland, cell_units, cell_units-text, clean-no_stray, IsNewWord, target-no_ampersand}
+use Rattle.mk_edit_laws.proofs.on_prerequisites.NewWords.{is_rule_unit, rule_units-bland, cell_units, cell_units-text, IsNewWord, target-no_ampersand}
 
 -- a text that a line may have: no LF, CR or NUL, and no backslash last
 pub record IsLineText (x : List ℕ) : Type 0 where
@@ -53,7 +54,7 @@ pub record IsLineText (x : List ℕ) : Type 0 where
 -- ---- a word that is no directive
 
 -- a line whose first word is not reserved is no directive
-pub unreserved-no_directive : (c : Bool) (x : List ℕ) (ws : List (List ℕ)) → is_reserved_word x ≡ false → directive c (x ∷ ws) ≡ None
+unreserved-no_directive : (c : Bool) (x : List ℕ) (ws : List (List ℕ)) → is_reserved_word x ≡ false → directive c (x ∷ ws) ≡ None
 unreserved-no_directive c x ws h =
     let a = or_parts (is_same_text x (codes "ifeq")) _ h in
     let b = or_parts (is_same_text x (codes "ifneq")) _ a.1 in
@@ -91,16 +92,16 @@ colon-unreserved a c = none reserved_words refl
 -- ---- tokens of the new line
 
 -- each word after a space
-abbrev pub spaced_tokens : List (List ℕ) → List (Token Cell)
+abbrev spaced_tokens : List (List ℕ) → List (Token Cell)
 spaced_tokens [] = []
 spaced_tokens (w ∷ ws) = Gap (Byte 32 ∷ []) ∷ Word (cell_units w) ∷ spaced_tokens ws
 
 -- the targets: the first word, and each other after a space
-abbrev pub target_tokens : List ℕ → List (List ℕ) → List (Token Cell)
+abbrev target_tokens : List ℕ → List (List ℕ) → List (Token Cell)
 target_tokens t ts = Word (cell_units t) ∷ spaced_tokens ts
 
 -- the units of a separator
-abbrev pub colon_units : Colons → List (List Cell)
+abbrev colon_units : Colons → List (List Cell)
 colon_units One = (Byte 58 ∷ []) ∷ []
 colon_units Two = (Byte 58 ∷ []) ∷ (Byte 58 ∷ []) ∷ []
 
@@ -175,7 +176,7 @@ first-target [] ts h = absurd (let k : true ≡ false = h.filled in cc)
 first-target (b ∷ t) ts h = refl
 
 -- the units of the line
-abbrev pub rule_units_of : List ℕ → List (List ℕ) → Colons → List (List ℕ) → List (List Cell)
+abbrev rule_units_of : List ℕ → List (List ℕ) → Colons → List (List ℕ) → List (List Cell)
 rule_units_of t ts c ws = token_units (target_tokens t ts) ++ (colon_units c ++ (token_units (spaced_tokens ws) ++ []))
 
 line-units : (t : List ℕ) (ts : List (List ℕ)) (c : Colons) (ws : List (List ℕ)) → IsNewWord t → AreNewWords ts → AreNewWords ws
@@ -457,10 +458,6 @@ led-longer : (p : ℕ) (t x y : List ℕ) → is_empty t ≡ false → is_prefix
 led-longer p [] x y h = cc
 led-longer p (b ∷ t) x y h = refl
 
-not-line_end : (b : Bool) → not b ≡ true → b ≡ false
-not-line_end true h = cc
-not-line_end false h = refl
-
 outside : (c : Context) (l : List ℕ) (k : Class Cell) → c.defines ≡ 0 → is_prefix_led c.prefix l ≡ false → plain_class joined_byte false (nat_lt 0 c.conditionals) (is_unreadable (line_cells l)) (units joined_byte (line_cells l)) ≡ k → class_of c l ≡ k
 outside c l k d p h = rw (d, p) (go c.flag)
   where
@@ -477,7 +474,7 @@ new_rule-is t ts c ws W =
     let n : HasNoLineEnd s = clean-no_line_end s L.clean in
     let A : AreLineCells (map Byte s) = bytes-are_line_cells s n in
     let same : cells s ≡ map Byte s = ap cells (sym (raw_text-bytes s)) ∙ AreLineCells-cells (map Byte s) A in
-    let readable : is_unreadable (map Byte s) ≡ false = rw (clean-no_stray s (not-line_end (any is_barred_byte s) L.clean)) A.clean.1 in
+    let readable : is_unreadable (map Byte s) ≡ false = rw (clean-no_stray s (not-true (any is_barred_byte s) L.clean)) A.clean.1 in
     let split : s ≡ t ++ (each_spaced ts ++ (colons_text c ++ each_spaced ws)) = ap (λ z. z ++ (colons_text c ++ each_spaced ws)) (first-target t ts W.first) ∙ append_assoc t (each_spaced ts) (colons_text c ++ each_spaced ws) in
     record {
       text = L;

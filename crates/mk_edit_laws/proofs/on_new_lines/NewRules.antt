@@ -1,10 +1,11 @@
 -- The reading law for new rules.
-use Rattle.std.proofs.Common.{◌≡◌, refl, sym, ap, ◌∙◌, subst, ℕ, List, [], ◌∷◌, ◌++◌, Bool, true, false, not, Option, Some, None}
+use Rattle.std.proofs.Common.{◌≡◌, refl, sym, ap, ◌∙◌, subst, ℕ, List, [], ◌∷◌, ◌++◌, true, false, not, Option, Some, None}
 use Rattle.std.specs.Prelude.{Ok}
-use Rattle.std.proofs.lemmas.Bool.{and_parts, or_parts}
+use Rattle.std.proofs.lemmas.Bool.{and_parts, or_parts, not-false, not-true}
 use Rattle.mk_lines.specs.PhysicalLines.{file_line_end}
 use Rattle.mk_lines.specs.Cells.{Cell}
 use Rattle.mk_lines.specs.Pieces.{Replacement, replaced}
+use Rattle.mk_lines.specs.Words.{words_in}
 use Rattle.mk_class.specs.Lists.{is_empty, any, last_passes}
 use Rattle.mk_class.specs.Keywords.{is_reserved_word}
 use Rattle.mk_class.specs.Arguments.{is_word, is_target, is_ampersand_byte}
@@ -19,7 +20,7 @@ use Rattle.mk_tree.specs.Readings.{reading}
 use Rattle.mk_tree.proofs.on_changes.NewLineLemmas.{file_line_end-some, new_line-clean}
 use Rattle.mk_edit_laws.specs.Edits.{Edit, Place, AddRule}
 use Rattle.mk_edit_laws.specs.Stretches.{Stretch, insertion, removal}
-use Rattle.mk_edit_laws.specs.NewLines.{words_in, new_text, new_line_span}
+use Rattle.mk_edit_laws.specs.NewLines.{new_text, new_line_span}
 use Rattle.mk_edit_laws.specs.Spans.{where_found}
 use Rattle.mk_edit_laws.specs.ArgumentCauses.{place_names, place_targets}
 use Rattle.mk_edit_laws.specs.AddressCauses.{begins_new_line}
@@ -34,14 +35,6 @@ use Rattle.mk_edit_laws.proofs.on_new_lines.NewRuleLines.{AreNewWords, EndInNoAm
 use Rattle.mk_edit_laws.specs.declared.edit.Colons.{Colons}
 
 -- ---- the words of the arguments
-
-not-false : (b : Bool) → not b ≡ false → b ≡ true
-not-false true h = refl
-not-false false h = cc
-
-not-true : (b : Bool) → not b ≡ true → b ≡ false
-not-true true h = cc
-not-true false h = refl
 
 new_words : (ws : List (List ℕ)) → any (λ w. not (is_word w)) ws ≡ false → AreNewWords ws
 new_words [] h = tt

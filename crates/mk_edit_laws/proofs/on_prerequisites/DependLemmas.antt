@@ -19,13 +19,12 @@ use Rattle.mk_class.specs.HeaderFits.{FitsBar}
 use Rattle.mk_class.specs.Arguments.{is_target, is_word}
 use Rattle.mk_class.specs.Classes.Class.{Header}
 use Rattle.mk_class.specs.ClassedLines.{ClassedLine, classed_lines}
-use Rattle.mk_tree.specs.LineTexts.{text_of, context_of}
+use Rattle.mk_tree.specs.LineTexts.{text_of, context_of, StandingLine}
 use Rattle.mk_tree.proofs.on_documents.LinePlaces.{located}
 use Rattle.mk_tree.specs.Items
 use Rattle.mk_tree.specs.Items.{header_item, raw_units}
 use Rattle.mk_tree.specs.Readings.{reading}
 use Rattle.mk_edit_laws.specs.Edits.{AddPrereq}
-use Rattle.mk_edit_laws.specs.Spots.{Spot}
 use Rattle.mk_edit_laws.specs.WordPieces.{add_pieces, normal_pieces, header_pieces, prerequisite_text, put_last, kept}
 use Rattle.mk_edit_laws.specs.Spans.{word_spans, where_found}
 use Rattle.mk_edit_laws.specs.Refusals.{spans, text_by, text_after}
@@ -48,7 +47,7 @@ use Rattle.mk_edit_laws.specs.declared.refusal.Refusal.TheVariants.{NoSuch}
 -- ---- pieces
 
 -- the cells of a text put after the last word
-pub put_last-new : (t : List ℕ) (us : List (List Cell)) → new_cells (put_last t us) ≡ concat (front_units us) ++ (map Byte t ++ concat (gaps_after us))
+put_last-new : (t : List ℕ) (us : List (List Cell)) → new_cells (put_last t us) ≡ concat (front_units us) ++ (map Byte t ++ concat (gaps_after us))
 put_last-new t us = ap (λ z. concat (front_units us) ++ (map Byte t ++ z)) (append-nil (concat (gaps_after us)))
 
 pub put_last-old : (t : List ℕ) (us : List (List Cell)) → old_cells (put_last t us) ≡ concat us
@@ -171,7 +170,7 @@ normal-item h w n =
     (put-words w n h.normal (extra_space h ++ gaps_after h.normal) gaps)
 
 -- a header's line with a new normal prerequisite
-pub normal-line : (t : List ℕ) (A : List ClassedLine) (l : ClassedLine) (B : List ClassedLine) (h : Headers.Header Cell) (w : List ℕ) → IsNewWord w → classed_lines t ≡ A ++ l ∷ B → l.class ≡ Header h
+normal-line : (t : List ℕ) (A : List ClassedLine) (l : ClassedLine) (B : List ClassedLine) (h : Headers.Header Cell) (w : List ℕ) → IsNewWord w → classed_lines t ≡ A ++ l ∷ B → l.class ≡ Header h
     → IsLineReplaced (replaced 0 t (replacements (length (text_of A)) (normal_pieces w h))) A B (with_prerequisite false w (header_item h))
 normal-line t A l B h w n e k =
     let c = context_of A in
@@ -390,8 +389,8 @@ depend-reads order nth g w t rs h =
     let F = rule-found (classed_lines t) nth g (where_holds-none _ NoSuch A.is_there) (where_holds-none _ _ A.is_one) in
     let word = word-is_new w (two-passed field.Target field.Word (is_target g) (is_word w) A.arguments).1 in
     let s = F.spot in
-    let y : word_spans (add_pieces order w) s ≡ rs = subst (λ (z : Option Spot). where_found (word_spans (add_pieces order w)) z ≡ rs) F.found_is A.spans_are in
-    let z : change t (AddPrereq order nth g w) ≡ with_header (with_prerequisite order w) s = ap (λ (o : Option Spot). where_found (with_header (with_prerequisite order w)) o) F.found_is in
+    let y : word_spans (add_pieces order w) s ≡ rs = subst (λ (z : Option StandingLine). where_found (word_spans (add_pieces order w)) z ≡ rs) F.found_is A.spans_are in
+    let z : change t (AddPrereq order nth g w) ≡ with_header (with_prerequisite order w) s = ap (λ (o : Option StandingLine). where_found (with_header (with_prerequisite order w)) o) F.found_is in
     ap (λ q. reading (text_by t q)) h
     ∙ (ap (λ q. reading (replaced 0 t q)) (sym y ∙ word_spans-header (add_pieces order w) s F.header F.class_is)
     ∙ ((depend-line order t s.above s.line s.below F.header w word F.whole F.class_is).reads

@@ -14,11 +14,10 @@ use Rattle.mk_class.specs.RecipePrefix.{is_prefix_led}
 use Rattle.mk_class.specs.Contexts.{context_after}
 use Rattle.mk_class.specs.Classes.Class.{Header}
 use Rattle.mk_class.specs.ClassedLines.{ClassedLine, classed_lines}
-use Rattle.mk_tree.specs.LineTexts.{text_of, context_of, bytes_of}
+use Rattle.mk_tree.specs.LineTexts.{text_of, context_of, bytes_of, StandingLine}
 use Rattle.mk_tree.proofs.on_documents.LinePlaces.{located}
 use Rattle.mk_tree.specs.Items.{Item, items, header_item}
 use Rattle.mk_tree.proofs.on_changes.SpansInLines.{text-pieces_replaced}
-use Rattle.mk_edit_laws.specs.Spots.{Spot}
 use Rattle.mk_edit_laws.specs.Spans.{word_spans, header_spans}
 use Rattle.mk_edit_laws.specs.Changes.{with_header, header_items}
 use Rattle.mk_edit_laws.proofs.on_lines.LineReplaced.{IsLineReplaced, replaced-line, replaced-same}
@@ -37,7 +36,7 @@ header_pieces-new h t n o =
     let c = new_cells-append o (kept h.tail) in
     a ∙ ap (λ z. new_cells t ++ (concat (middle_units h) ++ z)) (b ∙ ap (λ z. new_cells n ++ (concat h.bar ++ z)) (c ∙ ap (λ z. new_cells o ++ z) (append-nil (concat h.tail))))
 
-pub header_pieces-old : (h : Headers.Header Cell) (t n o : List Piece)
+header_pieces-old : (h : Headers.Header Cell) (t n o : List Piece)
     → old_cells (header_pieces h t n o) ≡ old_cells t ++ (concat (middle_units h) ++ (old_cells n ++ (concat h.bar ++ (old_cells o ++ concat h.tail))))
 header_pieces-old h t n o =
     let a = old_cells-append t (kept (middle_units h) ++ (n ++ (kept h.bar ++ (o ++ kept h.tail)))) in
@@ -115,8 +114,8 @@ list-cells c cs h k =
 -- ---- what an edit says
 
 -- what an edit of a header's words replaces, and what it changes, where the header is found
-pub word_spans-header : (f : Headers.Header Cell → List Piece) (s : Spot) (h : Headers.Header Cell) → s.line.class ≡ Header h → word_spans f s ≡ replacements (length (text_of s.above)) (f h)
+pub word_spans-header : (f : Headers.Header Cell → List Piece) (s : StandingLine) (h : Headers.Header Cell) → s.line.class ≡ Header h → word_spans f s ≡ replacements (length (text_of s.above)) (f h)
 word_spans-header f s h e = ap (header_spans f (length (text_of s.above))) e
 
-pub with_header-header : (f : Item → Item) (s : Spot) (h : Headers.Header Cell) → s.line.class ≡ Header h → with_header f s ≡ items s.above ++ f (header_item h) ∷ items s.below
+pub with_header-header : (f : Item → Item) (s : StandingLine) (h : Headers.Header Cell) → s.line.class ≡ Header h → with_header f s ≡ items s.above ++ f (header_item h) ∷ items s.below
 with_header-header f s h e = ap (λ k. items s.above ++ (header_items f k ++ items s.below)) e

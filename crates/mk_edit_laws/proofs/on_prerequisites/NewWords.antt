@@ -1,11 +1,11 @@
 -- Words that an edit may write, as the units of a line's cells: none is a gap, a symbol or a unit that no word may have.
-use Rattle.std.proofs.Common.{◌≡◌, refl, sym, ap, ◌∙◌, subst, ℕ, List, [], ◌∷◌, ◌++◌, map, Bool, true, false, not, ◌&&◌, ◌||◌, ◌==◌}
-use Rattle.std.proofs.lemmas.Bool.{and_parts, or_parts}
+use Rattle.std.proofs.Common.{◌≡◌, refl, sym, ap, ◌∙◌, subst, ℕ, List, [], ◌∷◌, ◌++◌, map, Bool, true, false, not, ◌&&◌, ◌||◌}
+use Rattle.std.proofs.lemmas.Bool.{and_parts, or_parts, not-true}
 use Rattle.std.proofs.lemmas.List.{append-nil}
 use Rattle.mk_lines.specs.Lists.{concat, Each}
-use Rattle.mk_lines.specs.Bytes.{ByteKind, byte_kind, is_backslash_kind}
+use Rattle.mk_lines.specs.Bytes.{byte_kind, is_backslash_kind}
 use Rattle.mk_lines.specs.Cells.{Cell, Byte, joined_byte}
-use Rattle.mk_lines.specs.CellFaults.{has_stray, is_stray_by}
+use Rattle.mk_lines.specs.CellFaults.{has_stray}
 use Rattle.mk_lines.specs.Units.{units, is_closed}
 use Rattle.mk_lines.proofs.on_units.UnitLemmas.{concat-units, units-map, is_closed-map}
 use Rattle.mk_lines.specs.FirstUnit.{is_unclosed_unit, is_lone_backslash, leaves_open}
@@ -21,7 +21,8 @@ use Rattle.mk_class.proofs.on_symbols.SymbolMaps.{symbol-map, is_ampersand-map, 
 use Rattle.mk_class.specs.CutTexts.{is_in_head, is_no_hash, is_head_end_symbol}
 use Rattle.mk_class.specs.AssignmentsAtEquals.{is_no_equals}
 use Rattle.mk_class.specs.Headers.{is_no_colon, is_no_bar}
-use Rattle.mk_class.specs.Arguments.{is_barred_byte, is_line_end_kind, is_clean, is_backslash_byte, is_ampersand_byte, ends_word_symbol, ends_word, is_word}
+use Rattle.mk_class.specs.Arguments.{is_barred_byte, is_clean, is_backslash_byte, is_ampersand_byte, ends_word_symbol, ends_word, is_word}
+use Rattle.mk_class.proofs.on_assignments.ValueLemmas.{clean-no_stray}
 use Rattle.mk_edit_laws.proofs.on_lines.HeadUnits.{IsSolid, first_units-are_head_units}
 use Rattle.mk_edit_laws.proofs.on_lines.HeadWords.{word-solid, last-more, last-append}
 
@@ -51,10 +52,6 @@ bland Question h = record { hash = refl; colon = refl; equals = refl; bar = refl
 bland Exclamation h = record { hash = refl; colon = refl; equals = refl; bar = refl; head_end = refl }
 bland Ampersand h = record { hash = refl; colon = refl; equals = refl; bar = refl; head_end = refl }
 bland NoSymbol h = record { hash = refl; colon = refl; equals = refl; bar = refl; head_end = refl }
-
-not-true : (b : Bool) → not b ≡ true → b ≡ false
-not-true true h = cc
-not-true false h = refl
 
 module _ {A : Type 0} (byte : A → ℕ) where
   -- what such units are
@@ -125,20 +122,6 @@ no_gaps-word (u ∷ v ∷ us) h k = (not-true _ ((and_parts (not (is_gap joined_
 rule_units : (us : List (List Cell)) → Each (is_word_unit joined_byte) us → Each (is_rule_unit joined_byte) us
 rule_units [] h = tt
 rule_units (u ∷ us) h = ((and_parts (not (is_gap joined_byte u)) (is_rule_unit joined_byte u) h.0).1, rule_units us h.1)
-
-stray_kind : (k : ByteKind) (z : Bool) → (is_line_end_kind k || z) ≡ false → is_stray_by k z ≡ false
-stray_kind ByteKind.LineFeed z h = cc
-stray_kind ByteKind.CarriageReturn z h = cc
-stray_kind ByteKind.Backslash z h = h
-stray_kind ByteKind.Blank z h = h
-stray_kind ByteKind.Ordinary z h = h
-
--- a clean text has no stray byte
-pub clean-no_stray : (t : List ℕ) → any is_barred_byte t ≡ false → has_stray (map Byte t) ≡ false
-clean-no_stray [] h = refl
-clean-no_stray (b ∷ t) h =
-    let p = or_parts (is_barred_byte b) (any is_barred_byte t) h in
-    rw (stray_kind (byte_kind b) (b == 0) p.0) (clean-no_stray t p.1)
 
 concat-cell_units : (w : List ℕ) → concat (cell_units w) ≡ map Byte w
 concat-cell_units w = concat-units joined_byte (map Byte w)

@@ -15,13 +15,12 @@ use Rattle.mk_class.specs.Headers
 use Rattle.mk_class.specs.Headers.{header_units}
 use Rattle.mk_class.specs.Classes.Class.{Header}
 use Rattle.mk_class.specs.ClassedLines.{ClassedLine, classed_lines}
-use Rattle.mk_tree.specs.LineTexts.{text_of, context_of}
+use Rattle.mk_tree.specs.LineTexts.{text_of, context_of, StandingLine}
 use Rattle.mk_tree.proofs.on_documents.LinePlaces.{located}
 use Rattle.mk_tree.specs.Items
 use Rattle.mk_tree.specs.Items.{header_item, raw_units}
 use Rattle.mk_tree.specs.Readings.{reading}
 use Rattle.mk_edit_laws.specs.Edits.{RemovePrereq}
-use Rattle.mk_edit_laws.specs.Spots.{Spot}
 use Rattle.mk_edit_laws.specs.WordPieces.{removed_words, remove_pieces, kept}
 use Rattle.mk_edit_laws.specs.Spans.{word_spans, where_found}
 use Rattle.mk_edit_laws.specs.Refusals.{spans, text_by, text_after}
@@ -42,14 +41,14 @@ use Rattle.mk_edit_laws.specs.declared.refusal.Refusal.TheVariants.{NoSuch}
 -- ---- a list of prerequisites
 
 -- the units of a list without a word
-abbrev pub removed_units : (word : List ℕ) → List (List Cell) → List (List Cell)
+abbrev removed_units : (word : List ℕ) → List (List Cell) → List (List Cell)
 removed_units w us = token_units (kept_tokens w [] (tokens joined_byte us))
 
 module _ (w : List ℕ) (us : List (List Cell)) where
-  pub removed-parts : AllAre IsPartUnit us → AllAre IsPartUnit (removed_units w us)
+  removed-parts : AllAre IsPartUnit us → AllAre IsPartUnit (removed_units w us)
   removed-parts h = kept-all w IsPartUnit [] (tokens joined_byte us) tt (subst (AllAre IsPartUnit) (sym (token_units-tokens joined_byte us)) h)
 
-  pub removed-words : word_texts joined_byte (removed_units w us) ≡ without_word w (word_texts joined_byte us)
+  removed-words : word_texts joined_byte (removed_units w us) ≡ without_word w (word_texts joined_byte us)
   removed-words =
       ap (λ z. map (map joined_byte) (token_words z)) (tokens-token_units joined_byte (kept_tokens w [] (tokens joined_byte us)) (kept-are_tokens w [] (tokens joined_byte us) tt (tokens-are_tokens joined_byte us)))
       ∙ kept-words w [] (tokens joined_byte us) tt (tokens-are_tokens joined_byte us)
@@ -57,24 +56,24 @@ module _ (w : List ℕ) (us : List (List Cell)) where
   heads : AllAre IsPartUnit us → AllAre IsHeadUnit (token_units (tokens joined_byte us))
   heads h = subst (AllAre IsHeadUnit) (sym (token_units-tokens joined_byte us)) (part-head us h)
 
-  pub removed-cells : AllAre IsPartUnit us → AreLineCells (concat us) → AreLineCells (concat (removed_units w us))
+  removed-cells : AllAre IsPartUnit us → AreLineCells (concat us) → AreLineCells (concat (removed_units w us))
   removed-cells h a =
       subst AreLineCells (sym (concat-token_units (kept_tokens w [] (tokens joined_byte us))))
       (kept-line_cells w [] (tokens joined_byte us) (tokens-are_tokens joined_byte us) (heads h) (subst AreLineCells (sym (token_text-tokens joined_byte us)) a))
 
-  pub removed-end : AllAre IsPartUnit us → EndsAs (concat (removed_units w us)) (concat us)
+  removed-end : AllAre IsPartUnit us → EndsAs (concat (removed_units w us)) (concat us)
   removed-end h =
       subst (λ z. EndsAs z (concat us)) (sym (concat-token_units (kept_tokens w [] (tokens joined_byte us))))
       (subst (EndsAs (token_text (kept_tokens w [] (tokens joined_byte us)))) (token_text-tokens joined_byte us) (kept-ends w [] (tokens joined_byte us) tt (tokens-are_tokens joined_byte us) (heads h)))
 
-  pub removed-first : first_passes is_no_gap us ≡ false → first_passes is_no_gap (removed_units w us) ≡ false
+  removed-first : first_passes is_no_gap us ≡ false → first_passes is_no_gap (removed_units w us) ≡ false
   removed-first h =
       let ts = tokens joined_byte us in
       let k = kept_tokens w [] ts in
       let f : is_word_first ts ≡ false = sym (first-word ts (tokens-are_tokens joined_byte us)) ∙ (ap (first_passes is_no_gap) (token_units-tokens joined_byte us) ∙ h) in
       first-word k (kept-are_tokens w [] ts tt (tokens-are_tokens joined_byte us)) ∙ kept-no_word_first w [] ts tt (tokens-are_tokens joined_byte us) f
 
-  pub removed-last : last_passes is_no_gap us ≡ false → last_passes is_no_gap (removed_units w us) ≡ false
+  removed-last : last_passes is_no_gap us ≡ false → last_passes is_no_gap (removed_units w us) ≡ false
   removed-last h = go (last-gap us h)
     where
       go : (us ≡ []) ⊎ (last_passes (is_gap joined_byte) us ≡ true) → last_passes is_no_gap (removed_units w us) ≡ false
@@ -86,7 +85,7 @@ module _ (w : List ℕ) (us : List (List Cell)) where
   pub removed-old : old_cells (removed_words w us) ≡ concat us
   removed-old = removed-old_cells w [] (tokens joined_byte us) ∙ token_text-tokens joined_byte us
 
-  pub removed-new : new_cells (removed_words w us) ≡ concat (removed_units w us)
+  removed-new : new_cells (removed_words w us) ≡ concat (removed_units w us)
   removed-new = removed-new_cells w [] [] (tokens joined_byte us) refl ∙ sym (concat-token_units (kept_tokens w [] (tokens joined_byte us)))
 
 -- ---- the header
@@ -101,7 +100,7 @@ none-removed : (w : List ℕ) (O : List (List Cell)) → O ≡ [] → removed_un
 none-removed w O e = ap (removed_units w) e
 
 -- a header without a word
-abbrev pub without : (word : List ℕ) → Headers.Header Cell → Headers.Header Cell
+abbrev without : (word : List ℕ) → Headers.Header Cell → Headers.Header Cell
 without w h = with_parts h h.targets (removed_units w h.normal) h.bar (removed_units w h.order_only)
 
 removed-fit : (c : Bool) (cs : List Cell) (h : Headers.Header Cell) (w : List ℕ) → HeaderKnown c cs h → FitIn h h.targets (removed_units w h.normal) h.bar (removed_units w h.order_only)
@@ -156,8 +155,8 @@ undepend-reads nth g w t rs h =
     let A = accepted t (RemovePrereq nth g w) rs h in
     let F = rule-found (classed_lines t) nth g (where_holds-none _ NoSuch A.is_there) (where_holds-none _ _ A.is_one) in
     let s = F.spot in
-    let y : word_spans (remove_pieces w) s ≡ rs = subst (λ (z : Option Spot). where_found (word_spans (remove_pieces w)) z ≡ rs) F.found_is A.spans_are in
-    let z : change t (RemovePrereq nth g w) ≡ with_header (without_prerequisite w) s = ap (λ (o : Option Spot). where_found (with_header (without_prerequisite w)) o) F.found_is in
+    let y : word_spans (remove_pieces w) s ≡ rs = subst (λ (z : Option StandingLine). where_found (word_spans (remove_pieces w)) z ≡ rs) F.found_is A.spans_are in
+    let z : change t (RemovePrereq nth g w) ≡ with_header (without_prerequisite w) s = ap (λ (o : Option StandingLine). where_found (with_header (without_prerequisite w)) o) F.found_is in
     ap (λ q. reading (text_by t q)) h
     ∙ (ap (λ q. reading (replaced 0 t q)) (sym y ∙ word_spans-header (remove_pieces w) s F.header F.class_is)
     ∙ ((undepend-line t s.above s.line s.below F.header w F.whole F.class_is).reads

@@ -14,12 +14,12 @@ use Rattle.mk_lines.specs.Words.{Token, Gap, Word, tokens, before_tokens, token_
 use Rattle.mk_lines.proofs.on_units.TokenLemmas.{tokens-word}
 use Rattle.mk_class.specs.Texts.{word_texts}
 use Rattle.mk_class.specs.Symbols.{is_colon, is_bar}
-use Rattle.mk_class.proofs.on_assignments.ValueLemmas.{clean-no_line_end}
+use Rattle.mk_class.proofs.on_assignments.ValueLemmas.{clean-no_line_end, clean-no_stray}
 use Rattle.mk_edit_laws.proofs.on_lines.HeadUnits.{AllAre, AllAre-append, AllAre-left, IsHeadUnit, IsSolid, BeginsSolid-before, EndsSolid, EndsSolid-after, line_cells-after_solid, line_cells-before_solid, head_unit-solid, first_units-are_head_units}
 use Rattle.mk_edit_laws.proofs.on_lines.LineTails.{EndsAs, EndsEmpty, EndsAs-after}
 use Rattle.mk_edit_laws.proofs.on_lines.HeadWords.{gap-ends, word-solid}
 use Rattle.mk_edit_laws.proofs.on_lines.HeaderParts.{IsPartUnit, part-head, parts-of, no-each}
-use Rattle.mk_edit_laws.proofs.on_prerequisites.NewWords.{IsNewWord, cell_units, cell_units-text, rule_units-bland, clean-no_stray}
+use Rattle.mk_edit_laws.proofs.on_prerequisites.NewWords.{IsNewWord, cell_units, cell_units-text, rule_units-bland}
 
 -- ---- gaps
 
@@ -53,7 +53,7 @@ tokens-apart [] g b h = ap (λ z. before_tokens z g (tokens joined_byte b)) h
 tokens-apart (u ∷ a) g b h = ap (before_tokens (is_gap joined_byte u) u) (tokens-apart a g b h) ∙ before-append (is_gap joined_byte u) u (tokens joined_byte a) g (tokens joined_byte b)
 
 -- the words before a gap and those after it
-pub words-apart : (a : List (List Cell)) (g : List Cell) (b : List (List Cell)) → is_gap joined_byte g ≡ true → word_texts joined_byte (a ++ g ∷ b) ≡ word_texts joined_byte a ++ word_texts joined_byte b
+words-apart : (a : List (List Cell)) (g : List Cell) (b : List (List Cell)) → is_gap joined_byte g ≡ true → word_texts joined_byte (a ++ g ∷ b) ≡ word_texts joined_byte a ++ word_texts joined_byte b
 words-apart a g b h =
     ap (λ z. map (map joined_byte) (token_words z)) (tokens-apart a g b h)
     ∙ (ap (map (map joined_byte)) (token_words-append (tokens joined_byte a) (Gap g ∷ tokens joined_byte b))
@@ -153,7 +153,7 @@ module _ (w : List ℕ) (new : IsNewWord w) (us G : List (List Cell)) (gaps : Ar
       ∙ (ap (λ z. z ++ word_texts joined_byte (cell_units w ++ G)) (front-words us) ∙ ap (λ z. word_texts joined_byte us ++ z) last)
 
   -- a space, the word and the gaps
-  pub word-cells : AreLineCells (concat G) → AreLineCells (concat (space_unit ∷ (cell_units w ++ G)))
+  word-cells : AreLineCells (concat G) → AreLineCells (concat (space_unit ∷ (cell_units w ++ G)))
   word-cells g =
       let s = new_word-solid w new in
       let c : concat (cell_units w ++ G) ≡ concat (cell_units w) ++ concat G = concat-append (cell_units w) G in

@@ -15,10 +15,11 @@ use Rattle.mk_lines.proofs.on_cells.LineOfCells.{IsClean, one_line-of_cells}
 use Rattle.mk_lines.proofs.on_cells.CellLemmas.{raw_text-bytes}
 use Rattle.mk_lines.specs.Cells.{Byte, joined_byte, cells, line_cells}
 use Rattle.mk_lines.specs.Units.{units}
-use Rattle.mk_lines.proofs.on_cells.LineCells.{or-left_false, AreLineCells-cells, bytes-are_line_cells, HasNoLineEnd, is_no_line_end_kind}
+use Rattle.mk_lines.proofs.on_cells.LineCells.{AreLineCells-cells, bytes-are_line_cells, HasNoLineEnd, is_no_line_end_kind}
 use Rattle.mk_lines.specs.Pieces.{Replacement, replaced}
 use Rattle.mk_lines.specs.declared.ends.End.{End}
 use Rattle.mk_lines.specs.declared.ends.End.TheVariants as ends
+use Rattle.mk_lines.proofs.on_lists.BoolLemmas.{or-left_false}
 use Rattle.mk_class.specs.Lists.{any, last_passes}
 use Rattle.mk_class.specs.RecipePrefix.{is_prefix_led}
 use Rattle.mk_class.specs.Arguments.{is_barred_byte, is_backslash_byte, is_clean, is_command, is_target}
@@ -35,8 +36,8 @@ use Rattle.mk_tree.proofs.on_documents.LinePlaces.{located, bytes_of, located-ru
 use Rattle.mk_tree.proofs.on_changes.NewLineLemmas.{file_line_end-some, new_line-clean, clean-no_line_end}
 use Rattle.mk_tree.proofs.on_changes.SpansInLines.{text-span_replaced}
 use Rattle.mk_tree.proofs.on_changes.RecipeRunLemmas.{rule-context, recipe_run-after, recipe_run-stays, recipe-agrees}
+use Rattle.mk_tree.specs.LineTexts.{StandingLine}
 use Rattle.mk_edit_laws.specs.Edits.{Edit, AddRecipe, SetRecipe}
-use Rattle.mk_edit_laws.specs.Spots.{Spot}
 use Rattle.mk_edit_laws.specs.Stretches.{Stretch, after_rule, insertion}
 use Rattle.mk_edit_laws.specs.NewLines.{new_line_span}
 use Rattle.mk_edit_laws.specs.Spans.{where_found, recipe_span}
@@ -59,10 +60,10 @@ not-both true b h k = cc
 not-both false b h k = ap (λ z. not (z || false)) k
 
 -- the prefix and a command
-pub recipe-clean : (p : ℕ) (c : List ℕ) → CanBegin p → is_command c ≡ true → is_clean (p ∷ c) ≡ true
+recipe-clean : (p : ℕ) (c : List ℕ) → CanBegin p → is_command c ≡ true → is_clean (p ∷ c) ≡ true
 recipe-clean p c h k = not-both (any is_barred_byte c) (is_barred_byte p) (and_parts (is_clean c) _ k).0 h.not_barred
 
-pub recipe-no_backslash : (p : ℕ) (c : List ℕ) → CanBegin p → is_command c ≡ true → last_passes is_backslash_byte (p ∷ c) ≡ false
+recipe-no_backslash : (p : ℕ) (c : List ℕ) → CanBegin p → is_command c ≡ true → last_passes is_backslash_byte (p ∷ c) ≡ false
 recipe-no_backslash p [] h k = h.no_backslash
 recipe-no_backslash p (b ∷ c) h k = go (last_passes is_backslash_byte (b ∷ c)) (and_parts (is_clean (b ∷ c)) _ k).1
   where
@@ -71,7 +72,7 @@ recipe-no_backslash p (b ∷ c) h k = go (last_passes is_backslash_byte (b ∷ c
     go false e = refl
 
 -- a line that begins with the prefix in a rule is a recipe line
-pub recipe-class_in_rule : (c : Context) (l : List ℕ) → c.defines ≡ 0 → c.flag ≡ flag.Rule → is_prefix_led c.prefix l ≡ true → class_of c l ≡ Class.Recipe
+recipe-class_in_rule : (c : Context) (l : List ℕ) → c.defines ≡ 0 → c.flag ≡ flag.Rule → is_prefix_led c.prefix l ≡ true → class_of c l ≡ Class.Recipe
 recipe-class_in_rule c l d f p =
     let k = nat_lt 0 c.conditionals in
     let us = units joined_byte (line_cells l) in
@@ -113,13 +114,13 @@ recipe_added-stands nth g c t rs h =
       found_is = ap (option_map after_rule) F.found_is;
       stands = record {
         whole = whole;
-        not_open = subst (λ (z : Option Spot). follows_open_line (option_map after_rule z) ≡ false) F.found_is (where_holds-none _ OpenLine A.line_closed);
+        not_open = subst (λ (z : Option StandingLine). follows_open_line (option_map after_rule z) ≡ false) F.found_is (where_holds-none _ OpenLine A.line_closed);
         ended = new_line-clean text E (recipe-clean C.prefix c can k) (recipe-no_backslash C.prefix c can k) (file_line_end-some t);
         class = recipe-class_in_rule C (text ++ line_end_bytes E) d f (eq-eqb C.prefix C.prefix refl);
         agrees = recipe-agrees C;
-        not_leaning = subst (λ (z : Option Spot). new_line_leans e (option_map after_rule z) ≡ false) F.found_is (or-left_false _ _ (where_holds-none _ Leans A.not_leaning));
+        not_leaning = subst (λ (z : Option StandingLine). new_line_leans e (option_map after_rule z) ≡ false) F.found_is (or-left_false _ _ (where_holds-none _ Leans A.not_leaning));
       };
-      spans_are = subst (λ (z : Option Spot). where_found (new_line_span t e) (option_map after_rule z) ≡ rs) F.found_is A.spans_are;
+      spans_are = subst (λ (z : Option StandingLine). where_found (new_line_span t e) (option_map after_rule z) ≡ rs) F.found_is A.spans_are;
     }
 
 -- the law of a new recipe line
@@ -183,7 +184,7 @@ keeps-apart ends.Lf x h = first-not CarriageReturn (reverse x) refl (each-revers
 keeps-apart ends.CrLf x h = tt
 
 -- the line of a recipe with another command
-pub recipe-set : (t : List ℕ) (s : Spot) (c : List ℕ) → classed_lines t ≡ s.above ++ s.line ∷ s.below → is_recipe s.line.class ≡ true → is_command c ≡ true
+pub recipe-set : (t : List ℕ) (s : StandingLine) (c : List ℕ) → classed_lines t ≡ s.above ++ s.line ∷ s.below → is_recipe s.line.class ≡ true → is_command c ≡ true
     → IsLineReplaced (replaced 0 t (recipe_span c s)) s.above s.below (Recipe c)
 recipe-set t s c w r k =
     let C = context_of s.above in
@@ -220,7 +221,7 @@ recipe_set-reads nth g k c t rs h =
     let u = two-passed field.Target field.Line (is_target g) (is_command c) A.arguments in
     let F = recipe-found (classed_lines t) nth g k (where_holds-none _ Absent A.not_absent) in
     let s = F.spot in
-    let y : recipe_span c s ≡ rs = subst (λ (z : Option Spot). where_found (recipe_span c) z ≡ rs) F.found_is A.spans_are in
+    let y : recipe_span c s ≡ rs = subst (λ (z : Option StandingLine). where_found (recipe_span c) z ≡ rs) F.found_is A.spans_are in
     let z : change t (SetRecipe nth g k c) ≡ with_items (Recipe c ∷ []) s = ap (where_found (with_items (Recipe c ∷ []))) F.found_is in
     ap (λ q. reading (text_by t q)) h
     ∙ (ap (λ q. reading (replaced 0 t q)) (sym y) ∙ ((recipe-set t s c F.whole F.is_recipe_line u.1).reads ∙ sym z))

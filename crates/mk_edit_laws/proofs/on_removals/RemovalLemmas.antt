@@ -1,10 +1,11 @@
 -- Accepted removals of a rule and of a recipe line remove their items, and no other item changes.
 use Rattle.std.proofs.Common.{◌≡◌, refl, sym, ap, ◌∙◌, subst, ℕ, List, [], ◌∷◌, ◌++◌, true, false, Option, Some, option_map}
 use Rattle.std.specs.Prelude.{Ok}
+use Rattle.std.proofs.lemmas.Option.{same_Some}
 use Rattle.mk_lines.specs.Lists.{Each}
-use Rattle.mk_lines.proofs.on_cells.LineCells.{or-left_false, or-right_false}
 use Rattle.mk_lines.specs.Pieces.{Replacement, replaced}
 use Rattle.mk_lines.specs.Cells.{Cell}
+use Rattle.mk_lines.proofs.on_lists.BoolLemmas.{or-left_false, or-right_false}
 use Rattle.mk_class.specs.Lists.{any}
 use Rattle.mk_class.specs.Headers.{Header}
 use Rattle.mk_class.specs.Classes.{Class, is_conditional}
@@ -17,8 +18,8 @@ use Rattle.mk_tree.proofs.on_documents.LinePlaces.{context_of-last, context_of-a
 use Rattle.mk_tree.proofs.on_changes.RecipeRunLemmas.{recipe_run-after, recipe_run-stays}
 use Rattle.mk_tree.specs.Leaning.{AgreeButForFlag}
 use Rattle.mk_tree.proofs.on_changes.LeaningLemmas.{agrees-self, agrees-then}
+use Rattle.mk_tree.specs.LineTexts.{StandingLine}
 use Rattle.mk_edit_laws.specs.Edits.{Edit, SetValue, AppendValue, AddAssign, RemoveAssign, AddRule, RemoveRule, AddPrereq, RemovePrereq, AddRecipe, SetRecipe, RemoveRecipe, RenameTarget}
-use Rattle.mk_edit_laws.specs.Spots.{Spot}
 use Rattle.mk_edit_laws.specs.Stretches.{Stretch, removal, this_line, whole_rule}
 use Rattle.mk_edit_laws.specs.Spans.{removed_span, where_found}
 use Rattle.mk_edit_laws.specs.RuleCauses.{has_conditional}
@@ -47,9 +48,9 @@ recipe_removed-reads nth g k t rs h =
     let A = accepted t (RemoveRecipe nth g k) rs h in
     let F = recipe-found (classed_lines t) nth g k (where_holds-none _ Absent A.not_absent) in
     let s = F.spot in
-    let leans : removal_leans (Some (this_line s)) ≡ false = subst (λ (z : Option Spot). removal_leans (option_map this_line z) ≡ false) F.found_is (where_holds-none _ Leans A.not_leaning) in
-    let y : removed_span (this_line s) ≡ rs = subst (λ (z : Option Spot). where_found removed_span (option_map this_line z) ≡ rs) F.found_is A.spans_are in
-    let z : change t (RemoveRecipe nth g k) ≡ without_items (this_line s) = ap (λ (o : Option Spot). where_found without_items (option_map this_line o)) F.found_is in
+    let leans : removal_leans (Some (this_line s)) ≡ false = subst (λ (z : Option StandingLine). removal_leans (option_map this_line z) ≡ false) F.found_is (where_holds-none _ Leans A.not_leaning) in
+    let y : removed_span (this_line s) ≡ rs = subst (λ (z : Option StandingLine). where_found removed_span (option_map this_line z) ≡ rs) F.found_is A.spans_are in
+    let z : change t (RemoveRecipe nth g k) ≡ without_items (this_line s) = ap (λ (o : Option StandingLine). where_found without_items (option_map this_line o)) F.found_is in
     ap (λ q. reading (text_by t q)) h
     ∙ (ap (λ q. reading (replaced 0 t q)) (sym y)
     ∙ (stretch-removed t (this_line s) F.whole (recipe-agrees s.above s.line (recipe-class s.line.class F.is_recipe_line)) leans ∙ sym z))
@@ -74,7 +75,7 @@ class-agrees c Class.Rough h n = absurd (cc)
 class-agrees c (Class.Header x) h n = absurd (cc)
 
 -- after them the context is as before, but perhaps for the flag, where no line of a conditional is among them
-pub run-agrees : (c : Context) (ls : List ClassedLine) → Each (λ l. stays_in_rule l.class) ls → any (λ l. is_conditional l.class) ls ≡ false → AgreeButForFlag c (context_after_lines c ls)
+run-agrees : (c : Context) (ls : List ClassedLine) → Each (λ l. stays_in_rule l.class) ls → any (λ l. is_conditional l.class) ls ≡ false → AgreeButForFlag c (context_after_lines c ls)
 run-agrees c [] h n = agrees-self c
 run-agrees c (l ∷ ls) h n =
     let d = context_after c l.class in
@@ -97,10 +98,10 @@ rule_removed-reads nth g t rs h =
     let A = accepted t (RemoveRule nth g) rs h in
     let F = rule-found (classed_lines t) nth g (where_holds-none _ NoSuch A.is_there) (where_holds-none _ _ A.is_one) in
     let s = F.spot in
-    let leans : removal_leans (Some (whole_rule s)) ≡ false = subst (λ (z : Option Spot). removal_leans (option_map whole_rule z) ≡ false) F.found_is (where_holds-none _ Leans A.not_leaning) in
-    let plain : has_conditional (Some s) ≡ false = subst (λ (z : Option Spot). has_conditional z ≡ false) F.found_is (where_holds-none _ Straddles A.not_straddling) in
-    let y : removed_span (whole_rule s) ≡ rs = subst (λ (z : Option Spot). where_found removed_span (option_map whole_rule z) ≡ rs) F.found_is A.spans_are in
-    let z : change t (RemoveRule nth g) ≡ without_items (whole_rule s) = ap (λ (o : Option Spot). where_found without_items (option_map whole_rule o)) F.found_is in
+    let leans : removal_leans (Some (whole_rule s)) ≡ false = subst (λ (z : Option StandingLine). removal_leans (option_map whole_rule z) ≡ false) F.found_is (where_holds-none _ Leans A.not_leaning) in
+    let plain : has_conditional (Some s) ≡ false = subst (λ (z : Option StandingLine). has_conditional z ≡ false) F.found_is (where_holds-none _ Straddles A.not_straddling) in
+    let y : removed_span (whole_rule s) ≡ rs = subst (λ (z : Option StandingLine). where_found removed_span (option_map whole_rule z) ≡ rs) F.found_is A.spans_are in
+    let z : change t (RemoveRule nth g) ≡ without_items (whole_rule s) = ap (λ (o : Option StandingLine). where_found without_items (option_map whole_rule o)) F.found_is in
     let whole : classed_lines t ≡ s.above ++ (s.line ∷ recipe_run s.below ++ after_recipe s.below) = F.whole ∙ ap (λ w. s.above ++ s.line ∷ w) (sym (recipe_run-after s.below)) in
     ap (λ q. reading (text_by t q)) h
     ∙ (ap (λ q. reading (replaced 0 t q)) (sym y)
@@ -113,9 +114,6 @@ lines-by : (t : List ℕ) (e : Edit) (rs : List Replacement) (s s' : Stretch) �
 lines-by t e rs s s' h r i k =
     ap (λ q. classed_lines (text_by t q)) h ∙ (ap (λ q. classed_lines (replaced 0 t q)) (sym r) ∙ (k ∙ ap (λ (z : Stretch). z.above ++ z.below) i))
 
-some-same : {A : Type 0} (x y : A) → Some x ≡ Some y → x ≡ y
-some-same x y h = cc
-
 unset-lines : (t n : List ℕ) (nth : Option ℕ) (rs : List Replacement) (s : Stretch) → spans t (RemoveAssign nth n) ≡ Ok rs → removal (classed_lines t) (RemoveAssign nth n) ≡ Some s
     → classed_lines (text_after t (RemoveAssign nth n)) ≡ s.above ++ s.below
 unset-lines t n nth rs s h k =
@@ -123,9 +121,9 @@ unset-lines t n nth rs s h k =
     let A = accepted t e rs h in
     let F = assignment-found t n nth (where_holds-none _ NoSuch A.is_there) (where_holds-none _ _ A.is_one) (not_prefix n A.not_reserved) in
     let p = F.spot in
-    let leans : removal_leans (Some (this_line p)) ≡ false = subst (λ (z : Option Spot). removal_leans (option_map this_line z) ≡ false) F.found_is (where_holds-none _ Leans A.not_leaning) in
-    let y : removed_span (this_line p) ≡ rs = subst (λ (z : Option Spot). where_found removed_span (option_map this_line z) ≡ rs) F.found_is A.spans_are in
-    let i : this_line p ≡ s = some-same (this_line p) s (sym (ap (option_map this_line) F.found_is) ∙ k) in
+    let leans : removal_leans (Some (this_line p)) ≡ false = subst (λ (z : Option StandingLine). removal_leans (option_map this_line z) ≡ false) F.found_is (where_holds-none _ Leans A.not_leaning) in
+    let y : removed_span (this_line p) ≡ rs = subst (λ (z : Option StandingLine). where_found removed_span (option_map this_line z) ≡ rs) F.found_is A.spans_are in
+    let i : this_line p ≡ s = same_Some (this_line p) s (sym (ap (option_map this_line) F.found_is) ∙ k) in
     lines-by t e rs s (this_line p) h y i (stretch-lines t (this_line p) F.whole (assignment-agrees p.above p.line F.assigned F.class_is) leans)
 
 recipe-lines : (t g : List ℕ) (nth : Option ℕ) (number : ℕ) (rs : List Replacement) (s : Stretch) → spans t (RemoveRecipe nth g number) ≡ Ok rs → removal (classed_lines t) (RemoveRecipe nth g number) ≡ Some s
@@ -135,9 +133,9 @@ recipe-lines t g nth number rs s h k =
     let A = accepted t e rs h in
     let F = recipe-found (classed_lines t) nth g number (where_holds-none _ Absent A.not_absent) in
     let p = F.spot in
-    let leans : removal_leans (Some (this_line p)) ≡ false = subst (λ (z : Option Spot). removal_leans (option_map this_line z) ≡ false) F.found_is (where_holds-none _ Leans A.not_leaning) in
-    let y : removed_span (this_line p) ≡ rs = subst (λ (z : Option Spot). where_found removed_span (option_map this_line z) ≡ rs) F.found_is A.spans_are in
-    let i : this_line p ≡ s = some-same (this_line p) s (sym (ap (option_map this_line) F.found_is) ∙ k) in
+    let leans : removal_leans (Some (this_line p)) ≡ false = subst (λ (z : Option StandingLine). removal_leans (option_map this_line z) ≡ false) F.found_is (where_holds-none _ Leans A.not_leaning) in
+    let y : removed_span (this_line p) ≡ rs = subst (λ (z : Option StandingLine). where_found removed_span (option_map this_line z) ≡ rs) F.found_is A.spans_are in
+    let i : this_line p ≡ s = same_Some (this_line p) s (sym (ap (option_map this_line) F.found_is) ∙ k) in
     lines-by t e rs s (this_line p) h y i (stretch-lines t (this_line p) F.whole (recipe-agrees p.above p.line (recipe-class p.line.class F.is_recipe_line)) leans)
 
 rule-lines : (t g : List ℕ) (nth : Option ℕ) (rs : List Replacement) (s : Stretch) → spans t (RemoveRule nth g) ≡ Ok rs → removal (classed_lines t) (RemoveRule nth g) ≡ Some s
@@ -147,10 +145,10 @@ rule-lines t g nth rs s h k =
     let A = accepted t e rs h in
     let F = rule-found (classed_lines t) nth g (where_holds-none _ NoSuch A.is_there) (where_holds-none _ _ A.is_one) in
     let p = F.spot in
-    let leans : removal_leans (Some (whole_rule p)) ≡ false = subst (λ (z : Option Spot). removal_leans (option_map whole_rule z) ≡ false) F.found_is (where_holds-none _ Leans A.not_leaning) in
-    let plain : has_conditional (Some p) ≡ false = subst (λ (z : Option Spot). has_conditional z ≡ false) F.found_is (where_holds-none _ Straddles A.not_straddling) in
-    let y : removed_span (whole_rule p) ≡ rs = subst (λ (z : Option Spot). where_found removed_span (option_map whole_rule z) ≡ rs) F.found_is A.spans_are in
-    let i : whole_rule p ≡ s = some-same (whole_rule p) s (sym (ap (option_map whole_rule) F.found_is) ∙ k) in
+    let leans : removal_leans (Some (whole_rule p)) ≡ false = subst (λ (z : Option StandingLine). removal_leans (option_map whole_rule z) ≡ false) F.found_is (where_holds-none _ Leans A.not_leaning) in
+    let plain : has_conditional (Some p) ≡ false = subst (λ (z : Option StandingLine). has_conditional z ≡ false) F.found_is (where_holds-none _ Straddles A.not_straddling) in
+    let y : removed_span (whole_rule p) ≡ rs = subst (λ (z : Option StandingLine). where_found removed_span (option_map whole_rule z) ≡ rs) F.found_is A.spans_are in
+    let i : whole_rule p ≡ s = same_Some (whole_rule p) s (sym (ap (option_map whole_rule) F.found_is) ∙ k) in
     let whole : classed_lines t ≡ p.above ++ (p.line ∷ recipe_run p.below ++ after_recipe p.below) = F.whole ∙ ap (λ w. p.above ++ p.line ∷ w) (sym (recipe_run-after p.below)) in
     lines-by t e rs s (whole_rule p) h y i (stretch-lines t (whole_rule p) whole (header-agrees p.above p.line (recipe_run p.below) F.header F.class_is (recipe_run-stays p.below) plain) leans)
 

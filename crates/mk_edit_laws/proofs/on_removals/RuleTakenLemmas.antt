@@ -13,18 +13,19 @@ use Rattle.mk_class.specs.Texts.{is_same_text, is_one_of, word_texts}
 use Rattle.mk_class.specs.Classes.{Class, is_conditional, is_recipe}
 use Rattle.mk_class.specs.Classes.Class.{Endef, Body, Recipe, Opaque, Blank, Comment, Assign, DefineHead, If, Else, Endif, Directive, TargetAssign, Rough, Header}
 use Rattle.mk_class.specs.ClassedLines.{ClassedLine, classed_lines}
+use Rattle.mk_class.proofs.WordLemmas.{same_text-is}
 use Rattle.mk_tree.specs.RecipeLines.{stays_in_rule, ends_rule, rule_lines, recipe_run, after_recipe}
 use Rattle.mk_tree.proofs.on_changes.RecipeRunLemmas.{recipe_run-after, recipe_run-stays}
 use Rattle.mk_tree.specs.Items
 use Rattle.mk_tree.specs.Items.{items, items_of_line, header_item}
 use Rattle.mk_tree.proofs.on_documents.LinePlaces.{items-append}
+use Rattle.mk_tree.specs.LineTexts.{StandingLine}
 use Rattle.mk_edit_laws.specs.Edits.{RemoveRule}
-use Rattle.mk_edit_laws.specs.Spots.{Spot}
 use Rattle.mk_edit_laws.specs.Addresses.{Rule, is_rule_for, found}
 use Rattle.mk_edit_laws.specs.Stretches.{whole_rule}
 use Rattle.mk_edit_laws.specs.RuleCauses.{class_found, targets_found, has_conditional}
 use Rattle.mk_edit_laws.specs.Refusals.{spans}
-use Rattle.mk_edit_laws.proofs.on_edits.Accepted.{accepted, where_holds-none, same_text-is}
+use Rattle.mk_edit_laws.proofs.on_edits.Accepted.{accepted, where_holds-none}
 use Rattle.mk_edit_laws.proofs.on_lines.SpotLemmas.{picked-is, rule-found}
 use Rattle.mk_edit_laws.proofs.on_removals.RemovalLemmas.{removed-lines}
 use Rattle.mk_edit_laws.specs.RuleTaken.{is_of_recipe, ends_in_recipe, recipe_goes_on, commands, is_recipe_item, TakesTheRuleAlone}
@@ -176,9 +177,9 @@ unrule-takes nth g t rs h =
     let passes : is_rule_for g s.line.class ≡ true = (picked-is (λ l. is_rule_for g l.class) ls nth s F.found_is).passes in
     let one_of : is_one_of g (word_texts joined_byte H.targets) ≡ true = sym (ap (is_rule_for g) F.class_is) ∙ passes in
     let targets : targets_found (class_found (found ls (Rule nth g))) ≡ word_texts joined_byte H.targets =
-    ap (λ (o : Option Spot). targets_found (class_found o)) F.found_is ∙ ap (λ (k : Class Cell). targets_found (Some k)) F.class_is in
+    ap (λ (o : Option StandingLine). targets_found (class_found o)) F.found_is ∙ ap (λ (k : Class Cell). targets_found (Some k)) F.class_is in
     let few : nat_lt 1 (length (word_texts joined_byte H.targets)) ≡ false = ap (λ z. nat_lt 1 (length z)) (sym targets) ∙ where_holds-none _ _ A.not_shared in
-    let plain : has_conditional (Some s) ≡ false = subst (λ (z : Option Spot). has_conditional z ≡ false) F.found_is (where_holds-none _ Straddles A.not_straddling) in
+    let plain : has_conditional (Some s) ≡ false = subst (λ (z : Option StandingLine). has_conditional z ≡ false) F.found_is (where_holds-none _ Straddles A.not_straddling) in
     let of_recipe = lines-of_recipe run (recipe_run-stays s.below) plain in
     let before : ls ≡ s.above ++ (s.line ∷ (run ++ rest)) = F.whole ∙ ap (λ z. s.above ++ s.line ∷ z) (sym (recipe_run-after s.below)) in
     let after = removed-lines e t rs (whole_rule s) h (ap (option_map whole_rule) F.found_is) in

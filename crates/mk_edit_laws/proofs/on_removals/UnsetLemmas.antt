@@ -12,8 +12,8 @@ use Rattle.mk_tree.specs.Readings.{reading}
 use Rattle.mk_tree.proofs.on_documents.LinePlaces.{context_of-last, reading-two}
 use Rattle.mk_tree.specs.Leaning.{leans, AgreeButForFlag}
 use Rattle.mk_tree.proofs.on_changes.RunsReplaced.{text-run_replaced, run-removed}
+use Rattle.mk_tree.specs.LineTexts.{StandingLine}
 use Rattle.mk_edit_laws.specs.Edits.{RemoveAssign}
-use Rattle.mk_edit_laws.specs.Spots.{Spot}
 use Rattle.mk_edit_laws.specs.Addresses.{Variable, found}
 use Rattle.mk_edit_laws.specs.Stretches.{Stretch, this_line}
 use Rattle.mk_edit_laws.specs.Spans.{removed_span, where_found}
@@ -52,9 +52,9 @@ unset-found : (t n : List ℕ) (nth : Option ℕ) (rs : List Replacement) → (F
     → reading (replaced 0 t rs) ≡ where_found without_items (option_map this_line (found (classed_lines t) (Variable nth n)))
 unset-found t n nth rs F k h =
     let s = F.spot in
-    let x : removal_leans (option_map this_line (Some s)) ≡ false = subst (λ (z : Option Spot). removal_leans (option_map this_line z) ≡ false) F.found_is k in
-    let y : removed_span (this_line s) ≡ rs = subst (λ (z : Option Spot). where_found removed_span (option_map this_line z) ≡ rs) F.found_is h in
-    let z : where_found without_items (option_map this_line (found (classed_lines t) (Variable nth n))) ≡ without_items (this_line s) = ap (λ (o : Option Spot). where_found without_items (option_map this_line o)) F.found_is in
+    let x : removal_leans (option_map this_line (Some s)) ≡ false = subst (λ (z : Option StandingLine). removal_leans (option_map this_line z) ≡ false) F.found_is k in
+    let y : removed_span (this_line s) ≡ rs = subst (λ (z : Option StandingLine). where_found removed_span (option_map this_line z) ≡ rs) F.found_is h in
+    let z : where_found without_items (option_map this_line (found (classed_lines t) (Variable nth n))) ≡ without_items (this_line s) = ap (λ (o : Option StandingLine). where_found without_items (option_map this_line o)) F.found_is in
     ap (λ q. reading (replaced 0 t q)) (sym y) ∙ (stretch-removed t (this_line s) F.whole (assignment-agrees s.above s.line F.assigned F.class_is) x ∙ sym z)
 
 -- the law

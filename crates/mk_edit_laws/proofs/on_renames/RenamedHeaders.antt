@@ -50,11 +50,11 @@ abbrev pub renamed_units : (old new : List ℕ) → List (List Cell) → List (L
 renamed_units o n us = token_units (tokens_renamed o n (tokens joined_byte us))
 
 module _ (o n : List ℕ) (new : IsNewTarget o n) (us : List (List Cell)) where
-  pub renamed-parts : AllAre IsPartUnit us → AllAre IsPartUnit (renamed_units o n us)
+  renamed-parts : AllAre IsPartUnit us → AllAre IsPartUnit (renamed_units o n us)
   renamed-parts h = renamed-all o n new.word IsPartUnit (tokens joined_byte us) (word-parts n new.word) (subst (AllAre IsPartUnit) (sym (token_units-tokens joined_byte us)) h)
 
   -- the tokens are those renamed
-  pub renamed-tokens : tokens joined_byte (renamed_units o n us) ≡ tokens_renamed o n (tokens joined_byte us)
+  renamed-tokens : tokens joined_byte (renamed_units o n us) ≡ tokens_renamed o n (tokens joined_byte us)
   renamed-tokens = tokens-token_units joined_byte (tokens_renamed o n (tokens joined_byte us)) (renamed-are_tokens o n new.word (tokens joined_byte us) (tokens-are_tokens joined_byte us))
 
   pub renamed-texts : word_texts joined_byte (renamed_units o n us) ≡ rename_words o n (word_texts joined_byte us)
@@ -65,20 +65,20 @@ module _ (o n : List ℕ) (new : IsNewTarget o n) (us : List (List Cell)) where
       subst AreLineCells (sym (concat-token_units (tokens_renamed o n (tokens joined_byte us))))
       (renamed-line_cells o n new.word [] (tokens joined_byte us) (subst AreLineCells (sym (token_text-tokens joined_byte us)) a))
 
-  pub renamed-end : AllAre IsPartUnit us → EndsAs (concat (renamed_units o n us)) (concat us)
+  renamed-end : AllAre IsPartUnit us → EndsAs (concat (renamed_units o n us)) (concat us)
   renamed-end h =
       subst (λ z. EndsAs z (concat us)) (sym (concat-token_units (tokens_renamed o n (tokens joined_byte us))))
       (subst (EndsAs (token_text (tokens_renamed o n (tokens joined_byte us)))) (token_text-tokens joined_byte us)
       (renamed-ends o n new.word [] (tokens joined_byte us) tt (tokens-are_tokens joined_byte us) (subst (AllAre IsHeadUnit) (sym (token_units-tokens joined_byte us)) (part-head us h))))
 
-  pub renamed-first_gap : first_passes is_no_gap us ≡ false → first_passes is_no_gap (renamed_units o n us) ≡ false
+  renamed-first_gap : first_passes is_no_gap us ≡ false → first_passes is_no_gap (renamed_units o n us) ≡ false
   renamed-first_gap h =
       let ts = tokens joined_byte us in
       let a = tokens-are_tokens joined_byte us in
       first-word (tokens_renamed o n ts) (renamed-are_tokens o n new.word ts a)
       ∙ (renamed-word_first o n new.word ts ∙ (sym (first-word ts a) ∙ (ap (first_passes is_no_gap) (token_units-tokens joined_byte us) ∙ h)))
 
-  pub renamed-last_gap : last_passes is_no_gap us ≡ false → last_passes is_no_gap (renamed_units o n us) ≡ false
+  renamed-last_gap : last_passes is_no_gap us ≡ false → last_passes is_no_gap (renamed_units o n us) ≡ false
   renamed-last_gap h =
       renamed-last o n new.word is_no_gap (λ w i e. absurd (word w i e)) (tokens joined_byte us) (tokens-are_tokens joined_byte us) (ap (last_passes is_no_gap) (token_units-tokens joined_byte us) ∙ h)
     where
@@ -96,7 +96,7 @@ module _ (o n : List ℕ) (new : IsNewTarget o n) (us : List (List Cell)) where
       word w e true = new.no_ampersand
       word w e false = e
 
-  pub renamed-alike_tokens : AlikeTokens (tokens joined_byte us) (tokens joined_byte (renamed_units o n us))
+  renamed-alike_tokens : AlikeTokens (tokens joined_byte us) (tokens joined_byte (renamed_units o n us))
   renamed-alike_tokens = subst (AlikeTokens (tokens joined_byte us)) (sym renamed-tokens) (renamed-alike o n new.word new.old_free new.new_free (tokens joined_byte us))
 
   pub renamed-old : old_cells (renamed_words o n us) ≡ concat us

@@ -2,6 +2,7 @@
 -- each target that was the old.
 use Rattle.std.proofs.Common.{◌≡◌, refl, sym, ap, ◌∙◌, subst, ℕ, List, [], ◌∷◌, ◌++◌, map, Bool, true, false, cond, append_assoc, reverse}
 use Rattle.std.specs.Prelude.{nat_lt}
+use Rattle.std.proofs.lemmas.Bool.{or_from}
 use Rattle.mk_lines.specs.Lists.{concat, Each}
 use Rattle.mk_lines.proofs.on_lists.ListLemmas.{Each-append, Each-left, Each-right, concat-append}
 use Rattle.mk_lines.specs.PhysicalLines.{line_end, line_end_bytes, without_line_end}
@@ -10,36 +11,38 @@ use Rattle.mk_lines.specs.CellFaults.{has_stray, has_bad_fold}
 use Rattle.mk_lines.proofs.on_cells.CellLemmas.{raw_text-append, raw_text-cells}
 use Rattle.mk_lines.proofs.on_lines.LineLemmas.{OneLine, EndsBefore}
 use Rattle.mk_lines.proofs.on_lines.LineEndLemmas.{KeepsApart, without_line_end-line_end}
-use Rattle.mk_lines.proofs.on_cells.LineCells.{AreLineCells, AreLineCells-left, AreLineCells-right, EndLineBefore, EndLineBefore-tail, KeepsApart-tail, IsLineOf, line-of_cells, line-ends, line-keeps_apart, or-left_false, or-both_false}
+use Rattle.mk_lines.proofs.on_cells.LineCells.{AreLineCells, AreLineCells-left, AreLineCells-right, EndLineBefore, EndLineBefore-tail, KeepsApart-tail, IsLineOf, line-of_cells, line-ends, line-keeps_apart}
 use Rattle.mk_lines.specs.Pieces.{Keep, Replace, old_bytes, new_bytes}
 use Rattle.mk_lines.proofs.on_lists.PieceLemmas.{raw_text-old_cells, raw_text-new_cells}
 use Rattle.mk_lines.specs.Units.{units}
 use Rattle.mk_lines.proofs.on_units.UnitLemmas.{concat-units}
 use Rattle.mk_lines.specs.Words.{Token, Gap, Word, tokens, token_units, AreTokens}
 use Rattle.mk_lines.proofs.on_units.TokenLemmas.{token_text, token_units-tokens, token_text-tokens, tokens-are_tokens}
+use Rattle.mk_lines.proofs.on_lists.BoolLemmas.{or-left_false}
+use Rattle.mk_lines.proofs.on_cells.CellsReplaced.{not_empty-append}
 use Rattle.mk_class.specs.Lists.{any, is_empty, last_passes}
 use Rattle.mk_class.specs.Texts.{word_texts}
 use Rattle.mk_class.specs.Symbols.{is_colon, is_ampersand}
 use Rattle.mk_class.specs.CutTexts.{is_in_head, is_no_hash}
 use Rattle.mk_class.specs.Arguments.{is_word}
 use Rattle.mk_class.specs.Assignments.{assignment}
-use Rattle.mk_class.proofs.on_assignments.AssignmentLineLemmas.{some_raw}
+use Rattle.mk_class.proofs.on_assignments.AssignmentLineLemmas.{some_raw, some_cell, cells_class}
 use Rattle.mk_class.specs.Headers
 use Rattle.mk_class.specs.Headers.{is_no_colon}
 use Rattle.mk_class.specs.RecipePrefix.{is_prefix_led}
-use Rattle.mk_class.specs.Contexts.{Context}
 use Rattle.mk_class.specs.Classes.{Class}
 use Rattle.mk_class.specs.Classes.Class.{TargetAssign}
-use Rattle.mk_class.specs.ClassTable.{class_of, class_at, directive, is_unreadable, plain_class}
+use Rattle.mk_class.specs.ClassTable.{class_of, directive, is_unreadable, plain_class}
 use Rattle.mk_class.proofs.on_classes.ClassLemmas.{readable-are_line_cells, has_stray-append, has_stray-left, has_stray-right}
 use Rattle.mk_class.specs.declared.rule.Separator.TheVariants.{SingleColon}
+use Rattle.mk_class.proofs.on_assignments.ValueLemmas.{clean-no_stray}
 use Rattle.mk_edit_laws.specs.AddressCauses.{begins_renamed_line}
 use Rattle.mk_edit_laws.specs.WordPieces.{renamed_words, renamed_tokens, is_replaced, is_word_of}
 use Rattle.mk_edit_laws.proofs.on_lines.HeadUnits.{line_cells-before_solid}
 use Rattle.mk_edit_laws.proofs.on_lines.HeadWords.{concat-token_units}
 use Rattle.mk_edit_laws.proofs.on_lines.DirectiveWords.{alike-say_same, same-no_directive}
 use Rattle.mk_edit_laws.proofs.on_lines.HeaderParts.{colon-is, colons-begin}
-use Rattle.mk_edit_laws.proofs.on_prerequisites.NewWords.{IsNewWord, cell_units, clean-no_stray, rule_units-bland}
+use Rattle.mk_edit_laws.proofs.on_prerequisites.NewWords.{IsNewWord, cell_units, rule_units-bland}
 use Rattle.mk_edit_laws.proofs.on_renames.WordsRenamed.{tokens_renamed, renamed_word, renamed-are_tokens, renamed-alike}
 use Rattle.mk_edit_laws.proofs.on_renames.RenamedHeaders.{IsNewTarget, renamed_units, renamed-cells, renamed-last_ampersand, renamed-old, renamed-new, and-right, and-of, none-replaced, renamed-not_led}
 use Rattle.mk_edit_laws.proofs.on_renames.RenamedTexts.{AreRenamed, targets_renamed}
@@ -106,10 +109,6 @@ target-no_stray : (o n : List ℕ) → IsNewWord n → (us : List (List Cell)) �
 target-no_stray o n new us h =
     ap has_stray (concat-token_units (tokens_renamed o n (tokens joined_byte us))) ∙ renamed-no_stray o n new (tokens joined_byte us) (ap has_stray (token_text-tokens joined_byte us) ∙ h)
 
-filled-before : (a b : List ℕ) (x : ℕ) (y : List ℕ) → b ≡ x ∷ y → (v : ℕ) × (w : List ℕ) × (a ++ b ≡ v ∷ w)
-filled-before [] b x y e = (x, y, e)
-filled-before (z ∷ a) b x y e = (z, a ++ b, refl)
-
 filled-after : (a b : List ℕ) → is_empty a ≡ false → (v : ℕ) × (w : List ℕ) × (a ++ b ≡ v ∷ w)
 filled-after [] b e = cc
 filled-after (z ∷ a) b e = (z, a ++ b, refl)
@@ -117,14 +116,14 @@ filled-after (z ∷ a) b e = (z, a ++ b, refl)
 -- where some piece is replaced, there are bytes
 replaced-filled : (o n : List ℕ) → is_empty n ≡ false → (ts : List (Token Cell)) → any is_replaced (renamed_tokens o n ts) ≡ true → (x : ℕ) × (y : List ℕ) × (new_bytes (renamed_tokens o n ts) ≡ x ∷ y)
 replaced-filled o n f [] h = cc
-replaced-filled o n f (Gap u ∷ ts) h = let r = replaced-filled o n f ts h in filled-before (raw_text u) (new_bytes (renamed_tokens o n ts)) r.0 r.1 r.2
+replaced-filled o n f (Gap u ∷ ts) h = let r = replaced-filled o n f ts h in not_empty-append (raw_text u) (new_bytes (renamed_tokens o n ts)) r.0 r.1 r.2
 replaced-filled o n f (Word w ∷ ts) h = go (is_word_of o w) h (λ k. replaced-filled o n f ts k)
   where
     go : (c : Bool) → any is_replaced (cond c (Replace (concat w) n) (Keep (concat w)) ∷ renamed_tokens o n ts) ≡ true
         → (any is_replaced (renamed_tokens o n ts) ≡ true → (x : ℕ) × (y : List ℕ) × (new_bytes (renamed_tokens o n ts) ≡ x ∷ y))
         → (x : ℕ) × (y : List ℕ) × (new_bytes (cond c (Replace (concat w) n) (Keep (concat w)) ∷ renamed_tokens o n ts) ≡ x ∷ y)
     go true k i = filled-after n (new_bytes (renamed_tokens o n ts)) f
-    go false k i = let r = i k in filled-before (raw_text (concat w)) (new_bytes (renamed_tokens o n ts)) r.0 r.1 r.2
+    go false k i = let r = i k in not_empty-append (raw_text (concat w)) (new_bytes (renamed_tokens o n ts)) r.0 r.1 r.2
 
 -- the new line does not begin with the prefix
 target-not_led : (o n : List ℕ) → is_empty n ≡ false → (prefix : ℕ) (us : List (List Cell)) (rest : List ℕ) → begins_renamed_line prefix (renamed_words o n us) ≡ false
@@ -134,10 +133,6 @@ target-not_led o n f prefix us rest h k = go (any is_replaced (renamed_words o n
     go : (c : Bool) → any is_replaced (renamed_words o n us) ≡ c → is_prefix_led prefix (new_bytes (renamed_words o n us) ++ rest) ≡ false
     go true e = let s = replaced-filled o n f (tokens joined_byte us) e in renamed-not_led prefix (renamed_words o n us) rest s.0 s.1 s.2 h k
     go false e = ap (λ z. is_prefix_led prefix (z ++ rest)) (none-replaced (renamed_words o n us) e) ∙ k
-
-some_cell : (a b : List Cell) (x : Cell) → (d : Cell) × (D : List Cell) × (a ++ x ∷ b ≡ d ∷ D)
-some_cell [] b x = (x, b, refl)
-some_cell (c ∷ a) b x = (c, a ++ x ∷ b, refl)
 
 -- a line with other cells before a `:`: one line of these cells, with the same line end
 line-before_colon : (l : List ℕ) (below : List (List ℕ)) (a b D : List Cell) → line_cells l ≡ a ++ Byte 58 ∷ D → AreLineCells (a ++ Byte 58 ∷ D) → AreLineCells (b ++ Byte 58 ∷ D) → OneLine l → EndsBefore l below
@@ -153,10 +148,6 @@ line-before_colon l below a b D e old new one ends =
     line-of_cells cs end below byte.0 (byte.1 ++ line_end_bytes end) new apart stops (ap (λ z. z ++ line_end_bytes end) byte.2)
 
 -- ---- the line
-
--- the class of cells in a context, as prefix-led or not
-abbrev read : Context → Bool → List Cell → Class Cell
-read c led cs = class_at joined_byte led c.defines c.flag (nat_lt 0 c.conditionals) (is_unreadable cs) (units joined_byte cs)
 
 -- A target assignment's line after a rename: one line, which ends where lines follow, of class TargetAssign with the new word
 -- for the old.
@@ -181,7 +172,7 @@ target-renamed o n new i j a c l below e one ends starts =
     line_cells-before_solid (concat T') Y (renamed-cells o n new T (AreLineCells-left (concat T) Y old)) tail (record { first = 58; rest = D; is = refl; no_blank = refl }) in
     let stray : has_stray (concat T ++ Y) ≡ false = ap has_stray (sym cells_are) ∙ or-left_false (has_stray cs) (has_bad_fold cs) R.here.readable in
     let readable : is_unreadable new_cs ≡ false =
-    or-both_false (has_stray new_cs) (has_bad_fold new_cs) (has_stray-append (concat T') Y (target-no_stray o n new.word T (has_stray-left (concat T) Y stray)) (has_stray-right (concat T) Y stray)) cells.clean.1 in
+    or_from (has_stray new_cs) (has_bad_fold new_cs) (has_stray-append (concat T') Y (target-no_stray o n new.word T (has_stray-left (concat T) Y stray)) (has_stray-right (concat T) Y stray)) cells.clean.1 in
     let ts = tokens joined_byte T in
     let again : units joined_byte new_cs ≡ T' ++ X =
     ap (λ z. units joined_byte (concat T' ++ z)) (sym after)
@@ -200,11 +191,11 @@ target-renamed o n new i j a c l below e one ends starts =
     let made : m ≡ new_bytes ps ++ rest = split (concat T') ∙ ap (λ z. z ++ rest) (ap raw_text (sym (renamed-new o n new T)) ∙ raw_text-new_cells ps) in
     let not_led : is_prefix_led c.prefix m ≡ false =
     ap (is_prefix_led c.prefix) made ∙ target-not_led o n new.word.filled c.prefix T rest starts (ap (is_prefix_led c.prefix) (sym before) ∙ R.here.not_led) in
-    let also : read c false new_cs ≡ plain_class joined_byte false flag (is_unreadable new_cs) (units joined_byte new_cs) =
-    ap (λ z. read c z new_cs) (sym R.here.not_led) ∙ (R.also new_cs (units joined_byte new_cs) ∙ ap (λ z. plain_class joined_byte z flag (is_unreadable new_cs) (units joined_byte new_cs)) R.here.not_led) in
+    let also : cells_class c false new_cs ≡ plain_class joined_byte false flag (is_unreadable new_cs) (units joined_byte new_cs) =
+    ap (λ z. cells_class c z new_cs) (sym R.here.not_led) ∙ (R.also new_cs (units joined_byte new_cs) ∙ ap (λ z. plain_class joined_byte z flag (is_unreadable new_cs) (units joined_byte new_cs)) R.here.not_led) in
     let class : class_of c m ≡ TargetAssign (targets_renamed o n a) =
-    ap (λ z. read c z (line_cells m)) not_led
-    ∙ (ap (read c false) line.same_cells
+    ap (λ z. cells_class c z (line_cells m)) not_led
+    ∙ (ap (cells_class c false) line.same_cells
     ∙ (also ∙ (ap (plain_class joined_byte false flag (is_unreadable new_cs)) again ∙ target-again flag (units joined_byte cs) a p T' new_cs (renamed-fit o n new i j flag cs a p) readable))) in
     record {
       rest = rest;

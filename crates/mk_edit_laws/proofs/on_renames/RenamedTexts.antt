@@ -8,7 +8,7 @@ use Rattle.mk_lines.specs.Cells.{Cell, raw_text}
 use Rattle.mk_lines.specs.Pieces.{Piece, replaced, replacements, old_bytes, new_bytes}
 use Rattle.mk_lines.proofs.on_lists.PieceLemmas.{raw_text-old_cells, raw_text-new_cells}
 use Rattle.mk_lines.proofs.on_lines.LineLemmas.{OneLine, OneLine-of, OneLine-logical, EndsBefore}
-use Rattle.mk_lines.proofs.on_lines.LineEndLemmas.{EndsBefore-of, EndsLineBefore-of}
+use Rattle.mk_lines.proofs.on_lines.LineEndLemmas.{EndsBefore-followed, EndsWhereFollowed-of}
 use Rattle.mk_class.specs.Headers
 use Rattle.mk_class.specs.Classes.{Class}
 use Rattle.mk_class.specs.Contexts.{Context, start, context_after}
@@ -115,56 +115,56 @@ context-renamed o n c Class.Endif = refl
 context-renamed o n c Class.Directive = refl
 context-renamed o n c Class.Rough = refl
 
+-- the pieces of a line, and its class after the rename
+abbrev pub line_pieces : (o n : List ℕ) → ClassedLine → List Piece
+line_pieces o n l = renamed_pieces o n l.class
+
+abbrev pub line_class : (o n : List ℕ) → ClassedLine → Class Cell
+line_class o n l = renamed_class o n l.class
+
 -- What is known of the lines of a text after a rename: the lines before it begin with its pieces, each can be replaced by the line
 -- with these replaced, and so they are.
 pub record AreLinesRenamed (o n t : List ℕ) : Type 0 where
-  pub begin : BeginWithPieces (λ l. renamed_pieces o n l.class) (classed_lines t)
-  pub each : ReplaceEach start (classed_lines t) (map (with_pieces (λ l. renamed_pieces o n l.class) (λ l. renamed_class o n l.class)) (classed_lines t)) []
-  pub spans_are : renamed_spans o n 0 (classed_lines t) ≡ line_replacements (λ l. renamed_pieces o n l.class) 0 (classed_lines t)
-  pub lines : classed_lines (replaced 0 t (renamed_spans o n 0 (classed_lines t))) ≡ map (with_pieces (λ l. renamed_pieces o n l.class) (λ l. renamed_class o n l.class)) (classed_lines t)
+  pub begin : BeginWithPieces (line_pieces o n) (classed_lines t)
+  pub each : ReplaceEach start (classed_lines t) (map (with_pieces (line_pieces o n) (line_class o n)) (classed_lines t)) []
+  pub spans_are : renamed_spans o n 0 (classed_lines t) ≡ line_replacements (line_pieces o n) 0 (classed_lines t)
+  pub lines : classed_lines (replaced 0 t (renamed_spans o n 0 (classed_lines t))) ≡ map (with_pieces (line_pieces o n) (line_class o n)) (classed_lines t)
 
 module _ (o n : List ℕ) (new : IsNewTarget o n) (all : (k : Class Cell) → AreRenamed o n k) where
-  -- the pieces of a line, and its class after the rename
-  abbrev line_pieces : ClassedLine → List Piece
-  line_pieces l = renamed_pieces o n l.class
-
-  abbrev line_class : ClassedLine → Class Cell
-  line_class l = renamed_class o n l.class
-
   -- whether a line that the rename changes would not begin with the prefix
   abbrev FreeOfPrefix : Context → ClassedLine → Type 0
-  FreeOfPrefix c l = begins_renamed_line c.prefix (line_pieces l) ≡ false
+  FreeOfPrefix c l = begins_renamed_line c.prefix (line_pieces o n l) ≡ false
 
-  after-is : (c : Context) (l : ClassedLine) (below : List (List ℕ)) → (r : IsRenamed o n c l.bytes below l.class) → after_pieces line_pieces l ≡ r.rest
-  after-is c l below r = ap (drop (length (old_bytes (line_pieces l)))) r.is ∙ drop-append_seam (old_bytes (line_pieces l)) r.rest
+  after-is : (c : Context) (l : ClassedLine) (below : List (List ℕ)) → (r : IsRenamed o n c l.bytes below l.class) → after_pieces (line_pieces o n) l ≡ r.rest
+  after-is c l below r = ap (drop (length (old_bytes (line_pieces o n l)))) r.is ∙ drop-append_seam (old_bytes (line_pieces o n l)) r.rest
 
-  replaces : (c : Context) (l : ClassedLine) (following : List ClassedLine) → FreeOfPrefix c l → ReplacesLine c l l following → ReplacesLine c l (with_pieces line_pieces line_class l) following
+  replaces : (c : Context) (l : ClassedLine) (following : List ClassedLine) → FreeOfPrefix c l → ReplacesLine c l l following → ReplacesLine c l (with_pieces (line_pieces o n) (line_class o n) l) following
   replaces c l following f s =
-      let r = all l.class c l.bytes (bytes_of following) s.class (OneLine-of l.bytes s.one) (EndsBefore-of l.bytes (bytes_of following) s.ends) f in
+      let r = all l.class c l.bytes (bytes_of following) s.class (OneLine-of l.bytes s.one) (EndsBefore-followed l.bytes (bytes_of following) s.ends) f in
       let e = after-is c l (bytes_of following) r in
-      let P = new_bytes (line_pieces l) in
+      let P = new_bytes (line_pieces o n l) in
       record {
-        one = OneLine-logical (P ++ after_pieces line_pieces l) (subst (λ z. OneLine (P ++ z)) (sym e) r.one);
-        ends = EndsLineBefore-of (P ++ after_pieces line_pieces l) (bytes_of following) (subst (λ z. EndsBefore (P ++ z) (bytes_of following)) (sym e) r.ends);
+        one = OneLine-logical (P ++ after_pieces (line_pieces o n) l) (subst (λ z. OneLine (P ++ z)) (sym e) r.one);
+        ends = EndsWhereFollowed-of (P ++ after_pieces (line_pieces o n) l) (bytes_of following) (subst (λ z. EndsBefore (P ++ z) (bytes_of following)) (sym e) r.ends);
         class = ap (λ z. class_of c (P ++ z)) e ∙ r.class;
         context = context-renamed o n c l.class;
       }
 
-  begins : (c : Context) (ls : List ClassedLine) → EachInContext FreeOfPrefix c ls → ReplaceEach c ls ls [] → BeginWithPieces line_pieces ls
+  begins : (c : Context) (ls : List ClassedLine) → EachInContext FreeOfPrefix c ls → ReplaceEach c ls ls [] → BeginWithPieces (line_pieces o n) ls
   begins c [] f s = tt
   begins c (l ∷ ls) f s =
-      let r = all l.class c l.bytes (bytes_of (ls ++ [])) s.0.class (OneLine-of l.bytes s.0.one) (EndsBefore-of l.bytes (bytes_of (ls ++ [])) s.0.ends) f.0 in
-      (r.is ∙ ap (λ z. old_bytes (line_pieces l) ++ z) (sym (after-is c l (bytes_of (ls ++ [])) r)), begins (context_after c l.class) ls f.1 s.1)
+      let r = all l.class c l.bytes (bytes_of (ls ++ [])) s.0.class (OneLine-of l.bytes s.0.one) (EndsBefore-followed l.bytes (bytes_of (ls ++ [])) s.0.ends) f.0 in
+      (r.is ∙ ap (λ z. old_bytes (line_pieces o n l) ++ z) (sym (after-is c l (bytes_of (ls ++ [])) r)), begins (context_after c l.class) ls f.1 s.1)
 
   free : (c : Context) (ls : List ClassedLine) → begins_some_renamed_line o n c ls ≡ false → EachInContext FreeOfPrefix c ls
   free c [] h = tt
   free c (l ∷ ls) h =
-      let p = or_parts (begins_renamed_line c.prefix (line_pieces l)) (begins_some_renamed_line o n (context_after c l.class) ls) h in
+      let p = or_parts (begins_renamed_line c.prefix (line_pieces o n l)) (begins_some_renamed_line o n (context_after c l.class) ls) h in
       (p.0, free (context_after c l.class) ls p.1)
 
-  spans-are : (at : ℕ) (ls : List ClassedLine) → renamed_spans o n at ls ≡ line_replacements line_pieces at ls
+  spans-are : (at : ℕ) (ls : List ClassedLine) → renamed_spans o n at ls ≡ line_replacements (line_pieces o n) at ls
   spans-are at [] = refl
-  spans-are at (l ∷ ls) = ap (λ z. replacements at (line_pieces l) ++ z) (spans-are (at + length l.bytes) ls)
+  spans-are at (l ∷ ls) = ap (λ z. replacements at (line_pieces o n l) ++ z) (spans-are (at + length l.bytes) ls)
 
   line-item : (k : Class Cell) (b : List ℕ) → items_of_line (renamed_class o n k) (new_bytes (renamed_pieces o n k) ++ drop (length (old_bytes (renamed_pieces o n k))) b) ≡ map (renamed_item o n) (items_of_line k b)
   line-item (Class.Header h) b = ap (λ z. z ∷ []) (rename-item o n new h)
@@ -183,10 +183,10 @@ module _ (o n : List ℕ) (new : IsNewTarget o n) (all : (k : Class Cell) → Ar
   line-item Class.Directive b = refl
   line-item Class.Rough b = refl
 
-  lines-items : (ls : List ClassedLine) → items (map (with_pieces line_pieces line_class) ls) ≡ map (renamed_item o n) (items ls)
+  lines-items : (ls : List ClassedLine) → items (map (with_pieces (line_pieces o n) (line_class o n)) ls) ≡ map (renamed_item o n) (items ls)
   lines-items [] = refl
   lines-items (l ∷ ls) =
-      ap (λ z. z ++ items (map (with_pieces line_pieces line_class) ls)) (line-item l.class l.bytes)
+      ap (λ z. z ++ items (map (with_pieces (line_pieces o n) (line_class o n)) ls)) (line-item l.class l.bytes)
       ∙ (ap (λ z. map (renamed_item o n) (items_of_line l.class l.bytes) ++ z) (lines-items ls) ∙ sym (map-append (renamed_item o n) (items_of_line l.class l.bytes) (items ls)))
 
   -- so it is of a text where the rename begins no line with the prefix
@@ -196,12 +196,12 @@ module _ (o n : List ℕ) (new : IsNewTarget o n) (all : (k : Class Cell) → Ar
       let F = free start ls h in
       let S = lines-in_place t in
       let b = begins start ls F S in
-      let e = replace-each FreeOfPrefix (with_pieces line_pieces line_class) replaces start ls [] F S in
+      let e = replace-each FreeOfPrefix (with_pieces (line_pieces o n) (line_class o n)) replaces start ls [] F S in
       record {
         begin = b;
         each = e;
         spans_are = spans-are 0 ls;
-        lines = ap (λ z. classed_lines (replaced 0 t z)) (spans-are 0 ls) ∙ all_pieces-replaced line_pieces line_class t b e;
+        lines = ap (λ z. classed_lines (replaced 0 t z)) (spans-are 0 ls) ∙ all_pieces-replaced (line_pieces o n) (line_class o n) t b e;
       }
 
   -- A text after a rename, which begins no line with the prefix, reads as before with the new word for the old.

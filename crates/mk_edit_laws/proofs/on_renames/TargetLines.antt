@@ -27,7 +27,7 @@ use Rattle.mk_edit_laws.proofs.on_renames.TargetUnits.{Free, until-free, free-no
 -- ---- what the class says
 
 -- a text taken apart at its separator, before an assignment
-abbrev pub with_assigned : Separated Cell → Assignment Cell → Headers.TargetAssignment Cell
+abbrev with_assigned : Separated Cell → Assignment Cell → Headers.TargetAssignment Cell
 with_assigned s b = record { separator = s.separator; targets = s.targets; colons = s.colons; assigned = b }
 
 -- a line of class TargetAssign outside defines and recipes
@@ -42,7 +42,7 @@ pub record IsTargetLine (led c : Bool) (cs : List Cell) (us : List (List Cell)) 
   pub is : with_assigned (separated joined_byte (cut_text joined_byte us)) a.assigned ≡ a
 
 -- each line of that class there is such
-pub plain_class-target : (led c : Bool) (cs : List Cell) (us : List (List Cell)) (a : Headers.TargetAssignment Cell) → plain_class joined_byte led c (is_unreadable cs) us ≡ TargetAssign a → IsTargetLine led c cs us a
+plain_class-target : (led c : Bool) (cs : List Cell) (us : List (List Cell)) (a : Headers.TargetAssignment Cell) → plain_class joined_byte led c (is_unreadable cs) us ≡ TargetAssign a → IsTargetLine led c cs us a
 plain_class-target led c cs us a k =
     let H = subst (Holds joined_byte us led c (is_unreadable cs)) k (plain_class-holds joined_byte us led c (is_unreadable cs)) in
     record {

@@ -19,8 +19,8 @@ use Rattle.mk_class.specs.Arguments.{is_clean, ends_word_symbol, ends_word, is_w
 use Rattle.mk_class.specs.Assignments.{ends_name_by, assignment}
 use Rattle.mk_class.specs.AssignmentsAtEquals.{Front, front_of, with_value, is_no_equals, assignment_from}
 use Rattle.mk_class.proofs.on_assignments.AssignmentEqualsLemmas.{assignment-at_equals}
+use Rattle.mk_class.proofs.WordLemmas.{same_text-is}
 use Rattle.mk_edit_laws.specs.WordPieces.{is_word_of}
-use Rattle.mk_edit_laws.proofs.on_edits.Accepted.{same_text-is}
 use Rattle.mk_edit_laws.proofs.on_lines.HeaderLines.{leading-all}
 use Rattle.mk_edit_laws.proofs.on_prerequisites.NewWords.{cell_units, cell_units-text, rule_units-bland}
 use Rattle.mk_edit_laws.proofs.on_renames.WordsRenamed.{tokens_renamed, renamed_word}
@@ -57,7 +57,7 @@ name-cells [] h = tt
 name-cells (u ∷ us) h = (ap (λ s. not (ends_name_by s false)) (sym (symbol-map joined_byte (λ b. b) u)) ∙ h.0, name-cells us h.1)
 
 -- units that are those of their own text, where that may be a word, end no name
-pub word-names : (x : List ℕ) → is_word x ≡ true → (w : List (List Cell)) → units joined_byte (concat w) ≡ w → map joined_byte (concat w) ≡ x → Each is_name_unit w
+word-names : (x : List ℕ) → is_word x ≡ true → (w : List (List Cell)) → units joined_byte (concat w) ≡ w → map joined_byte (concat w) ≡ x → Each is_name_unit w
 word-names x h w e k =
     let a = and_parts (not (is_empty x)) _ h in
     let b = and_parts (is_clean x) _ a.1 in

@@ -2,6 +2,7 @@
 use Rattle.std.proofs.Common.{◌≡◌, refl, sym, ap, ◌∙◌, ℕ, List, [], ◌∷◌, ◌++◌, map, Bool, true, false, not, ◌&&◌, ◌||◌, cond, append_assoc}
 use Rattle.std.proofs.lemmas.List.{append-nil}
 use Rattle.std.proofs.lemmas.Bool.{or_parts, not-true}
+use Rattle.std.proofs.Math.Bool.{and-false}
 use Rattle.mk_lines.specs.Lists.{concat, Each}
 use Rattle.mk_lines.proofs.on_lists.ListLemmas.{concat-append}
 use Rattle.mk_lines.specs.Cells.{Cell, Byte, joined_byte}
@@ -36,7 +37,7 @@ until-free p (u ∷ us) = go (p (u ∷ us)) refl (until-free p us)
     go false e h = (ap (λ z. p (u ∷ z)) (until-from p us) ∙ e, h)
 
 -- and such a list is what stands before it
-pub free-until : {A : Type 0} (p : List A → Bool) (T F : List A) → Free p T F → p F ≡ true → (until p (T ++ F) ≡ T) × (from p (T ++ F) ≡ F)
+free-until : {A : Type 0} (p : List A → Bool) (T F : List A) → Free p T F → p F ≡ true → (until p (T ++ F) ≡ T) × (from p (T ++ F) ≡ F)
 free-until p [] [] h k = (refl, refl)
 free-until p [] (x ∷ F) h k = (ap (λ c. cond c [] (x ∷ until p F)) k, ap (λ c. cond c (x ∷ F) (from p F)) k)
 free-until p (u ∷ T) F h k =
@@ -54,17 +55,13 @@ free-apart [] F h = refl
 free-apart (u ∷ []) F h = (or_parts (is_colon joined_byte u) (is_ampersand joined_byte u && first_passes (is_colon joined_byte) F) h.0).1
 free-apart (u ∷ v ∷ T) F h = free-apart (v ∷ T) F h.1
 
-and-no : (b : Bool) → (b && false) ≡ false
-and-no true = refl
-and-no false = refl
-
 -- such targets have no separator among them
-pub apart-free : (T F : List (List Cell)) → Each (is_no_colon joined_byte) T → (last_passes (is_ampersand joined_byte) T && first_passes (is_colon joined_byte) F) ≡ false → Free (begins_separator joined_byte) T F
+apart-free : (T F : List (List Cell)) → Each (is_no_colon joined_byte) T → (last_passes (is_ampersand joined_byte) T && first_passes (is_colon joined_byte) F) ≡ false → Free (begins_separator joined_byte) T F
 apart-free [] F n a = tt
 apart-free (u ∷ []) F n a = (ap (λ z. z || (is_ampersand joined_byte u && first_passes (is_colon joined_byte) F)) (not-true (is_colon joined_byte u) n.0) ∙ a, tt)
 apart-free (u ∷ v ∷ T) F n a = (
   ap (λ z. z || (is_ampersand joined_byte u && is_colon joined_byte v)) (not-true (is_colon joined_byte u) n.0)
-      ∙ (ap (λ z. is_ampersand joined_byte u && z) (not-true (is_colon joined_byte v) n.1.0) ∙ and-no (is_ampersand joined_byte u)),
+      ∙ (ap (λ z. is_ampersand joined_byte u && z) (not-true (is_colon joined_byte v) n.1.0) ∙ and-false (is_ampersand joined_byte u)),
   apart-free (v ∷ T) F n.1 a,
 )
 

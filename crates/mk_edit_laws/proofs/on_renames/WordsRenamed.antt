@@ -14,9 +14,9 @@ use Rattle.mk_class.specs.Lists.{last_passes}
 use Rattle.mk_class.specs.Texts.{is_same_text}
 use Rattle.mk_class.proofs.on_assignments.ValueLemmas.{clean-no_line_end}
 use Rattle.mk_class.specs.Keywords.{keyword, is_reserved_word, NoKeyword}
+use Rattle.mk_class.proofs.WordLemmas.{same_text-is}
 use Rattle.mk_edit_laws.specs.WordPieces.{is_word_of, renamed_tokens}
 use Rattle.mk_edit_laws.specs.Changes.{rename_words}
-use Rattle.mk_edit_laws.proofs.on_edits.Accepted.{same_text-is}
 use Rattle.mk_edit_laws.proofs.on_lines.HeadUnits.{AllAre, AllAre-append, AllAre-left, AllAre-right, IsHeadUnit, BeginsSolid-before, EndsSolid, EndsSolid-after, line_cells-after_solid, line_cells-before_solid}
 use Rattle.mk_edit_laws.proofs.on_lines.LineTails.{EndsAs, EndsAs-after}
 use Rattle.mk_edit_laws.proofs.on_lines.HeadWords.{token_text-append, AreGaps, IsGapToken, gaps-end, word-solid, last-more}

@@ -9,7 +9,7 @@ use Rattle.mk_lines.specs.PhysicalLines.{line_end, line_end_bytes}
 use Rattle.mk_lines.specs.Cells.{Cell, Byte, joined_byte, raw_text, line_cells, NoLineEnds}
 use Rattle.mk_lines.specs.CellFaults.{is_fold, has_stray}
 use Rattle.mk_lines.proofs.on_cells.CellLemmas.{raw_text-append, raw_text-bytes}
-use Rattle.mk_lines.proofs.on_cells.LineCells.{AreLineCells, AreLineCells-left, AreLineCells-right, AreLineCells-append, bytes-are_line_cells, line-ends, line-keeps_apart, EndLineBefore, or-left_false}
+use Rattle.mk_lines.proofs.on_cells.LineCells.{AreLineCells, AreLineCells-left, AreLineCells-right, AreLineCells-append, bytes-are_line_cells, line-ends, line-keeps_apart, EndLineBefore}
 use Rattle.mk_lines.proofs.on_lines.LineEndLemmas.{KeepsApart}
 use Rattle.mk_lines.proofs.on_cells.CellsReplaced.{begins_solid-joins, ends_ordinary-joins}
 use Rattle.mk_lines.proofs.on_lines.LineLemmas.{OneLine, EndsBefore}
@@ -19,6 +19,7 @@ use Rattle.mk_lines.specs.Units.UnitState.{Between}
 use Rattle.mk_lines.proofs.on_units.UnitLemmas.{units-append, units-first, units-last, is_closed-append, is_closed-map, units-map}
 use Rattle.mk_lines.specs.Words.{is_gap}
 use Rattle.mk_lines.specs.Pieces.{Replacement, replaced}
+use Rattle.mk_lines.proofs.on_lists.BoolLemmas.{or-left_false}
 use Rattle.mk_class.specs.Lists.{is_empty, last_passes}
 use Rattle.mk_class.specs.Texts.{unit_text}
 use Rattle.mk_class.specs.CutTexts.{is_no_hash}
@@ -34,13 +35,14 @@ use Rattle.mk_class.proofs.on_classes.ClassLemmas.{plain_class-assign, class_at-
 use Rattle.mk_class.proofs.on_assignments.AssignmentsWhole.{assignment_units}
 use Rattle.mk_class.proofs.on_assignments.AssignmentLineLemmas.{AssignParts, assign_parts, safe-after, line-with_value, line_with, with_text}
 use Rattle.mk_class.specs.ClassedLines.{ClassedLine, classed_lines}
+use Rattle.mk_class.specs.PartPlaces.{raw_width}
 use Rattle.mk_tree.specs.Documents.{text_of, context_of}
 use Rattle.mk_tree.specs.Readings.{reading}
 use Rattle.mk_tree.proofs.on_documents.LinePlaces.{located, bytes_of}
+use Rattle.mk_tree.specs.LineTexts.{StandingLine}
 use Rattle.mk_edit_laws.specs.Edits.{AppendValue}
-use Rattle.mk_edit_laws.specs.Spots.{Spot}
 use Rattle.mk_edit_laws.specs.Addresses.{Variable, found}
-use Rattle.mk_edit_laws.specs.ValueSpans.{append_value_span, raw_length, value_start, value_end}
+use Rattle.mk_edit_laws.specs.ValueSpans.{append_value_span, value_start, value_end}
 use Rattle.mk_edit_laws.specs.RuleCauses.{class_found}
 use Rattle.mk_edit_laws.specs.LineCauses.{has_open_value}
 use Rattle.mk_edit_laws.specs.Refusals.{spans, text_by, text_after}
@@ -69,34 +71,31 @@ joined-no_hash (x ∷ []) = refl
 joined-no_hash (x ∷ y ∷ u) = refl
 
 module _ (p : List Cell → Bool) (q : List ℕ → Bool) (same : (u : List Cell) → q (map joined_byte u) ≡ p u) where
-  pub each-joined : (us : List (List Cell)) → Each p us → Each q (map (map joined_byte) us)
+  each-joined : (us : List (List Cell)) → Each p us → Each q (map (map joined_byte) us)
   each-joined [] h = tt
   each-joined (u ∷ us) h = (same u ∙ h.0, each-joined us h.1)
 
-  pub each-cells : (us : List (List Cell)) → Each q (map (map joined_byte) us) → Each p us
+  each-cells : (us : List (List Cell)) → Each q (map (map joined_byte) us) → Each p us
   each-cells [] h = tt
   each-cells (u ∷ us) h = (sym (same u) ∙ h.0, each-cells us h.1)
 
-  pub first-joined : (us : List (List Cell)) → FirstFails p us → FirstFails q (map (map joined_byte) us)
+  first-joined : (us : List (List Cell)) → FirstFails p us → FirstFails q (map (map joined_byte) us)
   first-joined [] h = tt
   first-joined (u ∷ us) h = same u ∙ h
 
-  pub first-cells : (us : List (List Cell)) → FirstFails q (map (map joined_byte) us) → FirstFails p us
+  first-cells : (us : List (List Cell)) → FirstFails q (map (map joined_byte) us) → FirstFails p us
   first-cells [] h = tt
   first-cells (u ∷ us) h = sym (same u) ∙ h
 
-  pub last-joined : (us : List (List Cell)) → LastFails p us → LastFails q (map (map joined_byte) us)
+  last-joined : (us : List (List Cell)) → LastFails p us → LastFails q (map (map joined_byte) us)
   last-joined [] h = tt
   last-joined (u ∷ []) h = same u ∙ h
   last-joined (u ∷ v ∷ us) h = last-joined (v ∷ us) h
 
-  pub last-cells : (us : List (List Cell)) → LastFails q (map (map joined_byte) us) → LastFails p us
+  last-cells : (us : List (List Cell)) → LastFails q (map (map joined_byte) us) → LastFails p us
   last-cells [] h = tt
   last-cells (u ∷ []) h = sym (same u) ∙ h
   last-cells (u ∷ v ∷ us) h = last-cells (v ∷ us) h
-
-FirstFails-append : {A : Type 0} (p : A → Bool) (x : A) (xs ys : List A) → FirstFails p (x ∷ xs) → FirstFails p ((x ∷ xs) ++ ys)
-FirstFails-append p x xs ys h = h
 
 LastFails-append : {A : Type 0} (p : A → Bool) (xs : List A) (y : A) (ys : List A) → LastFails p (y ∷ ys) → LastFails p (xs ++ y ∷ ys)
 LastFails-append p [] y ys h = h
@@ -146,7 +145,7 @@ appended false b v t =
     }
 
 -- the joined bytes of a value's cells with a space after them and then a text
-pub joined-appended : (c : Cell) (cs : List Cell) (v : List ℕ) → NoLineEnds (c ∷ cs)
+joined-appended : (c : Cell) (cs : List Cell) (v : List ℕ) → NoLineEnds (c ∷ cs)
     → map joined_byte (add_blank (c ∷ cs) ++ map Byte v) ≡ map joined_byte (c ∷ cs) ++ after_value (last_passes is_fold (c ∷ cs)) v
 joined-appended c cs v h =
     map-append joined_byte (add_blank (c ∷ cs)) (map Byte v)
@@ -217,7 +216,7 @@ value-units l a p =
     }
 
 -- the cells of the value with a text appended
-abbrev pub appended_cells : Assignment Cell → (value : List ℕ) → List Cell
+abbrev appended_cells : Assignment Cell → (value : List ℕ) → List Cell
 appended_cells a v = add_blank (concat a.value) ++ map Byte v
 
 -- what the line with a text appended to its value is
@@ -290,9 +289,9 @@ append-line t A l B a b v h k f i closed [] e =
     let L = located t A l B h in
     let w = line-with_value c l.bytes (bytes_of B) a None (b ∷ v) (value-text b v i) (L.class ∙ k) L.one L.ends in
     let at = length (text_of A) in
-    let none : raw_length a.value ≡ 0 = ap raw_length e in
+    let none : raw_width a.value ≡ 0 = ap raw_width e in
     let s : value_end at a ≡ value_start at a = ap (λ z. value_start at a + z) none ∙ omega arith in
-    let j : value_end at a ≡ value_end at a + raw_length a.value = sym (ap (λ z. value_end at a + z) none ∙ omega arith) in
+    let j : value_end at a ≡ value_end at a + raw_width a.value = sym (ap (λ z. value_end at a + z) none ∙ omega arith) in
     let text = text-replaced_in_line t A l B (concat (before_value a)) (concat a.value) (concat (a.after ++ w.parts.rest)) (b ∷ v) (value_end at a) (value_end at a) h w.parts.cells_are s j in
     let m = line_with a w.parts.rest (b ∷ v) (line_end_bytes (line_end l.bytes)) in
     let value : b ∷ v ≡ unit_text joined_byte a.value ++ b ∷ v = ap (λ z. unit_text joined_byte z ++ b ∷ v) (sym e) in
@@ -319,14 +318,10 @@ append-line t A l B a b v h k f i closed (u ∷ us) e =
     (unit_text joined_byte a.value ++ after_value (last_passes is_fold W) (b ∷ v)) h k w.line.one w.line.ends
     (w.line.class ∙ ap (Assign (with_cells a V a.after)) (no_prefix-set (nat_lt 0 c.conditionals) (with_cells a V a.after) f)) w.value)
 
-value-not_empty : (v : List ℕ) → not (is_empty v) ≡ true → (b : ℕ) × (r : List ℕ) × (v ≡ b ∷ r)
-value-not_empty [] h = cc
-value-not_empty (b ∷ r) h = (b, r, refl)
-
 -- the value that an accepted append is put after is closed
 pub closed-found : (t n : List ℕ) (nth : Option ℕ) (F : FoundAssignment t n nth) → has_open_value (class_found (found (classed_lines t) (Variable nth n))) ≡ false → is_closed joined_byte (concat F.assigned.value) ≡ true
 closed-found t n nth F h =
-    let x : has_open_value (Some F.spot.line.class) ≡ false = subst (λ (z : Option Spot). has_open_value (class_found z) ≡ false) F.found_is h in
+    let x : has_open_value (Some F.spot.line.class) ≡ false = subst (λ (z : Option StandingLine). has_open_value (class_found z) ≡ false) F.found_is h in
     let y : not (is_closed joined_byte (concat F.assigned.value)) ≡ false = subst (λ (z : Class Cell). has_open_value (Some z) ≡ false) F.class_is x in
     go (is_closed joined_byte (concat F.assigned.value)) y
   where

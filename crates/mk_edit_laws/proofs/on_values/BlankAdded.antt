@@ -1,12 +1,15 @@
 -- A space put after a text that is the front of a line: it stands for itself, but directly after a fold, which takes it in.
 use Rattle.std.proofs.Common.{◌≡◌, refl, sym, ap, ◌∙◌, subst, ℕ, List, [], ◌∷◌, ◌++◌, map, Bool, true, false, ◌&&◌, cond, if◌then◌else◌, append_assoc}
 use Rattle.std.proofs.lemmas.List.{append-nil}
+use Rattle.std.proofs.lemmas.Bool.{or_from}
+use Rattle.std.proofs.Math.Bool.{and-false}
 use Rattle.mk_lines.specs.Lists.{leading, after_leading}
 use Rattle.mk_lines.specs.Bytes.{ByteKind, byte_kind, LineFeed, CarriageReturn, Backslash, Blank, Ordinary}
 use Rattle.mk_lines.specs.Cells.{Cell, Byte, Fold, LfEnd, CrLfEnd, joined_byte, is_blank_cell, raw_bytes, raw_text, prepend, cells, NoLineEnds}
 use Rattle.mk_lines.specs.CellFaults.{is_fold, has_stray, is_stray, has_bad_fold, is_fold_first, is_backslash_cell}
-use Rattle.mk_lines.proofs.on_cells.LineCells.{AreLineCells, AreLineCells-cells, cells-are_line_cells, or-left_false, or-right_false, or-both_false}
+use Rattle.mk_lines.proofs.on_cells.LineCells.{AreLineCells, AreLineCells-cells, cells-are_line_cells}
 use Rattle.mk_lines.proofs.on_cells.LineOfCells.{IsClean}
+use Rattle.mk_lines.proofs.on_lists.BoolLemmas.{or-left_false, or-right_false}
 use Rattle.mk_class.specs.Lists.{last_passes}
 
 -- cells with a space after them
@@ -18,16 +21,7 @@ add_blank (LfEnd r ∷ []) = LfEnd (r ++ 32 ∷ []) ∷ []
 add_blank (CrLfEnd r ∷ []) = CrLfEnd (r ++ 32 ∷ []) ∷ []
 add_blank (c ∷ d ∷ cs) = c ∷ add_blank (d ∷ cs)
 
--- cells of which the last has a space added to its raw bytes, or none
-add_blank-some : (cs : List Cell) → (d : Cell) × (D : List Cell) × (add_blank cs ≡ d ∷ D)
-add_blank-some [] = (Byte 32, [], refl)
-add_blank-some (Byte b ∷ []) = (Byte b, Byte 32 ∷ [], refl)
-add_blank-some (Fold r ∷ []) = (Fold (r ++ 32 ∷ []), [], refl)
-add_blank-some (LfEnd r ∷ []) = (LfEnd (r ++ 32 ∷ []), [], refl)
-add_blank-some (CrLfEnd r ∷ []) = (CrLfEnd (r ++ 32 ∷ []), [], refl)
-add_blank-some (c ∷ d ∷ cs) = (c, add_blank (d ∷ cs), refl)
-
--- the raw bytes have a space after them
+-- the raw bytes of cells with a blank added have a space after them
 pub raw_text-add_blank : (cs : List Cell) → raw_text (add_blank cs) ≡ raw_text cs ++ 32 ∷ []
 raw_text-add_blank [] = refl
 raw_text-add_blank (Byte b ∷ []) = refl
@@ -108,7 +102,7 @@ prepend-add_blank Ordinary b [] = refl
 prepend-add_blank Ordinary b (c ∷ cs) = refl
 
 -- the cells of a text with a space after it are its own with the space
-pub cells-add_blank : (t : List ℕ) → cells (t ++ 32 ∷ []) ≡ add_blank (cells t)
+cells-add_blank : (t : List ℕ) → cells (t ++ 32 ∷ []) ≡ add_blank (cells t)
 cells-add_blank [] = refl
 cells-add_blank (b ∷ t) = ap (λ z. prepend (byte_kind b) b z) (cells-add_blank t) ∙ prepend-add_blank (byte_kind b) b (cells t)
 
@@ -122,10 +116,6 @@ no_line_ends-add_blank (LfEnd r ∷ []) h = cc
 no_line_ends-add_blank (CrLfEnd r ∷ []) h = cc
 no_line_ends-add_blank (c ∷ d ∷ cs) h = (h.0, no_line_ends-add_blank (d ∷ cs) h.1)
 
-and-false : (a : Bool) → (a && false) ≡ false
-and-false true = refl
-and-false false = refl
-
 fold_first-add_blank : (c : Cell) (cs : List Cell) → is_fold_first (add_blank (c ∷ cs)) ≡ is_fold c
 fold_first-add_blank (Byte b) [] = refl
 fold_first-add_blank (Fold r) [] = refl
@@ -135,12 +125,12 @@ fold_first-add_blank c (d ∷ cs) = refl
 
 bad_fold-add_blank : (cs : List Cell) → has_bad_fold cs ≡ false → has_bad_fold (add_blank cs) ≡ false
 bad_fold-add_blank [] h = refl
-bad_fold-add_blank (Byte b ∷ []) h = or-both_false (is_backslash_cell (Byte b) && false) false (and-false (is_backslash_cell (Byte b))) refl
+bad_fold-add_blank (Byte b ∷ []) h = or_from (is_backslash_cell (Byte b) && false) false (and-false (is_backslash_cell (Byte b))) refl
 bad_fold-add_blank (Fold r ∷ []) h = refl
 bad_fold-add_blank (LfEnd r ∷ []) h = refl
 bad_fold-add_blank (CrLfEnd r ∷ []) h = refl
 bad_fold-add_blank (c ∷ d ∷ cs) h =
-    or-both_false (is_backslash_cell c && is_fold_first (add_blank (d ∷ cs))) (has_bad_fold (add_blank (d ∷ cs)))
+    or_from (is_backslash_cell c && is_fold_first (add_blank (d ∷ cs))) (has_bad_fold (add_blank (d ∷ cs)))
     (ap (λ z. is_backslash_cell c && z) (fold_first-add_blank d cs) ∙ or-left_false (is_backslash_cell c && is_fold d) (has_bad_fold (d ∷ cs)) h)
     (bad_fold-add_blank (d ∷ cs) (or-right_false (is_backslash_cell c && is_fold d) (has_bad_fold (d ∷ cs)) h))
 
@@ -154,12 +144,12 @@ add_blank-are_line_cells cs h =
 -- no stray byte comes in
 pub has_stray-add_blank : (cs : List Cell) → has_stray cs ≡ false → has_stray (add_blank cs) ≡ false
 has_stray-add_blank [] h = refl
-has_stray-add_blank (Byte b ∷ []) h = or-both_false (is_stray (Byte b)) false (or-left_false (is_stray (Byte b)) false h) refl
+has_stray-add_blank (Byte b ∷ []) h = or_from (is_stray (Byte b)) false (or-left_false (is_stray (Byte b)) false h) refl
 has_stray-add_blank (Fold r ∷ []) h = refl
 has_stray-add_blank (LfEnd r ∷ []) h = cc
 has_stray-add_blank (CrLfEnd r ∷ []) h = cc
 has_stray-add_blank (c ∷ d ∷ cs) h =
-    or-both_false (is_stray c) (has_stray (add_blank (d ∷ cs))) (or-left_false (is_stray c) (has_stray (d ∷ cs)) h)
+    or_from (is_stray c) (has_stray (add_blank (d ∷ cs))) (or-left_false (is_stray c) (has_stray (d ∷ cs)) h)
     (has_stray-add_blank (d ∷ cs) (or-right_false (is_stray c) (has_stray (d ∷ cs)) h))
 
 -- the joined bytes have a space after them, but where the last is a fold

@@ -5,6 +5,7 @@ use Rattle.mk_lines.specs.Bytes.{ByteKind, byte_kind, is_blank_kind}
 use Rattle.mk_lines.specs.Bytes.ByteKind.{LineFeed, CarriageReturn, Backslash, Blank, Ordinary}
 use Rattle.mk_lines.proofs.on_lists.ByteLemmas.{carriage_return-byte, backslash-byte}
 use Rattle.mk_lines.specs.Cells.{Cell, Byte, Fold, LfEnd, CrLfEnd, is_blank_cell, raw_text, prepend, cells}
+use Rattle.mk_lines.proofs.on_cells.LineOfCells.{after_leading-each}
 
 -- a backslash, or a backslash and a carriage return
 abbrev pub escape_cells : (cr : Bool) → List Cell
@@ -45,15 +46,6 @@ record Known (before after : List Cell) : Type 0 where
 
 blank-byte_kind : (b : ℕ) (k : ByteKind) → byte_kind b ≡ k → is_blank_cell (Byte b) ≡ is_blank_kind k
 blank-byte_kind b k h = ap is_blank_kind h
-
-after_leading-blank : (cs : List Cell) → Each is_blank_cell (after_leading is_blank_cell cs) → Each is_blank_cell cs
-after_leading-blank [] h = tt
-after_leading-blank (c ∷ cs) h = go (is_blank_cell c) refl h (λ k. after_leading-blank cs k)
-  where
-    go : (b : Bool) → is_blank_cell c ≡ b → Each is_blank_cell (cond b (after_leading is_blank_cell cs) (c ∷ cs)) → (Each is_blank_cell (after_leading is_blank_cell cs) → Each is_blank_cell cs)
-        → Each is_blank_cell (c ∷ cs)
-    go true e h ih = (e, ih h)
-    go false e h ih = h
 
 -- blanks gone from the front of such cells
 after_leading-escape : (gs : List Cell) (cr : Bool) → Each is_blank_cell gs → after_leading is_blank_cell (gs ++ escape_cells cr) ≡ escape_cells cr
@@ -135,7 +127,7 @@ step-return b before (LfEnd r ∷ cs) e k = record { escaped = λ h. absurd (let
     put (more s cr h) = more' (b ∷ s) cr (ap (prepend CarriageReturn b) h)
 
 step-line_feed : (b : ℕ) (before after : List Cell) → Known before after → Known (prepend LineFeed b before) (prepend LineFeed b after)
-step-line_feed b before after k = record { escaped = λ h. absurd (let z : false ≡ true = h.0 in cc); line_feed = λ h. put (k.escaped (after_leading-blank after h)); crlf = λ h. absurd h }
+step-line_feed b before after k = record { escaped = λ h. absurd (let z : false ≡ true = h.0 in cc); line_feed = λ h. put (k.escaped (after_leading-each after h)); crlf = λ h. absurd h }
   where
     put : EndsEscaped before → BeforeLineFeed (prepend LineFeed b before)
     put s = more (b ∷ raw_text (leading is_blank_cell before)) s.cr

@@ -12,12 +12,14 @@ use Rattle.mk_class.specs.Contexts.{Context}
 use Rattle.mk_class.specs.ClassTable.{class_of}
 use Rattle.mk_class.proofs.on_classes.ClassLemmas.{plain_class-assign, assign-plain_class, class_at-assign}
 use Rattle.mk_class.specs.ClassedLines.{classed_lines}
+use Rattle.mk_class.proofs.WordLemmas.{same_text-is}
 use Rattle.mk_tree.specs.Documents.{context_of}
 use Rattle.mk_tree.proofs.on_documents.LinePlaces.{located}
-use Rattle.mk_edit_laws.specs.Spots.{Spot, spots}
+use Rattle.mk_tree.specs.LineTexts.{StandingLine}
+use Rattle.mk_edit_laws.specs.Spots.{spots}
 use Rattle.mk_edit_laws.specs.Addresses.{Variable, assigns, found}
 use Rattle.mk_edit_laws.specs.AddressCauses.{is_missing, is_several}
-use Rattle.mk_edit_laws.proofs.on_edits.Accepted.{spot-picked, same_text-is}
+use Rattle.mk_edit_laws.proofs.on_edits.Accepted.{spot-picked}
 use Rattle.mk_edit_laws.proofs.on_lines.SpotLemmas.{picked-is}
 
 -- an assignment of another name sets no prefix
@@ -62,7 +64,7 @@ assigns-named n (Header x) h = absurd (cc)
 
 -- the assignment that an address means
 pub record FoundAssignment (t n : List ℕ) (nth : Option ℕ) : Type 0 where
-  pub spot : Spot
+  pub spot : StandingLine
   pub found_is : found (classed_lines t) (Variable nth n) ≡ Some spot
   pub whole : classed_lines t ≡ spot.above ++ spot.line ∷ spot.below
   pub assigned : Assignment Cell

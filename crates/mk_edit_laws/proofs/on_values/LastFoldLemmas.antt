@@ -1,7 +1,7 @@
 -- An accepted `set` to the empty value changes the reading by this value alone, also where a fold is left without its next line:
 -- then the value is one lone backslash.
 use Rattle.std.proofs.Common.{◌≡◌, refl, sym, ap, ◌∙◌, subst, ℕ, List, [], ◌∷◌, ◌++◌, map, Bool, true, false, not, ◌&&◌, ◌==◌, Option, Some, None, length, append_assoc, reverse, cond}
-use Rattle.std.proofs.lemmas.Bool.{eqb-true}
+use Rattle.std.proofs.lemmas.Bool.{eqb-true, or_from, and_parts}
 use Rattle.std.proofs.lemmas.List.{append-nil, reverse-append, reverse-reverse}
 use Rattle.std.specs.Prelude.{nat_lt, Ok}
 use Rattle.mk_lines.specs.Lists.{concat, leading, Each}
@@ -18,12 +18,13 @@ use Rattle.mk_lines.proofs.on_cells.CellLemmas.{AreCells, AreCells-left, raw_tex
 use Rattle.mk_lines.proofs.on_lines.LineLemmas.{OneLine, EndsBefore}
 use Rattle.mk_lines.proofs.on_lines.LineEndLemmas.{KeepsApart, FirstIsNot, without_line_end-line_end}
 use Rattle.mk_lines.proofs.on_cells.LineOfCells.{IsClean}
-use Rattle.mk_lines.proofs.on_cells.LineCells.{AreLineCells, AreLineCells-left, AreLineCells-right, AreLineCells-append, AreLineCells-cells, Joins-ordinary, is_bad_before, line-of_cells, or-left_false, or-both_false}
+use Rattle.mk_lines.proofs.on_cells.LineCells.{AreLineCells, AreLineCells-left, AreLineCells-right, AreLineCells-append, AreLineCells-cells, Joins-ordinary, is_bad_before, line-of_cells}
 use Rattle.mk_lines.specs.Units.{units, is_closed, is_between, next_unit_state}
 use Rattle.mk_lines.specs.Units.UnitState.{Between}
 use Rattle.mk_lines.proofs.on_units.UnitLemmas.{EndsPlain, EndsPlain-append, EndsPlain-closed, units-append, units-first}
 use Rattle.mk_lines.specs.Words.{is_gap}
 use Rattle.mk_lines.specs.Pieces.{Replacement, replaced}
+use Rattle.mk_lines.proofs.on_lists.BoolLemmas.{or-left_false}
 use Rattle.mk_class.specs.Lists.{is_empty, last_passes}
 use Rattle.mk_class.specs.Texts.{unit_text}
 use Rattle.mk_class.specs.Symbols.{byte_symbol, is_equals, is_hash_symbol}
@@ -32,13 +33,12 @@ use Rattle.mk_class.proofs.on_symbols.SymbolLemmas.{byte_symbol-byte, equals_sym
 use Rattle.mk_class.specs.CutTexts.{cut_text, is_no_hash}
 use Rattle.mk_class.specs.Assignments.{Assignment, assignment, before_value}
 use Rattle.mk_class.proofs.on_assignments.AssignmentsWhole.{AreValue, HasEquals, assignment-has_equals, assignment_units}
-use Rattle.mk_class.proofs.on_assignments.AssignmentLineLemmas.{AssignParts, assign_parts, cells-before, some_raw, led-same}
+use Rattle.mk_class.proofs.on_assignments.AssignmentLineLemmas.{AssignParts, assign_parts, cells-before, some_raw, led-same, cells_class}
 use Rattle.mk_class.specs.RecipePrefix.{is_prefix_led, is_prefix_name, prefix_set_by}
 use Rattle.mk_class.specs.Arguments.{is_value}
-use Rattle.mk_class.specs.Classes.{Class}
 use Rattle.mk_class.specs.Classes.Class.{Assign}
 use Rattle.mk_class.specs.Contexts.{Context, context_after}
-use Rattle.mk_class.specs.ClassTable.{class_of, class_at, plain_class, is_unreadable}
+use Rattle.mk_class.specs.ClassTable.{class_of, plain_class, is_unreadable}
 use Rattle.mk_class.proofs.on_classes.ClassLemmas.{IsAssignLine, plain_class-assign, assign-plain_class, class_at-assign, has_stray-append, has_stray-left, assignment-filled}
 use Rattle.mk_class.specs.ClassedLines.{ClassedLine, classed_lines}
 use Rattle.mk_tree.specs.Documents.{text_of, context_of}
@@ -115,14 +115,14 @@ blank-no_stray b h = go (byte_kind b) (b == 0) refl refl h
 
 backslash-no_stray : (bs : List Cell) → Each is_blank_cell bs → has_stray (before_backslash bs) ≡ false
 backslash-no_stray [] h = refl
-backslash-no_stray (c ∷ bs) h = or-both_false (is_stray c) (has_stray (before_backslash bs)) (blank-no_stray (joined_byte c) h.0) (backslash-no_stray bs h.1)
+backslash-no_stray (c ∷ bs) h = or_from (is_stray c) (has_stray (before_backslash bs)) (blank-no_stray (joined_byte c) h.0) (backslash-no_stray bs h.1)
 
 backslash-clean : (bs : List Cell) → Each is_blank_cell bs → IsClean (before_backslash bs)
 backslash-clean [] h = ((refl, tt), refl)
 backslash-clean (c ∷ bs) h =
     let k = backslash-clean bs h.1 in (
       (blank-no_line_end c h.0, k.0),
-      or-both_false (is_bad_before c (before_backslash bs)) (has_bad_fold (before_backslash bs)) (blank-no_backslash (byte_kind (joined_byte c)) _ h.0) k.1,
+      or_from (is_bad_before c (before_backslash bs)) (has_bad_fold (before_backslash bs)) (blank-no_backslash (byte_kind (joined_byte c)) _ h.0) k.1,
     )
 
 -- ---- a fold that comes last
@@ -214,10 +214,6 @@ with_backslash a o = record a { operator = o; value = (Byte 92 ∷ []) ∷ []; a
 backslash-is_value : AreValue joined_byte ((Byte 92 ∷ []) ∷ []) []
 backslash-is_value = record { begins = refl; ends = refl; blanks_after = tt; empty = λ e. absurd (cc) }
 
--- the class of cells in a context, as prefix-led or not
-abbrev read : Context → Bool → List Cell → Class Cell
-read c led cs = class_at joined_byte led c.defines c.flag (nat_lt 0 c.conditionals) (is_unreadable cs) (units joined_byte cs)
-
 -- Cells up to the first `=` of an assignment, then blanks and folds and a lone backslash: it is that assignment with this value.
 backslash-assigned : (l : List ℕ) (a : Assignment Cell) (p : AssignParts l a) (h : HasEquals joined_byte a) (bs : List Cell) → Each is_blank_cell bs
     → (o : List (List Cell)) × (assignment joined_byte (cut_text joined_byte (units joined_byte (concat (h.front ++ (h.equals ∷ [])) ++ before_backslash bs))) ≡ Some (with_backslash a o))
@@ -254,10 +250,10 @@ record IsLeftLine (c : Context) (a : Assignment Cell) : Type 0 where
 
 -- the class of a line of other cells, which begins with the same byte
 class-of_cells : (c : Context) (led : Bool) (l m : List ℕ) (C : List Cell) (b : Assignment Cell) → l ≡ m → is_prefix_led c.prefix m ≡ led → line_cells m ≡ C
-    → read c led C ≡ plain_class joined_byte led (nat_lt 0 c.conditionals) (is_unreadable C) (units joined_byte C) → IsAssignLine C (units joined_byte C) b
+    → cells_class c led C ≡ plain_class joined_byte led (nat_lt 0 c.conditionals) (is_unreadable C) (units joined_byte C) → IsAssignLine C (units joined_byte C) b
     → class_of c l ≡ Assign b (prefix_set_by joined_byte (nat_lt 0 c.conditionals) b)
 class-of_cells c led l m C b e h k also is =
-    ap (class_of c) e ∙ (ap (λ z. read c z (line_cells m)) h ∙ (ap (λ z. read c led z) k ∙ (also ∙ assign-plain_class led (nat_lt 0 c.conditionals) C (units joined_byte C) b is)))
+    ap (class_of c) e ∙ (ap (λ z. cells_class c z (line_cells m)) h ∙ (ap (λ z. cells_class c led z) k ∙ (also ∙ assign-plain_class led (nat_lt 0 c.conditionals) C (units joined_byte C) b is)))
 
 line-left : (c : Context) (l : List ℕ) (a : Assignment Cell) (sets : Option ℕ) (y : List ℕ) → class_of c l ≡ Assign a sets → raw_text (concat (before_value a)) ≡ y ++ 10 ∷ [] → IsLeftLine c a
 line-left c l a sets y h n =
@@ -268,7 +264,7 @@ line-left c l a sets y h n =
     (or-left_false (has_stray (line_cells l)) _ i.readable) (λ C. r.also C (units joined_byte C)) n
   where
     left : (c : Context) (l : List ℕ) (a : Assignment Cell) (y : List ℕ) → (p : AssignParts l a) → (q : HasEquals joined_byte a) → has_stray (line_cells l) ≡ false
-        → ((C : List Cell) → read c (is_prefix_led c.prefix l) C ≡ plain_class joined_byte (is_prefix_led c.prefix l) (nat_lt 0 c.conditionals) (is_unreadable C) (units joined_byte C))
+        → ((C : List Cell) → cells_class c (is_prefix_led c.prefix l) C ≡ plain_class joined_byte (is_prefix_led c.prefix l) (nat_lt 0 c.conditionals) (is_unreadable C) (units joined_byte C))
         → raw_text (concat (before_value a)) ≡ y ++ 10 ∷ [] → IsLeftLine c a
     left c l a y p q clean also n =
         let P = concat (before_value a) in
@@ -298,7 +294,7 @@ line-left c l a sets y h n =
         ap (λ z. assignment joined_byte (cut_text joined_byte (units joined_byte (z ++ before_backslash k.blanks)))) (sym front_is) ∙ g.1 in
         let stray : has_stray F ≡ false = has_stray-left F G (subst (λ z. has_stray z ≡ false) cells_are (has_stray-left P R (subst (λ z. has_stray z ≡ false) p.cells_are clean))) in
         let can : is_unreadable C ≡ false =
-        or-both_false (has_stray C) (has_bad_fold C) (has_stray-append F (before_backslash k.blanks) stray (backslash-no_stray k.blanks k.are_blank)) k.are_line_cells.clean.1 in
+        or_from (has_stray C) (has_bad_fold C) (has_stray-append F (before_backslash k.blanks) stray (backslash-no_stray k.blanks k.are_blank)) k.are_line_cells.clean.1 in
         let is : IsAssignLine C (units joined_byte C) (with_backslash a g.0) = record {
           filled = assignment-filled (cut_text joined_byte (units joined_byte C)) (with_backslash a g.0) assigned;
           readable = can;
@@ -323,10 +319,6 @@ line_feed-last f x b r s h = go (reverse x) refl
         let k : last_passes (λ b. b == 10) (f ++ x) ≡ (c == 10) =
         ap (λ z. last_passes (λ b. b == 10) (f ++ z)) w ∙ (ap (last_passes (λ b. b == 10)) (sym (append_assoc f (reverse q) (c ∷ []))) ∙ last-append (λ b. b == 10) (f ++ reverse q) c []) in
         (reverse q, w ∙ ap (λ z. reverse q ++ z ∷ []) (eqb-true c 10 (sym k ∙ h)))
-
-and-both : (a b : Bool) → (a && b) ≡ true → (a ≡ true) × (b ≡ true)
-and-both true b h = (refl, h)
-and-both false b h = cc
 
 is_empty-is : (x : List ℕ) → is_empty x ≡ true → x ≡ []
 is_empty-is [] h = refl
@@ -353,7 +345,7 @@ set-left t A l B a h k f n =
     let Q = concat M.parts.rest in
     let e = line_end l.bytes in
     let T = text-emptied t A l B a Q h M.cells_are in
-    let both = and-both (last_passes (λ b. b == 10) (text_of A ++ raw_text P)) (is_empty (raw_text Q ++ (line_end_bytes e ++ text_of B))) (sym T.leaves ∙ n) in
+    let both = and_parts (last_passes (λ b. b == 10) (text_of A ++ raw_text P)) (is_empty (raw_text Q ++ (line_end_bytes e ++ text_of B))) (sym T.leaves ∙ n) in
     let b = cells-before a M.parts.is.operator_ends in
     let s = some_raw P b.0 b.1 b.2 (AreLineCells-left P (concat a.value ++ concat (a.after ++ M.parts.rest)) M.parts.are_line_cells) in
     let y = line_feed-last (text_of A) (raw_text P) s.0 s.1 s.2 both.0 in
@@ -370,7 +362,7 @@ set-left t A l B a h k f n =
     (replaced-line t A l B (raw_text P) (Assign m None) (item_with_value a (92 ∷ [])) h line.one ends class (ap (context_after c) (sym k)) refl refl)
 
 -- an assignment's line without its value
-pub set-to_nothing : (t : List ℕ) (A : List ClassedLine) (l : ClassedLine) (B : List ClassedLine) (a : Assignment Cell) → classed_lines t ≡ A ++ l ∷ B → l.class ≡ Assign a None
+set-to_nothing : (t : List ℕ) (A : List ClassedLine) (l : ClassedLine) (B : List ClassedLine) (a : Assignment Cell) → classed_lines t ≡ A ++ l ∷ B → l.class ≡ Assign a None
     → is_prefix_name (unit_text joined_byte a.name) ≡ false
     → IsLineReplaced (replaced 0 t (set_value_span [] (length (text_of A)) a ∷ [])) A B (item_with_value a (value_set t [] (length (text_of A)) a))
 set-to_nothing t A l B a h k f = go (leaves_fold_last t (set_value_span [] (length (text_of A)) a)) refl

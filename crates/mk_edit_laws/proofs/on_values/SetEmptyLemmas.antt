@@ -18,12 +18,13 @@ use Rattle.mk_lines.proofs.on_cells.CellLemmas.{cells-append, raw_text-append, r
 use Rattle.mk_lines.proofs.on_lines.LineLemmas.{OneLine, EndsBefore}
 use Rattle.mk_lines.proofs.on_lines.LineEndLemmas.{KeepsApart, FirstIsNot, Ends-ends_line, without_line_end-line_end}
 use Rattle.mk_lines.proofs.on_cells.LineOfCells.{is_reset, is_reset_kind}
-use Rattle.mk_lines.proofs.on_cells.LineCells.{AreLineCells, AreLineCells-left, AreLineCells-right, AreLineCells-cells, KeepsApart-tail, KeepsApart-last, line-keeps_apart, or-left_false}
+use Rattle.mk_lines.proofs.on_cells.LineCells.{AreLineCells, AreLineCells-left, AreLineCells-right, AreLineCells-cells, KeepsApart-tail, KeepsApart-last, line-keeps_apart, one_line-not_empty}
 use Rattle.mk_lines.proofs.on_cells.CellsReplaced.{IsSolidTail, EndsReset, removed-are_line_cells, cells-removed}
 use Rattle.mk_lines.specs.Units.{units, byte_mark}
 use Rattle.mk_lines.specs.Units.Mark.{Unmarked}
 use Rattle.mk_lines.proofs.on_units.UnitLemmas.{EndsPlain, EndsPlain-split}
 use Rattle.mk_lines.specs.Pieces.{replaced}
+use Rattle.mk_lines.proofs.on_lists.BoolLemmas.{or-left_false}
 use Rattle.mk_class.specs.Lists.{is_empty, last_passes}
 use Rattle.mk_class.specs.Texts.{unit_text}
 use Rattle.mk_class.specs.Symbols.{Symbol, byte_symbol, is_hash, is_hash_symbol}
@@ -38,9 +39,10 @@ use Rattle.mk_class.specs.Contexts.{Context}
 use Rattle.mk_class.specs.ClassTable.{class_of}
 use Rattle.mk_class.proofs.on_classes.ClassLemmas.{plain_class-assign, class_at-assign, has_stray-left, has_stray-right, readable-are_line_cells}
 use Rattle.mk_class.specs.ClassedLines.{ClassedLine, classed_lines}
+use Rattle.mk_class.specs.PartPlaces.{raw_width}
 use Rattle.mk_tree.specs.Documents.{text_of, context_of}
 use Rattle.mk_tree.proofs.on_documents.LinePlaces.{located, bytes_of}
-use Rattle.mk_edit_laws.specs.ValueSpans.{set_value_span, raw_length, value_start, blanks_end}
+use Rattle.mk_edit_laws.specs.ValueSpans.{set_value_span, value_start, blanks_end}
 use Rattle.mk_edit_laws.specs.Changes.{item_with_value, leaves_fold_last}
 use Rattle.mk_edit_laws.proofs.on_values.ValueLines.{IsValue, IsValueLine, with_cells, cells_with, line_of, parts-cells, value-line_of, line_of-some}
 use Rattle.mk_edit_laws.proofs.on_values.FoundAssignments.{no_prefix-set}
@@ -208,16 +210,10 @@ no_line_feed-last f x h = go (reverse x) refl
         ap (λ z. last_passes (λ b. b == 10) (f ++ z)) w ∙ (ap (last_passes (λ b. b == 10)) (sym (append_assoc f (reverse y) (10 ∷ []))) ∙ last-append (λ b. b == 10) (f ++ reverse y) 10 []) in
         let q : true ≡ false = sym s ∙ h in cc
 
--- a line is not empty
-line-not_empty : (l : List ℕ) → OneLine l → (b : ℕ) × (r : List ℕ) × (l ≡ b ∷ r)
-unfolding OneLine
-line-not_empty [] h = absurd (let g : [] ≡ [] ∷ [] = h in cc)
-line-not_empty (b ∷ r) h = (b, r, refl)
-
 -- a line without line end is the last
 pub last-line : (l : List ℕ) (B : List ClassedLine) → OneLine l → has_no_line_end (line_end l) ≡ true → EndsBefore l (bytes_of B) → B ≡ []
 last-line l [] o n e = refl
-last-line l (x ∷ B) o n e = let s = line-not_empty l o in absurd (go l s.0 s.1 s.2 n e)
+last-line l (x ∷ B) o n e = let s = one_line-not_empty l o in absurd (go l s.0 s.1 s.2 n e)
   where
     both : (u v : Bool) → (not u && not v) ≡ true → u ≡ true → ⊥
     both true v x y = cc
@@ -253,7 +249,7 @@ text-emptied t A l B a Q h cells_are =
     let e = line_end l.bytes in
     let tail = raw_text Q ++ (line_end_bytes e ++ text_of B) in
     let w : raw_text W ≡ raw_text (concat a.value) ++ raw_text (concat a.after) = ap raw_text (concat-append a.value a.after) ∙ raw_text-append (concat a.value) (concat a.after) in
-    let size : length (raw_text W) ≡ raw_length a.value + raw_length a.after = ap length w ∙ length-append (raw_text (concat a.value)) (raw_text (concat a.after)) in
+    let size : length (raw_text W) ≡ raw_width a.value + raw_width a.after = ap length w ∙ length-append (raw_text (concat a.value)) (raw_text (concat a.after)) in
     let stop : blanks_end at a ≡ value_start at a + length (raw_text W) = omega (arith, size) in
     let line_is : l.bytes ≡ (raw_text P ++ (raw_text W ++ raw_text Q)) ++ line_end_bytes e =
     sym (without_line_end-line_end l.bytes)

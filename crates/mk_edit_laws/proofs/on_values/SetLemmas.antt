@@ -4,10 +4,10 @@ use Rattle.std.specs.Prelude.{nat_lt, Ok, length}
 use Rattle.mk_lines.specs.Lists.{concat}
 use Rattle.mk_lines.specs.PhysicalLines.{line_end, line_end_bytes}
 use Rattle.mk_lines.specs.Cells.{Cell, Byte, joined_byte}
-use Rattle.mk_lines.proofs.on_cells.LineCells.{or-left_false}
 use Rattle.mk_lines.specs.Units.{units}
 use Rattle.mk_lines.proofs.on_units.UnitLemmas.{concat-units}
 use Rattle.mk_lines.specs.Pieces.{Replacement, replaced}
+use Rattle.mk_lines.proofs.on_lists.BoolLemmas.{or-left_false}
 use Rattle.mk_class.specs.Texts.{unit_text}
 use Rattle.mk_class.specs.Assignments.{Assignment, before_value}
 use Rattle.mk_class.proofs.on_assignments.AssignmentLineLemmas.{line-with_value, line_with, with_text}
@@ -21,8 +21,8 @@ use Rattle.mk_tree.specs.Documents.{text_of, context_of}
 use Rattle.mk_tree.specs.Items.{items}
 use Rattle.mk_tree.specs.Readings.{reading}
 use Rattle.mk_tree.proofs.on_documents.LinePlaces.{located, bytes_of}
+use Rattle.mk_tree.specs.LineTexts.{StandingLine}
 use Rattle.mk_edit_laws.specs.Edits.{SetValue}
-use Rattle.mk_edit_laws.specs.Spots.{Spot}
 use Rattle.mk_edit_laws.specs.Addresses.{Variable, found}
 use Rattle.mk_edit_laws.specs.ValueSpans.{set_value_span, value_span, assignment_span, value_start, value_end}
 use Rattle.mk_edit_laws.specs.Spans.{where_found}
@@ -69,7 +69,7 @@ pub value-found : (t n : List ℕ) (nth : Option ℕ) (rs : List Replacement) (s
 value-found t n nth rs span value F r h =
     let s = F.spot in
     let at = length (text_of s.above) in
-    let x : assignment_span span at s.line.class ≡ rs = subst (λ (z : Option Spot). where_found (value_span span) z ≡ rs) F.found_is h in
+    let x : assignment_span span at s.line.class ≡ rs = subst (λ (z : Option StandingLine). where_found (value_span span) z ≡ rs) F.found_is h in
     let y : span at F.assigned ∷ [] ≡ rs = subst (λ (z : Class Cell). assignment_span span at z ≡ rs) F.class_is x in
     let z : where_found (with_value value) (found (classed_lines t) (Variable nth n)) ≡ with_items (value_item value at s.line.class) s = ap (where_found (with_value value)) F.found_is in
     let w : with_items (value_item value at s.line.class) s ≡ items s.above ++ item_with_value F.assigned (value at F.assigned) ∷ items s.below =

@@ -1,5 +1,5 @@
 -- An assignment's line with other cells for its value: one line, of the same assignment with that value.
-use Rattle.std.proofs.Common.{◌≡◌, sym, ap, ◌∙◌, subst, ℕ, List, [], ◌∷◌, ◌++◌, map, Bool, true, false, append_assoc, reverse, Option, Some}
+use Rattle.std.proofs.Common.{◌≡◌, sym, ap, ◌∙◌, subst, ℕ, List, [], ◌∷◌, ◌++◌, map, true, false, append_assoc, reverse, Option, Some}
 use Rattle.std.proofs.lemmas.List.{append-nil, map-append}
 use Rattle.std.specs.Prelude.{nat_lt}
 use Rattle.mk_lines.specs.Lists.{concat, leading, Each}
@@ -18,12 +18,11 @@ use Rattle.mk_lines.proofs.on_units.UnitLemmas.{concat-units, units-replaced}
 use Rattle.mk_class.specs.CutTexts.{cut_text, is_no_hash}
 use Rattle.mk_class.specs.Assignments.{Assignment, assignment, before_value}
 use Rattle.mk_class.proofs.on_assignments.AssignmentsWhole.{AreValue, assignment_units, operator-closed}
-use Rattle.mk_class.proofs.on_assignments.AssignmentLineLemmas.{AssignParts, cells-before, some_raw, led-same}
-use Rattle.mk_class.specs.Classes.{Class}
+use Rattle.mk_class.proofs.on_assignments.AssignmentLineLemmas.{AssignParts, cells-before, some_raw, led-same, cells_class}
 use Rattle.mk_class.specs.Classes.Class.{Assign}
 use Rattle.mk_class.specs.RecipePrefix.{is_prefix_led, prefix_set_by}
 use Rattle.mk_class.specs.Contexts.{Context}
-use Rattle.mk_class.specs.ClassTable.{class_of, class_at, is_unreadable}
+use Rattle.mk_class.specs.ClassTable.{class_of, is_unreadable}
 use Rattle.mk_class.proofs.on_classes.ClassLemmas.{IsAssignLine, plain_class-assign, assign-plain_class, class_at-assign, readable-replaced, assignment-filled}
 
 -- cells that may be the value of an assignment, with these units of blanks after it
@@ -57,7 +56,7 @@ parts-cells l a X G p h =
     ∙ (ap concat (parts-units l a X G p h) ∙ (concat-append (before_value a) (X ++ (G ++ p.rest)) ∙ ap (λ z. concat (before_value a) ++ z) (concat-append X (G ++ p.rest))))
 
 -- the new cells are an assignment
-pub assign_line-with : (l : List ℕ) (a : Assignment Cell) (V : List Cell) (X G : List (List Cell)) (p : AssignParts l a) → a.value ++ a.after ≡ X ++ G → IsValue V G
+assign_line-with : (l : List ℕ) (a : Assignment Cell) (V : List Cell) (X G : List (List Cell)) (p : AssignParts l a) → a.value ++ a.after ≡ X ++ G → IsValue V G
     → is_unreadable (cells_with a V G p.rest) ≡ false
     → IsAssignLine (cells_with a V G p.rest) (units joined_byte (cells_with a V G p.rest)) (with_cells a V G)
 assign_line-with l a V X G p h v r =
@@ -95,10 +94,6 @@ pub record IsValueLine (c : Context) (l : List ℕ) (below : List (List ℕ)) (a
   pub ends : EndsBefore (line_of (cells_with a V G rest) (line_end_bytes (line_end l))) below
   pub class : class_of c (line_of (cells_with a V G rest) (line_end_bytes (line_end l))) ≡ Assign (with_cells a V G) (prefix_set_by joined_byte (nat_lt 0 c.conditionals) (with_cells a V G))
 
--- the class of cells in a context, as prefix-led or not
-abbrev read : Context → Bool → List Cell → Class Cell
-read c led cs = class_at joined_byte led c.defines c.flag (nat_lt 0 c.conditionals) (is_unreadable cs) (units joined_byte cs)
-
 -- so it is where its bytes are a line of these cells
 pub value-line_of : (c : Context) (l : List ℕ) (below : List (List ℕ)) (a : Assignment Cell) (sets : Option ℕ) (V : List Cell) (X G : List (List Cell)) → class_of c l ≡ Assign a sets
     → (p : AssignParts l a) → a.value ++ a.after ≡ X ++ G → IsValue V G → AreLineCells (cells_with a V G p.rest)
@@ -126,8 +121,8 @@ value-line_of c l below a sets V X G h p x v g line =
       one = line.one;
       ends = line.ends;
       class =
-          ap (λ z. read c z (line_cells m)) same
-          ∙ (ap (λ z. read c led z) line.same_cells
+          ap (λ z. cells_class c z (line_cells m)) same
+          ∙ (ap (λ z. cells_class c led z) line.same_cells
           ∙ (r.also C (units joined_byte C)
           ∙ assign-plain_class led (nat_lt 0 c.conditionals) C (units joined_byte C) (with_cells a V G) (assign_line-with l a V X G p x v can)));
     }

@@ -15,16 +15,7 @@ use Rattle.mk_edit_laws.specs.TouchedLines.{IsOfOnePlace}
 use Rattle.mk_edit_laws.specs.declared.refusal.Refusal.{Refusal}
 use Rattle.mk_edit_laws.specs.declared.refusal.Refusal.TheVariants.{Reserved, RecipePrefix}
 use Rattle.mk_edit_parts.specs.Found.{IsNotPicked}
-use Rattle.mk_edit_parts.proofs.CauseLemmas.{passed, holds, refused}
-
-pub bad-refused : (t : List ℕ) (e : Edit) (r : Refusal) → bad_argument e ≡ Some r → spans t e ≡ Err r
-bad-refused t e r h = refused t e r (holds (bad_argument e) _ r h)
-
-pub reserved-refused : (t : List ℕ) (e : Edit) (r : Refusal) → bad_argument e ≡ None → reserved e ≡ Some r → spans t e ≡ Err r
-reserved-refused t e r a h = refused t e r (passed (bad_argument e) _ (Some r) a (holds (reserved e) _ r h))
-
-pub unread-refused : (t : List ℕ) (e : Edit) (r : Refusal) → bad_argument e ≡ None → reserved e ≡ None → unread_prefix (classed_lines t) ≡ Some r → spans t e ≡ Err r
-unread-refused t e r a b h = refused t e r (passed (bad_argument e) _ (Some r) a (passed (reserved e) _ (Some r) b (holds (unread_prefix (classed_lines t)) _ r h)))
+use Rattle.mk_edit_parts.proofs.CauseLemmas.{passed, refused}
 
 -- the cause Reserved, and the prefix that is not read, by their tests
 pub reserved-holds : (e : Edit) (b : Bool) → b ≡ (any is_prefix_name (names e) || any is_reserved_word (targets e)) → reserved e ≡ where_holds b Reserved
@@ -34,7 +25,7 @@ pub unread-holds : (ls : List ClassedLine) (b : Bool) → b ≡ any (λ l. is_un
 unread-holds ls b h = ap (λ z. where_holds z RecipePrefix) (sym h)
 
 -- an edit of one place has no such line where its address has none
-pub same-no_such : (ls : List ClassedLine) (e : Edit) → IsOfOnePlace e → no_such ls e ≡ no_such_line ls (address e)
+same-no_such : (ls : List ClassedLine) (e : Edit) → IsOfOnePlace e → no_such ls e ≡ no_such_line ls (address e)
 same-no_such ls (SetValue nth n v) h = refl
 same-no_such ls (AppendValue nth n v) h = refl
 same-no_such ls (RemoveAssign nth n) h = refl

@@ -19,10 +19,10 @@ use Rattle.mk_class.specs.declared.assignment.TargetAssignment as target_assignm
 use Rattle.mk_class.specs.declared.rule.Header as header
 use Rattle.mk_class.specs.declared.class.Class.TheVariants as variants
 use Rattle.mk_class.specs.ClassedLines.{ClassedLine}
-use Rattle.mk_tree.specs.PlacedLines.{PlacedLine, placed_line}
+use Rattle.mk_tree.specs.PlacedLines.{PlacedLine, placed_line, text_of_line}
 use Rattle.mk_edit_laws.specs.Addresses.{assigns, is_rule_for, targets_of}
 use Rattle.mk_edit_laws.specs.AddressCauses.{is_unread_prefix}
-use Rattle.mk_edit_parts.specs.PlacedParts.{IsClassed, text_of_line, words_before, assigns_in, assigns_placed, is_rule_for_in, is_rule_for_placed, is_target_in, is_target_placed, is_unread_in, is_unread_placed}
+use Rattle.mk_edit_parts.specs.PlacedParts.{IsClassed, words_before, assigns_in, assigns_placed, is_rule_for_in, is_rule_for_placed, is_target_in, is_target_placed, is_unread_in, is_unread_placed}
 
 -- the joined text of a line is as long as its cells
 pub text-length : (l : PlacedLine) → length (text_of_line l) ≡ length (line_cells l.bytes)
@@ -42,7 +42,7 @@ seen-target_assign l h at e = line-parts_placed h.context l.bytes (variants.Targ
 -- ---- the tests of lines, as they are defined
 
 -- the words of a part
-words-part : (cs : List Cell) (end : ℕ) (before part : List (List Cell)) → IsPart cs 0 end before part → words_before end (joined_text cs) ≡ word_texts joined_byte part
+pub words-part : (cs : List Cell) (end : ℕ) (before part : List (List Cell)) → IsPart cs 0 end before part → words_before end (joined_text cs) ≡ word_texts joined_byte part
 words-part cs end before part h = sym (text_words-words (text_at (joined_text cs) (record { start = 0; end = end }))) ∙ h.words_are
 
 -- the parts of a line of the definitions

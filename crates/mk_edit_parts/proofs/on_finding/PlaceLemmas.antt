@@ -1,5 +1,5 @@
 -- The line of a document where an edit applies, with those above and below it.
-use Rattle.std.proofs.Common.{◌≡◌, refl, sym, ap, ◌∙◌, subst, arith, ℕ, zero, suc, ◌+◌, ◌<◌, List, [], ◌∷◌, ◌++◌, length, take, drop, Some}
+use Rattle.std.proofs.Common.{◌≡◌, sym, ap, ◌∙◌, subst, arith, ℕ, zero, suc, ◌+◌, ◌<◌, List, [], ◌∷◌, ◌++◌, length, take, drop, Some}
 use Rattle.std.specs.Prelude.{slice_get}
 use Rattle.std.proofs.lemmas.List.{map-append, length-map}
 use Rattle.std.proofs.Math.Seq.{take-append_seam, drop-append_seam, drop-append-add}
@@ -9,17 +9,17 @@ use Rattle.mk_class.specs.ClassedLines.{classed_lines}
 use Rattle.mk_tree.specs.Documents.{IsFaithful, context_of}
 use Rattle.mk_tree.specs.PlacedLines.{PlacedLine, placed_line, placed_lines, placed_text}
 use Rattle.mk_tree.proofs.on_documents.LinePlaces.{located, context_of-last}
+use Rattle.mk_tree.specs.LineTexts.{StandingLine}
 use Rattle.mk_patch.proofs.on_moves.ShapeLemmas.{get-between, within-between}
-use Rattle.mk_edit_laws.specs.Spots.{Spot}
 use Rattle.mk_edit_laws.specs.Addresses.{Address}
 use Rattle.mk_edit_laws.proofs.on_edits.EditPlaces.{found-spot}
-use Rattle.mk_edit_parts.specs.Found.{IsFoundAt, IsEnd}
+use Rattle.mk_edit_parts.specs.Found.{IsFoundAt}
 use Rattle.mk_edit_parts.specs.PlacedParts.{AreEachClassed, IsClassed}
 use Rattle.mk_edit_parts.specs.declared.seek.Found.{Found}
 use Rattle.mk_edit_parts.proofs.on_finding.SeekLemmas.{faithful-each}
 
 -- what is known of a document where a line of its text stands
-pub record IsLineAt (ls : List PlacedLine) (f : Found) (s : Spot) : Type 0 where
+pub record IsLineAt (ls : List PlacedLine) (f : Found) (s : StandingLine) : Type 0 where
   -- the lines of the text
   pub lines : classed_lines (placed_text ls) ≡ s.above ++ s.line ∷ s.below
   -- the lines of the document
@@ -66,22 +66,3 @@ classed-at (x ∷ ls) (suc at) l h k = classed-at ls at l h.1 k
 
 pub faithful-at : (ls : List PlacedLine) (at : ℕ) (l : PlacedLine) → IsFaithful ls → Some l ≡ slice_get ls at → IsClassed l
 faithful-at ls at l h k = classed-at ls at l (faithful-each ls h) k
-
--- the end of a document
-pub record IsAtEnd (ls : List PlacedLine) (f : Found) : Type 0 where
-  pub place_is : f.at ≡ length ls
-  pub above_is : take f.at ls ≡ ls
-  pub below_is : drop f.at ls ≡ []
-
-pub end-at : (ls : List PlacedLine) (f : Found) → IsFaithful ls → IsEnd (classed_lines (placed_text ls)) f → IsAtEnd ls f
-end-at ls f h E =
-    let n : f.at ≡ length ls = sym E.place_is ∙ (sym (length-map (classed_lines (placed_text ls)) placed_line) ∙ ap length (sym h)) in
-    record { place_is = n; above_is = ap (λ n. take n ls) n ∙ take-all ls; below_is = ap (λ n. drop n ls) n ∙ drop-all ls }
-  where
-    take-all : (xs : List PlacedLine) → take (length xs) xs ≡ xs
-    take-all [] = refl
-    take-all (x ∷ xs) = ap (λ z. x ∷ z) (take-all xs)
-
-    drop-all : (xs : List PlacedLine) → drop (length xs) xs ≡ []
-    drop-all [] = refl
-    drop-all (x ∷ xs) = drop-all xs

@@ -1,19 +1,16 @@
 -- Places further down in a document, and the line end of its text.
-use Rattle.std.proofs.Common.{◌≡◌, refl, sym, ap, ◌∙◌, subst, arith, ℕ, zero, suc, ◌+◌, ◌-◌, ◌^◌, ◌<◌, ◌≤◌, List, [], ◌∷◌, ◌++◌, length, take, drop, Option, Some, None}
+use Rattle.std.proofs.Common.{◌≡◌, refl, sym, ap, ◌∙◌, subst, ℕ, zero, suc, ◌+◌, List, [], ◌∷◌, take, drop, Option, Some, None}
 use Rattle.std.specs.Prelude.{slice_get}
 use Rattle.mk_lines.specs.LogicalLines.{logical_lines}
-use Rattle.mk_lines.specs.LogicalLines.{has_no_line_end}
-use Rattle.mk_lines.specs.PhysicalLines.{line_end, line_end_bytes, file_line_end}
+use Rattle.mk_lines.specs.PhysicalLines.{file_line_end}
 use Rattle.mk_lines.proofs.on_lines.FileEndLemmas.{file_line_end-first}
-use Rattle.mk_class.specs.Contexts.{Context, start, context_after, context_after_places, Admits}
-use Rattle.mk_class.specs.ClassedLines.{ClassedLine, classed, classed_lines, context_after_lines}
+use Rattle.mk_class.specs.Contexts.{Context, start, context_after_places, Admits}
+use Rattle.mk_class.specs.ClassedLines.{classed}
 use Rattle.mk_tree.specs.Documents.{IsFaithful}
 use Rattle.mk_tree.specs.PlacedLines.{PlacedLine, placed_lines, placed_text, context_after_placed}
-use Rattle.mk_tree.specs.PlacedLines.{size_of, last_line, bytes_of_line}
 use Rattle.mk_tree.specs.Admissions.{AreAdmitted}
-use Rattle.mk_tree.proofs.AdmissionLemmas.{defines_after-few, context-faithful, context_after-step}
+use Rattle.mk_tree.proofs.AdmissionLemmas.{context-faithful, context_after-step}
 use Rattle.mk_tree.proofs.Places.{drop_get}
-use Rattle.mk_tree.proofs.Ends.{last-place}
 use Rattle.mk_edit_parts.specs.Found.{IsPlaceOf}
 use Rattle.mk_edit_parts.specs.declared.seek.Found.{Found}
 

@@ -3,6 +3,7 @@ use Rattle.mk_class.specs.Texts.{is_one_of}
 use Rattle.std.proofs.Common.{◌≡◌, refl, sym, ap, ◌∙◌, subst, arith, ℕ, zero, suc, ◌+◌, ◌==◌, ◌≤◌, ◌&&◌, ◌||◌, List, [], ◌∷◌, map, Bool, true, false, if◌then◌else◌, length, zero-add, Option, Some, None, option_map}
 use Rattle.std.proofs.lemmas.Bool.{ne_eqb, eq-eqb}
 use Rattle.std.proofs.lemmas.List.{length-map}
+use Rattle.std.proofs.Math.Bool.{or_assoc}
 use Rattle.mk_class.specs.Lists.{any}
 use Rattle.mk_lines.specs.Cells.{joined_byte}
 use Rattle.mk_class.specs.Contexts.{Context, start, context_after}
@@ -13,7 +14,8 @@ use Rattle.mk_tree.specs.PlacedLines.{PlacedLine, placed_line, placed_lines, pla
 use Rattle.mk_tree.specs.Documents.{IsFaithful, context_of}
 use Rattle.mk_tree.specs.Admissions.{AreAdmitted}
 use Rattle.mk_tree.proofs.on_documents.LinePlaces.{AreClassed, AreClassed-class, AreClassed-tail, AreClassed-lines}
-use Rattle.mk_edit_laws.specs.Spots.{Spot, spots, spot_if, under, nth_of}
+use Rattle.mk_tree.specs.LineTexts.{StandingLine}
+use Rattle.mk_edit_laws.specs.Spots.{spots, spot_if, under, nth_of}
 use Rattle.mk_edit_laws.specs.Addresses.{Address, Variable, Rule, assigns, is_rule_for, is_a_target, targets_of}
 use Rattle.mk_edit_laws.specs.AddressCauses.{is_unread_prefix}
 use Rattle.mk_edit_parts.specs.PlacedParts.{AreEachClassed, is_unread_placed, is_target_placed}
@@ -23,12 +25,12 @@ use Rattle.mk_edit_parts.specs.declared.seek.Sought.{Sought}
 use Rattle.mk_edit_parts.proofs.on_finding.PartLemmas.{assigns-placed, rule_for-placed, unread-placed, target-placed}
 
 -- a test of lines as a document shows them is one of lines as they are defined
-abbrev pub AgreeAlong : (PlacedLine → Bool) → (ClassedLine → Bool) → List ClassedLine → Type 0
+abbrev AgreeAlong : (PlacedLine → Bool) → (ClassedLine → Bool) → List ClassedLine → Type 0
 AgreeAlong p q [] = Unit {0}
 AgreeAlong p q (l ∷ ls) = (p (placed_line l) ≡ q l) × AgreeAlong p q ls
 
 -- where a spot of some lines stands, the first of which stands at a place
-abbrev pub place_from : Found → Spot → Found
+abbrev place_from : Found → StandingLine → Found
 place_from f s = record { at = f.at + length s.above; context = context_after_lines f.context s.above }
 
 -- one line on
@@ -37,35 +39,31 @@ next f l = record { at = f.at + 1; context = context_after f.context l.class }
 
 -- ---- the end, and the prefix
 
-pub seek-end : (p : PlacedLine → Bool) (w : ℕ) (s : Sought) (ls : List ClassedLine) → (seek p w s (placed_lines ls)).end ≡ record { at = s.end.at + length ls; context = context_after_lines s.end.context ls }
+seek-end : (p : PlacedLine → Bool) (w : ℕ) (s : Sought) (ls : List ClassedLine) → (seek p w s (placed_lines ls)).end ≡ record { at = s.end.at + length ls; context = context_after_lines s.end.context ls }
 seek-end p w s [] = let n : s.end.at ≡ s.end.at + 0 = omega arith in ap (λ (n : ℕ). record { at = n; context = s.end.context }) n
 seek-end p w s (l ∷ ls) =
     let n : s.end.at + 1 + length ls ≡ s.end.at + suc (length ls) = omega arith in
     seek-end p w (noted p w (placed_line l) s) ls ∙ ap (λ (n : ℕ). record { at = n; context = context_after_lines (context_after s.end.context l.class) ls }) n
 
-or-assoc : (a b c : Bool) → ((a || b) || c) ≡ (a || (b || c))
-or-assoc true b c = refl
-or-assoc false b c = refl
-
 or-false : (a : Bool) → a ≡ (a || false)
 or-false true = refl
 or-false false = refl
 
-pub seek-unread : (p : PlacedLine → Bool) (w : ℕ) (s : Sought) (ls : List ClassedLine) → AgreeAlong is_unread_placed (λ l. is_unread_prefix l.class) ls
+seek-unread : (p : PlacedLine → Bool) (w : ℕ) (s : Sought) (ls : List ClassedLine) → AgreeAlong is_unread_placed (λ l. is_unread_prefix l.class) ls
     → (seek p w s (placed_lines ls)).has_unread_prefix ≡ (s.has_unread_prefix || any (λ l. is_unread_prefix l.class) ls)
 seek-unread p w s [] A = or-false s.has_unread_prefix
 seek-unread p w s (l ∷ ls) A =
     let below = any (λ l. is_unread_prefix l.class) ls in
-    seek-unread p w (noted p w (placed_line l) s) ls A.1 ∙ (ap (λ b. (s.has_unread_prefix || b) || below) A.0 ∙ or-assoc s.has_unread_prefix (is_unread_prefix l.class) below)
+    seek-unread p w (noted p w (placed_line l) s) ls A.1 ∙ (ap (λ b. (s.has_unread_prefix || b) || below) A.0 ∙ or_assoc s.has_unread_prefix (is_unread_prefix l.class) below)
 
 -- ---- how many
 
 -- how many spots there are where the first line is one, or is none
-spots-count : (b : Bool) (first : Spot) (l : ClassedLine) (ss : List Spot) (n : ℕ) → (if b then n + 1 else n) + length ss ≡ n + length (spot_if b first (map (under l) ss))
+spots-count : (b : Bool) (first : StandingLine) (l : ClassedLine) (ss : List StandingLine) (n : ℕ) → (if b then n + 1 else n) + length ss ≡ n + length (spot_if b first (map (under l) ss))
 spots-count true first l ss n = omega (arith, length-map ss (under l))
 spots-count false first l ss n = omega (arith, length-map ss (under l))
 
-pub seek-count : (p : PlacedLine → Bool) (q : ClassedLine → Bool) (w : ℕ) (s : Sought) (ls : List ClassedLine) → AgreeAlong p q ls → (seek p w s (placed_lines ls)).count ≡ s.count + length (spots q ls)
+seek-count : (p : PlacedLine → Bool) (q : ClassedLine → Bool) (w : ℕ) (s : Sought) (ls : List ClassedLine) → AgreeAlong p q ls → (seek p w s (placed_lines ls)).count ≡ s.count + length (spots q ls)
 seek-count p q w s [] A = omega arith
 seek-count p q w s (l ∷ ls) A =
     seek-count p q w (noted p w (placed_line l) s) ls A.1
@@ -73,7 +71,7 @@ seek-count p q w s (l ∷ ls) A =
 
 -- ---- which
 
-places-under : (f : Found) (l : ClassedLine) (ss : List Spot) (n : ℕ) → option_map (place_from (next f l)) (nth_of n ss) ≡ option_map (place_from f) (nth_of n (map (under l) ss))
+places-under : (f : Found) (l : ClassedLine) (ss : List StandingLine) (n : ℕ) → option_map (place_from (next f l)) (nth_of n ss) ≡ option_map (place_from f) (nth_of n (map (under l) ss))
 places-under f l [] n = refl
 places-under f l (s ∷ ss) zero = refl
 places-under f l (s ∷ ss) (suc zero) =
@@ -82,7 +80,7 @@ places-under f l (s ∷ ss) (suc zero) =
 places-under f l (s ∷ ss) (suc (suc n)) = places-under f l ss (suc n)
 
 -- once the wanted one is found, it stays
-pub seek-stays : (p : PlacedLine → Bool) (w : ℕ) (s : Sought) (ls : List PlacedLine) → w ≤ s.count → (seek p w s ls).found ≡ s.found
+seek-stays : (p : PlacedLine → Bool) (w : ℕ) (s : Sought) (ls : List PlacedLine) → w ≤ s.count → (seek p w s ls).found ≡ s.found
 seek-stays p w s [] h = refl
 seek-stays p w s (l ∷ ls) h = seek-stays p w (noted p w l s) ls (bound (p l)) ∙ same (p l)
   where
@@ -95,7 +93,7 @@ seek-stays p w s (l ∷ ls) h = seek-stays p w (noted p w l s) ls (bound (p l)) 
     bound false = h
 
 -- the wanted one is the spot of that number
-pub seek-finds : (p : PlacedLine → Bool) (q : ClassedLine → Bool) (w : ℕ) (ls : List ClassedLine) → AgreeAlong p q ls → (k : ℕ) (s : Sought) → w ≡ s.count + suc k → s.found ≡ None
+seek-finds : (p : PlacedLine → Bool) (q : ClassedLine → Bool) (w : ℕ) (ls : List ClassedLine) → AgreeAlong p q ls → (k : ℕ) (s : Sought) → w ≡ s.count + suc k → s.found ≡ None
     → (seek p w s (placed_lines ls)).found ≡ option_map (place_from s.end) (nth_of (suc k) (spots q ls))
 seek-finds p q w [] A k s e h = h
 seek-finds p q w (l ∷ ls) A k s e h =
@@ -158,13 +156,13 @@ candidates-spots ls (Some (Rule nth t)) = refl
 seek-nth : (p : PlacedLine → Bool) (q : ClassedLine → Bool) (ls : List ClassedLine) → AgreeAlong p q ls → (w : ℕ) → (seek p w nothing_seen (placed_lines ls)).found ≡ option_map (place_from nothing_seen.end) (nth_of w (spots q ls))
 seek-nth p q ls A zero = seek-stays p zero nothing_seen (placed_lines ls) (omega arith) ∙ none (spots q ls)
   where
-    none : (ss : List Spot) → None ≡ option_map (place_from nothing_seen.end) (nth_of 0 ss)
+    none : (ss : List StandingLine) → None ≡ option_map (place_from nothing_seen.end) (nth_of 0 ss)
     none [] = refl
     none (s ∷ ss) = refl
 seek-nth p q ls A (suc k) = seek-finds p q (suc k) ls A k nothing_seen (omega arith) refl
 
 -- counted from the first line
-places-first : (o : Option Spot) → option_map (place_from nothing_seen.end) o ≡ option_map place_found o
+places-first : (o : Option StandingLine) → option_map (place_from nothing_seen.end) o ≡ option_map place_found o
 places-first None = refl
 places-first (Some s) = let n : 0 + length s.above ≡ length s.above = omega arith in ap (λ (n : ℕ). Some (record { at = n; context = context_of s.above })) n
 

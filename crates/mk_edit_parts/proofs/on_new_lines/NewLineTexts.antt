@@ -4,14 +4,14 @@ use Rattle.std.proofs.Common.{length-append}
 use Rattle.std.specs.Prelude.{◌==◌, OnOk, Result, Ok, Err}
 use Rattle.std.specs.declared.alloc.AllocError.{AllocError}
 use Rattle.mk_lines.specs.Lists.{concat, leading, after_leading}
-use Rattle.mk_lines.specs.UnitWalk.{is_blank_byte}
 use Rattle.mk_lines.specs.Ranges.{word_token_ranges}
 use Rattle.mk_lines.specs.Units.{units}
-use Rattle.mk_lines.specs.Words.{Token, Gap, Word, tokens, token_words}
+use Rattle.mk_lines.specs.Words.{Token, Gap, Word, tokens, token_words, words_in}
 use Rattle.mk_lines.proofs.on_lists.ListLemmas.{leading-after_leading}
 use Rattle.mk_lines.proofs.UnitWalkLemmas.{words_left-blanks}
+use Rattle.mk_lines.specs.Bytes.{is_blank_byte}
 use Rattle.mk_class.specs.RecipePrefix.{is_prefix_led}
-use Rattle.mk_edit_laws.specs.NewLines.{words_in, spaced, each_spaced, joined_by_space, colons_text, rule_text}
+use Rattle.mk_edit_laws.specs.NewLines.{spaced, each_spaced, joined_by_space, colons_text, rule_text}
 use Rattle.mk_edit_laws.specs.declared.edit.Colons.{Colons}
 use Rattle.mk_edit_laws.specs.declared.edit.Colons.TheVariants.{One, Two}
 
@@ -41,12 +41,12 @@ blanks-count t =
     sym (ranges-count _ (tokens (λ b. b) (units (λ b. b) t)))
     ∙ (ap length (words_left-blanks n t (omega arith)) ∙ ranges-count _ (tokens (λ b. b) (units (λ b. b) s)))
 
-pub word-some : (rest word after : List ℕ) → words_in rest ≡ word ∷ words_in after → word ++ after ≡ after_leading is_blank_byte rest → 0 < length word
+word-some : (rest word after : List ℕ) → words_in rest ≡ word ∷ words_in after → word ++ after ≡ after_leading is_blank_byte rest → 0 < length word
 word-some rest [] after w j = absurd (omega (arith, blanks-count rest, ap (λ t. length (words_in t)) j, ap length w))
 word-some rest (b ∷ word) after w j = omega arith
 
 -- so words that are joined begin with the first of them
-pub joined-first : (word : List ℕ) (ws : List (List ℕ)) → 0 < length word → joined_by_space (word ∷ ws) ≡ word ++ each_spaced ws
+joined-first : (word : List ℕ) (ws : List (List ℕ)) → 0 < length word → joined_by_space (word ∷ ws) ≡ word ++ each_spaced ws
 joined-first [] ws h = absurd (omega arith)
 joined-first (b ∷ word) ws h = refl
 

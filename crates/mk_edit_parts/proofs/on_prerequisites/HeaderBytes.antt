@@ -1,5 +1,5 @@
 -- The bytes of a rule's line without a word, and with one more, by the places of its parts.
-use Rattle.std.proofs.Common.{◌≡◌, refl, sym, ap, ◌∙◌, subst, arith, ℕ, ◌+◌, ◌-◌, ◌≤◌, ◌==◌, ◌&&◌, List, [], ◌∷◌, ◌++◌, length, length-append, take, drop, append_assoc, Bool, true, false, not, if◌then◌else◌, eq-eqb}
+use Rattle.std.proofs.Common.{◌≡◌, refl, sym, ap, ◌∙◌, arith, ℕ, ◌+◌, ◌≤◌, ◌==◌, ◌&&◌, List, [], ◌∷◌, ◌++◌, length, length-append, drop, append_assoc, Bool, true, false, not, if◌then◌else◌, eq-eqb}
 use Rattle.std.specs.Prelude.{slice_range, codes}
 use Rattle.std.proofs.lemmas.List.{append-nil}
 use Rattle.std.proofs.lemmas.Bool.{ne_eqb}
@@ -7,28 +7,26 @@ use Rattle.std.proofs.Math.Seq.{drop-append_seam}
 use Rattle.mk_lines.specs.Lists.{concat, Each}
 use Rattle.mk_lines.specs.Cells.{Cell, joined_byte, joined_text, raw_text, line_cells}
 use Rattle.mk_lines.specs.Pieces.{Piece, new_bytes}
-use Rattle.mk_lines.specs.Words.{is_gap, tokens}
+use Rattle.mk_lines.specs.Words.{is_gap}
 use Rattle.mk_lines.specs.Ranges.{text_at, word_ranges}
 use Rattle.mk_lines.specs.declared.split.Span.{Span}
-use Rattle.mk_lines.proofs.on_lists.ListLemmas.{trailing-each}
 use Rattle.mk_lines.proofs.on_lists.PieceLemmas.{new_bytes-append}
 use Rattle.mk_lines.proofs.on_cells.CellLemmas.{raw_text-append}
 use Rattle.mk_class.specs.Lists.{is_empty}
 use Rattle.mk_class.specs.Headers
-use Rattle.mk_class.specs.HeaderFits.{FitsBar}
 use Rattle.mk_class.specs.ClassPlaces.{width}
 use Rattle.mk_class.specs.PartPlaces.{IsPart}
 use Rattle.mk_class.specs.declared.rule.Header as header
 use Rattle.mk_class.proofs.on_classes.PartPlaceLemmas.{width-append}
-use Rattle.mk_tree.specs.PlacedLines.{PlacedLine}
-use Rattle.mk_edit_laws.specs.WordPieces.{kept, header_pieces, put_last, removed_words, remove_pieces, add_pieces, order_only_pieces, prerequisite_text}
-use Rattle.mk_edit_laws.proofs.on_lines.HeaderParts.{bar-is}
+use Rattle.mk_class.proofs.on_classes.LinePartLemmas.{bar-width}
+use Rattle.mk_class.specs.LineParts.{normal_span, order_only_span}
+use Rattle.mk_tree.specs.PlacedLines.{PlacedLine, text_of_line}
+use Rattle.mk_edit_laws.specs.WordPieces.{kept, header_pieces, put_last, removed_words, remove_pieces, add_pieces, prerequisite_text}
 use Rattle.mk_edit_laws.proofs.on_lines.HeaderChanges.{middle_units, header-cells}
 use Rattle.mk_edit_laws.proofs.on_prerequisites.WordsAdded.{front_units, gaps_after, front-gaps, front-cells, gaps-are_gaps}
-use Rattle.mk_edit_parts.specs.PlacedParts.{text_of_line}
-use Rattle.mk_edit_parts.specs.SeenHeaders.{IsHeaderSeen, normal_span, order_only_span}
+use Rattle.mk_edit_parts.specs.SeenHeaders.{IsHeaderSeen}
 use Rattle.mk_edit_parts.specs.WordCuts.{raw_between, without_words, last_end}
-use Rattle.mk_edit_parts.specs.NewPrerequisites.{words_end, brings_bar, part_of_new, place_of_new, before_new, after_new}
+use Rattle.mk_edit_parts.specs.NewPrerequisites.{words_end, place_of_new, before_new, after_new}
 use Rattle.mk_edit_parts.proofs.on_prerequisites.WordRangeLemmas.{slice-at, part-ranges, units-last_end, part-without}
 
 -- ---- pieces
@@ -43,11 +41,6 @@ pieces-bytes h t n o =
     a ∙ ap (λ z. new_bytes t ++ (raw_text (concat (middle_units h)) ++ z)) (b ∙ ap (λ z. new_bytes n ++ (raw_text (concat h.bar) ++ z)) (c ∙ ap (λ z. new_bytes o ++ z) (append-nil (raw_text (concat h.tail)))))
 
 -- ---- places
-
-bar-width : (b o : List (List Cell)) → FitsBar joined_byte b o → width b ≡ (if not (is_empty b) then 1 else 0)
-bar-width [] o h = refl
-bar-width (u ∷ []) o h = ap (λ z. width (z ∷ [])) (bar-is u h)
-bar-width (u ∷ v ∷ b) o h = absurd h
 
 -- the cells of a header's line by its parts, and the places of these
 record HasParts (cs : List Cell) (at : header.Header) (h : Headers.Header Cell) : Type 0 where

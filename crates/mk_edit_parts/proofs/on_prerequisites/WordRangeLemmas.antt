@@ -1,25 +1,23 @@
 -- A line cut at the ranges of its words: where the last word ends, and the bytes without some words.
-use Rattle.std.proofs.Common.{◌≡◌, refl, sym, ap, ◌∙◌, subst, arith, ℕ, ◌+◌, ◌-◌, ◌≤◌, List, [], ◌∷◌, ◌++◌, map, length, length-append, length-take, length-drop, min, take, drop, append_assoc, Bool, true, false, if◌then◌else◌}
+use Rattle.std.proofs.Common.{◌≡◌, refl, sym, ap, ◌∙◌, subst, arith, ℕ, ◌+◌, ◌-◌, ◌≤◌, List, [], ◌∷◌, ◌++◌, map, length, length-append, length-take, length-drop, take, drop, append_assoc, Bool, true, false, if◌then◌else◌}
 use Rattle.std.specs.Prelude.{slice_range}
 use Rattle.std.proofs.lemmas.List.{append-nil, map-append, length-map}
 use Rattle.std.proofs.Math.Seq.{take-append_seam, drop-append_seam}
 use Rattle.mk_lines.specs.Lists.{concat, trim_end, trim_end_before}
 use Rattle.mk_lines.specs.Cells.{Cell, joined_byte, joined_text, raw_text}
 use Rattle.mk_lines.specs.Pieces.{Piece, Keep, Replace, new_bytes}
-use Rattle.mk_lines.specs.Words.{Token, Gap, Word, tokens, token_units, is_gap, IsWord, AreTokens}
+use Rattle.mk_lines.specs.Words.{Token, Gap, Word, tokens, token_units, is_gap, IsWord, AreTokens, words_in}
 use Rattle.mk_lines.specs.Ranges.{text_at, word_token_ranges, word_ranges}
 use Rattle.mk_lines.specs.declared.split.Span.{Span}
 use Rattle.mk_lines.specs.Units.{units}
 use Rattle.mk_lines.proofs.on_units.UnitLemmas.{concat-units}
 use Rattle.mk_lines.proofs.on_units.TokenLemmas.{token_text, map_token, concat-map, tokens-map, tokens-are_tokens, token_units-tokens, token_text-tokens}
-use Rattle.mk_class.specs.Lists.{is_empty}
 use Rattle.mk_class.specs.Texts.{is_same_text, word_texts}
 use Rattle.mk_class.specs.ClassPlaces.{width}
 use Rattle.mk_class.specs.PartPlaces.{IsPart}
 use Rattle.mk_class.specs.TextClasses.{itself}
 use Rattle.mk_class.proofs.on_classes.PartPlaceLemmas.{width-append}
 use Rattle.mk_class.proofs.on_classes.FirstWordLemmas.{text_words-words}
-use Rattle.mk_edit_laws.specs.NewLines.{words_in}
 use Rattle.mk_edit_laws.specs.WordPieces.{is_word_of, removed_tokens}
 use Rattle.mk_edit_parts.specs.WordCuts.{raw_between, without_words, last_end}
 

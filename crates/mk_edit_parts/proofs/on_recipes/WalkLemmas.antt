@@ -1,5 +1,5 @@
 -- A walk down from the header of a rule finds where its recipe ends, and the recipe line of a number.
-use Rattle.std.proofs.Common.{◌≡◌, refl, sym, ap, ◌∙◌, arith, ℕ, zero, suc, ◌+◌, ◌==◌, ◌≤◌, ◌||◌, List, [], ◌∷◌, map, Bool, true, false, not, if◌then◌else◌, length, take, drop, suc-add, Some, None, option_map, filter}
+use Rattle.std.proofs.Common.{◌≡◌, refl, sym, ap, ◌∙◌, arith, ℕ, zero, suc, ◌+◌, ◌==◌, ◌≤◌, ◌||◌, List, [], ◌∷◌, map, Bool, true, false, not, if◌then◌else◌, length, take, drop, Some, None, option_map, filter}
 use Rattle.std.proofs.lemmas.Bool.{ne_eqb, eq-eqb}
 use Rattle.std.proofs.lemmas.List.{take-map, drop-map}
 use Rattle.std.specs.Prelude.{slice_get}
@@ -13,9 +13,11 @@ use Rattle.mk_class.specs.ClassedLines.{ClassedLine, classed_lines}
 use Rattle.mk_tree.specs.Documents.{IsFaithful}
 use Rattle.mk_tree.specs.PlacedLines.{PlacedLine, placed_line, placed_lines, placed_text, is_conditional_places}
 use Rattle.mk_tree.specs.RecipeLines.{stays_in_rule, rule_lines, recipe_lines, recipe_run}
-use Rattle.mk_edit_laws.specs.Spots.{Spot, spots, spot_if, under, nth_of}
+use Rattle.mk_tree.specs.LineTexts.{StandingLine}
+use Rattle.mk_edit_laws.specs.Spots.{spots, spot_if, under, nth_of}
 use Rattle.mk_edit_parts.specs.RecipeWalks.{lines_from, recipe_spots_in, is_recipe_places, stays_in_rule_places, recipe_from, recipe_place_from}
 use Rattle.mk_edit_parts.specs.declared.recipe.Recipe as recipe
+use Rattle.mk_edit_parts.proofs.on_finding.LeanLemmas.{drop_at}
 
 -- ---- classes
 
@@ -131,21 +133,21 @@ place-passed n p at (l ∷ ls) h = go (is_recipe_places l.class) (stays_in_rule_
     go false false i j = refl
 
 -- the place of a spot, counted from a place
-abbrev place_of_spot : ℕ → Spot → ℕ
+abbrev place_of_spot : ℕ → StandingLine → ℕ
 place_of_spot at s = at + length s.above
 
-places-under : (at : ℕ) (l : ClassedLine) (n : ℕ) (ss : List Spot) → option_map (place_of_spot (at + 1)) (nth_of n ss) ≡ option_map (place_of_spot at) (nth_of n (map (under l) ss))
+places-under : (at : ℕ) (l : ClassedLine) (n : ℕ) (ss : List StandingLine) → option_map (place_of_spot (at + 1)) (nth_of n ss) ≡ option_map (place_of_spot at) (nth_of n (map (under l) ss))
 places-under at l n [] = refl
 places-under at l zero (s ∷ ss) = refl
 places-under at l (suc zero) (s ∷ ss) = let e : at + 1 + length s.above ≡ at + suc (length s.above) = omega arith in ap (λ (n : ℕ). Some n) e
 places-under at l (suc (suc n)) (s ∷ ss) = places-under at l (suc n) ss
 
 -- the same, of the first spots
-taken-under : (at : ℕ) (l : ClassedLine) (n k : ℕ) (ss : List Spot) → option_map (place_of_spot (at + 1)) (nth_of n (take k ss)) ≡ option_map (place_of_spot at) (nth_of n (take k (map (under l) ss)))
+taken-under : (at : ℕ) (l : ClassedLine) (n k : ℕ) (ss : List StandingLine) → option_map (place_of_spot (at + 1)) (nth_of n (take k ss)) ≡ option_map (place_of_spot at) (nth_of n (take k (map (under l) ss)))
 taken-under at l n k ss = places-under at l n (take k ss) ∙ ap (λ z. option_map (place_of_spot at) (nth_of n z)) (sym (take-map (under l) k ss))
 
 -- the spots of the recipe lines, by what the first line is
-abbrev spots_where : (recipe stays : Bool) → ClassedLine → List ClassedLine → List Spot
+abbrev spots_where : (recipe stays : Bool) → ClassedLine → List ClassedLine → List StandingLine
 spots_where b s l ls = take (length (if s then (if b then l ∷ recipe_lines ls else recipe_lines ls) else [])) (spot_if b (record { above = []; line = l; below = ls }) (map (under l) (spots (λ z. is_recipe z.class) ls)))
 
 place-told : (n p m at : ℕ) (ls : List ClassedLine) → n ≡ p + suc m → recipe_place_from n p at (placed_lines ls) ≡ option_map (place_of_spot at) (nth_of (suc m) (recipe_spots_in ls))
@@ -179,7 +181,7 @@ place-told n p m at (l ∷ ls) h =
 -- ---- the lines of a faithful document
 
 -- the lines from a place on
-pub faithful-from : (ls : List PlacedLine) (at : ℕ) → IsFaithful ls → drop at ls ≡ placed_lines (lines_from ls at)
+faithful-from : (ls : List PlacedLine) (at : ℕ) → IsFaithful ls → drop at ls ≡ placed_lines (lines_from ls at)
 faithful-from ls at h = ap (drop at) h ∙ drop-map placed_line at (classed_lines (placed_text ls))
 
 -- the recipe below a place
@@ -196,16 +198,10 @@ recipe-found ls at r f h = go (recipe_run (lines_from ls at)) (h ∙ (ap (recipe
 pub recipe-line : (ls : List PlacedLine) (at n : ℕ) → IsFaithful ls → recipe_place_from n 0 at (drop at ls) ≡ option_map (λ s. at + length s.above) (nth_of n (recipe_spots_in (lines_from ls at)))
 recipe-line ls at zero f = place-passed 0 0 at (drop at ls) (omega arith) ∙ none (recipe_spots_in (lines_from ls at))
   where
-    none : (ss : List Spot) → None ≡ option_map (place_of_spot at) (nth_of 0 ss)
+    none : (ss : List StandingLine) → None ≡ option_map (place_of_spot at) (nth_of 0 ss)
     none [] = refl
     none (s ∷ ss) = refl
 recipe-line ls at (suc n) f = ap (recipe_place_from (suc n) 0 at) (faithful-from ls at f) ∙ place-told (suc n) 0 n at (lines_from ls at) (omega arith)
-
--- the line at a place, and those from it on
-pub from-at : (ls : List PlacedLine) (at : ℕ) (l : PlacedLine) → Some l ≡ slice_get ls at → drop at ls ≡ l ∷ drop (at + 1) ls
-from-at [] at l h = absurd (cc)
-from-at (x ∷ ls) zero l h = cc
-from-at (x ∷ ls) (suc at) l h = rw (suc-add at 1) (from-at ls at l h)
 
 -- no line is from the end on
 past-end : (ls : List PlacedLine) (at : ℕ) → length ls ≤ at → drop at ls ≡ []
@@ -224,7 +220,7 @@ pub end-recipe : (r q : recipe.Recipe) (c d : Bool) (ls : List PlacedLine) (at :
 end-recipe r q c d ls at l h a e f =
     let below = drop (at + 1) ls in
     let next = recipe_from (record { end = at + 1; is_split = c }) c (at + 1) below in
-    ap (recipe_from r c at) (from-at ls at l h)
+    ap (recipe_from r c at) (drop_at ls at l h)
     ∙ (ap (λ b. if b then next else if stays_in_rule_places l.class then recipe_from r (c || is_conditional_places l.class) (at + 1) below else r) a
     ∙ (ap (λ (z : recipe.Recipe). recipe_from z c (at + 1) below) (sym e) ∙ ap (λ z. recipe_from q z (at + 1) below) (sym f)))
 
@@ -234,7 +230,7 @@ end-other r q c d ls at l h a b e f =
     let below = drop (at + 1) ls in
     let next = recipe_from (record { end = at + 1; is_split = c }) c (at + 1) below in
     let past = recipe_from r (c || is_conditional_places l.class) (at + 1) below in
-    ap (recipe_from r c at) (from-at ls at l h)
+    ap (recipe_from r c at) (drop_at ls at l h)
     ∙ (ap (λ z. if z then next else if stays_in_rule_places l.class then past else r) a
     ∙ (ap (λ z. if z then past else r) b
     ∙ (ap (λ (z : recipe.Recipe). recipe_from z (c || is_conditional_places l.class) (at + 1) below) (sym e) ∙ ap (λ z. recipe_from q z (at + 1) below) (sym f))))
@@ -245,7 +241,7 @@ end-ended r c ls at l h a b =
     let below = drop (at + 1) ls in
     let next = recipe_from (record { end = at + 1; is_split = c }) c (at + 1) below in
     let past = recipe_from r (c || is_conditional_places l.class) (at + 1) below in
-    ap (recipe_from r c at) (from-at ls at l h) ∙ (ap (λ z. if z then next else if stays_in_rule_places l.class then past else r) a ∙ ap (λ z. if z then past else r) b)
+    ap (recipe_from r c at) (drop_at ls at l h) ∙ (ap (λ z. if z then next else if stays_in_rule_places l.class then past else r) a ∙ ap (λ z. if z then past else r) b)
 
 -- ---- a step of the walk for a recipe line
 
@@ -257,7 +253,7 @@ pub place-recipe : (n p q : ℕ) (ls : List PlacedLine) (at : ℕ) (l : PlacedLi
 place-recipe n p q ls at l h a b e =
     let below = drop (at + 1) ls in
     let next = recipe_place_from n (p + 1) (at + 1) below in
-    ap (recipe_place_from n p at) (from-at ls at l h)
+    ap (recipe_place_from n p at) (drop_at ls at l h)
     ∙ (ap (λ z. if z then (if p + 1 == n then Some at else next) else if stays_in_rule_places l.class then recipe_place_from n p (at + 1) below else None) a
     ∙ (ap (λ z. if z then Some at else next) b ∙ ap (λ z. recipe_place_from n z (at + 1) below) (sym e)))
 
@@ -267,7 +263,7 @@ place-other n p q ls at l h a b e =
     let below = drop (at + 1) ls in
     let here = if p + 1 == n then Some at else recipe_place_from n (p + 1) (at + 1) below in
     let past = recipe_place_from n p (at + 1) below in
-    ap (recipe_place_from n p at) (from-at ls at l h)
+    ap (recipe_place_from n p at) (drop_at ls at l h)
     ∙ (ap (λ z. if z then here else if stays_in_rule_places l.class then past else None) a ∙ (ap (λ z. if z then past else None) b ∙ ap (λ z. recipe_place_from n z (at + 1) below) (sym e)))
 
 pub place-ended : (n p : ℕ) (ls : List PlacedLine) (at : ℕ) (l : PlacedLine) → Some l ≡ slice_get ls at → is_recipe_places l.class ≡ false → stays_in_rule_places l.class ≡ false
@@ -276,13 +272,13 @@ place-ended n p ls at l h a b =
     let below = drop (at + 1) ls in
     let here = if p + 1 == n then Some at else recipe_place_from n (p + 1) (at + 1) below in
     let past = recipe_place_from n p (at + 1) below in
-    ap (recipe_place_from n p at) (from-at ls at l h) ∙ (ap (λ z. if z then here else if stays_in_rule_places l.class then past else None) a ∙ ap (λ z. if z then past else None) b)
+    ap (recipe_place_from n p at) (drop_at ls at l h) ∙ (ap (λ z. if z then here else if stays_in_rule_places l.class then past else None) a ∙ ap (λ z. if z then past else None) b)
 
 pub place-here : (n p : ℕ) (ls : List PlacedLine) (at : ℕ) (l : PlacedLine) → Some l ≡ slice_get ls at → is_recipe_places l.class ≡ true → p + 1 ≡ n
     → recipe_place_from n p at (drop at ls) ≡ Some at
 place-here n p ls at l h a b =
     let below = drop (at + 1) ls in
     let next = recipe_place_from n (p + 1) (at + 1) below in
-    ap (recipe_place_from n p at) (from-at ls at l h)
+    ap (recipe_place_from n p at) (drop_at ls at l h)
     ∙ (ap (λ z. if z then (if p + 1 == n then Some at else next) else if stays_in_rule_places l.class then recipe_place_from n p (at + 1) below else None) a
     ∙ ap (λ z. if z then Some at else next) (eq-eqb (p + 1) n b))

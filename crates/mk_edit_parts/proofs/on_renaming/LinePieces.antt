@@ -1,62 +1,46 @@
 -- A line of a text: the ranges of its words that a rename replaces are the replacements of its pieces, which begin it.
-use Rattle.std.proofs.Common.{◌≡◌, refl, sym, ap, ◌∙◌, subst, arith, ℕ, ◌+◌, ◌-◌, ◌≤◌, Bool, not, List, [], ◌∷◌, ◌++◌, map, drop, length, length-append, append_assoc}
-use Rattle.std.specs.Prelude.{nat_lt, if◌then◌else◌}
+use Rattle.std.proofs.Common.{◌≡◌, refl, sym, ap, ◌∙◌, arith, ℕ, ◌+◌, ◌-◌, List, [], ◌++◌, length, append_assoc}
+use Rattle.std.specs.Prelude.{if◌then◌else◌}
 use Rattle.std.proofs.lemmas.List.{append-nil, length-map}
-use Rattle.std.proofs.Math.Seq.{drop-append_seam}
 use Rattle.mk_lines.specs.Lists.{concat}
 use Rattle.mk_lines.specs.PhysicalLines.{line_end, line_end_bytes, without_line_end}
 use Rattle.mk_lines.specs.Cells.{Cell, joined_byte, joined_text, line_cells, raw_text}
-use Rattle.mk_lines.specs.Pieces.{Piece, Keep, old_bytes, replacements}
-use Rattle.mk_lines.specs.Ranges.{text_at, word_ranges}
+use Rattle.mk_lines.specs.Pieces.{Piece, old_bytes, replacements}
+use Rattle.mk_lines.specs.Ranges.{text_at}
 use Rattle.mk_lines.specs.Units.{units}
-use Rattle.mk_lines.specs.declared.split.Span.{Span}
 use Rattle.mk_lines.proofs.on_lines.LineEndLemmas.{without_line_end-line_end}
 use Rattle.mk_lines.proofs.on_cells.CellLemmas.{raw_text-append, raw_text-cells}
 use Rattle.mk_lines.proofs.on_lists.ListLemmas.{concat-append, leading-after_leading}
 use Rattle.mk_lines.proofs.on_lists.PieceLemmas.{old_bytes-append}
 use Rattle.mk_lines.proofs.on_units.UnitLemmas.{concat-units}
-use Rattle.mk_class.specs.Lists.{is_empty}
 use Rattle.mk_class.specs.CutTexts.{cut_text, comment, is_no_hash}
 use Rattle.mk_class.specs.Separators.{Separated, separated}
 use Rattle.mk_class.specs.Headers
 use Rattle.mk_class.specs.Headers.{TargetAssignment, header_units}
 use Rattle.mk_class.specs.Classes.{Class}
 use Rattle.mk_class.specs.Classes.Class.{Endef, Body, Recipe, Opaque, Blank, Comment, Assign, DefineHead, If, Else, Endif, Directive, TargetAssign, Rough, Header}
-use Rattle.mk_class.specs.ClassPlaces.{class_places, header_places, target_assignment_places, width}
-use Rattle.mk_class.specs.ClassTable.{class_of, is_unreadable}
+use Rattle.mk_class.specs.ClassPlaces.{class_places, header_places, width}
+use Rattle.mk_class.specs.ClassTable.{class_of}
 use Rattle.mk_class.specs.ClassedLines.{ClassedLine}
 use Rattle.mk_class.specs.Contexts.{Context}
-use Rattle.mk_class.specs.LineParts.{IsHeaderPlaced, IsTargetAssignmentPlaced, ArePartsPlaced}
-use Rattle.mk_class.specs.PartPlaces.{IsPart}
-use Rattle.mk_class.specs.RecipePrefix.{is_prefix_led}
-use Rattle.mk_class.proofs.on_classes.ClassHolds.{IsHeader, IsTarget, Holds, class_at-holds}
+use Rattle.mk_class.specs.PartPlaces.{IsPart, raw_width}
+use Rattle.mk_class.proofs.on_classes.ClassHolds.{holds-as}
 use Rattle.mk_class.proofs.on_classes.PartPlaceLemmas.{width-append}
-use Rattle.mk_class.proofs.on_classes.LinePartLemmas.{line-parts_placed}
+use Rattle.mk_class.proofs.on_classes.LinePartLemmas.{header-placed, target-placed}
 use Rattle.mk_class.proofs.on_headers.HeadersWhole.{header-whole, separated-whole}
-use Rattle.mk_tree.specs.PlacedLines.{PlacedLine, placed_line}
+use Rattle.mk_tree.specs.PlacedLines.{placed_line}
+use Rattle.mk_tree.proofs.on_changes.SpansInLines.{replacements-append}
 use Rattle.mk_edit_laws.specs.WordPieces.{kept, renamed_pieces, renamed_words}
+use Rattle.mk_edit_laws.proofs.on_lines.ClassParts.{raw_width-append}
 use Rattle.mk_edit_parts.specs.RenamedPlaces.{span, part_places, renamed_places}
-use Rattle.mk_edit_parts.proofs.on_renaming.PlaceLemmas.{text_at-length, part-within}
-use Rattle.mk_edit_parts.proofs.on_renaming.PiecePlaces.{replacing, replacing-append, part-pieces, words-old, replacements-append, kept-and_words}
-
--- how many raw bytes units have
-abbrev raw : List (List Cell) → ℕ
-raw us = length (raw_text (concat us))
-
-raw-append : (a b : List (List Cell)) → raw (a ++ b) ≡ raw a + raw b
-raw-append a b = ap (λ z. length (raw_text z)) (concat-append a b) ∙ (ap length (raw_text-append (concat a) (concat b)) ∙ length-append (raw_text (concat a)) (raw_text (concat b)))
+use Rattle.mk_edit_parts.proofs.on_renaming.PlaceLemmas.{text_at-length}
+use Rattle.mk_edit_parts.proofs.on_renaming.PiecePlaces.{replacing, replacing-append, part-pieces, words-old, kept-and_words}
 
 -- ---- what is known of a line of a class
 
-line-holds : (c : Context) (l : List ℕ) (k : Class Cell) → class_of c l ≡ k → Holds joined_byte (units joined_byte (line_cells l)) (is_prefix_led c.prefix l) (nat_lt 0 c.conditionals) (is_unreadable (line_cells l)) k
-line-holds c l k e =
-    let cs = line_cells l in
-    subst (Holds joined_byte (units joined_byte cs) (is_prefix_led c.prefix l) (nat_lt 0 c.conditionals) (is_unreadable cs)) e
-    (class_at-holds joined_byte (units joined_byte cs) (is_prefix_led c.prefix l) (nat_lt 0 c.conditionals) (is_unreadable cs) c.defines c.flag)
-
 -- the units of a header's line are its parts
 header-line : (c : Context) (l : List ℕ) (h : Headers.Header Cell) → class_of c l ≡ Header h → units joined_byte (line_cells l) ≡ header_units h
-header-line c l h e = let i = line-holds c l (Header h) e in sym (header-whole joined_byte (units joined_byte (line_cells l))) ∙ ap header_units i.is
+header-line c l h e = let i = holds-as c l (Header h) e in sym (header-whole joined_byte (units joined_byte (line_cells l))) ∙ ap header_units i.is
 
 -- those of a target assignment begin with its targets
 record BeginsWithTargets (us t : List (List Cell)) : Type 0 where
@@ -66,7 +50,7 @@ record BeginsWithTargets (us t : List (List Cell)) : Type 0 where
 target-line : (c : Context) (l : List ℕ) (t : TargetAssignment Cell) → class_of c l ≡ TargetAssign t → BeginsWithTargets (units joined_byte (line_cells l)) t.targets
 target-line c l t e =
     let us = units joined_byte (line_cells l) in
-    let i = line-holds c l (TargetAssign t) e in
+    let i = holds-as c l (TargetAssign t) e in
     let S : Separated Cell = separated joined_byte (cut_text joined_byte us) in
     let cut : cut_text joined_byte us ≡ t.targets ++ (t.colons ++ S.rest) = sym (separated-whole joined_byte (cut_text joined_byte us)) ∙ ap (λ (z : TargetAssignment Cell). z.targets ++ (z.colons ++ S.rest)) i.is in
     record {
@@ -75,21 +59,6 @@ target-line c l t e =
           sym (leading-after_leading (is_no_hash joined_byte) us)
           ∙ (ap (λ z. z ++ comment joined_byte us) cut ∙ append_assoc t.targets (t.colons ++ S.rest) (comment joined_byte us));
     }
-
--- the places of the parts of a header
-header-placed : (c : Context) (l : List ℕ) (h : Headers.Header Cell) → class_of c l ≡ Header h → IsHeaderPlaced (line_cells l) (header_places joined_byte h) h
-header-placed c l h e =
-    let s = line-parts_placed c l (class_places joined_byte (Header h)) (ap (class_places joined_byte) (sym e)) in
-    let q : Header s.0 ≡ Header h = sym s.1 ∙ e in
-    let r : s.0 ≡ h = cc in
-    subst (IsHeaderPlaced (line_cells l) (header_places joined_byte h)) r s.2
-
-target-placed : (c : Context) (l : List ℕ) (t : TargetAssignment Cell) → class_of c l ≡ TargetAssign t → IsTargetAssignmentPlaced (line_cells l) (target_assignment_places t) t
-target-placed c l t e =
-    let s = line-parts_placed c l (class_places joined_byte (TargetAssign t)) (ap (class_places joined_byte) (sym e)) in
-    let q : TargetAssign s.0 ≡ TargetAssign t = sym s.1 ∙ e in
-    let r : s.0 ≡ t = cc in
-    subst (IsTargetAssignmentPlaced (line_cells l) (target_assignment_places t)) r s.2
 
 -- a part is as wide as its range
 part-width : (cs : List Cell) (s e : ℕ) (b p : List (List Cell)) → IsPart cs s e b p → e ≡ s + width p
@@ -103,12 +72,8 @@ split : (cs : List Cell) (b p a : List (List Cell)) → units joined_byte cs ≡
 split cs b p a h = sym (concat-units joined_byte cs) ∙ (ap concat h ∙ (concat-append b (p ++ a) ∙ ap (λ z. concat b ++ z) (concat-append p a)))
 
 -- the replacements in a part
-part-replaced : (cs : List Cell) (b p a : List (List Cell)) (o n : List ℕ) (s e : ℕ) → units joined_byte cs ≡ b ++ (p ++ a) → IsPart cs s e b p → s ≡ width b → replacing n (part_places cs o (span s e)) ≡ replacements (raw b) (renamed_words o n p)
+part-replaced : (cs : List Cell) (b p a : List (List Cell)) (o n : List ℕ) (s e : ℕ) → units joined_byte cs ≡ b ++ (p ++ a) → IsPart cs s e b p → s ≡ width b → replacing n (part_places cs o (span s e)) ≡ replacements (raw_width b) (renamed_words o n p)
 part-replaced cs b p a o n s e h i k = part-pieces cs b p a o n s e (split cs b p a h) k i.units_are
-
--- a part of nothing has no words
-none-replaced : (cs : List Cell) (o n : List ℕ) → replacing n (part_places cs o (span 0 0)) ≡ []
-none-replaced cs o n = refl
 
 header-pieces : (c : Context) (l : List ℕ) (h : Headers.Header Cell) (o n : List ℕ) → class_of c l ≡ Header h
     → replacing n (renamed_places o (record { bytes = l; class = class_places joined_byte (Header h) })) ≡ replacements 0 (renamed_pieces o n (Header h))
@@ -139,18 +104,18 @@ header-pieces c l h o n e =
     let pO = part_places cs o (span start at.head_end) in
     let K = C ++ (P ++ D) in
     let W = renamed_words o n in
-    let kN : 0 + raw T + raw K ≡ raw bN = omega (arith, raw-append T K) in
-    let kO : 0 + raw T + raw K + raw N + raw B ≡ raw bO = omega (arith, raw-append T K, raw-append T (C ++ (P ++ (D ++ (N ++ B)))), raw-append C (P ++ (D ++ (N ++ B))), raw-append P (D ++ (N ++ B)), raw-append D (N ++ B), raw-append N B, raw-append C (P ++ D), raw-append P D) in
+    let kN : 0 + raw_width T + raw_width K ≡ raw_width bN = omega (arith, raw_width-append T K) in
+    let kO : 0 + raw_width T + raw_width K + raw_width N + raw_width B ≡ raw_width bO = omega (arith, raw_width-append T K, raw_width-append T (C ++ (P ++ (D ++ (N ++ B)))), raw_width-append C (P ++ (D ++ (N ++ B))), raw_width-append P (D ++ (N ++ B)), raw_width-append D (N ++ B), raw_width-append N B, raw_width-append C (P ++ D), raw_width-append P D) in
     let tail = W O ++ kept h.tail in
-    let left : replacing n (pT ++ (pN ++ pO)) ≡ replacements 0 (W T) ++ (replacements (raw bN) (W N) ++ replacements (raw bO) (W O)) =
-    replacing-append n pT (pN ++ pO) ∙ (ap (λ z. z ++ replacing n (pN ++ pO)) rT ∙ ap (λ z. replacements 0 (W T) ++ z) (replacing-append n pN pO ∙ (ap (λ z. z ++ replacing n pO) rN ∙ ap (λ z. replacements (raw bN) (W N) ++ z) rO))) in
-    let a0 : replacements 0 (renamed_pieces o n (Header h)) ≡ replacements 0 (W T) ++ replacements (0 + raw T) (kept K ++ (W N ++ (kept B ++ tail))) =
+    let left : replacing n (pT ++ (pN ++ pO)) ≡ replacements 0 (W T) ++ (replacements (raw_width bN) (W N) ++ replacements (raw_width bO) (W O)) =
+    replacing-append n pT (pN ++ pO) ∙ (ap (λ z. z ++ replacing n (pN ++ pO)) rT ∙ ap (λ z. replacements 0 (W T) ++ z) (replacing-append n pN pO ∙ (ap (λ z. z ++ replacing n pO) rN ∙ ap (λ z. replacements (raw_width bN) (W N) ++ z) rO))) in
+    let a0 : replacements 0 (renamed_pieces o n (Header h)) ≡ replacements 0 (W T) ++ replacements (0 + raw_width T) (kept K ++ (W N ++ (kept B ++ tail))) =
     replacements-append 0 (W T) (kept K ++ (W N ++ (kept B ++ tail))) ∙ ap (λ z. replacements 0 (W T) ++ replacements (0 + length z) (kept K ++ (W N ++ (kept B ++ tail)))) (words-old o n T) in
-    let a1 : replacements (0 + raw T) (kept K ++ (W N ++ (kept B ++ tail))) ≡ replacements (raw bN) (W N) ++ replacements (0 + raw T + raw K + raw N) (kept B ++ tail) =
-    kept-and_words (0 + raw T) K N o n (kept B ++ tail) ∙ ap (λ z. replacements z (W N) ++ replacements (0 + raw T + raw K + raw N) (kept B ++ tail)) kN in
-    let a2 : replacements (0 + raw T + raw K + raw N) (kept B ++ tail) ≡ replacements (raw bO) (W O) =
-    kept-and_words (0 + raw T + raw K + raw N) B O o n (kept h.tail) ∙ (append-nil (replacements (0 + raw T + raw K + raw N + raw B) (W O)) ∙ ap (λ z. replacements z (W O)) kO) in
-    left ∙ sym (a0 ∙ ap (λ z. replacements 0 (W T) ++ z) (a1 ∙ ap (λ z. replacements (raw bN) (W N) ++ z) a2))
+    let a1 : replacements (0 + raw_width T) (kept K ++ (W N ++ (kept B ++ tail))) ≡ replacements (raw_width bN) (W N) ++ replacements (0 + raw_width T + raw_width K + raw_width N) (kept B ++ tail) =
+    kept-and_words (0 + raw_width T) K N o n (kept B ++ tail) ∙ ap (λ z. replacements z (W N) ++ replacements (0 + raw_width T + raw_width K + raw_width N) (kept B ++ tail)) kN in
+    let a2 : replacements (0 + raw_width T + raw_width K + raw_width N) (kept B ++ tail) ≡ replacements (raw_width bO) (W O) =
+    kept-and_words (0 + raw_width T + raw_width K + raw_width N) B O o n (kept h.tail) ∙ (append-nil (replacements (0 + raw_width T + raw_width K + raw_width N + raw_width B) (W O)) ∙ ap (λ z. replacements z (W O)) kO) in
+    left ∙ sym (a0 ∙ ap (λ z. replacements 0 (W T) ++ z) (a1 ∙ ap (λ z. replacements (raw_width bN) (W N) ++ z) a2))
 
 target-pieces : (c : Context) (l : List ℕ) (t : TargetAssignment Cell) (o n : List ℕ) → class_of c l ≡ TargetAssign t
     → replacing n (renamed_places o (record { bytes = l; class = class_places joined_byte (TargetAssign t) })) ≡ replacements 0 (renamed_pieces o n (TargetAssign t))

@@ -1,21 +1,21 @@
 -- The ranges of a line's words that a rename replaces, as the replacements that its pieces are.
-use Rattle.std.proofs.Common.{◌≡◌, refl, sym, ap, ◌∙◌, subst, arith, ℕ, ◌+◌, ◌-◌, ◌≤◌, Bool, true, false, cond, not, List, [], ◌∷◌, ◌++◌, take, drop, map, length, length-append, append_assoc, Option, Some, None}
+use Rattle.std.proofs.Common.{◌≡◌, refl, sym, ap, ◌∙◌, arith, ℕ, ◌+◌, ◌-◌, Bool, true, false, List, [], ◌∷◌, ◌++◌, take, drop, map, length, length-append, append_assoc, Option, Some, None}
 use Rattle.std.specs.Prelude.{slice_range, if◌then◌else◌}
 use Rattle.std.proofs.lemmas.List.{length-map, map-append}
 use Rattle.std.proofs.Math.Seq.{take-append_seam, drop-append_seam}
 use Rattle.mk_lines.specs.Lists.{concat}
-use Rattle.mk_lines.specs.Cells.{Cell, joined_byte, joined_text, line_cells, raw_text}
-use Rattle.mk_lines.specs.Pieces.{Piece, Keep, Replace, Replacement, old_bytes, new_bytes, replaced, replacements}
+use Rattle.mk_lines.specs.Cells.{Cell, joined_byte, joined_text, raw_text}
+use Rattle.mk_lines.specs.Pieces.{Piece, Keep, Replace, Replacement, old_bytes, replacements}
 use Rattle.mk_lines.specs.Ranges.{raw_place, raw_range, text_at, word_token_ranges, word_ranges}
 use Rattle.mk_lines.specs.Units.{units}
 use Rattle.mk_lines.specs.Words.{Token, Gap, Word, tokens}
 use Rattle.mk_lines.specs.declared.split.Span.{Span}
 use Rattle.mk_lines.proofs.on_cells.CellLemmas.{raw_text-append}
-use Rattle.mk_lines.proofs.on_lists.ListLemmas.{concat-append}
-use Rattle.mk_lines.proofs.on_lists.RangeLemmas.{raw_place-append}
 use Rattle.mk_lines.proofs.on_units.TokenLemmas.{token_text, token_text-tokens, map_token, tokens-map, concat-map}
 use Rattle.mk_class.specs.Texts.{is_same_text}
 use Rattle.mk_class.specs.TextClasses.{itself}
+use Rattle.mk_class.proofs.on_classes.PartPlaceLemmas.{place-after}
+use Rattle.mk_tree.proofs.on_changes.SpansInLines.{replacements-append}
 use Rattle.mk_edit_laws.specs.WordPieces.{is_word_of, kept, renamed_tokens, renamed_words}
 use Rattle.mk_edit_parts.specs.RenamedPlaces.{span, place_in, places_in, before_places, part_places}
 
@@ -26,10 +26,7 @@ replacing n (s ∷ ss) = record { start = s.start; end = s.end; new = n } ∷ re
 
 -- ---- the words of cells and of their joined text
 
-token-width : {A : Type 0} (f : A → ℕ) (u : List A) → length (map f u) ≡ length u
-token-width f u = length-map u f
-
--- they have the same ranges
+-- words of mapped units have the same ranges
 ranges-map : {A : Type 0} (f : A → ℕ) (at : ℕ) (ts : List (Token A)) → word_token_ranges at (map (map_token f) ts) ≡ word_token_ranges at ts
 ranges-map f at [] = refl
 ranges-map f at (Gap u ∷ ts) = ap (λ n. word_token_ranges (at + n) (map (map_token f) ts)) (length-map u f) ∙ ranges-map f (at + length u) ts
@@ -48,9 +45,6 @@ slice-at p w q s e h k =
     let n : e - s ≡ length w = omega (arith, k) in
     ap (λ m. take m (drop s (p ++ (w ++ q)))) n
     ∙ (ap (λ m. take (length w) (drop m (p ++ (w ++ q)))) h ∙ (ap (take (length w)) (drop-append_seam p (w ++ q)) ∙ take-append_seam w q))
-
-place-after : (cs p q : List Cell) (n : ℕ) → cs ≡ p ++ q → n ≡ length p → raw_place cs n ≡ length (raw_text p)
-place-after cs p q n h k = ap (λ z. raw_place z n) h ∙ (ap (raw_place (p ++ q)) k ∙ raw_place-append p q)
 
 -- The ranges of the words of some tokens that are the old one are the replacements of their pieces.
 places-pieces : (cs b : List Cell) (ts : List (Token Cell)) (a : List Cell) (o n : List ℕ) (start at : ℕ) → cs ≡ b ++ (token_text ts ++ a) → start + at ≡ length b
@@ -123,16 +117,6 @@ tokens-old o n (Word w ∷ ts) = go (is_word_of o w) (tokens-old o n ts)
 
 pub words-old : (o n : List ℕ) (us : List (List Cell)) → old_bytes (renamed_words o n us) ≡ raw_text (concat us)
 words-old o n us = tokens-old o n (tokens joined_byte us) ∙ ap raw_text (token_text-tokens joined_byte us)
-
-pub replacements-append : (at : ℕ) (ps qs : List Piece) → replacements at (ps ++ qs) ≡ replacements at ps ++ replacements (at + length (old_bytes ps)) qs
-replacements-append at [] qs = let e : at ≡ at + 0 = omega arith in ap (λ z. replacements z qs) e
-replacements-append at (Keep cs ∷ ps) qs =
-    let e : at + length (raw_text cs) + length (old_bytes ps) ≡ at + length (raw_text cs ++ old_bytes ps) = omega (arith, length-append (raw_text cs) (old_bytes ps)) in
-    replacements-append (at + length (raw_text cs)) ps qs ∙ ap (λ z. replacements (at + length (raw_text cs)) ps ++ replacements z qs) e
-replacements-append at (Replace cs v ∷ ps) qs =
-    let e : at + length (raw_text cs) + length (old_bytes ps) ≡ at + length (raw_text cs ++ old_bytes ps) = omega (arith, length-append (raw_text cs) (old_bytes ps)) in
-    ap (λ z. record { start = at; end = at + length (raw_text cs); new = v } ∷ z)
-    (replacements-append (at + length (raw_text cs)) ps qs ∙ ap (λ z. replacements (at + length (raw_text cs)) ps ++ replacements z qs) e)
 
 -- the words of a part after units that stay, and then further pieces
 pub kept-and_words : (at : ℕ) (k p : List (List Cell)) (o n : List ℕ) (ps : List Piece)

@@ -1,48 +1,33 @@
 -- The ranges of words in a line and their raw ranges, and where they stand.
-use Rattle.std.proofs.Common.{◌≡◌, refl, sym, ap, ◌∙◌, subst, arith, ℕ, zero, suc, ◌+◌, ◌-◌, ◌^◌, ◌<◌, ◌≤◌, List, [], ◌∷◌, ◌++◌, take, drop, length, length-append, Bool, true, false, ◌||◌, Option, Some, None}
-use Rattle.std.specs.Prelude.{slice_range}
+use Rattle.std.proofs.Common.{◌≡◌, refl, sym, ap, ◌∙◌, subst, arith, ℕ, ◌+◌, ◌-◌, ◌^◌, ◌<◌, ◌≤◌, List, [], ◌∷◌, ◌++◌, take, drop, length, length-append, Bool, false, ◌||◌, Option, Some, None}
 use Rattle.std.proofs.lemmas.List.{length-map, length-drop, length-take-le, take-append-drop}
+use Rattle.std.proofs.Math.Bool.{or-false, or_assoc}
 use Rattle.mk_lines.specs.Lists.{concat}
-use Rattle.mk_lines.specs.PhysicalLines.{line_end, line_end_bytes, without_line_end}
-use Rattle.mk_lines.specs.Cells.{Cell, joined_byte, joined_text, line_cells, raw_bytes, raw_text}
+use Rattle.mk_lines.specs.Cells.{Cell, joined_byte, joined_text, line_cells, raw_text}
 use Rattle.mk_lines.specs.Ranges.{raw_place, raw_range, text_at, word_token_ranges, word_ranges}
 use Rattle.mk_lines.specs.Units.{units}
 use Rattle.mk_lines.specs.Words.{Token, Gap, Word, tokens}
 use Rattle.mk_lines.specs.declared.split.Span.{Span}
-use Rattle.mk_lines.proofs.on_lines.LineEndLemmas.{without_line_end-line_end}
-use Rattle.mk_lines.proofs.on_cells.CellLemmas.{raw_text-append, raw_text-cells}
+use Rattle.mk_lines.proofs.on_cells.CellLemmas.{raw_text-append}
 use Rattle.mk_lines.proofs.on_units.TokenLemmas.{token_text, token_text-tokens}
 use Rattle.mk_lines.proofs.on_units.UnitLemmas.{concat-units}
 use Rattle.mk_class.specs.Lists.{any}
 use Rattle.mk_class.specs.PartPlaces.{IsPart}
 use Rattle.mk_class.specs.declared.class.Class as class
+use Rattle.mk_edit_laws.proofs.on_lines.ClassParts.{cells-within}
 use Rattle.mk_edit_parts.specs.declared.word_parts.WordParts.{WordParts}
 use Rattle.mk_edit_parts.specs.RenamedPlaces.{span, place_in, places_in, IsWithin, AreWithin, before_places, parts_places, word_parts, bytes_in, is_at_front, tallied}
 use Rattle.mk_edit_parts.specs.declared.tally.Tally.{Tally}
+use Rattle.mk_edit_parts.proofs.on_prerequisites.RawPartLemmas.{raw-rises}
 
 -- ---- raw places
 
-pub raw_place-within : (cs : List Cell) (n : ℕ) → raw_place cs n ≤ length (raw_text cs)
+raw_place-within : (cs : List Cell) (n : ℕ) → raw_place cs n ≤ length (raw_text cs)
 raw_place-within cs n = omega (arith, ap (λ z. length (raw_text z)) (take-append-drop n cs), ap length (raw_text-append (take n cs) (drop n cs)), length-append (raw_text (take n cs)) (raw_text (drop n cs)))
-
-pub raw_place-rises : (cs : List Cell) (m n : ℕ) → m ≤ n → raw_place cs m ≤ raw_place cs n
-raw_place-rises [] zero zero h = omega arith
-raw_place-rises [] zero (suc n) h = omega arith
-raw_place-rises [] (suc m) zero h = omega arith
-raw_place-rises [] (suc m) (suc n) h = omega arith
-raw_place-rises (c ∷ cs) zero n h = omega arith
-raw_place-rises (c ∷ cs) (suc m) zero h = absurd (omega (arith, h))
-raw_place-rises (c ∷ cs) (suc m) (suc n) h =
-    omega (arith, raw_place-rises cs m n (omega (arith, h)), length-append (raw_bytes c) (raw_text (take m cs)), length-append (raw_bytes c) (raw_text (take n cs)))
-
--- a line's cells have no more bytes than it
-pub cells-within : (l : List ℕ) → length (raw_text (line_cells l)) ≤ length l
-cells-within l =
-    omega (arith, ap length (raw_text-cells (without_line_end l)), ap length (without_line_end-line_end l), length-append (without_line_end l) (line_end_bytes (line_end l)))
 
 -- so the raw range of a word stands within the line
 pub place-within : (l : List ℕ) (s e : ℕ) → s ≤ e → IsWithin (length l) (raw_range (line_cells l) s e)
-place-within l s e h = (raw_place-rises (line_cells l) s e h, omega (arith, raw_place-within (line_cells l) e, cells-within l))
+place-within l s e h = (raw-rises (line_cells l) s e h, omega (arith, raw_place-within (line_cells l) e, cells-within l))
 
 -- ---- the words of a text
 
@@ -53,7 +38,7 @@ ranges-within at n (Word w ∷ ts) h =
     let k : at + length (concat w) + length (token_text ts) ≤ n = omega (arith, h, length-append (concat w) (token_text ts)) in
     ((omega arith, omega (arith, k)), ranges-within (at + length (concat w)) n ts k)
 
-pub words-within : (t : List ℕ) → AreWithin (length t) (word_ranges t)
+words-within : (t : List ℕ) → AreWithin (length t) (word_ranges t)
 words-within t =
     let e : token_text (tokens (λ b. b) (units (λ b. b) t)) ≡ t = token_text-tokens (λ b. b) (units (λ b. b) t) ∙ concat-units (λ b. b) t in
     ranges-within 0 (length t) (tokens (λ b. b) (units (λ b. b) t)) (omega (arith, ap length e))
@@ -79,14 +64,6 @@ first-within n w ws vs h e = subst (AreWithin n) e h
 
 -- ---- counts
 
-or-assoc : (a b c : Bool) → ((a || b) || c) ≡ (a || (b || c))
-or-assoc true b c = refl
-or-assoc false b c = refl
-
-or-false : (a : Bool) → (a || false) ≡ a
-or-false true = refl
-or-false false = refl
-
 same-tally : (s t : Tally) → s.words ≡ t.words → s.bytes ≡ t.bytes → s.at_front ≡ t.at_front → s ≡ t
 same-tally s t h i j =
     let f : ℕ → ℕ → Bool → Tally = λ w b a. record { words = w; bytes = b; at_front = a } in
@@ -94,22 +71,22 @@ same-tally s t h i j =
 
 -- one more range, where there is one, and then others
 pub tallied-before : (t : Tally) (o : Option Span) (ss : List Span) → tallied (tallied t (before_places o [])) ss ≡ tallied t (before_places o ss)
-tallied-before t None ss = same-tally _ _ (omega arith) (omega arith) (or-assoc t.at_front false (any is_at_front ss))
+tallied-before t None ss = same-tally _ _ (omega arith) (omega arith) (or_assoc t.at_front false (any is_at_front ss))
 tallied-before t (Some s) ss =
-    same-tally _ _ (omega arith) (omega arith) (or-assoc t.at_front (is_at_front s || false) (any is_at_front ss) ∙ ap (λ z. t.at_front || (z || any is_at_front ss)) (or-false (is_at_front s)))
+    same-tally _ _ (omega arith) (omega arith) (or_assoc t.at_front (is_at_front s || false) (any is_at_front ss) ∙ ap (λ z. t.at_front || (z || any is_at_front ss)) (or-false (is_at_front s)))
 
 any-append : (p : Span → Bool) (a b : List Span) → any p (a ++ b) ≡ (any p a || any p b)
 any-append p [] b = refl
-any-append p (s ∷ a) b = ap (λ z. p s || z) (any-append p a b) ∙ sym (or-assoc (p s) (any p a) (any p b))
+any-append p (s ∷ a) b = ap (λ z. p s || z) (any-append p a b) ∙ sym (or_assoc (p s) (any p a) (any p b))
 
-pub bytes_in-append : (a b : List Span) → bytes_in (a ++ b) ≡ bytes_in a + bytes_in b
+bytes_in-append : (a b : List Span) → bytes_in (a ++ b) ≡ bytes_in a + bytes_in b
 bytes_in-append [] b = omega arith
 bytes_in-append (s ∷ a) b = omega (arith, bytes_in-append a b)
 
 -- some ranges, and then others
 pub tallied-append : (t : Tally) (a b : List Span) → tallied (tallied t a) b ≡ tallied t (a ++ b)
 tallied-append t a b =
-    same-tally _ _ (omega (arith, length-append a b)) (omega (arith, bytes_in-append a b)) (or-assoc t.at_front (any is_at_front a) (any is_at_front b) ∙ ap (λ z. t.at_front || z) (sym (any-append is_at_front a b)))
+    same-tally _ _ (omega (arith, length-append a b)) (omega (arith, bytes_in-append a b)) (or_assoc t.at_front (any is_at_front a) (any is_at_front b) ∙ ap (λ z. t.at_front || z) (sym (any-append is_at_front a b)))
 
 -- a count of none ahead is as it is
 pub tallied-none : (t : Tally) → tallied t [] ≡ t

@@ -1,21 +1,17 @@
 -- A history, as it is seen, makes the steps of what is seen of the session machine, for the crates above too.
-use Rattle.std.proofs.Common.{◌≡◌, refl, sym, ap, ◌∙◌, ℕ, zero, suc, ◌<◌, List, [], ◌∷◌, length, map, take, Some, inl, inr, add-one, arith}
-use Rattle.std.specs.Prelude.{Result, Ok, Err}
-use Rattle.mk_history.specs.declared.history.HistoryError.TheVariants as error
+use Rattle.std.proofs.Common.{◌≡◌, refl, ap, ◌∙◌, ℕ, zero, suc, ◌<◌, List, [], ◌∷◌, length, map, take, Some, add-one, arith}
+use Rattle.std.specs.Prelude.{Result, Ok}
 use Rattle.mk_history.specs.Chain.{after_all, states}
 use Rattle.mk_history.proofs.on_histories.ChainLemmas.{states-take}
 use Rattle.mk_history.specs.Stacks.{Stacks, Several, after_in_turn}
-use Rattle.mk_history.specs.Machine.{Apply, Undo, Redo, Begin, End, NothingToUndo, NothingToRedo}
+use Rattle.mk_history.specs.Machine.{Apply, Begin, End}
 use Rattle.mk_history.specs.Shown.{Shown, shown_answer, shown_edited, shown_history}
-use Rattle.mk_history.specs.Claims.{EditSteps, UndoSteps, RedoSteps, BeginSteps, GroupEditSteps, EndSteps, EmptyEndSteps, CancelSteps, GroupRefuses}
+use Rattle.mk_history.specs.Claims.{EditSteps, BeginSteps, GroupEditSteps, EndSteps, EmptyEndSteps}
 
 map-take : {A B : Type 0} (f : A → B) (n : ℕ) (xs : List A) → map f (take n xs) ≡ take n (map f xs)
 map-take f zero xs = refl
 map-take f (suc n) [] = refl
 map-take f (suc n) (x ∷ xs) = ap (λ l. f x ∷ l) (map-take f n xs)
-
-abbrev stacks : {C : Type 0} → ℕ → List C → List C → Stacks C
-stacks depth done undone = record { depth = depth; done = done; undone = undone }
 
 module _ {C S E T R : Type 0} (fits : C → S → Type 0) (after : C → S → S) (text : S → T) (act : E → T → Result T R) where
   -- the texts back, after a push
@@ -38,50 +34,6 @@ module _ {C S E T R : Type 0} (fits : C → S → Type 0) (after : C → S → S
   edit-steps e h inverse old new accepted leads_back =
       answer-edited e (shown_history after text h old) (text new) accepted
       ∙ ap (λ s. Ok s) (shown-pushed h inverse old new leads_back)
-
-  undo-moves : (depth new_depth : ℕ) (done undone new_done new_undone : List C) (state new_state : S) (change inverse : C)
-      → done ≡ change ∷ new_done → new_undone ≡ inverse ∷ undone → new_state ≡ after change state
-      → after inverse new_state ≡ state → new_depth ≡ depth
-      → shown_answer act Undo (shown_history after text (stacks depth done undone) state) ≡ Ok (shown_history after text (stacks new_depth new_done new_undone) new_state)
-  undo-moves depth new_depth done undone new_done new_undone state new_state change inverse d u s b n =
-      let back : after inverse (after change state) ≡ state = ap (λ x. after inverse x) (sym s) ∙ b in
-      rw (d, u, s, n, back) refl
-
-  redo-moves : (depth new_depth : ℕ) (done undone new_done new_undone : List C) (state new_state : S) (change inverse : C)
-      → undone ≡ change ∷ new_undone → new_done ≡ inverse ∷ done → new_state ≡ after change state
-      → after inverse new_state ≡ state → new_depth ≡ depth
-      → shown_answer act Redo (shown_history after text (stacks depth done undone) state) ≡ Ok (shown_history after text (stacks new_depth new_done new_undone) new_state)
-  redo-moves depth new_depth done undone new_done new_undone state new_state change inverse d u s b n =
-      let back : after inverse (after change state) ≡ state = ap (λ x. after inverse x) (sym s) ∙ b in
-      rw (d, u, s, n, back) refl
-
-  unchanged : (h new : Stacks C) (state new_state : S) → (new ≡ h) × (new_state ≡ state)
-      → shown_history after text new new_state ≡ shown_history after text h state
-  unchanged h new state new_state e = rw (e.0, e.1) refl
-
-  nothing-back : (depth : ℕ) (done undone : List C) (state : S) → done ≡ []
-      → shown_answer act Undo (shown_history after text (stacks depth done undone) state) ≡ Err NothingToUndo
-  nothing-back depth done undone state e = rw e refl
-
-  nothing-forward : (depth : ℕ) (done undone : List C) (state : S) → undone ≡ []
-      → shown_answer act Redo (shown_history after text (stacks depth done undone) state) ≡ Err NothingToRedo
-  nothing-forward depth done undone state e = rw e refl
-
-  pub undo-steps : UndoSteps fits after text act
-  undo-steps h new state new_state (Ok a) moves depth nothing errors same =
-      undo-moves h.depth new.depth h.done h.undone new.done new.undone state new_state moves.change moves.inverse moves.taken_from moves.put_first moves.made moves.leads_back depth
-  undo-steps h new state new_state (Err error.NothingToUndo) moves depth nothing errors same =
-      (nothing-back h.depth h.done h.undone state (nothing.0 refl), unchanged h new state new_state same)
-  undo-steps h new state new_state (Err error.NothingToRedo) moves depth nothing errors same = absurd (elim errors [ inl e ↦ cc | inr e ↦ cc ])
-  undo-steps h new state new_state (Err error.NoMemory) moves depth nothing errors same = unchanged h new state new_state same
-
-  pub redo-steps : RedoSteps fits after text act
-  redo-steps h new state new_state (Ok a) moves depth nothing errors same =
-      redo-moves h.depth new.depth h.done h.undone new.done new.undone state new_state moves.change moves.inverse moves.taken_from moves.put_first moves.made moves.leads_back depth
-  redo-steps h new state new_state (Err error.NothingToRedo) moves depth nothing errors same =
-      (nothing-forward h.depth h.done h.undone state (nothing.0 refl), unchanged h new state new_state same)
-  redo-steps h new state new_state (Err error.NothingToUndo) moves depth nothing errors same = absurd (elim errors [ inl e ↦ cc | inr e ↦ cc ])
-  redo-steps h new state new_state (Err error.NoMemory) moves depth nothing errors same = unchanged h new state new_state same
 
 module _ {C S E T R : Type 0} (after : C → S → S) (text : S → T) (act : E → T → Result T R) where
   -- what is seen with a group open, by its changes
@@ -125,9 +77,3 @@ module _ {C S E T R : Type 0} (after : C → S → S) (text : S → T) (act : E 
 
   pub empty-end-steps : EmptyEndSteps after text act
   empty-end-steps h g state e = empty-end-parts h g.changes state e
-
-  pub cancel-steps : CancelSteps after text act
-  cancel-steps h g state = refl
-
-  pub group-refuses : GroupRefuses after text act
-  group-refuses h g state = (refl, refl, refl, refl, refl)

@@ -1,11 +1,13 @@
 -- The laws of the session machine, for the crates above too.
-use Rattle.std.proofs.Common.{◌≡◌, refl, sym, ap, ◌∙◌, ℕ, suc, ◌≤◌, ◌+◌, ◌-◌, max, List, [], ◌∷◌, ◌++◌, map, length, replicate, reverse, Bool, true, false, arith, append_assoc, cond, lt-ltb, ltb-true, subst, Option, Some, None}
+use Rattle.std.proofs.Common.{◌≡◌, refl, sym, ap, ◌∙◌, ℕ, suc, ◌≤◌, ◌+◌, ◌-◌, max, List, [], ◌∷◌, ◌++◌, map, length, replicate, reverse, Bool, true, false, arith, cond, lt-ltb, ltb-true, subst, Option, Some, None}
 use Rattle.std.specs.Prelude.{Result, Ok, Err, nat_lt}
 use Rattle.std.proofs.lemmas.List.{append-nil, reverse-append}
 use Rattle.std.proofs.lemmas.List.Sums.{fold-append}
+use Rattle.mk_lines.specs.Lists.{concat}
+use Rattle.mk_lines.proofs.on_lists.ListLemmas.{concat-append}
 use Rattle.mk_history.specs.Machine.{Command, Apply, Undo, Redo, Begin, End, Cancel, Refusal, NothingToUndo, Machine, answer, next, after_calls, text, text_of, replay, edited, accepted, closed}
 use Rattle.mk_history.specs.Steps.{Granted, IsRun}
-use Rattle.mk_history.specs.Claims.{UndoesAll, RedoesUndo, Cancels, Ends, Stands, Accepts, IsFresh, IsWithin, StaysWithin, flat}
+use Rattle.mk_history.specs.Claims.{UndoesAll, Cancels, Stands, IsFresh, IsWithin, StaysWithin}
 
 abbrev pub of_parts : {E T : Type 0} → T → List (List E) → List (List E) → ℕ → Option (List E) → Machine E T
 of_parts t done undone floor group = record { first = t; done = done; undone = undone; floor = floor; group = group }
@@ -40,59 +42,25 @@ module _ {E T R : Type 0} (act : E → T → Result T R) where
           → (n : Machine E T) × (IsRun (answer act depth) (replicate (length m.done) (Undo, Granted)) (of_parts m.first m.done m.undone floor group) n × (text act n ≡ m.first))
       go floor group f g = rw (f, g) (undoes-parts depth m.first m.done m.undone)
 
-  redoes-parts : (depth : ℕ) (t : T) (done undone : List (List E)) (floor : ℕ) (group : Option (List E)) (n : Machine E T)
-      → answer act depth Undo (of_parts t done undone floor group) ≡ Ok n
-      → answer act depth Redo n ≡ Ok (of_parts t done undone floor group)
-  redoes-parts depth t done undone floor (Some es) n h = absurd (cc)
-  redoes-parts depth t [] undone floor None n h = absurd (cc)
-  redoes-parts depth t (es ∷ done) undone floor None n h = go (nat_lt floor (length (es ∷ done))) refl h
-    where
-      go : (c : Bool) → nat_lt floor (length (es ∷ done)) ≡ c
-          → stepped_if c (of_parts t done (es ∷ undone) floor None) ≡ Ok n
-          → answer act depth Redo n ≡ Ok (of_parts t (es ∷ done) undone floor None)
-      go true e k = let same : of_parts t done (es ∷ undone) floor None ≡ n = cc in rw (sym same) refl
-      go false e k = absurd (cc)
-
-  pub redoes-undo : RedoesUndo act
-  redoes-undo depth m n h = redoes-parts depth m.first m.done m.undone m.floor m.group n h
-
   -- ---- the edits that stand
 
-  flat-append : (xs ys : List (List E)) → flat (xs ++ ys) ≡ flat xs ++ flat ys
-  flat-append [] ys = refl
-  flat-append (x ∷ xs) ys = ap (λ l. x ++ l) (flat-append xs ys) ∙ sym (append_assoc x (flat xs) (flat ys))
-
-  flat-newest : (es : List E) (done : List (List E)) → flat (reverse (es ∷ done)) ≡ flat (reverse done) ++ es
+  flat-newest : (es : List E) (done : List (List E)) → concat (reverse (es ∷ done)) ≡ concat (reverse done) ++ es
   flat-newest es done =
-      ap (λ l. flat l) (reverse-append (es ∷ []) done)
-      ∙ flat-append (reverse done) (es ∷ [])
-      ∙ ap (λ l. flat (reverse done) ++ l) (append-nil es)
+      ap (λ l. concat l) (reverse-append (es ∷ []) done)
+      ∙ concat-append (reverse done) (es ∷ [])
+      ∙ ap (λ l. concat (reverse done) ++ l) (append-nil es)
 
-  stands-parts : (t : T) (done : List (List E)) → text_of act t done ≡ replay act t (flat (reverse done))
+  stands-parts : (t : T) (done : List (List E)) → text_of act t done ≡ replay act t (concat (reverse done))
   stands-parts t [] = refl
   stands-parts t (es ∷ done) =
       ap (λ n. replay act n es) (stands-parts t done)
-      ∙ sym (fold-append (edited act) t (flat (reverse done)) es)
+      ∙ sym (fold-append (edited act) t (concat (reverse done)) es)
       ∙ ap (λ l. replay act t l) (sym (flat-newest es done))
 
   pub stands : Stands act
   stands m = stands-parts m.first m.done
 
   -- ---- edits and groups
-
-  ends-parts : (depth : ℕ) (t : T) (done undone : List (List E)) (floor : ℕ) (group : Option (List E))
-      → text act (next act depth End (of_parts t done undone floor group)) ≡ text act (of_parts t done undone floor group)
-  ends-parts depth t done undone floor None = refl
-  ends-parts depth t done undone floor (Some []) = refl
-  ends-parts depth t done undone floor (Some (e ∷ es)) = refl
-
-  pub ends : Ends act
-  ends depth m = ends-parts depth m.first m.done m.undone m.floor m.group
-
-  text-accepted : (depth : ℕ) (e : E) (t : T) (done undone : List (List E)) (floor : ℕ) (group : Option (List E))
-      → text act (accepted depth e (of_parts t done undone floor group)) ≡ edited act (text act (of_parts t done undone floor group)) e
-  text-accepted depth e t done undone floor None = refl
-  text-accepted depth e t done undone floor (Some es) = fold-append (edited act) (text_of act t done) es (e ∷ [])
 
   pub next-accepted : (depth : ℕ) (e : E) (m : Machine E T) (t : T) → act e (text act m) ≡ Ok t
       → next act depth (Apply e) m ≡ accepted depth e m
@@ -101,15 +69,6 @@ module _ {E T R : Type 0} (act : E → T → Result T R) where
   pub next-refused : (depth : ℕ) (e : E) (m : Machine E T) (r : R) → act e (text act m) ≡ Err r
       → next act depth (Apply e) m ≡ m
   next-refused depth e m r h = rw (h, next, answer) refl
-
-  edited-accepted : (e : E) (t n : T) → act e t ≡ Ok n → edited act t e ≡ n
-  edited-accepted e t n h = rw (h, edited) refl
-
-  pub accepts : Accepts act
-  accepts depth e m t h =
-      ap (λ n. text act n) (next-accepted depth e m t h)
-      ∙ text-accepted depth e m.first m.done m.undone m.floor m.group
-      ∙ edited-accepted e (text act m) t h
 
   cancelled : (depth : ℕ) (es : List E) (t : T) (done undone : List (List E)) (floor : ℕ) (group : List E)
       → text act (after_calls act depth (map Apply es ++ Cancel ∷ []) (of_parts t done undone floor (Some group))) ≡ text_of act t done

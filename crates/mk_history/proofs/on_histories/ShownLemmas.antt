@@ -1,7 +1,7 @@
 -- What is seen of a session's answer follows from what was seen before the call, for the crates above too.
 use Rattle.std.proofs.Common.{◌≡◌, refl, sym, ap, ◌∙◌, ℕ, zero, suc, ◌≤◌, ◌+◌, ◌-◌, max, List, [], ◌∷◌, ◌++◌, length, take, Bool, true, false, arith, cond, ltb-true, ltb-false, subst, Option, Some, None, inl, inr}
 use Rattle.std.specs.Prelude.{Result, Ok, Err, nat_lt}
-use Rattle.std.proofs.lemmas.List.{take-take, length-append}
+use Rattle.std.proofs.lemmas.List.{take-take, length_push}
 use Rattle.std.proofs.lemmas.List.Sums.{fold-append}
 use Rattle.std.proofs.Math.Seq.{take-nil}
 use Rattle.std.proofs.lemmas.Bool.Decides.{leb_tells}
@@ -65,16 +65,13 @@ module _ {E T R : Type 0} (act : E → T → Result T R) where
   text-outside : (t new : T) (e : E) → act e t ≡ Ok new → replay act t (e ∷ []) ≡ new
   text-outside t new e h = rw (h, edited) refl
 
-  length-put : (es : List E) (e : E) → length (es ++ e ∷ []) ≡ length es + 1
-  length-put es e = length-append es (e ∷ [])
-
   shown-accepted : (depth : ℕ) (e : E) (new t : T) (done undone : List (List E)) (floor : ℕ) (group : Option (List E)) → floor ≤ length done
       → act e (text act (of_parts t done undone floor group)) ≡ Ok new
       → shown act depth (accepted depth e (of_parts t done undone floor group)) ≡ shown_edited new (shown act depth (of_parts t done undone floor group))
   shown-accepted depth e new t done undone floor None f h =
       rw (text-outside (text_of act t done) new e h, new-member depth (length done) floor (text_of act t done) (texts_before act t done) f) refl
   shown-accepted depth e new t done undone floor (Some es) f h =
-      rw (text-in-group (text_of act t done) new es e h, length-put es e) refl
+      rw (text-in-group (text_of act t done) new es e h, length_push es e) refl
 
   seen-apply : (depth : ℕ) (e : E) (m : Machine E T) → m.floor ≤ length m.done
       → shown_result act depth (answer act depth (Apply e) m) ≡ shown_answer act (Apply e) (shown act depth m)

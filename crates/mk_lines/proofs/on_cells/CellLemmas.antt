@@ -51,7 +51,7 @@ byte_fits_before Backslash (CrLfEnd r) = false
 byte_fits_before k d = true
 
 -- whether a cell stays as it is before another
-abbrev pub fits_before : Cell → Cell → Bool
+abbrev fits_before : Cell → Cell → Bool
 fits_before (Byte b) d = byte_fits_before (byte_kind b) d
 fits_before (Fold r) d = not (is_blank_cell d)
 fits_before (LfEnd r) d = not (is_blank_cell d)
@@ -82,7 +82,7 @@ is_solid (LfEnd r) = false
 is_solid (CrLfEnd r) = false
 
 -- the first cell, where there is one, is a byte that is no blank
-abbrev pub FirstSolid : List Cell → Type 0
+abbrev FirstSolid : List Cell → Type 0
 FirstSolid [] = Unit {0}
 FirstSolid (d ∷ ds) = is_solid d ≡ true
 
@@ -195,12 +195,6 @@ AreCells-append [] b f g m = g
 AreCells-append (c ∷ []) b f g m = (f.0, m, g)
 AreCells-append (c ∷ d ∷ a) b f g m = (f.0, f.1, AreCells-append (d ∷ a) b f.2 g m)
 
--- such cells taken apart meet
-pub AreCells-meets : (a b : List Cell) → AreCells (a ++ b) → Meets a b
-AreCells-meets [] b f = tt
-AreCells-meets (c ∷ []) b f = f.1
-AreCells-meets (c ∷ d ∷ a) b f = AreCells-meets (d ∷ a) b f.2
-
 solid-fits_before : (c d : Cell) → is_solid d ≡ true → fits_before c d ≡ true
 solid-fits_before (Byte b) (Byte x) h = go (byte_kind b)
   where
@@ -245,9 +239,6 @@ leading-no_line_ends cs = go (leading is_blank_cell cs) (leading-each is_blank_c
 line_end-fits_before : (r : List ℕ) (cs : List Cell) → FirstFails is_blank_cell cs → FitsBefore (LfEnd r) cs
 line_end-fits_before r [] h = tt
 line_end-fits_before r (d ∷ cs) h = rw h refl
-
-prepend-byte_are_cells : (k : ByteKind) (b : ℕ) (cs : List Cell) → byte_kind b ≡ k → prepend k b cs ≡ Byte b ∷ cs → (k ≡ LineFeed → ⊥) → AreCells cs → FitsBefore (Byte b) cs → AreCells (prepend k b cs)
-prepend-byte_are_cells k b cs e p h f g = rw p ((λ l. h (sym e ∙ l)), g, f)
 
 leading-leading : (cs : List Cell) → leading is_blank_cell (leading is_blank_cell cs) ≡ leading is_blank_cell cs
 leading-leading cs = rw (append-nil (leading is_blank_cell cs)) at (leading-append_all is_blank_cell (leading is_blank_cell cs) [] (leading-each is_blank_cell cs) tt)

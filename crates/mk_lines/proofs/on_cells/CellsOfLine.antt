@@ -4,12 +4,10 @@ use Rattle.mk_lines.specs.Lists.{after_leading}
 use Rattle.mk_lines.specs.Bytes.{ByteKind, byte_kind, LineFeed, CarriageReturn, Backslash, Blank, Ordinary}
 use Rattle.mk_lines.specs.PhysicalLines.{line_end, line_end_bytes, without_line_end}
 use Rattle.mk_lines.specs.Cells.{Cell, Byte, Fold, LfEnd, CrLfEnd, is_blank_cell, prepend, cells, line_cells, NoLineEnds}
-use Rattle.mk_lines.specs.CellFaults.{has_bad_fold}
 use Rattle.mk_lines.proofs.on_lists.CutLemmas.{continues-left, continues-right}
 use Rattle.mk_lines.proofs.on_lines.LineCut.{LineState, AtStart, InLine, AfterOddRun, AfterOddRunCr, next_line_state, is_at_start, line_step, line_begins, line_continuation, line_state_after, line_state_backwards, line_state_after-reverse, next-start, next-not_start}
 use Rattle.mk_lines.proofs.on_lines.LineLemmas.{OneLine}
 use Rattle.mk_lines.proofs.on_lines.LineEndLemmas.{KeepsApart, FirstIsNot, without_line_end-line_end, line_end-keeps_apart}
-use Rattle.mk_lines.proofs.on_cells.LineCells.{AreLineCells, cells-are_line_cells}
 use Rattle.mk_lines.specs.declared.ends.End.{End}
 use Rattle.mk_lines.specs.declared.ends.End.TheVariants.{None, Lf, CrLf}
 
@@ -137,7 +135,7 @@ one_line-continues b r h =
     ap (λ z. b ∷ z) (ap (λ s. line_continuation s r) (sym (next-start (byte_kind b))) ∙ e)
 
 -- after a text whose last byte is no line feed no line begins
-pub last-not_at_start : (r : List ℕ) → FirstIsNot LineFeed r → is_at_start (line_state_backwards r) ≡ false
+last-not_at_start : (r : List ℕ) → FirstIsNot LineFeed r → is_at_start (line_state_backwards r) ≡ false
 last-not_at_start [] h = refl
 last-not_at_start (b ∷ r) h = next-not_start (line_state_backwards r) (byte_kind b) h
 
@@ -165,7 +163,3 @@ one_line-no_line_ends (b ∷ r) h =
     let whole : line_continuation InLine (x ++ line_end_bytes e) ≡ x ++ line_end_bytes e =
     ap (line_continuation InLine) (without_line_end-line_end l) ∙ (one_line-continues b r h ∙ sym (without_line_end-line_end l)) in
     in_line-folded InLine x (continues-left line_step line_begins InLine x (line_end_bytes e) whole) (not_at_start x e whole (line_end-keeps_apart l))
-
--- and without a bad fold they are cells that a line may have
-pub one_line-are_line_cells : (l : List ℕ) → OneLine l → has_bad_fold (line_cells l) ≡ false → AreLineCells (line_cells l)
-one_line-are_line_cells l o h = cells-are_line_cells (without_line_end l) (one_line-no_line_ends l o, h)

@@ -19,7 +19,7 @@ is_ordinary_kind Ordinary = true
 is_ordinary_kind k = false
 
 -- whether the first byte is no blank
-abbrev pub begins_solid : List ℕ → Bool
+abbrev begins_solid : List ℕ → Bool
 begins_solid [] = false
 begins_solid (b ∷ v) = not (is_blank_kind (byte_kind b))
 
@@ -63,7 +63,7 @@ begins_solid-joins a (b ∷ v) cs h = Joins-solid a b (map Byte v ++ cs) (go (is
     go true e = cc
     go false e = refl
 
-not_empty-append : (a b : List ℕ) (x : ℕ) (c : List ℕ) → b ≡ x ∷ c → (y : ℕ) × (r : List ℕ) × (a ++ b ≡ y ∷ r)
+pub not_empty-append : (a b : List ℕ) (x : ℕ) (c : List ℕ) → b ≡ x ∷ c → (y : ℕ) × (r : List ℕ) × (a ++ b ≡ y ∷ r)
 not_empty-append [] b x c h = (x, c, h)
 not_empty-append (y ∷ a) b x c h = (y, a ++ b, refl)
 

@@ -1,7 +1,9 @@
 -- Cells that a line may have: they are read again from their raw bytes, and with a line end they are one line. Lists of them
 -- are taken apart and put together at seams.
-use Rattle.std.proofs.Common.{◌≡◌, refl, sym, ap, ◌∙◌, subst, ℕ, List, [], ◌∷◌, ◌++◌, map, Bool, true, false, not, ◌&&◌, ◌||◌, reverse}
+use Rattle.std.proofs.Common.{◌≡◌, refl, sym, ap, ◌∙◌, subst, ℕ, List, [], ◌∷◌, ◌++◌, map, Bool, true, false, not, ◌&&◌, reverse}
 use Rattle.std.proofs.lemmas.List.{append-nil, reverse-append, reverse-reverse}
+use Rattle.std.proofs.Math.Bool.{and-false}
+use Rattle.std.proofs.lemmas.Bool.{or_from}
 use Rattle.mk_lines.specs.Bytes.{ByteKind, byte_kind, LineFeed, CarriageReturn, Backslash, Blank, Ordinary, is_blank_kind}
 use Rattle.mk_lines.specs.PhysicalLines.{line_end, line_end_bytes, without_line_end}
 use Rattle.mk_lines.specs.Cells.{Cell, Byte, Fold, LfEnd, CrLfEnd, raw_bytes, raw_text, cells, line_cells, NoLineEnds, is_line_end}
@@ -12,10 +14,11 @@ use Rattle.mk_lines.proofs.on_lists.CutLemmas.{state_after-append}
 use Rattle.mk_lines.proofs.on_lines.LineCut.{LineState, AtStart, InLine, AfterOddRun, AfterOddRunCr, line_step, line_state_after}
 use Rattle.mk_lines.proofs.on_cells.CellLemmas.{AreCells, AreCells-left, AreCells-right, AreCells-append, IsCell, Meets, FitsBefore, byte_fits_before, cells-are_cells, cells-raw_text, raw_text-append, raw_text-cells, solid-meets}
 use Rattle.mk_lines.proofs.on_lines.LineLemmas.{OneLine, Ends, EndsBefore}
-use Rattle.mk_lines.proofs.on_lines.LineEndLemmas.{KeepsApart, FirstIsNot, without_line_end-append, line_end-append, line_end-keeps_apart, without_line_end-line_end}
-use Rattle.mk_lines.proofs.on_cells.LineOfCells.{IsClean, IsCleanAfter, IsCleanAfter-state_after, state_after-reset, is_reset, is_reset_kind, one_line-of_cells, state_after-start}
+use Rattle.mk_lines.proofs.on_lines.LineEndLemmas.{KeepsApart, FirstIsNot, without_line_end-append, line_end-append, line_end-keeps_apart, without_line_end-line_end, state_after-start}
+use Rattle.mk_lines.proofs.on_cells.LineOfCells.{IsClean, IsCleanAfter, IsCleanAfter-state_after, state_after-reset, is_reset, is_reset_kind, one_line-of_cells}
 use Rattle.mk_lines.specs.declared.ends.End.{End}
 use Rattle.mk_lines.specs.declared.ends.End.TheVariants.{None, Lf, CrLf}
+use Rattle.mk_lines.proofs.on_lists.BoolLemmas.{or-left_false, or-right_false}
 
 -- cells that a line may have: they fit each other, and there is no line end and no bad fold among them
 pub record AreLineCells (cs : List Cell) : Type 0 where
@@ -42,23 +45,6 @@ Joins [] b = Unit {0}
 Joins (c ∷ []) b = FitsBefore c b × (is_bad_before c b ≡ false)
 Joins (c ∷ d ∷ a) b = Joins (d ∷ a) b
 
--- laws of `||`
-pub or-both_false : (a b : Bool) → a ≡ false → b ≡ false → (a || b) ≡ false
-or-both_false true b h k = cc
-or-both_false false b h k = k
-
-pub or-left_false : (a b : Bool) → (a || b) ≡ false → a ≡ false
-or-left_false true b h = cc
-or-left_false false b h = refl
-
-pub or-right_false : (a b : Bool) → (a || b) ≡ false → b ≡ false
-or-right_false true b h = cc
-or-right_false false b h = h
-
-and-false : (a : Bool) → (a && false) ≡ false
-and-false true = refl
-and-false false = refl
-
 Joins-meets : (a b : List Cell) → Joins a b → Meets a b
 Joins-meets [] b h = tt
 Joins-meets (c ∷ []) b h = h.0
@@ -66,9 +52,9 @@ Joins-meets (c ∷ d ∷ a) b h = Joins-meets (d ∷ a) b h
 
 bad_fold-left : (a b : List Cell) → has_bad_fold (a ++ b) ≡ false → has_bad_fold a ≡ false
 bad_fold-left [] b h = refl
-bad_fold-left (c ∷ []) b h = or-both_false (is_backslash_cell c && false) false (and-false (is_backslash_cell c)) refl
+bad_fold-left (c ∷ []) b h = or_from (is_backslash_cell c && false) false (and-false (is_backslash_cell c)) refl
 bad_fold-left (c ∷ d ∷ a) b h =
-    or-both_false (is_bad_before c (d ∷ a)) (has_bad_fold (d ∷ a)) (or-left_false (is_bad_before c (d ∷ a)) (has_bad_fold (d ∷ (a ++ b))) h)
+    or_from (is_bad_before c (d ∷ a)) (has_bad_fold (d ∷ a)) (or-left_false (is_bad_before c (d ∷ a)) (has_bad_fold (d ∷ (a ++ b))) h)
     (bad_fold-left (d ∷ a) b (or-right_false (is_bad_before c (d ∷ a)) (has_bad_fold (d ∷ (a ++ b))) h))
 
 bad_fold-right : (a b : List Cell) → has_bad_fold (a ++ b) ≡ false → has_bad_fold b ≡ false
@@ -77,17 +63,12 @@ bad_fold-right (c ∷ a) b h = bad_fold-right a b (or-right_false (is_bad_before
 
 bad_fold-append : (a b : List Cell) → has_bad_fold a ≡ false → has_bad_fold b ≡ false → Joins a b → has_bad_fold (a ++ b) ≡ false
 bad_fold-append [] b h k j = k
-bad_fold-append (c ∷ []) b h k j = or-both_false (is_bad_before c b) (has_bad_fold b) j.1 k
+bad_fold-append (c ∷ []) b h k j = or_from (is_bad_before c b) (has_bad_fold b) j.1 k
 bad_fold-append (c ∷ d ∷ a) b h k j =
-    or-both_false (is_bad_before c (d ∷ a)) (has_bad_fold (d ∷ (a ++ b))) (or-left_false (is_bad_before c (d ∷ a)) (has_bad_fold (d ∷ a)) h)
+    or_from (is_bad_before c (d ∷ a)) (has_bad_fold (d ∷ (a ++ b))) (or-left_false (is_bad_before c (d ∷ a)) (has_bad_fold (d ∷ a)) h)
     (bad_fold-append (d ∷ a) b (or-right_false (is_bad_before c (d ∷ a)) (has_bad_fold (d ∷ a)) h) k j)
 
-bad_fold-joins : (a b : List Cell) → AreCells (a ++ b) → has_bad_fold (a ++ b) ≡ false → Joins a b
-bad_fold-joins [] b f h = tt
-bad_fold-joins (c ∷ []) b f h = (f.1, or-left_false (is_bad_before c b) (has_bad_fold b) h)
-bad_fold-joins (c ∷ d ∷ a) b f h = bad_fold-joins (d ∷ a) b f.2 (or-right_false (is_bad_before c (d ∷ a)) (has_bad_fold (d ∷ (a ++ b))) h)
-
--- cells of a line taken apart: the parts are such cells, and they join
+-- cells of a line taken apart: the parts are such cells
 pub AreLineCells-left : (a b : List Cell) → AreLineCells (a ++ b) → AreLineCells a
 AreLineCells-left a b h = record { are_cells = AreCells-left a b h.are_cells; clean = (Each-left (λ c. not (is_line_end c)) a b h.clean.0, bad_fold-left a b h.clean.1) }
 
@@ -95,11 +76,7 @@ AreLineCells-left a b h = record { are_cells = AreCells-left a b h.are_cells; cl
 pub AreLineCells-right : (a b : List Cell) → AreLineCells (a ++ b) → AreLineCells b
 AreLineCells-right a b h = record { are_cells = AreCells-right a b h.are_cells; clean = (Each-right (λ c. not (is_line_end c)) a b h.clean.0, bad_fold-right a b h.clean.1) }
 
--- and the two parts join
-pub AreLineCells-joins : (a b : List Cell) → AreLineCells (a ++ b) → Joins a b
-AreLineCells-joins a b h = bad_fold-joins a b h.are_cells h.clean.1
-
--- and put together
+-- such cells put together, where they join
 pub AreLineCells-append : (a b : List Cell) → AreLineCells a → AreLineCells b → Joins a b → AreLineCells (a ++ b)
 AreLineCells-append a b h k j = record {
   are_cells = AreCells-append a b h.are_cells k.are_cells (Joins-meets a b j);
@@ -123,7 +100,7 @@ Joins-solid (c ∷ []) b cs h = (solid-meets (c ∷ []) (Byte b) cs (rw h refl),
 Joins-solid (c ∷ d ∷ a) b cs h = Joins-solid (d ∷ a) b cs h
 
 -- what follows an element at the end of a list
-pub Joins-last : (a : List Cell) (c : Cell) (b : List Cell) → FitsBefore c b → is_bad_before c b ≡ false → Joins (a ++ c ∷ []) b
+Joins-last : (a : List Cell) (c : Cell) (b : List Cell) → FitsBefore c b → is_bad_before c b ≡ false → Joins (a ++ c ∷ []) b
 Joins-last [] c b f h = (f, h)
 Joins-last (d ∷ []) c b f h = (f, h)
 Joins-last (d ∷ e ∷ a) c b f h = Joins-last (e ∷ a) c b f h
@@ -182,10 +159,10 @@ bytes-not_fold_first : (t : List ℕ) → is_fold_first (map Byte t) ≡ false
 bytes-not_fold_first [] = refl
 bytes-not_fold_first (b ∷ t) = refl
 
-bytes-no_bad_fold : (t : List ℕ) → has_bad_fold (map Byte t) ≡ false
+pub bytes-no_bad_fold : (t : List ℕ) → has_bad_fold (map Byte t) ≡ false
 bytes-no_bad_fold [] = refl
 bytes-no_bad_fold (b ∷ t) =
-    or-both_false (is_bad_before (Byte b) (map Byte t)) (has_bad_fold (map Byte t))
+    or_from (is_bad_before (Byte b) (map Byte t)) (has_bad_fold (map Byte t))
     (ap (λ z. is_backslash_cell (Byte b) && z) (bytes-not_fold_first t) ∙ and-false (is_backslash_cell (Byte b))) (bytes-no_bad_fold t)
 
 -- the bytes of a text without LF and CR are cells that a line may have
@@ -227,7 +204,7 @@ line-of_cells cs e below b r h k n m =
     ends [] n = tt
     ends (l ∷ ls) n = ap (line_state_after AtStart) m ∙ (state_after-start b r ∙ (ap (line_state_after InLine) (sym m) ∙ n))
 
-one_line-not_empty : (l : List ℕ) → OneLine l → (b : ℕ) × (r : List ℕ) × (l ≡ b ∷ r)
+pub one_line-not_empty : (l : List ℕ) → OneLine l → (b : ℕ) × (r : List ℕ) × (l ≡ b ∷ r)
 unfolding OneLine
 one_line-not_empty [] h = absurd (let g : [] ≡ [] ∷ [] = h in cc)
 one_line-not_empty (b ∷ r) h = (b, r, refl)
@@ -298,12 +275,6 @@ EndLineBefore-last e cs p d (l ∷ ls) r h k n =
     state_after-append line_step InLine (raw_text (p ++ d ∷ [])) (line_end_bytes e)
     ∙ (ap (λ s. line_state_after s (line_end_bytes e)) (state_after-last p d r k) ∙ followed-line_end e cs h n)
 
--- a line without cells
-pub EndLineBefore-none : (e : End) (cs : List Cell) (below : List (List ℕ)) → AreLineCells cs → EndLineBefore e cs below → EndLineBefore e [] below
-unfolding EndLine
-EndLineBefore-none e cs [] h n = tt
-EndLineBefore-none e cs (l ∷ ls) h n = followed-line_end e cs h n
-
 -- ---- line ends that stay apart
 
 reverse-not_empty : (p : List ℕ) (b : ℕ) (q : List ℕ) → p ≡ b ∷ q → (c : ℕ) × (r : List ℕ) × (reverse p ≡ c ∷ r)
@@ -362,12 +333,6 @@ pub KeepsApart-last : (e : End) (p : List Cell) (b : ℕ) → is_reset_kind (byt
 KeepsApart-last e p b h =
     subst (KeepsApart e) (sym (ap reverse (raw_text-append p (Byte b ∷ [])) ∙ reverse-append (raw_text p) (b ∷ [])))
     (reset-no_line_end e (byte_kind b) b (reverse (raw_text p)) refl h)
-
--- a line end stays apart from nothing
-pub KeepsApart-none : (e : End) → KeepsApart e []
-KeepsApart-none None = tt
-KeepsApart-none Lf = tt
-KeepsApart-none CrLf = tt
 
 -- the line end of a line stays apart from its cells
 pub line-keeps_apart : (l : List ℕ) → KeepsApart (line_end l) (reverse (raw_text (line_cells l)))

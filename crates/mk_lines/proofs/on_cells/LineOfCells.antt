@@ -12,17 +12,14 @@ use Rattle.mk_lines.proofs.on_cells.CellLemmas.{IsCell}
 use Rattle.mk_lines.proofs.on_lines.LineLemmas.{OneLine, begins-always}
 use Rattle.mk_lines.specs.declared.ends.End.{End}
 use Rattle.mk_lines.specs.declared.ends.End.TheVariants.{None, Lf, CrLf}
+use Rattle.mk_lines.proofs.on_lists.BoolLemmas.{or-right_false}
 
 -- no line end among cells, and no fold directly after a backslash
 abbrev pub IsClean : List Cell → Type 0
 IsClean cs = NoLineEnds cs × (has_bad_fold cs ≡ false)
 
-or-right_false : (a b : Bool) → (a || b) ≡ false → b ≡ false
-or-right_false true b h = cc
-or-right_false false b h = h
-
 -- clean cells without the first are clean
-pub IsClean-tail : (c : Cell) (cs : List Cell) → IsClean (c ∷ cs) → IsClean cs
+IsClean-tail : (c : Cell) (cs : List Cell) → IsClean (c ∷ cs) → IsClean cs
 IsClean-tail c cs h = (h.0.1, or-right_false (is_backslash_kind (byte_kind (joined_byte c)) && is_fold_first cs) (has_bad_fold cs) h.1)
 
 -- the cells that a text may have where it stands so
@@ -129,7 +126,7 @@ IsCleanAfter-step AfterOddRun Ordinary b cs e h = IsCleanAfter-tail AfterOddRun 
 IsCleanAfter-step AfterOddRunCr Ordinary b cs e h = IsCleanAfter-tail AfterOddRunCr b cs h
 
 -- no line begins in a text with such cells
-pub continuation-clean : (s : LineState) (t : List ℕ) → IsCleanAfter s (cells t) → line_continuation s t ≡ t
+continuation-clean : (s : LineState) (t : List ℕ) → IsCleanAfter s (cells t) → line_continuation s t ≡ t
 continuation-clean s [] h = refl
 continuation-clean AtStart (b ∷ t) h = absurd h
 continuation-clean InLine (b ∷ t) h = ap (λ l. b ∷ l) (continuation-clean (next_line_state InLine (byte_kind b)) t (IsCleanAfter-step InLine (byte_kind b) b (cells t) refl h))
@@ -144,14 +141,14 @@ IsCleanAfter-state_after s (b ∷ a) t h = IsCleanAfter-state_after (next_line_s
 -- ---- folds
 
 -- the cells that a text of blanks and folds may have where it stands so
-abbrev pub IsBlankAfter : LineState → List Cell → Type 0
+abbrev IsBlankAfter : LineState → List Cell → Type 0
 IsBlankAfter InLine cs = Each is_blank_cell cs
 IsBlankAfter AfterOddRun (LfEnd r ∷ cs) = Each is_blank_cell cs
 IsBlankAfter AfterOddRun (CrLfEnd r ∷ cs) = Each is_blank_cell cs
 IsBlankAfter AfterOddRunCr (LfEnd r ∷ cs) = Each is_blank_cell cs
 IsBlankAfter s cs = ⊥
 
-after_leading-each : (cs : List Cell) → Each is_blank_cell (after_leading is_blank_cell cs) → Each is_blank_cell cs
+pub after_leading-each : (cs : List Cell) → Each is_blank_cell (after_leading is_blank_cell cs) → Each is_blank_cell cs
 after_leading-each [] h = tt
 after_leading-each (c ∷ cs) h = go (is_blank_cell c) refl h (λ k. after_leading-each cs k)
   where
@@ -298,10 +295,6 @@ IsCleanAfter-not_start AtStart h = absurd h
 IsCleanAfter-not_start InLine h = refl
 IsCleanAfter-not_start AfterOddRun h = refl
 IsCleanAfter-not_start AfterOddRunCr h = refl
-
--- a text that is not empty leads from the start of a line where it leads in one
-pub state_after-start : (b : ℕ) (t : List ℕ) → line_state_after AtStart (b ∷ t) ≡ line_state_after InLine (b ∷ t)
-state_after-start b t = rw (next-start (byte_kind b)) refl
 
 -- a text in which no line begins, and which does not end one, is one line with a line end, if that is not empty
 pub one_line-of_text : (x : List ℕ) (e : End) (b : ℕ) (r : List ℕ) → line_continuation InLine x ≡ x → is_at_start (line_state_after InLine x) ≡ false → x ++ line_end_bytes e ≡ b ∷ r

@@ -10,27 +10,20 @@ use Rattle.mk_lines.specs.Bytes.{ByteKind, LineFeed, CarriageReturn, Backslash, 
 use Rattle.mk_lines.specs.Lists.{onto_first}
 use Rattle.mk_lines.specs.PhysicalLines.{physical_lines, before_lines, line_end, line_end_at, line_end_by, line_end_backwards, is_carriage_return_first, line_end_or_lf, first_line_end, file_line_end}
 use Rattle.mk_lines.specs.LogicalLines.{logical_lines, before_group, is_continued}
-use Rattle.mk_lines.proofs.on_lines.LineCut.{NoLineFeed, logical_lines-line, logical_lines-last}
+use Rattle.mk_lines.proofs.on_lines.LineCut.{NoLineFeed, logical_lines-line, logical_lines-last, before_lines-ordinary, NoLineFeed-append}
 use Rattle.mk_lines.specs.declared.ends.End.TheVariants as end
 use Rattle.mk_lines.proofs.SplitLemmas.{no-feed}
 
 -- ---- the first physical line
 
-before_lines-other : (k : ByteKind) (b : ℕ) (ls : List (List ℕ)) → (k ≡ LineFeed → ⊥) → before_lines k b ls ≡ onto_first (b ∷ []) ls
-before_lines-other LineFeed b ls h = absurd (h refl)
-before_lines-other CarriageReturn b ls h = refl
-before_lines-other Backslash b ls h = refl
-before_lines-other Blank b ls h = refl
-before_lines-other Ordinary b ls h = refl
-
 -- it goes up to the first line feed
 first-physical : (p : List ℕ) (b : ℕ) (t : List ℕ) → NoLineFeed p → byte_kind b ≡ LineFeed → physical_lines (p ++ b ∷ t) ≡ (p ++ b ∷ []) ∷ physical_lines t
 first-physical [] b t h e = ap (λ k. before_lines k b (physical_lines t)) e
 first-physical (c ∷ p) b t h e =
-    before_lines-other (byte_kind c) c (physical_lines (p ++ b ∷ t)) h.0 ∙ ap (onto_first (c ∷ [])) (first-physical p b t h.1 e)
+    before_lines-ordinary (byte_kind c) c (physical_lines (p ++ b ∷ t)) h.0 ∙ ap (onto_first (c ∷ [])) (first-physical p b t h.1 e)
 
 -- so the line end of the file is that of this line
-pub file_line_end-line : (p : List ℕ) (b : ℕ) (t : List ℕ) → NoLineFeed p → byte_kind b ≡ LineFeed → file_line_end (p ++ b ∷ t) ≡ line_end (p ++ b ∷ [])
+file_line_end-line : (p : List ℕ) (b : ℕ) (t : List ℕ) → NoLineFeed p → byte_kind b ≡ LineFeed → file_line_end (p ++ b ∷ t) ≡ line_end (p ++ b ∷ [])
 file_line_end-line p b t h e =
     let end : line_end (p ++ b ∷ []) ≡ line_end_by (is_carriage_return_first (reverse p)) =
     ap line_end_backwards (reverse-append p (b ∷ [])) ∙ ap (λ k. line_end_at k (reverse p)) e in
@@ -42,13 +35,9 @@ file_line_end-line p b t h e =
 
 -- ---- a text without line feed
 
-none-append : (p q : List ℕ) → NoLineFeed p → NoLineFeed q → NoLineFeed (p ++ q)
-none-append [] q h k = k
-none-append (b ∷ p) q h k = (h.0, none-append p q h.1 k)
-
 none-reverse : (t : List ℕ) → NoLineFeed t → NoLineFeed (reverse t)
 none-reverse [] h = tt
-none-reverse (b ∷ t) h = subst NoLineFeed (sym (reverse-append (b ∷ []) t)) (none-append (reverse t) (b ∷ []) (none-reverse t h.1) (h.0, tt))
+none-reverse (b ∷ t) h = subst NoLineFeed (sym (reverse-append (b ∷ []) t)) (NoLineFeed-append (reverse t) (b ∷ []) (none-reverse t h.1) (h.0, tt))
 
 no-end : (r : List ℕ) → NoLineFeed r → line_end_backwards r ≡ end.None
 no-end [] h = refl
@@ -62,11 +51,11 @@ no-end (b ∷ r) h = go (byte_kind b) h.0
     go Ordinary h = refl
 
 only-physical : (b : ℕ) (t : List ℕ) → NoLineFeed (b ∷ t) → physical_lines (b ∷ t) ≡ (b ∷ t) ∷ []
-only-physical b [] h = before_lines-other (byte_kind b) b [] h.0
-only-physical b (c ∷ t) h = before_lines-other (byte_kind b) b (physical_lines (c ∷ t)) h.0 ∙ ap (onto_first (b ∷ [])) (only-physical c t h.1)
+only-physical b [] h = before_lines-ordinary (byte_kind b) b [] h.0
+only-physical b (c ∷ t) h = before_lines-ordinary (byte_kind b) b (physical_lines (c ∷ t)) h.0 ∙ ap (onto_first (b ∷ [])) (only-physical c t h.1)
 
 -- its new lines end in LF
-pub file_line_end-last : (t : List ℕ) → NoLineFeed t → file_line_end t ≡ end.Lf
+file_line_end-last : (t : List ℕ) → NoLineFeed t → file_line_end t ≡ end.Lf
 file_line_end-last [] h = refl
 file_line_end-last (b ∷ t) h = ap first_line_end (only-physical b t h) ∙ ap line_end_or_lf (no-end (reverse (b ∷ t)) (none-reverse (b ∷ t) h))
 

@@ -137,7 +137,7 @@ drop_carriage_return-state (b ∷ r) = go (byte_kind b) refl (line_state_backwar
     go Ordinary e AfterOddRunCr h = rw e refl
 
 -- a physical line is continued where the state before its line end goes on
-pub is_continued-state : (p : List ℕ) (b : ℕ) → byte_kind b ≡ LineFeed → is_continued (p ++ b ∷ []) ≡ is_continued_state (line_state_after InLine p)
+is_continued-state : (p : List ℕ) (b : ℕ) → byte_kind b ≡ LineFeed → is_continued (p ++ b ∷ []) ≡ is_continued_state (line_state_after InLine p)
 is_continued-state p b e = rw (reverse-append p (b ∷ []), e, reverse-reverse (drop_carriage_return (reverse p)), line_state_after-reverse p) (drop_carriage_return-state (reverse p))
 
 -- ---- the physical lines in groups are the pieces
@@ -147,11 +147,11 @@ abbrev pub NoLineFeed : List ℕ → Type 0
 NoLineFeed [] = Unit {0}
 NoLineFeed (b ∷ t) = (byte_kind b ≡ LineFeed → ⊥) × NoLineFeed t
 
-NoLineFeed-append : (p q : List ℕ) → NoLineFeed p → NoLineFeed q → NoLineFeed (p ++ q)
+pub NoLineFeed-append : (p q : List ℕ) → NoLineFeed p → NoLineFeed q → NoLineFeed (p ++ q)
 NoLineFeed-append [] q h k = k
 NoLineFeed-append (b ∷ p) q h k = (h.0, NoLineFeed-append p q h.1 k)
 
-before_lines-ordinary : (k : ByteKind) (b : ℕ) (ls : List (List ℕ)) → (k ≡ LineFeed → ⊥) → before_lines k b ls ≡ onto_first (b ∷ []) ls
+pub before_lines-ordinary : (k : ByteKind) (b : ℕ) (ls : List (List ℕ)) → (k ≡ LineFeed → ⊥) → before_lines k b ls ≡ onto_first (b ∷ []) ls
 before_lines-ordinary LineFeed b ls h = absurd (h refl)
 before_lines-ordinary CarriageReturn b ls h = refl
 before_lines-ordinary Backslash b ls h = refl
@@ -208,7 +208,7 @@ line_state_after-not_start s [] h k = k
 line_state_after-not_start s (b ∷ p) h k = line_state_after-not_start (next_line_state s (byte_kind b)) p h.1 (next-not_start s (byte_kind b) h.0)
 
 -- what the groups are, by where the text stands
-pub record IsGrouped (t : List ℕ) : Type 0 where
+record IsGrouped (t : List ℕ) : Type 0 where
   pub fresh : grouped (physical_lines t) ≡ line_pieces AtStart t
   pub within : (m p : List ℕ) → NoLineFeed p → onto_first m (grouped (physical_lines (p ++ t))) ≡ (m ++ (p ++ line_continuation (line_state_after InLine p) t)) ∷ line_pieces (line_state_after InLine p) t
 
@@ -219,9 +219,9 @@ line_feed_or_not Backslash = inr (λ h. cc)
 line_feed_or_not Blank = inr (λ h. cc)
 line_feed_or_not Ordinary = inr (λ h. cc)
 
-continuation-start : (t : List ℕ) → line_continuation AtStart t ≡ []
-continuation-start [] = refl
-continuation-start (b ∷ t) = refl
+pub line_continuation-start : (t : List ℕ) → line_continuation AtStart t ≡ []
+line_continuation-start [] = refl
+line_continuation-start (x ∷ t) = refl
 
 grouped-none : IsGrouped []
 unfolding before_first
@@ -239,12 +239,12 @@ grouped-line_feed : (b : ℕ) (t : List ℕ) → byte_kind b ≡ LineFeed → Is
 grouped-line_feed b t e g = record { fresh = fresh; within = within }
   where
     fresh : grouped (physical_lines (b ∷ t)) ≡ line_pieces AtStart (b ∷ t)
-    fresh = rw (e, is_continued-state [] b e, g.fresh, continuation-start t) refl
+    fresh = rw (e, is_continued-state [] b e, g.fresh, line_continuation-start t) refl
 
     by-place : (s : LineState) (m p : List ℕ) → is_at_start s ≡ false
         → onto_first m (before_group (is_continued_state s) (p ++ b ∷ []) (grouped (physical_lines t))) ≡ (m ++ (p ++ line_continuation s (b ∷ t))) ∷ line_pieces s (b ∷ t)
     by-place AtStart m p h = cc
-    by-place InLine m p h = rw (e, continuation-start t, g.fresh) refl
+    by-place InLine m p h = rw (e, line_continuation-start t, g.fresh) refl
     by-place AfterOddRun m p h = rw (e, onto_first-twice m (p ++ b ∷ []) (grouped (physical_lines t)), g.within (m ++ (p ++ b ∷ [])) [] tt) (simp append_assoc)
     by-place AfterOddRunCr m p h = rw (e, onto_first-twice m (p ++ b ∷ []) (grouped (physical_lines t)), g.within (m ++ (p ++ b ∷ [])) [] tt) (simp append_assoc)
 

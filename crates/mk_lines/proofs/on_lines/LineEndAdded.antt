@@ -7,12 +7,12 @@ use Rattle.mk_lines.specs.LogicalLines.{starts_with_odd_run, is_continued, has_n
 use Rattle.mk_lines.proofs.on_lists.CutLemmas.{state_after-append}
 use Rattle.mk_lines.proofs.on_lines.LineCut.{LineState, AtStart, InLine, AfterOddRun, AfterOddRunCr, next_line_state, is_at_start, is_after_odd_run, line_state_backwards, line_step, line_state_after, line_state_after-reverse, odd_run-state}
 use Rattle.mk_lines.proofs.on_lines.LineLemmas.{OneLine, Ends}
-use Rattle.mk_lines.proofs.on_lines.LineEndLemmas.{KeepsApart, FirstIsNot, drop_line_end-none, without_line_end-append, line_end-append}
-use Rattle.mk_lines.proofs.on_cells.LineCells.{or-left_false, or-right_false}
-use Rattle.mk_lines.proofs.on_cells.LineOfCells.{one_line-of_text, state_after-start}
+use Rattle.mk_lines.proofs.on_lines.LineEndLemmas.{KeepsApart, FirstIsNot, drop_line_end-none, without_line_end-append, line_end-append, state_after-start}
+use Rattle.mk_lines.proofs.on_cells.LineOfCells.{one_line-of_text}
 use Rattle.mk_lines.proofs.on_cells.CellsOfLine.{one_line-continues}
 use Rattle.mk_lines.specs.declared.ends.End.{End}
 use Rattle.mk_lines.specs.declared.ends.End.TheVariants.{None, Lf, CrLf}
+use Rattle.mk_lines.proofs.on_lists.BoolLemmas.{or-left_false, or-right_false}
 
 -- a line that is not open and has a line end ends a line
 pub not_open-ends_line : (b : ℕ) (t : List ℕ) → is_open (b ∷ t) ≡ false → has_no_line_end (line_end (b ∷ t)) ≡ false → ends_line (b ∷ t) ≡ true

@@ -4,9 +4,9 @@ use Rattle.std.proofs.lemmas.List.{append-nil, reverse-append, reverse-reverse}
 use Rattle.mk_lines.specs.Bytes.{ByteKind, byte_kind, LineFeed, CarriageReturn, Backslash, Blank, Ordinary, is_carriage_return_kind}
 use Rattle.mk_lines.proofs.on_lists.ByteLemmas.{line_feed-byte, carriage_return-byte}
 use Rattle.mk_lines.specs.PhysicalLines.{line_end, line_end_backwards, line_end_at, line_end_by, line_end_bytes, without_line_end, drop_line_end, drop_line_end_at, drop_carriage_return, drop_carriage_return_at, is_carriage_return_first}
-use Rattle.mk_lines.specs.LogicalLines.{starts_with_odd_run, has_no_line_end, ends_line, EndsLineBefore}
+use Rattle.mk_lines.specs.LogicalLines.{starts_with_odd_run, has_no_line_end, ends_line, EndsWhereFollowed}
 use Rattle.mk_lines.proofs.on_lines.LineCut.{LineState, AtStart, InLine, AfterOddRun, AfterOddRunCr, next_line_state, is_at_start, is_continued_state, line_state_backwards, line_state_after, line_state_after-reverse, drop_carriage_return-state, next-start, next-not_start}
-use Rattle.mk_lines.proofs.on_lines.LineLemmas.{Ends, EndsBefore}
+use Rattle.mk_lines.proofs.on_lines.LineLemmas.{Ends, EndsBefore, is_at_start-is}
 use Rattle.mk_lines.specs.declared.ends.End.{End}
 use Rattle.mk_lines.specs.declared.ends.End.TheVariants.{None, Lf, CrLf}
 
@@ -44,7 +44,7 @@ without_line_end-line_end l = text-line_end_backwards (reverse l) ∙ reverse-re
 -- ---- where a text ends a line
 
 -- a line end that has a line feed is one
-pub line_end_by-some : (c : Bool) → has_no_line_end (line_end_by c) ≡ false
+line_end_by-some : (c : Bool) → has_no_line_end (line_end_by c) ≡ false
 line_end_by-some true = refl
 line_end_by-some false = refl
 
@@ -65,38 +65,32 @@ ends-backwards (b ∷ r) = go (byte_kind b)
     go Blank = sym (next-not_start (line_state_backwards r) Blank (λ h. cc))
     go Ordinary = sym (next-not_start (line_state_backwards r) Ordinary (λ h. cc))
 
-same-state : (b : ℕ) (t : List ℕ) → line_state_after AtStart (b ∷ t) ≡ line_state_after InLine (b ∷ t)
-same-state b t = rw (next-start (byte_kind b)) refl
+pub state_after-start : (b : ℕ) (t : List ℕ) → line_state_after AtStart (b ∷ t) ≡ line_state_after InLine (b ∷ t)
+state_after-start b t = rw (next-start (byte_kind b)) refl
 
 -- a text ends a line where the machine that cuts lines stands at a start
-pub ends_line-state : (t : List ℕ) → ends_line t ≡ is_at_start (line_state_after AtStart t)
+ends_line-state : (t : List ℕ) → ends_line t ≡ is_at_start (line_state_after AtStart t)
 ends_line-state [] = refl
 ends_line-state (b ∷ t) =
     ap (λ z. not (has_no_line_end (line_end (b ∷ t))) && not (starts_with_odd_run z)) (reverse-reverse (drop_line_end (reverse (b ∷ t))))
-    ∙ (ends-backwards (reverse (b ∷ t)) ∙ ap is_at_start (sym (same-state b t ∙ line_state_after-reverse (b ∷ t))))
-
-is_at_start-is : (s : LineState) → is_at_start s ≡ true → s ≡ AtStart
-is_at_start-is AtStart h = refl
-is_at_start-is InLine h = cc
-is_at_start-is AfterOddRun h = cc
-is_at_start-is AfterOddRunCr h = cc
+    ∙ (ends-backwards (reverse (b ∷ t)) ∙ ap is_at_start (sym (state_after-start b t ∙ line_state_after-reverse (b ∷ t))))
 
 -- a text that ends a line ends, and the other way round
 pub ends_line-ends : (t : List ℕ) → ends_line t ≡ true → Ends t
 unfolding Ends
 ends_line-ends t h = is_at_start-is (line_state_after AtStart t) (sym (ends_line-state t) ∙ h)
 
+pub EndsBefore-followed : (text : List ℕ) (lines : List (List ℕ)) → EndsWhereFollowed text lines → EndsBefore text lines
+EndsBefore-followed text [] h = tt
+EndsBefore-followed text (line ∷ lines) h = ends_line-ends text h
+
 pub Ends-ends_line : (t : List ℕ) → Ends t → ends_line t ≡ true
 unfolding Ends
 Ends-ends_line t h = ends_line-state t ∙ ap is_at_start h
 
-pub EndsBefore-of : (t : List ℕ) (ls : List (List ℕ)) → EndsLineBefore t ls → EndsBefore t ls
-EndsBefore-of t [] h = tt
-EndsBefore-of t (l ∷ ls) h = ends_line-ends t h
-
-pub EndsLineBefore-of : (t : List ℕ) (ls : List (List ℕ)) → EndsBefore t ls → EndsLineBefore t ls
-EndsLineBefore-of t [] h = tt
-EndsLineBefore-of t (l ∷ ls) h = Ends-ends_line t h
+pub EndsWhereFollowed-of : (t : List ℕ) (ls : List (List ℕ)) → EndsBefore t ls → EndsWhereFollowed t ls
+EndsWhereFollowed-of t [] h = tt
+EndsWhereFollowed-of t (l ∷ ls) h = Ends-ends_line t h
 
 -- ---- a line end put after a text
 

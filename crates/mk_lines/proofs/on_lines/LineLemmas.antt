@@ -4,27 +4,23 @@ use Rattle.std.proofs.lemmas.List.{append-nil}
 use Rattle.mk_lines.specs.Lists.{concat}
 use Rattle.mk_lines.specs.LogicalLines.{logical_lines}
 use Rattle.mk_lines.proofs.on_lists.CutLemmas.{recut-first, recut-last, begins-at_piece, pieces-not_empty, pieces-append, concat-pieces_from_start}
-use Rattle.mk_lines.proofs.on_lines.LineCut.{LineState, AtStart, InLine, AfterOddRun, AfterOddRunCr, is_at_start, line_step, line_begins, line_pieces, line_continuation, line_state_after, logical_lines-pieces}
+use Rattle.mk_lines.proofs.on_lines.LineCut.{LineState, AtStart, InLine, AfterOddRun, AfterOddRunCr, is_at_start, line_step, line_begins, line_pieces, line_continuation, line_state_after, logical_lines-pieces, line_continuation-start}
 
 -- each byte begins a line at the start of one, and then leads where it leads from there
 pub begins-always : (b : ℕ) → line_begins AtStart b ≡ true
 begins-always b = refl
 
-pub step-again : (s : LineState) (b : ℕ) → line_begins s b ≡ true → line_step s b ≡ line_step AtStart b
+step-again : (s : LineState) (b : ℕ) → line_begins s b ≡ true → line_step s b ≡ line_step AtStart b
 step-again AtStart b h = refl
 step-again InLine b h = cc
 step-again AfterOddRun b h = cc
 step-again AfterOddRunCr b h = cc
 
-is_at_start-is : (s : LineState) → is_at_start s ≡ true → s ≡ AtStart
+pub is_at_start-is : (s : LineState) → is_at_start s ≡ true → s ≡ AtStart
 is_at_start-is AtStart h = refl
 is_at_start-is InLine h = cc
 is_at_start-is AfterOddRun h = cc
 is_at_start-is AfterOddRunCr h = cc
-
-line_continuation-start : (t : List ℕ) → line_continuation AtStart t ≡ []
-line_continuation-start [] = refl
-line_continuation-start (x ∷ t) = refl
 
 -- the logical lines of a text, joined, are the text
 pub concat-logical_lines : (t : List ℕ) → concat (logical_lines t) ≡ t
@@ -50,7 +46,7 @@ EndsBefore t [] = Unit {0}
 EndsBefore t (l ∷ ls) = Ends t
 
 -- a text that ends does so before any lines
-pub EndsBefore-any : (t : List ℕ) (ls : List (List ℕ)) → Ends t → EndsBefore t ls
+EndsBefore-any : (t : List ℕ) (ls : List (List ℕ)) → Ends t → EndsBefore t ls
 EndsBefore-any t [] h = tt
 EndsBefore-any t (l ∷ ls) h = h
 
@@ -158,9 +154,3 @@ among t X l Y h =
     let a : AreApart X (l ∷ Y) = lines-apart t X (l ∷ Y) h in
     let b : AreApart (l ∷ []) Y = lines-apart (concat (l ∷ Y)) (l ∷ []) Y (AreLines-logical (l ∷ Y) a.second) in
     record { before = a.first; at_start = a.ends; rest = b.second; one = AreLines-one_line l b.first; ends = rw (append-nil l) at b.ends }
-
--- a line replaced by a text that is one line: the others stay
-pub replace-line : (t : List ℕ) (X : List (List ℕ)) (l m : List ℕ) (Y : List (List ℕ)) → logical_lines t ≡ X ++ l ∷ Y
-    → OneLine m → EndsBefore m Y → logical_lines (concat X ++ (m ++ concat Y)) ≡ X ++ m ∷ Y
-replace-line t X l m Y h o e =
-    replace-run t X (l ∷ []) Y m h (λ x. cc) e ∙ ap (λ z. X ++ (z ++ Y)) (OneLine-logical m o)

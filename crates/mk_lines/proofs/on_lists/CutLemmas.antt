@@ -10,7 +10,7 @@ state_after-append step s (x ∷ a) b = state_after-append step (step s x) a b
 
 module _ {A S : Type 0} (step : S → A → S) (begins : S → A → Bool) where
   -- the pieces of a list, one after the other, are the list
-  pub concat-pieces : (s : S) (t : List A) → continuation step begins s t ++ concat (pieces step begins s t) ≡ t
+  concat-pieces : (s : S) (t : List A) → continuation step begins s t ++ concat (pieces step begins s t) ≡ t
   concat-pieces s [] = refl
   concat-pieces s (x ∷ t) = go (begins s x) (concat-pieces (step s x) t)
     where
@@ -53,7 +53,7 @@ module _ {A S : Type 0} (step : S → A → S) (begins : S → A → Bool) where
       go false e ih = ap (λ l. x ∷ l) (ih (cc))
 
   -- where nothing begins there are no pieces
-  pub pieces-none : (s : S) (a : List A) → continuation step begins s a ≡ a → pieces step begins s a ≡ []
+  pieces-none : (s : S) (a : List A) → continuation step begins s a ≡ a → pieces step begins s a ≡ []
   pieces-none s [] h = refl
   pieces-none s (x ∷ a) h = go (begins s x) h (λ e. pieces-none (step s x) a e)
     where
@@ -135,7 +135,7 @@ module _ {A S : Type 0} (step : S → A → S) (begins : S → A → Bool) where
     continuation-start (x ∷ b) = rw begins-always refl
 
     -- what continues a piece is the same whatever follows the start state
-    pub continuation-append : (s : S) (a b : List A) → state_after step s a ≡ start → continuation step begins s (a ++ b) ≡ continuation step begins s a
+    continuation-append : (s : S) (a b : List A) → state_after step s a ≡ start → continuation step begins s (a ++ b) ≡ continuation step begins s a
     continuation-append s [] b h = rw h (continuation-start b)
     continuation-append s (x ∷ a) b h = ap (cond (begins s x) []) (ap (λ l. x ∷ l) (continuation-append (step s x) a b h))
 
@@ -200,7 +200,7 @@ state_after-map f step s (x ∷ t) = state_after-map f step (step s (f x)) t
 
 module _ {A B S : Type 0} (f : A → B) (step : S → B → S) (begins : S → B → Bool) where
   -- what continues a piece, in an image
-  pub continuation-map : (s : S) (t : List A) → continuation step begins s (map f t) ≡ map f (continuation (λ z x. step z (f x)) (λ z x. begins z (f x)) s t)
+  continuation-map : (s : S) (t : List A) → continuation step begins s (map f t) ≡ map f (continuation (λ z x. step z (f x)) (λ z x. begins z (f x)) s t)
   continuation-map s [] = refl
   continuation-map s (x ∷ t) = rw (continuation-map (step s (f x)) t) (go (begins s (f x)))
     where

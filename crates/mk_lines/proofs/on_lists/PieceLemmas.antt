@@ -1,22 +1,16 @@
 -- Laws of pieces: a text with the replacements of pieces made is the text that the pieces say, and a line with some of its
 -- cells replaced is one line of the new cells.
-use Rattle.std.proofs.Common.{◌≡◌, refl, sym, ap, ◌∙◌, subst, ℕ, List, [], ◌∷◌, ◌++◌, map, arith, append_assoc, length, take, drop, reverse, ◌-◌, ◌+◌, length-append}
-use Rattle.std.proofs.lemmas.List.{append-nil}
+use Rattle.std.proofs.Common.{◌≡◌, refl, sym, ap, ◌∙◌, ℕ, List, [], ◌∷◌, ◌++◌, map, arith, append_assoc, length, take, drop, ◌-◌, ◌+◌, length-append}
 use Rattle.std.proofs.Math.Seq.{take-append_seam, drop-append_seam}
-use Rattle.mk_lines.specs.PhysicalLines.{line_end, line_end_bytes}
-use Rattle.mk_lines.specs.Cells.{Cell, Byte, raw_text}
+use Rattle.std.proofs.Math.Nat.{add-sub_cancel_left}
+use Rattle.mk_lines.specs.Cells.{Byte, raw_text}
 use Rattle.mk_lines.proofs.on_cells.CellLemmas.{raw_text-append, raw_text-bytes}
-use Rattle.mk_lines.proofs.on_lines.LineEndLemmas.{KeepsApart}
-use Rattle.mk_lines.proofs.on_cells.LineCells.{AreLineCells, AreLineCells-left, AreLineCells-right, AreLineCells-append, AreLineCells-none, Joins, HasNoLineEnd, bytes-are_line_cells, EndLineBefore, IsLineOf, line-of_cells}
 use Rattle.mk_lines.specs.Pieces.{replaced, Piece, Keep, Replace, old_cells, new_cells, old_bytes, new_bytes, replacements}
 
 -- ---- places
 
 minus_zero : (n : ℕ) → n - 0 ≡ n
 minus_zero n = omega arith
-
-minus_front : (a n : ℕ) → a + n - a ≡ n
-minus_front a n = omega arith
 
 -- one replacement
 pub replaced-one : (t p w q v : List ℕ) (s e : ℕ) → t ≡ p ++ (w ++ q) → s ≡ length p → e ≡ s + length w
@@ -38,7 +32,7 @@ replaced-from a k (Keep cs ∷ ps) rest =
 replaced-from a k (Replace cs v ∷ ps) rest =
     let T = k ++ ((raw_text cs ++ old_bytes ps) ++ rest) in
     let t : T ≡ (k ++ raw_text cs) ++ (old_bytes ps ++ rest) = simp append_assoc in
-    let x : take (a + length k - a) T ≡ k = ap (λ z. take z T) (minus_front a (length k)) ∙ take-append_seam k ((raw_text cs ++ old_bytes ps) ++ rest) in
+    let x : take (a + length k - a) T ≡ k = ap (λ z. take z T) (add-sub_cancel_left a (length k)) ∙ take-append_seam k ((raw_text cs ++ old_bytes ps) ++ rest) in
     let n : a + length k + length (raw_text cs) - a ≡ length (k ++ raw_text cs) = omega (arith, length-append k (raw_text cs)) in
     let y : drop (a + length k + length (raw_text cs) - a) T ≡ old_bytes ps ++ rest =
     ap (λ z. drop z T) n ∙ (ap (drop (length (k ++ raw_text cs))) t ∙ drop-append_seam (k ++ raw_text cs) (old_bytes ps ++ rest)) in
@@ -87,47 +81,3 @@ pub new_bytes-append : (ps qs : List Piece) → new_bytes (ps ++ qs) ≡ new_byt
 new_bytes-append [] qs = refl
 new_bytes-append (Keep cs ∷ ps) qs = ap (λ z. raw_text cs ++ z) (new_bytes-append ps qs) ∙ sym (append_assoc (raw_text cs) (new_bytes ps) (new_bytes qs))
 new_bytes-append (Replace cs v ∷ ps) qs = ap (λ z. v ++ z) (new_bytes-append ps qs) ∙ sym (append_assoc v (new_bytes ps) (new_bytes qs))
-
--- ---- seams
-
--- Pieces before some cells: each new text has no LF and no CR, and what each piece leaves joins what follows it.
-abbrev pub SeamsJoin : List Piece → (next : List Cell) → Type 0
-SeamsJoin [] n = Unit {0}
-SeamsJoin (Keep cs ∷ ps) n = Joins cs (new_cells ps ++ n) × SeamsJoin ps n
-SeamsJoin (Replace cs v ∷ ps) n = HasNoLineEnd v × Joins (map Byte v) (new_cells ps ++ n) × SeamsJoin ps n
-
--- the seams of two lists of pieces
-pub SeamsJoin-append : (ps qs : List Piece) (n : List Cell) → SeamsJoin ps (new_cells qs ++ n) → SeamsJoin qs n → SeamsJoin (ps ++ qs) n
-SeamsJoin-append [] qs n h k = k
-SeamsJoin-append (Keep cs ∷ ps) qs n h k =
-    (subst (Joins cs) (sym (append_assoc (new_cells ps) (new_cells qs) n) ∙ ap (λ z. z ++ n) (sym (new_cells-append ps qs))) h.0, SeamsJoin-append ps qs n h.1 k)
-SeamsJoin-append (Replace cs v ∷ ps) qs n h k =
-    (h.0, subst (Joins (map Byte v)) (sym (append_assoc (new_cells ps) (new_cells qs) n) ∙ ap (λ z. z ++ n) (sym (new_cells-append ps qs))) h.1, SeamsJoin-append ps qs n h.2 k)
-
--- the new cells are such that a line may have, where the old ones were and the seams join
-pub new_cells-are_line_cells : (ps : List Piece) → AreLineCells (old_cells ps) → SeamsJoin ps [] → AreLineCells (new_cells ps)
-new_cells-are_line_cells [] h k = AreLineCells-none
-new_cells-are_line_cells (Keep cs ∷ ps) h k =
-    AreLineCells-append cs (new_cells ps) (AreLineCells-left cs (old_cells ps) h) (new_cells-are_line_cells ps (AreLineCells-right cs (old_cells ps) h) k.1)
-    (subst (Joins cs) (append-nil (new_cells ps)) k.0)
-new_cells-are_line_cells (Replace cs v ∷ ps) h k =
-    AreLineCells-append (map Byte v) (new_cells ps) (bytes-are_line_cells v k.0) (new_cells-are_line_cells ps (AreLineCells-right cs (old_cells ps) h) k.2)
-    (subst (Joins (map Byte v)) (append-nil (new_cells ps)) k.1)
-
--- what joins a cell joins it whatever follows
-pub Joins-first : (a : List Cell) (d : Cell) (b c : List Cell) → Joins a (d ∷ b) → Joins a (d ∷ c)
-Joins-first [] d b c h = tt
-Joins-first (x ∷ []) d b c h = h
-Joins-first (x ∷ y ∷ a) d b c h = Joins-first (y ∷ a) d b c h
-
--- ---- the line
-
--- A line with some of its cells replaced by texts is one line of the new cells, with the same line end. The line end has to
--- stay apart from the new cells and, where lines follow, to end the line after them; `LineCells` says when it does.
-pub line-of_pieces : (l : List ℕ) (below : List (List ℕ)) (ps : List Piece) (b : ℕ) (r : List ℕ) → AreLineCells (old_cells ps) → SeamsJoin ps []
-    → KeepsApart (line_end l) (reverse (raw_text (new_cells ps))) → EndLineBefore (line_end l) (new_cells ps) below → new_bytes ps ++ line_end_bytes (line_end l) ≡ b ∷ r
-    → IsLineOf (new_bytes ps ++ line_end_bytes (line_end l)) (new_cells ps) (line_end l) below
-line-of_pieces l below ps b r k s a n m =
-    let same : raw_text (new_cells ps) ++ line_end_bytes (line_end l) ≡ new_bytes ps ++ line_end_bytes (line_end l) = ap (λ z. z ++ line_end_bytes (line_end l)) (raw_text-new_cells ps) in
-    subst (λ z. IsLineOf z (new_cells ps) (line_end l) below) same
-    (line-of_cells (new_cells ps) (line_end l) below b r (new_cells-are_line_cells ps k s) a n (same ∙ m))

@@ -1,8 +1,9 @@
 -- Laws of ranges: they cut out the pieces and the words that they are of, and raw places cut the raw bytes of a line.
-use Rattle.std.proofs.Common.{◌≡◌, refl, sym, ap, ◌∙◌, subst, ℕ, ◌+◌, ◌-◌, List, [], ◌∷◌, ◌++◌, map, Bool, true, false, length, take, drop, append_assoc, length-append, arith, cond}
+use Rattle.std.proofs.Common.{◌≡◌, refl, sym, ap, ◌∙◌, subst, ℕ, ◌+◌, List, [], ◌∷◌, ◌++◌, map, Bool, true, false, length, take, drop, append_assoc, length-append, arith, cond}
 use Rattle.std.specs.Prelude.{slice_range}
 use Rattle.std.proofs.lemmas.List.{append-nil, take-append-drop}
 use Rattle.std.proofs.Math.Seq.{take-append_seam, drop-append_seam}
+use Rattle.std.proofs.Math.Nat.{add-sub_cancel_left}
 use Rattle.mk_lines.specs.Lists.{concat}
 use Rattle.mk_lines.specs.Cut.{pieces, continuation}
 use Rattle.mk_lines.specs.LogicalLines.{logical_lines}
@@ -17,17 +18,14 @@ use Rattle.mk_lines.proofs.on_units.UnitLemmas.{concat-units}
 use Rattle.mk_lines.proofs.on_units.TokenLemmas.{token_text, token_text-tokens}
 use Rattle.mk_lines.specs.Spans.{Tiles}
 
-minus_front : (a n : ℕ) → a + n - a ≡ n
-minus_front a n = omega arith
-
 -- what stands between two others
 slice-between : {A : Type 0} (p w q : List A) → slice_range (p ++ (w ++ q)) (length p) (length p + length w) ≡ w
 slice-between p w q =
-    ap (λ n. take n (drop (length p) (p ++ (w ++ q)))) (minus_front (length p) (length w))
+    ap (λ n. take n (drop (length p) (p ++ (w ++ q)))) (add-sub_cancel_left (length p) (length w))
     ∙ (ap (take (length w)) (drop-append_seam p (w ++ q)) ∙ take-append_seam w q)
 
 -- the ranges of pieces cut them out of a text in which they stand
-pub piece_ranges-text : {A : Type 0} (p : List A) (ps : List (List A)) (q : List A) → map (text_at (p ++ (concat ps ++ q))) (piece_ranges (length p) ps) ≡ ps
+piece_ranges-text : {A : Type 0} (p : List A) (ps : List (List A)) (q : List A) → map (text_at (p ++ (concat ps ++ q))) (piece_ranges (length p) ps) ≡ ps
 piece_ranges-text p [] q = refl
 piece_ranges-text p (x ∷ ps) q =
     let first : p ++ ((x ++ concat ps) ++ q) ≡ p ++ (x ++ (concat ps ++ q)) = ap (λ z. p ++ z) (append_assoc x (concat ps) q) in
@@ -39,7 +37,7 @@ piece_ranges-text p (x ∷ ps) q =
     ∙ (ap (λ n. map (text_at ((p ++ x) ++ (concat ps ++ q))) (piece_ranges n ps)) (sym (length-append p x)) ∙ piece_ranges-text (p ++ x) ps q))
 
 -- the ranges of words cut them out of a text in which their tokens stand
-pub word_token_ranges-text : {A : Type 0} (p : List A) (ts : List (Token A)) (q : List A) → map (text_at (p ++ (token_text ts ++ q))) (word_token_ranges (length p) ts) ≡ token_words ts
+word_token_ranges-text : {A : Type 0} (p : List A) (ts : List (Token A)) (q : List A) → map (text_at (p ++ (token_text ts ++ q))) (word_token_ranges (length p) ts) ≡ token_words ts
 word_token_ranges-text p [] q = refl
 word_token_ranges-text p (Gap u ∷ ts) q =
     let rest : p ++ ((u ++ token_text ts) ++ q) ≡ (p ++ u) ++ (token_text ts ++ q) = ap (λ z. p ++ z) (append_assoc u (token_text ts) q) ∙ sym (append_assoc p u (token_text ts ++ q)) in
@@ -72,7 +70,7 @@ word_ranges-text t =
 
 -- ---- raw places
 
-raw_text-split : (cs : List Cell) (n : ℕ) → raw_text cs ≡ raw_text (take n cs) ++ raw_text (drop n cs)
+pub raw_text-split : (cs : List Cell) (n : ℕ) → raw_text cs ≡ raw_text (take n cs) ++ raw_text (drop n cs)
 raw_text-split cs n = ap raw_text (sym (take-append-drop n cs)) ∙ raw_text-append (take n cs) (drop n cs)
 
 -- a raw place cuts raw bytes into those of the cells before it and of those from it on
@@ -89,12 +87,12 @@ raw_place-append a b = ap (λ z. length (raw_text z)) (take-append_seam a b)
 -- ---- lines follow one another
 
 -- no list is empty
-abbrev pub AreFilled : {A : Type 0} → List (List A) → Type 0
+abbrev AreFilled : {A : Type 0} → List (List A) → Type 0
 AreFilled [] = Unit {0}
 AreFilled ([] ∷ ps) = ⊥
 AreFilled ((x ∷ p) ∷ ps) = AreFilled ps
 
-pub pieces-are_filled : {A S : Type 0} (step : S → A → S) (begins : S → A → Bool) (s : S) (t : List A) → AreFilled (pieces step begins s t)
+pieces-are_filled : {A S : Type 0} (step : S → A → S) (begins : S → A → Bool) (s : S) (t : List A) → AreFilled (pieces step begins s t)
 pieces-are_filled step begins s [] = tt
 pieces-are_filled step begins s (x ∷ t) = go (begins s x) (pieces-are_filled step begins (step s x) t)
   where
@@ -103,7 +101,7 @@ pieces-are_filled step begins s (x ∷ t) = go (begins s x) (pieces-are_filled s
     go false h = h
 
 -- the ranges of pieces that are not empty follow one another and cover their text
-pub piece_ranges-tiles : {A : Type 0} (at : ℕ) (ps : List (List A)) → AreFilled ps → Tiles (piece_ranges at ps) at (at + length (concat ps))
+piece_ranges-tiles : {A : Type 0} (at : ℕ) (ps : List (List A)) → AreFilled ps → Tiles (piece_ranges at ps) at (at + length (concat ps))
 piece_ranges-tiles at [] h = omega arith
 piece_ranges-tiles at ([] ∷ ps) h = absurd h
 piece_ranges-tiles at ((x ∷ p) ∷ ps) h =

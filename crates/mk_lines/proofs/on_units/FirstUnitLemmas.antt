@@ -4,6 +4,8 @@ use Rattle.std.proofs.Common.{◌≡◌, refl, sym, ap, ◌∙◌, subst, ℕ, s
 use Rattle.std.specs.Prelude.{◌==◌, ◌⊎◌}
 use Rattle.std.proofs.lemmas.List.{append-nil}
 use Rattle.std.proofs.lemmas.Bool.Decides.{Decides-eqb}
+use Rattle.std.proofs.Math.Bool.{not-not}
+use Rattle.std.proofs.lemmas.Bool.{or_from}
 use Rattle.mk_lines.specs.Cut.{state_after, continuation, pieces}
 use Rattle.mk_lines.proofs.on_lists.CutLemmas.{continuation-start, pieces-after_continuation}
 use Rattle.mk_lines.specs.Units.{Mark, byte_mark, UnitState, next_unit_state, begins_unit, is_between, units, unit_step, unit_begins, is_closed}
@@ -325,10 +327,6 @@ module _ {A : Type 0} (byte : A → ℕ) where
 
 -- ---- a text is closed where no unit leaves it open
 
-or-false : (a b : Bool) → a ≡ false → b ≡ false → (a || b) ≡ false
-or-false true b h k = cc
-or-false false b h k = k
-
 module _ {A : Type 0} (byte : A → ℕ) where
   -- a reference that has begun with a bracket, of which so many are open
   abbrev IsOpenReference : (first : Mark) (opens closes : Mark → Bool) → ℕ → List A → Type 0
@@ -425,7 +423,7 @@ module _ {A : Type 0} (byte : A → ℕ) where
 
   -- a part of a unit at the end of the text leaves it open
   IsRead-last : (s : UnitState) (u : List A) → IsRead s u → (is_unclosed_unit byte u || is_lone_backslash byte u) ≡ not (is_between s)
-  IsRead-last Between u p = or-false (is_unclosed_unit byte u) (is_lone_backslash byte u) p.0 p.1
+  IsRead-last Between u p = or_from (is_unclosed_unit byte u) (is_lone_backslash byte u) p.0 p.1
   IsRead-last AfterDollar u p = subst (λ z. (is_unclosed_unit byte z || is_lone_backslash byte z) ≡ true) (sym p.1) (rw p.2 refl)
   IsRead-last AfterBackslash u p = subst (λ z. (is_unclosed_unit byte z || is_lone_backslash byte z) ≡ true) (sym p.1) (rw p.2 refl)
   IsRead-last (InParens n) u p =
@@ -465,12 +463,8 @@ module _ {A : Type 0} (byte : A → ℕ) where
           ap (λ z. leaves_open byte (z ∷ pieces (unit_step byte) (unit_begins byte) (unit_step byte s x) t)) (sym (append_assoc u (x ∷ []) (continuation (unit_step byte) (unit_begins byte) (unit_step byte s x) t)))
           ∙ more (IsRead-more s u x p e)
 
-  twice_not : (b : Bool) → not (not b) ≡ b
-  twice_not true = refl
-  twice_not false = refl
-
   -- a text is closed where none of its units is a lone dollar or an unclosed reference, and the last is no lone backslash
   pub is_closed-leaves_open : (t : List A) → is_closed byte t ≡ not (leaves_open byte (units byte t))
   is_closed-leaves_open [] = refl
   is_closed-leaves_open (x ∷ t) =
-      sym (twice_not (is_closed byte (x ∷ t))) ∙ ap not (sym (leaves_open-state (unit_step byte Between x) (x ∷ []) t (one_element x)))
+      sym (not-not (is_closed byte (x ∷ t))) ∙ ap not (sym (leaves_open-state (unit_step byte Between x) (x ∷ []) t (one_element x)))

@@ -52,10 +52,6 @@ module _ {A : Type 0} (byte : A → ℕ) where
   pub is_closed-between : (t : List A) → is_closed byte t ≡ true → state_after (unit_step byte) Between t ≡ Between
   is_closed-between t h = is_between-is (state_after (unit_step byte) Between t) h
 
-  -- and a text that ends so is closed
-  pub between-is_closed : (t : List A) → state_after (unit_step byte) Between t ≡ Between → is_closed byte t ≡ true
-  between-is_closed t h = ap is_between h
-
   -- the units of a closed text followed by any text are its own and then that text's
   pub units-append : (a b : List A) → is_closed byte a ≡ true → units byte (a ++ b) ≡ units byte a ++ units byte b
   units-append a b h = pieces-append (unit_step byte) (unit_begins byte) Between begins-always Between a b (is_closed-between a h)

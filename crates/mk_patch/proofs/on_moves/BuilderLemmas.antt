@@ -8,7 +8,7 @@ use Rattle.mk_patch.specs.declared.step.Step.{Step}
 use Rattle.mk_patch.proofs.on_moves.MoveLemmas.{held_by-append, taken_by-append}
 
 -- what is put behind items in a ring that has room for it
-pub put_behind : {X : Type 0} (old new : Buffer X) (x : X) → new ≡ buffer (keep_last old.capacity (old.items ++ x ∷ [])) old.capacity → length old.items < old.capacity → new ≡ buffer (old.items ++ x ∷ []) old.capacity
+put_behind : {X : Type 0} (old new : Buffer X) (x : X) → new ≡ buffer (keep_last old.capacity (old.items ++ x ∷ [])) old.capacity → length old.items < old.capacity → new ≡ buffer (old.items ++ x ∷ []) old.capacity
 put_behind old new x e h =
     let z : length (old.items ++ x ∷ []) - old.capacity ≡ 0 = omega (arith, length-append old.items (x ∷ []), h) in
     e ∙ ap (λ n. buffer (drop n (old.items ++ x ∷ [])) old.capacity) z

@@ -19,7 +19,7 @@ DifferWhereChosen (false ∷ cs) (old ∷ olds) (new ∷ news) = (old ≡ new) �
 DifferWhereChosen cs olds news = ⊥
 
 -- some first lines after the exchanges, and the others before them, are at most 16,777,216 bytes, wherever the lines are parted
-abbrev pub StayWithin : (above before after : List PlacedLine) → Type 0
+abbrev StayWithin : (above before after : List PlacedLine) → Type 0
 StayWithin above before after = (i : ℕ) → i ≤ length before → size_of (above ++ (take i after ++ drop i before)) ≤ 2 ^ 24
 
 append-one : {X : Type 0} (xs : List X) (y : X) (ys : List X) → (xs ++ y ∷ []) ++ ys ≡ xs ++ y ∷ ys
@@ -30,7 +30,7 @@ within-next : (above : List PlacedLine) (old new : PlacedLine) (olds news : List
 within-next above old new olds news w i h = rw (append-one above new (take i news ++ drop i olds)) (w (suc i) (omega (arith, h)))
 
 -- The exchanges lead from the lines before them to those after, below lines that stay.
-pub exchanges-lead_below : (above : List PlacedLine) (cs : List Bool) (before after : List PlacedLine) (at : ℕ) → at ≡ length above → DifferWhereChosen cs before after → StayWithin above before after
+exchanges-lead_below : (above : List PlacedLine) (cs : List Bool) (before after : List PlacedLine) (at : ℕ) → at ≡ length above → DifferWhereChosen cs before after → StayWithin above before after
     → LeadTo (exchanges at cs after) (above ++ before) (above ++ after)
 exchanges-lead_below above [] [] [] at e d w = record { fit = tt; lead = refl }
 exchanges-lead_below above [] [] (new ∷ news) at e d w = absurd d
@@ -68,7 +68,7 @@ how_many [] = 0
 how_many (true ∷ cs) = 1 + how_many cs
 how_many (false ∷ cs) = how_many cs
 
-pub exchanges-number : (at : ℕ) (cs : List Bool) (before after : List PlacedLine) → DifferWhereChosen cs before after → length (exchanges at cs after) ≡ how_many cs
+exchanges-number : (at : ℕ) (cs : List Bool) (before after : List PlacedLine) → DifferWhereChosen cs before after → length (exchanges at cs after) ≡ how_many cs
 exchanges-number at [] [] [] d = refl
 exchanges-number at [] [] (new ∷ news) d = absurd d
 exchanges-number at [] (old ∷ olds) news d = absurd d
@@ -79,14 +79,14 @@ exchanges-number at (false ∷ cs) (old ∷ olds) [] d = absurd d
 exchanges-number at (true ∷ cs) (old ∷ olds) (new ∷ news) d = omega (arith, exchanges-number (at + 1) cs olds news d.2)
 exchanges-number at (false ∷ cs) (old ∷ olds) (new ∷ news) d = exchanges-number (at + 1) cs olds news d.1
 
-pub exchanges-held : (at : ℕ) (cs : List Bool) (after : List PlacedLine) → held_by (exchanges at cs after) ≡ length (exchanges at cs after)
+exchanges-held : (at : ℕ) (cs : List Bool) (after : List PlacedLine) → held_by (exchanges at cs after) ≡ length (exchanges at cs after)
 exchanges-held at [] after = refl
 exchanges-held at (true ∷ cs) [] = refl
 exchanges-held at (false ∷ cs) [] = refl
 exchanges-held at (true ∷ cs) (l ∷ ls) = omega (arith, exchanges-held (at + 1) cs ls)
 exchanges-held at (false ∷ cs) (l ∷ ls) = exchanges-held (at + 1) cs ls
 
-pub exchanges-taken : (at : ℕ) (cs : List Bool) (after : List PlacedLine) → taken_by (exchanges at cs after) ≡ length (exchanges at cs after)
+exchanges-taken : (at : ℕ) (cs : List Bool) (after : List PlacedLine) → taken_by (exchanges at cs after) ≡ length (exchanges at cs after)
 exchanges-taken at [] after = refl
 exchanges-taken at (true ∷ cs) [] = refl
 exchanges-taken at (false ∷ cs) [] = refl

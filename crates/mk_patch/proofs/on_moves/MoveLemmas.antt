@@ -4,70 +4,59 @@ use Rattle.std.specs.Prelude.{slice_get}
 use Rattle.std.proofs.lemmas.Grind.{common_steps}
 use Rattle.mk_lines.specs.PhysicalLines.{without_line_end}
 use Rattle.mk_tree.specs.PlacedLines.{PlacedLine, bytes_of_line, is_conditional_places, last_line, size_of, with_last_bytes}
+use Rattle.mk_tree.proofs.on_changes.Sizes.{size_of-removed}
 use Rattle.mk_patch.specs.Moves.{Move, PutIn, TakeOut, Exchange, SwapEnd, FitsMove, FitMoves, IsPlainAt, after_move, after_moves, held_by, held_by_move, taken_by, taken_by_move}
 
 -- ---- one place of a list
 
-pub taken_out-put_in : {X : Type 0} (xs : List X) (at : ℕ) (x : X) → at ≤ length xs → take at (take at xs ++ x ∷ drop at xs) ++ drop (at + 1) (take at xs ++ x ∷ drop at xs) ≡ xs
+taken_out-put_in : {X : Type 0} (xs : List X) (at : ℕ) (x : X) → at ≤ length xs → take at (take at xs ++ x ∷ drop at xs) ++ drop (at + 1) (take at xs ++ x ∷ drop at xs) ≡ xs
 taken_out-put_in xs zero x h = refl
 taken_out-put_in [] (suc at) x h = absurd (omega arith)
 taken_out-put_in (y ∷ xs) (suc at) x h = rw (suc-add at 1) (ap (λ l. y ∷ l) (taken_out-put_in xs at x (omega arith)))
 
-pub put_in-taken_out : {X : Type 0} (xs : List X) (at : ℕ) (x : X) → Some x ≡ slice_get xs at → take at (take at xs ++ drop (at + 1) xs) ++ x ∷ drop at (take at xs ++ drop (at + 1) xs) ≡ xs
+put_in-taken_out : {X : Type 0} (xs : List X) (at : ℕ) (x : X) → Some x ≡ slice_get xs at → take at (take at xs ++ drop (at + 1) xs) ++ x ∷ drop at (take at xs ++ drop (at + 1) xs) ≡ xs
 put_in-taken_out [] at x h = absurd (cc)
 put_in-taken_out (y ∷ xs) zero x h = cc
 put_in-taken_out (y ∷ xs) (suc at) x h = rw (suc-add at 1) (ap (λ l. y ∷ l) (put_in-taken_out xs at x h))
 
-pub exchanged-back : {X : Type 0} (xs : List X) (at : ℕ) (x y : X) → Some x ≡ slice_get xs at → take at (take at xs ++ y ∷ drop (at + 1) xs) ++ x ∷ drop (at + 1) (take at xs ++ y ∷ drop (at + 1) xs) ≡ xs
+exchanged-back : {X : Type 0} (xs : List X) (at : ℕ) (x y : X) → Some x ≡ slice_get xs at → take at (take at xs ++ y ∷ drop (at + 1) xs) ++ x ∷ drop (at + 1) (take at xs ++ y ∷ drop (at + 1) xs) ≡ xs
 exchanged-back [] at x y h = absurd (cc)
 exchanged-back (z ∷ xs) zero x y h = cc
 exchanged-back (z ∷ xs) (suc at) x y h = rw (suc-add at 1) (ap (λ l. z ∷ l) (exchanged-back xs at x y h))
 
-pub get-put : {X : Type 0} (xs rest : List X) (at : ℕ) (x : X) → at ≤ length xs → slice_get (take at xs ++ x ∷ rest) at ≡ Some x
+get-put : {X : Type 0} (xs rest : List X) (at : ℕ) (x : X) → at ≤ length xs → slice_get (take at xs ++ x ∷ rest) at ≡ Some x
 get-put xs rest zero x h = refl
 get-put [] rest (suc at) x h = absurd (omega arith)
 get-put (y ∷ xs) rest (suc at) x h = get-put xs rest at x (omega arith)
 
--- ---- how many bytes there are
-
-pub size_of-taken_out : (ls : List PlacedLine) (at : ℕ) (l : PlacedLine) → Some l ≡ slice_get ls at → size_of (take at ls ++ drop (at + 1) ls) + length l.bytes ≡ size_of ls
-size_of-taken_out [] at l h = absurd (cc)
-size_of-taken_out (y ∷ ls) zero l h = let e : l ≡ y = cc in rw e (omega arith)
-size_of-taken_out (y ∷ ls) (suc at) l h = rw (suc-add at 1) (omega (arith, size_of-taken_out ls at l h))
-
-pub size_of-put_in : (ls : List PlacedLine) (at : ℕ) (l : PlacedLine) → size_of (take at ls ++ l ∷ drop at ls) ≡ size_of ls + length l.bytes
-size_of-put_in ls zero l = omega arith
-size_of-put_in [] (suc at) l = omega arith
-size_of-put_in (y ∷ ls) (suc at) l = omega (arith, size_of-put_in ls at l)
-
 -- ---- the last line with other bytes
 
-pub last-with_bytes : (b : List ℕ) (ls : List PlacedLine) → 0 < length ls → bytes_of_line (last_line (with_last_bytes b ls)) ≡ b
+last-with_bytes : (b : List ℕ) (ls : List PlacedLine) → 0 < length ls → bytes_of_line (last_line (with_last_bytes b ls)) ≡ b
 last-with_bytes b [] h = absurd (omega arith)
 last-with_bytes b (l ∷ []) h = refl
 last-with_bytes b (l ∷ k ∷ []) h = refl
 last-with_bytes b (l ∷ k ∷ m ∷ ls) h = last-with_bytes b (k ∷ m ∷ ls) (omega arith)
 
-pub swapped-back : (b : List ℕ) (ls : List PlacedLine) → with_last_bytes (bytes_of_line (last_line ls)) (with_last_bytes b ls) ≡ ls
+swapped-back : (b : List ℕ) (ls : List PlacedLine) → with_last_bytes (bytes_of_line (last_line ls)) (with_last_bytes b ls) ≡ ls
 swapped-back b [] = refl
 swapped-back b (l ∷ []) = refl
 swapped-back b (l ∷ k ∷ []) = refl
 swapped-back b (l ∷ k ∷ m ∷ ls) = ap (λ z. l ∷ z) (swapped-back b (k ∷ m ∷ ls))
 
-pub length-with_last : (b : List ℕ) (ls : List PlacedLine) → length (with_last_bytes b ls) ≡ length ls
+length-with_last : (b : List ℕ) (ls : List PlacedLine) → length (with_last_bytes b ls) ≡ length ls
 length-with_last b [] = refl
 length-with_last b (l ∷ []) = refl
 length-with_last b (l ∷ k ∷ ls) = ap suc (length-with_last b (k ∷ ls))
 
 -- the last of some lines, by its place
-pub last_line-at : (ls : List PlacedLine) (at : ℕ) → length ls ≡ at + 1 → last_line ls ≡ slice_get ls at
+last_line-at : (ls : List PlacedLine) (at : ℕ) → length ls ≡ at + 1 → last_line ls ≡ slice_get ls at
 last_line-at [] at h = absurd (omega (arith, h))
 last_line-at (l ∷ []) zero h = refl
 last_line-at (l ∷ []) (suc at) h = absurd (omega (arith, h))
 last_line-at (l ∷ k ∷ ls) zero h = absurd (omega (arith, h))
 last_line-at (l ∷ k ∷ ls) (suc at) h = last_line-at (k ∷ ls) at (omega (arith, h))
 
-pub size_of-with_last : (b : List ℕ) (ls : List PlacedLine) → size_of (with_last_bytes b ls) + length (bytes_of_line (last_line ls)) ≤ size_of ls + length b
+size_of-with_last : (b : List ℕ) (ls : List PlacedLine) → size_of (with_last_bytes b ls) + length (bytes_of_line (last_line ls)) ≤ size_of ls + length b
 size_of-with_last b [] = omega arith
 size_of-with_last b (l ∷ []) = omega arith
 size_of-with_last b (l ∷ k ∷ ls) = omega (arith, size_of-with_last b (k ∷ ls))
@@ -96,7 +85,7 @@ put_in-taken_back before after at l f e =
 pub take_out-taken_back : (before after : List PlacedLine) (at : ℕ) (l : PlacedLine) → FitsMove (TakeOut at) before → after ≡ after_move (TakeOut at) before → Some l ≡ slice_get before at → size_of before ≤ 2 ^ 24
     → TakesBack (PutIn at l) before after
 take_out-taken_back before after at l f e h few =
-    let z = size_of-taken_out before at l h in
+    let z = size_of-removed before at l h in
     rw e (record { fits = (grind (arith, common_steps), plain_line before at l h f.1, omega (arith, z, few)); leads = put_in-taken_out before at l h })
 
 pub exchange-taken_back : (before after : List PlacedLine) (at : ℕ) (old new : PlacedLine) → FitsMove (Exchange at new) before → after ≡ after_move (Exchange at new) before → Some old ≡ slice_get before at
@@ -144,11 +133,11 @@ taken_by_move-few (TakeOut at) = omega arith
 taken_by_move-few (Exchange at l) = omega arith
 taken_by_move-few (SwapEnd b) = omega arith
 
-pub held_by-few : (ms : List Move) → held_by ms ≤ length ms
+held_by-few : (ms : List Move) → held_by ms ≤ length ms
 held_by-few [] = omega arith
 held_by-few (m ∷ ms) = omega (arith, held_by_move-few m, held_by-few ms)
 
-pub taken_by-few : (ms : List Move) → taken_by ms ≤ length ms
+taken_by-few : (ms : List Move) → taken_by ms ≤ length ms
 taken_by-few [] = omega arith
 taken_by-few (m ∷ ms) = omega (arith, taken_by_move-few m, taken_by-few ms)
 

@@ -5,6 +5,7 @@ use Rattle.std.specs.Prelude.{slice_get}
 use Rattle.std.proofs.Math.Seq.{take-append_seam, drop-append_seam, drop-append-add}
 use Rattle.mk_lines.specs.PhysicalLines.{without_line_end}
 use Rattle.mk_tree.specs.PlacedLines.{PlacedLine, bytes_of_line, last_line, size_of, with_last_bytes}
+use Rattle.mk_tree.proofs.Places.{size_of-append}
 use Rattle.mk_patch.specs.Moves.{Move, PutIn, TakeOut, Exchange, SwapEnd, FitMoves, IsPlain, IsPlainAt, after_moves, exchanged, held_by, taken_by}
 
 -- moves fit some lines and lead to others
@@ -23,11 +24,11 @@ ArePlain (l ∷ ls) = IsPlain l × ArePlain ls
 
 -- ---- a place between two runs of lines
 
-pub put-between : (above below : List PlacedLine) (l : PlacedLine) (at : ℕ) → at ≡ length above → take at (above ++ below) ++ l ∷ drop at (above ++ below) ≡ above ++ l ∷ below
+put-between : (above below : List PlacedLine) (l : PlacedLine) (at : ℕ) → at ≡ length above → take at (above ++ below) ++ l ∷ drop at (above ++ below) ≡ above ++ l ∷ below
 put-between above below l at e =
     rw e (ap (λ z. z ++ l ∷ drop (length above) (above ++ below)) (take-append_seam above below) ∙ ap (λ z. above ++ l ∷ z) (drop-append_seam above below))
 
-pub taken-between : (above below : List PlacedLine) (l : PlacedLine) (at : ℕ) → at ≡ length above → take at (above ++ l ∷ below) ++ drop (at + 1) (above ++ l ∷ below) ≡ above ++ below
+taken-between : (above below : List PlacedLine) (l : PlacedLine) (at : ℕ) → at ≡ length above → take at (above ++ l ∷ below) ++ drop (at + 1) (above ++ l ∷ below) ≡ above ++ below
 taken-between above below l at e =
     rw e (ap (λ z. z ++ drop (length above + 1) (above ++ l ∷ below)) (take-append_seam above (l ∷ below)) ∙ ap (λ z. above ++ z) (drop-append-add above (l ∷ below) 1))
 
@@ -48,12 +49,6 @@ plain-between above below l at e p = rw (get-between above below l at e) p
 pub within-between : (above below : List PlacedLine) (l : PlacedLine) (at : ℕ) → at ≡ length above → at < length (above ++ l ∷ below)
 within-between above below l at e = omega (arith, length-append above (l ∷ below), e)
 
--- ---- sizes
-
-pub size_of-append : (a b : List PlacedLine) → size_of (a ++ b) ≡ size_of a + size_of b
-size_of-append [] b = omega arith
-size_of-append (l ∷ a) b = omega (arith, size_of-append a b)
-
 -- ---- a line put in, and one exchanged
 
 pub put_in-leads : (above below : List PlacedLine) (l : PlacedLine) (at : ℕ) → at ≡ length above → IsPlain l → size_of (above ++ l ∷ below) ≤ 2 ^ 24 → LeadTo (PutIn at l ∷ []) (above ++ below) (above ++ l ∷ below)
@@ -70,17 +65,17 @@ exchange-leads above below old new at e p q few =
 
 -- ---- a last line with another line end
 
-pub last-ended : (above : List PlacedLine) (last : PlacedLine) (b : List ℕ) → with_last_bytes b (above ++ last ∷ []) ≡ above ++ record last { bytes = b } ∷ []
+last-ended : (above : List PlacedLine) (last : PlacedLine) (b : List ℕ) → with_last_bytes b (above ++ last ∷ []) ≡ above ++ record last { bytes = b } ∷ []
 last-ended [] last b = refl
 last-ended (x ∷ []) last b = refl
 last-ended (x ∷ y ∷ above) last b = ap (λ z. x ∷ z) (last-ended (y ∷ above) last b)
 
-pub last-of : (above : List PlacedLine) (last : PlacedLine) → last_line (above ++ last ∷ []) ≡ Some last
+last-of : (above : List PlacedLine) (last : PlacedLine) → last_line (above ++ last ∷ []) ≡ Some last
 last-of [] last = refl
 last-of (x ∷ []) last = refl
 last-of (x ∷ y ∷ above) last = last-of (y ∷ above) last
 
-pub swap_end-leads : (above : List PlacedLine) (last : PlacedLine) (b : List ℕ) → 0 < length b → without_line_end b ≡ without_line_end last.bytes → size_of (above ++ record last { bytes = b } ∷ []) ≤ 2 ^ 24
+swap_end-leads : (above : List PlacedLine) (last : PlacedLine) (b : List ℕ) → 0 < length b → without_line_end b ≡ without_line_end last.bytes → size_of (above ++ record last { bytes = b } ∷ []) ≤ 2 ^ 24
     → LeadTo (SwapEnd b ∷ []) (above ++ last ∷ []) (above ++ record last { bytes = b } ∷ [])
 swap_end-leads above last b some same few =
     let x = last-ended above last b in

@@ -1,21 +1,21 @@
 -- Lines of a text moved: the shapes of patches, where the lines of a document are those of a text.
-use Rattle.std.proofs.Common.{◌≡◌, refl, sym, ap, ◌∙◌, arith, ℕ, ◌+◌, ◌^◌, ◌<◌, ◌≤◌, List, [], ◌∷◌, ◌++◌, Bool, true, false, not, length, length-append, replicate}
+use Rattle.std.proofs.Common.{◌≡◌, refl, sym, ap, ◌∙◌, arith, ℕ, ◌+◌, ◌^◌, ◌<◌, ◌≤◌, List, [], ◌∷◌, ◌++◌, true, not, length, replicate}
 use Rattle.std.proofs.lemmas.List.{map-append, length-map}
+use Rattle.std.proofs.lemmas.Bool.{not-true}
 use Rattle.mk_lines.specs.Cells.{Cell, joined_byte}
 use Rattle.mk_lines.specs.PhysicalLines.{without_line_end}
 use Rattle.mk_class.specs.Classes.{Class, is_conditional}
 use Rattle.mk_class.specs.Classes.Class.{Endef, Body, Recipe, Opaque, Blank, Comment, Assign, DefineHead, If, Else, Endif, Directive, TargetAssign, Rough, Header}
 use Rattle.mk_class.specs.ClassPlaces.{class_places}
 use Rattle.mk_class.specs.ClassedLines.{ClassedLine}
-use Rattle.mk_tree.specs.PlacedLines.{PlacedLine, placed_line, placed_lines, placed_text, size_of, is_conditional_places}
-use Rattle.mk_tree.specs.LineTexts.{text_of}
+use Rattle.mk_tree.specs.PlacedLines.{placed_line, placed_lines, size_of, is_conditional_places}
 use Rattle.mk_tree.specs.Documents.{AreUnconditional}
 use Rattle.mk_patch.specs.Moves.{PutIn, TakeOut, Exchange, SwapEnd, IsPlain}
 use Rattle.mk_patch.proofs.on_moves.ShapeLemmas.{LeadTo, same-lead, ArePlain, put_in-leads, exchange-leads, ended-put_in-leads, run-leads}
 
 -- ---- lines of no conditional, as a document shows them
 
-pub conditional-placed : (k : Class Cell) → is_conditional_places (class_places joined_byte k) ≡ is_conditional k
+conditional-placed : (k : Class Cell) → is_conditional_places (class_places joined_byte k) ≡ is_conditional k
 conditional-placed Endef = refl
 conditional-placed (Body d) = refl
 conditional-placed Recipe = refl
@@ -32,26 +32,12 @@ conditional-placed (TargetAssign t) = refl
 conditional-placed Rough = refl
 conditional-placed (Header x) = refl
 
-not-false : (b : Bool) → not b ≡ true → b ≡ false
-not-false true h = cc
-not-false false h = refl
-
 pub plain-placed : (l : ClassedLine) → not (is_conditional l.class) ≡ true → IsPlain (placed_line l)
-plain-placed l h = conditional-placed l.class ∙ not-false (is_conditional l.class) h
+plain-placed l h = conditional-placed l.class ∙ not-true (is_conditional l.class) h
 
-pub plain-placed_lines : (ls : List ClassedLine) → AreUnconditional ls → ArePlain (placed_lines ls)
+plain-placed_lines : (ls : List ClassedLine) → AreUnconditional ls → ArePlain (placed_lines ls)
 plain-placed_lines [] u = tt
 plain-placed_lines (l ∷ ls) u = (plain-placed l u.0, plain-placed_lines ls u.1)
-
--- ---- how many bytes they have
-
-pub size_of-placed : (ls : List ClassedLine) → size_of (placed_lines ls) ≡ length (text_of ls)
-size_of-placed [] = refl
-size_of-placed (l ∷ ls) = ap (λ n. length l.bytes + n) (size_of-placed ls) ∙ sym (length-append l.bytes (text_of ls))
-
-pub size_of-text : (ls : List PlacedLine) → size_of ls ≡ length (placed_text ls)
-size_of-text [] = refl
-size_of-text (l ∷ ls) = ap (λ n. length l.bytes + n) (size_of-text ls) ∙ sym (length-append l.bytes (placed_text ls))
 
 -- ---- the shapes
 

@@ -4,8 +4,9 @@ use Rattle.std.specs.Prelude.{Option, Result, Ok, Err, OnOk}
 use Rattle.std.specs.Io.KnownBytes.{Appends}
 use Rattle.std.proofs.KnownBytes.{Appends-nil}
 use Rattle.mk_lines.specs.Device.{AppendsPrefix}
+use Rattle.mk_lines.proofs.PrefixLemmas.{AppendsPrefix-front}
 use Rattle.mk_tree.specs.Printing.{AppendsSoFar}
-use Rattle.mk_tree.proofs.Prefixes.{AppendsPrefix-front, AppendsPrefix-whole, so_far-more, so_far-prefix, so_far-whole, so_far-end}
+use Rattle.mk_tree.proofs.Prefixes.{AppendsPrefix-whole, so_far-more, so_far-prefix, so_far-whole, so_far-end}
 
 -- nothing was put
 pub put-nothing : (a : Option (List ℕ)) (held text : List ℕ) → text ≡ [] → AppendsSoFar a a (held ++ text) held

@@ -2,8 +2,8 @@
 use Rattle.std.proofs.Common.{◌≡◌, refl, sym, ap, ◌∙◌, subst, ℕ, List, [], ◌∷◌, ◌++◌, append-nil, append_assoc}
 use Rattle.std.specs.Prelude.{Option, codes}
 use Rattle.mk_lines.specs.Device.{AppendsPrefix}
+use Rattle.mk_lines.specs.Words.{words_in}
 use Rattle.mk_tree.specs.Printing.{AppendsSoFar}
-use Rattle.mk_queries.specs.PlacedTexts.{words_in}
 use Rattle.mk_queries.specs.Spacing.{each_after_space, each_before_space}
 use Rattle.mk_queries.proofs.on_gathering.PutLemmas.{put-both, put-first_failed, put-second_failed, put-prefix}
 

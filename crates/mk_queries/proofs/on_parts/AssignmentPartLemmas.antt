@@ -7,6 +7,7 @@ use Rattle.mk_lines.specs.Lists.{concat}
 use Rattle.mk_lines.specs.Cells.{Cell, joined_byte, joined_text, line_cells}
 use Rattle.mk_lines.specs.Ranges.{text_at}
 use Rattle.mk_lines.specs.Units.{units}
+use Rattle.mk_lines.specs.Words.{words_in}
 use Rattle.mk_class.specs.CutTexts.{cut_text, comment, is_no_hash}
 use Rattle.mk_class.specs.Texts.{unit_text, word_texts}
 use Rattle.mk_class.specs.Assignments.{Assignment}
@@ -22,9 +23,9 @@ use Rattle.mk_class.specs.Contexts.{Context}
 use Rattle.mk_class.specs.RecipePrefix.{is_prefix_led}
 use Rattle.mk_class.specs.PartPlaces.{IsPart}
 use Rattle.mk_class.specs.LineParts.{IsAssignmentPlaced, IsTargetAssignmentPlaced, ArePartsPlaced}
-use Rattle.mk_class.proofs.on_classes.ClassHolds.{IsAssign, IsTarget, Holds, class_at-holds}
+use Rattle.mk_class.proofs.on_classes.ClassHolds.{IsAssign, IsTarget, holds-as}
 use Rattle.mk_class.proofs.on_classes.FirstWordLemmas.{text_words-words}
-use Rattle.mk_class.proofs.on_classes.LinePartLemmas.{line-parts_placed}
+use Rattle.mk_class.proofs.on_classes.LinePartLemmas.{line-parts_placed, target-placed}
 use Rattle.mk_class.proofs.on_classes.PartPlaceLemmas.{part-is, width-append}
 use Rattle.mk_class.specs.declared.assignment.Assignment as places
 use Rattle.mk_class.specs.declared.assignment.TargetAssignment as target_places
@@ -32,20 +33,15 @@ use Rattle.mk_class.specs.declared.rule.Separator.{Separator}
 use Rattle.mk_class.specs.declared.rule.Separator.TheVariants.{SingleColon, DoubleColon, GroupedColon, GroupedDoubleColon}
 use Rattle.mk_class.specs.declared.class.Class as class
 use Rattle.mk_class.specs.declared.class.Class.TheVariants as variants
+use Rattle.mk_class.specs.OperatorTexts.{operator_text, separator_text}
 use Rattle.mk_tree.specs.Items.{assigned, items_of_line}
-use Rattle.mk_tree.specs.PlacedLines.{PlacedLine}
+use Rattle.mk_tree.specs.PlacedLines.{PlacedLine, text_of_line}
 use Rattle.mk_queries.specs.Spacing.{each_before_space, after_space}
-use Rattle.mk_queries.specs.PartTexts.{modifier_text, operator_text, separator_text, assigned_text, targets_text}
+use Rattle.mk_queries.specs.PartTexts.{modifier_text, assigned_text, targets_text}
 use Rattle.mk_queries.specs.ItemLines.{place_text, variable_line}
-use Rattle.mk_queries.specs.PlacedTexts.{IsClassedIn, IsAssignmentWithin, text_of_line, words_in, words_at, assigned_placed, assigned_start, target_assigned_placed, variable_placed}
+use Rattle.mk_queries.specs.PlacedTexts.{IsClassedIn, IsAssignmentWithin, words_at, assigned_placed, assigned_start, target_assigned_placed, variable_placed}
 use Rattle.mk_queries.proofs.on_parts.ModifierLemmas.{HasModifiers, assignment-modifiers}
 use Rattle.mk_queries.proofs.on_parts.ColonLemmas.{target-wide}
-
--- what the class of a line in a context says of the line
-pub line-holds : (c : Context) (l : List ℕ) → Holds joined_byte (units joined_byte (line_cells l)) (is_prefix_led c.prefix l) (nat_lt 0 c.conditionals) (is_unreadable (line_cells l)) (class_of c l)
-line-holds c l =
-    let cs = line_cells l in
-    class_at-holds joined_byte (units joined_byte cs) (is_prefix_led c.prefix l) (nat_lt 0 c.conditionals) (is_unreadable cs) c.defines c.flag
 
 -- the words of a part
 pub words-part : (cs : List Cell) (start end : ℕ) (before part : List (List Cell)) → IsPart cs start end before part → words_at (joined_text cs) start end ≡ word_texts joined_byte part
@@ -119,13 +115,6 @@ target-seen cs led c un t i s =
 
 -- ---- what the code sees
 
--- what is known of a line of a class
-abbrev HoldsOf : Context → List ℕ → Class Cell → Type 0
-HoldsOf c l k = Holds joined_byte (units joined_byte (line_cells l)) (is_prefix_led c.prefix l) (nat_lt 0 c.conditionals) (is_unreadable (line_cells l)) k
-
-holds-as : (c : Context) (l : List ℕ) (k : Class Cell) → class_of c l ≡ k → HoldsOf c l k
-holds-as c l k e = subst (HoldsOf c l) e (line-holds c l)
-
 -- an assignment
 assign-at : (c : Context) (l : List ℕ) (a : Assignment Cell) (p : Option ℕ) → class_of c l ≡ Assign a p → IsSeen (line_cells l) 0 (assignment_places 0 a) [] a
 assign-at c l a p e =
@@ -135,17 +124,8 @@ assign-at c l a p e =
     let g : s.0 ≡ a = cc in
     assign-seen cs (is_prefix_led c.prefix l) (nat_lt 0 c.conditionals) (is_unreadable cs) a p (holds-as c l (Assign a p) e) (subst (λ (z : Assignment Cell). IsAssignmentPlaced cs (assignment_places 0 a) [] z) g s.2)
 
--- an assignment for targets
-target-places : (c : Context) (l : List ℕ) (t : TargetAssignment Cell) → class_of c l ≡ TargetAssign t → IsTargetAssignmentPlaced (line_cells l) (target_assignment_places t) t
-target-places c l t e =
-    let cs = line_cells l in
-    let s : ArePartsPlaced cs (class_of c l) (variants.TargetAssign (target_assignment_places t)) = line-parts_placed c l (variants.TargetAssign (target_assignment_places t)) (ap (class_places joined_byte) (sym e)) in
-    let f : TargetAssign s.0 ≡ TargetAssign t = sym s.1 ∙ e in
-    let g : s.0 ≡ t = cc in
-    subst (λ (z : TargetAssignment Cell). IsTargetAssignmentPlaced cs (target_assignment_places t) z) g s.2
-
 target-at : (c : Context) (l : List ℕ) (t : TargetAssignment Cell) → class_of c l ≡ TargetAssign t → IsSeen (line_cells l) (assigned_start (target_assignment_places t)) (target_assignment_places t).assignment (t.targets ++ t.colons) t.assigned
-target-at c l t e = target-seen (line_cells l) (is_prefix_led c.prefix l) (nat_lt 0 c.conditionals) (is_unreadable (line_cells l)) t (holds-as c l (TargetAssign t) e) (target-places c l t e)
+target-at c l t e = target-seen (line_cells l) (is_prefix_led c.prefix l) (nat_lt 0 c.conditionals) (is_unreadable (line_cells l)) t (holds-as c l (TargetAssign t) e) (target-placed c l t e)
 
 -- its parts stand in the joined text
 pub assign-within : (c : Context) (l : PlacedLine) (at : places.Assignment) (p : Option ℕ) → IsClassedIn c l → l.class ≡ variants.Assign at p → IsAssignmentWithin (length (text_of_line l)) 0 at
@@ -168,7 +148,7 @@ target-within c l at h e = go (class_of c l.bytes) refl (sym e ∙ h)
     go (TargetAssign t) i f =
         let g : target_assignment_places t ≡ at = cc in
         let n : length (text_of_line l) ≡ length (line_cells l.bytes) = length-map (line_cells l.bytes) joined_byte in
-        let s = target-places c l.bytes t i in
+        let s = target-placed c l.bytes t i in
         subst (λ (z : target_places.TargetAssignment). IsTargetAssignmentWithin (length (text_of_line l)) z) g (
         record {
           targets = omega (arith, n, s.targets.within);
@@ -187,7 +167,7 @@ variable-item n d c l (TargetAssign t) e =
     let cs = line_cells l in
     let at = target_assignment_places t in
     let ts = word_texts joined_byte t.targets in
-    ap (λ z. place_text n d ++ (targets_text z t.separator ++ (codes " " ++ assigned_placed (joined_text cs) (assigned_start at) at.assignment))) (words-part cs 0 at.targets_end [] t.targets (target-places c l t e).targets)
+    ap (λ z. place_text n d ++ (targets_text z t.separator ++ (codes " " ++ assigned_placed (joined_text cs) (assigned_start at) at.assignment))) (words-part cs 0 at.targets_end [] t.targets (target-placed c l t e).targets)
     ∙ (ap (λ z. place_text n d ++ (targets_text ts t.separator ++ (codes " " ++ z))) (assigned-seen cs (assigned_start at) at.assignment (t.targets ++ t.colons) t.assigned (target-at c l t e))
     ∙ sym (append-nil (place_text n d ++ (targets_text ts t.separator ++ (codes " " ++ assigned_text (assigned t.assigned))))))
 variable-item n d c l Endef e = refl

@@ -5,6 +5,7 @@ use Rattle.std.proofs.lemmas.List.{length-map}
 use Rattle.mk_lines.specs.Cells.{Cell, joined_byte, joined_text, line_cells}
 use Rattle.mk_lines.specs.Ranges.{text_at}
 use Rattle.mk_lines.specs.declared.split.Span.{Span}
+use Rattle.mk_lines.specs.Words.{words_in}
 use Rattle.mk_class.specs.Texts.{word_texts}
 use Rattle.mk_class.specs.Headers
 use Rattle.mk_class.specs.Headers.{inline_recipe}
@@ -14,27 +15,18 @@ use Rattle.mk_class.specs.ClassPlaces.{class_places, header_places, is_some}
 use Rattle.mk_class.specs.ClassTable.{class_of}
 use Rattle.mk_class.specs.Contexts.{Context}
 use Rattle.mk_class.specs.PartPlaces.{IsPart}
-use Rattle.mk_class.specs.LineParts.{IsHeaderPlaced, ArePartsPlaced}
-use Rattle.mk_class.proofs.on_classes.LinePartLemmas.{line-parts_placed}
+use Rattle.mk_class.specs.LineParts.{IsHeaderPlaced, normal_span, order_only_span}
+use Rattle.mk_class.proofs.on_classes.LinePartLemmas.{header-placed}
 use Rattle.mk_class.specs.declared.rule.Header as header
 use Rattle.mk_class.specs.declared.class.Class as class
 use Rattle.mk_class.specs.declared.class.Class.TheVariants as variants
 use Rattle.mk_tree.specs.Items.{raw_units}
-use Rattle.mk_tree.specs.PlacedLines.{PlacedLine}
+use Rattle.mk_tree.specs.PlacedLines.{PlacedLine, text_of_line}
 use Rattle.mk_queries.specs.Spacing.{each_after_space}
 use Rattle.mk_queries.specs.PartTexts.{targets_text, pattern_text, order_only_text, inline_count}
 use Rattle.mk_queries.specs.ItemLines.{place_text}
-use Rattle.mk_queries.specs.PlacedTexts.{IsClassedIn, IsSpanWithin, IsHeaderWithin, text_of_line, words_in, pattern_span, normal_span, order_only_span, header_placed, count_placed, rule_placed}
+use Rattle.mk_queries.specs.PlacedTexts.{IsClassedIn, IsSpanWithin, IsHeaderWithin, pattern_span, header_placed, count_placed, rule_placed}
 use Rattle.mk_queries.proofs.on_parts.AssignmentPartLemmas.{words-part}
-
--- where the parts of a header stand
-header-places_are : (c : Context) (l : List ℕ) (x : Headers.Header Cell) → class_of c l ≡ Header x → IsHeaderPlaced (line_cells l) (header_places joined_byte x) x
-header-places_are c l x e =
-    let cs = line_cells l in
-    let s : ArePartsPlaced cs (class_of c l) (variants.Header (header_places joined_byte x)) = line-parts_placed c l (variants.Header (header_places joined_byte x)) (ap (class_places joined_byte) (sym e)) in
-    let f : Header s.0 ≡ Header x = sym s.1 ∙ e in
-    let g : s.0 ≡ x = cc in
-    subst (λ (z : Headers.Header Cell). IsHeaderPlaced cs (header_places joined_byte x) z) g s.2
 
 span-within : (cs : List Cell) (s : Span) (before part : List (List Cell)) → IsPart cs s.start s.end before part → IsSpanWithin (length (joined_text cs)) s
 span-within cs s before part h = let n : length (joined_text cs) ≡ length cs = length-map cs joined_byte in record { rises = h.rises; within = omega (arith, n, h.within) }
@@ -56,7 +48,7 @@ header-within c l at h e = go (class_of c l.bytes) refl (sym e ∙ h)
     go : (k : Class Cell) → class_of c l.bytes ≡ k → variants.Header at ≡ class_places joined_byte k → IsHeaderWithin (length (text_of_line l)) at
     go (Header x) i f =
         let g : header_places joined_byte x ≡ at = cc in
-        subst (λ (z : header.Header). IsHeaderWithin (length (text_of_line l)) z) g (placed-within (line_cells l.bytes) (header_places joined_byte x) x (header-places_are c l.bytes x i))
+        subst (λ (z : header.Header). IsHeaderWithin (length (text_of_line l)) z) g (placed-within (line_cells l.bytes) (header_places joined_byte x) x (header-placed c l.bytes x i))
     go k i f = absurd (cc)
 
 -- the text of a header
@@ -67,7 +59,7 @@ header-seen c l x e =
     let cs = line_cells l in
     let t = joined_text cs in
     let at = header_places joined_byte x in
-    let s = header-places_are c l x e in
+    let s = header-placed c l x e in
     let ts = word_texts joined_byte x.targets in
     let ps = word_texts joined_byte x.pattern in
     let ns = word_texts joined_byte x.normal in

@@ -1,7 +1,6 @@
 -- The modifiers of an assignment are the words before its name.
-use Rattle.std.proofs.Common.{◌≡◌, refl, sym, ap, ◌∙◌, subst, ℕ, List, [], ◌∷◌, ◌++◌, map, Bool, true, false, ◌==◌, ◌&&◌, if◌then◌else◌, Option, Some, None}
+use Rattle.std.proofs.Common.{◌≡◌, refl, sym, ap, ◌∙◌, subst, ℕ, List, [], ◌∷◌, ◌++◌, map, Bool, true, false, if◌then◌else◌, Option, Some, None}
 use Rattle.std.specs.Prelude.{codes}
-use Rattle.std.proofs.lemmas.Bool.{eqb-true}
 use Rattle.mk_lines.specs.Lists.{leading}
 use Rattle.mk_lines.specs.Words.{Token, Gap, Word, tokens, before_tokens, token_words, token_units, is_word_first, is_gap, IsWord, AreTokens}
 use Rattle.mk_lines.proofs.on_units.TokenLemmas.{tokens-word, tokens-are_tokens}
@@ -10,17 +9,8 @@ use Rattle.mk_class.specs.Assignments.{Assignment, blanks, defined_by, definitio
 use Rattle.mk_class.specs.declared.assignment.Flavor.{Flavor}
 use Rattle.mk_class.specs.declared.assignment.Modifier.{Modifier}
 use Rattle.mk_class.specs.declared.assignment.Modifier.TheVariants.{Override, Export, Private}
+use Rattle.mk_class.proofs.WordLemmas.{same_text-is}
 use Rattle.mk_queries.specs.PartTexts.{modifier_text}
-
-same-text : (x y : List ℕ) → is_same_text x y ≡ true → x ≡ y
-same-text [] [] h = refl
-same-text [] (b ∷ y) h = cc
-same-text (a ∷ x) [] h = cc
-same-text (a ∷ x) (b ∷ y) h = go (a == b) refl h (same-text x y)
-  where
-    go : (q : Bool) → (a == b) ≡ q → (q && is_same_text x y) ≡ true → (is_same_text x y ≡ true → x ≡ y) → a ∷ x ≡ b ∷ y
-    go true e h ih = ap (λ z. z ∷ x) (eqb-true a b e) ∙ ap (λ z. b ∷ z) (ih h)
-    go false e h ih = cc
 
 module _ {A : Type 0} (byte : A → ℕ) where
   -- the word that a modifier is
@@ -29,9 +19,9 @@ module _ {A : Type 0} (byte : A → ℕ) where
     where
       go : (o e p : Bool) → is_same_text (unit_text byte w) (codes "override") ≡ o → is_same_text (unit_text byte w) (codes "export") ≡ e → is_same_text (unit_text byte w) (codes "private") ≡ p
           → (if o then Some Override else if e then Some Export else if p then Some Private else None) ≡ Some m → unit_text byte w ≡ modifier_text m
-      go true e p i j k h = let s : Override ≡ m = cc in same-text (unit_text byte w) (codes "override") i ∙ ap modifier_text s
-      go false true p i j k h = let s : Export ≡ m = cc in same-text (unit_text byte w) (codes "export") j ∙ ap modifier_text s
-      go false false true i j k h = let s : Private ≡ m = cc in same-text (unit_text byte w) (codes "private") k ∙ ap modifier_text s
+      go true e p i j k h = let s : Override ≡ m = cc in same_text-is (unit_text byte w) (codes "override") i ∙ ap modifier_text s
+      go false true p i j k h = let s : Export ≡ m = cc in same_text-is (unit_text byte w) (codes "export") j ∙ ap modifier_text s
+      go false false true i j k h = let s : Private ≡ m = cc in same_text-is (unit_text byte w) (codes "private") k ∙ ap modifier_text s
       go false false false i j k h = absurd (cc)
 
   -- the words before the name are the modifiers

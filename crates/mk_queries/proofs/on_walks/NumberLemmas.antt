@@ -23,15 +23,6 @@ line_feeds-append (b ∷ x) y = go (b == 10) (line_feeds-append x y)
     go true h = omega (arith, h)
     go false h = h
 
--- the line feeds of a text are no more than its bytes
-pub line_feeds-few : (t : List ℕ) → line_feeds t ≤ length t
-line_feeds-few [] = omega arith
-line_feeds-few (b ∷ t) = go (b == 10) (line_feeds-few t)
-  where
-    go : (q : Bool) → line_feeds t ≤ length t → (if q then 1 + line_feeds t else line_feeds t) ≤ suc (length t)
-    go true h = omega (arith, h)
-    go false h = omega (arith, h)
-
 -- the last byte, where there is one, is a line feed
 abbrev LastIsLineFeed : List ℕ → Type 0
 LastIsLineFeed [] = Unit {0}

@@ -15,17 +15,17 @@ use Rattle.mk_class.specs.Contexts.{Context, start, context_after_places}
 use Rattle.mk_class.specs.declared.class.Class as class
 use Rattle.mk_class.specs.declared.class.Class.TheVariants as variants
 use Rattle.mk_tree.specs.Items.{Item, items_of_line, raw_units}
-use Rattle.mk_tree.specs.LineTexts.{context_of}
+use Rattle.mk_tree.specs.LineTexts.{context_of, StandingLine}
 use Rattle.mk_tree.specs.RecipeLines.{stays_in_rule, rule_lines, recipe_lines}
 use Rattle.mk_tree.specs.Documents.{IsFaithful}
-use Rattle.mk_tree.specs.PlacedLines.{PlacedLine, placed_line, placed_lines, placed_text}
+use Rattle.mk_tree.specs.PlacedLines.{PlacedLine, placed_line, placed_lines, placed_text, text_of_line}
 use Rattle.mk_tree.specs.Walks.{LinesInContext}
 use Rattle.mk_tree.proofs.on_documents.LinePlaces.{located, context_of-last}
-use Rattle.mk_queries.specs.StandingLines.{StandingLine, standing_below, line_number, depth, recipe_count}
+use Rattle.mk_queries.specs.StandingLines.{standing_below, line_number, depth, recipe_count}
 use Rattle.mk_queries.specs.Spacing.{each_after_space}
 use Rattle.mk_queries.specs.PartTexts.{targets_text, pattern_text, order_only_text, count_text, inline_count}
 use Rattle.mk_queries.specs.ItemLines.{place_text, rule_line}
-use Rattle.mk_queries.specs.PlacedTexts.{text_of_line, header_placed, count_placed, rule_placed, counted_after, count_of, one_more}
+use Rattle.mk_queries.specs.PlacedTexts.{header_placed, count_placed, rule_placed, counted_after, count_of, one_more}
 use Rattle.mk_queries.specs.Queries.{said_of_lines, rules_text}
 use Rattle.mk_queries.specs.Walks.{line_feeds, rules_ahead}
 use Rattle.mk_queries.proofs.on_parts.HeaderPartLemmas.{header-seen, inline-counted}

@@ -6,11 +6,11 @@ use Rattle.mk_class.specs.Contexts.{Context, start, context_after_places}
 use Rattle.mk_class.specs.ClassTable.{class_of}
 use Rattle.mk_class.specs.ClassedLines.{ClassedLine, classed_lines}
 use Rattle.mk_tree.specs.Items.{Item, items_of_line}
-use Rattle.mk_tree.specs.LineTexts.{text_of, context_of}
+use Rattle.mk_tree.specs.LineTexts.{text_of, context_of, StandingLine}
 use Rattle.mk_tree.specs.PlacedLines.{PlacedLine, placed_line, placed_lines, placed_text}
 use Rattle.mk_tree.specs.Documents.{IsFaithful}
 use Rattle.mk_tree.proofs.on_documents.LinePlaces.{LinePlace, located, text_of-append, context_of-last}
-use Rattle.mk_queries.specs.StandingLines.{StandingLine, standing_below, standing_lines, line_number}
+use Rattle.mk_queries.specs.StandingLines.{standing_below, standing_lines, line_number}
 use Rattle.mk_queries.specs.Queries.{said_of_lines}
 use Rattle.mk_queries.specs.Walks.{line_feeds, said_ahead}
 use Rattle.mk_queries.proofs.on_walks.NumberLemmas.{length-physical_lines, line_feeds-append}
@@ -31,7 +31,7 @@ number-next t above l m ms h =
     omega (arith, length-physical_lines (text_of above) a.begins, length-physical_lines (text_of (above ++ l ∷ [])) b.begins, f)
 
 -- what a walk says of a line is what is said of it where it stands, in its class
-abbrev pub SaysAs : (ℕ → Context → PlacedLine → List ℕ) → (StandingLine → Item → List ℕ) → Type 0
+abbrev SaysAs : (ℕ → Context → PlacedLine → List ℕ) → (StandingLine → Item → List ℕ) → Type 0
 SaysAs f say = (s : StandingLine) → class_of (context_of s.above) s.line.bytes ≡ s.line.class → f (line_number s) (context_of s.above) (placed_line s.line) ≡ concat (map (say s) (items_of_line s.line.class s.line.bytes))
 
 module _ (f : ℕ → Context → PlacedLine → List ℕ) (say : StandingLine → Item → List ℕ) (same : SaysAs f say) (t : List ℕ) where
@@ -48,7 +48,7 @@ module _ (f : ℕ → Context → PlacedLine → List ℕ) (say : StandingLine �
       ∙ (ap (λ c. said_ahead f (number_below (above ++ l ∷ [])) c (placed_lines (m ∷ ms))) (sym (context_of-last above l)) ∙ ih))
 
   -- of all lines of the text
-  pub said-lines : said_ahead f 1 start (placed_lines (classed_lines t)) ≡ said_of_lines say (standing_lines t)
+  said-lines : said_ahead f 1 start (placed_lines (classed_lines t)) ≡ said_of_lines say (standing_lines t)
   said-lines = said-below [] (classed_lines t) refl
 
 -- of a faithful document

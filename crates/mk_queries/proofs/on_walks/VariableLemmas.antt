@@ -5,12 +5,12 @@ use Rattle.mk_class.specs.ClassPlaces.{class_places}
 use Rattle.mk_class.specs.ClassedLines.{ClassedLine, classed_lines}
 use Rattle.mk_class.specs.Contexts.{Context, start, context_after, context_after_places}
 use Rattle.mk_tree.specs.Documents.{IsFaithful}
-use Rattle.mk_tree.specs.PlacedLines.{PlacedLine, placed_lines, placed_text}
+use Rattle.mk_tree.specs.PlacedLines.{PlacedLine, placed_lines, placed_text, text_of_line}
 use Rattle.mk_tree.specs.Walks.{LinesInContext}
 use Rattle.mk_tree.proofs.on_documents.LinePlaces.{AreClassed, AreClassed-class, AreClassed-tail, AreClassed-lines}
 use Rattle.mk_queries.specs.StandingLines.{line_number, depth}
 use Rattle.mk_queries.specs.ItemLines.{variable_line}
-use Rattle.mk_queries.specs.PlacedTexts.{IsClassedIn, text_of_line, variable_placed}
+use Rattle.mk_queries.specs.PlacedTexts.{IsClassedIn, variable_placed}
 use Rattle.mk_queries.specs.Queries.{vars_text}
 use Rattle.mk_queries.specs.Walks.{line_feeds, variables_ahead}
 use Rattle.mk_queries.proofs.on_parts.AssignmentPartLemmas.{variable-item}

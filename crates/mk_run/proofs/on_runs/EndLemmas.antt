@@ -19,10 +19,6 @@ ended-is (Err r) old new done refused same = go (answer End old) refl refused
     go (Ok s) h told = absurd told
     go (Err q) h told = same ∙ sym (ap (shown_or old) h)
 
--- a text that is out stays out when it is flushed
-pub out-flushed : (a b c : Option (List ℕ)) (text : List ℕ) → Appends a b text → Keeps b c → Appends a c text
-out-flushed a b c text out kept = Appends-kept a b c text out kept
-
 pub flushed-whole : {E : Type 0} (result : Result (Unit {0}) E) (a b c : Option (List ℕ)) (text : List ℕ) → Appends a b text → Keeps b c → OnOk result (Appends a c text)
-flushed-whole (Ok u) a b c text out kept = out-flushed a b c text out kept
+flushed-whole (Ok u) a b c text out kept = Appends-kept a b c text out kept
 flushed-whole (Err e) a b c text out kept = tt

@@ -4,7 +4,7 @@ use Rattle.std.specs.Prelude.{Result, IfSome}
 use Rattle.mk_edit_laws.specs.Edits.{Edit}
 use Rattle.mk_edit_laws.specs.declared.refusal.Refusal.{Refusal}
 use Rattle.mk_history.specs.Machine as machine
-use Rattle.mk_history.specs.Machine.{Command, Apply, Undo, Redo, Begin, End, Cancel, opened, replay}
+use Rattle.mk_history.specs.Machine.{Command, Apply, Undo, Redo, Begin, End, Cancel, replay}
 use Rattle.mk_history.specs.Shown.{Shown, shown_opened, shown_ended}
 use Rattle.mk_history.specs.Steps.{Granted, Refused, NoMemory}
 use Rattle.mk_session.specs.Sessions.{Seen, seen_opened, answer, edited}
@@ -63,7 +63,7 @@ do-as_stated (call ∷ calls) x z h = (h.0.shown, does-as_stated call x h.0 h.1.
 -- ---- undoing all
 
 -- the replies to commands that are all `undo`
-pub record AreReplies (calls : List Call) (number : ℕ) : Type 0 where
+record AreReplies (calls : List Call) (number : ℕ) : Type 0 where
   pub replies : List Reply
   pub calls_are : calls ≡ map (λ reply. (Undo, reply)) replies
   pub number_is : length replies ≡ number
@@ -147,9 +147,6 @@ module _ (makefile script : List ℕ) (depth : ℕ) (k : Bool) (commands : List 
 -- ---- the headline
 
 module _ (makefile : List ℕ) (depth : ℕ) (k : Bool) (commands : List CommandAt) where
-  first : Shown (List ℕ)
-  first = shown_opened depth makefile
-
   last : Shown (List ℕ)
   last = (obeyed k commands (shown_opened depth makefile)).shown
 
@@ -173,7 +170,7 @@ module _ (makefile : List ℕ) (depth : ℕ) (k : Bool) (commands : List Command
       let same = none-refused k undos last granted in
       (same.0, ap (λ (s : Shown (List ℕ)). s.text) same.1 ∙ back.1)
 
-  pub every-byte_kept : KeepEveryByte k commands makefile depth
+  every-byte_kept : KeepEveryByte k commands makefile depth
   unfolding seen last
   every-byte_kept = record {
     each = do-as_stated (tried k commands (shown_opened depth makefile)) (seen_opened depth makefile) (seen last) session-calls;

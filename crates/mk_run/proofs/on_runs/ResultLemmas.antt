@@ -1,6 +1,7 @@
 -- A run has a result, and no other.
 use Rattle.std.proofs.Common.{◌≡◌, refl, sym, ap, ◌∙◌, arith, ℕ, ◌<◌, ◌≤◌, ◌^◌, Bool, List, length, inl, inr}
 use Rattle.std.specs.Prelude.{◌⊎◌}
+use Rattle.std.proofs.lemmas.Bool.{cases_lt}
 use Rattle.mk_tree.specs.Documents.{IsTooDeep}
 use Rattle.mk_history.specs.Shown.{shown_opened}
 use Rattle.mk_session.specs.Sessions.{IsBadDepth}
@@ -12,26 +13,23 @@ use Rattle.mk_run.specs.declared.outcome.Outcome.TheVariants.{NotACommand, BadDe
 
 -- ---- each case holds or not
 
-less-or_not : (a b : ℕ) → (a < b) ⊎ (b ≤ a)
-less-or_not a b = grind arith
-
 decided : (a b : ℕ) → (a < b) ⊎ (b ≤ a) → (a < b) ⊎ (a < b → ⊥)
 decided a b (inl less) = inl less
 decided a b (inr more) = inr (λ less. omega (arith, less, more))
 
-pub long-or_not : (text : List ℕ) → IsTooLong text ⊎ (IsTooLong text → ⊥)
-long-or_not text = decided (2 ^ 24) (length text) (less-or_not (2 ^ 24) (length text))
+long-or_not : (text : List ℕ) → IsTooLong text ⊎ (IsTooLong text → ⊥)
+long-or_not text = decided (2 ^ 24) (length text) (cases_lt (2 ^ 24) (length text))
 
-pub deep-or_not : (text : List ℕ) → IsTooDeep text ⊎ (IsTooDeep text → ⊥)
-deep-or_not text = decided 256 _ (less-or_not 256 _)
+deep-or_not : (text : List ℕ) → IsTooDeep text ⊎ (IsTooDeep text → ⊥)
+deep-or_not text = decided 256 _ (cases_lt 256 _)
 
 bad-or : (depth : ℕ) → (depth < 1) ⊎ (depth < 1 → ⊥) → (10000 < depth) ⊎ (10000 < depth → ⊥) → IsBadDepth depth ⊎ (IsBadDepth depth → ⊥)
 bad-or depth (inl none) many = inl (inl none)
 bad-or depth (inr some) (inl many) = inl (inr many)
 bad-or depth (inr some) (inr few) = inr (λ bad. elim bad [ inl none ↦ some none | inr many ↦ few many ])
 
-pub bad-or_not : (depth : ℕ) → IsBadDepth depth ⊎ (IsBadDepth depth → ⊥)
-bad-or_not depth = bad-or depth (decided depth 1 (less-or_not depth 1)) (decided 10000 depth (less-or_not 10000 depth))
+bad-or_not : (depth : ℕ) → IsBadDepth depth ⊎ (IsBadDepth depth → ⊥)
+bad-or_not depth = bad-or depth (decided depth 1 (cases_lt depth 1)) (decided 10000 depth (cases_lt 10000 depth))
 
 -- ---- a run has a result
 

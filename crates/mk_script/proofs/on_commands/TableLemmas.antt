@@ -5,8 +5,9 @@ use Rattle.std.specs.Str.{bytes_eq}
 use Rattle.std.proofs.lemmas.Slice.Eq.{bytes_eq-Decides}
 use Rattle.mk_class.specs.declared.assignment.Flavor.{Flavor}
 use Rattle.mk_class.specs.declared.assignment.Flavor.TheVariants.{Recursive, Simple, PosixSimple, Immediate, Conditional, Append, Shell}
+use Rattle.mk_class.specs.OperatorTexts.{operator_text}
 use Rattle.mk_edit_laws.specs.Edits.{Edit}
-use Rattle.mk_edit_laws.specs.NewLines.{operator_text, colons_text}
+use Rattle.mk_edit_laws.specs.NewLines.{colons_text}
 use Rattle.mk_edit_laws.specs.declared.edit.Colons.{Colons}
 use Rattle.mk_edit_laws.specs.declared.edit.Colons.TheVariants.{One, Two}
 use Rattle.mk_history.specs.Machine.{Command}
@@ -22,7 +23,7 @@ abbrev EachEntry : {K : Type 0} → (K → List ℕ → Type 0) → List (K × L
 EachEntry P [] = Unit {0}
 EachEntry P (entry ∷ table) = P entry.0 entry.1 × EachEntry P table
 
-pub named-entry : {K : Type 0} (P : K → List ℕ → Type 0) (table : List (K × List ℕ)) → EachEntry P table → (text : List ℕ) (k : K) → named table text ≡ Some k → P k text
+named-entry : {K : Type 0} (P : K → List ℕ → Type 0) (table : List (K × List ℕ)) → EachEntry P table → (text : List ℕ) (k : K) → named table text ≡ Some k → P k text
 named-entry P [] each text k h = absurd (cc)
 named-entry P (entry ∷ table) each text k h = go (bytes_eq text entry.1) refl h (named-entry P table each.1 text k)
   where
@@ -50,7 +51,7 @@ word_text word.RecipeSet = codes "recipe-set"
 word_text word.RecipeDel = codes "recipe-del"
 word_text word.Rename = codes "rename"
 
-abbrev pub place_text : PlaceWord → List ℕ
+abbrev place_text : PlaceWord → List ℕ
 place_text place.Bottom = codes "bottom"
 place_text place.BeforeVar = codes "before-var"
 place_text place.AfterVar = codes "after-var"

@@ -4,7 +4,7 @@ use Rattle.std.specs.Prelude.{not}
 use Rattle.std.specs.List.{prefix_len}
 use Rattle.std.proofs.lemmas.List.{take-append-drop, append-nil}
 use Rattle.mk_lines.specs.Lists.{Each}
-use Rattle.mk_lines.specs.UnitWalk.{is_blank_byte}
+use Rattle.mk_lines.specs.Bytes.{is_blank_byte}
 use Rattle.mk_script.specs.Fields.{EndsField}
 use Rattle.mk_script.specs.FieldReading.{after_blanks, blanks_before, is_blank, is_empty, ends_field}
 

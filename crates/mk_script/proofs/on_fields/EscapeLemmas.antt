@@ -1,5 +1,5 @@
 -- Escapes are taken away and put back; a quoted field ends at its quote.
-use Rattle.std.proofs.Common.{◌≡◌, ℕ, Bool, true, false, List, [], ◌∷◌, ◌++◌, refl, sym, ap, ◌∙◌, cond, append_assoc, eqb-true}
+use Rattle.std.proofs.Common.{◌≡◌, ℕ, Bool, true, false, List, [], ◌∷◌, ◌++◌, refl, sym, ap, ◌∙◌, cond, eqb-true}
 use Rattle.std.specs.Prelude.{◌==◌, ◌||◌, Option, Some, None}
 use Rattle.std.proofs.lemmas.Option.{some_pair_parts}
 use Rattle.mk_script.specs.Fields.{is_special, escaped}
@@ -33,7 +33,7 @@ until_quote-escaped (b ∷ field) rest = go (is_special b) refl (until_quote-esc
     go false e h = rw ((not_special b e).0, (not_special b e).1, h) refl
 
 -- a text that follows a backslash or not, with that backslash
-abbrev pub with_backslash : (after_backslash : Bool) → List ℕ → List ℕ
+abbrev with_backslash : (after_backslash : Bool) → List ℕ → List ℕ
 with_backslash true text = 92 ∷ text
 with_backslash false text = text
 
@@ -101,11 +101,3 @@ until_quote-is false (b ∷ text) inner rest h = go (b == 34) (b == 92) refl ref
 abbrev pub with_front : List ℕ → Option (List ℕ × List ℕ) → Option (List ℕ × List ℕ)
 with_front front None = None
 with_front front (Some p) = Some (front ++ p.0, p.1)
-
-with_front-byte : (front : List ℕ) (b : ℕ) (o : Option (List ℕ × List ℕ)) → with_front front (with_byte b o) ≡ with_front (front ++ b ∷ []) o
-with_front-byte front b None = refl
-with_front-byte front b (Some p) = ap (λ t. Some (t, p.1)) (sym (append_assoc front (b ∷ []) p.0))
-
-pub with_front-nil : (o : Option (List ℕ × List ℕ)) → o ≡ with_front [] o
-with_front-nil None = refl
-with_front-nil (Some p) = refl

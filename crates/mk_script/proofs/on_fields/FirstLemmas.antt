@@ -4,7 +4,7 @@ use Rattle.std.specs.Prelude.{not, ◌==◌, Option, Some, None, option_map}
 use Rattle.std.proofs.lemmas.List.{take-append-drop}
 use Rattle.std.proofs.lemmas.Option.{some_pair_parts}
 use Rattle.mk_lines.specs.Lists.{Each}
-use Rattle.mk_lines.specs.UnitWalk.{is_blank_byte}
+use Rattle.mk_lines.specs.Bytes.{is_blank_byte}
 use Rattle.mk_script.specs.Fields.{escaped, quoted, IsBare, IsWritten, EndsField, BeginsWithField, HasFields}
 use Rattle.mk_script.specs.FieldReading.{after_blanks, blanks_before, bare_len, is_blank, ends_field, unescaped, until_quote, quoted_field, field_at_front, first_field, last_field, one_field, with_one, two_fields, with_two, three_fields}
 use Rattle.mk_script.proofs.on_fields.EscapeLemmas.{unescaped-escaped, until_quote-escaped, until_quote-is}

@@ -9,6 +9,7 @@ use Rattle.std.proofs.Math.Nat.{pow-le-pow_right}
 use Rattle.std.proofs.lemmas.List.{length-take-le}
 use Rattle.std.proofs.lemmas.List.Folds.{list_all_more}
 use Rattle.std.proofs.lemmas.Option.{cond_some}
+use Rattle.std.proofs.lemmas.Bool.{and_parts}
 use Rattle.mk_script.specs.Fields.{is_special}
 use Rattle.mk_script.specs.Numbers.{IsNumber}
 use Rattle.mk_script.specs.NumberReading.{number, is_number}
@@ -46,19 +47,15 @@ no_number text h = go (not (nat_lt 10 (length text))) (nat_lt 0 (length text)) (
 pub number-written : (field written : List ℕ) → IsWrittenPlain field written → number field ≡ number written
 number-written field written h = elim h [ inl e ↦ ap (λ t. number t) (sym e) | inr (f, w) ↦ no_number field f ∙ sym (no_number written w) ]
 
-both-true : (p q : Bool) → (p && q) ≡ true → (p ≡ true) × (q ≡ true)
-both-true true q h = (refl, h)
-both-true false q h = absurd (cc)
-
 -- a digit's value
-pub digit-is : (b : ℕ) → is_ascii_digit b ≡ true → (digit_value b ≡ b - 48) × (digit_value b < 10)
+digit-is : (b : ℕ) → is_ascii_digit b ≡ true → (digit_value b ≡ b - 48) × (digit_value b < 10)
 digit-is b h =
-    let parts = both-true (nat_le 48 b) (nat_le b 57) h in
+    let parts = and_parts (nat_le 48 b) (nat_le b 57) h in
     let low : 48 ≤ b = leb-true 48 b parts.0 in
     let high : b < 58 = omega (arith, leb-true b 57 parts.1) in
     rw (le-ltb b 48 low, lt-ltb b 58 high) (refl, omega (arith, low, high))
 
-pub digits-are : (text : List ℕ) → list_all is_ascii_digit text ≡ true → AllDigits 10 text
+digits-are : (text : List ℕ) → list_all is_ascii_digit text ≡ true → AllDigits 10 text
 digits-are [] h = tt
 digits-are (b ∷ text) h = go (is_ascii_digit b) refl h (digits-are text)
   where
@@ -107,9 +104,9 @@ all-from (b ∷ text) h = rw (digit-from b h.0, all-from text h.1) refl
 pub number-is : (digits : List ℕ) (n : ℕ) → number digits ≡ Some n → IsNumber digits n
 number-is digits n h =
     let tests = cond_some (is_number digits) (digits_value 10 digits) n h in
-    let last = both-true (not (nat_lt 10 (length digits)) && nat_lt 0 (length digits) && list_all is_ascii_digit digits) (nat_lt (digits_value 10 digits) 4294967296) tests.0 in
-    let all = both-true (not (nat_lt 10 (length digits)) && nat_lt 0 (length digits)) (list_all is_ascii_digit digits) last.0 in
-    let lengths = both-true (not (nat_lt 10 (length digits))) (nat_lt 0 (length digits)) all.0 in
+    let last = and_parts (not (nat_lt 10 (length digits)) && nat_lt 0 (length digits) && list_all is_ascii_digit digits) (nat_lt (digits_value 10 digits) 4294967296) tests.0 in
+    let all = and_parts (not (nat_lt 10 (length digits)) && nat_lt 0 (length digits)) (list_all is_ascii_digit digits) last.0 in
+    let lengths = and_parts (not (nat_lt 10 (length digits))) (nat_lt 0 (length digits)) all.0 in
     let few : length digits ≤ 10 = ltb-false 10 (length digits) (not-true (nat_lt 10 (length digits)) lengths.0) in
     let some : 0 < length digits = ltb-true 0 (length digits) lengths.1 in
     let small : digits_value 10 digits < 4294967296 = ltb-true (digits_value 10 digits) 4294967296 last.1 in

@@ -19,13 +19,13 @@ none-parts b text h = go (is_special b) refl h
     go true e k = absurd (cc)
     go false e k = (e, k)
 
-pub plain-unescaped : (text : List ℕ) → list_any is_special text ≡ false → unescaped false text ≡ text
+plain-unescaped : (text : List ℕ) → list_any is_special text ≡ false → unescaped false text ≡ text
 plain-unescaped [] h = refl
 plain-unescaped (b ∷ text) h =
     let parts = none-parts b text h in
     rw ((not_special b parts.0).1, plain-unescaped text parts.1) refl
 
-pub plain-escaped : (text : List ℕ) → list_any is_special text ≡ false → escaped text ≡ text
+plain-escaped : (text : List ℕ) → list_any is_special text ≡ false → escaped text ≡ text
 plain-escaped [] h = refl
 plain-escaped (b ∷ text) h =
     let parts = none-parts b text h in

@@ -1,28 +1,28 @@
 -- A reader of scripts that computes, for rows: it answers the commands of a script, or the number of the first line without one.
-use Rattle.std.proofs.Common.{◌≡◌, ℕ, ◌+◌, Bool, true, false, List, [], ◌∷◌, ◌++◌, refl, sym, ap, ◌∙◌, subst, inl, inr, if◌then◌else◌, cond, append_assoc}
-use Rattle.std.specs.Prelude.{◌⊎◌, Option, Some, None, Result, Ok, Err}
+use Rattle.std.proofs.Common.{◌≡◌, ℕ, ◌+◌, Bool, true, false, List, [], ◌∷◌, ◌++◌, refl, ap, ◌∙◌, subst, if◌then◌else◌, cond, append_assoc}
+use Rattle.std.specs.Prelude.{Option, Some, None, Result, Ok, Err}
 use Rattle.mk_edit_laws.specs.Edits.{Edit}
 use Rattle.mk_history.specs.Machine.{Command}
 use Rattle.mk_script.specs.Lines.{script_lines, IsReadable}
-use Rattle.mk_script.specs.Scripts.{CommandAt, AreCommands, IsScript, IsReached, HasNoCommand}
+use Rattle.mk_script.specs.Scripts.{CommandAt, IsScript, HasNoCommand}
 use Rattle.mk_script.specs.CommandReading.{command}
 use Rattle.mk_script.specs.Readings.{is_skipped}
 use Rattle.mk_script.proofs.on_commands.WrittenLemmas.{command-written}
 use Rattle.mk_script.proofs.on_scripts.LineLemmas.{skipped-is, not_readable}
-use Rattle.mk_script.proofs.on_scripts.ScriptLemmas.{IsReadSoFar, none-read, skipped-read, command-read, all-read, reached}
-use Rattle.mk_script.proofs.on_scripts.OneLemmas.{commands-one, not-both, fault-one, script-read}
+use Rattle.mk_script.proofs.on_scripts.ScriptLemmas.{IsReadSoFar, none-read, skipped-read, command-read, reached}
+use Rattle.mk_script.proofs.on_scripts.OneLemmas.{commands-one, not-both, fault-one}
 
 -- a command before others
-abbrev pub before_others : CommandAt → Result (List CommandAt) ℕ → Result (List CommandAt) ℕ
+abbrev before_others : CommandAt → Result (List CommandAt) ℕ → Result (List CommandAt) ℕ
 before_others c (Ok commands) = Ok (c ∷ commands)
 before_others c (Err number) = Err number
 
 -- a line of this number that is not skipped, and the lines after it
-abbrev pub line_then : (number : ℕ) → Option (Command Edit) → Result (List CommandAt) ℕ → Result (List CommandAt) ℕ
+abbrev line_then : (number : ℕ) → Option (Command Edit) → Result (List CommandAt) ℕ → Result (List CommandAt) ℕ
 line_then n None others = Err n
 line_then n (Some c) others = before_others (record { line = n; command = c }) others
 
-abbrev pub read_lines : (number : ℕ) → List (List ℕ) → Result (List CommandAt) ℕ
+abbrev read_lines : (number : ℕ) → List (List ℕ) → Result (List CommandAt) ℕ
 read_lines n [] = Ok []
 read_lines n (line ∷ lines) = if is_skipped line then read_lines (n + 1) lines else line_then n (command line) (read_lines (n + 1) lines)
 

@@ -11,7 +11,7 @@ AllByRecursion-snoc : {X : Type 0} (P : X → Type 0) (xs : List X) (x : X) → 
 AllByRecursion-snoc P [] x h k = (k, tt)
 AllByRecursion-snoc P (y ∷ xs) x h k = (h.0, AllByRecursion-snoc P xs x h.1 k)
 
-pub skipped-line : (n : ℕ) (line : List ℕ) (lines : List (List ℕ)) (commands : List CommandAt) → IsSkipped line → AreCommands (n + 1) lines commands
+skipped-line : (n : ℕ) (line : List ℕ) (lines : List (List ℕ)) (commands : List CommandAt) → IsSkipped line → AreCommands (n + 1) lines commands
     → AreCommands n (line ∷ lines) commands
 skipped-line n line lines [] s h = (s, h)
 skipped-line n line lines (c ∷ commands) s h = inl (s, h)

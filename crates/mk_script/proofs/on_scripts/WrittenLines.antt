@@ -5,9 +5,10 @@ use Rattle.std.proofs.lemmas.List.{append-nil}
 use Rattle.std.proofs.lemmas.Option.{some_pair_parts}
 use Rattle.std.proofs.lemmas.Fmt.{decimal_is_IsNumeral, length-decimal-le}
 use Rattle.mk_lines.specs.Lists.{Each}
-use Rattle.mk_lines.specs.UnitWalk.{is_blank_byte}
+use Rattle.mk_lines.specs.Bytes.{is_blank_byte}
+use Rattle.mk_class.specs.OperatorTexts.{operator_text}
 use Rattle.mk_edit_laws.specs.Edits.{Edit, SetValue, AppendValue, AddAssign, RemoveAssign, AddRule, RemoveRule, AddPrereq, RemovePrereq, AddRecipe, SetRecipe, RemoveRecipe, RenameTarget}
-use Rattle.mk_edit_laws.specs.NewLines.{operator_text, colons_text}
+use Rattle.mk_edit_laws.specs.NewLines.{colons_text}
 use Rattle.mk_history.specs.Machine.{Command, Apply, Undo, Redo, Begin, End, Cancel}
 use Rattle.mk_script.specs.Fields.{quoted, HasFields}
 use Rattle.mk_script.specs.Numbers.{IsNumber}

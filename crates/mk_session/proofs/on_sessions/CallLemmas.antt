@@ -4,6 +4,7 @@ use Rattle.std.specs.Prelude.{Result, Ok, Err, nat_lt}
 use Rattle.std.proofs.lemmas.List.{append-nil}
 use Rattle.std.proofs.lemmas.List.Sums.{fold-append}
 use Rattle.mk_lines.specs.Pieces.{Replacement}
+use Rattle.mk_lines.specs.Lists.{concat}
 use Rattle.mk_edit_laws.specs.Edits.{Edit}
 use Rattle.mk_edit_laws.specs.Refusals.{spans, text_after}
 use Rattle.mk_edit_laws.specs.declared.refusal.Refusal.{Refusal}
@@ -12,10 +13,10 @@ use Rattle.mk_edit_laws.specs.RisingSpans.{IsReplacedAt}
 use Rattle.mk_edit_laws.proofs.on_edits.EditLemmas.{edits-read}
 use Rattle.mk_edit_laws.proofs.on_edits.SpansRise.{only_spans-replaced}
 use Rattle.mk_history.specs.Machine as machine
-use Rattle.mk_history.specs.Machine.{Command, Apply, Undo, Redo, Begin, End, Cancel, NothingToUndo, Machine, opened, next, accepted, text, settled, replay}
+use Rattle.mk_history.specs.Machine.{Command, Apply, Undo, Redo, Begin, End, Cancel, NothingToUndo, opened, next, accepted, text, replay}
 use Rattle.mk_history.specs.Steps.{Granted, Refused, NoMemory, IsStep, IsRun}
 use Rattle.mk_history.specs.Shown.{Shown, shown, shown_answer, shown_edited, shown_opened}
-use Rattle.mk_history.specs.Claims.{IsWithin, flat, shown_result}
+use Rattle.mk_history.specs.Claims.{IsWithin, shown_result}
 use Rattle.mk_history.proofs.on_histories.MachineLemmas.{of_parts, undoes-all, stands, next-accepted, next-refused, stays-within-call}
 use Rattle.mk_history.proofs.on_histories.ShownLemmas.{is-seen, follows}
 use Rattle.mk_session.specs.Sessions.{Seen, answer, edited, seen_opened, text_with}
@@ -75,11 +76,11 @@ replays : (m : EditMachine) → text edited m ≡ replay edited m.first (standin
 replays m = go m.group
   where
     go : (group : Option (List Edit))
-        → text edited (of_parts m.first m.done m.undone m.floor group) ≡ replay edited m.first (flat (reverse m.done) ++ edits_of_group group)
-    go None = stands edited (of_parts m.first m.done m.undone m.floor None) ∙ ap (replay edited m.first) (sym (append-nil (flat (reverse m.done))))
+        → text edited (of_parts m.first m.done m.undone m.floor group) ≡ replay edited m.first (concat (reverse m.done) ++ edits_of_group group)
+    go None = stands edited (of_parts m.first m.done m.undone m.floor None) ∙ ap (replay edited m.first) (sym (append-nil (concat (reverse m.done))))
     go (Some es) =
         ap (λ (t : List ℕ). replay edited t es) (stands edited (of_parts m.first m.done m.undone m.floor None))
-        ∙ sym (fold-append (machine.edited edited) m.first (flat (reverse m.done)) es)
+        ∙ sym (fold-append (machine.edited edited) m.first (concat (reverse m.done)) es)
 
 -- ---- calls of a session are calls of the machine
 

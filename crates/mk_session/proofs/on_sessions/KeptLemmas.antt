@@ -1,9 +1,9 @@
 -- What a session keeps fits together after each of its calls.
-use Rattle.std.proofs.Common.{◌≡◌, refl, sym, ap, subst, ◌∙◌, ℕ, zero, suc, List, [], ◌∷◌, length, take, Option, Some, None, arith}
+use Rattle.std.proofs.Common.{◌≡◌, refl, sym, ap, subst, ◌∙◌, ℕ, zero, suc, List, [], ◌∷◌, take, Option, Some, None}
 use Rattle.std.specs.Prelude.{is_some, false, Result, Ok, Err, OnOk, OnErr}
 use Rattle.mk_tree.specs.Documents.{IsFaithful}
 use Rattle.mk_tree.specs.PlacedLines.{PlacedLine}
-use Rattle.mk_patch.specs.Moves.{Move, FitMoves, after_moves}
+use Rattle.mk_patch.specs.Moves.{FitMoves, after_moves}
 use Rattle.mk_history.specs.Chain.{IsChain, Moves, after_all, states}
 use Rattle.mk_history.specs.Stacks.{Stacks, FitInTurn}
 use Rattle.mk_history.proofs.on_histories.ChainLemmas.{IsChain-take, states-take}
@@ -50,22 +50,6 @@ kept-alone h member old new k faithful fits back =
       };
     }
 
--- an edit in a group, whose inverse comes first in it
-pub kept-grouped : (h : Stacks Patches) (g new_g : Patches) (inverse : List Move) (old new : List PlacedLine) → IsKept h (Some g) old → IsFaithful new → FitMoves inverse new → after_moves inverse new ≡ old
-    → new_g.changes ≡ inverse ∷ g.changes → IsKept (record h { undone = [] }) (Some new_g) new
-kept-grouped h g new_g inverse old new k faithful fits back c =
-    let begun : after_patches new_g new ≡ after_patches g old = ap (λ cs. after_all after_moves cs new) c ∙ ap (after_all after_moves g.changes) back in
-    let chain : FitPatches new_g new = subst (λ (cs : List (List Move)). IsChain FitMoves after_moves cs new) (sym c) (fits, subst (λ (d : List PlacedLine). IsChain FitMoves after_moves g.changes d) (sym back) k.consistent.0) in
-    record {
-      consistent = (chain, subst (λ (d : List PlacedLine). IsChain FitPatches after_patches h.done d) (sym begun) k.consistent.1, tt, λ some. refl);
-      faithful = record {
-        now = faithful;
-        begun = rw begun k.faithful.begun;
-        back = subst (λ (d : List PlacedLine). EachFaithful (states after_patches h.done d)) (sym begun) k.faithful.back;
-        forward = tt;
-      };
-    }
-
 -- ---- a step back or forth
 
 -- documents that patches lead through, after the first of them was made
@@ -76,7 +60,7 @@ faithful-rest ps rest p doc new e n all =
     (rw n one.0, rw n one.1)
 
 -- the first of what can be undone was made, and what takes it back can be redone
-pub kept-undone : (h new : Stacks Patches) (doc new_doc : List PlacedLine) → IsKept h None doc → Moves FitPatches after_patches h.done h.undone doc new.done new.undone new_doc
+kept-undone : (h new : Stacks Patches) (doc new_doc : List PlacedLine) → IsKept h None doc → Moves FitPatches after_patches h.done h.undone doc new.done new.undone new_doc
     → IsChain FitPatches after_patches new.done new_doc → IsChain FitPatches after_patches new.undone new_doc → IsKept new None new_doc
 kept-undone h new doc new_doc k m done undone =
     let there = faithful-rest h.done new.done m.change doc new_doc m.taken_from m.made k.faithful.back in
@@ -93,7 +77,7 @@ kept-undone h new doc new_doc k m done undone =
     }
 
 -- the first of what can be redone was made, and what takes it back can be undone
-pub kept-redone : (h new : Stacks Patches) (doc new_doc : List PlacedLine) → IsKept h None doc → Moves FitPatches after_patches h.undone h.done doc new.undone new.done new_doc
+kept-redone : (h new : Stacks Patches) (doc new_doc : List PlacedLine) → IsKept h None doc → Moves FitPatches after_patches h.undone h.done doc new.undone new.done new_doc
     → IsChain FitPatches after_patches new.done new_doc → IsChain FitPatches after_patches new.undone new_doc → IsKept new None new_doc
 kept-redone h new doc new_doc k m done undone =
     let there = faithful-rest h.undone new.undone m.change doc new_doc m.taken_from m.made k.faithful.forward in
@@ -111,20 +95,6 @@ kept-redone h new doc new_doc k m done undone =
 
 -- ---- groups
 
--- a group begins empty
-pub kept-begun : (h : Stacks Patches) (g : Patches) (doc : List PlacedLine) → IsKept h None doc → g.changes ≡ [] → IsKept h (Some g) doc
-kept-begun h g doc k c =
-    let begun : after_patches g doc ≡ doc = ap (λ cs. after_all after_moves cs doc) c in
-    record {
-      consistent = (
-        subst (λ (cs : List (List Move)). IsChain FitMoves after_moves cs doc) (sym c) tt,
-        rw begun k.consistent.0,
-        rw begun k.consistent.1,
-        λ some. absurd (omega (arith, some, ap length c)),
-      );
-      faithful = record { now = k.faithful.now; begun = rw begun k.faithful.now; back = rw begun k.faithful.back; forward = rw begun k.faithful.forward };
-    }
-
 -- a group that has edits is one member
 pub kept-ended : (h : Stacks Patches) (g : Patches) (doc : List PlacedLine) → IsKept h (Some g) doc → IsKept (record h { done = take h.depth (g ∷ h.done); undone = [] }) None doc
 kept-ended h g doc k =
@@ -139,7 +109,7 @@ kept-ended h g doc k =
     }
 
 -- a group that is cancelled leads back to its beginning
-pub kept-cancelled : (h : Stacks Patches) (g : Patches) (doc : List PlacedLine) → IsKept h (Some g) doc → IsKept h None (after_patches g doc)
+kept-cancelled : (h : Stacks Patches) (g : Patches) (doc : List PlacedLine) → IsKept h (Some g) doc → IsKept h None (after_patches g doc)
 kept-cancelled h g doc k =
     record {
       consistent = (k.consistent.1, k.consistent.2);

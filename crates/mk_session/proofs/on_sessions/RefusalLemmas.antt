@@ -127,7 +127,7 @@ unless_refused-other None rs other h = absurd (cc)
 unless_refused-other (Some r) rs other h = let e : r ≡ NoMemory = cc in other (ap Some e)
 
 -- no edit is refused for want of memory by its causes
-pub spans-other : (t : List ℕ) (e : Edit) → spans t e ≡ Err NoMemory → ⊥
+spans-other : (t : List ℕ) (e : Edit) → spans t e ≡ Err NoMemory → ⊥
 spans-other t e h = unless_refused-other (first_cause (causes t (classed_lines t) e)) (spans_of t (classed_lines t) e) (causes-other t (classed_lines t) e) h
 
 edited-other : (t : List ℕ) (r : Result (List Replacement) Refusal) → (r ≡ Err NoMemory → ⊥) → text_with t r ≡ Err NoMemory → ⊥

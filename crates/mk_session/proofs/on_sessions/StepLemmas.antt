@@ -54,7 +54,7 @@ text-kept h None doc = refl
 text-kept h (Some g) doc = refl
 
 -- what is seen has the text of the document
-pub text-shown : (h : Stacks Patches) (group : Option Patches) (doc : List PlacedLine) (s : Shown (List ℕ)) → shown_kept h group doc ≡ s → s.text ≡ placed_text doc
+text-shown : (h : Stacks Patches) (group : Option Patches) (doc : List PlacedLine) (s : Shown (List ℕ)) → shown_kept h group doc ≡ s → s.text ≡ placed_text doc
 text-shown h group doc s seen = ap (λ (x : Shown (List ℕ)). x.text) (sym seen) ∙ text-kept h group doc
 
 answer-refused : (e : Edit) (s : Shown (List ℕ)) (t : List ℕ) (r : Refusal) → s.text ≡ t → spans t e ≡ Err r → answer (Apply e) s ≡ Err (EditRefused r)

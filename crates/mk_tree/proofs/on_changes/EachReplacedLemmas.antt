@@ -4,26 +4,20 @@ use Rattle.std.proofs.lemmas.List.{append-nil}
 use Rattle.mk_lines.specs.Lists.{concat}
 use Rattle.mk_lines.specs.LogicalLines.{logical_lines}
 use Rattle.mk_lines.proofs.on_lines.LineLemmas.{OneLine, OneLine-logical, OneLine-of, OneLine-are_lines, AreLines, AreLines-of, AreLines-logical, AreLines-one_line, AreApart, Ends, EndsBefore, lines-together, lines-apart, logical_lines-are_lines}
-use Rattle.mk_lines.proofs.on_lines.LineEndLemmas.{EndsBefore-of, EndsLineBefore-of}
+use Rattle.mk_lines.proofs.on_lines.LineEndLemmas.{EndsBefore-followed, EndsWhereFollowed-of}
 use Rattle.mk_lines.specs.Pieces.{replaced, Piece, new_bytes}
 use Rattle.mk_lines.specs.Cells.{Cell}
 use Rattle.mk_class.specs.Classes.{Class}
 use Rattle.mk_class.specs.Contexts.{Context, start, context_after}
-use Rattle.mk_class.specs.ClassTable.{class_of}
 use Rattle.mk_class.specs.ClassedLines.{ClassedLine, classed, classed_lines, context_after_lines}
 use Rattle.mk_tree.specs.LineTexts.{text_of, context_of, bytes_of}
-use Rattle.mk_tree.specs.Items.{items}
-use Rattle.mk_tree.specs.Readings.{reading}
-use Rattle.mk_tree.proofs.on_documents.LinePlaces.{text_of-classed_lines, bytes_of-classed, text_of-bytes, AreClassed, AreClassed-cons, AreClassed-class, AreClassed-tail, AreClassed-classed}
+use Rattle.mk_tree.proofs.on_documents.LinePlaces.{bytes_of-classed, text_of-bytes, AreClassed, AreClassed-cons, AreClassed-class, AreClassed-tail, AreClassed-classed}
 use Rattle.mk_tree.proofs.on_changes.RunsReplaced.{Ends-append, Ends-nothing, run-replaced_same}
 use Rattle.mk_tree.proofs.on_changes.SpansInLines.{after_pieces, BeginWithPieces, line_replacements, replaced_text, text-all_lines_replaced}
 use Rattle.mk_tree.specs.EachReplaced.{ReplacesLine, ReplaceEach}
+use Rattle.mk_tree.proofs.on_documents.DocumentLemmas.{text_of-classed_lines}
 
--- a line can stand in its own place
-pub ReplacesLine-self : (c : Context) (l : ClassedLine) (following : List ClassedLine) → OneLine l.bytes → EndsBefore l.bytes (bytes_of following) → class_of c l.bytes ≡ l.class → ReplacesLine c l l following
-ReplacesLine-self c l following o e k = record { one = OneLine-logical l.bytes o; ends = EndsLineBefore-of l.bytes (bytes_of following) e; class = k; context = refl }
-
--- such lines have their classes
+-- lines that can stand in the place of others have their classes
 each-classed : (c : Context) (old new below : List ClassedLine) → ReplaceEach c old new below → AreClassed c new
 each-classed c [] [] below h = refl
 each-classed c [] (m ∷ ms) below h = absurd h
@@ -52,7 +46,7 @@ each-lines c (l ∷ ls) [] below h = absurd h
 each-lines c (l ∷ ls) (m ∷ ms) below h =
     let d = context_after c l.class in
     let ih : logical_lines (concat (bytes_of ms)) ≡ bytes_of ms = ap logical_lines (sym (text_of-bytes ms)) ∙ each-lines d ls ms below h.1 in
-    let e : EndsBefore (m.bytes ++ []) (bytes_of ms) = subst (λ z. EndsBefore z (bytes_of ms)) (sym (append-nil m.bytes)) (before-first d m.bytes ls ms below h.1 (EndsBefore-of m.bytes (bytes_of (ls ++ below)) h.0.ends)) in
+    let e : EndsBefore (m.bytes ++ []) (bytes_of ms) = subst (λ z. EndsBefore z (bytes_of ms)) (sym (append-nil m.bytes)) (before-first d m.bytes ls ms below h.1 (EndsBefore-followed m.bytes (bytes_of (ls ++ below)) h.0.ends)) in
     ap logical_lines (ap (λ z. z ++ text_of ms) (sym (append-nil m.bytes)) ∙ ap (λ z. (m.bytes ++ []) ++ z) (text_of-bytes ms))
     ∙ lines-together (m.bytes ∷ []) (bytes_of ms) (OneLine-are_lines m.bytes (OneLine-of m.bytes h.0.one)) (AreLines-of (bytes_of ms) ih) e
 
@@ -61,7 +55,7 @@ each-ends : (c : Context) (old new : List ClassedLine) (b : ClassedLine) (below 
 each-ends c [] [] b below h = Ends-nothing
 each-ends c [] (m ∷ ms) b below h = absurd h
 each-ends c (l ∷ ls) [] b below h = absurd h
-each-ends c (l ∷ ls) (m ∷ ms) b below h = Ends-append m.bytes (text_of ms) (first ls (EndsBefore-of m.bytes (bytes_of (ls ++ (b ∷ below))) h.0.ends)) (each-ends (context_after c l.class) ls ms b below h.1)
+each-ends c (l ∷ ls) (m ∷ ms) b below h = Ends-append m.bytes (text_of ms) (first ls (EndsBefore-followed m.bytes (bytes_of (ls ++ (b ∷ below))) h.0.ends)) (each-ends (context_after c l.class) ls ms b below h.1)
   where
     first : (ls : List ClassedLine) → EndsBefore m.bytes (bytes_of (ls ++ (b ∷ below))) → Ends m.bytes
     first [] e = e
@@ -85,7 +79,7 @@ lines-replaced t above old below new h e =
     nothing (l ∷ ls) new e z = cc
 
 -- All lines of a text, each replaced by one.
-pub all_lines-replaced : (t : List ℕ) (new : List ClassedLine) → ReplaceEach start (classed_lines t) new [] → classed_lines (text_of new) ≡ new
+all_lines-replaced : (t : List ℕ) (new : List ClassedLine) → ReplaceEach start (classed_lines t) new [] → classed_lines (text_of new) ≡ new
 all_lines-replaced t new e =
     ap classed_lines (sym (append-nil (text_of new)))
     ∙ (lines-replaced t [] (classed_lines t) [] new (sym (append-nil (classed_lines t))) e ∙ append-nil new)
@@ -102,7 +96,7 @@ each-self : (c : Context) (ls below : List ClassedLine) → AreClassed c ls → 
 each-self c [] below k h = tt
 each-self c (l ∷ ls) below k h =
     let a = apart-first l.bytes (bytes_of (ls ++ below)) h in
-    (record { one = OneLine-logical l.bytes a.0; ends = EndsLineBefore-of l.bytes (bytes_of (ls ++ below)) a.1; class = AreClassed-class c l ls k; context = refl }, each-self (context_after c l.class) ls below (AreClassed-tail c l ls k) a.2)
+    (record { one = OneLine-logical l.bytes a.0; ends = EndsWhereFollowed-of l.bytes (bytes_of (ls ++ below)) a.1; class = AreClassed-class c l ls k; context = refl }, each-self (context_after c l.class) ls below (AreClassed-tail c l ls k) a.2)
 
 -- so can those of a text
 pub lines-in_place : (t : List ℕ) → ReplaceEach start (classed_lines t) (classed_lines t) []
@@ -129,7 +123,7 @@ abbrev pub with_pieces : (ClassedLine → List Piece) → (ClassedLine → Class
 with_pieces f k l = record { bytes = new_bytes (f l) ++ after_pieces f l; class = k l }
 
 -- the text of such lines
-pub text_of-with_pieces : (f : ClassedLine → List Piece) (k : ClassedLine → Class Cell) (ls : List ClassedLine) → text_of (map (with_pieces f k) ls) ≡ replaced_text f ls
+text_of-with_pieces : (f : ClassedLine → List Piece) (k : ClassedLine → Class Cell) (ls : List ClassedLine) → text_of (map (with_pieces f k) ls) ≡ replaced_text f ls
 text_of-with_pieces f k [] = refl
 text_of-with_pieces f k (l ∷ ls) = ap (λ z. (new_bytes (f l) ++ after_pieces f l) ++ z) (text_of-with_pieces f k ls)
 
@@ -140,9 +134,3 @@ pub all_pieces-replaced : (f : ClassedLine → List Piece) (k : ClassedLine → 
 all_pieces-replaced f k t b e =
     let new = map (with_pieces f k) (classed_lines t) in
     ap classed_lines (text-all_lines_replaced f t (classed_lines t) (text_of-classed_lines t) b ∙ sym (text_of-with_pieces f k (classed_lines t))) ∙ all_lines-replaced t new e
-
--- and its reading is that of these
-pub reading-all_pieces_replaced : (f : ClassedLine → List Piece) (k : ClassedLine → Class Cell) (t : List ℕ) → BeginWithPieces f (classed_lines t)
-    → ReplaceEach start (classed_lines t) (map (with_pieces f k) (classed_lines t)) []
-    → reading (replaced 0 t (line_replacements f 0 (classed_lines t))) ≡ items (map (with_pieces f k) (classed_lines t))
-reading-all_pieces_replaced f k t b e = ap items (all_pieces-replaced f k t b e)

@@ -14,7 +14,7 @@ placed-last [] l = refl
 placed-last (x ∷ []) l = refl
 placed-last (x ∷ y ∷ front) l = placed-last (y ∷ front) l
 
-pub placed-with_last : (front : List ClassedLine) (l : ClassedLine) (bytes : List ℕ) → with_last_bytes bytes (placed_lines (front ++ l ∷ [])) ≡ placed_lines (front ++ record { bytes = bytes; class = l.class } ∷ [])
+placed-with_last : (front : List ClassedLine) (l : ClassedLine) (bytes : List ℕ) → with_last_bytes bytes (placed_lines (front ++ l ∷ [])) ≡ placed_lines (front ++ record { bytes = bytes; class = l.class } ∷ [])
 placed-with_last [] l bytes = refl
 placed-with_last (x ∷ []) l bytes = refl
 placed-with_last (x ∷ y ∷ front) l bytes = ap (λ z. placed_line x ∷ z) (placed-with_last (y ∷ front) l bytes)

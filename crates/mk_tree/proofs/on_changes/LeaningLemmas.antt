@@ -1,14 +1,13 @@
 -- The leaning law: lines keep their classes where what is above them changes, if the open defines, the conditionals and the
 -- prefix before them are as they were and the lines do not lean on the flag.
 use Rattle.std.proofs.Common.{◌≡◌, refl, sym, ap, ◌∙◌, ℕ, List, [], ◌∷◌, ◌++◌, Bool, true, false, not, ◌&&◌, ◌||◌}
-use Rattle.mk_lines.specs.Lists.{Each}
 use Rattle.mk_lines.specs.LogicalLines.{logical_lines}
 use Rattle.mk_lines.specs.Cells.{Cell}
 use Rattle.mk_class.specs.Lists.{any}
 use Rattle.mk_class.specs.Classes.{Class, leaves_flag}
 use Rattle.mk_class.specs.Contexts.{Context, start, context_after, flag_after, defines_after, conditionals_after, prefix_after}
 use Rattle.mk_class.specs.ClassedLines.{ClassedLine, classed, classed_lines, context_after_lines, is_led_first}
-use Rattle.mk_class.proofs.on_contexts.FlagLemmas.{classed-flag, classed-append, flag_after-set, flag_after-left}
+use Rattle.mk_class.proofs.on_contexts.FlagLemmas.{classed-flag, classed-append, flag_after-set}
 use Rattle.mk_class.specs.declared.context.Flag.{Flag}
 use Rattle.mk_class.specs.declared.context.Flag.TheVariants.{Off, Rule, Unknown}
 use Rattle.mk_tree.specs.LineTexts.{context_of}
@@ -17,7 +16,7 @@ use Rattle.mk_tree.specs.Leaning.{is_same_flag, leans, AgreeButForFlag}
 -- ---- flags
 
 -- flags that are the same
-pub same_flag-is : (f g : Flag) → is_same_flag f g ≡ true → f ≡ g
+same_flag-is : (f g : Flag) → is_same_flag f g ≡ true → f ≡ g
 same_flag-is Off Off h = refl
 same_flag-is Off Rule h = cc
 same_flag-is Off Unknown h = cc
@@ -52,14 +51,6 @@ leans-back p f g ls h = ap (λ z. not z && is_led_first p ls) (same_flag-back g 
 pub leans-same : (p : ℕ) (f : Flag) (ls : List ClassedLine) → leans p f f ls ≡ false
 leans-same p f ls = ap (λ z. not z && is_led_first p ls) (same_flag-self f)
 
--- and where there are no lines none leans
-pub leans-nothing : (p : ℕ) (f g : Flag) → leans p f g [] ≡ false
-leans-nothing p f g = go (is_same_flag f g)
-  where
-    go : (b : Bool) → (not b && false) ≡ false
-    go true = refl
-    go false = refl
-
 -- ---- contexts that agree
 
 -- a context agrees with itself
@@ -82,7 +73,7 @@ context_with : Flag → ℕ → ℕ → ℕ → Context
 context_with f n k p = record { flag = f; defines = n; conditionals = k; prefix = p }
 
 -- contexts that agree and have the same flag are the same
-pub agrees-is : (c d : Context) → AgreeButForFlag c d → c.flag ≡ d.flag → c ≡ d
+agrees-is : (c d : Context) → AgreeButForFlag c d → c.flag ≡ d.flag → c ≡ d
 unfolding context_with
 agrees-is c d h e = parts c.flag d.flag c.defines d.defines c.conditionals d.conditionals c.prefix d.prefix e h.defines h.conditionals h.prefix
   where
@@ -90,7 +81,7 @@ agrees-is c d h e = parts c.flag d.flag c.defines d.defines c.conditionals d.con
     parts f g n m k j p q a b c d = rw (a, b, c, d) refl
 
 -- contexts that agree still do after a line of one class
-pub agrees-after : (c d : Context) (k : Class Cell) → AgreeButForFlag c d → AgreeButForFlag (context_after c k) (context_after d k)
+agrees-after : (c d : Context) (k : Class Cell) → AgreeButForFlag c d → AgreeButForFlag (context_after c k) (context_after d k)
 agrees-after c d k h = record {
   defines = ap (λ z. defines_after z k) h.defines;
   conditionals = ap (λ z. conditionals_after z k) h.conditionals;
@@ -102,18 +93,13 @@ pub agrees-after_lines : (c d : Context) (ls : List ClassedLine) → AgreeButFor
 agrees-after_lines c d [] h = h
 agrees-after_lines c d (l ∷ ls) h = agrees-after_lines (context_after c l.class) (context_after d l.class) ls (agrees-after c d l.class h)
 
--- the flag after lines that leave it
-pub flag-left_by_lines : (c : Context) (ls : List ClassedLine) → Each (λ l. leaves_flag l.class) ls → (context_after_lines c ls).flag ≡ c.flag
-flag-left_by_lines c [] h = refl
-flag-left_by_lines c (l ∷ ls) h = flag-left_by_lines (context_after c l.class) ls h.1 ∙ flag_after-left c.flag l.class h.0
-
 -- the flag after some lines is the same where it was before them
-pub flag-same_after_lines : (c d : Context) (ls : List ClassedLine) → c.flag ≡ d.flag → (context_after_lines c ls).flag ≡ (context_after_lines d ls).flag
+flag-same_after_lines : (c d : Context) (ls : List ClassedLine) → c.flag ≡ d.flag → (context_after_lines c ls).flag ≡ (context_after_lines d ls).flag
 flag-same_after_lines c d [] h = h
 flag-same_after_lines c d (l ∷ ls) h = flag-same_after_lines (context_after c l.class) (context_after d l.class) ls (ap (λ z. flag_after z l.class) h)
 
 -- the flag after lines of which one sets it is the same whatever it was before them
-pub flag-set_by_lines : (c d : Context) (ls : List ClassedLine) → any (λ l. not (leaves_flag l.class)) ls ≡ true → (context_after_lines c ls).flag ≡ (context_after_lines d ls).flag
+flag-set_by_lines : (c d : Context) (ls : List ClassedLine) → any (λ l. not (leaves_flag l.class)) ls ≡ true → (context_after_lines c ls).flag ≡ (context_after_lines d ls).flag
 flag-set_by_lines c d [] h = cc
 flag-set_by_lines c d (l ∷ ls) h = go (leaves_flag l.class) refl h (λ k. flag-set_by_lines (context_after c l.class) (context_after d l.class) ls k)
     (λ e. flag-same_after_lines (context_after c l.class) (context_after d l.class) ls e)

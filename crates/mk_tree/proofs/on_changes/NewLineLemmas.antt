@@ -3,6 +3,7 @@
 use Rattle.std.proofs.Common.{◌≡◌, refl, sym, ap, ◌∙◌, subst, ℕ, List, [], ◌∷◌, ◌++◌, append_assoc, Bool, true, false, not, ◌&&◌, ◌||◌, if◌then◌else◌, reverse, length, map}
 use Rattle.std.specs.Prelude.{nat_lt, ◌==◌}
 use Rattle.std.proofs.lemmas.List.{append-nil, reverse-append, map-append}
+use Rattle.std.proofs.lemmas.Bool.{or_from, and_right}
 use Rattle.mk_lines.specs.Bytes.{ByteKind, LineFeed, CarriageReturn, Backslash, Blank, Ordinary, byte_kind, is_backslash_kind, is_carriage_return_kind}
 use Rattle.mk_lines.proofs.on_lists.ListLemmas.{Each-right}
 use Rattle.mk_lines.specs.PhysicalLines.{physical_lines, line_end, line_end_bytes, without_line_end, ends_with_carriage_return, is_carriage_return_first, file_line_end, first_line_end, line_end_or_lf}
@@ -12,7 +13,7 @@ use Rattle.mk_lines.specs.Units.{units}
 use Rattle.mk_lines.proofs.on_lines.LineCut.{NoLineFeed, logical_lines-last}
 use Rattle.mk_lines.proofs.on_lines.LineLemmas.{OneLine, OneLine-of, Ends}
 use Rattle.mk_lines.proofs.on_lines.LineEndLemmas.{FirstIsNot, without_line_end-append, line_end-append, without_line_end-line_end, ends_line-ends}
-use Rattle.mk_lines.proofs.on_cells.LineCells.{HasNoLineEnd, is_no_line_end_kind, or-both_false}
+use Rattle.mk_lines.proofs.on_cells.LineCells.{HasNoLineEnd, is_no_line_end_kind, one_line-not_empty}
 use Rattle.mk_lines.proofs.on_lines.LineEndAdded.{IsEnded, line_end-added, not_open-ends_line}
 use Rattle.mk_lines.specs.Pieces.{replaced}
 use Rattle.mk_lines.specs.declared.ends.End.{End}
@@ -50,7 +51,7 @@ file_line_end-some t = first (physical_lines t)
 -- ---- the last of a list
 
 -- a list that is not empty, with its last element apart
-pub record LastApart {A : Type 0} (t : List A) : Type 0 where
+record LastApart {A : Type 0} (t : List A) : Type 0 where
   pub front : List A
   pub last : A
   pub is : t ≡ front ++ last ∷ []
@@ -65,7 +66,7 @@ last_passes-last p (x ∷ []) l = refl
 last_passes-last p (x ∷ y ∷ front) l = last_passes-last p (y ∷ front) l
 
 -- a text that ends in no backslash ends in no odd run of them
-pub no_backslash-no_odd_run : (t : List ℕ) → last_passes is_backslash_byte t ≡ false → ends_with_odd_run t ≡ false
+no_backslash-no_odd_run : (t : List ℕ) → last_passes is_backslash_byte t ≡ false → ends_with_odd_run t ≡ false
 no_backslash-no_odd_run [] h = refl
 no_backslash-no_odd_run (b ∷ t) h = apart (b ∷ t) (last-apart b t) h
   where
@@ -82,7 +83,7 @@ no_backslash-no_odd_run (b ∷ t) h = apart (b ∷ t) (last-apart b t) h
         ap ends_with_odd_run a.is ∙ (ap starts_with_odd_run (reverse-append a.front (a.last ∷ [])) ∙ kind (byte_kind a.last) (starts_with_odd_run (reverse a.front)) e)
 
 -- a text without LF and CR ends in no carriage return
-pub no_line_end-no_carriage_return : (t : List ℕ) → HasNoLineEnd t → ends_with_carriage_return t ≡ false
+no_line_end-no_carriage_return : (t : List ℕ) → HasNoLineEnd t → ends_with_carriage_return t ≡ false
 no_line_end-no_carriage_return [] h = refl
 no_line_end-no_carriage_return (b ∷ t) h = apart (b ∷ t) (last-apart b t) h
   where
@@ -99,7 +100,7 @@ no_line_end-no_carriage_return (b ∷ t) h = apart (b ∷ t) (last-apart b t) h
         ap ends_with_carriage_return a.is ∙ (ap is_carriage_return_first (reverse-append a.front (a.last ∷ [])) ∙ kind (byte_kind a.last) e.0)
 
 -- and has no line feed
-pub no_line_end-no_line_feed : (t : List ℕ) → HasNoLineEnd t → NoLineFeed t
+no_line_end-no_line_feed : (t : List ℕ) → HasNoLineEnd t → NoLineFeed t
 no_line_end-no_line_feed [] h = tt
 no_line_end-no_line_feed (b ∷ t) h = (kind (byte_kind b) h.0, no_line_end-no_line_feed t h.1)
   where
@@ -138,22 +139,18 @@ not_line_feed_last (b ∷ t) h = apart (b ∷ t) (last-apart b t) h
     apart : (t : List ℕ) (a : LastApart t) → NoLineFeed t → FirstIsNot LineFeed (reverse t)
     apart t a h = subst (FirstIsNot LineFeed) (sym (ap reverse a.is ∙ reverse-append a.front (a.last ∷ []))) (last a.front a.last (subst NoLineFeed a.is h))
 
-and-right_false : (a b : Bool) → b ≡ false → (a && b) ≡ false
-and-right_false true b h = h
-and-right_false false b h = refl
-
 new_line-some : (b : ℕ) (t : List ℕ) (e : End) → NoLineFeed (b ∷ t) → ends_with_odd_run (b ∷ t) ≡ false → ends_with_carriage_return (b ∷ t) ≡ false → has_no_line_end e ≡ false → IsEnded (b ∷ t) e
 new_line-some b t e h r c k =
     let x = b ∷ t in
     let f : FirstIsNot LineFeed (reverse x) = not_line_feed_last x h in
     let n : line_end x ≡ None = ap line_end (sym (append-nil x)) ∙ line_end-append x None f in
     let w : without_line_end x ≡ x = ap without_line_end (sym (append-nil x)) ∙ without_line_end-append x None f in
-    let o : is_open x ≡ false = or-both_false (is_continued x) (has_no_line_end (line_end x) && ends_with_carriage_return x) (ap ends_with_odd_run w ∙ r) (and-right_false (has_no_line_end (line_end x)) (ends_with_carriage_return x) c) in
+    let o : is_open x ≡ false = or_from (is_continued x) (has_no_line_end (line_end x) && ends_with_carriage_return x) (ap ends_with_odd_run w ∙ r) (and_right (has_no_line_end (line_end x)) (ends_with_carriage_return x) c) in
     line_end-added b t e (OneLine-of x (logical_lines-last b t h)) n o k
 
 -- A text without LF, in which neither a backslash (more exactly, an odd run of them) nor a carriage return comes last, and a
 -- line end are one line, which ends, and has this text and this line end.
-pub new_line : (x : List ℕ) (e : End) → NoLineFeed x → ends_with_odd_run x ≡ false → ends_with_carriage_return x ≡ false → has_no_line_end e ≡ false → IsEnded x e
+new_line : (x : List ℕ) (e : End) → NoLineFeed x → ends_with_odd_run x ≡ false → ends_with_carriage_return x ≡ false → has_no_line_end e ≡ false → IsEnded x e
 unfolding OneLine Ends
 new_line x None h r c k = cc
 new_line [] Lf h r c k = record { one = refl; ends = refl; same_text = refl; same_end = refl }
@@ -173,12 +170,12 @@ class_with : Context → (led : Bool) → (text : List ℕ) → Class Cell
 class_with c led x = class_at joined_byte led c.defines c.flag (nat_lt 0 c.conditionals) (is_unreadable (cells x)) (units joined_byte (cells x))
 
 -- lines of one text without line end, which begin alike, have one class
-pub class_of-same_text : (c : Context) (l m : List ℕ) → is_prefix_led c.prefix l ≡ is_prefix_led c.prefix m → without_line_end l ≡ without_line_end m → class_of c l ≡ class_of c m
+class_of-same_text : (c : Context) (l m : List ℕ) → is_prefix_led c.prefix l ≡ is_prefix_led c.prefix m → without_line_end l ≡ without_line_end m → class_of c l ≡ class_of c m
 unfolding class_with
 class_of-same_text c l m p h = ap (λ z. class_with c z (without_line_end l)) p ∙ ap (class_with c (is_prefix_led c.prefix m)) h
 
 -- and one item
-pub items_of_line-same_text : (k : Class Cell) (l m : List ℕ) → without_line_end l ≡ without_line_end m → items_of_line k l ≡ items_of_line k m
+items_of_line-same_text : (k : Class Cell) (l m : List ℕ) → without_line_end l ≡ without_line_end m → items_of_line k l ≡ items_of_line k m
 items_of_line-same_text Class.Blank l m h = refl
 items_of_line-same_text Class.Comment l m h = refl
 items_of_line-same_text (Class.Assign a p) l m h = refl
@@ -214,11 +211,6 @@ pub record LineEnded (above : List ClassedLine) (l new : ClassedLine) (added : L
   pub ends : Ends new.bytes
   pub lines : classed_lines (text_of above ++ new.bytes) ≡ above ++ new ∷ []
 
-not_empty : (x : List ℕ) → OneLine x → (b : ℕ) × (t : List ℕ) × (x ≡ b ∷ t)
-unfolding OneLine
-not_empty [] h = absurd (let g : [] ≡ [] ∷ [] = h in cc)
-not_empty (b ∷ t) h = (b, t, refl)
-
 led-longer : (p : ℕ) (x y : List ℕ) (b : ℕ) (t : List ℕ) → x ≡ b ∷ t → is_prefix_led p (x ++ y) ≡ is_prefix_led p x
 led-longer p x y b t h = rw h refl
 
@@ -231,7 +223,7 @@ line-ended t above l e h o k = go (lacks_line_end l) refl
     place = located t above l [] h
 
     filled : (b : ℕ) × (r : List ℕ) × (l.bytes ≡ b ∷ r)
-    filled = not_empty l.bytes place.one
+    filled = one_line-not_empty l.bytes place.one
 
     ended : lacks_line_end l ≡ true → IsEnded l.bytes e
     ended n =
@@ -272,7 +264,7 @@ line-ended t above l e h o k = go (lacks_line_end l) refl
     }
 
 -- What is known of the lines of a text, and of the lines that they are with some bytes added to the last.
-pub record LastEnded (above new : List ClassedLine) (added : List ℕ) : Type 0 where
+record LastEnded (above new : List ClassedLine) (added : List ℕ) : Type 0 where
   pub text : text_of new ≡ text_of above ++ added
   pub lines : classed_lines (text_of new) ≡ new
   -- the text of each, without its line end, stays
@@ -289,7 +281,7 @@ last_ended-last e (x ∷ []) l = refl
 last_ended-last e (x ∷ y ∷ front) l = ap (λ z. x ∷ z) (last_ended-last e (y ∷ front) l)
 
 -- the lines of a text, the last of which is not open, with a line end put after it where it has none
-pub last-ended : (t : List ℕ) (above : List ClassedLine) (e : End) → classed_lines t ≡ above → last_passes (λ l. is_open l.bytes) above ≡ false → has_no_line_end e ≡ false
+last-ended : (t : List ℕ) (above : List ClassedLine) (e : End) → classed_lines t ≡ above → last_passes (λ l. is_open l.bytes) above ≡ false → has_no_line_end e ≡ false
     → LastEnded above (last_ended e above) (missing_line_end e above [])
 unfolding Ends
 last-ended t [] e h o k = record { text = refl; lines = refl; same_texts = refl; ends = refl; same_items = refl; same_context = refl }

@@ -73,12 +73,12 @@ line-in_rule b w Rough h r = cc
 line-in_rule b w (Header x) h r = cc
 
 -- the context after lines that stay in the rule
-pub lines-in_rule : (b w : Context) (ls : List ClassedLine) → Each (λ l. stays_in_rule l.class) ls → RuleContext b w → RuleContext b (context_after_lines w ls)
+lines-in_rule : (b w : Context) (ls : List ClassedLine) → Each (λ l. stays_in_rule l.class) ls → RuleContext b w → RuleContext b (context_after_lines w ls)
 lines-in_rule b w [] h r = r
 lines-in_rule b w (l ∷ ls) h r = lines-in_rule b (context_after w l.class) ls h.1 (line-in_rule b w l.class h.0 r)
 
 -- the context after a header
-pub header-context : (c : Context) (l : List ℕ) (x : Headers.Header Cell) → class_of c l ≡ Header x → RuleContext c (context_after c (Header x))
+header-context : (c : Context) (l : List ℕ) (x : Headers.Header Cell) → class_of c l ≡ Header x → RuleContext c (context_after c (Header x))
 header-context c l x h =
     let n : c.defines ≡ 0 = subst (FitsCounts c.defines c.conditionals) h (class_of-counts c l) in
     record { flag = refl; no_define_before = n; no_define = n; prefix = refl }
@@ -103,9 +103,6 @@ rule-agrees c h x ls k e s u =
 -- the context after an assignment that sets no prefix, a header or a recipe line agrees with that before it but for the flag
 pub assign-agrees : (c : Context) (a : Assignment Cell) → AgreeButForFlag c (context_after c (Assign a None))
 assign-agrees c a = record { defines = refl; conditionals = refl; prefix = refl }
-
-pub header-agrees : (c : Context) (x : Headers.Header Cell) → AgreeButForFlag c (context_after c (Header x))
-header-agrees c x = record { defines = refl; conditionals = refl; prefix = refl }
 
 pub recipe-agrees : (c : Context) → AgreeButForFlag c (context_after c Recipe)
 recipe-agrees c = record { defines = refl; conditionals = refl; prefix = refl }

@@ -6,8 +6,6 @@ use Rattle.mk_lines.specs.LogicalLines.{logical_lines}
 use Rattle.mk_lines.proofs.on_lists.CutLemmas.{state_after-append}
 use Rattle.mk_lines.proofs.on_lines.LineCut.{AtStart, line_step, line_state_after}
 use Rattle.mk_lines.proofs.on_lines.LineLemmas.{OneLine, OneLine-logical, Ends, EndsBefore, replace-run}
-use Rattle.mk_lines.proofs.on_lines.LineEndLemmas.{ends_line-ends}
-use Rattle.mk_lines.specs.Laws.{EndsWhereFollowed}
 use Rattle.mk_lines.specs.Pieces.{replaced}
 use Rattle.mk_lines.proofs.on_lists.PieceLemmas.{replaced-one}
 use Rattle.mk_lines.specs.Cells.{Cell}
@@ -17,9 +15,7 @@ use Rattle.mk_class.specs.ClassTable.{class_of}
 use Rattle.mk_class.specs.ClassedLines.{ClassedLine, classed, classed_lines, context_after_lines}
 use Rattle.mk_class.proofs.on_contexts.FlagLemmas.{classed-append}
 use Rattle.mk_tree.specs.LineTexts.{text_of, context_of, bytes_of}
-use Rattle.mk_tree.specs.Items.{items, items_of_line}
-use Rattle.mk_tree.specs.Readings.{reading}
-use Rattle.mk_tree.proofs.on_documents.LinePlaces.{reading-two, reading-line, bytes_of-append, text_of-bytes, context_of-append, RunPlace, located-run}
+use Rattle.mk_tree.proofs.on_documents.LinePlaces.{bytes_of-append, text_of-bytes, context_of-append, RunPlace, located-run}
 use Rattle.mk_tree.specs.Leaning.{AgreeButForFlag, leans}
 use Rattle.mk_tree.proofs.on_changes.LeaningLemmas.{agrees-back, agrees-same, leans-back, leans-same, classed-unless_leans}
 
@@ -46,7 +42,7 @@ no_lines (l ∷ ls) h = cc
 
 -- A run of lines replaced by a text, whose lines stand there with the classes that they have there. The text ends where lines
 -- are below; and where nothing was below the lines above, these end, if the text has lines.
-pub run-replaced : (t : List ℕ) (above run below : List ClassedLine) (v : List ℕ) (new : List ClassedLine) → classed_lines t ≡ above ++ (run ++ below)
+run-replaced : (t : List ℕ) (above run below : List ClassedLine) (v : List ℕ) (new : List ClassedLine) → classed_lines t ≡ above ++ (run ++ below)
     → classed (context_of above) (logical_lines v) ≡ new
     → (run ++ below ≡ [] → EndsBefore (text_of above) (logical_lines v)) → EndsBefore v (bytes_of below)
     → classed_lines (text_of above ++ (v ++ text_of below)) ≡ above ++ (new ++ classed (context_after_lines (context_of above) new) (bytes_of below))
@@ -130,14 +126,6 @@ run-removed t above run below h agree free =
     starts [] = tt
     starts (l ∷ ls) = refl
 
--- A run of lines taken out by its span: the reading loses its items, and no other item changes.
-pub reading-run_removed : (t : List ℕ) (above run below : List ClassedLine) → classed_lines t ≡ above ++ (run ++ below)
-    → AgreeButForFlag (context_of above) (context_of (above ++ run))
-    → leans (context_of above).prefix (context_of above).flag (context_of (above ++ run)).flag below ≡ false
-    → reading (replaced 0 t (record { start = length (text_of above); end = length (text_of above) + length (text_of run); new = [] } ∷ [])) ≡ items above ++ items below
-reading-run_removed t above run below h agree free =
-    ap reading (text-run_replaced t above run below [] h) ∙ reading-two (text_of above ++ text_of below) above below (run-removed t above run below h agree free)
-
 -- A line replaced by another line, after which the context is the same.
 pub line-replaced : (t : List ℕ) (above : List ClassedLine) (l : ClassedLine) (below : List ClassedLine) (m : List ℕ) (k : Class Cell) → classed_lines t ≡ above ++ l ∷ below
     → OneLine m → EndsBefore m (bytes_of below) → class_of (context_of above) m ≡ k
@@ -146,20 +134,7 @@ pub line-replaced : (t : List ℕ) (above : List ClassedLine) (l : ClassedLine) 
 line-replaced t above l below m k h o ends q same =
     run-replaced_same t above (l ∷ []) below m (record { bytes = m; class = k } ∷ []) h (one-class (context_of above) m k o q) (λ z. cc) ends same
 
--- and the reading has its item in the place of the old one
-pub reading-line_replaced : (t : List ℕ) (above : List ClassedLine) (l : ClassedLine) (below : List ClassedLine) (m : List ℕ) (k : Class Cell) → classed_lines t ≡ above ++ l ∷ below
-    → OneLine m → EndsBefore m (bytes_of below) → class_of (context_of above) m ≡ k
-    → context_after (context_of above) k ≡ context_after (context_of above) l.class
-    → reading (text_of above ++ (m ++ text_of below)) ≡ items above ++ (items_of_line k m ++ items below)
-reading-line_replaced t above l below m k h o ends q same =
-    reading-line (text_of above ++ (m ++ text_of below)) above (record { bytes = m; class = k }) below (line-replaced t above l below m k h o ends q same)
-
 -- ---- texts that end
-
--- a text that ends a line where it is followed does so before those lines
-pub EndsBefore-followed : (t : List ℕ) (ls : List (List ℕ)) → EndsWhereFollowed t ls → EndsBefore t ls
-EndsBefore-followed t [] h = tt
-EndsBefore-followed t (l ∷ ls) h = ends_line-ends t h
 
 -- a text that ends and then one that ends do
 pub Ends-append : (a b : List ℕ) → Ends a → Ends b → Ends (a ++ b)

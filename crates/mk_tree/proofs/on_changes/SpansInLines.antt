@@ -58,7 +58,7 @@ whole_pieces : (ClassedLine → List Piece) → List ClassedLine → List Piece
 whole_pieces f [] = []
 whole_pieces f (l ∷ ls) = f l ++ (Keep (map Byte (after_pieces f l)) ∷ whole_pieces f ls)
 
-replacements-append : (at : ℕ) (ps qs : List Piece) → replacements at (ps ++ qs) ≡ replacements at ps ++ replacements (at + length (old_bytes ps)) qs
+pub replacements-append : (at : ℕ) (ps qs : List Piece) → replacements at (ps ++ qs) ≡ replacements at ps ++ replacements (at + length (old_bytes ps)) qs
 replacements-append at [] qs = let e : at ≡ at + 0 = omega arith in ap (λ z. replacements z qs) e
 replacements-append at (Keep cs ∷ ps) qs =
     let e : at + length (raw_text cs) + length (old_bytes ps) ≡ at + length (raw_text cs ++ old_bytes ps) = omega (arith, length-append (raw_text cs) (old_bytes ps)) in
@@ -97,7 +97,7 @@ whole-replacements f at (l ∷ ls) h =
     ∙ ap (λ z. replacements at (f l) ++ z) (ap (λ z. replacements z (whole_pieces f ls)) e ∙ whole-replacements f (at + length l.bytes) ls h.1)
 
 -- The replacements in some lines of a text made.
-pub text-lines_replaced : (f : ClassedLine → List Piece) (p : List ℕ) (ls : List ClassedLine) (q : List ℕ) → BeginWithPieces f ls
+text-lines_replaced : (f : ClassedLine → List Piece) (p : List ℕ) (ls : List ClassedLine) (q : List ℕ) → BeginWithPieces f ls
     → replaced 0 (p ++ (text_of ls ++ q)) (line_replacements f (length p) ls) ≡ p ++ (replaced_text f ls ++ q)
 text-lines_replaced f p ls q h =
     ap (λ z. replaced 0 (p ++ (z ++ q)) (line_replacements f (length p) ls)) (sym (whole-old f ls h))

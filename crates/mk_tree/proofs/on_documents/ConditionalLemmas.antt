@@ -10,7 +10,7 @@ use Rattle.mk_tree.specs.Documents.{AreUnconditional, most_conditionals}
 use Rattle.mk_tree.specs.EachReplaced.{ReplaceEach}
 
 -- such a line leaves the number of open conditionals
-pub conditionals-kept : (n : ℕ) (k : Class Cell) → not (is_conditional k) ≡ true → conditionals_after n k ≡ n
+conditionals-kept : (n : ℕ) (k : Class Cell) → not (is_conditional k) ≡ true → conditionals_after n k ≡ n
 conditionals-kept n Endef h = refl
 conditionals-kept n (Body d) h = refl
 conditionals-kept n Recipe h = refl
@@ -33,12 +33,12 @@ conditionals-kept_by_lines c [] h = refl
 conditionals-kept_by_lines c (l ∷ ls) h = conditionals-kept_by_lines (context_after c l.class) ls h.1 ∙ conditionals-kept c.conditionals l.class h.0
 
 -- as many are open as were open before the first line
-pub most_conditionals-least : (n : ℕ) (ls : List ClassedLine) → max n (most_conditionals n ls) ≡ most_conditionals n ls
+most_conditionals-least : (n : ℕ) (ls : List ClassedLine) → max n (most_conditionals n ls) ≡ most_conditionals n ls
 most_conditionals-least n [] = omega arith
 most_conditionals-least n (l ∷ ls) = omega arith
 
 -- the most of two runs of lines
-pub most_conditionals-append : (c : Context) (a b : List ClassedLine)
+most_conditionals-append : (c : Context) (a b : List ClassedLine)
     → most_conditionals c.conditionals (a ++ b) ≡ max (most_conditionals c.conditionals a) (most_conditionals (context_after_lines c a).conditionals b)
 most_conditionals-append c [] b = sym (most_conditionals-least c.conditionals b)
 most_conditionals-append c (l ∷ a) b =
@@ -50,7 +50,7 @@ most_conditionals-append c (l ∷ a) b =
     assoc x y z = omega arith
 
 -- lines of no conditional open none
-pub most_conditionals-unconditional : (n : ℕ) (ls : List ClassedLine) → AreUnconditional ls → most_conditionals n ls ≡ n
+most_conditionals-unconditional : (n : ℕ) (ls : List ClassedLine) → AreUnconditional ls → most_conditionals n ls ≡ n
 most_conditionals-unconditional n [] h = refl
 most_conditionals-unconditional n (l ∷ ls) h =
     let e : max n n ≡ n = omega arith in

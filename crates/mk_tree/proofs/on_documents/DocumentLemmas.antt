@@ -14,7 +14,7 @@ use Rattle.mk_tree.specs.Documents.{text_of, document_lines, IsFaithful, IsFaith
 use Rattle.mk_tree.specs.RecipeLines.{stays_in_rule, ends_rule, rule_lines}
 
 -- the text of lines is that of their bytes
-pub text_of-classed : (c : Context) (ls : List (List ℕ)) → text_of (classed c ls) ≡ concat ls
+text_of-classed : (c : Context) (ls : List (List ℕ)) → text_of (classed c ls) ≡ concat ls
 text_of-classed c [] = refl
 text_of-classed c (l ∷ ls) = ap (λ z. l ++ z) (text_of-classed (context_after c (class_of c l)) ls)
 
@@ -23,7 +23,7 @@ pub text_of-classed_lines : (t : List ℕ) → text_of (classed_lines t) ≡ t
 text_of-classed_lines t = text_of-classed start (logical_lines t) ∙ concat-logical_lines t
 
 -- the text of lines as a document shows them is theirs
-pub placed_text-placed_lines : (ls : List ClassedLine) → placed_text (placed_lines ls) ≡ text_of ls
+placed_text-placed_lines : (ls : List ClassedLine) → placed_text (placed_lines ls) ≡ text_of ls
 placed_text-placed_lines [] = refl
 placed_text-placed_lines (l ∷ ls) = ap (λ z. l.bytes ++ z) (placed_text-placed_lines ls)
 

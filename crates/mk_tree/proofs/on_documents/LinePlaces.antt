@@ -3,7 +3,7 @@ use Rattle.std.proofs.Common.{◌≡◌, refl, sym, ap, ◌∙◌, subst, ℕ, L
 use Rattle.std.proofs.lemmas.List.{append-nil}
 use Rattle.mk_lines.specs.Lists.{concat}
 use Rattle.mk_lines.specs.LogicalLines.{logical_lines}
-use Rattle.mk_lines.proofs.on_lines.LineLemmas.{concat-logical_lines, OneLine, Ends, EndsBefore, Among, among}
+use Rattle.mk_lines.proofs.on_lines.LineLemmas.{OneLine, Ends, EndsBefore, Among, among}
 use Rattle.mk_lines.specs.Cells.{Cell}
 use Rattle.mk_class.specs.Classes.{Class}
 use Rattle.mk_class.specs.Contexts.{Context, start, context_after}
@@ -13,6 +13,7 @@ use Rattle.mk_class.proofs.on_contexts.FlagLemmas.{context_after_lines-append}
 use Rattle.mk_tree.specs.LineTexts.{text_of, context_of, line_in}
 use Rattle.mk_tree.specs.Items.{items, items_of_line}
 use Rattle.mk_tree.specs.Readings.{reading}
+use Rattle.mk_tree.proofs.on_documents.DocumentLemmas.{text_of-classed_lines}
 pub use Rattle.mk_tree.specs.LineTexts.{bytes_of}
 
 pub bytes_of-append : (a b : List ClassedLine) → bytes_of (a ++ b) ≡ bytes_of a ++ bytes_of b
@@ -28,10 +29,6 @@ bytes_of-classed c (l ∷ ls) = ap (λ z. l ∷ z) (bytes_of-classed (context_af
 pub text_of-bytes : (ls : List ClassedLine) → text_of ls ≡ concat (bytes_of ls)
 text_of-bytes [] = refl
 text_of-bytes (l ∷ ls) = ap (λ z. l.bytes ++ z) (text_of-bytes ls)
-
--- so the text of a text's lines is that text
-pub text_of-classed_lines : (t : List ℕ) → text_of (classed_lines t) ≡ t
-text_of-classed_lines t = text_of-bytes (classed_lines t) ∙ (ap concat (bytes_of-classed start (logical_lines t)) ∙ concat-logical_lines t)
 
 pub text_of-append : (a b : List ClassedLine) → text_of (a ++ b) ≡ text_of a ++ text_of b
 text_of-append [] b = refl
@@ -73,19 +70,14 @@ AreClassed-cons c l ls h k =
     ap (λ (z : Class Cell). record { bytes = l.bytes; class = z } ∷ classed (context_after c z) (bytes_of ls)) h ∙ ap (λ z. l ∷ z) k
 
 -- two runs of lines
-pub AreClassed-first : (c : Context) (a b : List ClassedLine) → AreClassed c (a ++ b) → AreClassed c a
+AreClassed-first : (c : Context) (a b : List ClassedLine) → AreClassed c (a ++ b) → AreClassed c a
 AreClassed-first c [] b h = refl
 AreClassed-first c (l ∷ a) b h =
     AreClassed-cons c l a (AreClassed-class c l (a ++ b) h) (AreClassed-first (context_after c l.class) a b (AreClassed-tail c l (a ++ b) h))
 
-pub AreClassed-second : (c : Context) (a b : List ClassedLine) → AreClassed c (a ++ b) → AreClassed (context_after_lines c a) b
+AreClassed-second : (c : Context) (a b : List ClassedLine) → AreClassed c (a ++ b) → AreClassed (context_after_lines c a) b
 AreClassed-second c [] b h = h
 AreClassed-second c (l ∷ a) b h = AreClassed-second (context_after c l.class) a b (AreClassed-tail c l (a ++ b) h)
-
-pub AreClassed-append : (c : Context) (a b : List ClassedLine) → AreClassed c a → AreClassed (context_after_lines c a) b → AreClassed c (a ++ b)
-AreClassed-append c [] b h k = k
-AreClassed-append c (l ∷ a) b h k =
-    AreClassed-cons c l (a ++ b) (AreClassed-class c l a h) (AreClassed-append (context_after c l.class) a b (AreClassed-tail c l a h) k)
 
 -- the lines of a text have the classes that they have there
 pub AreClassed-lines : (t : List ℕ) (ls : List ClassedLine) → classed_lines t ≡ ls → AreClassed start ls

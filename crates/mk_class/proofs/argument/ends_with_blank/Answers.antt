@@ -1,5 +1,5 @@
 use Rattle.std.proofs.Common.{sym, ◌∙◌}
-use Rattle.mk_class.specs.Arguments.{is_blank_byte}
+use Rattle.mk_lines.specs.Bytes.{is_blank_byte}
 use Rattle.mk_class.proofs.ArgumentLemmas.{last_passes-at}
 use Rattle.mk_class.proofs.argument.ends_with_blank.Goals as goal
 

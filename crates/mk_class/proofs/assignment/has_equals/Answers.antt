@@ -1,6 +1,6 @@
 use Rattle.std.proofs.Common.{◌∙◌}
 use Rattle.memchr.specs.Find.{is_byte}
-use Rattle.mk_class.proofs.SearchLemmas.{search-any}
+use Rattle.mk_lines.proofs.on_lists.ByteLemmas.{search-any}
 use Rattle.mk_class.proofs.assignment.has_equals.Goals as goal
 
 pub returns : goal.returns

@@ -1,4 +1,4 @@
-use Rattle.std.proofs.Common.{◌≡◌, ◌∙◌, sym, subst, arith, inl, inr}
+use Rattle.std.proofs.Common.{◌∙◌, sym, subst, arith, inl, inr}
 use Rattle.mk_edit_parts.specs.EditViews.{edit_of}
 use Rattle.mk_edit.specs.Planned.{IsPlanned}
 use Rattle.mk_edit.proofs.on_recipes.RecipeRemovals.{recipe-removal_of}

@@ -1,4 +1,4 @@
-use Rattle.std.proofs.Common.{◌≡◌, ◌∙◌, sym, subst, arith, inl, inr, true, false}
+use Rattle.std.proofs.Common.{◌∙◌, sym, subst, arith, inl, inr, true, false}
 use Rattle.mk_tree.specs.Trees.{line_view}
 use Rattle.mk_edit_parts.specs.EditViews.{edit_of}
 use Rattle.mk_edit.specs.Planned.{IsPlanned}

@@ -1,6 +1,6 @@
 -- The words counted so far and those of what is left are the text's; each took a byte at least.
 use Rattle.std.proofs.Common.{◌≡◌, ◌≤◌, ◌+◌, length}
-use Rattle.mk_edit_laws.specs.NewLines.{words_in}
+use Rattle.mk_lines.specs.Words.{words_in}
 use Rattle.mk_edit.proofs.unrule.word_count.Given as goal
 
 abbrev pub invariant-words : goal.invariant-words

@@ -1,6 +1,5 @@
-use Rattle.std.proofs.Common.{◌≡◌, ◌∙◌, ◌≤◌, ◌+◌, ◌-◌, ◌^◌, ◌++◌, ap, sym, arith, inl, inr, refl, length, length-append, ℕ, true, false}
+use Rattle.std.proofs.Common.{◌≡◌, ◌∙◌, ◌+◌, ◌++◌, ap, sym, arith, inl, inr, refl, length, length-append, false}
 use Rattle.mk_tree.specs.Trees.{line_view}
-use Rattle.mk_tree.specs.PlacedLines.{size_of, placed_text}
 use Rattle.mk_edit_laws.specs.Addresses.{address}
 use Rattle.mk_edit_parts.specs.EditViews.{edit_of}
 use Rattle.mk_edit_parts.specs.LineRanges.{value_range_placed}

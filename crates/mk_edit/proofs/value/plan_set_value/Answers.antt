@@ -1,12 +1,11 @@
-use Rattle.std.proofs.Common.{◌≡◌, ◌∙◌, ◌≤◌, ◌+◌, ◌-◌, ◌^◌, ap, sym, arith, inl, inr, refl, length, ℕ, take, drop, ◌++◌}
+use Rattle.std.proofs.Common.{◌∙◌, ap, arith, inl, inr, refl, length, take, drop, ◌++◌}
 use Rattle.mk_tree.specs.Trees.{line_view}
-use Rattle.mk_tree.specs.PlacedLines.{size_of, placed_text}
 use Rattle.mk_edit_laws.specs.Addresses.{address}
 use Rattle.mk_edit_parts.specs.EditViews.{edit_of}
 use Rattle.mk_edit_parts.specs.LineRanges.{value_range_placed}
 use Rattle.mk_edit_parts.proofs.on_finding.PlaceLemmas.{faithful-at}
 use Rattle.mk_edit.proofs.on_plans.PlanLemmas.{planned-if_ok, planned-if_err}
-use Rattle.mk_edit.proofs.on_plans.RangePlans.{line-short, range-long, range-accepted, range-replaced, line_with}
+use Rattle.mk_edit.proofs.on_plans.RangePlans.{line-short, range-long, range-accepted, range-replaced}
 use Rattle.mk_edit.proofs.on_values.ValuePlaces.{variable-place}
 use Rattle.mk_edit.proofs.on_values.ValuePlans.{set-range}
 use Rattle.mk_edit.proofs.value.plan_set_value.Goals as goal

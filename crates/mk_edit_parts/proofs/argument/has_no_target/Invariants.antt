@@ -1,8 +1,8 @@
 -- The text has such a word where what is left of it has one.
 use Rattle.std.proofs.Common.{◌≡◌, length, not}
+use Rattle.mk_lines.specs.Words.{words_in}
 use Rattle.mk_class.specs.Arguments.{is_target}
 use Rattle.mk_class.specs.Lists.{any}
-use Rattle.mk_edit_laws.specs.NewLines.{words_in}
 use Rattle.mk_edit_parts.proofs.argument.has_no_target.Given as goal
 
 abbrev pub invariant-words : goal.invariant-words

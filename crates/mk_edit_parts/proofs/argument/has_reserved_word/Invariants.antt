@@ -1,8 +1,8 @@
 -- The text has such a word where what is left of it has one.
 use Rattle.std.proofs.Common.{◌≡◌, length}
+use Rattle.mk_lines.specs.Words.{words_in}
 use Rattle.mk_class.specs.Keywords.{is_reserved_word}
 use Rattle.mk_class.specs.Lists.{any}
-use Rattle.mk_edit_laws.specs.NewLines.{words_in}
 use Rattle.mk_edit_parts.proofs.argument.has_reserved_word.Given as goal
 
 abbrev pub invariant-words : goal.invariant-words

@@ -1,6 +1,7 @@
 use Rattle.std.proofs.Common.{ap, arith, length}
 use Rattle.std.proofs.Common.{length-append}
-use Rattle.mk_edit_laws.specs.NewLines.{spaced, each_spaced, words_in}
+use Rattle.mk_lines.specs.Words.{words_in}
+use Rattle.mk_edit_laws.specs.NewLines.{spaced, each_spaced}
 use Rattle.mk_edit_parts.proofs.on_new_lines.NewLineTexts.{cut-lengths, spaced-length}
 use Rattle.mk_edit_parts.proofs.new_line.each_spaced_len.Goals as goal
 

@@ -1,6 +1,7 @@
 -- What is counted, with the words of what is left, is all; each word is shorter than what it is cut from.
 use Rattle.std.proofs.Common.{◌≡◌, ◌+◌, ◌*◌, ◌≤◌, length}
-use Rattle.mk_edit_laws.specs.NewLines.{each_spaced, words_in}
+use Rattle.mk_lines.specs.Words.{words_in}
+use Rattle.mk_edit_laws.specs.NewLines.{each_spaced}
 use Rattle.mk_edit_parts.proofs.new_line.each_spaced_len.Given as goal
 
 abbrev pub invariant-words : goal.invariant-words

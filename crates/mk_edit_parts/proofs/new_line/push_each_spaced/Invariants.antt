@@ -1,6 +1,7 @@
 -- The words of what is left are still to be put after the bytes.
 use Rattle.std.proofs.Common.{◌≡◌, ◌++◌, length}
-use Rattle.mk_edit_laws.specs.NewLines.{each_spaced, words_in}
+use Rattle.mk_lines.specs.Words.{words_in}
+use Rattle.mk_edit_laws.specs.NewLines.{each_spaced}
 use Rattle.mk_edit_parts.proofs.new_line.push_each_spaced.Given as goal
 
 abbrev pub invariant-words : goal.invariant-words

@@ -1,8 +1,8 @@
 use Rattle.std.proofs.Common.{◌∙◌, ap}
 use Rattle.mk_lines.specs.Cells.{line_cells}
 use Rattle.mk_class.specs.Texts.{is_one_of}
-use Rattle.mk_edit_laws.specs.NewLines.{words_in}
 use Rattle.mk_lines.specs.Ranges.{text_at}
+use Rattle.mk_lines.specs.Words.{words_in}
 use Rattle.mk_tree.specs.Trees.{line_view}
 use Rattle.mk_edit_parts.proofs.on_prerequisites.WordRangeLemmas.{part-words}
 use Rattle.mk_edit_parts.proofs.prerequisite.has_order_only.Goals as goal

@@ -1,7 +1,6 @@
-use Rattle.std.proofs.Common.{◌≡◌, ◌≤◌, ◌∙◌, sym, ap, subst, length}
-use Rattle.std.specs.Prelude.{slice_range}
+use Rattle.std.proofs.Common.{◌∙◌, ap}
 use Rattle.mk_lines.specs.Cells.{line_cells}
-use Rattle.mk_lines.specs.Ranges.{raw_place, raw_range, text_at}
+use Rattle.mk_lines.specs.Ranges.{text_at}
 use Rattle.mk_tree.specs.Trees.{line_view}
 use Rattle.mk_edit_parts.proofs.on_prerequisites.RawPartLemmas.{raw-rises, raw-within, raw-part}
 use Rattle.mk_edit_parts.proofs.prerequisite.raw_part.Goals as goal

@@ -1,7 +1,5 @@
-use Rattle.std.proofs.Common.{◌≡◌, ◌≤◌, ◌∙◌, sym, ap, subst, length}
+use Rattle.std.proofs.Common.{◌∙◌, ap, length}
 use Rattle.std.specs.Prelude.{slice_range}
-use Rattle.mk_lines.specs.Cells.{line_cells}
-use Rattle.mk_lines.specs.Ranges.{raw_place, raw_range, text_at}
 use Rattle.mk_lines.specs.declared.split.Span.{Span}
 use Rattle.mk_tree.specs.Trees.{line_view}
 use Rattle.mk_edit_parts.proofs.on_prerequisites.RawPartLemmas.{raw-within, raw-rest}

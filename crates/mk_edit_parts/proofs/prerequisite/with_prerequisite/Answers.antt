@@ -1,8 +1,8 @@
-use Rattle.std.proofs.Common.{◌≡◌, ◌≤◌, ◌∙◌, ◌++◌, refl, ap, sym, subst, drop, length}
+use Rattle.std.proofs.Common.{◌≤◌, ◌∙◌, ◌++◌, refl, ap, sym, subst, drop, length}
 use Rattle.mk_lines.specs.PhysicalLines.{line_end, line_end_bytes}
 use Rattle.mk_lines.specs.Cells.{line_cells, raw_text}
 use Rattle.mk_tree.specs.Trees.{line_view}
-use Rattle.mk_edit_parts.specs.PlacedParts.{text_of_line}
+use Rattle.mk_tree.specs.PlacedLines.{text_of_line}
 use Rattle.mk_edit_parts.specs.WordCuts.{raw_between}
 use Rattle.mk_edit_parts.specs.NewPrerequisites.{after_new, before_new, place_of_new}
 use Rattle.mk_edit_parts.proofs.on_prerequisites.HeaderBytes.{header-with, five-joined, new-within}

@@ -1,9 +1,9 @@
-use Rattle.std.proofs.Common.{◌≡◌, ◌∙◌, ◌++◌, refl, ap, drop}
+use Rattle.std.proofs.Common.{◌∙◌, ◌++◌, refl, ap, drop}
 use Rattle.mk_lines.specs.PhysicalLines.{line_end, line_end_bytes}
 use Rattle.mk_lines.specs.Cells.{line_cells, raw_text}
 use Rattle.mk_lines.specs.declared.split.Span.{Span}
+use Rattle.mk_class.specs.LineParts.{normal_span, order_only_span}
 use Rattle.mk_tree.specs.Trees.{line_view}
-use Rattle.mk_edit_parts.specs.SeenHeaders.{normal_span, order_only_span}
 use Rattle.mk_edit_parts.specs.WordCuts.{raw_between}
 use Rattle.mk_edit_parts.proofs.on_prerequisites.HeaderBytes.{part_without, header-without, five-joined}
 use Rattle.mk_edit_parts.proofs.prerequisite.without_prerequisite.Goals as goal

@@ -1,5 +1,5 @@
 -- The last end of the words passed and of those ahead is that of all, and those ahead rise within the part.
-use Rattle.std.proofs.Common.{◌≡◌, ◌-◌, length}
+use Rattle.std.proofs.Common.{◌≡◌, ◌-◌}
 use Rattle.mk_lines.specs.Ranges.{text_at, word_ranges}
 use Rattle.mk_edit_parts.specs.WordCuts.{last_end}
 use Rattle.mk_edit_parts.proofs.on_prerequisites.WordRangeLemmas.{AreRising}

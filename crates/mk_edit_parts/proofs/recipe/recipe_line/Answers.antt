@@ -1,4 +1,4 @@
-use Rattle.std.proofs.Common.{◌≡◌, ◌∙◌, ◌≤◌, ◌==◌, ◌+◌, ap, sym, arith, true, false, length}
+use Rattle.std.proofs.Common.{◌≡◌, ◌∙◌, ◌≤◌, ◌+◌, ap, sym, arith, true, false, length}
 use Rattle.std.proofs.lemmas.Bool.{ne_eqb}
 use Rattle.mk_tree.specs.Trees.{line_view}
 use Rattle.mk_edit_parts.specs.RecipeWalks.{is_recipe_places, stays_in_rule_places}

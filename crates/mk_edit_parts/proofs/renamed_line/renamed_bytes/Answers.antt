@@ -1,12 +1,13 @@
-use Rattle.std.proofs.Common.{◌≡◌, ◌∙◌, sym, ap, subst, arith, ◌++◌, length, List, ℕ, [], drop}
-use Rattle.mk_lines.specs.Cells.{Cell, line_cells}
+use Rattle.std.proofs.Common.{◌≡◌, ◌∙◌, sym, ap, subst, arith, ◌++◌, length, List, ℕ, drop}
+use Rattle.mk_lines.specs.Cells.{line_cells}
 use Rattle.mk_class.specs.declared.class.Class as class
 use Rattle.mk_tree.specs.Trees.{line_view}
 use Rattle.mk_edit_parts.specs.declared.word_parts.WordParts.{WordParts}
 use Rattle.mk_edit_parts.specs.RenamedPlaces.{part_places, parts_places, word_parts}
-use Rattle.mk_edit_parts.specs.RenamedTexts.{AreApart, rewritten, written, written_to}
+use Rattle.mk_edit_parts.specs.RenamedTexts.{AreApart, rewritten}
 use Rattle.mk_edit_parts.proofs.on_renaming.PlaceLemmas.{places-are}
 use Rattle.mk_edit_parts.proofs.on_renaming.WrittenLemmas.{AreWritten, three-written, parts-joined}
+use Rattle.mk_edit_parts.specs.WordCuts.{last_end}
 use Rattle.mk_edit_parts.proofs.renamed_line.renamed_bytes.Goals as goal
 
 parts-written : (l o n : List ℕ) (p : WordParts) (k j : class.Class) → p ≡ word_parts k → k ≡ j → AreApart 0 (length l) (parts_places (line_cells l) o (word_parts j))
@@ -28,7 +29,7 @@ write_part-requires-3-clause-apart g c =
     let l = (line_view c.args.line.now).bytes in
     let p = c.parts_of-parts.result in
     let W = parts-written l c.args.from.now c.args.to.now p _ _ c.parts_of-parts.ensures.parts c.requires.class c.requires.apart in
-    let e = c.in_ok-normal_end.ensures.end ∙ ap (λ m. written_to m (part_places (line_cells l) c.args.from.now p.normal)) c.in_ok-targets_end.ensures.end in
+    let e = c.in_ok-normal_end.ensures.end ∙ ap (λ m. last_end m (part_places (line_cells l) c.args.from.now p.normal)) c.in_ok-targets_end.ensures.end in
     subst (λ m. AreApart m (length l) (part_places (line_cells l) c.args.from.now p.order_only)) (sym e) W.third
 
 pub rest-requires : goal.rest-requires
@@ -38,7 +39,7 @@ rest-requires g c =
     let cs = line_cells l in
     let o = c.args.from.now in
     let W = parts-written l o c.args.to.now p _ _ c.parts_of-parts.ensures.parts c.requires.class c.requires.apart in
-    let e = c.in_ok-end.ensures.end ∙ ap (λ m. written_to m (part_places cs o p.order_only)) (c.in_ok-normal_end.ensures.end ∙ ap (λ m. written_to m (part_places cs o p.normal)) c.in_ok-targets_end.ensures.end) in
+    let e = c.in_ok-end.ensures.end ∙ ap (λ m. last_end m (part_places cs o p.order_only)) (c.in_ok-normal_end.ensures.end ∙ ap (λ m. last_end m (part_places cs o p.normal)) c.in_ok-targets_end.ensures.end) in
     omega (arith, e, W.within, ap length c.bytes.ensures.bytes)
 
 pub returns : goal.returns

@@ -1,12 +1,12 @@
-use Rattle.std.proofs.Common.{◌≡◌, ◌∙◌, sym, ap, subst, arith, rules, List, [], ◌∷◌, ◌++◌, Option, None, ℕ, length}
+use Rattle.std.proofs.Common.{◌≡◌, ◌∙◌, sym, ap, subst, arith, List, [], ◌∷◌, ◌++◌, None, ℕ, length}
 use Rattle.mk_lines.specs.Cells.{line_cells, joined_text}
-use Rattle.mk_lines.specs.declared.split.Span.{Span}
 use Rattle.mk_lines.specs.Ranges.{text_at, word_ranges}
 use Rattle.mk_tree.specs.Trees.{line_view}
 use Rattle.mk_edit_parts.specs.RenamedPlaces.{places_in}
-use Rattle.mk_edit_parts.specs.RenamedTexts.{AreApart, written, written_to}
+use Rattle.mk_edit_parts.specs.RenamedTexts.{AreApart, written}
 use Rattle.mk_edit_parts.proofs.on_renaming.PlaceLemmas.{part-words, first-within, places-first}
 use Rattle.mk_edit_parts.proofs.on_renaming.WrittenLemmas.{written-more}
+use Rattle.mk_edit_parts.specs.WordCuts.{last_end}
 use Rattle.mk_edit_parts.proofs.renamed_line.write_part.Goals as goal
 
 pub words-init : goal.words-init
@@ -22,7 +22,7 @@ words-init g c =
       tt,
       part-words cs p _ c.requires.within e,
       subst (AreApart c.args.done (length b)) (sym k) c.requires.apart,
-      ap (written_to c.args.done) k,
+      ap (last_end c.args.done) k,
       ap (λ ss. c.args.bytes.now.items ++ written b c.args.done c.args.to.now ss) k,
     )
 
@@ -59,7 +59,7 @@ words-preserved-in-Some-place_of_word g c =
       tt,
       (first-within _ _ _ _ I.2 c.in-Some.ensures.steps).1,
       (subst (AreApart c.words.done (length b)) e I.3).2,
-      ap (written_to c.words.done) (sym e) ∙ I.4,
+      ap (last_end c.words.done) (sym e) ∙ I.4,
       written-more b _ c.words.bytes.items c.write_word.new.bytes.items n c.words.done s rest w (ap (λ ss. c.words.bytes.items ++ written b c.words.done n ss) (sym e) ∙ I.5),
     )
 
@@ -76,6 +76,6 @@ words-preserved g c =
       tt,
       (first-within _ _ _ _ I.2 c.in-Some.ensures.steps).1,
       subst (AreApart c.words.done (length b)) e I.3,
-      ap (written_to c.words.done) (sym e) ∙ I.4,
+      ap (last_end c.words.done) (sym e) ∙ I.4,
       ap (λ ss. c.words.bytes.items ++ written b c.words.done n ss) (sym e) ∙ I.5,
     )

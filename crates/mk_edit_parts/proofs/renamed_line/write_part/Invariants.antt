@@ -3,7 +3,8 @@ use Rattle.std.proofs.Common.{◌≡◌, ◌-◌, ◌++◌, length}
 use Rattle.mk_lines.specs.Cells.{line_cells}
 use Rattle.mk_tree.specs.Trees.{line_view}
 use Rattle.mk_edit_parts.specs.RenamedPlaces.{AreWithin, part_places, places_in}
-use Rattle.mk_edit_parts.specs.RenamedTexts.{AreApart, written, written_to}
+use Rattle.mk_edit_parts.specs.RenamedTexts.{AreApart, written}
+use Rattle.mk_edit_parts.specs.WordCuts.{last_end}
 use Rattle.mk_edit_parts.proofs.renamed_line.write_part.Given as goal
 
 abbrev pub invariant-words : goal.invariant-words
@@ -14,5 +15,5 @@ invariant-words g l =
     (goal.iterator-words g).can_next l.word-iterator × (goal.iterator-words g).is_finite l.word-iterator
     × AreWithin (l.span.end - l.span.start) l.word-iterator
     × AreApart l.done (length b) ahead
-    × (written_to l.done ahead ≡ written_to l.fn.done all)
+    × (last_end l.done ahead ≡ last_end l.fn.done all)
     × (l.bytes.items ++ written b l.done l.to ahead ≡ l.fn.bytes.items ++ written b l.fn.done l.to all)

@@ -1,4 +1,4 @@
-use Rattle.std.proofs.Common.{◌≡◌, ◌∙◌, sym, ap, arith, rules, List, [], ◌∷◌, Option, Bool}
+use Rattle.std.proofs.Common.{◌≡◌, ◌∙◌, sym, ap, arith, rules, [], ◌∷◌, Option}
 use Rattle.mk_lines.specs.Cells.{line_cells, joined_text}
 use Rattle.mk_lines.specs.declared.split.Span.{Span}
 use Rattle.mk_lines.specs.Ranges.{text_at, word_ranges}

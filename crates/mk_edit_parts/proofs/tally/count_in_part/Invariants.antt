@@ -1,5 +1,5 @@
 -- The count, with the words ahead, is that of all words of the part.
-use Rattle.std.proofs.Common.{◌≡◌, ◌-◌, length}
+use Rattle.std.proofs.Common.{◌≡◌, ◌-◌}
 use Rattle.mk_lines.specs.Cells.{line_cells}
 use Rattle.mk_tree.specs.Trees.{line_view}
 use Rattle.mk_edit_parts.specs.RenamedPlaces.{AreWithin, part_places, places_in, tallied}

@@ -1,10 +1,10 @@
-use Rattle.std.proofs.Common.{◌≡◌, ◌∙◌, sym, ap, subst, arith, ℕ, ◌+◌, ◌^◌, ◌≤◌, ◌++◌, List}
+use Rattle.std.proofs.Common.{◌≡◌, ◌∙◌, ap, arith, ℕ, ◌+◌, ◌^◌, ◌≤◌, ◌++◌, List}
 use Rattle.mk_lines.specs.Cells.{Cell, line_cells}
 use Rattle.mk_class.specs.declared.class.Class as class
 use Rattle.mk_tree.specs.Trees.{line_view}
 use Rattle.mk_edit_parts.specs.declared.tally.Tally.{Tally}
 use Rattle.mk_edit_parts.specs.declared.word_parts.WordParts.{WordParts}
-use Rattle.mk_edit_parts.specs.RenamedPlaces.{bytes_in, no_words, part_places, parts_places, renamed_places, tallied, word_parts}
+use Rattle.mk_edit_parts.specs.RenamedPlaces.{bytes_in, no_words, part_places, parts_places, tallied, word_parts}
 use Rattle.mk_edit_parts.proofs.on_renaming.PlaceLemmas.{bytes_in-three, places-are, tallied-append}
 use Rattle.mk_edit_parts.proofs.tally.count_words.Goals as goal
 

@@ -1,7 +1,7 @@
 -- The word is one of the text's where it is one of what is left of it.
 use Rattle.std.proofs.Common.{◌≡◌, length}
+use Rattle.mk_lines.specs.Words.{words_in}
 use Rattle.mk_class.specs.Texts.{is_one_of}
-use Rattle.mk_edit_laws.specs.NewLines.{words_in}
 use Rattle.mk_edit_parts.proofs.text.has_word.Given as goal
 
 abbrev pub invariant-words : goal.invariant-words

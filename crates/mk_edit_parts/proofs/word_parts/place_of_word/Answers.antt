@@ -1,5 +1,4 @@
 use Rattle.std.proofs.Common.{◌+◌, sym, subst, arith, length}
-use Rattle.mk_lines.specs.declared.split.Span.{Span}
 use Rattle.mk_tree.specs.Trees.{line_view}
 use Rattle.mk_edit_parts.specs.RenamedPlaces.{IsWithin}
 use Rattle.mk_edit_parts.proofs.on_renaming.PlaceLemmas.{place-within}

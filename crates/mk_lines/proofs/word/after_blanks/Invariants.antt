@@ -1,7 +1,7 @@
 -- What follows the blanks of the text is what follows those of what is left.
 use Rattle.std.proofs.Common.{◌≡◌, ◌≤◌, length}
 use Rattle.mk_lines.specs.Lists.{after_leading}
-use Rattle.mk_lines.specs.UnitWalk.{is_blank_byte}
+use Rattle.mk_lines.specs.Bytes.{is_blank_byte}
 use Rattle.mk_lines.proofs.word.after_blanks.Given as goal
 
 abbrev pub invariant-loop-rest : goal.invariant-loop-rest

@@ -1,6 +1,8 @@
 use Rattle.std.proofs.Common.{◌++◌, refl, sym}
 use Rattle.mk_lines.specs.Ranges.{text_at}
-use Rattle.mk_queries.specs.PlacedTexts.{words_in, normal_span, order_only_span, header_placed}
+use Rattle.mk_lines.specs.Words.{words_in}
+use Rattle.mk_class.specs.LineParts.{normal_span, order_only_span}
+use Rattle.mk_queries.specs.PlacedTexts.{header_placed}
 use Rattle.mk_queries.specs.PartTexts.{targets_text, pattern_text, order_only_text}
 use Rattle.mk_queries.specs.Spacing.{each_after_space}
 use Rattle.mk_queries.proofs.on_gathering.PutLemmas.{put-second, put-second_failed, four-parts}

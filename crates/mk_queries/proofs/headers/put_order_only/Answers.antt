@@ -1,6 +1,6 @@
 use Rattle.std.proofs.Common.{◌++◌, []}
 use Rattle.std.specs.Prelude.{codes}
-use Rattle.mk_queries.specs.PlacedTexts.{words_in}
+use Rattle.mk_lines.specs.Words.{words_in}
 use Rattle.mk_queries.specs.PartTexts.{order_only_text}
 use Rattle.mk_queries.specs.Spacing.{each_after_space}
 use Rattle.mk_queries.proofs.on_gathering.PutLemmas.{put-first_failed, put-second, put-second_failed}

@@ -1,7 +1,8 @@
 use Rattle.std.proofs.Common.{◌++◌, ◌∙◌, refl, sym, subst, length}
 use Rattle.mk_tree.specs.Trees.{line_view}
+use Rattle.mk_tree.specs.PlacedLines.{text_of_line}
 use Rattle.mk_queries.specs.ItemLines.{place_text}
-use Rattle.mk_queries.specs.PlacedTexts.{IsHeaderWithin, text_of_line, header_placed, count_placed, rule_placed}
+use Rattle.mk_queries.specs.PlacedTexts.{IsHeaderWithin, header_placed, count_placed, rule_placed}
 use Rattle.mk_queries.proofs.on_gathering.PutLemmas.{put-nothing, put-first_failed, put-second_failed, put-both, put-prefix, three-parts}
 use Rattle.mk_queries.proofs.on_gathering.SpacingLemmas.{put-more, put-more_failed}
 use Rattle.mk_queries.proofs.on_parts.HeaderPartLemmas.{header-within, header-said, rule-none}

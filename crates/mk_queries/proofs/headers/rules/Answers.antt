@@ -1,11 +1,11 @@
 use Rattle.std.proofs.Common.{◌≡◌, ◌∙◌, ◌+◌, ◌^◌, ◌≤◌, ◌++◌, [], None, length, arith, rules, ap, refl, sym, subst}
 use Rattle.mk_lines.specs.Device.{AppendsPrefix}
 use Rattle.mk_class.specs.Contexts.{start}
-use Rattle.mk_tree.specs.PlacedLines.{size_of, placed_text}
+use Rattle.mk_tree.specs.PlacedLines.{size_of, placed_text, text_of_line}
 use Rattle.mk_tree.specs.Trees.{line_view}
 use Rattle.mk_tree.specs.Walks.{LinesInContext}
 use Rattle.mk_tree.proofs.Prefixes.{so_far-start, so_far-more, so_far-prefix}
-use Rattle.mk_queries.specs.PlacedTexts.{text_of_line, count_of, count_placed, counted_after, rule_placed}
+use Rattle.mk_queries.specs.PlacedTexts.{count_of, count_placed, counted_after, rule_placed}
 use Rattle.mk_queries.specs.Queries.{rules_text}
 use Rattle.mk_queries.specs.Walks.{line_feeds, rules_ahead}
 use Rattle.mk_queries.proofs.on_gathering.PutLemmas.{put-next, put-next_failed, put-last, put-last_failed}

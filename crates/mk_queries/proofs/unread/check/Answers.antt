@@ -1,8 +1,9 @@
 use Rattle.std.proofs.Common.{◌≡◌, ◌∙◌, ◌+◌, ◌++◌, [], length, arith, rules, ap, refl, subst}
 use Rattle.mk_lines.specs.Device.{AppendsPrefix}
+use Rattle.mk_lines.proofs.PrefixLemmas.{AppendsPrefix-front}
 use Rattle.mk_tree.specs.PlacedLines.{size_of}
 use Rattle.mk_tree.specs.Trees.{line_view}
-use Rattle.mk_tree.proofs.Prefixes.{AppendsPrefix-front, so_far-start, so_far-more, so_far-prefix}
+use Rattle.mk_tree.proofs.Prefixes.{so_far-start, so_far-more, so_far-prefix}
 use Rattle.mk_queries.specs.Queries.{end_lines}
 use Rattle.mk_queries.specs.Walks.{line_feeds, unread_placed, unread_ahead}
 use Rattle.mk_queries.proofs.on_gathering.PutLemmas.{put-next, put-next_failed, put-last, put-last_failed}

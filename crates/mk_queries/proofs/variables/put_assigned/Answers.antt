@@ -1,8 +1,9 @@
 use Rattle.std.proofs.Common.{◌++◌, ◌∙◌, [], refl, sym}
 use Rattle.std.specs.Prelude.{codes}
 use Rattle.mk_lines.specs.Ranges.{text_at}
-use Rattle.mk_queries.specs.PartTexts.{operator_text}
-use Rattle.mk_queries.specs.PlacedTexts.{words_in, assigned_placed}
+use Rattle.mk_lines.specs.Words.{words_in}
+use Rattle.mk_class.specs.OperatorTexts.{operator_text}
+use Rattle.mk_queries.specs.PlacedTexts.{assigned_placed}
 use Rattle.mk_queries.specs.Spacing.{each_before_space, after_space}
 use Rattle.mk_queries.proofs.on_gathering.PutLemmas.{put-first_failed, put-second, put-second_failed, four-parts}
 use Rattle.mk_queries.proofs.on_gathering.SpacingLemmas.{put-more, put-more_failed}
@@ -41,7 +42,7 @@ returns-in_err-put-clause-prefix g c =
     let n = c.part-2.result.now ++ (codes " " ++ []) in
     let o = c.as_bytes.result.now in
     let v = after_space (text_at t at.value) ++ codes "\n" in
-    let p = four-parts w m n o v (assigned-parts t c.args.start at c.part.result.now c.part-2.result.now o (text_at t at.value) c.part.ensures c.part-2.ensures (c.as_bytes.ensures.value ∙ c.operator_text.ensures) refl) in
+    let p = four-parts w m n o v (assigned-parts t c.args.start at c.part.result.now c.part-2.result.now o (text_at t at.value) c.part.ensures c.part-2.ensures (c.as_bytes.ensures.value ∙ c.text.ensures) refl) in
     let so = put-more _ _ _ c.args.gathered.now.items m c.put_each_before_space.new.gathered.items n c.put_parts.new.gathered.items c.in_ok-put_each_before_space.ensures.whole c.in_ok-put_parts.ensures.whole in
     put-more_failed _ _ _ c.args.gathered.now.items (m ++ n) c.put_parts.new.gathered.items o v w p.third so c.in_err-put.ensures.prefix
 
@@ -54,7 +55,7 @@ returns-clause-whole g c =
     let n = c.part-2.result.now ++ (codes " " ++ []) in
     let o = c.as_bytes.result.now in
     let v = after_space c.part-3.result.now ++ codes "\n" in
-    let p = four-parts w m n o v (assigned-parts t c.args.start at c.part.result.now c.part-2.result.now o c.part-3.result.now c.part.ensures c.part-2.ensures (c.as_bytes.ensures.value ∙ c.operator_text.ensures) c.part-3.ensures) in
+    let p = four-parts w m n o v (assigned-parts t c.args.start at c.part.result.now c.part-2.result.now o c.part-3.result.now c.part.ensures c.part-2.ensures (c.as_bytes.ensures.value ∙ c.text.ensures) c.part-3.ensures) in
     let so = put-more _ _ _ c.args.gathered.now.items m c.put_each_before_space.new.gathered.items n c.put_parts.new.gathered.items c.in_ok-put_each_before_space.ensures.whole c.in_ok-put_parts.ensures.whole in
     let all = put-more _ _ _ c.args.gathered.now.items (m ++ n) c.put_parts.new.gathered.items o c.put.new.gathered.items so c.in_ok-put.ensures.whole in
     put-second _ _ _ _ c.args.gathered.now.items ((m ++ n) ++ o) c.put.new.gathered.items v c.put_value.new.gathered.items w (sym p.third) all c.put_value.ensures.whole
@@ -68,7 +69,7 @@ returns-clause-prefix g c =
     let n = c.part-2.result.now ++ (codes " " ++ []) in
     let o = c.as_bytes.result.now in
     let v = after_space c.part-3.result.now ++ codes "\n" in
-    let p = four-parts w m n o v (assigned-parts t c.args.start at c.part.result.now c.part-2.result.now o c.part-3.result.now c.part.ensures c.part-2.ensures (c.as_bytes.ensures.value ∙ c.operator_text.ensures) c.part-3.ensures) in
+    let p = four-parts w m n o v (assigned-parts t c.args.start at c.part.result.now c.part-2.result.now o c.part-3.result.now c.part.ensures c.part-2.ensures (c.as_bytes.ensures.value ∙ c.text.ensures) c.part-3.ensures) in
     let so = put-more _ _ _ c.args.gathered.now.items m c.put_each_before_space.new.gathered.items n c.put_parts.new.gathered.items c.in_ok-put_each_before_space.ensures.whole c.in_ok-put_parts.ensures.whole in
     let all = put-more _ _ _ c.args.gathered.now.items (m ++ n) c.put_parts.new.gathered.items o c.put.new.gathered.items so c.in_ok-put.ensures.whole in
     put-second_failed _ _ _ c.args.gathered.now.items ((m ++ n) ++ o) c.put.new.gathered.items v w (sym p.third) all c.put_value.ensures.prefix

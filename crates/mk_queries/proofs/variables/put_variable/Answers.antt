@@ -1,7 +1,8 @@
 use Rattle.std.proofs.Common.{◌∙◌, sym, ap, subst, refl, arith, length}
 use Rattle.mk_tree.specs.Trees.{line_view}
+use Rattle.mk_tree.specs.PlacedLines.{text_of_line}
 use Rattle.mk_queries.specs.ItemLines.{place_text}
-use Rattle.mk_queries.specs.PlacedTexts.{IsAssignmentWithin, text_of_line, assigned_placed, assigned_start, target_assigned_placed, variable_placed}
+use Rattle.mk_queries.specs.PlacedTexts.{IsAssignmentWithin, assigned_placed, assigned_start, target_assigned_placed, variable_placed}
 use Rattle.mk_queries.proofs.on_gathering.PutLemmas.{put-nothing, put-prefix, put-first_failed, put-second, put-second_failed}
 use Rattle.mk_queries.proofs.on_parts.AssignmentPartLemmas.{assign-within, target-within, assign-said, target-said, variable-none}
 use Rattle.mk_queries.proofs.variables.put_variable.Goals as goal

@@ -1,7 +1,8 @@
 use Rattle.std.proofs.Common.{◌≡◌, [], ◌++◌, rules, ap, subst}
 use Rattle.mk_lines.specs.Device.{AppendsPrefix}
+use Rattle.mk_lines.proofs.PrefixLemmas.{AppendsPrefix-front}
 use Rattle.mk_tree.specs.PlacedLines.{placed_text}
-use Rattle.mk_tree.proofs.Prefixes.{AppendsPrefix-whole, AppendsPrefix-front, so_far-start, so_far-more, so_far-whole, so_far-prefix, so_far-end, line-step, line-end}
+use Rattle.mk_tree.proofs.Prefixes.{AppendsPrefix-whole, so_far-start, so_far-more, so_far-whole, so_far-prefix, so_far-end, line-step, line-end}
 use Rattle.std.specs.Io.KnownBytes.{Appends}
 use Rattle.mk_tree.proofs.document.Doc.write_to.Goals as goal
 
@@ -15,20 +16,20 @@ lines-preserved g c =
     let (goes, ends, working, unflushed, (front, whole, out)) = c.lines.invariant in (
       tt,
       tt,
-      c.in_ok-gather.ensures.works,
+      c.in_ok-put.ensures.works,
       search rules,
       (
         front ++ c.bytes.result.now,
         line-step front _ _ _ _ _ c.in-Some.ensures.steps c.bytes.ensures.bytes whole,
-        so_far-more _ _ _ front _ c.bytes.result.now _ out c.in_ok-gather.ensures.whole,
+        so_far-more _ _ _ front _ c.bytes.result.now _ out c.in_ok-put.ensures.whole,
       ),
     )
 
-pub returns-in_err-gather-clause-prefix : goal.returns-in_err-gather-clause-prefix
-returns-in_err-gather-clause-prefix g c =
+pub returns-in_err-put-clause-prefix : goal.returns-in_err-put-clause-prefix
+returns-in_err-put-clause-prefix g c =
     let (goes, ends, working, unflushed, (front, whole, out)) = c.lines.invariant in
     subst (AppendsPrefix _ _) (line-step front _ _ _ _ _ c.in-Some.ensures.steps c.bytes.ensures.bytes whole)
-    (AppendsPrefix-front _ _ _ _ (so_far-prefix _ _ _ front _ _ out c.in_err-gather.ensures.prefix))
+    (AppendsPrefix-front _ _ _ _ (so_far-prefix _ _ _ front _ _ out c.in_err-put.ensures.prefix))
 
 pub returns-in_err-write_all-clause-prefix : goal.returns-in_err-write_all-clause-prefix
 returns-in_err-write_all-clause-prefix g c =

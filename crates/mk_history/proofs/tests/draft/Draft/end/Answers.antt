@@ -1,11 +1,7 @@
 use Rattle.std.proofs.Common.{◌<◌, ℕ, List, length, sym}
-use Rattle.std.specs.Prelude.{slice_set}
 use Rattle.mk_history.specs.declared.tests.sure.SetByte.{SetByte}
-use Rattle.mk_history.proofs.DraftLemmas.{end-of-some, some-if-not-empty}
+use Rattle.mk_history.proofs.DraftLemmas.{end-of-some, some-if-not-empty, after_set}
 use Rattle.mk_history.proofs.tests.draft.Draft.end.Goals as goal
-
-abbrev after_set : SetByte → List ℕ → List ℕ
-after_set change text = slice_set text change.at change.byte
 
 abbrev is_within : SetByte → List ℕ → Type 0
 is_within change text = change.at < 4

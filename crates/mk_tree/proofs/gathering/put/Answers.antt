@@ -1,6 +1,6 @@
 use Rattle.std.proofs.Common.{◌≡◌, [], rules}
 use Rattle.mk_tree.proofs.Prefixes.{AppendsPrefix-whole, gather-whole, gather-prefix}
-use Rattle.mk_tree.proofs.print.gather.Goals as goal
+use Rattle.mk_tree.proofs.gathering.put.Goals as goal
 
 pub returns-in_err-write_all-2-clause-prefix : goal.returns-in_err-write_all-2-clause-prefix
 returns-in_err-write_all-2-clause-prefix g c =
