@@ -8,6 +8,8 @@ use crate::edits::{
 };
 use mk_class::{Flavor, Meter};
 use mk_edit::{Colons, Edit, Field, Refusal, plan};
+use mk_lines::source::TEXT_LIMIT;
+use std::alloc::AllocError;
 use std::test::Fail;
 use watched::{Growths, Watched};
 
@@ -213,6 +215,23 @@ fn lines_that_lean_refuse_a_removal(rt: HostRuntime) -> Result<(), Fail> {
     let edit = unset(&heap, b"X");
     let makefile = b"foo:\nX = 1\n\tY = 2\n".as_slice();
     check_refused(&heap, makefile, edit, Refusal::Leans)
+}
+
+// A makefile of the greatest length: an assignment, and a comment.
+fn longest_makefile<'a>(heap: Heap<'a>) -> Result<Vec<u8, Heap<'a>>, AllocError> {
+    let mut makefile = Vec::from_slice(heap, b"A=1\n#")?;
+    makefile.resize(TEXT_LIMIT, b'x')?;
+    Ok(makefile)
+}
+
+#[test]
+fn a_text_above_the_limit_is_refused(rt: HostRuntime) -> Result<(), Fail> {
+    let heap = Watched::new(rt.alloc());
+    let makefile = longest_makefile(&heap)?;
+    let edit = set(&heap, b"A", b"12");
+    check_refused(&heap, &makefile, edit, Refusal::TooLong)?;
+    let edit = assign_bottom(&heap, b"B", Flavor::Simple, b"2");
+    check_refused(&heap, &makefile, edit, Refusal::TooLong)
 }
 
 // ---- what a plan takes
