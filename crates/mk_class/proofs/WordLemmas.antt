@@ -28,7 +28,7 @@ same_text-is (a ∷ x) (b ∷ y) h =
 pub text_words-first : (t w r : List ℕ) → words (λ b. b) t ≡ w ∷ words (λ b. b) r → text_words t ≡ w ∷ text_words r
 text_words-first t w r h = text_words-words t ∙ (h ∙ ap (λ ws. w ∷ ws) (sym (text_words-words r)))
 
-text_words-none : (t : List ℕ) → words (λ b. b) t ≡ [] → text_words t ≡ []
+pub text_words-none : (t : List ℕ) → words (λ b. b) t ≡ [] → text_words t ≡ []
 text_words-none t h = text_words-words t ∙ h
 
 pub ruleset word_rules = (text_words-first, text_words-none)

@@ -72,7 +72,7 @@ fit-replace n x [] (suc at) p q h = rw (suc-add at 1) (fit-before n x [] q h)
 fit-replace n x (l ∷ ls) zero p q h = fit-before n x ls q (fit-after n l ls p h)
 fit-replace n x (l ∷ ls) (suc at) p q h = (h.0, rw (suc-add at 1) (fit-replace (conditionals_after_places n l.class) x ls at p q h.1))
 
-size_of-replace : (x : PlacedLine) (ls : List PlacedLine) (at : ℕ) → at < length ls → size_of (take at ls ++ x ∷ drop (at + 1) ls) + size_of_line (slice_get ls at) ≡ size_of ls + length x.bytes
+pub size_of-replace : (x : PlacedLine) (ls : List PlacedLine) (at : ℕ) → at < length ls → size_of (take at ls ++ x ∷ drop (at + 1) ls) + size_of_line (slice_get ls at) ≡ size_of ls + length x.bytes
 size_of-replace x [] at h = absurd (omega (arith, h))
 size_of-replace x (l ∷ ls) zero h = omega arith
 size_of-replace x (l ∷ ls) (suc at) h = rw (suc-add at 1) (omega (arith, size_of-replace x ls at (omega (arith, h))))

@@ -59,7 +59,7 @@ pub with_bytes : (l x : PlacedLine) (bytes : List ℕ) → l.bytes ≡ bytes →
 with_bytes l x bytes e f = ap (λ (z : List ℕ). record l { bytes = z }) e ∙ ap (λ z. record x { bytes = bytes; class = z }) f
 
 -- the bytes of lines with other bytes for the last
-size_of-with_last : (bytes : List ℕ) (ls : List PlacedLine) → 0 < length ls → size_of (with_last_bytes bytes ls) + size_of_line (last_line ls) ≡ size_of ls + length bytes
+pub size_of-with_last : (bytes : List ℕ) (ls : List PlacedLine) → 0 < length ls → size_of (with_last_bytes bytes ls) + size_of_line (last_line ls) ≡ size_of ls + length bytes
 size_of-with_last bytes [] h = absurd (omega (arith, h))
 size_of-with_last bytes (l ∷ []) h = omega arith
 size_of-with_last bytes (l ∷ k ∷ ls) h = omega (arith, size_of-with_last bytes (k ∷ ls) (omega arith))

@@ -5,7 +5,7 @@ use Rattle.std.proofs.lemmas.List.{take-append-le, drop-append-le}
 use Rattle.std.proofs.Math.Seq.{take-append-add, drop-append-add, take-append_seam}
 use Rattle.mk_tree.specs.PlacedLines.{PlacedLine, size_of}
 
-get_left : {X : Type 0} (l m : List X) (at : ℕ) → at < length l → slice_get (l ++ m) at ≡ slice_get l at
+pub get_left : {X : Type 0} (l m : List X) (at : ℕ) → at < length l → slice_get (l ++ m) at ≡ slice_get l at
 get_left [] m at h = absurd (omega arith)
 get_left (x ∷ l) m zero h = refl
 get_left (x ∷ l) m (suc at) h = get_left l m at (omega arith)
@@ -18,7 +18,7 @@ get_add : {X : Type 0} (l r : List X) (k : ℕ) → slice_get (l ++ r) (length l
 get_add [] r k = rw zero-add refl
 get_add (y ∷ l) r k = rw (suc-add (length l) k) (get_add l r k)
 
-get_right : {X : Type 0} (l r : List X) (x : X) (at : ℕ) → length l < at → slice_get (l ++ x ∷ r) at ≡ slice_get r (at - length l - 1)
+pub get_right : {X : Type 0} (l r : List X) (x : X) (at : ℕ) → length l < at → slice_get (l ++ x ∷ r) at ≡ slice_get r (at - length l - 1)
 get_right l r x at h =
     let e : at ≡ length l + suc (at - length l - 1) = omega arith in
     ap (λ i. slice_get (l ++ x ∷ r) i) e ∙ get_add l (x ∷ r) (suc (at - length l - 1))

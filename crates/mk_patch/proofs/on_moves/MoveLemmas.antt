@@ -43,20 +43,20 @@ swapped-back b (l ∷ []) = refl
 swapped-back b (l ∷ k ∷ []) = refl
 swapped-back b (l ∷ k ∷ m ∷ ls) = ap (λ z. l ∷ z) (swapped-back b (k ∷ m ∷ ls))
 
-length-with_last : (b : List ℕ) (ls : List PlacedLine) → length (with_last_bytes b ls) ≡ length ls
+pub length-with_last : (b : List ℕ) (ls : List PlacedLine) → length (with_last_bytes b ls) ≡ length ls
 length-with_last b [] = refl
 length-with_last b (l ∷ []) = refl
 length-with_last b (l ∷ k ∷ ls) = ap suc (length-with_last b (k ∷ ls))
 
 -- the last of some lines, by its place
-last_line-at : (ls : List PlacedLine) (at : ℕ) → length ls ≡ at + 1 → last_line ls ≡ slice_get ls at
+pub last_line-at : (ls : List PlacedLine) (at : ℕ) → length ls ≡ at + 1 → last_line ls ≡ slice_get ls at
 last_line-at [] at h = absurd (omega (arith, h))
 last_line-at (l ∷ []) zero h = refl
 last_line-at (l ∷ []) (suc at) h = absurd (omega (arith, h))
 last_line-at (l ∷ k ∷ ls) zero h = absurd (omega (arith, h))
 last_line-at (l ∷ k ∷ ls) (suc at) h = last_line-at (k ∷ ls) at (omega (arith, h))
 
-size_of-with_last : (b : List ℕ) (ls : List PlacedLine) → size_of (with_last_bytes b ls) + length (bytes_of_line (last_line ls)) ≤ size_of ls + length b
+pub size_of-with_last : (b : List ℕ) (ls : List PlacedLine) → size_of (with_last_bytes b ls) + length (bytes_of_line (last_line ls)) ≤ size_of ls + length b
 size_of-with_last b [] = omega arith
 size_of-with_last b (l ∷ []) = omega arith
 size_of-with_last b (l ∷ k ∷ ls) = omega (arith, size_of-with_last b (k ∷ ls))
@@ -133,11 +133,11 @@ taken_by_move-few (TakeOut at) = omega arith
 taken_by_move-few (Exchange at l) = omega arith
 taken_by_move-few (SwapEnd b) = omega arith
 
-held_by-few : (ms : List Move) → held_by ms ≤ length ms
+pub held_by-few : (ms : List Move) → held_by ms ≤ length ms
 held_by-few [] = omega arith
 held_by-few (m ∷ ms) = omega (arith, held_by_move-few m, held_by-few ms)
 
-taken_by-few : (ms : List Move) → taken_by ms ≤ length ms
+pub taken_by-few : (ms : List Move) → taken_by ms ≤ length ms
 taken_by-few [] = omega arith
 taken_by-few (m ∷ ms) = omega (arith, taken_by_move-few m, taken_by-few ms)
 
