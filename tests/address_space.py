@@ -1,0 +1,146 @@
+"""Runs under an address space that grows in steps: each ends with its answer, or says no memory.
+
+Too small a space cannot hold the program at all. Then the kernel or the loader ends the run before
+the program's first instruction, and the program can say nothing of it. From the least space in
+which a run starts, each greater one has to give a clean answer: its own, or NoMemory with nothing
+on standard output and the report of the commands before.
+"""
+
+import signal
+from typing import NamedTuple
+
+from checks import Outcome, brief
+from rooms import ANSWERS, EDITED, FILES, NO_MEMORY, Room
+
+PAGE = 4_096
+# The status with which the loader ends a run; none of the program's own.
+NOT_LOADED = 127
+# A run that has no answer in so much is at fault.
+GREATEST = 1 << 30
+LINES = range(20_000)
+CHOSEN = range(0, 20_000, 200)
+
+
+def line(at, value=b"a value of some bytes"):
+    return b"NAME%d = %s # and a comment\n" % (at, value)
+
+
+TEXT = b"".join(map(line, LINES))
+CHANGED = b"".join(line(at, b"other") if at in CHOSEN else line(at) for at in LINES)
+MANY = b"".join(b"set NAME%d other\n" % at for at in CHOSEN)
+SCRIPTS = {
+    "many": MANY,
+    "back": MANY + b"undo\n" * len(CHOSEN),
+    "group": b"begin\n" + MANY + b"cancel\n",
+    "new": b"assign bottom NEW = 1\n" * 100 + b"undo\n" * 100,
+    "rename": b'rule bottom w : "w w"\nrename w z\nundo\nundo\n',
+    "refused": b"undo\n" + MANY,
+    "long": b"assign bottom NEW = %s\n" % (b"x" * 2_000) * 1_000 + b"undo\n" * 1_000,
+    "long-group": b"begin\n" + b"assign bottom NEW = %s\n" % (b"x" * 2_000) * 1_000 + b"cancel\n",
+}
+REFUSED = b"1: refused 16 NothingToUndo\n"
+
+
+class Row(NamedTuple):
+    """A run in its words, what it gives where there is memory, and its report before."""
+
+    name: str
+    words: tuple
+    wanted: Outcome
+    report: bytes = b""
+
+
+def rows():
+    """Small runs, and some over a makefile of many lines."""
+    yield Row("a small edit", ("edit", "script", "Makefile"), EDITED)
+    yield Row("a refused command", ("edit", "undo", "Makefile"), Outcome(b"", REFUSED, 1))
+    for query, answer in ANSWERS.items():
+        yield Row(f"a small {query}", (query, "queried"), Outcome(answer, b"", 0))
+    yield Row("no command", ("edit", "empty", "lines"), Outcome(TEXT, b"", 0))
+    yield Row("100 set", ("edit", "many", "lines"), Outcome(CHANGED, b"", 0))
+    for name in ("back", "group", "new", "rename"):
+        yield Row(name, ("edit", name, "lines"), Outcome(TEXT, b"", 0))
+    words = ("edit", "-k", "refused", "lines")
+    yield Row("one refused, 100 set", words, Outcome(CHANGED, REFUSED, 1), REFUSED)
+    yield Row("check", ("check", "lines"), Outcome(b"", b"", 0))
+    back = Outcome(FILES["Makefile"], b"", 0)
+    yield Row("1,000 long lines", ("edit", "-d1000", "long", "Makefile"), back)
+    yield Row("a long group", ("edit", "long-group", "Makefile"), back)
+
+
+def show(line):
+    """Prints a line of the table at once."""
+    print(line, flush=True)
+
+
+def has_not_started(got):
+    """Whether a run ended before the program's first instruction."""
+    is_killed = got.status in (-signal.SIGKILL, -signal.SIGSEGV) and not got.stderr
+    return not got.stdout and (is_killed or got.status == NOT_LOADED)
+
+
+def said(row, got):
+    """What a run gave: its answer, NoMemory, no start, or None for anything else."""
+    if got == row.wanted:
+        return "answer"
+    if got in (NO_MEMORY, Outcome(b"", row.report + NO_MEMORY.stderr, NO_MEMORY.status)):
+        return "no memory"
+    return "no start" if has_not_started(got) else None
+
+
+class Steps:
+    """The spaces that were tried of a row, and what is wrong with what was given in them."""
+
+    def __init__(self, room, row):
+        self.room, self.row = room, row
+        self.first = {}
+        self.runs = 0
+        self.wrong = []
+
+    def climb(self, step):
+        """Tries space after space, until the run has had its answer a few times."""
+        space, answers = step, 0
+        while answers < 5 and space < GREATEST:
+            answers += self.try_in(space) == "answer"
+            space += step
+        if answers < 5:
+            self.wrong.append(f"no answer in {GREATEST:,} bytes")
+
+    def try_in(self, space):
+        got = self.room.run(*self.row.words, memory=space)
+        what = said(self.row, got)
+        self.runs += 1
+        if what is None or (what == "no start" and {*self.first} - {what}):
+            self.wrong.append(f"with {space:,} bytes: {brief(got)}")
+        self.first.setdefault(what, space)
+        return what
+
+    def columns(self):
+        """The least space of each ending, for a table."""
+        return [f"{self.first[it] // 1024:,}" if it in self.first else "-" for it in ("no memory", "answer")]
+
+
+def run_long(program, tally):
+    """Climbs with each row by small steps, and prints a table."""
+    climb_all(program, tally, PAGE, 16 * PAGE, show)
+
+
+def run(program, tally):
+    """Climbs with each row by wide steps, which takes seconds."""
+    climb_all(program, tally, 32 * PAGE, 256 * PAGE, lambda _: None)
+
+
+def climb_all(program, tally, step, large_step, tell):
+    """Climbs with each row, by a smaller step where its files are small, and tells a table."""
+    tell("| Run | KB of the step | says no memory from, KB | has its answer from, KB | runs |")
+    tell("| --- | ---: | ---: | ---: | ---: |")
+    with Room(program) as room:
+        for name, content in {**FILES, **SCRIPTS, "lines": TEXT}.items():
+            room.write(name, content)
+        for row in rows():
+            steps = Steps(room, row)
+            wide = large_step if {"lines", "long", "long-group"} & {*row.words} else step
+            steps.climb(wide)
+            tell(f"| {row.name} | {wide // 1024} | {' | '.join(steps.columns())} | {steps.runs} |")
+            tally.add(f"memory in steps: {row.name}", steps.wrong[:5] + room.changed())
+    tell("")
