@@ -10,11 +10,12 @@ from typing import NamedTuple
 # No run here needs more than a second or so; one that takes this long hangs.
 SECONDS = 60
 NOBODY = 65534
-# What a run may be bounded by, in bytes.
+# What a run may be bounded by: bytes, and the number of files that are open at once.
 BOUNDS = {
     "memory": resource.RLIMIT_AS,
     "stack": resource.RLIMIT_STACK,
     "greatest_file": resource.RLIMIT_FSIZE,
+    "files": resource.RLIMIT_NOFILE,
 }
 
 
@@ -86,9 +87,10 @@ class Program:
         given: the bytes on its standard input, by default none. closed: the descriptors that it
         starts without. memory: the bytes that it may have mapped. stack: those of its stack.
         greatest_file: those of a file that it writes; it starts with the signal ignored that would
-        end it there. nobody: run as the user nobody, where this process is root. meanwhile: what
-        is called with the process once it has started. stdin, stdout, stderr: other streams; an
-        outcome shows such an output as empty.
+        end it there. files: how many it may have open, the standard streams among them. nobody: run
+        as the user nobody, where this process is root. meanwhile: what is called with the process
+        once it has started. stdin, stdout, stderr: other streams; an outcome shows such an output
+        as empty.
         """
         given, closed = how.pop("given", b""), how.pop("closed", ())
         nobody, meanwhile = how.pop("nobody", False), how.pop("meanwhile", None)

@@ -5,7 +5,17 @@ import os
 import time
 
 from checks import Outcome
-from rooms import ANSWERS, EDITED, READ_FAULT, REFUSED, TEXT, WRITE_FAULT, Checks, silent
+from rooms import (
+    ANSWERS,
+    EDITED,
+    READ_FAULT,
+    REFUSED,
+    TEXT,
+    WRITE_FAULT,
+    Checks,
+    cannot_open,
+    silent,
+)
 
 # Longer than what a pipe holds, and than what any buffer does.
 LONG = b"# a comment of forty bytes, and its end\n" * 25_000
@@ -159,3 +169,29 @@ def a_script_may_be_standard_input(room):
     # the script is read to its end, so nothing is there for the makefile
     wanted = Outcome(b"", b"1: refused 4 NoSuch\n", 1)
     return wrong + room.differs(wanted, "edit", "/dev/stdin", given=b"set CC clang\n")
+
+
+@check
+def script_and_makefile_may_be_pipes_without_names(room):
+    readers = []
+    for content in (b"set CC clang\n", TEXT):
+        reader, writer = os.pipe()
+        os.write(writer, content)
+        os.close(writer)
+        readers.append(reader)
+    names = [f"/dev/fd/{it}" for it in readers]
+    wrong = room.differs(EDITED, "edit", *names, pass_fds=readers)
+    for reader in readers:
+        os.close(reader)
+    return wrong
+
+
+@check
+def too_few_files_at_once_are_told(room):
+    clean = (cannot_open("script"), cannot_open("Makefile"), WRITE_FAULT, silent(0))
+    words = ["edit", "-o", "out", "script", "Makefile"]
+    got = [room.run(*words, files=many) for many in range(4, 12)]
+    wrong = [f"not told: {it}" for it in got if it not in clean]
+    if got[-1] != silent(0) or sorted(got, key=clean.index) != got:
+        wrong.append(f"more files do less: {got}")
+    return wrong + room.holds("out", EDITED.stdout)
