@@ -25,19 +25,29 @@ def line(at, value=b"a value of some bytes"):
     return b"NAME%d = %s # and a comment\n" % (at, value)
 
 
-TEXT = b"".join(map(line, LINES))
-CHANGED = b"".join(line(at, b"other") if at in CHOSEN else line(at) for at in LINES)
-MANY = b"".join(b"set NAME%d other\n" % at for at in CHOSEN)
-SCRIPTS = {
-    "many": MANY,
-    "back": MANY + b"undo\n" * len(CHOSEN),
-    "group": b"begin\n" + MANY + b"cancel\n",
-    "new": b"assign bottom NEW = 1\n" * 100 + b"undo\n" * 100,
-    "rename": b'rule bottom w : "w w"\nrename w z\nundo\nundo\n',
-    "refused": b"undo\n" + MANY,
-    "long": b"assign bottom NEW = %s\n" % (b"x" * 2_000) * 1_000 + b"undo\n" * 1_000,
-    "long-group": b"begin\n" + b"assign bottom NEW = %s\n" % (b"x" * 2_000) * 1_000 + b"cancel\n",
-}
+def text_of(changed=()):
+    """A makefile of many lines, of which some were changed."""
+    return b"".join(line(at, b"other") if at in changed else line(at) for at in LINES)
+
+
+def files():
+    """The makefiles and scripts of the rows."""
+    many = b"".join(b"set NAME%d other\n" % at for at in CHOSEN)
+    long = b"assign bottom NEW = %s\n" % (b"x" * 2_000) * 1_000
+    return {
+        **FILES,
+        "lines": text_of(),
+        "many": many,
+        "back": many + b"undo\n" * len(CHOSEN),
+        "group": b"begin\n" + many + b"cancel\n",
+        "new": b"assign bottom NEW = 1\n" * 100 + b"undo\n" * 100,
+        "rename": b'rule bottom w : "w w"\nrename w z\nundo\nundo\n',
+        "refused": b"undo\n" + many,
+        "long": long + b"undo\n" * 1_000,
+        "long-group": b"begin\n" + long + b"cancel\n",
+    }
+
+
 REFUSED = b"1: refused 16 NothingToUndo\n"
 
 
@@ -56,16 +66,22 @@ def rows():
     yield Row("a refused command", ("edit", "undo", "Makefile"), Outcome(b"", REFUSED, 1))
     for query, answer in ANSWERS.items():
         yield Row(f"a small {query}", (query, "queried"), Outcome(answer, b"", 0))
-    yield Row("no command", ("edit", "empty", "lines"), Outcome(TEXT, b"", 0))
-    yield Row("100 set", ("edit", "many", "lines"), Outcome(CHANGED, b"", 0))
-    for name in ("back", "group", "new", "rename"):
-        yield Row(name, ("edit", name, "lines"), Outcome(TEXT, b"", 0))
+    text, changed = text_of(), text_of(CHOSEN)
+    yield Row("no command", ("edit", "empty", "lines"), Outcome(text, b"", 0))
+    yield Row("100 set", ("edit", "many", "lines"), Outcome(changed, b"", 0))
+    for name, script in (
+        ("100 set, undone", "back"),
+        ("100 set in a group, cancelled", "group"),
+        ("100 assign bottom, undone", "new"),
+        ("rename, undone", "rename"),
+    ):
+        yield Row(name, ("edit", script, "lines"), Outcome(text, b"", 0))
     words = ("edit", "-k", "refused", "lines")
-    yield Row("one refused, 100 set", words, Outcome(CHANGED, REFUSED, 1), REFUSED)
+    yield Row("one refused, 100 set", words, Outcome(changed, REFUSED, 1), REFUSED)
     yield Row("check", ("check", "lines"), Outcome(b"", b"", 0))
     back = Outcome(FILES["Makefile"], b"", 0)
-    yield Row("1,000 long lines", ("edit", "-d1000", "long", "Makefile"), back)
-    yield Row("a long group", ("edit", "long-group", "Makefile"), back)
+    yield Row("1,000 long lines, undone", ("edit", "-d1000", "long", "Makefile"), back)
+    yield Row("1,000 long lines in a group, cancelled", ("edit", "long-group", "Makefile"), back)
 
 
 def show(line):
@@ -135,7 +151,7 @@ def climb_all(program, tally, step, large_step, tell):
     tell("| Run | KB of the step | says no memory from, KB | has its answer from, KB | runs |")
     tell("| --- | ---: | ---: | ---: | ---: |")
     with Room(program) as room:
-        for name, content in {**FILES, **SCRIPTS, "lines": TEXT}.items():
+        for name, content in files().items():
             room.write(name, content)
         for row in rows():
             steps = Steps(room, row)
