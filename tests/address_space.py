@@ -52,17 +52,24 @@ REFUSED = b"1: refused 16 NothingToUndo\n"
 
 
 class Row(NamedTuple):
-    """A run in its words, what it gives where there is memory, and its report before."""
+    """A run in its words, and what it gives where there is memory.
+
+    report: what may stand before the message where there is none. out: what the file `out` then
+    holds where the run has its answer, None where no file has to be there.
+    """
 
     name: str
     words: tuple
     wanted: Outcome
     report: bytes = b""
+    out: bytes = None
 
 
 def rows():
     """Small runs, and some over a makefile of many lines."""
     yield Row("a small edit", ("edit", "script", "Makefile"), EDITED)
+    words = ("edit", "-o", "out", "script", "Makefile")
+    yield Row("a small edit to a file", words, Outcome(b"", b"", 0), out=EDITED.stdout)
     yield Row("a refused command", ("edit", "undo", "Makefile"), Outcome(b"", REFUSED, 1))
     for query, answer in ANSWERS.items():
         yield Row(f"a small {query}", (query, "queried"), Outcome(answer, b"", 0))
@@ -128,6 +135,8 @@ class Steps:
         self.runs += 1
         if what is None or (what == "no start" and {*self.first} - {what}):
             self.wrong.append(f"with {space:,} bytes: {brief(got)}")
+        self.wrong += self.room.holds("out", self.row.out if what == "answer" else None)
+        (self.room.folder / "out").unlink(missing_ok=True)
         self.first.setdefault(what, space)
         return what
 

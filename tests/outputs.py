@@ -284,6 +284,14 @@ def an_out_without_room_has_the_beginning_of_the_text(room):
 
 
 @check
+def an_out_with_room_for_three_bytes_has_three(room):
+    words = ["edit", "-o", "out", "script", "Makefile"]
+    wrong = room.differs(WRITE_FAULT, *words, greatest_file=3) + room.holds("out", b"CC ")
+    wrong += room.differs(REFUSED, "edit", "-ko", "out", "undo", "empty", greatest_file=0)
+    return wrong + room.holds("out", b"")
+
+
+@check
 def a_file_without_room_as_standard_output_is_a_write_fault(room):
     text = b"NAME = a value, and a line of forty bytes\n" * 1_000
     room.write("long", text)
