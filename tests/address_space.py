@@ -141,8 +141,9 @@ class Steps:
         return what
 
     def columns(self):
-        """The least space of each ending, for a table."""
-        return [f"{self.first[it] // 1024:,}" if it in self.first else "-" for it in ("no memory", "answer")]
+        """The least space of each ending in KB, for a table."""
+        spaces = (self.first.get(it) for it in ("no memory", "answer"))
+        return ["-" if it is None else f"{it // 1024:,}" for it in spaces]
 
 
 def run_long(program, tally):

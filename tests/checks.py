@@ -13,7 +13,6 @@ NOBODY = 65534
 # What a run may be bounded by: bytes, and the number of files that are open at once.
 BOUNDS = {
     "memory": resource.RLIMIT_AS,
-    "stack": resource.RLIMIT_STACK,
     "greatest_file": resource.RLIMIT_FSIZE,
     "files": resource.RLIMIT_NOFILE,
 }
@@ -72,6 +71,27 @@ def small_stack(size=1_048_576):
         resource.setrlimit(resource.RLIMIT_STACK, (soft, hard))
 
 
+def preparation(closed, bounds, nobody):
+    """What a process does before it becomes the program.
+
+    None where that is nothing: a process without anything to prepare starts several times as fast.
+    """
+
+    def prepare():
+        for descriptor in closed:
+            os.close(descriptor)
+        for bound, size in bounds.items():
+            resource.setrlimit(bound, (size, size))
+        if resource.RLIMIT_FSIZE in bounds:
+            signal.signal(signal.SIGXFSZ, signal.SIG_IGN)
+        if nobody and os.geteuid() == 0:
+            os.setgroups([])
+            os.setgid(NOBODY)
+            os.setuid(NOBODY)
+
+    return prepare if closed or bounds or nobody else None
+
+
 class Program:
     """The built program."""
 
@@ -85,32 +105,17 @@ class Program:
         """Runs the program in a folder.
 
         given: the bytes on its standard input, by default none. closed: the descriptors that it
-        starts without. memory: the bytes that it may have mapped. stack: those of its stack.
-        greatest_file: those of a file that it writes; it starts with the signal ignored that would
-        end it there. files: how many it may have open, the standard streams among them. nobody: run
-        as the user nobody, where this process is root. meanwhile: what is called with the process
-        once it has started. stdin, stdout, stderr: other streams; an outcome shows such an output
-        as empty.
+        starts without. memory: the bytes that it may have mapped. greatest_file: those of a file
+        that it writes; it starts with the signal ignored that would end it there. files: how many
+        it may have open, the standard streams among them. nobody: run as the user nobody, where
+        this process is root. meanwhile: what is called with the process once it has started.
+        stdin, stdout, stderr: other streams; an outcome shows such an output as empty.
         """
         given, closed = how.pop("given", b""), how.pop("closed", ())
         nobody, meanwhile = how.pop("nobody", False), how.pop("meanwhile", None)
         bounds = {BOUNDS[it]: how.pop(it) for it in BOUNDS if it in how}
-
-        def prepare():
-            for descriptor in closed:
-                os.close(descriptor)
-            for bound, size in bounds.items():
-                resource.setrlimit(bound, (size, size))
-            if resource.RLIMIT_FSIZE in bounds:
-                signal.signal(signal.SIGXFSZ, signal.SIG_IGN)
-            if nobody and os.geteuid() == 0:
-                os.setgroups([])
-                os.setgid(NOBODY)
-                os.setuid(NOBODY)
-
         streams = {**{it: subprocess.PIPE for it in ("stdin", "stdout", "stderr")}, **how}
-        # a process without anything to prepare starts several times as fast
-        first = prepare if closed or bounds or nobody else None
+        first = preparation(closed, bounds, nobody)
         process = subprocess.Popen([self.path, *words], cwd=folder, preexec_fn=first, **streams)
         try:
             if meanwhile:

@@ -1,5 +1,6 @@
 """Checks on files: those that are missing, cannot be read, or are not what they seem."""
 
+import contextlib
 import os
 import socket
 
@@ -123,7 +124,8 @@ def a_file_may_be_a_link(room):
 def a_name_that_leads_nowhere_cannot_be_opened(room):
     (room.folder / "nowhere").symlink_to("absent")
     (room.folder / "circle").symlink_to("circle")
-    socket.socket(socket.AF_UNIX).bind(str(room.folder / "socket"))
+    with contextlib.suppress(OSError), socket.socket(socket.AF_UNIX) as it:
+        it.bind(str(room.folder / "socket"))  # a path that is too long leaves a name without a file
     for name in ("nowhere", "circle", "socket", "Makefile/more", "x" * 300, "x/" * 3_000):
         yield from room.differs(cannot_open(name), "edit", "script", name)
         yield from room.differs(cannot_open(name), "edit", name, "Makefile")

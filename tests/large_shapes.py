@@ -31,7 +31,7 @@ MAKEFILE_COLUMNS = (
     "slowest edit, ms",
     "slowest query, ms",
     f"greatest ratio to a quarter, at most {GREATEST_RATIO}",
-    "peak without commands, and greatest, in texts",
+    "greatest peak, in texts",
 )
 SCRIPT_COLUMNS = (
     f"Script, {LARGE:,} bytes",
@@ -162,7 +162,7 @@ def show_makefile(name, jobs):
         slowest(edits),
         slowest(queries),
         f"{worst.ratio():.2f} ({worst.name})",
-        f"{peak(jobs[0])}, {peak(largest)} ({largest.name})",
+        f"{peak(largest)} ({largest.name})",
     )
 
 
