@@ -6,6 +6,8 @@
 #   make check      the whole test: tests/house, tests/rows, the merge gate (rt ci), and tests/program
 #                   over what the gate built; the last line is 'N passed, M failed', the sum of all
 #   make rows       makes the stored files of rows anew, after a table of tests/cases has changed
+#   make hostile    tries the program with hostile texts of 16 MB, with memory that ends and under
+#                   valgrind, and measures it there; some minutes long
 #   make install    puts the program into $(DESTDIR)$(PREFIX)/bin, and the manual page and the
 #                   completions of bash, zsh and fish where each belongs
 #   make uninstall  takes away what make install puts there
@@ -17,7 +19,7 @@
 #
 # It is written for POSIX.1-2024 make, which GNU make 4 reads as well.
 .POSIX:
-.PHONY: all demo check rows install uninstall bench clean
+.PHONY: all demo check hostile rows install uninstall bench clean
 
 PREFIX ?= /usr/local
 BINDIR ?= $(PREFIX)/bin
@@ -44,6 +46,9 @@ demo: $(PROGRAM)
 # Needs no program: the gate proves and builds its own, from nothing.
 check:
 	@tests/check
+
+hostile: $(PROGRAM)
+	@tests/hostile $(PROGRAM)
 
 rows:
 	@tests/rows --write

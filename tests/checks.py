@@ -1,13 +1,21 @@
 """What the tests of the program share: one run of it, what the run gave, and a tally of checks."""
 
+import contextlib
 import os
 import resource
+import signal
 import subprocess
 from typing import NamedTuple
 
 # No run here needs more than a second or so; one that takes this long hangs.
 SECONDS = 60
 NOBODY = 65534
+# What a run may be bounded by: bytes, and the number of files that are open at once.
+BOUNDS = {
+    "memory": resource.RLIMIT_AS,
+    "greatest_file": resource.RLIMIT_FSIZE,
+    "files": resource.RLIMIT_NOFILE,
+}
 
 
 class Outcome(NamedTuple):
@@ -52,6 +60,38 @@ class Tally:
         return f"{self.passed} passed, {self.failed} failed"
 
 
+@contextlib.contextmanager
+def small_stack(size=1_048_576):
+    """Within it a program that is started has a stack of so many bytes."""
+    soft, hard = resource.getrlimit(resource.RLIMIT_STACK)
+    resource.setrlimit(resource.RLIMIT_STACK, (size, hard))
+    try:
+        yield
+    finally:
+        resource.setrlimit(resource.RLIMIT_STACK, (soft, hard))
+
+
+def preparation(closed, bounds, nobody):
+    """What a process does before it becomes the program.
+
+    None where that is nothing: a process without anything to prepare starts several times as fast.
+    """
+
+    def prepare():
+        for descriptor in closed:
+            os.close(descriptor)
+        for bound, size in bounds.items():
+            resource.setrlimit(bound, (size, size))
+        if resource.RLIMIT_FSIZE in bounds:
+            signal.signal(signal.SIGXFSZ, signal.SIG_IGN)
+        if nobody and os.geteuid() == 0:
+            os.setgroups([])
+            os.setgid(NOBODY)
+            os.setuid(NOBODY)
+
+    return prepare if closed or bounds or nobody else None
+
+
 class Program:
     """The built program."""
 
@@ -65,27 +105,17 @@ class Program:
         """Runs the program in a folder.
 
         given: the bytes on its standard input, by default none. closed: the descriptors that it
-        starts without. memory: the bytes that it may have mapped. nobody: run as the user nobody,
-        where this process is root. meanwhile: what is called with the process once it has started.
+        starts without. memory: the bytes that it may have mapped. greatest_file: those of a file
+        that it writes; it starts with the signal ignored that would end it there. files: how many
+        it may have open, the standard streams among them. nobody: run as the user nobody, where
+        this process is root. meanwhile: what is called with the process once it has started.
         stdin, stdout, stderr: other streams; an outcome shows such an output as empty.
         """
         given, closed = how.pop("given", b""), how.pop("closed", ())
-        memory, nobody = how.pop("memory", None), how.pop("nobody", False)
-        meanwhile = how.pop("meanwhile", None)
-
-        def prepare():
-            for descriptor in closed:
-                os.close(descriptor)
-            if memory:
-                resource.setrlimit(resource.RLIMIT_AS, (memory, memory))
-            if nobody and os.geteuid() == 0:
-                os.setgroups([])
-                os.setgid(NOBODY)
-                os.setuid(NOBODY)
-
-        streams = {it: subprocess.PIPE for it in ("stdin", "stdout", "stderr")} | how
-        # a process without anything to prepare starts several times as fast
-        first = prepare if closed or memory or nobody else None
+        nobody, meanwhile = how.pop("nobody", False), how.pop("meanwhile", None)
+        bounds = {BOUNDS[it]: how.pop(it) for it in BOUNDS if it in how}
+        streams = {**{it: subprocess.PIPE for it in ("stdin", "stdout", "stderr")}, **how}
+        first = preparation(closed, bounds, nobody)
         process = subprocess.Popen([self.path, *words], cwd=folder, preexec_fn=first, **streams)
         try:
             if meanwhile:

@@ -1,9 +1,21 @@
 """Checks on files: those that are missing, cannot be read, or are not what they seem."""
 
+import contextlib
 import os
+import socket
 
 from checks import Outcome, Program
-from rooms import ANSWERS, EDITED, NO_COMMAND, READ_FAULT, TEXT, Checks, cannot_open, silent
+from rooms import (
+    ANSWERS,
+    EDITED,
+    NO_COMMAND,
+    READ_FAULT,
+    TEXT,
+    TOO_LONG,
+    Checks,
+    cannot_open,
+    silent,
+)
 
 check = Checks()
 
@@ -84,6 +96,65 @@ def a_directory_as_script_is_a_read_fault(room):
 @check
 def a_bad_script_is_told_before_the_file_is_read(room):
     return room.differs(NO_COMMAND, "edit", "bad", ".")
+
+
+# A file of Linux that can be opened and not be read, whoever asks.
+UNREADABLE = "/proc/self/mem"
+
+
+@check
+def a_file_that_opens_and_cannot_be_read_is_a_read_fault(room):
+    if not os.path.exists(UNREADABLE):
+        return
+    for words in (["edit", "script"], *([it] for it in ANSWERS)):
+        yield from room.differs(READ_FAULT, *words, UNREADABLE)
+    yield from room.differs(READ_FAULT, "edit", UNREADABLE, "Makefile")
+    yield from room.differs(READ_FAULT, "edit", "-o", "out", "script", UNREADABLE)
+    yield from room.holds("out", None)
+
+
+@check
+def a_file_may_be_a_link(room):
+    (room.folder / "link").symlink_to("Makefile")
+    (room.folder / "way").symlink_to("script")
+    return room.differs(EDITED, "edit", "way", "link")
+
+
+@check
+def a_name_that_leads_nowhere_cannot_be_opened(room):
+    (room.folder / "nowhere").symlink_to("absent")
+    (room.folder / "circle").symlink_to("circle")
+    with contextlib.suppress(OSError), socket.socket(socket.AF_UNIX) as it:
+        it.bind(str(room.folder / "socket"))  # a path that is too long leaves a name without a file
+    for name in ("nowhere", "circle", "socket", "Makefile/more", "x" * 300, "x/" * 3_000):
+        yield from room.differs(cannot_open(name), "edit", "script", name)
+        yield from room.differs(cannot_open(name), "edit", name, "Makefile")
+        yield from room.differs(cannot_open(name), "vars", name)
+
+
+@check
+def the_null_device_is_an_empty_file(room):
+    wrong = room.differs(Outcome(TEXT, b"", 0), "edit", "/dev/null", "Makefile")
+    wrong += room.differs(silent(0), "edit", "empty", "/dev/null")
+    return wrong + room.differs(silent(0), "vars", "/dev/null")
+
+
+@check
+def a_file_of_holes_is_too_long(room):
+    with open(room.folder / "holes", "wb") as file:
+        file.truncate(1 << 40)
+    for words in (["edit", "script"], ["check"]):
+        yield from room.differs(TOO_LONG, *words, "holes")
+    yield from room.differs(TOO_LONG, "edit", "holes", "Makefile")
+
+
+@check
+def a_file_that_says_it_is_empty_is_read(room):
+    name = "/proc/version"
+    if os.path.exists(name) and os.stat(name).st_size == 0:
+        with open(name, "rb") as file:
+            text = file.read()
+        yield from room.differs(Outcome(text, b"", 0), "edit", "empty", name)
 
 
 def copy_program(room):
