@@ -5,6 +5,7 @@ queries.py compares it with the readings that tests/cases/readings gives, and th
 """
 
 import re
+from functools import lru_cache
 from typing import NamedTuple
 
 BLANKS = b" \t"
@@ -278,6 +279,7 @@ def rule(raw, text, places):
     return "Header", header(head, inline)
 
 
+@lru_cache(maxsize=4096)
 def class_of(raw, context):
     """The class of a line in its context, and its parts."""
     text, places = joined(raw)
