@@ -342,6 +342,7 @@ def context_after(context, raw, kind, parts):
     return Context(flag, defines, conditionals, prefix_after(context, kind, parts))
 
 
+@lru_cache(maxsize=64)
 def read(text):
     """The lines of a makefile, and the context after them."""
     lines, context = [], Context()
