@@ -5,6 +5,8 @@
 #   make demo       shows scripts at work, one that is refused, and the queries
 #   make check      the whole test: tests/rows, the merge gate (rt ci), and tests/program over what
 #                   the gate built; the last line is 'N passed, M failed', the sum of all three
+#   make soak       tries the program on random makefiles and scripts for MINUTES minutes; prints
+#                   the seed, which SEED=N takes again
 #   make rows       makes the stored files of rows anew, after a table of tests/cases has changed
 #   make install    puts the program into $(DESTDIR)$(PREFIX)/bin, and the manual page and the
 #                   completions of bash, zsh and fish where each belongs
@@ -17,7 +19,7 @@
 #
 # It is written for POSIX.1-2024 make, which GNU make 4 reads as well.
 .POSIX:
-.PHONY: all demo check rows install uninstall bench clean
+.PHONY: all demo check soak rows install uninstall bench clean
 
 PREFIX ?= /usr/local
 BINDIR ?= $(PREFIX)/bin
@@ -25,6 +27,7 @@ MANDIR ?= $(PREFIX)/share/man
 BASHCOMPDIR ?= $(PREFIX)/share/bash-completion/completions
 ZSHCOMPDIR ?= $(PREFIX)/share/zsh/site-functions
 FISHCOMPDIR ?= $(PREFIX)/share/fish/vendor_completions.d
+MINUTES ?= 15
 PROGRAM = crates/mkedit/out/mkedit
 LINE_BENCH = crates/line_bench/out/line_bench
 EDIT_BENCH = crates/edit_bench/out/edit_bench
@@ -44,6 +47,9 @@ demo: $(PROGRAM)
 # Needs no program: the gate proves and builds its own, from nothing.
 check:
 	@tests/check
+
+soak: $(PROGRAM)
+	@tests/soak --minutes $(MINUTES) $(SEED:%=--seed %) $(PROGRAM)
 
 rows:
 	@tests/rows --write
