@@ -1,7 +1,4 @@
-"""A case: a makefile and a script that follow from a seed and a number.
-
-And what is wrong with the program's runs of it.
-"""
+"""A case, which follows from a seed and a number, and what is wrong with the program's runs of it."""
 
 from typing import NamedTuple
 
@@ -22,9 +19,9 @@ DEPTHS = (1, 1, 2, 2, 3, USUAL_DEPTH, USUAL_DEPTH)
 class Case(NamedTuple):
     """The files and the options of a run, and the query that is asked beside it.
 
-    Before the makefile stand as many bytes `#` as padding says, which make it about as long as a text
-    may be. It begins with a comment then, which they make no other line of, and no edit touches it. So
-    the judge need not read them.
+    Where there is padding, that many bytes `#` stand before the makefile, and make it about as long as
+    a text may be. Such a makefile begins with a comment, which no edit touches and which the padding
+    only makes longer. So the judge leaves the padding out.
     """
 
     makefile: bytes
@@ -40,6 +37,11 @@ class Case(NamedTuple):
         return [*(["-k"] if self.goes_on else []), *depth]
 
     @property
+    def is_one(self):
+        """Whether the makefile may have its padding. A case that was shrunk may not."""
+        return not self.padding or self.makefile.startswith(b"#")
+
+    @property
     def limit(self):
         return LIMIT - self.padding
 
@@ -51,7 +53,7 @@ class Case(NamedTuple):
         return b"#" * self.padding + text
 
     def without_padding(self, text):
-        """The text without the padding, which has to be there."""
+        """The text without the padding, where that stands there."""
         has_padding = text.startswith(b"#" * self.padding)
         return text[self.padding :] if has_padding else text
 

@@ -34,9 +34,12 @@ class Work:
         self.met.update(set(met(verdict)))
         if not problems_of(self.room, case, verdict):
             return []
-        small = shrunk(case, lambda it: bool(problems_of(self.room, it, it.verdict)))
+        small = shrunk(case, self.is_wrong)
         problems = problems_of(self.room, small, small.verdict)
         return [*problems, *rows_of(f"soak-{self.seed}-{number}", small, problems)]
+
+    def is_wrong(self, case):
+        return case.is_one and bool(problems_of(self.room, case, case.verdict))
 
 
 def numbers(first, index, workers, count):
