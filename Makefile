@@ -5,6 +5,8 @@
 #   make demo       shows scripts at work, one that is refused, and the queries
 #   make check      the whole test: tests/house, tests/rows, the merge gate (rt ci), and tests/program
 #                   over what the gate built; the last line is 'N passed, M failed', the sum of all
+#   make soak       tries the program on random makefiles and scripts for MINUTES minutes; prints
+#                   the seed, which SEED=N takes again
 #   make rows       makes the stored files of rows anew, after a table of tests/cases has changed
 #   make hostile    tries the program with hostile texts of 16 MB, with memory that ends and under
 #                   valgrind, and measures it there; some minutes long
@@ -19,7 +21,7 @@
 #
 # It is written for POSIX.1-2024 make, which GNU make 4 reads as well.
 .POSIX:
-.PHONY: all demo check hostile rows install uninstall bench clean
+.PHONY: all demo check hostile soak rows install uninstall bench clean
 
 PREFIX ?= /usr/local
 BINDIR ?= $(PREFIX)/bin
@@ -27,6 +29,7 @@ MANDIR ?= $(PREFIX)/share/man
 BASHCOMPDIR ?= $(PREFIX)/share/bash-completion/completions
 ZSHCOMPDIR ?= $(PREFIX)/share/zsh/site-functions
 FISHCOMPDIR ?= $(PREFIX)/share/fish/vendor_completions.d
+MINUTES ?= 15
 PROGRAM = crates/mkedit/out/mkedit
 LINE_BENCH = crates/line_bench/out/line_bench
 EDIT_BENCH = crates/edit_bench/out/edit_bench
@@ -49,6 +52,9 @@ check:
 
 hostile: $(PROGRAM)
 	@tests/hostile $(PROGRAM)
+
+soak: $(PROGRAM)
+	@tests/soak --minutes $(MINUTES) $(SEED:%=--seed %) $(PROGRAM)
 
 rows:
 	@tests/rows --write

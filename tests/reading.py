@@ -5,6 +5,7 @@ queries.py compares it with the readings that tests/cases/readings gives, and th
 """
 
 import re
+from functools import lru_cache
 from typing import NamedTuple
 
 BLANKS = b" \t"
@@ -278,6 +279,7 @@ def rule(raw, text, places):
     return "Header", header(head, inline)
 
 
+@lru_cache(maxsize=4096)
 def class_of(raw, context):
     """The class of a line in its context, and its parts."""
     text, places = joined(raw)
@@ -340,6 +342,7 @@ def context_after(context, raw, kind, parts):
     return Context(flag, defines, conditionals, prefix_after(context, kind, parts))
 
 
+@lru_cache(maxsize=64)
 def read(text):
     """The lines of a makefile, and the context after them."""
     lines, context = [], Context()

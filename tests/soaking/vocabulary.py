@@ -1,0 +1,63 @@
+"""The words that makefiles and scripts are made of: usual ones, and those that some rule speaks of."""
+
+NAMES = b"X Y Z CC OBJS a.b _9 - a b t define ifdef endef export override include".split()
+TARGETS = [
+    *b"a b c all foo t t1 tidy >b X f1 %.o x.o .PHONY -l lib.a(x.o) $(OBJ) ${c} a&b $$ $x".split(),
+    *(b"$(q:;=|)", b"$(a b)", b"${g (}", b"a$#"),
+]
+WORDS = [*TARGETS, *b"include b& $| $: $= a,b %".split()]
+# Values that an edit may write.
+VALUES = [
+    *b"1 2 gcc -O2 $(foo) a\\#b $$ $x $# $(a(b))${c)} $(p#q)b a\\:b c=d e:f g;h x|y $(b) \\\\x".split(),
+    *(b"", b"", b"a b", b"x  y\tz", b"$(subst x y,z,w)", b"$(a #)", b"a\\ b", b"-O2 -g"),
+]
+# Values that only a makefile may have.
+ODD_VALUES = [b"$(open", b"${open)", b"a$", b"$", b"a\\ ", b"a$ ", b"$(a", b"\\$", b"a$\\"]
+OPERATORS = b"= := ::= :::= ?= += !=".split()
+COMMENTS = [b"", b"", b"", b"# c", b"#", b"#c \\# d", b"# $(a", b"# c: d = e"]
+COMMANDS = [
+    *(b"x", b"echo a", b"a $(b", b"", b"-@rm -f $@", b"#c"),
+    *(b"\ty", b" z ", b"a: b", b"X = 1", b"endef", b"a$"),
+]
+# What a makefile sets the recipe prefix to: values that are read, and some that are not.
+PREFIXES = [b">", b"a", b"t", b"X", b"f", b":", b"-", b"e", b".", b"", b">b"]
+ODD_PREFIXES = [b"\\", b"$", b"$(x)", b"# c", b"\xe9"]
+MODIFIERS = [b"override", b"export", b"private"]
+CONDITIONALS = [b"ifdef A", b"ifeq (a,b)", b"ifneq 'a' ''", b"ifndef A # c", b"  ifdef A"]
+DIRECTIVES = [
+    *(b"include x", b"-include", b"export X", b"unexport", b"undefine X", b"vpath %"),
+    *(b"override undefine X", b"load x"),
+]
+BODIES = [
+    *(b"X = 1", b"a: b", b"\tx", b"define E", b"endef", b"\tendef", b"# c", b"ifdef A", b"x\\"),
+    *(b"endef # c", b"endef#c", b"define = 1"),
+]
+# Lines that are kept and not read inside.
+OPAQUE = [
+    *(b"$(call t,x)", b"a", b"override X", b"a\rb = 1", b"$(eval $(b))", b"X = \0", b"endef"),
+    *(b"else", b"a;b: X = 1"),
+]
+ROUGH = [
+    *(b"a\\ b: c", b"a: b=c d", b"a: $(b", b"a: b|c", b"a: b | c | d", b"a: b: c: d", b"a:: b: c"),
+    *(b"a: b c: d", b"a: | : b", b"a: b:: c"),
+]
+# Bytes that mean something to some rule.
+HOSTILE = [
+    *(b"\\", b"$", b"$(", b")", b"${", b"}", b" ", b"\t", b"\n", b"\r", b"\r\n", b"\\\n", b"\\\r\n"),
+    *(b"\0", b"#", b":", b";", b"=", b"|", b"&", b"+", b"?", b"!", b"\\#", b" \\\n ", b"\xff", b"::"),
+    *(b"\\\\\n", b"a", b">"),
+]
+# What may follow the last line in place of its line end.
+TEXT_ENDS = [b"", b"", b"", b"", b"\\", b"\r", b"\\\n", b"\\\\\n", b" \\\r\n", b"$\\"]
+# Fields that some test refuses.
+BAD_FIELDS = [
+    *(b"", b" ", b"a b", b"a\\", b"$", b"$(a", b"#", b"a #b", b"a:", b"b|", b"=", b"a\rb", b"a\0"),
+    *(b" a", b"a\t", b"a&", b"\\#", b"X Y", b"$ a", b"$\\", b"a;", b"\xe9", b"a\\ ", b"$(a b", b"\\"),
+]
+RESERVED = b"include endif -load override vpath else sinclude ifeq undefine private".split()
+NO_COMMANDS = [
+    *(b"frobnicate", b"set X", b"nth 1 undo", b'set X "a', b'"a"b', b"nth 1 assign bottom X = 1"),
+    *(b" # c", b"recipe-del a -1", b"nth 4294967296 unset X", b"assign X = 1", b"undo 1", b"\r"),
+    *(b"rule bottom a &: b", b"nth 00000000001 unset X", b'set X "\\a"', b"assign bottom X == 1"),
+    *(b"nth 1 rename a b", b"nth", b"recipe-set a +1 x", b"unset X Y", b"\xc2\xa0", b'"" X'),
+]
