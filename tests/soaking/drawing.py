@@ -25,5 +25,5 @@ class Drawing:
         return self.source.choices(list(weights), list(weights.values()))[0]
 
     def some(self, of, least, most):
-        """A list of so many, any of which may stand there twice."""
+        """A list of least to most of them, any of which may stand there twice."""
         return [self.one(of) for _ in range(self.source.randint(least, most))]

@@ -163,7 +163,7 @@ class Scripts(Drawing):
         return self.bad_or(self.one(COMMANDS))
 
     def number(self, count):
-        """The words `nth N` for one of so many lines, or nothing."""
+        """The words `nth N` for one of this number of lines, or nothing."""
         if not self.chance(0.7 if count > 1 else 0.06):
             return []
         number = self.source.randint(1, max(count, 1))

@@ -43,7 +43,7 @@ class Work:
 
 
 def numbers(first, index, workers, count):
-    """The numbers of the cases that one of several workers runs: of so many cases, or without end."""
+    """The numbers of the cases that one of several workers runs: of count cases, or without end."""
     if count is None:
         return itertools.count(first + index, workers)
     return range(first + index, first + count, workers)
