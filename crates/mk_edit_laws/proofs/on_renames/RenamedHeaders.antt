@@ -100,7 +100,7 @@ module _ (o n : List ℕ) (new : IsNewTarget o n) (us : List (List Cell)) where
   renamed-alike_tokens = subst (AlikeTokens (tokens joined_byte us)) (sym renamed-tokens) (renamed-alike o n new.word new.old_free new.new_free (tokens joined_byte us))
 
   pub renamed-old : old_cells (renamed_words o n us) ≡ concat us
-  renamed-old = renamed-old_cells o n new.word (tokens joined_byte us) ∙ token_text-tokens joined_byte us
+  renamed-old = renamed-old_cells o n (tokens joined_byte us) ∙ token_text-tokens joined_byte us
 
   pub renamed-new : new_cells (renamed_words o n us) ≡ concat (renamed_units o n us)
   renamed-new = renamed-new_cells o n new.word (tokens joined_byte us) ∙ sym (concat-token_units (tokens_renamed o n (tokens joined_byte us)))

@@ -60,6 +60,17 @@ not_reserved-keyword w h =
     let b8 = or_parts (is_same_text w (codes "vpath")) _ b7.1 in
     (rw (a6.0, a7.0, a0.0, a1.0, a2.0, a3.0, a4.0, a5.0, a9.0, b0.0, b1.0, b4.0, b5.0, b8.0, b2.0, b3.0, a8.0) refl, rw (b6.0, b4.0, b7.0) refl)
 
+module _ (o n : List ℕ) where
+  -- the cells before the rename are those of the tokens
+  pub renamed-old_cells : (ts : List (Token Cell)) → old_cells (renamed_tokens o n ts) ≡ token_text ts
+  renamed-old_cells [] = refl
+  renamed-old_cells (Gap u ∷ ts) = ap (λ z. u ++ z) (renamed-old_cells ts)
+  renamed-old_cells (Word w ∷ ts) = go (is_word_of o w) (renamed-old_cells ts)
+    where
+      go : (c : Bool) → old_cells (renamed_tokens o n ts) ≡ token_text ts → old_cells (cond c (Replace (concat w) n) (Keep (concat w)) ∷ renamed_tokens o n ts) ≡ concat w ++ token_text ts
+      go true i = ap (λ z. concat w ++ z) i
+      go false i = ap (λ z. concat w ++ z) i
+
 module _ (o n : List ℕ) (new : IsNewWord n) where
   -- the cells after the rename are those of these tokens
   pub renamed-new_cells : (ts : List (Token Cell)) → new_cells (renamed_tokens o n ts) ≡ token_text (tokens_renamed o n ts)
@@ -70,15 +81,6 @@ module _ (o n : List ℕ) (new : IsNewWord n) where
       go : (c : Bool) → new_cells (renamed_tokens o n ts) ≡ token_text (tokens_renamed o n ts)
           → new_cells (cond c (Replace (concat w) n) (Keep (concat w)) ∷ renamed_tokens o n ts) ≡ concat (cond c (cell_units n) w) ++ token_text (tokens_renamed o n ts)
       go true i = ap (λ z. map Byte n ++ z) i ∙ ap (λ z. z ++ token_text (tokens_renamed o n ts)) (sym (concat-units joined_byte (map Byte n)))
-      go false i = ap (λ z. concat w ++ z) i
-
-  pub renamed-old_cells : (ts : List (Token Cell)) → old_cells (renamed_tokens o n ts) ≡ token_text ts
-  renamed-old_cells [] = refl
-  renamed-old_cells (Gap u ∷ ts) = ap (λ z. u ++ z) (renamed-old_cells ts)
-  renamed-old_cells (Word w ∷ ts) = go (is_word_of o w) (renamed-old_cells ts)
-    where
-      go : (c : Bool) → old_cells (renamed_tokens o n ts) ≡ token_text ts → old_cells (cond c (Replace (concat w) n) (Keep (concat w)) ∷ renamed_tokens o n ts) ≡ concat w ++ token_text ts
-      go true i = ap (λ z. concat w ++ z) i
       go false i = ap (λ z. concat w ++ z) i
 
   renamed-is_word : (w : List (List Cell)) → IsWord joined_byte w → IsWord joined_byte (renamed_word o n w)
