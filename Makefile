@@ -5,6 +5,7 @@
 #   make demo       shows scripts at work, one that is refused, and the queries
 #   make check      the whole test: the merge gate (rt ci) and tests/program over what it built;
 #                   the last line is 'N passed, M failed', the sum of both
+#   make judge      has GNU make judge edits of random makefiles, for MINUTES=1
 #   make install    puts the program into $(DESTDIR)$(PREFIX)/bin
 #   make bench      compares its time and memory with those of cat and sed, and measures
 #                   the reading of lines, and edits of a large makefile
@@ -12,9 +13,10 @@
 #
 # It is written for POSIX.1-2024 make, which GNU make 4 reads as well.
 .POSIX:
-.PHONY: all demo check install bench clean
+.PHONY: all demo check judge install bench clean
 
 PREFIX ?= /usr/local
+MINUTES ?= 1
 PROGRAM = crates/mkedit/out/mkedit
 LINE_BENCH = crates/line_bench/out/line_bench
 EDIT_BENCH = crates/edit_bench/out/edit_bench
@@ -34,6 +36,9 @@ demo: $(PROGRAM)
 # Needs no program: the gate proves and builds its own, from nothing.
 check:
 	@tests/check
+
+judge: $(PROGRAM)
+	@tests/judge --minutes $(MINUTES) $(PROGRAM)
 
 install: $(PROGRAM)
 	install -d "$(DESTDIR)$(PREFIX)/bin"
