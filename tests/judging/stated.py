@@ -26,7 +26,7 @@ def line_of(edit):
     words = [b"nth %d" % nth] if nth else []
     words.append(command.encode())
     if command in ("assign", "rule"):
-        words.append(fields.pop(0))
+        words += map(field, fields.pop(0).split(b" ", 1))
     return b" ".join(words + list(map(field, fields)))
 
 
