@@ -22,7 +22,7 @@ TAMED = (
     (rb"\b(shell|eval|guile|file|s?include|load|MAKEFILES|GNUMAKEFLAGS)\b", rb"\1d"),
     (rb"\+(?!=)", b"p"),
 )
-ROUNDS = 6  # how often each kind of edit is drawn for an example
+ROUNDS = 3  # how often each kind of edit is drawn for an example
 MOST_ROWS = 20
 
 
@@ -131,7 +131,7 @@ PLANTED = (
     (b"t: a\n\tx\n\ty\n", ("recipe-del", None, b"t", b"1"), b"t: a\n\tx\n"),
     (b"t: a\nu: t\n", ("rename", None, b"t", b"v"), b"v: a\nu: t\n"),
 )
-SEED, MAKEFILES = 1, 250
+SEED, MAKEFILES = 1, 200
 
 
 def check_planted(judge):

@@ -12,18 +12,11 @@ from typing import NamedTuple
 
 import reading
 from judging.database import SECTIONS, Rule, Variable
+from judging.values import UNKNOWN, Unknown, Variables, cut_units, shown, value_of
 
-UNKNOWN = "unknown"
-PLAIN = re.compile(r"[A-Za-z0-9_.-]+")
 CONDITION = re.compile(
     r"(ifn?eq)\s+(?:\(([^(),]*|\$\([^()]*\))\s*,\s*([^(),]*?|\$\([^()]*\))\s*\)|"
     r"(?:\"([^\"]*)\"|'([^']*)')\s+(?:\"([^\"]*)\"|'([^']*)'))"
-)
-# Variables that make defines by itself, so that `?=` and `ifdef` find them.
-DEFINED_BY_MAKE = set(
-    "MAKE MAKE_COMMAND MAKE_VERSION MAKE_HOST SHELL SUFFIXES CURDIR .SHELLFLAGS .FEATURES .VARIABLES "
-    ".INCLUDE_DIRS .LIBPATTERNS .LOADED .DEFAULT_GOAL MAKEFILES MAKEFILE_LIST MAKELEVEL MAKECMDGOALS "
-    "MAKEFLAGS MFLAGS GNUMAKEFLAGS MAKE_TERMOUT MAKE_TERMERR".split()
 )
 
 
@@ -33,10 +26,6 @@ class Item(NamedTuple):
     kind: str
     parts: tuple
     tail: bytes = b""
-
-
-class Unknown(Exception):
-    """What this reading does not follow."""
 
 
 def items(text):
@@ -55,42 +44,17 @@ def tail(line, raw):
     return b"".join(blanks)[::-1]
 
 
-def shown(text):
-    return text.decode("latin-1")
-
-
-def joined(body):
-    """The joined text of a line that is given without its line end."""
-    return reading.joined(body + b"\n")[0]
-
-
-def cut_units(body):
-    """The units of a line before its comment; the line is given without its line end."""
-    return reading.before(reading.units(joined(body)), b"#")
-
-
-def value_of(item):
-    """A value as make has it: with the blanks after it, and without the backslash of each `\\#`."""
-    out = b""
-    for unit in reading.units(item.parts[-1]):
-        if unit == rb"\#":
-            backslashes = len(out) - len(out.rstrip(b"\\"))
-            out = out[: len(out) - backslashes] + b"\\" * (backslashes // 2) + b"#"
-        else:
-            out += unit
-    return shown(out + item.tail)
-
-
 class Expected:
     """The data base that some items lead to, in the form of database.Database without its fault.
 
-    variables_known and rules_known say whether all variables and all rules are in it, be it as UNKNOWN.
+    rules_known says whether all rules and variables of targets are in it, be it as UNKNOWN.
     live says of each item whether make surely reads it.
     """
 
     def __init__(self, of):
-        self.variables, self.targets, self.patterns, self.target_variables = {}, {}, {}, {}
-        self.variables_known = self.rules_known = True
+        self.values = Variables()
+        self.targets, self.patterns, self.target_variables = {}, {}, {}
+        self.rules_known = True
         self.has_suffixes, self.conditions_known = False, True
         self.branches = []
         self.header, self.recipe = None, []
@@ -101,6 +65,10 @@ class Expected:
             self.take(item)
         self.record()
 
+    @property
+    def variables(self):
+        return self.values.by_name
+
     def is_live(self):
         """Whether make reads the line: it stands in branches that are taken."""
         return all(taken for taken, _ in self.branches)
@@ -108,7 +76,7 @@ class Expected:
     def content(self, key):
         """What is expected of a key of the data base: None where it is not there, or UNKNOWN."""
         section, name = key
-        is_known = self.variables_known if section == "variables" else self.rules_known
+        is_known = self.values.is_known if section == "variables" else self.rules_known
         if not is_known or section == "patterns" and self.has_suffixes:
             return UNKNOWN
         return getattr(self, section).get(name)
@@ -121,7 +89,7 @@ class Expected:
         elif item.kind in ("If", "Else", "Endif"):
             self.take_conditional(item)
         elif item.kind == "Body":
-            self.body.append(self.body_line(joined(item.parts[0])))
+            self.body.append(item.parts[0])
         elif item.kind not in ("Blank", "Comment"):
             self.record()
             if item.kind == "DefineHead":
@@ -133,96 +101,26 @@ class Expected:
         """Follows a line that make reads, other than those of recipes and conditionals."""
         parts = item.parts
         if item.kind == "Assign":
-            self.assign(parts[0], shown(parts[1]), shown(parts[2]), value_of(item))
+            self.values.assign(parts[0], shown(parts[1]), shown(parts[2]), value_of(item))
         elif item.kind == "TargetAssign":
             self.assign_for_targets(item)
         elif item.kind == "Header":
             self.take_header(parts)
-        elif item.kind == "Endef":
-            self.end_define()
+        elif item.kind == "Endef" and self.define:
+            self.values.define(self.define.parts[0], self.body)
+            self.define = None
         elif item.kind == "Directive":
-            self.direct(parts[0])
+            self.values.direct(parts[0])
         elif item.kind == "Rough":
             self.rules_known = False
-
-    # Variables
-
-    def expand(self, text, depth=0):
-        """The text with its references replaced. Unknown where one is not plain."""
-        if depth > 30:
-            raise Unknown
-        out = ""
-        for unit in map(shown, reading.units(text.encode("latin-1"))):
-            if unit[:1] != "$":
-                out += unit
-            elif unit == "$$":
-                out += "$"
-            else:
-                name = unit[2:-1] if unit[1:2] in ("(", "{") else unit[1:]
-                out += self.referred(name, depth)
-        return out
-
-    def referred(self, name, depth):
-        """What a reference to a plain name stands for."""
-        if not PLAIN.fullmatch(name) or name in DEFINED_BY_MAKE or not self.variables_known:
-            raise Unknown
-        it = self.variables.get(name)
-        if it == UNKNOWN:
-            raise Unknown
-        if it is None:
-            return ""
-        return it.value if it.flavor == ":" else self.expand(it.value, depth + 1)
-
-    def expanded_name(self, name):
-        """The name of a variable, or None where it is not known; then no variable is."""
-        try:
-            return self.expand(name).strip(" \t")
-        except Unknown:
-            self.variables_known = False
-            return None
-
-    def assign(self, modifiers, name, operator, value):
-        """Follows an assignment, as the manual's chapter on variables says."""
-        name = self.expanded_name(name)
-        if name is None:
-            return
-        origin = "'override' directive" if b"override" in modifiers else "makefile"
-        old = self.variables.get(name)
-        is_private = b"private" in modifiers or (old not in (None, UNKNOWN) and old.is_private)
-        if old == UNKNOWN or name in DEFINED_BY_MAKE and operator in ("?=", "+="):
-            self.variables[name] = UNKNOWN
-            return
-        if old and (operator == "?=" or origin == "makefile" != old.origin):
-            if b"private" in modifiers:
-                self.variables[name] = UNKNOWN  # what this does is not in the manual
-            return
-        try:
-            flavor, value = self.new_value(old, operator, value)
-            if operator == "+=" and old and value == old.value:
-                origin = old.origin
-            self.variables[name] = Variable(origin, is_private, flavor, value)
-        except Unknown:
-            self.variables[name] = UNKNOWN
-
-    def new_value(self, old, operator, value):
-        """The flavor and value after an assignment that counts."""
-        if operator in (":=", "::="):
-            return ":", self.expand(value)
-        if operator == "+=" and old:
-            more = self.expand(value) if old.flavor == ":" else value
-            both = f"{old.value} {more}" if old.value else more
-            return old.flavor, both if more else old.value
-        if operator in ("=", "?=", "+="):
-            return "", value
-        raise Unknown
 
     def assign_for_targets(self, item):
         """Follows an assignment for targets: UNKNOWN where it is not alone for a target and a name."""
         targets, _, modifiers, name, operator, _ = item.parts
         value, operator = value_of(item), shown(operator)
         try:
-            name = self.expand(shown(name))
-            targets = self.expanded_words(targets)
+            name = self.values.expand(shown(name))
+            targets = self.values.expanded_words(targets)
         except Unknown:
             self.rules_known = False
             return
@@ -243,51 +141,11 @@ class Expected:
         try:
             if operator not in (":=", "::="):
                 return Variable(origin, is_private, operator[:-1], value)
-            if any(it and (it == UNKNOWN or it.is_private) for it in self.variables.values()):
+            if self.values.may_be_private():
                 raise Unknown  # a private variable is not seen here
-            return Variable(origin, is_private, ":", self.expand(value))
+            return Variable(origin, is_private, ":", self.values.expand(value))
         except Unknown:
             return UNKNOWN
-
-    @staticmethod
-    def body_line(text):
-        """A line of a define as make keeps it: without the comment of an `endef` in it."""
-        units = reading.units(text)
-        if reading.after_first_word(units)[0] == b"endef":
-            return shown(b"".join(reading.before(units, b"#")))
-        return shown(text)
-
-    def end_define(self):
-        """Follows the end of a define."""
-        if not self.define:
-            return
-        words = list(map(shown, reading.texts(cut_units(self.define.parts[0]))))
-        modifiers = [it.encode() for it in words[: words.index("define")]]
-        rest = " ".join(words[words.index("define") + 1 :])
-        found = re.fullmatch(r"(\S+?)(?: ?(=|:=|::=|\?=|\+=))?", rest)
-        if found and PLAIN.fullmatch(found[1]):
-            self.assign(modifiers, found[1], found[2] or "=", "\n".join(self.body))
-        else:
-            self.variables_known = False
-        self.define = None
-
-    def direct(self, body):
-        """Follows a directive: `export`, `unexport` and `undefine` of plain names are known."""
-        words = list(map(shown, reading.texts(cut_units(body))))
-        is_override = words[0] == "override"
-        word, *names = words[1:] if is_override else words
-        if word not in ("export", "unexport", "undefine"):
-            return
-        if not all(map(PLAIN.fullmatch, names)) or word == "undefine" and len(names) != 1:
-            self.variables_known = False
-            return
-        for name in names:
-            old = self.variables.get(name)
-            if word != "undefine" and old is None and name not in DEFINED_BY_MAKE:
-                self.variables[name] = Variable("makefile", False, ":", "")
-            elif word == "undefine" and old not in (None, UNKNOWN):
-                if is_override or old.origin == "makefile":
-                    self.variables[name] = None
 
     # Conditionals
 
@@ -310,50 +168,37 @@ class Expected:
         word, _, name = text.partition(" ")
         name = name.strip()
         try:
-            if word in ("ifdef", "ifndef") and PLAIN.fullmatch(name) and self.variables_known:
-                it = self.variables.get(name)
-                if it == UNKNOWN or name in DEFINED_BY_MAKE:
-                    raise Unknown
-                return bool(it and it.value) == (word == "ifdef")
+            if word in ("ifdef", "ifndef"):
+                return self.values.is_defined(self.values.expand(name)) == (word == "ifdef")
             found = CONDITION.fullmatch(text)
             if not found:
                 raise Unknown
             one, other = (it for it in found.groups()[1:] if it is not None)
-            return (self.expand(one) == self.expand(other)) == (found[1] == "ifeq")
+            return (self.values.expand(one) == self.values.expand(other)) == (found[1] == "ifeq")
         except Unknown:
-            self.variables_known = self.rules_known = self.conditions_known = False
+            self.values.is_known = self.rules_known = self.conditions_known = False
             return True
 
     # Rules
-
-    def expanded_words(self, words):
-        """The words of a list after its references are replaced."""
-        found = []
-        for word in map(shown, words):
-            expanded = self.expand(word)
-            if expanded != word and re.search(r"[:;=#|%&\\\t~?*[]", expanded):
-                raise Unknown
-            found += expanded.split()
-        return found
-
-    def final_words(self, words):
-        """The words of a list as the variables stand at the end; as they are where that is not known."""
-        try:
-            return self.expanded_words(words)
-        except Unknown:
-            return list(map(shown, words))
 
     def take_header(self, parts):
         """Follows the line of a rule: its words are replaced now, its recipe comes below."""
         targets, separator, pattern, normal, order, inline = parts
         try:
-            lists = [self.expanded_words(it) for it in (targets, normal, order)]
-            pattern = pattern and self.expand(shown(pattern))
-            self.header = (lists[0], shown(separator), pattern, *lists[1:])
+            targets = self.values.expanded_words(targets)
+            pattern = pattern and self.values.expand(shown(pattern))
+            self.header = (targets, shown(separator), pattern, *self.needs(normal, order))
         except Unknown:
             self.rules_known = False
         if self.header and inline is not None:
             self.recipe.append(shown(inline).replace("\r\n", "\n"))
+
+    def needs(self, *lists):
+        """Both lists of prerequisites, or twice UNKNOWN."""
+        try:
+            return [self.values.expanded_words(it) for it in lists]
+        except Unknown:
+            return UNKNOWN, UNKNOWN
 
     def record(self):
         """Ends the rule that is open, and adds it to what is known."""
@@ -362,6 +207,9 @@ class Expected:
         if not header:
             return
         targets, separator, pattern, normal, order = header
+        if normal == UNKNOWN:
+            self.record_unknown(targets)
+            return
         separator = separator.lstrip("&")
         if targets and all("%" in it for it in targets) and not pattern:
             self.record_pattern(tuple(targets), Rule(separator, tuple(normal), tuple(order), recipe))
@@ -373,6 +221,12 @@ class Expected:
             for word in (*normal, *order):
                 self.targets.setdefault(word, [Rule(":", (), (), None)])
 
+    def record_unknown(self, targets):
+        """Adds a rule whose prerequisites are not known."""
+        if any("%" in it or it in (".PHONY", ".SUFFIXES") for it in targets):
+            self.rules_known = False
+        self.targets.update((it, UNKNOWN) for it in targets)
+
     def record_pattern(self, targets, rule):
         """Adds a pattern rule: it replaces one with the same patterns and prerequisites."""
         kept = self.patterns.setdefault(targets, [])
@@ -383,6 +237,8 @@ class Expected:
         """Adds a rule of a target: its prerequisites come before those known where it has a recipe."""
         self.has_suffixes |= target == ".SUFFIXES" and bool(rule.prerequisites + rule.order_only)
         kept = self.targets.setdefault(target, [])
+        if kept == UNKNOWN:
+            return
         if rule.separator == "::" or not kept:
             kept.append(rule)
             return

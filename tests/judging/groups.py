@@ -9,7 +9,8 @@ import re
 from typing import NamedTuple
 
 import reading
-from judging.expected import Expected, cut_units, items
+from judging.expected import Expected, items
+from judging.values import cut_units
 
 SPACES = b" \t\f\v\r"
 CONDITIONAL_WORDS = (*reading.CONDITIONALS, b"else", b"endif")
@@ -130,7 +131,7 @@ def a_define_in_a_branch_not_taken_is_nested(rows):
 
 
 def a_led_line_is_a_conditional(rows):
-    """A led `else`, `endif` or `ifdef` counts for make in a branch not taken or where no rule is open."""
+    """A led `else`, `endif` or `ifdef` counts for make in a branch not taken, or without a rule."""
     led = (row for row in rows if row.is_led and row.kind in ("Recipe", "Opaque"))
     return any((row.words() or [b""])[0] in CONDITIONAL_WORDS for row in led)
 

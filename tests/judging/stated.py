@@ -8,7 +8,8 @@ touched() what of make's data base the edit is about.
 import re
 
 import reading
-from judging.expected import Item, shown
+from judging.expected import Item
+from judging.values import shown
 
 OF_VARIABLES = ("set", "append", "unset", "assign")
 
@@ -200,7 +201,7 @@ def touched(of, edit, expected, database):
     """The keys of make's data base that an edit is about: a variable, the targets of a rule, or,
     of a renaming, both names and whatever has the old one as a prerequisite."""
     command, _, *fields = edit
-    targets = expected.final_words(edited_targets(of, edit))
+    targets = expected.values.final_words(edited_targets(of, edit))
     if not targets:
         return {("variables", shown(fields[command == "assign"]))}
     if command == "rename":

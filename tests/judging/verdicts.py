@@ -12,7 +12,8 @@ from typing import NamedTuple
 import reading
 from judging import groups, stated
 from judging.database import is_safe
-from judging.expected import UNKNOWN, Expected, items, known_keys, shown
+from judging.expected import Expected, items, known_keys
+from judging.values import UNKNOWN, shown
 from tables import ESCAPES
 
 # The kinds of a verdict. EQUAL: make's data base differs in exactly what the edit is about, as expected.
@@ -21,7 +22,6 @@ from tables import ESCAPES
 EQUAL, FOLLOWS, NOT_FOLLOWED = "equal", "follows", "not followed"
 GROUP, FINDING = "group", "FINDING"
 REFUSED, SKIPPED = "refused", "skipped"
-
 
 # What make says where it stops after an edit that mkedit has made as it says.
 NOT_ASKED = (
@@ -102,8 +102,10 @@ class Judge:
         old = set(known_differences(first, before))
         wrong = [it for it in known_differences(then, after) if it not in old]
         about = stated.touched(of, edit, then, before)
-        kind = EQUAL
-        for key in before.keys() | after.keys():
+        keys = before.keys() | after.keys()
+        is_known = all(then.content(key) != UNKNOWN for key in about & keys)
+        kind = EQUAL if is_known else NOT_FOLLOWED
+        for key in keys:
             if key in about or before.content(key) == after.content(key):
                 continue
             why = why_changed(key, first, then, text + edited, edit, of)
