@@ -131,7 +131,7 @@ PLANTED = (
     (b"t: a\n\tx\n\ty\n", ("recipe-del", None, b"t", b"1"), b"t: a\n\tx\n"),
     (b"t: a\nu: t\n", ("rename", None, b"t", b"v"), b"v: a\nu: t\n"),
 )
-SEED, MAKEFILES = 1, 200
+SEED, MAKEFILES = 1, 100
 
 
 def check_planted(judge):

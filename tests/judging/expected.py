@@ -217,8 +217,7 @@ class Expected:
         for target in targets:
             lists = [needed(words, pattern, target) for words in (normal, order)]
             self.record_target(target, Rule(separator, *lists, recipe))
-        if ".PHONY" in targets:
-            for word in (*normal, *order):
+            for word in sum(lists, ()) if target == ".PHONY" else ():
                 self.targets.setdefault(word, [Rule(":", (), (), None)])
 
     def record_unknown(self, targets):

@@ -45,6 +45,15 @@ HOSTILE = [
 ]
 
 
+# What an edit brings now and then: values, words and recipe lines near to the edge of their tests.
+CORNERED = 0.08
+VALUES = [b"\\\\ a", b"%", b"a:", b"= b", b":= b", b"'\"'", b"$(NONE)", b"a\\ b", b"$$", b"+= x"]
+VALUES += [b"$(subst #,-,a)"]
+NEW_WORDS = b"export override private define endef else endif ifdef vpath undefine".split()
+NEW_WORDS += b"a, & * [a] 'x' a(b) %x% -x @x a$(NONE) $(NONE) .PHONY .DEFAULT .x $(R)$(Z) {} ! ^".split()
+LINES = [b" ", b"\t", b"define x", b"endif", b"else", b"a  ", b": ;", b"\\ ", b"a # b", b"$(NONE)", b"a$"]
+
+
 class Writer:
     """Writes one makefile from a source of random choices."""
 
@@ -269,10 +278,14 @@ class Editor:
 
     def value(self, name):
         """A value on one line."""
+        if self.writer.chance(CORNERED):
+            return self.one(VALUES)
         folded = self.writer.value(name)
         return b" ".join(folded.replace(b"\\\n", b" ").split())
 
     def word(self):
+        if self.writer.chance(CORNERED):
+            return self.one(NEW_WORDS)
         return self.one(WORDS[:10])
 
     def place(self):
@@ -286,6 +299,8 @@ class Editor:
         return self.one(words) if words and self.source.random() < 0.9 else self.word()
 
     def command(self):
+        if self.writer.chance(CORNERED):
+            return self.one(LINES)
         return self.one([it for it in COMMANDS if b"\n" not in it and it[-1:] != b"\\"])
 
     def for_name(self, *rest):
@@ -303,7 +318,7 @@ class Editor:
 
     def rule(self):
         is_double = self.source.random() < 0.2
-        targets = self.one(DOUBLE) if is_double else self.one([b"n", b"n m", self.one(TARGETS)])
+        targets = self.one(DOUBLE) if is_double else self.one([b"n", b"n m", self.word()])
         needs = b" ".join(self.word() for _ in range(self.source.randint(0, 2)))
         return self.place(), targets, b"::" if is_double else b":", needs
 
@@ -311,7 +326,7 @@ class Editor:
         return b"%d" % self.one([1, 1, 1, 2, 2, 3])
 
     def rename(self):
-        return self.for_target(lambda _: self.one([b"new", b"sub/new", b"$(R)n", self.one(TARGETS)]))
+        return self.for_target(lambda _: self.one([b"new", self.word(), b"$(R)n", self.one(TARGETS)]))
 
 
 FIELDS = {

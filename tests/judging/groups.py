@@ -130,6 +130,17 @@ def a_define_in_a_branch_not_taken_is_nested(rows):
     return any(row.words()[:1] in ([b"define"], [b"endef"]) for row in bodies)
 
 
+def a_first_prerequisite_is_define(rows):
+    """make reads `t: define` and `t: undefine` as an assignment for t, also after modifiers, and stops."""
+    for row in rows:
+        words = [*row.parts[3], *row.parts[4]] if row.kind == "Header" and not row.parts[2] else []
+        while words and words[0] in reading.MODIFIERS:
+            words = words[1:]
+        if words[:1] in ([b"define"], [b"undefine"]):
+            return True
+    return False
+
+
 def a_led_line_is_a_conditional(rows):
     """A led `else`, `endif` or `ifdef` counts for make in a branch not taken, or without a rule."""
     led = (row for row in rows if row.is_led and row.kind in ("Recipe", "Opaque"))
@@ -202,6 +213,7 @@ GROUPS = (
     a_define_in_a_branch_not_taken_is_nested,
     an_archive_has_several_members,
     a_name_begins_with_dot_slash,
+    a_first_prerequisite_is_define,
     a_led_line_is_a_conditional,
     a_name_has_an_escaped_hash,
     a_value_for_targets_has_a_semicolon,
