@@ -7,6 +7,7 @@
 #                   over what the gate built; the last line is 'N passed, M failed', the sum of all
 #   make soak       tries the program on random makefiles and scripts for MINUTES minutes; prints
 #                   the seed, which SEED=N takes again
+#   make judge      has GNU make judge edits of random makefiles, for MINUTES minutes
 #   make rows       makes the stored files of rows anew, after a table of tests/cases has changed
 #   make hostile    tries the program with hostile texts of 16 MB, with memory that ends and under
 #                   valgrind, and measures it there; some minutes long
@@ -21,7 +22,7 @@
 #
 # It is written for POSIX.1-2024 make, which GNU make 4 reads as well.
 .POSIX:
-.PHONY: all demo check hostile soak rows install uninstall bench clean
+.PHONY: all demo check hostile judge soak rows install uninstall bench clean
 
 PREFIX ?= /usr/local
 BINDIR ?= $(PREFIX)/bin
@@ -58,6 +59,9 @@ soak: $(PROGRAM)
 
 rows:
 	@tests/rows --write
+
+judge: $(PROGRAM)
+	@tests/judge --minutes $(MINUTES) $(PROGRAM)
 
 install: $(PROGRAM)
 	install -d "$(DESTDIR)$(BINDIR)" "$(DESTDIR)$(MANDIR)/man1" "$(DESTDIR)$(BASHCOMPDIR)"
