@@ -6,7 +6,6 @@ use Rattle.mk_history.specs.Stacks.{Stacks, Several, after_in_turn}
 use Rattle.mk_history.specs.SetBytes.{set_act}
 use Rattle.mk_history.specs.Shown.{Shown, shown_answer, shown_session, IsConsistent}
 use Rattle.mk_history.proofs.on_histories.HistoryLemmas.{edit-steps, end-steps}
-use Rattle.mk_history.specs.declared.tests.sure.SetByte.{SetByte}
 
 pub some-if-not-empty : (n : ℕ) (b : Bool) → b ≡ (n == 0) → b ≡ false → 0 < n
 some-if-not-empty zero b e f = absurd (cc)
@@ -34,6 +33,3 @@ module _ {C : Type 0} (fits : C → List ℕ → Type 0) (after : C → List ℕ
       let consistent : IsConsistent fits after h (Some member) text = subst (λ (g : Option (Several C)). IsConsistent fits after h g text) begun kept in
       subst (λ (x : Shown (List ℕ)). shown_answer set_act End x ≡ Ok (shown_session after (λ t. t) new_h new_group text)) seen
       (rw (begun, none, pushed) (end-steps after (λ t. t) set_act h member text some (consistent.3 some)))
-
-abbrev pub after_set : SetByte → List ℕ → List ℕ
-after_set change text = slice_set text change.at change.byte

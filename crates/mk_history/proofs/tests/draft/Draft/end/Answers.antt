@@ -1,6 +1,7 @@
 use Rattle.std.proofs.Common.{◌<◌, ℕ, List, length, sym}
 use Rattle.mk_history.specs.declared.tests.sure.SetByte.{SetByte}
-use Rattle.mk_history.proofs.DraftLemmas.{end-of-some, some-if-not-empty, after_set}
+use Rattle.mk_history.proofs.DraftLemmas.{end-of-some, some-if-not-empty}
+use Rattle.mk_history.proofs.tests.draft.Draft.set.Answers.{after_set}
 use Rattle.mk_history.proofs.tests.draft.Draft.end.Goals as goal
 
 abbrev is_within : SetByte → List ℕ → Type 0

@@ -1,7 +1,13 @@
-use Rattle.std.proofs.Common.{◌≡◌, sym}
+use Rattle.std.proofs.Common.{◌≡◌, ℕ, List, sym}
+use Rattle.std.specs.Prelude.{slice_set}
+use Rattle.mk_history.specs.declared.tests.sure.SetByte.{SetByte}
 use Rattle.mk_history.specs.Stacks.{after_in_turn}
-use Rattle.mk_history.proofs.DraftLemmas.{set-alone, after_set}
+use Rattle.mk_history.proofs.DraftLemmas.{set-alone}
 use Rattle.mk_history.proofs.tests.draft.Draft.set.Goals as goal
+
+-- the text after a byte is set
+abbrev pub after_set : SetByte → List ℕ → List ℕ
+after_set change text = slice_set text change.at change.byte
 
 pub returns-in-Ok-apply-clause-done : goal.returns-in-Ok-apply-clause-done
 returns-in-Ok-apply-clause-done g c =
