@@ -1,7 +1,7 @@
 -- What a row says of the relation between scripts and commands: where a row computes commands, they are the script's, and where it
 -- computes a number, the line of this number is the first without a command; and the other way round.
 use Rattle.std.proofs.Common.{◌≡◌, ℕ, List}
-use Rattle.std.specs.Prelude.{Ok, Err}
+use Rattle.std.specs.Prelude.{◌↔◌, Ok, Err}
 use Rattle.mk_script.specs.Scripts.{CommandAt, IsScript, HasNoCommand}
 use Rattle.mk_script.proofs.on_scripts.ReaderLemmas.{read_script, read-commands, read-no_command, commands-read, no_command-read}
 
