@@ -6,7 +6,7 @@ use Rattle.mk_history.proofs.DraftLemmas.{set-alone}
 use Rattle.mk_history.proofs.tests.draft.Draft.set.Goals as goal
 
 -- the text after a byte is set
-abbrev pub after_set : SetByte → List ℕ → List ℕ
+abbrev after_set : SetByte → List ℕ → List ℕ
 after_set change text = slice_set text change.at change.byte
 
 pub returns-in-Ok-apply-clause-done : goal.returns-in-Ok-apply-clause-done
