@@ -102,7 +102,7 @@ def run(program, tally):
         (EDITS, check_edits, edits, 13),
         (EDITS, check_refusals, edits, 14),
         (EDITS, check_queries, edits, 3),
-        (LANGUAGE, check_edits, last_chapter(), 12),
+        (LANGUAGE, check_edits, last_chapter(), 13),
         (LANGUAGE, check_unread, last_chapter(), 10),
         (LIBRARY, check_code, LIBRARY.read_text(encoding="utf-8"), 4),
     )
