@@ -1,7 +1,8 @@
 # Builds, shows, tests, installs and measures mkedit. The toolchain's command, rt, proves and
 # builds the crates; this file says what is made from what.
 #
-#   make            proves and builds the program, where a source has changed
+#   make            proves and builds the program, where a source has changed, with one line a crate;
+#                   what the prover says is in crates/mkedit/out/build.log
 #   make demo       shows scripts at work, one that is refused, and the queries
 #   make check      the whole test: tests/house, tests/rows, the merge gate (rt ci), and tests/program
 #                   over what the gate built; the last line is 'N passed, M failed', the sum of all
@@ -38,11 +39,11 @@ SOURCES != find crates -name out -prune -o '(' -name '*.rt' -o -name '*.antt' ')
 
 all: $(PROGRAM)
 
-# rt run is the one command of rt that leaves a linked program, and it always runs it too.
-# Where only another crate has changed it leaves the program as it was, hence the touch.
+# rt run is the one command of rt that leaves a linked program, and it always runs it too; tools/build
+# shows its steps. Where only another crate has changed it leaves the program as it was, hence the touch.
 $(PROGRAM): crates.txt HANDLES $(SOURCES)
-	cd crates/mkedit && rt run -- --help >/dev/null
-	touch $@
+	@tools/build mkedit --help
+	@touch $@
 
 demo: $(PROGRAM)
 	@MKEDIT=$(PROGRAM) examples/demo

@@ -55,7 +55,7 @@ class Scratch:
         ran = subprocess.run(
             words, cwd=TOP, env=environment, capture_output=True, text=True, timeout=SECONDS
         )
-        if ran.returncode or ran.stderr or "rt run" in ran.stdout:
+        if ran.returncode or ran.stderr or "building" in ran.stdout:
             return [f"make {target} ends with {ran.returncode}: {ran.stdout}{ran.stderr}"]
         return []
 

@@ -1,0 +1,158 @@
+"""What `make` prints of a build: tools/build, where another program stands for rt and says its words."""
+
+import os
+import re
+import shutil
+import subprocess
+import sys
+from pathlib import Path
+
+from checks import SECONDS, Outcome, differences
+from rooms import Checks
+from terminals import terminal
+
+TOP = Path(__file__).resolve().parent.parent
+CRATES = "# Lowest first.\nmk_lines: memchr\nmk_class: memchr mk_lines\nmkedit: mk_class clap\nother:\n"
+# What rt says, step by step.
+READ = "statements thiserror: modules loaded=0\nonly=0 proved=0\nrt: the quick pass above also reads\n"
+LOW = "rt: chose --jobs 4 for mk_lines\nso far: 0 of 9 functions checked; the verdict comes last\n"
+LOW_PROVED = "fn mk_lines::error: proved\ncrate mk_lines: modules loaded=1\nlogic=proved functions=8\n"
+NEXT = "rt: chose --jobs 4 for mk_class\nso far: 54 of 141 functions checked\n"
+REFUSED = "./proofs/A.antt:8:13: error: two types differ\nfn mk_class::cut: not proved\nlogic=not-proved\n"
+STOPPED = "rt: the library mk_class did not build, so nothing above it was checked\n"
+NEXT_PROVED = "logic=proved functions=140 sum=0\n"
+LAST = "rt: chose --jobs 1 for mkedit\nlogic=proved functions=1 axioms=3\nrt: running out/mkedit\nUsage\n"
+WHOLE = READ + LOW + LOW_PROVED + NEXT + NEXT_PROVED + LAST
+LOG = "crates/mkedit/out/build.log"
+FIRST_LINE = f"building mkedit: the prover's words go to {LOG}\n"
+LOW_LINE = "proved mk_lines: 8 functions, crate 1 of 3\n"
+LINES = (
+    f"{FIRST_LINE}{LOW_LINE}proved mk_class: 140 functions, crate 2 of 3\n"
+    "proved mkedit: 1 function, crate 3 of 3\nbuilt crates/mkedit/out/mkedit in 0 min 0 s\n"
+)
+WHOLE_LOG = f"build: the whole of it is in {LOG}\n"
+
+check = Checks()
+
+
+class Tree:
+    """A copy of what builds, below the room, and a program rt that says one thing and does another."""
+
+    def __init__(self, room, said, done="mkdir -p out && : > out/mkedit"):
+        self.top, self.names = room.folder / "tree", room.folder / "names"
+        for folder in (self.top / "tools", self.top / "crates/mkedit", self.names):
+            folder.mkdir(parents=True)
+        for name in ("Makefile", "tools/build"):
+            shutil.copy(TOP / name, self.top / name)
+        (self.top / "crates.txt").write_text(CRATES)
+        (self.top / "HANDLES").touch()
+        (self.names / "said").write_text(said)
+        self.write_rt(done)
+
+    def write_rt(self, done):
+        path = self.names / "rt"
+        given = 'test "$*" = "run -- --help" || exit 99'
+        path.write_text(f"#!/bin/sh\n{given}\ncat {self.names}/said >&2\n{done}\n")
+        path.chmod(0o755)
+
+    def run(self, *words, path=None, **streams):
+        """Runs a command with this rt, or with the programs of a path alone."""
+        path = f"{self.names}:{os.environ['PATH']}" if path is None else path
+        kept = {it: os.environ[it] for it in ("HOME", "TMPDIR") if it in os.environ}
+        environment = {**kept, "PATH": path, "LC_ALL": "C.UTF-8", "COLUMNS": "80"}
+        streams = {"stdout": subprocess.PIPE, "stderr": subprocess.PIPE, **streams}
+        ran = subprocess.run(words, cwd=self.top, env=environment, timeout=SECONDS, **streams)
+        return Outcome(ran.stdout or b"", ran.stderr or b"", ran.returncode)
+
+    def build(self, **how):
+        return self.run(sys.executable, "tools/build", "mkedit", "--help", **how)
+
+    def log(self):
+        return (self.top / LOG).read_text(encoding="utf-8")
+
+    def differs(self, wanted, got):
+        """Says how a run differs from what is wanted of output, errors and status; any time will do."""
+        shown = re.sub(rb"\d+ min \d+ s", b"0 min 0 s", got.stdout)
+        stdout, stderr, status = wanted
+        return differences(got._replace(stdout=shown), (stdout.encode(), stderr.encode(), status))
+
+
+@check
+def a_build_has_a_line_for_each_crate_and_a_log(room):
+    tree = Tree(room, WHOLE)
+    yield from tree.differs((LINES, "", 0), tree.build())
+    if tree.log() != WHOLE:
+        yield f"the log is {tree.log()!r}"
+
+
+@check
+def a_terminal_shows_how_far_a_crate_is(room):
+    tree = Tree(room, WHOLE)
+    with terminal(lines=False) as (user, program):
+        wrong = tree.differs(("", "", 0), tree.build(stdout=program))
+        shown = os.read(user, 10_000).decode()
+    rows = [re.findall(r"[^\r]+", it)[-1].rstrip() for it in shown.split("\n") if it]
+    wrong += [] if "\rproving mk_class: 54 of 141 functions, crate 2 of 3" in shown else [shown]
+    told = re.sub(r"\d+ min \d+ s", "0 min 0 s", "".join(f"{it}\n" for it in rows))
+    return wrong + ([] if told == LINES else [f"the terminal is left with {told!r}"])
+
+
+@check
+def a_crate_that_is_refused_is_named_with_its_errors_and_the_log(room):
+    tree = Tree(room, READ + LOW + LOW_PROVED + NEXT + REFUSED + STOPPED, "exit 3")
+    shown = "".join(f"    {it}\n" for it in (REFUSED + STOPPED).splitlines() if "logic" not in it)
+    told = f"build: proving mk_class failed: rt ended with 3. It said:\n{shown}{WHOLE_LOG}"
+    return tree.differs((FIRST_LINE + LOW_LINE, told, 3), tree.build())
+
+
+@check
+def a_failure_without_errors_shows_the_end_of_the_log(room):
+    tree = Tree(room, "one\ntwo\n", "exit 1")
+    told = "build: reading the sources failed: rt ended with 1. It said:\n    one\n    two\n"
+    return tree.differs((FIRST_LINE, told + WHOLE_LOG, 1), tree.build())
+
+
+@check
+def a_prover_that_is_killed_is_told_so(room):
+    tree = Tree(room, LOW, "kill -9 $$")
+    told = "build: proving mk_lines failed: rt was ended by SIGKILL. It said:\n"
+    shown = "".join(f"    {it}\n" for it in LOW.splitlines())
+    return tree.differs((FIRST_LINE, told + shown + WHOLE_LOG, 137), tree.build())
+
+
+@check
+def what_keeps_a_build_waiting_is_told(room):
+    waiting = "waiting for another rt to finish in crates/mk_lines"
+    killed = "the check was killed, most likely for memory: once more with --jobs 1"
+    said = f"rt: {waiting}\n{LOW}rt: {killed}\n{LOW_PROVED}{NEXT}{NEXT_PROVED}{LAST}"
+    wanted = LINES.replace(LOW_LINE, f"{waiting}\n{killed}\n{LOW_LINE}")
+    tree = Tree(room, said)
+    return tree.differs((wanted, "", 0), tree.build())
+
+
+@check
+def a_build_without_rt_says_what_is_missing(room):
+    tree = Tree(room, WHOLE)
+    got = tree.build(path=str(tree.top))
+    told = b"build: there is no command rt: "
+    wrong = [] if got.stderr.startswith(told) else [f"it says {got.stderr}"]
+    return wrong + differences(got._replace(stderr=b""), Outcome(b"", b"", 127))
+
+
+@check
+def make_builds_once_and_says_no_more_than_the_steps(room):
+    tree = Tree(room, WHOLE)
+    yield from tree.differs((LINES, "", 0), tree.run("make"))
+    again = tree.run("make")
+    if again.status or b"building" in again.stdout:
+        yield f"the second make gives {again}"
+
+
+@check
+def make_fails_where_a_crate_is_refused(room):
+    tree = Tree(room, LOW + REFUSED, "exit 1")
+    got = tree.run("make")
+    if got.status != 2 or b"proving mk_lines failed" not in got.stderr:
+        yield f"make gives {got}"
+    if (tree.top / "crates/mkedit/out/mkedit").exists():
+        yield "the program is there"
