@@ -116,8 +116,8 @@ pub(crate) fn read_assignment(cut: &[u8]) -> Option<Assignment>
     assignment_at_end(cut, cut.len())
 }
 
-/// Whether a text has a byte `=`. Each operator has one, so a text without it is no assignment;
-/// most lines are such texts.
+/// Whether a text has a byte `=`. Each operator has one, so a text without it is no assignment.
+/// Most lines have none.
 pub(crate) fn has_equals(text: &[u8]) -> bool
     ensures { result ≡ list_any (is_byte 61) text.now }
 {
