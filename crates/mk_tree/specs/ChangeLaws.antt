@@ -48,7 +48,7 @@ RunsAreReplaced = (text new : List ℕ) (above run below : List ClassedLine) →
     → (classed_lines (text_of above ++ (new ++ text_of below)) ≡ above ++ (classed (context_of above) (logical_lines new) ++ below))
     × (reading (text_of above ++ (new ++ text_of below)) ≡ items above ++ (items (classed (context_of above) (logical_lines new)) ++ items below))
 
--- Several lines, each replaced by one line, after which the context is the same, and which has a line end if lines follow it: the
+-- Several lines, each replaced by one line, after which the context is the same, and which ends a line if lines follow it: the
 -- lines above and below stay.
 abbrev pub LinesAreReplacedEach : Type 0
 LinesAreReplacedEach = (text : List ℕ) (above old below new : List ClassedLine) → classed_lines text ≡ above ++ (old ++ below) → ReplaceEach (context_of above) old new below

@@ -38,8 +38,8 @@ pub fn runs_are_replaced()
     ensures { RunsAreReplaced }
 {}
 
-/// Several lines, each replaced by one line, after which the context is the same, and which has a
-/// line end if lines follow it: the lines above and below stay.
+/// Several lines, each replaced by one line, after which the context is the same, and which ends a
+/// line if lines follow it: the lines above and below stay.
 pub fn lines_are_replaced_each()
     ensures { LinesAreReplacedEach }
 {}
