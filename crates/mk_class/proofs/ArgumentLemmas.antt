@@ -3,7 +3,7 @@ use Rattle.std.proofs.Common.{◌≡◌, refl, ap, ◌∙◌, ℕ, suc, ◌-◌,
 use Rattle.std.specs.List.{list_any, list_all}
 use Rattle.mk_class.specs.Lists.{any, last_passes}
 
--- the crate's word and std's
+-- this crate's `any` and std's `list_any`
 pub any-list_any : (p : ℕ → Bool) (xs : List ℕ) → any p xs ≡ list_any p xs
 any-list_any p [] = refl
 any-list_any p (x ∷ xs) = ap (λ c. p x || c) (any-list_any p xs)
@@ -12,12 +12,12 @@ not_or : (a b c : Bool) → not b ≡ c → not (not a || b) ≡ (a && c)
 not_or true b c h = h
 not_or false b c h = refl
 
--- each passes where none fails
+-- each element passes if none fails
 pub not_any-list_all : (p : ℕ → Bool) (xs : List ℕ) → not (any (λ x. not (p x)) xs) ≡ list_all p xs
 not_any-list_all p [] = refl
 not_any-list_all p (x ∷ xs) = not_or (p x) (any (λ y. not (p y)) xs) (list_all p xs) (not_any-list_all p xs)
 
--- the last element passes where the one at the last place does
+-- the last element passes if the element at the last place does
 pub last_passes-at : (p : ℕ → Bool) (xs : List ℕ) → 1 ≤ length xs → last_passes p xs ≡ p (get_or xs (length xs - 1) 0)
 last_passes-at p [] h = absurd (omega arith)
 last_passes-at p (x ∷ []) h = refl

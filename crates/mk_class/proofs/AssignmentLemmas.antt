@@ -36,7 +36,7 @@ units-at (x ∷ t) b m h e =
 
 -- ---- operators
 
--- the operator that a `:` and what follows it are
+-- the operator that a `:` and what follows it make
 pub colon_operator : (s : List ℕ) (r : Option (Flavor × Bor (List ℕ))) → 1 ≤ length s → get_or s 0 0 ≡ 58
     → MatchOption r (operator_at (Colon ∷ map (symbol itself) (units itself (take (length s - 1) (drop 1 s)))) ≡ None) (λ found. IsOperatorAt ((58 ∷ []) ∷ units itself (take (length s - 1) (drop 1 s))) found.0 (units itself found.1.now))
     → MatchOption r (operator_at (map (symbol itself) (units itself s)) ≡ None) (λ found. IsOperatorAt (units itself s) found.0 (units itself found.1.now))
@@ -59,7 +59,7 @@ after_name-step (x ∷ t) r h k e =
 
 -- ---- definitions
 
--- the parts of a definition, each of what is left after those before it
+-- the parts of a definition, each of what follows the parts before it
 pub definition-parts : (us N R O : List (List ℕ)) → N ≡ after_blanks itself us → R ≡ from (ends_name itself) N → O ≡ after_blanks itself R
     → definition itself us ≡ defined_by itself (operator_at (map (symbol itself) O)) (blanks itself us) (until (ends_name itself) N) (blanks itself R) O
 definition-parts us N R O h k l = rw (l, k, h) refl
@@ -71,7 +71,7 @@ made f a b c d e = record { flavor = f; name = record { start = a; end = b }; va
 made-same : (f : Flavor) (a b c d e A B C D E : ℕ) → a ≡ A → b ≡ B → c ≡ C → d ≡ D → e ≡ E → made f a b c d e ≡ made f A B C D E
 made-same f a b c d e A B C D E h i j k l = rw (h, i, j, k, l) refl
 
--- places by what is left are places by what stands before
+-- places counted by what follows are the places counted by what stands before
 made-places : (f : Flavor) (len t nm an o op v av wb wn wg wk wc wt wa : ℕ) → t ≤ len
     → t ≡ wb + nm → nm ≡ wn + an → an ≡ wg + o → o ≡ wk + op → op ≡ wc + v → v ≡ wt + av → av ≡ wa
     → made f (len - nm) (len - an) (len - v) (len - av) len
@@ -129,7 +129,7 @@ no_name : (o : Option Flavor) (b n g r : List (List ℕ)) → n ≡ [] → defin
 no_name None b n g r h = refl
 no_name (Some f) b n g r h = ap (λ z. defined_by itself (Some f) b z g r) h
 
--- there is none without a name
+-- there is no definition without a name
 pub definition_unnamed : (at : ℕ) (t nm an : List ℕ) → units itself nm ≡ after_leading (is_gap itself) (units itself t) → units itself an ≡ from (ends_name itself) (units itself nm)
     → length an ≡ length nm → None ≡ placed at (definition itself (units itself t))
 definition_unnamed at t nm an h i q =
@@ -151,7 +151,7 @@ first_word us = leading no_gap (after_blanks itself us)
 abbrev pub after_first_word : List (List ℕ) → List (List ℕ)
 after_first_word us = after_leading no_gap (after_blanks itself us)
 
--- a definition, or else what a modifier and what follows it are
+-- a definition; or, if it is none, what a modifier and what follows it make
 abbrev pub or_modified : Option (Assignment ℕ) → Option Modifier → (gaps word : List (List ℕ)) → Option (Assignment ℕ) → Option (Assignment ℕ)
 or_modified (Some a) m g w o = Some a
 or_modified None None g w o = None
@@ -242,7 +242,7 @@ placed-after at m g w (Some a) =
     omega (arith, e) in
     ap (λ name. Some (made a.flavor name (name + width a.name) ((name + width a.name) + width a.operator) (((name + width a.name) + width a.operator) + width a.value) ((((name + width a.name) + width a.operator) + width a.value) + width a.after))) n
 
--- what is read of one word: the word, and what follows it
+-- what is read of one word: the word, and the text after it
 after_word-is : (rest word after : List ℕ) → units itself word ≡ after_leading (is_gap itself) (units itself rest) → units itself after ≡ after_leading (is_other (32 ∷ 9 ∷ [])) (units itself word)
     → units itself after ≡ after_first_word (units itself rest)
 after_word-is rest word after h k = k ∙ (after_leading-same (is_other (32 ∷ 9 ∷ [])) no_gap other-gap (units itself word) ∙ ap (after_leading no_gap) h)
@@ -264,7 +264,7 @@ assignment-none at rest word after w r h k f d z m =
     ∙ ap (λ e. or_modified None e (blanks itself us) (first_word us) (assignment itself (after_first_word us))) (modifier-word w (first_word us) (f (first_word us) (word-before rest word after h k)) ∙ m))
     ))
 
--- over one modifier
+-- the step over one modifier
 pub assignment-next : (len : ℕ) (rest word after w : List ℕ) (r : Option places.Assignment) (m : Modifier) → length rest ≤ len → units itself word ≡ after_leading (is_gap itself) (units itself rest)
     → units itself after ≡ after_leading (is_other (32 ∷ 9 ∷ [])) (units itself word) → ((front : List (List ℕ)) → units itself word ≡ front ++ units itself after → units itself w ≡ front)
     → r ≡ placed (len - length rest) (definition itself (units itself rest)) → is_some r ≡ false → modifier w ≡ Some m

@@ -97,7 +97,7 @@ unreadable-closed t h =
 
 -- ---- separators
 
--- the separator that a `&` and what follows it are
+-- the separator that a `&` and what follows it make
 pub grouped_separator : (s : List ℕ) (r : Option (Separator × Bor (List ℕ))) → 1 ≤ length s → get_or s 0 0 ≡ 38
     → MatchOption r (first_passes (is_colon itself) (units itself (take (length s - 1) (drop 1 s))) ≡ false) (λ found. IsSeparatorAt ((38 ∷ []) ∷ units itself (take (length s - 1) (drop 1 s))) found.0 (units itself found.1.now))
     → MatchOption r (begins_separator itself (units itself s) ≡ false) (λ found. IsSeparatorAt (units itself s) found.0 (units itself found.1.now))
@@ -144,7 +144,7 @@ semicolon-test x = byte-test 59 Semicolon is_semicolon_symbol refl refl (λ e. c
 pub equals-test : (x : ℕ) → (61 == x) ≡ is_equals_symbol (byte_symbol x)
 equals-test x = byte-test 61 Equals is_equals_symbol refl refl (λ e. cc) refl equals_symbol-is x
 
--- the units that are such a byte
+-- the units that are this byte
 pub is_colon-byte : (u : List ℕ) → is_one_byte_of (58 ∷ []) u ≡ is_colon itself u
 is_colon-byte [] = refl
 is_colon-byte (x ∷ []) = or-false (58 == x) ∙ colon-test x

@@ -1,4 +1,4 @@
--- Lemmas of a text that is read from its front: what its first byte says of its first unit, and what is left of its units.
+-- Lemmas of a text that is read from its front: what its first byte says of its first unit, and what the units of its rest are.
 use mathlib.Core.Logic.{inl, inr}
 use Rattle.std.specs.Prelude.{◌⊎◌}
 use Rattle.mk_lines.specs.Bytes.ByteKind.{LineFeed, CarriageReturn, Backslash, Blank, Ordinary}
@@ -39,11 +39,11 @@ zero_other n = go (suc n == 0) refl
 first_unit-begins : (x : ℕ) (t : List ℕ) → first_unit itself (x ∷ t) ≡ x ∷ continuation (unit_step itself) (unit_begins itself) (unit_step itself Between x) t
 first_unit-begins x t = cc (units-first_unit itself x t)
 
--- a byte that means nothing to units is one by itself
+-- a byte that means nothing to units is a unit by itself
 first_unit-unmarked : (x : ℕ) (t : List ℕ) → byte_mark x ≡ Unmarked → first_unit itself (x ∷ t) ≡ x ∷ []
 first_unit-unmarked x t h = ap (λ m. unit_at itself m x t) h
 
--- and what follows it is the rest of the text
+-- what follows such a unit is the rest of the text
 pub units-unmarked : (x : ℕ) (t : List ℕ) → byte_mark x ≡ Unmarked → units itself (x ∷ t) ≡ (x ∷ []) ∷ units itself t
 units-unmarked x t h = units-first_unit itself x t ∙ ap (λ u. u ∷ units itself (drop (length u) (x ∷ t))) (first_unit-unmarked x t h)
 
@@ -67,7 +67,7 @@ any-unmarked (b ∷ bs) x a h = go (b == x) refl h (λ k. any-unmarked bs x a.1 
     go true e k ih = ap byte_mark (sym (eqb-true b x e)) ∙ a.0
     go false e k ih = ih k
 
--- the first unit is one of some bytes where the first byte is
+-- the first unit is one of these bytes if the first byte is one of them
 first_unit-other : (stops : List ℕ) (x : ℕ) (t : List ℕ) → AreUnmarked stops → is_other stops (first_unit itself (x ∷ t)) ≡ not (list_any (λ b. b == x) stops)
 first_unit-other stops x t a = go (list_any (λ b. b == x) stops) refl
   where
@@ -79,23 +79,23 @@ first_unit-other stops x t a = go (list_any (λ b. b == x) stops) refl
     go true e = ap (is_other stops) (first_unit-unmarked x t (any-unmarked stops x a e)) ∙ ap not e
     go false e = ap (is_other stops) (first_unit-begins x t) ∙ none _ e
 
--- ---- what is left
+-- ---- the rest of a text
 
 module _ (p : List ℕ → Bool) where
-  -- over a first unit that passes the test
+  -- the step over a first unit that passes the test
   after_leading-over : (x : ℕ) (t r : List ℕ) → r ≡ after_first_unit itself (x ∷ t) → p (first_unit itself (x ∷ t)) ≡ true
       → after_leading p (units itself r) ≡ after_leading p (units itself (x ∷ t))
   after_leading-over x t r e h =
       ap (λ z. after_leading p (units itself z)) e
       ∙ sym (ap (after_leading p) (units-first_unit itself x t) ∙ ap (λ c. cond c (after_leading p (units itself (after_first_unit itself (x ∷ t)))) (first_unit itself (x ∷ t) ∷ units itself (after_first_unit itself (x ∷ t)))) h)
 
-  -- and at one that fails it
+  -- the stop at a first unit that fails the test
   after_leading-at : (x : ℕ) (t : List ℕ) → p (first_unit itself (x ∷ t)) ≡ false → units itself (x ∷ t) ≡ after_leading p (units itself (x ∷ t))
   after_leading-at x t h =
       units-first_unit itself x t
       ∙ sym (ap (after_leading p) (units-first_unit itself x t) ∙ ap (λ c. cond c (after_leading p (units itself (after_first_unit itself (x ∷ t)))) (first_unit itself (x ∷ t) ∷ units itself (after_first_unit itself (x ∷ t)))) h)
 
--- the same where the test is whether the first byte is one of some
+-- the step over a first unit, if the test is whether the first byte is one of these bytes
 pub from_any-over : (stops s r : List ℕ) → AreUnmarked stops → 1 ≤ length s → list_any (λ b. b == get_or s 0 0) stops ≡ false → r ≡ after_first_unit itself s
     → after_leading (is_other stops) (units itself r) ≡ after_leading (is_other stops) (units itself s)
 from_any-over stops [] r a h k e = absurd (omega arith)
@@ -158,7 +158,7 @@ other-gap (x ∷ y ∷ u) = refl
 trailing-cut : (x : List ℕ) (xs : List (List ℕ)) → is_gap itself x ≡ false → trailing (is_gap itself) (x ∷ xs) ≡ trailing (is_gap itself) xs
 trailing-cut x xs h = ap (λ c. trailing_before c x (trim_end (is_gap itself) xs) (trailing (is_gap itself) xs)) h
 
--- are those after the words
+-- the trailing blanks of units are those after the words
 trailing-after_word : (us : List (List ℕ)) → trailing (is_gap itself) (after_leading (λ u. not (is_gap itself u)) us) ≡ trailing (is_gap itself) us
 trailing-after_word [] = refl
 trailing-after_word (u ∷ us) = go (is_gap itself u) refl (trailing-after_word us)
@@ -186,7 +186,7 @@ module _ (p : List ℕ → Bool) where
       go true h ih = ap (trim_end_before true u) (ih h)
       go false h ih = cc
 
-  -- where all pass, all are trailing
+  -- if all elements pass, all are trailing
   trailing-whole : (us : List (List ℕ)) → after_leading p us ≡ [] → trailing p us ≡ us
   trailing-whole [] h = refl
   trailing-whole (u ∷ us) h = go (p u) h (λ k. trailing-whole us k)
@@ -195,7 +195,7 @@ module _ (p : List ℕ → Bool) where
       go true h ih = ap (λ t. trailing_before true u t (trailing p us)) (none_left us h) ∙ ap (λ t. u ∷ t) (ih h)
       go false h ih = cc
 
-  -- where some fail, those before them do not matter
+  -- if some element fails, the elements before it do not matter
   trailing-after : (us : List (List ℕ)) (v : List ℕ) (vs : List (List ℕ)) → after_leading p us ≡ v ∷ vs → trailing p (after_leading p us) ≡ trailing p us
   trailing-after [] v vs h = cc
   trailing-after (u ∷ us) v vs h = go (p u) refl (trim_end p us) refl h (λ k. trailing-after us v vs k)
@@ -221,7 +221,7 @@ blanks_at_end-step rest (x ∷ t) r1 r2 h k e f =
     ∙ (sym (trailing-cut u us not_gap)
     ∙ (ap (trailing (is_gap itself)) (sym cut) ∙ trailing-after (is_gap itself) (units itself rest) u us cut))))
 
--- a text of which nothing is left after its blanks
+-- a text of which nothing follows its blanks
 pub blanks_at_end-whole : (rest word : List ℕ) → units itself word ≡ after_leading (is_gap itself) (units itself rest) → (length word == 0) ≡ true → units itself rest ≡ trailing (is_gap itself) (units itself rest)
 blanks_at_end-whole rest [] h k = sym (trailing-whole (is_gap itself) (units itself rest) (sym h))
 blanks_at_end-whole rest (x ∷ t) h k = absurd (let z : (suc (length t) == 0) ≡ false = zero_other (length t) in cc)
@@ -241,7 +241,7 @@ width-units t = ap length (concat-units itself t)
 pub width-append : (a b : List (List ℕ)) → width (a ++ b) ≡ width a + width b
 width-append a b = ap length (concat-append a b) ∙ length-append (concat a) (concat b)
 
--- a text is what stands at its front and what is left of it
+-- a text is what stands at its front and the rest of it
 pub leading-before : (p : List ℕ → Bool) (t r : List ℕ) → units itself r ≡ after_leading p (units itself t) → units itself t ≡ leading p (units itself t) ++ units itself r
 leading-before p t r h = sym (leading-after_leading p (units itself t)) ∙ ap (λ z. leading p (units itself t) ++ z) (sym h)
 
@@ -254,7 +254,7 @@ trim_end-before p t r h = sym (trim_end-trailing p (units itself t)) ∙ ap (λ 
 pub take-before : (n : ℕ) (t r : List ℕ) → units itself r ≡ drop n (units itself t) → units itself t ≡ take n (units itself t) ++ units itself r
 take-before n t r h = sym (take-append-drop n (units itself t)) ∙ ap (λ z. take n (units itself t) ++ z) (sym h)
 
--- where nothing stands before the place, the text has as many bytes from there on
+-- if nothing stands before the place, the text has as many bytes from there on
 cut-none : (c : Bool) (x : ℕ) (m : List ℕ) (u : List ℕ) (us : List (List ℕ)) → u ≡ x ∷ m → width (cond c [] (u ∷ us)) ≡ 0 → cond c [] (u ∷ us) ≡ []
 cut-none true x m u us e z = refl
 cut-none false x m u us e z = absurd (let n : suc (length (m ++ concat us)) ≡ 0 = ap (λ w. width (w ∷ us)) (sym e) ∙ z in omega (arith, n))
@@ -276,7 +276,7 @@ pub empty-units : (r : List ℕ) → is_empty (units itself r) ≡ (length r == 
 empty-units [] = refl
 empty-units (x ∷ t) = sym (zero_other (length t))
 
--- some unit passes the test where something is left from there on
+-- some unit passes the test if something follows from that unit on
 pub any-left : (p : List ℕ → Bool) (us : List (List ℕ)) → any p us ≡ not (is_empty (after_leading (λ u. not (p u)) us))
 any-left p [] = refl
 any-left p (u ∷ us) = go (p u) (any-left p us)
@@ -307,7 +307,7 @@ split_at_unit-some byte t (x ∷ s) front after m h k f e =
 pub has_unit-left : (byte : ℕ) (t rest : List ℕ) → units itself rest ≡ after_leading (is_other (byte ∷ [])) (units itself t) → not (length rest == 0) ≡ any (is_one_byte_of (byte ∷ [])) (units itself t)
 has_unit-left byte t rest h = ap not (sym (empty-units rest) ∙ ap is_empty h) ∙ sym (any-left (is_one_byte_of (byte ∷ [])) (units itself t))
 
--- over the first unit of a text that is not empty
+-- the step over the first unit of a text that is not empty
 pub any-over : (p : List ℕ → Bool) (s r : List ℕ) → (length s == 0) ≡ false → first_passes p (units itself s) ≡ false → r ≡ after_first_unit itself s → any p (units itself r) ≡ any p (units itself s)
 any-over p [] r h k e = cc
 any-over p (x ∷ t) r h k e =

@@ -162,7 +162,7 @@ no_recipe_line_after_a_target_assignment = refl
 a_comment_after_an_opaque_line : class_names (codes "$(x)\n\t# c\n\t\n# d\nX = 1\n\tY = 2\n") ≡ codes "Opaque" ∷ codes "Opaque" ∷ codes "Opaque" ∷ codes "Comment" ∷ codes "Assign" ∷ codes "Assign" ∷ []
 a_comment_after_an_opaque_line = refl
 
--- after the first, it is not known whether a rule is open
+-- after the first line, it is not known whether a rule is open
 a_led_rule_without_a_rule : class_names (codes "\ta: b\n\tinclude x\n\tX = 1\n") ≡ codes "Opaque" ∷ codes "Opaque" ∷ codes "Opaque" ∷ []
 a_led_rule_without_a_rule = refl
 

@@ -18,7 +18,7 @@ is_line_end_kind k = false
 abbrev pub is_barred_byte : ℕ → Bool
 is_barred_byte b = is_line_end_kind (byte_kind b) || (b == 0)
 
--- whether a text has none of these
+-- whether a text has no such byte
 abbrev pub is_clean : List ℕ → Bool
 is_clean t = not (any is_barred_byte t)
 
@@ -49,20 +49,21 @@ ends_word_symbol Equals = true
 ends_word_symbol Bar = true
 ends_word_symbol s = false
 
--- whether a unit may stand in no word that is written: a blank, one of these symbols, a unit that begins with a backslash, or
--- a dollar before a blank or a backslash
+-- whether a unit may stand in no word that is written: it is a blank, one of these symbols, a unit that begins with a backslash,
+-- or a dollar before a blank or a backslash
 abbrev pub ends_word : List ℕ → Bool
 ends_word u = is_gap (λ b. b) u || (ends_word_symbol (symbol (λ b. b) u) || (is_escape (λ b. b) u || is_dollar_before_blank (λ b. b) u))
 
 -- ---- the five tests
 
--- whether a text may be a value: no LF, CR or NUL; first and last byte not blank; closed; no unit `#`; last byte no backslash
+-- whether a text may be a value: it has no LF, CR or NUL and no unit `#`; its first and last byte is no blank, and its last byte
+-- is no backslash; and it is closed
 abbrev pub is_value : List ℕ → Bool
 is_value v =
     is_clean v && (not (first_passes is_blank_byte v) && (not (last_passes is_blank_byte v)
     && (is_closed (λ b. b) v && (not (any (is_hash (λ b. b)) (units (λ b. b) v)) && not (last_passes is_backslash_byte v)))))
 
--- whether a text may be a word: not empty; no LF, CR or NUL; closed; no unit that may stand in no word
+-- whether a text may be a word: it is not empty, has no LF, CR or NUL, is closed, and has no unit that may stand in no word
 abbrev pub is_word : List ℕ → Bool
 is_word w = not (is_empty w) && (is_clean w && (is_closed (λ b. b) w && not (any ends_word (units (λ b. b) w))))
 
@@ -74,6 +75,6 @@ is_target t = is_word t && not (last_passes is_ampersand_byte t)
 abbrev pub is_name : List ℕ → Bool
 is_name n = not (is_empty n) && not (any (λ b. not (is_name_byte b)) n)
 
--- whether a text may be a recipe line's command: no LF, CR or NUL; last byte no backslash
+-- whether a text may be a recipe line's command: it has no LF, CR or NUL, and its last byte is no backslash
 abbrev pub is_command : List ℕ → Bool
 is_command c = is_clean c && not (last_passes is_backslash_byte c)

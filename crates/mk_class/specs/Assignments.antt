@@ -35,7 +35,7 @@ operator_length Shell = 2
 
 -- ---- definitions
 
--- whether a symbol ends a name, `equals` saying whether a `=` follows it
+-- whether a symbol ends a name; `equals` says whether a `=` follows the symbol
 abbrev pub ends_name_by : Symbol → (equals : Bool) → Bool
 ends_name_by Colon e = true
 ends_name_by Equals e = true
@@ -45,7 +45,7 @@ ends_name_by Question e = e
 ends_name_by Exclamation e = e
 ends_name_by s e = false
 
--- An assignment. Its five lists of units follow one another and are the cut text: what stands before the name, the name, the
+-- An assignment. Its five lists of units follow one another and are the cut text: the units before the name, the name, the
 -- operator with the blanks around it, the value, and the blanks after the value.
 pub record Assignment (A : Type 0) : Type 0 where
   pub modifiers : List Modifier
@@ -70,7 +70,7 @@ module _ {A : Type 0} (byte : A → ℕ) where
   abbrev pub blanks : List (List A) → List (List A)
   blanks us = leading (is_gap byte) us
 
-  -- a definition without modifiers, of its blanks, its name, the blanks after that, and an operator and what follows it
+  -- a definition without modifiers, from its blanks, its name, the blanks after the name, and an operator with what follows it
   abbrev pub defined_by : Option Flavor → (before name gap rest : List (List A)) → Option (Assignment A)
   defined_by None b n g r = None
   defined_by (Some f) b [] g r = None
@@ -84,13 +84,13 @@ module _ {A : Type 0} (byte : A → ℕ) where
     after = trailing (is_gap byte) (after_blanks (drop (operator_length f) r));
   })
 
-  -- blanks, a name, blanks, the operator that stands there
+  -- a definition without modifiers: blanks, a name, blanks, and the operator that stands there
   abbrev pub definition_of : (before named : List (List A)) → Option (Assignment A)
   definition_of b us =
       let rest = from ends_name us in
       defined_by (operator_at (map (symbol byte) (after_blanks rest))) b (until ends_name us) (blanks rest) (after_blanks rest)
 
-  -- a definition: blanks, a name that is not empty, blanks, the longest operator that stands there, blanks, a value
+  -- a definition: blanks, a name that is not empty, blanks, the longest operator that stands there, blanks, and a value
   abbrev pub definition : List (List A) → Option (Assignment A)
   definition us = definition_of (blanks us) (after_blanks us)
 
@@ -104,18 +104,18 @@ module _ {A : Type 0} (byte : A → ℕ) where
       if is_same_text (unit_text byte w) (codes "private") then Some Private else
       None
 
-  -- an assignment with some units before it
+  -- an assignment with these units put before it
   abbrev pub after_units : List (List A) → Option (Assignment A) → Option (Assignment A)
   after_units us None = None
   after_units us (Some a) = Some (record a { before = us ++ a.before })
 
-  -- an assignment with a modifier before it
+  -- an assignment with a modifier put before it
   abbrev pub after_modifier : Modifier → List (List A) → Option (Assignment A) → Option (Assignment A)
   after_modifier m w None = None
   after_modifier m w (Some a) = Some (record a { modifiers = m ∷ a.modifiers; before = w ++ a.before })
 
-  -- the assignment that words and gaps are: they are a definition, or else the first word is a modifier and what follows it
-  -- is an assignment
+  -- the assignment that words and gaps are: they are a definition; or the first word is a modifier, and what follows it is an
+  -- assignment
   abbrev pub assignment_of : List (Token A) → Option (Assignment A)
   assignment_of [] = None
   assignment_of (Gap u ∷ ts) = after_units (u ∷ []) (assignment_of ts)

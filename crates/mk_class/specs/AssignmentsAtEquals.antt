@@ -1,5 +1,5 @@
--- Assignments once more, by their first unit `=`, which ends the operator: what stands before it says the modifiers, the name
--- and the flavor, and what stands after it the value. A law says that they are the assignments of `Assignments`.
+-- Assignments once more, by their first unit `=`, which ends the operator: what stands before it tells the modifiers, the name
+-- and the flavor, and what stands after it tells the value. A law says that these are the assignments of `Assignments`.
 use Rattle.std.specs.Prelude.{ℕ, Bool, false, not, ◌||◌, List, [], ◌∷◌, ◌++◌, map, Option, Some, None}
 use Rattle.mk_lines.specs.Lists.{leading, after_leading, trim_end, trailing}
 use Rattle.mk_lines.specs.Words.{Token, Gap, Word, tokens, token_units, is_gap}
@@ -10,7 +10,7 @@ use Rattle.mk_class.specs.declared.assignment.Flavor.{Flavor}
 use Rattle.mk_class.specs.declared.assignment.Flavor.TheVariants.{Recursive, Simple, PosixSimple, Immediate, Conditional, Append, Shell}
 use Rattle.mk_class.specs.declared.assignment.Modifier.{Modifier}
 
--- the flavor of the operator that these symbols and then a `=` are
+-- the flavor of the operator that these symbols are with a `=` after them
 abbrev pub flavor_before_equals : List Symbol → Option Flavor
 flavor_before_equals [] = Some Recursive
 flavor_before_equals (Colon ∷ []) = Some Simple
@@ -30,18 +30,18 @@ pub record Front (A : Type 0) : Type 0 where
   pub operator : List (List A)
 
 module _ {A : Type 0} (byte : A → ℕ) where
-  -- whether a name ends before these units, after which a `=` stands
+  -- whether a name ends before these units, which a `=` follows
   abbrev pub ends_name_before_equals : List (List A) → Bool
   ends_name_before_equals [] = false
   ends_name_before_equals (u ∷ us) = is_gap byte u || ends_name_by (symbol byte u) (is_empty us)
 
-  -- a front of the flavor, what stands before the name, the name, and what follows it
+  -- the front of a flavor, from what stands before the name, the name, and what follows the name
   abbrev pub front_by : Option Flavor → (before name operator : List (List A)) → Option (Front A)
   front_by None b n o = None
   front_by (Some f) b [] o = None
   front_by (Some f) b (u ∷ n) o = Some (record { modifiers = []; flavor = f; before = b; name = u ∷ n; operator = o })
 
-  -- the front of blanks, a name, blanks, and the symbols of an operator before its `=`
+  -- the front of blanks, a name, blanks, and the symbols of an operator without its `=`
   abbrev pub front_after_blanks : (before named : List (List A)) → Option (Front A)
   front_after_blanks b us =
       let rest = from ends_name_before_equals us in front_by (flavor_before_equals (map (symbol byte) (after_blanks byte rest))) b (until ends_name_before_equals us) rest
@@ -50,12 +50,12 @@ module _ {A : Type 0} (byte : A → ℕ) where
   abbrev pub definition_front : List (List A) → Option (Front A)
   definition_front us = front_after_blanks (blanks byte us) (after_blanks byte us)
 
-  -- a front with some units before it
+  -- a front with these units put before it
   abbrev pub front_after_units : List (List A) → Option (Front A) → Option (Front A)
   front_after_units us None = None
   front_after_units us (Some f) = Some (record f { before = us ++ f.before })
 
-  -- a front with a modifier before it
+  -- a front with a modifier put before it
   abbrev pub front_after_modifier : Modifier → List (List A) → Option (Front A) → Option (Front A)
   front_after_modifier m w None = None
   front_after_modifier m w (Some f) = Some (record f { modifiers = m ∷ f.modifiers; before = w ++ f.before })
@@ -73,7 +73,7 @@ module _ {A : Type 0} (byte : A → ℕ) where
         ]
       ]
 
-  -- an assignment of what stands before its `=`, this unit, and what stands after it
+  -- an assignment from the front before its `=`, this unit, and what stands after it
   abbrev pub with_value : Option (Front A) → (equals : List A) → (rest : List (List A)) → Option (Assignment A)
   with_value None e r = None
   with_value (Some f) e r = Some (record {
@@ -90,7 +90,7 @@ module _ {A : Type 0} (byte : A → ℕ) where
   abbrev pub is_no_equals : List A → Bool
   is_no_equals u = not (is_equals byte u)
 
-  -- an assignment of the units before its first `=` and of those from it on
+  -- an assignment from the units before its first `=` and the units from that `=` on
   abbrev pub assignment_from : (front rest : List (List A)) → Option (Assignment A)
   assignment_from b [] = None
   assignment_from b (e ∷ r) = with_value (front_of (tokens byte b)) e r

@@ -30,7 +30,7 @@ module _ {A : Type 0} (byte : A → ℕ) where
   abbrev pub head : List (List A) → List (List A)
   head us = leading is_in_head us
 
-  -- the units from the first `;` or `#` on
+  -- what follows the head: the units from the first `;` or `#` on
   abbrev pub after_head : List (List A) → List (List A)
   after_head us = after_leading is_in_head us
 

@@ -1,4 +1,4 @@
--- What parts fit a header: as they stand in a line, they are read again from their units.
+-- Which parts fit a header: parts that are read again from their units, when these stand in a line.
 use Rattle.std.specs.Prelude.{◌≡◌, ℕ, ◌&&◌, true, false, map, List, [], ◌∷◌, ◌++◌}
 use Rattle.mk_lines.specs.Lists.{Each, FirstFails}
 use Rattle.mk_class.specs.Lists.{first_passes, last_passes}
@@ -19,7 +19,7 @@ separator_symbols GroupedDoubleColon = Ampersand ∷ Colon ∷ Colon ∷ []
 abbrev pub prerequisite_units : {A : Type 0} → Header A → List (List A)
 prerequisite_units h = h.normal ++ (h.bar ++ h.order_only)
 
--- the units of a header after its separator, within the head
+-- the units of a header between its separator and the end of its head
 abbrev pub after_separator : {A : Type 0} → Header A → List (List A)
 after_separator h = h.pattern ++ (h.second_colon ++ prerequisite_units h)
 
@@ -28,7 +28,7 @@ abbrev pub head_units : {A : Type 0} → Header A → List (List A)
 head_units h = h.targets ++ (h.colons ++ after_separator h)
 
 module _ {A : Type 0} (byte : A → ℕ) where
-  -- a pattern has no `:` and stands before one; where there is none, there is no `:` among the prerequisites
+  -- a pattern has no `:`, and a `:` stands after it; without a pattern, there is no `:` among the prerequisites
   abbrev pub FitsPattern : (pattern second_colon prerequisites : List (List A)) → Type 0
   FitsPattern p [] us = (p ≡ []) × Each (is_no_colon byte) us
   FitsPattern p (c ∷ []) us = (is_colon byte c ≡ true) × Each (is_no_colon byte) p
@@ -40,7 +40,7 @@ module _ {A : Type 0} (byte : A → ℕ) where
   FitsBar (b ∷ []) o = is_bar byte b ≡ true
   FitsBar (b ∷ c ∷ bs) o = ⊥
 
-  -- parts as those of a header's line
+  -- these parts are those of a header's line
   pub record FitsHeader (h : Header A) : Type 0 where
     pub in_head : Each (is_in_head byte) (head_units h)
     pub tail_ends : FirstFails (is_in_head byte) h.tail

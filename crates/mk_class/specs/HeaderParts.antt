@@ -1,4 +1,4 @@
--- The parts of a head as the code has them, as parts of its text.
+-- The parts of a head as the code has them: as parts of the head's text.
 use Rattle.std.specs.Prelude.{◌≡◌, ℕ, ◌+◌, if◌then◌else◌, Bool, true, false, ◌||◌, List, [], ◌∷◌, length}
 use Rattle.mk_lines.specs.Lists.{after_leading}
 use Rattle.mk_lines.specs.Units.{units}
@@ -9,7 +9,7 @@ use Rattle.mk_class.specs.TextClasses.{itself}
 use Rattle.mk_class.specs.ClassPlaces.{width}
 use Rattle.mk_class.specs.declared.header.Parts.{Parts}
 
--- the header of these parts, of the units of the separator and of what follows the head
+-- the header of these parts, from the units of the separator and of what follows the head
 abbrev pub parts_header : (colons : List (List ℕ)) → Parts → (tail : List (List ℕ)) → Header ℕ
 parts_header colons p tail = record {
   separator = p.separator;
@@ -23,17 +23,17 @@ parts_header colons p tail = record {
   tail = tail;
 }
 
--- what follows a separator, split at a second `:` where there is one: the pattern before it, and what follows it
+-- what follows a separator, split at a second `:` if there is one: the pattern before the second `:`, and what follows it
 abbrev pub IsPatternSplit : (us : List (List ℕ)) → (found : Bool) → (pattern rest : List (List ℕ)) → Type 0
 IsPatternSplit us true p r = IsSplitAt 58 us p r
 IsPatternSplit us false p r = (after_leading (is_other (58 ∷ [])) us ≡ []) × (p ≡ []) × (r ≡ us)
 
--- prerequisites, split at a `|` where there is one: the normal and the order-only ones
+-- prerequisites, split at a `|` if there is one: the normal prerequisites, and the order-only ones
 abbrev pub IsBarSplit : (us normal : List (List ℕ)) → (found : Bool) → (order_only : List (List ℕ)) → Type 0
 IsBarSplit us n true o = IsSplitAt 124 us n o
 IsBarSplit us n false o = (after_leading (is_other (124 ∷ [])) us ≡ []) × (n ≡ us) × (o ≡ [])
 
--- whether a header's line is Rough for its parts
+-- whether the parts of a header's line make it Rough
 abbrev pub is_rough_apart : Header ℕ → Bool
 is_rough_apart h = has_colon_after_other itself h || (has_third_separator itself h || (has_bar_amiss itself h || (has_second_bar itself h || has_pattern_amiss itself h)))
 

@@ -10,9 +10,9 @@ use Rattle.mk_class.specs.Separators.{Separated, separated, has_colon, is_single
 use Rattle.mk_class.specs.Assignments.{Assignment}
 use Rattle.mk_class.specs.declared.rule.Separator.{Separator}
 
--- The parts of a header's line. The eight lists of units follow one another and are the line: the targets, the separator, the
--- pattern and the second `:` where there is one, the normal prerequisites, the `|` where there is one, the order-only
--- prerequisites, and what follows the head.
+-- The parts of a header's line. The eight lists of units follow one another and are the line: the targets; the separator; the
+-- pattern and the second `:`, if there is one; the normal prerequisites; the `|`, if there is one; the order-only prerequisites;
+-- and what follows the head.
 pub record Header (A : Type 0) : Type 0 where
   pub separator : Separator
   pub targets : List (List A)
@@ -41,7 +41,7 @@ module _ {A : Type 0} (byte : A → ℕ) where
   abbrev pub is_no_bar : List A → Bool
   is_no_bar u = not (is_bar byte u)
 
-  -- the parts of a line, of what stands before its prerequisites, of these, and of what follows the head
+  -- the parts of a line, from what stands before its prerequisites, from the prerequisites, and from what follows the head
   abbrev pub with_prerequisites : (s : Separated A) → (pattern second_colon prerequisites tail : List (List A)) → Header A
   with_prerequisites s p c us t = record {
     separator = s.separator;
@@ -55,7 +55,7 @@ module _ {A : Type 0} (byte : A → ℕ) where
     tail = t;
   }
 
-  -- the parts of a line, of its head taken apart and of what follows the head: what stands before a second `:` is the pattern
+  -- the parts of a line, from its head taken apart and from what follows the head: the pattern is what stands before a second `:`
   abbrev pub header_parts : Separated A → (tail : List (List A)) → Header A
   header_parts s t =
       if has_colon byte s.rest
@@ -80,7 +80,7 @@ module _ {A : Type 0} (byte : A → ℕ) where
   abbrev pub has_third_separator : Header A → Bool
   has_third_separator h = has_colon byte h.normal || has_colon byte h.order_only
 
-  -- whether there is a `|` that is no word by itself among the prerequisites
+  -- whether there is a `|` among the prerequisites that is no word by itself
   abbrev pub has_bar_amiss : Header A → Bool
   has_bar_amiss h =
       any (is_bar byte) h.targets || any (is_bar byte) h.pattern
@@ -105,7 +105,7 @@ module _ {A : Type 0} (byte : A → ℕ) where
 
   -- ---- the inline recipe
 
-  -- the inline recipe: all after a `;` that ends the head, a `#` in it being no comment; a `#` that ends the head leaves none
+  -- the inline recipe: all that follows a `;` that ends the head, where a `#` begins no comment; None if no `;` ends the head
   abbrev pub inline_recipe : Header A → Option (List (List A))
   inline_recipe h = elim h.tail [
     | [] ↦ None

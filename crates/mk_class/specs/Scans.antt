@@ -17,27 +17,27 @@ is_one_byte_of bytes [] = false
 is_one_byte_of bytes (x ∷ []) = list_any (λ b. b == x) bytes
 is_one_byte_of bytes (x ∷ y ∷ u) = false
 
--- whether it is none of them
+-- whether a unit is none of these bytes
 abbrev pub is_other : List ℕ → List ℕ → Bool
 is_other bytes u = not (is_one_byte_of bytes u)
 
--- none of the bytes begins longer units
+-- no longer unit begins with one of the bytes
 abbrev pub AreUnmarked : List ℕ → Type 0
 AreUnmarked [] = Unit {0}
 AreUnmarked (b ∷ bs) = (byte_mark b ≡ Unmarked) × AreUnmarked bs
 
--- units split at the first that is this byte
+-- units split at the first unit that is this byte
 abbrev pub IsSplitAt : (byte : ℕ) → (us front rest : List (List ℕ)) → Type 0
 IsSplitAt byte us front rest = (leading (is_other (byte ∷ [])) us ≡ front) × (after_leading (is_other (byte ∷ [])) us ≡ (byte ∷ []) ∷ rest)
 
--- the operator of a flavor is the longest at the front of some units, and these follow it
+-- the operator of this flavor is the longest at the front of some units, and `rest` follows it
 abbrev pub IsOperatorAt : List (List ℕ) → Flavor → (rest : List (List ℕ)) → Type 0
 IsOperatorAt us f rest = (operator_at (map (symbol itself) us) ≡ Some f) × (rest ≡ drop (operator_length f) us)
 
--- a separator is the longest at the front of some units, and these follow it
+-- this separator is the longest at the front of some units, and `rest` follows it
 abbrev pub IsSeparatorAt : List (List ℕ) → Separator → (rest : List (List ℕ)) → Type 0
 IsSeparatorAt us s rest = (separator_at (map (symbol itself) us) ≡ s) × (rest ≡ drop (separator_length s) us)
 
--- units at their first separator: the separator, what stands from it on, and what follows it
+-- units at their first separator: the separator, the units from the separator on, and the units that follow it
 abbrev pub AreSeparated : List (List ℕ) → Separator → (start rest : List (List ℕ)) → Type 0
 AreSeparated us s start rest = (start ≡ from (begins_separator itself) us) × IsSeparatorAt start s rest

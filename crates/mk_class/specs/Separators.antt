@@ -1,11 +1,11 @@
--- The separator of a rule, and a text with one taken apart there.
+-- The separator of a rule, and a text taken apart at its separator.
 use Rattle.std.specs.Prelude.{ℕ, Bool, true, false, ◌&&◌, ◌||◌, List, ◌∷◌, map, take, drop, ◌++◌}
 use Rattle.mk_class.specs.Lists.{any, until, from, first_passes}
 use Rattle.mk_class.specs.Symbols.{Symbol, Colon, Ampersand, symbol, is_colon, is_ampersand}
 use Rattle.mk_class.specs.declared.rule.Separator.{Separator}
 use Rattle.mk_class.specs.declared.rule.Separator.TheVariants.{SingleColon, DoubleColon, GroupedColon, GroupedDoubleColon}
 
--- the longest separator that stands at the front of some symbols, which begin with one
+-- the longest separator that stands at the front of some symbols; the symbols begin with a separator
 abbrev pub separator_at : List Symbol → Separator
 separator_at (Ampersand ∷ Colon ∷ Colon ∷ s) = GroupedDoubleColon
 separator_at (Ampersand ∷ s) = GroupedColon
@@ -30,8 +30,8 @@ takes_assignment SingleColon = true
 takes_assignment DoubleColon = true
 takes_assignment s = false
 
--- A text taken apart at its first unit `:`. The three lists of units follow one another and are the text: what stands before
--- the separator, the separator, and what follows it.
+-- A text taken apart at its first unit `:`. The three lists of units follow one another and are the text: the units before the
+-- separator, the separator, and the units that follow it.
 pub record Separated (A : Type 0) : Type 0 where
   pub separator : Separator
   pub targets : List (List A)
@@ -47,7 +47,7 @@ module _ {A : Type 0} (byte : A → ℕ) where
   abbrev pub begins_separator : List (List A) → Bool
   begins_separator us = first_passes (is_colon byte) us || (first_passes (is_ampersand byte) us && first_passes (is_colon byte) (drop 1 us))
 
-  -- a text taken apart before a separator
+  -- a text taken apart at this separator, which stands before `from`
   abbrev pub separated_before : Separator → (targets from : List (List A)) → Separated A
   separated_before s t us = record {
     separator = s;

@@ -1,5 +1,5 @@
--- What a unit is to assignments and rules: a symbol of one byte, or a unit that a rule line cannot hold. Blanks are told by
--- `is_gap`.
+-- What a unit is to assignments and rules: a symbol of one byte, or a unit that may stand in no word of a header. Blanks are told
+-- by `is_gap`.
 use Rattle.std.specs.Prelude.{ℕ, ◌==◌, if◌then◌else◌, Bool, true, false, ◌&&◌, ◌||◌, List, [], ◌∷◌}
 use Rattle.mk_lines.specs.Bytes.{byte_kind, is_blank_kind, is_backslash_kind}
 use Rattle.mk_lines.specs.Units.{Mark, byte_mark}
@@ -72,7 +72,7 @@ abbrev pub is_blank_or_backslash : ℕ → Bool
 is_blank_or_backslash b = is_blank_kind (byte_kind b) || is_backslash_kind (byte_kind b)
 
 module _ {A : Type 0} (byte : A → ℕ) where
-  -- the symbol that a unit is: only a unit of one byte is one
+  -- the symbol that a unit is; only a unit of one byte is a symbol
   abbrev pub symbol : List A → Symbol
   symbol [] = NoSymbol
   symbol (x ∷ []) = byte_symbol (byte x)

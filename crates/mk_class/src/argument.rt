@@ -1,8 +1,8 @@
 //! What an edit may write: the tests of values, words, targets, names and commands.
 //!
-//! Each test looks at every byte a bounded number of times and takes no memory. What may be written
-//! where, is this project's profile: what passes its test can stand in its place without a change
-//! of the meaning of what stands around it.
+//! Each test looks at every byte a bounded number of times and takes no memory. Which text may be
+//! written at which place is this project's profile: a text that passes the test of a place can
+//! stand there, and the meaning of what stands around it does not change.
 ghost use Rattle.std.specs.Prelude.{◌≡◌};
 ghost use Rattle.std.specs.List.{list_all, list_any};
 ghost use Rattle.mk_lines.specs.Units.{units};
@@ -16,7 +16,7 @@ use mk_lines::{is_closed, split_first_unit};
 /// Whether a text may be a variable's value.
 ///
 /// A value has no line feed, carriage return or NUL and no unit `#`; its first and last byte is no
-/// blank and its last no backslash; and it is closed. The empty text is a value.
+/// blank, and its last byte is no backslash; and it is closed. The empty text is a value.
 pub fn is_value(text: &[u8]) -> bool
     ensures { result ≡ is_value text.now }
 {
@@ -28,19 +28,19 @@ pub fn is_value(text: &[u8]) -> bool
         && !ends_with_backslash(text)
 }
 
-/// Whether a text may be a word, as a prerequisite is one.
+/// Whether a text may be a word, such as a prerequisite.
 ///
-/// A word is not empty and closed. It has no line feed, carriage return or NUL, and no unit that is
-/// a blank, `#`, `:`, `;`, `=` or `|`, that begins with a backslash, or that is a `$` before a blank
-/// or a backslash.
+/// A word is not empty, and it is closed. It has no line feed, carriage return or NUL, and no unit
+/// that is a blank, `#`, `:`, `;`, `=` or `|`, that begins with a backslash, or that is a `$`
+/// before a blank or a backslash.
 pub fn is_word(text: &[u8]) -> bool
     ensures { result ≡ is_word text.now }
 {
     !text.is_empty() && is_clean(text) && is_closed(text) && !has_word_end(text)
 }
 
-/// Whether a text may be a target: a word that does not end in `&`, which a `:` after it would make
-/// a part of the separator.
+/// Whether a text may be a target: a word that does not end in `&`. A `:` after an `&` would make
+/// it a part of the separator.
 pub fn is_target(text: &[u8]) -> bool
     ensures { result ≡ is_target text.now }
 {

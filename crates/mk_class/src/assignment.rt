@@ -19,9 +19,10 @@ use memchr::memchr;
 use mk_lines::after_first_unit;
 use mk_lines::split::Span;
 
-/// The flavor of an assignment, which its operator says.
+/// The flavor of an assignment, which its operator tells.
 ///
-/// POSIX.1-2024 make has all but `:=`, which is the GNU make manual's (section "The Two Flavors of Variables").
+/// POSIX.1-2024 make has all of them except `:=`, which is the GNU make manual's (section "The Two
+/// Flavors of Variables").
 #[derive(Clone, Copy, Debug, PartialEq, Eq)]
 pub enum Flavor {
     /// `=`: the value is expanded when the variable is.
@@ -32,7 +33,7 @@ pub enum Flavor {
     PosixSimple,
     /// `:::=`: the value is expanded at once, and the result again when the variable is.
     Immediate,
-    /// `?=`: as `=`, where the variable is not yet defined.
+    /// `?=`: as `=`, but only if the variable is not yet defined.
     Conditional,
     /// `+=`: the value goes after the one that the variable has.
     Append,
@@ -57,11 +58,11 @@ impl Flavor {
     }
 }
 
-/// A word before an assignment or a `define`, in the GNU make manual's sections on `override`, on variables for
-/// sub-makes and on `private`.
+/// A word before an assignment or a `define`. The GNU make manual has these words in its sections
+/// on `override`, on variables for sub-makes and on `private`.
 #[derive(Clone, Copy, Debug, PartialEq, Eq)]
 pub enum Modifier {
-    /// `override`: the makefile's value stands against the command line's.
+    /// `override`: the makefile's value holds against the command line's.
     Override,
     /// `export`: sub-makes get the variable.
     Export,
@@ -69,28 +70,28 @@ pub enum Modifier {
     Private,
 }
 
-/// Where the parts of an assignment stand, as ranges of bytes of the line's joined text.
+/// Where the parts of an assignment stand, as ranges of bytes of the line's joined text, from 0.
 ///
 /// An assignment is blanks and modifiers, a name, an operator with blanks around it, a value and
 /// blanks, up to the end of the cut text, where a comment may begin. A name ends before a blank, a
-/// `:`, `=` or `;`, or a `+`, `?` or `!` with a `=` after it; the operator is the longest that
-/// stands there. The modifiers are the words before the name.
-///
+/// `:`, `=` or `;`, or before a `+`, `?` or `!` with a `=` after it. The operator is the longest
+/// that stands there. The modifiers are the words before the name.
 /// POSIX.1-2024 make, Macros; GNU make manual, "Setting Variables". That a `;` ends a name, and that
 /// the blanks before a comment do not belong to the value, is this project's profile.
 #[derive(Clone, Copy, Debug, PartialEq, Eq)]
 pub struct Assignment {
-    /// What the operator says.
+    /// The flavor, which the operator tells.
     pub flavor: Flavor,
     /// The name, which is not empty.
     pub name: Span,
-    /// The value, without the blanks around it. An empty one stands at the end of the cut text.
+    /// The value, without the blanks around it. An empty value stands at the end of the cut text.
     pub value: Span,
-    /// The end of the cut text, before which only blanks follow the value.
+    /// The end of the cut text. Only blanks stand between the value and this place.
     pub end: usize,
 }
 
-/// Where the parts of an assignment for targets stand, as places in the line's joined text.
+/// Where the parts of an assignment for targets stand, as places in the line's joined text, in
+/// bytes from 0.
 ///
 /// GNU make manual, "Target-specific Variable Values" and "Pattern-specific Variable Values".
 #[derive(Clone, Copy, Debug, PartialEq, Eq)]
@@ -99,11 +100,11 @@ pub struct TargetAssignment {
     pub separator: Separator,
     /// The end of the targets, which begin at 0: the place of the separator.
     pub targets_end: usize,
-    /// The assignment, its places in the whole joined text.
+    /// The assignment, with its places in the whole joined text.
     pub assignment: Assignment,
 }
 
-/// The assignment that a cut text is, which is a line's text before a comment.
+/// The assignment that a cut text is; the cut text is a line's joined text before its comment.
 ///
 /// The time is linear in the bytes of the text, and no memory is taken.
 pub(crate) fn read_assignment(cut: &[u8]) -> Option<Assignment>
@@ -115,14 +116,16 @@ pub(crate) fn read_assignment(cut: &[u8]) -> Option<Assignment>
     assignment_at_end(cut, cut.len())
 }
 
-/// Whether a text has a byte `=`. Each operator has one, so this tells most lines that are no assignment.
+/// Whether a text has a byte `=`. Each operator has one, so a text without it is no assignment.
+/// Most lines have none.
 pub(crate) fn has_equals(text: &[u8]) -> bool
     ensures { result ≡ list_any (is_byte 61) text.now }
 {
     memchr(b'=', text).is_some()
 }
 
-/// The assignment that the end of a cut text of `len` bytes is, with its places in the whole.
+/// The assignment that `text`, the end of a cut text of `len` bytes, is. Its places are those in
+/// the whole cut text.
 pub(crate) fn assignment_at_end(text: &[u8], len: usize) -> Option<Assignment>
     requires { length text.now ≤ len }
     ensures { result ≡ placed (len - length text.now) (assignment itself (units itself text.now)) }
@@ -140,7 +143,7 @@ pub(crate) fn assignment_at_end(text: &[u8], len: usize) -> Option<Assignment>
     }
 }
 
-/// The assignment without modifiers that the end of a cut text of `len` bytes is.
+/// The assignment without modifiers that `text`, the end of a cut text of `len` bytes, is.
 fn read_definition(text: &[u8], len: usize) -> Option<Assignment>
     requires { length text.now ≤ len }
     ensures { result ≡ placed (len - length text.now) (definition itself (units itself text.now)) }
@@ -211,7 +214,7 @@ pub(crate) fn read_operator(text: &[u8]) -> Option<(Flavor, &[u8])>
     }
 }
 
-/// The longest operator that a `:` before a text begins, and what follows it.
+/// The longest operator that a `:` put before a text begins, and what follows the operator.
 fn read_colon_operator(text: &[u8]) -> Option<(Flavor, &[u8])>
     ensures found { MatchOption result (operator_at (Colon ∷ map (symbol itself) (units itself text.now)) ≡ None) (λ found. IsOperatorAt ((58 ∷ []) ∷ units itself text.now) found.0 (units itself found.1.now)) }
     ensures within { MatchOption result (0 ≤ 0) (λ found. length found.1.now ≤ length text.now) }

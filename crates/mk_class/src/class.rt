@@ -4,10 +4,10 @@ use crate::assignment::{Assignment, TargetAssignment};
 use crate::context::Nesting;
 use crate::rule::Header;
 
-/// What a logical line is. The places are those of its joined text, in bytes.
+/// What a logical line is. The places are those of its joined text, in bytes from 0.
 ///
-/// The first that fits, in the order of the table in docs/LANGUAGE.md, which says of each what it
-/// is and where that comes from.
+/// The class of a line is the first that fits, in the order of the table in docs/LANGUAGE.md. That
+/// table says what each class is and where it comes from.
 #[derive(Clone, Copy, Debug, PartialEq, Eq)]
 pub enum Class {
     /// The line `endef` that ends a define.
@@ -22,9 +22,9 @@ pub enum Class {
     Blank,
     /// A line of blanks and a comment.
     Comment,
-    /// An assignment, with the recipe prefix that it sets where it sets one.
+    /// An assignment, with the recipe prefix that it sets, if it sets one.
     Assign(Assignment, Option<u8>),
-    /// The line that begins a define, and whether that is of the recipe prefix.
+    /// The line that begins a define, and whether it defines the recipe prefix.
     DefineHead(bool),
     /// A line that opens a conditional: `ifeq`, `ifneq`, `ifdef` or `ifndef`.
     If,

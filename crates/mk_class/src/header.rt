@@ -20,7 +20,7 @@ use mk_lines::{after_first_unit, is_closed, split_first_word};
 
 /// A text at its first separator.
 ///
-/// Without one, the separator counts as `:` and the others are empty.
+/// Without a separator, `separator` is `:` and the other two are empty.
 #[derive(Clone, Copy, Debug)]
 pub(crate) struct Separated<'a> {
     pub(crate) separator: Separator,
@@ -30,8 +30,8 @@ pub(crate) struct Separated<'a> {
     pub(crate) rest: &'a [u8],
 }
 
-/// The line of a rule, as a header or as Rough, by its head at the first separator and what follows
-/// the head.
+/// The line of a rule, as a header or as Rough, from its head taken apart at the first separator
+/// and from what follows the head.
 pub(crate) fn read_header(head: &[u8], split: Separated<'_>, tail: &[u8]) -> Class
     requires parts { AreSeparated (units itself head.now) split.separator (units itself split.from.now) (units itself split.rest.now) }
     requires from { length split.from.now ≤ length head.now }
@@ -57,7 +57,7 @@ pub(crate) fn read_header(head: &[u8], split: Separated<'_>, tail: &[u8]) -> Cla
     })
 }
 
-/// Whether an inline recipe begins after a head, which ends before a `;` or a `#`.
+/// Whether an inline recipe begins after a head, which a `;` or a `#` ends.
 fn begins_recipe(tail: &[u8]) -> bool
     ensures { result ≡ first_passes (λ u. not (is_hash itself u)) (units itself tail.now) }
 {
@@ -70,12 +70,13 @@ fn begins_recipe(tail: &[u8]) -> bool
     }
 }
 
-/// The parts of a head, which follow one another in its text. A part that is not there is empty.
+/// The parts of a head, which follow one another in its text. A part that the head does not have is
+/// empty.
 #[derive(Clone, Copy, Debug)]
 struct Parts<'a> {
     separator: Separator,
     targets: &'a [u8],
-    /// Whether a second `:` stands after the separator, and before it a pattern.
+    /// Whether a second `:` stands after the separator, with a pattern before it.
     has_pattern: bool,
     pattern: &'a [u8],
     /// All after the separator and the pattern.
@@ -98,7 +99,7 @@ impl<'a> Parts<'a> {
             || (self.has_pattern && !is_one_word(self.pattern))
     }
 
-    /// Whether a `|` stands where it is no word by itself among the prerequisites.
+    /// Whether there is a `|` among the prerequisites that is no word by itself.
     fn has_bar_amiss(&self) -> bool
         ensures { result ≡ has_bar_amiss itself (parts_header [] self.now []) }
     {
@@ -109,7 +110,7 @@ impl<'a> Parts<'a> {
     }
 }
 
-/// The parts of a head at its first separator.
+/// The parts of a head that is taken apart at its first separator.
 fn head_parts<'a>(head: &'a [u8], split: Separated<'a>) -> Parts<'a>
     requires parts { AreSeparated (units itself head.now) split.separator (units itself split.from.now) (units itself split.rest.now) }
     requires from { length split.from.now ≤ length head.now }
@@ -192,7 +193,7 @@ fn begins_separator(text: &[u8]) -> bool
     }
 }
 
-/// The longest separator at the front of a text, and what follows it.
+/// The longest separator at the front of a text, and what follows the separator.
 fn read_separator(text: &[u8]) -> Option<(Separator, &[u8])>
     ensures found { MatchOption result (begins_separator itself (units itself text.now) ≡ false) (λ found. IsSeparatorAt (units itself text.now) found.0 (units itself found.1.now)) }
     ensures within { IfSome result (λ found. length found.1.now ≤ length text.now) }
@@ -210,7 +211,7 @@ fn read_separator(text: &[u8]) -> Option<(Separator, &[u8])>
     }
 }
 
-/// The longest separator that a `&` before a text begins, and what follows it.
+/// The longest separator that a `&` put before a text begins, and what follows the separator.
 fn read_grouped_separator(text: &[u8]) -> Option<(Separator, &[u8])>
     ensures found { MatchOption result (first_passes (is_colon itself) (units itself text.now) ≡ false) (λ found. IsSeparatorAt ((38 ∷ []) ∷ units itself text.now) found.0 (units itself found.1.now)) }
     ensures within { IfSome result (λ found. length found.1.now ≤ length text.now) }
@@ -222,7 +223,7 @@ fn read_grouped_separator(text: &[u8]) -> Option<(Separator, &[u8])>
     }
 }
 
-/// A text at its first separator. A text has one where it has a unit `:`.
+/// A text at its first separator. A text with a unit `:` has a separator.
 pub(crate) fn separate(text: &[u8]) -> Separated<'_>
     ensures parts { AreSeparated (units itself text.now) result.separator (units itself result.from.now) (units itself result.rest.now) }
     ensures from { length result.from.now ≤ length text.now }
@@ -243,8 +244,8 @@ pub(crate) fn separate(text: &[u8]) -> Separated<'_>
     }
 }
 
-/// Whether a head has a unit that may stand in no word of a header, or a `=`. Each such unit begins
-/// with a `=`, a backslash or a `$`, of which most heads have none.
+/// Whether a head has a `=`, or a unit that may stand in no word of a header. Each such unit begins
+/// with a `=`, a backslash or a `$`; most heads have none of these bytes.
 fn has_unreadable(head: &[u8]) -> bool
     ensures { result ≡ has_unreadable itself (units itself head.now) }
 {
@@ -266,7 +267,8 @@ fn has_unreadable_front(text: &[u8]) -> bool
     false
 }
 
-/// Whether the first unit of a text is such a one.
+/// Whether the first unit of a text is a `=`, begins with a backslash, or is a `$` before a blank
+/// or a backslash.
 fn begins_unreadable(text: &[u8]) -> bool
     ensures { result ≡ first_passes (λ u. is_equals itself u || (is_escape itself u || is_dollar_before_blank itself u)) (units itself text.now) }
 {
@@ -300,14 +302,14 @@ fn is_one_word(text: &[u8]) -> bool
     }
 }
 
-/// Whether a text has a last unit, which is no blank.
+/// Whether a text has a last unit that is no blank.
 fn ends_in_word(text: &[u8]) -> bool
     ensures { result ≡ last_passes (λ u. not (is_gap itself u)) (units itself text.now) }
 {
     !text.is_empty() && blanks_at_end(text).is_empty()
 }
 
-/// Whether a text has a first unit, which is no blank.
+/// Whether a text has a first unit that is no blank.
 fn begins_with_word(text: &[u8]) -> bool
     ensures { result ≡ first_passes (λ u. not (is_gap itself u)) (units itself text.now) }
 {

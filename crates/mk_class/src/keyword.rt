@@ -1,9 +1,9 @@
 //! The words that say what a line is: those of conditionals, defines and the other directives, and
 //! the modifiers.
 //!
-//! The words are the GNU make manual's; of them POSIX.1-2024 make has `include` and `-include`. A
-//! line goes by its first word, or by the first after the modifiers, as the text stands and not as
-//! it expands: this project's profile.
+//! The words are the GNU make manual's; POSIX.1-2024 make has `include` and `-include` of them.
+//! That a line goes by its first word, or by the first word after the modifiers, as the text stands
+//! and not as it expands, is this project's profile.
 ghost use Rattle.std.specs.Prelude.{◌≡◌};
 ghost use Rattle.mk_lines.specs.Units.{units};
 ghost use Rattle.mk_class.specs.ClassTable.{defines_prefix, directive};
@@ -75,7 +75,7 @@ pub(crate) fn modifier_of(word: &[u8]) -> Option<Modifier>
 }
 
 /// Whether a word is one that no target of a rule may be, since a line that begins with it would be
-/// read otherwise: a word of a directive or a conditional, or a modifier. Takes no memory.
+/// read in another way: the word of a directive or a conditional, or a modifier. Takes no memory.
 ///
 /// These are `ifeq`, `ifneq`, `ifdef`, `ifndef`, `else`, `endif`, `define`, `endef`, `undefine`,
 /// `include`, `-include`, `sinclude`, `load`, `-load`, `export`, `unexport`, `override`, `private`
@@ -86,8 +86,8 @@ pub fn is_reserved_word(word: &[u8]) -> bool
     keyword_of(word).is_some() || modifier_of(word).is_some()
 }
 
-/// The class that the words of a cut text say, where they say one. The first is a reserved word then,
-/// and it alone is read of most lines.
+/// The class that the words of a cut text say, if they say one. Then the first word is a reserved
+/// word, so no other word is read in most lines.
 pub(crate) fn directive_class(text: &[u8], in_conditional: bool) -> Option<Class>
     ensures { result ≡ known_class (directive in_conditional (text_words text.now)) }
 {
@@ -106,8 +106,8 @@ pub(crate) fn directive_class(text: &[u8], in_conditional: bool) -> Option<Class
     }
 }
 
-/// The class of a line in a define, of its joined text: by its first word and the number of open
-/// defines, unless it begins with the recipe prefix.
+/// The class of a line in a define, from its joined text: by its first word and the number of open
+/// defines, unless the line begins with the recipe prefix.
 pub(crate) fn body_class(text: &[u8], is_led: bool, defines: u32) -> Class
     ensures { result ≡ body_text_class is_led defines (units itself text.now) }
 {
@@ -170,7 +170,7 @@ fn is_if_word(word: &[u8]) -> bool
         || is_text(word, b"ifndef")
 }
 
-/// Whether a word is that of another directive, but for `undefine`.
+/// Whether a word is that of another directive, except `undefine`.
 fn is_directive_word(word: &[u8]) -> bool
     ensures { result ≡ is_one_of word.now directive_words }
 {

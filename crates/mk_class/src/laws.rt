@@ -12,36 +12,37 @@ pub fn classes_look_up()
     ensures { ClassesLookUp }
 {}
 
-/// Under another flag lines keep their classes, unless one that begins with the recipe prefix comes
-/// before each other that sets the flag.
+/// Under another flag lines keep their classes, unless the first of them that begins with the
+/// recipe prefix, or has a class that sets the flag, begins with the prefix.
 pub fn flag_is_for_first_lines()
     ensures { FlagIsForFirstLines }
 {}
 
-/// The context after the lines of a text: its flag is that of the last line which does not leave it,
-/// its prefix that of the last line which sets it, and its open defines and conditionals are counts.
+/// The context after the lines of a text: its flag is told by the last line that does not leave the
+/// flag, its prefix by the last line that sets the prefix, and its open defines and conditionals by
+/// counting.
 pub fn contexts_of_all_lines()
     ensures { ContextsOfAllLines }
 {}
 
-/// What a class says of the open defines and conditionals: an Endef ends the only define, a Body
-/// stands in one, and in two where it closes one, each other line stands in none, and an Else or
-/// Endif in a conditional.
+/// What a class says of the numbers of open defines and conditionals: an Endef ends the only
+/// define; a Body that closes a define stands in two or more, and any other Body in one or more;
+/// each other line stands in none, and an Else or Endif also in a conditional.
 pub fn classes_fit_counts()
     ensures { ClassesFitCounts }
 {}
 
 /// The class of a line, with its places, is that of its joined text.
 ///
-/// Beside the text it depends only on the context, on whether the line begins with the recipe prefix,
-/// and on whether it has a stray byte or a bad fold.
+/// Apart from the text it depends only on the context, on whether the line begins with the recipe
+/// prefix, and on whether it has a stray byte or a bad fold.
 pub fn classes_are_of_joined_texts()
     ensures { ClassesAreOfJoinedTexts }
 {}
 
-/// Where the class of a line has the places of an assignment's or a rule's parts, these parts stand
-/// there: in each range of the joined text the text, the units and the words of the part, and in the
-/// raw range of it the part's bytes.
+/// If the class of a line has the places of the parts of an assignment or a rule, these parts stand
+/// there: each range of the joined text has the text, the units and the words of its part, and the
+/// raw range has the raw bytes of the part.
 pub fn places_are_parts()
     ensures { PlacesAreParts }
 {}
@@ -94,7 +95,8 @@ pub fn value_text_is_free()
 
 /// An assignment is what stands before its first `=`, which ends the operator, and what follows it.
 ///
-/// The definition takes the longest operator that stands after the name; both say the same.
+/// The definition takes the longest operator that stands after the name; both give the same
+/// assignment.
 pub fn first_equals_decides()
     ensures { FirstEqualsDecides }
 {}

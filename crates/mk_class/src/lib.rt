@@ -1,5 +1,5 @@
-//! What each line of a makefile is: an assignment, a rule, a recipe line, a directive, or a line that is kept and not
-//! read inside; and the context that it stands in.
+//! What each line of a makefile is: an assignment, a rule, a recipe line, a directive, or a line
+//! that is kept and not read inside; and the context that the line stands in.
 //!
 //! - [`class`]: the classes of lines.
 //! - [`reading`]: the class of a line in its context.

@@ -5,10 +5,10 @@ use std::marker::Model;
 
 /// How many lines were classified. Contracts see the number.
 ///
-/// Each call that gives a line its class is handed a meter and adds one to it, so a meter bounds
-/// the work of a call that reads lines anew. It cannot be copied. A call that is handed a meter could
-/// put a new one in its place, so each such call says that the count is no lower afterwards, also
-/// where it answers a fault.
+/// Each call that gives a line its class takes a meter and adds one to it, so a meter bounds the
+/// work of a call that reads lines anew. A meter cannot be copied. A call that takes a meter could
+/// put a new one in its place. So each such call says that the count is no lower afterwards, also
+/// if it answers a fault.
 #[derive(Debug, Drop)]
 pub struct Meter {
     count: u64,
@@ -30,8 +30,8 @@ impl Meter {
         Meter { count: 0 }
     }
 
-    /// How many lines were counted; at the greatest `u64` there may have been more. Takes no
-    /// memory.
+    /// How many lines were counted. If the answer is the greatest `u64`, there may have been more.
+    /// Takes no memory.
     pub fn count(&self) -> u64
         ensures { result ≡ self.now }
     {

@@ -1,8 +1,8 @@
 //! The class of a line in its context.
 //!
-//! A line is read from its front, by the units of its joined text; searches for a byte come before
-//! that, and tell most lines that are of another class. The first class that fits is the line's, in
-//! the order of the table in docs/LANGUAGE.md.
+//! A line is read from its front, by the units of its joined text. Searches for a byte come before
+//! that: they tell of most lines that a class does not fit. The class of a line is the first that
+//! fits, in the order of the table in docs/LANGUAGE.md.
 ghost use Rattle.std.specs.Prelude.{◌≡◌, ◌⊎◌, ◌<◌, ◌≤◌, ◌≢◌, ◌+◌, ◌-◌, ◌^◌, ℕ, List, true, false, All, IfErr, IfOk, MatchOption, Some, min, nat_lt};
 ghost use Rattle.mk_lines.specs.Units.{units};
 ghost use Rattle.mk_lines.specs.KeptCells.{AreCellsOf};
@@ -35,17 +35,16 @@ use std::alloc::Allocator;
 
 /// The class of a line in its context, and the context of the next line.
 ///
-/// What is given is one logical line, with its line end. Counts the line in the meter, also where
-/// the answer is a fault. A line without folds takes no memory. The time is linear in the line's
-/// bytes.
+/// `line` is one logical line, with its line end. The call adds one to the meter, also if the
+/// answer is a fault. A line without folds takes no memory. The time is linear in the line's bytes.
 ///
-/// It asks for fewer than [`MAX_DEFINES`](crate::context::MAX_DEFINES) open defines.
+/// It asks that fewer than [`MAX_DEFINES`](crate::context::MAX_DEFINES) defines are open.
 ///
 /// # Errors
 ///
-/// [`Fault::TooDeep`] where the line opens a conditional and [`MAX_CONDITIONALS`] are open: this project's
-/// profile.
-/// [`Fault::NoMemory`] where the cells of a line with folds could not be kept.
+/// [`Fault::TooDeep`] if the line opens a conditional and [`MAX_CONDITIONALS`] are open: this
+/// project's profile.
+/// [`Fault::NoMemory`] if there is no memory for the cells of a line with folds.
 pub fn classify<A: Allocator + Copy>(
     alloc: A,
     line: &[u8],
@@ -68,13 +67,13 @@ pub fn classify<A: Allocator + Copy>(
     }
 }
 
-/// The class of a line in its context, and the context of the next line, where the line's cells are
-/// at hand. Takes no memory; otherwise as [`classify`].
+/// The class of a line in its context, and the context of the next line, if the line's cells are at
+/// hand. Takes no memory; otherwise as [`classify`].
 ///
 /// # Errors
 ///
-/// [`Fault::TooDeep`] where the line opens a conditional and [`MAX_CONDITIONALS`] are open: this project's
-/// profile.
+/// [`Fault::TooDeep`] if the line opens a conditional and [`MAX_CONDITIONALS`] are open: this
+/// project's profile.
 pub fn class_with_cells<A: Allocator>(
     line: &[u8],
     cells: &Cells<A>,
@@ -108,7 +107,7 @@ fn is_unreadable<A: Allocator>(cells: &Cells<A>) -> bool
     cells.has_stray() || cells.has_bad_fold()
 }
 
-/// Whether a line of this class opens a conditional where [`MAX_CONDITIONALS`] are open.
+/// Whether a line of this class opens a conditional and [`MAX_CONDITIONALS`] are open.
 fn is_too_deep(class: &Class, context: Context) -> bool
     ensures deep { result ≡ true → (class.now ≡ If) × (context.conditionals ≡ 256) }
     ensures fits { result ≡ false → class.now ≡ If → context.conditionals < 256 }
@@ -170,7 +169,7 @@ fn plain_class(text: &[u8], is_led: bool, in_conditional: bool, is_unreadable: b
     }
 }
 
-/// The assignment for targets that a cut text is, where the line's head has a `:`.
+/// The assignment for targets that a cut text is, if it is one. The line's head has a `:`.
 fn read_target_assignment(cut: &[u8]) -> Option<TargetAssignment>
     ensures { (us : List (List ℕ)) → units itself cut.now ≡ cut_text itself us → MatchOption result (header_text_class us ≡ rule_text_class us) (λ t. TargetAssign t ≡ rule_text_class us) }
 {
@@ -196,7 +195,7 @@ fn takes_assignment(separator: Separator) -> bool
     matches!(separator, Separator::SingleColon | Separator::DoubleColon)
 }
 
-/// The recipe prefix that an assignment sets, of its cut text, where it sets one.
+/// The recipe prefix that an assignment sets, from its cut text, if it sets one.
 fn prefix_set_by(cut: &[u8], in_conditional: bool) -> Option<u8>
     ensures { (a : Assignment ℕ) → assignment itself (units itself cut.now) ≡ Some a → result ≡ prefix_set_by itself in_conditional a }
 {
@@ -236,8 +235,8 @@ fn may_set_prefix(flavor: Flavor) -> bool
     )
 }
 
-/// The recipe prefix that a value says: its first byte where that may be one, and a tab where it is
-/// empty.
+/// The recipe prefix that a value says: a tab if the value is empty, and otherwise its first byte,
+/// if that byte may be a prefix.
 fn prefix_of_value(value: &[u8]) -> Option<u8>
     ensures { result ≡ prefix_of_value value.now }
 {

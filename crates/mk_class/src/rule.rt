@@ -14,7 +14,7 @@ pub enum Separator {
     DoubleColon,
     /// `&:`: one recipe makes all the targets at once.
     GroupedColon,
-    /// `&::`: both.
+    /// `&::`: as `::` and `&:` together.
     GroupedDoubleColon,
 }
 
@@ -32,11 +32,12 @@ impl Separator {
     }
 }
 
-/// Where the parts of a header, the line of a rule, stand, as places in the line's joined text.
+/// Where the parts of a header, the line of a rule, stand, as places in the line's joined text, in
+/// bytes from 0.
 ///
-/// They follow one another: the targets, the separator, a pattern and a second `:` where there are
-/// these, the normal prerequisites, a `|` and the order-only prerequisites where there is a `|`,
-/// and after the head a `;` with an inline recipe, or a `#` with a comment, or nothing.
+/// They follow one another: the targets; the separator; a pattern and a second `:`, if there is
+/// one; the normal prerequisites; a `|` and the order-only prerequisites, if there is a `|`; and
+/// after the head a `;` with an inline recipe, or a `#` with a comment, or nothing.
 ///
 /// POSIX.1-2024 make, Makefile Syntax ("Target Rules"); GNU make manual, "Rule Syntax", "Static
 /// Pattern Rules", "Types of Prerequisites".
@@ -48,13 +49,13 @@ pub struct Header {
     pub has_pattern: bool,
     /// Whether a `|` stands after the normal prerequisites.
     pub has_order_only: bool,
-    /// Whether a `;` ends the head, and an inline recipe follows it, which may be empty.
+    /// Whether a `;` ends the head. The inline recipe follows it, and may be empty.
     pub has_recipe: bool,
     /// The end of the targets, which begin at 0: the place of the separator.
     pub targets_end: usize,
     /// The start of the normal prerequisites: the end of the separator, or of the second `:`.
     pub normal_start: usize,
-    /// The end of the normal prerequisites: the place of the `|`, where there is one.
+    /// The end of the normal prerequisites: the place of the `|`, if there is one.
     pub normal_end: usize,
     /// The end of the head: the place of a `;` or `#`, or the length of the joined text.
     pub head_end: usize,

@@ -1,9 +1,9 @@
 //! A text read from its front, one unit at a time.
 //!
-//! Each call answers what is left of the text, as a part of it; its units are those of the text that
-//! are left. A byte that no byte of a text is, no unit of it is: so a text is first searched for the
-//! byte, and most are not read by units at all. All take time linear in the bytes that they pass over
-//! or search, and no memory.
+//! Each call answers the rest of the text, as a part of it; the units of the rest are the last
+//! units of the text. If a byte does not stand in a text, none of its units is that byte. So a text
+//! is first searched for the byte, and most texts are not read by units at all. All calls take time
+//! linear in the bytes that they pass over or search, and no memory.
 ghost use Rattle.std.specs.Prelude.{◌≡◌, ◌≤◌, ◌+◌, ◌++◌, List, [], ◌∷◌, ℕ, false, length, MatchOption};
 ghost use Rattle.mk_lines.specs.Lists.{after_leading, trailing};
 ghost use Rattle.mk_lines.specs.Units.{byte_mark, units, Unmarked};
@@ -40,9 +40,9 @@ pub(crate) fn is_blank(byte: u8) -> bool
     matches!(byte, b' ' | b'\t')
 }
 
-/// A text from its first unit on that is one of these bytes, and nothing where none is.
+/// A text from its first unit on that is one of these bytes; nothing if no unit is.
 ///
-/// None of the bytes may be `$` or a backslash, which begin longer units.
+/// None of the bytes may be `$` or a backslash, with which longer units begin.
 pub(crate) fn from_any<'a>(text: &'a [u8], stops: &[u8]) -> &'a [u8]
     requires { AreUnmarked stops.now }
     ensures rest { units itself result.now ≡ after_leading (is_other stops.now) (units itself text.now) }
@@ -58,10 +58,10 @@ pub(crate) fn from_any<'a>(text: &'a [u8], stops: &[u8]) -> &'a [u8]
     rest
 }
 
-/// A text from its first unit on that is this byte, and nothing where none is.
+/// A text from its first unit on that is this byte; nothing if no unit is.
 ///
-/// The byte may be neither `$` nor a backslash. Where the text does not have it, as most texts do
-/// not, no unit needs to be looked at.
+/// The byte may be neither `$` nor a backslash. Most texts do not have the byte, and then no unit
+/// is looked at.
 fn from_unit(text: &[u8], byte: u8) -> &[u8]
     requires { byte_mark byte ≡ Unmarked }
     ensures rest { units itself result.now ≡ after_leading (is_other (byte ∷ [])) (units itself text.now) }
@@ -73,8 +73,8 @@ fn from_unit(text: &[u8], byte: u8) -> &[u8]
     }
 }
 
-/// A text split at its first unit that is this byte, which is neither `$` nor a backslash: what stands
-/// before it and what follows it. It is `None` where no unit is the byte.
+/// A text split at its first unit that is this byte, which is neither `$` nor a backslash: what
+/// stands before the unit and what follows it. `None` if no unit is the byte.
 pub(crate) fn split_at_unit(text: &[u8], byte: u8) -> Option<(&[u8], &[u8])>
     requires { byte_mark byte ≡ Unmarked }
     ensures { MatchOption result (after_leading (is_other (byte ∷ [])) (units itself text.now) ≡ []) (λ parts. IsSplitAt byte (units itself text.now) (units itself parts.0.now) (units itself parts.1.now)) }
@@ -94,7 +94,7 @@ pub(crate) fn has_unit(text: &[u8], byte: u8) -> bool
     !from_unit(text, byte).is_empty()
 }
 
-/// What stands in a text before a rest of it.
+/// What stands in a text before `rest`, the end of that text.
 pub(crate) fn before<'a>(text: &'a [u8], rest: &[u8]) -> &'a [u8]
     requires { length rest.now ≤ length text.now }
     ensures units { (front : List (List ℕ)) → units itself text.now ≡ front ++ units itself rest.now → units itself result.now ≡ front }
@@ -110,14 +110,15 @@ pub(crate) fn has_hash(text: &[u8]) -> bool
     has_unit(text, b'#')
 }
 
-/// The cut text of a line, which is its joined text before a comment.
+/// The cut text of a line: its joined text before a comment.
 pub(crate) fn cut_text(text: &[u8]) -> &[u8]
     ensures { units itself result.now ≡ cut_text itself (units itself text.now) }
 {
     before(text, from_unit(text, b'#'))
 }
 
-/// The head of a rule's line, which is its joined text before a `;` or a comment, and what follows it.
+/// The head of a rule's line, which is its joined text before a `;` or a comment, and what follows
+/// the head.
 pub(crate) fn split_head(text: &[u8]) -> (&[u8], &[u8])
     ensures head { units itself result.0.now ≡ head itself (units itself text.now) }
     ensures tail { units itself result.1.now ≡ after_head itself (units itself text.now) }
@@ -157,7 +158,7 @@ fn ends_with_blank(text: &[u8]) -> bool
     }
 }
 
-/// What follows a `=` at the front of a text.
+/// What follows a `=` at the front of a text; `None` if no `=` stands there.
 pub(crate) fn after_equals(text: &[u8]) -> Option<&[u8]>
     ensures found { MatchOption result (first_passes (is_equals itself) (units itself text.now) ≡ false) (λ rest. units itself text.now ≡ (61 ∷ []) ∷ units itself rest.now) }
     ensures within { MatchOption result (0 ≤ 0) (λ rest. length rest.now ≤ length text.now) }
@@ -168,7 +169,7 @@ pub(crate) fn after_equals(text: &[u8]) -> Option<&[u8]>
     }
 }
 
-/// What follows a `:` at the front of a text.
+/// What follows a `:` at the front of a text; `None` if no `:` stands there.
 pub(crate) fn after_colon(text: &[u8]) -> Option<&[u8]>
     ensures found { MatchOption result (first_passes (is_colon itself) (units itself text.now) ≡ false) (λ rest. units itself text.now ≡ (58 ∷ []) ∷ units itself rest.now) }
     ensures within { MatchOption result (0 ≤ 0) (λ rest. length rest.now ≤ length text.now) }

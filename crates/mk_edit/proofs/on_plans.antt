@@ -1,4 +1,4 @@
--- Lemmas. From an accepted edit to the moves that it is.
+-- Lemmas. From an accepted edit to its moves.
 pub mod PlanLemmas
 pub mod LinePlans
 pub mod NewLinePlans

@@ -32,13 +32,13 @@ abbrev pub is_bottom : Place → Bool
 is_bottom Bottom = true
 is_bottom p = false
 
--- whether an edit puts a line in there
+-- whether an edit puts a line in at the end of the text
 abbrev pub is_at_bottom : Edit → Bool
 is_at_bottom (AddAssign p n f v) = is_bottom p
 is_at_bottom (AddRule p ts c ws) = is_bottom p
 is_at_bottom e = false
 
--- A new line goes between the lines of a document: there is a stretch for it, which begins at a place, with the context there.
+-- A new line goes between the lines of a document: there is a stretch for it, which begins at this place, with the context there.
 pub record IsInsertedAt (ls : List PlacedLine) (insertion : Option Stretch) (place : Found) : Type 0 where
   pub stretch : Stretch
   pub stretch_is : insertion ≡ Some stretch
@@ -50,16 +50,17 @@ pub record IsInsertedAt (ls : List PlacedLine) (insertion : Option Stretch) (pla
 abbrev pub place_causes : (text : List ℕ) → Edit → List (Option Refusal)
 place_causes t e = let ls = classed_lines t in open_line ls e ∷ open_define ls e ∷ leaning ls e ∷ too_long t (spans_of t ls e) ∷ []
 
--- The first cause of an edit that holds is one that the place of its new line decides, or there is none.
+-- The first cause of an edit that holds is one that the place of its new line decides, or no cause holds.
 abbrev pub IsDecidedByPlace : (text : List ℕ) → Edit → Type 0
 IsDecidedByPlace t e = first_cause (causes t (classed_lines t) e) ≡ first_cause (place_causes t e)
 
--- whether a line is open, where there is one
+-- whether a line is open; false if there is no line
 abbrev pub is_open_line : Option PlacedLine → Bool
 is_open_line None = false
 is_open_line (Some l) = is_open l.bytes
 
--- how many bytes the line ends have that come with a line at a place: its own, and that of a last line that has none
+-- how many bytes the line ends have that come with a line put in at a place: its own, and the line end that a last line without
+-- one gets
 abbrev pub ends_length : List PlacedLine → (at : ℕ) → ℕ
 ends_length ls at =
     let n = length (line_end_bytes (file_line_end (placed_text ls))) in

@@ -12,11 +12,11 @@ use Rattle.mk_patch.specs.Moves.{Move, PutIn, TakeOut, Exchange, SwapEnd, IsPlai
 abbrev pub line_read_at : List PlacedLine → (at : ℕ) → (bytes : List ℕ) → PlacedLine
 line_read_at ls at bytes = placed_line (line_in (context_of (take at (classed_lines (placed_text ls)))) bytes)
 
--- so many lines from a place on, with those above and below them
+-- `count` lines from a place on, with the lines above and below them
 abbrev pub stretch_at : List ClassedLine → (at count : ℕ) → Stretch
 stretch_at ls at count = record { above = take at ls; lines = take count (drop at ls); below = drop (at + count) ls }
 
--- these bytes are one line, of no conditional, where they are put at a place
+-- these bytes are one line, of no conditional, if they are put at this place
 pub record IsLineAt (ls : List PlacedLine) (at : ℕ) (bytes : List ℕ) : Type 0 where
   pub one : logical_lines bytes ≡ bytes ∷ []
   pub plain : IsPlain (line_read_at ls at bytes)
@@ -26,7 +26,7 @@ pub record IsLineAt (ls : List PlacedLine) (at : ℕ) (bytes : List ℕ) : Type 
 abbrev pub replacing_moves : List PlacedLine → (at : ℕ) → (bytes : List ℕ) → List Move
 replacing_moves ls at bytes = Exchange at (line_read_at ls at bytes) ∷ []
 
--- the line at a place can be replaced by one of these bytes
+-- a line of these bytes can be put in the place of the line at `at`
 pub record CanReplace (ls : List PlacedLine) (at : ℕ) (bytes : List ℕ) : Type 0 where
   pub in_range : at < length ls
   pub line : IsLineAt ls at bytes
@@ -38,7 +38,7 @@ removing_moves at count = replicate count (TakeOut at)
 
 -- ---- a new line
 
--- whether a line has no line end, where there is one
+-- whether a line has no line end; false if there is no line
 abbrev pub is_unended : Option PlacedLine → Bool
 is_unended None = false
 is_unended (Some l) = has_no_line_end (line_end l.bytes)
@@ -51,12 +51,13 @@ follows_unended ls at = (at == length ls) && is_unended (last_line ls)
 abbrev pub last_bytes_ended : List PlacedLine → List ℕ
 last_bytes_ended ls = bytes_of_line (last_line ls) ++ line_end_bytes (file_line_end (placed_text ls))
 
--- a last line gets its line end, where it is to
+-- the move by which a last line gets its line end, if it is to get one
 abbrev pub ending_moves : Bool → List PlacedLine → List Move
 ending_moves true ls = SwapEnd (last_bytes_ended ls) ∷ []
 ending_moves false ls = []
 
--- A line is put before the one at a place, or at the end. A last line that has no line end gets the file's before that.
+-- A line is put before the line at a place, or at the end. If it follows a last line without a line end, that line first gets the
+-- file's line end.
 abbrev pub inserting_moves : List PlacedLine → (at : ℕ) → (bytes : List ℕ) → List Move
 inserting_moves ls at bytes = ending_moves (follows_unended ls at) ls ++ PutIn at (line_read_at ls at bytes) ∷ []
 

@@ -24,6 +24,6 @@ abbrev pub IsRecipeRemoval : (number : ℕ) → Edit → Type 0
 IsRecipeRemoval n (RemoveRecipe nth t k) = k ≡ n
 IsRecipeRemoval n e = ⊥
 
--- where the command of a recipe line stands among its bytes: after the first one, up to the line end
+-- where the command of a recipe line stands among the line's bytes: after the first byte, up to the line end
 abbrev pub command_range : (line : List ℕ) → Span
 command_range l = record { start = 1; end = length (without_line_end l) }

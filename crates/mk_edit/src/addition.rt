@@ -23,13 +23,13 @@ use mk_patch::Patch;
 use mk_tree::Doc;
 use std::alloc::Allocator;
 
-/// Plans the new line of an assignment or of a rule. It reads this line.
+/// Plans the new line of an assignment or of a rule. It reads the new line.
 ///
 /// # Errors
 ///
-/// The first cause of the edit that holds: those of [`find`], [`Refusal::RecipePrefix`] where the new
-/// line would begin with the recipe prefix in force at its place, and those of [`place_refusal`].
-/// Where none holds, [`Refusal::NoMemory`] where a growth was refused.
+/// The first cause of the edit that holds: the causes of [`find`]; [`Refusal::RecipePrefix`] if the
+/// new line would begin with the recipe prefix in force at its place; and the causes of
+/// [`place_refusal`]. If no cause holds, [`Refusal::NoMemory`] if a growth was refused.
 pub(crate) fn plan_addition<A: Allocator + Copy>(
     alloc: A,
     doc: &Doc<A>,
@@ -52,13 +52,13 @@ pub(crate) fn plan_addition<A: Allocator + Copy>(
     add_line(alloc, doc, edit, place, meter)
 }
 
-/// Plans the new line of an edit at its place, where none of the causes holds that come before those
-/// of the place. It reads this line.
+/// Plans the new line of an edit at its place. It asks that no cause holds that comes before the
+/// causes of the place. It reads the new line.
 ///
 /// # Errors
 ///
-/// The first of the causes of [`place_refusal`] that holds. Where none holds, [`Refusal::NoMemory`]
-/// where a growth was refused.
+/// The first of the causes of [`place_refusal`] that holds. If none of them holds,
+/// [`Refusal::NoMemory`] if a growth was refused.
 pub(crate) fn add_line<A: Allocator + Copy>(
     alloc: A,
     doc: &Doc<A>,

@@ -1,4 +1,4 @@
-//! A new prerequisite of a rule, and one less, planned.
+//! A new prerequisite of a rule, and a prerequisite taken out, planned.
 ghost use Rattle.std.specs.Prelude.{◌≡◌, ◌≤◌, ◌+◌, ◌||◌, IfOk, IfErr, OnOk};
 ghost use Rattle.mk_lines.specs.Cells.{Cell};
 ghost use Rattle.mk_class.specs.Headers;
@@ -26,14 +26,14 @@ use mk_tree::parse::SIZE_LIMIT;
 use mk_tree::{Doc, Line};
 use std::alloc::Allocator;
 
-/// Plans a new prerequisite of a rule, the last of its list: of the order-only ones where `order`
-/// says so, and of the normal ones where not.
+/// Plans a new prerequisite of a rule, which goes last in its list: in the order-only prerequisites
+/// if `order` says so, and otherwise in the normal ones.
 ///
 /// # Errors
 ///
-/// The first cause of the edit that holds: those of [`find`], [`Refusal::Already`] where the word is
-/// in that list, and [`Refusal::TooLong`]. Where none holds, [`Refusal::NoMemory`] where a growth was
-/// refused.
+/// The first cause of the edit that holds: the causes of [`find`]; [`Refusal::Already`] if the word
+/// is in that list; and [`Refusal::TooLong`]. If no cause holds, [`Refusal::NoMemory`] if a growth
+/// was refused.
 pub(crate) fn plan_depend<A: Allocator + Copy>(
     alloc: A,
     doc: &Doc<A>,
@@ -66,12 +66,13 @@ pub(crate) fn plan_depend<A: Allocator + Copy>(
     replace_line(alloc, doc, place, bytes, meter)
 }
 
-/// Plans a rule without a prerequisite, wherever it stands in either list.
+/// Plans the line of a rule without a prerequisite: the word goes wherever it stands in the two
+/// lists.
 ///
 /// # Errors
 ///
-/// The first cause of the edit that holds: those of [`find`], or [`Refusal::Absent`] where the word is
-/// in neither list. Where none holds, [`Refusal::NoMemory`] where a growth was refused.
+/// The first cause of the edit that holds: the causes of [`find`], or [`Refusal::Absent`] if the
+/// word is in neither list. If no cause holds, [`Refusal::NoMemory`] if a growth was refused.
 pub(crate) fn plan_undepend<A: Allocator + Copy>(
     alloc: A,
     doc: &Doc<A>,
@@ -87,7 +88,8 @@ pub(crate) fn plan_undepend<A: Allocator + Copy>(
     ensures few_read { meter.new ≤ meter.old + cost (placed_text doc.now) (edit_of edit.now) }
     ensures forward { meter.old ≤ meter.new }
 {
-    // The contract of `size` says that the text is within the limit, and so it is with a word less.
+    // The contract of `size` says that the text is within the limit, and so is the text without a
+    // word.
     let _size = doc.size();
     let place = find(doc, edit)?;
     let line = doc.line(place.at);
@@ -113,7 +115,7 @@ fn header_of<A: Allocator>(line: &Line<A>) -> Header
     }
 }
 
-// Whether a word is in the list of prerequisites that it would go to.
+// Whether a word is already in the list of prerequisites that it is put in.
 fn is_in_list<A: Allocator>(line: &Line<A>, header: Header, order: bool, word: &[u8]) -> bool
     requires { HasHeader (line_view line.now) header }
     ensures { (h : Headers.Header Cell) → IsHeaderSeen (line_view line.now) header h → result ≡ is_in_list order word.now h }

@@ -30,8 +30,8 @@ use mk_tree::Doc;
 use mk_tree::parse::SIZE_LIMIT;
 use std::alloc::Allocator;
 
-/// Where the new line of an edit goes, `found` being the line that its place names, or the end where it
-/// names none. It reads no line anew and takes no memory.
+/// Where the new line of an edit goes. `found` is the line that the edit's place names, or the end
+/// of the document if it names no line. The call reads no line anew and takes no memory.
 pub(crate) fn insertion_of<A: Allocator>(doc: &Doc<A>, edit: &Edit<A>, found: Found) -> Found
     requires faithful { IsFaithful doc.now }
     requires of_place { IsOfPlace (edit_of edit.now) }
@@ -56,9 +56,10 @@ fn place_of<A: Allocator>(doc: &Doc<A>, place: &Place<A>, found: Found) -> Found
     }
 }
 
-/// The first of the causes of refusal that the place of an edit's new line decides: it would follow an
-/// open line, or stand in an open define, lines below lean on it, or the result is too long. It walks
-/// over the lines below the place, reads none anew and takes no memory.
+/// The first cause of refusal that holds, of those that the place of an edit's new line decides:
+/// the line would follow an open line, or would stand in an open define, or lines below would lean
+/// on it, or the result is too long. The call walks over the lines below the place, reads no line
+/// anew and takes no memory.
 pub(crate) fn place_refusal<A: Allocator>(
     doc: &Doc<A>,
     edit: &Edit<A>,
@@ -123,8 +124,8 @@ fn is_bottom<A: Allocator>(place: &Place<A>) -> bool
     matches!(place, Place::Bottom)
 }
 
-// Whether the lines from a place on lean on the flag with an edit's new line above them and the flag
-// without it.
+// Whether the lines from a place on lean on two flags: the flag with an edit's new line above them,
+// and the flag without it.
 fn is_leaned_on<A: Allocator>(doc: &Doc<A>, edit: &Edit<A>, place: &Found) -> bool
     requires { place.now.at ≤ length doc.now }
     ensures { result ≡ (not (is_same_flag (flag_below_new (edit_of edit.now)) place.now.context.flag) && is_led_first_placed place.now.context.prefix (drop place.now.at doc.now)) }
@@ -144,7 +145,8 @@ fn flag_below<A: Allocator>(edit: &Edit<A>) -> Flag
     }
 }
 
-// Whether the document with the new line of an edit, put in at a place, has more bytes than it may.
+// Whether the document has more bytes than a document may have, once the new line of an edit is put
+// in at a place.
 fn is_too_long<A: Allocator>(doc: &Doc<A>, edit: &Edit<A>, at: usize) -> bool
     requires { IsFaithful doc.now }
     ensures { (prefix : ℕ) → result ≡ nat_lt greatest_length (size_of doc.now + (length (new_text prefix (edit_of edit.now)) + ends_length doc.now at)) }
@@ -153,8 +155,8 @@ fn is_too_long<A: Allocator>(doc: &Doc<A>, edit: &Edit<A>, at: usize) -> bool
     new_len(edit).saturating_add(others) > SIZE_LIMIT
 }
 
-// How many bytes the line ends have that come with a line at this place: its own, and that of a last
-// line that has none.
+// How many bytes the line ends have that come with a line put in at this place: its own, and the
+// line end that a last line without one gets.
 fn ends_len<A: Allocator>(doc: &Doc<A>, at: usize) -> usize
     requires { IsFaithful doc.now }
     ensures number { result ≡ ends_length doc.now at }

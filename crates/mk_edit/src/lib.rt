@@ -1,7 +1,8 @@
 //! What an edit would do to a document, as a patch of moved lines, or why it is refused.
 //!
-//! What an edit does is defined in `mk_edit_laws`, whose laws say what follows from it. `mk_edit_parts`
-//! has the edits as Rust types, which line each means, and the bytes of the lines that they write.
+//! What an edit does is defined in `mk_edit_laws`, whose laws say what follows from it.
+//! `mk_edit_parts` has the edits as Rust types, the line that each edit means, and the bytes of the
+//! lines that edits write.
 //!
 //! - [`planning`]: `plan`, one call for all twelve edits.
 //!
@@ -14,7 +15,7 @@
 //! - `insertion`: where new lines go, and the causes of refusal that their places decide.
 //! - `addition`: new lines, planned.
 //! - `recipe_add`: a new recipe line, planned.
-//! - `depend`: a new prerequisite, and one less, planned.
+//! - `depend`: a new prerequisite, and a prerequisite taken out, planned.
 //! - `value`: edits of a value, planned.
 //! - `removals`: edits that take lines out.
 //! - `rename_causes`: the causes of refusal of a rename.

@@ -1,8 +1,8 @@
-//! The patches of edits whose causes are decided: a line in the place of another, lines taken out, a
-//! new line.
+//! The patches of edits whose causes are decided: a line put in the place of another, lines taken
+//! out, a new line.
 //!
-//! An edit decides its causes, builds the bytes of its new line, and calls one of these. All memory
-//! that it takes beyond those bytes is taken here.
+//! An edit decides its causes, builds the bytes of its new line, and calls one of these functions.
+//! All memory that the edit takes in addition to those bytes is taken here.
 ghost use Rattle.std.specs.Prelude.{◌≡◌, ◌≤◌, ◌<◌, ◌+◌, ◌^◌, ◌∷◌, [], length, IfOk, OnOk, IsOkUnless};
 ghost use Rattle.mk_tree.specs.Counting.{AreCounted};
 ghost use Rattle.mk_tree.specs.Documents.{IsFaithful};
@@ -25,11 +25,11 @@ use mk_patch::{Patch, PatchBuilder, Step};
 use mk_tree::{Doc, Line, LineBytes};
 use std::alloc::Allocator;
 
-/// The patch that puts a line of these bytes in the place of another. It reads this line.
+/// The patch that puts a line of these bytes in the place of another line. It reads the new line.
 ///
 /// # Errors
 ///
-/// [`Refusal::NoMemory`] where a growth was refused.
+/// [`Refusal::NoMemory`] if a growth was refused.
 pub(crate) fn replace_line<A: Allocator + Copy>(
     alloc: A,
     doc: &Doc<A>,
@@ -45,7 +45,7 @@ pub(crate) fn replace_line<A: Allocator + Copy>(
     ensures few_read { meter.new ≤ meter.old + 1 }
     ensures forward { meter.old ≤ meter.new }
 {
-    // The contract of `len` says that there are few lines, as reading asks.
+    // The contract of `len` bounds the number of lines, as reading asks.
     let _count = doc.len();
     let mut patch = builder(alloc, 1)?;
     let line = read_line(alloc, bytes, place.context, meter)?;
@@ -53,11 +53,11 @@ pub(crate) fn replace_line<A: Allocator + Copy>(
     Ok(patch.finish())
 }
 
-/// The patch that takes so many lines out, the first of which stands at a place.
+/// The patch that takes out `count` lines, the first of which stands at a place.
 ///
 /// # Errors
 ///
-/// [`Refusal::NoMemory`] where a growth was refused.
+/// [`Refusal::NoMemory`] if a growth was refused.
 pub(crate) fn take_out<A: Allocator + Copy>(
     alloc: A,
     at: usize,
@@ -73,12 +73,13 @@ pub(crate) fn take_out<A: Allocator + Copy>(
     Ok(patch.finish())
 }
 
-/// The patch that puts a line of these bytes before the one at a place, or at the end. Where the line
-/// goes after a last line that has no line end, this one gets the file's. It reads the new line.
+/// The patch that puts a line of these bytes before the line at a place, or at the end. If the new
+/// line follows a last line without a line end, that line gets the file's line end. The call reads
+/// the new line.
 ///
 /// # Errors
 ///
-/// [`Refusal::NoMemory`] where a growth was refused.
+/// [`Refusal::NoMemory`] if a growth was refused.
 pub(crate) fn insert_line<A: Allocator + Copy>(
     alloc: A,
     doc: &Doc<A>,
@@ -95,7 +96,8 @@ pub(crate) fn insert_line<A: Allocator + Copy>(
     ensures few_read { meter.new ≤ meter.old + 1 }
     ensures forward { meter.old ≤ meter.new }
 {
-    // The contract of `size` says that no line is empty, so that there are few, as reading asks.
+    // The contract of `size` says that no line is empty. So the number of lines is bounded, as
+    // reading asks.
     let _size = doc.size();
     let mut patch = builder(alloc, 2)?;
     if follows_unended(doc, place.at) {
@@ -106,11 +108,11 @@ pub(crate) fn insert_line<A: Allocator + Copy>(
     Ok(patch.finish())
 }
 
-/// A patch of no step, with room for so many.
+/// A patch of no step, with room for `room` steps.
 ///
 /// # Errors
 ///
-/// [`Refusal::NoMemory`] where there is no memory for so many.
+/// [`Refusal::NoMemory`] if there is no memory for this room.
 pub(crate) fn builder<A: Allocator + Copy>(
     alloc: A,
     room: usize,
@@ -124,14 +126,14 @@ pub(crate) fn builder<A: Allocator + Copy>(
     }
 }
 
-/// Whether a line at this place would follow a last line that has no line end.
+/// Whether a line put in at this place would follow a last line without a line end.
 pub(crate) fn follows_unended<A: Allocator>(doc: &Doc<A>, at: usize) -> bool
     ensures { result ≡ follows_unended doc.now at }
 {
     at == doc.len() && is_last_unended(doc)
 }
 
-// Whether there is a last line, and it has no line end.
+// Whether there is a last line without a line end.
 fn is_last_unended<A: Allocator>(doc: &Doc<A>) -> bool
     ensures { result ≡ is_unended (last_line doc.now) }
 {
@@ -160,7 +162,7 @@ fn last_line_ended<A: Allocator + Copy>(alloc: A, doc: &Doc<A>) -> Result<LineBy
 ///
 /// # Errors
 ///
-/// [`Refusal::NoMemory`] where a growth was refused.
+/// [`Refusal::NoMemory`] if a growth was refused.
 pub(crate) fn read_line<A: Allocator + Copy>(
     alloc: A,
     bytes: Vec<u8, A>,
@@ -179,7 +181,7 @@ pub(crate) fn read_line<A: Allocator + Copy>(
     match Line::read(alloc, bytes, context, meter) {
         Ok(line) => Ok(line),
         Err(Fault::NoMemory) => Err(Refusal::NoMemory),
-        // A line that opens no conditional is not too deep.
+        // A line that opens no conditional is never too deep.
         Err(_) => unreachable!(),
     }
 }

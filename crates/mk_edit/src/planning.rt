@@ -26,15 +26,16 @@ use std::alloc::Allocator;
 /// The patch that makes an edit of a document, or the first cause for which it is refused.
 ///
 /// The document is not changed. The patch fits it, and leads to the document of the text with the
-/// edit's spans replaced: no byte outside them changes, and the text reads as the edit's stated change
-/// says. Each line that is read anew counts in the meter: exactly as many as the edit costs, and at most
-/// as many where it is refused. The patch holds as many lines as the edit costs, and takes out as many
-/// as it changes, each with one more where a last line gets a line end.
+/// edit's spans replaced: no byte outside the spans changes, and the text reads as the edit's
+/// stated change says. The call adds to the meter the number of lines that it reads anew: exactly
+/// the edit's cost, or at most the cost if the edit is refused. The patch holds as many lines as
+/// the edit costs, and takes out as many as the edit's size says; each number is one higher if a
+/// last line gets a line end.
 ///
 /// # Errors
 ///
-/// The first [`Refusal`] whose cause holds, in their order; [`Refusal::NoMemory`] only where none of the
-/// others holds and a growth was refused.
+/// The first [`Refusal`] whose cause holds, in their order. [`Refusal::NoMemory`] only if no other
+/// cause holds and a growth was refused.
 pub fn plan<A: Allocator + Copy>(
     alloc: A,
     doc: &Doc<A>,

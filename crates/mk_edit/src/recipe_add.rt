@@ -19,14 +19,14 @@ use mk_patch::Patch;
 use mk_tree::Doc;
 use std::alloc::Allocator;
 
-/// Plans a new recipe line: it goes after the last recipe line of its rule, or after the header where
-/// the rule has none. It reads this line.
+/// Plans a new recipe line. It goes after the last recipe line of its rule, or after the header if
+/// the rule has no recipe line. The call reads the new line.
 ///
 /// # Errors
 ///
-/// The first cause of the edit that holds: those of [`find`], [`Refusal::Straddles`] where a line of a
-/// conditional stands between the header and the last recipe line, and those of the line's place. Where
-/// none holds, [`Refusal::NoMemory`] where a growth was refused.
+/// The first cause of the edit that holds: the causes of [`find`]; [`Refusal::Straddles`] if a line
+/// of a conditional stands between the header and the last recipe line; and the causes of the
+/// line's place. If no cause holds, [`Refusal::NoMemory`] if a growth was refused.
 pub(crate) fn plan_recipe<A: Allocator + Copy>(
     alloc: A,
     doc: &Doc<A>,
@@ -41,7 +41,7 @@ pub(crate) fn plan_recipe<A: Allocator + Copy>(
     ensures few_read { meter.new ≤ meter.old + cost (placed_text doc.now) (edit_of edit.now) }
     ensures forward { meter.old ≤ meter.new }
 {
-    // The contract of `len` says that there are few lines, so that places can be added to.
+    // The contract of `len` bounds the number of lines, so that places can be added to.
     let _count = doc.len();
     let header = find(doc, edit)?;
     let recipe = recipe_below(doc, header.at + 1);

@@ -15,12 +15,12 @@ use mk_patch::Patch;
 use mk_tree::Doc;
 use std::alloc::Allocator;
 
-/// Plans the removal of a rule's recipe line of a number. It reads no line anew.
+/// Plans the removal of a rule's recipe line, by its number from 1. It reads no line anew.
 ///
 /// # Errors
 ///
-/// The first cause of the edit that holds: those of [`find`], or [`Refusal::Absent`] where the rule
-/// has no recipe line of that number. Where none holds, [`Refusal::NoMemory`] where a growth was
+/// The first cause of the edit that holds: the causes of [`find`], or [`Refusal::Absent`] if the
+/// rule has no recipe line of that number. If no cause holds, [`Refusal::NoMemory`] if a growth was
 /// refused.
 pub(crate) fn plan_recipe_del<A: Allocator + Copy>(
     alloc: A,
@@ -33,7 +33,7 @@ pub(crate) fn plan_recipe_del<A: Allocator + Copy>(
     ensures planned { IfOk result (λ patch. IsPlanned (edit_of edit.now) doc.now patch) }
     ensures refused { IfErr result (λ refusal. IsRefusal (placed_text doc.now) (edit_of edit.now) refusal) }
 {
-    // The contract of `size` says that the text is within the limit, and so is what is left of it.
+    // The contract of `size` says that the text is within the limit, and so is the rest of it.
     let _size = doc.size();
     let header = match find(doc, edit) {
         Ok(header) => header,

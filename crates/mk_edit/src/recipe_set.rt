@@ -23,14 +23,14 @@ use mk_tree::Doc;
 use mk_tree::parse::SIZE_LIMIT;
 use std::alloc::Allocator;
 
-/// Plans another command for a rule's recipe line of a number. The recipe prefix and the line end
-/// stay.
+/// Plans another command for a rule's recipe line, by its number from 1. The recipe prefix and the
+/// line end stay.
 ///
 /// # Errors
 ///
-/// The first cause of the edit that holds: those of [`find`], [`Refusal::Absent`] where the rule has
-/// no recipe line of that number, and [`Refusal::TooLong`]. Where none holds, [`Refusal::NoMemory`]
-/// where a growth was refused.
+/// The first cause of the edit that holds: the causes of [`find`]; [`Refusal::Absent`] if the rule
+/// has no recipe line of that number; and [`Refusal::TooLong`]. If no cause holds,
+/// [`Refusal::NoMemory`] if a growth was refused.
 pub(crate) fn plan_recipe_set<A: Allocator + Copy>(
     alloc: A,
     doc: &Doc<A>,
@@ -64,8 +64,8 @@ pub(crate) fn plan_recipe_set<A: Allocator + Copy>(
     replace_line(alloc, doc, place, bytes, meter)
 }
 
-// Where the command of a recipe line stands among its bytes: after the first one, which is the recipe
-// prefix, up to the line end.
+// Where the command of a recipe line stands among its bytes: after the first byte, which is the
+// recipe prefix, up to the line end.
 fn command_range(line: &[u8]) -> Span
     ensures { result ≡ command_range line.now }
 {

@@ -20,11 +20,12 @@ use mk_patch::Patch;
 use mk_tree::Doc;
 use std::alloc::Allocator;
 
-/// Plans an edit that takes the line of an assignment out. It reads no line anew.
+/// Plans an edit that takes out the line of an assignment. It reads no line anew.
 ///
 /// # Errors
 ///
-/// Those of [`find`], then [`Refusal::Leans`]; [`Refusal::NoMemory`] where a growth was refused.
+/// The first cause of the edit that holds: the causes of [`find`], or [`Refusal::Leans`]. If no
+/// cause holds, [`Refusal::NoMemory`] if a growth was refused.
 pub(crate) fn unset<A: Allocator + Copy>(
     alloc: A,
     doc: &Doc<A>,
@@ -45,8 +46,8 @@ pub(crate) fn unset<A: Allocator + Copy>(
     take_out(alloc, at, 1)
 }
 
-/// Whether the lines below would be read in another way without so many lines from a place on. It
-/// reads none anew and takes no memory.
+/// Whether the lines below would be read in another way without `count` lines from a place on. The
+/// call reads no line anew and takes no memory.
 pub(crate) fn removal_leans<A: Allocator>(doc: &Doc<A>, place: Found, count: usize) -> bool
     requires faithful { IsFaithful doc.now }
     requires place { IsPlaceOf doc.now place }

@@ -21,8 +21,8 @@ use std::alloc::Allocator;
 ///
 /// # Errors
 ///
-/// The first cause of the edit that holds, as [`rename_refusal`] has them. Where none holds,
-/// [`Refusal::NoMemory`] where a growth was refused.
+/// The first cause of the edit that holds, as [`rename_refusal`] answers it. If no cause holds,
+/// [`Refusal::NoMemory`] if a growth was refused.
 pub(crate) fn plan_rename<A: Allocator + Copy>(
     alloc: A,
     doc: &Doc<A>,

@@ -27,17 +27,17 @@ struct Effect {
     words: usize,
     /// How many bytes these words have in the lines as they stand.
     bytes: usize,
-    /// Whether a line would begin with the recipe prefix in force there: a word at its very front is
-    /// replaced, and the new one begins with this byte.
+    /// Whether a line would begin with the recipe prefix in force there: a word at its very front
+    /// is replaced, and the new word begins with this prefix.
     begins_line: bool,
 }
 
-/// The first refusal of a rename whose cause holds, or `None` where none does.
+/// The first refusal of a rename whose cause holds, or `None` if no cause holds.
 ///
-/// It decides, in this order, whether a word is none that may be a target, or is reserved; whether the
-/// recipe prefix is set in a way that is not read; whether the old word is no target; whether a line
-/// would begin with the recipe prefix; whether the new word is a target; and whether the text would be
-/// too long. It walks over the kept lines, reads none anew and takes no memory.
+/// It decides, in this order, whether a word may not be a target, or is reserved; whether the
+/// recipe prefix is set in a way that is not read; whether the old word is no target; whether a
+/// line would begin with the recipe prefix; whether the new word is a target; and whether the text
+/// would be too long. It walks over the kept lines, reads no line anew and takes no memory.
 pub(crate) fn rename_refusal<A: Allocator>(
     doc: &Doc<A>,
     edit: &Edit<A>,
@@ -79,7 +79,7 @@ fn rename_effect<A: Allocator>(doc: &Doc<A>, from: &[u8], to: &[u8]) -> Effect
     ensures effect { result ≡ effect_on from.now to.now start doc.now }
     ensures few_bytes { result.bytes ≤ 2 ^ 24 }
 {
-    // The contract of `size` says that the text is within the limit, and so are the words of it.
+    // The contract of `size` says that the text is within the limit, and so are its words.
     let _size = doc.size();
     let mut effect = Effect {
         words: 0,
@@ -93,8 +93,8 @@ fn rename_effect<A: Allocator>(doc: &Doc<A>, from: &[u8], to: &[u8]) -> Effect
     effect
 }
 
-// The effect on some lines and one more, whose words were counted. The new word begins with the recipe
-// prefix in force there, or does not.
+// The effect on some lines together with one more line, whose words were counted. `is_led` says
+// whether the new word begins with the recipe prefix in force there.
 fn joined(effect: Effect, tally: Tally, is_led: bool) -> Effect
     requires few { effect.words + tally.words < 2 ^ 32 }
     requires few_bytes { effect.bytes + tally.bytes < 2 ^ 32 }
@@ -107,13 +107,13 @@ fn joined(effect: Effect, tally: Tally, is_led: bool) -> Effect
     }
 }
 
-// Whether a text of this size is longer than it may be after a rename of this effect to a word of this
-// length.
+// Whether a text of this size is longer than a text may be, after a rename that has this effect and
+// whose new word has this length.
 fn is_too_long(size: usize, effect: Effect, new_length: usize) -> bool
     requires within { size ≤ 2 ^ 24 }
     requires few_bytes { effect.bytes ≤ 2 ^ 24 }
     ensures { result ≡ nat_lt (greatest_length + effect.bytes) (size + effect.words * new_length) }
 {
-    // The new words alone may have more bytes than a number can say; then they are too long.
+    // The new words alone may have more bytes than a number can say. Then the text is too long.
     effect.words.saturating_mul(new_length) > SIZE_LIMIT - size + effect.bytes
 }

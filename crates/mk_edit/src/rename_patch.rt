@@ -1,8 +1,9 @@
 //! The patch of a rename whose causes are decided.
 //!
-//! Each line that holds the word is exchanged for its line after the rename. The text stays within its
-//! limit after each step, though one line may get shorter and another longer. So the lines go in two
-//! turns: first those that get no longer, then those that do.
+//! Each line that holds the word is exchanged for the line after the rename. One line may get
+//! shorter and another longer, and the text has to stay within its limit after each step. So the
+//! lines are exchanged in two turns: first the lines that get no longer, then the lines that get
+//! longer.
 ghost use Rattle.std.specs.Prelude.{◌≡◌, ◌≤◌, ◌<◌, ◌+◌, ◌*◌, ◌^◌, ◌++◌, IfOk, OnOk, IsOkUnless, filter, if◌then◌else◌, length, option_map};
 ghost use Rattle.mk_class.specs.ClassedLines.{classed_lines};
 ghost use Rattle.mk_class.specs.Contexts.{start};
@@ -30,7 +31,7 @@ use std::alloc::Allocator;
 enum Turn {
     /// The lines that get no longer.
     NoLonger,
-    /// Those that get longer.
+    /// The lines that get longer.
     Longer,
 }
 
@@ -39,7 +40,7 @@ enum Turn {
 ///
 /// # Errors
 ///
-/// [`Refusal::NoMemory`] where a growth was refused.
+/// [`Refusal::NoMemory`] if a growth was refused.
 pub(crate) fn rename_patch<A: Allocator + Copy>(
     alloc: A,
     doc: &Doc<A>,
@@ -68,7 +69,7 @@ fn renamed_line_count<A: Allocator>(doc: &Doc<A>, from: &[u8]) -> usize
     requires { IsFaithful doc.now }
     ensures { result ≡ length (filter (holds_word from.now) doc.now) }
 {
-    // The contract of `size` says that the lines are short, as counting asks.
+    // The contract of `size` bounds the length of each line, as counting asks.
     let _size = doc.size();
     let mut count = 0;
     'lines: for line in doc.iter() {
@@ -106,7 +107,7 @@ fn exchange_lines<A: Allocator + Copy>(
     ensures few_read { meter.new ≤ meter.old + exchanged_count turn from.now to.now doc.now }
     ensures forward { meter.old ≤ meter.new }
 {
-    // The contract of `len` says that there are few lines, as counting their places asks.
+    // The contract of `len` bounds the number of lines, as counting their places asks.
     let _count = doc.len();
     'lines: for (at, (context, line)) in doc.lines_with_contexts().enumerate() {
         if let Some(renamed) = line_of_turn(alloc, line, context, from, to, turn, meter)? {
@@ -116,7 +117,7 @@ fn exchange_lines<A: Allocator + Copy>(
     Ok(())
 }
 
-// The line after the rename, where it is exchanged in this turn.
+// The line after the rename, if it is exchanged in this turn.
 fn line_of_turn<A: Allocator + Copy>(
     alloc: A,
     line: &Line<A>,
@@ -146,7 +147,8 @@ fn line_of_turn<A: Allocator + Copy>(
     Ok(Some(renamed))
 }
 
-// Whether a line in which these words are replaced, each by so many bytes, is exchanged in a turn.
+// Whether a line is exchanged in a turn, by the count of its words that are replaced. Each new word
+// has `new_len` bytes.
 fn is_of_turn(tally: Tally, new_len: usize, turn: Turn) -> bool
     requires { tally.words * new_len < 2 ^ 64 }
     ensures { result ≡ is_turn_of turn tally.words tally.bytes new_len }

@@ -1,4 +1,4 @@
-//! The removal of a rule: its header with its recipe, and what stands between them.
+//! The removal of a rule: its header, its recipe, and the lines between them.
 ghost use Rattle.std.specs.Prelude.{◌≡◌, IfOk, IfErr, length};
 ghost use Rattle.mk_tree.specs.Documents.{IsFaithful};
 ghost use Rattle.mk_tree.specs.PlacedLines.{placed_text};
@@ -28,10 +28,10 @@ use std::alloc::Allocator;
 ///
 /// # Errors
 ///
-/// The first cause of the edit that holds: those of [`find`], [`Refusal::SharedRule`] where the rule
-/// has several targets, [`Refusal::Straddles`] where a line of a conditional stands in its recipe,
-/// and [`Refusal::Leans`] where the lines below would be read as others. Where none holds,
-/// [`Refusal::NoMemory`] where a growth was refused.
+/// The first cause of the edit that holds: the causes of [`find`]; [`Refusal::SharedRule`] if the
+/// rule has several targets; [`Refusal::Straddles`] if a line of a conditional stands in its
+/// recipe; and [`Refusal::Leans`] if the lines below would be read in another way. If no cause
+/// holds, [`Refusal::NoMemory`] if a growth was refused.
 pub(crate) fn plan_unrule<A: Allocator + Copy>(
     alloc: A,
     doc: &Doc<A>,
@@ -42,7 +42,7 @@ pub(crate) fn plan_unrule<A: Allocator + Copy>(
     ensures planned { IfOk result (λ patch. IsPlanned (edit_of edit.now) doc.now patch) }
     ensures refused { IfErr result (λ refusal. IsRefusal (placed_text doc.now) (edit_of edit.now) refusal) }
 {
-    // The contract of `size` says that the text is within the limit, and so is what is left of it.
+    // The contract of `size` says that the text is within the limit, and so is the rest of it.
     let _size = doc.size();
     let header = match find(doc, edit) {
         Ok(header) => header,
@@ -67,7 +67,7 @@ pub(crate) fn plan_unrule<A: Allocator + Copy>(
     }
 }
 
-// How many targets a header has; none in another line.
+// How many targets a header has; 0 for any other line.
 fn target_count<A: Allocator>(line: &Line<A>) -> usize
     requires { IsClassed (line_view line.now) }
     ensures { result ≡ length (header_targets_placed (line_view line.now)) }

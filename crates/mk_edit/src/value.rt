@@ -25,12 +25,12 @@ use std::alloc::{AllocError, Allocator};
 /// The most bytes that a text may have.
 const SIZE_LIMIT: usize = 16_777_216;
 
-/// Plans another value for a variable: the edit sets it to this one.
+/// Plans an edit that gives a variable this value.
 ///
 /// # Errors
 ///
-/// The first refusal of the edit whose cause holds. Where none does, [`Refusal::NoMemory`] where a
-/// growth was refused.
+/// The first cause of the edit that holds. If no cause holds, [`Refusal::NoMemory`] if a growth was
+/// refused.
 pub(crate) fn plan_set_value<A: Allocator + Copy>(
     alloc: A,
     doc: &Doc<A>,
@@ -58,12 +58,12 @@ pub(crate) fn plan_set_value<A: Allocator + Copy>(
     replace_line(alloc, doc, found, bytes, meter)
 }
 
-/// Plans a text after a variable's value: the edit appends this one.
+/// Plans an edit that appends this text to a variable's value.
 ///
 /// # Errors
 ///
-/// The first refusal of the edit whose cause holds. Where none does, [`Refusal::NoMemory`] where a
-/// growth was refused.
+/// The first cause of the edit that holds. If no cause holds, [`Refusal::NoMemory`] if a growth was
+/// refused.
 pub(crate) fn plan_append_value<A: Allocator + Copy>(
     alloc: A,
     doc: &Doc<A>,
@@ -115,8 +115,8 @@ fn space_after(value: &[u8]) -> &'static [u8]
     if value.is_empty() { b"" } else { b" " }
 }
 
-// Bytes with a text put in at a place, and a space or nothing before it, in memory of their own. It
-// takes as much as they need, at once.
+// Bytes with a text put in at a place, and a space or nothing before it, in memory of their own.
+// All memory is taken at once.
 fn with_put_in<A: Allocator>(
     alloc: A,
     bytes: &[u8],

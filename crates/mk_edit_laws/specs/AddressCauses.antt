@@ -23,7 +23,7 @@ use Rattle.mk_edit_laws.specs.declared.refusal.Refusal.TheVariants.{RecipePrefix
 
 -- ---- RecipePrefix: the file sets `.RECIPEPREFIX` in a way that is not read
 
--- whether a line of this class does
+-- whether a line of this class sets `.RECIPEPREFIX` in a way that is not read
 abbrev pub is_unread_prefix : Class Cell → Bool
 is_unread_prefix (Assign a None) = is_prefix_name (unit_text joined_byte a.name)
 is_unread_prefix (DefineHead p) = p
@@ -32,9 +32,9 @@ is_unread_prefix k = false
 abbrev pub unread_prefix : List ClassedLine → Option Refusal
 unread_prefix ls = where_holds (any (λ l. is_unread_prefix l.class) ls) RecipePrefix
 
--- ---- NoSuch: there is no such line, or no nth of them; a rename's old name is no target
+-- ---- NoSuch: there is no such line, or no nth such line; the old name of a rename is no target
 
--- whether there is none, or no nth
+-- whether there is no line, or no nth line
 abbrev pub is_missing : Option ℕ → List StandingLine → Bool
 is_missing None ss = is_empty ss
 is_missing (Some n) ss = not (is_some (nth_of n ss))
@@ -47,9 +47,9 @@ abbrev pub no_such : List ClassedLine → Edit → Option Refusal
 no_such ls (RenameTarget o n) = where_holds (not (is_a_target ls o)) NoSuch
 no_such ls e = no_such_line ls (address e)
 
--- ---- Ambiguous: no number is given, and there are several
+-- ---- Ambiguous: no number is given, and there are several such lines
 
--- whether no number is given and there are several
+-- whether no number is given and there are several lines
 abbrev pub is_several : Option ℕ → List StandingLine → Bool
 is_several None (s ∷ s' ∷ ss) = true
 is_several nth ss = false
@@ -61,18 +61,18 @@ ambiguous_line ls (Some a) = where_holds (is_several (nth_meant a) (candidates l
 abbrev pub ambiguous : List ClassedLine → Edit → Option Refusal
 ambiguous ls e = ambiguous_line ls (address e)
 
--- ---- RecipePrefix: a line written, other than a recipe line, would begin with the prefix in force
+-- ---- RecipePrefix: a line that is written, and is no recipe line, would begin with the prefix in force
 
--- whether a new line would
+-- whether a new line would begin with the prefix
 abbrev pub begins_new_line : Edit → Option Stretch → Bool
 begins_new_line e None = false
 begins_new_line e (Some s) = is_prefix_led (context_of s.above).prefix (new_text (context_of s.above).prefix e)
 
--- whether a line is changed by a rename and would
+-- whether a rename changes a line and the new line would begin with the prefix
 abbrev pub begins_renamed_line : (prefix : ℕ) → List Piece → Bool
 begins_renamed_line p ps = any is_replaced ps && is_prefix_led p (new_bytes ps)
 
--- whether some line of a rename would
+-- whether some line that a rename changes would begin with the prefix
 abbrev pub begins_some_renamed_line : (old new : List ℕ) → Context → List ClassedLine → Bool
 begins_some_renamed_line o n c [] = false
 begins_some_renamed_line o n c (l ∷ ls) = begins_renamed_line c.prefix (renamed_pieces o n l.class) || begins_some_renamed_line o n (context_after c l.class) ls

@@ -1,4 +1,4 @@
--- Which line an edit speaks of.
+-- Which line an edit means.
 use Rattle.std.specs.Prelude.{ℕ, Bool, false, List, [], Option, Some, None}
 use Rattle.mk_lines.specs.Cells.{Cell, joined_byte}
 use Rattle.mk_class.specs.Lists.{any}
@@ -30,7 +30,7 @@ abbrev pub candidates : List ClassedLine → Address → List StandingLine
 candidates ls (Variable nth n) = spots (λ l. assigns n l.class) ls
 candidates ls (Rule nth t) = spots (λ l. is_rule_for t l.class) ls
 
--- which of them it means: the nth, or the only one
+-- which of the candidates an address means: the nth, or the only one if no number is given
 abbrev pub nth_meant : Address → Option ℕ
 nth_meant (Variable nth n) = nth
 nth_meant (Rule nth t) = nth

@@ -23,7 +23,7 @@ first_failed [] = None
 first_failed (Tested f true ∷ ts) = first_failed ts
 first_failed (Tested f false ∷ ts) = Some (BadArgument f)
 
--- whether a place's name or target may be one
+-- whether the name or the target of a place passes its test
 abbrev pub is_place : Place → Bool
 is_place Bottom = true
 is_place (BeforeVar nth n) = is_name n
@@ -34,7 +34,7 @@ is_place (BeforeRule nth t) = is_target t
 abbrev pub are_targets : List ℕ → Bool
 are_targets t = not (is_empty (words_in t)) && not (any (λ w. not (is_target w)) (words_in t))
 
--- whether an argument is words, or none
+-- whether each word of an argument passes the test of words; the argument may have no words
 abbrev pub are_words : List ℕ → Bool
 are_words t = not (any (λ w. not (is_word w)) (words_in t))
 
@@ -64,7 +64,7 @@ place_names (BeforeVar nth n) = n ∷ []
 place_names (AfterVar nth n) = n ∷ []
 place_names p = []
 
--- the variables that an edit names, its place's too
+-- the variables that an edit names, including that of its place
 abbrev pub names : Edit → List (List ℕ)
 names (SetValue nth n v) = n ∷ []
 names (AppendValue nth n v) = n ∷ []
@@ -78,7 +78,7 @@ abbrev pub place_targets : Place → List (List ℕ)
 place_targets (BeforeRule nth t) = t ∷ []
 place_targets p = []
 
--- the targets that an edit names, its place's too
+-- the targets that an edit names, including that of its place
 abbrev pub targets : Edit → List (List ℕ)
 targets (AddAssign p n f v) = place_targets p
 targets (AddRule p ts c ws) = words_in ts ++ place_targets p

@@ -1,8 +1,8 @@
--- A cause of a refusal: the refusal where it holds, and nothing where it does not.
+-- A cause of a refusal: the refusal if the cause holds, and None if it does not.
 use Rattle.std.specs.Prelude.{Bool, true, false, Option, Some, None}
 use Rattle.mk_edit_laws.specs.declared.refusal.Refusal.{Refusal}
 
--- the refusal where the cause holds
+-- the refusal if the cause holds
 abbrev pub where_holds : Bool → Refusal → Option Refusal
 where_holds true r = Some r
 where_holds false r = None

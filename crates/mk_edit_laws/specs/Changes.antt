@@ -27,11 +27,11 @@ use Rattle.mk_edit_laws.specs.declared.edit.Colons.TheVariants.{One, Two}
 
 -- ---- the items of the other lines stay
 
--- the items of a text with these for one line
+-- the items of a text, with these items in the place of those of one line
 abbrev pub with_items : List Item → StandingLine → List Item
 with_items is s = items s.above ++ (is ++ items s.below)
 
--- the items of a text with one for a stretch
+-- the items of a text, with this item in the place of those of a stretch
 abbrev pub with_item : Item → Stretch → List Item
 with_item i s = items s.above ++ i ∷ items s.below
 
@@ -45,7 +45,7 @@ without_items s = items s.above ++ items s.below
 abbrev pub item_with_value : Assignment Cell → (value : List ℕ) → Item
 item_with_value a v = Assign (Sets a.modifiers (unit_text joined_byte a.name) a.flavor v)
 
--- the item of a line of this class, which begins at a place, with another value
+-- the item of a line of this class with another value; the line begins at this place
 abbrev pub value_item : (ℕ → Assignment Cell → List ℕ) → (line_start : ℕ) → Class Cell → List Item
 value_item f at (AssignLine a p) = item_with_value a (f at a) ∷ []
 value_item f at k = []
@@ -57,19 +57,20 @@ with_value f s = with_items (value_item f (length (text_of s.above)) s.line.clas
 abbrev pub leaves_fold_last : (text : List ℕ) → Replacement → Bool
 leaves_fold_last t r = last_passes (λ b. b == 10) (take r.start t) && is_empty (drop r.end t)
 
--- The value that is set. Where it is empty and what stays of a fold has no next line, the value is one lone backslash.
+-- The value that is set. If the new value is empty, and a part of a fold stays without its next line, the value is one lone
+-- backslash.
 abbrev pub value_set : (text value : List ℕ) → (line_start : ℕ) → Assignment Cell → List ℕ
 value_set t v at a = if is_empty v && leaves_fold_last t (set_value_span v at a) then 92 ∷ [] else v
 
--- The value with a text appended: the old one, a space and the text. There is no space where the old value is empty, or its
--- last byte is a fold, which takes the space in.
+-- The value with a text appended: the old value, a space and the text. There is no space if the old value is empty, or if its
+-- last cell is a fold, which is read as the space.
 abbrev pub value_appended : (value : List ℕ) → Assignment Cell → List ℕ
 value_appended v a =
     unit_text joined_byte a.value ++ (if is_empty a.value then v else if last_passes is_fold (concat a.value) then v else 32 ∷ v)
 
 -- ---- prerequisites and targets
 
--- the item of a header with other items in its place; nothing where the line is no header
+-- the item of a header, changed by `f`; no item if the line is no header
 abbrev pub header_items : (Item → Item) → Class Cell → List Item
 header_items f (HeaderLine h) = f (header_item h) ∷ []
 header_items f k = []
@@ -83,20 +84,20 @@ with_prerequisite true w (Header ts s p n o i) = Header ts s p n (o ++ w ∷ [])
 with_prerequisite false w (Header ts s p n o i) = Header ts s p (n ++ w ∷ []) o i
 with_prerequisite order w i = i
 
--- words without those that are this one
+-- words without each word that is this one
 abbrev pub without_word : (word : List ℕ) → List (List ℕ) → List (List ℕ)
 without_word w ws = filter (λ x. not (is_same_text x w)) ws
 
--- a header without the prerequisites that are this word
+-- a header without each prerequisite that is this word
 abbrev pub without_prerequisite : (word : List ℕ) → Item → Item
 without_prerequisite w (Header ts s p n o i) = Header ts s p (without_word w n) (without_word w o) i
 without_prerequisite w i = i
 
--- words with the new one for each that is the old one
+-- words with the new word in the place of each old one
 abbrev pub rename_words : (old new : List ℕ) → List (List ℕ) → List (List ℕ)
 rename_words o n ws = map (λ w. if is_same_text w o then n else w) ws
 
--- an item with the new word for each target and prerequisite that is the old one
+-- an item with the new word in the place of each target and each prerequisite that is the old word
 abbrev pub renamed_item : (old new : List ℕ) → Item → Item
 renamed_item o n (Header ts s p ns os i) = Header (rename_words o n ts) s p (rename_words o n ns) (rename_words o n os) i
 renamed_item o n (TargetAssign ts s a) = TargetAssign (rename_words o n ts) s a

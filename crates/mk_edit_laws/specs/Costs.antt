@@ -1,4 +1,4 @@
--- How many lines an edit reads again, and how many it puts others in place of or takes out.
+-- How many lines an edit reads again, and how many lines it replaces or takes out.
 use Rattle.std.specs.Prelude.{ℕ, Bool, List, length, filter, Option, Some, None}
 use Rattle.mk_class.specs.Lists.{any}
 use Rattle.mk_class.specs.ClassedLines.{ClassedLine, classed_lines}
@@ -10,7 +10,7 @@ use Rattle.mk_edit_laws.specs.WordPieces.{renamed_pieces, is_replaced}
 abbrev pub is_renamed : (old new : List ℕ) → ClassedLine → Bool
 is_renamed o n l = any is_replaced (renamed_pieces o n l.class)
 
--- the lines that an edit reads again, at most
+-- the greatest number of lines that an edit reads again
 abbrev pub cost : (text : List ℕ) → Edit → ℕ
 cost t (RenameTarget o n) = length (filter (is_renamed o n) (classed_lines t))
 cost t (RemoveAssign nth n) = 0
@@ -23,7 +23,7 @@ abbrev pub line_count : Option Stretch → ℕ
 line_count None = 0
 line_count (Some s) = length s.lines
 
--- the lines that an edit puts others in place of, or takes out
+-- the number of lines that an edit replaces or takes out
 abbrev pub size : (text : List ℕ) → Edit → ℕ
 size t (AddAssign p n f v) = 0
 size t (AddRule p ts c ws) = 0

@@ -1,4 +1,4 @@
--- The lines that an edit of one place leaves where those stood that it touches.
+-- The lines that an edit of one place leaves in the place of the lines that it touches.
 use Rattle.std.specs.Prelude.{ℕ, List, [], ◌∷◌, ◌++◌, length}
 use Rattle.mk_lines.specs.Pieces.{Replacement, replaced}
 use Rattle.mk_class.specs.ClassedLines.{ClassedLine, classed}
@@ -7,7 +7,7 @@ use Rattle.mk_edit_laws.specs.Edits.{Edit, AddAssign, RemoveAssign, AddRule, Rem
 use Rattle.mk_edit_laws.specs.Stretches.{Stretch}
 use Rattle.mk_edit_laws.specs.NewLines.{new_text, new_line_end}
 
--- a new line put there, with the file's line end
+-- the bytes of a new line put there, with the file's line end
 abbrev pub new_line_bytes : (text : List ℕ) → Edit → (touched : Stretch) → List ℕ
 new_line_bytes t e s = new_text (context_of s.above).prefix e ++ new_line_end t
 
@@ -15,8 +15,8 @@ new_line_bytes t e s = new_text (context_of s.above).prefix e ++ new_line_end t
 abbrev pub respanned_bytes : (touched : Stretch) → List Replacement → List ℕ
 respanned_bytes s rs = replaced (length (text_of s.above)) (text_of s.lines) rs
 
--- The bytes of each line that stands there after the edit: none where it takes lines out, the new line where it puts one in, or
--- else the touched line with the spans in it replaced.
+-- The bytes of each line that stands there after the edit: no line if the edit takes lines out; the new line if it puts one in;
+-- and otherwise the touched line with the spans in it replaced.
 abbrev pub edited_bytes : (text : List ℕ) → Edit → (touched : Stretch) → List Replacement → List (List ℕ)
 edited_bytes t (RemoveAssign nth n) s rs = []
 edited_bytes t (RemoveRule nth g) s rs = []
@@ -26,6 +26,6 @@ edited_bytes t (AddRule p ts c ws) s rs = new_line_bytes t (AddRule p ts c ws) s
 edited_bytes t (AddRecipe nth g c) s rs = new_line_bytes t (AddRecipe nth g c) s ∷ []
 edited_bytes t e s rs = respanned_bytes s rs ∷ []
 
--- these lines, with the classes that they have below those above
+-- the edited lines, with the classes that they have below the lines above
 abbrev pub edited_lines : (text : List ℕ) → Edit → (touched : Stretch) → List Replacement → List ClassedLine
 edited_lines t e s rs = classed (context_of s.above) (edited_bytes t e s rs)

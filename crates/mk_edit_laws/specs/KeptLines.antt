@@ -1,4 +1,4 @@
--- What an edit other than a rename leaves: the lines above and below those that its spans touch, with their classes.
+-- What an edit other than a rename leaves: the lines above and below the lines that its spans touch, with their classes.
 use Rattle.std.specs.Prelude.{◌≡◌, ℕ, List, ◌++◌, length, ◌+◌, ◌≤◌, Option, Some, None}
 use Rattle.mk_lines.specs.PhysicalLines.{file_line_end}
 use Rattle.mk_lines.specs.Pieces.{Replacement}
@@ -12,7 +12,7 @@ use Rattle.mk_edit_laws.specs.Refusals.{text_after}
 use Rattle.mk_edit_laws.specs.RisingSpans.{Rise}
 use Rattle.mk_edit_laws.specs.EditedLines.{edited_lines}
 
--- The lines above after an edit. They are as before, but that a last line without line end gets one where the edit puts a new
+-- The lines above after an edit. They are as before, except that a last line without a line end gets one if the edit puts a new
 -- line after it; its class stays.
 abbrev pub above_after : (text : List ℕ) → (new_line : Option Stretch) → (touched : Stretch) → List ClassedLine
 above_after t None s = s.above
@@ -20,7 +20,8 @@ above_after t (Some n) s = above_ended (file_line_end t) s.above s.below
 
 -- What an edit leaves: its spans stand within the lines that it touches, and the lines above and below these are as before, each
 -- with its class. The new lines between them are told, with their bytes and classes. At most as many lines are new as the edit
--- costs, and at most as many are gone as its size says; none of them is of a conditional. The most conditionals that are open at once are as many as before.
+-- costs, and at most as many are gone as its size says; none of them is of a conditional. The greatest number of conditionals
+-- open at once is as before.
 pub record AreOthersKept (t : List ℕ) (e : Edit) (rs : List Replacement) : Type 0 where
   pub touched : Stretch
   pub new : List ClassedLine

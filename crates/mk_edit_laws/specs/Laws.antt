@@ -15,7 +15,7 @@ use Rattle.mk_edit_laws.specs.Refusals.{spans, text_after}
 use Rattle.mk_edit_laws.specs.declared.refusal.Refusal.{Refusal}
 use Rattle.mk_edit_laws.specs.Changes.{change}
 
--- The reading law of an edit: where no cause refuses it, the text after it reads as the stated change says.
+-- The reading law of an edit: if no cause refuses the edit, the text after it reads as the stated change says.
 abbrev pub ReadsAsChanged : Edit → Type 0
 ReadsAsChanged e = (text : List ℕ) (replacements : List Replacement) → spans text e ≡ Ok replacements → reading (text_after text e) ≡ change text e
 
@@ -32,8 +32,8 @@ OtherLinesStay = (edit : Edit) (text : List ℕ) (replacements : List Replacemen
 abbrev pub RefusedChangesNothing : Type 0
 RefusedChangesNothing = (edit : Edit) (text : List ℕ) (refusal : Refusal) → spans text edit ≡ Err refusal → text_after text edit ≡ text
 
--- After an accepted new assignment its line, with the file's line end, stands at its place. The lines below it stay, each with its
--- class, and so do those above it, but for the line end that a last line without one gets.
+-- After an accepted new assignment its line, with the file's line end, stands at its place. The lines below it stay, each with
+-- its class. The lines above it stay too, except that a last line without a line end gets one.
 abbrev pub NewAssignmentsStand : Type 0
 NewAssignmentsStand = (place : Place) (name : List ℕ) (flavor : Flavor) (value text : List ℕ) (replacements : List Replacement) (stretch : Stretch)
     → spans text (AddAssign place name flavor value) ≡ Ok replacements → place_found (classed_lines text) place ≡ Some stretch

@@ -2,12 +2,12 @@
 use Rattle.std.specs.Prelude.{ℕ, ◌+◌, ◌-◌, List, [], ◌∷◌, length}
 use Rattle.mk_lines.specs.Pieces.{Replacement}
 
--- the bytes in the ranges of the replacements
+-- the number of bytes in the ranges of the replacements
 abbrev pub bytes_taken : List Replacement → ℕ
 bytes_taken [] = 0
 bytes_taken (r ∷ rs) = (r.end - r.start) + bytes_taken rs
 
--- the new bytes
+-- the number of the new bytes
 abbrev pub bytes_put : List Replacement → ℕ
 bytes_put [] = 0
 bytes_put (r ∷ rs) = length r.new + bytes_put rs

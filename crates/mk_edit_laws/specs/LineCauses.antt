@@ -1,4 +1,5 @@
--- The causes that the lines round a change decide, and its size: OpenValue, OpenLine, OpenDefine, Leans and TooLong.
+-- The causes that the lines around a change decide, or the size of the result: OpenValue, OpenLine, OpenDefine, Leans and
+-- TooLong.
 use Rattle.std.specs.Prelude.{ℕ, Bool, false, not, ◌&&◌, ◌||◌, nat_lt, List, ◌++◌, length, Option, Some, None}
 use Rattle.mk_lines.specs.Lists.{concat}
 use Rattle.mk_lines.specs.LogicalLines.{is_open}
@@ -34,7 +35,7 @@ open_value ls e = None
 
 -- ---- OpenLine: a new line would follow a last line that is open
 
--- whether it would
+-- whether a new line would follow a last line that is open
 abbrev pub follows_open_line : Option Stretch → Bool
 follows_open_line None = false
 follows_open_line (Some s) = is_empty s.below && last_passes (λ l. is_open l.bytes) s.above
@@ -60,12 +61,12 @@ abbrev pub flag_below_new : Edit → Flag
 flag_below_new (AddAssign p n f v) = Off
 flag_below_new e = Rule
 
--- whether the lines below lean on the flag with a new line and the flag without it
+-- whether the lines below lean on two flags: the flag with a new line above them, and the flag without it
 abbrev pub new_line_leans : Edit → Option Stretch → Bool
 new_line_leans e None = false
 new_line_leans e (Some s) = leans (context_of s.above).prefix (flag_below_new e) (context_of s.above).flag s.below
 
--- whether the lines below lean on the flag without the lines taken out and the flag with them
+-- whether the lines below lean on two flags: the flag without the lines that are taken out, and the flag with them
 abbrev pub removal_leans : Option Stretch → Bool
 removal_leans None = false
 removal_leans (Some s) = leans (context_of s.above).prefix (context_of s.above).flag (context_of (s.above ++ s.lines)).flag s.below

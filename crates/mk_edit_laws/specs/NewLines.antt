@@ -1,4 +1,4 @@
--- New lines: their text, and the span that puts one in.
+-- New lines: their text, and the span that puts a new line in.
 use Rattle.std.specs.Prelude.{ℕ, List, [], ◌∷◌, ◌++◌, map, drop, length}
 use Rattle.mk_lines.specs.Lists.{concat}
 use Rattle.mk_lines.specs.PhysicalLines.{line_end_bytes, file_line_end}
@@ -30,7 +30,7 @@ joined_by_space ws = drop 1 (each_spaced ws)
 
 -- ---- the text of a new line, without its line end
 
--- an assignment: its name, a space, its operator, and, where its value is not empty, a space and the value
+-- an assignment: its name, a space, its operator, and, if its value is not empty, a space and the value
 abbrev pub assign_text : (name : List ℕ) → Flavor → (value : List ℕ) → List ℕ
 assign_text n f v = n ++ (32 ∷ (operator_text f ++ spaced v))
 
@@ -43,21 +43,21 @@ colons_text Two = 58 ∷ 58 ∷ []
 abbrev pub rule_text : (targets : List ℕ) → Colons → (prereqs : List ℕ) → List ℕ
 rule_text ts c ws = joined_by_space (words_in ts) ++ (colons_text c ++ each_spaced (words_in ws))
 
--- the new line of an edit, where this recipe prefix is in force
+-- the new line of an edit, if this recipe prefix is in force
 abbrev pub new_text : (prefix : ℕ) → Edit → List ℕ
 new_text p (AddAssign place n f v) = assign_text n f v
 new_text p (AddRule place ts c ws) = rule_text ts c ws
 new_text p (AddRecipe nth t c) = p ∷ c
 new_text p e = []
 
--- ---- its span
+-- ---- the span of a new line
 
 -- the line end of the file
 abbrev pub new_line_end : (text : List ℕ) → List ℕ
 new_line_end t = line_end_bytes (file_line_end t)
 
--- the span of a new line: an empty range at its place; the new bytes are the line with the file's line end, after the line end
--- that the last line lacks
+-- the span of a new line: an empty range at its place; the new bytes are the line end that the last line lacks, if it lacks one,
+-- and then the new line with the file's line end
 abbrev pub new_line_span : (text : List ℕ) → Edit → Stretch → List Replacement
 new_line_span t e s =
     let at = length (text_of s.above) in

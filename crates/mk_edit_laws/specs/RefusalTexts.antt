@@ -1,4 +1,4 @@
--- What a report says of a refusal: its number, its name, and a count, a field or nothing.
+-- What a report says of a refusal: its number, its name, and a count or a field, if it has one.
 use Rattle.std.specs.Prelude.{ℕ, List, codes}
 use Rattle.mk_edit_laws.specs.declared.refusal.Field.{Field}
 use Rattle.mk_edit_laws.specs.declared.refusal.Field.TheVariants as field
@@ -30,7 +30,7 @@ number_of GroupOpen = 18
 number_of NoGroup = 19
 number_of NoMemory = 20
 
--- its name
+-- the name of a refusal
 abbrev pub name_of : Refusal → List ℕ
 name_of (BadArgument f) = codes "BadArgument"
 name_of Reserved = codes "Reserved"
@@ -53,7 +53,7 @@ name_of GroupOpen = codes "GroupOpen"
 name_of NoGroup = codes "NoGroup"
 name_of NoMemory = codes "NoMemory"
 
--- the count or the field that it has, or nothing
+-- the count or the field that a refusal has, or Nothing
 abbrev pub detail_of : Refusal → Detail
 detail_of (BadArgument f) = detail.Field f
 detail_of (Ambiguous n) = detail.Count n

@@ -10,7 +10,8 @@ use Rattle.mk_edit_laws.specs.RuleCauses.{absent, already, taken, shared_rule, s
 use Rattle.mk_edit_laws.specs.LineCauses.{open_value, open_line, open_define, leaning, too_long}
 use Rattle.mk_edit_laws.specs.declared.refusal.Refusal.{Refusal}
 
--- The causes in their order. That a line written would begin with the recipe prefix is tested where its place is known.
+-- The causes in their order. The cause that a written line would begin with the recipe prefix is tested once the line's place is
+-- known.
 abbrev pub causes : (text : List ℕ) → List ClassedLine → Edit → List (Option Refusal)
 causes t ls e =
     bad_argument e
@@ -37,7 +38,7 @@ first_cause [] = None
 first_cause (None ∷ cs) = first_cause cs
 first_cause (Some r ∷ cs) = Some r
 
--- the refusal, or else the spans
+-- the refusal, if there is one, and otherwise the spans
 abbrev pub unless_refused : Option Refusal → List Replacement → Result (List Replacement) Refusal
 unless_refused None rs = Ok rs
 unless_refused (Some r) rs = Err r
@@ -46,7 +47,7 @@ unless_refused (Some r) rs = Err r
 abbrev pub spans : (text : List ℕ) → Edit → Result (List Replacement) Refusal
 spans t e = let ls = classed_lines t in unless_refused (first_cause (causes t ls e)) (spans_of t ls e)
 
--- the text with the spans replaced; the text as it is where the edit is refused
+-- the text with the spans replaced; if the edit is refused, the text as it is
 abbrev pub text_by : (text : List ℕ) → Result (List Replacement) Refusal → List ℕ
 text_by t (Ok rs) = replaced 0 t rs
 text_by t (Err r) = t

@@ -1,4 +1,4 @@
--- The lines of a text after a rename, each in the place of one.
+-- The lines of a text after a rename, each in the place of one line.
 use Rattle.std.specs.Prelude.{◌≡◌, ℕ, ◌+◌, ◌≤◌, if◌then◌else◌, Bool, true, false, List, [], ◌∷◌, ◌++◌, map, take, drop, length}
 use Rattle.mk_lines.specs.LogicalLines.{logical_lines}
 use Rattle.mk_lines.specs.Pieces.{Replacement, old_bytes, new_bytes}
@@ -16,16 +16,17 @@ use Rattle.mk_edit_laws.specs.RisingSpans.{Rise}
 
 -- ---- one line
 
--- the bytes of a line after a rename: the line's pieces, with the new word for each that is the old one, and what stands after them
+-- the bytes of a line after a rename: the line's pieces, with the new word in the place of each old one, and what stands after
+-- the pieces
 abbrev pub renamed_bytes : (old new : List ℕ) → ClassedLine → List ℕ
 renamed_bytes o n l =
     let pieces = renamed_pieces o n l.class in
     new_bytes pieces ++ drop (length (old_bytes pieces)) l.bytes
 
--- A line after a rename in the place of one, which stands in a context. The line before is its pieces and a rest; the line after
--- is these pieces with each old word replaced, and the same rest. It is one logical line. Its class is the one that it has in the
--- context of the line before, and the context after it is as before. Where the line before holds no word to rename, it is the same
--- line, with its class. Where it holds one, neither line is of a conditional.
+-- A line after a rename, in the place of a line that stands in this context. The line before is its pieces and a rest; the line
+-- after is these pieces with each old word replaced, and the same rest. It is one logical line. Its class is the class that it
+-- has in the context of the line before, and the context after it is as before. If the line before has no word to rename, the
+-- line after is the same, with the same class. If the line before has one, neither line is of a conditional.
 pub record IsLineRenamed (o n : List ℕ) (context : Context) (before after : ClassedLine) : Type 0 where
   pub rest : List ℕ
   pub old_line : before.bytes ≡ old_bytes (renamed_pieces o n before.class) ++ rest
@@ -38,30 +39,30 @@ pub record IsLineRenamed (o n : List ℕ) (context : Context) (before after : Cl
 
 -- ---- the lines of a text
 
--- lines after a rename, each in the place of one; the first of these stands in a context
+-- lines after a rename, each in the place of one line; the first line stands in this context
 abbrev pub AreLinesRenamedInPlace : (old new : List ℕ) → Context → (before after : List ClassedLine) → Type 0
 AreLinesRenamedInPlace o n c [] [] = Unit {0}
 AreLinesRenamedInPlace o n c [] (m ∷ ms) = ⊥
 AreLinesRenamedInPlace o n c (l ∷ ls) [] = ⊥
 AreLinesRenamedInPlace o n c (l ∷ ls) (m ∷ ms) = IsLineRenamed o n c l m × AreLinesRenamedInPlace o n (context_after c l.class) ls ms
 
--- At how many places two lists of lines have other bytes. A place that one of them alone has counts too.
+-- At how many places two lists of lines have different bytes. A place that only one of the lists has counts too.
 abbrev pub differing : (before after : List (List ℕ)) → ℕ
 differing [] ms = length ms
 differing (l ∷ ls) [] = length (l ∷ ls)
 differing (l ∷ ls) (m ∷ ms) = (if is_same_text l m then 0 else 1) + differing ls ms
 
--- replacements in lines the first of which begins at a place: each stands within one line, and none in a line that does not pass
--- the test
+-- replacements in lines; the first line begins at this place. Each replacement stands within one line, and that line passes the
+-- test
 abbrev pub StandInLines : (test : ClassedLine → Bool) → (at : ℕ) → List ClassedLine → List Replacement → Type 0
 StandInLines p at [] rs = rs ≡ []
 StandInLines p at (l ∷ ls) rs =
     (here : List Replacement) × (later : List Replacement) × (rs ≡ here ++ later) × Rise at (at + length l.bytes) here × (p l ≡ false → here ≡ []) × StandInLines p (at + length l.bytes) ls later
 
--- What a rename leaves and what it makes of the others. The logical lines after it are, line by line, those before with their words
--- renamed; each stands in its place, the same and with its class where it holds no word to rename. The context after each number of
--- lines is as before. At most as many lines differ, as bytes, as the rename costs. The spans stand within the lines that hold a word
--- to rename. The most conditionals that are open at once are as many as before.
+-- What a rename leaves, and what it makes of the other lines. The logical lines after it are, line by line, the lines before with
+-- their words renamed. Each stands in its place; a line without a word to rename is the same, with the same class. The context
+-- after each number of lines is as before. At most as many lines have different bytes as the rename costs. The spans stand within
+-- the lines that have a word to rename. The greatest number of conditionals open at once is as before.
 pub record AreOthersKeptByRename (o n t : List ℕ) (rs : List Replacement) : Type 0 where
   pub lines : logical_lines (text_after t (RenameTarget o n)) ≡ map (renamed_bytes o n) (classed_lines t)
   pub in_place : AreLinesRenamedInPlace o n start (classed_lines t) (classed_lines (text_after t (RenameTarget o n)))

@@ -7,9 +7,9 @@ abbrev pub Rise : (from to : ℕ) → List Replacement → Type 0
 Rise a b [] = a ≤ b
 Rise a b (r ∷ rs) = (a ≤ r.start) × (r.start ≤ r.end) × Rise r.end b rs
 
--- A text in which these replacements, and no others, were made: they rise within the text, and there are pieces of it, of which
--- some stay and some are replaced, these at the places of the replacements. The old bytes of the pieces are the text before,
--- and the new ones the text after.
+-- A text in which these replacements, and no others, were made: they rise within the text, and the text is cut into pieces, of
+-- which some stay and some are replaced, the latter at the places of the replacements. The old bytes of the pieces are the text
+-- before, and the new bytes the text after.
 pub record IsReplacedAt (before after : List ℕ) (rs : List Replacement) : Type 0 where
   pub rise : Rise 0 (length before) rs
   pub pieces : List Piece

@@ -16,7 +16,7 @@ use Rattle.mk_edit_laws.specs.Causes.{where_holds}
 use Rattle.mk_edit_laws.specs.declared.refusal.Refusal.{Refusal}
 use Rattle.mk_edit_laws.specs.declared.refusal.Refusal.TheVariants.{Absent, Already, Taken, SharedRule, Straddles}
 
--- the class of what is found
+-- the class of the line that is found
 abbrev pub class_found : Option StandingLine → Option (Class Cell)
 class_found None = None
 class_found (Some s) = Some s.line.class
@@ -25,7 +25,7 @@ class_found (Some s) = Some s.line.class
 abbrev rule_class_found : List ClassedLine → (nth : Option ℕ) → (target : List ℕ) → Option (Class Cell)
 rule_class_found ls nth t = class_found (found ls (Rule nth t))
 
--- whether it is found, and passes the test
+-- whether a header is found and passes the test
 abbrev pub header_passes : (Headers.Header Cell → Bool) → Option (Class Cell) → Bool
 header_passes p (Some (Header h)) = p h
 header_passes p k = false
@@ -60,7 +60,7 @@ taken ls e = None
 
 -- ---- SharedRule: the rule to remove has several targets
 
--- the targets of what is found
+-- the targets of the header that is found
 abbrev pub targets_found : Option (Class Cell) → List (List ℕ)
 targets_found None = []
 targets_found (Some k) = targets_of k
@@ -75,7 +75,7 @@ shared_rule ls e = None
 
 -- ---- Straddles: the line of a conditional stands between a header and its last recipe line
 
--- whether one does
+-- whether a line of a conditional stands there
 abbrev pub has_conditional : Option StandingLine → Bool
 has_conditional None = false
 has_conditional (Some h) = any (λ l. is_conditional l.class) (recipe_run h.below)

@@ -1,5 +1,5 @@
--- What the removal of a rule takes out: its line and its recipe, and nothing else. It is said by the lines and by the reading, and
--- not by the stretch that the definition of the edit takes out.
+-- What the removal of a rule takes out: its line and its recipe, and nothing else. The lines and the reading say so here, without
+-- the stretch that the definition of the edit takes out.
 use Rattle.std.specs.Prelude.{◌≡◌, ℕ, Bool, true, false, not, ◌&&◌, ◌||◌, List, [], ◌∷◌, ◌++◌, map, filter, drop, Option, Some, Ok}
 use Rattle.mk_lines.specs.PhysicalLines.{without_line_end}
 use Rattle.mk_lines.specs.Cells.{Cell, joined_byte}
@@ -21,14 +21,14 @@ use Rattle.mk_edit_laws.specs.Refusals.{spans, text_after}
 
 -- ---- the lines of a recipe
 
--- whether a line of this class is a recipe line, or one that reads as nothing
+-- whether a line of this class is a recipe line, or a line that reads as nothing
 abbrev pub is_of_recipe : Class Cell → Bool
 is_of_recipe RecipeLine = true
 is_of_recipe Blank = true
 is_of_recipe Comment = true
 is_of_recipe k = false
 
--- whether the last of some lines, where there is one, is a recipe line
+-- whether the last of some lines, if there is one, is a recipe line
 abbrev pub ends_in_recipe : List ClassedLine → Bool
 ends_in_recipe [] = true
 ends_in_recipe (l ∷ []) = is_recipe l.class
@@ -39,7 +39,7 @@ abbrev pub recipe_goes_on : List ClassedLine → Bool
 recipe_goes_on [] = false
 recipe_goes_on (l ∷ ls) = is_recipe l.class || (not (ends_rule l.class) && recipe_goes_on ls)
 
--- the texts of the recipe lines among some lines: each without its first byte, the prefix, and without line end
+-- the texts of the recipe lines among some lines: each without its first byte, the prefix, and without its line end
 abbrev pub commands : List ClassedLine → List (List ℕ)
 commands ls = map (λ l. drop 1 (without_line_end l.bytes)) (filter (λ l. is_recipe l.class) ls)
 
@@ -50,10 +50,11 @@ is_recipe_item i = false
 
 -- ---- the law
 
--- What the removal of a rule takes out. The rule is the one that the address means, and the target is its only one. Its line goes,
--- and some lines directly below it: each is a recipe line, a blank line or a comment, and the last is a recipe line. The lines above
--- and below these stay, and none of those below is a recipe line of the rule. The lines that go read as the item of the header and,
--- after it, those of the recipe lines; these items go from the reading, and the next item is of no recipe line.
+-- What the removal of a rule takes out. The rule is the one that the address means, and the target is its only target. Its line
+-- goes, with some lines directly below it: each of these is a recipe line, a blank line or a comment, and the last is a recipe
+-- line. The lines above and below stay, and no line below is a recipe line of the rule. The lines that go read as the item of the
+-- header and, after it, the items of the recipe lines; these items go from the reading, and the next item is not that of a recipe
+-- line.
 pub record TakesTheRuleAlone (nth : Option ℕ) (target text : List ℕ) : Type 0 where
   pub rule : StandingLine
   pub header : Header Cell

@@ -16,13 +16,13 @@ use Rattle.mk_edit_laws.specs.NewLines.{new_line_span}
 use Rattle.mk_edit_laws.specs.ValueSpans.{value_span, set_value_span, append_value_span}
 use Rattle.mk_edit_laws.specs.WordPieces.{add_pieces, remove_pieces, renamed_pieces}
 
--- whole lines with their line ends
+-- the span of whole lines with their line ends
 abbrev pub removed_span : Stretch → List Replacement
 removed_span s =
     let at = length (text_of s.above) in
     record { start = at; end = at + length (text_of s.lines); new = [] } ∷ []
 
--- the spans in the line of a header, which begins at a place
+-- the spans in the line of a header; the line begins at this place
 abbrev pub header_spans : (Headers.Header Cell → List Piece) → (line_start : ℕ) → Class Cell → List Replacement
 header_spans f at (Header h) = replacements at (f h)
 header_spans f at k = []
@@ -30,18 +30,18 @@ header_spans f at k = []
 abbrev pub word_spans : (Headers.Header Cell → List Piece) → StandingLine → List Replacement
 word_spans f s = header_spans f (length (text_of s.above)) s.line.class
 
--- each target and prerequisite that is the old word, in lines the first of which begins at a place
+-- the spans of each target and each prerequisite that is the old word, in lines; the first line begins at this place
 abbrev pub renamed_spans : (old new : List ℕ) → (start : ℕ) → List ClassedLine → List Replacement
 renamed_spans o n at [] = []
 renamed_spans o n at (l ∷ ls) = replacements at (renamed_pieces o n l.class) ++ renamed_spans o n (at + length l.bytes) ls
 
--- all after the first byte of a recipe line, up to its line end
+-- the span of a recipe line's text: all after its first byte, up to its line end
 abbrev pub recipe_span : (command : List ℕ) → StandingLine → List Replacement
 recipe_span c s =
     let at = length (text_of s.above) in
     record { start = at + 1; end = at + length (without_line_end s.line.bytes); new = c } ∷ []
 
--- what is found says it; nothing where nothing is found
+-- what `f` says of the thing that is found; the empty list if nothing is found
 abbrev pub where_found : {A B : Type 0} → (A → List B) → Option A → List B
 where_found f None = []
 where_found f (Some x) = f x

@@ -1,4 +1,4 @@
--- Spots: a line with those above and below it, so that a place is no number.
+-- Spots: a line with the lines above and below it, which tell its place without a number.
 use Rattle.std.specs.Prelude.{ℕ, suc, zero, Bool, true, false, List, [], ◌∷◌, map, Option, Some, None}
 use Rattle.mk_class.specs.ClassedLines.{ClassedLine}
 use Rattle.mk_tree.specs.LineTexts.{StandingLine}
@@ -7,7 +7,7 @@ use Rattle.mk_tree.specs.LineTexts.{StandingLine}
 abbrev pub under : ClassedLine → StandingLine → StandingLine
 under l s = record s { above = l ∷ s.above }
 
--- a spot before others, where it is one
+-- a spot before other spots, if its line passes the test
 abbrev pub spot_if : Bool → StandingLine → List StandingLine → List StandingLine
 spot_if true s ss = s ∷ ss
 spot_if false s ss = ss
@@ -24,7 +24,7 @@ nth_of zero (x ∷ xs) = None
 nth_of (suc zero) (x ∷ xs) = Some x
 nth_of (suc (suc n)) (x ∷ xs) = nth_of (suc n) xs
 
--- the nth of a list, or, where no number is given, the only one
+-- the nth of a list; if no number is given, the only element
 abbrev pub picked : {A : Type 0} → Option ℕ → List A → Option A
 picked None (x ∷ []) = Some x
 picked None xs = None

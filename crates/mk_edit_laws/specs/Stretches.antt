@@ -1,4 +1,4 @@
--- Stretches of lines: what an edit takes out, and where it puts a new line.
+-- Stretches of lines: those that an edit takes out, and those where it puts a new line.
 use Rattle.std.specs.Prelude.{ℕ, List, [], ◌∷◌, ◌++◌, map, take, length, Option, Some, None, option_map, option_and_then, ◌≡◌}
 use Rattle.mk_class.specs.Classes.{is_recipe}
 use Rattle.mk_class.specs.ClassedLines.{ClassedLine}
@@ -8,33 +8,33 @@ use Rattle.mk_edit_laws.specs.Edits.{Place, Bottom, BeforeVar, AfterVar, BeforeR
 use Rattle.mk_edit_laws.specs.Spots.{spots, nth_of}
 use Rattle.mk_edit_laws.specs.Addresses.{Variable, Rule, found}
 
--- some lines, or none, with those above and below them
+-- some lines, or none, with the lines above and below them
 pub record Stretch : Type 0 where
   pub above : List ClassedLine
   pub lines : List ClassedLine
   pub below : List ClassedLine
 
--- a line alone
+-- the stretch of one line
 abbrev pub this_line : StandingLine → Stretch
 this_line s = record { above = s.above; lines = s.line ∷ []; below = s.below }
 
--- no line, directly before a line
+-- the empty stretch directly before a line
 abbrev pub before_line : StandingLine → Stretch
 before_line s = record { above = s.above; lines = []; below = s.line ∷ s.below }
 
--- no line, directly after a line
+-- the empty stretch directly after a line
 abbrev pub after_line : StandingLine → Stretch
 after_line s = record { above = s.above ++ s.line ∷ []; lines = []; below = s.below }
 
--- no line, at the end
+-- the empty stretch at the end of the text
 abbrev pub bottom : List ClassedLine → Stretch
 bottom ls = record { above = ls; lines = []; below = [] }
 
--- a header with its recipe lines, and what stands between them
+-- the stretch of a header, its recipe lines, and the lines between them
 abbrev pub whole_rule : StandingLine → Stretch
 whole_rule h = record { above = h.above; lines = h.line ∷ recipe_run h.below; below = after_recipe h.below }
 
--- no line, directly after the last recipe line of a header, or after the header where it has none
+-- the empty stretch directly after the last recipe line of a header, or after the header if it has no recipe line
 abbrev pub after_rule : StandingLine → Stretch
 after_rule h = record { above = h.above ++ h.line ∷ recipe_run h.below; lines = []; below = after_recipe h.below }
 
@@ -54,21 +54,21 @@ recipe_spot k h = nth_of k (recipe_spots h)
 abbrev pub recipe_found : List ClassedLine → (nth : Option ℕ) → (target : List ℕ) → ℕ → Option StandingLine
 recipe_found ls nth t k = option_and_then (recipe_spot k) (found ls (Rule nth t))
 
--- where a new line of this place goes
+-- the empty stretch where the new line of this place goes
 abbrev pub place_found : List ClassedLine → Place → Option Stretch
 place_found ls Bottom = Some (bottom ls)
 place_found ls (BeforeVar nth n) = option_map before_line (found ls (Variable nth n))
 place_found ls (AfterVar nth n) = option_map after_line (found ls (Variable nth n))
 place_found ls (BeforeRule nth t) = option_map before_line (found ls (Rule nth t))
 
--- where the new line of an edit goes
+-- the empty stretch where the new line of an edit goes
 abbrev pub insertion : List ClassedLine → Edit → Option Stretch
 insertion ls (AddAssign p n f v) = place_found ls p
 insertion ls (AddRule p ts c ws) = place_found ls p
 insertion ls (AddRecipe nth t c) = option_map after_rule (found ls (Rule nth t))
 insertion ls e = None
 
--- the lines that an edit takes out
+-- the stretch of the lines that an edit takes out
 abbrev pub removal : List ClassedLine → Edit → Option Stretch
 removal ls (RemoveAssign nth n) = option_map this_line (found ls (Variable nth n))
 removal ls (RemoveRule nth t) = option_map whole_rule (found ls (Rule nth t))
@@ -79,12 +79,12 @@ removal ls e = None
 abbrev pub IsStretchOf : List ClassedLine → Stretch → Type 0
 IsStretchOf ls s = ls ≡ s.above ++ (s.lines ++ s.below)
 
--- no line, where a new one goes
+-- the empty stretch between the same lines above and below, where a new line goes
 abbrev pub between : Stretch → Stretch
 between s = record { above = s.above; lines = []; below = s.below }
 
--- The lines that an edit of one place touches: the line that it changes, the lines that it takes out, or none where it puts a
--- line in.
+-- The lines that an edit of one place touches: the line that it changes, or the lines that it takes out; if it puts a line in,
+-- the empty stretch at its place.
 abbrev pub touched_by : List ClassedLine → Edit → Option Stretch
 touched_by ls (SetValue nth n v) = option_map this_line (found ls (Variable nth n))
 touched_by ls (AppendValue nth n v) = option_map this_line (found ls (Variable nth n))

@@ -10,8 +10,8 @@ use Rattle.mk_class.specs.PartPlaces.{raw_width}
 use Rattle.mk_tree.specs.Documents.{text_of}
 use Rattle.mk_tree.specs.LineTexts.{StandingLine}
 
--- where the value of an assignment begins, whose line begins at a place; where it ends; and where the blanks and folds after
--- it do
+-- where the value of an assignment begins, if its line begins at this place; where the value ends; and where the blanks and folds
+-- after it end
 abbrev pub value_start : (line_start : ℕ) → Assignment Cell → ℕ
 value_start at a = at + raw_width (before_value a)
 
@@ -21,7 +21,7 @@ value_end at a = value_start at a + raw_width a.value
 abbrev pub blanks_end : (line_start : ℕ) → Assignment Cell → ℕ
 blanks_end at a = value_end at a + raw_width a.after
 
--- the value; where the new one is empty, with the blanks and folds after it
+-- the span of the value; if the new value is empty, with the blanks and folds after the old one
 abbrev pub set_value_span : (value : List ℕ) → (line_start : ℕ) → Assignment Cell → Replacement
 set_value_span v at a = record {
   start = value_start at a;
@@ -29,7 +29,8 @@ set_value_span v at a = record {
   new = v;
 }
 
--- an empty range at the value's end: a space and the text, or the text alone where the value is empty
+-- the span of a text appended: an empty range at the value's end; the new bytes are a space and the text, or only the text if the
+-- value is empty
 abbrev pub append_value_span : (value : List ℕ) → (line_start : ℕ) → Assignment Cell → Replacement
 append_value_span v at a = record {
   start = value_end at a;
@@ -37,7 +38,7 @@ append_value_span v at a = record {
   new = if is_empty a.value then v else 32 ∷ v;
 }
 
--- the span in a line of this class, which begins at a place
+-- the span in a line of this class; the line begins at this place
 abbrev pub assignment_span : (ℕ → Assignment Cell → Replacement) → (line_start : ℕ) → Class Cell → List Replacement
 assignment_span f at (Assign a p) = f at a ∷ []
 assignment_span f at k = []

@@ -24,12 +24,12 @@ pub fn edits_read_as_changed()
     ensures { EditsReadAsChanged }
 {}
 
-/// An accepted removal of a rule takes out the line of the rule that its address means, which has no
-/// other target, and its recipe, and nothing else.
+/// An accepted removal of a rule takes out the line of the rule that its address means, and the
+/// recipe of the rule, and nothing else. The rule has no other target.
 ///
-/// Each line that goes with it is a recipe line, a blank line or a comment, and the last is a recipe
-/// line. The lines that go read as the header's item and those of the recipe lines. No recipe line of
-/// the rule stays.
+/// Each line that goes with the rule's line is a recipe line, a blank line or a comment, and the
+/// last is a recipe line. The lines that go read as the item of the header and the items of the
+/// recipe lines. No recipe line of the rule stays.
 pub fn unrule_takes_the_rule_alone()
     ensures { UnruleTakesTheRuleAlone }
 {}
@@ -46,8 +46,8 @@ pub fn refused_changes_nothing()
 {}
 
 /// After an accepted new assignment its line stands at its place. The lines below it stay, each
-/// with its class, and so do those above it, but for the line end that a last line without one
-/// gets.
+/// with its class. The lines above it stay too, except that a last line without a line end gets
+/// one.
 pub fn new_assignments_stand()
     ensures { NewAssignmentsStand }
 {}

@@ -25,7 +25,7 @@ pub enum Field {
     Line,
     /// The target that is renamed.
     Old,
-    /// What it is renamed to.
+    /// The new name of that target.
     New,
 }
 
@@ -49,53 +49,54 @@ impl Field {
     }
 }
 
-/// Why a call was refused: an edit, a step back or forth, or the begin or end of a group. Nothing has
-/// changed then.
+/// Why a call was refused: an edit, an undo or a redo, or the begin or end of a group. A refused
+/// call changes nothing.
 ///
-/// The causes of an edit are the first fifteen. They are tested in the order of their numbers, but
-/// that a line written would begin with the recipe prefix is tested after `Ambiguous`, since it needs
-/// the line's place. The first that holds is answered. Memory is asked for after all of them, so
-/// `NoMemory` hides none.
+/// The first fifteen are the causes of an edit. They are tested in the order of their numbers, with
+/// one exception: that a line which is written would begin with the recipe prefix is tested after
+/// `Ambiguous`, since that test needs the line's place. The first cause that holds is answered.
+/// Memory is asked for after all of them, so `NoMemory` hides none of them.
 ///
-/// It is shown by its name. The numbers and names are this project's profile.
+/// A refusal is shown by its name. The numbers and names are this project's profile.
 #[derive(Clone, Copy, Debug, PartialEq, Eq, Error)]
 #[error("{}", self.name())]
 pub enum Refusal {
-    /// A field of the edit is none that it may have: the first such field.
+    /// A field of the edit does not pass its test: the first such field.
     BadArgument(Field),
-    /// The edit names the variable `.RECIPEPREFIX`, or a target that is a word of directives.
+    /// The edit names the variable `.RECIPEPREFIX`, or it names a target that is a word of
+    /// directives.
     Reserved,
-    /// The file sets `.RECIPEPREFIX` in a way that is not read, or a line that is written, other
-    /// than a recipe line, would begin with the recipe prefix in force.
+    /// The file sets `.RECIPEPREFIX` in a way that is not read; or a line that is written, and is
+    /// no recipe line, would begin with the recipe prefix in force.
     RecipePrefix,
-    /// The file has no such assignment, rule or target, or no nth of them.
+    /// The file has no such assignment, rule or target, or no nth one.
     NoSuch,
-    /// The edit does not say which, and there are so many, more than one.
+    /// The edit gives no number, and this many lines fit its address, more than one.
     Ambiguous(u64),
-    /// The rule does not have that prerequisite, or no recipe line of that number.
+    /// The rule does not have that prerequisite, or has no recipe line of that number.
     Absent,
-    /// The rule has that prerequisite already.
+    /// The rule already has that prerequisite, in the same list.
     Already,
     /// The new name is a target already.
     Taken,
-    /// The rule has so many targets, more than one.
+    /// The rule has this many targets, more than one.
     SharedRule(u64),
     /// A line of a conditional stands between the rule and its last recipe line.
     Straddles,
     /// The value ends in a lone `$`, in a reference without its end, or in a lone backslash.
     OpenValue,
-    /// A new line would follow a last line that it could become a part of.
+    /// A new line would follow a last line of the file, and could become a part of that line.
     OpenLine,
     /// A new line would stand at the end of the file, inside a `define`.
     OpenDefine,
     /// The lines after the change would be read in another way: one of them begins with the recipe
-    /// prefix, and what stands before it would say something else of such lines.
+    /// prefix, and the lines before it would say something else about such lines.
     Leans,
     /// The text would have more than 16,777,216 bytes.
     TooLong,
-    /// There is no edit left to undo, or none within the depth.
+    /// There is no edit to undo, or none within the depth.
     NothingToUndo,
-    /// There is no edit left to redo.
+    /// There is no edit to redo.
     NothingToRedo,
     /// A group is open.
     GroupOpen,
@@ -105,19 +106,19 @@ pub enum Refusal {
     NoMemory,
 }
 
-/// What a refusal says beyond its name.
+/// What a refusal says in addition to its name.
 #[derive(Clone, Copy, Debug, PartialEq, Eq)]
 pub enum Detail {
-    /// How many there are.
+    /// How many lines or targets there are.
     Count(u64),
     /// Which field of the edit it is.
     Field(Field),
-    /// No more.
+    /// Nothing in addition.
     Nothing,
 }
 
 impl Refusal {
-    /// Its number, from 1 to 20. Takes no memory.
+    /// The number of the refusal, from 1 to 20. Takes no memory.
     pub fn number(&self) -> u8
         ensures { result ≡ number_of self.now }
     {
@@ -145,7 +146,7 @@ impl Refusal {
         }
     }
 
-    /// Its name. Takes no memory.
+    /// The name of the refusal. Takes no memory.
     pub fn name(&self) -> &'static str
         ensures { result.now ≡ name_of self.now }
     {
@@ -173,7 +174,7 @@ impl Refusal {
         }
     }
 
-    /// The count or the field that it has, or nothing. Takes no memory.
+    /// The count or the field that the refusal has, or [`Detail::Nothing`]. Takes no memory.
     pub fn detail(&self) -> Detail
         ensures { result ≡ detail_of self.now }
     {

@@ -87,8 +87,8 @@ outcome_by t e (Err r) = Refused r
 abbrev pub outcome : (text : List ℕ) → Edit → Outcome
 outcome t e = outcome_by t e (spans t e)
 
--- The outcome with the measures of the edit: its cost (how many lines it reads again at most), and where it is accepted its size
--- (how many lines it takes out or puts others in place of at most) and its spans.
+-- The outcome with the measures of the edit: its cost (how many lines it reads again at most), and, if it is accepted, its size
+-- (how many lines it takes out or replaces at most) and its spans.
 pub data Account : Type 0 where
   Accepted : (cost size : ℕ) → (spans : List Replacement) → Outcome → Account
   NotMade : (cost : ℕ) → Refusal → Account

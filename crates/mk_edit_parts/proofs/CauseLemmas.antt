@@ -14,7 +14,7 @@ passed o cs r h k = ap (λ z. first_cause (z ∷ cs)) h ∙ k
 pub holds : (o : Option Refusal) (cs : List (Option Refusal)) (r : Refusal) → o ≡ Some r → first_cause (o ∷ cs) ≡ Some r
 holds o cs r h = ap (λ z. first_cause (z ∷ cs)) h
 
--- so an edit is refused
+-- the edit is refused for the first cause that holds
 pub refused : (t : List ℕ) (e : Edit) (r : Refusal) → first_cause (causes t (classed_lines t) e) ≡ Some r → spans t e ≡ Err r
 refused t e r h = ap (λ z. unless_refused z (spans_of t (classed_lines t) e)) h
 

@@ -1,4 +1,4 @@
--- What the edits of the program are seen as: those of the definitions.
+-- What contracts see of the program's edits: the edits of the definitions.
 use Rattle.std.specs.Prelude.{Option, Some, None}
 use Rattle.mk_edit_laws.specs.Edits as edits
 use Rattle.mk_edit_laws.specs.Addresses as addresses
@@ -12,14 +12,14 @@ use Rattle.mk_edit_parts.specs.declared.edit.Edit.TheVariants as edit
 use Rattle.mk_edit_parts.specs.declared.address.Address.{Address}
 use Rattle.mk_edit_parts.specs.declared.address.Address.TheVariants as address
 
--- a place, its text as bytes
+-- a place; its text is seen as bytes
 abbrev pub place_of : {A : _} → Place A → edits.Place
 place_of place.Bottom = edits.Bottom
 place_of (place.BeforeVar nth name) = edits.BeforeVar nth name.items
 place_of (place.AfterVar nth name) = edits.AfterVar nth name.items
 place_of (place.BeforeRule nth target) = edits.BeforeRule nth target.items
 
--- an edit, its texts as bytes
+-- an edit; its texts are seen as bytes
 abbrev pub edit_of : {A : _} → Edit A → edits.Edit
 edit_of (edit.SetValue nth name value) = edits.SetValue nth name.items value.items
 edit_of (edit.AppendValue nth name value) = edits.AppendValue nth name.items value.items
@@ -34,12 +34,12 @@ edit_of (edit.SetRecipe nth target number line) = edits.SetRecipe nth target.ite
 edit_of (edit.RemoveRecipe nth target number) = edits.RemoveRecipe nth target.items number
 edit_of (edit.RenameTarget from to) = edits.RenameTarget from.items to.items
 
--- an address, its text as bytes
+-- an address; its text is seen as bytes
 abbrev pub address_view : Address → addresses.Address
 address_view (address.Variable nth name) = addresses.Variable nth name.now
 address_view (address.Rule nth target) = addresses.Rule nth target.now
 
--- the address of an edit, where it has one
+-- the address of an edit, if it has one
 abbrev pub address_seen : Option Address → Option addresses.Address
 address_seen None = None
 address_seen (Some a) = Some (address_view a)

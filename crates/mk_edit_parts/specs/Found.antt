@@ -1,4 +1,4 @@
--- The line that an edit means, found, after the causes of refusal that come before its own.
+-- The line that an edit means, found, after the causes of refusal that come before the edit's own causes.
 use Rattle.std.specs.Prelude.{◌≡◌, List, [], ◌∷◌, length, take, Option, Some, None}
 use Rattle.mk_class.specs.ClassedLines.{ClassedLine, classed_lines}
 use Rattle.mk_tree.specs.Documents.{context_of}
@@ -12,34 +12,34 @@ use Rattle.mk_edit_laws.specs.Refusals.{first_cause}
 use Rattle.mk_edit_laws.specs.declared.refusal.Refusal.{Refusal}
 use Rattle.mk_edit_parts.specs.declared.seek.Found.{Found}
 
--- the line that an address means stands at a place, in a context
+-- the line that an address means stands at this place, in this context
 pub record IsFoundAt (ls : List ClassedLine) (a : Address) (f : Found) : Type 0 where
   pub spot : StandingLine
   pub found_is : found ls a ≡ Some spot
   pub place_is : length spot.above ≡ f.at
   pub context_is : context_of spot.above ≡ f.context
 
--- the lines end at a place, and leave a context
+-- the lines end at this place, and leave this context
 pub record IsEnd (ls : List ClassedLine) (f : Found) : Type 0 where
   pub place_is : length ls ≡ f.at
   pub context_is : context_of ls ≡ f.context
 
--- where an edit applies: at the line that its address means, or at the end where it has none
+-- where an edit applies: at the line that its address means, or at the end if it has no address
 abbrev pub IsMeant : List ClassedLine → Option Address → Found → Type 0
 IsMeant ls None f = IsEnd ls f
 IsMeant ls (Some a) f = IsFoundAt ls a f
 
--- what an address, or none, means is found at a place
+-- the line that an address means is found at this place, or the end of the lines if there is no address
 pub record IsPicked (ls : List ClassedLine) (a : Option Address) (f : Found) : Type 0 where
   pub is_there : no_such_line ls a ≡ None
   pub is_one : ambiguous_line ls a ≡ None
   pub meant : IsMeant ls a f
 
--- an address means no line, for this cause
+-- an address means no one line; this is the refusal
 abbrev pub IsNotPicked : List ClassedLine → Option Address → Refusal → Type 0
 IsNotPicked ls a r = first_cause (no_such_line ls a ∷ ambiguous_line ls a ∷ []) ≡ Some r
 
--- No cause holds that comes before an edit's own, and where it applies is found.
+-- No cause holds that comes before the edit's own causes, and the place where the edit applies is found.
 pub record IsAddressed (e : Edit) (ls : List PlacedLine) (f : Found) : Type 0 where
   pub arguments : bad_argument e ≡ None
   pub not_reserved : reserved e ≡ None

@@ -1,4 +1,4 @@
--- Ranges of the bytes of a document's line, and whether its lines lean on what stands before them.
+-- Ranges of the bytes of a document's line, and whether a document's lines lean on the flag before them.
 use Rattle.std.specs.Prelude.{ℕ, Bool, true, false, ◌||◌, ◌&&◌, if◌then◌else◌, List, [], ◌∷◌}
 use Rattle.mk_lines.specs.Cells.{Cell, line_cells}
 use Rattle.mk_lines.specs.Ranges.{raw_range}
@@ -8,8 +8,8 @@ use Rattle.mk_class.specs.declared.class.Class as class
 use Rattle.mk_class.specs.declared.class.Class.TheVariants as variants
 use Rattle.mk_tree.specs.PlacedLines.{PlacedLine}
 
--- where the value of an assignment's line stands among its raw bytes, or the value with the blanks and folds after it; nowhere
--- in another line
+-- where the value of an assignment's line stands among its raw bytes, with the blanks and folds after it if `with_blanks` says
+-- so; an empty range for any other line
 abbrev value_range_in : (with_blanks : Bool) → List Cell → class.Class → Span
 value_range_in b cs (variants.Assign at p) = raw_range cs at.value.start (if b then at.end else at.value.end)
 value_range_in b cs k = record { start = 0; end = 0 }
@@ -26,7 +26,7 @@ leaves_flag_placed variants.Else = true
 leaves_flag_placed variants.Endif = true
 leaves_flag_placed k = false
 
--- whether the first line that begins with the prefix, or is of a class that sets the flag, begins with the prefix
+-- whether the first line that begins with the prefix, or has a class that sets the flag, begins with the prefix
 abbrev pub is_led_first_placed : (prefix : ℕ) → List PlacedLine → Bool
 is_led_first_placed p [] = false
 is_led_first_placed p (l ∷ ls) = is_prefix_led p l.bytes || (leaves_flag_placed l.class && is_led_first_placed p ls)

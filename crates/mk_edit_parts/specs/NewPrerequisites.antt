@@ -6,7 +6,7 @@ use Rattle.mk_class.specs.declared.rule.Header as header
 use Rattle.mk_class.specs.LineParts.{normal_span, order_only_span}
 use Rattle.mk_edit_parts.specs.WordCuts.{last_end}
 
--- where the last word of a part of a text ends; the start of the part where it has none
+-- where the last word of a part of a text ends; the start of the part if it has no word
 abbrev pub words_end : (text : List ℕ) → Span → ℕ
 words_end t s = s.start + last_end 0 (word_ranges (text_at t s))
 
@@ -14,21 +14,22 @@ words_end t s = s.start + last_end 0 (word_ranges (text_at t s))
 abbrev brings_bar : (order : Bool) → header.Header → Bool
 brings_bar order at = order && not at.has_order_only
 
--- the part that it is put last in
+-- the part in which a new prerequisite goes last
 abbrev pub part_of_new : (order : Bool) → header.Header → Span
 part_of_new order at = if order && at.has_order_only then order_only_span at else normal_span at
 
 abbrev pub place_of_new : (order : Bool) → (text : List ℕ) → header.Header → ℕ
 place_of_new order t at = words_end t (part_of_new order at)
 
--- what is written before it: a space, or a `|` between two
+-- what is written before a new prerequisite: a space, or a `|` between two spaces
 abbrev pub before_new : (order : Bool) → header.Header → List ℕ
 before_new order at = if brings_bar order at then codes " | " else 32 ∷ []
 
--- what is written after it, where it goes to this place: a space where a `|` follows a normal one directly
+-- what is written after a new prerequisite that goes to this place: a space if a `|` follows a normal prerequisite directly, and
+-- otherwise nothing
 abbrev pub after_new : (order : Bool) → (place : ℕ) → header.Header → List ℕ
 after_new order place at = if not order && (at.has_order_only && (place == at.normal_end)) then 32 ∷ [] else []
 
--- the bytes that are written
+-- the bytes that are written: the new prerequisite, with what stands before and after it
 abbrev pub new_text : (order : Bool) → (place : ℕ) → (word : List ℕ) → header.Header → List ℕ
 new_text order place w at = before_new order at ++ (w ++ after_new order place at)

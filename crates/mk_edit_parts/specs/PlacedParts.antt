@@ -1,4 +1,4 @@
--- What a document shows of a line by the places of its parts: the tests of lines that a walk over a document makes.
+-- What a document shows of a line by the places of its parts: the tests of a line that walks over a document make.
 use Rattle.std.specs.Prelude.{not, ◌&&◌, is_some, ◌≡◌, ℕ, Bool, false, List, [], ◌∷◌}
 use Rattle.mk_lines.specs.Cells.{joined_byte}
 use Rattle.mk_lines.specs.Ranges.{text_at}

@@ -19,7 +19,7 @@ lines_from ls at = drop at (classed_lines (placed_text ls))
 abbrev pub recipe_spots_in : List ClassedLine → List StandingLine
 recipe_spots_in after = take (length (recipe_lines after)) (spots (λ l. classes.is_recipe l.class) after)
 
--- whether a line of this class is one of a recipe
+-- whether a line of this class is a recipe line
 abbrev pub is_recipe_places : Class → Bool
 is_recipe_places Recipe = true
 is_recipe_places k = false
@@ -34,8 +34,8 @@ stays_in_rule_places Else = true
 stays_in_rule_places Endif = true
 stays_in_rule_places k = false
 
--- What a walk has found after some more lines, the first of which stands at a place: where the recipe ends, and whether a line of
--- a conditional was passed before its end. `conditional` says whether one was passed so far.
+-- What a walk has found after some more lines; the first of these stands at this place. It has found where the recipe ends, and
+-- whether a line of a conditional was passed before that end. `conditional` says whether such a line was passed so far.
 abbrev pub recipe_from : recipe.Recipe → (conditional : Bool) → (at : ℕ) → List PlacedLine → recipe.Recipe
 recipe_from r c at [] = r
 recipe_from r c at (l ∷ ls) =
@@ -43,7 +43,7 @@ recipe_from r c at (l ∷ ls) =
     else if stays_in_rule_places l.class then recipe_from r (c || is_conditional_places l.class) (at + 1) ls
     else r
 
--- where the recipe line of a number stands, where so many have been passed
+-- where the recipe line of this number stands; `passed` recipe lines were passed so far
 abbrev pub recipe_place_from : (number passed at : ℕ) → List PlacedLine → Option ℕ
 recipe_place_from n p at [] = None
 recipe_place_from n p at (l ∷ ls) =
@@ -53,7 +53,7 @@ recipe_place_from n p at (l ∷ ls) =
 
 -- ---- the targets of a header
 
--- in a line of this joined text and class; none in a line that is no header
+-- the targets of a header, in a line of this joined text and class; none in a line that is no header
 abbrev pub header_targets_in : (text : List ℕ) → Class → List (List ℕ)
 header_targets_in t (Header h) = words_before h.targets_end t
 header_targets_in t k = []

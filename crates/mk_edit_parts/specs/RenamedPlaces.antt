@@ -1,4 +1,4 @@
--- Where the words stand that a rename replaces in a line, as a document shows the line.
+-- Where the words that a rename replaces stand in a line, as a document shows the line.
 use Rattle.std.specs.Prelude.{ℕ, ◌+◌, ◌-◌, ◌≤◌, ◌==◌, ◌||◌, if◌then◌else◌, Bool, false, List, [], ◌∷◌, ◌++◌, length, Option, Some, None}
 use Rattle.mk_lines.specs.Cells.{Cell, joined_text, line_cells}
 use Rattle.mk_lines.specs.Ranges.{raw_range, text_at, word_ranges}
@@ -13,7 +13,7 @@ use Rattle.mk_edit_parts.specs.declared.tally.Tally.{Tally}
 
 -- ---- the parts of a line
 
--- a part from one place up to another, and one of nothing there
+-- the part from one place up to another
 abbrev pub span : (start end : ℕ) → Span
 span s e = record { start = s; end = e }
 
@@ -29,47 +29,47 @@ word_parts k = record { targets = span 0 0; normal = span 0 0; order_only = span
 
 -- ---- the words
 
--- the raw range of a word, where it is the old one; the word's range begins at the start of its part
+-- the raw range of a word, if it is the old word; the word's range counts from the start of its part
 abbrev pub place_in : (cells : List Cell) → (part_start : ℕ) → (old : List ℕ) → Span → Option Span
 place_in cs at o w =
     if is_same_text (text_at (joined_text cs) (span (at + w.start) (at + w.end))) o
     then Some (raw_range cs (at + w.start) (at + w.end))
     else None
 
--- a range, where there is one, before others
+-- a range put before other ranges, if there is one
 abbrev pub before_places : Option Span → List Span → List Span
 before_places None ss = ss
 before_places (Some s) ss = s ∷ ss
 
--- the raw ranges of those words of a part that are the old one
+-- the raw ranges of the words of a part that are the old word
 abbrev pub places_in : (cells : List Cell) → (part_start : ℕ) → (old : List ℕ) → List Span → List Span
 places_in cs at o [] = []
 places_in cs at o (w ∷ ws) = before_places (place_in cs at o w) (places_in cs at o ws)
 
--- those in a part
+-- the raw ranges of the old words in a part
 abbrev pub part_places : (cells : List Cell) → (old : List ℕ) → (part : Span) → List Span
 part_places cs o p = places_in cs p.start o (word_ranges (text_at (joined_text cs) p))
 
--- those in all parts
+-- the raw ranges of the old words in all parts
 abbrev pub parts_places : (cells : List Cell) → (old : List ℕ) → WordParts → List Span
 parts_places cs o p = part_places cs o p.targets ++ (part_places cs o p.normal ++ part_places cs o p.order_only)
 
--- those in a line
+-- the raw ranges of the old words in a line
 abbrev pub renamed_places : (old : List ℕ) → PlacedLine → List Span
 renamed_places o l = parts_places (line_cells l.bytes) o (word_parts l.class)
 
--- ---- what is counted of them
+-- ---- what is counted of these words
 
--- how many bytes they have
+-- how many bytes the ranges have
 abbrev pub bytes_in : List Span → ℕ
 bytes_in [] = 0
 bytes_in (s ∷ ss) = (s.end - s.start) + bytes_in ss
 
--- whether a range begins at the front
+-- whether a range begins at the front of the line
 abbrev pub is_at_front : Span → Bool
 is_at_front s = s.start == 0
 
--- a count with some more of them
+-- a count with the words in these ranges added
 abbrev pub tallied : Tally → List Span → Tally
 tallied t ss = record { words = t.words + length ss; bytes = t.bytes + bytes_in ss; at_front = t.at_front || any is_at_front ss }
 
@@ -77,17 +77,17 @@ tallied t ss = record { words = t.words + length ss; bytes = t.bytes + bytes_in 
 abbrev pub no_words : Tally
 no_words = record { words = 0; bytes = 0; at_front = false }
 
--- ---- where they may stand
+-- ---- where the ranges may stand
 
 -- a range within a text of this length
 abbrev pub IsWithin : (length : ℕ) → Span → Type 0
 IsWithin n s = (s.start ≤ s.end) × (s.end ≤ n)
 
--- each of some ranges is
+-- each of some ranges is within a text of this length
 abbrev pub AreWithin : (length : ℕ) → List Span → Type 0
 AreWithin n [] = Unit {0}
 AreWithin n (s ∷ ss) = IsWithin n s × AreWithin n ss
 
--- each part is
+-- each part is within a text of this length
 abbrev pub ArePartsWithin : (length : ℕ) → WordParts → Type 0
 ArePartsWithin n p = IsWithin n p.targets × IsWithin n p.normal × IsWithin n p.order_only

@@ -1,16 +1,16 @@
--- A line with the words replaced that stand in some ranges of it.
+-- A line with the words in some ranges of it replaced.
 use Rattle.std.specs.Prelude.{ℕ, ◌≤◌, List, [], ◌∷◌, ◌++◌, drop, slice_range}
 use Rattle.mk_lines.specs.declared.split.Span.{Span}
 use Rattle.mk_tree.specs.PlacedLines.{PlacedLine}
 use Rattle.mk_edit_parts.specs.RenamedPlaces.{renamed_places}
 use Rattle.mk_edit_parts.specs.WordCuts.{last_end}
 
--- what is written of a line from a place up to the end of the last range: the line, with a text for each range
+-- what is written of a line from a place up to the end of the last range: the line, with the new text in the place of each range
 abbrev pub written : (line : List ℕ) → (from : ℕ) → (new : List ℕ) → List Span → List ℕ
 written l at n [] = []
 written l at n (s ∷ ss) = slice_range l at s.start ++ (n ++ written l s.end n ss)
 
--- the whole line with a text for each range
+-- the whole line, with the new text in the place of each range
 abbrev pub rewritten : (line new : List ℕ) → List Span → List ℕ
 rewritten l n ss = written l 0 n ss ++ drop (last_end 0 ss) l
 
@@ -18,7 +18,7 @@ rewritten l n ss = written l 0 n ss ++ drop (last_end 0 ss) l
 abbrev pub renamed_text : (old new : List ℕ) → PlacedLine → List ℕ
 renamed_text o n l = rewritten l.bytes n (renamed_places o l)
 
--- Ranges that stand in order and apart, from a place up to the end of a line of this length.
+-- Ranges that stand in order and apart, from this place up to the end of a line of this length.
 abbrev pub AreApart : (from length : ℕ) → List Span → Type 0
 AreApart a n [] = a ≤ n
 AreApart a n (s ∷ ss) = (a ≤ s.start) × (s.start ≤ s.end) × AreApart s.end n ss

@@ -20,7 +20,7 @@ may_mean None l = false
 may_mean (Some (Variable nth n)) l = assigns_placed n l
 may_mean (Some (Rule nth t)) l = is_rule_for_placed t l
 
--- the number that is sought, from 1: the first where none is given
+-- the number that is sought, from 1; if no number is given, 1
 abbrev wanted_of : Option ℕ → ℕ
 wanted_of None = 1
 wanted_of (Some n) = n
@@ -48,13 +48,13 @@ abbrev pub seek : (test : PlacedLine → Bool) → (wanted : ℕ) → Sought →
 seek test w s [] = s
 seek test w s (l ∷ ls) = seek test w (noted test w l s) ls
 
--- what it has seen at its start
+-- what a walk has seen at its start
 abbrev pub nothing_seen : Sought
 nothing_seen = record { count = 0; found = None; has_unread_prefix = false; end = record { at = 0; context = start } }
 
 -- ---- what it finds, on lines as they are defined
 
--- where a line stands: how many lines are above it, and what they leave
+-- where a line stands: how many lines are above it, and the context that they leave
 abbrev pub place_found : StandingLine → Found
 place_found s = record { at = length s.above; context = context_of s.above }
 
@@ -63,8 +63,8 @@ abbrev pub candidates_of : List ClassedLine → Option Address → List Standing
 candidates_of ls None = []
 candidates_of ls (Some a) = candidates ls a
 
--- What is sought in some lines: how many an address may mean, where the one of its number stands, whether the recipe prefix is
--- set in a way that is not read, and where the lines end.
+-- What is sought in some lines: how many lines the address may mean, where the line of its number stands, whether the recipe
+-- prefix is set in a way that is not read, and where the lines end.
 pub record IsSought (ls : List ClassedLine) (a : Option Address) (s : Sought) : Type 0 where
   pub count_is : s.count ≡ length (candidates_of ls a)
   pub found_is : s.found ≡ option_map place_found (nth_of (wanted a) (candidates_of ls a))

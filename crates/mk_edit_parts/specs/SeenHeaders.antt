@@ -1,4 +1,4 @@
--- The line of a rule as a document shows it: the places of its parts, and the header that they are of.
+-- The line of a rule as a document shows it: the places of its parts, and the header whose parts they are.
 use Rattle.std.specs.Prelude.{◌≡◌, ◌++◌}
 use Rattle.mk_lines.specs.PhysicalLines.{line_end, line_end_bytes}
 use Rattle.mk_lines.specs.Cells.{Cell, joined_byte, line_cells, raw_text}
@@ -12,7 +12,7 @@ use Rattle.mk_class.specs.declared.rule.Header as header
 use Rattle.mk_class.specs.declared.class.Class.TheVariants as variants
 use Rattle.mk_tree.specs.PlacedLines.{PlacedLine}
 
--- these are the places of this header, which the line is of
+-- the line is that of this header, and these are the places of its parts
 pub record IsHeaderSeen (l : PlacedLine) (at : header.Header) (h : Headers.Header Cell) : Type 0 where
   pub cells_are : line_cells l.bytes ≡ concat (header_units h)
   pub whole : l.bytes ≡ raw_text (concat (header_units h)) ++ line_end_bytes (line_end l.bytes)
@@ -20,7 +20,7 @@ pub record IsHeaderSeen (l : PlacedLine) (at : header.Header) (h : Headers.Heade
   pub placed : IsHeaderPlaced (line_cells l.bytes) at h
   pub fits : FitsHeader joined_byte h
 
--- a line is of some header with these places
+-- the line is that of some header, and these are the places of its parts
 pub record HasHeader (l : PlacedLine) (at : header.Header) : Type 0 where
   pub header : Headers.Header Cell
   pub seen : IsHeaderSeen l at header

@@ -6,7 +6,8 @@ ghost use Rattle.mk_edit_parts.specs.EditViews.{address_seen, edit_of, place_of}
 use crate::edit::{Edit, Place};
 use std::alloc::Allocator;
 
-/// What an edit says of the line that it means.
+/// What an edit says of the line that it means. The number counts from 1; without one the line is
+/// the only one.
 #[derive(Clone, Copy)]
 pub enum Address<'a> {
     /// An assignment, by the variable's name.
@@ -15,7 +16,8 @@ pub enum Address<'a> {
     Rule(Option<u32>, &'a [u8]),
 }
 
-/// The address of an edit, or of its place. A new line at the end has none, nor has a rename.
+/// The address of an edit, or of its place. A new line at the end has no address, and neither has a
+/// rename.
 pub fn address_of<A: Allocator>(edit: &Edit<A>) -> Option<Address<'_>>
     ensures { address_seen result ≡ address (edit_of edit.now) }
 {

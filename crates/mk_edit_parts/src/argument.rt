@@ -15,7 +15,7 @@ use mk_edit_laws::Field;
 use mk_lines::split_first_word;
 use std::alloc::Allocator;
 
-/// The first field of an edit that is none that it may have: the cause `BadArgument`.
+/// The first field of an edit that fails its test: the cause `BadArgument`.
 pub fn bad_field<A: Allocator>(edit: &Edit<A>) -> Option<Field>
     ensures { field_refusal result ≡ bad_argument (edit_of edit.now) }
 {
@@ -95,7 +95,7 @@ fn first_failed(one: Field, one_passes: bool, other: Field, other_passes: bool) 
     }
 }
 
-// Whether a place's name or target may be one.
+// Whether the name or the target of a place passes its test.
 fn is_place<A: Allocator>(place: &Place<A>) -> bool
     ensures { result ≡ is_place (place_of place.now) }
 {
@@ -127,7 +127,7 @@ fn has_no_target(text: &[u8]) -> bool
     false
 }
 
-// Whether a text is words that may stand as prerequisites, or none.
+// Whether each word of a text may stand as a prerequisite. The text may have no words.
 fn are_words(text: &[u8]) -> bool
     ensures { result ≡ are_words text.now }
 {
@@ -163,7 +163,7 @@ pub fn is_reserved<A: Allocator>(edit: &Edit<A>) -> bool
     }
 }
 
-// Whether a place does.
+// Whether a place names the recipe prefix, or a word of directives.
 fn is_reserved_place<A: Allocator>(place: &Place<A>) -> bool
     ensures { result ≡ (any is_prefix_name (place_names (place_of place.now)) || any is_reserved_word (place_targets (place_of place.now))) }
 {
@@ -174,7 +174,7 @@ fn is_reserved_place<A: Allocator>(place: &Place<A>) -> bool
     }
 }
 
-// Whether some word of a text is one of directives.
+// Whether some word of a text is a word of directives.
 fn has_reserved_word(text: &[u8]) -> bool
     ensures { result ≡ any is_reserved_word (words_in text.now) }
 {

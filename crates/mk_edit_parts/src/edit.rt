@@ -1,10 +1,10 @@
 //! The twelve edits, and the places of new lines.
 //!
-//! An edit owns its texts. Contracts see it as `edit_of` says, a value of the definitions.
+//! An edit owns its texts. Contracts see it as a value of the definitions (`edit_of`).
 //!
-//! `nth` is the number of a line among those of its name or target, counted from 1 in the order of
-//! the file; an edit without it means the only one. `number` is that of a recipe line of its rule,
-//! from 1.
+//! `nth` is the number of a line among the lines of the same name or target, from 1, in the order
+//! of the file; without it, an edit means the only such line. `number` is the number of a recipe
+//! line of its rule, from 1.
 
 use mk_class::Flavor;
 use mk_edit_laws::Colons;
@@ -17,21 +17,21 @@ pub enum Place<A: Allocator = Global> {
     Bottom,
     /// Before the line of an assignment.
     BeforeVar {
-        /// Which of the assignments of this name.
+        /// Which of the assignments of this name, from 1.
         nth: Option<u32>,
         /// The name of the variable.
         name: Vec<u8, A>,
     },
     /// After the line of an assignment.
     AfterVar {
-        /// Which of the assignments of this name.
+        /// Which of the assignments of this name, from 1.
         nth: Option<u32>,
         /// The name of the variable.
         name: Vec<u8, A>,
     },
     /// Before the line of a rule.
     BeforeRule {
-        /// Which of the rules for this target.
+        /// Which of the rules for this target, from 1.
         nth: Option<u32>,
         /// One of the rule's targets.
         target: Vec<u8, A>,
@@ -41,19 +41,19 @@ pub enum Place<A: Allocator = Global> {
 /// An edit of a makefile.
 #[derive(Drop)]
 pub enum Edit<A: Allocator = Global> {
-    /// Gives a variable another value. The blanks and the comment after the value stay; an empty value
-    /// takes the blanks after the old one with it.
+    /// Gives a variable another value. The blanks and the comment after the value stay. If the new
+    /// value is empty, the blanks after the old value go too.
     SetValue {
-        /// Which of the assignments of this name.
+        /// Which of the assignments of this name, from 1.
         nth: Option<u32>,
         /// The name of the variable.
         name: Vec<u8, A>,
         /// The new value, which may be empty.
         value: Vec<u8, A>,
     },
-    /// Puts a text after a variable's value, with a space between them where the value is not empty.
+    /// Puts a text after a variable's value, with a space between them if the value is not empty.
     AppendValue {
-        /// Which of the assignments of this name.
+        /// Which of the assignments of this name, from 1.
         nth: Option<u32>,
         /// The name of the variable.
         name: Vec<u8, A>,
@@ -66,14 +66,14 @@ pub enum Edit<A: Allocator = Global> {
         place: Place<A>,
         /// The name of the variable.
         name: Vec<u8, A>,
-        /// What the operator says.
+        /// The flavor, which its operator tells.
         flavor: Flavor,
         /// The value, which may be empty.
         value: Vec<u8, A>,
     },
     /// Takes out the line of an assignment.
     RemoveAssign {
-        /// Which of the assignments of this name.
+        /// Which of the assignments of this name, from 1.
         nth: Option<u32>,
         /// The name of the variable.
         name: Vec<u8, A>,
@@ -86,12 +86,12 @@ pub enum Edit<A: Allocator = Global> {
         targets: Vec<u8, A>,
         /// The separator.
         colons: Colons,
-        /// The prerequisites, words with blanks between them, or none.
+        /// The prerequisites: words with blanks between them, or nothing.
         prereqs: Vec<u8, A>,
     },
     /// Takes out the line of a rule and its recipe.
     RemoveRule {
-        /// Which of the rules for this target.
+        /// Which of the rules for this target, from 1.
         nth: Option<u32>,
         /// The rule's target.
         target: Vec<u8, A>,
@@ -100,7 +100,7 @@ pub enum Edit<A: Allocator = Global> {
     AddPrereq {
         /// Whether it goes to the order-only prerequisites, which stand after a `|`.
         order: bool,
-        /// Which of the rules for this target.
+        /// Which of the rules for this target, from 1.
         nth: Option<u32>,
         /// One of the rule's targets.
         target: Vec<u8, A>,
@@ -109,7 +109,7 @@ pub enum Edit<A: Allocator = Global> {
     },
     /// Takes a word out of the prerequisites of a rule, wherever it stands among them.
     RemovePrereq {
-        /// Which of the rules for this target.
+        /// Which of the rules for this target, from 1.
         nth: Option<u32>,
         /// One of the rule's targets.
         target: Vec<u8, A>,
@@ -118,7 +118,7 @@ pub enum Edit<A: Allocator = Global> {
     },
     /// Puts a line after the recipe of a rule.
     AddRecipe {
-        /// Which of the rules for this target.
+        /// Which of the rules for this target, from 1.
         nth: Option<u32>,
         /// One of the rule's targets.
         target: Vec<u8, A>,
@@ -127,30 +127,30 @@ pub enum Edit<A: Allocator = Global> {
     },
     /// Gives a recipe line another command.
     SetRecipe {
-        /// Which of the rules for this target.
+        /// Which of the rules for this target, from 1.
         nth: Option<u32>,
         /// One of the rule's targets.
         target: Vec<u8, A>,
-        /// Which of the rule's recipe lines.
+        /// Which of the rule's recipe lines, from 1.
         number: u32,
         /// The new command, without the recipe prefix.
         line: Vec<u8, A>,
     },
     /// Takes out a recipe line.
     RemoveRecipe {
-        /// Which of the rules for this target.
+        /// Which of the rules for this target, from 1.
         nth: Option<u32>,
         /// One of the rule's targets.
         target: Vec<u8, A>,
-        /// Which of the rule's recipe lines.
+        /// Which of the rule's recipe lines, from 1.
         number: u32,
     },
     /// Gives a target another name, wherever it stands as a target or as a prerequisite. A report
     /// calls the fields `old` and `new`.
     RenameTarget {
-        /// The name that it has.
+        /// The old name.
         from: Vec<u8, A>,
-        /// The name that it gets.
+        /// The new name.
         to: Vec<u8, A>,
     },
 }

@@ -1,4 +1,5 @@
-//! Where an edit applies: the causes of refusal that come before its own, in their order.
+//! Where an edit applies, and the causes of refusal that come before the edit's own, in their
+//! order.
 ghost use Rattle.std.specs.Prelude.{◌≡◌, ◌≤◌, length, IfOk, IfErr, Err, List, is_some};
 ghost use Rattle.mk_class.specs.ClassedLines.{ClassedLine, classed_lines};
 ghost use Rattle.mk_tree.specs.Documents.{IsFaithful};
@@ -18,12 +19,13 @@ use mk_edit_laws::Refusal;
 use mk_tree::Doc;
 use std::alloc::Allocator;
 
-/// Where an edit applies: at the line that it means, or at the end of the document for a new line at
-/// the bottom. It reads no line anew and takes no memory.
+/// Where an edit applies: at the line that it means, or at the end of the document if its new line
+/// goes to the bottom. The call reads no line anew and takes no memory.
 ///
-/// It decides, in this order, whether a field is bad, a name reserved, the recipe prefix set in a way
-/// that is not read, and whether there is no such line, or are several. It asks for a faithful
-/// document, and for an edit other than a rename, which means no one line.
+/// It decides, in this order, whether a field fails its test; whether a name is reserved; whether
+/// the recipe prefix is set in a way that is not read; whether there is no such line; and whether
+/// there are several such lines. It asks for a faithful document, and for an edit that is no
+/// rename: a rename does not mean one line.
 pub fn find<A: Allocator>(doc: &Doc<A>, edit: &Edit<A>) -> Result<Found, Refusal>
     requires faithful { IsFaithful doc.now }
     requires one_place { IsOfOnePlace (edit_of edit.now) }
@@ -47,7 +49,7 @@ pub fn find<A: Allocator>(doc: &Doc<A>, edit: &Edit<A>) -> Result<Found, Refusal
     }
 }
 
-// The line that an address means, of what was sought for it; the end of the lines where there is no
+// The line that an address means, from what was sought for it; the end of the lines if there is no
 // address.
 fn pick(address: Option<Address>, sought: Sought) -> Result<Found, Refusal>
     ensures found { (lines : List ClassedLine) → IsSought lines (address_seen address.entry) sought → IfOk result (λ found. IsPicked lines (address_seen address.entry) found) }
@@ -67,7 +69,7 @@ fn pick(address: Option<Address>, sought: Sought) -> Result<Found, Refusal>
     }
 }
 
-// Whether an address says which of the lines of its name or target it means.
+// Whether an address gives the number of the line that it means.
 fn has_number(address: Address) -> bool
     ensures { result ≡ is_some (nth_meant (address_view address.entry)) }
 {

@@ -1,4 +1,4 @@
-//! Whether lines lean on what stands before them.
+//! Whether lines lean on the flag before them.
 ghost use Rattle.std.specs.Prelude.{◌≡◌, ◌≤◌, ◌&&◌, not, drop, length};
 ghost use Rattle.mk_class.specs.RecipePrefix.{is_prefix_led};
 ghost use Rattle.mk_tree.specs.Leaning.{is_same_flag};
@@ -8,10 +8,10 @@ use mk_class::{Class, Flag};
 use mk_tree::Doc;
 use std::alloc::Allocator;
 
-/// Whether the lines of a document from a place on lean on the flags before and after a change above
-/// them: these differ, and the first line that counts begins with the prefix.
+/// Whether the lines of a document from a place on lean on the flags before and after a change
+/// above them: the flags differ, and the first line that counts begins with the prefix.
 ///
-/// It walks over those lines up to the first that counts, reads none anew and takes no memory.
+/// It walks over these lines up to the first that counts, reads no line anew and takes no memory.
 pub fn leans<A: Allocator>(doc: &Doc<A>, from: usize, prefix: u8, before: Flag, after: Flag) -> bool
     requires { from ≤ length doc.now }
     ensures { result ≡ (not (is_same_flag before after) && is_led_first_placed prefix (drop from doc.now)) }
@@ -29,8 +29,8 @@ fn is_same_flag(left: Flag, right: Flag) -> bool
     )
 }
 
-// Whether, of the lines from a place on that begin with the prefix or set the flag, the first begins
-// with the prefix.
+// Whether the first of the lines from a place on that begins with the prefix or sets the flag
+// begins with the prefix.
 fn is_led_first<A: Allocator>(doc: &Doc<A>, from: usize, prefix: u8) -> bool
     requires { from ≤ length doc.now }
     ensures { result ≡ is_led_first_placed prefix (drop from doc.now) }

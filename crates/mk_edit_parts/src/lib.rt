@@ -1,18 +1,18 @@
 //! The parts of edits: what an edit is, which line it means, and the bytes of the lines that it writes.
 //!
-//! What an edit does is defined in `mk_edit_laws`, whose laws say what follows from it. The calls here answer
-//! what these definitions say; `mk_edit` plans edits with them.
+//! What an edit does is defined in `mk_edit_laws`, whose laws say what follows from it. The calls
+//! here answer what these definitions say; `mk_edit` plans edits with these calls.
 //!
 //! - [`edit`]: the twelve edits, and the places of new lines.
 //! - [`text`]: texts compared, and the words of a text.
 //! - [`argument`]: the causes of refusal that the fields of an edit decide.
-//! - [`address`]: the line that an edit means, as it says it.
+//! - [`address`]: the line that an edit means, as the edit says it.
 //! - [`part`]: parts of a line by their places.
 //! - [`line_test`]: which variable a line assigns, and which targets it has.
 //! - [`seek`]: the line that an address means, found by one walk.
 //! - [`find`]: where an edit applies, after the causes that come before its own.
 //! - [`targets`]: whether a word is a target of any rule.
-//! - [`lean`]: whether lines lean on what stands before them.
+//! - [`lean`]: whether lines lean on the flag before them.
 //! - [`place`]: places further down in a document.
 //! - [`range`]: where the value of a line stands, and bytes with a range replaced.
 //! - [`line_end`]: the line ends of new lines.
@@ -20,7 +20,7 @@
 //! - [`prerequisite`]: the prerequisites in the line of a rule.
 //! - [`recipe`]: the recipe of a rule, by a walk down from its header.
 //! - [`word_parts`]: the words of a line that a rename replaces.
-//! - [`tally`]: these words counted.
+//! - [`tally`]: the count of these words.
 //! - [`renamed_line`]: the bytes of a line after a rename.
 #![tactic(auto)]
 

@@ -8,8 +8,8 @@ use mk_lines::ends::{self, End};
 use mk_tree::Doc;
 use std::alloc::{AllocError, Allocator};
 
-/// The line end that new lines of a document get: that of the first line of its text, or LF where
-/// there is none. Takes no memory.
+/// The line end that new lines of a document get: that of the first line of its text, or LF if that
+/// line has none. Takes no memory.
 pub fn file_line_end<A: Allocator>(doc: &Doc<A>) -> End
     requires { IsFaithful doc.now }
     ensures { result ≡ file_line_end (placed_text doc.now) }
@@ -36,7 +36,7 @@ fn line_end_bytes(end: End) -> &'static [u8]
 ///
 /// # Errors
 ///
-/// Where there is no memory for it.
+/// [`AllocError`] if there is no memory for it.
 pub fn with_line_end<A: Allocator>(
     alloc: A,
     text: &[u8],

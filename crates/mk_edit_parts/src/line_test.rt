@@ -1,7 +1,7 @@
 //! Tests of lines: which variable a line assigns, which targets it has, and whether it sets the
 //! recipe prefix unread.
 //!
-//! Each is given the class of the line, which the caller has at hand.
+//! Each test takes the class of the line, which the caller has at hand.
 ghost use Rattle.std.specs.Prelude.{◌≡◌, ◌≤◌, length};
 ghost use Rattle.mk_class.specs.Texts.{is_one_of};
 ghost use Rattle.mk_edit_parts.specs.PlacedParts.{IsClassed, assigns_placed, is_rule_for_placed, is_target_placed, is_unread_placed, words_before};

@@ -24,7 +24,7 @@ fn colons_text(colons: Colons) -> &'static [u8]
     }
 }
 
-// How many bytes a text has with a space before it, or none where it is empty.
+// How many bytes a text has with a space before it; 0 if the text is empty.
 fn spaced_len(text: &[u8]) -> usize
     ensures { result ≡ length (spaced text.now) }
 {
@@ -55,8 +55,8 @@ fn joined_len(text: &[u8]) -> usize
     each_spaced_len(text).saturating_sub(1)
 }
 
-/// How many bytes the text of an edit's new line has, without its line end; the most that can be told
-/// where it has more. Takes no memory.
+/// How many bytes the text of an edit's new line has, without its line end, or the greatest `usize`
+/// if it has more. Takes no memory.
 pub fn new_len<A: Allocator>(edit: &Edit<A>) -> usize
     ensures { (prefix : ℕ) → result ≡ min (length (new_text prefix (edit_of edit.now))) (2 ^ 64 - 1) }
 {
@@ -78,7 +78,7 @@ pub fn new_len<A: Allocator>(edit: &Edit<A>) -> usize
     }
 }
 
-// How many bytes an assignment has, or the most that can be told.
+// How many bytes an assignment has, or the greatest `usize` if it has more.
 fn assign_len(name: &[u8], flavor: Flavor, value: &[u8]) -> usize
     ensures { result ≡ min (length (assign_text name.now flavor value.now)) (2 ^ 64 - 1) }
 {
@@ -88,7 +88,7 @@ fn assign_len(name: &[u8], flavor: Flavor, value: &[u8]) -> usize
         .saturating_add(spaced_len(value))
 }
 
-// How many bytes a rule has, or the most that can be told.
+// How many bytes a rule has, or the greatest `usize` if it has more.
 fn rule_len(targets: &[u8], colons: Colons, prereqs: &[u8]) -> usize
     ensures { result ≡ min (length (rule_text targets.now colons prereqs.now)) (2 ^ 64 - 1) }
 {
@@ -97,11 +97,11 @@ fn rule_len(targets: &[u8], colons: Colons, prereqs: &[u8]) -> usize
         .saturating_add(each_spaced_len(prereqs))
 }
 
-/// The bytes of an edit's new line, where this recipe prefix is in force, with a line end.
+/// The bytes of an edit's new line with a line end, if this recipe prefix is in force.
 ///
 /// # Errors
 ///
-/// Where there is no memory for them.
+/// [`AllocError`] if there is no memory for them.
 pub fn new_line<A: Allocator + Copy>(
     alloc: A,
     edit: &Edit<A>,
@@ -184,7 +184,7 @@ fn push_line_end<A: Allocator>(bytes: &mut Vec<u8, A>, end: End) -> Result<(), A
     }
 }
 
-// Puts a text after some bytes, with a space before it where it is not empty.
+// Puts a text after some bytes, with a space before it if it is not empty.
 fn push_spaced<A: Allocator>(bytes: &mut Vec<u8, A>, text: &[u8]) -> Result<(), AllocError>
     ensures { OnOk result (bytes.new.items ≡ bytes.old.items ++ spaced text.now) }
 {
@@ -220,8 +220,8 @@ fn push_joined<A: Allocator>(bytes: &mut Vec<u8, A>, text: &[u8]) -> Result<(), 
     push_each_spaced(bytes, after)
 }
 
-/// Whether the new line of an edit begins with the recipe prefix, where this one is in force. Takes no
-/// memory.
+/// Whether the new line of an edit begins with the recipe prefix, if this prefix is in force. Takes
+/// no memory.
 pub fn begins_with_prefix<A: Allocator>(edit: &Edit<A>, prefix: u8) -> bool
     ensures { result ≡ is_prefix_led prefix (new_text prefix (edit_of edit.now)) }
 {
@@ -233,7 +233,7 @@ pub fn begins_with_prefix<A: Allocator>(edit: &Edit<A>, prefix: u8) -> bool
     }
 }
 
-// The first byte of a text, or another where it is empty.
+// The first byte of a text, or `other` if the text is empty.
 fn first_byte(text: &[u8], other: u8) -> u8
     ensures { (prefix : ℕ) (after : List ℕ) → (result == prefix) ≡ is_prefix_led prefix (text.now ++ other ∷ after) }
 {

@@ -7,8 +7,8 @@ use crate::seek::Found;
 use mk_tree::Doc;
 use std::alloc::Allocator;
 
-/// The place so many lines further down, with its context. It steps over these lines, reads none
-/// anew and takes no memory.
+/// The place `count` lines further down, with its context. The call steps over these lines, reads
+/// no line anew and takes no memory.
 pub fn after_lines<A: Allocator>(doc: &Doc<A>, place: Found, count: usize) -> Found
     requires faithful { IsFaithful doc.now }
     requires place { IsPlaceOf doc.now place }

@@ -1,5 +1,5 @@
-//! The prerequisites in the line of a rule: whether a word is one, and the line with one more or one
-//! less.
+//! The prerequisites in the line of a rule: whether a word is one of them, and the line with one
+//! more or one fewer.
 ghost use Rattle.std.specs.Prelude.{◌≡◌, ◌≤◌, ◌<◌, ◌+◌, ◌++◌, ◌^◌, ◌&&◌, ◌==◌, not, if◌then◌else◌, length, drop, IfOk, IsOk};
 ghost use Rattle.mk_lines.specs.PhysicalLines.{line_end, line_end_bytes};
 ghost use Rattle.mk_lines.specs.Cells.{Cell, line_cells, joined_text, raw_text};
@@ -49,8 +49,8 @@ fn normal(header: Header) -> Span
     }
 }
 
-// Where the order-only prerequisites stand in the joined text; at the end of the head where there are
-// none.
+// Where the order-only prerequisites stand in the joined text; without any, an empty range at the
+// end of the head.
 fn order_only(header: Header) -> Span
     requires { (order_only_span header).start ≤ header.head_end }
     ensures { result ≡ order_only_span header }
@@ -86,10 +86,10 @@ fn raw_rest<A: Allocator>(line: &Line<A>, start: usize) -> &[u8]
     part(bytes, Span { start, end })
 }
 
-// ---- one more
+// ---- a new prerequisite
 
-/// Where a new prerequisite goes into the joined text: after the last of its list, or at the front of
-/// the list where there is none.
+/// Where a new prerequisite goes into the joined text: after the last word of its list, or at the
+/// front of the list if it has no word.
 pub fn place_of_new<A: Allocator>(line: &Line<A>, header: Header, order: bool) -> usize
     requires { HasHeader (line_view line.now) header }
     ensures { result ≡ place_of_new order (text_of_line (line_view line.now)) header }
@@ -97,7 +97,8 @@ pub fn place_of_new<A: Allocator>(line: &Line<A>, header: Header, order: bool) -
     words_end(text_of_line(line), part_of_new(header, order))
 }
 
-// The list that it is put last in. Without a `|` an order-only one follows the normal ones.
+// The list in which a new prerequisite goes last. Without a `|`, an order-only one follows the
+// normal ones.
 fn part_of_new(header: Header, order: bool) -> Span
     requires { (order_only_span header).start ≤ header.head_end }
     ensures { result ≡ part_of_new order header }
@@ -109,7 +110,7 @@ fn part_of_new(header: Header, order: bool) -> Span
     }
 }
 
-// Where the last word of a part of a text ends; the start of the part where it has none.
+// Where the last word of a part of a text ends; the start of the part if it has no word.
 fn words_end(text: &[u8], span: Span) -> usize
     requires rises { span.start ≤ span.end }
     requires within { span.end ≤ length text.now }
@@ -122,7 +123,8 @@ fn words_end(text: &[u8], span: Span) -> usize
     span.start + end
 }
 
-/// What is written before a new prerequisite: a space, or a `|` where it needs one.
+/// What is written before a new prerequisite: a space; or a `|` between two spaces, if the line
+/// needs one.
 pub fn before_new(header: Header, order: bool) -> &'static [u8]
     ensures { result.now ≡ before_new order header }
 {
@@ -133,7 +135,8 @@ pub fn before_new(header: Header, order: bool) -> &'static [u8]
     }
 }
 
-/// What is written after a new prerequisite at a place: a space where a `|` would follow it directly.
+/// What is written after a new prerequisite at a place: a space if a `|` would follow it directly,
+/// and otherwise nothing.
 pub fn after_new(header: Header, order: bool, place: usize) -> &'static [u8]
     ensures { result.now ≡ after_new order place header }
 {
@@ -144,7 +147,7 @@ pub fn after_new(header: Header, order: bool, place: usize) -> &'static [u8]
     }
 }
 
-/// How many bytes longer a line gets by a new prerequisite.
+/// How many bytes a new prerequisite adds to a line.
 pub fn len_of_new<A: Allocator>(line: &Line<A>, header: Header, order: bool, word: &[u8]) -> usize
     requires { HasHeader (line_view line.now) header }
     ensures { result ≡ length (new_text order (place_of_new order (text_of_line (line_view line.now)) header) word.now header) }
@@ -153,11 +156,11 @@ pub fn len_of_new<A: Allocator>(line: &Line<A>, header: Header, order: bool, wor
     before_new(header, order).len() + word.len() + after_new(header, order, place).len()
 }
 
-/// The line with a new prerequisite. Its bytes are taken at once.
+/// The line with a new prerequisite. All memory is taken at once.
 ///
 /// # Errors
 ///
-/// Where there is no memory for it.
+/// [`AllocError`] if there is no memory for it.
 pub fn with_prerequisite<A: Allocator + Copy>(
     alloc: A,
     line: &Line<A>,
@@ -186,14 +189,14 @@ pub fn with_prerequisite<A: Allocator + Copy>(
     Ok(bytes)
 }
 
-// ---- one less
+// ---- a prerequisite taken out
 
-/// The line without a prerequisite, wherever it stands in either list, each with the blanks and folds
-/// directly before it. Its bytes are taken at once.
+/// The line without a prerequisite: the word goes wherever it stands in the two lists, each time
+/// with the blanks and folds directly before it. All memory is taken at once.
 ///
 /// # Errors
 ///
-/// Where there is no memory for it.
+/// [`AllocError`] if there is no memory for it.
 pub fn without_prerequisite<A: Allocator + Copy>(
     alloc: A,
     line: &Line<A>,
@@ -227,8 +230,8 @@ pub fn without_prerequisite<A: Allocator + Copy>(
     Ok(bytes)
 }
 
-// Puts the raw bytes of a part of a line after some bytes, without the words that are this one, each
-// with what stands between it and the word before it.
+// Puts the raw bytes of a part of a line after some bytes, without each word that is this one and
+// what stands between it and the word before it.
 fn put_without<A: Allocator>(
     bytes: &mut Vec<u8, A>,
     line: &Line<A>,

@@ -9,8 +9,8 @@ use mk_lines::split::Span;
 use mk_tree::Line;
 use std::alloc::{AllocError, Allocator};
 
-/// Where the value of an assignment's line stands among its bytes, or the value with the blanks and
-/// folds after it.
+/// Where the value of an assignment's line stands among its bytes, with the blanks and folds after
+/// it if `with_blanks` says so.
 pub fn value_range<A: Allocator>(line: &Line<A>, with_blanks: bool) -> Span
     requires { IsClassed (line_view line.now) }
     ensures { result ≡ value_range_placed with_blanks (line_view line.now) }
@@ -28,12 +28,11 @@ pub fn value_range<A: Allocator>(line: &Line<A>, with_blanks: bool) -> Span
     }
 }
 
-/// Bytes with a range of them replaced, in memory of their own. It takes as much as they need, at
-/// once.
+/// Bytes with a range of them replaced, in memory of their own. All memory is taken at once.
 ///
 /// # Errors
 ///
-/// [`AllocError`] where the memory was refused.
+/// [`AllocError`] if the memory was refused.
 pub fn with_replaced<A: Allocator>(
     alloc: A,
     bytes: &[u8],

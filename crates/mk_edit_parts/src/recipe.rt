@@ -17,13 +17,14 @@ use std::alloc::Allocator;
 /// Where the recipe of a rule ends.
 #[derive(Clone, Copy)]
 pub struct Recipe {
-    /// The place after its last recipe line, or after the header where it has none.
+    /// The place after the last recipe line of the rule, or after the header if the rule has no
+    /// recipe line.
     pub end: usize,
     /// Whether a line of a conditional stands between the header and the last recipe line.
     pub is_split: bool,
 }
 
-/// Where the recipe of the header ends that stands before a place.
+/// Where the recipe of a header ends. The header stands directly before the place `from`.
 pub fn recipe_below<A: Allocator>(doc: &Doc<A>, from: usize) -> Recipe
     requires faithful { IsFaithful doc.now }
     requires in_range { from ≤ length doc.now }
@@ -52,7 +53,8 @@ pub fn recipe_below<A: Allocator>(doc: &Doc<A>, from: usize) -> Recipe
     recipe
 }
 
-/// The place of the recipe line of a number, from 1, of the header that stands before a place.
+/// The place of a header's recipe line, by its number from 1. The header stands directly before the
+/// place `from`.
 pub fn recipe_line<A: Allocator>(doc: &Doc<A>, from: usize, number: u32) -> Option<usize>
     requires faithful { IsFaithful doc.now }
     requires in_range { from ≤ length doc.now }
@@ -73,7 +75,7 @@ pub fn recipe_line<A: Allocator>(doc: &Doc<A>, from: usize, number: u32) -> Opti
     None
 }
 
-// Whether a line of this class is one of a recipe.
+// Whether a line of this class is a recipe line.
 fn is_recipe(class: &Class) -> bool
     ensures { result ≡ is_recipe_places class.now }
 {

@@ -15,12 +15,12 @@ use mk_lines::words;
 use mk_tree::Line;
 use std::alloc::{AllocError, Allocator};
 
-/// The bytes of a line with the words that are `from` replaced by `to`, where a rename replaces words.
-/// The caller says how many bytes there will be, so that room is taken once.
+/// The bytes of a line in which a rename replaces the words that are `from` by `to`. The caller
+/// says how many bytes there will be, so that room is taken once.
 ///
 /// # Errors
 ///
-/// Where there is no memory for them.
+/// [`AllocError`] if there is no memory for them.
 pub fn renamed_bytes<A: Allocator + Copy>(
     alloc: A,
     line: &Line<A>,
@@ -43,8 +43,8 @@ pub fn renamed_bytes<A: Allocator + Copy>(
     Ok(bytes)
 }
 
-// Writes a line from a place up to the end of the last word of a part that is replaced, and tells this
-// end, or the place where there is none.
+// Writes a line from a place up to the end of the last word of a part that is replaced, and answers
+// this end; if no word is replaced, it writes nothing and answers the place.
 fn write_part<A: Allocator + Copy>(
     bytes: &mut Vec<u8, A>,
     line: &Line<A>,
@@ -68,7 +68,7 @@ fn write_part<A: Allocator + Copy>(
     Ok(done)
 }
 
-// Writes a line from a place up to a word, and in the place of the word the new one.
+// Writes a line from a place up to a word, and then the new word.
 fn write_word<A: Allocator>(
     bytes: &mut Vec<u8, A>,
     line: &[u8],

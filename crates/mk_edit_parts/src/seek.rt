@@ -20,7 +20,7 @@ use std::alloc::Allocator;
 pub struct Found {
     /// How many lines stand before it.
     pub at: usize,
-    /// What these lines leave.
+    /// The context that these lines leave.
     pub context: Context,
 }
 
@@ -29,7 +29,8 @@ pub struct Found {
 pub struct Sought {
     /// How many of the lines the address may mean.
     pub count: usize,
-    /// Where the one of its number stands, or the first where it has no number.
+    /// Where the line of the address's number stands, or the first line if the address has no
+    /// number.
     pub found: Option<Found>,
     /// Whether one of the lines sets the recipe prefix in a way that is not read.
     pub has_unread_prefix: bool,
@@ -37,8 +38,8 @@ pub struct Sought {
     pub end: Found,
 }
 
-/// What a document has for an address: how many lines it may mean, and where the one of its number
-/// stands. It reads no line anew and takes no memory.
+/// What a document has for an address: how many lines it may mean, and where the line of its number
+/// stands. The call reads no line anew and takes no memory.
 pub fn seek<A: Allocator>(doc: &Doc<A>, address: Option<Address>) -> Sought
     requires { IsFaithful doc.now }
     ensures { IsSought (classed_lines (placed_text doc.now)) (address_seen address.entry) result }
@@ -70,7 +71,7 @@ fn nothing_seen() -> Sought
     }
 }
 
-// What it has seen after one more line.
+// What a walk has seen after one more line.
 fn noted(is_meant: bool, is_unread: bool, wanted: usize, class: &Class, sought: Sought) -> Sought
     requires few { sought.end.at < 2 ^ 24 }
     requires no_more { sought.count ≤ sought.end.at }
@@ -108,7 +109,7 @@ fn may_mean<A: Allocator>(address: Option<Address>, line: &Line<A>, class: &Clas
     }
 }
 
-// The number that is sought, from 1: the first where none is given.
+// The number that is sought, from 1; 1 if the address has no number.
 fn wanted(address: Option<Address>) -> usize
     ensures { result ≡ wanted (address_seen address.entry) }
 {

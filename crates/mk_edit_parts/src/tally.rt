@@ -16,15 +16,15 @@ use std::alloc::Allocator;
 /// A count of words that a rename replaces.
 #[derive(Clone, Copy)]
 pub struct Tally {
-    /// How many there are.
+    /// How many words there are.
     pub words: usize,
-    /// How many bytes they have in the line as it stands.
+    /// How many bytes the words have in the line as it stands.
     pub bytes: usize,
-    /// Whether one of them stands at the very front of the line.
+    /// Whether one of the words stands at the very front of the line.
     pub at_front: bool,
 }
 
-/// The words of a line that are this one, counted where a rename replaces them. Takes no memory.
+/// Counts the words of a line that are `from`, where a rename replaces words. Takes no memory.
 pub fn count_words<A: Allocator>(line: &Line<A>, class: &Class, from: &[u8]) -> Tally
     requires classed { IsClassed (line_view line.now) }
     requires class { class.now ≡ (line_view line.now).class }
@@ -43,7 +43,7 @@ pub fn count_words<A: Allocator>(line: &Line<A>, class: &Class, from: &[u8]) -> 
     count_in_part(line, parts.order_only, from, normal)
 }
 
-// The count with the words of a part that are this one.
+// The count with the words of a part added that are `from`.
 fn count_in_part<A: Allocator>(line: &Line<A>, span: Span, from: &[u8], tally: Tally) -> Tally
     requires within { IsWithin (length (line_cells (line_view line.now).bytes)) span }
     requires few { tally.words + length (part_places (line_cells (line_view line.now).bytes) from.now span) < 2 ^ 32 }
@@ -57,7 +57,7 @@ fn count_in_part<A: Allocator>(line: &Line<A>, span: Span, from: &[u8], tally: T
     tally
 }
 
-// The count with one more word, where there is one.
+// The count with one more word, if there is one.
 fn counted(tally: Tally, place: Option<Span>) -> Tally
     requires few { tally.words < 2 ^ 32 }
     requires few_bytes { tally.bytes + bytes_in (before_places place []) ≤ 2 ^ 32 }

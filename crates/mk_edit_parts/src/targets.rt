@@ -9,8 +9,8 @@ use crate::line_test::has_target;
 use mk_tree::Doc;
 use std::alloc::Allocator;
 
-/// Whether a word is a target of some header or assignment for targets of a document. It walks over
-/// the kept lines, reads none anew and takes no memory.
+/// Whether a word is a target of some header or of some assignment for targets of a document. The
+/// call walks over the kept lines, reads no line anew and takes no memory.
 pub fn is_a_target<A: Allocator>(doc: &Doc<A>, word: &[u8]) -> bool
     requires { IsFaithful doc.now }
     ensures { result ≡ is_a_target (classed_lines (placed_text doc.now)) word.now }

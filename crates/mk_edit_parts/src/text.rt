@@ -20,7 +20,7 @@ pub fn is_prefix_name(name: &[u8]) -> bool
     is_same_text(name, b".RECIPEPREFIX")
 }
 
-/// Whether a word is one of a text's.
+/// Whether a word is one of the words of a text.
 pub fn has_word(text: &[u8], word: &[u8]) -> bool
     ensures { result ≡ is_one_of word.now (words_in text.now) }
 {

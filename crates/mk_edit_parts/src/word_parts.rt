@@ -12,8 +12,8 @@ use mk_lines::split::Span;
 use mk_tree::Line;
 use std::alloc::Allocator;
 
-/// The parts of a line's joined text in which a rename replaces words. A line that has no such part
-/// has empty ones.
+/// The parts of a line's joined text in which a rename replaces words. A part that a line does not
+/// have is empty.
 #[derive(Clone, Copy)]
 pub struct WordParts {
     /// The targets, of a rule or of an assignment for targets.
@@ -24,14 +24,14 @@ pub struct WordParts {
     pub order_only: Span,
 }
 
-/// The parts of a line, whose class the caller has at hand.
+/// The parts of a line. The caller has the class of the line at hand.
 pub fn parts_of<A: Allocator>(line: &Line<A>, class: &Class) -> WordParts
     requires classed { IsClassed (line_view line.now) }
     requires class { class.now ≡ (line_view line.now).class }
     ensures parts { result ≡ word_parts class.now }
     ensures within { ArePartsWithin (length (line_cells (line_view line.now).bytes)) result }
 {
-    // No text is so long that the place after its end is no number.
+    // The length of a text is bounded, so the place after its end is a number.
     let _text = text_of_line(line);
     let none = Span { start: 0, end: 0 };
     match class {
@@ -69,8 +69,8 @@ pub fn parts_of<A: Allocator>(line: &Line<A>, class: &Class) -> WordParts
     }
 }
 
-/// The raw range of a word of a line, where the word is this one. The range of the word in the joined
-/// text begins at a place, the start of its part.
+/// The raw range of a word of a line, if the word is `wanted`. The range of the word in the joined
+/// text counts from the start of its part.
 pub fn place_of_word<A: Allocator>(
     line: &Line<A>,
     part_start: usize,

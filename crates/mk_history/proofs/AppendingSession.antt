@@ -1,5 +1,5 @@
--- A session that the rows speak of: an edit puts a number at the end of the text, and is refused where it is less than the
--- text's length.
+-- A session that the rows use: an edit puts a number at the end of the text. It is refused if the number is less than the text's
+-- length.
 use Rattle.std.specs.Prelude.{ℕ, nat_lt, if◌then◌else◌, List, [], ◌∷◌, ◌++◌, length, Result, Ok, Err}
 use Rattle.mk_history.specs.Machine.{Command, Refusal, EditRefused, NothingToUndo, NothingToRedo, GroupOpen, NoGroup, Machine, opened, answer, next, after_calls}
 use Rattle.mk_history.specs.Shown.{Shown, shown}
@@ -7,7 +7,7 @@ use Rattle.mk_history.specs.Shown.{Shown, shown}
 abbrev append : ℕ → List ℕ → Result (List ℕ) ℕ
 append e t = if nat_lt e (length t) then Err 14 else Ok (t ++ e ∷ [])
 
--- 0 where a call is done, 14 where the edit is refused, and else the number of the refusal
+-- 0 if a call is done, 14 if the edit is refused, and otherwise the number of the refusal
 abbrev reply_number : {X : Type 0} → Result X (Refusal ℕ) → ℕ
 reply_number (Ok x) = 0
 reply_number (Err (EditRefused r)) = r

@@ -1,5 +1,4 @@
--- Sessions with the answers of independent programs: what each call replies (0 where it is done), and what is seen at the
--- end.
+-- Sessions with the answers of independent programs: what each call replies (0 if it is done), and what is seen at the end.
 use Rattle.std.proofs.Common.{◌≡◌, refl, [], ◌∷◌}
 use Rattle.std.specs.Prelude.{Some, None}
 use Rattle.mk_history.specs.Machine.{Apply, Undo, Redo, Begin, End, Cancel}

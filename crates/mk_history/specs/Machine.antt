@@ -1,7 +1,7 @@
--- The session machine: a text, the edits that stand, those that were undone, and what each call answers.
+-- The session machine: a text, the edits that stand, the edits that were undone, and what each call answers.
 use Rattle.std.specs.Prelude.{ℕ, ◌+◌, ◌-◌, max, nat_lt, if◌then◌else◌, List, [], ◌∷◌, ◌++◌, length, fold, Option, Some, None, Result, Ok, Err}
 
--- the calls of a session, E being its edits
+-- the calls of a session; E are its edits
 pub data Command (E : Type 0) : Type 0 where
   Apply : E → Command E
   Undo : Command E
@@ -10,7 +10,7 @@ pub data Command (E : Type 0) : Type 0 where
   End : Command E
   Cancel : Command E
 
--- why a call is refused: for a cause R of its edit, or for one of the session
+-- why a call is refused: for a cause R of its edit, or for a cause of the session
 pub data Refusal (R : Type 0) : Type 0 where
   EditRefused : R → Refusal R
   NothingToUndo : Refusal R
@@ -18,9 +18,9 @@ pub data Refusal (R : Type 0) : Type 0 where
   GroupOpen : Refusal R
   NoGroup : Refusal R
 
--- The first text; the members that stand, the newest in front; those that were undone, the one to be redone first in
--- front; how many of the oldest members can't be undone; and the edits of the open group, in the order in which they were
--- made. A member is one edit that was made outside a group, or those of a group that was ended.
+-- The first text; the members that stand, the newest in front; the members that were undone, the next to be redone in front; how
+-- many of the oldest members can't be undone; and the edits of the open group, in the order in which they were made. A member is
+-- one edit that was made outside a group, or the edits of a group that was ended.
 pub record Machine (E T : Type 0) : Type 0 where
   pub first : T
   pub done : List (List E)
@@ -33,7 +33,7 @@ module _ {E T : Type 0} where
   abbrev pub opened : T → Machine E T
   opened t = record { first = t; done = []; undone = []; floor = 0; group = None }
 
-  -- a member more stands, and where there are more than the depth, one more of the oldest can't be undone
+  -- one member more stands; if more members stand than the depth, one more of the oldest can't be undone
   abbrev pub closed : (depth : ℕ) → List E → Machine E T → Machine E T
   closed depth es m = record m { done = es ∷ m.done; floor = max m.floor (length m.done + 1 - depth) }
 
@@ -44,13 +44,13 @@ module _ {E T : Type 0} where
     | Some es ↦ record m { undone = []; group = Some (es ++ e ∷ []) }
   ]
 
-  -- the group was ended; an empty one leaves no member
+  -- the group was ended; a group without edits leaves no member
   abbrev ended : (depth : ℕ) → List E → Machine E T → Machine E T
   ended depth [] m = record m { group = None }
   ended depth (e ∷ es) m = closed depth (e ∷ es) (record m { group = None })
 
 module _ {E T R : Type 0} where
-  -- the newest member is undone, if it is not among those that can't be
+  -- the newest member is undone, unless it is one of those that can't be undone
   abbrev stepped_back : Machine E T → List (List E) → Result (Machine E T) (Refusal R)
   stepped_back m [] = Err NothingToUndo
   stepped_back m (es ∷ done) = if nat_lt m.floor (length (es ∷ done)) then Ok (record m { done = done; undone = es ∷ m.undone }) else Err NothingToUndo
@@ -60,7 +60,7 @@ module _ {E T R : Type 0} where
   stepped_forward m [] = Err NothingToRedo
   stepped_forward m (es ∷ undone) = Ok (record m { done = es ∷ m.done; undone = undone })
 
--- `act` is what an edit makes of a text, or why it is refused.
+-- `act` is what an edit makes of a text, or why the edit is refused.
 module _ {E T R : Type 0} (act : E → T → Result T R) where
   -- a text after an edit, and after edits in turn
   abbrev pub edited : T → E → T
@@ -74,15 +74,15 @@ module _ {E T R : Type 0} (act : E → T → Result T R) where
   text_of t [] = t
   text_of t (es ∷ done) = replay (text_of t done) es
 
-  -- the text of the members that stand, which is that at the beginning of the group where one is open
+  -- the text of the members that stand; if a group is open, that is the text at its beginning
   abbrev pub settled : Machine E T → T
   settled m = text_of m.first m.done
 
-  -- the text
+  -- the text, after the edits of the open group too
   abbrev pub text : Machine E T → T
   text m = elim m.group [ None ↦ settled m | Some es ↦ replay (settled m) es ]
 
-  -- what a call answers: the machine after it, or why it is refused, which leaves the machine
+  -- what a call answers: the machine after it; or why it is refused, and then the machine stays as it is
   abbrev pub answer : (depth : ℕ) → Command E → Machine E T → Result (Machine E T) (Refusal R)
   answer depth (Apply e) m = elim (act e (text m)) [ Ok new ↦ Ok (accepted depth e m) | Err r ↦ Err (EditRefused r) ]
   answer depth Undo m = elim m.group [ Some es ↦ Err GroupOpen | None ↦ stepped_back m m.done ]

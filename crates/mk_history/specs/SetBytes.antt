@@ -1,4 +1,4 @@
--- A text of bytes that edits set one at a time: the session that the tests of this crate speak of.
+-- A text of bytes that edits set one at a time: the session that this crate's tests use.
 use Rattle.std.specs.Prelude.{ℕ, List, Result, Ok, slice_set}
 use Rattle.mk_history.specs.Machine.{Command, Refusal}
 use Rattle.mk_history.specs.Shown.{Shown, shown_answer}

@@ -4,10 +4,10 @@ use Rattle.mk_history.specs.Chain.{IsChain, states}
 use Rattle.mk_history.specs.Stacks.{Stacks, Several, FitInTurn, after_in_turn}
 use Rattle.mk_history.specs.Machine.{Command, Apply, Undo, Redo, Begin, End, Cancel, Refusal, EditRefused, NothingToUndo, NothingToRedo, GroupOpen, NoGroup, Machine, text, settled, text_of, replay}
 
--- The depth; the text; the texts that undoing leads back through, and those that redoing leads through, the nearest of
--- each first; and where a group is open, the text at its beginning and how many edits it has. Without this number what
--- `end` leads to could not be told: a group whose edits gave the text of its beginning again leaves a member, an empty
--- one leaves none.
+-- The depth; the text; the texts that undoing leads back through, and the texts that redoing leads through, with the nearest text
+-- of each list first; and, if a group is open, the text at its beginning and the number of its edits. Without this number it
+-- could not be told what `end` leads to: a group whose edits gave the text of its beginning again leaves a member, and a group
+-- without edits leaves none.
 pub record Shown (T : Type 0) : Type 0 where
   pub depth : ℕ
   pub text : T
@@ -23,7 +23,7 @@ shown_opened depth t = record { depth = depth; text = t; back = []; forward = []
 -- ---- what is seen of a machine
 
 module _ {E T R : Type 0} (act : E → T → Result T R) where
-  -- the texts before each of the members, the newest first
+  -- the texts before each of the members, with the newest member first
   abbrev pub texts_before : T → List (List E) → List T
   texts_before t [] = []
   texts_before t (es ∷ done) = text_of act t done ∷ texts_before t done
@@ -46,14 +46,14 @@ module _ {E T R : Type 0} (act : E → T → Result T R) where
 -- ---- the calls, on what is seen
 
 module _ {T : Type 0} where
-  -- an edit was accepted, outside a group and in one
+  -- what is seen after an accepted edit, outside a group and in one
   abbrev pub shown_edited : (new : T) → Shown T → Shown T
   shown_edited new s = elim s.begun [
     | None ↦ record s { text = new; back = take s.depth (s.text ∷ s.back); forward = [] }
     | Some b ↦ record s { text = new; forward = []; pending = s.pending + 1 }
   ]
 
-  -- the group was ended
+  -- what is seen after the end of a group
   abbrev pub shown_ended : (begun : T) → (pending : ℕ) → Shown T → Shown T
   shown_ended b zero s = record s { begun = None; pending = 0 }
   shown_ended b (suc n) s = record s { back = take s.depth (b ∷ s.back); begun = None; pending = 0 }
@@ -68,7 +68,7 @@ module _ {T R : Type 0} where
   shown_forward s (t ∷ ts) = Ok (record s { text = t; back = s.text ∷ s.back; forward = ts })
 
 module _ {E T R : Type 0} (act : E → T → Result T R) where
-  -- what a call answers, and is seen after it
+  -- what a call answers, and what is seen after it
   abbrev pub shown_answer : Command E → Shown T → Result (Shown T) (Refusal R)
   shown_answer (Apply e) s = elim (act e s.text) [ Ok new ↦ Ok (shown_edited new s) | Err r ↦ Err (EditRefused r) ]
   shown_answer Undo s = elim s.begun [ Some b ↦ Err GroupOpen | None ↦ shown_back s s.back ]
@@ -79,7 +79,7 @@ module _ {E T R : Type 0} (act : E → T → Result T R) where
 
 -- ---- what is seen of a state with its history
 
--- No group is open. `text` is the text that a state shows.
+-- What is seen if no group is open. `text` is the text that a state shows.
 abbrev pub shown_history : {C S T : Type 0} → (after : C → S → S) → (text : S → T) → Stacks C → S → Shown T
 shown_history after text h state = record {
   depth = h.depth;
@@ -90,8 +90,8 @@ shown_history after text h state = record {
   pending = 0;
 }
 
--- A group may be open. Its changes take back what was done in it, the newest first, so they lead to the state at its
--- beginning, whose history this is.
+-- What is seen if a group may be open. The group's changes take back what was done in it, the newest first, so they lead to the
+-- state at its beginning. The history is the history of that state.
 abbrev pub shown_session : {C S T : Type 0} → (after : C → S → S) → (text : S → T) → Stacks (Several C)
     → (group : Option (Several C)) → S → Shown T
 shown_session after text h None state = shown_history (after_in_turn after) text h state
@@ -99,8 +99,8 @@ shown_session after text h (Some g) state =
     let begun = after_in_turn after g state in
     record (shown_history (after_in_turn after) text h begun) { text = text state; begun = Some (text begun); pending = length g.changes }
 
--- What a session keeps. The history's lists are chains from the state, or from that at the beginning of the open group, to
--- which the group's changes are a chain; and once the group has a change, nothing can be redone.
+-- What a session keeps fits together. The history's lists are chains from the state, or, if a group is open, from the state at
+-- its beginning, to which the group's changes are a chain. Once the group has a change, nothing can be redone.
 abbrev pub IsConsistent : {C S : Type 0} → (fits : C → S → Type 0) → (after : C → S → S) → Stacks (Several C)
     → (group : Option (Several C)) → S → Type 0
 IsConsistent fits after h None state =

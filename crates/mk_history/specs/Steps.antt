@@ -7,15 +7,15 @@ pub data Reply (R : Type 0) : Type 0 where
   Refused : R → Reply R
   NoMemory : Reply R
 
--- `answer` is what a call makes of a state, or why it is refused.
+-- `answer` is what a call makes of a state, or why the call is refused.
 module _ {C X R : Type 0} (answer : C → X → Result X R) where
-  -- a call with its reply leads from a state to a state; where it is refused or finds no memory, nothing changes
+  -- a call with its reply leads from one state to another; a call that is refused or finds no memory changes nothing
   abbrev pub IsStep : C → Reply R → X → X → Type 0
   IsStep c Granted x y = answer c x ≡ Ok y
   IsStep c (Refused r) x y = (answer c x ≡ Err r) × (y ≡ x)
   IsStep c NoMemory x y = y ≡ x
 
-  -- so do calls in turn
+  -- calls in turn lead from one state to another
   abbrev pub IsRun : List (C × Reply R) → X → X → Type 0
   IsRun [] x z = z ≡ x
   IsRun (call ∷ calls) x z = (y : X) × (IsStep call.0 call.1 x y × IsRun calls y z)

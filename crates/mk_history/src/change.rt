@@ -3,11 +3,11 @@ ghost use Rattle.std.specs.Prelude.{◌≡◌, Bool, true, IfOk, IfErr, IsOk};
 
 use mk_lines::Fault;
 
-/// A change of a state, which becomes the change that takes it back.
+/// A change of a state. Once made, it becomes the change that takes it back.
 ///
-/// A change fits some states. Made in one of them it leads to a certain state, and what it became
-/// fits that state and leads back to the first one. So a change that was made and taken back is
-/// the change to be made again.
+/// A change fits some states. Made in one of them, it leads to a certain state. What it became fits
+/// that state and leads back to the first state. So a change that was made and taken back is the
+/// change to be made again.
 pub trait Change {
     /// What is changed.
     type State;
@@ -15,7 +15,7 @@ pub trait Change {
     // The states that the change fits.
     ghost fits: { Self → Self.State → Type 0 };
 
-    // The state that it leads to.
+    // The state that the change leads to.
     ghost after: { Self → Self.State → Self.State };
 
     // Whether a change of this type is never refused.
@@ -25,8 +25,8 @@ pub trait Change {
     ///
     /// # Errors
     ///
-    /// [`Fault::NoMemory`] where a growth was refused. The change is handed back and the state is
-    /// as it was. A type of which `sure` holds is never refused.
+    /// [`Fault::NoMemory`] if a growth was refused. The change is handed back, and the state is as
+    /// it was. A change of a type that is `sure` is never refused.
     fn apply(self, state: &mut Self::State) -> Result<Self, (Self, Fault)>
         requires { fits self state.old }
         ensures after { IfOk result (λ inverse. state.new ≡ after self state.old) }

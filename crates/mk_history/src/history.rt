@@ -12,13 +12,13 @@ use thiserror::Error;
 /// The greatest depth of a history. This project's profile.
 pub const MAX_DEPTH: u32 = 10_000;
 
-/// Why nothing was undone or redone. Nothing has changed then.
+/// Why nothing was undone or redone. Nothing was changed.
 #[derive(Clone, Copy, Debug, PartialEq, Eq, Error)]
 pub enum HistoryError {
-    /// No change is left to undo, or none within the depth.
+    /// There is no change to undo, or none within the depth.
     #[error("nothing to undo")]
     NothingToUndo,
-    /// No change is left to redo.
+    /// There is no change to redo.
     #[error("nothing to redo")]
     NothingToRedo,
     /// The change found no memory.
@@ -26,11 +26,12 @@ pub enum HistoryError {
     NoMemory,
 }
 
-/// The changes that can be undone and those that can be redone, the nearest of each first.
+/// The changes that can be undone and the changes that can be redone, with the nearest of each list
+/// first.
 ///
-/// No more than a certain number, the depth, are kept. A change of either list is the inverse of
-/// one that was made: what undoing gets back from the change goes first on what can be redone, and
-/// the other way round.
+/// At most a certain number of them, the depth, are kept. A change in either list is the inverse of
+/// a change that was made: undoing makes a change, and puts its inverse first in the list of
+/// changes that can be redone; redoing does the same the other way round.
 #[derive(Drop)]
 pub struct History<C, A: Allocator = Global> {
     done: HeapCircularBuffer<C, A>,
@@ -46,19 +47,19 @@ impl<C, A: Allocator> Model for History<C, A> {
     ghost view = { λ h.
         record { depth = h.done.capacity; done = h.done.items; undone = h.undone.items } };
 
-    // Together they are no more than the depth, so only a new change can drop one.
+    // Together they are at most as many as the depth, so only a new change can drop one.
     ghost invariant = { λ h.
         (h.undone.capacity ≡ h.done.capacity)
         × (length h.done.items + length h.undone.items ≤ h.done.capacity) };
 }
 
 impl<C: Change + Drop, A: Allocator> History<C, A> {
-    /// A history of a depth, in which nothing can be undone or redone.
+    /// A history of this depth, in which nothing can be undone or redone.
     ///
     /// # Errors
     ///
-    /// - [`Fault::BadDepth`] where the depth is not from 1 to 10,000 ([`MAX_DEPTH`]).
-    /// - [`Fault::NoMemory`] where there is no room for so many changes.
+    /// - [`Fault::BadDepth`] if the depth is not from 1 to 10,000 ([`MAX_DEPTH`]).
+    /// - [`Fault::NoMemory`] if there is no room for `depth` changes.
     pub fn new(alloc: A, depth: u32) -> Result<History<C, A>, Fault>
     where
         A: Copy,
@@ -75,10 +76,10 @@ impl<C: Change + Drop, A: Allocator> History<C, A> {
         Ok(History { done, undone })
     }
 
-    /// Notes a change that was made, by the change that takes it back. It can be undone next.
+    /// Keeps the inverse of a change that was made. It can be undone next.
     ///
-    /// Where there are more than the depth the oldest is dropped. Nothing can be redone any more.
-    /// It takes no memory.
+    /// If there are then more changes than the depth, the oldest is dropped. Nothing can be redone
+    /// any more. Takes no memory.
     pub fn push(&mut self, inverse: C)
         ensures { self.new ≡
             record self.old { done = take self.old.depth (inverse ∷ self.old.done); undone = [] } }
@@ -87,7 +88,7 @@ impl<C: Change + Drop, A: Allocator> History<C, A> {
         self.done.push_front(inverse);
     }
 
-    /// Drops all that can be redone, and leaves what can be undone. It takes no memory.
+    /// Drops all changes that can be redone, and leaves those that can be undone. Takes no memory.
     pub fn forget(&mut self)
         ensures { self.new ≡ record self.old { undone = [] } }
     {
@@ -98,9 +99,9 @@ impl<C: Change + Drop, A: Allocator> History<C, A> {
     ///
     /// # Errors
     ///
-    /// - [`HistoryError::NothingToUndo`] where there is none.
-    /// - [`HistoryError::NoMemory`] where the change was refused, which stays the next to be
-    ///   undone. A change of a type that is `sure` is never refused.
+    /// - [`HistoryError::NothingToUndo`] if no change can be undone.
+    /// - [`HistoryError::NoMemory`] if the change was refused; it stays the next to be undone. A
+    ///   change of a type that is `sure` is never refused.
     pub fn undo(&mut self, state: &mut C::State) -> Result<(), HistoryError>
         requires done { IsChain C.fits C.after self.old.done state.old }
         requires undone { IsChain C.fits C.after self.old.undone state.old }
@@ -130,13 +131,14 @@ impl<C: Change + Drop, A: Allocator> History<C, A> {
         }
     }
 
-    /// Makes the change again that was undone last and not redone since. It can be undone next.
+    /// Makes the change again that was undone last and not redone since then. It can be undone
+    /// next.
     ///
     /// # Errors
     ///
-    /// - [`HistoryError::NothingToRedo`] where there is none.
-    /// - [`HistoryError::NoMemory`] where the change was refused, which stays the next to be
-    ///   redone. A change of a type that is `sure` is never refused.
+    /// - [`HistoryError::NothingToRedo`] if no change can be redone.
+    /// - [`HistoryError::NoMemory`] if the change was refused; it stays the next to be redone. A
+    ///   change of a type that is `sure` is never refused.
     pub fn redo(&mut self, state: &mut C::State) -> Result<(), HistoryError>
         requires done { IsChain C.fits C.after self.old.done state.old }
         requires undone { IsChain C.fits C.after self.old.undone state.old }

@@ -9,15 +9,14 @@ use std::alloc::{AllocError, Allocator, Global};
 use std::marker::Model;
 
 /// Changes to be made one after the other, as one change.
-///
-/// Each of them is sure, so the whole is: none can be refused after another was made. It has room
-/// for what takes them back, so making them takes no memory. What takes the whole back has the
-/// inverses in the reverse order.
+/// Each of them is sure, so the whole is sure: no change is refused after another was made. The
+/// sequence has room for the changes that take them back, so making it takes no memory. The
+/// sequence that takes the whole back has the inverses in the reverse order.
 #[derive(Drop)]
 pub struct Sequence<C, A: Allocator = Global> {
-    // The first to be made is in front.
+    // The change to be made first is in front.
     waiting: HeapCircularBuffer<C, A>,
-    // Empty, but while the changes are made.
+    // It is empty except while the changes are made.
     taken: HeapCircularBuffer<C, A>,
 }
 
@@ -36,7 +35,7 @@ impl<C, A: Allocator> Model for Sequence<C, A> {
         × (length s.waiting.items ≤ s.taken.capacity) };
 }
 
-// Makes each change that waits, and keeps what takes it back, the last in front.
+// Makes each change that waits, and keeps the changes that take these back, with the last in front.
 fn make_all<C: SureChange + Drop, A: Allocator>(
     waiting: &mut HeapCircularBuffer<C, A>,
     taken: &mut HeapCircularBuffer<C, A>,
@@ -62,11 +61,11 @@ fn make_all<C: SureChange + Drop, A: Allocator>(
 }
 
 impl<C: SureChange + Drop, A: Allocator> Sequence<C, A> {
-    /// No change, with room for a number of them.
+    /// No change, with room for `room` changes.
     ///
     /// # Errors
     ///
-    /// Where there is no memory for so many.
+    /// [`AllocError`] if there is no memory for this room.
     pub fn with_capacity(alloc: A, room: usize) -> Result<Sequence<C, A>, AllocError>
     where
         A: Copy,
@@ -77,35 +76,35 @@ impl<C: SureChange + Drop, A: Allocator> Sequence<C, A> {
         Ok(Sequence { waiting, taken })
     }
 
-    /// How many changes it has.
+    /// How many changes it has. Takes no memory.
     pub fn len(&self) -> usize
         ensures { result ≡ length self.now.changes }
     {
         self.waiting.len()
     }
 
-    /// Whether it has no change.
+    /// Whether it has no change. Takes no memory.
     pub fn is_empty(&self) -> bool
         ensures { result ≡ (length self.now.changes == 0) }
     {
         self.waiting.is_empty()
     }
 
-    /// How many changes it has room for.
+    /// How many changes it has room for. Takes no memory.
     pub fn room(&self) -> usize
         ensures { result ≡ self.now.room }
     {
         self.waiting.capacity().min(self.taken.capacity())
     }
 
-    /// Makes room for `additional` changes more than it has.
+    /// Makes room for `additional` changes more than the sequence has.
     ///
-    /// Where there is room already it is not refused, and takes no memory. Otherwise the room is
+    /// If there is room already, the call takes no memory and is not refused. Otherwise the room is
     /// at least doubled, so that many small growths take little time together.
     ///
     /// # Errors
     ///
-    /// Where there is no memory for so many. The changes are as they were.
+    /// [`AllocError`] if there is no memory for this room. The changes are as they were.
     pub fn reserve(&mut self, additional: usize) -> Result<(), AllocError>
     where
         A: Clone,
@@ -133,7 +132,7 @@ impl<C: SureChange + Drop, A: Allocator> Sequence<C, A> {
         Ok(())
     }
 
-    /// Puts a change before the others, where there is room. It takes no memory.
+    /// Puts a change before the others. There has to be room for it. Takes no memory.
     pub fn push_front(&mut self, change: C)
         requires { length self.old.changes < self.old.room }
         ensures { self.new ≡ record self.old { changes = change ∷ self.old.changes } }
@@ -141,7 +140,7 @@ impl<C: SureChange + Drop, A: Allocator> Sequence<C, A> {
         self.waiting.push_front(change);
     }
 
-    /// Puts a change after the others, where there is room. It takes no memory.
+    /// Puts a change after the others. There has to be room for it. Takes no memory.
     pub fn push_back(&mut self, change: C)
         requires { length self.old.changes < self.old.room }
         ensures { self.new ≡ record self.old { changes = self.old.changes ++ change ∷ [] } }

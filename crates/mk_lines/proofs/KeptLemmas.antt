@@ -24,7 +24,7 @@ place_by_ends-append : (es fs : List FoldEnd) (after place : ℕ) → place_by_e
 place_by_ends-append [] fs after place = refl
 place_by_ends-append (e ∷ es) fs after place = ap (λ z. cond (nat_lt e.after after) z (e.raw_end + (e.after - after))) (place_by_ends-append es fs after place)
 
--- by one end
+-- a raw place by one fold's end
 one_end : (end after place : ℕ) (many : ℕ) → many < after → place_by_ends (record { after = many; raw_end = end } ∷ []) after place ≡ place
 one_end end after place many h = grind (arith, nat_tests)
 
@@ -45,7 +45,7 @@ before_first at (Fold r ∷ cs) after place h = one_more_first (at + length r) c
 before_first at (LfEnd r ∷ cs) after place h = one_more_first (at + length r) cs after place h (before_first (at + length r) cs after place (omega arith))
 before_first at (CrLfEnd r ∷ cs) after place h = one_more_first (at + length r) cs after place h (before_first (at + length r) cs after place (omega arith))
 
--- a place behind the first cell, where that is no byte
+-- a place behind the first cell, if that is no byte
 behind_fold : (at : ℕ) (r : List ℕ) (cs : List Cell) (n : ℕ) → n ≤ length cs → place_by_ends (fold_ends (at + length r) cs) (length cs - n) (at + length r + n) ≡ at + length r + raw_place cs n
     → place_by_ends (fold_ends (at + length r) cs ++ record { after = length cs; raw_end = at + length r } ∷ []) (suc (length cs) - suc n) (at + suc n) ≡ at + length (r ++ raw_text (take n cs))
 behind_fold at r cs n h i =
@@ -147,7 +147,7 @@ joined_text-no_ends at (CrLfEnd r ∷ cs) h = absurd (snoc-not_empty (fold_ends 
 not_ten : (b : ℕ) → (byte_kind b ≡ LineFeed → ⊥) → b ≡ 10 → ⊥
 not_ten b h e = h (ap byte_kind e)
 
--- they have no line feed
+-- the raw bytes of cells without folds have no line feed
 no_ends-no_line_feed : (at : ℕ) (cs : List Cell) → AreCells cs → fold_ends at cs ≡ [] → All (λ b. b ≡ 10 → ⊥) (raw_text cs)
 no_ends-no_line_feed at [] f h = All-nil (λ b. b ≡ 10 → ⊥)
 no_ends-no_line_feed at (Byte b ∷ cs) f h = All-cons (λ b. b ≡ 10 → ⊥) b (raw_text cs) (not_ten b f.0) (no_ends-no_line_feed (at + 1) cs f.2 h)
@@ -198,7 +198,7 @@ plain-text kept line h e =
 pub plain-count : (kept : KeptCells) (line : List ℕ) → AreCellsOf kept line → [] ≡ kept.ends → length (without_line_end line) ≡ kept.count
 plain-count kept line h e = ap length (plain-text kept line h e) ∙ (length-map (line_cells line) joined_byte ∙ sym (ap (λ k. k.count) h.same))
 
--- with folds it is the one that is kept
+-- with folds the joined text is the text that is kept
 pub folded-text : (kept : KeptCells) (line : List ℕ) → AreCellsOf kept line → (kept.ends ≡ [] → ⊥) → kept.joined ≡ joined_text (line_cells line)
 folded-text kept line h some =
     ap (λ k. k.joined) h.same ∙ kept_text-some (fold_ends 0 (line_cells line)) (line_cells line) (λ none. some (ap (λ k. k.ends) h.same ∙ none))
@@ -249,7 +249,7 @@ kept_text-none : (es : List FoldEnd) (cs : List Cell) → es ≡ [] → kept_tex
 kept_text-none [] cs h = refl
 kept_text-none (e ∷ es) cs h = cc
 
--- of a text without a line feed
+-- what is kept of a text without a line feed
 pub plain_kept : (t : List ℕ) → All (λ b. b ≡ 10 → ⊥) t → (j : List ℕ) (e : List FoldEnd) (s : Bool) → j ≡ [] → e ≡ [] → s ≡ list_any (λ b. is_stray_by (byte_kind b) (b == 0)) t
     → ◌≡◌ {A = KeptCells} (record { count = length t; joined = j; ends = e; bad_fold = false; stray = s }) (kept_cells (cells t))
 plain_kept t h j e s p q r =
@@ -266,7 +266,7 @@ plain_kept t h j e s p q r =
 pub fold_ends-some : (t : List ℕ) → (All (λ b. b ≡ 10 → ⊥) t → ⊥) → fold_ends 0 (cells t) ≡ [] → ⊥
 fold_ends-some t h none = h (subst (All (λ b. b ≡ 10 → ⊥)) (raw_text-cells t) (no_ends-no_line_feed 0 (cells t) (cells-are_cells t) none))
 
--- of a text with a line feed
+-- what is kept of a text with a line feed
 pub folded_kept : (t : List ℕ) → (All (λ b. b ≡ 10 → ⊥) t → ⊥) → (n : ℕ) (j : List ℕ) (e : List FoldEnd) (b s : Bool)
     → n ≡ length j → j ≡ joined_text (cells t) → e ≡ fold_ends 0 (cells t) → b ≡ has_bad_fold (cells t) → s ≡ list_any (λ b. is_stray_by (byte_kind b) (b == 0)) j
     → ◌≡◌ {A = KeptCells} (record { count = n; joined = j; ends = e; bad_fold = b; stray = s }) (kept_cells (cells t))

@@ -4,7 +4,7 @@ use Rattle.std.specs.Prelude.{codes}
 use Rattle.mk_lines.specs.Cells.{line_cells}
 use Rattle.mk_lines.specs.KeptCells.{kept_cells, kept_place}
 
--- without a fold neither a text nor an end is kept
+-- without a fold no text is kept and no end of a fold
 plain_line : kept_cells (line_cells (codes "X = 1\r\n")) ≡ record { count = 5; joined = []; ends = []; bad_fold = false; stray = false }
 plain_line = refl
 

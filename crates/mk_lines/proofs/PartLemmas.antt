@@ -8,7 +8,7 @@ more (part ∷ parts) zero d below = append-nil part.now
 more (part ∷ parts) (suc i) d below =
     ap (λ l. part.now ++ l) (more parts i d (omega arith)) ∙ sym (append_assoc part.now (text_of_parts (take i parts)) (get_or parts i d).now)
 
--- one more part
+-- the text of one more part
 pub text_of_parts-more : (parts : List (Bor (List ℕ))) (i : ℕ) (d : Bor (List ℕ)) → i < length parts → text_of_parts (take (i + 1) parts) ≡ text_of_parts (take i parts) ++ (get_or parts i d).now
 text_of_parts-more parts i d below = rw add-one (more parts i d below)
 

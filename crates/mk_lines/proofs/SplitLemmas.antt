@@ -33,7 +33,7 @@ no-run Backslash rest other = absurd (other refl)
 no-run Blank rest other = refl
 no-run Ordinary rest other = refl
 
--- the run of backslashes at the front of a text is odd where its length is
+-- the run of backslashes at the front of a text is odd if its length is odd
 pub odd-run : (text : List ℕ) → starts_with_odd_run text ≡ (prefix_len (λ b. b == 92) text % 2 == 1)
 odd-run [] = refl
 odd-run (b ∷ text) = go (b == 92) refl (odd-run text) where
@@ -52,7 +52,7 @@ no-feed [] (suc k) none = tt
 no-feed (b ∷ text) zero none = tt
 no-feed (b ∷ text) (suc k) none = (λ is. none 0 (omega arith) (line_feed-byte b is), no-feed text k (λ j below. none (suc j) (omega arith)))
 
--- the next place that a search gives, and where there is none
+-- the next place that a search gives, or that there is none
 module _ (test : ℕ → Bool) (text : List ℕ) where
   places-next : (n i at : ℕ) (more : List ℕ) → places_from test text i n ≡ at ∷ more → NoneBefore (Passes test text) i (i + n) at × (Passes test text at × (more ≡ places_between test text (at + 1) (i + n)))
   unfolding places_from
@@ -95,7 +95,7 @@ module _ (test : ℕ → Bool) (text : List ℕ) where
       go true p e f = cc
       go false p e f = λ k low high passes. ⊎_elim (λ same. let no : test (get_or text k 0) ≡ false = ap (λ j. test (get_or text j 0)) same ∙ p in cc) (λ other. f e k (omega arith) (omega arith) passes) (cases_eq k i)
 
--- the next line feed of a text in which those from `last` on are left
+-- the next line feed of a text; the line feeds from `last` on are still to come
 pub next-feed : (text : List ℕ) (last at : ℕ) (left more : List ℕ) → last ≤ length text → left ≡ places_between (is_byte 10) text last (length text) → left ≡ at ∷ more
     → NoneBefore (Passes (is_byte 10) text) last (length text) at × (Passes (is_byte 10) text at × (more ≡ places_between (is_byte 10) text (at + 1) (length text)))
 next-feed text last at left more within e f =
@@ -103,14 +103,14 @@ next-feed text last at left more within e f =
     subst (λ j. NoneBefore (Passes (is_byte 10) text) last j at × (Passes (is_byte 10) text at × (more ≡ places_between (is_byte 10) text (at + 1) j))) end
     (places-next (is_byte 10) text (length text - last) last at more (sym e ∙ f))
 
--- where none is left
+-- no line feed is still to come
 pub no-more-feeds : (text : List ℕ) (last : ℕ) (left : List ℕ) → last ≤ length text → left ≡ places_between (is_byte 10) text last (length text) → left ≡ [] → Nowhere (Passes (is_byte 10) text) last (length text)
 no-more-feeds text last left within e f =
     let end : last + (length text - last) ≡ length text = omega arith in
     subst (λ j. Nowhere (Passes (is_byte 10) text) last j) end (places-over (is_byte 10) text (length text - last) last (sym e ∙ f))
 
--- The text is a physical line and what follows it: the line stands before the logical lines of what follows, in one group
--- with the first of them where it is continued.
+-- The text is a physical line and what follows it: the line stands before the logical lines of what follows; if it is continued,
+-- it is in one group with the first of these.
 pub record IsFirstLine (text line after : List ℕ) : Type 0 where
   pub whole : text ≡ line ++ after
   pub some : 0 < length line
@@ -151,8 +151,8 @@ abbrev with_begun : List ℕ → List (List ℕ) → List (List ℕ)
 with_begun [] lines = lines
 with_begun (b ∷ begun) lines = onto_first (b ∷ begun) lines
 
--- The ranges of a text's lines are those so far and those of the lines that are left, of which the first has a part that
--- was read. It begins at `start`, and what was not read at `last`.
+-- The ranges of a text's lines are the ranges so far and those of the other lines. The first of the other lines begins at
+-- `start`; it was read up to `last`, and nothing from `last` on.
 pub record SplitUpTo (text : List ℕ) (spans : List Span) (start last : ℕ) : Type 0 where
   pub begun : List ℕ
   pub place : start + length begun ≡ last
@@ -172,7 +172,7 @@ with_begun-onto (b ∷ begun) line lines some = onto_first-twice (b ∷ begun) l
 pub SplitUpTo-none : (text : List ℕ) → SplitUpTo text [] 0 0
 SplitUpTo-none text = record { begun = []; place = refl; within = omega arith; ranges = refl }
 
--- one more line
+-- one line more was read
 pub SplitUpTo-line : (text : List ℕ) (spans : List Span) (start last end : ℕ) (line : List ℕ) → SplitUpTo text spans start last → IsFirstLine (drop last text) line (drop end text)
     → last ≤ end → end ≤ length text → is_continued line ≡ false → SplitUpTo text (spans ++ record { start = start; end = end } ∷ []) end end
 SplitUpTo-line text spans start last end line h first order within ends =
@@ -190,7 +190,7 @@ SplitUpTo-line text spans start last end line h first order within ends =
           ∙ sym (append_assoc spans (record { start = start; end = end } ∷ []) (piece_ranges end (logical_lines (drop end text))));
     }
 
--- a line that the next continues
+-- a line was read that the next one continues
 pub SplitUpTo-continued : (text : List ℕ) (spans : List Span) (start last end : ℕ) (line : List ℕ) → SplitUpTo text spans start last → IsFirstLine (drop last text) line (drop end text)
     → last ≤ end → end ≤ length text → is_continued line ≡ true → SplitUpTo text spans start end
 SplitUpTo-continued text spans start last end line h first order within continued =
@@ -207,7 +207,7 @@ SplitUpTo-continued text spans start last end line h first order within continue
 
 -- ---- the last line
 
--- what was read of the last line and what was not, in which no line feed is, are that line
+-- the part of the last line that was read, and the part that was not, which has no line feed, are that line
 alone : (begun rest : List ℕ) → NoLineFeed rest → 0 < length begun + length rest → with_begun begun (logical_lines rest) ≡ (begun ++ rest) ∷ []
 alone [] [] none some = absurd (omega arith)
 alone (b ∷ begun) [] none some = ap (λ l. l ∷ []) (sym (append-nil (b ∷ begun)))
@@ -233,7 +233,7 @@ SplitUpTo-last text spans start last h none some =
     let more : 0 < length h.begun + length rest = omega (arith, length-drop last text) in
     sym (h.ranges ∙ (ap (λ ls. spans ++ piece_ranges start ls) (alone h.begun rest (rest-feeds text last none) more) ∙ ap (λ e. spans ++ record { start = start; end = e } ∷ []) end))
 
--- nothing is left
+-- everything was read
 pub SplitUpTo-all : (text : List ℕ) (spans : List Span) (start last : ℕ) → SplitUpTo text spans start last → (start < length text → ⊥) → spans ≡ line_ranges text
 SplitUpTo-all text spans start last h over =
     let place = h.place in

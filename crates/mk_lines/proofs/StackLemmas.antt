@@ -56,7 +56,7 @@ prefix_len-blanks (b ∷ t) =
     go true l h = omega (arith, h)
     go false l h = refl
 
--- as a function that reads the text from a place on counts them
+-- the number of blanks, as a function that reads the text from a place on counts them
 pub counted-blanks : (text : List ℕ) (k n : ℕ) → n ≡ prefix_len (λ b. b == 32 || b == 9) (take (length text - k) (drop k text)) → n ≡ length (leading (λ b. is_blank_kind (byte_kind b)) (drop k text))
 counted-blanks text k n h =
     let w : take (length text - k) (drop k text) ≡ drop k text = ap (λ m. take m (drop k text)) (sym (length-drop k text)) ∙ take-length (drop k text) in
@@ -182,7 +182,7 @@ line_feed-fold place (Fold r ∷ cs) f e =
 
 -- ---- a line feed before blanks
 
--- where the first cell is no fold, the blanks and folds at the front are the blanks of the text
+-- if the first cell is no fold, the blanks and folds at the front are the blanks of the text
 leading-blanks : (t : List ℕ) → (top_of (cells t) ≡ top.Fold → ⊥) → leading is_blank_cell (cells t) ≡ map Byte (leading (λ b. is_blank_kind (byte_kind b)) t)
 leading-blanks [] h = refl
 leading-blanks (b ∷ t) h = go (byte_kind b) refl (cells t) (leading (λ b. is_blank_kind (byte_kind b)) t) h (λ n. leading-blanks t n)
@@ -278,7 +278,7 @@ line_feed-blanks place t h joined n m j =
     (x ∙ ends_at (place + 1 + n) q R p)
     (sym (bad_fold-after_leading (cells t)))
 
--- the same, with the parts of the stack after it
+-- a line feed before such cells, with the parts of the stack after it
 pub line_feed-pushed : (place : ℕ) (t : List ℕ) → (top_of (cells t) ≡ top.Fold → ⊥) → (n : ℕ) (cut joined : List ℕ) (ends : List FoldEnd) (bad : Bool)
     → n ≡ length (leading (λ b. is_blank_kind (byte_kind b)) t)
     → cut ≡ drop n (joined_text (cells t))
@@ -292,7 +292,7 @@ line_feed-pushed place t h n cut joined ends bad m c j e b =
 
 -- ---- a run of bytes that stand for themselves
 
--- before a byte that stands for itself each byte but a line feed does
+-- before a byte that stands for itself, each byte except a line feed stands for itself
 prepend-byte : (k : ByteKind) (b : ℕ) (cs : List Cell) → (k ≡ LineFeed → ⊥) → top_of cs ≡ top.Byte → prepend k b cs ≡ Byte b ∷ cs
 prepend-byte LineFeed b cs h e = absurd (h refl)
 prepend-byte k b (Fold r ∷ cs) h e = cc

@@ -39,7 +39,7 @@ choice P b n m l h k = go (b == n) refl
     go true e = h (eqb-true b n e)
     go false e = k (λ f. (cc ((Decides-eqb b n).1 f, e)))
 
--- what holds of the mark of a byte holds of its six and of no mark
+-- what holds for the mark of each of the six bytes, and for no mark, holds for the mark of any byte
 mark_cases : (P : Mark → Type 0) (b : ℕ) → (b ≡ 36 → P Dollar) → (b ≡ 92 → P Escape) → (b ≡ 40 → P OpenParen) → (b ≡ 41 → P CloseParen)
     → (b ≡ 123 → P OpenBrace) → (b ≡ 125 → P CloseBrace) → P Unmarked → P (byte_mark b)
 mark_cases P b d e p q r s u =
@@ -59,7 +59,7 @@ after_piece s t = drop (length (continuation (unit_step (λ b. b)) (unit_begins 
 abbrev end_state : UnitState → List ℕ → UnitState
 end_state s t = state_after (unit_step (λ b. b)) s t
 
--- between two units there is nothing of a piece left
+-- between two units nothing follows of a piece
 after_piece-between : (t : List ℕ) → after_piece Between t ≡ t
 after_piece-between t = ap (λ l. drop (length l) t) (continuation-start (unit_step (λ b. b)) (unit_begins (λ b. b)) Between (begins-always (λ b. b)) t)
 
@@ -108,7 +108,7 @@ braces = record {
     at_other zero b h k = mark_cases (λ m. next_unit_state (InBraces zero) m ≡ InBraces zero) b (λ _. refl) (λ _. refl) (λ _. refl) (λ _. refl) (λ e. absurd (h e)) (λ e. absurd (k e)) refl
     at_other (suc n) b h k = mark_cases (λ m. next_unit_state (InBraces (suc n)) m ≡ InBraces (suc n)) b (λ _. refl) (λ _. refl) (λ _. refl) (λ _. refl) (λ e. absurd (h e)) (λ e. absurd (k e)) refl
 
--- what an answer on what follows the closing bracket says of the machine
+-- what an answer about the text after the closing bracket says about the machine
 abbrev Agrees : UnitState → List ℕ → Option (List ℕ) → Type 0
 Agrees s t None = (after_piece s t ≡ []) × (is_between (end_state s t) ≡ false)
 Agrees s t (Some r) = (after_piece s t ≡ r) × (end_state s t ≡ end_state Between r)
@@ -141,7 +141,7 @@ module _ (inside : ℕ → UnitState) (opening closing : ℕ) (laws : IsReferenc
 
 -- ---- the unit at the front of a text
 
--- what an answer on what follows the first unit of a text says
+-- what an answer about the text after the first unit says
 abbrev AfterUnit : List ℕ → Option (List ℕ) → Type 0
 AfterUnit t None = (after_first_unit (λ b. b) t ≡ []) × (is_closed (λ b. b) t ≡ false)
 AfterUnit t (Some r) = (r ≡ after_first_unit (λ b. b) t) × (is_closed (λ b. b) t ≡ is_closed (λ b. b) r)
@@ -164,7 +164,7 @@ AfterUnit-parens t = after_reference 40 (InParens 0) t (after_close 40 41 0 t) r
 AfterUnit-braces : (t : List ℕ) → AfterUnit (36 ∷ 123 ∷ t) (after_close 123 125 0 t)
 AfterUnit-braces t = after_reference 123 (InBraces 0) t (after_close 123 125 0 t) refl (after_close-agrees InBraces 123 125 braces 0 t)
 
--- ---- the ranges of the units that are left
+-- ---- the ranges of the units of the rest
 
 -- the first unit and what follows it are the text
 first_unit-after : (x : ℕ) (t : List ℕ) → first_unit (λ b. b) (x ∷ t) ++ after_first_unit (λ b. b) (x ∷ t) ≡ x ∷ t
@@ -184,7 +184,7 @@ after_first_unit-shorter x t =
 end_of_first : (n a b c : ℕ) → a + b ≡ c → c ≤ n → n - c + a ≡ n - b
 end_of_first n a b c e h = omega arith
 
--- the first of the units that are left, and the others
+-- the first unit of the rest, and the other units
 units_left-first : (n x : ℕ) (t r : List ℕ) → r ≡ after_first_unit (λ b. b) (x ∷ t) → length (x ∷ t) ≤ n
     → units_left n (x ∷ t) ≡ record { start = n - length (x ∷ t); end = n - length r } ∷ units_left n r
 units_left-first n x t r e h =
@@ -238,7 +238,7 @@ after_word-step x t r h e =
     ap (λ us. concat (after_leading (λ u. not (is_gap (λ b. b) u)) us)) (units-first_unit (λ b. b) x t ∙ ap (λ z. first_unit (λ b. b) (x ∷ t) ∷ units (λ b. b) z) (sym e))
     ∙ ap (λ g. concat (cond (not g) (after_leading (λ u. not (is_gap (λ b. b) u)) (units (λ b. b) r)) (first_unit (λ b. b) (x ∷ t) ∷ units (λ b. b) r))) (first_unit-not_gap x t h)
 
--- and where a blank ends it
+-- what follows a word that a blank ends
 after_word-blank : (x : ℕ) (t : List ℕ) → is_blank_byte x ≡ true → after_word (x ∷ t) ≡ x ∷ t
 after_word-blank x t h =
     ap (λ us. concat (after_leading (λ u. not (is_gap (λ b. b) u)) us)) (units-blank x t h)
@@ -282,7 +282,7 @@ tokens-word_first x t h =
         ap (after_leading (λ u. not (is_gap (λ b. b) u))) (units-first_unit (λ b. b) x t)
         ∙ ap (λ g. cond (not g) (after_leading (λ u. not (is_gap (λ b. b) u)) (units (λ b. b) (after_first_unit (λ b. b) (x ∷ t)))) (first_unit (λ b. b) (x ∷ t) ∷ units (λ b. b) (after_first_unit (λ b. b) (x ∷ t)))) (first_unit-not_gap x t h)
 
--- the first of the words that are left, and the others
+-- the first word of the rest, and the other words
 words_left-first : (n x : ℕ) (t : List ℕ) → is_blank_byte x ≡ false → length (x ∷ t) ≤ n
     → words_left n (x ∷ t) ≡ record { start = n - length (x ∷ t); end = n - length (after_word (x ∷ t)) } ∷ words_left n (after_word (x ∷ t))
 words_left-first n x t h k =
@@ -292,7 +292,7 @@ words_left-first n x t h k =
     ap (word_token_ranges (n - length (x ∷ t))) (tokens-word_first x t h)
     ∙ ap (λ e. let s : Span = record { start = n - length (x ∷ t); end = e } in s ∷ word_token_ranges e (tokens (λ b. b) (units (λ b. b) (after_word (x ∷ t))))) m
 
--- blanks at the front of what is left change nothing
+-- blanks at the front of the rest change nothing
 words_left-blank : (n x : ℕ) (t : List ℕ) → is_blank_byte x ≡ true → length (x ∷ t) ≤ n → words_left n (x ∷ t) ≡ words_left n t
 words_left-blank n x t h k =
     let m : n - length (x ∷ t) + 1 ≡ n - length t = omega arith in
@@ -324,7 +324,7 @@ piece_ranges-count : (n : ℕ) (us : List (List ℕ)) → length (piece_ranges n
 piece_ranges-count n [] = refl
 piece_ranges-count n (u ∷ us) = ap suc (piece_ranges-count (n + length u) us)
 
--- there are no more units left than bytes
+-- the rest has no more units than the text has bytes
 pub units_left-count : (n : ℕ) (t : List ℕ) → length (units_left n t) ≤ length t
 units_left-count n t =
     omega (arith, piece_ranges-count (n - length t) (units (λ b. b) t), pieces-count (unit_step (λ b. b)) (unit_begins (λ b. b)) Between t)
@@ -344,7 +344,7 @@ tokens-count : (us : List (List ℕ)) → length (tokens (λ b. b) us) ≤ lengt
 tokens-count [] = omega arith
 tokens-count (u ∷ us) = omega (arith, before_tokens-count (is_gap (λ b. b) u) u (tokens (λ b. b) us), tokens-count us)
 
--- there are no more words left than bytes
+-- the rest has no more words than the text has bytes
 pub words_left-count : (n : ℕ) (t : List ℕ) → length (words_left n t) ≤ length t
 words_left-count n t =
     omega (
@@ -364,7 +364,7 @@ two_first (x ∷ y ∷ t) a b h e f =
     let n : suc (suc (length t)) - 2 ≡ length t = omega arith in
     rw (n, take-length t, e, f) refl
 
--- what the answer on a closing bracket says of the first unit
+-- what the answer about the text after the closing bracket says about the first unit
 abbrev IsAfterUnit : List ℕ → Option (Bor (List ℕ)) → Type 0
 IsAfterUnit s r =
     MatchOption r (after_first_unit (λ b. b) s ≡ []) (λ q. q.now ≡ after_first_unit (λ b. b) s)
@@ -386,7 +386,7 @@ IsAfterUnit-braces s r h e f k =
     let t = take (length s - 2) (drop 2 s) in
     answered s (after_close 123 125 0 t) r (subst (λ z. AfterUnit z (after_close 123 125 0 t)) (sym (two_first s 36 123 h e f)) (AfterUnit-braces t)) k
 
--- what follows the first unit, or nothing where it leaves the text open
+-- what follows the first unit; nothing if the unit leaves the text open
 pub after_unit-or_nothing : (s : List ℕ) (r : Option (Bor (List ℕ))) (q : Bor (List ℕ)) → MatchOption r (after_first_unit (λ b. b) s ≡ []) (λ z. z.now ≡ after_first_unit (λ b. b) s)
     → UnwrapsOrElse r (λ z. z.now ≡ []) q → q.now ≡ after_first_unit (λ b. b) s
 after_unit-or_nothing s None q h k = k ∙ sym h
@@ -406,7 +406,7 @@ pub after_word-at_blank : (s : List ℕ) → 1 ≤ length s → is_blank_byte (g
 after_word-at_blank [] h k = absurd (omega arith)
 after_word-at_blank (x ∷ t) h k = after_word-blank x t k
 
--- the words that are left, where blanks stand first, and then something else
+-- the words of the rest, if it begins with blanks that something follows
 pub words_left-next : (n : ℕ) (s w r : List ℕ) → w ≡ after_leading is_blank_byte s → (length w == 0) ≡ false → r ≡ after_word w → length s ≤ n → length w ≤ n
     → words_left n s ≡ record { start = n - length w; end = n - length r } ∷ words_left n r
 words_left-next n s [] r e h f k l = cc
@@ -429,9 +429,9 @@ pub after_first_unit-less : (s r : List ℕ) → r ≡ after_first_unit (λ b. b
 after_first_unit-less [] r e h = absurd (omega arith)
 after_first_unit-less (x ∷ t) r e h = omega (arith, ap length e, after_first_unit-shorter x t)
 
--- ---- the first of a text cut off
+-- ---- the first unit or word of a text, cut off
 
--- a text cut where so much of it is left as follows its first part
+-- a text cut before the part that follows its first part
 cut_after : (t u a f r : List ℕ) (n : ℕ) → u ++ a ≡ t → n ≡ length t - length a → f ≡ take n t → r ≡ drop n t → (f ≡ u) × (r ≡ a)
 cut_after t u a f r n h e i j =
     let k : n ≡ length u = omega (arith, ap length h, length-append u a) in (

@@ -35,7 +35,7 @@ recipe_continued = refl
 endef_continued : logical_lines (codes "define D\nx \\\nendef\nendef\n") ≡ codes "define D\n" ∷ codes "x \\\nendef\n" ∷ codes "endef\n" ∷ []
 endef_continued = refl
 
--- a carriage return directly before the line feed belongs to the line end, a second one does not
+-- a carriage return directly before the line feed belongs to the line end; a carriage return before that one does not
 continued_by_crlf : logical_lines (codes "a\\\r\nb\n") ≡ codes "a\\\r\nb\n" ∷ []
 continued_by_crlf = refl
 
@@ -81,7 +81,7 @@ open_bare_backslash = refl
 open_after_dollar : is_open (codes "X = a$\\\n") ≡ true
 open_after_dollar = refl
 
--- the line end of new lines is that of the first physical line, also where that line is continued
+-- the line end of new lines is that of the first physical line, even if that line is continued
 file_end_crlf : file_line_end (codes "A=\\\r\n1\nB=2\n") ≡ CrLf
 file_end_crlf = refl
 
@@ -94,7 +94,7 @@ file_end_bare = refl
 file_end_empty : file_line_end [] ≡ Lf
 file_end_empty = refl
 
--- where a line ends, for a text put after it
+-- whether a text ends a line, so that a text put after it begins a new one
 ends_by_line_feed : ends_line (codes "a \\\nb\n") ≡ true
 ends_by_line_feed = refl
 
@@ -128,7 +128,7 @@ folds_in_a_row_raws = refl
 fold_by_crlf : map raw_bytes (line_cells (codes "X = \\\r\nb")) ≡ codes "X" ∷ codes " " ∷ codes "=" ∷ codes " \\\r\n" ∷ codes "b" ∷ []
 fold_by_crlf = refl
 
--- at the end of the text nothing is continued, and the backslash stays
+-- at the end of the text no line is continued, and the backslash stays
 no_fold_at_end : joined_text (line_cells (codes "X = \\\n")) ≡ codes "X = \\"
 no_fold_at_end = refl
 
@@ -270,6 +270,6 @@ word_with_escaped_blank = refl
 words_by_tabs : words (λ b. b) (codes " b\tc ") ≡ codes "b" ∷ codes "c" ∷ []
 words_by_tabs = refl
 
--- a fold between words is a blank, one in a reference is a part of it
+-- a fold between words is a blank; a fold in a reference is a part of the reference
 words_over_fold : map raw_text (words joined_byte (line_cells (codes "a: $(a \\\n b) \\\n c\n"))) ≡ codes "a:" ∷ codes "$(a \\\n b)" ∷ codes "c" ∷ []
 words_over_fold = refl

@@ -22,7 +22,7 @@ abbrev pub has_bad_fold : List Cell → Bool
 has_bad_fold [] = false
 has_bad_fold (c ∷ cs) = (is_backslash_cell c && is_fold_first cs) || has_bad_fold cs
 
--- whether a byte of this kind is stray, `zero` saying whether it is a NUL
+-- whether a byte of this kind is stray; `zero` says whether the byte is a NUL
 abbrev pub is_stray_by : ByteKind → (zero : Bool) → Bool
 is_stray_by LineFeed z = true
 is_stray_by CarriageReturn z = true

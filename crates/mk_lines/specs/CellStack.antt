@@ -7,14 +7,14 @@ use Rattle.mk_lines.specs.declared.cells.kept.FoldEnd.{FoldEnd}
 use Rattle.mk_lines.specs.declared.cells.stack.Top.{Top}
 use Rattle.mk_lines.specs.declared.cells.stack.Top.TheVariants as top
 
--- the joined bytes, the folds' ends, the last first, what the first cell is, and whether there is a bad fold
+-- the joined bytes; the ends of the folds, the last fold first; what the first cell is; and whether there is a bad fold
 pub record CellStack : Type 0 where
   pub joined : List ℕ
   pub ends : List FoldEnd
   pub top : Top
   pub bad_fold : Bool
 
--- what the first cell is: a byte also where there is none
+-- what the first cell is; a byte too if there is no cell
 abbrev pub top_of : List Cell → Top
 top_of [] = top.Byte
 top_of (Byte b ∷ cs) = top.Byte
@@ -26,7 +26,7 @@ top_of (CrLfEnd r ∷ cs) = top.CrLf
 abbrev pub stack_of : (place : ℕ) → List Cell → CellStack
 stack_of place cs = record { joined = joined_text cs; ends = fold_ends place cs; top = top_of cs; bad_fold = has_bad_fold cs }
 
--- a stack with room for so many joined bytes more
+-- a stack with room for `room` joined bytes more
 pub record StackWithRoom : Type 0 where
   pub stack : CellStack
   pub room : ℕ

@@ -41,9 +41,9 @@ joined_text cs = map joined_byte cs
 abbrev pub is_blank_cell : Cell → Bool
 is_blank_cell c = is_blank_kind (byte_kind (joined_byte c))
 
--- A byte, by its kind, before the cells of the text after it. A line feed takes the blanks and folds after it, a carriage
--- return and then a backslash directly before it join it, and a blank joins a fold directly after it. Each other byte
--- stands for itself.
+-- A byte, by its kind, before the cells of the text after it. A line feed takes the blanks and folds that follow it. A carriage
+-- return directly before a line feed joins it, and a backslash directly before that line end joins it too. A blank joins a fold
+-- directly after it. Each other byte stands for itself.
 abbrev pub prepend : ByteKind → ℕ → List Cell → List Cell
 prepend LineFeed b cs = LfEnd (b ∷ raw_text (leading is_blank_cell cs)) ∷ after_leading is_blank_cell cs
 prepend CarriageReturn b (LfEnd r ∷ cs) = CrLfEnd (b ∷ r) ∷ cs

@@ -1,5 +1,5 @@
--- A list cut into pieces by a machine: in each state, an element begins a new piece or continues the one before it.
--- Logical lines and units are both cut so, and share the laws of such a cut.
+-- A list cut into pieces by a machine: in each state, an element begins a new piece or continues the piece before it. Logical
+-- lines and units are both cut in this way, and share the laws of such a cut.
 use Rattle.std.specs.Prelude.{Bool, if◌then◌else◌, List, [], ◌∷◌}
 
 -- the state after a list

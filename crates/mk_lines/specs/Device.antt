@@ -9,12 +9,12 @@ use Rattle.mk_lines.specs.declared.fault.Fault.TheVariants.{NoMemory, TooLong, T
 abbrev pub AppendsPrefix : Option (List ℕ) → Option (List ℕ) → List ℕ → Type 0
 AppendsPrefix old new text = (n : ℕ) × (n ≤ length text) × Appends old new (take n text)
 
--- a write of the text failed: it answered a fault, or took nothing of a text that is not empty
+-- a write of the text failed: it answered a fault, or it took no byte though the text is not empty
 abbrev pub is_refused : {E : Type 0} → Result ℕ E → List ℕ → Bool
 is_refused (Ok n) text = (n == 0) && nat_lt 0 (length text)
 is_refused (Err e) text = true
 
--- a read answered that no bytes are left: 0, for a buffer that is not empty
+-- a read answered that no bytes are left: it answered 0 for a buffer that is not empty
 abbrev pub is_end : {E : Type 0} → Result ℕ E → List ℕ → Bool
 is_end (Ok n) buf = (n == 0) && nat_lt 0 (length buf)
 is_end (Err e) buf = false
@@ -24,23 +24,23 @@ abbrev pub taken_by : {E : Type 0} → Result ℕ E → ℕ
 taken_by (Ok n) = n
 taken_by (Err e) = 0
 
--- a count that a device tells, and so many more
+-- the count that a device tells, raised by `more`
 abbrev pub count_more : Option ℕ → ℕ → Option ℕ
 count_more None more = None
 count_more (Some n) more = Some (n + more)
 
--- the count of a device: one more where something happened, and else as it was
+-- the count of a device: raised by one if something happened, and otherwise as it was
 abbrev pub count_if : Bool → Option ℕ → Option ℕ
 count_if true count = count_more count 1
 count_if false count = count
 
--- a count that starts again from 0 where something happened
+-- a count that starts again from 0 if something happened
 abbrev pub reset_if : Bool → Option ℕ → Option ℕ
 reset_if true None = None
 reset_if true (Some n) = Some 0
 reset_if false count = count
 
--- known bytes lose a front of at most so many bytes
+-- known bytes lose at most `limit` bytes at their front
 abbrev pub TakesAtMost : Option (List ℕ) → Option (List ℕ) → ℕ → Type 0
 TakesAtMost old new limit = (taken : List ℕ) × (length taken ≤ limit) × Consumes old new taken
 

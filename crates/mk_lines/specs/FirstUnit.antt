@@ -1,13 +1,13 @@
--- What a unit is: the one at the front of a text, and what of a unit leaves a text open.
+-- What a unit is: the unit at the front of a text, and which units leave a text open.
 use Rattle.std.specs.Prelude.{ℕ, ◌+◌, ◌==◌, if◌then◌else◌, Bool, true, false, not, ◌||◌, List, [], ◌∷◌, ◌++◌, length, drop}
 use Rattle.mk_lines.specs.Units.{Mark, Dollar, Escape, OpenParen, CloseParen, OpenBrace, CloseBrace, byte_mark}
 
--- the least prefix longer than `seen` that passes the test, or the whole list where none does
+-- the least prefix longer than `seen` that passes the test, or the whole list if no prefix does
 abbrev pub least_prefix_after : {A : Type 0} → (List A → Bool) → (seen : List A) → List A → List A
 least_prefix_after p seen [] = seen
 least_prefix_after p seen (x ∷ t) = if p (seen ++ x ∷ []) then seen ++ x ∷ [] else least_prefix_after p (seen ++ x ∷ []) t
 
--- the least prefix that is not empty and passes the test, or the whole list where none does
+-- the least prefix that is not empty and passes the test, or the whole list if no prefix does
 abbrev pub least_prefix : {A : Type 0} → (List A → Bool) → List A → List A
 least_prefix p t = least_prefix_after p [] t
 
@@ -45,8 +45,9 @@ module _ {A : Type 0} (byte : A → ℕ) where
   abbrev pub has_level_braces : List A → Bool
   has_level_braces t = mark_count is_open_brace t == mark_count is_close_brace t
 
-  -- a dollar, and what it takes: with `(` or `{` the reference up to the least place at which these brackets are level, or to
-  -- the end of the text where there is none; any other byte; or nothing, at the end of the text
+  -- A dollar with what it takes. Before `(` or `{` that is the reference: up to the least place at which these brackets are
+  -- level, or up to the end of the text if there is no such place. Otherwise it is the next byte, or nothing at the end of the
+  -- text.
   abbrev pub dollar_unit_at : Mark → (dollar next : A) → List A → List A
   dollar_unit_at OpenParen d x t = d ∷ least_prefix has_level_parens (x ∷ t)
   dollar_unit_at OpenBrace d x t = d ∷ least_prefix has_level_braces (x ∷ t)
@@ -57,7 +58,7 @@ module _ {A : Type 0} (byte : A → ℕ) where
   dollar_unit d [] = d ∷ []
   dollar_unit d (x ∷ t) = dollar_unit_at (byte_mark (byte x)) d x t
 
-  -- a backslash with the byte after it, unless that is a dollar or there is none
+  -- a backslash with the byte after it; alone if that byte is a dollar, or if the text ends
   abbrev pub backslash_unit_at : Mark → (backslash next : A) → List A
   backslash_unit_at Dollar b x = b ∷ []
   backslash_unit_at m b x = b ∷ x ∷ []

@@ -1,4 +1,4 @@
--- What is kept of the cells of a line beside the line itself.
+-- What is kept of the cells of a line, in addition to the line itself.
 use Rattle.std.specs.Prelude.{◌≡◌, ◌≢◌, ℕ, ◌+◌, ◌-◌, ◌^◌, ◌<◌, nat_lt, if◌then◌else◌, Bool, List, [], ◌∷◌, ◌++◌, drop, length, ◌≤◌, All, false, ⊤}
 use Rattle.std.specs.List.Sorted.{IsNonDecreasingBy}
 use Rattle.mk_lines.specs.Cells.{Cell, Byte, Fold, LfEnd, CrLfEnd, joined_text, line_cells}
@@ -16,7 +16,8 @@ fold_ends place (Fold r ∷ cs) = fold_ends (place + length r) cs ++ record { af
 fold_ends place (LfEnd r ∷ cs) = fold_ends (place + length r) cs ++ record { after = length cs; raw_end = place + length r } ∷ []
 fold_ends place (CrLfEnd r ∷ cs) = fold_ends (place + length r) cs ++ record { after = length cs; raw_end = place + length r } ∷ []
 
--- the joined text that is kept of cells with these folds: none where there is no fold, since it is the line's own text
+-- the joined text that is kept of cells with these folds: nothing if there is no fold, since the joined text is then the line's
+-- own
 abbrev pub kept_text : List FoldEnd → List Cell → List ℕ
 kept_text [] cs = []
 kept_text (e ∷ es) cs = joined_text cs
@@ -51,7 +52,7 @@ abbrev pub has_stray_kept : {A : Type 0} → Rest A → Bool
 has_stray_kept (Plain stray) = stray
 has_stray_kept (Folded f) = f.value.stray
 
--- a line that is held as one with folds has some, and its joined text begins within what is kept
+-- a line that is held as a line with folds has at least one fold, and its joined text begins within the bytes that are kept
 abbrev pub HasFoldsKept : {A : Type 0} → Rest A → Type 0
 HasFoldsKept (Plain stray) = ⊤
 HasFoldsKept (Folded f) = (f.value.ends.items ≢ []) × (f.value.first ≤ length f.value.joined.items)
@@ -71,12 +72,12 @@ pub record AreInOrder (ends : List FoldEnd) : Type 0 where
   pub rising : IsNonDecreasingBy (λ e. e.after) ends
   pub within : All (λ e. e.raw_end + e.after < 2 ^ 64) ends
 
--- the raw place of a joined one, behind which so many joined bytes stand, by the ends of folds: the fold before it that is
--- nearest tells it, and without one it is the same
+-- The raw place of a joined place that `after` joined bytes follow, by the ends of folds. The nearest fold before the place tells
+-- it; without a fold before it, the raw place is the joined place.
 abbrev pub place_by_ends : List FoldEnd → (after place : ℕ) → ℕ
 place_by_ends [] after place = place
 place_by_ends (e ∷ es) after place = if nat_lt e.after after then place_by_ends es after place else e.raw_end + (e.after - after)
 
--- the raw place of a joined one by what is kept
+-- the raw place of a joined place, by what is kept
 abbrev pub kept_place : KeptCells → ℕ → ℕ
 kept_place kept place = place_by_ends kept.ends (kept.count - place) place

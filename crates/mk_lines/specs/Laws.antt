@@ -19,17 +19,16 @@ LinesJoined = (text : List ℕ) → concat (logical_lines text) ≡ text
 abbrev pub LinesAreSingle : Type 0
 LinesAreSingle = (text line : List ℕ) (above below : List (List ℕ)) → logical_lines text ≡ above ++ line ∷ below → logical_lines line ≡ line ∷ []
 
--- Logical lines are local: where a run of lines is replaced by a text, the lines above and below stay, and those of the text
--- stand between them. The text has to end a line where lines stand below; and where the run is empty and nothing stands
--- below, so that the text is put at the end, what stands above has to end a line.
+-- Logical lines are local: if a text replaces a run of lines, the lines above and below stay, and the lines of the text stand
+-- between them. If lines stand below, the text has to end a line. If the run is empty and nothing stands below, the text is put
+-- at the end, and what stands above it has to end a line.
 abbrev pub LinesAreLocal : Type 0
 LinesAreLocal = (text new : List ℕ) (above run below : List (List ℕ)) → logical_lines text ≡ above ++ (run ++ below)
     → (run ++ below ≡ [] → EndsWhereFollowed (concat above) (logical_lines new))
     → EndsWhereFollowed new below
     → logical_lines (concat above ++ (new ++ concat below)) ≡ above ++ (logical_lines new ++ below)
 
--- The line end that new lines of a text have is that which they would have in its first logical line alone. It is LF in the empty
--- text.
+-- The line end of a text's new lines is the same as that of its first logical line taken alone. In the empty text it is LF.
 abbrev pub FileEndsAsFirstLine : Type 0
 FileEndsAsFirstLine = (text first : List ℕ) (rest : List (List ℕ)) → logical_lines text ≡ first ∷ rest → file_line_end text ≡ file_line_end first
 
@@ -39,7 +38,7 @@ FileEndsAsFirstLine = (text first : List ℕ) (rest : List (List ℕ)) → logic
 abbrev pub CellsJoined : Type 0
 CellsJoined = (line : List ℕ) → (raw_text (line_cells line) ≡ without_line_end line) × (raw_text (line_cells line) ++ line_end_bytes (line_end line) ≡ line)
 
--- the cells of a logical line are bytes and folds: its text has no line end but in its folds
+-- the cells of a logical line are bytes and folds: its text has no line end except in its folds
 abbrev pub CellsAreBytesOrFolds : Type 0
 CellsAreBytesOrFolds = (line : List ℕ) → logical_lines line ≡ line ∷ [] → NoLineEnds (line_cells line)
 
@@ -55,11 +54,11 @@ UnitsAreFirstUnits =
     (units (λ b. b) [] ≡ [])
     × ((b : ℕ) (text : List ℕ) → units (λ b. b) (b ∷ text) ≡ first_unit (λ b. b) (b ∷ text) ∷ units (λ b. b) (after_first_unit (λ b. b) (b ∷ text)))
 
--- a text is closed where no unit is a lone dollar or an unclosed reference and the last unit is no lone backslash
+-- a text is closed if no unit is a lone dollar or an unclosed reference and the last unit is not a lone backslash
 abbrev pub ClosedByUnits : Type 0
 ClosedByUnits = (text : List ℕ) → is_closed (λ b. b) text ≡ not (leaves_open (λ b. b) (units (λ b. b) text))
 
--- the units of a closed text followed by any text are its own and then that text's
+-- the units of a closed text followed by any text are its own units and then the units of that text
 abbrev pub UnitsOfClosed : Type 0
 UnitsOfClosed = (closed text : List ℕ) → is_closed (λ b. b) closed ≡ true → units (λ b. b) (closed ++ text) ≡ units (λ b. b) closed ++ units (λ b. b) text
 
@@ -85,7 +84,8 @@ RangesCut = (text : List ℕ) →
     × (map (text_at text) (unit_ranges text) ≡ units (λ b. b) text)
     × (map (text_at text) (word_ranges text) ≡ words (λ b. b) text)
 
--- a raw place cuts a line, without its line end, into the raw bytes of the cells before the place and of those from it on
+-- a raw place cuts a line, without its line end, in two: the raw bytes of the cells before the place, and those of the other
+-- cells
 abbrev pub RawPlacesCut : Type 0
 RawPlacesCut = (line : List ℕ) (place : ℕ) →
     (take (raw_place (line_cells line) place) (without_line_end line) ≡ raw_text (take place (line_cells line)))

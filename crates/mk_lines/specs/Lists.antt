@@ -11,7 +11,7 @@ abbrev pub after_leading : {A : Type 0} → (A → Bool) → List A → List A
 after_leading p [] = []
 after_leading p (x ∷ xs) = if p x then after_leading p xs else x ∷ xs
 
--- an element before what `trim_end` keeps of the rest: it goes where it passes the test and nothing is kept
+-- an element before what `trim_end` keeps of the rest: the element goes if it passes the test and nothing of the rest is kept
 abbrev pub trim_end_before : {A : Type 0} → Bool → A → List A → List A
 trim_end_before true x [] = []
 trim_end_before true x (y ∷ ys) = x ∷ y ∷ ys
@@ -22,7 +22,7 @@ abbrev pub trim_end : {A : Type 0} → (A → Bool) → List A → List A
 trim_end p [] = []
 trim_end p (x ∷ xs) = trim_end_before (p x) x (trim_end p xs)
 
--- an element before the trailing ones of the rest: it is one of them where it passes the test and the rest keeps nothing
+-- an element before the trailing ones of the rest: it is one of them if it passes the test and nothing of the rest is kept
 abbrev pub trailing_before : {A : Type 0} → Bool → A → (kept trailing : List A) → List A
 trailing_before true x [] t = x ∷ t
 trailing_before true x (y ∷ ys) t = t
@@ -38,12 +38,12 @@ abbrev pub concat : {A : Type 0} → List (List A) → List A
 concat [] = []
 concat (x ∷ xs) = x ++ concat xs
 
--- a list put in front of the first of some lists; it is a list by itself where there is none
+-- a list put in front of the first of some lists; if there are no lists, it is the only one
 abbrev pub onto_first : {A : Type 0} → List A → List (List A) → List (List A)
 onto_first x [] = x ∷ []
 onto_first x (y ∷ ys) = (x ++ y) ∷ ys
 
--- the first element, where there is one, fails the test
+-- the first element, if there is one, fails the test
 abbrev pub FirstFails : {A : Type 0} → (A → Bool) → List A → Type 0
 FirstFails p [] = Unit {0}
 FirstFails p (x ∷ xs) = p x ≡ false
@@ -53,7 +53,7 @@ abbrev pub Each : {A : Type 0} → (A → Bool) → List A → Type 0
 Each p [] = Unit {0}
 Each p (x ∷ xs) = (p x ≡ true) × Each p xs
 
--- the last element fails the test, where there is one
+-- the last element, if there is one, fails the test
 abbrev pub LastFails : {A : Type 0} → (A → Bool) → List A → Type 0
 LastFails p [] = Unit {0}
 LastFails p (x ∷ []) = p x ≡ false

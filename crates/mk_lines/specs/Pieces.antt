@@ -8,7 +8,8 @@ pub record Replacement : Type 0 where
   pub end : ℕ
   pub new : List ℕ
 
--- A text with replacements made, which rise and do not overlap; `at` is the place in the whole text at which this one begins.
+-- A text with replacements made. The replacements rise and do not overlap; `at` is the place in the whole text at which this text
+-- begins.
 abbrev pub replaced : (at : ℕ) → List ℕ → List Replacement → List ℕ
 replaced at t [] = t
 replaced at t (r ∷ rs) = take (r.start - at) t ++ (r.new ++ replaced r.end (drop (r.end - at) t) rs)
@@ -29,7 +30,7 @@ new_cells [] = []
 new_cells (Keep cs ∷ ps) = cs ++ new_cells ps
 new_cells (Replace cs v ∷ ps) = map Byte v ++ new_cells ps
 
--- their raw bytes, before and after
+-- the raw bytes of pieces, before and after
 abbrev pub old_bytes : List Piece → List ℕ
 old_bytes [] = []
 old_bytes (Keep cs ∷ ps) = raw_text cs ++ old_bytes ps
@@ -40,7 +41,7 @@ new_bytes [] = []
 new_bytes (Keep cs ∷ ps) = raw_text cs ++ new_bytes ps
 new_bytes (Replace cs v ∷ ps) = v ++ new_bytes ps
 
--- the replacements that pieces are, the first of which begins at a place of the text
+-- the replacements that pieces are; the first piece begins at the place `at` of the text
 abbrev pub replacements : (at : ℕ) → List Piece → List Replacement
 replacements at [] = []
 replacements at (Keep cs ∷ ps) = replacements (at + length (raw_text cs)) ps

@@ -4,7 +4,7 @@ use Rattle.mk_lines.specs.Lists.{concat}
 use Rattle.mk_lines.specs.Bytes.{byte_kind, is_blank_kind}
 use Rattle.mk_lines.specs.Units.{units}
 
--- a gap is a unit that is a single blank; a word is the units of a maximal run of others
+-- a gap is a unit that is a single blank; a word is a maximal run of other units
 pub data Token (A : Type 0) : Type 0 where
   Gap : List A → Token A
   Word : List (List A) → Token A
@@ -48,7 +48,7 @@ module _ {A : Type 0} (byte : A → ℕ) where
   abbrev pub words : List A → List (List A)
   words t = token_words (tokens (units byte t))
 
-  -- the units of a word: at least one, and none is a single blank
+  -- the units of a word: there is at least one, and none of them is a single blank
   abbrev pub IsWord : List (List A) → Type 0
   IsWord [] = ⊥
   IsWord (u ∷ []) = is_gap u ≡ false
@@ -60,6 +60,6 @@ module _ {A : Type 0} (byte : A → ℕ) where
   AreTokens (Gap u ∷ ts) = (is_gap u ≡ true) × AreTokens ts
   AreTokens (Word w ∷ ts) = IsWord w × (is_word_first ts ≡ false) × AreTokens ts
 
--- the words of an argument that may have several
+-- the words of an argument that may have several words
 abbrev pub words_in : List ℕ → List (List ℕ)
 words_in t = words (λ b. b) t

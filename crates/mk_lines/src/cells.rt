@@ -30,32 +30,34 @@ use std::alloc::Allocator;
 
 /// The cells of a logical line, without its line end.
 ///
-/// What is given is one logical line: [`split`](crate::split::split) of it gives one span. Of other
-/// bytes the answer is what the definition of cells says, where a line end that no backslash
-/// escapes is read as LF and is a stray byte.
+/// `line` is one logical line: [`split`](crate::split::split) of it gives one span. For other bytes
+/// the answer is what the definition of cells says: a line end that no backslash escapes is read as
+/// LF and is a stray byte.
 ///
 /// A line without folds takes no memory. The time is linear in the line's bytes.
 ///
 /// # Errors
 ///
-/// [`Fault::NoMemory`] where a line has folds, and there was no memory for its joined text, the list
-/// of its folds or the two together.
+/// [`Fault::NoMemory`] if the line has folds and there is no memory for its joined text, for the
+/// list of its folds, or for the two together.
 pub fn cells<A: Allocator + Copy>(alloc: A, line: &[u8]) -> Result<Cells<A>, Fault>
     ensures cells { IfOk result (λ kept. AreCellsOf kept line.now) }
     ensures plain { All (λ b. b ≢ 10) (without_line_end line.now) → IsOk result }
     ensures fault { IsOkUnless result Fault.NoMemory }
 {
     let text = without_line_end(line);
-    // A line feed counts as a stray byte: most lines have none of the two, and are read once.
+    // A line feed counts as a stray byte here: most lines have neither, and are read once.
     match first_stray_byte(text) {
         None => Ok(Cells::plain(text, false)),
         Some(first) => stray_cells(alloc, text, first),
     }
 }
 
-// The cells of a text whose first stray byte, as which a line feed counts, is at `first`.
+// The cells of a text whose first stray byte is at `first`. A line feed counts as a stray byte
+// here.
 //
-// Few lines come here, and this stays a call of its own: what it needs would slow the others down.
+// Few lines come here. This stays a call of its own, since inlined it would slow the other lines
+// down.
 #[inline(never)]
 fn stray_cells<A: Allocator + Copy>(alloc: A, text: &[u8], first: usize) -> Result<Cells<A>, Fault>
     requires { IsFirstByte (is_byte3 0 10 13) text.now (Some first) }

@@ -42,12 +42,12 @@ pub fn without_line_end(line: &[u8]) -> &[u8]
     }
 }
 
-/// The line end of new lines of a text: that of its first physical line, or LF where it has none.
-/// Takes no memory.
+/// The line end of a text's new lines: that of its first physical line, or LF if that line has
+/// none. Takes no memory.
 ///
-/// It reads up to the first LF, so the first logical line of a text tells it
-/// ([`laws::file_ends_as_its_first_line`](crate::laws::file_ends_as_its_first_line)). That a file's
-/// lines end as its first does is this project's profile.
+/// It reads up to the first LF, so the first logical line of a text is enough to tell it
+/// ([`laws::file_ends_as_its_first_line`](crate::laws::file_ends_as_its_first_line)). That new
+/// lines of a file end as its first line does is this project's profile.
 pub fn file_line_end(text: &[u8]) -> End
     ensures { result ≡ file_line_end text.now }
 {
@@ -61,7 +61,7 @@ pub fn file_line_end(text: &[u8]) -> End
 fn ends_with_odd_run(text: &[u8]) -> bool
     ensures { result ≡ ends_with_odd_run text.now }
 {
-    // Most texts end with no backslash, and nothing is counted there.
+    // Most texts end without a backslash, and nothing is counted then.
     match text {
         [.., b'\\'] => backslashes_after(text) % 2 == 1,
         _ => false,
@@ -75,8 +75,8 @@ fn backslashes_after(text: &[u8]) -> usize
     text.iter().rev().take_while(|byte| **byte == b'\\').count()
 }
 
-/// Whether the next physical line, where there is one, continues this one: its text before the
-/// line end closes with a run of backslashes of odd length.
+/// Whether the next physical line, if there is one, continues this one: the text of this line
+/// before its line end closes with a run of backslashes of odd length. Takes no memory.
 ///
 /// POSIX.1-2024 make, Makefile Syntax ("an escaped newline"); GNU make manual, "Splitting Long
 /// Lines". That a backslash before a backslash escapes it is what GNU make does.
@@ -86,8 +86,8 @@ pub fn is_continued(line: &[u8]) -> bool
     ends_with_odd_run(without_line_end(line))
 }
 
-/// Whether a text put after this line, the last of its text, could become a part of it: the line
-/// would be continued, or it has no line end and its last byte is a CR. Takes no memory.
+/// Whether a text put after this line, the last of its text, could become a part of it: the line is
+/// continued, or it has no line end and its last byte is a CR. Takes no memory.
 ///
 /// This project's profile: no line is added after such a line.
 pub fn is_open(line: &[u8]) -> bool

@@ -11,7 +11,8 @@ use crate::word::{after_blanks, after_word};
 use std::iter::FusedIterator;
 use std::marker::Model;
 
-/// The units of a text that are left, each as the range of its bytes. Contracts see their list.
+/// The units of a text that are not yet given, each as the range of its bytes. Contracts see their
+/// list.
 ///
 /// The function [`units`](crate::units) makes it.
 #[derive(Debug, Drop)]
@@ -61,7 +62,8 @@ impl<'a> Iterator for Units<'a> {
 
 impl<'a> FusedIterator for Units<'a> {}
 
-/// The words of a text that are left, each as the range of its bytes. Contracts see their list.
+/// The words of a text that are not yet given, each as the range of its bytes. Contracts see their
+/// list.
 ///
 /// The function [`words`](crate::words) makes it.
 #[derive(Debug, Drop)]

@@ -12,17 +12,17 @@ pub fn lines_are_single()
     ensures { LinesAreSingle }
 {}
 
-/// Logical lines are local: where a run of lines is replaced by a text, the lines above and below
-/// stay, and the lines of that text stand between them.
+/// Logical lines are local: if a text replaces a run of lines, the lines above and below stay, and
+/// the lines of that text stand between them.
 ///
-/// The run may be empty, and so may the text. The text has to end a line (it is empty, or has a
-/// line end and is not continued) where lines stand below it. Where it is put at the end of the
-/// text, what stands above it has to end a line.
+/// The run may be empty, and so may the text. If lines stand below the text, it has to end a line
+/// (it is empty, or has a line end and is not continued). If it is put at the end, what stands
+/// above it has to end a line.
 pub fn lines_are_local()
     ensures { LinesAreLocal }
 {}
 
-/// The line end that new lines of a text have is told by its first logical line alone.
+/// The first logical line of a text alone tells the line end of the text's new lines.
 pub fn file_ends_as_its_first_line()
     ensures { FileEndsAsFirstLine }
 {}
@@ -32,7 +32,7 @@ pub fn cells_joined()
     ensures { CellsJoined }
 {}
 
-/// The cells of a logical line are bytes and folds: its text has no line end but in its folds.
+/// The cells of a logical line are bytes and folds: its text has no line end except in its folds.
 pub fn cells_are_bytes_or_folds()
     ensures { CellsAreBytesOrFolds }
 {}
@@ -45,19 +45,19 @@ pub fn units_joined()
 /// What a unit is: the units of a text are its first unit and then the units of what follows it.
 ///
 /// The first unit is a reference up to the least place at which its own two brackets are level, or
-/// to the end of the text; a dollar with the byte after it; a backslash with the byte after it,
-/// unless that is a dollar; or one byte.
+/// to the end of the text if there is no such place; a dollar with the byte after it; a backslash
+/// with the byte after it, unless that is a dollar; or one byte.
 pub fn units_are_first_units()
     ensures { UnitsAreFirstUnits }
 {}
 
-/// A text is closed where no unit is a lone dollar or an unclosed reference, and the last unit is
-/// no lone backslash.
+/// A text is closed if no unit is a lone dollar or an unclosed reference, and the last unit is not
+/// a lone backslash.
 pub fn closed_by_units()
     ensures { ClosedByUnits }
 {}
 
-/// The units of a closed text followed by any text are its own and then that text's.
+/// The units of a closed text followed by any text are its own units and then those of that text.
 pub fn units_of_closed()
     ensures { UnitsOfClosed }
 {}
@@ -77,8 +77,8 @@ pub fn ranges_cut()
     ensures { RangesCut }
 {}
 
-/// A raw place cuts a line, without its line end, into the raw bytes of the cells before the place
-/// and of those from it on.
+/// A raw place cuts a line, without its line end, in two: the raw bytes of the cells before the
+/// place, and those of the other cells.
 pub fn raw_places_cut()
     ensures { RawPlacesCut }
 {}

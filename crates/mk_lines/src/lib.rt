@@ -1,9 +1,9 @@
 //! The lines of a makefile, and the devices that its bytes come from and go to.
 //!
 //! - [`fault`]: why a call gave up.
-//! - [`source`]: where bytes come from, and a whole text from there.
-//! - [`sink`]: where bytes go to, and a whole text or some parts to there.
-//! - [`split`]: a text as its lines.
+//! - [`source`]: where bytes come from, and how a whole text is read from there.
+//! - [`sink`]: where bytes go to, and how a whole text or some parts are written there.
+//! - [`split`]: the logical lines of a text.
 //! - [`ends`]: how a line ends.
 //! - [`unit`]: the units of a text, and whether it is closed.
 //! - [`word`]: the words of a text.

@@ -8,22 +8,24 @@ use std::io::{ErrorKind, Write};
 
 /// Takes bytes, a few at a time.
 pub trait ByteSink {
-    // The bytes that are out, where the sink tells them. The default tells nothing.
+    // The bytes that are out, if the sink tells them. The default tells nothing.
     ghost contents: { Self → Option (List ℕ) } = { λ _. None };
 
-    // Whether a call has answered a fault, or a write of a text that is not empty took nothing.
+    // Whether a call has answered a fault, or a write has taken no byte of a text that is not
+    // empty.
     ghost failed: { Self → Bool };
 
-    // How many flushes have succeeded, where the sink tells that. The default tells nothing.
+    // How many flushes have succeeded, if the sink tells that. The default tells nothing.
     ghost flushes: { Self → Option ℕ } = { λ _. None };
 
-    // How many bytes were taken since the last flush that succeeded, where the sink tells that.
+    // How many bytes were taken since the last flush that succeeded, if the sink tells that. The
+    // default tells nothing.
     ghost pending: { Self → Option ℕ } = { λ _. None };
 
-    /// Takes some bytes from the front of `text`, and says how many.
+    /// Takes some bytes from the front of `text`, and says how many bytes it took.
     ///
     /// The only fault is [`Fault::Write`]; a call that answers it takes no byte. A sink that takes
-    /// nothing of a text that is not empty has failed.
+    /// no byte of a text that is not empty has failed.
     fn write(&mut self, text: &[u8]) -> Result<usize, Fault>
         ensures bound { IfOk result (λ n. n ≤ length text.now) }
         ensures bytes { WriteAppends (contents self.old) (contents self.new) result text.now }
@@ -32,7 +34,8 @@ pub trait ByteSink {
         ensures flushes { flushes self.new ≡ flushes self.old }
         ensures pending { pending self.new ≡ count_more (pending self.old) (taken_by result) };
 
-    /// Passes on what was taken and is still held back. The only fault is [`Fault::Write`].
+    /// Passes on the bytes that were taken and are still held back. The only fault is
+    /// [`Fault::Write`].
     fn flush(&mut self) -> Result<(), Fault>
         ensures bytes { Keeps (contents self.old) (contents self.new) }
         ensures fault { IfErr result (λ e. e ≡ Fault.Write) }
@@ -40,16 +43,17 @@ pub trait ByteSink {
         ensures flushes { flushes self.new ≡ count_if (is_ok result) (flushes self.old) }
         ensures pending { pending self.new ≡ reset_if (is_ok result) (pending self.old) };
 
-    /// Whether a call has answered a fault, or a write of a text that is not empty took nothing.
+    /// Whether a call has answered a fault, or a write has taken no byte of a text that is not
+    /// empty.
     fn failed(&self) -> bool
         ensures { result ≡ failed self.now };
 }
 
 /// A writer of std as a sink.
 ///
-/// It tells the bytes that the writer tells, and no flushes, of which std's writers tell nothing. A
-/// write or a flush that a signal interrupted, which has taken no byte, is made again; any other
-/// error is [`Fault::Write`].
+/// It tells the bytes that the writer tells. It tells no flushes, since std's writers tell nothing
+/// of them. A write or a flush that a signal interrupted, which has taken no byte, is made again;
+/// any other error is [`Fault::Write`].
 #[derive(Drop)]
 pub struct StdSink<W> {
     inner: W,
@@ -57,7 +61,7 @@ pub struct StdSink<W> {
 }
 
 impl<W: Write> StdSink<W> {
-    /// A sink to the writer, which has not failed. It writes nothing yet.
+    /// A sink that writes to `inner` and has not failed. The call writes nothing.
     pub fn new(inner: W) -> StdSink<W>
         ensures works { result.is_failed ≡ false }
         ensures inner { result.inner ≡ inner }
@@ -112,7 +116,7 @@ impl<W: Write> ByteSink for StdSink<W> {
 ///
 /// # Errors
 ///
-/// [`Fault::Write`] where a write answered it or took nothing. A prefix of the text is out then.
+/// [`Fault::Write`] if a write answered it or took no byte. A prefix of the text is out then.
 pub fn write_all<W: ByteSink>(out: &mut W, text: &[u8]) -> Result<(), Fault>
     requires { W.failed out.old ≡ false }
     ensures whole { OnOk result (Appends (W.contents out.old) (W.contents out.new) text.now) }
@@ -136,8 +140,8 @@ pub fn write_all<W: ByteSink>(out: &mut W, text: &[u8]) -> Result<(), Fault>
 ///
 /// # Errors
 ///
-/// [`Fault::Write`] where a write answered it or took nothing. A prefix of the parts, joined, is
-/// out then.
+/// [`Fault::Write`] if a write answered it or took no byte. A prefix of the parts, joined, is out
+/// then.
 pub fn write_parts<W: ByteSink>(out: &mut W, parts: &[&[u8]]) -> Result<(), Fault>
     requires { W.failed out.old ≡ false }
     ensures whole { OnOk result (Appends (W.contents out.old) (W.contents out.new) (text_of_parts parts.now)) }

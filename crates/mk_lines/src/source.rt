@@ -15,16 +15,17 @@ pub const BUFFER: usize = 8192;
 
 /// Gives bytes, a few at a time.
 pub trait ByteSource {
-    // The bytes that are left, where the source tells them. The default tells nothing.
+    // The bytes that are not yet read, if the source tells them. The default tells nothing.
     ghost remaining: { Self → Option (List ℕ) } = { λ _. None };
 
     // Whether a call has answered a fault.
     ghost failed: { Self → Bool };
 
-    // How many reads have answered that no bytes are left, where the source tells that.
+    // How many reads have answered that no bytes are left, if the source tells that. The default
+    // tells nothing.
     ghost ends: { Self → Option ℕ } = { λ _. None };
 
-    /// Puts some of the bytes that are left at the front of `buf`, and says how many.
+    /// Puts some of the bytes that are not yet read at the front of `buf`, and says how many bytes.
     ///
     /// 0 for a `buf` that is not empty says that no bytes are left. The only fault is
     /// [`Fault::Read`]; a call that answers it moves no byte.
@@ -42,9 +43,9 @@ pub trait ByteSource {
 
 /// A reader of std as a source.
 ///
-/// It tells the bytes that the reader tells, and no ends, of which std's readers tell nothing. A
-/// read that a signal interrupted, which has moved no byte, is made again; any other error is
-/// [`Fault::Read`].
+/// It tells the bytes that the reader tells. It tells no ends, since std's readers tell nothing of
+/// them. A read that a signal interrupted, which has moved no byte, is made again; any other error
+/// is [`Fault::Read`].
 #[derive(Drop)]
 pub struct StdSource<R> {
     inner: R,
@@ -52,7 +53,7 @@ pub struct StdSource<R> {
 }
 
 impl<R: Read> StdSource<R> {
-    /// A source of the reader's bytes, which has not failed. It reads nothing yet.
+    /// A source of the bytes of `inner`, which has not failed. The call reads nothing.
     pub fn new(inner: R) -> StdSource<R>
         ensures works { result.is_failed ≡ false }
         ensures inner { result.inner ≡ inner }
@@ -86,18 +87,18 @@ impl<R: Read> ByteSource for StdSource<R> {
     }
 }
 
-/// Reads a source to its end, which gives a text of at most [`TEXT_LIMIT`] bytes.
+/// Reads a source to its end. The text has at most [`TEXT_LIMIT`] bytes.
 ///
-/// The source is left as soon as more bytes than that have come, so at most [`BUFFER`] bytes too
-/// many are taken. Once a read has answered 0 or a fault, no other is made: so one end-of-file key
-/// ends a text that is typed at a terminal.
+/// The reading stops as soon as more than [`TEXT_LIMIT`] bytes have come, so at most [`BUFFER`]
+/// bytes beyond the limit are taken. Once a read has answered 0 or a fault, no other read is made:
+/// so one end-of-file key ends a text that is typed at a terminal.
 ///
 /// # Errors
 ///
-/// - [`Fault::TooLong`] where the source has more bytes.
-/// - [`Fault::Read`] where a call of the source answered it.
-/// - [`Fault::NoMemory`] where the text could not grow. Whether more bytes would have been too
-///   many, or the source would have failed, is then not known.
+/// - [`Fault::TooLong`] if the source has more than [`TEXT_LIMIT`] bytes.
+/// - [`Fault::Read`] if a call of the source answered it.
+/// - [`Fault::NoMemory`] if the text could not grow. It is not known then whether the source has
+///   more bytes than the limit, or would have failed.
 pub fn read_all<A: Allocator, R: ByteSource>(alloc: A, source: &mut R) -> Result<Vec<u8, A>, Fault>
     requires { R.failed source.old ≡ false }
     ensures bytes { IfOk result (λ text. IfSome (R.remaining source.old) (λ bytes. text.items ≡ bytes)) }

@@ -8,25 +8,26 @@ use crate::fault::Fault;
 use memchr::memchr_iter;
 use std::alloc::Allocator;
 
-/// A stretch of a text, in bytes: from `start`, which is its first, up to `end`, which is not in it.
+/// A stretch of a text, in bytes from 0: from `start`, its first byte, up to `end`, which is not in
+/// it.
 #[derive(Clone, Copy, Debug, PartialEq, Eq)]
 pub struct Span {
     pub start: usize,
     pub end: usize,
 }
 
-/// The logical lines of a text, in order: each a physical line with all that continue it.
+/// The logical lines of a text, in order: each is a physical line with all lines that continue it.
 ///
-/// A physical line ends after each LF; the last may have none. A line is continued by the next,
-/// where there is one, if the run of backslashes directly before its line end (LF, or CR LF) has
-/// odd length. The spans follow one another and cover the text; the empty text has none.
+/// A physical line ends after each LF; the last may have none. The next line, if there is one,
+/// continues a line if the run of backslashes directly before its line end (LF, or CR LF) has odd
+/// length. The spans follow one another and cover the text; the empty text has none.
 ///
 /// POSIX.1-2024 make, Makefile Syntax ("an escaped newline"); GNU make manual, "Splitting Long
 /// Lines".
 ///
 /// # Errors
 ///
-/// [`Fault::NoMemory`] where the list could not grow.
+/// [`Fault::NoMemory`] if the list could not grow.
 pub fn split<A: Allocator>(alloc: A, text: &[u8]) -> Result<Vec<Span, A>, Fault>
     ensures lines { IfOk result (λ spans. spans.items ≡ line_ranges text.now) }
     ensures covers { IfOk result (λ spans. Tiles spans.items 0 (length text.now)) }
@@ -44,7 +45,7 @@ pub fn split<A: Allocator>(alloc: A, text: &[u8]) -> Result<Vec<Span, A>, Fault>
         }
         last = end;
     }
-    // The last line may have no line feed, or be continued by nothing.
+    // The last line may have no line feed; or its backslash continues it, and no line follows.
     if start < text.len() {
         let end = text.len();
         spans.push(Span { start, end })?;

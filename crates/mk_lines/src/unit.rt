@@ -33,7 +33,7 @@ pub fn units(text: &[u8]) -> Units<'_>
     Units::new(text)
 }
 
-/// The unit at the front of a text and what follows it, or `None` where the text is empty.
+/// The unit at the front of a text and what follows it, or `None` if the text is empty.
 ///
 /// Called again on what follows, it gives the units one after the other, as [`units`] gives their
 /// ranges. Takes no memory.
@@ -51,7 +51,7 @@ pub fn split_first_unit(text: &[u8]) -> Option<(&[u8], &[u8])>
 
 /// Whether a text is closed: what is written after it does not become part of its last unit.
 ///
-/// Not closed is a text whose last unit is an unclosed reference, a lone `$` or a lone backslash.
+/// A text is not closed if its last unit is an unclosed reference, a lone `$` or a lone backslash.
 /// The empty text is closed. The test takes time linear in the bytes of the text, and no memory.
 pub fn is_closed(text: &[u8]) -> bool
     ensures { result ≡ is_closed (λ b. b) text.now }
@@ -66,10 +66,10 @@ pub fn is_closed(text: &[u8]) -> bool
     true
 }
 
-/// What follows the first unit of a text, which is nothing where there is none.
+/// What follows the first unit of a text; nothing if the text is empty.
 ///
-/// So a text is read from its front, one unit at a time; what is left has the other units. The time
-/// is linear in the bytes of the first unit.
+/// So a text is read from its front, one unit at a time; the rest of it has the other units. The
+/// time is linear in the bytes of the first unit. Takes no memory.
 #[inline]
 pub fn after_first_unit(text: &[u8]) -> &[u8]
     ensures rest { result.now ≡ after_first_unit (λ b. b) text.now }
@@ -85,8 +85,8 @@ pub fn after_first_unit(text: &[u8]) -> &[u8]
 
 /// What follows the unit at the front of a text.
 ///
-/// It is `None` where this unit is a lone `$`, a lone backslash at the end or an unclosed
-/// reference: it runs to the end of the text then, and leaves it open.
+/// It is `None` if this unit is a lone `$`, a lone backslash at the end or an unclosed reference:
+/// such a unit runs to the end of the text, and leaves the text open.
 pub(crate) fn after_unit(text: &[u8]) -> Option<&[u8]>
     requires { 0 < length text.now }
     ensures after { MatchOption result (after_first_unit (λ b. b) text.now ≡ []) (λ rest. rest.now ≡ after_first_unit (λ b. b) text.now) }
@@ -103,8 +103,8 @@ pub(crate) fn after_unit(text: &[u8]) -> Option<&[u8]>
     }
 }
 
-/// What follows the bracket that closes a reference whose opening bracket stands before the text,
-/// and `None` where none does.
+/// What follows the bracket that closes a reference whose opening bracket stands before the text;
+/// `None` if no bracket closes it.
 fn after_close(text: &[u8], opening: u8, closing: u8) -> Option<&[u8]>
     ensures { MatchOption result (after_close opening closing 0 text.now ≡ None) (λ rest. after_close opening closing 0 text.now ≡ Some rest.now) }
 {

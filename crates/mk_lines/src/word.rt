@@ -1,10 +1,10 @@
 //! Words: the maximal runs of units that are not single blanks.
 //!
 //! A blank is a space or a tab. A blank inside a reference, as in `$(subst x y,z,w)`, or after a
-//! backslash belongs to a larger unit, and so it ends no word.
+//! backslash is a part of a larger unit, and so it ends no word.
 //!
-//! Where make cuts words it has expanded the text first; that they are cut before any expansion,
-//! by units, is this project's profile.
+//! make expands a text before it cuts words. That words are cut before any expansion, by units, is
+//! this project's profile.
 ghost use Rattle.std.specs.Prelude.{◌≡◌, ◌<◌, ◌≤◌, [], ◌∷◌, ◌++◌, length, IfSome, MatchOption};
 ghost use Rattle.mk_lines.specs.Lists.{after_leading};
 ghost use Rattle.mk_lines.specs.Ranges.{word_ranges};
@@ -26,7 +26,7 @@ pub fn words(text: &[u8]) -> Words<'_>
     Words::new(text)
 }
 
-/// The word at the front of a text, after any blanks, and what follows it, or `None` where the text
+/// The word at the front of a text, after any blanks, and what follows it; or `None` if the text
 /// has no word.
 ///
 /// Called again on what follows, it gives the words one after the other, as [`words`] gives their
@@ -59,7 +59,8 @@ pub(crate) fn after_blanks(text: &[u8]) -> &[u8]
     rest
 }
 
-/// What follows the word at the front of a text: the text from its first unit on that is a blank.
+/// What follows the word at the front of a text: the text from its first unit on that is a blank,
+/// or nothing if no unit is.
 pub(crate) fn after_word(text: &[u8]) -> &[u8]
     ensures rest { result.now ≡ after_word text.now }
     ensures within { length result.now ≤ length text.now }

@@ -5,18 +5,18 @@ use Rattle.mk_tree.specs.PlacedLines.{PlacedLine, bytes_of_line, is_conditional_
 
 -- ---- one move
 
--- a move of one line, or of the end of the last
+-- a move of one line, or of the line end of the last line
 pub data Move : Type 0 where
-  -- a line is put before the one at a place, or at the end
+  -- a line is put before the line at a place, or at the end
   PutIn : (at : ℕ) → (line : PlacedLine) → Move
   -- the line at a place is taken out
   TakeOut : (at : ℕ) → Move
   -- a line is put in the place of another
   Exchange : (at : ℕ) → (line : PlacedLine) → Move
-  -- other bytes are put in the place of the last line's, whose class stays
+  -- other bytes are put in the place of the last line's bytes; its class stays
   SwapEnd : (bytes : List ℕ) → Move
 
--- lines with another in the place of one of them
+-- lines with another line in the place of the one at `at`
 abbrev pub exchanged : (at : ℕ) → PlacedLine → List PlacedLine → List PlacedLine
 exchanged at l ls = take at ls ++ l ∷ drop (at + 1) ls
 
@@ -31,12 +31,12 @@ after_move (SwapEnd bytes) ls = with_last_bytes bytes ls
 abbrev pub IsPlain : PlacedLine → Type 0
 IsPlain l = is_conditional_places l.class ≡ false
 
--- the line at a place is of none
+-- the line at a place is of no conditional
 abbrev pub IsPlainAt : (at : ℕ) → List PlacedLine → Type 0
 IsPlainAt at ls = IfSome (slice_get ls at) IsPlain
 
 -- The lines that a move fits: its place is one of theirs, no line of a conditional goes in or comes out, and the lines after it
--- have at most 16,777,216 bytes. The new bytes of a last line are some, and equal its own but for the line end.
+-- have at most 16,777,216 bytes. The new bytes of a last line are not empty, and equal the old ones except for the line end.
 abbrev pub FitsMove : Move → List PlacedLine → Type 0
 FitsMove (PutIn at l) ls = (at ≤ length ls) × IsPlain l × (size_of ls + length l.bytes ≤ 2 ^ 24)
 FitsMove (TakeOut at) ls = (at < length ls) × IsPlainAt at ls
@@ -44,21 +44,21 @@ FitsMove (Exchange at l) ls = (at < length ls) × IsPlainAt at ls × IsPlain l �
 FitsMove (SwapEnd bytes) ls =
     (0 < length ls) × (0 < length bytes) × (without_line_end bytes ≡ without_line_end (bytes_of_line (last_line ls))) × (size_of (with_last_bytes bytes ls) ≤ 2 ^ 24)
 
--- how many lines a move holds: one that goes in, or the last line's new bytes
+-- how many lines a move holds: a line that goes in counts, and so do the last line's new bytes
 abbrev pub held_by_move : Move → ℕ
 held_by_move (PutIn at l) = 1
 held_by_move (TakeOut at) = 0
 held_by_move (Exchange at l) = 1
 held_by_move (SwapEnd bytes) = 1
 
--- how many it takes out: one, or the last line's old bytes
+-- how many lines a move takes out: a line that comes out counts, and so do the last line's old bytes
 abbrev pub taken_by_move : Move → ℕ
 taken_by_move (PutIn at l) = 0
 taken_by_move (TakeOut at) = 1
 taken_by_move (Exchange at l) = 1
 taken_by_move (SwapEnd bytes) = 1
 
--- ---- several, the first of which is made first
+-- ---- several moves, the first of which is made first
 
 -- the lines after moves
 abbrev pub after_moves : List Move → List PlacedLine → List PlacedLine
@@ -70,17 +70,17 @@ abbrev pub FitMoves : List Move → List PlacedLine → Type 0
 FitMoves [] ls = Unit {0}
 FitMoves (m ∷ ms) ls = FitsMove m ls × FitMoves ms (after_move m ls)
 
--- how many lines they hold
+-- how many lines moves hold
 abbrev pub held_by : List Move → ℕ
 held_by [] = 0
 held_by (m ∷ ms) = held_by_move m + held_by ms
 
--- how many they take out
+-- how many lines moves take out
 abbrev pub taken_by : List Move → ℕ
 taken_by [] = 0
 taken_by (m ∷ ms) = taken_by_move m + taken_by ms
 
--- moves, and how many there may be
+-- moves, and how many moves there may be
 pub record MovesWithRoom : Type 0 where
   pub moves : List Move
   pub room : ℕ

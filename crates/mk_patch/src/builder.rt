@@ -1,4 +1,4 @@
-//! A patch while its steps are gathered.
+//! A patch whose steps are being gathered.
 ghost use Rattle.std.specs.Prelude.{◌≡◌, ◌<◌, ◌++◌, [], ◌∷◌, length, IfOk};
 ghost use Rattle.mk_patch.specs.Steps.{move_of};
 
@@ -8,14 +8,14 @@ use circular_buffer::HeapCircularBuffer;
 use std::alloc::{AllocError, Allocator, Global};
 use std::marker::Model;
 
-/// A patch whose steps are gathered. Contracts see the list of their moves, the first to be made in
-/// front, and how many there may be.
+/// A patch whose steps are being gathered. Contracts see the list of their moves, with the first to
+/// be made in front, and how many steps there may be.
 ///
-/// It is told beforehand how many steps there may be, and takes all memory that the patch ever needs
-/// at once.
+/// It is told beforehand how many steps there may be, and takes all memory that the patch ever
+/// needs at once.
 #[derive(Drop)]
 pub struct PatchBuilder<A: Allocator = Global> {
-    // The first to be made is in front.
+    // The step to be made first is in front.
     waiting: HeapCircularBuffer<Step<A>, A>,
     // Empty, and with the same room.
     inverses: HeapCircularBuffer<Step<A>, A>,
@@ -43,11 +43,11 @@ impl<A: Allocator> Model for PatchBuilder<A> {
 }
 
 impl<A: Allocator> PatchBuilder<A> {
-    /// No step, with room for so many.
+    /// No step, with room for `room` steps.
     ///
     /// # Errors
     ///
-    /// Where there is no memory for so many steps and for what takes them back.
+    /// [`AllocError`] if there is no memory for `room` steps and for the steps that take them back.
     pub fn with_room(alloc: A, room: usize) -> Result<PatchBuilder<A>, AllocError>
     where
         A: Copy,
@@ -64,8 +64,8 @@ impl<A: Allocator> PatchBuilder<A> {
         })
     }
 
-    /// Adds a step, which is made after those that were added before. There has to be room for it.
-    /// Takes no memory.
+    /// Adds a step, which is made after the steps that were added before it. There has to be room
+    /// for it. Takes no memory.
     #[tactic(auto, using(crate::proofs::on_moves::MoveLemmas::few))]
     pub fn push(&mut self, step: Step<A>)
         requires { length self.old.moves < self.old.room }

@@ -5,7 +5,7 @@ use mk_lines::Fault;
 use mk_tree::Doc;
 use std::alloc::Allocator;
 
-/// The documents that a patch fits are those that its moves fit, and it leads where they lead.
+/// A patch fits the documents that its moves fit, and leads where they lead.
 impl<A: Allocator> Change for Patch<A> {
     type State = Doc<A>;
 

@@ -1,12 +1,13 @@
 //! Patches of a document: lines that are moved.
 //!
-//! A patch knows where each line goes and holds those that go in. Nothing is read when it is made, no
-//! memory is taken, and what it leaves behind takes it back. It knows nothing of edits: the crate
+//! A patch knows where each line goes, and holds the lines that go in. To make it reads nothing and
+//! takes no memory, and gives the patch that takes it back. A patch knows nothing of edits: the
+//! crate `mk_edit` plans patches for edits.
 //! above plans these.
 //!
-//! - [`step`]: one line that is put in, taken out or exchanged, or the end of the last one.
+//! - [`step`]: one line that is put in, taken out or exchanged, or the line end of the last line.
 //! - [`patch`]: several steps as one.
-//! - [`builder`]: a patch while its steps are gathered.
+//! - [`builder`]: a patch whose steps are being gathered.
 //! - [`change`]: a patch as a change that a history can hold.
 #![tactic(auto)]
 

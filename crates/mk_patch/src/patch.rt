@@ -9,17 +9,17 @@ use mk_tree::Doc;
 use std::alloc::{Allocator, Global};
 use std::marker::Model;
 
-/// Steps to be made one after the other. Contracts see the list of their moves, the first to be made
-/// in front.
+/// Steps to be made one after the other. Contracts see the list of their moves, with the first to
+/// be made in front.
 ///
-/// A patch holds the lines that go in and has room for those that come out. So making it moves lines,
-/// reads none, takes no memory and is never refused. [`PatchBuilder`](crate::PatchBuilder) gathers
-/// its steps.
+/// A patch holds the lines that go in, and has room for the lines that come out. So making it moves
+/// lines, reads none, takes no memory and is never refused. [`PatchBuilder`](crate::PatchBuilder)
+/// gathers its steps.
 #[derive(Drop)]
 pub struct Patch<A: Allocator = Global> {
-    // The first to be made is in front.
+    // The step to be made first is in front.
     pub(crate) waiting: HeapCircularBuffer<Step<A>, A>,
-    // Room for what takes the steps back. Empty, but while they are made.
+    // Room for the steps that take these back. It is empty except while the steps are made.
     pub(crate) inverses: HeapCircularBuffer<Step<A>, A>,
     pub(crate) held: usize,
     pub(crate) takes: usize,
@@ -42,7 +42,7 @@ impl<A: Allocator> Model for Patch<A> {
         × (p.takes ≡ taken_by (moves_of p.waiting.items)) };
 }
 
-// Makes each step that waits, and keeps what takes it back, the last in front.
+// Makes each step that waits, and keeps the steps that take these back, with the last in front.
 fn make_all<A: Allocator>(
     waiting: &mut HeapCircularBuffer<Step<A>, A>,
     inverses: &mut HeapCircularBuffer<Step<A>, A>,
@@ -67,15 +67,15 @@ fn make_all<A: Allocator>(
 }
 
 impl<A: Allocator> Patch<A> {
-    /// How many lines it holds: those that it puts in, and the new bytes of a last line. Takes no
-    /// memory.
+    /// How many lines it holds: the lines that it puts in count, and the new bytes of a last line.
+    /// Takes no memory.
     pub fn held(&self) -> usize
         ensures { result ≡ held_by self.now }
     {
         self.held
     }
 
-    /// How many lines come out when it is made, the old bytes of a last line counted as one. Takes no
+    /// How many lines come out when it is made; the old bytes of a last line count as one. Takes no
     /// memory.
     pub fn takes(&self) -> usize
         ensures { result ≡ taken_by self.now }
@@ -83,7 +83,8 @@ impl<A: Allocator> Patch<A> {
         self.takes
     }
 
-    /// Makes the patch, and gives the one that takes it back. Takes no memory and is never refused.
+    /// Makes the patch, and gives the patch that takes it back. Takes no memory and is never
+    /// refused.
     pub fn make(self, doc: &mut Doc<A>) -> Patch<A>
         requires { FitMoves self doc.old }
         ensures after { doc.new ≡ after_moves self doc.old }

@@ -6,26 +6,27 @@ ghost use Rattle.mk_patch.specs.Steps.{move_of};
 use mk_tree::{Doc, Line, LineBytes};
 use std::alloc::{Allocator, Global};
 
-/// One line that is moved, or the end of the last one. Contracts see it as a move (`move_of`).
+/// One line that is moved, or the line end of the last line. Contracts see it as a move
+/// (`move_of`).
 ///
-/// Places are those in the document when the step is made, the first line being at 0. A step that is
-/// made becomes the one that takes it back: the line goes from one into the other, so no memory is
-/// taken.
+/// Places are those in the document when the step is made, from 0. A step that is made becomes the
+/// step that takes it back: the line goes from the one into the other, so no memory is taken.
 #[derive(Drop)]
 pub enum Step<A: Allocator = Global> {
-    /// Puts a line before the one at a place, or at the end.
+    /// Puts a line before the line at a place, or at the end.
     PutIn(usize, Line<A>),
-    /// Takes the line at a place out.
+    /// Takes out the line at a place.
     TakeOut(usize),
-    /// Puts a line in the place of another.
+    /// Puts a line in the place of the one at a place.
     Exchange(usize, Line<A>),
-    /// Puts other bytes, of the same text but for the line end, in the place of the last line's.
+    /// Puts other bytes in the place of the last line's bytes: the same text, perhaps with another
+    /// line end.
     SwapEnd(LineBytes<A>),
 }
 
 impl<A: Allocator> Step<A> {
-    /// How many lines it holds: 1 for one that goes in, and for the last line's new bytes. Takes no
-    /// memory.
+    /// How many lines it holds: 1 for a line that goes in, and for the last line's new bytes;
+    /// otherwise 0. Takes no memory.
     pub fn holds(&self) -> usize
         ensures { result ≡ held_by_move (move_of self.now) }
     {
@@ -35,8 +36,8 @@ impl<A: Allocator> Step<A> {
         }
     }
 
-    /// How many lines come out when it is made: 1 for one that goes, and for the last line's old
-    /// bytes. Takes no memory.
+    /// How many lines come out when it is made: 1 for a line that comes out, and for the last
+    /// line's old bytes; otherwise 0. Takes no memory.
     pub fn takes(&self) -> usize
         ensures { result ≡ taken_by_move (move_of self.now) }
     {
@@ -46,7 +47,7 @@ impl<A: Allocator> Step<A> {
         }
     }
 
-    /// Makes the step, and gives the one that takes it back. Takes no memory and is never refused.
+    /// Makes the step, and gives the step that takes it back. Takes no memory and is never refused.
     pub fn make(self, doc: &mut Doc<A>) -> Step<A>
         requires { FitsMove (move_of self) doc.old }
         ensures after { doc.new ≡ after_move (move_of self) doc.old }

@@ -46,7 +46,7 @@ fn has_assignment<A: Allocator>(doc: &Doc<A>, at: usize) -> bool
     at < doc.len() && is_assignment(doc.line(at))
 }
 
-// Whether bytes are the last line's but for the line end, and have room.
+// Whether bytes are those of the last line with the same or another line end, and have room.
 fn is_end<A: Allocator>(bytes: &LineBytes<A>, doc: &Doc<A>) -> bool
     ensures { IsTrue result → FitsMove (SwapEnd bytes.now) doc.now }
 {
@@ -59,7 +59,7 @@ fn is_end<A: Allocator>(bytes: &LineBytes<A>, doc: &Doc<A>) -> bool
     own.len() <= SIZE_LIMIT - doc.size() && without_line_end(own) == without_line_end(last.bytes())
 }
 
-// Whether a step fits a document, where its lines are assignments and none is long.
+// Whether a step fits a document, if its lines are assignments and none is too long.
 #[tactic(auto, using(mk_tree::proofs::Changes::sizes))]
 fn fits<A: Allocator>(step: &Step<A>, doc: &Doc<A>) -> bool
     ensures { IsTrue result → FitsMove (move_of step.now) doc.now }
@@ -95,7 +95,8 @@ fn is_text<A: Allocator>(rt: &HostRuntime, doc: &Doc<A>, text: &[u8]) -> Result<
     Ok(whole.as_slice() == text)
 }
 
-// Makes a patch, takes it back, and makes it again: whether the texts and numbers are those given.
+// Makes a patch, takes it back, and makes it again. Says whether the texts and the numbers are the
+// given ones.
 fn is_made<A: Allocator>(
     rt: &HostRuntime,
     patch: Patch<A>,
@@ -291,7 +292,7 @@ fn each_refused_growth_of_a_builder_is_an_error(rt: HostRuntime) -> Result<(), F
     for admitted in 0..3 {
         let heap = Refusing::after(rt.alloc(), admitted);
         let builder: Result<PatchBuilder<_>, AllocError> = PatchBuilder::with_room(&heap, 3);
-        // one ring for the steps, and one for what takes them back
+        // one ring for the steps, and one for the steps that take them back
         assert_eq!(rt; builder.is_err(), admitted < 2);
         assert_eq!(rt; heap.has_refused(), admitted < 2);
     }

@@ -30,7 +30,7 @@ words_at t s e = words_in (text_at t (record { start = s; end = e }))
 
 -- ---- assignments
 
--- the parts of an assignment stand in a text of a length, after a place
+-- the parts of an assignment stand in a text of this length, from this place on
 pub record IsAssignmentWithin (length start : ℕ) (at : assignment.Assignment) : Type 0 where
   pub before : start ≤ at.name.start
   pub name : at.name.start ≤ at.name.end
@@ -38,7 +38,7 @@ pub record IsAssignmentWithin (length start : ℕ) (at : assignment.Assignment) 
   pub name_within : at.name.end ≤ length
   pub value_within : at.value.end ≤ length
 
--- an assignment whose modifiers begin at a place, up to the end of its line
+-- an assignment up to the end of its line; its modifiers begin at this place
 abbrev pub assigned_placed : (text : List ℕ) → (start : ℕ) → assignment.Assignment → List ℕ
 assigned_placed t s at =
     each_before_space (words_at t s at.name.start) ++ (text_at t at.name ++ (codes " " ++ (operator_text at.flavor ++ (after_space (text_at t at.value) ++ codes "\n"))))
@@ -51,7 +51,7 @@ assigned_start at = at.targets_end + separator_length at.separator
 abbrev pub target_assigned_placed : (text : List ℕ) → target_assignment.TargetAssignment → List ℕ
 target_assigned_placed t at = targets_text (words_at t 0 at.targets_end) at.separator ++ (codes " " ++ assigned_placed t (assigned_start at) at.assignment)
 
--- the line of `vars` on a line of this joined text and class
+-- what `vars` says of a line of this joined text and class
 abbrev pub variable_placed : (number depth : ℕ) → (text : List ℕ) → class.Class → List ℕ
 variable_placed n d t (variants.Assign at p) = place_text n d ++ assigned_placed t 0 at
 variable_placed n d t (variants.TargetAssign at) = place_text n d ++ target_assigned_placed t at
@@ -59,16 +59,16 @@ variable_placed n d t k = []
 
 -- ---- headers
 
--- where the pattern stands, and the second `:` after it, where there is one
+-- where the pattern stands, up to the second `:`; an empty range if there is no pattern
 abbrev pub pattern_span : header.Header → Span
 pattern_span at = record { start = at.targets_end + separator_length at.separator; end = at.normal_start - (if at.has_pattern then 1 else 0) }
 
--- a range stands in a text of a length
+-- a range stands in a text of this length
 pub record IsSpanWithin (length : ℕ) (s : Span) : Type 0 where
   pub rises : s.start ≤ s.end
   pub within : s.end ≤ length
 
--- the parts of a header stand in a text of a length
+-- the parts of a header stand in a text of this length
 pub record IsHeaderWithin (length : ℕ) (at : header.Header) : Type 0 where
   pub targets : at.targets_end ≤ length
   pub pattern : IsSpanWithin length (pattern_span at)
@@ -81,13 +81,13 @@ header_placed t at =
     targets_text (words_at t 0 at.targets_end) at.separator
     ++ (pattern_text (words_in (text_at t (pattern_span at))) ++ (each_after_space (words_in (text_at t (normal_span at))) ++ order_only_text (words_in (text_at t (order_only_span at)))))
 
--- the count of recipe lines with which a header's line ends, where one is not yet ended
+-- the count of recipe lines that ends a header's line, if such a line is not yet ended
 abbrev pub count_placed : Option ℕ → List ℕ
 count_placed None = []
 count_placed (Some n) = count_text n
 
--- what the walk of `rules` says at a line of this joined text and class, where a header's line that has so many recipe lines so far
--- is not yet ended
+-- what the walk of `rules` says at a line of this joined text and class; `counted` is the number of recipe lines so far of a
+-- header whose line is not yet ended
 abbrev pub rule_placed : (number depth : ℕ) → (counted : Option ℕ) → (text : List ℕ) → class.Class → List ℕ
 rule_placed n d o t (variants.Header at) = count_placed o ++ (place_text n d ++ header_placed t at)
 rule_placed n d o t variants.Recipe = []
@@ -98,12 +98,12 @@ rule_placed n d o t variants.Else = []
 rule_placed n d o t variants.Endif = []
 rule_placed n d o t k = count_placed o
 
--- one more
+-- a count with one more, if there is a count
 abbrev pub one_more : Option ℕ → Option ℕ
 one_more None = None
 one_more (Some n) = Some (n + 1)
 
--- the recipe lines that are counted so far after a line of this class, where its header's line is not yet ended
+-- the recipe lines counted so far after a line of this class, if the line of their header is not yet ended
 abbrev pub counted_after : Option ℕ → class.Class → Option ℕ
 counted_after o (variants.Header at) = Some (if at.has_recipe then 1 else 0)
 counted_after o variants.Recipe = one_more o
@@ -114,7 +114,7 @@ counted_after o variants.Else = o
 counted_after o variants.Endif = o
 counted_after o k = None
 
--- how many are counted
+-- how many recipe lines are counted
 abbrev pub count_of : Option ℕ → ℕ
 count_of None = 0
 count_of (Some n) = n

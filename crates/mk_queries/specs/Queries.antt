@@ -1,4 +1,4 @@
--- The texts that the queries write, of the text of a makefile.
+-- The texts that the queries write for the text of a makefile.
 use Rattle.std.specs.Prelude.{ℕ, zero, suc, List, [], ◌∷◌, ◌++◌, map, codes, decimal}
 use Rattle.mk_lines.specs.Lists.{concat}
 use Rattle.mk_class.specs.Contexts.{Context}
@@ -8,7 +8,7 @@ use Rattle.mk_tree.specs.Items.{Item, items_of_line}
 use Rattle.mk_queries.specs.StandingLines.{standing_lines, line_number, depth, recipe_count}
 use Rattle.mk_queries.specs.ItemLines.{variable_line, rule_line, unread_line}
 
--- what is said of some lines in order: of each what is said of its item, where it has one
+-- what is said of some lines in order: what is said of the item of each line that has an item
 abbrev pub said_of_lines : (StandingLine → Item → List ℕ) → List StandingLine → List ℕ
 said_of_lines say [] = []
 said_of_lines say (s ∷ ss) = concat (map (say s) (items_of_line s.line.class s.line.bytes)) ++ said_of_lines say ss
@@ -21,7 +21,7 @@ vars_text t = said_of_lines (λ s. variable_line (line_number s) (depth s)) (sta
 abbrev pub rules_text : List ℕ → List ℕ
 rules_text t = said_of_lines (λ s. rule_line (line_number s) (depth s) (recipe_count s)) (standing_lines t)
 
--- a line on how many of a kind are open at the end of a text, where some are
+-- a line on how many of this kind are open at the end of a text; nothing if none are
 abbrev pub open_line : (kind : List ℕ) → (count : ℕ) → List ℕ
 open_line k zero = []
 open_line k (suc n) = codes "end: " ++ (k ++ (codes " " ++ (decimal (suc n) ++ codes "\n")))

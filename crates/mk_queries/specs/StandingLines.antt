@@ -5,7 +5,7 @@ use Rattle.mk_class.specs.ClassedLines.{ClassedLine, classed_lines}
 use Rattle.mk_tree.specs.LineTexts.{text_of, context_of, StandingLine}
 use Rattle.mk_tree.specs.RecipeLines.{recipe_lines}
 
--- some lines where they stand, below others
+-- some lines where they stand, below the lines `above`
 abbrev pub standing_below : (above : List ClassedLine) → List ClassedLine → List StandingLine
 standing_below above [] = []
 standing_below above (l ∷ ls) = record { above = above; line = l; below = ls } ∷ standing_below (above ++ l ∷ []) ls
@@ -22,6 +22,6 @@ line_number s = length (physical_lines (text_of s.above)) + 1
 abbrev pub depth : StandingLine → ℕ
 depth s = (context_of s.above).conditionals
 
--- how many recipe lines a line has that is the header of a rule
+-- how many recipe lines the header of a rule has
 abbrev pub recipe_count : StandingLine → ℕ
 recipe_count s = length (recipe_lines s.below)

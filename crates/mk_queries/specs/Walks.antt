@@ -11,7 +11,8 @@ abbrev pub line_feeds : List ℕ → ℕ
 line_feeds [] = 0
 line_feeds (b ∷ t) = if b == 10 then 1 + line_feeds t else line_feeds t
 
--- what is said of some lines, the first of which has this number and stands in this context: of each by its own
+-- what is said of some lines, the first of which has this number and stands in this context: of each line, with its own number
+-- and context
 abbrev pub said_ahead : (say : ℕ → Context → PlacedLine → List ℕ) → (number : ℕ) → Context → List PlacedLine → List ℕ
 said_ahead say n c [] = []
 said_ahead say n c (l ∷ ls) = say n c l ++ said_ahead say (n + line_feeds l.bytes) (context_after_places c l.class) ls
@@ -37,8 +38,8 @@ variables_ahead n c ls = said_ahead (λ n c l. variable_placed n c.conditionals 
 
 -- ---- headers
 
--- what is said of some lines, the first of which has this number and stands in this context, where a header's line above them that
--- has so many recipe lines so far is not yet ended
+-- what is said of some lines, the first of which has this number and stands in this context; `counted` is the number of recipe
+-- lines so far of a header above them whose line is not yet ended
 abbrev pub rules_ahead : (number : ℕ) → Context → (counted : Option ℕ) → List PlacedLine → List ℕ
 rules_ahead n c o [] = count_placed o
 rules_ahead n c o (l ∷ ls) = rule_placed n c.conditionals o (text_of_line l) l.class ++ rules_ahead (n + line_feeds l.bytes) (context_after_places c l.class) (counted_after o l.class) ls

@@ -11,7 +11,7 @@ use mk_tree::gathering::{Gathered, put};
 ///
 /// # Errors
 ///
-/// As those of [`put`].
+/// The errors of [`put`].
 pub(crate) fn put_parts<W: ByteSink>(
     gathered: &mut Gathered,
     out: &mut W,

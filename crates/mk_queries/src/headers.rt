@@ -29,10 +29,11 @@ use std::alloc::Allocator;
 /// Writes a line of text on each rule of the makefile, in the order of their headers. Nothing is
 /// flushed. Takes no memory.
 ///
-/// Before it stand the number of the header's first physical line, from 1, and how many conditionals are
-/// open there. Then come the targets, the separator, the pattern and a `:` where there is one, the normal
-/// prerequisites, and the order-only ones after a `|` where there are some; and in brackets the number
-/// of its recipe lines, an inline recipe being one. Folds are spaces, and comments are left out:
+/// The line begins with the number of the header's first physical line, from 1, and the number of
+/// conditionals that are open there. Then come the targets; the separator; the pattern and a `:`,
+/// if there is a pattern; the normal prerequisites; the order-only prerequisites after a `|`, if
+/// there are any; and in brackets the number of the rule's recipe lines, where an inline recipe
+/// counts as one. Folds are spaces, and comments are left out:
 ///
 /// ```text
 /// 1:0: %.o: %.c | out [1]
@@ -44,7 +45,7 @@ use std::alloc::Allocator;
 ///
 /// # Errors
 ///
-/// [`Fault::Write`] where a write answered it or took nothing. A prefix of the text is out then.
+/// [`Fault::Write`] if a write answered it or took no byte. A prefix of the text is out then.
 pub fn rules<A: Allocator, W: ByteSink>(doc: &Doc<A>, out: &mut W) -> Result<(), Fault>
     requires faithful { IsFaithful doc.now }
     requires works { W.failed out.old ≡ false }
@@ -54,11 +55,11 @@ pub fn rules<A: Allocator, W: ByteSink>(doc: &Doc<A>, out: &mut W) -> Result<(),
     ensures fault { IfErr result (λ e. (e ≡ Fault.Write) × (W.failed out.new ≡ true)) }
     ensures unflushed { W.flushes out.new ≡ W.flushes out.old }
 {
-    // The contract of `size` says that the lines are within the limit, and so are the numbers here.
+    // The contract of `size` bounds the number of lines, and so the numbers here.
     let _size = doc.size();
     let mut gathered = Gathered::new();
     let mut number = 1;
-    // How many recipe lines the last header has so far, where its line of text is not yet ended.
+    // How many recipe lines the last header has so far, if its line of text is not yet ended.
     let mut counted = None;
     'lines: for (context, line) in doc.lines_with_contexts() {
         counted = put_rule(&mut gathered, out, number, context, counted, line)?;
@@ -68,9 +69,9 @@ pub fn rules<A: Allocator, W: ByteSink>(doc: &Doc<A>, out: &mut W) -> Result<(),
     write_all(out, &gathered)
 }
 
-// Puts what is said at a line of this number, which stands in a context, behind the texts that are held
-// back, where a header above it has so many recipe lines so far. Answers how many the last header has
-// after the line.
+// Puts what is said at a line behind the texts that are held back. The line has this number and
+// stands in this context. `counted` is the number of recipe lines so far of a header above it whose
+// line of text is not yet ended. Answers this number for the last header after the line.
 fn put_rule<A: Allocator, W: ByteSink>(
     gathered: &mut Gathered,
     out: &mut W,
@@ -105,7 +106,7 @@ fn put_rule<A: Allocator, W: ByteSink>(
     }
 }
 
-// One more recipe line, where a header is there.
+// A count with one more recipe line, if there is a header.
 fn one_more(counted: Option<usize>) -> Option<usize>
     requires { count_of counted < 2 ^ 32 }
     ensures { result ≡ one_more counted }
@@ -113,8 +114,8 @@ fn one_more(counted: Option<usize>) -> Option<usize>
     counted.map(|count| count + 1)
 }
 
-// Puts a count of recipe lines, which ends the line of a header, behind the texts that are held back,
-// where one is not yet ended.
+// Puts the count of recipe lines that ends a header's line behind the texts that are held back, if
+// such a line is not yet ended.
 fn put_count<W: ByteSink>(
     gathered: &mut Gathered,
     out: &mut W,
@@ -164,7 +165,7 @@ fn put_header<W: ByteSink>(
     put_order_only(gathered, out, order_only(text, at))
 }
 
-// The pattern of a header with the blanks around it. It is empty where there is none.
+// The pattern of a header with the blanks around it; the empty text if there is no pattern.
 fn pattern<'a>(text: &'a [u8], at: &Header) -> &'a [u8]
     requires { IsHeaderWithin (length text.now) at.now }
     ensures { result.now ≡ text_at text.now (pattern_span at.now) }
@@ -184,8 +185,8 @@ fn order_only<'a>(text: &'a [u8], at: &Header) -> &'a [u8]
     part(text, Span { start, end })
 }
 
-// Puts the pattern that a text has after a space, and a `:`, behind the texts that are held back, where
-// it has one.
+// Puts a pattern, the first word of the text, behind the texts that are held back, with a space
+// before it and a `:` after it. Puts nothing if the text has no word.
 fn put_pattern<W: ByteSink>(gathered: &mut Gathered, out: &mut W, text: &[u8]) -> Result<(), Fault>
     requires { W.failed out.old ≡ false }
     ensures whole { OnOk result (AppendsSoFar (W.contents out.old) (W.contents out.new) (gathered.old.items ++ pattern_text (words_in text.now)) gathered.new.items) }
@@ -200,8 +201,8 @@ fn put_pattern<W: ByteSink>(gathered: &mut Gathered, out: &mut W, text: &[u8]) -
     }
 }
 
-// Puts the order-only prerequisites that a text has behind the texts that are held back, after a `|`,
-// where it has some.
+// Puts the order-only prerequisites of a text behind the texts that are held back, after a `|`.
+// Puts nothing if the text has no word.
 fn put_order_only<W: ByteSink>(
     gathered: &mut Gathered,
     out: &mut W,

@@ -4,8 +4,8 @@
 //! - [`rules`]: a line of text on each rule.
 //! - [`check`]: a line of text on each line that is not read inside, and what is open at the end.
 //!
-//! A query walks over the lines of a document, reads none anew and takes no memory. The formats are
-//! this project's profile.
+//! A query walks over the lines of a document, reads no line anew and takes no memory. The formats
+//! are this project's profile.
 //!
 //! The modules, lowest first:
 //!

@@ -19,12 +19,12 @@ pub(crate) fn line_feeds(text: &[u8]) -> usize
     memchr_iter(b'\n', text).count()
 }
 
-/// Puts behind the texts that are held back where an item stands: in the line of this number, below so
-/// many open conditionals.
+/// Puts behind the texts that are held back where an item stands: in the line of this number, with
+/// this number of open conditionals.
 ///
 /// # Errors
 ///
-/// As those of [`put`](crate::gathering::put).
+/// The errors of [`put`](crate::gathering::put).
 pub(crate) fn put_place<W: ByteSink>(
     gathered: &mut Gathered,
     out: &mut W,

@@ -10,11 +10,11 @@ use mk_lines::sink::ByteSink;
 use mk_lines::{Fault, split_first_word};
 use mk_tree::gathering::{Gathered, put};
 
-/// Puts each word of a text after a space behind the texts that are held back.
+/// Puts the words of a text behind the texts that are held back, each with a space before it.
 ///
 /// # Errors
 ///
-/// As those of [`put`].
+/// The errors of [`put`].
 pub(crate) fn put_each_after_space<W: ByteSink>(
     gathered: &mut Gathered,
     out: &mut W,
@@ -35,11 +35,11 @@ pub(crate) fn put_each_after_space<W: ByteSink>(
     Ok(())
 }
 
-/// Puts each word of a text before a space behind the texts that are held back.
+/// Puts the words of a text behind the texts that are held back, each with a space after it.
 ///
 /// # Errors
 ///
-/// As those of [`put`].
+/// The errors of [`put`].
 pub(crate) fn put_each_before_space<W: ByteSink>(
     gathered: &mut Gathered,
     out: &mut W,
@@ -60,11 +60,11 @@ pub(crate) fn put_each_before_space<W: ByteSink>(
     Ok(())
 }
 
-/// Puts the words of a text with one space between them behind the texts that are held back.
+/// Puts the words of a text behind the texts that are held back, with one space between them.
 ///
 /// # Errors
 ///
-/// As those of [`put`].
+/// The errors of [`put`].
 pub(crate) fn put_spaced<W: ByteSink>(
     gathered: &mut Gathered,
     out: &mut W,

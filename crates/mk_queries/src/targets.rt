@@ -11,12 +11,12 @@ use mk_lines::Fault;
 use mk_lines::sink::ByteSink;
 use mk_tree::gathering::{Gathered, put};
 
-/// Puts the targets that a text has, with one space between them, and a separator behind the texts that
-/// are held back.
+/// Puts the targets that a text has, with one space between them, and a separator behind the texts
+/// that are held back.
 ///
 /// # Errors
 ///
-/// As those of [`put`].
+/// The errors of [`put`].
 pub(crate) fn put_targets<W: ByteSink>(
     gathered: &mut Gathered,
     out: &mut W,

@@ -17,12 +17,12 @@ use mk_tree::Doc;
 use mk_tree::gathering::Gathered;
 use std::alloc::Allocator;
 
-/// Writes a line of text on each line of the makefile that is kept and not read inside, in order, and
-/// then how many conditionals and defines are open at the end, where some are. Nothing is flushed.
-/// Takes no memory.
+/// Writes a line of text on each line of the makefile that is kept and not read inside, in order.
+/// Then it writes how many conditionals and how many defines are open at the end, if any are.
+/// Nothing is flushed. Takes no memory.
 ///
-/// Such a line is *rough*, the line of a rule that is not read inside, or *opaque*, any other. The
-/// number that stands before it is that of its first physical line, from 1:
+/// Such a line is *rough* if it is the line of a rule, and *opaque* otherwise. The number before it
+/// is that of its first physical line, from 1:
 ///
 /// ```text
 /// 3: opaque
@@ -35,7 +35,7 @@ use std::alloc::Allocator;
 ///
 /// # Errors
 ///
-/// [`Fault::Write`] where a write answered it or took nothing. A prefix of the text is out then.
+/// [`Fault::Write`] if a write answered it or took no byte. A prefix of the text is out then.
 pub fn check<A: Allocator, W: ByteSink>(doc: &Doc<A>, out: &mut W) -> Result<(), Fault>
     requires faithful { IsFaithful doc.now }
     requires works { W.failed out.old ≡ false }
@@ -45,7 +45,7 @@ pub fn check<A: Allocator, W: ByteSink>(doc: &Doc<A>, out: &mut W) -> Result<(),
     ensures fault { IfErr result (λ e. (e ≡ Fault.Write) × (W.failed out.new ≡ true)) }
     ensures unflushed { W.flushes out.new ≡ W.flushes out.old }
 {
-    // The contract of `size` says that the lines are within the limit, and so is each number.
+    // The contract of `size` bounds the number of lines, and so each number here.
     let _size = doc.size();
     let mut gathered = Gathered::new();
     let mut number = 1;
@@ -93,7 +93,8 @@ fn put_end<W: ByteSink>(gathered: &mut Gathered, out: &mut W, end: Context) -> R
     put_open(gathered, out, b"defines", end.defines())
 }
 
-// Puts a line on how many of a kind are open behind the texts that are held back, where some are.
+// Puts a line on how many of this kind are open behind the texts that are held back; nothing if
+// none are.
 fn put_open<W: ByteSink>(
     gathered: &mut Gathered,
     out: &mut W,

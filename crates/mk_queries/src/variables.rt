@@ -26,10 +26,10 @@ use std::alloc::Allocator;
 /// Writes a line of text on each assignment of the makefile, in order. Nothing is flushed. Takes no
 /// memory.
 ///
-/// Before it stand the number of its first physical line, from 1, and how many conditionals are open
-/// there. Then come, with one space between each two, the targets and the separator of an assignment for
-/// targets, the modifiers, the name, the operator, and the value where it is not empty. Folds are
-/// spaces, and comments are left out:
+/// The line begins with the number of the assignment's first physical line, from 1, and the number
+/// of conditionals that are open there. Then come, with one space between each two, the targets and
+/// the separator of an assignment for targets, the modifiers, the name, the operator, and the value
+/// if it is not empty. Folds are spaces, and comments are left out:
 ///
 /// ```text
 /// 2:1: export CC ?= gcc
@@ -41,7 +41,7 @@ use std::alloc::Allocator;
 ///
 /// # Errors
 ///
-/// [`Fault::Write`] where a write answered it or took nothing. A prefix of the text is out then.
+/// [`Fault::Write`] if a write answered it or took no byte. A prefix of the text is out then.
 pub fn vars<A: Allocator, W: ByteSink>(doc: &Doc<A>, out: &mut W) -> Result<(), Fault>
     requires faithful { IsFaithful doc.now }
     requires works { W.failed out.old ≡ false }
@@ -51,7 +51,7 @@ pub fn vars<A: Allocator, W: ByteSink>(doc: &Doc<A>, out: &mut W) -> Result<(), 
     ensures fault { IfErr result (λ e. (e ≡ Fault.Write) × (W.failed out.new ≡ true)) }
     ensures unflushed { W.flushes out.new ≡ W.flushes out.old }
 {
-    // The contract of `size` says that the lines are within the limit, and so is each number.
+    // The contract of `size` bounds the number of lines, and so each number here.
     let _size = doc.size();
     let mut gathered = Gathered::new();
     let mut number = 1;
@@ -62,8 +62,8 @@ pub fn vars<A: Allocator, W: ByteSink>(doc: &Doc<A>, out: &mut W) -> Result<(), 
     write_all(out, &gathered)
 }
 
-// Puts what is said of a line of this number, which stands in a context, behind the texts that are held
-// back.
+// Puts what is said of a line behind the texts that are held back. The line has this number and
+// stands in this context.
 fn put_variable<A: Allocator, W: ByteSink>(
     gathered: &mut Gathered,
     out: &mut W,
@@ -119,8 +119,8 @@ fn put_target_assigned<W: ByteSink>(
     put_assigned(gathered, out, text, start, &at.assignment)
 }
 
-// Puts an assignment whose modifiers begin at a place, up to the end of its line, behind the texts that
-// are held back.
+// Puts an assignment up to the end of its line behind the texts that are held back. Its modifiers
+// begin at a place.
 fn put_assigned<W: ByteSink>(
     gathered: &mut Gathered,
     out: &mut W,
@@ -146,8 +146,8 @@ fn put_assigned<W: ByteSink>(
     put_value(gathered, out, part(text, at.value))
 }
 
-// Puts a value after a space, where it is not empty, and the end of its line behind the texts that are
-// held back.
+// Puts a value behind the texts that are held back, with a space before it if it is not empty, and
+// then the end of its line.
 fn put_value<W: ByteSink>(gathered: &mut Gathered, out: &mut W, value: &[u8]) -> Result<(), Fault>
     requires { W.failed out.old ≡ false }
     ensures whole { OnOk result (AppendsSoFar (W.contents out.old) (W.contents out.new) (gathered.old.items ++ (after_space value.now ++ codes "\n")) gathered.new.items) }

@@ -1,4 +1,4 @@
--- The commands of a script, each obeyed in its turn by the session machine.
+-- The commands of a script, which the session machine obeys one after the other.
 use Rattle.std.specs.Prelude.{ℕ, ◌+◌, Bool, true, false, List, [], ◌∷◌, ◌++◌, Result, Ok, Err}
 use Rattle.mk_edit_laws.specs.declared.refusal.Refusal.{Refusal}
 use Rattle.mk_history.specs.Machine as machine
@@ -7,22 +7,22 @@ use Rattle.mk_session.specs.Sessions.{answer, session_refusal}
 use Rattle.mk_script.specs.Scripts.{CommandAt}
 use Rattle.mk_run.specs.Report.{report_line}
 
--- what commands come to: the report, how many were refused, and what is shown after them
+-- what commands come to: the report, how many commands were refused, and what is shown after them
 pub record Obeyed : Type 0 where
   pub report : List ℕ
   pub refused : ℕ
   pub shown : Shown (List ℕ)
 
--- no command is left
+-- what no commands come to
 abbrev pub at_rest : Shown (List ℕ) → Obeyed
 at_rest s = record { report = []; refused = 0; shown = s }
 
--- what others come to after a command that was refused: one more, with its line in front of theirs
+-- what commands come to whose first was refused: one refusal more than the others, and its line in front of theirs
 abbrev pub after_refusal : CommandAt → machine.Refusal Refusal → Obeyed → Obeyed
 after_refusal c q others = record others { report = report_line c.line (session_refusal q) ++ others.report; refused = others.refused + 1 }
 
--- By the answer to a command: where it is granted, the others follow from what is shown then; where it is refused, nothing has
--- changed, and they follow where the run keeps going.
+-- What commands come to, by the answer to the first. If it is granted, the others follow from what is shown then. If it is
+-- refused, nothing has changed, and the others follow if the run keeps going.
 abbrev pub obeyed_next : (keep_going : Bool) → CommandAt → (before : Shown (List ℕ)) → (others : Shown (List ℕ) → Obeyed)
     → Result (Shown (List ℕ)) (machine.Refusal Refusal) → Obeyed
 obeyed_next k c s others (Ok new) = others new

@@ -30,7 +30,7 @@ status_of outcome.NoMemory = 3
 abbrev pub not_a_command_message : ℕ → List ℕ
 not_a_command_message line = codes "mkedit: script line " ++ (decimal line ++ codes " is not a command\n")
 
--- the message on an outcome, with its line feed, or nothing
+-- the message on an outcome, with its line feed; nothing if the outcome has no message
 abbrev pub message_of : o.Outcome → List ℕ
 message_of outcome.Done = []
 message_of (outcome.Refused count) = []
@@ -42,7 +42,7 @@ message_of outcome.Read = codes "mkedit: read fault\n"
 message_of outcome.Write = codes "mkedit: write fault\n"
 message_of outcome.NoMemory = codes "mkedit: no memory\n"
 
--- the text is out and flushed: every command was done, or those that were refused did not end the run
+-- the text is out and flushed: every command was done, or commands were refused and the run kept going
 abbrev pub is_printed : o.Outcome → (keep_going : Bool) → Bool
 is_printed outcome.Done keep_going = true
 is_printed (outcome.Refused count) keep_going = keep_going
@@ -54,7 +54,7 @@ is_printed outcome.Read keep_going = false
 is_printed outcome.Write keep_going = false
 is_printed outcome.NoMemory keep_going = false
 
--- a run that ended so may have obeyed commands, and reported refusals
+-- a run with this outcome may have obeyed commands, and may have reported refusals
 abbrev pub may_report : o.Outcome → Bool
 may_report outcome.Done = true
 may_report (outcome.Refused count) = true

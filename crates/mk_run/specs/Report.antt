@@ -5,7 +5,7 @@ use Rattle.mk_edit_laws.specs.declared.refusal.Refusal.{Refusal}
 use Rattle.mk_edit_laws.specs.declared.refusal.Detail.{Detail}
 use Rattle.mk_edit_laws.specs.declared.refusal.Detail.TheVariants.{Count, Field, Nothing}
 
--- what a refusal says beyond its name
+-- what a refusal says in addition to its name
 abbrev detail_text : Detail → List ℕ
 detail_text (Count n) = codes " " ++ decimal n
 detail_text (Field f) = codes " " ++ field_name f

@@ -1,5 +1,4 @@
--- How a run of the code may end, beside the result that the definitions give it: as they say, or for want of memory, or because a
--- device failed.
+-- How a run of the code may end: with the result that the definitions give it, or for want of memory, or because a device failed.
 use Rattle.std.specs.Prelude.{◌≡◌, ◌⊎◌, ℕ, Bool, true, false, List, ◌∷◌, ◌++◌, Option, Some, Ok, IfSome}
 use Rattle.std.specs.Io.KnownBytes.{Appends, Keeps}
 use Rattle.mk_lines.specs.Device.{AppendsPrefix}
@@ -38,11 +37,12 @@ IsPrefixOut w text = AppendsPrefix w.before w.after text
 
 -- ---- want of memory
 
--- The run goes on after this many refusals.
+-- The run goes on after this number of refusals.
 abbrev pub GoesOn : (keep_going : Bool) → (refused : ℕ) → Type 0
 GoesOn k n = k ≡ false → n ≡ 0
 
--- One of the commands found no memory: those before it were obeyed, and their report is this. It takes memory, and is not refused.
+-- One of the commands found no memory. The commands before it were obeyed, and this is their report. The command takes memory,
+-- and the machine does not refuse it.
 pub record IsShort (keep_going : Bool) (commands : List CommandAt) (first : Shown (List ℕ)) (report : List ℕ) : Type 0 where
   pub earlier : List CommandAt
   pub command : CommandAt
@@ -54,7 +54,7 @@ pub record IsShort (keep_going : Bool) (commands : List CommandAt) (first : Show
   pub takes : takes_memory command.command ≡ true
   pub granted : answer command.command (obeyed keep_going earlier first).shown ≡ Ok new
 
--- So did one of the commands of a run that comes to this result.
+-- One of the commands of a run that comes to this result found no memory.
 pub record IsShortRun (makefile script : List ℕ) (depth : ℕ) (keep_going : Bool) (result : RunResult) (report : Written) : Type 0 where
   pub commands : List CommandAt
   pub lines : List ℕ
@@ -65,14 +65,14 @@ pub record IsShortRun (makefile script : List ℕ) (depth : ℕ) (keep_going : B
 
 -- ---- the ends
 
--- The run ended as it comes to: with that outcome, the report is out, and so is the text, where one goes out.
+-- The run ended as it comes to: with that outcome. The report is out, and so is the text, if one goes out.
 pub record IsWhole (result : RunResult) (outcome : Outcome) (report out : Written) : Type 0 where
   pub outcome_is : outcome ≡ result.outcome
   pub reported : IsOut report result.report
   pub written : IfSome result.output (λ text. IsOut out text)
 
--- A write or the flush failed: a write of the report, of which a prefix is out then; or a write or the flush of the text, of which a
--- prefix is out then, after the whole report.
+-- A write or the flush failed. Either a write of the report failed, and a prefix of the report is out; or a write or the flush of
+-- the text failed, and a prefix of the text is out after the whole report.
 abbrev pub IsCut : RunResult → (report_failed : Bool) → (report out : Written) → Type 0
 IsCut result true report out = IsPrefixOut report result.report
 IsCut result false report out = IsOut report result.report × ((text : List ℕ) × (result.output ≡ Some text) × IsPrefixOut out text)
@@ -84,7 +84,8 @@ EndsAs m s d k result failed report out Read = IsKept report
 EndsAs m s d k result failed report out Write = IsCut result failed report out
 EndsAs m s d k result failed report out outcome = IsWhole result outcome report out
 
--- The run over a makefile and a script, each as its reader tells it, ended so. Where a reader tells nothing, it is some text.
+-- The run over a makefile and a script ended with this outcome. Each of the two is what its reader tells; if a reader tells
+-- nothing, it is some text.
 pub record IsRunOver (makefile script : Option (List ℕ)) (depth : ℕ) (keep_going : Bool) (outcome : Outcome) (report_failed : Bool) (report out : Written) : Type 0 where
   pub makefile_text : List ℕ
   pub script_text : List ℕ

@@ -1,4 +1,4 @@
--- Laws of runs; each the contract of a public function.
+-- Laws of runs. Each law is the contract of a public function.
 use Rattle.std.specs.Prelude.{◌≡◌, ℕ, Bool, true, false, List, [], ◌∷◌, length, None, Result, Ok, Err, IfSome}
 use Rattle.mk_edit_laws.specs.Edits.{Edit}
 use Rattle.mk_edit_laws.specs.declared.refusal.Refusal.{Refusal}
@@ -24,7 +24,7 @@ ResultsAreOne = (makefile script : List ℕ) (depth : ℕ) (keep_going : Bool) (
 
 -- ---- what a run's commands do
 
--- the commands that a run tries, as far as it goes, each with its reply
+-- the commands that a run tries before it ends, each with its reply
 abbrev pub tried_next : (keep_going : Bool) → Command Edit → (before : Shown (List ℕ)) → (others : Shown (List ℕ) → List Call)
     → Result (Shown (List ℕ)) (machine.Refusal Refusal) → List Call
 tried_next k c s others (Ok new) = (c, Granted) ∷ others new
@@ -35,15 +35,15 @@ abbrev pub tried : (keep_going : Bool) → List CommandAt → Shown (List ℕ) �
 tried k [] s = []
 tried k (c ∷ commands) s = tried_next k c.command s (λ t. tried k commands t) (answer c.command s)
 
--- A call does as stated: it is the machine's step; an edit that is granted changes the reading by exactly its stated change and no
--- byte outside its spans; a call that is not granted changes nothing.
+-- A call does as stated: it is the machine's step. An edit that is granted changes the reading by exactly its stated change, and
+-- changes no byte outside its spans. A call that is not granted changes nothing.
 abbrev pub DoesAsStated : Call → (before after : Shown (List ℕ)) → Type 0
 DoesAsStated (Apply e, Granted) x y = (answer (Apply e) x ≡ Ok y) × IsMade e x.text y.text
 DoesAsStated (c, Granted) x y = answer c x ≡ Ok y
 DoesAsStated (c, Refused q) x y = (answer c x ≡ Err q) × (y ≡ x)
 DoesAsStated (c, NoMemory) x y = y ≡ x
 
--- Calls in turn, each of which does.
+-- Calls in turn, each of which does as stated.
 abbrev pub DoAsStated : List Call → (first last : Shown (List ℕ)) → Type 0
 DoAsStated [] x z = z ≡ x
 DoAsStated (call ∷ calls) x z = (y : Shown (List ℕ)) × DoesAsStated call x y × DoAsStated calls y z
@@ -57,22 +57,23 @@ AreUndos (c ∷ commands) = (c.command ≡ Undo) × AreUndos commands
 
 -- A run of commands over a makefile.
 module _ (keep_going : Bool) (commands : List CommandAt) (makefile : List ℕ) (depth : ℕ) where
-  -- what is shown before them, and after them
+  -- what is shown before the commands, and after them
   abbrev first : Shown (List ℕ)
   first = shown_opened depth makefile
 
   abbrev last : Shown (List ℕ)
   last = (obeyed keep_going commands first).shown
 
-  -- those that were tried, with their replies, and the session machine after them
+  -- the commands that were tried, with their replies, and the session machine after them
   abbrev calls : List Call
   calls = tried keep_going commands first
 
   abbrev pub machine_after : EditMachine
   machine_after = after_calls depth calls (opened makefile)
 
-  -- They keep every byte that no edit concerns. Each does as stated. The text after them is that of replaying the edits that stand
-  -- over the makefile. While all of these are within the depth and no group is open, as many `undo` as there are members are all
+  -- The commands keep every byte that no edit concerns. Each does as stated. The text after them is the makefile with the edits
+  -- that stand replayed over it. If all of these edits are within the depth and no group is open, as many `undo` as members stand
+  -- are all granted, and give back the makefile.
   -- granted, and give back the makefile.
   pub record KeepEveryByte : Type 0 where
     pub each : DoAsStated calls first last
@@ -80,8 +81,8 @@ module _ (keep_going : Bool) (commands : List CommandAt) (makefile : List ℕ) (
     pub undone : machine_after.floor ≡ 0 → machine_after.group ≡ None → (undos : List CommandAt) → AreUndos undos → length undos ≡ length machine_after.done
         → ((obeyed keep_going undos last).refused ≡ 0) × ((obeyed keep_going undos last).shown.text ≡ makefile)
 
--- So do the commands of the script of any run; and the output of the run, where it has one, is the text of replaying the edits that
--- stand over the makefile.
+-- The commands of the script of any run keep every byte that no edit concerns. The output of the run, if it has one, is the
+-- makefile with the edits that stand replayed over it.
 abbrev pub RunsKeepEveryByte : Type 0
 RunsKeepEveryByte = (makefile script : List ℕ) (depth : ℕ) (keep_going : Bool) (commands : List CommandAt) (result : RunResult)
     → IsScript script commands → IsRun makefile script depth keep_going result

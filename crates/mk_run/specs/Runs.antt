@@ -19,21 +19,21 @@ pub record RunResult : Type 0 where
 
 -- ---- the end of the commands
 
--- what an answer shows; where it is a refusal, what was shown before
+-- what an answer shows; if the answer is a refusal, what was shown before it
 abbrev pub shown_or : Shown (List ℕ) → Result (Shown (List ℕ)) (machine.Refusal Refusal) → Shown (List ℕ)
 shown_or s (Ok new) = new
 shown_or s (Err q) = s
 
--- a group that is still open is ended, as by `end`
+-- what is shown once a group that is still open is ended, as by `end`
 abbrev pub ended : Shown (List ℕ) → Shown (List ℕ)
 ended s = shown_or s (answer End s)
 
--- Done, or how many were refused
+-- Done if no command was refused, and otherwise how many were
 abbrev pub outcome_after : (refused : ℕ) → o.Outcome
 outcome_after zero = Done
 outcome_after (suc n) = Refused (suc n)
 
--- the text that goes out: none, where a refusal ended the run
+-- the text that goes out; None if a refusal ended the run
 abbrev pub output_after : (keep_going : Bool) → (refused : ℕ) → (text : List ℕ) → Option (List ℕ)
 output_after true n text = Some text
 output_after false zero text = Some text
@@ -53,20 +53,20 @@ stopped outcome = record { outcome = outcome; report = []; output = None }
 abbrev pub IsTooLong : List ℕ → Type 0
 IsTooLong text = 2 ^ 24 < length text
 
--- the first fact where the case holds, and else the other
+-- `Then` if the case holds, and `Else` if it does not
 abbrev pub InCase : (Case Then Else : Type 0) → Type 0
 InCase Case Then Else = (Case × Then) ⊎ ((Case → ⊥) × Else)
 
--- The run of commands over a makefile comes to this result: by the first case that holds, of a makefile that is too long and one
--- that is too deep; else each command is obeyed in its turn.
+-- The run of commands over a makefile comes to this result, by the first case that holds: the makefile is too long, or it is too
+-- deep; otherwise each command is obeyed in its turn.
 abbrev pub IsRunOf : List CommandAt → (makefile : List ℕ) → (depth : ℕ) → (keep_going : Bool) → RunResult → Type 0
 IsRunOf commands makefile depth k result =
     InCase (IsTooLong makefile) (result ≡ stopped TooLong)
     (InCase (IsTooDeep makefile) (result ≡ stopped TooDeep)
     (result ≡ result_after k (obeyed k commands (shown_opened depth makefile))))
 
--- The run of a script over a makefile comes to this result: by the first case that holds, of a bad depth, a script that is too long,
--- and a line of it that is no command; else it is the run of its commands.
+-- The run of a script over a makefile comes to this result, by the first case that holds: the depth is bad, or the script is too
+-- long, or a line of the script is no command; otherwise it is the run of the script's commands.
 abbrev pub IsRun : (makefile script : List ℕ) → (depth : ℕ) → (keep_going : Bool) → RunResult → Type 0
 IsRun makefile script depth k result =
     InCase (IsBadDepth depth) (result ≡ stopped BadDepth)

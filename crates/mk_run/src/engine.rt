@@ -18,7 +18,7 @@ use mk_script::{NumberedCommand, ScriptFault, parse_script};
 use mk_session::{Refusal, Session};
 use std::alloc::Allocator;
 
-// The commands of a script, which is read to its end.
+// The commands of a script. The script is read to its end.
 fn read_script<A: Allocator + Copy, S: ByteSource>(
     alloc: A,
     script: &mut S,
@@ -40,7 +40,7 @@ fn read_script<A: Allocator + Copy, S: ByteSource>(
     }
 }
 
-// A session on a makefile, which is read to its end.
+// A session on a makefile. The makefile is read to its end.
 fn open_makefile<A: Allocator + Copy, R: ByteSource>(
     alloc: A,
     makefile: &mut R,
@@ -63,8 +63,8 @@ fn open_makefile<A: Allocator + Copy, R: ByteSource>(
     }
 }
 
-// Obeys the commands in order, and gives the number of those that were refused. The line on each is
-// reported at once.
+// Obeys the commands in order, and answers how many of them were refused. The line on each refusal
+// is written at once.
 fn obey_all<A: Allocator + Copy, P: ByteSink>(
     session: &mut Session<A>,
     commands: &[NumberedCommand<A>],
@@ -118,22 +118,22 @@ fn put_out<A: Allocator + Copy, W: ByteSink>(
     }
 }
 
-/// Runs a script over a makefile: the text after its commands goes to `out`, and a line on each
-/// refused command to `report`.
+/// Runs a script over a makefile. The text after the script's commands goes to `out`, and a line on
+/// each refused command goes to `report`.
 ///
-/// In order: the depth is tested; the script is read to its end and parsed whole; the makefile is
-/// read to its end and opened; the commands are obeyed in order; a group that is still open is ended;
-/// the text is written to `out` and then flushed once. A refused command changes nothing, and its
-/// line is reported at once; `report` is not flushed. `depth` is how many edits or groups can be
-/// undone. Without `keep_going` the first refusal ends the run; with it the rest is done. A reader is
-/// left once more than 16,777,216 bytes have come.
+/// In this order: the depth is tested; the script is read to its end and parsed whole; the makefile
+/// is read to its end and opened; the commands are obeyed in order; a group that is still open is
+/// ended; the text is written to `out` and then flushed once. A refused command changes nothing,
+/// and its line is written at once; `report` is not flushed. `depth` is how many edits or groups
+/// can be undone. Without `keep_going` the first refusal ends the run; with it, the other commands
+/// are obeyed too. A reader is read no further once more than 16,777,216 bytes have come.
 ///
-/// [`Outcome::NoMemory`] comes where a growth was refused, and hides what was not reached then: what
-/// more bytes of a reader would have brought, a later line of the script that is no command, how deep
-/// the makefile is. It never stands in place of a command's refusal.
+/// [`Outcome::NoMemory`] comes if a growth was refused. It hides what was not reached before that:
+/// further bytes of a reader, a later line of the script that is no command, how deep the makefile
+/// is. It never stands in the place of a command's refusal.
 ///
-/// Where the run ends before its text is written, `out` is neither written nor flushed. A fault of
-/// `out` leaves a prefix of the text there, one of `report` a prefix of the report.
+/// If the run ends before its text is written, `out` is neither written nor flushed. After a fault
+/// of `out` a prefix of the text is out, and after a fault of `report` a prefix of the report.
 pub fn run<A, R, S, W, P>(
     alloc: A,
     makefile: &mut R,
@@ -154,26 +154,28 @@ where
     requires out_works { W.failed out.old ≡ false }
     requires report_works { P.failed report.old ≡ false }
 
-    // It ends as the definitions say of the bytes of makefile and script, or for want of memory, or
-    // because a device failed; and says what is out then.
+    // The run ends as the definitions say for the bytes of makefile and script, or for want of
+    // memory, or because a device failed; the clause says what is out in each case.
     ensures law { IsRunOver (R.remaining makefile.old) (S.remaining script.old) depth keep_going result (P.failed report.new)
         (written (P.contents report.old) (P.contents report.new)) (written (W.contents out.old) (W.contents out.new)) }
     // Unless the text was written, `out` is as it was.
     ensures unwritten { is_printed result keep_going ≡ false → W.failed out.new ≡ false → out.new ≡ out.old }
     // Unless a command was reached, `report` is as it was.
     ensures unreported { may_report result ≡ false → report.new ≡ report.old }
-    // Nothing is read for a bad depth, and no makefile for a script that is not one.
+    // For a bad depth nothing is read; for a script with a line that is no command, no makefile is
+    // read.
     ensures unread { result ≡ Outcome.BadDepth → (script.new ≡ script.old) × (makefile.new ≡ makefile.old) }
     ensures script_first { (line : ℕ) → result ≡ Outcome.NotACommand line → makefile.new ≡ makefile.old }
     ensures makefile_taken { TakesAtMost (R.remaining makefile.old) (R.remaining makefile.new) (TEXT_LIMIT + BUFFER) }
     ensures script_taken { TakesAtMost (S.remaining script.old) (S.remaining script.new) (TEXT_LIMIT + BUFFER) }
 
-    // When these come, whatever the devices tell.
+    // When these outcomes come, whatever the devices tell.
     ensures bad_depth { (result ≡ Outcome.BadDepth) ↔ IsBadDepth depth }
     ensures read { result ≡ Outcome.Read ↔ IsTrue (R.failed makefile.new || S.failed script.new) }
     ensures write { result ≡ Outcome.Write ↔ IsTrue (W.failed out.new || P.failed report.new) }
 
-    // The text is flushed once and whole, where it is out, and else not at all; the report never is.
+    // If the text is out, it is whole and flushed once; otherwise there is no flush. The report is
+    // never flushed.
     ensures flushed { W.flushes out.new ≡ count_if (is_printed result keep_going) (W.flushes out.old) }
     ensures settled { is_printed result keep_going ≡ true → IfSome (W.pending out.new) (λ n. n ≡ 0) }
     ensures report { P.flushes report.new ≡ P.flushes report.old }

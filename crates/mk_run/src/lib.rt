@@ -1,10 +1,10 @@
 //! A script of edits over a makefile: every byte that no edit concerns stays.
 //!
-//! [`run`] reads a script and a makefile, obeys the script's commands, and writes the text and a line
-//! on each refused command. [`status`] and [`message`] say how it ended.
+//! [`run`] reads a script and a makefile, obeys the script's commands, and writes the text and a
+//! line on each refused command. [`status`] and [`message`] say how the run ended.
 //!
 //! - `engine`: the run, in its steps.
-//! - [`laws`]: what holds of every run.
+//! - [`laws`]: what holds for every run.
 //! - `outcome`: how a run ends.
 //! - `report`: the lines on refused commands.
 #![tactic(auto)]

@@ -12,16 +12,16 @@ use mk_lines::{ByteSink, Fault};
 pub enum Outcome {
     /// Every command was done, and the text is out.
     Done,
-    /// So many commands were refused. Where the run keeps going, the text is out; else the run
-    /// ended at the first refusal, and nothing is.
+    /// This many commands were refused. If the run keeps going, the text is out; otherwise the run
+    /// ended at the first refusal, and nothing is out.
     Refused(u64),
-    /// The script's line of this number, counted from 1, is no command. Nothing is out.
+    /// The script's line of this number, from 1, is no command. Nothing is out.
     NotACommand(u64),
     /// The depth is not from 1 to 10,000. Nothing was read.
     BadDepth,
     /// The script or the makefile has more than 16,777,216 bytes.
     TooLong,
-    /// The makefile has a 257th open conditional.
+    /// More than 256 conditionals of the makefile are open at once.
     TooDeep,
     /// The script or the makefile could not be read.
     Read,
@@ -60,7 +60,7 @@ pub fn status(outcome: &Outcome) -> u8
     }
 }
 
-// The message on the line of this number, which is no command.
+// The message on the script's line of this number, which is no command.
 fn write_not_a_command<W: ByteSink>(out: &mut W, line: u64) -> Result<(), Fault>
     requires { W.failed out.old ≡ false }
     ensures whole { OnOk result (Appends (W.contents out.old) (W.contents out.new) (not_a_command_message line)) }
@@ -77,12 +77,12 @@ fn write_not_a_command<W: ByteSink>(out: &mut W, line: u64) -> Result<(), Fault>
     )
 }
 
-/// Writes the message on an outcome, a line: `mkedit: ` and what went wrong. There is none for
-/// Done, and none for Refused, on which the report has said all.
+/// Writes the message on an outcome: one line, with `mkedit: ` and what went wrong. There is no
+/// message for Done, and none for Refused, since the report has told the refusals.
 ///
 /// # Errors
 ///
-/// [`Fault::Write`] where the sink failed. A prefix of the message is out then.
+/// [`Fault::Write`] if the sink failed. A prefix of the message is out then.
 pub fn message<W: ByteSink>(outcome: &Outcome, out: &mut W) -> Result<(), Fault>
     requires { W.failed out.old ≡ false }
     ensures whole { OnOk result (Appends (W.contents out.old) (W.contents out.new) (message_of outcome.now)) }

@@ -8,11 +8,11 @@ use mk_lines::sink::write_parts;
 use mk_lines::{ByteSink, Fault};
 use mk_session::{Detail, Refusal};
 
-/// Writes the line on the refusal of the command in the script's line of this number.
+/// Writes the line on a refused command. `line` is the number of its line in the script, from 1.
 ///
 /// # Errors
 ///
-/// [`Fault::Write`] where the sink failed. A prefix of the line is out then.
+/// [`Fault::Write`] if the sink failed. A prefix of the line is out then.
 pub fn report_refusal<W: ByteSink>(out: &mut W, line: u64, refusal: Refusal) -> Result<(), Fault>
     requires { W.failed out.old ≡ false }
     ensures whole { OnOk result (Appends (W.contents out.old) (W.contents out.new) (report_line line refusal)) }

@@ -15,12 +15,12 @@ use Rattle.mk_script.specs.declared.word.PlaceWord.TheVariants as place
 
 -- ---- places
 
--- a place by the field after its first word, and what follows that field
+-- a place, made from the field after its first word, and what follows that field
 abbrev pub placed_at : (List ℕ → Place) → Option (List ℕ × List ℕ) → Option (Place × List ℕ)
 placed_at make None = None
 placed_at make (Some p) = Some (make p.0, p.1)
 
--- the bottom, before which no number stands
+-- the place `bottom`, before which no number stands
 abbrev pub bottom : (nth : Option ℕ) → (rest : List ℕ) → Option (Place × List ℕ)
 bottom None rest = Some (Bottom, rest)
 bottom (Some n) rest = None
@@ -36,7 +36,7 @@ abbrev pub place_after : (nth : Option ℕ) → Option (List ℕ × List ℕ) �
 place_after nth None = None
 place_after nth (Some p) = place_by_word nth (named places p.0) p.1
 
--- the place that a text begins with, and what follows it
+-- the place at the front of a text, and what follows it
 abbrev pub place_at_front : (nth : Option ℕ) → List ℕ → Option (Place × List ℕ)
 place_at_front nth rest = place_after nth (first_field rest)
 
@@ -109,7 +109,7 @@ edit_by_word nth (Some word.RecipeSet) rest = set_recipe_after nth (three_fields
 edit_by_word nth (Some word.RecipeDel) rest = remove_recipe_after nth (two_fields rest)
 edit_by_word nth (Some word.Rename) rest = rename_of nth rest
 
--- an edit by its first field and what follows that
+-- an edit, from its first field and what follows that field
 abbrev pub edit : (nth : Option ℕ) → (first rest : List ℕ) → Option Edit
 edit nth first rest = edit_by_word nth (named edit_words first) rest
 
@@ -123,16 +123,16 @@ abbrev pub edit_after_number : Option ℕ → (rest : List ℕ) → Option Edit
 edit_after_number None rest = None
 edit_after_number (Some n) rest = numbered_edit n (first_field rest)
 
--- an edit by what follows `nth`
+-- an edit, from what follows `nth`
 abbrev pub edit_after_nth : Option (List ℕ × List ℕ) → Option Edit
 edit_after_nth None = None
 edit_after_nth (Some p) = edit_after_number (number p.0) p.1
 
--- an edit, after `nth` and a number or without
+-- an edit, with or without `nth` and a number before it
 abbrev pub addressed_edit : (first rest : List ℕ) → Option Edit
 addressed_edit first rest = if bytes_eq first (codes "nth") then edit_after_nth (first_field rest) else edit None first rest
 
--- a call that was named, or else an edit
+-- the call that was named, if one was; otherwise an edit
 abbrev pub call_or_edit : Option (Command Edit) → (first rest : List ℕ) → Option (Command Edit)
 call_or_edit (Some c) first rest = if is_blank rest then Some c else None
 call_or_edit None first rest = option_map Apply (addressed_edit first rest)

@@ -8,7 +8,7 @@ use Rattle.mk_script.specs.Numbers.{IsNumber}
 
 -- ---- addresses and places
 
--- some words, after `nth` and a number where there is one
+-- some words, after `nth` and a number if there is one
 abbrev pub IsAfterNth : (nth : Option ℕ) → (fields words : List (List ℕ)) → Type 0
 IsAfterNth None fields words = fields ≡ words
 IsAfterNth (Some n) fields words = (digits : List ℕ) × IsNumber digits n × (fields ≡ codes "nth" ∷ digits ∷ words)

@@ -17,7 +17,7 @@ abbrev pub is_empty : List ℕ → Bool
 is_empty [] = true
 is_empty (b ∷ text) = false
 
--- whether a text is blanks
+-- whether a text has only blanks
 abbrev pub is_blank : List ℕ → Bool
 is_blank text = is_empty (after_blanks text)
 
@@ -32,8 +32,8 @@ bare_len text = prefix_len (λ b. not (is_blank_byte b)) text
 
 -- ---- quotes
 
--- The bytes between quotes without their escapes, of what follows a backslash or not: a backslash goes, and the byte after it
--- stays.
+-- The bytes between quotes, without their escapes: a backslash goes, and the byte after it stays. `after_backslash` says whether
+-- a backslash stands before the text.
 abbrev pub unescaped : (after_backslash : Bool) → List ℕ → List ℕ
 unescaped s [] = []
 unescaped true (b ∷ text) = b ∷ unescaped false text
@@ -43,12 +43,13 @@ unescaped false (b ∷ text) = if b == 92 then unescaped true text else b ∷ un
 abbrev pub IsEscaped : List ℕ → Type 0
 IsEscaped text = escaped (unescaped false text) ≡ text
 
--- one byte more in front of the first of two texts
+-- one byte more at the front of the first of two texts
 abbrev pub with_byte : ℕ → Option (List ℕ × List ℕ) → Option (List ℕ × List ℕ)
 with_byte b None = None
 with_byte b (Some p) = Some (b ∷ p.0, p.1)
 
--- a text up to the quote that ends a field, and what follows the quote; of what follows a backslash or not
+-- a text up to the quote that ends a field, and what follows the quote; `after_backslash` says whether a backslash stands before
+-- the text
 abbrev pub until_quote : (after_backslash : Bool) → List ℕ → Option (List ℕ × List ℕ)
 until_quote s [] = None
 until_quote true (b ∷ text) = if is_special b then with_byte b (until_quote false text) else None
@@ -56,22 +57,22 @@ until_quote false (b ∷ text) = if b == 34 then Some ([], text) else with_byte 
 
 -- ---- fields
 
--- a field between quotes and the rest of its line, which ends the field
+-- a quoted field, from what stands between its quotes and what follows them, which has to end the field
 abbrev pub quoted_field : Option (List ℕ × List ℕ) → Option (List ℕ × List ℕ)
 quoted_field None = None
 quoted_field (Some p) = if ends_field p.1 then Some (unescaped false p.0, p.1) else None
 
--- the field that a text begins with, and what follows it
+-- the field at the front of a text, and what follows it
 abbrev pub field_at_front : List ℕ → Option (List ℕ × List ℕ)
 field_at_front [] = None
 field_at_front (b ∷ text) =
     if b == 34 then quoted_field (until_quote false text) else Some (take (bare_len (b ∷ text)) (b ∷ text), drop (bare_len (b ∷ text)) (b ∷ text))
 
--- the first field of a line, and what follows it; none where the line is blanks, or a quote is bad
+-- the first field of a line, and what follows it; None if the line has only blanks, or if a quote is bad
 abbrev pub first_field : List ℕ → Option (List ℕ × List ℕ)
 first_field line = field_at_front (after_blanks line)
 
--- the field of a line that has just one
+-- the field of a line that has exactly one
 abbrev pub last_field : Option (List ℕ × List ℕ) → Option (List ℕ)
 last_field None = None
 last_field (Some p) = if is_blank p.1 then Some p.0 else None
@@ -79,7 +80,7 @@ last_field (Some p) = if is_blank p.1 then Some p.0 else None
 abbrev pub one_field : List ℕ → Option (List ℕ)
 one_field line = last_field (first_field line)
 
--- the fields of a line that has just two
+-- the fields of a line that has exactly two
 abbrev pub with_one : Option (List ℕ × List ℕ) → Option (List ℕ × List ℕ)
 with_one None = None
 with_one (Some p) = option_map (λ f. (p.0, f)) (one_field p.1)
@@ -87,7 +88,7 @@ with_one (Some p) = option_map (λ f. (p.0, f)) (one_field p.1)
 abbrev pub two_fields : List ℕ → Option (List ℕ × List ℕ)
 two_fields line = with_one (first_field line)
 
--- the fields of a line that has just three
+-- the fields of a line that has exactly three
 abbrev pub with_two : Option (List ℕ × List ℕ) → Option (List ℕ × List ℕ × List ℕ)
 with_two None = None
 with_two (Some p) = option_map (λ q. (p.0, q.0, q.1)) (two_fields p.1)

@@ -8,7 +8,7 @@ use Rattle.mk_history.specs.Machine.{Command}
 use Rattle.mk_script.specs.Fields.{HasFields}
 use Rattle.mk_script.specs.Commands.{IsCommand}
 
--- the lines of a script, without their line ends, LF or CR LF
+-- the lines of a script, without their line ends, which are LF or CR LF
 abbrev pub script_lines : List ℕ → List (List ℕ)
 script_lines script = map without_terminator (lines_of script)
 
@@ -17,7 +17,7 @@ abbrev pub IsComment : List ℕ → Type 0
 IsComment [] = ⊥
 IsComment (b ∷ line) = b ≡ 35
 
--- a line that is skipped: a comment, or blanks
+-- a line that is skipped: a comment, or a line of blanks only
 abbrev pub IsSkipped : List ℕ → Type 0
 IsSkipped line = IsComment line ⊎ Each is_blank_byte line
 
@@ -25,6 +25,6 @@ IsSkipped line = IsComment line ⊎ Each is_blank_byte line
 abbrev pub HasCommand : (line : List ℕ) → Command Edit → Type 0
 HasCommand line command = (fields : List (List ℕ)) × HasFields line fields × IsCommand fields command
 
--- a line that is skipped or a command
+-- a line that is skipped, or is a command
 abbrev pub IsReadable : List ℕ → Type 0
 IsReadable line = IsSkipped line ⊎ ((command : Command Edit) × HasCommand line command)

@@ -9,7 +9,7 @@ use Rattle.mk_script.specs.declared.fault.LineFault.TheVariants.{NotACommand, No
 use Rattle.mk_script.specs.declared.edit.WrittenPlace.{WrittenPlace}
 use Rattle.mk_script.specs.declared.edit.WrittenPlace.TheVariants as written
 
--- A reader found in a text what stands there, as this sees it, or answered an error where nothing does.
+-- A reader found in a text what stands there, as `seen` sees it; or it answered an error, and nothing stands there.
 abbrev pub IsFound : {V X E : Type 0} → (seen : V → X) → Option X → Result V E → Type 0
 IsFound seen stands (Ok v) = stands ≡ Some (seen v)
 IsFound seen stands (Err e) = stands ≡ None
@@ -18,23 +18,23 @@ abbrev pub is_short : LineFault → Bool
 is_short NotACommand = false
 is_short NoMemory = true
 
--- So too where texts were copied: memory is short only where something stands there.
+-- The same for a reader that copies texts: it answers that memory is short only if something stands there.
 abbrev pub IsRead : {V X : Type 0} → (seen : V → X) → Option X → Result V LineFault → Type 0
 IsRead seen stands (Ok v) = stands ≡ Some (seen v)
 IsRead seen stands (Err fault) = is_some stands ≡ is_short fault
 
--- a place whose text is in the line
+-- a place whose text is still in the line
 abbrev pub written_place : WrittenPlace → edits.Place
 written_place written.Bottom = edits.Bottom
 written_place (written.BeforeVar nth name) = edits.BeforeVar nth (field_text name)
 written_place (written.AfterVar nth name) = edits.AfterVar nth (field_text name)
 written_place (written.BeforeRule nth target) = edits.BeforeRule nth (field_text target)
 
--- and what follows it
+-- such a place, and what follows it
 abbrev pub place_and_rest : WrittenPlace × Bor (List ℕ) → edits.Place × List ℕ
 place_and_rest p = (written_place p.0, p.1.now)
 
--- whether a line is skipped
+-- whether a line begins with `#`
 abbrev pub begins_comment : List ℕ → Bool
 begins_comment [] = false
 begins_comment (b ∷ line) = b == 35

@@ -1,4 +1,4 @@
--- Laws of lines and of scripts; each the contract of a public function.
+-- Laws of lines and of scripts. Each law is the contract of a public function.
 use Rattle.std.specs.Prelude.{◌≡◌, ◌⊎◌, ℕ, ◌≤◌, List, [], ◌∷◌, ◌++◌, Option, Some, None}
 use Rattle.mk_edit_laws.specs.Edits.{Edit, SetValue, AppendValue, AddAssign, RemoveAssign, AddRule, RemoveRule, AddPrereq, RemovePrereq, AddRecipe, SetRecipe, RemoveRecipe, RenameTarget}
 use Rattle.mk_history.specs.Machine.{Command, Apply}
@@ -13,16 +13,16 @@ use Rattle.mk_script.specs.Scripts.{CommandAt, IsScript, HasNoCommand}
 abbrev pub FieldsAreOne : Type 0
 FieldsAreOne = (line : List ℕ) (fields others : List (List ℕ)) → HasFields line fields → HasFields line others → fields ≡ others
 
--- any fields, each between quotes and with a space after it
+-- a line made of any fields, each between quotes and with a space after it
 abbrev pub line_of : List (List ℕ) → List ℕ
 line_of [] = []
 line_of (field ∷ fields) = quoted field ++ 32 ∷ line_of fields
 
--- Fields that are written so are those of the line.
+-- Fields that are written in this way are those of the line.
 abbrev pub WrittenFieldsAreRead : Type 0
 WrittenFieldsAreRead = (fields : List (List ℕ)) → HasFields (line_of fields) fields
 
--- A line is at most one command, and none where it is skipped.
+-- A line is at most one command; a line that is skipped is none.
 abbrev pub CommandIsOne : Type 0
 CommandIsOne = (line : List ℕ) (command other : Command Edit) → HasCommand line command → HasCommand line other → command ≡ other
 
@@ -63,14 +63,14 @@ EachCommandHasALine = (command : Command Edit) → HasLine command → (line : L
 abbrev pub CommandsAreOne : Type 0
 CommandsAreOne = (script : List ℕ) (commands others : List CommandAt) → IsScript script commands → IsScript script others → commands ≡ others
 
--- It has not both commands and a line without one.
+-- No script has both commands and a line that is no command.
 abbrev pub NotBoth : Type 0
 NotBoth = (script : List ℕ) (commands : List CommandAt) (number : ℕ) → IsScript script commands → HasNoCommand script number → ⊥
 
--- At most one line is the first without a command.
+-- At most one line is the first line that is no command.
 abbrev pub FaultIsOne : Type 0
 FaultIsOne = (script : List ℕ) (number other : ℕ) → HasNoCommand script number → HasNoCommand script other → number ≡ other
 
--- Each script has commands, or a first line without one.
+-- Each script has commands, or a first line that is no command.
 abbrev pub EachScriptIsRead : Type 0
 EachScriptIsRead = (script : List ℕ) → ((commands : List CommandAt) × IsScript script commands) ⊎ ((number : ℕ) × HasNoCommand script number)

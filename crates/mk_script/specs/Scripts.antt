@@ -1,4 +1,4 @@
--- What a script says: its commands with the numbers of their lines, or its first line without one.
+-- What a script says: its commands with the numbers of their lines, or its first line that is no command.
 use Rattle.std.specs.Prelude.{◌≡◌, ◌⊎◌, ℕ, ◌+◌, List, [], ◌∷◌, ◌++◌, length}
 use Rattle.std.specs.List.{AllByRecursion}
 use Rattle.mk_edit_laws.specs.Edits.{Edit}
@@ -16,7 +16,7 @@ pub record CommandAt : Type 0 where
   pub line : ℕ
   pub command : Command Edit
 
--- Lines of which the first has this number are these commands, each with the number of its line; every other line is skipped.
+-- Lines, the first of which has this number, are these commands, each with the number of its line; every other line is skipped.
 abbrev pub AreCommands : (number : ℕ) → (lines : List (List ℕ)) → List CommandAt → Type 0
 AreCommands n [] [] = Unit {0}
 AreCommands n [] (c ∷ commands) = ⊥
@@ -29,9 +29,9 @@ AreCommands n (line ∷ lines) (c ∷ commands) =
 abbrev pub IsScript : (script : List ℕ) → List CommandAt → Type 0
 IsScript script commands = AreCommands 1 (script_lines script) commands
 
--- ---- a line without a command
+-- ---- a line that is no command
 
--- The line of this number, counted from 1, has this property, and each line before it is skipped or a command.
+-- The line of this number, from 1, has this property, and each line before it is skipped or is a command.
 pub record IsReached (Property : List ℕ → Type 0) (script : List ℕ) (number : ℕ) : Type 0 where
   pub before : List (List ℕ)
   pub line : List ℕ
@@ -41,7 +41,7 @@ pub record IsReached (Property : List ℕ → Type 0) (script : List ℕ) (numbe
   pub read : AllByRecursion IsReadable before
   pub property : Property line
 
--- The line of this number is neither skipped nor a command, and each line before it is one of both.
+-- The line of this number is neither skipped nor a command, and each line before it is skipped or is a command.
 abbrev pub HasNoCommand : (script : List ℕ) → (number : ℕ) → Type 0
 HasNoCommand script number = IsReached (λ line. IsReadable line → ⊥) script number
 
@@ -55,8 +55,8 @@ ReachesCommand script number = IsReached (λ line. (command : Command Edit) × H
 abbrev pub numbered : {A : _} → NumberedCommand A → CommandAt
 numbered c = record { line = c.line; command = command_of c.command }
 
--- Why a script was not read: a line is no command, or memory was short for the texts of a command; no line before that one is at
--- fault.
+-- Why a script was not read: a line is no command, or memory was short for the texts of a command. Each line before it is skipped
+-- or is a command.
 abbrev pub IsScriptFault : (script : List ℕ) → ScriptFault → Type 0
 IsScriptFault script (NotACommand number) = HasNoCommand script number
 IsScriptFault script NoMemory = (number : ℕ) × ReachesCommand script number

@@ -1,4 +1,4 @@
--- What the fields that the code finds in a line are seen as: their bytes.
+-- What contracts see of the fields that the code finds in a line: their bytes.
 use Rattle.std.specs.Prelude.{◌≡◌, ◌⊎◌, ℕ, true, false, if◌then◌else◌, List}
 use Rattle.std.specs.List.{list_any}
 use Rattle.std.specs.Borrow.{Bor}
@@ -14,7 +14,7 @@ field_text f = if f.is_quoted then unescaped false f.written.now else f.written.
 abbrev pub field_and_rest : Field × Bor (List ℕ) → List ℕ × List ℕ
 field_and_rest p = (field_text p.0, p.1.now)
 
--- two fields, and three
+-- two fields; three fields
 abbrev pub two_texts : Field × Field → List ℕ × List ℕ
 two_texts p = (field_text p.0, field_text p.1)
 
@@ -25,6 +25,6 @@ three_texts p = (field_text p.0, field_text p.1, field_text p.2)
 abbrev pub two_parts : Bor (List ℕ) × Bor (List ℕ) → List ℕ × List ℕ
 two_parts p = (p.0.now, p.1.now)
 
--- a field stands in its line as it is, or both hold quotes or backslashes
+-- a field stands in its line as it is, or both it and its written form have quotes or backslashes
 abbrev pub IsWrittenPlain : (field written : List ℕ) → Type 0
 IsWrittenPlain field written = (written ≡ field) ⊎ ((list_any is_special field ≡ true) × (list_any is_special written ≡ true))

@@ -1,4 +1,4 @@
--- Words of a script by tables.
+-- The words of a script, in tables.
 use Rattle.std.specs.Prelude.{ℕ, if◌then◌else◌, List, [], ◌∷◌, Option, Some, None, codes}
 use Rattle.std.specs.Str.{bytes_eq}
 use Rattle.mk_class.specs.declared.assignment.Flavor.{Flavor}
@@ -14,12 +14,12 @@ use Rattle.mk_script.specs.declared.word.EditWord.TheVariants as word
 use Rattle.mk_script.specs.declared.word.PlaceWord.{PlaceWord}
 use Rattle.mk_script.specs.declared.word.PlaceWord.TheVariants as place
 
--- what the first pair of a table has whose text this is
+-- what the first pair of a table with this text has
 abbrev pub named : {K : Type 0} → List (K × List ℕ) → List ℕ → Option K
 named [] text = None
 named (entry ∷ table) text = if bytes_eq text entry.1 then Some entry.0 else named table text
 
--- the calls of a session without an edit
+-- the calls of a session that have no edit
 abbrev pub calls : List (Command Edit × List ℕ)
 calls = (Undo, codes "undo") ∷ (Redo, codes "redo") ∷ (Begin, codes "begin") ∷ (End, codes "end") ∷ (Cancel, codes "cancel") ∷ []
 

@@ -1,5 +1,5 @@
-//! The command of a line: a call of a session by its word alone, or an edit, before which `nth` and a
-//! number may stand.
+//! The command of a line: a call of a session that is one word, or an edit, before which `nth` and
+//! a number may stand.
 ghost use Rattle.std.specs.Prelude.{◌≡◌};
 ghost use Rattle.mk_session.specs.CommandViews.{command_of};
 ghost use Rattle.mk_edit_parts.specs.EditViews.{edit_of};
@@ -16,7 +16,7 @@ use crate::word::call;
 use mk_session::{Command, Edit};
 use std::alloc::Allocator;
 
-/// Whether a line is skipped: its first byte is `#`, or it is blanks.
+/// Whether a line is skipped: its first byte is `#`, or it has only blanks.
 pub(crate) fn is_skipped(line: &[u8]) -> bool
     ensures { result ≡ is_skipped line.now }
 {
@@ -36,7 +36,7 @@ fn begins_comment(line: &[u8]) -> bool
 ///
 /// # Errors
 ///
-/// `NotACommand` where it is none; `NoMemory` where it is one, and a growth was refused.
+/// `NotACommand` if the line is no command; `NoMemory` if it is one, and a growth was refused.
 #[tactic(auto, using(crate::proofs::on_commands::TableLemmas::is_some_mapped))]
 pub(crate) fn read_command<A: Allocator + Copy>(
     alloc: A,
@@ -52,7 +52,7 @@ pub(crate) fn read_command<A: Allocator + Copy>(
     }
 }
 
-// The edit of a line, by its first word, which may be `nth`, and what follows that.
+// The edit of a line, from its first word, which may be `nth`, and what follows that word.
 fn read_addressed<A: Allocator + Copy>(
     alloc: A,
     word: Field<'_>,

@@ -1,7 +1,7 @@
-//! The edits, by the fields after their word.
+//! The edits, read from the fields after their word.
 //!
-//! Fields stay in their line until all of them are known to make an edit. Then their bytes are copied,
-//! once each: memory is asked for only where there is an edit.
+//! Fields stay in their line until it is known that they make an edit. Then their bytes are copied,
+//! once each: memory is asked for only if there is an edit.
 ghost use Rattle.std.specs.Prelude.{◌≡◌, IfOk, true, false};
 ghost use Rattle.mk_edit_laws.specs.Edits as edits;
 ghost use Rattle.mk_edit_parts.specs.EditViews.{edit_of, place_of};
@@ -50,7 +50,7 @@ impl<'a> WrittenPlace<'a> {
     }
 }
 
-// The place that a text begins with, and what follows it. No number may stand before `bottom`.
+// The place at the front of a text, and what follows it. No number may stand before `bottom`.
 fn place_at_front(nth: Option<u32>, text: &[u8]) -> Result<(WrittenPlace<'_>, &[u8]), NotThere>
     ensures { IsFound place_and_rest (place_at_front nth text.now) result }
 {
@@ -76,11 +76,11 @@ fn place_at_front(nth: Option<u32>, text: &[u8]) -> Result<(WrittenPlace<'_>, &[
     }
 }
 
-/// The edit that a word and the fields after it make. A number may stand before it.
+/// The edit that a word and the fields after it make. A number may stand before the word.
 ///
 /// # Errors
 ///
-/// `NotACommand` where they make none; `NoMemory` where they do, and a growth was refused.
+/// `NotACommand` if they make no edit; `NoMemory` if they make one, and a growth was refused.
 pub(crate) fn read_edit<A: Allocator + Copy>(
     alloc: A,
     nth: Option<u32>,
@@ -295,7 +295,7 @@ fn read_recipe_del<A: Allocator + Copy>(
     })
 }
 
-// `rename OLD NEW`, before which no number may stand.
+// `rename OLD NEW`. No number may stand before it.
 fn read_rename<A: Allocator + Copy>(
     alloc: A,
     nth: Option<u32>,

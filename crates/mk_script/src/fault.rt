@@ -11,9 +11,9 @@ pub(crate) struct NotThere;
 /// Why a line of a script gave no command.
 #[derive(Clone, Copy, Debug)]
 pub(crate) enum LineFault {
-    /// It is none.
+    /// The line is no command.
     NotACommand,
-    /// It is one, and a growth for its texts was refused.
+    /// The line is a command, and a growth for its texts was refused.
     NoMemory,
 }
 

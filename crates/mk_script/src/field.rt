@@ -1,7 +1,7 @@
 //! A field of a line.
 //!
-//! It is written as it is, where it is not empty, holds no blank and does not begin with a quote; or
-//! between quotes, with a backslash before each quote and each backslash of it.
+//! A field is written as it is, if it is not empty, has no blank and does not begin with a quote;
+//! or it is written between quotes, with a backslash before each quote and each backslash in it.
 ghost use Rattle.std.specs.Prelude.{◌≡◌, ◌++◌, true, false, IfOk, OnOk};
 ghost use Rattle.std.specs.List.{list_any};
 ghost use Rattle.std.specs.Str.{bytes_eq};
@@ -15,7 +15,7 @@ use std::alloc::{AllocError, Allocator};
 pub(crate) struct Field<'a> {
     /// Its bytes in the line, without the quotes around them.
     written: &'a [u8],
-    /// Whether there are quotes; then a backslash stands before each quote and backslash.
+    /// Whether there are quotes. If so, a backslash stands before each quote and each backslash.
     is_quoted: bool,
     ghost escapes: { is_quoted ≡ true → IsEscaped written.now },
 }
@@ -33,7 +33,7 @@ impl<'a> Field<'a> {
         }
     }
 
-    /// A field that is written between quotes, by what stands between them.
+    /// A field that is written between quotes, from what stands between them.
     pub(crate) fn quoted(written: &'a [u8]) -> Self
         requires { IsEscaped written.now }
         ensures { field_text result ≡ unescaped false written.now }
@@ -44,7 +44,7 @@ impl<'a> Field<'a> {
         }
     }
 
-    /// Whether the field is this word, which has neither quotes nor backslashes.
+    /// Whether the field is this word. The word has no quotes and no backslashes.
     pub(crate) fn is(self, word: &[u8]) -> bool
         requires { list_any is_special word.now ≡ false }
         ensures { result ≡ bytes_eq (field_text self.entry) word.now }
@@ -52,8 +52,8 @@ impl<'a> Field<'a> {
         self.written == word
     }
 
-    /// The bytes of the field in the line. They are those of the field, unless some are quotes or
-    /// backslashes.
+    /// The bytes of the field as they stand in the line. They are the bytes of the field, unless
+    /// some of these are quotes or backslashes.
     pub(crate) fn written(self) -> &'a [u8]
         ensures { IsWrittenPlain (field_text self.entry) result.now }
     {
@@ -74,7 +74,8 @@ impl<'a> Field<'a> {
     }
 }
 
-// Puts the bytes of a field after a text: each byte but the backslashes that stand before others.
+// Puts the bytes of a field after a text: each byte except the backslashes that escape another
+// byte.
 fn push_unescaped<A: Allocator>(text: &mut Vec<u8, A>, written: &[u8]) -> Result<(), AllocError>
     ensures { OnOk result (text.new.items ≡ text.old.items ++ unescaped false written.now) }
 {

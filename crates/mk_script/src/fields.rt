@@ -1,6 +1,6 @@
 //! The fields of a line, read from its front.
 //!
-//! Fields have blanks between them, before them and after them.
+//! Blanks stand between fields, and may stand before and after them.
 ghost use Rattle.std.specs.Prelude.{◌≡◌, ◌≤◌, false, length, option_map};
 ghost use Rattle.mk_lines.specs.Bytes.{is_blank_byte};
 ghost use Rattle.mk_script.specs.Fields.{is_special};
@@ -41,7 +41,7 @@ fn after_blanks(text: &[u8]) -> &[u8]
     &text[blanks_before(text)..]
 }
 
-/// Whether a text is blanks.
+/// Whether a text has only blanks.
 pub(crate) fn is_blank(text: &[u8]) -> bool
     ensures { result ≡ is_blank text.now }
 {
@@ -58,8 +58,8 @@ fn ends_field(text: &[u8]) -> bool
     }
 }
 
-// A text up to the quote that ends a field, and what follows the quote. A backslash before a quote or
-// a backslash belongs to the field; no other may stand there.
+// A text up to the quote that ends a field, and what follows the quote. A backslash before a quote
+// or before a backslash belongs to the field; no other backslash may stand there.
 fn split_at_quote(text: &[u8]) -> Option<(&[u8], &[u8])>
     ensures { option_map two_parts result ≡ until_quote false text.now }
 {
@@ -86,7 +86,7 @@ fn is_special(byte: u8) -> bool
     matches!(byte, b'"' | b'\\')
 }
 
-// The field that stands in a text after its opening quote, and what follows the field.
+// The field in a text that follows the field's opening quote, and what follows the field.
 fn quoted_field(text: &[u8]) -> Result<(Field<'_>, &[u8]), NotThere>
     ensures { IsFound field_and_rest (quoted_field (until_quote false text.now)) result }
 {
@@ -100,7 +100,7 @@ fn quoted_field(text: &[u8]) -> Result<(Field<'_>, &[u8]), NotThere>
 ///
 /// # Errors
 ///
-/// Where the line is blanks, or begins with a field whose quotes are amiss.
+/// [`NotThere`] if the line has only blanks, or begins with a field whose quotes are bad.
 pub(crate) fn first_field(line: &[u8]) -> Result<(Field<'_>, &[u8]), NotThere>
     ensures { IsFound field_and_rest (first_field line.now) result }
 {
@@ -115,11 +115,11 @@ pub(crate) fn first_field(line: &[u8]) -> Result<(Field<'_>, &[u8]), NotThere>
     }
 }
 
-/// The field of a line that has just one.
+/// The field of a line that has exactly one.
 ///
 /// # Errors
 ///
-/// Where the line has none, or another number of them, or its quotes are amiss.
+/// [`NotThere`] if the line does not have exactly one field, or its quotes are bad.
 pub(crate) fn one_field(line: &[u8]) -> Result<Field<'_>, NotThere>
     ensures { IsFound field_text (one_field line.now) result }
 {
@@ -131,11 +131,11 @@ pub(crate) fn one_field(line: &[u8]) -> Result<Field<'_>, NotThere>
     }
 }
 
-/// The fields of a line that has just two.
+/// The fields of a line that has exactly two.
 ///
 /// # Errors
 ///
-/// As of [`one_field`].
+/// [`NotThere`] if the line does not have exactly two fields, or its quotes are bad.
 pub(crate) fn two_fields(line: &[u8]) -> Result<(Field<'_>, Field<'_>), NotThere>
     ensures { IsFound two_texts (two_fields line.now) result }
 {
@@ -144,11 +144,11 @@ pub(crate) fn two_fields(line: &[u8]) -> Result<(Field<'_>, Field<'_>), NotThere
     Ok((first, second))
 }
 
-/// The fields of a line that has just three.
+/// The fields of a line that has exactly three.
 ///
 /// # Errors
 ///
-/// As of [`one_field`].
+/// [`NotThere`] if the line does not have exactly three fields, or its quotes are bad.
 pub(crate) fn three_fields(line: &[u8]) -> Result<(Field<'_>, Field<'_>, Field<'_>), NotThere>
     ensures { IsFound three_texts (three_fields line.now) result }
 {

@@ -1,4 +1,4 @@
-//! Laws that hold of every script, each as the contract of a function that does nothing.
+//! Laws that hold for every script, each as the contract of a function that does nothing.
 ghost use Rattle.mk_script.specs.ScriptLaws.{CommandIsOne, CommandsAreOne, EachCommandHasALine, EachScriptIsRead, FaultIsOne, FieldsAreOne, NotBoth, SkippedIsNoCommand, WrittenFieldsAreRead};
 
 /// A line has at most one list of fields, and any fields have a line.
@@ -7,15 +7,16 @@ pub fn lines_and_fields()
     ensures written { WrittenFieldsAreRead }
 {}
 
-/// A line is at most one command, and none where it is skipped; each command whose numbers a script
-/// can write has a line.
+/// A line is at most one command; a line that is skipped is none. Each command whose numbers a
+/// script can write has a line.
 pub fn lines_and_commands()
     ensures one { CommandIsOne }
     ensures skipped { SkippedIsNoCommand }
     ensures written { EachCommandHasALine }
 {}
 
-/// A script has commands or a first line that is none, not both, and at most one of either.
+/// A script has commands, or a first line that is no command. It does not have both, and it has at
+/// most one of each.
 pub fn scripts_say_one_thing()
     ensures either { EachScriptIsRead }
     ensures not_both { NotBoth }

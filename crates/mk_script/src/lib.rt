@@ -1,21 +1,21 @@
 //! Scripts: the commands that a program does one after the other.
 //!
-//! A script's lines end in LF or CR LF; the last may have no end. A line whose first byte is `#`, and
-//! a line of blanks, are skipped. Every other line is one command: fields with blanks between them.
-//! This is this project's profile.
+//! A script's lines end in LF or CR LF; the last line may have no line end. A line whose first byte
+//! is `#`, and a line of blanks only, are skipped. Every other line is one command: fields with
+//! blanks between them. This is this project's profile.
 //!
 //! - [`command`]: the command of a line.
 //! - [`edit`]: the edits, and the places of new lines, by their fields.
 //! - [`fault`]: why a line gave no command.
 //! - [`field`]: a field, bare or between quotes.
 //! - [`fields`]: the fields of a line.
-//! - [`laws`]: what holds of every script.
+//! - [`laws`]: what holds for every script.
 //! - [`number`]: numbers.
 //! - [`script`]: the commands of a script, with the numbers of their lines.
 //! - [`word`]: the words that commands are known by.
 //!
-//! Whether a field may be what an edit needs there, a name or a value, is no matter of the script:
-//! the edit is refused when it is made.
+//! A script does not say whether a field may stand in its edit, such as a name or a value: an edit
+//! with a bad field is refused when it is made.
 #![tactic(auto)]
 
 mod command;

@@ -1,4 +1,4 @@
-//! Numbers: one to ten decimal digits, of a value that a `u32` holds. Leading zeros are digits.
+//! Numbers: one to ten decimal digits, whose value fits in a `u32`. Leading zeros are digits.
 ghost use Rattle.std.specs.Prelude.{◌≡◌};
 ghost use Rattle.mk_script.specs.NumberReading.{number};
 ghost use Rattle.mk_script.specs.SeenFields.{field_text};
@@ -15,7 +15,7 @@ const MOST_DIGITS: usize = 10;
 ///
 /// # Errors
 ///
-/// Where it writes none.
+/// [`NotThere`] if the field writes no number.
 pub(crate) fn number_of(field: Field<'_>) -> Result<u32, NotThere>
     ensures { IsFound itself (number (field_text field.entry)) result }
 {

@@ -9,19 +9,19 @@ use mk_session::Command;
 use std::alloc::{Allocator, Global};
 use thiserror::Error;
 
-/// A command with the number of its line in the script, counted from 1.
+/// A command with the number of its line in the script, from 1.
 #[derive(Drop)]
 pub struct NumberedCommand<A: Allocator = Global> {
-    /// The number of the line.
+    /// The number of the line, from 1.
     pub line: u64,
-    /// What the line asks for.
+    /// The command of the line.
     pub command: Command<A>,
 }
 
 /// Why a script was not read.
 #[derive(Clone, Copy, Debug, PartialEq, Eq, Error)]
 pub enum ScriptFault {
-    /// The line of this number, counted from 1, is the first that is no command.
+    /// The line of this number, from 1, is the first that is no command.
     #[error("script line {0} is not a command")]
     NotACommand(u64),
     /// A growth was refused: the allocator had no memory for a command. A later line may be no
@@ -35,8 +35,8 @@ pub enum ScriptFault {
 /// # Errors
 ///
 /// - [`ScriptFault::NotACommand`] with the number of the first line that is no command.
-/// - [`ScriptFault::NoMemory`] where a growth was refused for a command, and no line before that
-///   command is at fault.
+/// - [`ScriptFault::NoMemory`] if a growth was refused for a command. Each line before that command
+///   is skipped or is a command.
 pub fn parse_script<A: Allocator + Copy>(
     alloc: A,
     script: &[u8],

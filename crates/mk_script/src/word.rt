@@ -1,5 +1,5 @@
-//! The words that commands, places, operators and separators are known by. A word between quotes is
-//! the same word.
+//! The words by which commands, places, operators and separators are known. A word between quotes
+//! is the same word.
 ghost use Rattle.std.specs.Prelude.{◌≡◌, option_map};
 ghost use Rattle.mk_session.specs.CommandViews.{command_of};
 ghost use Rattle.mk_script.specs.SeenFields.{field_text};
@@ -89,7 +89,8 @@ pub(crate) fn edit_word(word: Field<'_>) -> Option<EditWord>
     }
 }
 
-/// The call of a session that a word stands for, where it is none with an edit.
+/// The call of a session that a word stands for: a call without an edit. `None` if it stands for no
+/// such call.
 pub(crate) fn call<A: Allocator>(word: Field<'_>) -> Option<Command<A>>
     ensures { option_map command_of result ≡ named calls (field_text word.entry) }
 {
@@ -125,7 +126,7 @@ pub(crate) fn place_word(word: Field<'_>) -> Option<PlaceWord>
     }
 }
 
-/// What an operator says.
+/// The flavor that an operator tells.
 pub(crate) fn flavor(operator: Field<'_>) -> Option<Flavor>
     ensures { result ≡ named operators (field_text operator.entry) }
 {

@@ -1,4 +1,4 @@
--- Calls of a session in turn, each with its reply, as the contracts of the calls say it; and the session machine after them.
+-- Calls of a session in turn, each with its reply, as the contracts of the calls say; and the session machine after these calls.
 use Rattle.std.specs.Prelude.{◌≡◌, ℕ, ◌+◌, ◌≤◌, Bool, true, false, List, [], ◌∷◌, ◌++◌, reverse, Option, Some, None, Result, Ok, Err}
 use Rattle.mk_lines.specs.Lists.{concat}
 use Rattle.mk_edit_laws.specs.Edits.{Edit}
@@ -28,13 +28,13 @@ takes_memory (Apply e) = true
 takes_memory Begin = true
 takes_memory c = false
 
--- the lines that a call on a text reads again, at most
+-- the greatest number of lines that a call on a text reads again
 abbrev pub cost_on : (text : List ℕ) → Command Edit → ℕ
 cost_on t (Apply e) = cost t e
 cost_on t c = 0
 
--- A call leads from what is seen to what is seen next: it is one step of the machine, finds no memory only where it takes some and
--- the machine grants it, and reads at most as many lines as it costs.
+-- A call leads from what is seen to what is seen next. It is one step of the machine; it finds no memory only if it takes memory
+-- and the machine grants it; and it reads at most as many lines as it costs.
 pub record IsCall (call : Call) (before after : Seen) : Type 0 where
   pub step : IsStep answer call.0 call.1 before.shown after.shown
   pub memory : call.1 ≡ NoMemory → takes_memory call.0 ≡ true
@@ -54,18 +54,18 @@ pub record IsAnswered (c : Command Edit) (result : Result (Unit {0}) Refusal) (b
   pub told : IsTold result reply
   pub call : IsCall (c, reply) before after
 
--- so do calls in turn
+-- calls in turn lead from what is seen to what is seen after them
 abbrev pub AreCalls : List Call → (before after : Seen) → Type 0
 AreCalls [] x z = z ≡ x
 AreCalls (call ∷ calls) x z = (y : Seen) × (IsCall call x y × AreCalls calls y z)
 
--- ---- the machine after them
+-- ---- the machine after the calls
 
 -- Machines of makefiles.
 abbrev pub EditMachine : Type 0
 EditMachine = Machine Edit (List ℕ)
 
--- the machine after a call: as it was, where the call was not granted
+-- the machine after a call; if the call was not granted, the machine before it
 abbrev pub after_call : (depth : ℕ) → Call → EditMachine → EditMachine
 after_call d (c, Granted) m = next edited d c m
 after_call d (c, r) m = m
@@ -83,7 +83,7 @@ edits_of_group (Some es) = es
 abbrev pub standing : EditMachine → List Edit
 standing m = concat (reverse m.done) ++ edits_of_group m.group
 
--- the lines that calls read again, at most
+-- the greatest number of lines that calls read again
 abbrev pub costs_of : (depth : ℕ) → List Call → EditMachine → ℕ
 costs_of d [] m = 0
 costs_of d (call ∷ calls) m = cost_on (text edited m) call.0 + costs_of d calls (after_call d call m)

@@ -1,4 +1,4 @@
--- What the commands of a program are seen as: the calls of the session machine.
+-- What contracts see of a program's commands: the calls of the session machine.
 use Rattle.mk_edit_laws.specs.Edits.{Edit}
 use Rattle.mk_edit_parts.specs.EditViews.{edit_of}
 use Rattle.mk_history.specs.Machine as machine

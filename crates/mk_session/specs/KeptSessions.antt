@@ -11,7 +11,7 @@ use Rattle.mk_history.specs.Shown.{Shown, shown_session, IsConsistent}
 abbrev pub Patches : Type 0
 Patches = Several (List Move)
 
--- the document after them
+-- the document after the patches
 abbrev pub after_patches : Patches → List PlacedLine → List PlacedLine
 after_patches = after_in_turn after_moves
 
@@ -19,7 +19,7 @@ after_patches = after_in_turn after_moves
 abbrev pub shown_kept : Stacks Patches → (group : Option Patches) → (doc : List PlacedLine) → Shown (List ℕ)
 shown_kept h g doc = shown_session after_moves placed_text h g doc
 
--- the document at the beginning of the open group, or now
+-- the document at the beginning of the open group; if no group is open, the document
 abbrev settled : (group : Option Patches) → (doc : List PlacedLine) → List PlacedLine
 settled None doc = doc
 settled (Some g) doc = after_patches g doc
@@ -29,8 +29,8 @@ abbrev pub EachFaithful : List (List PlacedLine) → Type 0
 EachFaithful [] = Unit {0}
 EachFaithful (doc ∷ docs) = IsFaithful doc × EachFaithful docs
 
--- The documents that undoing and redoing lead through are faithful, and so are the one at hand and the one at the beginning of the
--- open group.
+-- The documents that undoing and redoing lead through are faithful, and so are the document and the document at the beginning of
+-- the open group.
 pub record AreFaithful (h : Stacks Patches) (group : Option Patches) (doc : List PlacedLine) : Type 0 where
   pub now : IsFaithful doc
   pub begun : IsFaithful (settled group doc)

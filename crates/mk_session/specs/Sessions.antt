@@ -1,4 +1,4 @@
--- The session machine over texts of makefiles, as it is seen, and what each call of a session owes it.
+-- The session machine over texts of makefiles, as it is seen, and what each call of a session promises about it.
 use Rattle.std.specs.Prelude.{◌≡◌, ◌⊎◌, ℕ, ◌<◌, ◌^◌, List, length, Result, Ok, Err}
 use Rattle.mk_lines.specs.Pieces.{Replacement, replaced}
 use Rattle.mk_tree.specs.Documents.{IsTooDeep}
@@ -40,7 +40,7 @@ seen_opened d t = record { shown = shown_opened d t; rereads = 0 }
 
 -- ---- refusals and faults
 
--- A refusal of an edit: the machine's, or, where the machine accepts it, that a growth was refused.
+-- A refusal of an edit: that of the machine; or NoMemory, if the machine accepts the edit and a growth was refused.
 abbrev pub IsEditRefusal : Edit → Shown (List ℕ) → Refusal → Type 0
 IsEditRefusal e s r =
     (answer (Apply e) s ≡ Err (EditRefused r))
@@ -50,8 +50,8 @@ IsEditRefusal e s r =
 abbrev pub IsBadDepth : ℕ → Type 0
 IsBadDepth d = (d < 1) ⊎ (10000 < d)
 
--- A fault of opening a text: a bad depth before all else; of a good one, a text that is too long, then one that is too deep, and
--- else that a growth was refused. Memory is needed to see how deep a text is.
+-- A fault of opening a text: a bad depth first; then a text that is too long; then a text that is too deep; and otherwise that a
+-- growth was refused. Memory is needed to see how deep a text is, so NoMemory can hide a text that is too deep.
 abbrev pub IsOpeningFault : (depth : ℕ) → (text : List ℕ) → fault.Fault → Type 0
 IsOpeningFault d t BadDepth = IsBadDepth d
 IsOpeningFault d t TooLong = (IsBadDepth d → ⊥) × (2 ^ 24 < length t)
@@ -67,12 +67,12 @@ session_refusal machine.NothingToRedo = NothingToRedo
 session_refusal machine.GroupOpen = GroupOpen
 session_refusal machine.NoGroup = NoGroup
 
--- an answer is a refusal, and this one
+-- an answer is this refusal
 abbrev pub IsRefusedBy : Result (Shown (List ℕ)) (machine.Refusal Refusal) → Refusal → Type 0
 IsRefusedBy (Ok s) r = ⊥
 IsRefusedBy (Err q) r = r ≡ session_refusal q
 
--- so it is, or where the answer is none, a growth was refused
+-- an answer is this refusal; if it is no refusal, this is NoMemory
 abbrev pub IsBeginRefusal : Result (Shown (List ℕ)) (machine.Refusal Refusal) → Refusal → Type 0
 IsBeginRefusal (Ok s) r = r ≡ NoMemory
 IsBeginRefusal (Err q) r = r ≡ session_refusal q

@@ -11,15 +11,15 @@ use std::alloc::{Allocator, Global};
 pub enum Command<A: Allocator = Global> {
     /// Makes an edit: [`Session::apply`].
     Apply(Edit<A>),
-    /// Takes the last edit or group back: [`Session::undo`].
+    /// Takes back the last edit or group: [`Session::undo`].
     Undo,
-    /// Makes it again: [`Session::redo`].
+    /// Makes the last undone edit or group again: [`Session::redo`].
     Redo,
     /// Begins a group: [`Session::begin`].
     Begin,
     /// Ends the group: [`Session::end`].
     End,
-    /// Takes the group's edits back and ends it: [`Session::cancel`].
+    /// Takes back the edits of the group and ends it: [`Session::cancel`].
     Cancel,
 }
 
@@ -28,7 +28,7 @@ impl<A: Allocator + Copy> Session<A> {
     ///
     /// # Errors
     ///
-    /// Those of the call that the command stands for.
+    /// The errors of the call that the command stands for.
     pub fn obey(&mut self, command: &Command<A>) -> Result<(), Refusal>
         ensures { IsAnswered (command_of command.now) result self.old self.new }
     {

@@ -1,11 +1,11 @@
 //! A session: a makefile that is edited, with undo, redo and groups of edits.
 //!
 //! - [`command`]: the calls of a session as values.
-//! - [`laws`]: what holds of a session over any list of calls.
+//! - [`laws`]: what holds for a session over any list of calls.
 //! - [`session`]: the session.
 //!
-//! `mk_history` has the machine of a session over anything that is changed, `mk_edit` the edits of
-//! makefiles. This crate puts them together and is the one place where both are known.
+//! `mk_history` has the machine of a session over anything that is changed, `mk_edit` has the edits
+//! of makefiles. This crate puts them together; it is the only crate that knows both.
 #![tactic(auto)]
 
 pub mod command;

@@ -22,12 +22,13 @@ use std::marker::Model;
 /// A makefile that is edited, with what can be undone and redone, and a group of edits where one is
 /// open.
 ///
-/// Contracts see it as the session machine shows itself: the text, the texts that undoing and redoing
-/// lead through, the text at the beginning of an open group and how many edits the group has; and how
-/// many lines were read since it was opened. Each call is one step of that machine.
+/// Contracts see it as the session machine shows itself: the text; the texts that undoing and
+/// redoing lead through; the text at the beginning of an open group and the number of the group's
+/// edits; and how many lines were read since the session was opened. Each call is one step of that
+/// machine.
 ///
-/// An edit that is kept for undo holds the lines that it changed and no others. A refused call changes
-/// nothing.
+/// An edit that is kept for undo holds the lines that it changed, and no other lines. A refused
+/// call changes nothing.
 #[derive(Drop)]
 pub struct Session<A: Allocator = Global> {
     alloc: A,
@@ -64,16 +65,16 @@ fn test_depth(depth: u32) -> Result<(), Fault>
 }
 
 impl<A: Allocator + Copy> Session<A> {
-    /// Opens a text, so that up to `depth` edits or groups can be undone.
+    /// Opens a text. Up to `depth` edits or groups can be undone.
     ///
     /// # Errors
     ///
     /// The first of these that holds:
     ///
-    /// - [`Fault::BadDepth`] where the depth is not from 1 to 10,000.
-    /// - [`Fault::TooLong`] where the text has more than 16,777,216 bytes.
-    /// - [`Fault::TooDeep`] where more than 256 conditionals are open at once.
-    /// - [`Fault::NoMemory`] where a growth was refused. It can hide a text that is too deep, since
+    /// - [`Fault::BadDepth`] if the depth is not from 1 to 10,000.
+    /// - [`Fault::TooLong`] if the text has more than 16,777,216 bytes.
+    /// - [`Fault::TooDeep`] if more than 256 conditionals are open at once.
+    /// - [`Fault::NoMemory`] if a growth was refused. It can hide a text that is too deep, since
     ///   lines are read to see that.
     pub fn open(alloc: A, text: &[u8], depth: u32) -> Result<Session<A>, Fault>
         ensures opened { IfOk result (λ s. s ≡ seen_opened depth text.now) }
@@ -94,7 +95,7 @@ impl<A: Allocator + Copy> Session<A> {
     ///
     /// # Errors
     ///
-    /// Those of [`Session::open`].
+    /// The errors of [`Session::open`].
     pub fn open_vec(alloc: A, text: Vec<u8, A>, depth: u32) -> Result<Session<A>, Fault>
         ensures opened { IfOk result (λ s. s ≡ seen_opened depth text.items) }
         ensures bad_depth { (result ≡ Err Fault.BadDepth) ↔ IsBadDepth depth }
@@ -108,7 +109,8 @@ impl<A: Allocator + Copy> Session<A> {
         Session::over(alloc, doc, depth, meter)
     }
 
-    // A session on a document, with nothing to undo or redo. The meter has counted its lines.
+    // A session on a document, with nothing to undo or redo. The meter has counted the document's
+    // lines.
     fn over(alloc: A, doc: Doc<A>, depth: u32, meter: Meter) -> Result<Session<A>, Fault>
         requires good { IsBadDepth depth → ⊥ }
         requires faithful { IsFaithful doc }
@@ -127,13 +129,13 @@ impl<A: Allocator + Copy> Session<A> {
         })
     }
 
-    /// Makes an edit. It can be undone next, alone or, where a group is open, with the group's other
-    /// edits. Nothing can be redone any more.
+    /// Makes an edit. It can be undone next: alone, or, if a group is open, together with the
+    /// group's other edits. Nothing can be redone any more.
     ///
     /// # Errors
     ///
-    /// The first [`Refusal`] of the edit whose cause holds (the first fifteen); else
-    /// [`Refusal::NoMemory`] where a growth was refused. An open group stays open.
+    /// The first [`Refusal`] of the edit whose cause holds (one of the first fifteen). If no cause
+    /// holds, [`Refusal::NoMemory`] if a growth was refused. An open group stays open.
     pub fn apply(&mut self, edit: &Edit<A>) -> Result<(), Refusal>
         ensures done { OnOk result (answer (Apply (edit_of edit.now)) self.old.shown ≡ Ok self.new.shown) }
         ensures refused { IfErr result (λ refusal. IsEditRefusal (edit_of edit.now) self.old.shown refusal) }
@@ -171,8 +173,8 @@ impl<A: Allocator + Copy> Session<A> {
     ///
     /// # Errors
     ///
-    /// - [`Refusal::GroupOpen`] where a group is open.
-    /// - [`Refusal::NothingToUndo`] where nothing is left to undo, or nothing within the depth.
+    /// - [`Refusal::GroupOpen`] if a group is open.
+    /// - [`Refusal::NothingToUndo`] if there is nothing to undo, or nothing within the depth.
     pub fn undo(&mut self) -> Result<(), Refusal>
         ensures done { OnOk result (answer Undo self.old.shown ≡ Ok self.new.shown) }
         ensures refused { IfErr result (λ refusal. IsRefusedBy (answer Undo self.old.shown) refusal) }
@@ -188,13 +190,13 @@ impl<A: Allocator + Copy> Session<A> {
         }
     }
 
-    /// Makes the edit or group again that was undone last and not redone since. It can be undone next.
-    /// It reads no line and takes no memory.
+    /// Makes the edit or group again that was undone last and not redone since then. It can be
+    /// undone next. It reads no line and takes no memory.
     ///
     /// # Errors
     ///
-    /// - [`Refusal::GroupOpen`] where a group is open.
-    /// - [`Refusal::NothingToRedo`] where nothing is left to redo.
+    /// - [`Refusal::GroupOpen`] if a group is open.
+    /// - [`Refusal::NothingToRedo`] if there is nothing to redo.
     pub fn redo(&mut self) -> Result<(), Refusal>
         ensures done { OnOk result (answer Redo self.old.shown ≡ Ok self.new.shown) }
         ensures refused { IfErr result (λ refusal. IsRefusedBy (answer Redo self.old.shown) refusal) }
@@ -210,12 +212,12 @@ impl<A: Allocator + Copy> Session<A> {
         }
     }
 
-    /// Begins a group: the edits up to its end count as one.
+    /// Begins a group: the edits up to its end count as one. It reads no line.
     ///
     /// # Errors
     ///
-    /// - [`Refusal::GroupOpen`] where a group is open already.
-    /// - [`Refusal::NoMemory`] where a growth was refused.
+    /// - [`Refusal::GroupOpen`] if a group is open already.
+    /// - [`Refusal::NoMemory`] if a growth was refused.
     pub fn begin(&mut self) -> Result<(), Refusal>
         ensures done { OnOk result (answer Begin self.old.shown ≡ Ok self.new.shown) }
         ensures refused { IfErr result (λ refusal. IsBeginRefusal (answer Begin self.old.shown) refusal) }
@@ -232,12 +234,12 @@ impl<A: Allocator + Copy> Session<A> {
         Ok(())
     }
 
-    /// Ends the group. Its edits count as one from now on; a group without edits leaves nothing. It
-    /// reads no line and takes no memory.
+    /// Ends the group. From now on its edits count as one; a group without edits leaves nothing to
+    /// undo. It reads no line and takes no memory.
     ///
     /// # Errors
     ///
-    /// [`Refusal::NoGroup`] where no group is open.
+    /// [`Refusal::NoGroup`] if no group is open.
     pub fn end(&mut self) -> Result<(), Refusal>
         ensures done { OnOk result (answer End self.old.shown ≡ Ok self.new.shown) }
         ensures refused { IfErr result (λ refusal. IsRefusedBy (answer End self.old.shown) refusal) }
@@ -253,12 +255,12 @@ impl<A: Allocator + Copy> Session<A> {
         Ok(())
     }
 
-    /// Takes back the edits of the group and ends it. What they emptied of what can be redone stays
-    /// empty. It reads no line and takes no memory.
+    /// Takes back the edits of the group and ends the group. These edits have dropped what could be
+    /// redone, and it does not come back. It reads no line and takes no memory.
     ///
     /// # Errors
     ///
-    /// [`Refusal::NoGroup`] where no group is open.
+    /// [`Refusal::NoGroup`] if no group is open.
     pub fn cancel(&mut self) -> Result<(), Refusal>
         ensures done { OnOk result (answer Cancel self.old.shown ≡ Ok self.new.shown) }
         ensures refused { IfErr result (λ refusal. IsRefusedBy (answer Cancel self.old.shown) refusal) }
@@ -276,7 +278,7 @@ impl<A: Allocator + Copy> Session<A> {
 }
 
 impl<A: Allocator> Session<A> {
-    /// The document: the lines of the text as parsing it anew would give them. Takes no memory.
+    /// The document: the lines that the text has when it is parsed anew. Takes no memory.
     pub fn doc(&self) -> &Doc<A>
         ensures text { IsFaithfulTo result.now self.now.shown.text }
         ensures own { IsFaithful result.now }
@@ -284,16 +286,17 @@ impl<A: Allocator> Session<A> {
         &self.doc
     }
 
-    /// Whether a group is open, so that nothing can be undone or redone until it ends. Takes no memory.
+    /// Whether a group is open. Nothing can be undone or redone until the group ends. Takes no
+    /// memory.
     pub fn has_open_group(&self) -> bool
         ensures { result ≡ is_some self.now.shown.begun }
     {
         self.group.is_some()
     }
 
-    /// How many lines were read since the session was opened: none by undo and redo, and by an edit at
-    /// most as many as it costs. At the greatest `u64`, less the lines of the text that was opened, it
-    /// stays. Takes no memory.
+    /// How many lines were read since the session was opened. An undo or a redo reads none, and an
+    /// edit at most as many as it costs. The count stays once it is the greatest `u64` less the
+    /// lines of the text that was opened. Takes no memory.
     pub fn rereads(&self) -> u64
         ensures { result ≡ self.now.rereads }
     {

@@ -68,7 +68,7 @@ admitted-classed c (l ∷ ls) h few =
     let rest : AreAdmitted next (placed_lines (classed next ls)) = admitted-classed next ls fits (omega (arith, few, defines_after-few c.defines k)) in
     ((h.0, defines-fit c.defines c.conditionals k (omega (arith, few)) (class_of-counts c l)), subst (λ (z : Context). AreAdmitted z (placed_lines (classed next ls))) (sym e) rest)
 
--- as many lines are shown as there are
+-- the number of lines that are shown is the number of lines
 pub length-classed : (c : Context) (ls : List (List ℕ)) → length (placed_lines (classed c ls)) ≡ length ls
 length-classed c [] = refl
 length-classed c (l ∷ ls) = ap suc (length-classed (context_after c (class_of c l)) ls)
@@ -100,7 +100,7 @@ conditionals-within n (variants.TargetAssign t) few h = few
 conditionals-within n variants.Rough few h = few
 conditionals-within n (variants.Header x) few h = few
 
--- and so do lines that all fit, as far as one looks
+-- lines that all fit leave at most 256 open too, after any number of them
 pub conditionals-few_after : (c : Context) (ls : List PlacedLine) (n : ℕ) → c.conditionals ≤ 256 → AreConditionalsFit c.conditionals ls → (context_after_placed c (take n ls)).conditionals ≤ 256
 conditionals-few_after c ls zero few h = few
 conditionals-few_after c [] (suc n) few h = few
@@ -116,14 +116,14 @@ context_after-step c [] left x (suc n) e = cc
 context_after-step c (l ∷ ls) left x zero e = let same : l ≡ x = cc in ap (λ (z : PlacedLine). context_after_places c z.class) same
 context_after-step c (l ∷ ls) left x (suc n) e = rw (suc-add n 1) (context_after-step (context_after_places c l.class) ls left x n e)
 
--- the lines that are left after one more
+-- the lines that are left after one more line
 drop-step : (ls left : List PlacedLine) (x : PlacedLine) (n : ℕ) → drop n ls ≡ x ∷ left → drop (n + 1) ls ≡ left
 drop-step [] left x zero e = cc
 drop-step [] left x (suc n) e = cc
 drop-step (l ∷ ls) left x zero e = cc
 drop-step (l ∷ ls) left x (suc n) e = rw (suc-add n 1) (drop-step ls left x n e)
 
--- where lines are left, a walk has not come to its end
+-- while lines are left, a walk is not at its end
 pub drop-none : (ls : List PlacedLine) (n : ℕ) → n < length ls → drop n ls ≡ [] → ⊥
 drop-none [] n h e = omega (arith, h)
 drop-none (l ∷ ls) zero h e = cc
@@ -167,7 +167,7 @@ take-whole : (ls : List PlacedLine) → take (length ls) ls ≡ ls
 take-whole [] = refl
 take-whole (l ∷ ls) = ap (λ z. l ∷ z) (take-whole ls)
 
--- the context after as many lines as there are
+-- the context after all lines
 pub context-whole : (ls self : List PlacedLine) (n : ℕ) (c : Context) → n ≡ length ls → ls ≡ self → c ≡ context_after_placed start (take n ls) → c ≡ context_after_placed start self
 context-whole ls self n c count same here =
     here ∙ (ap (λ z. context_after_placed start (take z ls)) count ∙ (ap (context_after_placed start) (take-whole ls) ∙ ap (context_after_placed start) same))

@@ -3,7 +3,7 @@ use Rattle.std.proofs.Common.{◌≡◌, ℕ, ◌+◌, ◌-◌, ◌/◌, ◌≤�
 use Rattle.mk_tree.specs.Trees.{DifferByAtMost, IsLowest}
 use Rattle.mk_tree.proofs.Lowness.{lowest-join}
 
--- one less than a number falls into halves
+-- the halves of a number less one
 halves : (n half : ℕ) → half ≡ (n - 1) / 2 → (n ≡ 0 → ⊥) → (half ≤ n - 1 - half) × (n - 1 - half ≤ half + 1) × (n ≡ n - 1 - half + 1 + half)
 halves n half e h = (omega (arith, e), omega (arith, e), omega (arith, e, h))
 

@@ -24,7 +24,7 @@ conditionals-left n (TargetAssign t) h = refl
 conditionals-left n Rough h = refl
 conditionals-left n (Header x) h = refl
 
--- and fits each number
+-- a line of no conditional fits each number
 conditionals-fit : (n : ℕ) (k : Class) → is_conditional_places k ≡ false → FitsConditionals n k
 conditionals-fit n Endef h = tt
 conditionals-fit n (Body b) h = tt

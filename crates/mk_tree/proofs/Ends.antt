@@ -20,7 +20,7 @@ drop-all : (ls : List PlacedLine) → drop (length ls) ls ≡ []
 drop-all [] = refl
 drop-all (l ∷ ls) = drop-all ls
 
--- some lines are those before the last, and the last
+-- some lines are a front and then this last line
 record IsSplit (ls front : List PlacedLine) (x : PlacedLine) : Type 0 where
   whole : ls ≡ front ++ x ∷ []
 

@@ -43,7 +43,7 @@ fewest_lines-join l r m n near a b = go (near_cases l r near.0 near.1)
 fewest_lines-limit : 2 ^ 24 < fewest_lines 35
 fewest_lines-limit = lit< tt
 
--- so much higher a tree has no fewer lines
+-- a tree that is `k` levels higher has no fewer lines
 fewest_lines-add : (h k : ℕ) → fewest_lines h ≤ fewest_lines (h + k)
 fewest_lines-add h zero = rw add-zero (omega arith)
 fewest_lines-add h (suc k) =

@@ -21,7 +21,7 @@ no_higher m n h k near a b = go (ltb (k + 1) h) refl
         let far : 2 ^ (k + 1 + 1) ≤ 2 ^ h = pow_mono (omega (arith, above)) in
         absurd (omega (arith, far, double k, double (k + 1), pow_pos k, a.1, b.0, near))
 
--- and of fewer lines no longer at all
+-- a tree of fewer lines is no higher
 no_higher_of_fewer : (m n h k : ℕ) → m ≤ n → IsLowest m h → IsLowest n k → h ≤ k
 no_higher_of_fewer m n h k less a b = go (ltb k h) refl
   where
@@ -32,7 +32,7 @@ no_higher_of_fewer m n h k less a b = go (ltb k h) refl
         let far : 2 ^ (k + 1) ≤ 2 ^ h = pow_mono (omega (arith, above)) in
         absurd (omega (arith, far, double k, pow_pos k, a.1, b.0, less))
 
--- a line between two trees built by halves, of the same number of lines or with one more before it
+-- a line between two trees built by halves: both have the same number of lines, or the left tree has one line more
 pub lowest-join : (l r h k : ℕ) → r ≤ l → l ≤ r + 1 → IsLowest l h → IsLowest r k → DifferByAtMost 1 h k × IsLowest (l + 1 + r) (max h k + 1)
 lowest-join l r h k less near a b =
     let low : h ≤ k + 1 = no_higher l r h k near a b in

@@ -66,7 +66,7 @@ replace_right l r x y at n e h =
     let d : at + 1 - length l - 1 ≡ at - n - 1 + 1 = omega arith in
     rw (take_right l r x at k, drop_right l r x (at + 1) k', d, e, append_assoc) refl
 
--- the same, through what each step leaves
+-- the same member put in, by what each step leaves
 pub insert_right_steps : {X : Type 0} (whole l r new r' : List X) (x y : X) (at n : ℕ) → whole ≡ l ++ x ∷ r → r' ≡ take (at - n - 1) r ++ y ∷ drop (at - n - 1) r → new ≡ l ++ x ∷ r' → n ≡ length l → n < at → new ≡ take at whole ++ y ∷ drop at whole
 insert_right_steps whole l r new r' x y at n a b d e h = rw (a, d, b) (sym (insert_right l r x y at n e h))
 
@@ -78,7 +78,7 @@ replace_right_steps whole l r new r' x y at n a b d e h = rw (a, d, b) (sym (rep
 
 pub ruleset places = (get_left, get_middle, get_right, take_middle, drop_middle, take-append-le, drop-append-le, size_of-append)
 
--- what is left from a place on, if there is a member there
+-- the members from a place on, if there is a member there
 pub drop_get : {X : Type 0} (xs : List X) (at : ℕ) (x : X) → Some x ≡ slice_get xs at → drop at xs ≡ x ∷ drop (at + 1) xs
 drop_get [] at x h = absurd (cc)
 drop_get (y ∷ xs) zero x h = cc

@@ -51,11 +51,11 @@ gather-prefix a b c held out more f first then = AppendsPrefix-more a b c held m
 
 -- ---- a line of a document
 
--- one more line goes to what is out or held back
+-- one line more is out or held back
 pub line-step : (front bytes whole : List ℕ) (x : PlacedLine) (ahead left : List PlacedLine) → ahead ≡ x ∷ left → bytes ≡ x.bytes → front ++ placed_text ahead ≡ whole → (front ++ bytes) ++ placed_text left ≡ whole
 line-step front bytes whole x ahead left e f h =
     append_assoc front bytes (placed_text left) ∙ (ap (λ z. front ++ (z ++ placed_text left)) f ∙ (ap (λ z. front ++ placed_text z) (sym e) ∙ h))
 
--- no line is left
+-- no line is left, so everything is out or held back
 pub line-end : (front whole : List ℕ) (ahead : List PlacedLine) → ahead ≡ [] → front ++ placed_text ahead ≡ whole → front ≡ whole
 line-end front whole ahead e h = sym (append-nil front) ∙ (ap (λ z. front ++ placed_text z) (sym e) ∙ h)

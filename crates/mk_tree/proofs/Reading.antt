@@ -39,7 +39,7 @@ tiles-order (s ∷ ss) from to h = omega (arith, h.1, tiles-order ss s.end to h.
 first-within : (s : Span) (ss : List Span) (to : ℕ) → ((from : ℕ) × Tiles (s ∷ ss) from to) → (s.start ≤ s.end) × (s.end ≤ to)
 first-within s ss to (from, (e, some, rest)) = (omega (arith, e, some), omega (arith, tiles-order ss s.end to rest))
 
--- there are no more spans than bytes
+-- there are at most as many spans as bytes
 tiles-few : (ss : List Span) (to : ℕ) → Tiles ss 0 to → length ss ≤ to
 tiles-few ss to h = omega (arith, tiles-order ss 0 to h)
 
@@ -49,7 +49,7 @@ all-single t above [] e = tt
 all-single t above (l ∷ ls) e =
     (OneLine-logical l ((among t above l ls e).one), all-single t (above ++ l ∷ []) ls (e ∙ sym (append_assoc above (l ∷ []) ls)))
 
--- all lines of a text are unread at first
+-- at first all lines of a text are unread
 pub all-unread : (t : List ℕ) (ss : List Span) (c : Context) → length t ≤ 2 ^ 24 → ss ≡ line_ranges t → c ≡ start → AreUnread t ss c
 all-unread t ss c few e s =
     let tiles : Tiles ss 0 (length t) = subst (λ z. Tiles z 0 (length t)) (sym e) (line_ranges-tiles t) in
@@ -133,7 +133,7 @@ pub first-deep : (c : Context) (l : List ℕ) (rest : List (List ℕ)) → line_
 first-deep c l rest h =
     omega (arith, opens-deep c.conditionals (class_of c l) (classed (context_after c (class_of c l)) rest) h)
 
--- some lines read, one more, and others
+-- some lines were read, then one line, and then others
 pub read-joined : (first second third last : UnreadLines) (left right : List PlacedLine) (x : PlacedLine) → AreReadFrom first left second → AreReadFrom second (x ∷ []) third → AreReadFrom third right last
     → AreReadFrom first (left ++ x ∷ right) last
 read-joined first second third last left right x a b d = record {
@@ -142,11 +142,11 @@ read-joined first second third last left right x a b d = record {
   deep = λ h. a.deep (b.deep (d.deep h));
 }
 
--- what is left has no more bytes than all
+-- the lines that are left have at most as many bytes as all lines
 pub left-fits : (old left : UnreadLines) (read : List PlacedLine) → AreReadFrom old read left → size_of (shown old) ≤ 2 ^ 24 → size_of (shown left) ≤ 2 ^ 24
 left-fits old left read h few = omega (arith, ap size_of h.all, size_of-append read (shown left), few)
 
--- nor have a line that is read and those on both sides of it
+-- a line that is read and the lines on both sides of it have together at most as many bytes as all lines
 pub sides-fit : (old left : UnreadLines) (before after : List PlacedLine) (x : PlacedLine) → AreReadFrom old (before ++ x ∷ after) left → size_of (shown old) ≤ 2 ^ 24
     → size_of before + length x.bytes + size_of after ≤ 2 ^ 24
 sides-fit old left before after x h few =
@@ -168,7 +168,7 @@ read-all text old left read e h n = go left.lines refl
         )
     go (l ∷ ls) some = absurd (omega (arith, n, ap length some))
 
--- as many as there are
+-- as many lines were counted as there are
 pub all-counted : (text : List ℕ) (old left : UnreadLines) (read : List PlacedLine) → old ≡ record { context = start; lines = logical_lines text } → AreReadFrom old read left
     → length old.lines ≡ length left.lines + length old.lines → length read ≡ length old.lines
 all-counted text old left read e h n =
@@ -216,7 +216,7 @@ fault-of_line deep too_deep BadDepth f h = elim h [ ]
 fault-of_line deep too_deep Read f h = elim h [ ]
 fault-of_line deep too_deep Write f h = elim h [ ]
 
--- what holds of each fault that a refused call may hand on holds of the one that it does
+-- what holds for each fault that a refused call may hand on holds for the fault that it hands on
 pub handed_on : {X : Type 0} (r : Result X Fault) (Q P : Fault → Type 0) → IsErr r × IsErrAnd r Q → ((fault : Fault) → Q fault → P fault) → IfErr r P
 handed_on (Ok x) Q P h f = tt
 handed_on (Err e) Q P h f = f e h.1

@@ -17,7 +17,7 @@ AreWithin-push depth [] l h k = (omega (arith, k), tt)
 AreWithin-push depth (None ∷ passed) l h k = elim h [ ]
 AreWithin-push depth (Some x ∷ passed) l h k = (h.0, AreWithin-push (depth + 1) passed l h.1 (omega (arith, k)))
 
--- one step down: the line is passed, and what stands before it is left
+-- one step down: the line is passed, and what stands before it is still to be passed
 pub down-step : {A : _} (passed new : List (Option (Bor (Line A)))) (l : Bor (Line A)) (tree before : List PlacedLine × ℕ) (whole : List PlacedLine) (n m : ℕ)
     → n ≡ length passed → m ≡ n + 1 → new ≡ passed ++ Some l ∷ [] → before ≡ l.now.node.value.left → IsTop tree l.now
     → n + tree.1 ≤ 34 → AreWithin 0 passed → tree.0 ++ lines_ahead passed ≡ whole

@@ -4,7 +4,7 @@ use Rattle.mk_class.specs.Contexts.{Context}
 use Rattle.mk_class.specs.Contexts.{context_after_places, Admits}
 use Rattle.mk_tree.specs.PlacedLines.{PlacedLine}
 
--- each of some lines, the first of which stands in a context, is admitted where it stands
+-- each of some lines, the first of which stands in this context, is admitted where it stands
 abbrev pub AreAdmitted : Context → List PlacedLine → Type 0
 AreAdmitted c [] = Unit {0}
 AreAdmitted c (l ∷ ls) = Admits c l.class × AreAdmitted (context_after_places c l.class) ls

@@ -1,6 +1,6 @@
 -- The lines that a meter counts.
 use Rattle.std.specs.Prelude.{◌≡◌, ℕ, ◌+◌, ◌-◌, ◌^◌, min}
 
--- so many lines more are counted, up to the greatest number that a meter tells
+-- `lines` lines more are counted, up to the greatest number that a meter tells
 abbrev pub AreCounted : (before lines after : ℕ) → Type 0
 AreCounted m n k = min k (2 ^ 64 - 1) ≡ min (m + n) (2 ^ 64 - 1)

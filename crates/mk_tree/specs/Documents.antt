@@ -1,5 +1,5 @@
--- What a document is: a list of lines, each its bytes and its class. It is faithful to a text where its lines are those of the
--- text, each with its class in the context of those before it.
+-- What a document is: a list of lines, each with its bytes and its class. A document is faithful to a text if its lines are those
+-- of the text, each with its class in the context of the lines before it.
 use Rattle.std.specs.Prelude.{◌≡◌, ℕ, ◌<◌, max, not, List, [], ◌∷◌}
 use Rattle.mk_lines.specs.Lists.{Each}
 use Rattle.mk_class.specs.Classes.{is_conditional}
@@ -20,12 +20,12 @@ IsFaithfulTo ls t = ls ≡ document_lines t
 abbrev pub IsFaithful : List PlacedLine → Type 0
 IsFaithful ls = IsFaithfulTo ls (placed_text ls)
 
--- the most conditionals that are open before, between or after some lines, the first of which stands in `open` of them
+-- the most conditionals that are open before, between or after some lines; `open_before` are open before the first
 abbrev pub most_conditionals : (open_before : ℕ) → List ClassedLine → ℕ
 most_conditionals n [] = n
 most_conditionals n (l ∷ ls) = max n (most_conditionals (conditionals_after n l.class) ls)
 
--- how many conditionals may be open at once, this project's limit
+-- the most conditionals that may be open at once: this project's profile
 abbrev pub conditional_limit : ℕ
 conditional_limit = 256
 

@@ -1,4 +1,4 @@
--- What lines read as: the items of a makefile, which an edit changes one of and keeps the others.
+-- What lines read as: the items of a makefile. An edit changes its own items and keeps the others.
 use Rattle.std.specs.Prelude.{ℕ, List, [], ◌∷◌, ◌++◌, drop, Option, Some, None}
 use Rattle.mk_lines.specs.Lists.{concat}
 use Rattle.mk_lines.specs.PhysicalLines.{without_line_end}
@@ -17,9 +17,9 @@ use Rattle.mk_class.specs.declared.rule.Separator.{Separator}
 pub data Assigned : Type 0 where
   Sets : List Modifier → (name : List ℕ) → Flavor → (value : List ℕ) → Assigned
 
--- What a line reads as. Of an assignment its parts; of a target assignment the targets and the separator too; of a header the
--- targets, the separator, the pattern, the normal and the order-only prerequisites and the inline recipe; of a recipe line the
--- text after its first byte; of any other its class and its text. Texts are without line end.
+-- What a line reads as. An assignment: its parts. An assignment for targets: the targets and the separator too. A header: the
+-- targets, the separator, the pattern, the normal and the order-only prerequisites, and the inline recipe. A recipe line: the
+-- text after its first byte. Any other line: its class and its text. Texts have no line end.
 pub data Item : Type 0 where
   Assign : Assigned → Item
   TargetAssign : (targets : List (List ℕ)) → Separator → Assigned → Item
@@ -39,7 +39,7 @@ pub data Item : Type 0 where
 abbrev pub assigned : Assignment Cell → Assigned
 assigned a = Sets a.modifiers (unit_text joined_byte a.name) a.flavor (unit_text joined_byte a.value)
 
--- the raw bytes of an inline recipe, where there is one
+-- the raw bytes of an inline recipe, if there is one
 abbrev pub raw_units : Option (List (List Cell)) → Option (List ℕ)
 raw_units None = None
 raw_units (Some us) = Some (raw_text (concat us))
@@ -50,7 +50,7 @@ header_item h =
     Header (word_texts joined_byte h.targets) h.separator (word_texts joined_byte h.pattern) (word_texts joined_byte h.normal) (word_texts joined_byte h.order_only)
     (raw_units (inline_recipe joined_byte h))
 
--- the item of a line, or none
+-- the item of a line; no item if the line is blank or a comment
 abbrev pub items_of_line : Class Cell → List ℕ → List Item
 items_of_line Class.Blank l = []
 items_of_line Class.Comment l = []

@@ -1,4 +1,4 @@
--- The class that a document keeps with smaller numbers, as the code has it elsewhere.
+-- The class that a document keeps with smaller numbers, as the class that the other code has.
 use Rattle.std.specs.Prelude.{ℕ, max}
 use Rattle.mk_class.specs.declared.assignment.Assignment as assignment
 use Rattle.mk_class.specs.declared.assignment.Flavor as flavor
@@ -65,7 +65,7 @@ largest_place (variants.TargetAssign t) = max t.targets_end (largest_place_of_as
 largest_place (variants.Header h) = largest_place_of_header h
 largest_place k = 0
 
--- a class that is kept in no box
+-- a class that is not kept in a box
 abbrev pub IsUnboxed : {A : _} → KeptClass A → Type 0
 IsUnboxed (Long k) = ⊥
 IsUnboxed k = Unit {0}

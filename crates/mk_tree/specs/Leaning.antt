@@ -12,12 +12,12 @@ is_same_flag Rule Rule = true
 is_same_flag Unknown Unknown = true
 is_same_flag f g = false
 
--- Whether lines lean on two flags: these differ, and of the lines that begin with the prefix or are of a class that sets the
--- flag the first begins with the prefix.
+-- Whether lines lean on two flags: the flags differ, and the first of the lines that begins with the prefix, or has a class that
+-- sets the flag, begins with the prefix.
 abbrev pub leans : (prefix : ℕ) → (before after : Flag) → (rest : List ClassedLine) → Bool
 leans p f g ls = not (is_same_flag f g) && is_led_first p ls
 
--- Contexts that are the same but perhaps for the flag.
+-- Contexts that agree in all except perhaps the flag.
 pub record AgreeButForFlag (c d : Context) : Type 0 where
   pub defines : c.defines ≡ d.defines
   pub conditionals : c.conditionals ≡ d.conditionals

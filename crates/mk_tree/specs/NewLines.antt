@@ -1,4 +1,4 @@
--- New lines: their line end, and the line end that a last line gets when one is put after it.
+-- New lines: their line end, and the line end that a last line gets if a new line is put after it.
 use Rattle.std.specs.Prelude.{ℕ, if◌then◌else◌, Bool, ◌&&◌, List, [], ◌∷◌, ◌++◌}
 use Rattle.mk_lines.specs.PhysicalLines.{line_end, line_end_bytes}
 use Rattle.mk_lines.specs.LogicalLines.{has_no_line_end}
@@ -14,21 +14,21 @@ lacks_line_end l = has_no_line_end (line_end l.bytes)
 abbrev pub with_line_end : End → ClassedLine → ClassedLine
 with_line_end e l = record l { bytes = l.bytes ++ line_end_bytes e }
 
--- the line with a line end, where it has none
+-- the line with a line end, which it gets if it has none
 abbrev pub line_ended : End → ClassedLine → ClassedLine
 line_ended e l = if lacks_line_end l then with_line_end e l else l
 
--- the lines, the last of which gets a line end where it has none
+-- the lines; the last of them gets a line end if it has none
 abbrev pub last_ended : End → List ClassedLine → List ClassedLine
 last_ended e [] = []
 last_ended e (l ∷ []) = line_ended e l ∷ []
 last_ended e (l ∷ k ∷ ls) = l ∷ last_ended e (k ∷ ls)
 
--- The lines above a new line: where no line is below it, the last gets a line end if it has none.
+-- The lines above a new line: if no line is below it, the last of them gets a line end if it has none.
 abbrev pub above_ended : End → (above below : List ClassedLine) → List ClassedLine
 above_ended e above [] = last_ended e above
 above_ended e above (l ∷ below) = above
 
--- the bytes of that line end, where it is put
+-- the bytes of the line end that the last line gets; none if it gets no line end
 abbrev pub missing_line_end : End → (above below : List ClassedLine) → List ℕ
 missing_line_end e above below = if is_empty below && last_passes lacks_line_end above then line_end_bytes e else []

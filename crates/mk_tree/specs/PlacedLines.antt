@@ -12,11 +12,11 @@ pub record PlacedLine : Type 0 where
   pub bytes : List ℕ
   pub class : Class
 
--- a line of the definitions as a document shows it
+-- a line of the definitions, as a document shows it
 abbrev pub placed_line : ClassedLine → PlacedLine
 placed_line l = record { bytes = l.bytes; class = class_places joined_byte l.class }
 
--- lines of the definitions as a document shows them
+-- lines of the definitions, as a document shows them
 abbrev pub placed_lines : List ClassedLine → List PlacedLine
 placed_lines ls = map placed_line ls
 
@@ -30,17 +30,17 @@ abbrev pub size_of : List PlacedLine → ℕ
 size_of [] = 0
 size_of (l ∷ ls) = length l.bytes + size_of ls
 
--- the bytes of a line, where there is one
+-- the bytes of a line, or none if there is no line
 abbrev pub bytes_of_line : Option PlacedLine → List ℕ
 bytes_of_line None = []
 bytes_of_line (Some l) = l.bytes
 
--- how many bytes a line has, where there is one
+-- how many bytes a line has, or 0 if there is no line
 abbrev pub size_of_line : Option PlacedLine → ℕ
 size_of_line None = 0
 size_of_line (Some l) = length l.bytes
 
--- the last of some lines, where there is one
+-- the last of some lines, if there is one
 abbrev pub last_line : List PlacedLine → Option PlacedLine
 last_line [] = None
 last_line (l ∷ []) = Some l
@@ -52,7 +52,7 @@ with_last_bytes bytes [] = []
 with_last_bytes bytes (l ∷ []) = record l { bytes = bytes } ∷ []
 with_last_bytes bytes (l ∷ k ∷ ls) = l ∷ with_last_bytes bytes (k ∷ ls)
 
--- the context after some lines, the first of which stands in a context
+-- the context after some lines, the first of which stands in this context
 abbrev pub context_after_placed : Context → List PlacedLine → Context
 context_after_placed c [] = c
 context_after_placed c (l ∷ ls) = context_after_placed (context_after_places c l.class) ls
@@ -64,8 +64,8 @@ is_conditional_places Else = true
 is_conditional_places Endif = true
 is_conditional_places k = false
 
--- Some lines, the first of which stands in so many open conditionals, never have more than 256 of them open, and each line that
--- ends a conditional finds one open.
+-- Some lines, the first of which stands in this number of open conditionals: no more than 256 are open at once, and each line
+-- that ends a conditional finds one open.
 abbrev pub AreConditionalsFit : ℕ → List PlacedLine → Type 0
 AreConditionalsFit n [] = Unit {0}
 AreConditionalsFit n (l ∷ ls) = FitsConditionals n l.class × AreConditionalsFit (conditionals_after_places n l.class) ls

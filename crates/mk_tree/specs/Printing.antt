@@ -1,7 +1,7 @@
--- A text that goes out while its end is held back.
+-- A text that goes out, except its end, which is held back.
 use Rattle.std.specs.Prelude.{◌≡◌, ℕ, List, ◌++◌, Option}
 use Rattle.std.specs.Io.KnownBytes.{Appends}
 
--- the known bytes of a sink grow by the text but for what is held back at its end
+-- the known bytes of a sink grow by the text, except for the bytes at its end that are held back
 abbrev pub AppendsSoFar : (old new : Option (List ℕ)) → (text held : List ℕ) → Type 0
 AppendsSoFar old new text held = (written : List ℕ) × (written ++ held ≡ text) × Appends old new written

@@ -25,7 +25,7 @@ recipe_lines after = filter (λ l. is_recipe l.class) (rule_lines after)
 abbrev pub recipe_run : List ClassedLine → List ClassedLine
 recipe_run after = trim_end (λ l. not (is_recipe l.class)) (rule_lines after)
 
--- the lines after its last recipe line
+-- the lines after the last recipe line of a header
 abbrev pub after_recipe : List ClassedLine → List ClassedLine
 after_recipe after = drop (length (recipe_run after)) after
 
@@ -42,6 +42,6 @@ abbrev is_rule_flag : Flag → Bool
 is_rule_flag Rule = true
 is_rule_flag f = false
 
--- whether a line of this class ends the rule before it: it begins another, or leaves the flag other than Rule
+-- whether a line of this class ends the rule before it: it begins another rule, or sets the flag to anything other than Rule
 abbrev pub ends_rule : Class Cell → Bool
 ends_rule k = begins_rule k || not (is_rule_flag (flag_after Rule k))

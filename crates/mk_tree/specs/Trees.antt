@@ -6,7 +6,7 @@ use Rattle.mk_tree.specs.declared.tree.Line.{Line}
 use Rattle.mk_tree.specs.declared.tree.Link.{Link}
 use Rattle.mk_tree.specs.declared.tree.Link.TheVariants.{Empty, Full}
 
--- what a line says, whatever stands left and right of it in a tree
+-- what a line says, whatever stands left and right of it in its tree
 abbrev pub line_view : {A : _} → Line A → PlacedLine
 line_view l = l.node.value.content
 
@@ -15,17 +15,17 @@ abbrev pub lines_and_height : {A : _} → Link A → List PlacedLine × ℕ
 lines_and_height Empty = ([], 0)
 lines_and_height (Full counts l) = (l.node.value.left.0 ++ l.node.value.content ∷ l.node.value.right.0, counts.height)
 
--- neither number is more than this above the other
+-- two numbers differ by at most `by`
 abbrev pub DifferByAtMost : ℕ → ℕ → ℕ → Type 0
 DifferByAtMost by m n = (m ≤ n + by) × (n ≤ m + by)
 
--- the fewest lines that a tree of this height has, where the heights of siblings differ by at most one
+-- the fewest lines that a tree of this height has, if the heights of siblings differ by at most one
 abbrev pub fewest_lines : ℕ → ℕ
 fewest_lines zero = 0
 fewest_lines (suc zero) = 1
 fewest_lines (suc (suc h)) = fewest_lines (suc h) + fewest_lines h + 1
 
--- a tree of this height has enough lines, no line is empty, and the bytes are within the limit, so that the tree is low
+-- a tree of this height has enough lines for it, no line is empty, and the bytes are within the limit; so the tree is low
 pub record AreFew (lines : List PlacedLine) (height : ℕ) : Type 0 where
   pub enough : fewest_lines height ≤ length lines
   pub some_bytes : length lines ≤ size_of lines
@@ -45,7 +45,7 @@ abbrev pub IsBalanced : {A : _} → Link A → Type 0
 IsBalanced Empty = Unit {0}
 IsBalanced (Full counts l) = let n = l.node.value in IsNode n.left n.content n.right counts
 
--- what a tree falls into: a line, and what stands left and right of it
+-- the parts of a tree: a line, and what stands left and right of it
 pub record IsUnlinked (whole left : List PlacedLine × ℕ) (line : PlacedLine) (right : List PlacedLine × ℕ) : Type 0 where
   pub lines : whole.0 ≡ left.0 ++ line ∷ right.0
   pub size : size_of whole.0 ≡ size_of left.0 + length line.bytes + size_of right.0
@@ -53,14 +53,14 @@ pub record IsUnlinked (whole left : List PlacedLine × ℕ) (line : PlacedLine) 
   pub balanced : DifferByAtMost 1 left.1 right.1
   pub few : AreFew whole.0 whole.1
 
--- a tree is this line, with what stands before and after it below it
+-- the top of a tree is this line, with what stands before it and what stands after it below it
 abbrev pub IsTop : {A : _} → List PlacedLine × ℕ → Line A → Type 0
 IsTop whole l = IsUnlinked whole l.node.value.left (line_view l) l.node.value.right
 
--- a tree of so many lines is as low as one of its lines can be
+-- a tree of `lines` lines is as low as a tree of this number of lines can be
 abbrev pub IsLowest : (lines height : ℕ) → Type 0
 IsLowest n h = (n < 2 ^ h) × (2 ^ h ≤ max (2 * n) 1)
 
--- the height of what two sides and a line between them are joined to
+-- the height of the tree that joins two sides and a line between them
 abbrev pub IsHeightAfter : ℕ → ℕ → ℕ → Type 0
 IsHeightAfter l r h = (max l r ≤ h) × (h ≤ max l r + 1) × (DifferByAtMost 1 l r → h ≡ max l r + 1)

@@ -9,21 +9,22 @@ use Rattle.mk_class.specs.ClassedLines.{classed}
 use Rattle.mk_tree.specs.Documents.{conditional_limit, most_conditionals}
 use Rattle.mk_tree.specs.PlacedLines.{PlacedLine, placed_lines, AreConditionalsFit}
 
--- some logical lines, the first of which stands in a context
+-- some logical lines; the first of them stands in this context
 pub record UnreadLines : Type 0 where
   pub context : Context
   pub lines : List (List ℕ)
 
--- as a document will show them
+-- unread lines as a document will show them
 abbrev pub shown : UnreadLines → List PlacedLine
 shown u = placed_lines (classed u.context u.lines)
 
--- they open more conditionals at once than a document may have
+-- unread lines open more conditionals at once than a document may have
 abbrev pub AreTooDeep : UnreadLines → Type 0
 AreTooDeep u = conditional_limit < most_conditionals u.context.conditionals (classed u.context u.lines)
 
--- Of some unread lines the first ones are read, and the others are left: together they are shown as all of them, the
--- conditionals of all fit where those of the others do, and all are too deep where the others are.
+-- Of some unread lines the first ones are read, and the others are left. The lines that are read and those that are left are
+-- shown as all of them are. If the conditionals of the lines that are left fit, those of all lines do; if the lines that are left
+-- are too deep, all lines are.
 pub record AreReadFrom (old : UnreadLines) (read : List PlacedLine) (left : UnreadLines) : Type 0 where
   pub all : read ++ shown left ≡ shown old
   pub fit : AreConditionalsFit left.context.conditionals (shown left) → AreConditionalsFit old.context.conditionals (shown old)
@@ -33,13 +34,13 @@ pub record AreReadFrom (old : UnreadLines) (read : List PlacedLine) (left : Unre
 abbrev pub texts_at : List ℕ → List Span → List (List ℕ)
 texts_at t ss = map (text_at t) ss
 
--- each is one logical line by itself
+-- each of these texts is one logical line by itself
 abbrev pub AreSingle : List (List ℕ) → Type 0
 AreSingle [] = Unit {0}
 AreSingle (l ∷ ls) = (logical_lines l ≡ l ∷ []) × AreSingle ls
 
--- The text is within the limit of a document, the spans follow one another up to its end, each is one logical line, and
--- there are so few of them that no count of open defines is too large.
+-- The text is within the limit of a document. The spans follow one another up to its end, and each is one logical line. There are
+-- so few spans that no count of open defines becomes too large.
 pub record AreUnread (text : List ℕ) (spans : List Span) (context : Context) : Type 0 where
   pub short : length text ≤ 2 ^ 24
   pub within : (from : ℕ) × Tiles spans from (length text)

@@ -1,4 +1,4 @@
--- A walk over the lines of a tree, from the first on, and one that tells the context of each.
+-- A walk over the lines of a tree, from the first line on, and a walk that tells the context of each line too.
 use Rattle.std.specs.Prelude.{◌≡◌, ℕ, ◌+◌, ◌<◌, List, [], ◌∷◌, ◌++◌, Option, Some, None, MatchOption}
 use Rattle.std.specs.Borrow.{Bor}
 use Rattle.mk_class.specs.Contexts.{Context, context_after_places}
@@ -6,14 +6,14 @@ use Rattle.mk_tree.specs.PlacedLines.{PlacedLine}
 use Rattle.mk_tree.specs.Trees.{line_view}
 use Rattle.mk_tree.specs.declared.tree.Line.{Line}
 
--- The lines that a walk has ahead of it: of each line that it has passed on its left side, from the last on, this line and
--- those right of it.
+-- The lines that a walk has ahead of it. The walk has passed some lines on their left side: ahead are each of these lines, from
+-- the last on, and what stands right of it.
 abbrev pub lines_ahead : {A : _} → List (Option (Bor (Line A))) → List PlacedLine
 lines_ahead [] = []
 lines_ahead (None ∷ passed) = lines_ahead passed
 lines_ahead (Some l ∷ passed) = lines_ahead passed ++ line_view l.now ∷ l.now.node.value.right.0
 
--- there is room for each way down from the lines that were passed, the first of which stands so far down
+-- there is room for each way down from the lines that were passed; the first of them stands at this depth
 abbrev pub AreWithin : {A : _} → ℕ → List (Option (Bor (Line A))) → Type 0
 AreWithin depth [] = Unit {0}
 AreWithin depth (None ∷ passed) = ⊥
@@ -23,7 +23,7 @@ AreWithin depth (Some l ∷ passed) = (depth + l.now.node.value.right.1 < 34) ×
 abbrev pub GivesLine : {A : _} → List PlacedLine → Option (Bor (Line A)) → List PlacedLine → Type 0
 GivesLine ahead given left = MatchOption given ((ahead ≡ []) × (left ≡ [])) (λ line. ahead ≡ line_view line.now ∷ left)
 
--- some lines that are ahead, the first of which stands in a context
+-- some lines that are ahead; the first of them stands in this context
 pub record LinesInContext : Type 0 where
   pub context : Context
   pub lines : List PlacedLine

@@ -12,7 +12,7 @@ use std::alloc::{Allocator, Global};
 use std::marker::Model;
 use std::mem;
 
-/// The bytes of a line, of which there is at least one, with its cells and its class.
+/// The bytes of a line (at least one), its cells and its class.
 #[derive(Drop)]
 pub(crate) struct Content<A: Allocator = Global> {
     bytes: LineBytes<A>,
@@ -65,7 +65,8 @@ impl<A: Allocator> Content<A> {
         &self.cells
     }
 
-    /// Puts other bytes of the same joined text in the place of the line's, which are handed out.
+    /// Puts other bytes of the same joined text in the place of the line's bytes, and hands these
+    /// out.
     pub(crate) fn swap_bytes(&mut self, bytes: LineBytes<A>) -> LineBytes<A>
         requires some_bytes { 0 < length bytes }
         requires same_text { without_line_end bytes ≡ without_line_end self.old.bytes }

@@ -13,8 +13,9 @@ use mk_class::Context;
 use std::alloc::Allocator;
 
 impl<A: Allocator> Doc<A> {
-    /// The context of the line at a place, or at the end: what the lines before it leave. Takes no
-    /// memory. It walks over those lines. The lines from the place on may be stepped over from there.
+    /// The context of the line at a place from 0, or at the end of the document: what the lines
+    /// before the place leave. Takes no memory. It walks over these lines. From the answer,
+    /// [`Context::step`](mk_class::Context::step) may step over the lines from the place on.
     ///
     /// It asks for a faithful document.
     pub fn context(&self, at: usize) -> Context
@@ -28,7 +29,7 @@ impl<A: Allocator> Doc<A> {
         context_before(&self.tree, at)
     }
 
-    /// The context after all lines. Takes no memory. It walks over them.
+    /// The context after all lines. Takes no memory. It walks over all lines.
     ///
     /// It asks for a faithful document.
     pub fn end_context(&self) -> Context
@@ -42,7 +43,7 @@ impl<A: Allocator> Doc<A> {
     }
 }
 
-// The context after so many lines of a tree.
+// The context after the first `count` lines of a tree.
 fn context_before<A: Allocator>(tree: &Tree<A>, count: usize) -> Context
     requires in_range { count ≤ length tree.now.0 }
     requires faithful { IsFaithful tree.now.0 }

@@ -19,9 +19,9 @@ use std::mem;
 /// class, and nothing else.
 ///
 /// A document has at most 16,777,216 bytes, no line is empty, and at most 256 conditionals are open
-/// at once. It is *faithful* where its lines are those of their own text: each is one logical line
-/// of it, with its class in the context of those before it. [`Doc::parse`] makes it so; the calls
-/// that change lines do what they are told.
+/// at once. It is *faithful* if its lines are those of their own text: each is one logical line of
+/// it, with its class in the context of the lines before it. [`Doc::parse`] makes a faithful
+/// document. The calls that change lines do not test that the document stays faithful.
 #[derive(Drop)]
 pub struct Doc<A: Allocator = Global> {
     pub(crate) tree: Tree<A>,
@@ -63,7 +63,7 @@ impl<A: Allocator> Doc<A> {
         self.tree.size()
     }
 
-    /// The line at a place, the first being at 0. Takes no memory.
+    /// The line at a place, from 0. Takes no memory.
     pub fn line(&self, at: usize) -> &Line<A>
         requires { at < length self.now }
         ensures { Some (line_view result.now) ≡ slice_get self.now at }
@@ -74,8 +74,9 @@ impl<A: Allocator> Doc<A> {
     /// The lines in order. It copies nothing and takes no memory; a walk over all of them takes time
     /// linear in their number.
     ///
-    /// Never are more than 256 conditionals open, and each `endif` ends one that is. Each line of a
-    /// faithful document is what [`Context::step`](mk_class::Context::step) asks for where it stands.
+    /// No more than 256 conditionals are open at once, and each `endif` ends an open one. Each line
+    /// of a faithful document is one that [`Context::step`](mk_class::Context::step) asks for where
+    /// the line stands.
     pub fn iter(&self) -> Lines<'_, A>
         ensures lines { result ≡ self.now }
         ensures conditionals { AreConditionalsFit 0 self.now }
@@ -84,9 +85,11 @@ impl<A: Allocator> Doc<A> {
         Lines::new(&self.tree)
     }
 
-    /// Puts a line before the one at a place, or at the end. Takes no memory and is never refused.
+    /// Puts a line before the line at a place from 0, or at the end of the document. Takes no
+    /// memory and is never refused.
     ///
-    /// It asks for a line of no conditional, and that the size stays within the limit.
+    /// It asks that the line belongs to no conditional, and that the document has at most
+    /// 16,777,216 bytes with it.
     pub fn insert(&mut self, at: usize, line: Line<A>) -> Result<(), (Line<A>, Fault)>
         requires in_range { at ≤ length self.old }
         requires plain { is_conditional_places (line_view line).class ≡ false }
@@ -99,9 +102,9 @@ impl<A: Allocator> Doc<A> {
         Ok(())
     }
 
-    /// Takes the line at a place out. Takes no memory.
+    /// Takes out the line at a place, from 0. Takes no memory.
     ///
-    /// It asks for a line of no conditional.
+    /// It asks that the line belongs to no conditional.
     pub fn remove(&mut self, at: usize) -> Line<A>
         requires in_range { at < length self.old }
         requires plain { IfSome (slice_get self.old at) (λ line. is_conditional_places line.class ≡ false) }
@@ -114,9 +117,11 @@ impl<A: Allocator> Doc<A> {
         line
     }
 
-    /// Puts a line in the place of another, which is handed out. Takes no memory.
+    /// Puts a line in the place of another, which it hands out. Places count from 0. Takes no
+    /// memory.
     ///
-    /// It asks that neither is a line of a conditional, and that the size stays within the limit.
+    /// It asks that neither line belongs to a conditional, and that the document then has at most
+    /// 16,777,216 bytes.
     #[tactic(auto, using(crate::proofs::Changes::sizes))]
     pub fn replace(&mut self, at: usize, line: Line<A>) -> Line<A>
         requires in_range { at < length self.old }
@@ -132,12 +137,12 @@ impl<A: Allocator> Doc<A> {
         old
     }
 
-    /// Puts other bytes in the place of the last line's, which are handed out; the class stays. Takes
-    /// no memory.
+    /// Puts other bytes in the place of the last line's bytes, and hands these out; the class
+    /// stays. Takes no memory.
     ///
-    /// It serves a line end put after the last line, or taken from it. It asks that there is a line,
-    /// that the bytes are some and equal its own but for the line end, and that the size stays
-    /// within the limit.
+    /// It serves to put a line end after the last line, or to take it away. It asks that there is a
+    /// line, that the new bytes are not empty and equal the old ones except for the line end, and
+    /// that the document then has at most 16,777,216 bytes.
     #[tactic(auto, using(crate::proofs::Ends::sizes))]
     pub fn swap_end(&mut self, bytes: LineBytes<A>) -> LineBytes<A>
         requires some_lines { 0 < length self.old }

@@ -1,4 +1,5 @@
-//! Texts on their way to a sink. Short ones are held back, so that they go out together in few writes.
+//! Texts on their way to a sink. Short texts are held back, so that they go out together in few
+//! writes.
 ghost use Rattle.std.specs.Prelude.{◌≡◌, ◌++◌, false, true, IfErr, OnOk};
 ghost use Rattle.mk_lines.specs.Device.{AppendsPrefix};
 ghost use Rattle.mk_tree.specs.Printing.{AppendsSoFar};
@@ -7,15 +8,15 @@ use arrayvec::ArrayVec;
 use mk_lines::Fault;
 use mk_lines::sink::{ByteSink, write_all};
 
-/// The bytes that are held back. They stand here, so that no memory is taken.
+/// The bytes that are held back. They are stored in the value itself, so that no memory is taken.
 pub type Gathered = ArrayVec<u8, 16_384>;
 
-/// Puts a text behind those that are held back. Where it has no room, those go out first.
+/// Puts a text behind the bytes that are held back. If there is no room for it, these go out first.
 ///
 /// # Errors
 ///
-/// [`Fault::Write`] where a write answered it or took nothing. A prefix of what was held back and of
-/// the text is out then.
+/// [`Fault::Write`] if a write answered it or took no byte. A prefix of the bytes that were held
+/// back, and of the text after them, is out then.
 pub fn put<W: ByteSink>(gathered: &mut Gathered, out: &mut W, text: &[u8]) -> Result<(), Fault>
     requires { W.failed out.old ≡ false }
     ensures whole { OnOk result (AppendsSoFar (W.contents out.old) (W.contents out.new) (gathered.old.items ++ text.now) gathered.new.items) }

@@ -9,13 +9,14 @@ use std::alloc::{Allocator, Global};
 use std::marker::Model;
 
 /// The lines that a way down has passed on their left side: each comes before what stands right of
-/// it, and the last before those in front of it.
+/// it, and a later one comes before the earlier ones.
 type Passed<'a, A> = ArrayVec<Option<&'a Line<A>>, HEIGHT_LIMIT>;
 
-/// The lines of a document from some line on, in order.
+/// The lines of a document from some line to the last, in order.
 ///
-/// It borrows the document and takes no memory: it keeps the lines on the way down to the next one,
-/// of which there are at most 34, since a document has at most 16,777,216 lines in a balanced tree.
+/// It borrows the document and takes no memory: it keeps the lines on the way down to the next
+/// line. There are at most 34 of these, since a document has at most 16,777,216 lines in a balanced
+/// tree.
 #[derive(Drop)]
 pub struct Lines<'a, A: Allocator = Global> {
     passed: Passed<'a, A>,

@@ -1,7 +1,7 @@
 //! The class of a line as a document keeps it: with smaller numbers for its places.
 //!
-//! A class is the largest part of what is kept of a line, and a document is read through whole to
-//! be printed or dropped.
+//! The class is the largest part of what is kept of a line, and the whole document is read to be
+//! printed or dropped.
 ghost use Rattle.std.specs.Prelude.{◌≡◌, ◌^◌, ◌<◌, ◌≤◌, IfOk, IsOkAnd, IsOkUnless, MatchOption};
 ghost use Rattle.mk_tree.specs.KeptClasses.{IsUnboxed, largest_place, largest_place_of_assignment, largest_place_of_header, whole_assignment, whole_class, whole_header};
 
@@ -11,7 +11,7 @@ use mk_lines::split::Span;
 use std::alloc::{Allocator, Global};
 use std::mem::size_of;
 
-/// A [`Class`], with places of 32 bits where they fit.
+/// A [`Class`], with places of 32 bits if they fit.
 #[derive(Drop)]
 pub(crate) enum KeptClass<A: Allocator> {
     Endef,
@@ -35,7 +35,7 @@ pub(crate) enum KeptClass<A: Allocator> {
 
 const _: () = prove!(size_of::<KeptClass<Global>>() == 32);
 
-/// The places of an [`Assignment`].
+/// The places of an [`Assignment`], with 32 bits each.
 #[derive(Clone, Copy, Debug, PartialEq, Eq)]
 pub(crate) struct KeptAssignment {
     name_start: u32,
@@ -58,7 +58,7 @@ pub(crate) struct KeptHeader {
     head_end: u32,
 }
 
-// A place as a smaller number, where it fits.
+// A place as a smaller number; `None` if it does not fit.
 fn small(place: usize) -> Option<u32>
     ensures { MatchOption result (2 ^ 32 ≤ place) (λ p. p ≡ place) }
 {
@@ -129,12 +129,12 @@ impl KeptHeader {
 }
 
 impl<A: Allocator> KeptClass<A> {
-    /// A class to be kept. It takes memory, and is kept in a box, only where a place does not fit 32
-    /// bits.
+    /// A class as it is kept. It takes memory, and is kept in a box, only if a place does not fit
+    /// in 32 bits.
     ///
     /// # Errors
     ///
-    /// [`Fault::NoMemory`] where a growth was refused.
+    /// [`Fault::NoMemory`] if a growth was refused.
     pub(crate) fn new(alloc: A, class: Class) -> Result<KeptClass<A>, Fault>
         ensures ok { IfOk result (λ kept. whole_class kept ≡ class) }
         ensures small { largest_place class < 2 ^ 32 → IsOkAnd result IsUnboxed }
@@ -146,7 +146,7 @@ impl<A: Allocator> KeptClass<A> {
         }
     }
 
-    // A class where all of its places fit.
+    // A class with small places; `None` if one of its places does not fit.
     fn with_small_places(class: &Class) -> Option<KeptClass<A>>
         ensures { MatchOption result (2 ^ 32 ≤ largest_place class.now) (λ kept. (whole_class kept ≡ class.now) × IsUnboxed kept) }
     {
@@ -179,7 +179,7 @@ impl<A: Allocator> KeptClass<A> {
         Some(kept)
     }
 
-    /// The class.
+    /// The class, with its whole places.
     pub(crate) fn whole(&self) -> Class
         ensures { result ≡ whole_class self.now }
     {

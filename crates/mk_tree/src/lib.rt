@@ -1,7 +1,7 @@
 //! The document: a makefile as the list of its lines, each with its bytes and its class.
 //!
 //! - [`document`]: the document, and the calls that change its lines.
-//! - [`parse`]: a text as a document.
+//! - [`parse`]: a document made of a text.
 //! - [`iter`]: the lines of a document in order.
 //! - [`walk`]: the lines of a document in order, each with its context.
 //! - [`tree`]: the balanced tree that the lines stand in, and a line by itself.

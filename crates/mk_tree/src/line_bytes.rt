@@ -9,15 +9,16 @@ use std::alloc::{Allocator, Global};
 use std::marker::Model;
 use std::rc::RcSlice;
 
-/// The bytes of a line: a stretch of a text that the lines which were parsed from it own together.
+/// The bytes of a line: a stretch of a text. The lines that were parsed from the text own it
+/// together.
 ///
-/// So a document has one copy of its text, and not one of each line, and lets go of it at once. The
-/// text stays as long as one of its lines does.
+/// So a document has one copy of its text instead of one for each line, and frees it at once. The
+/// text is kept as long as one of its lines is.
 #[derive(Drop)]
 pub struct LineBytes<A: Allocator = Global> {
     text: RcSlice<u8, A>,
-    // How many bytes of the text stand before and after the stretch. A document keeps these of each
-    // line, hence the small numbers, which serve for whole texts of any length.
+    // How many bytes of the text stand before and after the stretch. A document keeps these two
+    // numbers for each line, so they have 32 bits; for a whole text, of any length, both are 0.
     before: u32,
     after: u32,
 }
@@ -34,11 +35,11 @@ impl<A: Allocator> Model for LineBytes<A> {
 }
 
 impl<A: Allocator> LineBytes<A> {
-    /// Bytes as a text of their own, of which nothing is copied.
+    /// Bytes as a text of their own. Nothing is copied.
     ///
     /// # Errors
     ///
-    /// [`Fault::NoMemory`] where a growth was refused.
+    /// [`Fault::NoMemory`] if a growth was refused.
     pub fn new(bytes: Vec<u8, A>) -> Result<LineBytes<A>, Fault>
     where
         A: Clone,
@@ -52,11 +53,11 @@ impl<A: Allocator> LineBytes<A> {
         })
     }
 
-    /// A stretch of a text, of which nothing is copied.
+    /// A stretch of a text. Nothing is copied.
     ///
     /// # Errors
     ///
-    /// [`Fault::NoMemory`] where the text has as many owners as can be counted.
+    /// [`Fault::NoMemory`] if the text has as many owners as can be counted.
     pub(crate) fn of_text(text: &RcSlice<u8, A>, span: Span) -> Result<LineBytes<A>, Fault>
         requires short { length (rc_slice_items text.now) < 2 ^ 32 }
         requires order { span.start ≤ span.end }

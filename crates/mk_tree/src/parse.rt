@@ -1,4 +1,4 @@
-//! A text as a document.
+//! A document made of a text.
 ghost use Rattle.std.specs.Prelude.{◌≡◌, ◌+◌, ◌^◌, ◌<◌, ◌≤◌, IfErr, IfOk, IsErrAnd, OnOk, length};
 ghost use Rattle.mk_lines.specs.LogicalLines.{logical_lines};
 ghost use Rattle.mk_tree.specs.Counting.{AreCounted};
@@ -17,20 +17,21 @@ use mk_lines::split::split;
 use std::alloc::Allocator;
 use std::rc::RcSlice;
 
-/// How many bytes a document may have.
+/// The most bytes that a document may have: 2^24. This project's profile.
 pub const SIZE_LIMIT: usize = 16_777_216;
 
 impl<A: Allocator + Copy> Doc<A> {
-    /// The lines of a text, each with its class in the context of those before it. It adds one to the
-    /// meter for each, and where it answers a fault for at most each. The time is linear in the text.
+    /// The document of a text: its lines, each with its class in the context of the lines before
+    /// it. The call adds one to the meter for each line; if it answers a fault, it adds at most one
+    /// for each line. The time is linear in the bytes of the text.
     ///
     /// The text is copied once; [`Doc::parse_vec`] copies nothing.
     ///
     /// # Errors
     ///
-    /// - [`Fault::TooLong`] where the text has more than 16,777,216 bytes.
-    /// - [`Fault::TooDeep`] where more than 256 conditionals are open at once.
-    /// - [`Fault::NoMemory`] where a growth was refused.
+    /// - [`Fault::TooLong`] if the text has more than 16,777,216 bytes.
+    /// - [`Fault::TooDeep`] if more than 256 conditionals are open at once.
+    /// - [`Fault::NoMemory`] if a growth was refused.
     pub fn parse(alloc: A, text: &[u8], meter: &mut Meter) -> Result<Doc<A>, Fault>
         ensures long { 2 ^ 24 < length text.now → IsErrAnd result (λ fault. fault ≡ Fault.TooLong) }
         ensures faithful { IfOk result (λ doc. IsFaithfulTo doc text.now) }
@@ -48,12 +49,12 @@ impl<A: Allocator + Copy> Doc<A> {
         Doc::parse_vec(alloc, Vec::from_slice(alloc, text)?, meter)
     }
 
-    /// The lines of a text, as [`Doc::parse`] gives them. The document keeps the text that it is
+    /// The document of a text, as [`Doc::parse`] gives it. The document keeps the text that it is
     /// given, and no line is copied.
     ///
     /// # Errors
     ///
-    /// Those of [`Doc::parse`].
+    /// The errors of [`Doc::parse`].
     pub fn parse_vec(alloc: A, text: Vec<u8, A>, meter: &mut Meter) -> Result<Doc<A>, Fault>
         ensures long { 2 ^ 24 < length text.items → IsErrAnd result (λ fault. fault ≡ Fault.TooLong) }
         ensures faithful { IfOk result (λ doc. IsFaithfulTo doc text.items) }
@@ -77,8 +78,9 @@ impl<A: Allocator + Copy> Doc<A> {
     }
 }
 
-/// Reads the first lines, so many of them, into a tree that is as low as it can be: those of its left
-/// side, its top, and those of its right side. Each line is put into its place as soon as it is read.
+/// Reads the first `count` lines into a tree that is as low as it can be: first the lines of its
+/// left side, then its top, then the lines of its right side. Each line is put into its place as
+/// soon as it is read.
 fn read_tree<A: Allocator + Copy>(
     lines: &mut Unread<'_, A>,
     count: usize,

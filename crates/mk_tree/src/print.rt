@@ -12,12 +12,12 @@ use mk_lines::sink::{ByteSink, write_all};
 use std::alloc::Allocator;
 
 impl<A: Allocator> Doc<A> {
-    /// Writes the lines one after the other, as few calls of [`ByteSink::write`] as that takes where
-    /// each takes all. Nothing is flushed. Takes no memory.
+    /// Writes the lines one after the other, gathered into few calls of [`ByteSink::write`].
+    /// Nothing is flushed. Takes no memory.
     ///
     /// # Errors
     ///
-    /// [`Fault::Write`] where a write answered it or took nothing. A prefix of the text is out then.
+    /// [`Fault::Write`] if a write answered it or took no byte. A prefix of the text is out then.
     pub fn write_to<W: ByteSink>(&self, out: &mut W) -> Result<(), Fault>
         requires { W.failed out.old ≡ false }
         ensures whole { OnOk result (Appends (W.contents out.old) (W.contents out.new) (placed_text self.now)) }

@@ -19,15 +19,15 @@ use mk_lines::cells::cells;
 use std::alloc::Allocator;
 
 impl<A: Allocator + Copy> Line<A> {
-    /// One logical line, with its class in a context and its cells. It adds one to the meter, or
-    /// nothing where it answers a fault before the line has its class.
+    /// One logical line, with its class in a context and its cells. The call adds one to the meter;
+    /// if it answers a fault before the line has its class, it adds nothing.
     ///
-    /// What is given is one logical line: [`split`](mk_lines::split::split) of it gives one span.
+    /// `bytes` are one logical line: [`split`](mk_lines::split::split) of it gives one span.
     ///
     /// # Errors
     ///
-    /// - [`Fault::TooDeep`] where the line opens a conditional and 256 are open.
-    /// - [`Fault::NoMemory`] where a growth was refused.
+    /// - [`Fault::TooDeep`] if the line opens a conditional and 256 are open.
+    /// - [`Fault::NoMemory`] if a growth was refused.
     pub fn read(
         alloc: A,
         bytes: Vec<u8, A>,

@@ -1,8 +1,8 @@
 //! A balanced tree of lines: one boxed node for each line, in the order of the lines.
 //!
 //! The heights of two siblings differ by at most one (Adelson-Velsky and Landis, 1962). The box of
-//! a node is the line itself, so that a line which stands alone is put into a tree without memory.
-//! A tree is changed by value: [`Tree::unlink`] takes it apart at its top, and [`Tree::join`] puts
+//! a node is the line itself, so that a line by itself can be put into a tree without memory. A
+//! tree is changed by value: [`Tree::unlink`] takes it apart at its top, and [`Tree::join`] puts
 //! two trees and a line between them together.
 ghost use Rattle.std.specs.Prelude.{◌≡◌, ◌+◌, ◌^◌, ◌<◌, ◌≤◌, max, [], ◌∷◌, ◌++◌, length, Some, IfOk, MatchOption, slice_get, take, drop};
 ghost use Rattle.mk_lines.specs.KeptCells.{AreCellsOf};
@@ -35,8 +35,8 @@ enum Link<A: Allocator> {
     Full(Counts, Line<A>),
 }
 
-/// What is counted of a tree that is not empty. It stands beside the pointer to the top, so that a
-/// way down reads no node but those on it.
+/// What is counted of a tree that is not empty. The counts stand beside the pointer to the top, so
+/// that a way down reads only the nodes on it.
 #[derive(Clone, Copy, Debug, PartialEq, Eq)]
 struct Counts {
     height: u32,
@@ -60,8 +60,8 @@ struct Node<A: Allocator> {
     right: Tree<A>,
 }
 
-// A document has one for each line, and is printed and dropped in the time that it takes to go
-// through their memory.
+// A document has one node for each line. To print or drop the document takes the time that it takes
+// to go through the memory of all nodes.
 const _: () = prove!(size_of::<Node<Global>>() == 120);
 
 impl<A: Allocator> Model for Tree<A> {
@@ -92,7 +92,7 @@ impl<A: Allocator> Node<A> {
 }
 
 impl<A: Allocator> Line<A> {
-    /// A line that stands alone. Where no memory is found the content comes back.
+    /// A line by itself. If there is no memory for it, the content comes back.
     pub(crate) fn new(alloc: A, content: Content<A>) -> Result<Line<A>, AllocFailed<Content<A>>>
         ensures ok { IfOk result (λ line. line_view line ≡ content) }
     {
@@ -109,7 +109,7 @@ impl<A: Allocator> Line<A> {
         }
     }
 
-    /// The bytes, with the line end where there is one. Takes no memory.
+    /// The bytes, with the line end if there is one. Takes no memory.
     pub fn bytes(&self) -> &[u8]
         ensures bytes { result.now ≡ (line_view self.now).bytes }
         ensures some_bytes { 0 < length result.now }
@@ -154,7 +154,7 @@ impl<A: Allocator> Tree<A> {
         Tree { link: Link::Empty }
     }
 
-    // How many lines stand on the longest way down.
+    // How many lines stand on the longest way down from the top.
     fn height(&self) -> u32
         ensures height { result ≡ self.now.1 }
         ensures few { AreFew self.now.0 self.now.1 }
@@ -213,7 +213,7 @@ impl<A: Allocator> Tree<A> {
         }
     }
 
-    /// The line at a place, the first being at 0.
+    /// The line at a place, from 0.
     pub(crate) fn line(&self, at: usize) -> &Line<A>
         requires in_range { at < length self.now.0 }
         ensures line { Some (line_view result.now) ≡ slice_get self.now.0 at }
@@ -233,7 +233,7 @@ impl<A: Allocator> Tree<A> {
         }
     }
 
-    /// Puts a line before the one at a place, or at the end, without memory.
+    /// Puts a line before the line at a place, or at the end. Takes no memory.
     #[tactic(auto, using(crate::proofs::Places::places))]
     pub(crate) fn insert(self, at: usize, line: Line<A>) -> Tree<A>
         requires in_range { at ≤ length self.0 }
@@ -255,7 +255,7 @@ impl<A: Allocator> Tree<A> {
         }
     }
 
-    /// Takes the line at a place out.
+    /// Takes out the line at a place.
     #[tactic(auto, using(crate::proofs::Places::places))]
     pub(crate) fn remove(self, at: usize) -> (Tree<A>, Line<A>)
         requires in_range { at < length self.0 }
@@ -284,7 +284,7 @@ impl<A: Allocator> Tree<A> {
         }
     }
 
-    /// Puts a line in the place of another, which is handed out.
+    /// Puts a line in the place of another, which it hands out.
     #[tactic(auto, using(crate::proofs::Places::places))]
     pub(crate) fn replace(self, at: usize, line: Line<A>) -> (Tree<A>, Line<A>)
         requires in_range { at < length self.0 }
@@ -311,8 +311,8 @@ impl<A: Allocator> Tree<A> {
         }
     }
 
-    /// Puts other bytes of the same joined text in the place of the last line's, which are handed
-    /// out.
+    /// Puts other bytes of the same joined text in the place of the last line's bytes, and hands
+    /// these out.
     pub(crate) fn swap_end(self, bytes: LineBytes<A>) -> (Tree<A>, LineBytes<A>)
         requires some_lines { 0 < length self.0 }
         requires some_bytes { 0 < length bytes }
@@ -328,7 +328,8 @@ impl<A: Allocator> Tree<A> {
         (rest.insert(at, line), old)
     }
 
-    // What stands before the line at the top, this line, and what stands after it.
+    // Takes a tree apart: what stands before the line at the top, this line, and what stands after
+    // it.
     #[tactic(auto, using(crate::proofs::Places::sizes))]
     fn unlink(self) -> Option<(Tree<A>, Line<A>, Tree<A>)>
         ensures { MatchOption result (self ≡ ([], 0)) (λ parts. IsUnlinked self parts.0 (line_view parts.1) parts.2) }
@@ -343,7 +344,7 @@ impl<A: Allocator> Tree<A> {
         }
     }
 
-    // The line between two trees of almost the same height.
+    // Joins two trees whose heights differ by at most one, with a line between them.
     #[tactic(auto, using(crate::proofs::Places::sizes))]
     pub(crate) fn join(left: Tree<A>, mut line: Line<A>, right: Tree<A>) -> Tree<A>
         requires balanced { DifferByAtMost 1 left.1 right.1 }
@@ -365,7 +366,7 @@ impl<A: Allocator> Tree<A> {
         }
     }
 
-    // The line between two trees whose heights differ by at most two.
+    // Joins two trees whose heights differ by at most two, with a line between them.
     fn balance(left: Tree<A>, line: Line<A>, right: Tree<A>) -> Tree<A>
         requires near { DifferByAtMost 2 left.1 right.1 }
         requires fits { size_of left.0 + length (line_view line).bytes + size_of right.0 ≤ 2 ^ 24 }
@@ -382,7 +383,7 @@ impl<A: Allocator> Tree<A> {
         }
     }
 
-    // The left tree is two higher.
+    // Joins two trees with a line between them. The left tree is two higher.
     fn lean_left(left: Tree<A>, line: Line<A>, right: Tree<A>) -> Tree<A>
         requires two_higher { left.1 ≡ right.1 + 2 }
         requires fits { size_of left.0 + length (line_view line).bytes + size_of right.0 ≤ 2 ^ 24 }
@@ -406,7 +407,7 @@ impl<A: Allocator> Tree<A> {
         )
     }
 
-    // The right tree is two higher.
+    // Joins two trees with a line between them. The right tree is two higher.
     fn lean_right(left: Tree<A>, line: Line<A>, right: Tree<A>) -> Tree<A>
         requires two_higher { right.1 ≡ left.1 + 2 }
         requires fits { size_of left.0 + length (line_view line).bytes + size_of right.0 ≤ 2 ^ 24 }

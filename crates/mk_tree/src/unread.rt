@@ -18,8 +18,8 @@ use std::alloc::Allocator;
 use std::marker::Model;
 use std::rc::RcSlice;
 
-/// The lines of a text from some line on, each read in the context of those before it. Contracts see
-/// the lines, and the context of the first of them.
+/// The lines of a text from some line on, each read in the context of the lines before it.
+/// Contracts see the lines, and the context of the first line.
 #[derive(Drop)]
 pub(crate) struct Unread<'a, A: Allocator> {
     alloc: A,
@@ -40,7 +40,7 @@ impl<'a, A: Allocator> Model for Unread<'a, A> {
 }
 
 impl<'a, A: Allocator + Copy> Unread<'a, A> {
-    /// All lines of a text, which stand at these spans.
+    /// All lines of a text. The lines stand at these spans.
     pub(crate) fn new(alloc: A, text: &'a RcSlice<u8, A>, spans: &'a [Span]) -> Unread<'a, A>
         requires few { length (rc_slice_items text.now) ≤ 2 ^ 24 }
         requires spans { spans.now ≡ line_ranges (rc_slice_items text.now) }
@@ -54,15 +54,15 @@ impl<'a, A: Allocator + Copy> Unread<'a, A> {
         }
     }
 
-    /// How many lines there are.
+    /// How many lines are still to be read.
     pub(crate) fn len(&self) -> usize
         ensures { result ≡ length self.now.lines }
     {
         self.spans.len()
     }
 
-    /// Reads the first line. It adds one to the meter, or nothing where it answers a fault before the
-    /// line has its class.
+    /// Reads the first line. The call adds one to the meter; if it answers a fault before the line
+    /// has its class, it adds nothing.
     pub(crate) fn read_first(&mut self, meter: &mut Meter) -> Result<Line<A>, Fault>
         requires some { 0 < length self.old.lines }
         ensures read { IfOk result (λ line. AreReadFrom self.old (line_view line ∷ []) self.new) }

@@ -10,11 +10,11 @@ use mk_class::Context;
 use std::alloc::{Allocator, Global};
 use std::marker::Model;
 
-/// The lines of a document from some line on, in order, each with its context: what the lines before
-/// it leave. Contracts see these lines, and the context of the first.
+/// The lines of a document from some line to the last, in order, each with its context: what the
+/// lines before it leave. Contracts see these lines, and the context of the first line.
 ///
 /// It borrows the document and takes no memory. [`Doc::context`] walks over the lines before one
-/// line; this serves who asks for the context of many.
+/// line; this iterator is for a caller that asks for the contexts of many lines.
 #[derive(Drop)]
 pub struct ContextedLines<'a, A: Allocator = Global> {
     lines: Lines<'a, A>,
@@ -33,8 +33,8 @@ impl<'a, A: Allocator> Model for ContextedLines<'a, A> {
 }
 
 impl<A: Allocator> Doc<A> {
-    /// The lines in order, each with its context: what the lines before it leave. It copies nothing and
-    /// takes no memory; a walk over all of them takes time linear in their number.
+    /// The lines in order, each with its context: what the lines before it leave. The call copies
+    /// nothing and takes no memory; a walk over all of them takes time linear in their number.
     ///
     /// It asks for a faithful document. The context of the line at a place is the one that
     /// [`Doc::context`] answers there.

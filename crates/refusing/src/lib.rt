@@ -1,17 +1,17 @@
 //! An allocator for tests, which refuses one growth.
 //!
-//! A test runs a call over it again and again, and refuses the first growth, then the second, and
-//! so on, until a run meets no refusal. A growth of a collection is one allocation, since `grow`
-//! and `shrink` are the trait's own: allocate, copy, free.
+//! A test runs a call over this allocator again and again, and refuses the first growth, then the
+//! second, and so on, until a run meets no refusal. A growth of a collection is one allocation,
+//! since `grow` and `shrink` are the trait's own: allocate, copy, free.
 #![tactic(auto)]
 
 use std::alloc::{AllocError, Allocator};
 use std::cell::Cell;
 
-/// The countdown after the refusal.
+/// The value of the countdown after the refusal.
 const SPENT: u64 = u64::MAX;
 
-/// Passes growths on to an allocator, but refuses one of them.
+/// Passes growths on to an allocator, except one growth, which it refuses.
 pub struct Refusing<B: Allocator> {
     inner: B,
     countdown: Cell<u64>,
@@ -26,7 +26,7 @@ impl<B: Allocator> Refusing<B> {
         }
     }
 
-    /// Whether the growth was refused by now.
+    /// Whether the growth has been refused.
     pub fn has_refused(&self) -> bool {
         self.countdown.get() == SPENT
     }

@@ -1,5 +1,5 @@
-//! Sources and sinks for tests: over bytes in memory, that move little, fail, take nothing or
-//! never end.
+//! Sources and sinks for tests, over bytes in memory. They move few bytes a call, fail, take
+//! nothing or never end.
 #![tactic(auto)]
 
 pub mod sinks;

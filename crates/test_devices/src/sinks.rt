@@ -3,11 +3,11 @@ ghost use Rattle.std.specs.Prelude.{◌≡◌, ◌-◌, ◌≤◌, Some, false, 
 
 use mk_lines::{ByteSink, Fault};
 
-/// Keeps what is written, at most `step` bytes a call, and perhaps fails or takes nothing at one
-/// call, or fails at its flushes.
+/// Keeps what is written, at most `step` bytes a call. It may fail or take nothing at one call, and
+/// it may fail at its flushes.
 ///
-/// It tells the flushes that succeeded, and what was taken since. A flush that it cannot count any
-/// more, after 2^64 - 1 of them, fails.
+/// It tells the flushes that succeeded, and how many bytes were taken since the last of them. After
+/// 2^64 - 1 flushes it cannot count one more, and the next flush fails.
 #[derive(Drop)]
 pub struct MemorySink {
     bytes: Vec<u8>,
@@ -24,7 +24,7 @@ pub struct MemorySink {
 }
 
 impl MemorySink {
-    /// A sink that appends to `bytes`, and does not fail while there is memory.
+    /// A sink that appends to `bytes`, and does not fail as long as there is memory.
     pub fn new(bytes: Vec<u8>, step: usize) -> MemorySink
         ensures works { result.is_failed ≡ false }
         ensures bytes { result.bytes ≡ bytes }
@@ -46,7 +46,7 @@ impl MemorySink {
         }
     }
 
-    /// The same sink, whose write of this number, counted from 1, fails, if there is one.
+    /// The same sink, whose write of this number, from 1, fails. With `None` no write fails.
     pub fn failing_at(mut self, write: Option<u64>) -> MemorySink
         ensures { result.is_failed ≡ self.is_failed }
     {
@@ -54,7 +54,8 @@ impl MemorySink {
         self
     }
 
-    /// The same sink, whose write of this number, counted from 1, takes nothing, if there is one.
+    /// The same sink, whose write of this number, from 1, takes nothing. With `None` there is no
+    /// such write.
     pub fn taking_nothing_at(mut self, write: Option<u64>) -> MemorySink
         ensures { result.is_failed ≡ self.is_failed }
     {
@@ -62,7 +63,7 @@ impl MemorySink {
         self
     }
 
-    /// The same sink, whose flushes fail, or not.
+    /// The same sink; its flushes fail if `flush_fails` says so.
     pub fn with_flush_failing(mut self, flush_fails: bool) -> MemorySink
         ensures { result.is_failed ≡ self.is_failed }
     {
@@ -80,7 +81,7 @@ impl MemorySink {
         self.writes
     }
 
-    /// How many flushes came, those that failed too.
+    /// How many flushes came, including those that failed.
     pub fn flushes(&self) -> u64 {
         self.flushes
     }

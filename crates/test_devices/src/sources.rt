@@ -3,10 +3,10 @@ ghost use Rattle.std.specs.Prelude.{◌≡◌, ◌<◌, Some, false, length};
 
 use mk_lines::{ByteSource, Fault};
 
-/// Gives the bytes of a slice, at most `step` of them a call, and perhaps fails at one call.
+/// Gives the bytes of a slice, at most `step` of them a call. It may fail at one call.
 ///
-/// It tells how many calls have answered that no bytes are left. A call that it cannot count so
-/// any more, after 2^64 - 1 of them, fails.
+/// It tells how many calls have answered that no bytes are left. After 2^64 - 1 of them it cannot
+/// count one more, and the next such call fails.
 #[derive(Drop)]
 pub struct MemorySource<'a> {
     rest: &'a [u8],
@@ -36,7 +36,7 @@ impl<'a> MemorySource<'a> {
         }
     }
 
-    /// The same source, which fails at the call of this number, counted from 1, if there is one.
+    /// The same source, which fails at the call of this number, from 1. With `None` no call fails.
     pub fn failing_at(mut self, call: Option<u64>) -> MemorySource<'a>
         ensures works { result.is_failed ≡ self.entry.is_failed }
         ensures bytes { result.rest.now ≡ self.entry.rest.now }
@@ -51,7 +51,7 @@ impl<'a> MemorySource<'a> {
         self.calls
     }
 
-    /// How many bytes are left.
+    /// How many bytes are not yet read.
     pub fn left(&self) -> usize
         ensures { result ≡ length self.now.rest.now }
     {

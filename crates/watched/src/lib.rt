@@ -1,17 +1,17 @@
-//! An allocator for tests, which notes the growths that it passes on, and refuses those that a test
+//! An allocator for tests. It notes the growths that it passes on, and refuses those that a test
 //! names.
 //!
-//! A test runs a call and refuses its first growth, then its second, and so on, until a call meets no
-//! refusal. Or it refuses all growths from some call on. Or it compares what two calls took. A growth
-//! of a collection is one allocation, since `grow` and `shrink` are the trait's own: allocate, copy,
-//! free.
+//! A test runs a call and refuses its first growth, then its second, and so on, until a call meets
+//! no refusal. Or it refuses all growths from some call on. Or it compares the growths of two
+//! calls. A growth of a collection is one allocation, since `grow` and `shrink` are the trait's
+//! own: allocate, copy, free.
 #![tactic(auto)]
 
 use std::alloc::{AllocError, Allocator};
 use std::cell::Cell;
 
-/// Growths that were passed on: how many, and a number that two runs share where the growths of both
-/// have the same sizes in the same order.
+/// Growths that were passed on: how many, and a number that is the same for two runs if their
+/// growths have the same sizes in the same order.
 #[derive(Clone, Copy, Debug, PartialEq, Eq)]
 pub struct Growths {
     /// How many growths.
@@ -27,7 +27,7 @@ const NONE: Growths = Growths { count: 0, sizes: 0 };
 #[derive(Clone, Copy)]
 enum Refusal {
     None,
-    // The growth after so many others, and no other.
+    // The growth after this number of other growths, and no other growth.
     OneAfter(u64),
     All,
 }
@@ -48,7 +48,7 @@ pub struct Watched<B: Allocator> {
 }
 
 impl<B: Allocator> Watched<B> {
-    /// Refuses none.
+    /// An allocator that passes on every growth to `inner`.
     pub fn new(inner: B) -> Watched<B> {
         Watched {
             inner,
@@ -83,12 +83,12 @@ impl<B: Allocator> Watched<B> {
         });
     }
 
-    /// The growths that were passed on since it was last told what to refuse.
+    /// The growths that were passed on since this allocator was last told what to refuse.
     pub fn passed(&self) -> Growths {
         self.watch.get().passed
     }
 
-    /// Whether a growth was refused since it was last told what to refuse.
+    /// Whether a growth was refused since this allocator was last told what to refuse.
     pub fn has_refused(&self) -> bool {
         self.watch.get().refused > 0
     }
@@ -103,7 +103,7 @@ impl<B: Allocator> Drop for Watched<B> {
 /// A prime, by which sizes are mixed.
 const PRIME: u64 = 1_099_511_628_211;
 
-// Whether this growth is to be refused. It is noted where it is not.
+// Whether this growth is to be refused. If not, it is noted.
 fn refuses(watch: &Cell<Watch>, size: usize) -> bool {
     let mut next = watch.get();
     let (refused, refusal) = match next.refusal {

@@ -98,7 +98,7 @@ no_operator (Bar ∷ s) h = refl
 no_operator (Ampersand ∷ s) h = refl
 no_operator (NoSymbol ∷ s) h = refl
 
--- the operator that stands before a `=` is the one of the symbols before it
+-- the operator that stands before a `=` is told by the symbols before the `=`
 operator-equals : (s z : List Symbol) → Each is_no_equals_symbol s → operator_at (s ++ Equals ∷ z) ≡ flavor_before_equals s
 operator-equals [] z h = refl
 operator-equals (Hash ∷ s) z h = refl
@@ -172,7 +172,7 @@ operator-equals (Bar ∷ s) z h = refl
 operator-equals (Ampersand ∷ s) z h = refl
 operator-equals (NoSymbol ∷ s) z h = refl
 
--- and it has one byte more than they
+-- the operator has one byte more than these symbols
 operator-length : (s : List Symbol) (f : Flavor) → flavor_before_equals s ≡ Some f → operator_length f ≡ suc (length s)
 operator-length [] f h = let e : Recursive ≡ f = cc in ap operator_length (sym e)
 operator-length (Hash ∷ s) f h = cc

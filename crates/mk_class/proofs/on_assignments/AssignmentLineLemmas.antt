@@ -50,7 +50,7 @@ pub some_cell : (a b : List Cell) (x : Cell) → (d : Cell) × (D : List Cell) �
 some_cell [] b x = (x, b, refl)
 some_cell (c ∷ a) b x = (c, a ++ x ∷ b, refl)
 
--- the units before a value are not nothing
+-- there is a unit before a value
 pub cells-before : (a : Assignment Cell) → EndsPlain joined_byte a.operator → (d : Cell) × (D : List Cell) × (concat (before_value a) ≡ d ∷ D)
 cells-before a p =
     let s = EndsPlain-split joined_byte a.operator p in

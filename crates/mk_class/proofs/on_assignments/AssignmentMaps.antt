@@ -28,7 +28,7 @@ abbrev pub map_assigned : {A B : Type 0} → (A → B) → Option (Assignment A)
 map_assigned f None = None
 map_assigned f (Some a) = Some (map_assignment f a)
 
--- a definition, or else the assignment after a word that is a modifier
+-- a definition; or, if it is none, the assignment after a word that is a modifier
 abbrev or_modified : {A : Type 0} → (byte : A → ℕ) → Option (Assignment A) → Option Modifier → (word : List (List A)) → Option (Assignment A) → Option (Assignment A)
 or_modified byte d m w o = elim d [ Some a ↦ Some a | None ↦ elim m [ Some n ↦ after_modifier byte n w o | None ↦ None ] ]
 
@@ -44,7 +44,7 @@ module _ {A B : Type 0} (f : A → B) (byte : B → ℕ) where
   blanks-map : (us : List (List A)) → blanks byte (map (map f) us) ≡ map (map f) (blanks (λ x. byte (f x)) us)
   blanks-map us = leading-map (map f) (is_gap (λ x. byte (f x))) (is_gap byte) (is_gap-map f byte) us
 
-  -- what stands after them
+  -- what stands after the blanks
   after_blanks-map : (us : List (List A)) → after_blanks byte (map (map f) us) ≡ map (map f) (after_blanks (λ x. byte (f x)) us)
   after_blanks-map us = after_leading-map (map f) (is_gap (λ x. byte (f x))) (is_gap byte) (is_gap-map f byte) us
 

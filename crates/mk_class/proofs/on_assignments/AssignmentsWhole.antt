@@ -1,4 +1,5 @@
--- Laws of assignments: the parts of one are the cut text, and its modifiers, name and flavor do not depend on its value.
+-- Laws of assignments: the parts of an assignment are the cut text, and its modifiers, name and flavor do not depend on its
+-- value.
 use Rattle.std.proofs.Common.{◌≡◌, refl, sym, ap, ◌∙◌, subst, ℕ, List, [], ◌∷◌, ◌++◌, map, Bool, true, false, not, Option, Some, None, append_assoc}
 use Rattle.std.proofs.lemmas.List.{append-nil}
 use Rattle.mk_lines.specs.Lists.{concat, leading, after_leading, trim_end, trailing, Each, FirstFails, LastFails}
@@ -66,7 +67,7 @@ module _ {A : Type 0} (byte : A → ℕ) where
 
   -- ---- the value
 
-  -- the units of a value and the blanks after it: it begins and ends with no blank, and where it is empty no blank follows
+  -- the units of a value and the blanks after it: the value begins and ends with no blank, and no blank follows an empty value
   pub record AreValue (value after : List (List A)) : Type 0 where
     pub begins : FirstFails (is_gap byte) value
     pub ends : LastFails (is_gap byte) value
@@ -186,7 +187,7 @@ module _ {A : Type 0} (byte : A → ℕ) where
       at b [] k w n s = absurd (cc)
       at b (e ∷ r) k w n s = with_front (front_of byte (tokens byte b)) b e r refl k w n (is (is_equals byte e) s)
 
-  -- each assignment is one
+  -- each assignment has the parts that `IsAssignment` asks for
   pub assignment-is : (us : List (List A)) (a : Assignment A) → assignment byte us ≡ Some a → IsAssignment us a
   assignment-is us a h =
       let m = made-of us a h in
@@ -238,7 +239,7 @@ module _ {A : Type 0} (byte : A → ℕ) where
         again = λ g v w j p. (f.operator ++ (e ∷ g), made-regapped f b e r g v w h n k j p);
       }
 
-  -- each assignment has them
+  -- each assignment has the units that `HasEquals` asks for
   pub assignment-has_equals : (us : List (List A)) (a : Assignment A) → assignment byte us ≡ Some a → HasEquals a
   assignment-has_equals us a h =
       let m = made-of us a h in

@@ -1,5 +1,5 @@
--- Where there is no assignment: a text whose head has no `=` is none, since a `;` before the first `=` ends the name and is no part
--- of an operator.
+-- Texts that are no assignment: a text whose head has no `=` is none, since a `;` before the first `=` ends the name and is no
+-- part of an operator.
 use Rattle.std.proofs.Common.{◌≡◌, refl, sym, ap, ◌∙◌, ℕ, List, [], ◌∷◌, ◌++◌, map, Bool, true, false, not, ◌||◌, cond, Option, Some, None, append_assoc}
 use Rattle.std.proofs.lemmas.List.{append-nil, map-append}
 use Rattle.std.specs.Prelude.{codes}
@@ -143,7 +143,7 @@ module _ {A : Type 0} (byte : A → ℕ) where
       go true e k = cc
       go false e k = k e
 
-  -- what stands before the first `=` is no front where it has a `;`
+  -- what stands before the first `=` is no front if it has a `;`
   no_front-semicolon : (ts : List (Token A)) → has_semicolon (token_units ts) ≡ true → AreTokens byte ts → front_of byte ts ≡ None
   no_front-semicolon [] h a = cc
   no_front-semicolon (Gap u ∷ ts) h a = ap (front_after_units byte (u ∷ [])) (no_front-semicolon ts (or-is (is_semicolon byte u) (has_semicolon (token_units ts)) (gap-no_semicolon u a.0) h) a.1)
@@ -158,7 +158,7 @@ module _ {A : Type 0} (byte : A → ℕ) where
       go true e (Some m) j k = absurd (let q : None ≡ Some m = sym (no_modifier-semicolon w e) ∙ j in cc)
       go false e (Some m) j k = ap (front_after_modifier byte m w) (k (sym (semicolon-append w (token_units ts) e) ∙ h))
 
-  -- there is no assignment where a `;` stands before the first `=`
+  -- there is no assignment if a `;` stands before the first `=`
   no_assignment-semicolon : (b : List (List A)) (e : List A) (r : List (List A)) → Each (is_no_equals byte) b → is_equals byte e ≡ true → has_semicolon b ≡ true → assignment byte (b ++ e ∷ r) ≡ None
   no_assignment-semicolon b e r n k h =
       assignment-equals byte b e r n k
@@ -172,7 +172,7 @@ module _ {A : Type 0} (byte : A → ℕ) where
       go true = refl
       go false = refl
 
-  -- there is no assignment where the head has no `=`
+  -- there is no assignment if the head has no `=`
   pub no_assignment-head : (h us : List (List A)) → Each (is_no_equals byte) h → FollowsHead byte us → assignment byte (h ++ us) ≡ None
   no_assignment-head h [] n f = ap (assignment byte) (append-nil h) ∙ no_assignment byte h n
   no_assignment-head h (u ∷ us) n f =

@@ -102,7 +102,7 @@ stray-kind Backslash z h e = e
 stray-kind Blank z h e = e
 stray-kind Ordinary z h e = e
 
--- and its cells have no stray byte
+-- the cells of such a text have no stray byte
 pub clean-no_stray : (v : List ℕ) → any is_barred_byte v ≡ false → has_stray (map Byte v) ≡ false
 clean-no_stray [] h = refl
 clean-no_stray (b ∷ v) h =
@@ -151,6 +151,6 @@ value-text b r h =
       no_stray = clean-no_stray v clean;
     }
 
--- its units may be the value of an assignment, with any blanks after it
+-- the units of a value's text may be the value of an assignment, with any blanks after it
 pub value-are_value : (v : List ℕ) (after : List (List Cell)) → IsValueText v → Each (is_gap joined_byte) after → AreValue joined_byte (units joined_byte (map Byte v)) after
 value-are_value v after t g = record { begins = t.begins; ends = t.ends; blanks_after = g; empty = λ e. absurd (t.not_empty e) }

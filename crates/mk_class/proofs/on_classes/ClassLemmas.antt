@@ -219,14 +219,13 @@ plain_class-assign led c cs us a p h =
 pub assign-plain_class : (led c : Bool) (cs : List Cell) (us : List (List Cell)) (a : Assignment Cell) → IsAssignLine cs us a → plain_class joined_byte led c (is_unreadable cs) us ≡ Assign a (prefix_set_by joined_byte c a)
 assign-plain_class led c cs us a h = rw (h.filled, h.readable, h.assigned) refl
 
--- where a line is an assignment, it stands outside defines and recipes, and so does each line in its place that begins with the
--- same byte
+-- an assignment's line stands outside defines and recipes, and so does each line in its place that begins with the same byte
 pub record IsReadOutside (led : Bool) (defines : ℕ) (f : Flag) (c : Bool) (cs : List Cell) (us : List (List Cell)) (a : Assignment Cell) (p : Option ℕ) : Type 0 where
   pub here : plain_class joined_byte led c (is_unreadable cs) us ≡ Assign a p
   pub also : (cs' : List Cell) (us' : List (List Cell)) → class_at joined_byte led defines f c (is_unreadable cs') us' ≡ plain_class joined_byte led c (is_unreadable cs') us'
   pub no_define : defines ≡ 0
 
--- so it is of each line of class Assign
+-- each line of class Assign stands there
 pub class_at-assign : (led : Bool) (n : ℕ) (f : Flag) (c : Bool) (cs : List Cell) (us : List (List Cell)) (a : Assignment Cell) (p : Option ℕ)
     → class_at joined_byte led n f c (is_unreadable cs) us ≡ Assign a p → IsReadOutside led n f c cs us a p
 class_at-assign true (suc n) f c cs us a p h = absurd (cc)
@@ -266,12 +265,12 @@ pub has_stray-left : (a b : List Cell) → has_stray (a ++ b) ≡ false → has_
 has_stray-left [] b h = refl
 has_stray-left (c ∷ a) b h = or_from (is_stray c) (has_stray a) (or-left_false (is_stray c) (has_stray (a ++ b)) h) (has_stray-left a b (or-right_false (is_stray c) (has_stray (a ++ b)) h))
 
--- and the last have none
+-- the last of such cells have none
 pub has_stray-right : (a b : List Cell) → has_stray (a ++ b) ≡ false → has_stray b ≡ false
 has_stray-right [] b h = h
 has_stray-right (c ∷ a) b h = has_stray-right a b (or-right_false (is_stray c) (has_stray (a ++ b)) h)
 
--- cells with some of them replaced by others without stray bytes can be read, where they are cells that a line may have
+-- cells of which some are replaced by cells without stray bytes can be read, if a line may have them
 pub readable-replaced : (P W V Q : List Cell) → is_unreadable (P ++ (W ++ Q)) ≡ false → has_stray V ≡ false → AreLineCells (P ++ (V ++ Q)) → is_unreadable (P ++ (V ++ Q)) ≡ false
 readable-replaced P W V Q h v g =
     let s = or-left_false (has_stray (P ++ (W ++ Q))) (has_bad_fold (P ++ (W ++ Q))) h in

@@ -31,7 +31,7 @@ use Rattle.mk_class.specs.declared.context.Flag.{Flag}
 use Rattle.mk_class.specs.declared.context.Flag.TheVariants.{Off, Rule, Unknown}
 use Rattle.mk_class.specs.declared.class.Class.TheVariants as variants
 
--- the same answers give the same class
+-- equal answers give equal classes
 pub answered-same : {A : Type 0} (byte : A → ℕ) (led c un e h k E H K : Bool) (a b : Option (Assignment A)) (d s : Option Said) (r : Class A) → e ≡ E → h ≡ H → k ≡ K → a ≡ b → d ≡ s
     → answered byte led c un e h k a d r ≡ answered byte led c un E H K b s r
 answered-same byte led c un e h k E H K a b d s r i j l m n = rw (i, j, l, m, n) refl

@@ -13,6 +13,6 @@ map-map_itself : (xs : List (List ℕ)) → map (map itself) xs ≡ xs
 map-map_itself [] = refl
 map-map_itself (x ∷ xs) = ap (λ y. y ∷ map (map itself) xs) (map-itself x) ∙ ap (λ ys. x ∷ ys) (map-map_itself xs)
 
--- they are the words
+-- the words of a text, as texts, are its words
 pub text_words-words : (t : List ℕ) → text_words t ≡ words itself t
 text_words-words t = map-map_itself (words itself t)

@@ -1,4 +1,4 @@
--- The context that is passed from line to line is the one that looking at all the lines gives.
+-- The context that is passed from line to line is the context that all the lines at once tell.
 use Rattle.std.proofs.Common.{◌≡◌, refl, sym, ap, ◌∙◌, arith, ℕ, List, [], ◌∷◌, ◌++◌, Bool, true, false, cond, Some, None, reverse, ◌+◌}
 use Rattle.std.specs.Prelude.{if◌then◌else◌}
 use Rattle.std.proofs.lemmas.List.{reverse-append, reverse-reverse}

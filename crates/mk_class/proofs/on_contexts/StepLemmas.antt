@@ -19,8 +19,8 @@ use Rattle.mk_class.specs.declared.context.Nesting.TheVariants.{Opens, Closes, K
 
 -- ---- which lines may be stepped over
 
--- a class that fits the counts may be stepped over, where a line that opens a conditional finds fewer than 256 open, and fewer
--- than 2 ^ 24 defines are open
+-- a class that fits the counts may be stepped over, if fewer than 2 ^ 24 defines are open, and if a line that opens a conditional
+-- finds fewer than 256 open
 Admits-counts : (c : Context) (k : Class Cell) → FitsCounts c.defines c.conditionals k → (k ≡ Class.If → c.conditionals < 256) → c.defines < 2 ^ 24 → Admits c (class_places joined_byte k)
 Admits-counts c Class.Endef f h d = (tt, omega arith)
 Admits-counts c (Class.Body Opens) f h d = (tt, d)
@@ -40,7 +40,7 @@ Admits-counts c (Class.TargetAssign t) f h d = (tt, tt)
 Admits-counts c Class.Rough f h d = (tt, tt)
 Admits-counts c (Class.Header x) f h d = (tt, tt)
 
--- so may each line in its context
+-- each line may be stepped over in its context
 pub class_of-admits : (c : Context) (l : List ℕ) → (class_of c l ≡ Class.If → c.conditionals < 256) → c.defines < 2 ^ 24 → Admits c (class_places joined_byte (class_of c l))
 class_of-admits c l = Admits-counts c (class_of c l) (class_of-counts c l)
 
@@ -65,7 +65,7 @@ prefix_set_by-byte c a b h = go (is_read_for_prefix joined_byte c a) h
 same_prefix : (a : Assignment Cell) (p q : Option ℕ) → Class.Assign a p ≡ Class.Assign a q → p ≡ q
 same_prefix a p q h = cc
 
--- a line that sets the prefix sets such a byte
+-- a line that sets the prefix sets a byte that may be one
 class_of-prefix_byte : (c : Context) (l : List ℕ) (a : Assignment Cell) (b : ℕ) → class_of c l ≡ Class.Assign a (Some b) → is_prefix_byte b ≡ true
 class_of-prefix_byte c l a b h =
     let led = is_prefix_led c.prefix l in
@@ -97,7 +97,7 @@ context_after-prefix_byte c l h = go (class_of c l) refl
     go Class.Rough e = h
     go (Class.Header x) e = h
 
--- where such a byte is in force before some lines, one is after them
+-- if such a byte is in force before some lines, one is in force after them
 pub classed-prefix_byte : (c : Context) (ls : List (List ℕ)) → is_prefix_byte c.prefix ≡ true → is_prefix_byte (context_after_lines c (classed c ls)).prefix ≡ true
 classed-prefix_byte c [] h = h
 classed-prefix_byte c (l ∷ ls) h = classed-prefix_byte (context_after c (class_of c l)) ls (context_after-prefix_byte c l h)

@@ -1,4 +1,4 @@
--- The parts of a header's line fit: they are read again from their units, also where some are replaced.
+-- The parts of a header's line fit: they are read again from their units, even if some parts are replaced.
 use Rattle.std.proofs.Common.{◌≡◌, refl, sym, ap, ◌∙◌, subst, ℕ, List, [], ◌∷◌, ◌++◌, map, Bool, true, false, not, ◌&&◌, ◌||◌, cond, take, drop}
 use Rattle.std.proofs.lemmas.List.{take-append-drop, take-map, drop-map}
 use Rattle.std.proofs.lemmas.Bool.{not-false}
@@ -20,7 +20,7 @@ use Rattle.mk_class.specs.HeaderFits.{separator_symbols, FitsPattern, FitsBar, F
 abbrev begins_with_separator : List Symbol → Bool
 begins_with_separator s = first_passes is_colon_symbol s || (first_passes is_ampersand_symbol s && first_passes is_colon_symbol (drop 1 s))
 
--- the symbols of the separator that stands there, and where it is `:` what follows begins with none
+-- the symbols of the separator that stands there; if the separator is `:`, what follows it begins with no separator
 record SymbolsFit (s : List Symbol) : Type 0 where
   taken : take (separator_length (separator_at s)) s ≡ separator_symbols (separator_at s)
   apart : is_single_colon (separator_at s) ≡ true → first_passes is_colon_symbol (drop (separator_length (separator_at s)) s) ≡ false
@@ -119,7 +119,7 @@ module _ {A : Type 0} (byte : A → ℕ) where
       go true e k = refl
       go false e k = more (until (begins_separator byte) us) refl e k
 
-  -- where there is a `:`, there is a separator
+  -- if there is a `:`, there is a separator
   from-begins : (us : List (List A)) → has_colon byte us ≡ true → begins_separator byte (from (begins_separator byte) us) ≡ true
   from-begins [] h = cc
   from-begins (u ∷ us) h = go (begins_separator byte (u ∷ us)) refl (λ k. from-begins us k)
@@ -168,7 +168,7 @@ module _ {A : Type 0} (byte : A → ℕ) where
   prerequisites-are : (us : List (List A)) → leading (is_no_bar byte) us ++ (take 1 (after_leading (is_no_bar byte) us) ++ drop 1 (after_leading (is_no_bar byte) us)) ≡ us
   prerequisites-are us = ap (λ z. leading (is_no_bar byte) us ++ z) (take-append-drop 1 (after_leading (is_no_bar byte) us)) ∙ leading-after_leading (is_no_bar byte) us
 
-  -- the parts of a line fit where those before the prerequisites do
+  -- the parts of a line fit if the parts before the prerequisites fit
   fits-prerequisites : (s : Separated A) (p c us t : List (List A)) → Each (is_in_head byte) (s.targets ++ (s.colons ++ (p ++ (c ++ us)))) → FirstFails (is_in_head byte) t
       → Each (is_no_colon byte) s.targets → (last_passes (is_ampersand byte) s.targets && first_passes (is_colon byte) s.colons) ≡ false
       → map (symbol byte) s.colons ≡ separator_symbols s.separator → first_passes (is_colon byte) (p ++ (c ++ us)) ≡ false → FitsPattern byte p c us

@@ -1,4 +1,4 @@
--- The parts of the image of a header's line: the images of the parts of the line, and Rough where the line is.
+-- The parts of the image of a header's line are the images of the parts of the line, and the image is Rough if the line is.
 use Rattle.std.proofs.Common.{◌≡◌, refl, ap, ◌∙◌, ℕ, List, [], ◌∷◌, map, Bool, true, false, not, ◌&&◌, ◌||◌, cond, Some, None, take, drop}
 use Rattle.std.proofs.lemmas.List.{take-map, drop-map}
 use Rattle.mk_lines.specs.Lists.{leading, after_leading}
@@ -41,7 +41,7 @@ map_header f h = record {
 module _ {A B : Type 0} (f : A → B) (byte : B → ℕ) where
   -- ---- separators
 
-  -- there is a `:` among the images of units where there is one among the units
+  -- there is a `:` among the images of units if there is one among the units
   pub has_colon-map : (us : List (List A)) → has_colon byte (map (map f) us) ≡ has_colon (λ x. byte (f x)) us
   has_colon-map us = any-map (map f) (is_colon (λ x. byte (f x))) (is_colon byte) (is_colon-map f byte) us
 
@@ -51,7 +51,7 @@ module _ {A B : Type 0} (f : A → B) (byte : B → ℕ) where
   first_ampersand-map : (us : List (List A)) → first_passes (is_ampersand byte) (map (map f) us) ≡ first_passes (is_ampersand (λ x. byte (f x))) us
   first_ampersand-map us = first_passes-map (map f) (is_ampersand (λ x. byte (f x))) (is_ampersand byte) (is_ampersand-map f byte) us
 
-  -- a separator stands at the front of the images of units where one stands at the front of the units
+  -- a separator stands at the front of the images of units if one stands at the front of the units
   begins_separator-map : (us : List (List A)) → begins_separator byte (map (map f) us) ≡ begins_separator (λ x. byte (f x)) us
   begins_separator-map us =
       let e : first_passes (is_colon byte) (drop 1 (map (map f) us)) ≡ first_passes (is_colon (λ x. byte (f x))) (drop 1 us) = ap (first_passes (is_colon byte)) (drop-map (map f) 1 us) ∙ first_colon-map (drop 1 us) in
@@ -167,14 +167,14 @@ module _ {A B : Type 0} (f : A → B) (byte : B → ℕ) where
       let e : is_single byte (words_of byte (map (map f) h.pattern)) ≡ is_single (λ x. byte (f x)) (words_of (λ x. byte (f x)) h.pattern) = ap (is_single byte) (words_of-map f byte h.pattern) ∙ is_single-map (words_of (λ x. byte (f x)) h.pattern) in
       rw (is_empty-map (map f) h.second_colon, e) refl
 
-  -- the image of a line is Rough where the line is
+  -- the image of a line is Rough if the line is
   pub is_rough-map : (us : List (List A)) (h : Header A) → is_rough byte (map (map f) us) (map_header f h) ≡ is_rough (λ x. byte (f x)) us h
   is_rough-map us h =
       rw (has_unreadable-map us, has_colon_after_other-map h, has_third_separator-map h, has_bar_amiss-map h, has_second_bar-map h, has_pattern_amiss-map h) refl
 
   -- ---- the inline recipe
 
-  -- the image of a line has an inline recipe where the line has one
+  -- the image of a line has an inline recipe if the line has one
   pub has_recipe-map : (h : Header A) → is_some (inline_recipe byte (map_header f h)) ≡ is_some (inline_recipe (λ x. byte (f x)) h)
   has_recipe-map h = go h.tail
     where

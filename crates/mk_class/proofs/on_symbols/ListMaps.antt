@@ -1,27 +1,27 @@
--- The words on lists over an image: what they keep of it is the image of what they keep of the list.
+-- The words on lists over an image: what they keep of the image is the image of what they keep of the list.
 use Rattle.std.proofs.Common.{◌≡◌, refl, List, [], ◌∷◌, map, Bool, true, false, cond}
 use Rattle.mk_lines.specs.Lists.{leading, after_leading, trim_end, trailing, trim_end_before, trailing_before}
 use Rattle.mk_class.specs.Lists.{is_empty, any, first_passes, last_passes, until, from}
 
 module _ {A B : Type 0} (f : A → B) where
-  -- an image is empty where the list is
+  -- an image is empty if the list is empty
   pub is_empty-map : (xs : List A) → is_empty (map f xs) ≡ is_empty xs
   is_empty-map [] = refl
   is_empty-map (x ∷ xs) = refl
 
 -- a test of elements of the image that says the same as one of the elements
 module _ {A B : Type 0} (f : A → B) (p : A → Bool) (q : B → Bool) (same : (x : A) → q (f x) ≡ p x) where
-  -- some element of the image passes where one of the list does
+  -- some element of the image passes if some element of the list does
   pub any-map : (xs : List A) → any q (map f xs) ≡ any p xs
   any-map [] = refl
   any-map (x ∷ xs) = rw (same x, any-map xs) refl
 
-  -- the first of the image passes where that of the list does
+  -- the first element of the image passes if the first of the list does
   pub first_passes-map : (xs : List A) → first_passes q (map f xs) ≡ first_passes p xs
   first_passes-map [] = refl
   first_passes-map (x ∷ xs) = same x
 
-  -- the last of the image passes where that of the list does
+  -- the last element of the image passes if the last of the list does
   pub last_passes-map : (xs : List A) → last_passes q (map f xs) ≡ last_passes p xs
   last_passes-map [] = refl
   last_passes-map (x ∷ []) = same x

@@ -161,11 +161,11 @@ module _ {A : Type 0} (byte : A → ℕ) where
   pub equals-symbol : (u : List A) → is_equals byte u ≡ true → symbol byte u ≡ Equals
   equals-symbol u h = equals_symbol-is (symbol byte u) h
 
-  -- it is no gap
+  -- a unit `=` is no gap
   pub equals-no_gap : (u : List A) → is_equals byte u ≡ true → is_gap byte u ≡ false
   equals-no_gap u h = symbol-no_gap u (λ e. let k : NoSymbol ≡ Equals = sym e ∙ equals-symbol u h in cc)
 
-  -- it is one byte, which means nothing to units
+  -- a unit `=` is one byte, which means nothing to units
   pub equals-plain : (u : List A) → is_equals byte u ≡ true → IsPlainUnit byte u
   equals-plain [] h = cc
   equals-plain (x ∷ []) h = rw (byte_symbol-byte (byte x) Equals (λ e. cc) (equals-symbol (x ∷ []) h)) refl

@@ -27,27 +27,27 @@ module _ {A B : Type 0} (f : A → B) (byte : B → ℕ) where
   symbols-map [] = refl
   symbols-map (u ∷ us) = rw (symbol-map u, symbols-map us) refl
 
-  -- the image of a unit is `#` where the unit is
+  -- the image of a unit is `#` if the unit is
   pub is_hash-map : (u : List A) → is_hash byte (map f u) ≡ is_hash (λ x. byte (f x)) u
   is_hash-map u = ap is_hash_symbol (symbol-map u)
 
-  -- the same of `:`
+  -- the image of a unit is `:` if the unit is
   pub is_colon-map : (u : List A) → is_colon byte (map f u) ≡ is_colon (λ x. byte (f x)) u
   is_colon-map u = ap is_colon_symbol (symbol-map u)
 
-  -- of `=`
+  -- the image of a unit is `=` if the unit is
   pub is_equals-map : (u : List A) → is_equals byte (map f u) ≡ is_equals (λ x. byte (f x)) u
   is_equals-map u = ap is_equals_symbol (symbol-map u)
 
-  -- of `|`
+  -- the image of a unit is `|` if the unit is
   pub is_bar-map : (u : List A) → is_bar byte (map f u) ≡ is_bar (λ x. byte (f x)) u
   is_bar-map u = ap is_bar_symbol (symbol-map u)
 
-  -- and of `&`
+  -- the image of a unit is `&` if the unit is
   pub is_ampersand-map : (u : List A) → is_ampersand byte (map f u) ≡ is_ampersand (λ x. byte (f x)) u
   is_ampersand-map u = ap is_ampersand_symbol (symbol-map u)
 
-  -- ---- units that a rule line cannot hold
+  -- ---- units that may stand in no word of a header
 
   mark_count-map : (p : Mark → Bool) (t : List A) → mark_count byte p (map f t) ≡ mark_count (λ x. byte (f x)) p t
   mark_count-map p [] = refl
@@ -78,7 +78,7 @@ module _ {A B : Type 0} (f : A → B) (byte : B → ℕ) where
   is_unclosed_by-map CloseBrace t = refl
   is_unclosed_by-map Unmarked t = refl
 
-  -- the image of a unit is unclosed where the unit is
+  -- the image of a unit is unclosed if the unit is
   is_unclosed_unit-map : (u : List A) → is_unclosed_unit byte (map f u) ≡ is_unclosed_unit (λ x. byte (f x)) u
   is_unclosed_unit-map [] = refl
   is_unclosed_unit-map (x ∷ u) = is_unclosed_by-map (byte_mark (byte (f x))) u
@@ -92,7 +92,7 @@ module _ {A B : Type 0} (f : A → B) (byte : B → ℕ) where
   is_dollar_before_blank-map (x ∷ []) = refl
   is_dollar_before_blank-map (x ∷ y ∷ u) = refl
 
-  -- the image of a unit may stand in no word of a header where the unit may not
+  -- the image of a unit may stand in no word of a header if the unit may stand in none
   pub is_unreadable_unit-map : (u : List A) → is_unreadable_unit byte (map f u) ≡ is_unreadable_unit (λ x. byte (f x)) u
   is_unreadable_unit-map u = rw (is_escape-map u, is_dollar_before_blank-map u, is_unclosed_unit-map u) refl
 
@@ -110,7 +110,7 @@ module _ {A B : Type 0} (f : A → B) (byte : B → ℕ) where
   texts-map [] = refl
   texts-map (w ∷ ws) = rw (map-map byte f w, texts-map ws) refl
 
-  -- their texts are the same
+  -- the texts of the words are the same
   pub word_texts-map : (us : List (List A)) → word_texts byte (map (map f) us) ≡ word_texts (λ x. byte (f x)) us
   word_texts-map us = ap (map (map byte)) (words_of-map us) ∙ texts-map (words_of (λ x. byte (f x)) us)
 

@@ -15,7 +15,7 @@ use Rattle.mk_edit_parts.specs.declared.seek.Found.{Found}
 use Rattle.mk_edit_parts.proofs.CauseLemmas.{unrefused}
 use Rattle.mk_edit.proofs.on_plans.NewLinePlans.{IsPutIn, line-put_in}
 
--- where none of the causes holds that its place decides
+-- if none of the causes holds that its place decides, the line is added
 pub line-added : (ls : List PlacedLine) (e : Edit) (f : Found) (m : List ℕ) → IsFaithful ls → IsDecidedByPlace (placed_text ls) e → None ≡ first_cause (place_causes (placed_text ls) e)
     → IsInsertedAt ls (insertion (classed_lines (placed_text ls)) e) f → m ≡ new_text f.context.prefix e ++ line_end_bytes (file_line_end (placed_text ls)) → IsPutIn e ls f.at m
 line-added ls e f m h D none N k =

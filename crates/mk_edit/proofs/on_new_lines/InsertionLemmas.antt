@@ -89,7 +89,7 @@ last-shown f q none some [] = none
 last-shown f q none some (l ∷ []) = some l
 last-shown f q none some (l ∷ k ∷ ls) = last-shown f q none some (k ∷ ls)
 
--- a line at a place follows a last line of some kind where no line is below it and the last above is of this kind
+-- a line at a place follows a last line of some kind if no line is below the place and the last line above it is of this kind
 pub follows-last : (f : Option PlacedLine → Bool) (q : ClassedLine → Bool) → f None ≡ false → ((l : ClassedLine) → f (Some (placed_line l)) ≡ q l) → (above below : List ClassedLine) (at : ℕ)
     → length above ≡ at → ((at == length (placed_lines (above ++ below))) && f (last_line (placed_lines (above ++ below)))) ≡ (is_empty below && last_passes q above)
 follows-last f q none some above (b ∷ below) at n =

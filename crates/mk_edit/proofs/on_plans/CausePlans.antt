@@ -40,7 +40,7 @@ own_causes t ls e =
     ∷ too_long t (spans_of t ls e)
     ∷ []
 
--- they decide, once the line is found
+-- the edit's own causes decide, once the line is found
 pub addressed-own : (e : Edit) (ls : List PlacedLine) (f : Found) (r : Option Refusal) → IsAddressed e ls f → first_cause (own_causes (placed_text ls) (classed_lines (placed_text ls)) e) ≡ r
     → first_cause (causes (placed_text ls) (classed_lines (placed_text ls)) e) ≡ r
 addressed-own e ls f r A h =

@@ -16,7 +16,7 @@ use Rattle.mk_edit_parts.specs.declared.seek.Found.{Found}
 
 -- ---- open defines
 
--- some lines open at most one each
+-- each of some lines opens at most one
 defines-few : (c : Context) (ls : List ClassedLine) → (context_after_lines c ls).defines ≤ c.defines + length ls
 defines-few c [] = omega arith
 defines-few c (l ∷ ls) = omega (arith, defines-few (context_after c l.class) ls, defines_after-few c.defines l.class)
@@ -26,7 +26,7 @@ take-few zero xs = omega arith
 take-few (suc n) [] = omega arith
 take-few (suc n) (x ∷ xs) = omega (arith, take-few n xs)
 
--- so there are few at a place that is low
+-- few defines are open at a place whose number is low
 pub place-defines : (ls : List PlacedLine) (place : Found) → IsPlaceOf ls place → place.at < 2 ^ 24 → place.context.defines < 2 ^ 24
 place-defines ls place p low =
     let above = take place.at (classed_lines (placed_text ls)) in
@@ -37,7 +37,7 @@ some-line : (m : List ℕ) → logical_lines m ≡ m ∷ [] → 0 < length m
 some-line [] h = absurd (let g : [] ≡ [] ∷ [] = h in cc)
 some-line (b ∷ m) h = omega arith
 
--- where a line can be put in
+-- the number of a place at which a line can be put in is low
 pub insert-low : (ls : List PlacedLine) (at : ℕ) (m : List ℕ) → CanInsert ls at m → length ls ≤ size_of ls → at < 2 ^ 24
 insert-low ls at m C few = omega (arith, C.in_range, C.fits, some-line m C.line.one, few)
 

@@ -22,7 +22,7 @@ use Rattle.mk_edit.proofs.on_plans.PlanLemmas.{lead-planned, after-fits, faithfu
 
 -- ---- a line replaced
 
--- The line at a place can be replaced by one of these bytes, and the moves that do it are what is planned.
+-- A line of these bytes can be put in the place of the line at `at`, and the moves that do it are what is planned.
 pub record IsReplaced (e : Edit) (ls : List PlacedLine) (at : ℕ) (m : List ℕ) : Type 0 where
   pub can : CanReplace ls at m
   pub planned : IsPlanned e ls (replacing_moves ls at m)
@@ -49,7 +49,7 @@ line-replaced e ls rs s at m f h p place b =
 
 -- ---- lines taken out
 
--- So many lines stand at a place, and the moves that take them out are what is planned.
+-- `count` lines stand from a place on, and the moves that take them out are what is planned.
 pub record IsTakenOut (e : Edit) (ls : List PlacedLine) (at count : ℕ) : Type 0 where
   pub in_range : at + count ≤ length ls
   pub planned : IsPlanned e ls (removing_moves at count)

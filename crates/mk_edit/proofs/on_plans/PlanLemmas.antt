@@ -1,4 +1,4 @@
--- What the planning of every edit owes, where its moves lead from the lines before it to those after it.
+-- What the planning of every edit has to show, if its moves lead from the lines before the edit to the lines after it.
 use Rattle.std.proofs.Common.{◌≡◌, refl, sym, ap, ◌∙◌, subst, arith, ℕ, ◌+◌, ◌^◌, ◌<◌, ◌≤◌, List, [], ◌∷◌, ◌++◌, length, take, Option, Some, None, option_map, inr}
 use Rattle.std.specs.Prelude.{Ok, Err, Result, IfOk, IfErr, IsOkUnless}
 use Rattle.std.proofs.lemmas.List.{length-map}
@@ -48,7 +48,7 @@ after-fits t e rs after h a = subst (λ (z : List ClassedLine). size_of (placed_
 
 -- ---- a place of a faithful document
 
--- it has as many lines as its text
+-- a faithful document has as many lines as its text
 pub faithful-length : (ls : List PlacedLine) (before : List ClassedLine) → IsFaithful ls → classed_lines (placed_text ls) ≡ before → length ls ≡ length before
 faithful-length ls before f b = ap length f ∙ (length-map (classed_lines (placed_text ls)) placed_line ∙ ap length b)
 
@@ -85,7 +85,7 @@ touched-none_put ls (SetRecipe nth g k c) s h few = refl
 touched-none_put ls (RemoveRecipe nth g k) s h few = refl
 touched-none_put ls (RenameTarget o n) s h few = refl
 
--- nor does one that leaves no line
+-- an edit that leaves no line puts no line in
 pub removed-none_put : (t : List ℕ) (e : Edit) (rs : List Replacement) (s : Stretch) → edited_bytes t e s rs ≡ [] → insertion (classed_lines t) e ≡ None
 removed-none_put t (SetValue nth n v) rs s h = refl
 removed-none_put t (AppendValue nth n v) rs s h = refl
@@ -100,7 +100,7 @@ removed-none_put t (SetRecipe nth g k c) rs s h = refl
 removed-none_put t (RemoveRecipe nth g k) rs s h = refl
 removed-none_put t (RenameTarget o n) rs s h = refl
 
--- one that leaves a line where it touches one reads this line again, and changes that one
+-- an edit that leaves one line where it touches one line reads that line again, and replaces one line
 pub record ChangesOne (t : List ℕ) (e : Edit) : Type 0 where
   pub cost_is : cost t e ≡ 1
   pub size_is : size t e ≡ 1
@@ -119,7 +119,7 @@ changes-one t (RemoveRule nth g) rs s m h few k = absurd (cc)
 changes-one t (RemoveRecipe nth g n) rs s m h few k = absurd (cc)
 changes-one t (RenameTarget o n) rs s m h few k = absurd (cc)
 
--- what is known of one that puts a line in
+-- what is known of an edit that puts a line in
 pub record PutsIn (t : List ℕ) (e : Edit) (rs : List Replacement) (s : Stretch) : Type 0 where
   pub place : touched_by (classed_lines t) e ≡ Some (between s)
   pub bytes : edited_bytes t e (between s) rs ≡ new_line_bytes t e s ∷ []
@@ -142,12 +142,12 @@ puts-in t (RenameTarget o n) rs s h = absurd (cc)
 
 -- ---- the answer of a function that makes the planned moves
 
--- what it gives is planned
+-- what such a function gives is planned
 pub planned-if_ok : (e : Edit) (ls : List PlacedLine) (moves : List Move) (r : Result (List Move) Refusal) → IsPlanned e ls moves → IfOk r (λ patch. patch ≡ moves) → IfOk r (λ patch. IsPlanned e ls patch)
 planned-if_ok e ls moves (Ok patch) P h = subst (IsPlanned e ls) (sym h) P
 planned-if_ok e ls moves (Err x) P h = tt
 
--- and it is refused only where a growth is
+-- such a function refuses only if a growth is refused
 pub planned-if_err : (e : Edit) (ls : List PlacedLine) (moves : List Move) (r : Result (List Move) Refusal) → IsPlanned e ls moves → IsOkUnless r NoMemory → IfErr r (λ x. IsRefusal (placed_text ls) e x)
 planned-if_err e ls moves (Ok patch) P h = tt
 planned-if_err e ls moves (Err x) P h = inr (h, P.replacements, P.spans_are)

@@ -84,9 +84,9 @@ place-found ls a f F =
     let above : take f.at cs ≡ s.above = ap (take f.at) w ∙ (ap (λ k. take k (s.above ++ s.line ∷ s.below)) (sym F.place_is) ∙ take-append_seam s.above (s.line ∷ s.below)) in
     ap context_of above ∙ F.context_is
 
--- ---- edits that take out so many lines from a place on
+-- ---- edits that take out a number of lines from a place on
 
--- Of the edit's own causes there are only two left, Leans and TooLong.
+-- Only two of the edit's own causes can still hold: Leans and TooLong.
 pub record TakesOut (e : Edit) (ls : List PlacedLine) (at count : ℕ) : Type 0 where
   pub removal_is : removal (classed_lines (placed_text ls)) e ≡ Some (stretch_at (classed_lines (placed_text ls)) at count)
   pub touched_is : touched_by (classed_lines (placed_text ls)) e ≡ Some (stretch_at (classed_lines (placed_text ls)) at count)
@@ -99,7 +99,7 @@ pub record TakesOut (e : Edit) (ls : List PlacedLine) (at count : ℕ) : Type 0 
   pub others : first_cause (own_causes (placed_text ls) (classed_lines (placed_text ls)) e)
       ≡ first_cause (leaning (classed_lines (placed_text ls)) e ∷ too_long (placed_text ls) (spans_of (placed_text ls) (classed_lines (placed_text ls)) e) ∷ [])
 
--- where the lines below lean, it is refused
+-- if the lines below lean, the edit is refused
 pub taking_out-leans : (e : Edit) (ls : List PlacedLine) (f : Found) (at count : ℕ) (b : Bool) → IsAddressed e ls f → TakesOut e ls at count
     → b ≡ removal_leans (Some (stretch_at (classed_lines (placed_text ls)) at count)) → b ≡ true → spans (placed_text ls) e ≡ Err Leans
 taking_out-leans e ls f at count b A T h k =
@@ -111,7 +111,7 @@ taking_out-leans e ls f at count b A T h k =
 length-both : (ls : List ClassedLine) (at count : ℕ) → at + count ≤ length ls → (length (take at ls) ≡ at) × (length (take count (drop at ls)) ≡ count)
 length-both ls at count h = (grind (arith, common_steps), grind (arith, common_steps))
 
--- where they do not, the moves are planned
+-- if the lines below do not lean, the moves are planned
 pub taking_out-planned : (e : Edit) (ls : List PlacedLine) (f : Found) (at count : ℕ) (b : Bool) → IsFaithful ls → size_of ls ≤ 2 ^ 24 → IsAddressed e ls f → TakesOut e ls at count
     → b ≡ removal_leans (Some (stretch_at (classed_lines (placed_text ls)) at count)) → b ≡ false → IsTakenOut e ls at count
 taking_out-planned e ls f at count b g few A T h k =

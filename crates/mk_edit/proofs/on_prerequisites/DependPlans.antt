@@ -103,7 +103,7 @@ add-longer order w l at h base S =
 
 -- ---- the whole
 
--- What the code asks of a document where a rule gets a prerequisite, and what follows from the answers.
+-- What the code asks of a document if a rule gets a prerequisite, and what follows from the answers.
 pub record IsDependOf (order : Bool) (w : List ℕ) (e : Edit) (ls : List PlacedLine) (f : Found) : Type 0 where
   pub parts : Headers.Header Cell
   pub within : f.at < length ls

@@ -20,15 +20,15 @@ use Rattle.mk_edit.proofs.on_recipes.RulePlaces.{IsRuleAt}
 pub rule-line : (ls : List PlacedLine) (nth : Option ℕ) (g : List ℕ) (f : Found) (l : PlacedLine) → (R : IsRuleAt ls nth g f) → Some l ≡ slice_get ls f.at → l ≡ placed_line R.spot.line
 rule-line ls nth g f l R k = let q : Some l ≡ Some (placed_line R.spot.line) = k ∙ R.line.line_is in cc
 
--- has the places of this header
+-- such a line has the places of the header's parts
 rule-places : (ls : List PlacedLine) (nth : Option ℕ) (g : List ℕ) (f : Found) (l : PlacedLine) → (R : IsRuleAt ls nth g f) → Some l ≡ slice_get ls f.at → l.class ≡ variants.Header (header_places joined_byte R.header)
 rule-places ls nth g f l R k = ap (λ (z : PlacedLine). z.class) (rule-line ls nth g f l R k) ∙ ap (class_places joined_byte) R.class_is
 
--- so it is a rule's
+-- such a line is the line of a rule
 pub rule-class : (ls : List PlacedLine) (nth : Option ℕ) (g : List ℕ) (f : Found) (l : PlacedLine) → IsRuleAt ls nth g f → Some l ≡ slice_get ls f.at → IsRuleLine l
 rule-class ls nth g f l R k = record { places = header_places joined_byte R.header; class_is = rule-places ls nth g f l R k }
 
--- and has the parts of the header, where the code sees them
+-- such a line has the parts of the header, as the code sees them
 pub header-seen : (ls : List PlacedLine) (nth : Option ℕ) (g : List ℕ) (f : Found) (l : PlacedLine) (at : header.Header) → (R : IsRuleAt ls nth g f) → Some l ≡ slice_get ls f.at → IsPlacedIn l at → IsHeaderSeen l at R.header
 header-seen ls nth g f l at R k p =
     let h = R.header in

@@ -58,7 +58,7 @@ remove-nothing w h =
 
 -- ---- the whole
 
--- What the code asks of a document where a prerequisite is taken out, and what follows from the answers.
+-- What the code asks of a document if a prerequisite is taken out, and what follows from the answers.
 pub record IsUndependOf (w : List ℕ) (e : Edit) (ls : List PlacedLine) (f : Found) : Type 0 where
   pub parts : Headers.Header Cell
   pub within : f.at < length ls

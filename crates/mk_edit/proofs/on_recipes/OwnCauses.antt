@@ -16,7 +16,7 @@ use Rattle.mk_edit.proofs.on_plans.CausePlans.{own_causes, addressed-own}
 pub own-refused : (e : Edit) (ls : List PlacedLine) (f : Found) (r : Refusal) → IsAddressed e ls f → first_cause (own_causes (placed_text ls) (classed_lines (placed_text ls)) e) ≡ Some r → spans (placed_text ls) e ≡ Err r
 own-refused e ls f r A h = refused (placed_text ls) e r (addressed-own e ls f (Some r) A h)
 
--- where none of them holds, the edit has its spans
+-- if none of the edit's own causes holds, the edit has its spans
 pub own-accepted : (e : Edit) (ls : List PlacedLine) (f : Found) → IsAddressed e ls f → first_cause (own_causes (placed_text ls) (classed_lines (placed_text ls)) e) ≡ None
     → spans (placed_text ls) e ≡ Ok (spans_of (placed_text ls) (classed_lines (placed_text ls)) e)
 own-accepted e ls f A h = unrefused (placed_text ls) e (addressed-own e ls f None A h)

@@ -38,14 +38,14 @@ inserted-after_rule ls nth t c f g R at p =
     let place : length (s.above ++ s.line ∷ run) ≡ g.at = omega (arith, at, R.place_is, ap (λ z. length (recipe_run z)) R.below_is, length-append s.above (s.line ∷ run)) in
     inserted-between ls _ (after_rule s) g (ap (option_map after_rule) R.found_is) whole place p
 
--- What the code asks of a document where a recipe line is added, and what follows from the answers.
+-- What the code asks of a document if a recipe line is added, and what follows from the answers.
 pub record IsAdditionOf (e : Edit) (ls : List PlacedLine) (f : Found) : Type 0 where
   pub place : IsPlaceOf ls f
   pub within : f.at < length ls
   pub end_within : f.at + 1 + length (recipe_run (lines_from ls (f.at + 1))) ≤ length ls
   -- a line of a conditional in the recipe
   pub straddling : true ≡ any (λ l. is_conditional l.class) (recipe_run (lines_from ls (f.at + 1))) → spans (placed_text ls) e ≡ Err Straddles
-  -- none
+  -- no line of a conditional stands in the recipe
   pub decided : false ≡ any (λ l. is_conditional l.class) (recipe_run (lines_from ls (f.at + 1))) → IsDecidedByPlace (placed_text ls) e
   -- the place after the recipe
   pub inserted : (g : Found) → g.at ≡ f.at + 1 + length (recipe_run (lines_from ls (f.at + 1))) → IsPlaceOf ls g → IsInsertedAt ls (insertion (classed_lines (placed_text ls)) e) g

@@ -25,7 +25,7 @@ nth-map f zero (x ∷ xs) = refl
 nth-map f (suc zero) (x ∷ xs) = refl
 nth-map f (suc (suc n)) (x ∷ xs) = nth-map f (suc n) xs
 
--- where the code finds the recipe line of a number
+-- where the code finds a rule's recipe line, by its number
 abbrev pub place_in_rule : List PlacedLine → (from number : ℕ) → Option ℕ
 place_in_rule ls from n = option_map (λ s. from + length s.above) (nth_of n (recipe_spots_in (lines_from ls from)))
 
@@ -36,7 +36,7 @@ found-below ls nth g f n R =
     ap (option_and_then (recipe_spot n)) R.found_is
     ∙ (nth-map (below_header R.spot) n (recipe_spots_in R.spot.below) ∙ ap (λ z. option_map (below_header R.spot) (nth_of n (recipe_spots_in z))) (sym R.below_is))
 
--- the code finds none where there is none
+-- the code finds no recipe line if the rule has none of this number
 pub found-none : (ls : List PlacedLine) (nth : Option ℕ) (g : List ℕ) (f : Found) (n : ℕ) → IsRuleAt ls nth g f → None ≡ place_in_rule ls (f.at + 1) n → recipe_found (classed_lines (placed_text ls)) nth g n ≡ None
 found-none ls nth g f n R h = found-below ls nth g f n R ∙ go (nth_of n (recipe_spots_in (lines_from ls (f.at + 1)))) h
   where

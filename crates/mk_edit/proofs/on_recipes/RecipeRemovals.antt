@@ -38,13 +38,13 @@ not_leaning ls nth g n at R =
     ap (λ (o : Option StandingLine). where_holds (removal_leans (option_map this_line o)) Leans) R.found_is
     ∙ (ap (λ (z : Flag). where_holds (leans C.prefix z E.flag s.below) Leans) R.flag_before ∙ ap (λ (z : Flag). where_holds (leans C.prefix flag.Rule z s.below) Leans) R.flag_after)
 
--- what is left is no longer than the text
+-- the rest of the text is no longer than the text
 within-limit : (ls : List PlacedLine) (nth : Option ℕ) (g : List ℕ) (n at : ℕ) → IsRecipeAt ls nth g n at → size_of ls ≤ 2 ^ 24
     → too_long (placed_text ls) (spans_of (placed_text ls) (classed_lines (placed_text ls)) (RemoveRecipe nth g n)) ≡ None
 within-limit ls nth g n at R z =
     never-long (placed_text ls) (RemoveRecipe nth g n) (ap (λ (o : Option StandingLine). bytes_put (where_found removed_span (option_map this_line o))) R.found_is) (omega (arith, size_of-text ls, z))
 
--- What the code asks of a document where a recipe line is taken out, and what follows from the answers.
+-- What the code asks of a document if a recipe line is taken out, and what follows from the answers.
 pub record IsRecipeRemovalOf (n : ℕ) (e : Edit) (ls : List PlacedLine) (f : Found) : Type 0 where
   pub within : f.at < length ls
   pub missing : None ≡ place_in_rule ls (f.at + 1) n → spans (placed_text ls) e ≡ Err Absent

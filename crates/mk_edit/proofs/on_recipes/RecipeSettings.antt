@@ -77,7 +77,7 @@ setting-range nth g n c ls f at l h A R k =
       causes_are = addressed-own e ls f _ A (passed (absent cs e) _ _ (ap (λ (o : Option StandingLine). where_holds (not (is_some o)) Absent) R.found_is) refl);
     }
 
--- What the code asks of a document where a recipe line gets another command, and what follows from the answers.
+-- What the code asks of a document if a recipe line gets another command, and what follows from the answers.
 pub record IsRecipeSettingOf (n : ℕ) (c : List ℕ) (e : Edit) (ls : List PlacedLine) (f : Found) : Type 0 where
   pub within : f.at < length ls
   pub place : IsPlaceOf ls f

@@ -82,7 +82,7 @@ leaning-is ls nth g f end b R e h =
     ∙ (ap (λ z. not (is_same_flag f.context.flag flag.Rule) && z) (sym (ap (is_led_first_placed f.context.prefix) rest ∙ led_first-placed f.context.prefix (after_recipe s.below))) ∙ sym h)) in
     ap (λ (o : Option StandingLine). where_holds (removal_leans (option_map whole_rule o)) Leans) R.found_is ∙ ap (λ z. where_holds z Leans) same
 
--- what is left is no longer than the text
+-- the rest of the text is no longer than the text
 within-limit : (ls : List PlacedLine) (nth : Option ℕ) (g : List ℕ) (f : Found) → IsRuleAt ls nth g f → size_of ls ≤ 2 ^ 24
     → too_long (placed_text ls) (spans_of (placed_text ls) (classed_lines (placed_text ls)) (RemoveRule nth g)) ≡ None
 within-limit ls nth g f R z =
@@ -96,7 +96,7 @@ pub leaning-asked : (ls : List PlacedLine) (f : Found) (end : ℕ) (b : Bool) (b
 leaning-asked ls f end b before prefix h k m =
     h ∙ (ap (λ (z : Flag). not (is_same_flag z flag.Rule) && is_led_first_placed prefix (drop end ls)) k ∙ ap (λ z. not (is_same_flag f.context.flag flag.Rule) && is_led_first_placed z (drop end ls)) m)
 
--- What the code asks of a document where a rule is removed, and what follows from the answers.
+-- What the code asks of a document if a rule is removed, and what follows from the answers.
 pub record IsRemovalOf (e : Edit) (ls : List PlacedLine) (f : Found) : Type 0 where
   pub within : f.at < length ls
   pub end_within : f.at + 1 + length (recipe_run (lines_from ls (f.at + 1))) ≤ length ls
@@ -109,7 +109,7 @@ pub record IsRemovalOf (e : Edit) (ls : List PlacedLine) (f : Found) : Type 0 wh
   pub leaning_on : (l : PlacedLine) (n end : ℕ) → Some l ≡ slice_get ls f.at → n ≡ length (header_targets_placed l) → n ≤ 1
       → false ≡ any (λ l. is_conditional l.class) (recipe_run (lines_from ls (f.at + 1))) → end ≡ f.at + 1 + length (recipe_run (lines_from ls (f.at + 1)))
       → true ≡ (not (is_same_flag f.context.flag flag.Rule) && is_led_first_placed f.context.prefix (drop end ls)) → spans (placed_text ls) e ≡ Err Leans
-  -- none of these
+  -- none of these causes holds
   pub accepted : (l : PlacedLine) (n end : ℕ) → size_of ls ≤ 2 ^ 24 → Some l ≡ slice_get ls f.at → n ≡ length (header_targets_placed l) → n ≤ 1
       → false ≡ any (λ l. is_conditional l.class) (recipe_run (lines_from ls (f.at + 1))) → end ≡ f.at + 1 + length (recipe_run (lines_from ls (f.at + 1)))
       → false ≡ (not (is_same_flag f.context.flag flag.Rule) && is_led_first_placed f.context.prefix (drop end ls))

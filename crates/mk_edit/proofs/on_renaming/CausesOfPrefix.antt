@@ -50,8 +50,8 @@ after-front n at (Replace cs v ∷ ps) (s ∷ ss) h k =
     let r : replacing n ss ≡ replacements (at + length (raw_text cs)) ps = unfold others in ap others k in
     ap (λ b. b || any is_at_front ss) (ne_eqb s.start 0 (λ i. absurd (omega (arith, i, e, h)))) ∙ after-front n (at + length (raw_text cs)) ps ss (omega (arith, h)) r
 
--- Pieces that begin a line, of which a text replaces some: with this text or the old bytes in front, they begin with a byte where
--- the text does and replaces the front. The old bytes do not.
+-- Pieces that begin a line; a text replaces some of them, and the old bytes do not begin with the prefix. Some piece is replaced
+-- and the new bytes begin with the prefix exactly if the front is replaced and the text begins with the prefix.
 pieces-led : (p : ℕ) (n : List ℕ) (ps : List Piece) (ss : List Span) → 0 < length n → replacing n ss ≡ replacements 0 ps → is_prefix_led p (old_bytes ps) ≡ false
     → (any is_replaced ps && is_prefix_led p (new_bytes ps)) ≡ (any is_at_front ss && is_prefix_led p n)
 pieces-led p n [] [] h k f = refl
@@ -111,7 +111,8 @@ lines-led c (l ∷ ls) o n h k =
     ap (λ b. b || begins_some_renamed_line o n (context_after c l.class) ls) (line-led c l o n (AreClassed-class c l ls h) k)
     ∙ ap (λ b. (any is_at_front (renamed_places o (placed_line l)) && is_prefix_led c.prefix n) || b) (lines-led (context_after c l.class) ls o n (AreClassed-tail c l ls h) k)
 
--- A rename of a document makes some line begin with the prefix exactly where a word at the front of a line is replaced by such a one.
+-- A rename of a document makes some line begin with the prefix exactly if a word at the front of a line is replaced by a word
+-- that begins with it.
 pub rename-led : (ls : List PlacedLine) (o n : List ℕ) → IsFaithful ls → 0 < length n → begins_some_renamed_line o n start (classed_lines (placed_text ls)) ≡ begins_some_line o n start ls
 rename-led ls o n h k =
     let ds = classed_lines (placed_text ls) in

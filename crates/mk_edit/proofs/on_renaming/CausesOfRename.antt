@@ -32,7 +32,7 @@ use Rattle.mk_edit.proofs.on_renaming.SizesOfTexts.{rename-put, rename-taken}
 
 -- ---- the new word
 
--- it is not empty where no field is bad
+-- the new word is not empty if no field is bad
 new-some : (o n : List ℕ) → bad_argument (RenameTarget o n) ≡ None → 0 < length n
 new-some o n h =
     let target = (two-passed field.Old field.New (is_target o) (is_target n) h).1 in
@@ -46,7 +46,7 @@ new-some o n h =
 
 -- ---- the causes of an edit
 
--- those after the ones that its fields decide; the last of them is told
+-- the causes after those that the fields decide; `long` is the last of them
 abbrev after_fields : List ClassedLine → Edit → (long : Option Refusal) → List (Option Refusal)
 after_fields ls e long =
     unread_prefix ls
@@ -82,7 +82,7 @@ reserved-first t ls e r b h =
 abbrev rename_refusal : (is_unread is_there is_led is_taken is_long : Bool) → Option Refusal
 rename_refusal u f l k g = first_cause (where_holds u RecipePrefix ∷ where_holds (not f) NoSuch ∷ where_holds l RecipePrefix ∷ where_holds k Taken ∷ where_holds g TooLong ∷ [])
 
--- some causes say the same after one that holds or does not
+-- two lists of causes that say the same do so after one more cause
 after-cause : (o : Option Refusal) (cs ds : List (Option Refusal)) → first_cause cs ≡ first_cause ds → first_cause (o ∷ cs) ≡ first_cause (o ∷ ds)
 after-cause None cs ds h = h
 after-cause (Some r) cs ds h = refl
@@ -99,7 +99,7 @@ only-these t ls o n long =
     (after-cause (no_such ls e) (ambiguous ls e ∷ prefix_led ls e ∷ from_taken) (prefix_led ls e ∷ taken ls e ∷ last)
     (after-cause (prefix_led ls e) from_taken (taken ls e ∷ last) (after-cause (taken ls e) others last refl)))
 
--- so the first of a rename is one of five, where its fields are as they may be
+-- if the fields of a rename are not bad, the first cause is one of five
 causes-are : (t : List ℕ) (ls : List ClassedLine) (o n : List ℕ) (l g : Bool) → bad_argument (RenameTarget o n) ≡ None → reserved (RenameTarget o n) ≡ None
     → begins_some_renamed_line o n start ls ≡ l → too_long t (spans_of t ls (RenameTarget o n)) ≡ where_holds g TooLong
     → first_cause (causes t ls (RenameTarget o n)) ≡ rename_refusal (any (λ l. is_unread_prefix l.class) ls) (is_a_target ls o) l (is_a_target ls n) g
@@ -118,13 +118,13 @@ long-is ls o n h =
     long-said (placed_text ls) (RenameTarget o n) (replaced_bytes o ls) (replaced_words o ls * length n) (rename-taken ls o n h) (rename-put ls o n h)
     ∙ ap (λ z. where_holds (nat_lt (greatest_length + replaced_bytes o ls) (z + replaced_words o ls * length n)) TooLong) (sym (size_of-text ls))
 
--- as the effect of the rename tells it
+-- whether the text is too long, as the effect of the rename tells
 pub long-told : (ls : List PlacedLine) (o n : List ℕ) (f : Effect) (size : ℕ) → f ≡ effect_on o n start ls → size ≡ size_of ls
     → nat_lt (greatest_length + f.bytes) (size + f.words * length n) ≡ nat_lt (greatest_length + replaced_bytes o ls) (size_of ls + replaced_words o ls * length n)
 long-told ls o n f size h k =
     ap (λ (z : Effect). nat_lt (greatest_length + z.bytes) (size + z.words * length n)) h ∙ ap (λ z. nat_lt (greatest_length + replaced_bytes o ls) (z + replaced_words o ls * length n)) k
 
--- The first cause of a rename of a document that holds, where its fields are as they may be, by what a walk over the document tells.
+-- The first cause that holds of a rename of a document, as a walk over the document tells it, if no field of the rename is bad.
 pub rename-causes : (ls : List PlacedLine) (e : Edit) (o n : List ℕ) (u f l k g : Bool) → IsRename o n e → IsFaithful ls → bad_argument e ≡ None → reserved e ≡ None
     → u ≡ any (λ l. is_unread_prefix l.class) (classed_lines (placed_text ls)) → f ≡ is_a_target (classed_lines (placed_text ls)) o → l ≡ begins_some_line o n start ls → k ≡ is_a_target (classed_lines (placed_text ls)) n
     → g ≡ nat_lt (greatest_length + replaced_bytes o ls) (size_of ls + replaced_words o ls * length n)

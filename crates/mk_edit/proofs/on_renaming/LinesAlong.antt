@@ -1,5 +1,5 @@
--- The lines of a text, each with its line after a rename: each can be renamed where it stands, and those that hold the word, renamed,
--- are the lines after.
+-- The lines of a text, each with its line after a rename: each line can be renamed where it stands, and the lines that hold the
+-- word become the lines after the rename.
 use Rattle.std.proofs.Common.{◌≡◌, refl, sym, ap, ◌∙◌, subst, arith, ℕ, ◌+◌, ◌^◌, ◌<◌, ◌≤◌, Bool, true, false, not, List, [], ◌∷◌, length}
 use Rattle.mk_lines.specs.LogicalLines.{logical_lines}
 use Rattle.mk_lines.specs.Cells.{Cell, joined_byte}
@@ -35,7 +35,7 @@ renamed_where p o n c (l ∷ ls) = line_where (p l) (line_renamed o n c l) l ∷
 
 -- ---- one line
 
--- its words are few, wherever it is within the limit
+-- the words of a line are few, if the line is within the limit
 few-words : (c : Context) (l : ClassedLine) (o : List ℕ) → class_of c l.bytes ≡ l.class → length l.bytes ≤ 2 ^ 24 → HasFewWords o (placed_line l)
 few-words c l o h few =
     let B = line-begins c l o o h in
@@ -67,7 +67,7 @@ line-can o n c l m h R few_old few_new low =
           (plain-placed l (not-conditional l.class p.0), subst IsPlain (sym same) (plain-placed m (not-conditional m.class p.1)));
     }
 
--- and where it holds the word, it becomes the line after
+-- a line that holds the word becomes the line after the rename
 line-becomes : (o n : List ℕ) (c : Context) (l m : ClassedLine) → class_of c l.bytes ≡ l.class → IsLineRenamed o n c l m
     → line_where (holds_word o (placed_line l)) (line_renamed o n c (placed_line l)) (placed_line l) ≡ placed_line m
 line-becomes o n c l m h R =
@@ -81,7 +81,7 @@ line-becomes o n c l m h R =
 
 -- ---- all lines
 
--- those of a text within the limit have few words
+-- the lines of a text within the limit have few words
 pub lines-few_words : (o : List ℕ) (c : Context) (ls : List ClassedLine) → AreClassed c ls → size_of (placed_lines ls) ≤ 2 ^ 24 → HaveFewWords o (placed_lines ls)
 lines-few_words o c [] h few = tt
 lines-few_words o c (l ∷ ls) h few =

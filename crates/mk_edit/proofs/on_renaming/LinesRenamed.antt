@@ -1,4 +1,4 @@
--- One line after a rename: its bytes, by its pieces; where its words stand, and how many there are; how long it is.
+-- One line after a rename: its bytes, by its pieces; where the words stand in it, and how many words there are; and its length.
 use Rattle.std.proofs.Common.{◌≡◌, refl, sym, ap, ◌∙◌, subst, arith, ℕ, ◌+◌, ◌-◌, ◌*◌, ◌≤◌, List, [], ◌∷◌, ◌++◌, drop, length, length-append, append_assoc}
 use Rattle.std.specs.Prelude.{slice_range, nat_lt}
 use Rattle.std.proofs.lemmas.List.{length-drop, length-take-le, drop-drop}
@@ -25,12 +25,12 @@ use Rattle.mk_edit_parts.specs.WordCuts.{last_end}
 
 -- ---- ranges that stand apart
 
--- those whose replacements rise do
+-- ranges stand apart if their replacements rise
 apart-rise : (a b : ℕ) (n : List ℕ) (ss : List Span) → Rise a b (replacing n ss) → AreApart a b ss
 apart-rise a b n [] h = h
 apart-rise a b n (s ∷ ss) h = (h.0, h.1, apart-rise s.end b n ss h.2)
 
--- they have no more bytes than what they stand in
+-- such ranges have at most as many bytes as the text in which they stand
 pub apart-bytes : (a b : ℕ) (ss : List Span) → AreApart a b ss → a + bytes_in ss ≤ b
 apart-bytes a b [] h = omega (arith, h)
 apart-bytes a b (s ∷ ss) h = omega (arith, h.0, h.1, apart-bytes s.end b ss h.2)
@@ -47,7 +47,7 @@ written-replaced l at n (s ∷ ss) h =
     append_assoc S (n ++ W) D
     ∙ ap (λ z. S ++ z) (append_assoc n W D ∙ ap (λ z. n ++ z) (written-replaced l s.end n ss h.2 ∙ ap (λ z. replaced s.end z (replacing n ss)) (sym d)))
 
--- how long it is
+-- the length of what is written
 written-length : (l : List ℕ) (at : ℕ) (n : List ℕ) (ss : List Span) → AreApart at (length l) ss → length (written l at n ss ++ drop (last_end at ss) l) + (bytes_in ss + at) ≡ length l + length ss * length n
 written-length l at n [] h = omega (arith, length-drop at l, h)
 written-length l at n (s ∷ ss) h =

@@ -1,4 +1,5 @@
--- The walk of one turn of a rename: the steps that were added so far, with those of the lines ahead, are those of all lines.
+-- The walk of one turn of a rename: the steps that were added so far, and then those of the lines ahead, are the steps of all
+-- lines.
 use Rattle.std.proofs.Common.{◌≡◌, refl, sym, ap, ◌∙◌, subst, arith, ℕ, ◌+◌, ◌^◌, ◌≤◌, Bool, true, false, List, [], ◌∷◌, ◌++◌, length, length-append, append_assoc, Option, Some, None}
 use Rattle.std.specs.Prelude.{if◌then◌else◌, ◌-◌, min}
 use Rattle.mk_class.specs.Contexts.{Context, start, context_after_places}
@@ -11,8 +12,9 @@ use Rattle.mk_edit.specs.declared.rename_patch.Turn.{Turn}
 use Rattle.mk_edit.specs.declared.rename_patch.Turn.TheVariants as turn
 use Rattle.mk_edit.proofs.on_renaming.PatchPlans.{filter-step}
 
--- Some lines ahead, the first at a place, in a turn of the rename of a document. Each of them can be renamed. The patch had some
--- moves before, and has room for those ahead. The meter counts the lines that are exchanged, and no more.
+-- Some lines ahead in a turn of the rename of a document; the first stands at this place. Each of them can be renamed. The patch
+-- had some moves before, and has room for the moves of the lines ahead. The meter counts the lines that are exchanged, and no
+-- others.
 pub record IsTurnBuilt (t : Turn) (o n : List ℕ) (document : List PlacedLine) (before now : MovesWithRoom) (at : ℕ) (ahead : LinesInContext) (meter_before meter_now : ℕ) : Type 0 where
   pub can : CanEachBeRenamed o n ahead.context ahead.lines
   pub few : at + length ahead.lines ≤ 2 ^ 24
@@ -23,7 +25,7 @@ pub record IsTurnBuilt (t : Turn) (o n : List ℕ) (document : List PlacedLine) 
   pub few_read : meter_now + exchanged_count t o n ahead.lines ≤ meter_before + exchanged_count t o n document
   pub forward : meter_before ≤ meter_now
 
--- a patch with the step of a line that is exchanged at a place, where it is
+-- a patch with the step of a line at a place added, if the line is exchanged
 abbrev with_step : MovesWithRoom → (at : ℕ) → Option PlacedLine → MovesWithRoom
 with_step p at None = p
 with_step p at (Some x) = record p { moves = p.moves ++ Exchange at x ∷ [] }

@@ -38,7 +38,7 @@ filter-step p x xs = go (p x)
 -- ---- the moves of a turn are exchanges of the lines that pass its test
 
 module _ (t : Turn) (o n : List ℕ) where
-  -- where each line that is exchanged is renamed after the turn
+  -- each line that is exchanged in a turn is renamed after it
   turn-exchanges : (p : PlacedLine → Bool) → ((l : PlacedLine) → is_exchanged t o n l ≡ true → p l ≡ true) → (at : ℕ) (c : Context) (ls : List PlacedLine)
       → exchanges at (map (is_exchanged t o n) ls) (renamed_where p o n c ls) ≡ turn_moves_from t o n at c ls
   turn-exchanges p f at c [] = refl
@@ -143,7 +143,7 @@ module _ (o n : List ℕ) where
   first-shorter c (l ∷ ls) C =
       (shorter-line (first l) (line_renamed o n c l) l (exchanged-no_longer o n c l C.0), first-shorter (context_after_places c l.class) ls C.1)
 
-  -- so does the second, which makes none shorter, and leaves all lines that hold the word renamed
+  -- the second turn changes only the lines that it exchanges, makes none shorter, and leaves all lines that hold the word renamed
   second-differ : (c : Context) (ls : List PlacedLine) → CanEachBeRenamed o n c ls → DifferWhereChosen (map second ls) (renamed_where first o n c ls) (renamed_where (holds_word o) o n c ls)
   second-differ c [] C = tt
   second-differ c (l ∷ ls) C =
@@ -155,7 +155,7 @@ module _ (o n : List ℕ) where
   second-longer c (l ∷ ls) C =
       (longer-line (first l) (second l) (holds_word o l) (line_renamed o n c l) l (line-parted l) (exchanged-longer o n c l C.0), second-longer (context_after_places c l.class) ls C.1)
 
-  -- each line that holds the word is exchanged in one of them
+  -- each line that holds the word is exchanged in exactly one of the two turns
   turns-number : (ls : List PlacedLine) → exchanged_count turn.NoLonger o n ls + exchanged_count turn.Longer o n ls ≡ length (filter (holds_word o) ls)
   turns-number [] = refl
   turns-number (l ∷ ls) =
@@ -185,7 +185,7 @@ module _ (o n : List ℕ) where
         lead = after_moves-append A B ls ∙ (ap (after_moves B) a.lead ∙ b.lead);
       }
 
-  -- they hold as many lines, and take as many out, as hold the word
+  -- the moves hold as many lines as hold the word, and take out as many
   turns-held : (ls : List PlacedLine) → CanEachBeRenamed o n start ls → held_by (renaming_moves o n ls) ≡ length (filter (holds_word o) ls)
   turns-held ls C =
       let middle = renamed_where first o n start ls in
@@ -226,7 +226,7 @@ module _ (o n : List ℕ) where
         turns-number ls,
       )
 
-  -- as many as the rename costs
+  -- the number of lines that hold the word is the rename's cost
   holding-number : (c : Context) (ls : List ClassedLine) → AreClassed c ls → length (filter (holds_word o) (placed_lines ls)) ≡ length (filter (is_renamed o n) ls)
   holding-number c [] h = refl
   holding-number c (l ∷ ls) h =
@@ -252,8 +252,8 @@ pub count-from : (o : List ℕ) (d ahead : List PlacedLine) → ahead ≡ d → 
     → Unit {0} × Unit {0} × HaveFewWords o ahead × (0 + length ahead ≤ 2 ^ 24) × (0 + length (filter (holds_word o) ahead) ≡ length (filter (holds_word o) d))
 count-from o d ahead e f few some = rw e (tt, tt, document-few_words o d f few, omega (arith, few, some), omega arith)
 
--- What is known of a document and a rename that no cause refuses. Each line can be renamed where it stands. As many lines are
--- exchanged in the two turns as the rename costs, and their moves are what is planned.
+-- What is known of a document and a rename that no cause refuses. Each line can be renamed where it stands. The number of lines
+-- that are exchanged in the two turns is the rename's cost, and the moves of the two turns are what is planned.
 pub record IsRenamePlanned (o n : List ℕ) (ls : List PlacedLine) : Type 0 where
   pub can : CanEachBeRenamed o n start ls
   pub number : exchanged_count turn.NoLonger o n ls + exchanged_count turn.Longer o n ls ≡ length (filter (holds_word o) ls)

@@ -19,12 +19,12 @@ same-effect e f h i j =
     let mk : ℕ → ℕ → Bool → Effect = λ w b l. record { words = w; bytes = b; begins_line = l } in
     ap (λ z. mk z e.bytes e.begins_line) h ∙ (ap (λ z. mk f.words z e.begins_line) i ∙ ap (mk f.words f.bytes) j)
 
--- at the start of the walk
+-- the effect at the start of the walk
 pub walk-from : (o n : List ℕ) (d : List PlacedLine) (w : LinesInContext) → w ≡ record { context = start; lines = d } → IsFaithful d
     → Unit {0} × Unit {0} × AreEachClassed w.lines × (joined no_effect (effect_on o n w.context w.lines) ≡ effect_on o n start d)
 walk-from o n d w e h = rw e (tt, tt, faithful-each d h, same-effect (joined no_effect (effect_on o n start d)) (effect_on o n start d) (omega arith) (omega arith) refl)
 
--- There is room for one more line's count, and that is no more than the whole.
+-- There is room for the count of one line more: the words stay within 3 * 2 ^ 24, and their bytes within 2 ^ 24.
 pub record HasRoom (o : List ℕ) (e : Effect) (l : PlacedLine) : Type 0 where
   pub words : e.words + length (renamed_places o l) ≤ 3 * 2 ^ 24
   pub bytes : e.bytes + bytes_in (renamed_places o l) ≤ 2 ^ 24
@@ -51,7 +51,7 @@ walk-on o n e f whole t b c a l ahead rest h i j s k inv =
     ∙ (ap (λ z. joined z E) (h ∙ (ap (λ z. joined e (effect_of_line z b)) i ∙ ap (λ z. joined e (effect_of_line (tallied no_words (renamed_places o l)) z)) j))
     ∙ (g ∙ (ap (λ z. joined e (effect_on o n c z)) (sym s) ∙ inv)))
 
--- at the end
+-- the effect at the end of the walk
 pub walk-over : (o n : List ℕ) (e whole : Effect) (w : LinesInContext) → w.lines ≡ [] → joined e (effect_on o n w.context w.lines) ≡ whole → e ≡ whole
 walk-over o n e whole w s inv =
     same-effect e (joined e (effect_on o n w.context [])) (omega arith) (omega arith) (sym (or-false e.begins_line)) ∙ (ap (λ z. joined e (effect_on o n w.context z)) (sym s) ∙ inv)

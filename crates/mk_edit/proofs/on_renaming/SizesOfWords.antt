@@ -37,7 +37,7 @@ before-count : (o : Option Span) (ss : List Span) → length (before_places o ss
 before-count None ss = omega arith
 before-count (Some s) ss = omega arith
 
--- of some words no more are the old one
+-- at most as many of some words are the old one as there are words
 places-count : (cs : List Cell) (at : ℕ) (o : List ℕ) (ws : List Span) → length (places_in cs at o ws) ≤ length ws
 places-count cs at o [] = omega arith
 places-count cs at o (w ∷ ws) = omega (arith, before-count (place_in cs at o w) (places_in cs at o ws), places-count cs at o ws)
@@ -77,7 +77,7 @@ pub put-replacing : (n : List ℕ) (ss : List Span) → bytes_put (replacing n s
 put-replacing n [] = omega arith
 put-replacing n (s ∷ ss) = omega (arith, put-replacing n ss)
 
--- they have no more than the line
+-- the ranges of a line have at most as many bytes as the line
 few-bytes : (o : List ℕ) (l : PlacedLine) → IsClassed l → bytes_in (renamed_places o l) ≤ length l.bytes
 few-bytes o l h =
     let d : ClassedLine = record { bytes = l.bytes; class = class_of h.context l.bytes } in

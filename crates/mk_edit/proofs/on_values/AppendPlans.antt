@@ -1,4 +1,4 @@
--- An edit that appends to a value is one of an empty range of a line, where the value is closed.
+-- An edit that appends to a closed value puts a text in the place of an empty range of a line.
 use Rattle.std.proofs.Common.{◌≡◌, refl, sym, ap, ◌∙◌, subst, arith, ℕ, ◌+◌, List, [], ◌∷◌, ◌++◌, Bool, true, false, if◌then◌else◌, not, map, length, append_assoc, take, drop, Option, Some, None, option_map}
 use Rattle.std.specs.Prelude.{slice_get, Err}
 use Rattle.mk_lines.specs.Lists.{concat}

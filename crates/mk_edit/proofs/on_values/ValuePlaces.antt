@@ -34,7 +34,7 @@ use Rattle.mk_edit_parts.proofs.on_prerequisites.RawPartLemmas.{raw-within}
 
 -- ---- the range of a value
 
--- where the value of an assignment's line stands, or the value with the blanks and folds after it
+-- where the value of an assignment's line stands, with the blanks and folds after it if `b` says so
 pub record IsValueRange (l : List ℕ) (a : Assignment Cell) (b : Bool) (r : Span) : Type 0 where
   pub start_is : r.start ≡ raw_width (before_value a)
   pub end_is : r.end ≡ raw_width (before_value a) + raw_width a.value + (if b then raw_width a.after else 0)

@@ -49,7 +49,7 @@ pub record IsAccepted (t : List ℕ) (e : Edit) (rs : List Replacement) : Type 0
   pub not_long : too_long t (spans_of t (classed_lines t) e) ≡ None
   pub spans_are : spans_of t (classed_lines t) e ≡ rs
 
--- of an edit with spans no cause holds
+-- no cause of an edit with spans holds
 pub accepted : (t : List ℕ) (e : Edit) (rs : List Replacement) → spans t e ≡ Ok rs → IsAccepted t e rs
 accepted t e rs h =
     let ls = classed_lines t in

@@ -12,7 +12,7 @@ use Rattle.mk_edit_laws.proofs.on_prerequisites.UndependLemmas.{undepend-reads}
 use Rattle.mk_edit_laws.proofs.on_renames.RenameLemmas.{rename-reads}
 use Rattle.mk_edit_laws.proofs.on_recipes.RecipeLemmas.{recipe_added-reads, recipe_set-reads}
 
--- each edit, by the law of its kind
+-- each edit reads as changed, by the law of its kind
 pub edits-read : (edit : Edit) → ReadsAsChanged edit
 edits-read (SetValue nth n v) = set-reads nth n v
 edits-read (AppendValue nth n v) = append-reads nth n v

@@ -1,4 +1,4 @@
--- Where an edit applies: what an address, a place and a removal mean are lines of the text, with those above and below them.
+-- Where an edit applies: an address, a place and a removal mean lines of the text, with the lines above and below them.
 use Rattle.std.proofs.Common.{◌≡◌, refl, sym, ap, ◌∙◌, subst, ℕ, List, [], ◌∷◌, ◌++◌, not, true, append_assoc, Option, Some, None, is_some, option_map}
 use Rattle.std.proofs.lemmas.List.{append-nil}
 use Rattle.mk_class.specs.Classes.{is_recipe}
@@ -15,7 +15,7 @@ use Rattle.mk_edit_laws.proofs.on_lines.SpotLemmas.{picked-is, recipe-found}
 abbrev pub IsSpotOf : List ClassedLine → StandingLine → Type 0
 IsSpotOf ls s = ls ≡ s.above ++ s.line ∷ s.below
 
--- what is known of each image of what is found is known of the one that is found
+-- what is known of the image of each thing that may be found is known of the image of the thing that is found
 mapped : {A B : Type 0} (P : B → Type 0) (f : A → B) (o : Option A) → ((x : A) → o ≡ Some x → P (f x)) → (y : B) → option_map f o ≡ Some y → P y
 mapped P f None h y e = absurd (cc)
 mapped P f (Some x) h y e = let k : f x ≡ y = cc in subst P k (h x refl)
@@ -66,7 +66,7 @@ place-stretch ls (BeforeVar nth n) s e = mapped (IsStretchOf ls) before_line (fo
 place-stretch ls (AfterVar nth n) s e = mapped (IsStretchOf ls) after_line (found ls (Variable nth n)) (λ x i. after-stretch ls x (found-spot ls (Variable nth n) x i)) s e
 place-stretch ls (BeforeRule nth g) s e = mapped (IsStretchOf ls) before_line (found ls (Rule nth g)) (λ x i. before-stretch ls x (found-spot ls (Rule nth g) x i)) s e
 
--- where the new line of an edit goes
+-- the stretch where the new line of an edit goes
 pub insertion-stretch : (ls : List ClassedLine) (e : Edit) (s : Stretch) → insertion ls e ≡ Some s → IsStretchOf ls s
 insertion-stretch ls (AddAssign p n f v) s h = place-stretch ls p s h
 insertion-stretch ls (AddRule p ts c ws) s h = place-stretch ls p s h

@@ -23,7 +23,7 @@ use Rattle.mk_edit_laws.proofs.on_edits.KeptLemmas.{edits-keep}
 
 -- ---- the lines after it
 
--- an edit that touches some lines is none but of one place
+-- an edit that touches some lines is an edit of one place
 place-kept : (t : List ℕ) (e : Edit) (rs : List Replacement) (s : Stretch) → touched_by (classed_lines t) e ≡ Some s → spans t e ≡ Ok rs → AreOthersKept t e rs
 place-kept t (SetValue nth n v) rs s p h = edits-keep (SetValue nth n v) t rs h
 place-kept t (AppendValue nth n v) rs s p h = edits-keep (AppendValue nth n v) t rs h
@@ -61,7 +61,7 @@ edited t e rs s p h =
 
 -- ---- one new line
 
--- A text that stands as one line, of no conditional, where the lines stood that an edit touches.
+-- A text that stands as one line, of no conditional, in the place of the lines that an edit touches.
 pub record IsPutThere (t : List ℕ) (e : Edit) (s : Stretch) (m : List ℕ) : Type 0 where
   pub lines : classed_lines (text_after t e) ≡ above_after t (insertion (classed_lines t) e) s ++ line_in (context_of s.above) m ∷ s.below
   pub one : logical_lines m ≡ m ∷ []
@@ -95,7 +95,7 @@ respanned-one s start end a b v h k =
     let y : end - at ≡ b = omega (arith, k) in
     ap (λ n. take n (text_of s.lines) ++ (v ++ drop (end - at) (text_of s.lines))) x ∙ ap (λ n. take a (text_of s.lines) ++ (v ++ drop n (text_of s.lines))) y
 
--- of the pieces that begin them
+-- the bytes with the replacements made of the pieces with which the lines begin
 pub respanned-pieces : (s : Stretch) (ps : List Piece) (rest : List ℕ) → text_of s.lines ≡ old_bytes ps ++ rest → respanned_bytes s (replacements (length (text_of s.above)) ps) ≡ new_bytes ps ++ rest
 respanned-pieces s ps rest h =
     let p = text_of s.above in

@@ -62,7 +62,7 @@ use Rattle.mk_edit_laws.proofs.on_edits.KeptLineLemmas.{replaced-kept, stretch-k
 unconditional-class : (k m : Class Cell) → k ≡ m → not (is_conditional m) ≡ true → not (is_conditional k) ≡ true
 unconditional-class k m h u = ap (λ z. not (is_conditional z)) h ∙ u
 
--- a line after which the context agrees with that before it but for the flag
+-- a line after which the context agrees with that before it in all except the flag
 agrees-last : (A : List ClassedLine) (l : ClassedLine) (k : Class Cell) → l.class ≡ k → AgreeButForFlag (context_of A) (context_after (context_of A) k) → AgreeButForFlag (context_of A) (context_of (A ++ l ∷ []))
 agrees-last A l k h g = subst (AgreeButForFlag (context_of A)) (sym (context_of-last A l ∙ ap (context_after (context_of A)) h)) g
 

@@ -44,7 +44,7 @@ same-line l m k h q =
 
 -- ---- classes
 
--- a class with a word to rename is of no conditional, and neither is the one after the rename
+-- a class with a word to rename is of no conditional, and neither is the class after the rename
 renamed-plain : (o n : List ℕ) (k : Class Cell) → any is_replaced (renamed_pieces o n k) ≡ true → (is_conditional k ≡ false) × (is_conditional (renamed_class o n k) ≡ false)
 renamed-plain o n (Class.Header h) e = (refl, refl)
 renamed-plain o n (Class.TargetAssign a) e = (refl, refl)
@@ -76,7 +76,7 @@ each-contexts c (l ∷ ls) (m ∷ ms) below h (suc i) =
 -- ---- lines
 
 module _ (o n : List ℕ) where
-  -- the bytes of such lines
+  -- the bytes of renamed lines
   bytes_of-renamed : (ls : List ClassedLine) → bytes_of (map (with_pieces (line_pieces o n) (line_class o n)) ls) ≡ map (renamed_bytes o n) ls
   bytes_of-renamed [] = refl
   bytes_of-renamed (l ∷ ls) = ap (λ z. renamed_bytes o n l ∷ z) (bytes_of-renamed ls)
@@ -85,7 +85,7 @@ module _ (o n : List ℕ) where
   renamed-same : (l : ClassedLine) → l.bytes ≡ old_bytes (line_pieces o n l) ++ after_pieces (line_pieces o n) l → any is_replaced (line_pieces o n l) ≡ false → renamed_bytes o n l ≡ l.bytes
   renamed-same l b h = ap (λ x. x ++ after_pieces (line_pieces o n) l) (none-replaced (line_pieces o n l) h) ∙ sym b
 
-  -- lines that can stand in the place of others do so
+  -- lines that can stand in the place of others stand there after the rename
   renamed-in_place : (c : Context) (ls : List ClassedLine) → BeginWithPieces (line_pieces o n) ls → ReplaceEach c ls (map (with_pieces (line_pieces o n) (line_class o n)) ls) [] → ReplaceEach c ls ls []
       → AreLinesRenamedInPlace o n c ls (map (with_pieces (line_pieces o n) (line_class o n)) ls)
   renamed-in_place c [] b r s = tt
@@ -119,7 +119,7 @@ counted true false d l ls h k = omega (arith, k)
 counted false true d l ls h k = omega (arith, k)
 counted false false d l ls h k = let e : false ≡ true = h refl in absurd (cc)
 
--- at most as many lines differ as hold one
+-- at most as many lines differ as have a word to rename
 few-differ : (o n : List ℕ) (ls : List ClassedLine) → BeginWithPieces (λ l. renamed_pieces o n l.class) ls
     → differing (bytes_of ls) (map (renamed_bytes o n) ls) ≤ length (filter (is_renamed o n) ls)
 few-differ o n [] b = omega arith

@@ -4,7 +4,7 @@ use Rattle.mk_edit_laws.specs.OutsideLaws.{LeavesOthers}
 use Rattle.mk_edit_laws.proofs.on_edits.KeptByEdits.{set-keeps, append-keeps, assign-keeps, unset-keeps, rule_added-keeps, rule_removed-keeps, depend-keeps, undepend-keeps, recipe_added-keeps, recipe_set-keeps, recipe_removed-keeps}
 use Rattle.mk_edit_laws.proofs.on_edits.KeptByRenameLemmas.{rename-keeps}
 
--- each edit, by the law of its kind
+-- each edit leaves these lines, by the law of its kind
 pub edits-keep : (edit : Edit) → LeavesOthers edit
 edits-keep (SetValue nth n v) = set-keeps nth n v
 edits-keep (AppendValue nth n v) = append-keeps nth n v

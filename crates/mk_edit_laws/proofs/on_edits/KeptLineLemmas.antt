@@ -69,7 +69,7 @@ line-kept t e rs s m h p w k r i d c z u v =
       same_depth = ap (most_conditionals 0) lines ∙ (most_conditionals-run_replaced start s.above (s.line ∷ []) (m ∷ []) s.below (u, tt) (v, tt) ∙ ap (most_conditionals 0) (sym w));
     }
 
--- so it is of a text with one line replaced
+-- the same for a text with one line replaced
 pub replaced-kept : (t : List ℕ) (e : Edit) (rs : List Replacement) (s : StandingLine) (i : Item) → spans t e ≡ Ok rs → touched_by (classed_lines t) e ≡ Some (this_line s) → IsSpotOf (classed_lines t) s → IsLineReplaced (replaced 0 t rs) s.above s.below i
     → Rise (length (text_of s.above)) (length (text_of s.above) + length s.line.bytes) rs
     → insertion (classed_lines t) e ≡ None → edited_bytes t e (this_line s) rs ≡ respanned_bytes (this_line s) rs ∷ []

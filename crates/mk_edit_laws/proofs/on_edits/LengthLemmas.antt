@@ -17,7 +17,7 @@ use Rattle.mk_edit_laws.proofs.on_edits.RisingSpanLemmas.{Rise-from_to}
 use Rattle.mk_edit_laws.proofs.on_edits.SpansRise.{only_spans-replaced}
 use Rattle.mk_edit_laws.specs.declared.refusal.Refusal.TheVariants.{TooLong}
 
--- where they rise within the text, which begins at a place
+-- the length, if the replacements rise within the text; the text begins at this place
 pub length-replaced : (a b : ℕ) (t : List ℕ) (rs : List Replacement) → Rise a b rs → b ≡ a + length t → length (replaced a t rs) + bytes_taken rs ≡ length t + bytes_put rs
 length-replaced a b t [] h k = refl
 length-replaced a b t (r ∷ rs) h k =
@@ -32,7 +32,7 @@ length-replaced a b t (r ∷ rs) h k =
     length-append (take n t) (r.new ++ replaced r.end (drop m t) rs) ∙ ap (λ z. length (take n t) + z) (length-append r.new (replaced r.end (drop m t) rs)) in
     omega (arith, whole, front, left, rest, h.0, h.1, last, k)
 
--- so it is of an accepted edit
+-- the length of the text after an accepted edit
 pub length-after : (t : List ℕ) (e : Edit) (rs : List Replacement) → spans t e ≡ Ok rs → length (text_after t e) + bytes_taken rs ≡ length t + bytes_put rs
 length-after t e rs h =
     let R = only_spans-replaced t e rs h in

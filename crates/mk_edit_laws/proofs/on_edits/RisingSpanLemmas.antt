@@ -10,17 +10,17 @@ use Rattle.mk_edit_laws.specs.RisingSpans.{Rise, IsReplacedAt}
 
 -- ---- replacements that rise
 
--- they begin before they end
+-- replacements that rise begin before they end
 pub Rise-from_to : (a b : ℕ) (rs : List Replacement) → Rise a b rs → a ≤ b
 Rise-from_to a b [] h = h
 Rise-from_to a b (r ∷ rs) h = let i = Rise-from_to r.end b rs h.2 in omega (arith, h.0, h.1, i)
 
--- they may end later
+-- replacements that rise up to a place rise up to a later place
 pub Rise-until : (a b c : ℕ) (rs : List Replacement) → Rise a b rs → b ≤ c → Rise a c rs
 Rise-until a b c [] h k = omega (arith, h, k)
 Rise-until a b c (r ∷ rs) h k = (h.0, h.1, Rise-until r.end b c rs h.2 k)
 
--- they may begin earlier
+-- replacements that rise from a place rise from an earlier place
 pub Rise-since : (a b c : ℕ) (rs : List Replacement) → Rise b c rs → a ≤ b → Rise a c rs
 Rise-since a b c [] h k = omega (arith, h, k)
 Rise-since a b c (r ∷ rs) h k = let i : a ≤ r.start = omega (arith, h.0, k) in (i, h.1, h.2)
@@ -83,11 +83,11 @@ cut a b t (r ∷ rs) h k =
           at_start at_end (ap (λ z. replacements z I.pieces) at_end ∙ I.places);
     }
 
--- Where the replacements rise within the text, no others are made.
+-- If the replacements rise within the text, no others are made.
 pub Rise-replaced : (t : List ℕ) (rs : List Replacement) → Rise 0 (length t) rs → IsReplacedAt t (replaced 0 t rs) rs
 Rise-replaced t rs h = let c = cut 0 (length t) t rs h (omega arith) in record { rise = h; pieces = c.pieces; old = c.old; new = c.new; places = c.places }
 
--- Where they rise within a stretch of a text, this stretch has them made, and the text before and after it stays.
+-- If they rise within a stretch of a text, they are made in this stretch, and the text before and after it stays.
 pub Rise-within : (p w q : List ℕ) (rs : List Replacement) → Rise (length p) (length p + length w) rs → replaced 0 (p ++ (w ++ q)) rs ≡ p ++ (replaced (length p) w rs ++ q)
 Rise-within p w q rs h =
     let c = cut (length p) (length p + length w) w rs h refl in
@@ -102,7 +102,7 @@ Rise-one p w q v t s e h i j =
     let n : length t ≡ length p + (length w + length q) = ap length h ∙ (length-append p (w ++ q) ∙ ap (λ z. length p + z) (length-append w q)) in
     (omega arith, omega (arith, j), omega (arith, n, i, j))
 
--- those that pieces are
+-- the replacements that pieces are
 pub Rise-pieces : (at : ℕ) (ps : List Piece) → Rise at (at + length (old_bytes ps)) (replacements at ps)
 Rise-pieces at [] = omega arith
 Rise-pieces at (Keep cs ∷ ps) =

@@ -52,7 +52,7 @@ use Rattle.mk_edit_laws.proofs.on_renames.WordsRenamed.{renamed-old_cells}
 abbrev RiseIn : List ℕ → List Replacement → Type 0
 RiseIn t rs = Rise 0 (length t) rs
 
--- those of what is found, where each that may be found has such
+-- the spans of what is found rise, if those of each thing that may be found do
 rise-found : {A : Type 0} (t : List ℕ) (f : A → List Replacement) (o : Option A) → ((x : A) → o ≡ Some x → RiseIn t (f x)) → RiseIn t (where_found f o)
 rise-found t f None h = omega arith
 rise-found t f (Some x) h = h x refl
@@ -79,7 +79,7 @@ line-within t s h =
     ap length P.text ∙ (length-append (text_of s.above) (s.line.bytes ++ text_of s.below) ∙ ap (λ z. length (text_of s.above) + z) (length-append s.line.bytes (text_of s.below))) in
     omega (arith, e)
 
--- and so are its parts
+-- the parts of a line have at most as many raw bytes as the line
 spot-parts : (t : List ℕ) (s : StandingLine) → IsSpotOf (classed_lines t) s → raw_width (part_units s.line.class) ≤ length s.line.bytes
 spot-parts t s h =
     let P = located t s.above s.line s.below h in

@@ -25,7 +25,7 @@ few-found : {A : Type 0} (t : List ℕ) (e : Edit) (f : A → List Replacement) 
 few-found t e f None h = record { touched = bottom (classed_lines t); stretch = sym (append-nil (classed_lines t)); within = omega arith; few = omega arith }
 few-found t e f (Some x) h = h x refl
 
--- in one line
+-- spans in one line
 few-spot : (t : List ℕ) (e : Edit) (rs : List Replacement) (s : StandingLine) → IsSpotOf (classed_lines t) s → Rise (length (text_of s.above)) (length (text_of s.above) + length s.line.bytes) rs
     → 1 ≤ size t e → TouchFew t e rs
 few-spot t e rs s w r z = record {
@@ -81,6 +81,6 @@ few-of_one t (SetRecipe nth g m c) p = few-found t (SetRecipe nth g m c) (recipe
     few-spot t (SetRecipe nth g m c) (recipe_span c s) s q (recipe-rises t c s q (recipe_found-recipe (classed_lines t) nth g m s i)) (omega arith))
 few-of_one t (RenameTarget o n) p = absurd p
 
--- The law: the spans of an accepted edit of one place stand within so many lines.
+-- The law: the spans of an accepted edit of one place stand within at most as many lines as the edit's size says.
 pub spans-touch_few : (t : List ℕ) (e : Edit) (rs : List Replacement) → IsOfOnePlace e → spans t e ≡ Ok rs → TouchFew t e rs
 spans-touch_few t e rs p h = subst (TouchFew t e) (accepted t e rs h).spans_are (few-of_one t e p)

@@ -35,7 +35,7 @@ part_units (TargetAssign t) = t.targets
 part_units (Header h) = header_units h
 part_units k = []
 
--- these have no more raw bytes than a line's units
+-- these units have at most as many raw bytes as a line's units
 abbrev AreWithin : List (List Cell) → Class Cell → Type 0
 AreWithin us k = raw_width (part_units k) ≤ raw_width us
 

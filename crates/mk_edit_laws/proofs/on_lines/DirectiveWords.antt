@@ -1,5 +1,5 @@
--- Which words keep a line from being a directive: those up to the one with the first `:`, and of these only what they say as
--- keywords and modifiers.
+-- Which words keep a line from being a directive: the words up to the first with a `:`. Of these only what they say as keywords
+-- and modifiers counts.
 use Rattle.std.proofs.Common.{◌≡◌, refl, sym, ap, ◌∙◌, ℕ, List, [], ◌∷◌, ◌++◌, map, Bool, true, false, ◌||◌, ◌==◌, cond, Some, None, append_assoc}
 use Rattle.std.proofs.lemmas.Bool.{or_parts}
 use Rattle.std.proofs.lemmas.List.{append-nil, map-append}
@@ -116,7 +116,7 @@ pub data SaySame : List (List ℕ) → List (List ℕ) → Type 0 where
   AtColon : (x x' : List ℕ) (xs xs' : List (List ℕ)) → HasColon x → HasColon x' → SaySame (x ∷ xs) (x' ∷ xs')
   Then : (w w' : List ℕ) (ws ws' : List (List ℕ)) → keyword w ≡ keyword w' → is_modifier w ≡ is_modifier w' → SaySame ws ws' → SaySame (w ∷ ws) (w' ∷ ws')
 
--- a word with a `:` is none of some words without
+-- a word with a `:` is none of some words that have no `:`
 not_one_of : (a c : List ℕ) (ks : List (List ℕ)) → any (λ k. any (λ b. 58 == b) k) ks ≡ false → is_one_of (a ++ 58 ∷ c) ks ≡ false
 not_one_of a c [] h = refl
 not_one_of a c (k ∷ ks) h =
@@ -158,7 +158,7 @@ same-bare ws ws' (Then w w' vs vs' h k s) = go (is_modifier w) (is_modifier w') 
     go true false e i = cc
     go false true e i = cc
 
--- where words say the same, those of the one are no directive where those of the other are none
+-- if two lists of words say the same, and the words of one are no directive, those of the other are none
 pub same-no_directive : (c : Bool) (ws ws' : List (List ℕ)) → SaySame ws ws' → directive c ws ≡ None → directive c ws' ≡ None
 same-no_directive c ws ws' s h = go (directive-cases (first_keyword ws) (first_keyword (after_modifiers ws)) c (after_modifiers ws) (after_modifiers ws'))
   where
@@ -191,13 +191,13 @@ pub record BeginsWithColon (us : List (List Cell)) : Type 0 where
   pub is : tokens joined_byte us ≡ Word word ∷ rest
   pub colon : HasColon (map joined_byte (concat word))
 
--- a word before such units is put before their first word
+-- a word before such units is joined with their first word
 pub word-glued : (w us : List (List Cell)) (v : List (List Cell)) (ts : List (Token Cell)) → IsWord joined_byte w → tokens joined_byte us ≡ Word v ∷ ts → tokens joined_byte (w ++ us) ≡ Word (w ++ v) ∷ ts
 word-glued [] us v ts h e = absurd h
 word-glued (u ∷ []) us v ts h e = ap (before_tokens (is_gap joined_byte u) u) e ∙ ap (λ z. before_tokens z u (Word v ∷ ts)) h
 word-glued (u ∷ x ∷ w) us v ts h e = ap (before_tokens (is_gap joined_byte u) u) (word-glued (x ∷ w) us v ts h.1 e) ∙ ap (λ z. before_tokens z u (Word ((x ∷ w) ++ v) ∷ ts)) h.0
 
--- and has a `:` where it has
+-- the joined word has a `:` if that word has one
 pub glued-colon : (w v : List (List Cell)) → HasColon (map joined_byte (concat v)) → HasColon (map joined_byte (concat (w ++ v)))
 glued-colon w v h = (
   map joined_byte (concat w) ++ h.0,

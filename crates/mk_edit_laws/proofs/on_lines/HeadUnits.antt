@@ -1,5 +1,5 @@
--- The units of a rule line's head that can be read: each is closed and read again by itself, and one that is no gap begins and ends in
--- a byte that joins whatever stands beside it. So such units are put together in any order.
+-- The units of a rule line's head that can be read. Each is closed and read again by itself. A unit that is no gap begins and
+-- ends in a byte that joins whatever stands beside it. So such units can be put together in any order.
 use Rattle.std.proofs.Common.{◌≡◌, refl, sym, ap, ◌∙◌, subst, ℕ, zero, suc, List, [], ◌∷◌, ◌++◌, Bool, true, false, not, ◌||◌, ◌==◌, cond, append_assoc}
 use Rattle.std.proofs.lemmas.List.{append-nil}
 use Rattle.std.proofs.lemmas.Bool.{or_parts, eqb-true}
@@ -88,7 +88,7 @@ BeginsSolid-before a b h = record { first = h.first; rest = h.rest ++ b; is = ap
 pub EndsSolid-after : (a b : List Cell) → EndsSolid b → EndsSolid (a ++ b)
 EndsSolid-after a b h = record { front = a ++ h.front; last = h.last; is = ap (λ z. a ++ z) h.is ∙ sym (append_assoc a h.front (Byte h.last ∷ [])); ordinary = h.ordinary }
 
--- cells put together where the first end so, or the second begin so
+-- cells put together, if the first end in such a byte, or if the second begin in one
 pub line_cells-after_solid : (a b : List Cell) → AreLineCells a → AreLineCells b → EndsSolid a → AreLineCells (a ++ b)
 line_cells-after_solid a b h k s = AreLineCells-append a b h k (subst (λ z. Joins z b) (sym s.is) (Joins-ordinary s.front s.last b s.ordinary))
 
@@ -280,7 +280,7 @@ closed-unit u h r =
     let n = or_parts (is_dollar_before_blank joined_byte u) (is_unclosed_unit joined_byte u) e.1 in
     is_closed-leaves_open joined_byte u ∙ (ap (λ z. not (leaves_open joined_byte z)) h ∙ rw (n.1, lone-escape u e.0) refl)
 
--- the first units of a text are such, where they have no stray byte, can be read and stand in the head
+-- the first units of a text are units of a head, if they have no stray byte, can be read and stand in the head
 pub first_units-are_head_units : (us rest : List (List Cell)) → units joined_byte (concat (us ++ rest)) ≡ us ++ rest → has_stray (concat us) ≡ false
     → any (λ u. is_equals joined_byte u || is_unreadable_unit joined_byte u) us ≡ false → Each (is_in_head joined_byte) us → AllAre IsHeadUnit us
 first_units-are_head_units [] rest h s r i = tt
@@ -298,22 +298,22 @@ first_units-are_head_units (u ∷ us) rest h s r i =
       first_units-are_head_units us rest (units-last joined_byte (concat ((u ∷ us) ++ rest)) (u ∷ []) (us ++ rest) h) (has_stray-right u (concat us) s) p.1 i.1,
     )
 
--- such units are read again from their cells, before any others that are
+-- such units are read again from their cells, before any other units that are
 pub head_units-again : (us rest : List (List Cell)) → AllAre IsHeadUnit us → units joined_byte (concat rest) ≡ rest → units joined_byte (concat (us ++ rest)) ≡ us ++ rest
 head_units-again [] rest h k = k
 head_units-again (u ∷ us) rest h k = units-append joined_byte u (concat (us ++ rest)) h.0.closed ∙ (rw (h.0.whole, head_units-again us rest h.1 k) refl)
 
--- they have no stray byte
+-- such units have no stray byte
 pub head_units-no_stray : (us : List (List Cell)) → AllAre IsHeadUnit us → has_stray (concat us) ≡ false
 head_units-no_stray [] h = refl
 head_units-no_stray (u ∷ us) h = has_stray-append u (concat us) h.0.no_stray (head_units-no_stray us h.1)
 
--- they can be read
+-- such units can be read
 pub head_units-readable : (us : List (List Cell)) → AllAre IsHeadUnit us → any (λ u. is_equals joined_byte u || is_unreadable_unit joined_byte u) us ≡ false
 head_units-readable [] h = refl
 head_units-readable (u ∷ us) h = rw (h.0.readable) (head_units-readable us h.1)
 
--- and stand in the head
+-- such units stand in the head
 pub head_units-in_head : (us : List (List Cell)) → AllAre IsHeadUnit us → Each (is_in_head joined_byte) us
 head_units-in_head [] h = tt
 head_units-in_head (u ∷ us) h = (h.0.in_head, head_units-in_head us h.1)

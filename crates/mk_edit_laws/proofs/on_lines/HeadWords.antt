@@ -115,7 +115,7 @@ last-gap (u ∷ v ∷ us) h = go (last-gap (v ∷ us) h)
     go (inl e) = absurd (cc)
     go (inr e) = inr e
 
--- and the other way round
+-- if the last unit is a gap, no word ends there
 pub gap-last : (us : List (List Cell)) → last_passes (is_gap joined_byte) us ≡ true → last_passes (λ u. not (is_gap joined_byte u)) us ≡ false
 gap-last [] h = cc
 gap-last (u ∷ []) h = ap not h

@@ -119,7 +119,7 @@ tail-ends a b us (SomeTail x D e o) h = subst (λ z. EndsAs (a ++ z) (b ++ z)) (
 
 -- ---- the cells of the new line
 
--- the parts of the new line, as cells: those of each list are such that a line may have, and they end as the old ones did
+-- the parts of the new line, as cells: a line may have the cells of each list, and they end as the old ones did
 pub record FitAsCells (h : Headers.Header Cell) (T N B O : List (List Cell)) : Type 0 where
   pub targets : AreLineCells (concat T)
   pub normal : AreLineCells (concat N)
@@ -164,7 +164,7 @@ pub record HeaderHere (c : Context) (l : List ℕ) (h : Headers.Header Cell) : T
   pub also : (cs : List Cell) → cells_class c false cs ≡ plain_class joined_byte false (nat_lt 0 c.conditionals) (is_unreadable cs) (units joined_byte cs)
   pub whole : l ≡ line_of h (line_end_bytes (line_end l))
 
--- each line of class Header is such
+-- each line of class Header has such parts
 pub header-here : (c : Context) (l : List ℕ) (h : Headers.Header Cell) → class_of c l ≡ Header h → HeaderHere c l h
 header-here c l h e =
     let led = is_prefix_led c.prefix l in
@@ -223,7 +223,7 @@ header-changed c l below h T N B O H o n f g led =
           ∙ (H.also (concat (header_units new)) ∙ changed-header (nat_lt 0 c.conditionals) (line_cells l) h T N B O k f all));
     }
 
--- where the targets stay, the new line begins as the old one did
+-- if the targets stay, the new line begins as the old one did
 pub same-not_led : (c : Context) (l : List ℕ) (h : Headers.Header Cell) (N B O : List (List Cell)) → HeaderHere c l h → is_prefix_led c.prefix (line_of (with_parts h h.targets N B O) (line_end_bytes (line_end l))) ≡ false
 same-not_led c l h N B O H =
     let M = concat (middle_units h) in

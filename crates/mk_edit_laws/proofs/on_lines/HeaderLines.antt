@@ -45,14 +45,13 @@ plain_class-header led c cs us h k =
     let H = subst (Holds joined_byte us led c (is_unreadable cs)) k (plain_class-holds joined_byte us led c (is_unreadable cs)) in
     record { not_led = H.rule.not_led; readable = H.rule.readable; undirected = H.rule.undirected; colon = H.rule.colon; not_rough = H.not_rough; is = H.is }
 
--- where a line is a Header, it stands outside defines and recipes, and so does each line in its place that begins with the same
--- byte
+-- a line that is a Header stands outside defines and recipes, and so does each line in its place that begins with the same byte
 pub record IsHeaderRead (led : Bool) (defines : ℕ) (f : Flag) (c : Bool) (cs : List Cell) (us : List (List Cell)) (h : Headers.Header Cell) : Type 0 where
   pub here : IsHeaderLine led c cs us h
   pub also : (cs' : List Cell) (us' : List (List Cell)) → class_at joined_byte led defines f c (is_unreadable cs') us' ≡ plain_class joined_byte led c (is_unreadable cs') us'
   pub no_define : defines ≡ 0
 
--- so it is of each line of class Header
+-- each line of class Header stands there
 pub class_at-header : (led : Bool) (n : ℕ) (f : Flag) (c : Bool) (cs : List Cell) (us : List (List Cell)) (h : Headers.Header Cell) → class_at joined_byte led n f c (is_unreadable cs) us ≡ Header h → IsHeaderRead led n f c cs us h
 class_at-header true (suc n) f c cs us h k = absurd (cc)
 class_at-header false (suc n) f c cs us h k = absurd (said-no_parts (define_class (first_keyword (word_texts joined_byte us)) (suc n)) (Header h) k refl)
@@ -65,7 +64,7 @@ class_at-header false zero Unknown c cs us h k = record { here = plain_class-hea
 
 -- ---- parts that make such a line
 
--- some of the last units passes
+-- if one of the last units passes, one of all units does
 pub any-after : {A : Type 0} (p : A → Bool) (a b : List A) → any p b ≡ true → any p (a ++ b) ≡ true
 any-after p [] b h = h
 any-after p (x ∷ a) b h = ap (λ z. p x || z) (any-after p a b h) ∙ go (p x)

@@ -67,7 +67,7 @@ parts-of (u ∷ us) h c b =
     let q = or_parts (is_bar joined_byte u) (any (is_bar joined_byte) us) b in
     (record { head = h.0; no_colon = p.0; no_bar = q.0 }, parts-of us h.1 p.1 q.1)
 
--- none of units that do not pass passes
+-- if each unit fails the test, none passes it
 pub no-each : (p : List Cell → Bool) (us : List (List Cell)) → Each (λ u. not (p u)) us → any p us ≡ false
 no-each p [] h = refl
 no-each p (u ∷ us) h = ap (λ z. z || any p us) (is (p u) h.0) ∙ no-each p us h.1
@@ -97,7 +97,7 @@ colon-is u h =
     let s = symbol-unit joined_byte u Colon (λ x. cc) h in
     s.1 ∙ ap (λ z. z ∷ []) (one_byte s.0 58 s.2 (λ x. cc) (λ x. cc))
 
--- a `|` is such a unit
+-- a `|` is a unit of a head that can be read
 bar-head_unit : IsHeadUnit (Byte 124 ∷ [])
 bar-head_unit = record { whole = refl; closed = refl; no_stray = refl; readable = refl; in_head = refl }
 
@@ -341,7 +341,7 @@ changed-undirected c h T N B O k f a d =
     ∙ same-no_directive c (word_texts joined_byte (token_units (tokens joined_byte h.targets) ++ X)) (word_texts joined_byte (token_units (tokens joined_byte T) ++ Y)) s
     (ap (λ z. directive c (word_texts joined_byte z)) (sym old) ∙ d)
 
--- The line with other parts is of class Header with these parts, where its cells are cells that a line may have.
+-- The line with other parts is of class Header with these parts, if its cells are cells that a line may have.
 pub changed-header : (c : Bool) (cs : List Cell) (h : Headers.Header Cell) (T N B O : List (List Cell)) → HeaderKnown c cs h → FitIn h T N B O → AreLineCells (concat (header_units (with_parts h T N B O)))
     → plain_class joined_byte false c (is_unreadable (concat (header_units (with_parts h T N B O)))) (units joined_byte (concat (header_units (with_parts h T N B O)))) ≡ Header (with_parts h T N B O)
 changed-header c cs h T N B O k f a =

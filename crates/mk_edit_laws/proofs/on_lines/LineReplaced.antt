@@ -1,4 +1,4 @@
--- A text after an edit of one line: the other lines stay, each with its class, and what it reads as.
+-- A text after an edit of one line: the other lines stay, each with its class; and what the text reads as.
 use Rattle.std.proofs.Common.{◌≡◌, ap, ◌∙◌, subst, ℕ, List, [], ◌∷◌, ◌++◌, not, true}
 use Rattle.mk_lines.proofs.on_lines.LineLemmas.{OneLine, EndsBefore}
 use Rattle.mk_lines.specs.Cells.{Cell}
@@ -12,14 +12,15 @@ use Rattle.mk_tree.specs.Readings.{reading}
 use Rattle.mk_tree.proofs.on_documents.LinePlaces.{bytes_of, reading-line}
 use Rattle.mk_tree.proofs.on_changes.RunsReplaced.{line-replaced}
 
--- A text whose lines are those above and below with one line between them, which is of no conditional and reads as one item.
+-- A text whose lines are those above and those below, with one line between them, which is of no conditional and reads as one
+-- item.
 pub record IsLineReplaced (t : List ℕ) (above below : List ClassedLine) (i : Item) : Type 0 where
   pub line : ClassedLine
   pub lines : classed_lines t ≡ above ++ line ∷ below
   pub unconditional : not (is_conditional line.class) ≡ true
   pub reads : reading t ≡ items above ++ i ∷ items below
 
--- another line, after which the context is as before, in the place of one
+-- another line in the place of one; the context after it is as before
 pub replaced-line : (t : List ℕ) (above : List ClassedLine) (l : ClassedLine) (below : List ClassedLine) (m : List ℕ) (k : Class Cell) (i : Item) → classed_lines t ≡ above ++ l ∷ below
     → OneLine m → EndsBefore m (bytes_of below) → class_of (context_of above) m ≡ k → context_after (context_of above) k ≡ context_after (context_of above) l.class
     → not (is_conditional k) ≡ true → items_of_line k m ≡ i ∷ [] → IsLineReplaced (text_of above ++ (m ++ text_of below)) above below i
@@ -33,7 +34,7 @@ replaced-line t above l below m k i h o ends q same u read =
       reads = reading-line (text_of above ++ (m ++ text_of below)) above n below lines ∙ ap (λ z. items above ++ (z ++ items below)) read;
     }
 
--- the same text, and the same item
+-- equal texts and equal items
 pub replaced-same : (s t : List ℕ) (above below : List ClassedLine) (i j : Item) → t ≡ s → j ≡ i → IsLineReplaced t above below j → IsLineReplaced s above below i
 replaced-same s t above below i j h k r =
     subst (λ z. IsLineReplaced s above below z) k (subst (λ z. IsLineReplaced z above below j) h r)

@@ -12,14 +12,14 @@ use Rattle.mk_edit_laws.proofs.on_lines.HeadUnits.{EndsSolid}
 
 -- how new cells end beside old ones
 pub data EndsAs (new old : List Cell) : Type 0 where
-  -- there are none
+  -- there are no new cells
   EndsEmpty : new ≡ [] → EndsAs new old
-  -- in an ordinary byte
+  -- the new cells end in an ordinary byte
   EndsOrdinary : (front : List Cell) (last : ℕ) → new ≡ front ++ Byte last ∷ [] → byte_kind last ≡ Ordinary → EndsAs new old
-  -- in the same cells, the first of which is a blank, a fold or an ordinary byte
+  -- the new cells end in the same cells as the old ones, the first of which is a blank, a fold or an ordinary byte
   EndsSame : (a b : List Cell) (d : Cell) (D : List Cell) → new ≡ a ++ d ∷ D → old ≡ b ++ d ∷ D → is_reset d ≡ true → EndsAs new old
 
--- cells end in themselves, where the first of them is a blank, a fold or an ordinary byte
+-- cells end as themselves, if the first of them is a blank, a fold or an ordinary byte
 pub EndsAs-same : (d : Cell) (D : List Cell) → is_reset d ≡ true → EndsAs (d ∷ D) (d ∷ D)
 EndsAs-same d D h = EndsSame [] [] d D refl refl h
 
@@ -29,26 +29,26 @@ EndsAs-old x a b (EndsEmpty h) = EndsEmpty h
 EndsAs-old x a b (EndsOrdinary f l h k) = EndsOrdinary f l h k
 EndsAs-old x a b (EndsSame p q d D h k r) = EndsSame p (x ++ q) d D h (ap (λ z. x ++ z) k ∙ sym (append_assoc x q (d ∷ D))) r
 
--- after cells that end in an ordinary byte
+-- cells that end as others do, after cells that end in an ordinary byte
 pub EndsAs-after : (x y a b : List Cell) → EndsSolid x → EndsAs a b → EndsAs (x ++ a) (y ++ b)
 EndsAs-after x y a b s (EndsEmpty h) = EndsOrdinary s.front s.last (ap (λ z. x ++ z) h ∙ (append-nil x ∙ s.is)) s.ordinary
 EndsAs-after x y a b s (EndsOrdinary f l h k) = EndsOrdinary (x ++ f) l (ap (λ z. x ++ z) h ∙ sym (append_assoc x f (Byte l ∷ []))) k
 EndsAs-after x y a b s (EndsSame p q d D h k r) =
     EndsSame (x ++ p) (y ++ q) d D (ap (λ z. x ++ z) h ∙ sym (append_assoc x p (d ∷ D))) (ap (λ z. y ++ z) k ∙ sym (append_assoc y q (d ∷ D))) r
 
--- before the same cells
+-- cells that end as others do, before the same cells
 pub EndsAs-before : (a b : List Cell) (d : Cell) (D : List Cell) → is_reset d ≡ true → EndsAs (a ++ d ∷ D) (b ++ d ∷ D)
 EndsAs-before a b d D h = EndsSame a b d D refl refl h
 
 ordinary-reset : (b : ℕ) → byte_kind b ≡ Ordinary → is_reset_kind (byte_kind b) ≡ true
 ordinary-reset b h = ap is_reset_kind h
 
--- a line end stays apart from cells that end so, and ends the line after them
+-- a line end stays apart from cells that end as the old ones did, and ends the line after them
 pub record KeepsLineEnd (e : End) (new : List Cell) (below : List (List ℕ)) : Type 0 where
   pub apart : KeepsApart e (reverse (raw_text new))
   pub ends : EndLineBefore e new below
 
--- as it did with the old cells
+-- the line end is kept as it was with the old cells
 pub line_end-kept : (e : End) (below : List (List ℕ)) (x a b : List Cell) → EndsSolid x → EndsAs a b → (y : List Cell) → AreLineCells (x ++ a) → AreLineCells (y ++ b)
     → KeepsApart e (reverse (raw_text (y ++ b))) → EndLineBefore e (y ++ b) below → KeepsLineEnd e (x ++ a) below
 line_end-kept e below x a b s h y n o k m = go (x ++ a) (y ++ b) (EndsAs-after x y a b s h) (λ q. absurd (none x s q)) n o k m

@@ -101,7 +101,7 @@ name-bytes (b ∷ n) h = go (is_name_byte b) refl h (λ k. name-bytes n k)
 pub name-bytes_are : (b : ℕ) (n : List ℕ) → is_name (b ∷ n) ≡ true → AreNameBytes (b ∷ n)
 name-bytes_are b n h = name-bytes (b ∷ n) (not-true (any (λ b. not (is_name_byte b)) (b ∷ n)) h)
 
--- none of them is barred
+-- none of the bytes of a name is barred
 pub name-clean : (n : List ℕ) → AreNameBytes n → any is_barred_byte n ≡ false
 name-clean [] h = refl
 name-clean (b ∷ n) h = rw (h.0, h.3, name-clean n h.4) refl

@@ -367,7 +367,7 @@ assign-item t s b n f v h =
     ∙ (ap (λ z. items s.above ++ Assign (Sets [] z f (unit_text joined_byte (units joined_byte (map Byte v)))) ∷ items s.below) (unit_text-singles (b ∷ n))
     ∙ ap (λ z. items s.above ++ Assign (Sets [] (b ∷ n) f z) ∷ items s.below) (unit_text-units (map Byte v) ∙ bytes-joined v))
 
--- where an accepted one stands
+-- where the line of an accepted new assignment stands
 pub record AssignStands (t : List ℕ) (p : Place) (b : ℕ) (n : List ℕ) (f : Flavor) (v : List ℕ) (rs : List Replacement) : Type 0 where
   pub place : IsNewPlace t p
   pub stands : StandsAt t place.stretch (assign_text (b ∷ n) f v) (Class.Assign (new_assignment (b ∷ n) f v) None)

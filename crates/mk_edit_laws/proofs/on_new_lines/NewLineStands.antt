@@ -35,17 +35,18 @@ abbrev pub with_line : (t : List ℕ) → Stretch → (x : List ℕ) → List �
 with_line t s x =
     replaced 0 t (record { start = length (text_of s.above); end = length (text_of s.above); new = missing_line_end (file_line_end t) s.above s.below ++ (x ++ line_end_bytes (file_line_end t)) } ∷ [])
 
--- it is the text after an edit whose new line has this text
+-- the text with the new line is the text after an edit whose new line has this text
 pub stands-span : (t : List ℕ) (e : Edit) (s : Stretch) (x : List ℕ) → new_text (context_of s.above).prefix e ≡ x → replaced 0 t (new_line_span t e s) ≡ with_line t s x
 stands-span t e s x n = ap (with_line t s) n
 
--- its reading gets the item of the line
+-- the reading of the text gets the item of the line
 pub stands-reading : (t : List ℕ) (s : Stretch) (x : List ℕ) (k : Class Cell) → StandsAt t s x k
     → reading (with_line t s x) ≡ items s.above ++ (items_of_line k (x ++ line_end_bytes (file_line_end t)) ++ items s.below)
 stands-reading t s x k h =
     reading-line_added t s.above s.below x (file_line_end t) k h.whole h.not_open (file_line_end-some t) h.ended h.class h.agrees h.not_leaning
 
--- the line stands among the others, which keep their classes; the last above it gets a line end where none is below and it has none
+-- the line stands among the others, which keep their classes; if no line is below, the last line above gets a line end if it has
+-- none
 pub stands-lines : (t : List ℕ) (s : Stretch) (x : List ℕ) (k : Class Cell) → StandsAt t s x k
     → classed_lines (with_line t s x) ≡ above_ended (file_line_end t) s.above s.below ++ record { bytes = x ++ line_end_bytes (file_line_end t); class = k } ∷ s.below
 stands-lines t s x k h =

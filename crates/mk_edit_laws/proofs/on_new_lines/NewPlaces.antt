@@ -34,7 +34,7 @@ pub record IsNewPlace (t : List ℕ) (p : Place) : Type 0 where
 none-open : (n : ℕ) → nat_lt 0 n ≡ false → n ≡ 0
 none-open n h = omega (arith, ltb-false 0 n h)
 
--- where the place is found, and no define is open at the end of the text if that is the place
+-- the place is found, and if it is the end of the text, no define is open there
 pub new-place : (t : List ℕ) (p : Place) → no_such_line (classed_lines t) (place_address p) ≡ None → ambiguous_line (classed_lines t) (place_address p) ≡ None
     → any is_prefix_name (place_names p) ≡ false → open_define_at (classed_lines t) p ≡ None → IsNewPlace t p
 new-place t Bottom h k n d = record {

@@ -1,4 +1,4 @@
--- The line of a new rule: its words, joined by single spaces round its separator, are read again as they are.
+-- The line of a new rule: its words, joined by single spaces around its separator, are read again as they are.
 use Rattle.std.proofs.Common.{◌≡◌, refl, sym, ap, ◌∙◌, subst, ℕ, List, [], ◌∷◌, ◌++◌, map, Bool, true, false, not, ◌&&◌, ◌||◌, ◌==◌, cond, append_assoc, None}
 use Rattle.std.specs.Prelude.{codes, nat_lt}
 use Rattle.std.proofs.lemmas.Bool.{or_parts, not-true}
@@ -170,7 +170,7 @@ colons-units Two rest = units-append joined_byte (Byte 58 ∷ Byte 58 ∷ []) re
 abbrev pub text_of_rule : (targets : List (List ℕ)) → Colons → (prereqs : List (List ℕ)) → List ℕ
 text_of_rule ts c ws = joined_by_space ts ++ (colons_text c ++ each_spaced ws)
 
--- the same, the first target apart
+-- the text of a new rule, with its first target apart
 first-target : (t : List ℕ) (ts : List (List ℕ)) → IsNewWord t → joined_by_space (t ∷ ts) ≡ t ++ each_spaced ts
 first-target [] ts h = absurd (let k : true ≡ false = h.filled in cc)
 first-target (b ∷ t) ts h = refl
@@ -296,7 +296,7 @@ rule-not_rough t ts c ws W =
 
 -- ---- its class
 
--- the first word of the line: the first target, with the separator where there is no other
+-- the first word of the line: the first target, with the separator if there is no other target
 first_word : (t : List ℕ) (ts : List (List ℕ)) (c : Colons) (ws : List (List ℕ)) → AreRuleWords t ts ws
     → (x : List ℕ) × (rest : List (List ℕ)) × (word_texts joined_byte (rule_units_of t ts c ws) ≡ x ∷ rest) × (is_reserved_word x ≡ false)
 first_word t [] c ws W =
@@ -369,7 +369,7 @@ takes One = refl
 takes Two = refl
 
 -- the class of a line outside defines that does not begin with the prefix: `z` is its cut text, `b` says whether its head has a
--- `:`, and `r` is the class of such a line
+-- `:`, and `r` is the class that it has if its head has one
 abbrev plain_by : Bool → List Cell → (us z : List (List Cell)) → (b : Bool) → (r : Class Cell) → Class Cell
 plain_by d cs us z b r =
     cond (is_all_blanks joined_byte z) (cond (any (is_hash joined_byte) us) Class.Comment Class.Blank) (

@@ -80,13 +80,13 @@ extra-known [] [] = (tt, tt)
 extra-known [] (b ∷ bs) = ((refl, tt), (space-part, tt))
 extra-known (g ∷ gs) b = (tt, tt)
 
--- the gaps after the new word are such as may stand there
+-- the gaps after the new word may stand there
 extra-cells : (g b : List (List Cell)) → AreLineCells (concat g) → AreLineCells (concat (cond (is_empty g && not (is_empty b)) (space_unit ∷ []) [] ++ g))
 extra-cells [] [] h = h
 extra-cells [] (b ∷ bs) h = bytes-are_line_cells (32 ∷ []) (refl, tt)
 extra-cells (g ∷ gs) b h = h
 
--- with a `|` the last unit is a gap
+-- if there is a `|`, the last unit is a gap
 extra-last : (x g b : List (List Cell)) → AreGapUnits g → is_empty b ≡ false → last_passes is_no_gap (x ++ (cond (is_empty g && not (is_empty b)) (space_unit ∷ []) [] ++ g)) ≡ false
 extra-last x [] [] k h = cc
 extra-last x [] (b ∷ bs) k h = last-more is_no_gap x space_unit []

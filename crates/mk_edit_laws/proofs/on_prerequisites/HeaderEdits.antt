@@ -44,7 +44,7 @@ header_pieces-old h t n o =
     let c = old_cells-append o (kept h.tail) in
     a ∙ ap (λ z. old_cells t ++ (concat (middle_units h) ++ z)) (b ∙ ap (λ z. old_cells n ++ (concat h.bar ++ z)) (c ∙ ap (λ z. old_cells o ++ z) (append-nil (concat h.tail))))
 
--- where the pieces of each list are of its cells, all are of the line's
+-- if the pieces of each list have its cells, all pieces have the cells of the line
 pub header_pieces-whole : (h : Headers.Header Cell) (t n o : List Piece) → old_cells t ≡ concat h.targets → old_cells n ≡ concat h.normal → old_cells o ≡ concat h.order_only
     → old_cells (header_pieces h t n o) ≡ concat (header_units h)
 header_pieces-whole h t n o e f g = header_pieces-old h t n o ∙ (rw (e, f, g) (sym (header-cells h)))
@@ -92,7 +92,7 @@ lists-end N N' (b ∷ []) O O' f e n o =
     (EndsAs-after (concat N' ++ concat (b ∷ [])) (concat N ++ concat (b ∷ [])) (concat O') (concat O) s o))
 lists-end N N' (b ∷ c ∷ B) O O' f e n o = absurd f
 
--- the cells of the lists of a header are such that a line may have
+-- a line may have the cells of the lists of a header
 pub record ListCells (h : Headers.Header Cell) : Type 0 where
   pub targets : AreLineCells (concat h.targets)
   pub normal : AreLineCells (concat h.normal)
@@ -113,7 +113,7 @@ list-cells c cs h k =
 
 -- ---- what an edit says
 
--- what an edit of a header's words replaces, and what it changes, where the header is found
+-- what an edit of a header's words replaces, and what it changes, if the header is found
 pub word_spans-header : (f : Headers.Header Cell → List Piece) (s : StandingLine) (h : Headers.Header Cell) → s.line.class ≡ Header h → word_spans f s ≡ replacements (length (text_of s.above)) (f h)
 word_spans-header f s h e = ap (header_spans f (length (text_of s.above))) e
 

@@ -90,7 +90,7 @@ module _ (w : List ℕ) (us : List (List Cell)) where
 
 -- ---- the header
 
--- a `|` stays a word by itself, where the lists before and after it end and begin in gaps as before
+-- a `|` stays a word by itself, if the list before it ends in a gap and the list after it begins with a gap as before
 pub glued-apart : (N N' B O O' : List (List Cell)) → (last_passes is_no_gap N ≡ false → last_passes is_no_gap N' ≡ false) → (first_passes is_no_gap O ≡ false → first_passes is_no_gap O' ≡ false)
     → is_bar_glued N B O ≡ false → is_bar_glued N' B O' ≡ false
 glued-apart N N' [] O O' f g h = refl

@@ -1,4 +1,4 @@
--- A word put after the last one of some units: the words are those and then this one, and the cells join.
+-- A word put after the last word of some units: the words are the old ones and then the new one, and the cells join.
 use Rattle.std.proofs.Common.{◌≡◌, refl, sym, ap, ◌∙◌, subst, ℕ, List, [], ◌∷◌, ◌++◌, map, Bool, true, false, append_assoc}
 use Rattle.std.proofs.lemmas.List.{append-nil, map-append}
 use Rattle.std.specs.Prelude.{◌⊎◌}
@@ -27,7 +27,7 @@ use Rattle.mk_edit_laws.proofs.on_prerequisites.NewWords.{IsNewWord, cell_units,
 abbrev pub AreGapUnits : List (List Cell) → Type 0
 AreGapUnits us = Each (is_gap joined_byte) us
 
--- they end as they did
+-- units that are all gaps end as they did
 pub gap_units-end : (us : List (List Cell)) → AreGapUnits us → EndsAs (concat us) (concat us)
 gap_units-end [] h = EndsEmpty refl
 gap_units-end (u ∷ us) h = gap-ends u (concat us) h.0
@@ -128,7 +128,7 @@ word-parts w h =
     let stray : has_stray (concat (cell_units w)) ≡ false = ap has_stray e ∙ clean-no_stray w h.clean in
     parts-of (cell_units w) (first_units-are_head_units (cell_units w) [] again stray B.readable B.in_head) (no-each (is_colon joined_byte) (cell_units w) B.no_colon) (no-each (is_bar joined_byte) (cell_units w) B.no_bar)
 
--- its cells join whatever stands on either side
+-- the cells of a new word join whatever stands on either side
 pub new_word-solid : (w : List ℕ) → IsNewWord w → IsSolid (concat (cell_units w))
 new_word-solid w h = word-solid (cell_units w) h.word (part-head (cell_units w) (word-parts w h))
 
@@ -174,7 +174,7 @@ module _ (w : List ℕ) (new : IsNewWord w) (us G : List (List Cell)) (gaps : Ar
       go front rest (inl e) = subst (λ z. AreLineCells (concat z ++ concat (space_unit ∷ (cell_units w ++ G)))) (sym e) rest
       go front rest (inr s) = line_cells-after_solid (concat (front_units us)) (concat (space_unit ∷ (cell_units w ++ G))) front rest s
 
-  -- the cells with the word end in the word or as the gaps do
+  -- the cells with the new word end in the word, or as the gaps do
   pub word-ends : (x y b : List Cell) → EndsAs (concat G) b → EndsAs (x ++ concat (space_unit ∷ (cell_units w ++ G))) (y ++ b)
   word-ends x y b g =
       let s = new_word-solid w new in

@@ -57,7 +57,7 @@ module _ (t : List ℕ) where
   gap_first (Gap x ∷ g) ts u h = refl
   gap_first (Word w ∷ g) ts u h = absurd h.0
 
-  -- no word comes first where none did
+  -- no word comes first if none did before
   pub kept-no_word_first : (g ts : List (Token Cell)) → AreGaps g → AreTokens joined_byte ts → is_word_first (g ++ ts) ≡ false → is_word_first (kept_tokens t g ts) ≡ false
   kept-no_word_first g [] h a f = gaps-no_word_first g h
   kept-no_word_first g (Gap u ∷ ts) h a f = kept-no_word_first (g ++ Gap u ∷ []) ts (one_gap g u h a.0) a.1 (gap_first g ts u h)
@@ -80,7 +80,7 @@ module _ (t : List ℕ) where
       go true i = i
       go false i = gaps-are_tokens g (Word w ∷ kept_tokens t [] ts) h (a.0, kept-no_word_first [] ts tt a.2 a.1, i)
 
-  -- its words are the others
+  -- the words that stay are the other words
   pub kept-words : (g ts : List (Token Cell)) → AreGaps g → AreTokens joined_byte ts → map (map joined_byte) (token_words (kept_tokens t g ts)) ≡ without_word t (map (map joined_byte) (token_words ts))
   kept-words g [] h a = ap (map (map joined_byte)) (ap token_words (sym (append-nil g)) ∙ gaps-words g [] h)
   kept-words g (Gap u ∷ ts) h a = kept-words (g ++ Gap u ∷ []) ts (one_gap g u h a.0) a.1
@@ -92,7 +92,7 @@ module _ (t : List ℕ) where
       go true i = i
       go false i = ap (map (map joined_byte)) (gaps-words g (Word w ∷ kept_tokens t [] ts) h) ∙ ap (λ z. map joined_byte (concat w) ∷ z) i
 
-  -- what each unit is stays so
+  -- what holds for each unit holds for each unit that stays
   pub kept-all : (P : List Cell → Type 0) (g ts : List (Token Cell)) → AllAre P (token_units g) → AllAre P (token_units ts) → AllAre P (token_units (kept_tokens t g ts))
   kept-all P g [] h a = h
   kept-all P g (Gap u ∷ ts) h a = kept-all P (g ++ Gap u ∷ []) ts (subst (AllAre P) (sym (token_units-append g (Gap u ∷ []))) (AllAre-append P (token_units g) (u ∷ []) h (a.0, tt))) a.1
@@ -147,7 +147,7 @@ module _ (t : List ℕ) where
           subst AreLineCells (append_assoc (token_text g) (concat w) (token_text (kept_tokens t [] ts)) ∙ sym (token_text-append g (Word w ∷ kept_tokens t [] ts)))
           (line_cells-after_solid (token_text g ++ concat w) (token_text (kept_tokens t [] ts)) front i s)
 
-  -- and end as the old ones did, or in a word, or there are none
+  -- the cells that stay end as the old ones did, or in a word, or there are none
   pub kept-ends : (g ts : List (Token Cell)) → AreGaps g → AreTokens joined_byte ts → AllAre IsHeadUnit (token_units ts) → EndsAs (token_text (kept_tokens t g ts)) (token_text g ++ token_text ts)
   kept-ends g [] h a u = subst (EndsAs (token_text g)) (sym (append-nil (token_text g))) (gaps-end g h)
   kept-ends g (Gap x ∷ ts) h a u =

@@ -77,6 +77,6 @@ at-recipe false zero f c cs us h = absurd (plain f h)
 at-recipe true (suc n) f c cs us h = absurd (cc)
 at-recipe false (suc n) f c cs us h = absurd (let e : true ≡ false = sym h ∙ not_recipe-said (define_class (first_keyword (word_texts joined_byte us)) (suc n)) in cc)
 
--- so it is of each such line
+-- each line of class Recipe stands in such a context
 pub recipe-stands : (c : Context) (l : List ℕ) → is_recipe (class_of c l) ≡ true → StandsInRule (is_prefix_led c.prefix l) c.defines c.flag
 recipe-stands c l h = at-recipe (is_prefix_led c.prefix l) c.defines c.flag (nat_lt 0 c.conditionals) (line_cells l) (units joined_byte (line_cells l)) h

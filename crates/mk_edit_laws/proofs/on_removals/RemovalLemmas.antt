@@ -74,7 +74,7 @@ class-agrees c (Class.TargetAssign a) h n = absurd (cc)
 class-agrees c Class.Rough h n = absurd (cc)
 class-agrees c (Class.Header x) h n = absurd (cc)
 
--- after them the context is as before, but perhaps for the flag, where no line of a conditional is among them
+-- if no line of a conditional is among them, the context after them is as before in all except perhaps the flag
 run-agrees : (c : Context) (ls : List ClassedLine) → Each (λ l. stays_in_rule l.class) ls → any (λ l. is_conditional l.class) ls ≡ false → AgreeButForFlag c (context_after_lines c ls)
 run-agrees c [] h n = agrees-self c
 run-agrees c (l ∷ ls) h n =

@@ -139,7 +139,7 @@ recipe-items (l ∷ ls) h = go l.class h.0 (recipe-items ls h.1)
     go Rough e i = absurd (cc)
     go (Header x) e i = absurd (cc)
 
--- where a rule does not go on, the next item is of no recipe line
+-- if a rule does not go on, the next item is not that of a recipe line
 next-item : (ls : List ClassedLine) → recipe_goes_on ls ≡ false → first_passes is_recipe_item (items ls) ≡ false
 next-item [] h = refl
 next-item (l ∷ ls) h = go l.class h (next-item ls)

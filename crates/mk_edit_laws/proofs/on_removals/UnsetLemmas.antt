@@ -32,14 +32,14 @@ pub stretch-lines : (t : List ℕ) (s : Stretch) → classed_lines t ≡ s.above
     → classed_lines (replaced 0 t (removed_span s)) ≡ s.above ++ s.below
 stretch-lines t s h agree free = ap classed_lines (text-run_replaced t s.above s.lines s.below [] h) ∙ run-removed t s.above s.lines s.below h agree free
 
--- and their items
+-- a stretch of lines taken out: the other lines keep their items
 pub stretch-removed : (t : List ℕ) (s : Stretch) → classed_lines t ≡ s.above ++ (s.lines ++ s.below)
     → AgreeButForFlag (context_of s.above) (context_of (s.above ++ s.lines))
     → leans (context_of s.above).prefix (context_of s.above).flag (context_of (s.above ++ s.lines)).flag s.below ≡ false
     → reading (replaced 0 t (removed_span s)) ≡ without_items s
 stretch-removed t s h agree free = reading-two (replaced 0 t (removed_span s)) s.above s.below (stretch-lines t s h agree free)
 
--- an assignment that sets no prefix leaves the context, but for the flag
+-- an assignment that sets no prefix leaves the context in all except the flag
 pub assignment-agrees : (A : List ClassedLine) (l : ClassedLine) (a : Assignment Cell) → l.class ≡ Assign a None → AgreeButForFlag (context_of A) (context_of (A ++ l ∷ []))
 assignment-agrees A l a h =
     let c = context_of A in

@@ -25,7 +25,7 @@ pub record AreRenameWords (o n : List ℕ) : Type 0 where
   pub new : IsNewTarget o n
   pub renamed : (k : Class Cell) → AreRenamed o n k
 
--- so it is of an accepted one
+-- this is known of the words of an accepted rename
 pub rename-words : (o n t : List ℕ) (rs : List Replacement) → spans t (RenameTarget o n) ≡ Ok rs → AreRenameWords o n
 rename-words o n t rs h =
     let A = accepted t (RenameTarget o n) rs h in

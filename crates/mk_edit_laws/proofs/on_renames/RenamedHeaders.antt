@@ -109,12 +109,12 @@ module _ (o n : List ℕ) (new : IsNewTarget o n) (us : List (List Cell)) where
 abbrev pub header_renamed : (old new : List ℕ) → Headers.Header Cell → Headers.Header Cell
 header_renamed o n h = with_parts h (renamed_units o n h.targets) (renamed_units o n h.normal) h.bar (renamed_units o n h.order_only)
 
--- of two tests that do not both pass, the first fails where the second passes
+-- if two tests do not both pass, the first fails if the second passes
 pub and-right : (a b : Bool) → (a && b) ≡ false → (b ≡ true → a ≡ false)
 and-right true b h e = let k : true ≡ false = sym e ∙ h in cc
 and-right false b h e = refl
 
--- and so they do not both pass
+-- if the first of two tests fails whenever the second passes, they do not both pass
 pub and-of : (a b : Bool) → (b ≡ true → a ≡ false) → (a && b) ≡ false
 and-of true true h = h refl
 and-of true false h = refl
@@ -167,13 +167,13 @@ rename-item o n new h =
 
 -- ---- the front of the line
 
--- where no piece is replaced, the bytes stay
+-- if no piece is replaced, the bytes stay
 pub none-replaced : (ps : List Piece) → any is_replaced ps ≡ false → new_bytes ps ≡ old_bytes ps
 none-replaced [] h = refl
 none-replaced (Keep cs ∷ ps) h = ap (λ z. raw_text cs ++ z) (none-replaced ps h)
 none-replaced (Replace cs v ∷ ps) h = absurd (cc)
 
--- the new line does not begin with the prefix where no line that a rename changes does
+-- the new line does not begin with the prefix if no line that the rename changes would
 pub renamed-not_led : (prefix : ℕ) (ps : List Piece) (end : List ℕ) (x : ℕ) (y : List ℕ) → new_bytes ps ≡ x ∷ y → begins_renamed_line prefix ps ≡ false → is_prefix_led prefix (old_bytes ps ++ end) ≡ false
     → is_prefix_led prefix (new_bytes ps ++ end) ≡ false
 renamed-not_led prefix ps end x y e h k = go (any is_replaced ps) refl h
@@ -182,7 +182,7 @@ renamed-not_led prefix ps end x y e h k = go (any is_replaced ps) refl h
     go true f i = led-same prefix (new_bytes ps) end [] x y e ∙ (ap (is_prefix_led prefix) (append-nil (new_bytes ps)) ∙ i)
     go false f i = ap (λ z. is_prefix_led prefix (z ++ end)) (none-replaced ps f) ∙ k
 
--- A header's line after a rename: one line, with the same line end, of class Header with the new word for the old.
+-- A header's line after a rename: one line, with the same line end, of class Header with the new word in the place of the old.
 pub renamed-header : (o n : List ℕ) → IsNewTarget o n → (c : Context) (l : List ℕ) (below : List (List ℕ)) (h : Headers.Header Cell) → HeaderHere c l h → OneLine l → EndsBefore l below
     → begins_renamed_line c.prefix (rename_pieces o n h) ≡ false → IsHeaderWith c l below (header_renamed o n h)
 renamed-header o n new c l below h H one ends led =

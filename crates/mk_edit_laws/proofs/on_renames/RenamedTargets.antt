@@ -52,7 +52,7 @@ use Rattle.mk_edit_laws.proofs.on_renames.TargetNames.{new-names, old-names, ren
 
 -- ---- the units
 
--- each unit passes a test after a rename, where those of the new word do
+-- each unit passes a test after a rename, if the old units and those of the new word do
 each-renamed : (o n : List ℕ) (p : List Cell → Bool) → Each p (cell_units n) → (ts : List (Token Cell)) → Each p (token_units ts) → Each p (token_units (tokens_renamed o n ts))
 each-renamed o n p e [] h = tt
 each-renamed o n p e (Gap u ∷ ts) h = (h.0, each-renamed o n p e ts h.1)
@@ -113,7 +113,7 @@ filled-after : (a b : List ℕ) → is_empty a ≡ false → (v : ℕ) × (w : L
 filled-after [] b e = cc
 filled-after (z ∷ a) b e = (z, a ++ b, refl)
 
--- where some piece is replaced, there are bytes
+-- if some piece is replaced, there are bytes
 replaced-filled : (o n : List ℕ) → is_empty n ≡ false → (ts : List (Token Cell)) → any is_replaced (renamed_tokens o n ts) ≡ true → (x : ℕ) × (y : List ℕ) × (new_bytes (renamed_tokens o n ts) ≡ x ∷ y)
 replaced-filled o n f [] h = cc
 replaced-filled o n f (Gap u ∷ ts) h = let r = replaced-filled o n f ts h in not_empty-append (raw_text u) (new_bytes (renamed_tokens o n ts)) r.0 r.1 r.2
@@ -149,8 +149,8 @@ line-before_colon l below a b D e old new one ends =
 
 -- ---- the line
 
--- A target assignment's line after a rename: one line, which ends where lines follow, of class TargetAssign with the new word
--- for the old.
+-- The line of an assignment for targets after a rename: one line, which ends a line if lines follow, of class TargetAssign with
+-- the new word in the place of the old.
 pub target-renamed : (o n : List ℕ) → IsNewTarget o n → is_word o ≡ true → is_word n ≡ true → (a : Headers.TargetAssignment Cell) → AreRenamed o n (Class.TargetAssign a)
 target-renamed o n new i j a c l below e one ends starts =
     let flag = nat_lt 0 c.conditionals in

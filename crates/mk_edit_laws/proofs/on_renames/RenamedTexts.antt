@@ -38,8 +38,8 @@ renamed_class o n (Class.Header h) = Class.Header (header_renamed o n h)
 renamed_class o n (Class.TargetAssign a) = Class.TargetAssign (targets_renamed o n a)
 renamed_class o n k = k
 
--- A line of a class with the pieces of a rename replaced: it begins with them, and the new line is one line, which ends where
--- lines follow, of the class after the rename.
+-- A line of a class with the pieces of a rename replaced: it begins with these pieces. The new line is one line, ends a line if
+-- lines follow, and has the class after the rename.
 pub record IsRenamed (o n : List ℕ) (c : Context) (l : List ℕ) (below : List (List ℕ)) (k : Class Cell) : Type 0 where
   pub rest : List ℕ
   pub is : l ≡ old_bytes (renamed_pieces o n k) ++ rest
@@ -47,7 +47,7 @@ pub record IsRenamed (o n : List ℕ) (c : Context) (l : List ℕ) (below : List
   pub ends : EndsBefore (new_bytes (renamed_pieces o n k) ++ rest) below
   pub class : class_of c (new_bytes (renamed_pieces o n k) ++ rest) ≡ renamed_class o n k
 
--- each line of a class is so after a rename
+-- each line of a class has its pieces replaced after a rename
 abbrev pub AreRenamed : (old new : List ℕ) → Class Cell → Type 0
 AreRenamed o n k =
     (c : Context) (l : List ℕ) (below : List (List ℕ)) → class_of c l ≡ k → OneLine l → EndsBefore l below → begins_renamed_line c.prefix (renamed_pieces o n k) ≡ false → IsRenamed o n c l below k
@@ -122,8 +122,8 @@ line_pieces o n l = renamed_pieces o n l.class
 abbrev pub line_class : (o n : List ℕ) → ClassedLine → Class Cell
 line_class o n l = renamed_class o n l.class
 
--- What is known of the lines of a text after a rename: the lines before it begin with its pieces, each can be replaced by the line
--- with these replaced, and so they are.
+-- What is known of the lines of a text and a rename: each line begins with its pieces, and can be replaced by the line with these
+-- pieces replaced; the rename does so.
 pub record AreLinesRenamed (o n t : List ℕ) : Type 0 where
   pub begin : BeginWithPieces (line_pieces o n) (classed_lines t)
   pub each : ReplaceEach start (classed_lines t) (map (with_pieces (line_pieces o n) (line_class o n)) (classed_lines t)) []
@@ -189,7 +189,7 @@ module _ (o n : List ℕ) (new : IsNewTarget o n) (all : (k : Class Cell) → Ar
       ap (λ z. z ++ items (map (with_pieces (line_pieces o n) (line_class o n)) ls)) (line-item l.class l.bytes)
       ∙ (ap (λ z. map (renamed_item o n) (items_of_line l.class l.bytes) ++ z) (lines-items ls) ∙ sym (map-append (renamed_item o n) (items_of_line l.class l.bytes) (items ls)))
 
-  -- so it is of a text where the rename begins no line with the prefix
+  -- this holds for a text in which the rename makes no line begin with the prefix
   pub lines-renamed : (t : List ℕ) → begins_some_renamed_line o n start (classed_lines t) ≡ false → AreLinesRenamed o n t
   lines-renamed t h =
       let ls = classed_lines t in

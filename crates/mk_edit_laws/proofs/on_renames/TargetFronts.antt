@@ -1,5 +1,5 @@
--- A rename of targets makes no assignment of a line that was none: what stands before the first `=` is no front of an assignment
--- where it was none.
+-- A rename of targets makes no assignment of a line that is none: if what stands before the first `=` is no front of an
+-- assignment, it is none after the rename.
 use Rattle.std.proofs.Common.{◌≡◌, refl, sym, ap, ◌∙◌, ℕ, List, [], ◌∷◌, ◌++◌, map, Bool, true, false, not, ◌||◌, cond, Option, Some, None, append_assoc}
 use Rattle.std.proofs.lemmas.List.{append-nil, map-append}
 use Rattle.std.proofs.lemmas.Bool.{or_parts, not-true}
@@ -66,7 +66,7 @@ flavor-gap (Bar ∷ s) r = refl
 flavor-gap (Ampersand ∷ s) r = refl
 flavor-gap (NoSymbol ∷ s) r = refl
 
--- none of two symbols or more begins with another than a `:`
+-- no operator of two symbols or more begins with any symbol except `:`
 flavor-two : (x y : Symbol) (s : List Symbol) → is_colon_symbol x ≡ false → flavor_before_equals (x ∷ y ∷ s) ≡ None
 flavor-two Hash y s h = refl
 flavor-two Colon y s h = cc
@@ -105,14 +105,14 @@ front-parts w X h =
     ap (λ z. front_by joined_byte (flavor_before_equals (front_gap (from (ends_name_before_equals joined_byte) z))) (blanks joined_byte (w ++ X)) (until (ends_name_before_equals joined_byte) z) (from (ends_name_before_equals joined_byte) z)) (word-after_blanks w X h)
     ∙ ap (λ z. front_by joined_byte (flavor_before_equals (front_gap (from (ends_name_before_equals joined_byte) (w ++ X)))) z (until (ends_name_before_equals joined_byte) (w ++ X)) (from (ends_name_before_equals joined_byte) (w ++ X))) (word-blanks w X h)
 
--- a name before an operator that is none
+-- if one operator makes no front, another makes none that is missing whenever the first is
 no_front : (f g : Option Flavor) (b m r r' : List (List Cell)) → front_by joined_byte f b m r ≡ None → (f ≡ None → g ≡ None) → front_by joined_byte g b m r' ≡ None
 no_front None g b m r r' h k = ap (λ z. front_by joined_byte z b m r') (k refl)
 no_front (Some f) None b m r r' h k = refl
 no_front (Some f) (Some g) b [] r r' h k = refl
 no_front (Some f) (Some g) b (u ∷ m) r r' h k = absurd (cc)
 
--- the operator of a name that is not empty is none where there is no front
+-- if there is no front, no operator follows a name that is not empty
 no_flavor : (f : Option Flavor) (b : List (List Cell)) (u : List Cell) (m r : List (List Cell)) → front_by joined_byte f b (u ∷ m) r ≡ None → f ≡ None
 no_flavor None b u m r h = refl
 no_flavor (Some f) b u m r h = absurd (cc)
@@ -130,7 +130,7 @@ until-same : (w : List (List Cell)) (g : List Cell) (X X' : List (List Cell)) �
 until-same [] g X X' h = rw h refl
 until-same (u ∷ w) g X X' h = rw (ends-same u w g X, ends-same u w g X', until-same w g X X' h) refl
 
--- and what follows it is no operator, where what follows the gap is none
+-- no operator follows such a name with other units after the gap, if these are an operator only if the old ones are
 from-none : (w : List (List Cell)) (g : List Cell) (X X' : List (List Cell)) → is_gap joined_byte g ≡ true → Each (λ u. not (is_gap joined_byte u)) w
     → (flavor_before_equals (front_gap X) ≡ None → flavor_before_equals (front_gap X') ≡ None)
     → flavor_before_equals (front_gap (from (ends_name_before_equals joined_byte) (w ++ g ∷ X))) ≡ None → flavor_before_equals (front_gap (from (ends_name_before_equals joined_byte) (w ++ g ∷ X'))) ≡ None
@@ -164,7 +164,7 @@ no_gaps [] h = absurd h
 no_gaps (u ∷ []) h = (ap not h, tt)
 no_gaps (u ∷ v ∷ w) h = (ap not h.0, no_gaps (v ∷ w) h.1)
 
--- a name of such units is the word, where a name ends after it
+-- the name in such units is the word, if a name ends after the word
 name-whole : (w : List (List Cell)) (z : List Cell) (Z : List (List Cell)) → Each (λ u. not (is_gap joined_byte u)) w → Each is_name_unit w → ends_name_before_equals joined_byte (z ∷ Z) ≡ true
     → (until (ends_name_before_equals joined_byte) (w ++ z ∷ Z) ≡ w) × (from (ends_name_before_equals joined_byte) (w ++ z ∷ Z) ≡ z ∷ Z)
 name-whole [] z Z n b h = (ap (λ c. cond c [] (z ∷ until (ends_name_before_equals joined_byte) Z)) h, ap (λ c. cond c (z ∷ Z) (from (ends_name_before_equals joined_byte) Z)) h)
@@ -184,7 +184,8 @@ front-whole w z Z h b e =
     ∙ (ap (λ x. front_by joined_byte (flavor_before_equals (front_gap (from (ends_name_before_equals joined_byte) (w ++ z ∷ Z)))) [] x (from (ends_name_before_equals joined_byte) (w ++ z ∷ Z))) p.0
     ∙ ap (λ x. front_by joined_byte (flavor_before_equals (front_gap x)) [] w x) p.1)
 
--- another such word in its place, before what is no operator where it was none, is no front where there was none
+-- another such word in the place of the first makes no front if the first made none, provided that what follows is an operator
+-- only if it was one before
 word-front : (w w' : List (List Cell)) (z : List Cell) (Z Z' : List (List Cell)) → IsWord joined_byte w → IsWord joined_byte w' → Each is_name_unit w → Each is_name_unit w'
     → ends_name_before_equals joined_byte (z ∷ Z) ≡ true → ends_name_before_equals joined_byte (z ∷ Z') ≡ true
     → (flavor_before_equals (front_gap (z ∷ Z)) ≡ None → flavor_before_equals (front_gap (z ∷ Z')) ≡ None)

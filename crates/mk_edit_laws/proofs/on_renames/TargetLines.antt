@@ -41,7 +41,7 @@ pub record IsTargetLine (led c : Bool) (cs : List Cell) (us : List (List Cell)) 
   pub assigned : assignment joined_byte (separated joined_byte (cut_text joined_byte us)).rest ≡ Some a.assigned
   pub is : with_assigned (separated joined_byte (cut_text joined_byte us)) a.assigned ≡ a
 
--- each line of that class there is such
+-- each line of class TargetAssign outside defines and recipes is such a line
 plain_class-target : (led c : Bool) (cs : List Cell) (us : List (List Cell)) (a : Headers.TargetAssignment Cell) → plain_class joined_byte led c (is_unreadable cs) us ≡ TargetAssign a → IsTargetLine led c cs us a
 plain_class-target led c cs us a k =
     let H = subst (Holds joined_byte us led c (is_unreadable cs)) k (plain_class-holds joined_byte us led c (is_unreadable cs)) in
@@ -56,13 +56,12 @@ plain_class-target led c cs us a k =
       is = H.is;
     }
 
--- where a line is a target assignment, it stands outside defines and recipes, and so does each line in its place that begins
--- with the same byte
+-- an assignment for targets stands outside defines and recipes, and so does each line in its place that begins with the same byte
 pub record IsTargetRead (led : Bool) (defines : ℕ) (f : Flag) (c : Bool) (cs : List Cell) (us : List (List Cell)) (a : Headers.TargetAssignment Cell) : Type 0 where
   pub here : IsTargetLine led c cs us a
   pub also : (cs' : List Cell) (us' : List (List Cell)) → class_at joined_byte led defines f c (is_unreadable cs') us' ≡ plain_class joined_byte led c (is_unreadable cs') us'
 
--- so it is of each line of class TargetAssign
+-- each line of class TargetAssign stands there
 pub class_at-target : (led : Bool) (n : ℕ) (f : Flag) (c : Bool) (cs : List Cell) (us : List (List Cell)) (a : Headers.TargetAssignment Cell) → class_at joined_byte led n f c (is_unreadable cs) us ≡ TargetAssign a → IsTargetRead led n f c cs us a
 class_at-target true (suc n) f c cs us a k = absurd (cc)
 class_at-target false (suc n) f c cs us a k = absurd (said-no_parts (define_class (first_keyword (word_texts joined_byte us)) (suc n)) (TargetAssign a) k refl)

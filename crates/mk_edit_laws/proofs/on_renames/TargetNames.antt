@@ -1,4 +1,4 @@
--- A rename in the targets of a line that is no assignment leaves it none: the words renamed have no unit that ends a name, so the
+-- A line that is no assignment stays none after a rename in its targets: the new words have no unit that ends a name, so the
 -- first `=` stays where it is, and what stands before it is no front.
 use Rattle.std.proofs.Common.{◌≡◌, refl, sym, ap, ◌∙◌, subst, ℕ, List, [], ◌∷◌, ◌++◌, map, Bool, true, false, not, cond, Option, Some, None, append_assoc}
 use Rattle.std.proofs.lemmas.List.{append-nil}
@@ -65,11 +65,11 @@ word-names x h w e k =
     let own : units (λ b. b) x ≡ map (map joined_byte) w = ap (units (λ b. b)) (sym k) ∙ (units-map joined_byte (λ b. b) (concat w) ∙ ap (map (map joined_byte)) e) in
     name-cells w (subst (Each is_name_text) own (name-texts (units (λ b. b) x) (not-true _ c.1)))
 
--- so it is of the units of a new word
+-- the units of a new word end no name
 pub new-names : (n : List ℕ) → is_word n ≡ true → Each is_name_unit (cell_units n)
 new-names n h = word-names n h (cell_units n) (ap (units joined_byte) (concat-units joined_byte (map Byte n))) (cell_units-text n)
 
--- and of each word of a line that is the old one
+-- the units of each word of a line that is the old one end no name
 pub old-names : (o : List ℕ) → is_word o ≡ true → (ts : List (Token Cell)) (t : List Cell) (R : List (List Cell)) → units joined_byte t ≡ token_units ts ++ R → OldAreNames o ts
 old-names o i [] t R h = tt
 old-names o i (Gap u ∷ ts) t R h = old-names o i ts (concat (token_units ts ++ R)) R (units-last joined_byte t (u ∷ []) (token_units ts ++ R) h)

@@ -22,12 +22,12 @@ use Rattle.mk_edit_laws.proofs.on_renames.WordsRenamed.{tokens_renamed}
 
 -- ---- the separator
 
--- no place in a list passes the test of the rest, before what follows it
+-- at no place of `before` does the rest of it, with `after` behind it, pass the test
 abbrev pub Free : {A : Type 0} → (List A → Bool) → (before after : List A) → Type 0
 Free p [] F = Unit {0}
 Free p (u ∷ T) F = (p (u ∷ (T ++ F)) ≡ false) × Free p T F
 
--- so it is before the first place that does
+-- before the first place that passes the test, no place passes it
 pub until-free : {A : Type 0} (p : List A → Bool) (us : List A) → Free p (until p us) (from p us)
 until-free p [] = tt
 until-free p (u ∷ us) = go (p (u ∷ us)) refl (until-free p us)
@@ -36,7 +36,7 @@ until-free p (u ∷ us) = go (p (u ∷ us)) refl (until-free p us)
     go true e h = tt
     go false e h = (ap (λ z. p (u ∷ z)) (until-from p us) ∙ e, h)
 
--- and such a list is what stands before it
+-- a list in which no place passes is what stands before the first place that passes
 free-until : {A : Type 0} (p : List A → Bool) (T F : List A) → Free p T F → p F ≡ true → (until p (T ++ F) ≡ T) × (from p (T ++ F) ≡ F)
 free-until p [] [] h k = (refl, refl)
 free-until p [] (x ∷ F) h k = (ap (λ c. cond c [] (x ∷ until p F)) k, ap (λ c. cond c (x ∷ F) (from p F)) k)
@@ -49,7 +49,7 @@ pub free-no_colon : (T F : List (List Cell)) → Free (begins_separator joined_b
 free-no_colon [] F h = tt
 free-no_colon (u ∷ T) F h = (ap not ((or_parts (is_colon joined_byte u) (is_ampersand joined_byte u && first_passes (is_colon joined_byte) (T ++ F)) h.0).0), free-no_colon T F h.1)
 
--- and do not end in a `&` before one
+-- targets do not end in a `&` before a `:`
 pub free-apart : (T F : List (List Cell)) → Free (begins_separator joined_byte) T F → (last_passes (is_ampersand joined_byte) T && first_passes (is_colon joined_byte) F) ≡ false
 free-apart [] F h = refl
 free-apart (u ∷ []) F h = (or_parts (is_colon joined_byte u) (is_ampersand joined_byte u && first_passes (is_colon joined_byte) F) h.0).1

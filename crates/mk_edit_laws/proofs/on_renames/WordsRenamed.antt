@@ -90,7 +90,7 @@ module _ (o n : List ℕ) (new : IsNewWord n) where
       go true = new.word
       go false = h
 
-  -- no word comes first where none did
+  -- no word comes first if none did before
   pub renamed-word_first : (ts : List (Token Cell)) → is_word_first (tokens_renamed o n ts) ≡ is_word_first ts
   renamed-word_first [] = refl
   renamed-word_first (Gap u ∷ ts) = refl
@@ -102,7 +102,7 @@ module _ (o n : List ℕ) (new : IsNewWord n) where
   renamed-are_tokens (Gap u ∷ ts) a = (a.0, renamed-are_tokens ts a.1)
   renamed-are_tokens (Word w ∷ ts) a = (renamed-is_word w a.0, renamed-word_first ts ∙ a.1, renamed-are_tokens ts a.2)
 
-  -- its words are the old ones with the new one
+  -- the words after the rename are the old ones, with the new word in the place of each old one
   pub renamed-words : (ts : List (Token Cell)) → map (map joined_byte) (token_words (tokens_renamed o n ts)) ≡ rename_words o n (map (map joined_byte) (token_words ts))
   renamed-words [] = refl
   renamed-words (Gap u ∷ ts) = renamed-words ts
@@ -114,7 +114,7 @@ module _ (o n : List ℕ) (new : IsNewWord n) where
       go true i = ap (λ z. z ∷ map (map joined_byte) (token_words (tokens_renamed o n ts))) (cell_units-text n) ∙ ap (λ z. n ∷ z) i
       go false i = ap (λ z. map joined_byte (concat w) ∷ z) i
 
-  -- what each unit is, the new ones too, stays so
+  -- what holds for each unit, and for those of the new word, holds for each unit after the rename
   pub renamed-all : (P : List Cell → Type 0) (ts : List (Token Cell)) → AllAre P (cell_units n) → AllAre P (token_units ts) → AllAre P (token_units (tokens_renamed o n ts))
   renamed-all P [] p h = tt
   renamed-all P (Gap u ∷ ts) p h = (h.0, renamed-all P ts p h.1)
@@ -168,7 +168,7 @@ module _ (o n : List ℕ) (new : IsNewWord n) where
       go true i = put (cell_units n) (new_word-solid n new).ends i
       go false i = put w (word-solid w a.0 (AllAre-left IsHeadUnit w (token_units ts) u)).ends i
 
-  -- the last unit does not pass a test where it did not, if so it is with each word
+  -- the last unit does not pass a test if it did not before, provided that this is so for each word
   pub renamed-last : (p : List Cell → Bool) → ((w : List (List Cell)) → IsWord joined_byte w → last_passes p w ≡ false → last_passes p (renamed_word o n w) ≡ false)
       → (ts : List (Token Cell)) → AreTokens joined_byte ts → last_passes p (token_units ts) ≡ false → last_passes p (token_units (tokens_renamed o n ts)) ≡ false
   renamed-last p f [] a h = refl
@@ -189,7 +189,7 @@ module _ (o n : List ℕ) (new : IsNewWord n) where
       last-more p (renamed_word o n w) u (token_units (tokens_renamed o n ts)) ∙ renamed-last p f (Gap u ∷ ts) a.2 (sym (last-more p w u (token_units ts)) ∙ h)
   renamed-last p f (Word w ∷ Word v ∷ ts) a h = absurd (let e : true ≡ false = a.1 in cc)
 
-  -- as first words, the words say the same
+  -- the words before and after the rename say the same as first words
   pub renamed-alike : is_reserved_word o ≡ false → is_reserved_word n ≡ false → (ts : List (Token Cell)) → AlikeTokens ts (tokens_renamed o n ts)
   renamed-alike r s [] = tt
   renamed-alike r s (Gap u ∷ ts) = renamed-alike r s ts

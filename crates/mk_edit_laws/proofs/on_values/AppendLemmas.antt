@@ -104,7 +104,8 @@ LastFails-append p (x ∷ z ∷ xs) y ys h = LastFails-append p (z ∷ xs) y ys 
 
 -- ---- a value with a text appended
 
--- the text after the joined bytes of a value: a space and the text, but where the value ends in a fold, which takes the space in
+-- what is put after the joined bytes of a value: a space and the text; only the text if the value ends in a fold, which is read
+-- as the space
 abbrev after_value : (fold : Bool) → List ℕ → List ℕ
 after_value f v = if f then v else 32 ∷ v
 
@@ -157,7 +158,7 @@ joined-appended c cs v h =
     go true = refl
     go false = append_assoc (map joined_byte (c ∷ cs)) (32 ∷ []) v
 
--- they may be a value
+-- these cells may be a value
 appended-is_value : (W : List Cell) (V : List Cell) (s : List ℕ) (G : List (List Cell)) (u : List Cell) (us : List (List Cell)) → units joined_byte W ≡ u ∷ us → is_closed joined_byte W ≡ true
     → Each (is_no_hash joined_byte) (units joined_byte W) → FirstFails (is_gap joined_byte) (units joined_byte W) → Each (is_gap joined_byte) G → has_stray V ≡ false
     → map joined_byte V ≡ map joined_byte W ++ s → IsAppended s → IsValue V G
@@ -219,7 +220,7 @@ value-units l a p =
 abbrev appended_cells : Assignment Cell → (value : List ℕ) → List Cell
 appended_cells a v = add_blank (concat a.value) ++ map Byte v
 
--- what the line with a text appended to its value is
+-- what holds for the line with a text appended to its value
 record IsAppendedLine (c : Context) (l : List ℕ) (below : List (List ℕ)) (a : Assignment Cell) (v : List ℕ) : Type 0 where
   parts : AssignParts l a
   line : IsValueLine c l below a (appended_cells a v) a.after parts.rest

@@ -1,4 +1,5 @@
--- A space put after a text that is the front of a line: it stands for itself, but directly after a fold, which takes it in.
+-- A space put after a text that is the front of a line: it stands for itself, unless it follows a fold directly, which then takes
+-- it in.
 use Rattle.std.proofs.Common.{◌≡◌, refl, sym, ap, ◌∙◌, subst, ℕ, List, [], ◌∷◌, ◌++◌, map, Bool, true, false, ◌&&◌, cond, if◌then◌else◌, append_assoc}
 use Rattle.std.proofs.lemmas.List.{append-nil}
 use Rattle.std.proofs.lemmas.Bool.{or_from}
@@ -134,7 +135,7 @@ bad_fold-add_blank (c ∷ d ∷ cs) h =
     (ap (λ z. is_backslash_cell c && z) (fold_first-add_blank d cs) ∙ or-left_false (is_backslash_cell c && is_fold d) (has_bad_fold (d ∷ cs)) h)
     (bad_fold-add_blank (d ∷ cs) (or-right_false (is_backslash_cell c && is_fold d) (has_bad_fold (d ∷ cs)) h))
 
--- they are cells that a line may have
+-- these cells are cells that a line may have
 pub add_blank-are_line_cells : (cs : List Cell) → AreLineCells cs → AreLineCells (add_blank cs)
 add_blank-are_line_cells cs h =
     let e : cells (raw_text cs ++ 32 ∷ []) ≡ add_blank cs = cells-add_blank (raw_text cs) ∙ ap add_blank (AreLineCells-cells cs h) in
@@ -152,7 +153,7 @@ has_stray-add_blank (c ∷ d ∷ cs) h =
     or_from (is_stray c) (has_stray (add_blank (d ∷ cs))) (or-left_false (is_stray c) (has_stray (d ∷ cs)) h)
     (has_stray-add_blank (d ∷ cs) (or-right_false (is_stray c) (has_stray (d ∷ cs)) h))
 
--- the joined bytes have a space after them, but where the last is a fold
+-- the joined bytes have a space after them, unless the last cell is a fold
 pub joined-add_blank : (c : Cell) (cs : List Cell) → NoLineEnds (c ∷ cs)
     → map joined_byte (add_blank (c ∷ cs)) ≡ (if last_passes is_fold (c ∷ cs) then map joined_byte (c ∷ cs) else map joined_byte (c ∷ cs) ++ 32 ∷ [])
 joined-add_blank (Byte b) [] h = refl

@@ -1,4 +1,5 @@
--- A fold whose line end comes last: what the text before that line feed is. It is for a fold that is left without its next line.
+-- A fold whose line end comes last: what the text before that line feed is. This serves for a fold that stays without its next
+-- line.
 use Rattle.std.proofs.Common.{◌≡◌, refl, sym, ap, ◌∙◌, subst, ℕ, List, [], ◌∷◌, ◌++◌, Bool, true, false, cond}
 use Rattle.mk_lines.specs.Lists.{leading, after_leading, Each}
 use Rattle.mk_lines.specs.Bytes.{ByteKind, byte_kind, is_blank_kind}
@@ -12,15 +13,15 @@ abbrev pub escape_cells : (cr : Bool) → List Cell
 escape_cells false = Byte 92 ∷ []
 escape_cells true = Byte 92 ∷ Byte 13 ∷ []
 
--- cells that are blanks and folds, and then such an end
+-- cells that are blanks and folds, and then a backslash that escapes the line end
 pub record EndsEscaped (cs : List Cell) : Type 0 where
   pub blanks : List Cell
   pub are_blank : Each is_blank_cell blanks
   pub cr : Bool
   pub is : cs ≡ blanks ++ escape_cells cr
 
--- what stands before the last line feed, where that makes the cells a line end with blanks and folds after it: nothing, or a
--- line end and then such an end
+-- what stands before the last line feed, if the cells are a line end with blanks and folds after it: nothing; or a line end, and
+-- then the cells of an escape
 data BeforeLineFeed (cs : List Cell) : Type 0 where
   none : cs ≡ [] → BeforeLineFeed cs
   more : (r : List ℕ) (cr : Bool) → cs ≡ LfEnd r ∷ escape_cells cr → BeforeLineFeed cs
@@ -144,7 +145,7 @@ known : (x : List ℕ) → Known (cells x) (cells (x ++ 10 ∷ []))
 known [] = record { escaped = λ h. absurd (let z : false ≡ true = h.0 in cc); line_feed = λ h. none refl; crlf = λ h. absurd h }
 known (b ∷ x) = step (byte_kind b) b (cells x) (cells (x ++ 10 ∷ [])) refl (known x)
 
--- Where the cells of a text with a line feed after it are blanks and folds, as those of one fold are, the text is blanks and
--- folds, and then the backslash that escapes this line end.
+-- If the cells of a text with a line feed after it are blanks and folds, such as those of one fold, the text is blanks and folds,
+-- and then the backslash that escapes this line end.
 pub fold-ends_escaped : (x : List ℕ) → Each is_blank_cell (cells (x ++ 10 ∷ [])) → EndsEscaped (cells x)
 fold-ends_escaped x h = (known x).escaped h

@@ -71,7 +71,7 @@ pub record FoundAssignment (t n : List ℕ) (nth : Option ℕ) : Type 0 where
   pub class_is : spot.line.class ≡ Assign assigned None
   pub no_prefix : is_prefix_name (unit_text joined_byte assigned.name) ≡ false
 
--- where it is neither missing nor one of several, and its name is not that of the prefix
+-- the assignment is found, if it is neither missing nor one of several, and its name is not that of the prefix
 pub assignment-found : (t n : List ℕ) (nth : Option ℕ) → is_missing nth (spots (λ l. assigns n l.class) (classed_lines t)) ≡ false
     → is_several nth (spots (λ l. assigns n l.class) (classed_lines t)) ≡ false → is_prefix_name n ≡ false → FoundAssignment t n nth
 assignment-found t n nth h k f =

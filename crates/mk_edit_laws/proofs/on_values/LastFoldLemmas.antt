@@ -1,5 +1,5 @@
--- An accepted `set` to the empty value changes the reading by this value alone, also where a fold is left without its next line:
--- then the value is one lone backslash.
+-- An accepted `set` to the empty value changes the reading by this value alone. If a part of a fold stays without its next line,
+-- the value is one lone backslash.
 use Rattle.std.proofs.Common.{◌≡◌, refl, sym, ap, ◌∙◌, subst, ℕ, List, [], ◌∷◌, ◌++◌, map, Bool, true, false, not, ◌&&◌, ◌==◌, Option, Some, None, length, append_assoc, reverse, cond}
 use Rattle.std.proofs.lemmas.Bool.{eqb-true, or_from, and_parts}
 use Rattle.std.proofs.lemmas.List.{append-nil, reverse-append, reverse-reverse}
@@ -140,7 +140,7 @@ escaped-are_cells : (bs : List Cell) (cr : Bool) → AreCells (bs ++ escape_cell
 escaped-are_cells bs false h = h
 escaped-are_cells bs true h = AreCells-left (before_backslash bs) (Byte 13 ∷ []) (subst AreCells (sym (append_assoc bs (Byte 92 ∷ []) (Byte 13 ∷ []))) h)
 
--- What blanks and folds G are after the cells F, where their text ends in a line feed: blanks and folds, a lone backslash, and a
+-- What blanks and folds G after the cells F are, if their text ends in a line feed: blanks and folds, a lone backslash, and a
 -- line end.
 record EndsInBackslash (F G : List Cell) : Type 0 where
   blanks : List Cell
@@ -150,7 +150,7 @@ record EndsInBackslash (F G : List Cell) : Type 0 where
   apart : KeepsApart end (reverse (raw_text (F ++ before_backslash blanks)))
   text : raw_text (F ++ G) ≡ raw_text (F ++ before_backslash blanks) ++ line_end_bytes end
 
--- the text of what stands after a `=` ends in the line feed, where the whole does
+-- the text of what stands after a `=` ends in the line feed, if the whole does
 ends-after_equals : (f G : List Cell) (y : List ℕ) → raw_text ((f ++ Byte 61 ∷ []) ++ G) ≡ y ++ 10 ∷ [] → (x : List ℕ) × (raw_text G ≡ x ++ 10 ∷ [])
 ends-after_equals f G y h = go (reverse (raw_text G)) refl
   where
@@ -241,7 +241,7 @@ backslash-assigned l a p h bs b =
     let k = h.again (alone bs) ((Byte 92 ∷ []) ∷ []) [] (blank-alone_gaps bs b) backslash-is_value in
     (k.0, ap (λ z. assignment joined_byte (cut_text joined_byte z)) again ∙ (ap (assignment joined_byte) (cut ∙ append_assoc h.front (h.equals ∷ []) T) ∙ k.1))
 
--- What stays of an assignment's line up to its value, where a fold comes last: one line, of the same assignment with a lone
+-- What stays of an assignment's line up to its value, if a fold comes last: one line, of the same assignment with a lone
 -- backslash as its value.
 record IsLeftLine (c : Context) (a : Assignment Cell) : Type 0 where
   operator : List (List Cell)
@@ -333,7 +333,7 @@ nothing-no_end ends.None h = refl
 nothing-no_end ends.Lf h = cc
 nothing-no_end ends.CrLf h = cc
 
--- an assignment's line without its value, where a fold is left without its next line
+-- an assignment's line without its value, if a part of a fold stays without its next line
 set-left : (t : List ℕ) (A : List ClassedLine) (l : ClassedLine) (B : List ClassedLine) (a : Assignment Cell)
     → classed_lines t ≡ A ++ l ∷ B → l.class ≡ Assign a None → is_prefix_name (unit_text joined_byte a.name) ≡ false → leaves_fold_last t (set_value_span [] (length (text_of A)) a) ≡ true
     → IsLineReplaced (replaced 0 t (set_value_span [] (length (text_of A)) a ∷ [])) A B (item_with_value a (92 ∷ []))

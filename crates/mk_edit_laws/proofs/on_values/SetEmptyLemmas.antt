@@ -1,4 +1,5 @@
--- `set` to the empty value: the line and the text without the value, and what they read as where no fold is left without its next line.
+-- `set` to the empty value: the line and the text without the value, and what they read as if no part of a fold stays without its
+-- next line.
 use Rattle.std.proofs.Common.{◌≡◌, refl, sym, ap, ◌∙◌, subst, ℕ, List, [], ◌∷◌, ◌++◌, Bool, true, false, not, ◌&&◌, ◌==◌, Option, None, length, take, drop, ◌+◌, arith, append_assoc, reverse, length-append}
 use Rattle.std.proofs.lemmas.List.{append-nil, reverse-append, reverse-reverse}
 use Rattle.std.proofs.Math.Seq.{take-append_seam, drop-append_seam}
@@ -134,7 +135,7 @@ fold-no_carriage_return P front r g h = go (reverse (raw_text P)) refl
         let s : Fold r ≡ Byte 13 = last-same front (cells (reverse y)) (Fold r) (Byte 13) (sym h ∙ c) in
         cc
 
--- what stays keeps the line end apart, where no line feed comes last in a line without line end
+-- the line end stays apart from the cells that stay, unless the line has no line end and these cells end in a line feed
 removed-keeps_apart : (e : End) (P W Q : List Cell) → AreLineCells (P ++ (W ++ Q)) → IsSolidTail Q → EndsReset P → KeepsApart e (reverse (raw_text (P ++ (W ++ Q))))
     → (has_no_line_end e ≡ true → Q ≡ [] → FirstIsNot LineFeed (reverse (raw_text P))) → KeepsApart e (reverse (raw_text (P ++ Q)))
 removed-keeps_apart e P W (d ∷ D) g t r k free =
@@ -155,7 +156,7 @@ removed-keeps_apart e P W [] g t r k free = subst (λ z. KeepsApart e (reverse (
 no-value : IsValue [] []
 no-value = record { closed = refl; no_hash = tt; are_value = record { begins = tt; ends = tt; blanks_after = tt; empty = λ e. refl }; no_stray = refl }
 
--- what the line without its value is
+-- what holds for the line without its value
 pub record IsEmptiedLine (c : Context) (l : List ℕ) (below : List (List ℕ)) (a : Assignment Cell) : Type 0 where
   pub parts : AssignParts l a
   pub cells_are : line_cells l ≡ concat (before_value a) ++ (concat (a.value ++ a.after) ++ concat parts.rest)
@@ -239,7 +240,7 @@ pub record IsEmptiedText (t : List ℕ) (A : List ClassedLine) (l : ClassedLine)
   pub leaves : leaves_fold_last t (set_value_span [] (length (text_of A)) a)
       ≡ (last_passes (λ b. b == 10) (text_of A ++ raw_text (concat (before_value a))) && is_empty (raw_text Q ++ (line_end_bytes (line_end l.bytes) ++ text_of B)))
 
--- so it is of each assignment's line
+-- each assignment's line is such a line in the text
 pub text-emptied : (t : List ℕ) (A : List ClassedLine) (l : ClassedLine) (B : List ClassedLine) (a : Assignment Cell) (Q : List Cell) → classed_lines t ≡ A ++ l ∷ B
     → line_cells l.bytes ≡ concat (before_value a) ++ (concat (a.value ++ a.after) ++ Q) → IsEmptiedText t A l B a Q
 text-emptied t A l B a Q h cells_are =
@@ -264,7 +265,7 @@ text-emptied t A l B a Q h cells_are =
       leaves = ap (λ z. last_passes (λ b. b == 10) z && is_empty (drop (blanks_end at a) t)) front ∙ ap (λ z. last_passes (λ b. b == 10) (text_of A ++ raw_text P) && is_empty z) back;
     }
 
--- an assignment's line without its value, where no fold is left without its next line
+-- an assignment's line without its value, if no part of a fold stays without its next line
 pub set-emptied : (t : List ℕ) (A : List ClassedLine) (l : ClassedLine) (B : List ClassedLine) (a : Assignment Cell)
     → classed_lines t ≡ A ++ l ∷ B → l.class ≡ Assign a None → is_prefix_name (unit_text joined_byte a.name) ≡ false → leaves_fold_last t (set_value_span [] (length (text_of A)) a) ≡ false
     → IsLineReplaced (replaced 0 t (set_value_span [] (length (text_of A)) a ∷ [])) A B (item_with_value a [])

@@ -1,4 +1,4 @@
--- An assignment's line with other cells for its value: one line, of the same assignment with that value.
+-- An assignment's line with other cells for its value: one line, of the same assignment with the new value.
 use Rattle.std.proofs.Common.{◌≡◌, sym, ap, ◌∙◌, subst, ℕ, List, [], ◌∷◌, ◌++◌, map, true, false, append_assoc, reverse, Option, Some}
 use Rattle.std.proofs.lemmas.List.{append-nil, map-append}
 use Rattle.std.specs.Prelude.{nat_lt}
@@ -40,7 +40,7 @@ with_cells a V G = record a { value = units joined_byte V; after = G }
 abbrev pub cells_with : (a : Assignment Cell) → (V : List Cell) → (G rest : List (List Cell)) → List Cell
 cells_with a V G R = concat (before_value a) ++ (V ++ concat (G ++ R))
 
--- the units of a line that is an assignment, the units X of it being the value and some of the blanks after it
+-- the units of an assignment's line, of which X are the value and some of the blanks after it
 pub parts-units : (l : List ℕ) (a : Assignment Cell) (X G : List (List Cell)) (p : AssignParts l a) → a.value ++ a.after ≡ X ++ G
     → units joined_byte (line_cells l) ≡ before_value a ++ (X ++ (G ++ p.rest))
 parts-units l a X G p h =
@@ -48,7 +48,7 @@ parts-units l a X G p h =
     let r : before_value a ++ ((X ++ G) ++ p.rest) ≡ before_value a ++ (X ++ (G ++ p.rest)) = simp append_assoc in
     p.units_are ∙ (ap (λ z. z ++ p.rest) (sym p.is.whole) ∙ (s ∙ (ap (λ z. before_value a ++ (z ++ p.rest)) h ∙ r)))
 
--- and its cells
+-- the cells of such a line
 pub parts-cells : (l : List ℕ) (a : Assignment Cell) (X G : List (List Cell)) (p : AssignParts l a) → a.value ++ a.after ≡ X ++ G
     → line_cells l ≡ cells_with a (concat X) G p.rest
 parts-cells l a X G p h =
@@ -88,13 +88,13 @@ assign_line-with l a V X G p h v r =
 abbrev pub line_of : List Cell → (end : List ℕ) → List ℕ
 line_of cs e = raw_text cs ++ e
 
--- an assignment's line with these cells as its value: one line before those below, of that assignment
+-- an assignment's line with these cells as its value: one line before the lines below, of the same assignment
 pub record IsValueLine (c : Context) (l : List ℕ) (below : List (List ℕ)) (a : Assignment Cell) (V : List Cell) (G rest : List (List Cell)) : Type 0 where
   pub one : OneLine (line_of (cells_with a V G rest) (line_end_bytes (line_end l)))
   pub ends : EndsBefore (line_of (cells_with a V G rest) (line_end_bytes (line_end l))) below
   pub class : class_of c (line_of (cells_with a V G rest) (line_end_bytes (line_end l))) ≡ Assign (with_cells a V G) (prefix_set_by joined_byte (nat_lt 0 c.conditionals) (with_cells a V G))
 
--- so it is where its bytes are a line of these cells
+-- the line is such a line if its bytes are a line of these cells
 pub value-line_of : (c : Context) (l : List ℕ) (below : List (List ℕ)) (a : Assignment Cell) (sets : Option ℕ) (V : List Cell) (X G : List (List Cell)) → class_of c l ≡ Assign a sets
     → (p : AssignParts l a) → a.value ++ a.after ≡ X ++ G → IsValue V G → AreLineCells (cells_with a V G p.rest)
     → IsLineOf (line_of (cells_with a V G p.rest) (line_end_bytes (line_end l))) (cells_with a V G p.rest) (line_end l) below
@@ -127,7 +127,7 @@ value-line_of c l below a sets V X G h p x v g line =
           ∙ assign-plain_class led (nat_lt 0 c.conditionals) C (units joined_byte C) (with_cells a V G) (assign_line-with l a V X G p x v can)));
     }
 
--- its bytes begin with those before the value
+-- the bytes of such a line begin with the bytes before the value
 pub line_of-some : (l : List ℕ) (a : Assignment Cell) (V : List Cell) (G : List (List Cell)) (p : AssignParts l a) (end : List ℕ) → AreLineCells (cells_with a V G p.rest)
     → (b : ℕ) × (r : List ℕ) × (line_of (cells_with a V G p.rest) end ≡ b ∷ r)
 line_of-some l a V G p end g =
@@ -137,7 +137,7 @@ line_of-some l a V G p end g =
     let s = some_raw P b.0 b.1 b.2 (AreLineCells-left P R g) in
     (s.0, s.1 ++ (raw_text R ++ end), ap (λ z. z ++ end) (raw_text-append P R) ∙ (append_assoc (raw_text P) (raw_text R) end ∙ ap (λ z. z ++ (raw_text R ++ end)) s.2))
 
--- and so it is where a line end stays apart from the cells, and ends them before other lines
+-- the line is such a line if a line end stays apart from the cells, and ends them before other lines
 pub value-line : (c : Context) (l : List ℕ) (below : List (List ℕ)) (a : Assignment Cell) (sets : Option ℕ) (V : List Cell) (X G : List (List Cell)) → class_of c l ≡ Assign a sets
     → (p : AssignParts l a) → a.value ++ a.after ≡ X ++ G → IsValue V G → AreLineCells (cells_with a V G p.rest)
     → KeepsApart (line_end l) (reverse (raw_text (cells_with a V G p.rest))) → EndLineBefore (line_end l) (cells_with a V G p.rest) below

@@ -24,7 +24,7 @@ reserved-holds e b h = ap (λ z. where_holds z Reserved) (sym h)
 pub unread-holds : (ls : List ClassedLine) (b : Bool) → b ≡ any (λ l. is_unread_prefix l.class) ls → unread_prefix ls ≡ where_holds b RecipePrefix
 unread-holds ls b h = ap (λ z. where_holds z RecipePrefix) (sym h)
 
--- an edit of one place has no such line where its address has none
+-- for an edit of one place, whether there is no such line is told by its address
 same-no_such : (ls : List ClassedLine) (e : Edit) → IsOfOnePlace e → no_such ls e ≡ no_such_line ls (address e)
 same-no_such ls (SetValue nth n v) h = refl
 same-no_such ls (AppendValue nth n v) h = refl

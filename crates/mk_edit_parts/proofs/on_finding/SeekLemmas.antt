@@ -29,7 +29,7 @@ abbrev AgreeAlong : (PlacedLine → Bool) → (ClassedLine → Bool) → List Cl
 AgreeAlong p q [] = Unit {0}
 AgreeAlong p q (l ∷ ls) = (p (placed_line l) ≡ q l) × AgreeAlong p q ls
 
--- where a spot of some lines stands, the first of which stands at a place
+-- where a spot of some lines stands; the first of these lines stands at this place
 abbrev place_from : Found → StandingLine → Found
 place_from f s = record { at = f.at + length s.above; context = context_after_lines f.context s.above }
 
@@ -58,7 +58,7 @@ seek-unread p w s (l ∷ ls) A =
 
 -- ---- how many
 
--- how many spots there are where the first line is one, or is none
+-- how many spots there are, if the first line is a spot and if it is not
 spots-count : (b : Bool) (first : StandingLine) (l : ClassedLine) (ss : List StandingLine) (n : ℕ) → (if b then n + 1 else n) + length ss ≡ n + length (spot_if b first (map (under l) ss))
 spots-count true first l ss n = omega (arith, length-map ss (under l))
 spots-count false first l ss n = omega (arith, length-map ss (under l))
@@ -188,12 +188,12 @@ lines-sought ls a h = subst (λ z. IsSought ds a (seek (may_mean a) (wanted a) n
 
 -- ---- the walk of the code
 
--- at its start
+-- the walk at its start
 pub seek-from : (d ahead : List PlacedLine) (s : Sought) (p : PlacedLine → Bool) (w : ℕ) → ahead ≡ d → s ≡ nothing_seen → IsFaithful d → AreAdmitted start d
     → Unit {0} × Unit {0} × AreEachClassed ahead × AreAdmitted s.end.context ahead × (s.count ≤ s.end.at) × (s.end.at + length ahead ≡ length d) × (seek p w s ahead ≡ seek p w nothing_seen d)
 seek-from d ahead s p w e i h k = rw (e, i) (tt, tt, faithful-each d h, k, omega arith, zero-add (length d), refl)
 
--- at its end
+-- the walk at its end
 pub seek-over : (s : Sought) (ahead d : List PlacedLine) (p : PlacedLine → Bool) (w v : ℕ) → ahead ≡ [] → w ≡ v → seek p w s ahead ≡ seek p w nothing_seen d → s ≡ seek p v nothing_seen d
 seek-over s ahead d p w v e f h = sym (ap (seek p w s) e) ∙ (h ∙ ap (λ n. seek p n nothing_seen d) f)
 

@@ -27,7 +27,7 @@ spaced-length (b ∷ w) = omega arith
 
 -- ---- no word is empty
 
--- there are as many ranges of words as words
+-- there are as many ranges as words
 ranges-count : (at : ℕ) (ts : List (Token ℕ)) → length (word_token_ranges at ts) ≡ length (token_words ts)
 ranges-count at [] = refl
 ranges-count at (Gap u ∷ ts) = ranges-count (at + length u) ts
@@ -45,7 +45,7 @@ word-some : (rest word after : List ℕ) → words_in rest ≡ word ∷ words_in
 word-some rest [] after w j = absurd (omega (arith, blanks-count rest, ap (λ t. length (words_in t)) j, ap length w))
 word-some rest (b ∷ word) after w j = omega arith
 
--- so words that are joined begin with the first of them
+-- words that are joined begin with the first of them
 joined-first : (word : List ℕ) (ws : List (List ℕ)) → 0 < length word → joined_by_space (word ∷ ws) ≡ word ++ each_spaced ws
 joined-first [] ws h = absurd (omega arith)
 joined-first (b ∷ word) ws h = refl
@@ -67,7 +67,7 @@ begins-some : (p : ℕ) (word a b : List ℕ) → 0 < length word → is_prefix_
 begins-some p [] a b h = absurd (omega arith)
 begins-some p (x ∷ word) a b h = refl
 
--- with its first target
+-- a rule begins with its first target
 pub rule-begins : (p : ℕ) (text word after : List ℕ) (c : Colons) (prereqs : List ℕ) → words_in text ≡ word ∷ words_in after → word ++ after ≡ after_leading is_blank_byte text
     → is_prefix_led p (word ++ 58 ∷ []) ≡ is_prefix_led p (rule_text text c prereqs)
 rule-begins p text word after c prereqs w j =

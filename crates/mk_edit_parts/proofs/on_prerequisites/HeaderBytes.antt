@@ -1,4 +1,4 @@
--- The bytes of a rule's line without a word, and with one more, by the places of its parts.
+-- The bytes of a rule's line without a word, and with one word more, by the places of its parts.
 use Rattle.std.proofs.Common.{◌≡◌, refl, sym, ap, ◌∙◌, arith, ℕ, ◌+◌, ◌≤◌, ◌==◌, ◌&&◌, List, [], ◌∷◌, ◌++◌, length, length-append, drop, append_assoc, Bool, true, false, not, if◌then◌else◌, eq-eqb}
 use Rattle.std.specs.Prelude.{slice_range, codes}
 use Rattle.std.proofs.lemmas.List.{append-nil}
@@ -126,7 +126,7 @@ header-without l at h w E S =
 
 -- ---- one more
 
--- where the words of a part end
+-- the place where the words of a part end
 part-end : (cs : List Cell) (s e : ℕ) (b p : List (List Cell)) → IsPart cs s e b p → words_end (joined_text cs) (record { start = s; end = e }) ≡ s + width (front_units p)
 part-end cs s e b p h = ap (λ n. s + n) (ap (last_end 0) (part-ranges cs s e b p h) ∙ units-last_end p)
 
@@ -145,7 +145,7 @@ put-at : (cs X Y : List Cell) (p : ℕ) (b w a E : List ℕ) → cs ≡ X ++ Y �
 put-at cs X Y p b w a E h k =
     ap (λ z. z ++ (b ++ (w ++ (a ++ (raw_text (drop p cs) ++ E))))) (raw-front cs X Y p h k) ∙ ap (λ z. raw_text X ++ (b ++ (w ++ (a ++ (z ++ E))))) (raw-back cs X Y p h k)
 
--- after the last normal prerequisite
+-- a word put after the last normal prerequisite
 put-normal : (l : PlacedLine) (at : header.Header) (h : Headers.Header Cell) (p : ℕ) (b w a t E : List ℕ) → IsHeaderSeen l at h → p ≡ words_end (text_of_line l) (normal_span at) → t ≡ b ++ (w ++ a)
     → raw_between (line_cells l.bytes) 0 p ++ (b ++ (w ++ (a ++ (raw_text (drop p (line_cells l.bytes)) ++ E))))
     ≡ new_bytes (header_pieces h (kept h.targets) (put_last t h.normal) (kept h.order_only)) ++ E
@@ -168,7 +168,7 @@ put-normal l at h p b w a t E S place text =
     put-at cs (T ++ (M ++ F)) (G ++ (B ++ (O ++ Z))) p b w a E k n
     ∙ rw (f, text, append-nil (raw_text T), append-nil (raw_text G), append-nil (raw_text O)) (simp (raw_text-append, append_assoc))
 
--- after the last order-only prerequisite
+-- a word put after the last order-only prerequisite
 put-order : (l : PlacedLine) (at : header.Header) (h : Headers.Header Cell) (p : ℕ) (b w a t E : List ℕ) → IsHeaderSeen l at h → p ≡ words_end (text_of_line l) (order_only_span at) → t ≡ b ++ (w ++ a)
     → raw_between (line_cells l.bytes) 0 p ++ (b ++ (w ++ (a ++ (raw_text (drop p (line_cells l.bytes)) ++ E))))
     ≡ new_bytes (header_pieces h (kept h.targets) (kept h.normal) (put_last t h.order_only)) ++ E
@@ -256,7 +256,7 @@ pub header-with : (order : Bool) (l : PlacedLine) (at : header.Header) (h : Head
 header-with false l at h w E S = normal-with l at h w E S
 header-with true l at h w E S = order-with l at h w E S
 
--- where a new word goes is a place of the line
+-- the place where a new word goes is a place of the line
 pub new-within : (order : Bool) (l : PlacedLine) (at : header.Header) (h : Headers.Header Cell) → IsHeaderSeen l at h → place_of_new order (text_of_line l) at ≤ length (line_cells l.bytes)
 new-within order l at h S = go (order && at.has_order_only)
   where

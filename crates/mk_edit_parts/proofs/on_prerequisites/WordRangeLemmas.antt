@@ -73,7 +73,7 @@ trim-word (u ∷ []) us h = ap (λ b. trim_end_before b u (trim_end (is_gap join
 trim-word (u ∷ v ∷ x) us h =
     ap (λ b. trim_end_before b u (trim_end (is_gap joined_byte) (v ∷ x ++ us))) h.0 ∙ ap (λ z. u ∷ z) (trim-word (v ∷ x) us h.1)
 
--- where units end that begin at a place, or this other place where there are none
+-- where units end that begin at a place; the other place `k` if there are no units
 abbrev ends_at : (at k : ℕ) → List (List Cell) → ℕ
 ends_at at k [] = at
 ends_at at k (u ∷ us) = k + width (u ∷ us)
@@ -100,7 +100,7 @@ ends-first : (us : List (List Cell)) → ends_at 0 0 us ≡ width us
 ends-first [] = refl
 ends-first (u ∷ us) = omega arith
 
--- the last word of units ends where their front does
+-- the place where the last word of units ends is the place where their front ends
 pub units-last_end : (us : List (List Cell)) → last_end 0 (word_token_ranges 0 (tokens joined_byte us)) ≡ width (trim_end (is_gap joined_byte) us)
 units-last_end us =
     tokens-end 0 0 (tokens joined_byte us) (tokens-are_tokens joined_byte us)
@@ -108,8 +108,8 @@ units-last_end us =
 
 -- ---- words that go
 
--- What is done of a line's part, and what is left: the line's cells, those done, the gaps that are not done yet, the tokens that are
--- left, and the cells after the part; and the part's text, by the cells of it that were seen.
+-- What is done of a line's part, and what is not: the line's cells; the cells that are done; the gaps that are not done yet; the
+-- tokens that are still to come; and the cells after the part. The part's text is told by the cells of it that were seen.
 record IsCut (cs : List Cell) (start : ℕ) (t : List ℕ) (done k end : ℕ) (F G : List Cell) (ts : List (Token Cell)) (A P : List Cell) : Type 0 where
   cells_are : cs ≡ F ++ (G ++ (token_text ts ++ A))
   text_is : t ≡ map joined_byte (P ++ token_text ts)

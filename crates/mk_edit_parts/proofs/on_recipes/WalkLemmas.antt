@@ -51,7 +51,7 @@ run_told : recipe.Recipe → (conditional : Bool) → (at : ℕ) → List Classe
 run_told r c at [] = r
 run_told r c at (x ∷ xs) = record { end = at + length (x ∷ xs); is_split = c || any (λ l. is_conditional l.class) (x ∷ xs) }
 
--- one more line of a class that is no conditional's and ends what was passed
+-- one line more, whose class is no conditional's and ends what was passed
 told-ended : (c d : Bool) (at : ℕ) (x : ClassedLine) (xs : List ClassedLine) → is_conditional x.class ≡ false
     → run_told (record { end = at + 1; is_split = c }) c (at + 1) xs ≡ run_told (record { end = at + 1; is_split = c }) c at (x ∷ xs)
 unfolding run_told
@@ -67,7 +67,7 @@ told-ended c d at x (y ∷ ys) h =
     ap (λ (n : ℕ). record { end = n; is_split = c || any (λ l. is_conditional l.class) (y ∷ ys) }) n
     ∙ ap (λ b. record { end = at + length (x ∷ y ∷ ys); is_split = c || (b || any (λ l. is_conditional l.class) (y ∷ ys)) }) (sym h)
 
--- one more line that a later recipe line may bring in
+-- one line more that a later recipe line may bring in
 told-passed : (r : recipe.Recipe) (c : Bool) (at : ℕ) (x : ClassedLine) (xs : List ClassedLine)
     → run_told r (c || is_conditional x.class) (at + 1) xs ≡ run_told r c at (trim_end_before true x xs)
 unfolding run_told
@@ -121,7 +121,7 @@ run-told r c at (l ∷ ls) =
 
 -- ---- the recipe line of a number
 
--- a walk that has passed so many finds none
+-- a walk that has passed at least this number of recipe lines finds none of this number
 place-passed : (n p at : ℕ) (ls : List PlacedLine) → n ≤ p → recipe_place_from n p at ls ≡ None
 place-passed n p at [] h = refl
 place-passed n p at (l ∷ ls) h = go (is_recipe_places l.class) (stays_in_rule_places l.class) (place-passed n (p + 1) (at + 1) ls (omega (arith, h))) (place-passed n p (at + 1) ls h)
@@ -142,11 +142,11 @@ places-under at l zero (s ∷ ss) = refl
 places-under at l (suc zero) (s ∷ ss) = let e : at + 1 + length s.above ≡ at + suc (length s.above) = omega arith in ap (λ (n : ℕ). Some n) e
 places-under at l (suc (suc n)) (s ∷ ss) = places-under at l (suc n) ss
 
--- the same, of the first spots
+-- the same for the first spots
 taken-under : (at : ℕ) (l : ClassedLine) (n k : ℕ) (ss : List StandingLine) → option_map (place_of_spot (at + 1)) (nth_of n (take k ss)) ≡ option_map (place_of_spot at) (nth_of n (take k (map (under l) ss)))
 taken-under at l n k ss = places-under at l n (take k ss) ∙ ap (λ z. option_map (place_of_spot at) (nth_of n z)) (sym (take-map (under l) k ss))
 
--- the spots of the recipe lines, by what the first line is
+-- the spots of the recipe lines, by whether the first line is a recipe line and whether it stays in the rule
 abbrev spots_where : (recipe stays : Bool) → ClassedLine → List ClassedLine → List StandingLine
 spots_where b s l ls = take (length (if s then (if b then l ∷ recipe_lines ls else recipe_lines ls) else [])) (spot_if b (record { above = []; line = l; below = ls }) (map (under l) (spots (λ z. is_recipe z.class) ls)))
 

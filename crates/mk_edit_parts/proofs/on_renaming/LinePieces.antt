@@ -42,7 +42,7 @@ use Rattle.mk_edit_parts.proofs.on_renaming.PiecePlaces.{replacing, replacing-ap
 header-line : (c : Context) (l : List ℕ) (h : Headers.Header Cell) → class_of c l ≡ Header h → units joined_byte (line_cells l) ≡ header_units h
 header-line c l h e = let i = holds-as c l (Header h) e in sym (header-whole joined_byte (units joined_byte (line_cells l))) ∙ ap header_units i.is
 
--- those of a target assignment begin with its targets
+-- the units of an assignment for targets begin with its targets
 record BeginsWithTargets (us t : List (List Cell)) : Type 0 where
   rest : List (List Cell)
   whole : us ≡ t ++ rest

@@ -1,4 +1,4 @@
--- The ranges of a line's words that a rename replaces, as the replacements that its pieces are.
+-- The ranges of the words that a rename replaces in a line are the ranges of the replacements that the line's pieces make.
 use Rattle.std.proofs.Common.{◌≡◌, refl, sym, ap, ◌∙◌, arith, ℕ, ◌+◌, ◌-◌, Bool, true, false, List, [], ◌∷◌, ◌++◌, take, drop, map, length, length-append, append_assoc, Option, Some, None}
 use Rattle.std.specs.Prelude.{slice_range, if◌then◌else◌}
 use Rattle.std.proofs.lemmas.List.{length-map, map-append}
@@ -46,7 +46,7 @@ slice-at p w q s e h k =
     ap (λ m. take m (drop s (p ++ (w ++ q)))) n
     ∙ (ap (λ m. take (length w) (drop m (p ++ (w ++ q)))) h ∙ (ap (take (length w)) (drop-append_seam p (w ++ q)) ∙ take-append_seam w q))
 
--- The ranges of the words of some tokens that are the old one are the replacements of their pieces.
+-- The ranges of the old words among some tokens are the ranges of the replacements that the tokens' pieces make.
 places-pieces : (cs b : List Cell) (ts : List (Token Cell)) (a : List Cell) (o n : List ℕ) (start at : ℕ) → cs ≡ b ++ (token_text ts ++ a) → start + at ≡ length b
     → replacing n (places_in cs start o (word_token_ranges at ts)) ≡ replacements (length (raw_text b)) (renamed_tokens o n ts)
 places-pieces cs b [] a o n start at h k = refl
@@ -91,7 +91,7 @@ places-pieces cs b (Word w ∷ ts) a o n start at h k =
         let p : place_in cs start o (span at (at + length (concat w))) ≡ None = ap (λ b. if b then Some (raw_range cs S E) else None) t in
         ap (λ (z : Option Span). replacing n (before_places z (places_in cs start o (word_token_ranges (at + length (concat w)) ts)))) p ∙ r
 
--- The same of a part of a line, which stands between others.
+-- The same for a part of a line, which stands between others.
 pub part-pieces : (cs : List Cell) (b p a : List (List Cell)) (o n : List ℕ) (s e : ℕ) → cs ≡ concat b ++ (concat p ++ concat a) → s ≡ length (concat b) → units itself (text_at (joined_text cs) (span s e)) ≡ map (map joined_byte) p
     → replacing n (part_places cs o (span s e)) ≡ replacements (length (raw_text (concat b))) (renamed_words o n p)
 part-pieces cs b p a o n s e h k u =

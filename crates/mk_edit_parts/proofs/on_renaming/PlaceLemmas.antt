@@ -25,7 +25,7 @@ use Rattle.mk_edit_parts.proofs.on_prerequisites.RawPartLemmas.{raw-rises}
 raw_place-within : (cs : List Cell) (n : ℕ) → raw_place cs n ≤ length (raw_text cs)
 raw_place-within cs n = omega (arith, ap (λ z. length (raw_text z)) (take-append-drop n cs), ap length (raw_text-append (take n cs) (drop n cs)), length-append (raw_text (take n cs)) (raw_text (drop n cs)))
 
--- so the raw range of a word stands within the line
+-- the raw range of a word stands within the line
 pub place-within : (l : List ℕ) (s e : ℕ) → s ≤ e → IsWithin (length l) (raw_range (line_cells l) s e)
 place-within l s e h = (raw-rises (line_cells l) s e h, omega (arith, raw_place-within (line_cells l) e, cells-within l))
 
@@ -58,7 +58,7 @@ part-words cs p ws h e =
     let n : length (text_at (joined_text cs) p) ≡ p.end - p.start = text_at-length (joined_text cs) p (h.0, omega (arith, h.1, length-map cs joined_byte)) in
     subst (AreWithin (p.end - p.start)) (sym e) (subst (λ m. AreWithin m (word_ranges (text_at (joined_text cs) p))) n (words-within (text_at (joined_text cs) p)))
 
--- so does the first of some
+-- the first of some ranges that stand within the line does too
 pub first-within : (n : ℕ) (w : Span) (ws vs : List Span) → AreWithin n vs → vs ≡ w ∷ ws → IsWithin n w × AreWithin n ws
 first-within n w ws vs h e = subst (AreWithin n) e h
 
@@ -69,7 +69,7 @@ same-tally s t h i j =
     let f : ℕ → ℕ → Bool → Tally = λ w b a. record { words = w; bytes = b; at_front = a } in
     ap (λ z. f z s.bytes s.at_front) h ∙ (ap (λ z. f t.words z s.at_front) i ∙ ap (f t.words t.bytes) j)
 
--- one more range, where there is one, and then others
+-- one range more, if there is one, and then others
 pub tallied-before : (t : Tally) (o : Option Span) (ss : List Span) → tallied (tallied t (before_places o [])) ss ≡ tallied t (before_places o ss)
 tallied-before t None ss = same-tally _ _ (omega arith) (omega arith) (or_assoc t.at_front false (any is_at_front ss))
 tallied-before t (Some s) ss =
@@ -88,11 +88,11 @@ pub tallied-append : (t : Tally) (a b : List Span) → tallied (tallied t a) b �
 tallied-append t a b =
     same-tally _ _ (omega (arith, length-append a b)) (omega (arith, bytes_in-append a b)) (or_assoc t.at_front (any is_at_front a) (any is_at_front b) ∙ ap (λ z. t.at_front || z) (sym (any-append is_at_front a b)))
 
--- a count of none ahead is as it is
+-- a count to which nothing is added is as it was
 pub tallied-none : (t : Tally) → tallied t [] ≡ t
 tallied-none t = same-tally _ _ (omega arith) (omega arith) (or-false t.at_front)
 
--- What is counted of a part: the count so far with the words ahead, of which one is the first. There is room for it.
+-- What is counted of a part: the count so far, and the words ahead, with the first of them. There is room for one more.
 pub record HasRoom (t : Tally) (o : Option Span) : Type 0 where
   pub words : t.words < 2 ^ 32
   pub bytes : t.bytes + bytes_in (before_places o []) ≤ 2 ^ 32
@@ -111,7 +111,7 @@ room-ahead t s o ss all e few bytes =
 pub bytes_in-three : (a b c : List Span) → bytes_in (a ++ (b ++ c)) ≡ bytes_in a + (bytes_in b + bytes_in c)
 bytes_in-three a b c = omega (arith, bytes_in-append a (b ++ c), bytes_in-append b c)
 
--- the range of the first word of some, where it is the old one, before those of the others
+-- the range of the first of some words, if it is the old word, put before the ranges of the others
 pub places-first : (cs : List Cell) (p : ℕ) (o : List ℕ) (vs ws : List Span) (w : Span) (r : Option Span) → vs ≡ w ∷ ws → r ≡ place_in cs p o w → places_in cs p o vs ≡ before_places r (places_in cs p o ws)
 places-first cs p o vs ws w r e h = ap (places_in cs p o) e ∙ ap (λ (z : Option Span). before_places z (places_in cs p o ws)) (sym h)
 

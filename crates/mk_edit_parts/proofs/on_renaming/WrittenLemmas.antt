@@ -19,7 +19,7 @@ written_to-append : (at : ℕ) (a b : List Span) → last_end at (a ++ b) ≡ la
 written_to-append at [] b = refl
 written_to-append at (s ∷ a) b = written_to-append s.end a b
 
--- they stand apart, each part of them too
+-- ranges that stand apart, and each part of them
 apart-rises : (at n : ℕ) (a : List Span) → AreApart at n a → (at ≤ last_end at a) × (last_end at a ≤ n)
 apart-rises at n [] h = (omega arith, h)
 apart-rises at n (s ∷ a) h = let r = apart-rises s.end n a h.2 in (omega (arith, r.0, h.0, h.1), r.1)

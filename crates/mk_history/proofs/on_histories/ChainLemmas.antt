@@ -10,7 +10,7 @@ IsChain-take fits after zero changes state h = tt
 IsChain-take fits after (suc n) [] state h = tt
 IsChain-take fits after (suc n) (change ∷ changes) state h = (h.0, IsChain-take fits after n changes (after change state) h.1)
 
--- and they lead through the first few states
+-- the first few changes of a chain lead through the first few states
 pub states-take : {C S : Type 0} (after : C → S → S) (n : ℕ) (changes : List C) (state : S)
     → states after (take n changes) state ≡ take n (states after changes state)
 states-take after zero changes state = refl

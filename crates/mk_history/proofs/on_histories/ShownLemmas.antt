@@ -17,7 +17,7 @@ take-over zero (suc k) xs h = absurd (omega (arith, h))
 take-over (suc d) (suc k) [] h = refl
 take-over (suc d) (suc k) (x ∷ xs) h = ap (λ l. x ∷ l) (take-over d k xs (omega (arith, h)))
 
--- one more in front of the texts above the floor
+-- one text more in front of the texts above the floor
 one-more : {A : Type 0} (n floor : ℕ) (x : A) (xs : List A) → floor ≤ n
     → take (suc n - floor) (x ∷ xs) ≡ x ∷ take (n - floor) xs
 one-more n floor x xs h = let e : suc n - floor ≡ suc (n - floor) = omega (arith, h) in rw e refl

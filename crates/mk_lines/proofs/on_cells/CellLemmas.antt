@@ -69,7 +69,7 @@ IsCell (Fold r) = cells r ≡ Fold r ∷ []
 IsCell (LfEnd r) = cells r ≡ LfEnd r ∷ []
 IsCell (CrLfEnd r) = cells r ≡ CrLfEnd r ∷ []
 
--- cells as they are read: each is one, and each stays as it is before the next
+-- cells as they are read: each is a cell, and each stays as it is before the next
 abbrev pub AreCells : List Cell → Type 0
 AreCells [] = Unit {0}
 AreCells (c ∷ cs) = IsCell c × FitsBefore c cs × AreCells cs
@@ -81,7 +81,7 @@ is_solid (Fold r) = false
 is_solid (LfEnd r) = false
 is_solid (CrLfEnd r) = false
 
--- the first cell, where there is one, is a byte that is no blank
+-- the first cell, if there is one, is a byte that is no blank
 abbrev FirstSolid : List Cell → Type 0
 FirstSolid [] = Unit {0}
 FirstSolid (d ∷ ds) = is_solid d ≡ true
@@ -172,13 +172,13 @@ cells-raw_text (CrLfEnd r ∷ cs) f n = cc
 
 -- ---- the cells of a text fit
 
--- the first of such cells are such cells
+-- the first part of cells that fit has cells that fit
 pub AreCells-left : (a b : List Cell) → AreCells (a ++ b) → AreCells a
 AreCells-left [] b f = tt
 AreCells-left (c ∷ []) b f = (f.0, tt, tt)
 AreCells-left (c ∷ d ∷ a) b f = (f.0, f.1, AreCells-left (d ∷ a) b f.2)
 
--- the last of such cells are such cells
+-- the last part of cells that fit has cells that fit
 pub AreCells-right : (a b : List Cell) → AreCells (a ++ b) → AreCells b
 AreCells-right [] b f = f
 AreCells-right (c ∷ a) b f = AreCells-right a b f.2
@@ -189,7 +189,7 @@ Meets [] b = Unit {0}
 Meets (c ∷ []) b = FitsBefore c b
 Meets (c ∷ d ∷ a) b = Meets (d ∷ a) b
 
--- two lists of such cells, where they meet, are such cells
+-- two lists of cells that fit, put together: the cells fit if the lists meet
 pub AreCells-append : (a b : List Cell) → AreCells a → AreCells b → Meets a b → AreCells (a ++ b)
 AreCells-append [] b f g m = g
 AreCells-append (c ∷ []) b f g m = (f.0, m, g)
@@ -294,7 +294,7 @@ prepend-are_cells Ordinary b (Fold r ∷ cs) e f = ((λ l. cc), rw e refl, f)
 prepend-are_cells Ordinary b (LfEnd r ∷ cs) e f = ((λ l. cc), rw e refl, f)
 prepend-are_cells Ordinary b (CrLfEnd r ∷ cs) e f = ((λ l. cc), rw e refl, f)
 
--- the cells of a text are such cells
+-- the cells of a text fit
 pub cells-are_cells : (t : List ℕ) → AreCells (cells t)
 cells-are_cells [] = tt
 cells-are_cells (b ∷ t) = prepend-are_cells (byte_kind b) b (cells t) refl (cells-are_cells t)

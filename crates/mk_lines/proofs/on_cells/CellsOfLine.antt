@@ -1,4 +1,4 @@
--- The cells of a logical line are bytes and folds: the text of one line has no line end but in its folds.
+-- The cells of a logical line are bytes and folds: the text of one line has no line end except in its folds.
 use Rattle.std.proofs.Common.{◌≡◌, refl, sym, ap, ◌∙◌, ℕ, List, [], ◌∷◌, ◌++◌, Bool, true, false, cond, reverse}
 use Rattle.mk_lines.specs.Lists.{after_leading}
 use Rattle.mk_lines.specs.Bytes.{ByteKind, byte_kind, LineFeed, CarriageReturn, Backslash, Blank, Ordinary}
@@ -11,7 +11,7 @@ use Rattle.mk_lines.proofs.on_lines.LineEndLemmas.{KeepsApart, FirstIsNot, witho
 use Rattle.mk_lines.specs.declared.ends.End.{End}
 use Rattle.mk_lines.specs.declared.ends.End.TheVariants.{None, Lf, CrLf}
 
--- the cells that a text in a line may have where it stands so: a line end is escaped by what stands before
+-- the cells that a text in a line may have in this state of the machine: what stands before a line end escapes it
 abbrev AreFolded : LineState → List Cell → Type 0
 AreFolded AtStart cs = Unit {0}
 AreFolded InLine cs = NoLineEnds cs
@@ -127,14 +127,14 @@ in_line-folded s (b ∷ t) h n = go (is_at_start s) h (λ k. in_line-folded (lin
 
 -- ---- of one line
 
--- no line begins in one line but at its front
+-- in one line, a line begins only at its front
 pub one_line-continues : (b : ℕ) (r : List ℕ) → OneLine (b ∷ r) → line_continuation InLine (b ∷ r) ≡ b ∷ r
 unfolding OneLine
 one_line-continues b r h =
     let e : line_continuation (next_line_state AtStart (byte_kind b)) r ≡ r = cc in
     ap (λ z. b ∷ z) (ap (λ s. line_continuation s r) (sym (next-start (byte_kind b))) ∙ e)
 
--- after a text whose last byte is no line feed no line begins
+-- no line begins after a text whose last byte is no line feed
 last-not_at_start : (r : List ℕ) → FirstIsNot LineFeed r → is_at_start (line_state_backwards r) ≡ false
 last-not_at_start [] h = refl
 last-not_at_start (b ∷ r) h = next-not_start (line_state_backwards r) (byte_kind b) h

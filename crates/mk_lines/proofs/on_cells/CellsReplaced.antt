@@ -29,7 +29,7 @@ ends_ordinary [] = false
 ends_ordinary (b ∷ []) = is_ordinary_kind (byte_kind b)
 ends_ordinary (b ∷ c ∷ v) = ends_ordinary (c ∷ v)
 
--- a text, not empty, that begins with no blank, has no LF and no CR, and ends in no blank and no backslash
+-- a text that is not empty, begins with no blank, has no LF and no CR, and ends in no blank and no backslash
 pub record IsPlainText (v : List ℕ) : Type 0 where
   pub begins : begins_solid v ≡ true
   pub inner : HasNoLineEnd v
@@ -42,19 +42,19 @@ is_ordinary_kind-is CarriageReturn h = cc
 is_ordinary_kind-is Backslash h = cc
 is_ordinary_kind-is Blank h = cc
 
--- the last byte of such a text by itself
+-- the last byte of a text that ends in an ordinary byte, by itself
 pub ends_ordinary-split : (v : List ℕ) → ends_ordinary v ≡ true → (front : List ℕ) × (last : ℕ) × (v ≡ front ++ last ∷ []) × (byte_kind last ≡ Ordinary)
 ends_ordinary-split [] h = cc
 ends_ordinary-split (b ∷ []) h = ([], b, refl, is_ordinary_kind-is (byte_kind b) h)
 ends_ordinary-split (b ∷ c ∷ v) h = let s = ends_ordinary-split (c ∷ v) h in (b ∷ s.0, s.1, ap (λ z. b ∷ z) s.2, s.3)
 
--- its bytes join whatever follows
+-- the bytes of a text that ends in an ordinary byte join whatever follows
 pub ends_ordinary-joins : (v : List ℕ) (cs : List Cell) → ends_ordinary v ≡ true → Joins (map Byte v) cs
 ends_ordinary-joins v cs h =
     let s = ends_ordinary-split v h in
     subst (λ z. Joins z cs) (sym (ap (map Byte) s.2 ∙ map-append Byte s.0 (s.1 ∷ []))) (Joins-ordinary (map Byte s.0) s.1 cs s.3)
 
--- whatever stands before joins them
+-- whatever stands before the bytes of a text that begins with no blank joins them
 pub begins_solid-joins : (a : List Cell) (v : List ℕ) (cs : List Cell) → begins_solid v ≡ true → Joins a (map Byte v ++ cs)
 begins_solid-joins a [] cs h = cc
 begins_solid-joins a (b ∷ v) cs h = Joins-solid a b (map Byte v ++ cs) (go (is_blank_kind (byte_kind b)) h)
@@ -71,7 +71,7 @@ text_not_empty : (v : List ℕ) → begins_solid v ≡ true → (x : ℕ) × (c 
 text_not_empty [] h = cc
 text_not_empty (x ∷ v) h = (x, v, refl)
 
--- what stays at the end: nothing, or cells after the first of which it is the same what stood before
+-- what stays at the end: nothing, or cells whose first one makes the state of the machine the same whatever stood before
 abbrev pub IsSafeTail : List Cell → Type 0
 IsSafeTail [] = Unit {0}
 IsSafeTail (d ∷ D) = is_reset d ≡ true
@@ -132,7 +132,8 @@ cells-replaced l below P W Q v h c p r o n =
 
 -- ---- cells taken out
 
--- what stays at the end: nothing, or a byte that is no blank and after which it is the same what stood before, as a `#`
+-- what stays at the end: nothing, or a byte that is no blank and after which the state is the same whatever stood before, such as
+-- a `#`
 abbrev pub IsSolidTail : List Cell → Type 0
 IsSolidTail [] = Unit {0}
 IsSolidTail (d ∷ D) = (is_solid d ≡ true) × (is_reset d ≡ true)
@@ -167,8 +168,8 @@ removed-ends e below P W (d ∷ D) t r h n =
     let before : P ++ (W ++ (d ∷ D)) ≡ (P ++ W) ++ (d ∷ D) = sym (append_assoc P W (d ∷ D)) in
     EndLineBefore-tail e (P ++ W) P d D below t.1 (subst AreLineCells before h) (removed-are_line_cells P W (d ∷ D) h t) (subst (λ z. EndLineBefore e z below) before n)
 
--- A line with the cells W taken out. The line end stays apart from what stays, but in one case: that ends in a fold's line
--- feed and the line has no line end.
+-- A line with the cells W taken out. The line end stays apart from the cells that stay, except in one case: these cells end in a
+-- fold's line feed, and the line has no line end.
 pub cells-removed : (l : List ℕ) (below : List (List ℕ)) (P W Q : List Cell) (b : ℕ) (r : List ℕ) → line_cells l ≡ P ++ (W ++ Q) → AreLineCells (P ++ (W ++ Q)) → IsSolidTail Q → EndsReset P
     → KeepsApart (line_end l) (reverse (raw_text (P ++ Q))) → OneLine l → EndsBefore l below → raw_text (P ++ Q) ++ line_end_bytes (line_end l) ≡ b ∷ r
     → IsLineOf (raw_text (P ++ Q) ++ line_end_bytes (line_end l)) (P ++ Q) (line_end l) below

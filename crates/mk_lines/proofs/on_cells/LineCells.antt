@@ -25,11 +25,11 @@ pub record AreLineCells (cs : List Cell) : Type 0 where
   pub are_cells : AreCells cs
   pub clean : IsClean cs
 
--- the cells of a text are such where they are clean
+-- the cells of a text may be those of a line if they are clean
 pub cells-are_line_cells : (t : List ℕ) → IsClean (cells t) → AreLineCells (cells t)
 cells-are_line_cells t h = record { are_cells = cells-are_cells t; clean = h }
 
--- they are read again from their raw bytes
+-- such cells are read again from their raw bytes
 pub AreLineCells-cells : (cs : List Cell) → AreLineCells cs → cells (raw_text cs) ≡ cs
 AreLineCells-cells cs h = cells-raw_text cs h.are_cells h.clean.0
 
@@ -39,7 +39,7 @@ AreLineCells-cells cs h = cells-raw_text cs h.are_cells h.clean.0
 abbrev pub is_bad_before : Cell → List Cell → Bool
 is_bad_before c cs = is_backslash_cell c && is_fold_first cs
 
--- the last cell of one list stays as it is before the other, and makes no fold of it bad
+-- the last cell of one list stays as it is before the other list, and does not make the fold at the front of that list bad
 abbrev pub Joins : List Cell → List Cell → Type 0
 Joins [] b = Unit {0}
 Joins (c ∷ []) b = FitsBefore c b × (is_bad_before c b ≡ false)
@@ -68,22 +68,22 @@ bad_fold-append (c ∷ d ∷ a) b h k j =
     or_from (is_bad_before c (d ∷ a)) (has_bad_fold (d ∷ (a ++ b))) (or-left_false (is_bad_before c (d ∷ a)) (has_bad_fold (d ∷ a)) h)
     (bad_fold-append (d ∷ a) b (or-right_false (is_bad_before c (d ∷ a)) (has_bad_fold (d ∷ a)) h) k j)
 
--- cells of a line taken apart: the parts are such cells
+-- the first part of cells that a line may have has cells that a line may have
 pub AreLineCells-left : (a b : List Cell) → AreLineCells (a ++ b) → AreLineCells a
 AreLineCells-left a b h = record { are_cells = AreCells-left a b h.are_cells; clean = (Each-left (λ c. not (is_line_end c)) a b h.clean.0, bad_fold-left a b h.clean.1) }
 
--- the last of such cells are such cells
+-- the last part of cells that a line may have has cells that a line may have
 pub AreLineCells-right : (a b : List Cell) → AreLineCells (a ++ b) → AreLineCells b
 AreLineCells-right a b h = record { are_cells = AreCells-right a b h.are_cells; clean = (Each-right (λ c. not (is_line_end c)) a b h.clean.0, bad_fold-right a b h.clean.1) }
 
--- such cells put together, where they join
+-- two lists of cells that a line may have, put together: a line may have them if the lists join
 pub AreLineCells-append : (a b : List Cell) → AreLineCells a → AreLineCells b → Joins a b → AreLineCells (a ++ b)
 AreLineCells-append a b h k j = record {
   are_cells = AreCells-append a b h.are_cells k.are_cells (Joins-meets a b j);
   clean = (Each-append (λ c. not (is_line_end c)) a b h.clean.0 k.clean.0, bad_fold-append a b h.clean.1 k.clean.1 j);
 }
 
--- no cells are such cells
+-- a line may have no cells
 pub AreLineCells-none : AreLineCells []
 AreLineCells-none = record { are_cells = tt; clean = (tt, refl) }
 
@@ -175,7 +175,7 @@ bytes-are_line_cells t h = record { are_cells = bytes-are_cells t h; clean = (by
 unfoldable pub EndLine : End → List Cell → Type 0
 EndLine e cs = line_state_after InLine (raw_text cs ++ line_end_bytes e) ≡ AtStart
 
--- so it is where lines follow
+-- if lines follow, a new line begins after the cells with this line end
 abbrev pub EndLineBefore : End → List Cell → List (List ℕ) → Type 0
 EndLineBefore e cs [] = Unit {0}
 EndLineBefore e cs (l ∷ ls) = EndLine e cs
@@ -187,7 +187,7 @@ pub record IsLineOf (l : List ℕ) (cs : List Cell) (e : End) (below : List (Lis
   pub one : OneLine l
   pub ends : EndsBefore l below
 
--- cells with a line end are one line of these cells, where the line end stays apart from them
+-- cells with a line end are one line of these cells, if the line end stays apart from them
 pub line-of_cells : (cs : List Cell) (e : End) (below : List (List ℕ)) (b : ℕ) (r : List ℕ) → AreLineCells cs → KeepsApart e (reverse (raw_text cs)) → EndLineBefore e cs below
     → raw_text cs ++ line_end_bytes e ≡ b ∷ r → IsLineOf (raw_text cs ++ line_end_bytes e) cs e below
 unfolding EndLine Ends
@@ -220,7 +220,7 @@ line-ends l (m ∷ ls) o n =
 
 -- ---- cells that end as others do
 
--- the state after cells that end in these, the first of which makes what stood before it the same
+-- the state after cells that end in these cells, the first of which makes it the same whatever stood before
 state_after-tail : (p : List Cell) (d : Cell) (D : List Cell) → is_reset d ≡ true → AreLineCells (p ++ d ∷ D) → line_state_after InLine (raw_text (p ++ d ∷ D)) ≡ line_state_after InLine (raw_text D)
 state_after-tail p d D r h =
     let tail : AreLineCells (d ∷ D) = AreLineCells-right p (d ∷ D) h in
@@ -233,7 +233,7 @@ state_after-tail p d D r h =
     ∙ (state_after-append line_step (line_state_after InLine (raw_text p)) (raw_bytes d) (raw_text D)
     ∙ ap (λ s. line_state_after s (raw_text D)) (state_after-reset (line_state_after InLine (raw_text p)) d D r tail.are_cells.0 after)))
 
--- cells end a line where others do that end in the same cells
+-- cells end a line if other cells do that end in the same cells
 pub EndLineBefore-tail : (e : End) (p q : List Cell) (d : Cell) (D : List Cell) (below : List (List ℕ)) → is_reset d ≡ true → AreLineCells (p ++ d ∷ D) → AreLineCells (q ++ d ∷ D)
     → EndLineBefore e (p ++ d ∷ D) below → EndLineBefore e (q ++ d ∷ D) below
 unfolding EndLine
@@ -243,7 +243,7 @@ EndLineBefore-tail e p q d D (l ∷ ls) r h k n =
     ∙ (ap (λ s. line_state_after s (line_end_bytes e)) (state_after-tail q d D r k ∙ sym (state_after-tail p d D r h))
     ∙ (sym (state_after-append line_step InLine (raw_text (p ++ d ∷ D)) (line_end_bytes e)) ∙ n))
 
--- cells after the last of which it is the same what stood before: a blank, a fold or an ordinary byte
+-- the state after cells whose last one makes it the same whatever stood before: a blank, a fold or an ordinary byte
 state_after-last : (p : List Cell) (d : Cell) → is_reset d ≡ true → AreLineCells (p ++ d ∷ []) → line_state_after InLine (raw_text (p ++ d ∷ [])) ≡ InLine
 state_after-last p d r h = state_after-tail p d [] r h
 
@@ -258,7 +258,7 @@ line_end-from_in_line None s o h = absurd (IsCleanAfter-not_at_start s o h)
 line_end-from_in_line Lf s o h = refl
 line_end-from_in_line CrLf s o h = refl
 
--- where a line of some cells is followed, its line end is one
+-- if a line of some cells is followed by a line, it has a line end
 followed-line_end : (e : End) (cs : List Cell) → AreLineCells cs → EndLine e cs → line_state_after InLine (line_end_bytes e) ≡ AtStart
 unfolding EndLine
 followed-line_end e cs h n =
@@ -266,7 +266,7 @@ followed-line_end e cs h n =
     line_end-from_in_line e (line_state_after InLine (raw_text cs)) (IsCleanAfter-state_after InLine (raw_text cs) [] clean)
     (sym (state_after-append line_step InLine (raw_text cs) (line_end_bytes e)) ∙ n)
 
--- cells that end in a blank, a fold or an ordinary byte end a line where any do
+-- cells that end in a blank, a fold or an ordinary byte end a line if any cells do with this line end
 pub EndLineBefore-last : (e : End) (cs p : List Cell) (d : Cell) (below : List (List ℕ)) → is_reset d ≡ true → AreLineCells cs → AreLineCells (p ++ d ∷ [])
     → EndLineBefore e cs below → EndLineBefore e (p ++ d ∷ []) below
 unfolding EndLine
@@ -304,7 +304,7 @@ raw_bytes-not_empty (CrLfEnd r) h v = absurd (cc)
 raw_text-not_empty : (d : Cell) (D : List Cell) → is_reset d ≡ true → IsCell d → (b : ℕ) × (r : List ℕ) × (raw_text (d ∷ D) ≡ b ∷ r)
 raw_text-not_empty d D h v = let n = raw_bytes-not_empty d h v in (n.0, n.1 ++ raw_text D, ap (λ z. z ++ raw_text D) n.2)
 
--- a line end stays apart from cells that end as others do
+-- a line end stays apart from cells if it stays apart from other cells with the same end
 pub KeepsApart-tail : (e : End) (p q : List Cell) (d : Cell) (D : List Cell) → is_reset d ≡ true → IsCell d
     → KeepsApart e (reverse (raw_text (p ++ d ∷ D))) → KeepsApart e (reverse (raw_text (q ++ d ∷ D)))
 KeepsApart-tail e p q d D r v h =
@@ -328,7 +328,7 @@ reset-no_line_end Lf LineFeed b r h i = cc
 reset-no_line_end Lf CarriageReturn b r h i = cc
 reset-no_line_end Lf Backslash b r h i = cc
 
--- and from cells that end in a blank or an ordinary byte
+-- a line end stays apart from cells that end in a blank or an ordinary byte
 pub KeepsApart-last : (e : End) (p : List Cell) (b : ℕ) → is_reset_kind (byte_kind b) ≡ true → KeepsApart e (reverse (raw_text (p ++ Byte b ∷ [])))
 KeepsApart-last e p b h =
     subst (KeepsApart e) (sym (ap reverse (raw_text-append p (Byte b ∷ [])) ∙ reverse-append (raw_text p) (b ∷ [])))

@@ -22,7 +22,7 @@ IsClean cs = NoLineEnds cs × (has_bad_fold cs ≡ false)
 IsClean-tail : (c : Cell) (cs : List Cell) → IsClean (c ∷ cs) → IsClean cs
 IsClean-tail c cs h = (h.0.1, or-right_false (is_backslash_kind (byte_kind (joined_byte c)) && is_fold_first cs) (has_bad_fold cs) h.1)
 
--- the cells that a text may have where it stands so
+-- the cells that a text may have in this state of the machine
 abbrev pub IsCleanAfter : LineState → List Cell → Type 0
 IsCleanAfter AtStart cs = ⊥
 IsCleanAfter InLine cs = IsClean cs
@@ -70,7 +70,7 @@ IsCleanAfter-tail AfterOddRunCr b cs h = IsClean-tail (Byte b) cs h
 bad_fold-not_clean : (b : ℕ) (r : List ℕ) (cs : List Cell) → byte_kind b ≡ Backslash → IsClean (Byte b ∷ Fold r ∷ cs) → ⊥
 bad_fold-not_clean b r cs e h = let g : true ≡ false = rw e at h.1 in cc
 
--- one byte on
+-- the step over one byte
 IsCleanAfter-step : (s : LineState) (k : ByteKind) (b : ℕ) (cs : List Cell) → byte_kind b ≡ k → IsCleanAfter s (prepend k b cs) → IsCleanAfter (next_line_state s k) cs
 IsCleanAfter-step AtStart k b cs e h = absurd h
 IsCleanAfter-step InLine LineFeed b cs e h = cc
@@ -125,7 +125,7 @@ IsCleanAfter-step InLine Ordinary b cs e h = IsCleanAfter-tail InLine b cs h
 IsCleanAfter-step AfterOddRun Ordinary b cs e h = IsCleanAfter-tail AfterOddRun b cs h
 IsCleanAfter-step AfterOddRunCr Ordinary b cs e h = IsCleanAfter-tail AfterOddRunCr b cs h
 
--- no line begins in a text with such cells
+-- no line begins in a text whose cells are clean
 continuation-clean : (s : LineState) (t : List ℕ) → IsCleanAfter s (cells t) → line_continuation s t ≡ t
 continuation-clean s [] h = refl
 continuation-clean AtStart (b ∷ t) h = absurd h
@@ -140,7 +140,7 @@ IsCleanAfter-state_after s (b ∷ a) t h = IsCleanAfter-state_after (next_line_s
 
 -- ---- folds
 
--- the cells that a text of blanks and folds may have where it stands so
+-- the cells that a text of blanks and folds may have in this state of the machine
 abbrev IsBlankAfter : LineState → List Cell → Type 0
 IsBlankAfter InLine cs = Each is_blank_cell cs
 IsBlankAfter AfterOddRun (LfEnd r ∷ cs) = Each is_blank_cell cs
@@ -236,7 +236,7 @@ state_after-blank AfterOddRun [] h = absurd h
 state_after-blank AfterOddRunCr [] h = absurd h
 state_after-blank s (b ∷ t) h = state_after-blank (next_line_state s (byte_kind b)) t (IsBlankAfter-step s (byte_kind b) b (cells t) refl h)
 
--- a fold's raw bytes begin with a blank or a backslash, after which it is the same whether a CR stood before it
+-- a fold's raw bytes begin with a blank or a backslash, after which the state is the same with or without a CR before it
 state_after-fold : (r s : List ℕ) → cells r ≡ Fold s ∷ [] → line_state_after AfterOddRunCr r ≡ line_state_after InLine r
 state_after-fold [] s h = cc
 state_after-fold (b ∷ r) s h = go (byte_kind b) (cells r) h
@@ -248,13 +248,13 @@ state_after-fold (b ∷ r) s h = go (byte_kind b) (cells r) h
     go Blank cs e = refl
     go Ordinary cs e = refl
 
--- a cell after which it is the same what stood before it
+-- whether the state after a byte of this kind is the same whatever stood before it
 abbrev pub is_reset_kind : ByteKind → Bool
 is_reset_kind Blank = true
 is_reset_kind Ordinary = true
 is_reset_kind k = false
 
--- whether after a cell it is the same what stood before it: a blank, a fold or an ordinary byte
+-- whether the state after a cell is the same whatever stood before it: the cell is a blank, a fold or an ordinary byte
 abbrev pub is_reset : Cell → Bool
 is_reset (Byte b) = is_reset_kind (byte_kind b)
 is_reset (Fold r) = true
@@ -296,7 +296,7 @@ IsCleanAfter-not_start InLine h = refl
 IsCleanAfter-not_start AfterOddRun h = refl
 IsCleanAfter-not_start AfterOddRunCr h = refl
 
--- a text in which no line begins, and which does not end one, is one line with a line end, if that is not empty
+-- a text in which no line begins, and which does not end a line, is one line together with a line end, if the two are not empty
 pub one_line-of_text : (x : List ℕ) (e : End) (b : ℕ) (r : List ℕ) → line_continuation InLine x ≡ x → is_at_start (line_state_after InLine x) ≡ false → x ++ line_end_bytes e ≡ b ∷ r
     → OneLine (x ++ line_end_bytes e)
 unfolding OneLine

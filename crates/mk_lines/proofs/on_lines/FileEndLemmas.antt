@@ -16,13 +16,13 @@ use Rattle.mk_lines.proofs.SplitLemmas.{no-feed}
 
 -- ---- the first physical line
 
--- it goes up to the first line feed
+-- the first physical line goes up to the first line feed
 first-physical : (p : List ℕ) (b : ℕ) (t : List ℕ) → NoLineFeed p → byte_kind b ≡ LineFeed → physical_lines (p ++ b ∷ t) ≡ (p ++ b ∷ []) ∷ physical_lines t
 first-physical [] b t h e = ap (λ k. before_lines k b (physical_lines t)) e
 first-physical (c ∷ p) b t h e =
     before_lines-ordinary (byte_kind c) c (physical_lines (p ++ b ∷ t)) h.0 ∙ ap (onto_first (c ∷ [])) (first-physical p b t h.1 e)
 
--- so the line end of the file is that of this line
+-- the line end of the file is that of its first physical line
 file_line_end-line : (p : List ℕ) (b : ℕ) (t : List ℕ) → NoLineFeed p → byte_kind b ≡ LineFeed → file_line_end (p ++ b ∷ t) ≡ line_end (p ++ b ∷ [])
 file_line_end-line p b t h e =
     let end : line_end (p ++ b ∷ []) ≡ line_end_by (is_carriage_return_first (reverse p)) =
@@ -54,7 +54,7 @@ only-physical : (b : ℕ) (t : List ℕ) → NoLineFeed (b ∷ t) → physical_l
 only-physical b [] h = before_lines-ordinary (byte_kind b) b [] h.0
 only-physical b (c ∷ t) h = before_lines-ordinary (byte_kind b) b (physical_lines (c ∷ t)) h.0 ∙ ap (onto_first (b ∷ [])) (only-physical c t h.1)
 
--- its new lines end in LF
+-- the new lines of a text without a line feed end in LF
 file_line_end-last : (t : List ℕ) → NoLineFeed t → file_line_end t ≡ end.Lf
 file_line_end-last [] h = refl
 file_line_end-last (b ∷ t) h = ap first_line_end (only-physical b t h) ∙ ap line_end_or_lf (no-end (reverse (b ∷ t)) (none-reverse (b ∷ t) h))
@@ -108,7 +108,7 @@ file_line_end-first (b ∷ t) first rest h = go (feed-or_none (b ∷ t))
 
 -- ---- by a search for the first line feed
 
--- where there is one, the line end of the text up to it
+-- if the search finds a line feed, the line end is that of the text up to it
 pub file_line_end-found : (text : List ℕ) (feed : ℕ) → IsFirstByte (is_byte 10) text (Some feed) → file_line_end text ≡ line_end (take (feed + 1) text)
 file_line_end-found text feed h =
     let high : feed < length text = h.0.high in
@@ -118,7 +118,7 @@ file_line_end-found text feed h =
     let whole : text ≡ take feed text ++ 10 ∷ drop (feed + 1) text = sym (take-append-drop (feed + 1) text) ∙ (ap (λ l. l ++ drop (feed + 1) text) line ∙ append_assoc (take feed text) (10 ∷ []) (drop (feed + 1) text)) in
     ap file_line_end whole ∙ (file_line_end-line (take feed text) 10 (drop (feed + 1) text) none refl ∙ ap line_end (sym line))
 
--- where there is none, LF
+-- if the search finds none, the line end is LF
 pub file_line_end-not_found : (text : List ℕ) → IsFirstByte (is_byte 10) text std.None → file_line_end text ≡ end.Lf
 file_line_end-not_found text h =
     file_line_end-last text (subst NoLineFeed (take-length text) (no-feed text (length text) (λ j below is. h j (omega arith) below (eq-eqb (get_or text j 0) 10 is))))

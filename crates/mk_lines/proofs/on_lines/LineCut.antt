@@ -9,8 +9,8 @@ use Rattle.mk_lines.specs.Bytes.{ByteKind, byte_kind, LineFeed, CarriageReturn, 
 use Rattle.mk_lines.specs.PhysicalLines.{physical_lines, before_lines, drop_carriage_return, drop_carriage_return_at}
 use Rattle.mk_lines.specs.LogicalLines.{starts_with_odd_run, starts_with_odd_run_at, is_continued, grouped, before_group, logical_lines}
 
--- Where a text stands: at the start of a line, or in one; there, after an odd run of backslashes, or after one with a
--- carriage return, the next line feed goes on with the line.
+-- The state after a text: at the start of a line, or in a line. In a line, after an odd run of backslashes, or after one with a
+-- carriage return behind it, the next line feed continues the line.
 pub data LineState : Type 0 where
   AtStart : LineState
   InLine : LineState
@@ -28,7 +28,7 @@ next_line_state AfterOddRun Backslash = InLine
 next_line_state s Backslash = AfterOddRun
 next_line_state s k = InLine
 
--- whether a text stands at the start of a line
+-- whether the state after a text is the start of a line
 abbrev pub is_at_start : LineState → Bool
 is_at_start AtStart = true
 is_at_start s = false
@@ -64,11 +64,11 @@ line_state_after-backwards : (r p : List ℕ) → line_state_after (line_state_b
 line_state_after-backwards r [] = refl
 line_state_after-backwards r (b ∷ p) = rw (reverse-append (b ∷ []) p, append_assoc (reverse p) (b ∷ []) r) (line_state_after-backwards (b ∷ r) p)
 
--- the two agree
+-- the state after a text, and the state from the text read backwards, agree
 pub line_state_after-reverse : (p : List ℕ) → line_state_after InLine p ≡ line_state_backwards (reverse p)
 line_state_after-reverse p = rw (append-nil (reverse p)) at (line_state_after-backwards [] p)
 
--- after an odd run of backslashes; and where a line feed continues the line
+-- whether a state is after an odd run of backslashes; whether a line feed continues the line in this state
 abbrev pub is_after_odd_run : LineState → Bool
 is_after_odd_run AfterOddRun = true
 is_after_odd_run s = false
@@ -109,7 +109,7 @@ pub odd_run-state : (r : List ℕ) → starts_with_odd_run r ≡ is_after_odd_ru
 odd_run-state [] = refl
 odd_run-state (b ∷ r) = odd_run-step (byte_kind b) (line_state_backwards r) (starts_with_odd_run r) (odd_run-state r)
 
--- the same of a text without a carriage return at its end
+-- an odd run of backslashes before a carriage return at the end, by the state after a text
 pub drop_carriage_return-state : (r : List ℕ) → starts_with_odd_run (drop_carriage_return r) ≡ is_continued_state (line_state_backwards r)
 drop_carriage_return-state [] = refl
 drop_carriage_return-state (b ∷ r) = go (byte_kind b) refl (line_state_backwards r) (odd_run-state r)
@@ -136,7 +136,7 @@ drop_carriage_return-state (b ∷ r) = go (byte_kind b) refl (line_state_backwar
     go Ordinary e AfterOddRun h = rw e refl
     go Ordinary e AfterOddRunCr h = rw e refl
 
--- a physical line is continued where the state before its line end goes on
+-- a physical line is continued if a line feed continues the line in the state before its line end
 is_continued-state : (p : List ℕ) (b : ℕ) → byte_kind b ≡ LineFeed → is_continued (p ++ b ∷ []) ≡ is_continued_state (line_state_after InLine p)
 is_continued-state p b e = rw (reverse-append p (b ∷ []), e, reverse-reverse (drop_carriage_return (reverse p)), line_state_after-reverse p) (drop_carriage_return-state (reverse p))
 
@@ -183,7 +183,7 @@ pub onto_first-twice : (m q : List ℕ) (ls : List (List ℕ)) → onto_first m 
 onto_first-twice m q [] = refl
 onto_first-twice m q (l ∷ ls) = ap (λ x. x ∷ ls) (sym (append_assoc m q l))
 
--- only after a line feed a line begins
+-- a line begins only after a line feed
 pub next-not_start : (s : LineState) (k : ByteKind) → (k ≡ LineFeed → ⊥) → is_at_start (next_line_state s k) ≡ false
 next-not_start s LineFeed h = absurd (h refl)
 next-not_start AfterOddRun CarriageReturn h = refl
@@ -207,7 +207,7 @@ line_state_after-not_start : (s : LineState) (p : List ℕ) → NoLineFeed p →
 line_state_after-not_start s [] h k = k
 line_state_after-not_start s (b ∷ p) h k = line_state_after-not_start (next_line_state s (byte_kind b)) p h.1 (next-not_start s (byte_kind b) h.0)
 
--- what the groups are, by where the text stands
+-- what the groups are, by the state after the text before them
 record IsGrouped (t : List ℕ) : Type 0 where
   pub fresh : grouped (physical_lines t) ≡ line_pieces AtStart t
   pub within : (m p : List ℕ) → NoLineFeed p → onto_first m (grouped (physical_lines (p ++ t))) ≡ (m ++ (p ++ line_continuation (line_state_after InLine p) t)) ∷ line_pieces (line_state_after InLine p) t
@@ -254,7 +254,7 @@ grouped-line_feed b t e g = record { fresh = fresh; within = within }
         (let l : before_first p (before_lines (byte_kind b) b (physical_lines t)) ≡ (p ++ b ∷ []) ∷ physical_lines t = rw e (before_first-line p (b ∷ []) (physical_lines t)) in
         rw (l, is_continued-state p b e) (by-place (line_state_after InLine p) m p (line_state_after-not_start InLine p h refl)))
 
--- each byte leads from the start of a line where it leads from within one
+-- each byte leads from the start of a line to the state to which it leads from within a line
 pub next-start : (k : ByteKind) → next_line_state AtStart k ≡ next_line_state InLine k
 next-start LineFeed = refl
 next-start CarriageReturn = refl
@@ -296,7 +296,7 @@ pub logical_lines-line : (p : List ℕ) (b : ℕ) (t : List ℕ) → NoLineFeed 
 logical_lines-line p b t h e =
     ap grouped (physical_lines-append p (b ∷ t) h ∙ (ap (λ k. before_first p (before_lines k b (physical_lines t))) e ∙ before_first-line p (b ∷ []) (physical_lines t)))
 
--- the logical lines of a text without line feed: itself, where it is not empty
+-- the logical lines of a text without a line feed: the text itself, if it is not empty
 pub logical_lines-last : (b : ℕ) (p : List ℕ) → NoLineFeed (b ∷ p) → logical_lines (b ∷ p) ≡ (b ∷ p) ∷ []
 logical_lines-last b p h =
     ap logical_lines (sym (append-nil (b ∷ p))) ∙ (ap grouped (physical_lines-append (b ∷ p) [] h ∙ before_first-none b p) ∙ alone (is_continued (b ∷ p)))

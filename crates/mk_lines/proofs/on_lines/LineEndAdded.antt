@@ -66,7 +66,7 @@ in_line-backwards : (r : List ℕ) → FirstIsNot LineFeed r → FirstIsNot Carr
 in_line-backwards [] h i j = refl
 in_line-backwards (b ∷ r) h i j = in_line (line_state_backwards r) (byte_kind b) h i (sym (odd_run-state (b ∷ r)) ∙ j)
 
--- what a line with a line end put after it is
+-- what holds for a line with a line end put after it
 pub record IsEnded (l : List ℕ) (e : End) : Type 0 where
   pub one : OneLine (l ++ line_end_bytes e)
   pub ends : Ends (l ++ line_end_bytes e)

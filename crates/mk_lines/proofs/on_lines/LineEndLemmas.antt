@@ -1,4 +1,4 @@
--- Laws of line ends: a line is its text and its line end, and a text ends a line where it has one and is not continued.
+-- Laws of line ends: a line is its text and its line end, and a text ends a line if it has a line end and is not continued.
 use Rattle.std.proofs.Common.{◌≡◌, refl, sym, ap, ◌∙◌, ℕ, List, [], ◌∷◌, ◌++◌, Bool, true, false, not, ◌&&◌, reverse}
 use Rattle.std.proofs.lemmas.List.{append-nil, reverse-append, reverse-reverse}
 use Rattle.mk_lines.specs.Bytes.{ByteKind, byte_kind, LineFeed, CarriageReturn, Backslash, Blank, Ordinary, is_carriage_return_kind}
@@ -43,7 +43,7 @@ without_line_end-line_end l = text-line_end_backwards (reverse l) ∙ reverse-re
 
 -- ---- where a text ends a line
 
--- a line end that has a line feed is one
+-- a line end that has a line feed is not None
 line_end_by-some : (c : Bool) → has_no_line_end (line_end_by c) ≡ false
 line_end_by-some true = refl
 line_end_by-some false = refl
@@ -68,14 +68,14 @@ ends-backwards (b ∷ r) = go (byte_kind b)
 pub state_after-start : (b : ℕ) (t : List ℕ) → line_state_after AtStart (b ∷ t) ≡ line_state_after InLine (b ∷ t)
 state_after-start b t = rw (next-start (byte_kind b)) refl
 
--- a text ends a line where the machine that cuts lines stands at a start
+-- a text ends a line if the machine that cuts lines is then at the start of a line
 ends_line-state : (t : List ℕ) → ends_line t ≡ is_at_start (line_state_after AtStart t)
 ends_line-state [] = refl
 ends_line-state (b ∷ t) =
     ap (λ z. not (has_no_line_end (line_end (b ∷ t))) && not (starts_with_odd_run z)) (reverse-reverse (drop_line_end (reverse (b ∷ t))))
     ∙ (ends-backwards (reverse (b ∷ t)) ∙ ap is_at_start (sym (state_after-start b t ∙ line_state_after-reverse (b ∷ t))))
 
--- a text that ends a line ends, and the other way round
+-- a text that `ends_line` is one that `Ends`
 pub ends_line-ends : (t : List ℕ) → ends_line t ≡ true → Ends t
 unfolding Ends
 ends_line-ends t h = is_at_start-is (line_state_after AtStart t) (sym (ends_line-state t) ∙ h)
@@ -94,13 +94,13 @@ EndsWhereFollowed-of t (l ∷ ls) h = Ends-ends_line t h
 
 -- ---- a line end put after a text
 
--- the first byte, where there is one, is of another kind
+-- the first byte, if there is one, is of another kind
 abbrev pub FirstIsNot : ByteKind → List ℕ → Type 0
 FirstIsNot k [] = Unit {0}
 FirstIsNot k (b ∷ t) = byte_kind b ≡ k → ⊥
 
--- A line end put after a text stays apart from it, the text read backwards: with no line end the text has none itself, and
--- before a line feed stands no carriage return.
+-- A line end put after a text stays apart from it; the text is read backwards. If the line end is None, the text does not end in
+-- a line feed; if it is LF, the text does not end in a carriage return.
 abbrev pub KeepsApart : End → List ℕ → Type 0
 KeepsApart None r = FirstIsNot LineFeed r
 KeepsApart Lf r = FirstIsNot CarriageReturn r
@@ -157,7 +157,7 @@ without_line_end-append x None h = rw (append-nil x, drop_line_end-none (reverse
 without_line_end-append x Lf h = rw (reverse-append x (10 ∷ []), drop_carriage_return-none (reverse x) h, reverse-reverse x) refl
 without_line_end-append x CrLf h = rw (reverse-append x (13 ∷ 10 ∷ []), reverse-reverse x) refl
 
--- and this line end
+-- the line end of such a line is this one
 pub line_end-append : (x : List ℕ) (e : End) → KeepsApart e (reverse x) → line_end (x ++ line_end_bytes e) ≡ e
 line_end-append x None h = rw (append-nil x) (line_end-none (reverse x) h)
 line_end-append x Lf h = rw (reverse-append x (10 ∷ []), carriage_return-none (reverse x) h) refl

@@ -6,7 +6,7 @@ use Rattle.mk_lines.specs.LogicalLines.{logical_lines}
 use Rattle.mk_lines.proofs.on_lists.CutLemmas.{recut-first, recut-last, begins-at_piece, pieces-not_empty, pieces-append, concat-pieces_from_start}
 use Rattle.mk_lines.proofs.on_lines.LineCut.{LineState, AtStart, InLine, AfterOddRun, AfterOddRunCr, is_at_start, line_step, line_begins, line_pieces, line_continuation, line_state_after, logical_lines-pieces, line_continuation-start}
 
--- each byte begins a line at the start of one, and then leads where it leads from there
+-- at the start of a line each byte begins a line; a byte that begins a line leads to the same state as at the start of a line
 pub begins-always : (b : ℕ) → line_begins AtStart b ≡ true
 begins-always b = refl
 
@@ -45,7 +45,7 @@ abbrev pub EndsBefore : List ℕ → List (List ℕ) → Type 0
 EndsBefore t [] = Unit {0}
 EndsBefore t (l ∷ ls) = Ends t
 
--- a text that ends does so before any lines
+-- a text that ends a line does so before any lines
 EndsBefore-any : (t : List ℕ) (ls : List (List ℕ)) → Ends t → EndsBefore t ls
 EndsBefore-any t [] h = tt
 EndsBefore-any t (l ∷ ls) h = h
@@ -55,7 +55,7 @@ pub logical_lines-are_lines : (t : List ℕ) → AreLines (logical_lines t)
 unfolding AreLines
 logical_lines-are_lines t = ap (line_pieces AtStart) (concat-logical_lines t) ∙ sym (logical_lines-pieces t)
 
--- lines are the logical lines of their text, and the other way round
+-- lines for which `AreLines` holds are the logical lines of their text
 pub AreLines-logical : (ls : List (List ℕ)) → AreLines ls → logical_lines (concat ls) ≡ ls
 unfolding AreLines
 AreLines-logical ls h = logical_lines-pieces (concat ls) ∙ h
@@ -64,7 +64,7 @@ pub AreLines-of : (ls : List (List ℕ)) → logical_lines (concat ls) ≡ ls �
 unfolding AreLines
 AreLines-of ls h = sym (logical_lines-pieces (concat ls)) ∙ h
 
--- a text is one line where it is its only logical line
+-- a text is one line if it is its only logical line
 pub OneLine-logical : (l : List ℕ) → OneLine l → logical_lines l ≡ l ∷ []
 unfolding OneLine
 OneLine-logical l h = logical_lines-pieces l ∙ h
@@ -73,7 +73,7 @@ pub OneLine-of : (l : List ℕ) → logical_lines l ≡ l ∷ [] → OneLine l
 unfolding OneLine
 OneLine-of l h = sym (logical_lines-pieces l) ∙ h
 
--- one line is a list of lines, and the other way round
+-- one line is a list of lines
 pub OneLine-are_lines : (l : List ℕ) → OneLine l → AreLines (l ∷ [])
 unfolding OneLine AreLines
 OneLine-are_lines l h = rw (append-nil l) h
@@ -82,7 +82,7 @@ pub AreLines-one_line : (l : List ℕ) → AreLines (l ∷ []) → OneLine l
 unfolding OneLine AreLines
 AreLines-one_line l h = rw (append-nil l) at h
 
--- lines taken apart: each part is lines by itself, and the first ends where the second has a line
+-- lines taken apart: each part is lines by itself, and the first part ends a line if the second part has a line
 pub record AreApart (P Q : List (List ℕ)) : Type 0 where
   pub first : AreLines P
   pub second : AreLines Q
@@ -117,8 +117,8 @@ no_more : (M Y : List (List ℕ)) → M ++ Y ≡ [] → Y ≡ []
 no_more [] Y h = h
 no_more (m ∷ M) Y h = cc
 
--- A run of lines replaced by a text: the lines above and below stay. The text ends where lines follow it; and where nothing
--- followed the lines above, as where a text is put at the end, these end, if the text is to have lines of its own.
+-- A run of lines replaced by a text: the lines above and below stay. If lines follow the text, it has to end a line. If nothing
+-- followed the lines above, and the text has lines of its own, the lines above have to end a line.
 pub replace-run : (t : List ℕ) (X M Y : List (List ℕ)) (v : List ℕ) → logical_lines t ≡ X ++ (M ++ Y)
     → (M ++ Y ≡ [] → EndsBefore (concat X) (logical_lines v)) → EndsBefore v Y
     → logical_lines (concat X ++ (v ++ concat Y)) ≡ X ++ (logical_lines v ++ Y)

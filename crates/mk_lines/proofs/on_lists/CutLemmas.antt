@@ -19,7 +19,7 @@ module _ {A S : Type 0} (step : S → A → S) (begins : S → A → Bool) where
       go true e = ap (λ l. x ∷ l) e
       go false e = ap (λ l. x ∷ l) e
 
-  -- where nothing begins in two lists, nothing begins in each
+  -- if nothing begins in two lists together, nothing begins in the first
   pub continues-left : (s : S) (a b : List A) → continuation step begins s (a ++ b) ≡ a ++ b → continuation step begins s a ≡ a
   continues-left s [] b h = refl
   continues-left s (x ∷ a) b h = go (begins s x) h (λ k. continues-left (step s x) a b k)
@@ -30,7 +30,7 @@ module _ {A S : Type 0} (step : S → A → S) (begins : S → A → Bool) where
       go true k ih = cc
       go false k ih = ap (λ l. x ∷ l) (ih (cc))
 
-  -- nor does one begin in the second
+  -- if nothing begins in two lists together, nothing begins in the second
   pub continues-right : (s : S) (a b : List A) → continuation step begins s (a ++ b) ≡ a ++ b → continuation step begins (state_after step s a) b ≡ b
   continues-right s [] b h = h
   continues-right s (x ∷ a) b h = go (begins s x) h (λ k. continues-right (step s x) a b k)
@@ -41,7 +41,7 @@ module _ {A S : Type 0} (step : S → A → S) (begins : S → A → Bool) where
       go true k ih = cc
       go false k ih = ih (cc)
 
-  -- and the other way round
+  -- if nothing begins in either of two lists, nothing begins in both together
   pub continues-append : (s : S) (a b : List A) → continuation step begins s a ≡ a → continuation step begins (state_after step s a) b ≡ b → continuation step begins s (a ++ b) ≡ a ++ b
   continues-append s [] b h k = k
   continues-append s (x ∷ a) b h k = go (begins s x) h (λ e. continues-append (step s x) a b e k)
@@ -52,7 +52,7 @@ module _ {A S : Type 0} (step : S → A → S) (begins : S → A → Bool) where
       go true e ih = cc
       go false e ih = ap (λ l. x ∷ l) (ih (cc))
 
-  -- where nothing begins there are no pieces
+  -- if nothing begins in a list, it has no pieces
   pieces-none : (s : S) (a : List A) → continuation step begins s a ≡ a → pieces step begins s a ≡ []
   pieces-none s [] h = refl
   pieces-none s (x ∷ a) h = go (begins s x) h (λ e. pieces-none (step s x) a e)
@@ -87,7 +87,7 @@ module _ {A S : Type 0} (step : S → A → S) (begins : S → A → Bool) where
           rw (← h) (rw e refl, rw (e, (i l).0, (i l).1) refl)
       go false k e i j = (rw (e, (j k).0) refl, rw (e, (j k).1) refl)
 
-  -- where a piece stands, one begins
+  -- at the front of a piece, a piece begins
   pub begins-at_piece : (s : S) (t : List A) (P Q : List (List A)) (y : A) (q : List A) → pieces step begins s t ≡ P ++ ((y ∷ q) ∷ Q)
       → begins (state_after step s (continuation step begins s t ++ concat P)) y ≡ true
   begins-at_piece s [] [] Q y q h = cc
@@ -129,7 +129,7 @@ module _ {A S : Type 0} (step : S → A → S) (begins : S → A → Bool) where
       go false k i j = j k
 
   module _ (start : S) (begins-always : (x : A) → begins start x ≡ true) where
-    -- in the start state nothing continues
+    -- nothing continues in the start state
     pub continuation-start : (b : List A) → continuation step begins start b ≡ []
     continuation-start [] = refl
     continuation-start (x ∷ b) = rw begins-always refl
@@ -154,7 +154,7 @@ module _ {A S : Type 0} (step : S → A → S) (begins : S → A → Bool) where
     pub concat-pieces_from_start : (t : List A) → concat (pieces step begins start t) ≡ t
     concat-pieces_from_start t = rw (continuation-start t) at (concat-pieces start t)
 
-    -- a list in which nothing begins but with its first element is one piece
+    -- a list in which only the first element begins a piece is one piece
     pub one-piece : (x : A) (t : List A) → continuation step begins (step start x) t ≡ t → pieces step begins start (x ∷ t) ≡ (x ∷ t) ∷ []
     one-piece x t h = rw (begins-always x, h, pieces-none (step start x) t h) refl
 
@@ -180,7 +180,7 @@ module _ {A S : Type 0} (step : S → A → S) (begins : S → A → Bool) where
           go false k i j = j k
 
     module _ (step-again : (s : S) (x : A) → begins s x ≡ true → step s x ≡ step start x) where
-      -- the pieces that begin in a list are those of what the piece before leaves of it
+      -- the pieces that begin in a list are those of the list after what continues the piece before
       pub pieces-after_continuation : (s : S) (t : List A) → pieces step begins s t ≡ pieces step begins start (drop (length (continuation step begins s t)) t)
       pieces-after_continuation s [] = refl
       pieces-after_continuation s (x ∷ t) = go (begins s x) refl (pieces-after_continuation (step s x) t)

@@ -35,19 +35,19 @@ module _ {A : Type 0} (p : A → Bool) where
       go true e h = h
       go false e h = e
 
-  -- the leading elements where all of one list pass and the first of the next fails
+  -- the leading elements of two lists are the first list, if all its elements pass and the first of the second list fails
   pub leading-append_all : (xs ys : List A) → Each p xs → FirstFails p ys → leading p (xs ++ ys) ≡ xs
   leading-append_all [] [] h k = refl
   leading-append_all [] (y ∷ ys) h k = rw k refl
   leading-append_all (x ∷ xs) ys h k = rw (h.0, leading-append_all xs ys h.1 k) refl
 
-  -- and what comes after them
+  -- the elements after the leading ones are then the second list
   pub after_leading-append_all : (xs ys : List A) → Each p xs → FirstFails p ys → after_leading p (xs ++ ys) ≡ ys
   after_leading-append_all [] [] h k = refl
   after_leading-append_all [] (y ∷ ys) h k = rw k refl
   after_leading-append_all (x ∷ xs) ys h k = rw (h.0, after_leading-append_all xs ys h.1 k) refl
 
-  -- what follows, where its first element fails, changes nothing
+  -- what follows a list changes none of its leading elements, if the first element that follows fails
   pub leading-append : (xs ys : List A) → FirstFails p ys → leading p (xs ++ ys) ≡ leading p xs
   leading-append [] [] k = refl
   leading-append [] (y ∷ ys) k = rw k refl
@@ -62,7 +62,7 @@ module _ {A : Type 0} (p : A → Bool) where
       go true = refl
       go false = refl
 
-  -- each element of two lists
+  -- each element of two lists passes if each element of both does
   pub Each-append : (xs ys : List A) → Each p xs → Each p ys → Each p (xs ++ ys)
   Each-append [] ys h k = k
   Each-append (x ∷ xs) ys h k = (h.0, Each-append xs ys h.1 k)

@@ -1,5 +1,5 @@
--- Laws of pieces: a text with the replacements of pieces made is the text that the pieces say, and a line with some of its
--- cells replaced is one line of the new cells.
+-- Laws of pieces: a text in which the replacements of pieces are made is the text that the pieces say, and a line in which some
+-- cells are replaced is one line of the new cells.
 use Rattle.std.proofs.Common.{◌≡◌, refl, sym, ap, ◌∙◌, ℕ, List, [], ◌∷◌, ◌++◌, map, arith, append_assoc, length, take, drop, ◌-◌, ◌+◌, length-append}
 use Rattle.std.proofs.Math.Seq.{take-append_seam, drop-append_seam}
 use Rattle.std.proofs.Math.Nat.{add-sub_cancel_left}

@@ -1,4 +1,4 @@
--- Laws of ranges: they cut out the pieces and the words that they are of, and raw places cut the raw bytes of a line.
+-- Laws of ranges: they cut out their pieces and words, and raw places cut the raw bytes of a line.
 use Rattle.std.proofs.Common.{◌≡◌, refl, sym, ap, ◌∙◌, subst, ℕ, ◌+◌, List, [], ◌∷◌, ◌++◌, map, Bool, true, false, length, take, drop, append_assoc, length-append, arith, cond}
 use Rattle.std.specs.Prelude.{slice_range}
 use Rattle.std.proofs.lemmas.List.{append-nil, take-append-drop}
@@ -73,7 +73,7 @@ word_ranges-text t =
 pub raw_text-split : (cs : List Cell) (n : ℕ) → raw_text cs ≡ raw_text (take n cs) ++ raw_text (drop n cs)
 raw_text-split cs n = ap raw_text (sym (take-append-drop n cs)) ∙ raw_text-append (take n cs) (drop n cs)
 
--- a raw place cuts raw bytes into those of the cells before it and of those from it on
+-- a raw place cuts raw bytes in two: those of the cells before it, and those of the other cells
 pub take-raw_place : (cs : List Cell) (n : ℕ) → take (raw_place cs n) (raw_text cs) ≡ raw_text (take n cs)
 take-raw_place cs n = ap (take (raw_place cs n)) (raw_text-split cs n) ∙ take-append_seam (raw_text (take n cs)) (raw_text (drop n cs))
 

@@ -1,5 +1,5 @@
--- The machine that cuts units agrees with what a unit is: each is the first unit of what is left, and a text is closed where no
--- unit leaves it open.
+-- The machine that cuts units agrees with what a unit is: each is the first unit of the rest of the text, and a text is closed if
+-- no unit leaves it open.
 use Rattle.std.proofs.Common.{◌≡◌, refl, sym, ap, ◌∙◌, subst, ℕ, suc, zero, ◌+◌, List, [], ◌∷◌, ◌++◌, Bool, true, false, not, ◌||◌, cond, length, drop, append_assoc, arith, inl, inr}
 use Rattle.std.specs.Prelude.{◌==◌, ◌⊎◌}
 use Rattle.std.proofs.lemmas.List.{append-nil}
@@ -50,7 +50,7 @@ module _ {A : Type 0} (byte : A → ℕ) where
   mark_count-append p (x ∷ a) b =
       ap (λ n. cond (p (byte_mark (byte x))) 1 0 + n) (mark_count-append p a b) ∙ add_twice (cond (p (byte_mark (byte x))) 1 0) (mark_count byte p a) (mark_count byte p b)
 
-  -- one more element, of which the test is known
+  -- the count of one element more, for which the test is known
   mark_count-one : (p : Mark → Bool) (a : List A) (x : A) (c : Bool) → p (byte_mark (byte x)) ≡ c → mark_count byte p (a ++ x ∷ []) ≡ mark_count byte p a + (cond c 1 0 + 0)
   mark_count-one p a x c h = mark_count-append p a (x ∷ []) ∙ ap (λ z. mark_count byte p a + (cond z 1 0 + 0)) h
 
@@ -190,7 +190,7 @@ module _ {A : Type 0} (byte : A → ℕ) (inside : ℕ → UnitState) (opens clo
   level : List A → Bool
   level t = mark_count byte opens t == mark_count byte closes t
 
-  -- so many brackets of a text are open
+  -- this number of brackets of a text are open
   abbrev HasOpen : List A → ℕ → Type 0
   HasOpen t n = mark_count byte opens t ≡ mark_count byte closes t + suc n
 
@@ -248,7 +248,7 @@ module _ {A : Type 0} (byte : A → ℕ) (inside : ℕ → UnitState) (opens clo
           ∙ (append_assoc seen (x ∷ []) (continuation (unit_step byte) (unit_begins byte) (inside h.0) r)
           ∙ sym (goes ∙ ap (λ s. seen ++ (x ∷ continuation (unit_step byte) (unit_begins byte) s r)) h.1)))
 
--- ---- each unit is the first of what is left
+-- ---- each unit is the first of the rest
 
 module _ {A : Type 0} (byte : A → ℕ) where
   unit_continuation : UnitState → List A → List A
@@ -325,16 +325,16 @@ module _ {A : Type 0} (byte : A → ℕ) where
       ap (λ us. (x ∷ unit_continuation (unit_step byte Between x) t) ∷ us) (pieces-after_continuation (unit_step byte) (unit_begins byte) Between (begins-always byte) (step-again byte) (unit_step byte Between x) t)
       ∙ ap (λ u. u ∷ units byte (drop (length u) (x ∷ t))) (continuation-first_unit x t)
 
--- ---- a text is closed where no unit leaves it open
+-- ---- a text is closed if no unit leaves it open
 
 module _ {A : Type 0} (byte : A → ℕ) where
-  -- a reference that has begun with a bracket, of which so many are open
+  -- a reference that has begun with a bracket; this number of its brackets are open
   abbrev IsOpenReference : (first : Mark) (opens closes : Mark → Bool) → ℕ → List A → Type 0
   IsOpenReference first opens closes n u =
       (d : A) × (y : A) × (r : List A) × (u ≡ d ∷ (y ∷ r)) × (byte_mark (byte d) ≡ Dollar) × (byte_mark (byte y) ≡ first)
       × (mark_count byte opens (y ∷ r) ≡ mark_count byte closes (y ∷ r) + suc n)
 
-  -- the part of a unit that has been read, by where the text stands; between two units it is a whole one
+  -- the part of a unit that has been read, by the state after it; between two units it is a whole unit
   abbrev IsRead : UnitState → List A → Type 0
   IsRead Between u = (is_unclosed_unit byte u ≡ false) × (is_lone_backslash byte u ≡ false)
   IsRead AfterDollar u = (d : A) × (u ≡ d ∷ []) × (byte_mark (byte d) ≡ Dollar)
@@ -435,7 +435,7 @@ module _ {A : Type 0} (byte : A → ℕ) where
       subst (λ z. (is_unclosed_unit byte z || is_lone_backslash byte z) ≡ true) (sym p.3)
       (ap (λ m. is_unclosed_by byte m (p.1 ∷ p.2) || false) p.4 ∙ (ap (λ m. is_unclosed_at byte m (p.1 ∷ p.2) || false) p.5 ∙ ap (λ c. not c || false) o))
 
-  -- a unit that another follows is no lone dollar and no unclosed reference
+  -- a unit that another unit follows is no lone dollar and no unclosed reference
   IsRead-followed : (s : UnitState) (u : List A) (m : Mark) → IsRead s u → begins_unit s m ≡ true → is_unclosed_unit byte u ≡ false
   IsRead-followed Between u m p h = p.0
   IsRead-followed AfterBackslash u m p h = subst (λ z. is_unclosed_unit byte z ≡ false) (sym p.1) (rw p.2 refl)
@@ -463,7 +463,7 @@ module _ {A : Type 0} (byte : A → ℕ) where
           ap (λ z. leaves_open byte (z ∷ pieces (unit_step byte) (unit_begins byte) (unit_step byte s x) t)) (sym (append_assoc u (x ∷ []) (continuation (unit_step byte) (unit_begins byte) (unit_step byte s x) t)))
           ∙ more (IsRead-more s u x p e)
 
-  -- a text is closed where none of its units is a lone dollar or an unclosed reference, and the last is no lone backslash
+  -- a text is closed if none of its units is a lone dollar or an unclosed reference, and the last unit is not a lone backslash
   pub is_closed-leaves_open : (t : List A) → is_closed byte t ≡ not (leaves_open byte (units byte t))
   is_closed-leaves_open [] = refl
   is_closed-leaves_open (x ∷ t) =

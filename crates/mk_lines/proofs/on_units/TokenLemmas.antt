@@ -77,7 +77,7 @@ concat-map f [] = refl
 concat-map f (u ∷ us) = ap (λ z. map f u ++ z) (concat-map f us) ∙ sym (map-append f u (concat us))
 
 module _ {A B : Type 0} (f : A → B) (byte : B → ℕ) where
-  -- the image of a unit is a gap where the unit is
+  -- the image of a unit is a gap if the unit is
   pub is_gap-map : (u : List A) → is_gap byte (map f u) ≡ is_gap (λ x. byte (f x)) u
   is_gap-map [] = refl
   is_gap-map (x ∷ []) = refl

@@ -1,5 +1,5 @@
--- Laws of units: joined they are the text, those of a closed text stay whatever follows, and some are replaced by those of a
--- closed text.
+-- Laws of units: joined they are the text; the units of a closed text stay whatever follows; and some units may be replaced by
+-- those of a closed text.
 use Rattle.std.proofs.Common.{◌≡◌, refl, sym, ap, ◌∙◌, ℕ, List, [], ◌∷◌, ◌++◌, map, true, append_assoc}
 use Rattle.mk_lines.specs.Lists.{concat}
 use Rattle.mk_lines.specs.Cut.{state_after}
@@ -37,7 +37,7 @@ begins-unmarked (InParens n) h = cc
 begins-unmarked (InBraces n) h = cc
 
 module _ {A : Type 0} (byte : A → ℕ) where
-  -- between two units each element begins one, and where one begins it goes on as from there
+  -- between two units each element begins a unit; an element that begins a unit leads to the same state as between two units
   pub begins-always : (x : A) → unit_begins byte Between x ≡ true
   begins-always x = refl
 
@@ -52,11 +52,11 @@ module _ {A : Type 0} (byte : A → ℕ) where
   pub is_closed-between : (t : List A) → is_closed byte t ≡ true → state_after (unit_step byte) Between t ≡ Between
   is_closed-between t h = is_between-is (state_after (unit_step byte) Between t) h
 
-  -- the units of a closed text followed by any text are its own and then that text's
+  -- the units of a closed text followed by any text are its own units and then those of that text
   pub units-append : (a b : List A) → is_closed byte a ≡ true → units byte (a ++ b) ≡ units byte a ++ units byte b
   units-append a b h = pieces-append (unit_step byte) (unit_begins byte) Between begins-always Between a b (is_closed-between a h)
 
-  -- and the text is closed where the second part is
+  -- a closed text followed by a text is closed if that text is
   pub is_closed-append : (a b : List A) → is_closed byte a ≡ true → is_closed byte (a ++ b) ≡ is_closed byte b
   is_closed-append a b h =
       ap is_between (state_after-append (unit_step byte) Between a b) ∙ ap (λ z. is_between (state_after (unit_step byte) z b)) (is_closed-between a h)
@@ -71,7 +71,7 @@ module _ {A : Type 0} (byte : A → ℕ) where
 
   -- ---- units that end in a byte that is nothing to units
 
-  -- a unit of one such byte
+  -- a unit of one byte that is nothing to units
   abbrev pub IsPlainUnit : List A → Type 0
   IsPlainUnit [] = ⊥
   IsPlainUnit (x ∷ []) = byte_mark (byte x) ≡ Unmarked
@@ -89,7 +89,7 @@ module _ {A : Type 0} (byte : A → ℕ) where
   EndsPlain-append (x ∷ []) u vs h = h
   EndsPlain-append (x ∷ y ∷ us) u vs h = EndsPlain-append (y ∷ us) u vs h
 
-  -- the last of such units by itself
+  -- the last unit of units that end in such a unit, by itself
   pub EndsPlain-split : (us : List (List A)) → EndsPlain us → (front : List (List A)) × (x : A) × (us ≡ front ++ ((x ∷ []) ∷ [])) × (byte_mark (byte x) ≡ Unmarked)
   EndsPlain-split [] h = absurd h
   EndsPlain-split ([] ∷ []) h = absurd h
@@ -105,7 +105,7 @@ module _ {A : Type 0} (byte : A → ℕ) where
       let c : state_after (unit_step byte) Between (concat C) ≡ Between = begins-unmarked (state_after (unit_step byte) Between (concat C)) (rw m at b) in
       rw (concat-append C ((x ∷ []) ∷ []), state_after-append (unit_step byte) Between (concat C) (x ∷ []), c, m) refl
 
-  -- after units that end so, the text stands between two units
+  -- after units that end in such a unit, the text is between two units
   pub EndsPlain-closed : (t : List A) (B R : List (List A)) → EndsPlain B → units byte t ≡ B ++ R → is_closed byte (concat B) ≡ true
   EndsPlain-closed t B R p h =
       let s = EndsPlain-split B p in
@@ -124,6 +124,6 @@ module _ {A : Type 0} (byte : A → ℕ) where
 pub units-map : {A B : Type 0} (f : A → B) (byte : B → ℕ) (t : List A) → units byte (map f t) ≡ map (map f) (units (λ x. byte (f x)) t)
 units-map f byte t = pieces-map f (unit_step byte) (unit_begins byte) Between t
 
--- an image is closed where the text is
+-- an image is closed if the text is
 pub is_closed-map : {A B : Type 0} (f : A → B) (byte : B → ℕ) (t : List A) → is_closed byte (map f t) ≡ is_closed (λ x. byte (f x)) t
 is_closed-map f byte t = ap is_between (state_after-map f (unit_step byte) Between t)

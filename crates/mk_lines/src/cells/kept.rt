@@ -1,8 +1,8 @@
 //! The cells of a line as they are kept beside it, and their readers.
 //!
 //! A line without folds is its own joined text, and each of its raw places is the joined one, so
-//! nothing is kept of it but flags. Of a line with folds the joined text is kept, and where each
-//! fold ends: a raw place is told by the nearest fold before it.
+//! nothing is kept of it except flags. Of a line with folds the joined text is kept, and the end of
+//! each fold: the nearest fold before a joined place tells the raw place.
 ghost use Rattle.std.specs.Prelude.{◌≡◌, ◌≢◌, ◌==◌, ◌≤◌, ℕ, List, drop, length, true, false, nat_lt, All, IfOk, IsOkUnless};
 ghost use Rattle.std.specs.List.{list_any};
 ghost use Rattle.std.specs.Option.{is_some};
@@ -23,8 +23,8 @@ use std::alloc::{Allocator, Global};
 use std::marker::Model;
 use std::mem::size_of;
 
-/// Where a fold ends. A line end that no backslash escapes, of which one logical line has none,
-/// counts as a fold.
+/// Where a fold ends. A line end that no backslash escapes counts as a fold; one logical line has
+/// no such line end.
 #[derive(Clone, Copy, Debug, PartialEq, Eq)]
 pub struct FoldEnd {
     /// How many joined bytes stand after the fold.
@@ -36,8 +36,8 @@ pub struct FoldEnd {
 /// The cells of a logical line, as [`cells`](super::cells) gives them.
 ///
 /// They are kept beside their line and do not hold it: a second copy of each line would double the
-/// memory of a document. So [`text`](Cells::text) is given the line again. None of the readers
-/// takes memory.
+/// memory of a document. So [`text`](Cells::text) takes the line as an argument. None of the
+/// readers takes memory.
 #[derive(Debug, Drop)]
 pub struct Cells<A: Allocator> {
     /// How many cells there are, which is how many bytes the joined text has.
@@ -45,13 +45,13 @@ pub struct Cells<A: Allocator> {
     rest: Rest<A>,
 }
 
-// A document keeps one of each of its lines.
+// A document keeps one of these for each of its lines.
 const _: () = prove!(size_of::<Cells<Global>>() == 24);
 
-/// What is kept beside the count: a few bytes of most lines.
+/// What is kept in addition to the count: a few bytes for most lines.
 #[derive(Debug, Drop)]
 pub(super) enum Rest<A: Allocator> {
-    /// Of a line without folds, whether it has a stray byte.
+    /// A line without folds: whether it has a stray byte.
     Plain(bool),
     Folded(Box<Folded<A>, A>),
 }
@@ -59,7 +59,7 @@ pub(super) enum Rest<A: Allocator> {
 /// What is kept of a line with folds.
 #[derive(Debug, Drop)]
 pub(super) struct Folded<A: Allocator> {
-    /// The joined text stands at its end: what is before it means nothing.
+    /// The joined text stands at the end of these bytes; the bytes before it mean nothing.
     pub(super) joined: Vec<u8, A>,
     /// Where the joined text begins.
     pub(super) first: usize,
@@ -80,7 +80,7 @@ impl<A: Allocator> Model for Cells<A> {
 }
 
 impl<A: Allocator> Cells<A> {
-    // Of a text without a line feed: each byte stands for itself.
+    // The cells of a text without a line feed: each byte stands for itself.
     pub(super) fn plain(text: &[u8], stray: bool) -> Cells<A>
         requires no_line_feed { All (λ b. b ≢ 10) text.now }
         requires stray { stray ≡ list_any (λ b. is_stray_by (byte_kind b) (b == 0)) text.now }
@@ -92,7 +92,7 @@ impl<A: Allocator> Cells<A> {
         }
     }
 
-    // Of a text with a line feed.
+    // The cells of a text with a line feed.
     pub(super) fn folded(alloc: A, text: &[u8], folded: Folded<A>) -> Result<Cells<A>, Fault>
         requires some { All (λ b. b ≢ 10) text.now → ⊥ }
         requires first { folded.first ≤ length folded.joined.items }
@@ -111,7 +111,7 @@ impl<A: Allocator> Cells<A> {
 
     /// The joined text: the line without its line end, with each fold made one space.
     ///
-    /// `line` is the line that these are the cells of. Without folds the answer is a part of it,
+    /// `line` is the line whose cells these are. Without folds the answer is a part of `line`,
     /// since no copy is kept; with folds it is the joined text that is kept.
     pub fn text<'a>(&'a self, line: &'a [u8]) -> &'a [u8]
         requires { AreCellsOf self.now line.now }
@@ -124,9 +124,10 @@ impl<A: Allocator> Cells<A> {
         }
     }
 
-    /// The raw bytes of the joined bytes from `start` up to `end`, as a range of the line.
+    /// The raw bytes of the joined bytes from `start` up to `end`, as a range of bytes of the line.
     ///
-    /// Each fold in the range counts with its whole run. Takes time logarithmic in the folds.
+    /// Each fold in the range counts with its whole run. Takes time logarithmic in the number of
+    /// folds, and no memory.
     pub fn raw_range(&self, start: usize, end: usize) -> Span
         requires order { start ≤ end }
         requires within { end ≤ self.now.count }
@@ -138,7 +139,8 @@ impl<A: Allocator> Cells<A> {
         }
     }
 
-    // How many raw bytes stand before the joined byte at a place, or in the whole text at its end.
+    // How many raw bytes stand before the joined byte at a place, or before the end of the text if
+    // the place is that end.
     fn raw_place(&self, place: usize) -> usize
         requires { place ≤ self.now.count }
         ensures { result ≡ kept_place self.now place }
@@ -172,8 +174,8 @@ impl<A: Allocator> Cells<A> {
     }
 }
 
-// The raw place of a joined one, behind which so many joined bytes stand: the nearest fold before it
-// tells it.
+// The raw place of a joined place that `after` joined bytes follow: the nearest fold before it
+// tells the raw place.
 fn place_by_ends(ends: &[FoldEnd], after: usize, place: usize) -> usize
     requires { AreInOrder ends.now }
     ensures { result ≡ place_by_ends ends.now after place }
@@ -184,7 +186,7 @@ fn place_by_ends(ends: &[FoldEnd], after: usize, place: usize) -> usize
     }
 }
 
-// How many folds have their ends behind the place that so many joined bytes follow.
+// How many folds end behind the place that `after` joined bytes follow.
 fn count_folds_behind(ends: &[FoldEnd], after: usize) -> usize
     requires { IsNonDecreasingBy (λ (e : FoldEnd). e.after) ends.now }
     ensures { IsPartitionPoint (λ (e : FoldEnd). nat_lt e.after after ≡ true) (λ (e : FoldEnd). nat_lt e.after after ≡ false) ends.now result }
@@ -199,7 +201,7 @@ pub(super) fn has_stray_byte(joined: &[u8]) -> bool
     first_stray_byte(joined).is_some()
 }
 
-// The first place of a stray byte, as which any line feed counts.
+// The place of the first stray byte. A line feed counts as a stray byte here.
 pub(super) fn first_stray_byte(text: &[u8]) -> Option<usize>
     ensures first { IsFirstByte (is_byte3 0 10 13) text.now result }
     ensures some { is_some result ≡ list_any (λ b. is_stray_by (byte_kind b) (b == 0)) text.now }

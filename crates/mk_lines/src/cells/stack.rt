@@ -1,8 +1,9 @@
 //! The cells of a text, read from its last byte to its first.
 //!
-//! Cells are defined from the end: a line feed takes the blanks and folds after it, a carriage
-//! return and then a backslash directly before it join it, and a blank joins a fold directly after
-//! it. So one pass backwards over a stack makes them, whose top is the first cell so far.
+//! Cells are defined from the end: a line feed takes the blanks and folds that follow it; a
+//! carriage return directly before a line feed joins it, and a backslash directly before that line
+//! end joins it too; a blank joins a fold directly after it. So one pass backwards makes the cells,
+//! over a stack whose top is the first cell so far.
 ghost use Rattle.std.specs.Prelude.{◌≡◌, ◌≢◌, ◌==◌, ◌||◌, ◌+◌, ◌-◌, ◌≤◌, ◌<◌, ℕ, List, [], ◌∷◌, ◌++◌, length, drop, slice_index, OnOk, IfOk, IsOkUnless};
 ghost use Rattle.std.specs.List.{prefix_len};
 ghost use Rattle.mk_lines.specs.Bytes.{LineFeed, CarriageReturn, Backslash, Blank, byte_kind};
@@ -25,14 +26,14 @@ pub enum Top {
     Fold,
     /// A line feed and the blanks after it, which may be the end of a fold.
     Lf,
-    /// The same with a carriage return before the line feed.
+    /// A line end as in `Lf`, with a carriage return before its line feed.
     CrLf,
 }
 
 /// The cells of the bytes that were read.
 #[derive(Drop)]
 pub struct Stack<A: Allocator> {
-    /// The joined bytes stand at its end, behind room for those of the bytes not read yet.
+    /// The joined bytes stand at the end, behind room for the joined bytes that are not read yet.
     pub joined: Vec<u8, A>,
     /// Where the joined bytes begin.
     pub first: usize,
@@ -55,12 +56,12 @@ impl<A: Allocator> Model for Stack<A> {
     ghost invariant = { λ s. s.first ≤ length s.joined.items };
 }
 
-/// Reads a text from its last byte to its first: at a fold byte by byte, and else the bytes back to
-/// a line feed together. The bytes up to `feed` are known to be no line feeds.
+/// Reads a text from its last byte to its first: a fold byte by byte, and the other bytes together,
+/// back to a line feed. The bytes before `feed` are known to be no line feeds.
 ///
 /// # Errors
 ///
-/// [`Fault::NoMemory`] where a list could not grow.
+/// [`Fault::NoMemory`] if a list could not grow.
 pub fn stack_of_text<A: Allocator + Copy>(
     alloc: A,
     text: &[u8],
@@ -84,7 +85,8 @@ pub fn stack_of_text<A: Allocator + Copy>(
     Ok(stack)
 }
 
-// Where the bytes before a place begin that are no line feeds, as those up to `feed` are known to be.
+// Where the run of bytes before a place begins that has no line feed; the bytes before `feed` have
+// none.
 fn run_start(text: &[u8], place: usize, feed: usize) -> usize
     requires some { 0 < place }
     requires place { place ≤ length text.now }
@@ -103,8 +105,8 @@ fn run_start(text: &[u8], place: usize, feed: usize) -> usize
 }
 
 impl<A: Allocator> Stack<A> {
-    // Reads one byte or more before a place, and says where they begin. Before a byte that stands
-    // for itself all do, back to a line feed.
+    // Reads one byte or more before a place, and says where they begin. If a byte stands for itself
+    // there, all bytes back to a line feed are read.
     fn prepend_some(&mut self, text: &[u8], place: usize, feed: usize) -> Result<usize, Fault>
         requires before { (k : ℕ) → k < feed → slice_index text.now k ≢ 10 }
         requires some { 0 < place }
@@ -126,7 +128,7 @@ impl<A: Allocator> Stack<A> {
         }
     }
 
-    // Bytes that stand for themselves.
+    // Reads bytes that stand for themselves.
     fn push_run(&mut self, run: &[u8])
         requires { length run.now ≤ self.old.room }
         ensures stack { self.new.stack ≡ record self.old.stack { joined = run.now ++ self.old.stack.joined; top = Top.Byte } }
@@ -158,7 +160,8 @@ impl<A: Allocator> Stack<A> {
         Ok(())
     }
 
-    // A line feed takes the blanks and folds after it: a fold that is there, or blanks alone.
+    // Reads a line feed, which takes the blanks and folds that follow it: a fold that is there, or
+    // only blanks.
     fn push_line_feed(&mut self, text: &[u8], place: usize) -> Result<(), Fault>
         requires place { place < length text.now }
         requires room { place < self.old.room }
@@ -176,7 +179,7 @@ impl<A: Allocator> Stack<A> {
         }
     }
 
-    // A line feed that has no fold directly after it takes blanks alone.
+    // Reads a line feed that has no fold directly after it: it takes only blanks.
     fn push_line_end(&mut self, text: &[u8], place: usize) -> Result<(), Fault>
         requires place { place < length text.now }
         requires room { place < self.old.room }
@@ -197,7 +200,7 @@ impl<A: Allocator> Stack<A> {
         Ok(())
     }
 
-    // A carriage return joins a line feed directly after it.
+    // Reads a carriage return, which joins a line feed directly after it.
     fn push_carriage_return(&mut self)
         requires { 0 < self.old.room }
         ensures stack { (place : ℕ) (cs : List Cell) → self.old.stack ≡ stack_of (place + 1) cs → self.new.stack ≡ stack_of place (prepend CarriageReturn 13 cs) }
@@ -209,7 +212,8 @@ impl<A: Allocator> Stack<A> {
         }
     }
 
-    // A backslash makes a fold of a line end directly after it, and a fold directly after it bad.
+    // Reads a backslash: with a line end directly after it, it makes a fold; a fold directly after
+    // it becomes bad.
     fn push_backslash(&mut self)
         requires room { 0 < self.old.room }
         requires some { self.old.stack.top ≢ Top.Byte → 0 < length self.old.stack.joined }
@@ -226,7 +230,7 @@ impl<A: Allocator> Stack<A> {
         }
     }
 
-    // A blank joins a fold directly after it.
+    // Reads a blank, which joins a fold directly after it.
     fn push_blank(&mut self, blank: u8)
         requires blank { byte_kind blank ≡ Blank }
         requires room { 0 < self.old.room }
@@ -239,7 +243,7 @@ impl<A: Allocator> Stack<A> {
         }
     }
 
-    // A byte that stands for itself.
+    // Reads a byte that stands for itself.
     fn push_byte(&mut self, byte: u8)
         requires { 0 < self.old.room }
         ensures stack { self.new.stack ≡ record self.old.stack { joined = byte ∷ self.old.stack.joined; top = Top.Byte } }
@@ -250,7 +254,7 @@ impl<A: Allocator> Stack<A> {
         self.top = Top::Byte;
     }
 
-    // The first cell becomes another.
+    // Puts another cell in the place of the first.
     fn replace_top(&mut self, byte: u8, top: Top)
         requires { 0 < length self.old.stack.joined }
         ensures stack { (before : List ℕ) (last : ℕ) → self.old.stack.joined ≡ last ∷ before → self.new.stack ≡ record self.old.stack { joined = byte ∷ before; top = top } }

@@ -11,14 +11,15 @@ exchanges at (true ∷ cs) (l ∷ ls) = Exchange at l ∷ exchanges (at + 1) cs 
 exchanges at (false ∷ cs) (l ∷ ls) = exchanges (at + 1) cs ls
 exchanges at cs ls = []
 
--- Two lists of lines, as long as that of what is chosen, are the same but for the chosen lines, which are of no conditional.
+-- Two lists of lines, each as long as `chosen`, are the same except for the chosen lines, which are of no conditional.
 abbrev pub DifferWhereChosen : (chosen : List Bool) → (before after : List PlacedLine) → Type 0
 DifferWhereChosen [] [] [] = Unit {0}
 DifferWhereChosen (true ∷ cs) (old ∷ olds) (new ∷ news) = IsPlain old × IsPlain new × DifferWhereChosen cs olds news
 DifferWhereChosen (false ∷ cs) (old ∷ olds) (new ∷ news) = (old ≡ new) × DifferWhereChosen cs olds news
 DifferWhereChosen cs olds news = ⊥
 
--- some first lines after the exchanges, and the others before them, are at most 16,777,216 bytes, wherever the lines are parted
+-- the first lines as they are after the exchanges, and then the others as they were before, have at most 16,777,216 bytes,
+-- wherever the lists are parted
 abbrev StayWithin : (above before after : List PlacedLine) → Type 0
 StayWithin above before after = (i : ℕ) → i ≤ length before → size_of (above ++ (take i after ++ drop i before)) ≤ 2 ^ 24
 
@@ -56,7 +57,7 @@ exchanges-lead_below above (false ∷ cs) (old ∷ olds) (new ∷ news) at e d w
       lead = ap (after_moves (exchanges (at + 1) cs news)) (sym (append-one above new olds)) ∙ (r.lead ∙ append-one above new news);
     })
 
--- The same of all lines: they lead to the lines with each chosen one exchanged.
+-- The exchanges in all lines lead to the lines with each chosen one exchanged.
 pub exchanges-lead : (cs : List Bool) (before after : List PlacedLine) → DifferWhereChosen cs before after → StayWithin [] before after → LeadTo (exchanges 0 cs after) before after
 exchanges-lead cs before after d w = exchanges-lead_below [] cs before after 0 refl d w
 
@@ -93,7 +94,7 @@ exchanges-taken at (false ∷ cs) [] = refl
 exchanges-taken at (true ∷ cs) (l ∷ ls) = omega (arith, exchanges-taken (at + 1) cs ls)
 exchanges-taken at (false ∷ cs) (l ∷ ls) = exchanges-taken (at + 1) cs ls
 
--- as many lines are held and taken out as are chosen
+-- the exchanges hold as many lines as are chosen, and take out as many
 pub exchanges-held_chosen : (at : ℕ) (cs : List Bool) (before after : List PlacedLine) → DifferWhereChosen cs before after → held_by (exchanges at cs after) ≡ how_many cs
 exchanges-held_chosen at cs before after d = exchanges-held at cs after ∙ exchanges-number at cs before after d
 
@@ -102,7 +103,7 @@ exchanges-taken_chosen at cs before after d = exchanges-taken at cs after ∙ ex
 
 -- ---- when the sizes stay within the limit
 
--- each of some lines has at most as many bytes as the one of the others at its place
+-- each of some lines has at most as many bytes as the line of the other list at its place
 abbrev pub AreNoLonger : List PlacedLine → List PlacedLine → Type 0
 AreNoLonger [] [] = Unit {0}
 AreNoLonger (l ∷ ls) (k ∷ ks) = (length l.bytes ≤ length k.bytes) × AreNoLonger ls ks
@@ -124,10 +125,10 @@ shrunk (l ∷ ls) [] i n = absurd n
 shrunk (l ∷ ls) (k ∷ ks) zero n = omega arith
 shrunk (l ∷ ls) (k ∷ ks) (suc i) n = omega (arith, n.0, shrunk ls ks i n.1)
 
--- where no line gets shorter, it is enough that the lines after the exchanges are within the limit
+-- if no line gets shorter, it is enough that the lines after the exchanges are within the limit
 pub within-grown : (before after : List PlacedLine) → AreNoLonger before after → size_of after ≤ 2 ^ 24 → StayWithin [] before after
 within-grown before after n few i h = omega (arith, grown before after i n, few)
 
--- and where none gets longer, that those before are
+-- if no line gets longer, it is enough that the lines before the exchanges are within the limit
 pub within-shrunk : (before after : List PlacedLine) → AreNoLonger after before → size_of before ≤ 2 ^ 24 → StayWithin [] before after
 within-shrunk before after n few i h = omega (arith, shrunk before after i n, few)

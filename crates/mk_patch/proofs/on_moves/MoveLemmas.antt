@@ -120,7 +120,7 @@ pub taken_by-append : (ms ns : List Move) → taken_by (ms ++ ns) ≡ taken_by m
 taken_by-append [] ns = omega arith
 taken_by-append (m ∷ ms) ns = omega (arith, taken_by-append ms ns)
 
--- each move holds at most one line, and takes out at most one
+-- each move holds at most one line, and takes out at most one line
 held_by_move-few : (m : Move) → held_by_move m ≤ 1
 held_by_move-few (PutIn at l) = omega arith
 held_by_move-few (TakeOut at) = omega arith

@@ -1,5 +1,5 @@
--- What the shapes of patches lead to: a line put in, one put in after a last line that gets another line end, one exchanged, and
--- a run of lines taken out.
+-- What the shapes of patches lead to: a line put in; a line put in after a last line that gets another line end; a line
+-- exchanged; and a run of lines taken out.
 use Rattle.std.proofs.Common.{◌≡◌, refl, sym, ap, ◌∙◌, arith, ℕ, zero, suc, ◌+◌, ◌^◌, ◌<◌, ◌≤◌, List, [], ◌∷◌, ◌++◌, length, length-append, take, drop, replicate, Some}
 use Rattle.std.specs.Prelude.{slice_get}
 use Rattle.std.proofs.Math.Seq.{take-append_seam, drop-append_seam, drop-append-add}
@@ -13,7 +13,7 @@ pub record LeadTo (ms : List Move) (before after : List PlacedLine) : Type 0 whe
   pub fit : FitMoves ms before
   pub lead : after_moves ms before ≡ after
 
--- the same, where the moves and the lines are said otherwise
+-- equal moves fit equal lines and lead to equal lines
 pub same-lead : (ms ns : List Move) (a b c d : List PlacedLine) → ms ≡ ns → a ≡ b → c ≡ d → LeadTo ms a c → LeadTo ns b d
 same-lead ms ns a b c d m e f h = rw (← m, ← e, ← f) h
 
@@ -81,7 +81,7 @@ swap_end-leads above last b some same few =
     let x = last-ended above last b in
     record { fit = ((omega (arith, length-append above (last ∷ [])), some, same ∙ ap (λ z. without_line_end (bytes_of_line z)) (sym (last-of above last)), rw x few), tt); lead = x }
 
--- after it a line is put in at the end
+-- after a last line with another line end, a line is put in at the end
 pub ended-put_in-leads : (above : List PlacedLine) (last l : PlacedLine) (b : List ℕ) (at : ℕ) → at ≡ length above + 1 → 0 < length b → without_line_end b ≡ without_line_end last.bytes → IsPlain l
     → size_of (above ++ record last { bytes = b } ∷ l ∷ []) ≤ 2 ^ 24 → LeadTo (SwapEnd b ∷ PutIn at l ∷ []) (above ++ last ∷ []) (above ++ record last { bytes = b } ∷ l ∷ [])
 ended-put_in-leads above last l b at e some same p few =

@@ -1,4 +1,4 @@
--- Lines of a text moved: the shapes of patches, where the lines of a document are those of a text.
+-- Lines of a text moved: the shapes of patches, if the lines of a document are those of a text.
 use Rattle.std.proofs.Common.{◌≡◌, refl, sym, ap, ◌∙◌, arith, ℕ, ◌+◌, ◌^◌, ◌<◌, ◌≤◌, List, [], ◌∷◌, ◌++◌, true, not, length, replicate}
 use Rattle.std.proofs.lemmas.List.{map-append, length-map}
 use Rattle.std.proofs.lemmas.Bool.{not-true}

@@ -33,7 +33,7 @@ put-second_failed a b c held x held' y z e h k = subst (AppendsPrefix a c) (behi
 pub put-both : (a b c : Option (List ℕ)) (held x held' y held'' z : List ℕ) → z ≡ x ++ y → AppendsSoFar a b (held ++ x) held' → AppendsSoFar b c (held' ++ y) held'' → AppendsSoFar a c (held ++ z) held''
 put-both a b c held x held' y held'' z e h k = subst (λ t. AppendsSoFar a c t held'') (behind held x y z e) (so_far-more a b c (held ++ x) held' y held'' h k)
 
--- the second part was put where a call answered so
+-- the second part was put if a call answered so
 pub put-second : {E : Type 0} (r : Result Unit E) (a b c : Option (List ℕ)) (held x held' y held'' z : List ℕ) → z ≡ x ++ y → AppendsSoFar a b (held ++ x) held' → OnOk r (AppendsSoFar b c (held' ++ y) held'')
     → OnOk r (AppendsSoFar a c (held ++ z) held'')
 put-second (Ok u) a b c held x held' y held'' z e h k = put-both a b c held x held' y held'' z e h k
@@ -41,7 +41,7 @@ put-second (Err i) a b c held x held' y held'' z e h k = k
 
 -- ---- a walk that puts what it says of each line, so far `front` of the whole
 
--- one more line
+-- one line more
 pub put-next : (front said rest whole : List ℕ) → front ++ (said ++ rest) ≡ whole → (front ++ said) ++ rest ≡ whole
 put-next front said rest whole e = append_assoc front said rest ∙ e
 
@@ -50,7 +50,7 @@ pub put-next_failed : (a b c : Option (List ℕ)) (front held said rest whole : 
 put-next_failed a b c front held said rest whole so h e =
     subst (AppendsPrefix a c) (put-next front said rest whole e) (AppendsPrefix-front a c (front ++ said) rest (so_far-prefix a b c front held said so h))
 
--- what is held back at the end goes out where a call answers so
+-- what is held back at the end goes out if a call answers so
 pub put-last : {E : Type 0} (r : Result Unit E) (a b c : Option (List ℕ)) (text held last whole : List ℕ) → last ≡ held → text ≡ whole → AppendsSoFar a b text held → OnOk r (Appends b c last) → OnOk r (Appends a c whole)
 put-last (Ok u) a b c text held last whole e f so h = subst (Appends a c) f (so_far-whole a b c text held so (subst (Appends b c) e h))
 put-last (Err i) a b c text held last whole e f so h = h

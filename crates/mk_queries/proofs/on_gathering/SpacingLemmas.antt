@@ -13,24 +13,24 @@ use Rattle.mk_queries.proofs.on_gathering.PutLemmas.{put-both, put-first_failed,
 pub put-more : (a b c : Option (List ℕ)) (start front held said held' : List ℕ) → AppendsSoFar a b (start ++ front) held → AppendsSoFar b c (held ++ said) held' → AppendsSoFar a c (start ++ (front ++ said)) held'
 put-more a b c start front held said held' h k = put-both a b c start front held said held' (front ++ said) refl h k
 
--- not all of more is out
+-- not all of the next part is out
 pub put-more_failed : (a b c : Option (List ℕ)) (start front held said rest whole : List ℕ) → (front ++ said) ++ rest ≡ whole → AppendsSoFar a b (start ++ front) held → AppendsPrefix b c (held ++ said) → AppendsPrefix a c (start ++ whole)
 put-more_failed a b c start front held said rest whole e h k =
     put-second_failed a b c start front held (said ++ rest) whole (sym e ∙ append_assoc front said rest) h (put-first_failed b c held said rest (said ++ rest) refl k)
 
--- all of it was put
+-- all of the text was put
 pub put-most : (a b : Option (List ℕ)) (start front held whole : List ℕ) → front ≡ whole → AppendsSoFar a b (start ++ front) held → AppendsPrefix a b (start ++ whole)
 put-most a b start front held whole e h = subst (λ z. AppendsPrefix a b (start ++ z)) e (put-prefix a b (start ++ front) held h)
 
 -- ---- the words
 
--- one more word after a space
+-- one word more, with a space before it
 pub after-next : (front t w r whole : List ℕ) → words_in t ≡ w ∷ words_in r → front ++ each_after_space (words_in t) ≡ whole → (front ++ (codes " " ++ (w ++ []))) ++ each_after_space (words_in r) ≡ whole
 after-next front t w r whole e h =
     let s : (front ++ (codes " " ++ w)) ++ each_after_space (words_in r) ≡ front ++ (codes " " ++ (w ++ each_after_space (words_in r))) = simp append_assoc in
     ap (λ z. (front ++ (codes " " ++ z)) ++ each_after_space (words_in r)) (append-nil w) ∙ (s ∙ (ap (λ z. front ++ each_after_space z) (sym e) ∙ h))
 
--- one more word before a space
+-- one word more, with a space after it
 pub before-next : (front t w r whole : List ℕ) → words_in t ≡ w ∷ words_in r → front ++ each_before_space (words_in t) ≡ whole → (front ++ (w ++ (codes " " ++ []))) ++ each_before_space (words_in r) ≡ whole
 before-next front t w r whole e h =
     let s : (front ++ (w ++ codes " ")) ++ each_before_space (words_in r) ≡ front ++ (w ++ (codes " " ++ each_before_space (words_in r))) = simp append_assoc in

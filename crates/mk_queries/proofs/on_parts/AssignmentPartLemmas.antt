@@ -70,7 +70,7 @@ assigned-seen cs start at front a h =
     ∙ (ap (λ z. each_before_space ms ++ (n ++ (codes " " ++ (operator_text z ++ (after_space (text_at t at.value) ++ codes "\n"))))) h.flavor
     ∙ ap (λ z. each_before_space ms ++ (n ++ (codes " " ++ (operator_text a.flavor ++ (after_space z ++ codes "\n"))))) h.placed.value.text_is))
 
--- its parts stand in the text
+-- the parts of an assignment stand in the text
 seen-within : (cs : List Cell) (start : ℕ) (at : places.Assignment) (front : List (List Cell)) (a : Assignment Cell) → IsSeen cs start at front a → IsAssignmentWithin (length (joined_text cs)) start at
 seen-within cs start at front a h =
     let n : length (joined_text cs) ≡ length cs = length-map cs joined_byte in
@@ -127,7 +127,7 @@ assign-at c l a p e =
 target-at : (c : Context) (l : List ℕ) (t : TargetAssignment Cell) → class_of c l ≡ TargetAssign t → IsSeen (line_cells l) (assigned_start (target_assignment_places t)) (target_assignment_places t).assignment (t.targets ++ t.colons) t.assigned
 target-at c l t e = target-seen (line_cells l) (is_prefix_led c.prefix l) (nat_lt 0 c.conditionals) (is_unreadable (line_cells l)) t (holds-as c l (TargetAssign t) e) (target-placed c l t e)
 
--- its parts stand in the joined text
+-- the parts of an assignment stand in the joined text
 pub assign-within : (c : Context) (l : PlacedLine) (at : places.Assignment) (p : Option ℕ) → IsClassedIn c l → l.class ≡ variants.Assign at p → IsAssignmentWithin (length (text_of_line l)) 0 at
 assign-within c l at p h e = go (class_of c l.bytes) refl (sym e ∙ h)
   where

@@ -41,7 +41,7 @@ placed-within cs at x s =
       order_only = span-within cs (order_only_span at) _ x.order_only s.order_only;
     }
 
--- they stand in the joined text
+-- the parts of a header stand in the joined text
 pub header-within : (c : Context) (l : PlacedLine) (at : header.Header) → IsClassedIn c l → l.class ≡ variants.Header at → IsHeaderWithin (length (text_of_line l)) at
 header-within c l at h e = go (class_of c l.bytes) refl (sym e ∙ h)
   where
@@ -96,13 +96,13 @@ header-parts t at m p n o e f h i =
 pub order_only-parts : (t w r : List ℕ) → words_in t ≡ w ∷ words_in r → order_only_text (words_in t) ≡ (codes " | " ++ (w ++ [])) ++ each_after_space (words_in r)
 order_only-parts t w r e = ap order_only_text e ∙ ap (λ z. codes " | " ++ (z ++ each_after_space (words_in r))) (sym (append-nil w))
 
--- what is said at a header's line: the count that ends the line before it, where it stands, and the header
+-- what is said at a header's line: the count that ends the line of the header before it, the place, and the header
 pub header-said : (n d d' : ℕ) (o : Option ℕ) (t t' : List ℕ) (k j : class.Class) (at : header.Header) → d' ≡ d → t' ≡ t → j ≡ k → j ≡ variants.Header at
     → rule_placed n d o t k ≡ count_placed o ++ (place_text n d' ++ header_placed t' at)
 header-said n d d' o t t' k j at e f h i =
     ap (rule_placed n d o t) (sym h ∙ i) ∙ (ap (λ z. count_placed o ++ (place_text n z ++ header_placed t at)) (sym e) ∙ ap (λ z. count_placed o ++ (place_text n d' ++ header_placed z at)) (sym f))
 
--- nothing is said at a line that leaves the recipe lines of a header as they are
+-- nothing is said at a line that leaves the count of a header's recipe lines as it is
 pub rule-none : (n d : ℕ) (o : Option ℕ) (t : List ℕ) (k j : class.Class) → j ≡ k → (j ≡ variants.Blank) ⊎ ((j ≡ variants.Comment) ⊎ ((j ≡ variants.If) ⊎ ((j ≡ variants.Else) ⊎ (j ≡ variants.Endif)))) → rule_placed n d o t k ≡ []
 rule-none n d o t k j e (inl h) = ap (rule_placed n d o t) (sym e ∙ h)
 rule-none n d o t k j e (inr (inl h)) = ap (rule_placed n d o t) (sym e ∙ h)

@@ -13,7 +13,7 @@ use Rattle.mk_class.proofs.WordLemmas.{same_text-is}
 use Rattle.mk_queries.specs.PartTexts.{modifier_text}
 
 module _ {A : Type 0} (byte : A → ℕ) where
-  -- the word that a modifier is
+  -- the word of a modifier
   modifier-word : (w : List (List A)) (m : Modifier) → modifier_of byte w ≡ Some m → unit_text byte w ≡ modifier_text m
   modifier-word w m h = go (is_same_text (unit_text byte w) (codes "override")) (is_same_text (unit_text byte w) (codes "export")) (is_same_text (unit_text byte w) (codes "private")) refl refl refl h
     where
@@ -28,7 +28,7 @@ module _ {A : Type 0} (byte : A → ℕ) where
   abbrev pub HasModifiers : Assignment A → Type 0
   HasModifiers a = word_texts byte a.before ≡ map modifier_text a.modifiers
 
-  -- there is no word among blanks
+  -- blanks have no word
   blanks-no_words : (us : List (List A)) → token_words (tokens byte (leading (is_gap byte) us)) ≡ []
   blanks-no_words [] = refl
   blanks-no_words (u ∷ us) = go (is_gap byte u) refl (blanks-no_words us)
@@ -90,6 +90,6 @@ module _ {A : Type 0} (byte : A → ℕ) where
       go None (Some m) i j h k ih = k m (modifier-word w m j) h ih
       go None None i j h k ih = absurd (cc)
 
-  -- of each assignment
+  -- the modifiers of each assignment
   pub assignment-modifiers : (us : List (List A)) (a : Assignment A) → assignment byte us ≡ Some a → HasModifiers a
   assignment-modifiers us a h = modifiers-of (tokens byte us) (tokens-are_tokens byte us) a h

@@ -33,7 +33,7 @@ use Rattle.mk_queries.proofs.on_walks.SaidLemmas.{number_below, number-next}
 
 -- ---- how many recipe lines there are
 
--- the count that ends a header's line that has so many recipe lines so far, where so many are below
+-- the count that ends a header's line, from the number of its recipe lines so far and the number of those below
 abbrev closed : Option ℕ → ℕ → List ℕ
 closed None m = []
 closed (Some k) m = count_text (k + m)
@@ -46,7 +46,7 @@ more-closed : (o : Option ℕ) (m : ℕ) → closed (one_more o) m ≡ closed o 
 more-closed None m = refl
 more-closed (Some k) m = let e : k + 1 + m ≡ k + suc m = omega arith in ap count_text e
 
--- the recipe lines from a line of this class on, where so many are below it
+-- the number of recipe lines from a line of this class on, from the number of those below it
 abbrev recipe_length : Class Cell → ℕ → ℕ
 recipe_length Recipe m = suc m
 recipe_length Blank m = m
@@ -166,7 +166,7 @@ rules-walk ls h =
 
 -- ---- the walk, line by line, on the lines that are ahead in their context
 
--- one more line, of which the code sees this context and this number of line feeds
+-- one line more; the code sees this context of it and this number of line feeds
 pub rules-next : (n m : ℕ) (c : Context) (o o' : Option ℕ) (bytes : List ℕ) (x : PlacedLine) (ahead left : LinesInContext) → c ≡ ahead.context → ahead.lines ≡ x ∷ left.lines → left.context ≡ context_after_places ahead.context x.class
     → bytes ≡ x.bytes → m ≡ line_feeds bytes → o' ≡ counted_after o x.class
     → rule_placed n c.conditionals o (text_of_line x) x.class ++ rules_ahead (n + m) left.context o' left.lines ≡ rules_ahead n ahead.context o ahead.lines
@@ -177,7 +177,7 @@ rules-next n m c o o' bytes x ahead left i e f b h j =
     ∙ (ap (λ k. said ++ rules_ahead (n + k) left.context (counted_after o x.class) left.lines) (h ∙ ap line_feeds b)
     ∙ (ap (λ c. said ++ rules_ahead (n + line_feeds x.bytes) c (counted_after o x.class) left.lines) f ∙ ap (rules_ahead n ahead.context o) (sym e))))
 
--- no line is left: the count that ends the last header's line
+-- no line is left: the count ends the line of the last header
 pub rules-end : (n : ℕ) (o : Option ℕ) (front whole : List ℕ) (ahead : LinesInContext) → ahead.lines ≡ [] → front ++ rules_ahead n ahead.context o ahead.lines ≡ whole → front ++ count_placed o ≡ whole
 rules-end n o front whole ahead e h = ap (λ z. front ++ rules_ahead n ahead.context o z) (sym e) ∙ h
 

@@ -47,11 +47,11 @@ module _ (f : ℕ → Context → PlacedLine → List ℕ) (say : StandingLine �
       (ap (λ k. said_ahead f k (context_after_places (context_of above) (placed_line l).class) (placed_lines (m ∷ ms))) n
       ∙ (ap (λ c. said_ahead f (number_below (above ++ l ∷ [])) c (placed_lines (m ∷ ms))) (sym (context_of-last above l)) ∙ ih))
 
-  -- of all lines of the text
+  -- what is said of all lines of the text
   said-lines : said_ahead f 1 start (placed_lines (classed_lines t)) ≡ said_of_lines say (standing_lines t)
   said-lines = said-below [] (classed_lines t) refl
 
--- of a faithful document
+-- what is said of a faithful document
 pub said-document : (f : ℕ → Context → PlacedLine → List ℕ) (say : StandingLine → Item → List ℕ) → SaysAs f say → (ls : List PlacedLine) → IsFaithful ls
     → said_ahead f 1 start ls ≡ said_of_lines say (standing_lines (placed_text ls))
 said-document f say same ls h = ap (said_ahead f 1 start) h ∙ said-lines f say same (placed_text ls)

@@ -35,7 +35,7 @@ unread-item n Directive l = refl
 unread-item n (TargetAssign t) l = refl
 unread-item n (Header h) l = refl
 
--- it needs no context
+-- what is said of such lines needs no context
 unread-said : (n : ℕ) (c : Context) (ls : List PlacedLine) → unread_ahead n ls ≡ said_ahead (λ n c l. unread_placed n l.class) n c ls
 unread-said n c [] = refl
 unread-said n c (l ∷ ls) = ap (λ z. unread_placed n l.class ++ z) (unread-said (n + line_feeds l.bytes) (context_after_places c l.class) ls)
@@ -48,7 +48,7 @@ check-walk ls h =
 
 -- ---- the walk, line by line
 
--- one more line, of which the code sees these bytes and this class
+-- one line more; the code sees these bytes of it and this class
 pub unread-next : (n m : ℕ) (k : class.Class) (bytes : List ℕ) (x : PlacedLine) (ahead left : List PlacedLine) → ahead ≡ x ∷ left → k ≡ x.class → bytes ≡ x.bytes → m ≡ line_feeds bytes
     → unread_placed n k ++ unread_ahead (n + m) left ≡ unread_ahead n ahead
 unread-next n m k bytes x ahead left e f b h =
@@ -58,6 +58,6 @@ unread-next n m k bytes x ahead left e f b h =
 pub unread-end : (n : ℕ) (front whole : List ℕ) (ahead : List PlacedLine) → ahead ≡ [] → front ++ unread_ahead n ahead ≡ whole → front ≡ whole
 unread-end n front whole ahead e h = sym (append-nil front) ∙ (ap (λ z. front ++ unread_ahead n z) (sym e) ∙ h)
 
--- with what is open at the end
+-- the text of `check`, with what is open at the end
 pub check-end : (front : List ℕ) (end : Context) (ls : List PlacedLine) → IsFaithful ls → front ≡ unread_ahead 1 ls → end ≡ context_of (classed_lines (placed_text ls)) → front ++ end_lines end ≡ check_text (placed_text ls)
 check-end front end ls h e f = ap (λ z. z ++ end_lines end) e ∙ (ap (λ z. unread_ahead 1 ls ++ end_lines z) f ∙ check-walk ls h)

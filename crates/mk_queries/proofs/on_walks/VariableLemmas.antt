@@ -16,7 +16,7 @@ use Rattle.mk_queries.specs.Walks.{line_feeds, variables_ahead}
 use Rattle.mk_queries.proofs.on_parts.AssignmentPartLemmas.{variable-item}
 use Rattle.mk_queries.proofs.on_walks.SaidLemmas.{said-document}
 
--- each of some lines, the first of which stands in a context, has its class there
+-- each of some lines has its class in its context; the first line stands in this context
 abbrev pub AreClassedIn : Context → List PlacedLine → Type 0
 AreClassedIn c [] = Unit {0}
 AreClassedIn c (l ∷ ls) = IsClassedIn c l × AreClassedIn (context_after_places c l.class) ls
@@ -25,7 +25,7 @@ lines-classed : (c : Context) (ls : List ClassedLine) → AreClassed c ls → Ar
 lines-classed c [] h = tt
 lines-classed c (l ∷ ls) h = (ap (class_places joined_byte) (sym (AreClassed-class c l ls h)), lines-classed (context_after c l.class) ls (AreClassed-tail c l ls h))
 
--- those of a faithful document
+-- each line of a faithful document has its class in its context
 pub document-classed : (ls : List PlacedLine) → IsFaithful ls → AreClassedIn start ls
 document-classed ls h = let t = placed_text ls in subst (AreClassedIn start) (sym h) (lines-classed start (classed_lines t) (AreClassed-lines t (classed_lines t) refl))
 
@@ -43,13 +43,13 @@ first-classed ahead left c x e f h =
     let s : IsClassedIn ahead.context x × AreClassedIn (context_after_places ahead.context x.class) left.lines = subst (AreClassedIn ahead.context) f h in
     subst (λ z. IsClassedIn z x) (sym e) s.0
 
--- and so have the others
+-- the other lines ahead have their classes too
 pub rest-classed : (ahead left : LinesInContext) (c : Context) (x : PlacedLine) → c ≡ ahead.context → ahead.lines ≡ x ∷ left.lines → left.context ≡ context_after_places ahead.context x.class → AreClassedIn ahead.context ahead.lines → AreClassedIn left.context left.lines
 rest-classed ahead left c x e f i h =
     let s : IsClassedIn ahead.context x × AreClassedIn (context_after_places ahead.context x.class) left.lines = subst (AreClassedIn ahead.context) f h in
     subst (λ z. AreClassedIn z left.lines) (sym i) s.1
 
--- one more line, of which the code sees this context and this number of line feeds
+-- one line more; the code sees this context of it and this number of line feeds
 pub variables-next : (n m : ℕ) (c : Context) (bytes : List ℕ) (x : PlacedLine) (ahead left : LinesInContext) → c ≡ ahead.context → ahead.lines ≡ x ∷ left.lines → left.context ≡ context_after_places ahead.context x.class → bytes ≡ x.bytes → m ≡ line_feeds bytes
     → variable_placed n c.conditionals (text_of_line x) x.class ++ variables_ahead (n + m) left.context left.lines ≡ variables_ahead n ahead.context ahead.lines
 variables-next n m c bytes x ahead left i e f b h =

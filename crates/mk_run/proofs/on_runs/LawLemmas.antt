@@ -96,7 +96,7 @@ unfolding AllGranted
 granted-replies [] h = tt
 granted-replies (r ∷ replies) h = (cons-first r Granted replies (replicate (length replies) Granted) h, granted-replies replies (cons-rest r Granted replies (replicate (length replies) Granted) h))
 
--- then none was refused, and the run is the same where it stops at a refusal
+-- if all calls were granted, no command was refused, and the run is the same if it stops at a refusal
 none-next : (k : Bool) (c : CommandAt) (s : Shown (List ℕ)) (others all : Shown (List ℕ) → Obeyed) (calls : Shown (List ℕ) → List Call)
     → ((t : Shown (List ℕ)) → AllGranted (calls t) → ((others t).refused ≡ 0) × ((others t).shown ≡ (all t).shown))
     → (a : Result (Shown (List ℕ)) (machine.Refusal Refusal)) → AllGranted (tried_next true c.command s calls a)

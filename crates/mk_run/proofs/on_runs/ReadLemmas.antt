@@ -8,7 +8,7 @@ use Rattle.mk_lines.specs.declared.fault.Fault.TheVariants as fault
 use Rattle.mk_run.specs.Outcome.{outcome_of}
 use Rattle.mk_run.specs.Steps.{GivesTooMuch, StopsScript, StopsMakefile}
 
--- there is a text that is longer than so many bytes
+-- there is a text that is longer than `n` bytes
 longer : (n : ℕ) → (text : List ℕ) × (n < length text)
 longer n = let byte : ℕ = 0 in (replicate (suc n) byte, omega (arith, length-replicate (suc n) byte))
 

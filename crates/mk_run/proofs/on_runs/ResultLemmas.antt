@@ -55,7 +55,7 @@ module _ (makefile script : List ℕ) (depth : ℕ) (k : Bool) where
   any-run (inl bad) = (stopped BadDepth, inl (bad, refl))
   any-run (inr good) = short-run good (long-or_not script)
 
-  -- of any makefile and any script
+  -- a run of any makefile and any script has a result
   pub has-run : (r : RunResult) × IsRun makefile script depth k r
   has-run = any-run (bad-or_not depth)
 

@@ -1,4 +1,4 @@
--- How a run ends, by the step at which it does.
+-- How a run ends, by the step at which it ends.
 use Rattle.std.proofs.Common.{◌≡◌, refl, sym, ap, subst, ◌∙◌, arith, ℕ, suc, zero, ◌≤◌, Bool, true, false, List, [], Option, Some, None, inl, inr}
 use Rattle.std.specs.Prelude.{IfSome}
 use Rattle.std.specs.Io.KnownBytes.{Appends}
@@ -215,7 +215,7 @@ module _ (makefile script : Option (List ℕ)) (depth : ℕ) (k : Bool) (command
   run-done last n failed report out are none whole =
       of-commands Done failed report out (wholly last n report (obeyed-first last n report are) Done out (ap outcome_after (sym none)) whole)
 
-  -- some were refused, and the text is out
+  -- some commands were refused, and the text is out
   pub run-refused : (last : Shown (List ℕ)) (n : ℕ) (failed : Bool) (report out : Written) → AreObeyed k commands seen.shown last n report → (n ≡ 0 → ⊥) → IsOut out (ended last).text
       → IsRunOver makefile script depth k (Refused n) failed report out
   run-refused last n failed report out are some whole =

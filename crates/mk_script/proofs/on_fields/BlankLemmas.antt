@@ -11,7 +11,7 @@ use Rattle.mk_script.specs.FieldReading.{after_blanks, blanks_before, is_blank, 
 pub one_more : (n : ℕ) → 1 + n ≡ suc n
 one_more n = omega arith
 
--- the front of a list that passes a test: what is in front of such a front is passed over
+-- a front whose elements all pass the test is what is taken, if the rest begins with no element that passes
 pub prefix-taken : (p : ℕ → Bool) (front rest : List ℕ) → Each p front → prefix_len p rest ≡ 0 → take (prefix_len p (front ++ rest)) (front ++ rest) ≡ front
 prefix-taken p [] rest h stops = rw stops refl
 prefix-taken p (x ∷ front) rest h stops = rw (h.0, one_more (prefix_len p (front ++ rest)), prefix-taken p front rest h.1 stops) refl
@@ -76,7 +76,7 @@ pub is-end : (text : List ℕ) → EndsField text → ends_field text ≡ true
 is-end [] h = refl
 is-end (b ∷ text) h = h
 
--- so no bare field goes on into it
+-- no bare field goes on into such a text
 pub end-stops : (text : List ℕ) → EndsField text → Stops (λ b. not (is_blank_byte b)) text
 end-stops [] h = tt
 end-stops (b ∷ text) h = rw h refl

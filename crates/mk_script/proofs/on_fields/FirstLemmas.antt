@@ -1,4 +1,4 @@
--- The first field of a line is the one that is written there.
+-- The first field of a line is the field that is written there.
 use Rattle.std.proofs.Common.{◌≡◌, ℕ, Bool, true, false, List, [], ◌∷◌, ◌++◌, refl, sym, ap, ◌∙◌, cond, take, drop, inl, inr, append_assoc, eqb-true, subst}
 use Rattle.std.specs.Prelude.{not, ◌==◌, Option, Some, None, option_map}
 use Rattle.std.proofs.lemmas.List.{take-append-drop}

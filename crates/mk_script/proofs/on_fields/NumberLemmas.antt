@@ -73,7 +73,7 @@ pub value-more : (text : List ℕ) (i : ℕ) → i < length text → is_ascii_di
     → 10 * digits_value 10 (take i text) + (get_or text i 0 - 48) ≡ digits_value 10 (take (i + 1) text)
 value-more text i h more = omega (arith, digits_value_more 10 text i h, (digit-is (get_or text i 0) more).0)
 
--- at most nine digits
+-- the value of at most nine digits is small
 pub value-small : (text : List ℕ) (i : ℕ) → list_all is_ascii_digit (take i text) ≡ true → i < length text → i < 10 → digits_value 10 (take i text) < 1000000000
 value-small text i h within few =
     let most : 10 ^ length (take i text) ≤ 10 ^ 9 = pow-le-pow_right {n = 10} (omega arith) {i = length (take i text)} {j = 9} (omega (arith, length-take-le i text (omega arith))) in

@@ -11,7 +11,7 @@ use Rattle.mk_script.specs.FieldReading.{unescaped, IsEscaped}
 use Rattle.mk_script.specs.SeenFields.{IsWrittenPlain}
 use Rattle.mk_script.proofs.on_fields.EscapeLemmas.{not_special}
 
--- the first byte and the others, where none is a quote or a backslash
+-- the first byte and the others, if none of them is a quote or a backslash
 none-parts : (b : ℕ) (text : List ℕ) → list_any is_special (b ∷ text) ≡ false → (is_special b ≡ false) × (list_any is_special text ≡ false)
 none-parts b text h = go (is_special b) refl h
   where
@@ -31,7 +31,7 @@ plain-escaped (b ∷ text) h =
     let parts = none-parts b text h in
     rw (parts.0, plain-escaped text parts.1) refl
 
--- a word without quotes and backslashes is a field where it stands so in the line
+-- a field is this word, which has no quotes and no backslashes, if the word stands in the line as it is
 pub is_word : (text word : List ℕ) → IsEscaped text → list_any is_special word ≡ false → bytes_eq text word ≡ bytes_eq (unescaped false text) word
 is_word text word h none =
     let whole = bytes_eq-Decides text word in

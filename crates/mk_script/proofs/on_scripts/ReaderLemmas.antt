@@ -32,7 +32,8 @@ read_script script = read_lines 1 (script_lines script)
 
 -- ---- what it answers is so
 
--- some commands and then those that were read are a script's; or the line of the number is its first without a command
+-- these commands, and then those that were read, are the script's; or the line of this number is its first line that is no
+-- command
 Means : (script : List ℕ) → List CommandAt → Result (List CommandAt) ℕ → Type 0
 Means script commands (Ok others) = IsScript script (commands ++ others)
 Means script commands (Err number) = HasNoCommand script number

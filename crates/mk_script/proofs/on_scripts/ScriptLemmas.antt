@@ -16,8 +16,8 @@ skipped-line : (n : ℕ) (line : List ℕ) (lines : List (List ℕ)) (commands :
 skipped-line n line lines [] s h = (s, h)
 skipped-line n line lines (c ∷ commands) s h = inl (s, h)
 
--- So many lines of a script are read, these lines are left, and these are the commands so far: with those of the lines that are left
--- they are the script's.
+-- `number` lines of a script are read, the lines `rest` are left, and these are the commands so far. With the commands of the
+-- lines that are left they are the script's.
 pub record IsReadSoFar (script : List ℕ) (number : ℕ) (rest : List (List ℕ)) (commands : List CommandAt) : Type 0 where
   pub before : List (List ℕ)
   pub lines : script_lines script ≡ before ++ rest

@@ -1,5 +1,5 @@
--- What a row says of the relation between scripts and commands: where a row computes commands, they are the script's, and where it
--- computes a number, the line of this number is the first without a command; and the other way round.
+-- What a row says of the relation between scripts and commands: if a row computes commands, they are the script's; if it computes
+-- a number, the line of this number is the first that is no command. The converse holds too.
 use Rattle.std.proofs.Common.{◌≡◌, ℕ, List}
 use Rattle.std.specs.Prelude.{◌↔◌, Ok, Err}
 use Rattle.mk_script.specs.Scripts.{CommandAt, IsScript, HasNoCommand}

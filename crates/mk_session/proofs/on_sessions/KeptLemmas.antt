@@ -14,7 +14,7 @@ use Rattle.mk_session.specs.KeptSessions.{Patches, after_patches, EachFaithful, 
 abbrev pub FitPatches : Patches → List PlacedLine → Type 0
 FitPatches = FitInTurn FitMoves after_moves
 
--- the first few documents that patches lead through are faithful where all are
+-- the first few documents that patches lead through are faithful if all of them are
 faithful-take : (n : ℕ) (docs : List (List PlacedLine)) → EachFaithful docs → EachFaithful (take n docs)
 faithful-take zero docs h = tt
 faithful-take (suc n) [] h = tt
@@ -124,7 +124,7 @@ kept-ended_empty h g doc k c =
 
 -- ---- a step back or forth, or none
 
--- where what is seen has no beginning of a group, none is open
+-- if what is seen has no beginning of a group, no group is open
 pub group-closed : (h : Stacks Patches) (group : Option Patches) (doc : List PlacedLine) (s : Shown (List ℕ)) → shown_kept h group doc ≡ s → is_some s.begun ≡ false → is_some group ≡ false
 group-closed h None doc s seen none = refl
 group-closed h (Some g) doc s seen none = ap (λ (x : Shown (List ℕ)). is_some x.begun) seen ∙ none
@@ -136,7 +136,7 @@ no-group (Some g) e = absurd (cc)
 kept-unchanged : (h new : Stacks Patches) (group : Option Patches) (doc new_doc : List PlacedLine) → IsKept h group doc → (new ≡ h) × (new_doc ≡ doc) → IsKept new group new_doc
 kept-unchanged h new group doc new_doc k same = rw (same.0, same.1) k
 
--- after an undo of the history, which was done or refused
+-- what a session keeps fits together after an undo of the history, whether that was done or refused
 pub kept-by_undo : {E : Type 0} (h new : Stacks Patches) (group : Option Patches) (doc new_doc : List PlacedLine) (result : Result (Unit {0}) E) → is_some group ≡ false → IsKept h group doc
     → OnOk result (Moves FitPatches after_patches h.done h.undone doc new.done new.undone new_doc) → IsChain FitPatches after_patches new.done new_doc → IsChain FitPatches after_patches new.undone new_doc
     → OnErr result ((new ≡ h) × (new_doc ≡ doc)) → IsKept new group new_doc
@@ -145,7 +145,7 @@ kept-by_undo h new group doc new_doc (Ok u) none k moves done undone same =
     rw closed (kept-undone h new doc new_doc (subst (λ (g : Option Patches). IsKept h g doc) closed k) moves done undone)
 kept-by_undo h new group doc new_doc (Err e) none k moves done undone same = kept-unchanged h new group doc new_doc k same
 
--- and after a redo
+-- what a session keeps fits together after a redo, whether that was done or refused
 pub kept-by_redo : {E : Type 0} (h new : Stacks Patches) (group : Option Patches) (doc new_doc : List PlacedLine) (result : Result (Unit {0}) E) → is_some group ≡ false → IsKept h group doc
     → OnOk result (Moves FitPatches after_patches h.undone h.done doc new.undone new.done new_doc) → IsChain FitPatches after_patches new.done new_doc → IsChain FitPatches after_patches new.undone new_doc
     → OnErr result ((new ≡ h) × (new_doc ≡ doc)) → IsKept new group new_doc

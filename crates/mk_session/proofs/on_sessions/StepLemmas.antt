@@ -39,7 +39,7 @@ alone-step e h new_h group new_group member patch old new s seen none still_none
     subst (λ (x : Shown (List ℕ)). answer (Apply e) x ≡ Ok (shown_kept new_h new_group new)) seen
     (rw (none, still_none, pushed) (edit-steps (λ _ _. Unit {0}) after_patches placed_text edited e h member old new (planned-edited e old new patch p made) back))
 
--- in a group
+-- an edit in a group
 pub grouped-step : (e : Edit) (h new_h : Stacks Patches) (group : Option Patches) (g new_g : Patches) (patch inverse : List Move) (old new : List PlacedLine) (s : Shown (List ℕ))
     → shown_kept h group old ≡ s → group ≡ Some g → IsPlanned e old patch → new ≡ after_moves patch old → after_moves inverse new ≡ old → new_g.changes ≡ inverse ∷ g.changes
     → new_h ≡ record h { undone = [] } → answer (Apply e) s ≡ Ok (shown_kept new_h (Some new_g) new)
@@ -73,7 +73,7 @@ edit-refused e h group doc s r seen (inl refused) = inl (answer-refused e s (pla
 edit-refused e h group doc s r seen (inr (none, rs, accepted)) =
     inr (none, shown_edited (text_after (placed_text doc) e) s, answer-accepted e s (placed_text doc) rs (text-shown h group doc s seen) accepted)
 
--- where the edit is planned, a growth may be refused
+-- if the edit is planned, a growth may still be refused
 pub memory-refused : (e : Edit) (h : Stacks Patches) (group : Option Patches) (doc : List PlacedLine) (s : Shown (List ℕ)) (patch : List Move) → shown_kept h group doc ≡ s → IsPlanned e doc patch → IsEditRefusal e s NoMemory
 memory-refused e h group doc s patch seen p = edit-refused e h group doc s NoMemory seen (inr (refl, p.replacements, p.spans_are))
 

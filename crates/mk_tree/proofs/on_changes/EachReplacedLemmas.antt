@@ -25,7 +25,7 @@ each-classed c (l ∷ ls) [] below h = absurd h
 each-classed c (l ∷ ls) (m ∷ ms) below h =
     AreClassed-cons c m ms h.0.class (subst (λ (z : Context). AreClassed z ms) (sym h.0.context) (each-classed (context_after c l.class) ls ms below h.1))
 
--- and lead to the same context
+-- lines that can stand in the place of others lead to the same context
 each-context : (c : Context) (old new below : List ClassedLine) → ReplaceEach c old new below → context_after_lines c new ≡ context_after_lines c old
 each-context c [] [] below h = refl
 each-context c [] (m ∷ ms) below h = absurd h
@@ -38,7 +38,7 @@ before-first c t ls [] below h e = tt
 before-first c t [] (m ∷ ms) below h e = absurd h
 before-first c t (l ∷ ls) (m ∷ ms) below h e = e
 
--- their text has them as its lines
+-- the text of such lines has them as its lines
 each-lines : (c : Context) (old new below : List ClassedLine) → ReplaceEach c old new below → logical_lines (text_of new) ≡ bytes_of new
 each-lines c [] [] below h = refl
 each-lines c [] (m ∷ ms) below h = absurd h
@@ -50,7 +50,7 @@ each-lines c (l ∷ ls) (m ∷ ms) below h =
     ap logical_lines (ap (λ z. z ++ text_of ms) (sym (append-nil m.bytes)) ∙ ap (λ z. (m.bytes ++ []) ++ z) (text_of-bytes ms))
     ∙ lines-together (m.bytes ∷ []) (bytes_of ms) (OneLine-are_lines m.bytes (OneLine-of m.bytes h.0.one)) (AreLines-of (bytes_of ms) ih) e
 
--- and ends where lines are below
+-- the text of such lines ends a line if lines are below
 each-ends : (c : Context) (old new : List ClassedLine) (b : ClassedLine) (below : List ClassedLine) → ReplaceEach c old new (b ∷ below) → Ends (text_of new)
 each-ends c [] [] b below h = Ends-nothing
 each-ends c [] (m ∷ ms) b below h = absurd h
@@ -65,7 +65,7 @@ ends-before : (c : Context) (old new below : List ClassedLine) → ReplaceEach c
 ends-before c old new [] h = tt
 ends-before c old new (b ∷ below) h = each-ends c old new b below h
 
--- Several lines, each replaced by one: the lines above and below stay, and the new ones have their classes.
+-- Several lines, each replaced by one line: the lines above and below stay, and the new lines have their classes.
 pub lines-replaced : (t : List ℕ) (above old below new : List ClassedLine) → classed_lines t ≡ above ++ (old ++ below) → ReplaceEach (context_of above) old new below
     → classed_lines (text_of above ++ (text_of new ++ text_of below)) ≡ above ++ (new ++ below)
 lines-replaced t above old below new h e =
@@ -98,18 +98,18 @@ each-self c (l ∷ ls) below k h =
     let a = apart-first l.bytes (bytes_of (ls ++ below)) h in
     (record { one = OneLine-logical l.bytes a.0; ends = EndsWhereFollowed-of l.bytes (bytes_of (ls ++ below)) a.1; class = AreClassed-class c l ls k; context = refl }, each-self (context_after c l.class) ls below (AreClassed-tail c l ls k) a.2)
 
--- so can those of a text
+-- the lines of a text can stand in their own places
 pub lines-in_place : (t : List ℕ) → ReplaceEach start (classed_lines t) (classed_lines t) []
 lines-in_place t =
     each-self start (classed_lines t) [] (AreClassed-classed start (logical_lines t))
     (subst AreLines (sym (bytes_of-classed start (logical_lines t)) ∙ ap bytes_of (sym (append-nil (classed_lines t)))) (logical_lines-are_lines t))
 
--- each line, in its context, is such
+-- something is known of each line in its context
 abbrev pub EachInContext : (P : Context → ClassedLine → Type 0) → Context → List ClassedLine → Type 0
 EachInContext P c [] = Unit {0}
 EachInContext P c (l ∷ ls) = P c l × EachInContext P (context_after c l.class) ls
 
--- where each line of which something is known can be replaced by another, all can
+-- if each line of which this is known can be replaced by another, all lines can
 pub replace-each : (P : Context → ClassedLine → Type 0) (f : ClassedLine → ClassedLine)
     → ((c : Context) (l : ClassedLine) (following : List ClassedLine) → P c l → ReplacesLine c l l following → ReplacesLine c l (f l) following)
     → (c : Context) (ls below : List ClassedLine) → EachInContext P c ls → ReplaceEach c ls ls below → ReplaceEach c ls (map f ls) below
@@ -122,7 +122,7 @@ replace-each P f g c (l ∷ ls) below h k = (g c l (ls ++ below) h.0 k.0, replac
 abbrev pub with_pieces : (ClassedLine → List Piece) → (ClassedLine → Class Cell) → ClassedLine → ClassedLine
 with_pieces f k l = record { bytes = new_bytes (f l) ++ after_pieces f l; class = k l }
 
--- the text of such lines
+-- the text of lines that begin with pieces
 text_of-with_pieces : (f : ClassedLine → List Piece) (k : ClassedLine → Class Cell) (ls : List ClassedLine) → text_of (map (with_pieces f k) ls) ≡ replaced_text f ls
 text_of-with_pieces f k [] = refl
 text_of-with_pieces f k (l ∷ ls) = ap (λ z. (new_bytes (f l) ++ after_pieces f l) ++ z) (text_of-with_pieces f k ls)

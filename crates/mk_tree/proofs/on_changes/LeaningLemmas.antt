@@ -1,5 +1,5 @@
--- The leaning law: lines keep their classes where what is above them changes, if the open defines, the conditionals and the
--- prefix before them are as they were and the lines do not lean on the flag.
+-- The leaning law: lines keep their classes if what is above them changes, provided that the open defines, the open conditionals
+-- and the prefix before them are as they were, and that the lines do not lean on the flag.
 use Rattle.std.proofs.Common.{◌≡◌, refl, sym, ap, ◌∙◌, ℕ, List, [], ◌∷◌, ◌++◌, Bool, true, false, not, ◌&&◌, ◌||◌}
 use Rattle.mk_lines.specs.LogicalLines.{logical_lines}
 use Rattle.mk_lines.specs.Cells.{Cell}
@@ -57,11 +57,11 @@ leans-same p f ls = ap (λ z. not z && is_led_first p ls) (same_flag-self f)
 pub agrees-self : (c : Context) → AgreeButForFlag c c
 agrees-self c = record { defines = refl; conditionals = refl; prefix = refl }
 
--- and with one that is the same
+-- a context agrees with a context that is the same
 pub agrees-same : (c d : Context) → c ≡ d → AgreeButForFlag c d
 agrees-same c d h = record { defines = ap (λ z. z.defines) h; conditionals = ap (λ z. z.conditionals) h; prefix = ap (λ z. z.prefix) h }
 
--- the other way round
+-- contexts that agree do so the other way round
 pub agrees-back : (c d : Context) → AgreeButForFlag c d → AgreeButForFlag d c
 agrees-back c d h = record { defines = sym h.defines; conditionals = sym h.conditionals; prefix = sym h.prefix }
 
@@ -80,7 +80,7 @@ agrees-is c d h e = parts c.flag d.flag c.defines d.defines c.conditionals d.con
     parts : (f g : Flag) (n m k j p q : ℕ) → f ≡ g → n ≡ m → k ≡ j → p ≡ q → context_with f n k p ≡ context_with g m j q
     parts f g n m k j p q a b c d = rw (a, b, c, d) refl
 
--- contexts that agree still do after a line of one class
+-- contexts that agree do so after a line of one class
 agrees-after : (c d : Context) (k : Class Cell) → AgreeButForFlag c d → AgreeButForFlag (context_after c k) (context_after d k)
 agrees-after c d k h = record {
   defines = ap (λ z. defines_after z k) h.defines;
@@ -88,7 +88,7 @@ agrees-after c d k h = record {
   prefix = ap (λ z. prefix_after z k) h.prefix;
 }
 
--- and after some lines
+-- contexts that agree do so after some lines
 pub agrees-after_lines : (c d : Context) (ls : List ClassedLine) → AgreeButForFlag c d → AgreeButForFlag (context_after_lines c ls) (context_after_lines d ls)
 agrees-after_lines c d [] h = h
 agrees-after_lines c d (l ∷ ls) h = agrees-after_lines (context_after c l.class) (context_after d l.class) ls (agrees-after c d l.class h)
@@ -117,7 +117,7 @@ same-after_lines c d ls h k = agrees-is (context_after_lines c ls) (context_afte
 
 -- ---- the law
 
--- lines have the same classes in contexts that agree, where they do not lean on the two flags
+-- lines have the same classes in contexts that agree, if they do not lean on the two flags
 pub classed-unless_leans : (c d : Context) (ls : List (List ℕ)) → AgreeButForFlag c d → leans c.prefix c.flag d.flag (classed c ls) ≡ false → classed d ls ≡ classed c ls
 classed-unless_leans c d ls h n = go (is_same_flag c.flag d.flag) refl n
   where
@@ -132,8 +132,8 @@ pub classed_lines-apart : (t : List ℕ) (above below : List (List ℕ)) → log
     → classed_lines t ≡ classed start above ++ classed (context_of (classed start above)) below
 classed_lines-apart t above below h = ap (classed start) h ∙ classed-append start above below
 
--- The lines below keep their classes where those above become others, if the contexts there agree and they do not lean on the
--- flags.
+-- The lines below keep their classes if the lines above become others, provided that the contexts there agree and the lines below
+-- do not lean on the flags.
 pub lines_below-keep : (t : List ℕ) (above' below : List (List ℕ)) (c : Context) → logical_lines t ≡ above' ++ below
     → AgreeButForFlag c (context_of (classed start above')) → leans c.prefix c.flag (context_of (classed start above')).flag (classed c below) ≡ false
     → classed_lines t ≡ classed start above' ++ classed c below

@@ -1,5 +1,5 @@
--- A new line put between lines: it is one line there, and where it comes last the line above it, which may have no line end,
--- gets one and is as it was.
+-- A new line put between lines: it is one line there. If it comes last, the line above it gets a line end if it has none, and is
+-- otherwise as it was.
 use Rattle.std.proofs.Common.{◌≡◌, refl, sym, ap, ◌∙◌, subst, ℕ, List, [], ◌∷◌, ◌++◌, append_assoc, Bool, true, false, not, ◌&&◌, ◌||◌, if◌then◌else◌, reverse, length, map}
 use Rattle.std.specs.Prelude.{nat_lt, ◌==◌}
 use Rattle.std.proofs.lemmas.List.{append-nil, reverse-append, map-append}
@@ -99,7 +99,7 @@ no_line_end-no_carriage_return (b ∷ t) h = apart (b ∷ t) (last-apart b t) h
         let e : HasNoLineEnd (a.last ∷ []) = Each-right (λ b. is_no_line_end_kind (byte_kind b)) a.front (a.last ∷ []) (subst HasNoLineEnd a.is h) in
         ap ends_with_carriage_return a.is ∙ (ap is_carriage_return_first (reverse-append a.front (a.last ∷ [])) ∙ kind (byte_kind a.last) e.0)
 
--- and has no line feed
+-- a text without LF and CR has no line feed
 no_line_end-no_line_feed : (t : List ℕ) → HasNoLineEnd t → NoLineFeed t
 no_line_end-no_line_feed [] h = tt
 no_line_end-no_line_feed (b ∷ t) h = (kind (byte_kind b) h.0, no_line_end-no_line_feed t h.1)
@@ -148,8 +148,8 @@ new_line-some b t e h r c k =
     let o : is_open x ≡ false = or_from (is_continued x) (has_no_line_end (line_end x) && ends_with_carriage_return x) (ap ends_with_odd_run w ∙ r) (and_right (has_no_line_end (line_end x)) (ends_with_carriage_return x) c) in
     line_end-added b t e (OneLine-of x (logical_lines-last b t h)) n o k
 
--- A text without LF, in which neither a backslash (more exactly, an odd run of them) nor a carriage return comes last, and a
--- line end are one line, which ends, and has this text and this line end.
+-- A text without LF, which ends neither in a backslash (more exactly, in an odd run of backslashes) nor in a carriage return, and
+-- a line end: together they are one line, which ends a line, and has this text and this line end.
 new_line : (x : List ℕ) (e : End) → NoLineFeed x → ends_with_odd_run x ≡ false → ends_with_carriage_return x ≡ false → has_no_line_end e ≡ false → IsEnded x e
 unfolding OneLine Ends
 new_line x None h r c k = cc
@@ -169,12 +169,12 @@ new_line-clean x e h b k =
 class_with : Context → (led : Bool) → (text : List ℕ) → Class Cell
 class_with c led x = class_at joined_byte led c.defines c.flag (nat_lt 0 c.conditionals) (is_unreadable (cells x)) (units joined_byte (cells x))
 
--- lines of one text without line end, which begin alike, have one class
+-- lines that begin alike, and have the same text without their line ends, have the same class
 class_of-same_text : (c : Context) (l m : List ℕ) → is_prefix_led c.prefix l ≡ is_prefix_led c.prefix m → without_line_end l ≡ without_line_end m → class_of c l ≡ class_of c m
 unfolding class_with
 class_of-same_text c l m p h = ap (λ z. class_with c z (without_line_end l)) p ∙ ap (class_with c (is_prefix_led c.prefix m)) h
 
--- and one item
+-- such lines have the same item
 items_of_line-same_text : (k : Class Cell) (l m : List ℕ) → without_line_end l ≡ without_line_end m → items_of_line k l ≡ items_of_line k m
 items_of_line-same_text Class.Blank l m h = refl
 items_of_line-same_text Class.Comment l m h = refl
@@ -202,19 +202,19 @@ no_line_end-is CrLf h = cc
 -- What is known of a line that comes last in a text, and the line that it is with some bytes added.
 pub record LineEnded (above : List ClassedLine) (l new : ClassedLine) (added : List ℕ) : Type 0 where
   pub bytes : new.bytes ≡ l.bytes ++ added
-  -- its text without line end stays
+  -- the text of the line without its line end stays
   pub same_text : without_line_end new.bytes ≡ without_line_end l.bytes
-  -- it has the class that it had, and the same item
+  -- the line keeps its class and its item
   pub class : new.class ≡ l.class
   pub item : items_of_line new.class new.bytes ≡ items_of_line l.class l.bytes
-  -- it ends, and the lines are the others and it
+  -- the line ends a line, and the lines are the others and then this line
   pub ends : Ends new.bytes
   pub lines : classed_lines (text_of above ++ new.bytes) ≡ above ++ new ∷ []
 
 led-longer : (p : ℕ) (x y : List ℕ) (b : ℕ) (t : List ℕ) → x ≡ b ∷ t → is_prefix_led p (x ++ y) ≡ is_prefix_led p x
 led-longer p x y b t h = rw h refl
 
--- the last line of a text, where it is not open, with a line end put after it where it has none
+-- the last line of a text, if it is not open, with a line end put after it if it has none
 pub line-ended : (t : List ℕ) (above : List ClassedLine) (l : ClassedLine) (e : End) → classed_lines t ≡ above ++ l ∷ [] → is_open l.bytes ≡ false → has_no_line_end e ≡ false
     → LineEnded above l (line_ended e l) (if lacks_line_end l then line_end_bytes e else [])
 line-ended t above l e h o k = go (lacks_line_end l) refl
@@ -269,7 +269,7 @@ record LastEnded (above new : List ClassedLine) (added : List ℕ) : Type 0 wher
   pub lines : classed_lines (text_of new) ≡ new
   -- the text of each, without its line end, stays
   pub same_texts : map (λ l. without_line_end l.bytes) new ≡ map (λ l. without_line_end l.bytes) above
-  -- they end, and have the same items and lead to the same context
+  -- the lines end a line, have the same items and lead to the same context
   pub ends : Ends (text_of new)
   pub same_items : items new ≡ items above
   pub same_context : context_of new ≡ context_of above
@@ -280,7 +280,7 @@ last_ended-last e [] l = refl
 last_ended-last e (x ∷ []) l = refl
 last_ended-last e (x ∷ y ∷ front) l = ap (λ z. x ∷ z) (last_ended-last e (y ∷ front) l)
 
--- the lines of a text, the last of which is not open, with a line end put after it where it has none
+-- the lines of a text whose last line is not open, with a line end put after the last if it has none
 last-ended : (t : List ℕ) (above : List ClassedLine) (e : End) → classed_lines t ≡ above → last_passes (λ l. is_open l.bytes) above ≡ false → has_no_line_end e ≡ false
     → LastEnded above (last_ended e above) (missing_line_end e above [])
 unfolding Ends
@@ -315,8 +315,8 @@ last-ended t (x ∷ xs) e h o k = apart (x ∷ xs) (last-apart x xs) h o
 
 -- ---- a new line
 
--- A new line put between lines, in front of them or after them: the lines below stay unless they lean on the flag, and those
--- above stay but for a line end that the last gets where it has none and nothing is below it.
+-- A new line put between lines, in front of them or after them: the lines below stay unless they lean on the flag. The lines
+-- above stay, except that the last gets a line end if it has none and nothing is below it.
 pub line-added : (t : List ℕ) (above below : List ClassedLine) (x : List ℕ) (e : End) (k : Class Cell) → classed_lines t ≡ above ++ below
     → (is_empty below && last_passes (λ l. is_open l.bytes) above) ≡ false → has_no_line_end e ≡ false → IsEnded x e
     → class_of (context_of above) (x ++ line_end_bytes e) ≡ k

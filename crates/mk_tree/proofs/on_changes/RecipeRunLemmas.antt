@@ -1,5 +1,5 @@
--- The lines of a rule: the header, the lines up to its last recipe line and those below are the lines, and the context in the
--- rule is the one after the header, but for the conditionals.
+-- The lines of a rule: the header, the lines up to its last recipe line and the lines below these are all lines. The context in
+-- the rule is the context after the header, except for the open conditionals.
 use Rattle.std.proofs.Common.{◌≡◌, refl, sym, ap, ◌∙◌, subst, ℕ, List, [], ◌∷◌, ◌++◌, append_assoc, true, not, length, drop}
 use Rattle.std.proofs.Math.Seq.{drop-append_seam}
 use Rattle.mk_lines.specs.Lists.{after_leading, trailing, Each}
@@ -39,7 +39,7 @@ recipe_run-after ls =
     let e : after_recipe ls ≡ rest_of_rule ls = ap (drop (length (recipe_run ls))) (sym (run-rest ls)) ∙ drop-append_seam (recipe_run ls) (rest_of_rule ls) in
     ap (λ z. recipe_run ls ++ z) e ∙ run-rest ls
 
--- they stay in the rule
+-- the lines up to the last recipe line stay in the rule
 pub recipe_run-stays : (ls : List ClassedLine) → Each (λ l. stays_in_rule l.class) (recipe_run ls)
 recipe_run-stays ls =
     Each-left (λ l. stays_in_rule l.class) (recipe_run ls) (trailing (λ l. not (is_recipe l.class)) (rule_lines ls))
@@ -54,7 +54,7 @@ pub record RuleContext (before within : Context) : Type 0 where
   pub no_define : within.defines ≡ 0
   pub prefix : within.prefix ≡ before.prefix
 
--- one more line that stays in the rule
+-- one line more that stays in the rule
 line-in_rule : (b w : Context) (k : Class Cell) → stays_in_rule k ≡ true → RuleContext b w → RuleContext b (context_after w k)
 line-in_rule b w Endef h r = cc
 line-in_rule b w (Body n) h r = cc
@@ -83,13 +83,13 @@ header-context c l x h =
     let n : c.defines ≡ 0 = subst (FitsCounts c.defines c.conditionals) h (class_of-counts c l) in
     record { flag = refl; no_define_before = n; no_define = n; prefix = refl }
 
--- The context after a header and lines that stay in its rule, as those up to its last recipe line do.
+-- The context after a header and some lines that stay in its rule, such as those up to its last recipe line.
 pub rule-context : (c : Context) (h : ClassedLine) (x : Headers.Header Cell) (ls : List ClassedLine) → class_of c h.bytes ≡ h.class → h.class ≡ Header x → Each (λ l. stays_in_rule l.class) ls
     → RuleContext c (context_after_lines c (h ∷ ls))
 rule-context c h x ls k e s =
     lines-in_rule c (context_after c h.class) ls s (subst (λ (z : Class Cell). RuleContext c (context_after c z)) (sym e) (header-context c h.bytes x (k ∙ e)))
 
--- where none of these lines belongs to a conditional, the context after them agrees with that before them but for the flag
+-- if none of these lines belongs to a conditional, the context after them agrees with that before them in all except the flag
 pub rule-agrees : (c : Context) (h : ClassedLine) (x : Headers.Header Cell) (ls : List ClassedLine) → class_of c h.bytes ≡ h.class → h.class ≡ Header x → Each (λ l. stays_in_rule l.class) ls
     → AreUnconditional ls → AgreeButForFlag c (context_after_lines c (h ∷ ls))
 rule-agrees c h x ls k e s u =
@@ -100,7 +100,8 @@ rule-agrees c h x ls k e s u =
 
 -- ---- single lines
 
--- the context after an assignment that sets no prefix, a header or a recipe line agrees with that before it but for the flag
+-- the context after an assignment that sets no prefix, a header or a recipe line agrees with that before it in all except the
+-- flag
 pub assign-agrees : (c : Context) (a : Assignment Cell) → AgreeButForFlag c (context_after c (Assign a None))
 assign-agrees c a = record { defines = refl; conditionals = refl; prefix = refl }
 

@@ -40,8 +40,8 @@ no_lines : (ls : List ClassedLine) → bytes_of ls ≡ [] → ls ≡ []
 no_lines [] h = refl
 no_lines (l ∷ ls) h = cc
 
--- A run of lines replaced by a text, whose lines stand there with the classes that they have there. The text ends where lines
--- are below; and where nothing was below the lines above, these end, if the text has lines.
+-- A run of lines replaced by a text, whose lines stand there with the classes that they have there. If lines are below, the text
+-- has to end a line. If nothing was below the lines above, and the text has lines, the lines above have to end a line.
 run-replaced : (t : List ℕ) (above run below : List ClassedLine) (v : List ℕ) (new : List ClassedLine) → classed_lines t ≡ above ++ (run ++ below)
     → classed (context_of above) (logical_lines v) ≡ new
     → (run ++ below ≡ [] → EndsBefore (text_of above) (logical_lines v)) → EndsBefore v (bytes_of below)
@@ -61,7 +61,8 @@ run-replaced t above run below v new h k begins ends =
     classed-append c N Y ∙ ap (λ (z : List ClassedLine). z ++ classed (context_after_lines c z) Y) k in
     ap classed_lines text ∙ (ap (classed start) lines ∙ (upper ∙ ap (λ z. above ++ z) lower))
 
--- The same, where the contexts directly above the lines below agree but perhaps for the flag, and these do not lean on it.
+-- A run of lines replaced by a text, if the contexts directly above the lines below agree in all except perhaps the flag, and the
+-- lines below do not lean on it.
 pub run-replaced_keeping : (t : List ℕ) (above run below : List ClassedLine) (v : List ℕ) (new : List ClassedLine) → classed_lines t ≡ above ++ (run ++ below)
     → classed (context_of above) (logical_lines v) ≡ new
     → (run ++ below ≡ [] → EndsBefore (text_of above) (logical_lines v)) → EndsBefore v (bytes_of below)
@@ -79,7 +80,7 @@ run-replaced_keeping t above run below v new h k begins ends agree free =
 leans-one : (p : ℕ) (c d : Context) (ls : List ClassedLine) → c ≡ d → leans p c.flag d.flag ls ≡ false
 leans-one p c d ls h = subst (λ (z : Context). leans p c.flag z.flag ls ≡ false) h (leans-same p c.flag ls)
 
--- The same, where the context directly above the lines below is as it was.
+-- A run of lines replaced by a text, if the context directly above the lines below is as it was.
 pub run-replaced_same : (t : List ℕ) (above run below : List ClassedLine) (v : List ℕ) (new : List ClassedLine) → classed_lines t ≡ above ++ (run ++ below)
     → classed (context_of above) (logical_lines v) ≡ new
     → (run ++ below ≡ [] → EndsBefore (text_of above) (logical_lines v)) → EndsBefore v (bytes_of below)
@@ -96,7 +97,7 @@ one-class : (c : Context) (m : List ℕ) (k : Class Cell) → OneLine m → clas
 one-class c m k o h =
     ap (classed c) (OneLine-logical m o) ∙ ap (λ (z : Class Cell). record { bytes = m; class = z } ∷ []) h
 
--- A line put between lines, or in front of them, or, where the lines above end, at the end of the text.
+-- A line put between lines, or in front of them, or at the end of the text if the lines above end a line.
 pub line-inserted : (t : List ℕ) (above below : List ClassedLine) (m : List ℕ) (k : Class Cell) → classed_lines t ≡ above ++ below
     → OneLine m → (below ≡ [] → Ends (text_of above)) → EndsBefore m (bytes_of below) → class_of (context_of above) m ≡ k
     → AgreeButForFlag (context_of above) (context_after (context_of above) k)
@@ -136,12 +137,12 @@ line-replaced t above l below m k h o ends q same =
 
 -- ---- texts that end
 
--- a text that ends and then one that ends do
+-- a text that ends a line, and then another that does, end a line together
 pub Ends-append : (a b : List ℕ) → Ends a → Ends b → Ends (a ++ b)
 unfolding Ends
 Ends-append a b h k = state_after-append line_step AtStart a b ∙ (ap (λ s. line_state_after s b) h ∙ k)
 
--- and no bytes do
+-- the empty text ends a line
 pub Ends-nothing : Ends []
 unfolding Ends
 Ends-nothing = refl

@@ -12,7 +12,7 @@ size_of-text (l ∷ ls) = ap (λ n. length l.bytes + n) (size_of-text ls) ∙ sy
 
 -- ---- the size after a change
 
--- a line taken out, which is the one that stood there
+-- the size after a line is taken out
 pub size_of-removed : (ls : List PlacedLine) (at : ℕ) (x : PlacedLine) → Some x ≡ slice_get ls at → size_of (take at ls ++ drop (at + 1) ls) + length x.bytes ≡ size_of ls
 size_of-removed [] at x h = absurd (cc)
 size_of-removed (l ∷ ls) zero x h = let e : x ≡ l = cc in rw e (omega arith)

@@ -53,7 +53,7 @@ abbrev pub replaced_text : (ClassedLine → List Piece) → List ClassedLine →
 replaced_text f [] = []
 replaced_text f (l ∷ ls) = (new_bytes (f l) ++ after_pieces f l) ++ replaced_text f ls
 
--- the pieces of lines as those of one
+-- the pieces of several lines, as those of one line
 whole_pieces : (ClassedLine → List Piece) → List ClassedLine → List Piece
 whole_pieces f [] = []
 whole_pieces f (l ∷ ls) = f l ++ (Keep (map Byte (after_pieces f l)) ∷ whole_pieces f ls)

@@ -1,5 +1,5 @@
--- How many conditionals are open at once: lines of other classes change nothing of it, so a text that opens too many is not made
--- by such a change.
+-- How many conditionals are open at once: lines of no conditional do not change that number, so a change of such lines does not
+-- make a text that opens too many.
 use Rattle.std.proofs.Common.{◌≡◌, refl, sym, ap, ◌∙◌, arith, ℕ, List, [], ◌∷◌, ◌++◌, not, true, max}
 use Rattle.mk_lines.specs.Cells.{Cell}
 use Rattle.mk_class.specs.Classes.{Class, is_conditional}
@@ -9,7 +9,7 @@ use Rattle.mk_class.specs.ClassedLines.{ClassedLine, context_after_lines}
 use Rattle.mk_tree.specs.Documents.{AreUnconditional, most_conditionals}
 use Rattle.mk_tree.specs.EachReplaced.{ReplaceEach}
 
--- such a line leaves the number of open conditionals
+-- a line of no conditional leaves the number of open conditionals
 conditionals-kept : (n : ℕ) (k : Class Cell) → not (is_conditional k) ≡ true → conditionals_after n k ≡ n
 conditionals-kept n Endef h = refl
 conditionals-kept n (Body d) h = refl
@@ -27,12 +27,12 @@ conditionals-kept n (TargetAssign t) h = refl
 conditionals-kept n Rough h = refl
 conditionals-kept n (Header x) h = refl
 
--- and so do such lines
+-- lines of no conditional leave the number of open conditionals
 pub conditionals-kept_by_lines : (c : Context) (ls : List ClassedLine) → AreUnconditional ls → (context_after_lines c ls).conditionals ≡ c.conditionals
 conditionals-kept_by_lines c [] h = refl
 conditionals-kept_by_lines c (l ∷ ls) h = conditionals-kept_by_lines (context_after c l.class) ls h.1 ∙ conditionals-kept c.conditionals l.class h.0
 
--- as many are open as were open before the first line
+-- at least as many are open at once as were open before the first line
 most_conditionals-least : (n : ℕ) (ls : List ClassedLine) → max n (most_conditionals n ls) ≡ most_conditionals n ls
 most_conditionals-least n [] = omega arith
 most_conditionals-least n (l ∷ ls) = omega arith
@@ -68,12 +68,12 @@ most_conditionals-without c above run below h =
     ∙ (ap (λ z. max d.conditionals (most_conditionals z below)) (conditionals-kept_by_lines d run h) ∙ most_conditionals-least d.conditionals below)) in
     most_conditionals-append c above (run ++ below) ∙ (ap (max (most_conditionals c.conditionals above)) inner ∙ sym (most_conditionals-append c above below))
 
--- So it is with lines of no conditional in the place of others.
+-- It is the same with lines of no conditional in the place of others.
 pub most_conditionals-run_replaced : (c : Context) (above run new below : List ClassedLine) → AreUnconditional run → AreUnconditional new
     → most_conditionals c.conditionals (above ++ (new ++ below)) ≡ most_conditionals c.conditionals (above ++ (run ++ below))
 most_conditionals-run_replaced c above run new below h k = most_conditionals-without c above new below k ∙ sym (most_conditionals-without c above run below h)
 
--- And with lines in the place of others, after each of which the context is the same.
+-- It is the same with lines in the place of others, if the context after each is the same.
 pub most_conditionals-each_replaced : (c : Context) (old new below : List ClassedLine) → ReplaceEach c old new below → most_conditionals c.conditionals new ≡ most_conditionals c.conditionals old
 most_conditionals-each_replaced c [] [] below h = refl
 most_conditionals-each_replaced c [] (m ∷ ms) below h = absurd h

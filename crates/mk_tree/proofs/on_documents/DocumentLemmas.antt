@@ -31,7 +31,7 @@ placed_text-placed_lines (l ∷ ls) = ap (λ z. l.bytes ++ z) (placed_text-place
 pub faithful-text : (ls : List PlacedLine) (t : List ℕ) → IsFaithfulTo ls t → placed_text ls ≡ t
 faithful-text ls t h = ap placed_text h ∙ (placed_text-placed_lines (classed_lines t) ∙ text_of-classed_lines t)
 
--- and it is faithful to its own text
+-- such a document is faithful to its own text
 pub faithful-own : (ls : List PlacedLine) (t : List ℕ) → IsFaithfulTo ls t → IsFaithful ls
 faithful-own ls t h = h ∙ ap document_lines (sym (faithful-text ls t h))
 

@@ -47,7 +47,7 @@ context_of-last a l = context_after_lines-append start a (l ∷ [])
 
 -- ---- lines with the classes that they have in a context
 
--- each line has the class that it has, the first of them in this context
+-- each line has the class that it has in its context; the first line stands in this context
 abbrev pub AreClassed : Context → List ClassedLine → Type 0
 AreClassed c ls = classed c (bytes_of ls) ≡ ls
 
@@ -58,7 +58,7 @@ AreClassed-classed c ls = ap (classed c) (bytes_of-classed c ls)
 pub AreClassed-class : (c : Context) (l : ClassedLine) (ls : List ClassedLine) → AreClassed c (l ∷ ls) → class_of c l.bytes ≡ l.class
 AreClassed-class c l ls h = let e : line_in c l.bytes ≡ l = cc in ap (λ z. z.class) e
 
--- and the lines after it
+-- the lines after the first have their classes too
 pub AreClassed-tail : (c : Context) (l : ClassedLine) (ls : List ClassedLine) → AreClassed c (l ∷ ls) → AreClassed (context_after c l.class) ls
 AreClassed-tail c l ls h =
     let e : classed (context_after c (class_of c l.bytes)) (bytes_of ls) ≡ ls = cc in
@@ -89,9 +89,9 @@ AreClassed-lines t ls h = subst (AreClassed start) h (AreClassed-classed start (
 pub record RunPlace (t : List ℕ) (above run below : List ClassedLine) : Type 0 where
   -- the text is theirs
   pub text : t ≡ text_of above ++ (text_of run ++ text_of below)
-  -- its logical lines are their bytes
+  -- the logical lines of the text are their bytes
   pub lines : logical_lines t ≡ bytes_of above ++ (bytes_of run ++ bytes_of below)
-  -- each has its class in the context of those above it
+  -- each line has its class in the context of the lines above it
   pub above_classed : AreClassed start above
   pub run_classed : AreClassed (context_of above) run
   pub below_classed : AreClassed (context_after_lines (context_of above) run) below
@@ -115,13 +115,13 @@ located-run t above run below h =
 pub record LinePlace (t : List ℕ) (above : List ClassedLine) (line : ClassedLine) (below : List ClassedLine) : Type 0 where
   -- the text is theirs
   pub text : t ≡ text_of above ++ (line.bytes ++ text_of below)
-  -- its logical lines are their bytes
+  -- the logical lines of the text are their bytes
   pub lines : logical_lines t ≡ bytes_of above ++ (line.bytes ∷ bytes_of below)
-  -- each has its class in the context of those above it
+  -- each line has its class in the context of the lines above it
   pub above_classed : AreClassed start above
   pub class : class_of (context_of above) line.bytes ≡ line.class
   pub below_classed : AreClassed (context_after (context_of above) line.class) below
-  -- the line is one by itself, begins where those above end, and ends where some are below
+  -- the line is one line by itself, begins where the lines above end, and ends a line if lines are below
   pub one : OneLine line.bytes
   pub begins : Ends (text_of above)
   pub ends : EndsBefore line.bytes (bytes_of below)

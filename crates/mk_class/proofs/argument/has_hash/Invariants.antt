@@ -1,4 +1,4 @@
--- The text has a unit `#` where what is left of it has one.
+-- The text has a unit `#` if the rest of it has one.
 use Rattle.std.proofs.Common.{◌≡◌, length}
 use Rattle.mk_lines.specs.Units.{units}
 use Rattle.mk_class.specs.Lists.{any}

@@ -1,4 +1,4 @@
--- What follows the name of the text is what follows that of what is left.
+-- What follows the name of the text is what follows the name of the rest.
 use Rattle.std.proofs.Common.{◌≡◌, ◌≤◌, length}
 use Rattle.mk_lines.specs.Units.{units}
 use Rattle.mk_class.specs.Lists.{from}

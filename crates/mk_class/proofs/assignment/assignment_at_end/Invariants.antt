@@ -1,4 +1,4 @@
--- The assignment that the text is, is the one that what is left is.
+-- The assignment of the text is the assignment of the rest.
 use Rattle.std.proofs.Common.{◌≡◌, ◌≤◌, ◌-◌, length}
 use Rattle.mk_lines.specs.Units.{units}
 use Rattle.mk_class.specs.Assignments.{assignment}

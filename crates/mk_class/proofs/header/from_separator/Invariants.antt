@@ -1,4 +1,4 @@
--- The first separator of the text is that of what is left.
+-- The first separator of the text is the first separator of the rest.
 use Rattle.std.proofs.Common.{◌≡◌, ◌≤◌, length}
 use Rattle.mk_lines.specs.Units.{units}
 use Rattle.mk_class.specs.Lists.{from}

@@ -1,4 +1,4 @@
--- Whether there is one is told by what is left.
+-- The text has such a unit if the rest of it has one.
 use Rattle.std.proofs.Common.{◌≡◌, ◌||◌, length}
 use Rattle.mk_lines.specs.Units.{units}
 use Rattle.mk_class.specs.Lists.{any}

@@ -1,4 +1,4 @@
--- What follows the modifiers of the text is what follows those of what is left.
+-- What follows the modifiers of the text is what follows the modifiers of the rest.
 use Rattle.std.proofs.Common.{◌≡◌, length}
 use Rattle.mk_class.specs.FirstWords.{text_words}
 use Rattle.mk_class.specs.Keywords.{after_modifiers}

@@ -1,4 +1,4 @@
--- The blanks at the end of the text are those at the end of what is left.
+-- The blanks at the end of the text are the blanks at the end of the rest.
 use Rattle.std.proofs.Common.{◌≡◌, ◌≤◌, length}
 use Rattle.mk_lines.specs.Lists.{trailing}
 use Rattle.mk_lines.specs.Units.{units}

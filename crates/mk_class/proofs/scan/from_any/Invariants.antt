@@ -1,4 +1,4 @@
--- The first such unit of the text is that of what is left.
+-- The first such unit of the text is the first such unit of the rest.
 use Rattle.std.proofs.Common.{◌≡◌, ◌≤◌, length}
 use Rattle.mk_lines.specs.Lists.{after_leading}
 use Rattle.mk_lines.specs.Units.{units}

@@ -1,4 +1,4 @@
--- So many steps are gathered, all the same.
+-- The steps that are gathered so far are all the same.
 use Rattle.std.proofs.Common.{◌≡◌}
 use Rattle.mk_edit.specs.PlannedMoves.{removing_moves}
 use Rattle.mk_edit.proofs.moves.take_out.Given as goal

@@ -1,4 +1,4 @@
--- The words counted so far and those of what is left are the text's; each took a byte at least.
+-- The words counted so far and the words of the rest are the words of the text; each word took at least one byte.
 use Rattle.std.proofs.Common.{◌≡◌, ◌≤◌, ◌+◌, length}
 use Rattle.mk_lines.specs.Words.{words_in}
 use Rattle.mk_edit.proofs.unrule.word_count.Given as goal

@@ -1,4 +1,4 @@
--- The text is such words where what is left of it is.
+-- The words of the text pass the test if the words of the rest do.
 use Rattle.std.proofs.Common.{◌≡◌, length}
 use Rattle.mk_edit_laws.specs.ArgumentCauses.{are_words}
 use Rattle.mk_edit_parts.proofs.argument.are_words.Given as goal

@@ -1,4 +1,4 @@
--- The text has such a word where what is left of it has one.
+-- The text has such a word if the rest of it has one.
 use Rattle.std.proofs.Common.{◌≡◌, length}
 use Rattle.mk_lines.specs.Words.{words_in}
 use Rattle.mk_class.specs.Keywords.{is_reserved_word}

@@ -1,4 +1,4 @@
--- What is counted, with the words of what is left, is all; each word is shorter than what it is cut from.
+-- The count so far, with the words of the rest, is the whole; each word is shorter than the text from which it is cut.
 use Rattle.std.proofs.Common.{◌≡◌, ◌+◌, ◌*◌, ◌≤◌, length}
 use Rattle.mk_lines.specs.Words.{words_in}
 use Rattle.mk_edit_laws.specs.NewLines.{each_spaced}

@@ -1,4 +1,4 @@
--- The words of what is left are still to be put after the bytes.
+-- The words of the rest are still to be put after the bytes.
 use Rattle.std.proofs.Common.{◌≡◌, ◌++◌, length}
 use Rattle.mk_lines.specs.Words.{words_in}
 use Rattle.mk_edit_laws.specs.NewLines.{each_spaced}

@@ -1,4 +1,4 @@
--- The last end of the words passed and of those ahead is that of all, and those ahead rise within the part.
+-- The end of the last word, of those passed and those ahead, is that of all words; the words ahead rise within the part.
 use Rattle.std.proofs.Common.{◌≡◌, ◌-◌}
 use Rattle.mk_lines.specs.Ranges.{text_at, word_ranges}
 use Rattle.mk_edit_parts.specs.WordCuts.{last_end}

@@ -1,4 +1,4 @@
--- The word is one of the text's where it is one of what is left of it.
+-- The word is one of the text's words if it is one of the rest's.
 use Rattle.std.proofs.Common.{◌≡◌, length}
 use Rattle.mk_lines.specs.Words.{words_in}
 use Rattle.mk_class.specs.Texts.{is_one_of}

@@ -1,4 +1,4 @@
--- The text is closed where what is left of it is.
+-- The text is closed if the rest of it is.
 use Rattle.std.proofs.Common.{◌≡◌, length}
 use Rattle.mk_lines.specs.Units.{is_closed}
 use Rattle.mk_lines.proofs.unit.is_closed.Given as goal

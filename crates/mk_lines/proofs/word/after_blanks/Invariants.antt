@@ -1,4 +1,4 @@
--- What follows the blanks of the text is what follows those of what is left.
+-- What follows the blanks of the text is what follows the blanks of the rest.
 use Rattle.std.proofs.Common.{◌≡◌, ◌≤◌, length}
 use Rattle.mk_lines.specs.Lists.{after_leading}
 use Rattle.mk_lines.specs.Bytes.{is_blank_byte}

@@ -1,4 +1,4 @@
--- What follows the word of the text is what follows that of what is left.
+-- What follows the word of the text is what follows the word of the rest.
 use Rattle.std.proofs.Common.{◌≡◌, ◌≤◌, length}
 use Rattle.mk_lines.specs.UnitWalk.{after_word}
 use Rattle.mk_lines.proofs.word.after_word.Given as goal

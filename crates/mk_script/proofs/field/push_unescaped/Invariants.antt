@@ -1,4 +1,4 @@
--- The bytes so far, and those of what is left, are the field's.
+-- The bytes so far, and then the bytes of the rest, are those of the field.
 use Rattle.std.proofs.Common.{◌≡◌, ◌++◌, false, drop}
 use Rattle.mk_script.specs.FieldReading.{unescaped}
 use Rattle.mk_script.proofs.field.push_unescaped.Given as goal

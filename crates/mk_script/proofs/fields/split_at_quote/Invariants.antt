@@ -1,4 +1,4 @@
--- The bytes so far stand before those of what is left.
+-- The bytes so far stand before the bytes of the rest.
 use Rattle.std.proofs.Common.{◌≡◌, false, take, drop}
 use Rattle.mk_script.specs.FieldReading.{until_quote}
 use Rattle.mk_script.proofs.on_fields.EscapeLemmas.{with_front}

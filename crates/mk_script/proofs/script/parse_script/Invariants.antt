@@ -1,4 +1,4 @@
--- The lines so far are read, and those that are left are no more than the script has bytes.
+-- The lines so far are read; the lines that are left are at most as many as the script has bytes.
 use Rattle.std.proofs.Common.{◌+◌, ◌≤◌, length, map}
 use Rattle.mk_script.specs.Scripts.{numbered}
 use Rattle.mk_script.proofs.on_scripts.ScriptLemmas.{IsReadSoFar}

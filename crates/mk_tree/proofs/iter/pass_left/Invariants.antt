@@ -1,4 +1,4 @@
--- The lines of the tree that is left and those ahead of the lines passed are those to be ahead.
+-- The lines of the tree that is left, and then the lines ahead of those passed, are the lines that are to be ahead.
 use Rattle.std.proofs.Common.{◌≡◌, ◌+◌, ◌≤◌, ◌++◌}
 use Rattle.arrayvec.specs.ArrayVec.{array_vec_len}
 use Rattle.mk_tree.specs.Walks.{lines_ahead, AreWithin}

@@ -1,4 +1,4 @@
--- Each side has fewer lines.
+-- Each side has fewer lines than the whole.
 use Rattle.mk_tree.proofs.parse.+read_tree.Given as goal
 
 abbrev pub decreases-read_tree : goal.decreases-read_tree

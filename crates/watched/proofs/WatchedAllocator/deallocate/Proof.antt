@@ -1,4 +1,4 @@
--- It gives the block back to the inner allocator. Assumes `Logic`.
+-- `deallocate` gives the block back to the inner allocator. Assumes `Logic`.
 use Rattle.std.proofs.Common.{◌≡◌, ℕ, ◌+◌, ◌^◌, ◌<◌, List, [], ◌∷◌, refl, w64, Bor}
 use seplogic.Ra.Ura.{Ura}
 use mir.Syntax.{Ty, Args, Fn, a_type, dnil, dcons}

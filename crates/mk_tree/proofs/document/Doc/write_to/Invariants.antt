@@ -1,4 +1,4 @@
--- What is out and what is held back, with the text of the lines that are left, is the whole text.
+-- What is out, then what is held back, then the text of the lines that are left: together these are the whole text.
 use Rattle.std.proofs.Common.{◌≡◌, ◌++◌, false, ℕ, List}
 use Rattle.mk_tree.specs.PlacedLines.{placed_text}
 use Rattle.mk_tree.specs.Printing.{AppendsSoFar}

@@ -15,7 +15,7 @@ returns-in-Plain-clause-length g c =
     let none : [] ≡ c.args.self.now.ends = ap ends_kept (sym c.in-Plain.is) ∙ ap (λ k. k.ends) c.self.view_is in
     ap length c.without_line_end.ensures ∙ plain-count c.args.self.now c.args.line.now c.requires none
 
--- the slice from a place on
+-- the slice from a place on to the end
 whole : (n : ℕ) (xs : List ℕ) → take (length xs - n) (drop n xs) ≡ drop n xs
 whole n xs = ap (λ m. take m (drop n xs)) (sym (length-drop n xs)) ∙ take-length (drop n xs)
 
