@@ -4,6 +4,7 @@
 # The options of a command, in the order of `mkedit COMMAND --help`.
 _mkedit_options() {
     case $1 in
+        "") echo "-h --help -V --version" ;;
         edit) echo "-k --keep-going -d --depth -o --output -e --expression -h --help" ;;
         help) ;;
         *) echo "-h --help" ;;

@@ -3,6 +3,7 @@
 
 complete -c mkedit -f
 complete -c mkedit -s h -l help -d 'Print help'
+complete -c mkedit -n __fish_use_subcommand -s V -l version -d 'Print version'
 
 complete -c mkedit -n __fish_use_subcommand -a edit -d 'Runs a script of edits over a makefile, and prints the text'
 complete -c mkedit -n __fish_use_subcommand -a vars -d 'Lists the assignments of a makefile'

@@ -41,6 +41,7 @@ _mkedit() {
     typeset -A opt_args
     _arguments -C \
         '(-h --help)'{-h,--help}'[print help]' \
+        '(-V --version)'{-V,--version}'[print version]' \
         '1:command:_mkedit_commands' \
         '*::argument:->argument'
     [[ $state == argument ]] || return

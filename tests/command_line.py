@@ -1,6 +1,7 @@
 """Checks on the command line, its help, and the example that `make demo` runs."""
 
 import os
+import re
 import subprocess
 from pathlib import Path
 
@@ -52,6 +53,15 @@ def help_of_edit_names_its_options(room):
     options = ("-k, --keep-going", "-d, --depth <DEPTH>", "-o, --output <OUT>")
     options += ("-e, --expression <COMMAND>", "mkedit edit [OPTIONS] -e COMMAND... [FILE]")
     return wrong + [f"the help does not name {it!r}" for it in options if it not in shown]
+
+
+@check
+def the_version_is_the_one_of_the_list_of_changes(room):
+    changes = (TOP / "CHANGELOG.md").read_text(encoding="utf-8")
+    version = re.search(r"^## (\d+\.\d+\.\d+)\b", changes, re.M)[1]
+    for word in ("--version", "-V"):
+        yield from room.differs(Outcome(f"mkedit {version}\n".encode(), b"", 0), word)
+        yield from is_refused(room, "edit", word)
 
 
 @check

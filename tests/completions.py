@@ -28,6 +28,12 @@ def section(shown, title):
     return re.search(rf"^{title}:\n((?: .*\n?)+)", shown, re.M)[1]
 
 
+def options_of_fish(text, others):
+    """The options in the lines that do not have the condition of others."""
+    lines = "\n".join(it for it in text.splitlines() if others not in it)
+    return {it for pair in FISH_OPTION.findall(lines) for it in (f"-{pair[0]}", f"--{pair[1]}")}
+
+
 def section_of_zsh(text, function):
     """The text of a function."""
     return re.search(rf"^{function}\(\) \{{\n(.*?)^\}}$", text, re.M | re.S)[1]
@@ -121,10 +127,13 @@ def fish_completes_what_help_lists(room):
 @check
 def the_file_for_fish_has_what_help_lists(room):
     text = (FOLDER / "mkedit.fish").read_text(encoding="utf-8")
-    found = {it for pair in FISH_OPTION.findall(text) for it in (f"-{pair[0]}", f"--{pair[1]}")}
-    wrong = [] if found == options(room, "edit") else [f"its options are {sorted(found)}"]
+    for words, others in (([], "__fish_seen_subcommand_from"), (["edit"], "__fish_use_subcommand")):
+        found = options_of_fish(text, others)
+        if found != options(room, *words):
+            yield f"its options of {words} are {sorted(found)}"
     named = set(FISH_COMMAND.findall(text))
-    return wrong + ([] if named == commands(room) else [f"its commands are {sorted(named)}"])
+    if named != commands(room):
+        yield f"its commands are {sorted(named)}"
 
 
 @check
@@ -133,11 +142,12 @@ def the_file_for_zsh_has_what_help_lists(room):
     named = set(ZSH_COMMAND.findall(section_of_zsh(text, "_mkedit_commands")))
     if named != commands(room):
         yield f"its commands are {sorted(named)}"
-    for function, words in (("edit", ["edit"]), ("query", ["vars"]), ("query", ["check"])):
-        part = section_of_zsh(text, f"_mkedit_{function}")
+    functions = (("", []), ("_edit", ["edit"]), ("_query", ["vars"]), ("_query", ["check"]))
+    for function, words in functions:
+        part = section_of_zsh(text, f"_mkedit{function}")
         found = {it for pair in ZSH_OPTION.findall(part) for it in pair}
         if found != options(room, *words):
-            yield f"its options of {words[0]} are {sorted(found)}"
+            yield f"its options of {words} are {sorted(found)}"
     if shutil.which("zsh"):
         ran = subprocess.run(["zsh", "-n", FOLDER / "mkedit.zsh"], capture_output=True, text=True)
         yield from ran.stderr.splitlines()

@@ -116,7 +116,7 @@ def the_manual_page_has_every_option_and_command_of_the_program(room):
     for command in ("edit", "vars", "rules", "check", "help"):
         if f".Cm {command}\n" not in text.partition(".Sh DESCRIPTION")[0]:
             yield f"the synopsis lacks {command}"
-    shown = room.run("edit", "--help").stdout.decode()
+    shown = room.run("--help").stdout.decode() + room.run("edit", "--help").stdout.decode()
     for short, long in re.findall(r"^  -(\w), --([\w-]+)", shown, re.M):
         if short != "h" and not re.search(rf"^\.It Fl {short}.* Fl -{long}\b", text, re.M):
             yield f"the page lacks -{short}, --{long}"

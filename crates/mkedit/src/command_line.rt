@@ -8,6 +8,9 @@ use clap::error::ErrorKind;
 use clap::{Arg, ArgAction, ArgMatches, Command};
 use std::alloc::{AllocError, Global};
 
+/// The version that `--version` names. CHANGELOG.md says what is new in it.
+const VERSION: &str = "0.1.0";
+
 /// How many edits can be undone, where the command line does not say it.
 const DEFAULT_DEPTH: &str = "100";
 
@@ -112,6 +115,7 @@ fn query_command<'a>(
 
 fn command_line<'a>(alloc: Global) -> Result<Command<'a>, AllocError> {
     Command::new(alloc, "mkedit")
+        .version(VERSION)
         .about("Edits a makefile by a script, and keeps every byte that no edit concerns")
         .after_help(help::PROGRAM)
         .subcommand_required(true)
@@ -187,9 +191,9 @@ fn edit_words<'a>(
 ///
 /// # Errors
 ///
-/// What `clap` finds wrong with them, which has its text, and help where it is asked for; a depth
-/// that is not written in decimal digits alone, or is not from 1 to 10,000; two files beside a
-/// command that `-e` gives.
+/// What `clap` finds wrong with them, which has its text, and help or the version where one is asked
+/// for; a depth that is not written in decimal digits alone, or is not from 1 to 10,000; two files
+/// beside a command that `-e` gives.
 pub fn read_request<'a>(alloc: Global, words: &'a [String]) -> Result<Request<'a>, clap::Error> {
     let mut command = command_line(alloc)?;
     let matches = command.try_get_matches_from_mut(words)?;
