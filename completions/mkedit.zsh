@@ -9,6 +9,7 @@ _mkedit_commands() {
         'vars:Lists the assignments of a makefile'
         'rules:Lists the rules of a makefile'
         'check:Lists the lines of a makefile that are kept and not read inside'
+        'explain:Says why a command is refused, and what to do then'
         'help:Prints help for a command'
     )
     _describe -t commands 'command' commands
@@ -36,6 +37,18 @@ _mkedit_query() {
         '1:makefile:_files'
 }
 
+_mkedit_explain() {
+    local -a refusals
+    refusals=(
+        BadArgument Reserved RecipePrefix NoSuch Ambiguous Absent Already Taken SharedRule Straddles
+        OpenValue OpenLine OpenDefine Leans TooLong NothingToUndo NothingToRedo GroupOpen NoGroup
+        NoMemory
+    )
+    _arguments -s \
+        '(-h --help)'{-h,--help}'[print help]' \
+        "1:refusal:(${refusals[*]})"
+}
+
 _mkedit() {
     local context state state_descr line
     typeset -A opt_args
@@ -48,6 +61,7 @@ _mkedit() {
     case $line[1] in
         edit) _mkedit_edit ;;
         vars | rules | check) _mkedit_query ;;
+        explain) _mkedit_explain ;;
         help) _arguments '1:command:_mkedit_commands' ;;
     esac
 }

@@ -33,13 +33,13 @@ def is_refused(room, *words):
 @check
 def help_has_an_example(room):
     wrong, shown = helps(room, "--help")
-    lacking = [it for it in ("edit", *ANSWERS) if f"\n  {it} " not in shown]
+    lacking = [it for it in ("edit", *ANSWERS, "explain") if f"\n  {it} " not in shown]
     return wrong + [f"the help does not list {it}" for it in lacking]
 
 
 @check
 def help_of_each_command_has_an_example(room):
-    for command in ("edit", *ANSWERS):
+    for command in ("edit", *ANSWERS, "explain"):
         for words in ([command, "--help"], [command, "-h"], ["help", command]):
             wrong, shown = helps(room, *words)
             yield from wrong
@@ -52,6 +52,7 @@ def help_of_edit_names_its_options(room):
     wrong, shown = helps(room, "edit", "--help")
     options = ("-k, --keep-going", "-d, --depth <DEPTH>", "-o, --output <OUT>")
     options += ("-e, --expression <COMMAND>", "mkedit edit [OPTIONS] -e COMMAND... [FILE]")
+    options += ("mkedit explain 4",)
     return wrong + [f"the help does not name {it!r}" for it in options if it not in shown]
 
 

@@ -1,11 +1,13 @@
 //! What the words of the command line ask for, as `clap` reads them.
 
 use crate::edit::{EditWords, Script};
+use crate::explain::refusal_of;
 use crate::help;
 use crate::query::Query;
 use clap::builder::ValueParser;
 use clap::error::ErrorKind;
 use clap::{Arg, ArgAction, ArgMatches, Command};
+use mk_session::Refusal;
 use std::alloc::{AllocError, Global};
 
 /// The version that `--version` names. CHANGELOG.md says what is new in it.
@@ -24,6 +26,9 @@ const NO_COMMAND: &str = "a command is required";
 const TWO_FILES: &str =
     "with '--expression <COMMAND>' there is no SCRIPT, so at most one word may stand there, FILE";
 
+const NO_REFUSAL: &str =
+    "invalid value for '<REFUSAL>': it is no number from 1 to 20, and no refusal has this name";
+
 // The names of the commands, and those by which their words are found.
 const EDIT: &str = "edit";
 
@@ -32,6 +37,8 @@ const VARS: &str = "vars";
 const RULES: &str = "rules";
 
 const CHECK: &str = "check";
+
+const EXPLAIN: &str = "explain";
 
 const SCRIPT: &str = "SCRIPT";
 
@@ -45,6 +52,8 @@ const OUTPUT: &str = "output";
 
 const EXPRESSION: &str = "expression";
 
+const REFUSAL: &str = "REFUSAL";
+
 // How `edit` is called.
 const EDIT_USAGE: &str = "mkedit edit [OPTIONS] SCRIPT [FILE]
        mkedit edit [OPTIONS] -e COMMAND... [FILE]";
@@ -56,6 +65,8 @@ pub enum Request<'a> {
     Edit(EditWords<'a>),
     /// A query, and the makefile's name; without one the makefile is standard input.
     Query(Query, Option<&'a str>),
+    /// What is said of a refusal.
+    Explain(Refusal),
 }
 
 fn file<'a>(alloc: Global) -> Arg<'a> {
@@ -113,6 +124,16 @@ fn query_command<'a>(
         .arg(file(alloc))
 }
 
+fn explain_command<'a>(alloc: Global) -> Result<Command<'a>, AllocError> {
+    let refusal = Arg::new(alloc, REFUSAL)
+        .required(true)
+        .help("Its number or its name, as the report has them");
+    Command::new(alloc, EXPLAIN)
+        .about(help::ABOUT_EXPLAIN)
+        .after_help(help::EXPLAIN)
+        .arg(refusal)
+}
+
 fn command_line<'a>(alloc: Global) -> Result<Command<'a>, AllocError> {
     Command::new(alloc, "mkedit")
         .version(VERSION)
@@ -122,7 +143,8 @@ fn command_line<'a>(alloc: Global) -> Result<Command<'a>, AllocError> {
         .subcommand(edit_command(alloc)?)?
         .subcommand(query_command(alloc, VARS, help::ABOUT_VARS, help::VARS)?)?
         .subcommand(query_command(alloc, RULES, help::ABOUT_RULES, help::RULES)?)?
-        .subcommand(query_command(alloc, CHECK, help::ABOUT_CHECK, help::CHECK)?)
+        .subcommand(query_command(alloc, CHECK, help::ABOUT_CHECK, help::CHECK)?)?
+        .subcommand(explain_command(alloc)?)
 }
 
 // The query of a command's name.
@@ -187,21 +209,35 @@ fn edit_words<'a>(
     })
 }
 
+// The refusal that the word of `explain` calls.
+fn explained<'a>(
+    command: &mut Command<'a>,
+    matches: &ArgMatches<'a>,
+) -> Result<Refusal, clap::Error> {
+    match matches.get_str(REFUSAL).and_then(refusal_of) {
+        Some(refusal) => Ok(refusal),
+        None => Err(command.error(ErrorKind::InvalidValue, NO_REFUSAL)?),
+    }
+}
+
 /// What the words, of which the first is the program's name, ask for.
 ///
 /// # Errors
 ///
 /// What `clap` finds wrong with them, which has its text, and help or the version where one is asked
 /// for; a depth that is not written in decimal digits alone, or is not from 1 to 10,000; two files
-/// beside a command that `-e` gives.
+/// beside a command that `-e` gives; a word that calls no refusal.
 pub fn read_request<'a>(alloc: Global, words: &'a [String]) -> Result<Request<'a>, clap::Error> {
     let mut command = command_line(alloc)?;
     let matches = command.try_get_matches_from_mut(words)?;
     let Some((name, matches)) = matches.subcommand() else {
         return Err(command.error(ErrorKind::MissingSubcommand, NO_COMMAND)?);
     };
-    match query_of(name) {
-        Some(query) => Ok(Request::Query(query, matches.get_str(FILE))),
-        None => Ok(Request::Edit(edit_words(alloc, &mut command, matches)?)),
+    if let Some(query) = query_of(name) {
+        Ok(Request::Query(query, matches.get_str(FILE)))
+    } else if name == EXPLAIN {
+        Ok(Request::Explain(explained(&mut command, matches)?))
+    } else {
+        Ok(Request::Edit(edit_words(alloc, &mut command, matches)?))
     }
 }
