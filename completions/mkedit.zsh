@@ -25,7 +25,8 @@ _mkedit_edit() {
     _arguments -s \
         '(-k --keep-going)'{-k,--keep-going}'[go on after a refused command]' \
         '(-d --depth)'{-d+,--depth=}'[how many edits can be undone, from 1 to 10000]:depth: ' \
-        '(-o --output)'{-o+,--output=}'[where the text goes; it may be FILE]:output:_files' \
+        '(-o --output -i --in-place)'{-o+,--output=}'[where the text goes; it may be FILE]:output:_files' \
+        '(-i --in-place -o --output)'{-i,--in-place}'[the makefile gets the text]' \
         '*'{-e+,--expression=}'[a command, in place of the script]:command: ' \
         '(-h --help)'{-h,--help}'[print help]' \
         $files

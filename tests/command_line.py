@@ -52,7 +52,7 @@ def help_of_edit_names_its_options(room):
     wrong, shown = helps(room, "edit", "--help")
     options = ("-k, --keep-going", "-d, --depth <DEPTH>", "-o, --output <OUT>")
     options += ("-e, --expression <COMMAND>", "mkedit edit [OPTIONS] -e COMMAND... [FILE]")
-    options += ("mkedit explain 4",)
+    options += ("-i, --in-place", "mkedit explain 4")
     return wrong + [f"the help does not name {it!r}" for it in options if it not in shown]
 
 

@@ -1,6 +1,6 @@
 //! What the words of the command line ask for, as `clap` reads them.
 
-use crate::edit::{EditWords, Script};
+use crate::edit::{EditWords, Output, Script};
 use crate::explain::refusal_of;
 use crate::help;
 use crate::query::Query;
@@ -26,6 +26,8 @@ const NO_COMMAND: &str = "a command is required";
 const TWO_FILES: &str =
     "with '--expression <COMMAND>' there is no SCRIPT, so at most one word may stand there, FILE";
 
+const NO_FILE: &str = "with '--in-place' FILE has to be named";
+
 const NO_REFUSAL: &str =
     "invalid value for '<REFUSAL>': it is no number from 1 to 20, and no refusal has this name";
 
@@ -49,6 +51,8 @@ const KEEP_GOING: &str = "keep-going";
 const DEPTH: &str = "depth";
 
 const OUTPUT: &str = "output";
+
+const IN_PLACE: &str = "in-place";
 
 const EXPRESSION: &str = "expression";
 
@@ -91,6 +95,12 @@ fn edit_command<'a>(alloc: Global) -> Result<Command<'a>, AllocError> {
         .long("output")
         .value_name("OUT")
         .help("Where the text goes; it may be FILE");
+    let in_place = Arg::new(alloc, IN_PLACE)
+        .short('i')
+        .long("in-place")
+        .action(ArgAction::SetTrue)
+        .conflicts_with(OUTPUT)?
+        .help("FILE gets the text, and is the old file or the new one at every moment");
     let expression = Arg::new(alloc, EXPRESSION)
         .short('e')
         .long("expression")
@@ -107,6 +117,7 @@ fn edit_command<'a>(alloc: Global) -> Result<Command<'a>, AllocError> {
         .arg(keep_going)?
         .arg(depth)?
         .arg(output)?
+        .arg(in_place)?
         .arg(expression)?
         .arg(script)?
         .arg(file(alloc))
@@ -188,6 +199,17 @@ fn script_and_file<'a>(
     }
 }
 
+// Where the text goes; None where it goes to a makefile that has no name.
+fn output_of<'a>(matches: &ArgMatches<'a>, file: Option<&'a str>) -> Option<Output<'a>> {
+    if matches.get_flag(IN_PLACE) {
+        Some(Output::InPlace(file?))
+    } else if let Some(name) = matches.get_str(OUTPUT) {
+        Some(Output::File(name))
+    } else {
+        Some(Output::Standard)
+    }
+}
+
 // What the words of `edit` ask for. clap has seen to the rest.
 fn edit_words<'a>(
     alloc: Global,
@@ -200,10 +222,13 @@ fn edit_words<'a>(
     let Some((script, file)) = script_and_file(alloc, matches)? else {
         return Err(command.error(ErrorKind::TooManyValues, TWO_FILES)?);
     };
+    let Some(output) = output_of(matches, file) else {
+        return Err(command.error(ErrorKind::MissingRequiredArgument, NO_FILE)?);
+    };
     Ok(EditWords {
         keep_going: matches.get_flag(KEEP_GOING),
         depth,
-        out: matches.get_str(OUTPUT),
+        output,
         script,
         file,
     })
@@ -226,7 +251,8 @@ fn explained<'a>(
 ///
 /// What `clap` finds wrong with them, which has its text, and help or the version where one is asked
 /// for; a depth that is not written in decimal digits alone, or is not from 1 to 10,000; two files
-/// beside a command that `-e` gives; a word that calls no refusal.
+/// beside a command that `-e` gives; a word that calls no refusal; `-i` beside `-o` or
+/// without FILE.
 pub fn read_request<'a>(alloc: Global, words: &'a [String]) -> Result<Request<'a>, clap::Error> {
     let mut command = command_line(alloc)?;
     let matches = command.try_get_matches_from_mut(words)?;

@@ -33,7 +33,7 @@ or `mkedit explain NoSuch`, says more on the refusal 4 NoSuch, and what to do.
 Example: with `CC = gcc # c` in config.mk, and `set CC clang` in use-clang,
     mkedit edit use-clang config.mk
 prints `CC = clang # c`, and
-    mkedit edit -o config.mk use-clang config.mk
+    mkedit edit -i use-clang config.mk
 changes the file. Without a script,
     mkedit edit -e 'set CC clang' -e 'unset LDFLAGS' config.mk
 runs these two commands, as lines 1 and 2.

@@ -6,7 +6,7 @@
 //! - `query`: what a makefile has, by [`mk_queries`].
 //! - `explain`: why a command is refused; `explanations` has the texts.
 //! - `files`: files beside the standard streams.
-//! - `out_file`: the file that a text goes to.
+//! - `out_file`: the file that a text goes to; `in_place`: the makefile itself.
 //! - `ending`: the message and the status.
 #![tactic(auto)]
 
@@ -17,6 +17,7 @@ mod explain;
 mod explanations;
 mod files;
 mod help;
+mod in_place;
 mod out_file;
 mod query;
 
