@@ -4,15 +4,20 @@
 # The options of a command, in the order of `mkedit COMMAND --help`.
 _mkedit_options() {
     case $1 in
-        edit) echo "-k --keep-going -d --depth -o --output -e --expression -h --help" ;;
+        "") echo "-h --help -V --version" ;;
+        edit) echo "-k --keep-going -d --depth -o --output -i --in-place -e --expression -h --help" ;;
         help) ;;
         *) echo "-h --help" ;;
     esac
 }
 
+_mkedit_refusals="BadArgument Reserved RecipePrefix NoSuch Ambiguous Absent Already Taken SharedRule \
+    Straddles OpenValue OpenLine OpenDefine Leans TooLong NothingToUndo NothingToRedo GroupOpen NoGroup \
+    NoMemory"
+
 _mkedit() {
     local word=${COMP_WORDS[COMP_CWORD]} before=${COMP_WORDS[COMP_CWORD - 1]}
-    local command= commands="edit vars rules check help"
+    local command= commands="edit vars rules check explain help"
     ((COMP_CWORD > 1)) && command=${COMP_WORDS[1]}
     COMPREPLY=()
     if [[ $command == edit && $before == @(-d|--depth|-e|--expression) ]]; then
@@ -21,6 +26,8 @@ _mkedit() {
         mapfile -t COMPREPLY < <(compgen -W "$(_mkedit_options "$command")" -- "$word")
     elif ((COMP_CWORD == 1)) || [[ $command == help && COMP_CWORD -eq 2 ]]; then
         mapfile -t COMPREPLY < <(compgen -W "$commands" -- "$word")
+    elif [[ $command == explain ]]; then
+        ((COMP_CWORD == 2)) && mapfile -t COMPREPLY < <(compgen -W "$_mkedit_refusals" -- "$word")
     elif [[ $command != help ]]; then
         compopt -o filenames 2>/dev/null
         mapfile -t COMPREPLY < <(compgen -f -- "$word")

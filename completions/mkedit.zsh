@@ -9,6 +9,7 @@ _mkedit_commands() {
         'vars:Lists the assignments of a makefile'
         'rules:Lists the rules of a makefile'
         'check:Lists the lines of a makefile that are kept and not read inside'
+        'explain:Says why a command is refused, and what to do then'
         'help:Prints help for a command'
     )
     _describe -t commands 'command' commands
@@ -24,7 +25,8 @@ _mkedit_edit() {
     _arguments -s \
         '(-k --keep-going)'{-k,--keep-going}'[go on after a refused command]' \
         '(-d --depth)'{-d+,--depth=}'[how many edits can be undone, from 1 to 10000]:depth: ' \
-        '(-o --output)'{-o+,--output=}'[where the text goes; it may be FILE]:output:_files' \
+        '(-o --output -i --in-place)'{-o+,--output=}'[where the text goes; it may be FILE]:output:_files' \
+        '(-i --in-place -o --output)'{-i,--in-place}'[the makefile gets the text]' \
         '*'{-e+,--expression=}'[a command, in place of the script]:command: ' \
         '(-h --help)'{-h,--help}'[print help]' \
         $files
@@ -36,17 +38,31 @@ _mkedit_query() {
         '1:makefile:_files'
 }
 
+_mkedit_explain() {
+    local -a refusals
+    refusals=(
+        BadArgument Reserved RecipePrefix NoSuch Ambiguous Absent Already Taken SharedRule Straddles
+        OpenValue OpenLine OpenDefine Leans TooLong NothingToUndo NothingToRedo GroupOpen NoGroup
+        NoMemory
+    )
+    _arguments -s \
+        '(-h --help)'{-h,--help}'[print help]' \
+        "1:refusal:(${refusals[*]})"
+}
+
 _mkedit() {
     local context state state_descr line
     typeset -A opt_args
     _arguments -C \
         '(-h --help)'{-h,--help}'[print help]' \
+        '(-V --version)'{-V,--version}'[print version]' \
         '1:command:_mkedit_commands' \
         '*::argument:->argument'
     [[ $state == argument ]] || return
     case $line[1] in
         edit) _mkedit_edit ;;
         vars | rules | check) _mkedit_query ;;
+        explain) _mkedit_explain ;;
         help) _arguments '1:command:_mkedit_commands' ;;
     esac
 }

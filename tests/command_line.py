@@ -1,6 +1,7 @@
 """Checks on the command line, its help, and the example that `make demo` runs."""
 
 import os
+import re
 import subprocess
 from pathlib import Path
 
@@ -32,13 +33,13 @@ def is_refused(room, *words):
 @check
 def help_has_an_example(room):
     wrong, shown = helps(room, "--help")
-    lacking = [it for it in ("edit", *ANSWERS) if f"\n  {it} " not in shown]
+    lacking = [it for it in ("edit", *ANSWERS, "explain") if f"\n  {it} " not in shown]
     return wrong + [f"the help does not list {it}" for it in lacking]
 
 
 @check
 def help_of_each_command_has_an_example(room):
-    for command in ("edit", *ANSWERS):
+    for command in ("edit", *ANSWERS, "explain"):
         for words in ([command, "--help"], [command, "-h"], ["help", command]):
             wrong, shown = helps(room, *words)
             yield from wrong
@@ -51,7 +52,17 @@ def help_of_edit_names_its_options(room):
     wrong, shown = helps(room, "edit", "--help")
     options = ("-k, --keep-going", "-d, --depth <DEPTH>", "-o, --output <OUT>")
     options += ("-e, --expression <COMMAND>", "mkedit edit [OPTIONS] -e COMMAND... [FILE]")
+    options += ("-i, --in-place", "mkedit explain 4")
     return wrong + [f"the help does not name {it!r}" for it in options if it not in shown]
+
+
+@check
+def the_version_is_the_one_of_the_list_of_changes(room):
+    changes = (TOP / "CHANGELOG.md").read_text(encoding="utf-8")
+    version = re.search(r"^## (\d+\.\d+\.\d+)\b", changes, re.M)[1]
+    for word in ("--version", "-V"):
+        yield from room.differs(Outcome(f"mkedit {version}\n".encode(), b"", 0), word)
+        yield from is_refused(room, "edit", word)
 
 
 @check

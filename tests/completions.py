@@ -10,6 +10,7 @@ import subprocess
 from pathlib import Path
 
 from checks import SECONDS
+from explanations import refusals
 from rooms import Checks
 
 FOLDER = Path(__file__).resolve().parent.parent / "completions"
@@ -18,6 +19,7 @@ OPTION = re.compile(r"^ +(?:(-\w), )?(--[\w-]+)", re.M)
 ZSH_COMMAND = re.compile(r"^ +'(\w+):.*'$", re.M)
 ZSH_OPTION = re.compile(r"\{(-\w)\+?,(--[\w-]+?)=?\}")
 FISH_COMMAND = re.compile(r"-n __fish_use_subcommand -a (\w+)")
+FISH_REFUSALS = re.compile(r"_from explain;.* -a '(.*)'")
 FISH_OPTION = re.compile(r"-s (\w) -l ([\w-]+)")
 
 check = Checks()
@@ -26,6 +28,12 @@ check = Checks()
 def section(shown, title):
     """The lines of a section of help."""
     return re.search(rf"^{title}:\n((?: .*\n?)+)", shown, re.M)[1]
+
+
+def options_of_fish(text, others):
+    """The options in the lines that do not have the condition of others."""
+    lines = "\n".join(it for it in text.splitlines() if others not in it)
+    return {it for pair in FISH_OPTION.findall(lines) for it in (f"-{pair[0]}", f"--{pair[1]}")}
 
 
 def section_of_zsh(text, function):
@@ -53,6 +61,11 @@ def line_starts(room):
     yield ["mkedit", "help"], commands(room), ""
     for command in sorted(commands(room) - {"help"}):
         yield ["mkedit", command], options(room, command), "-"
+
+
+def names_of_refusals():
+    """The name of each refusal."""
+    return {name for _, name in refusals()}
 
 
 def files(room):
@@ -103,6 +116,9 @@ def compare(room, shell, offered):
         got = offered(room, ["mkedit", *words], "")
         if not there <= got:
             yield f"{shell} offers {sorted(got)} after {words}, wanted the files too"
+    got = offered(room, ["mkedit", "explain"], "")
+    if got != names_of_refusals():
+        yield f"{shell} offers {sorted(got)} after explain"
     got = offered(room, ["mkedit", "edit", "-d"], "")
     if got & there:
         yield f"{shell} offers files for a depth: {sorted(got)}"
@@ -121,10 +137,15 @@ def fish_completes_what_help_lists(room):
 @check
 def the_file_for_fish_has_what_help_lists(room):
     text = (FOLDER / "mkedit.fish").read_text(encoding="utf-8")
-    found = {it for pair in FISH_OPTION.findall(text) for it in (f"-{pair[0]}", f"--{pair[1]}")}
-    wrong = [] if found == options(room, "edit") else [f"its options are {sorted(found)}"]
+    for words, others in (([], "__fish_seen_subcommand_from"), (["edit"], "__fish_use_subcommand")):
+        found = options_of_fish(text, others)
+        if found != options(room, *words):
+            yield f"its options of {words} are {sorted(found)}"
+    if set(FISH_REFUSALS.search(text)[1].split()) != names_of_refusals():
+        yield "its refusals are others"
     named = set(FISH_COMMAND.findall(text))
-    return wrong + ([] if named == commands(room) else [f"its commands are {sorted(named)}"])
+    if named != commands(room):
+        yield f"its commands are {sorted(named)}"
 
 
 @check
@@ -133,11 +154,15 @@ def the_file_for_zsh_has_what_help_lists(room):
     named = set(ZSH_COMMAND.findall(section_of_zsh(text, "_mkedit_commands")))
     if named != commands(room):
         yield f"its commands are {sorted(named)}"
-    for function, words in (("edit", ["edit"]), ("query", ["vars"]), ("query", ["check"])):
-        part = section_of_zsh(text, f"_mkedit_{function}")
+    functions = (("", []), ("_edit", ["edit"]), ("_query", ["vars"]), ("_explain", ["explain"]))
+    for function, words in functions:
+        part = section_of_zsh(text, f"_mkedit{function}")
         found = {it for pair in ZSH_OPTION.findall(part) for it in pair}
         if found != options(room, *words):
-            yield f"its options of {words[0]} are {sorted(found)}"
+            yield f"its options of {words} are {sorted(found)}"
+    part = section_of_zsh(text, "_mkedit_explain")
+    if set(re.search(r"refusals=\((.*?)\)", part, re.S)[1].split()) != names_of_refusals():
+        yield "its refusals are others"
     if shutil.which("zsh"):
         ran = subprocess.run(["zsh", "-n", FOLDER / "mkedit.zsh"], capture_output=True, text=True)
         yield from ran.stderr.splitlines()

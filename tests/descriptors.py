@@ -195,3 +195,17 @@ def too_few_files_at_once_are_told(room):
     if got[-1] != silent(0) or sorted(got, key=clean.index) != got:
         wrong.append(f"more files do less: {got}")
     return wrong + room.holds("out", EDITED.stdout)
+
+
+@check
+def an_out_that_is_not_written_for_want_of_descriptors_keeps_its_bytes(room):
+    words = ["edit", "-o", "out", "script", "Makefile"]
+    older = TEXT * 1_000
+    met = set()
+    for many in range(4, 12):
+        (room.folder / "out").write_bytes(older)
+        got = room.run(*words, files=many)
+        met.add(got)
+        yield from room.holds("out", EDITED.stdout if got == silent(0) else older)
+    if WRITE_FAULT not in met or silent(0) not in met:
+        yield f"the runs give {met}"

@@ -1,13 +1,10 @@
 """The examples of docs/EDITS.md and of the last chapter of docs/LANGUAGE.md, run through the program.
 
-In an example `⏎` is a line feed, `⇥` a tab and `␌` a form feed. Three forms are run:
+In an example `⏎` is a line feed, `⇥` a tab and `␌` a form feed. Two forms are run:
 
     MAKEFILE          COMMAND          TEXT       a line, its columns at least two blanks apart
     MAKEFILE          OUTPUT                      the lines below the title of a query, which has them
                                                   side by side
-    | No. | Name | When | `MAKEFILE`, `COMMAND` | What to do |
-                                                  a row on a refusal; one without a makefile is run
-                                                  over ANY
 
 In the last chapter of docs/LANGUAGE.md each section with an example also names, as `5: opaque`, what
 `mkedit check` prints of the section's first makefile. docs/LIBRARY.md shows lines of two files.
@@ -25,7 +22,6 @@ LANGUAGE = TOP / "docs/LANGUAGE.md"
 LIBRARY = TOP / "docs/LIBRARY.md"
 QUOTED = ("crates/session_example/src/main.rt", "crates/mk_session/src/session.rt")
 LAST_CHAPTER = "## 8. Where make reads otherwise\n"
-ANY = "X = 1\nall:\n"
 COMMANDS = (
     "set append unset assign rule unrule depend depend-order undepend recipe recipe-set recipe-del rename"
 )
@@ -36,7 +32,6 @@ QUERY = re.compile(r"^### `mkedit (\w+)`\n(?:.*\n)*?\n((?:    .*\n)+)", re.M)
 SECTION = re.compile(r"^### (.*)\n((?:(?!### ).*\n)*)", re.M)
 UNREAD = re.compile(r"`(\d+: (?:rough|opaque))`")
 CODE = re.compile(r"^```rust\n((?:(?!```).*\n)*)```\n", re.M)
-REFUSAL = re.compile(r"^\| (\d+) \| `(\w+)`[^|]*\|.*?\| ((?:`[^`]*`(?:, )?)+)[^|]*\|", re.M)
 
 
 def text_of(shown):
@@ -53,15 +48,6 @@ def edit(room, makefile, command):
 def check_edits(room, document):
     for before, command, after in EXAMPLE.findall(document):
         yield command, differences(edit(room, before, command), Outcome(text_of(after), b"", 0))
-
-
-def check_refusals(room, document):
-    for number, name, examples in REFUSAL.findall(document):
-        *makefile, command = re.findall(r"`([^`]*)`", examples)
-        got = edit(room, makefile[0] if makefile else ANY, command)
-        is_told = re.fullmatch(rf"1: refused {number} {name}( \w+)?\n", got.stderr.decode())
-        is_right = is_told and got.status == 1 and not got.stdout
-        yield f"{number} {name}", [] if is_right else [f"{command} gives {got}"]
 
 
 def check_queries(room, document):
@@ -100,7 +86,6 @@ def run(program, tally):
     edits = EDITS.read_text(encoding="utf-8")
     checks = (
         (EDITS, check_edits, edits, 13),
-        (EDITS, check_refusals, edits, 14),
         (EDITS, check_queries, edits, 3),
         (LANGUAGE, check_edits, last_chapter(), 13),
         (LANGUAGE, check_unread, last_chapter(), 10),

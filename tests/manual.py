@@ -37,9 +37,9 @@ def page():
     return PAGE.read_text(encoding="utf-8")
 
 
-def displays():
+def displays_of(source):
     """The text of each display; an escape that is not among the known ones is a KeyError."""
-    for shown in DISPLAY.findall(page()):
+    for shown in DISPLAY.findall(source):
         yield ESCAPE.sub(lambda escape: ESCAPED[escape[1]], shown)
 
 
@@ -63,7 +63,7 @@ def check_script(room, makefile, script, wanted):
 
 @check
 def each_example_of_the_manual_page_is_so(room):
-    makefile, *examples = displays()
+    makefile, *examples = displays_of(page())
     for example in examples:
         if example.startswith("$ "):
             room.write("Makefile", makefile.encode())
@@ -94,7 +94,7 @@ def the_manual_page_has_a_good_form(room):
 @check
 def the_manual_page_has_every_refusal(room):
     edits = (DOCS / "EDITS.md").read_text(encoding="utf-8")
-    known = re.findall(r"^\| (\d+) \| `(\w+)`", edits, re.M) + [("20", "NoMemory")]
+    known = re.findall(r"^\| (\d+) \| `(\w+)`", edits, re.M)
     found = re.findall(r"^\.It (\d+) (\w+)", page(), re.M)
     return [] if found == known else [f"the refusals are {found}, wanted {known}"]
 
@@ -113,10 +113,10 @@ def the_manual_page_has_every_command_of_a_script(room):
 @check
 def the_manual_page_has_every_option_and_command_of_the_program(room):
     text = page()
-    for command in ("edit", "vars", "rules", "check", "help"):
+    for command in ("edit", "vars", "rules", "check", "explain", "help"):
         if f".Cm {command}\n" not in text.partition(".Sh DESCRIPTION")[0]:
             yield f"the synopsis lacks {command}"
-    shown = room.run("edit", "--help").stdout.decode()
+    shown = room.run("--help").stdout.decode() + room.run("edit", "--help").stdout.decode()
     for short, long in re.findall(r"^  -(\w), --([\w-]+)", shown, re.M):
         if short != "h" and not re.search(rf"^\.It Fl {short}.* Fl -{long}\b", text, re.M):
             yield f"the page lacks -{short}, --{long}"

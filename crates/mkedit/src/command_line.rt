@@ -1,12 +1,17 @@
 //! What the words of the command line ask for, as `clap` reads them.
 
-use crate::edit::{EditWords, Script};
+use crate::edit::{EditWords, Output, Script};
+use crate::explain::refusal_of;
 use crate::help;
 use crate::query::Query;
 use clap::builder::ValueParser;
 use clap::error::ErrorKind;
 use clap::{Arg, ArgAction, ArgMatches, Command};
+use mk_session::Refusal;
 use std::alloc::{AllocError, Global};
+
+/// The version that `--version` names. CHANGELOG.md says what is new in it.
+const VERSION: &str = "0.1.0";
 
 /// How many edits can be undone, where the command line does not say it.
 const DEFAULT_DEPTH: &str = "100";
@@ -21,6 +26,11 @@ const NO_COMMAND: &str = "a command is required";
 const TWO_FILES: &str =
     "with '--expression <COMMAND>' there is no SCRIPT, so at most one word may stand there, FILE";
 
+const NO_FILE: &str = "with '--in-place' FILE has to be named";
+
+const NO_REFUSAL: &str =
+    "invalid value for '<REFUSAL>': it is no number from 1 to 20, and no refusal has this name";
+
 // The names of the commands, and those by which their words are found.
 const EDIT: &str = "edit";
 
@@ -29,6 +39,8 @@ const VARS: &str = "vars";
 const RULES: &str = "rules";
 
 const CHECK: &str = "check";
+
+const EXPLAIN: &str = "explain";
 
 const SCRIPT: &str = "SCRIPT";
 
@@ -40,7 +52,11 @@ const DEPTH: &str = "depth";
 
 const OUTPUT: &str = "output";
 
+const IN_PLACE: &str = "in-place";
+
 const EXPRESSION: &str = "expression";
+
+const REFUSAL: &str = "REFUSAL";
 
 // How `edit` is called.
 const EDIT_USAGE: &str = "mkedit edit [OPTIONS] SCRIPT [FILE]
@@ -53,6 +69,8 @@ pub enum Request<'a> {
     Edit(EditWords<'a>),
     /// A query, and the makefile's name; without one the makefile is standard input.
     Query(Query, Option<&'a str>),
+    /// What is said of a refusal.
+    Explain(Refusal),
 }
 
 fn file<'a>(alloc: Global) -> Arg<'a> {
@@ -77,6 +95,12 @@ fn edit_command<'a>(alloc: Global) -> Result<Command<'a>, AllocError> {
         .long("output")
         .value_name("OUT")
         .help("Where the text goes; it may be FILE");
+    let in_place = Arg::new(alloc, IN_PLACE)
+        .short('i')
+        .long("in-place")
+        .action(ArgAction::SetTrue)
+        .conflicts_with(OUTPUT)?
+        .help("FILE gets the text, and is the old file or the new one at every moment");
     let expression = Arg::new(alloc, EXPRESSION)
         .short('e')
         .long("expression")
@@ -93,6 +117,7 @@ fn edit_command<'a>(alloc: Global) -> Result<Command<'a>, AllocError> {
         .arg(keep_going)?
         .arg(depth)?
         .arg(output)?
+        .arg(in_place)?
         .arg(expression)?
         .arg(script)?
         .arg(file(alloc))
@@ -110,15 +135,27 @@ fn query_command<'a>(
         .arg(file(alloc))
 }
 
+fn explain_command<'a>(alloc: Global) -> Result<Command<'a>, AllocError> {
+    let refusal = Arg::new(alloc, REFUSAL)
+        .required(true)
+        .help("Its number or its name, as the report has them");
+    Command::new(alloc, EXPLAIN)
+        .about(help::ABOUT_EXPLAIN)
+        .after_help(help::EXPLAIN)
+        .arg(refusal)
+}
+
 fn command_line<'a>(alloc: Global) -> Result<Command<'a>, AllocError> {
     Command::new(alloc, "mkedit")
+        .version(VERSION)
         .about("Edits a makefile by a script, and keeps every byte that no edit concerns")
         .after_help(help::PROGRAM)
         .subcommand_required(true)
         .subcommand(edit_command(alloc)?)?
         .subcommand(query_command(alloc, VARS, help::ABOUT_VARS, help::VARS)?)?
         .subcommand(query_command(alloc, RULES, help::ABOUT_RULES, help::RULES)?)?
-        .subcommand(query_command(alloc, CHECK, help::ABOUT_CHECK, help::CHECK)?)
+        .subcommand(query_command(alloc, CHECK, help::ABOUT_CHECK, help::CHECK)?)?
+        .subcommand(explain_command(alloc)?)
 }
 
 // The query of a command's name.
@@ -162,6 +199,17 @@ fn script_and_file<'a>(
     }
 }
 
+// Where the text goes; None where it goes to a makefile that has no name.
+fn output_of<'a>(matches: &ArgMatches<'a>, file: Option<&'a str>) -> Option<Output<'a>> {
+    if matches.get_flag(IN_PLACE) {
+        Some(Output::InPlace(file?))
+    } else if let Some(name) = matches.get_str(OUTPUT) {
+        Some(Output::File(name))
+    } else {
+        Some(Output::Standard)
+    }
+}
+
 // What the words of `edit` ask for. clap has seen to the rest.
 fn edit_words<'a>(
     alloc: Global,
@@ -174,30 +222,48 @@ fn edit_words<'a>(
     let Some((script, file)) = script_and_file(alloc, matches)? else {
         return Err(command.error(ErrorKind::TooManyValues, TWO_FILES)?);
     };
+    let Some(output) = output_of(matches, file) else {
+        return Err(command.error(ErrorKind::MissingRequiredArgument, NO_FILE)?);
+    };
     Ok(EditWords {
         keep_going: matches.get_flag(KEEP_GOING),
         depth,
-        out: matches.get_str(OUTPUT),
+        output,
         script,
         file,
     })
+}
+
+// The refusal that the word of `explain` calls.
+fn explained<'a>(
+    command: &mut Command<'a>,
+    matches: &ArgMatches<'a>,
+) -> Result<Refusal, clap::Error> {
+    match matches.get_str(REFUSAL).and_then(refusal_of) {
+        Some(refusal) => Ok(refusal),
+        None => Err(command.error(ErrorKind::InvalidValue, NO_REFUSAL)?),
+    }
 }
 
 /// What the words, of which the first is the program's name, ask for.
 ///
 /// # Errors
 ///
-/// What `clap` finds wrong with them, which has its text, and help where it is asked for; a depth
-/// that is not written in decimal digits alone, or is not from 1 to 10,000; two files beside a
-/// command that `-e` gives.
+/// What `clap` finds wrong with them, which has its text, and help or the version where one is asked
+/// for; a depth that is not written in decimal digits alone, or is not from 1 to 10,000; two files
+/// beside a command that `-e` gives; a word that calls no refusal; `-i` beside `-o` or
+/// without FILE.
 pub fn read_request<'a>(alloc: Global, words: &'a [String]) -> Result<Request<'a>, clap::Error> {
     let mut command = command_line(alloc)?;
     let matches = command.try_get_matches_from_mut(words)?;
     let Some((name, matches)) = matches.subcommand() else {
         return Err(command.error(ErrorKind::MissingSubcommand, NO_COMMAND)?);
     };
-    match query_of(name) {
-        Some(query) => Ok(Request::Query(query, matches.get_str(FILE))),
-        None => Ok(Request::Edit(edit_words(alloc, &mut command, matches)?)),
+    if let Some(query) = query_of(name) {
+        Ok(Request::Query(query, matches.get_str(FILE)))
+    } else if name == EXPLAIN {
+        Ok(Request::Explain(explained(&mut command, matches)?))
+    } else {
+        Ok(Request::Edit(edit_words(alloc, &mut command, matches)?))
     }
 }

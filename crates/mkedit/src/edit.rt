@@ -2,6 +2,7 @@
 ghost use Rattle.std.specs.Prelude.{◌≡◌, false};
 
 use crate::files::{CannotOpen, open};
+use crate::in_place::InPlaceFile;
 use crate::out_file::OutFile;
 use mk_lines::{ByteSink, ByteSource, StdSink, StdSource};
 use mk_run::{Outcome, run};
@@ -15,6 +16,17 @@ pub enum Script<'a> {
     Lines(String),
 }
 
+/// Where the text goes.
+#[derive(Clone, Copy)]
+pub enum Output<'a> {
+    /// To standard output.
+    Standard,
+    /// To the file of this name, which is written in place of what it has.
+    File(&'a str),
+    /// To the makefile of this name, which is the old file or the new one at every moment.
+    InPlace(&'a str),
+}
+
 /// What the words of the command say.
 #[derive(Drop)]
 pub struct EditWords<'a> {
@@ -22,8 +34,8 @@ pub struct EditWords<'a> {
     pub keep_going: bool,
     /// How many edits can be undone.
     pub depth: u32,
-    /// The name of the file that the text goes to; without one it goes to standard output.
-    pub out: Option<&'a str>,
+    /// Where the text goes.
+    pub output: Output<'a>,
     /// Where the commands come from.
     pub script: Script<'a>,
     /// The name of the makefile; without one it is standard input.
@@ -64,12 +76,18 @@ fn run_over<R: ByteSource, S: ByteSource>(
     requires makefile_works { R.failed makefile.old ≡ false }
     requires script_works { S.failed script.old ≡ false }
 {
-    match words.out {
-        Some(name) => {
+    match words.output {
+        Output::File(name) => {
             let mut out = OutFile::new(rt, name);
             run_to(rt, words, makefile, script, &mut out)
         }
-        None => {
+        Output::InPlace(name) => {
+            let mut out = InPlaceFile::new(rt, name);
+            let outcome = run_to(rt, words, makefile, script, &mut out);
+            out.close();
+            outcome
+        }
+        Output::Standard => {
             let mut out = StdSink::new(rt.stdout());
             run_to(rt, words, makefile, script, &mut out)
         }

@@ -34,10 +34,11 @@ pub fn not_opened(rt: &HostRuntime, file: &CannotOpen<'_>) -> ExitCode
     ExitCode::from(CANNOT_OPEN)
 }
 
-/// Puts the text of what clap answered out, and answers its status. Help, which was asked for, goes to
-/// standard output with status 0, and a fault of the command line to standard error.
+/// Puts the text of what clap answered out, and answers its status. Help or the version, which was asked
+/// for, goes to standard output with status 0, and a fault of the command line to standard error.
 pub fn answered(rt: &HostRuntime, error: &clap::Error) -> ExitCode
     ensures help { kind_of error.now ≡ DisplayHelp → exit_status result ≡ 0 }
+    ensures version { kind_of error.now ≡ DisplayVersion → exit_status result ≡ 0 }
     ensures fault { kind_of error.now ≢ DisplayHelp → kind_of error.now ≢ DisplayVersion →
         exit_status result ≡ BAD_COMMAND_LINE }
 {

@@ -27,12 +27,13 @@ PLACE is bottom, before-var NAME, after-var NAME or before-rule TARGET. OP is on
 quotes. `nth N` before a command picks the N-th of several lines that it could mean.
 
 The text goes to standard output, or to OUT, which may be FILE. Where a command is refused, a line on
-standard error says which one and why, and no text goes out, unless -k is given.
+standard error says which one and why, and no text goes out, unless -k is given. `mkedit explain 4`,
+or `mkedit explain NoSuch`, says more on the refusal 4 NoSuch, and what to do.
 
 Example: with `CC = gcc # c` in config.mk, and `set CC clang` in use-clang,
     mkedit edit use-clang config.mk
 prints `CC = clang # c`, and
-    mkedit edit -o config.mk use-clang config.mk
+    mkedit edit -i use-clang config.mk
 changes the file. Without a script,
     mkedit edit -e 'set CC clang' -e 'unset LDFLAGS' config.mk
 runs these two commands, as lines 1 and 2.
@@ -86,4 +87,19 @@ prints
     1: rough
     2: opaque
     end: conditionals 1
+";
+
+/// What `explain` does, in a line.
+pub const ABOUT_EXPLAIN: &str = "Says why a command is refused, and what to do then";
+
+/// Below the help of `explain`.
+pub const EXPLAIN: &str = "\
+A command that is refused has a line on standard error, such as
+    3: refused 4 NoSuch
+for line 3 of the script. The number or the name of the refusal is what `explain` takes.
+
+Example:
+    mkedit explain 4
+    mkedit explain NoSuch
+both print the cause of this refusal, an example of it and what to do.
 ";

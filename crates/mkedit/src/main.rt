@@ -4,16 +4,20 @@
 //! - `help`: the texts of help.
 //! - `edit`: a script over a makefile, by [`mk_run::run`].
 //! - `query`: what a makefile has, by [`mk_queries`].
+//! - `explain`: why a command is refused; `explanations` has the texts.
 //! - `files`: files beside the standard streams.
-//! - `out_file`: the file that a text goes to.
+//! - `out_file`: the file that a text goes to; `in_place`: the makefile itself.
 //! - `ending`: the message and the status.
 #![tactic(auto)]
 
 mod command_line;
 mod edit;
 mod ending;
+mod explain;
+mod explanations;
 mod files;
 mod help;
+mod in_place;
 mod out_file;
 mod query;
 
@@ -43,6 +47,7 @@ fn done(rt: &HostRuntime, words: &[String]) -> ExitCode {
     let outcome = match read_request(rt.alloc(), words) {
         Ok(Request::Edit(words)) => edit::edit(rt, &words),
         Ok(Request::Query(query, file)) => query::ask(rt, query, file),
+        Ok(Request::Explain(refusal)) => Ok(explain::explain(rt, &refusal)),
         Err(error) => return answered(rt, &error),
     };
     match outcome {

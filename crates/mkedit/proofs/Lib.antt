@@ -1,0 +1,2 @@
+-- Lemmas on refusals
+mod RefusalLemmas

@@ -1,0 +1,13 @@
+-- How a refusal is called on the command line, and what stands above the text on it.
+use Rattle.std.specs.Prelude.{ℕ, Bool, List, ◌||◌, ◌++◌, codes, decimal}
+use Rattle.std.specs.Str.{bytes_eq}
+use Rattle.mk_edit_laws.specs.RefusalTexts.{name_of, number_of}
+use Rattle.mk_edit_laws.specs.declared.refusal.Refusal.{Refusal}
+
+-- whether a word is the name of a refusal, or its number in decimal digits
+abbrev pub is_called : (word : List ℕ) → Refusal → Bool
+is_called word r = bytes_eq word (name_of r) || bytes_eq word (decimal (number_of r))
+
+-- the line above the text on a refusal, its number and its name, and an empty line
+abbrev pub title_of : Refusal → List ℕ
+title_of r = decimal (number_of r) ++ (codes " " ++ (name_of r ++ codes "\n\n"))

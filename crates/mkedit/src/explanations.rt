@@ -1,0 +1,299 @@
+//! What is said of each refusal: its cause, an example and what to do.
+//!
+//! docs/EDITS.md and docs/mkedit.1 have the same sentences and examples, and a test compares the three.
+
+use mk_session::Refusal;
+
+const BAD_ARGUMENT: &str = "\
+A field is not what it has to be, such as a value with a `#` outside a reference. The report names the
+first such field.
+
+Example: the script
+    set CC \"gcc #1\"
+is reported as
+    1: refused 1 BadArgument value
+
+Correct the script. A `#` in a value has to stand inside a reference.
+";
+
+const RESERVED: &str = "\
+The variable is `.RECIPEPREFIX`, or a target is the word of a directive: `ifeq`, `ifneq`, `ifdef`,
+`ifndef`, `else`, `endif`, `define`, `endef`, `undefine`, `include`, `-include`, `sinclude`, `load`,
+`-load`, `export`, `unexport`, `override`, `private` or `vpath`. A prerequisite may be such a word.
+
+Example: the script
+    rename all include
+is reported as
+    1: refused 2 Reserved
+
+Edit by hand.
+";
+
+const RECIPE_PREFIX: &str = "\
+The file sets `.RECIPEPREFIX` in a way that is not read: in a conditional, with a modifier, by
+`define`, with `+=`, `?=`, `!=` or `:::=`, or to a byte that is no prefix, such as the `$` of a
+reference. Then it is not known which lines are recipe lines. It also comes where a line that is
+written, other than a recipe line, would begin with the recipe prefix. That is tested after 4 and 5.
+
+Example: over
+    ifdef POSIX
+    .RECIPEPREFIX = >
+    endif
+    CC = gcc
+the script
+    set CC clang
+is reported as
+    1: refused 3 RecipePrefix
+
+Edit by hand.
+";
+
+const NO_SUCH: &str = "\
+No assignment or rule has this name, or there is no N-th of them. For `rename`, the old name is no
+target of a rule or of an assignment for targets.
+
+Example: over
+    CC = gcc
+the script
+    set LDFLAGS -s
+is reported as
+    1: refused 4 NoSuch
+
+Look with `mkedit vars` or `mkedit rules`. Where the line stands in the file all the same, look with
+`mkedit check`: it is not read inside.
+";
+
+const AMBIGUOUS: &str = "\
+There are several such lines that are read, and no `nth` says which one. The report has their number.
+
+Example: over
+    ifdef DEBUG
+    CC = gcc
+    else
+    CC = cc
+    endif
+the script
+    set CC clang
+is reported as
+    1: refused 5 Ambiguous 2
+
+Say which one, by `nth`.
+";
+
+const ABSENT: &str = "\
+The word to take out is no prerequisite of the rule, or the rule has no K-th recipe line.
+
+Example: over
+    hello: main.o
+the script
+    undepend hello log.o
+is reported as
+    1: refused 6 Absent
+
+Look with `mkedit rules`.
+";
+
+const ALREADY: &str = "\
+The word is in this list of prerequisites already.
+
+Example: over
+    hello: main.o
+the script
+    depend hello main.o
+is reported as
+    1: refused 7 Already
+
+Nothing has to be done.
+";
+
+const TAKEN: &str = "\
+The new name is a target already, so that two rules would become one.
+
+Example: over
+    all: hello
+    hello: main.o
+the script
+    rename all hello
+is reported as
+    1: refused 8 Taken
+
+Decide by hand.
+";
+
+const SHARED_RULE: &str = "\
+The rule to take away has several targets. The report has their number, where each counts as often as
+it stands.
+
+Example: over
+    build cache: config
+the script
+    unrule cache
+is reported as
+    1: refused 9 SharedRule 2
+
+Edit by hand.
+";
+
+const STRADDLES: &str = "\
+The line of a conditional stands between the rule's line and its last recipe line. `unrule` and
+`recipe` are refused then.
+
+Example: over
+    hello:
+    ifdef DEBUG
+    \tgdb hello
+    endif
+the script
+    recipe hello ./hello
+is reported as
+    1: refused 10 Straddles
+
+Edit by hand, or use `recipe-set` and `recipe-del`, which are not refused.
+";
+
+const OPEN_VALUE: &str = "\
+The value to append to has a reference that is not closed, or ends in half a unit, such as a lone `$`.
+What is appended would become a part of it.
+
+Example: over
+    SOURCES = $(wildcard *.c
+the script
+    append SOURCES main.c
+is reported as
+    1: refused 11 OpenValue
+
+Give the whole value by `set`.
+";
+
+const OPEN_LINE: &str = "\
+The new line would follow a last line that could take it in. Such a line ends in an odd run of
+backslashes, with or without a line end after it, or it has no line end and ends in a CR.
+
+Example: over
+    SOURCES = main.c \\
+the script
+    assign bottom CC = gcc
+is reported as
+    1: refused 12 OpenLine
+
+Mend the last line.
+";
+
+const OPEN_DEFINE: &str = "\
+The place is `bottom`, and a define is open at the end of the file.
+
+Example: over
+    define HELP
+    Say make all.
+the script
+    assign bottom CC = gcc
+is reported as
+    1: refused 13 OpenDefine
+
+Mend the file, or choose another place.
+";
+
+const LEANS: &str = "\
+The change would begin or end a rule before a line that begins with the recipe prefix. Such a line
+could become a recipe line, or cease to be one. Blank lines, comments and the lines of conditionals may
+stand between. The edit is refused even where the line would read the same.
+
+Example: over
+    all:
+    CC = gcc
+    \tCFLAGS = -O2
+the script
+    unset CC
+is reported as
+    1: refused 14 Leans
+
+Edit by hand, or choose another place.
+";
+
+const TOO_LONG: &str = "\
+The text would have more than 16,777,216 bytes.
+
+Example: a makefile has this many bytes, and a new line is put in.
+
+Move a part of the makefile into a file that it includes.
+";
+
+const NOTHING_TO_UNDO: &str = "\
+No edit is there to take back, or the depth is used up.
+
+Example: the script
+    undo
+is reported as
+    1: refused 16 NothingToUndo
+
+Correct the script, or give a greater depth by `-d`.
+";
+
+const NOTHING_TO_REDO: &str = "\
+Nothing was taken back, or an edit came after it.
+
+Example: the script
+    redo
+is reported as
+    1: refused 17 NothingToRedo
+
+Correct the script.
+";
+
+const GROUP_OPEN: &str = "\
+`undo`, `redo` or `begin` stands in a group.
+
+Example: the script
+    begin
+    undo
+is reported as
+    2: refused 18 GroupOpen
+
+Put `end` or `cancel` before it.
+";
+
+const NO_GROUP: &str = "\
+`end` or `cancel` stands outside a group.
+
+Example: the script
+    end
+is reported as
+    1: refused 19 NoGroup
+
+Take it out.
+";
+
+const NO_MEMORY: &str = "\
+No memory was found. A run that meets this ends with the message `mkedit: no memory` and status 3.
+
+Example: a makefile has 16 MB, and `ulimit -v` leaves less memory than the run needs.
+
+Run it again with more memory.
+";
+
+/// The cause of a refusal, an example of it and what to do, with an empty line between the three. A
+/// count or a field that the refusal has changes nothing.
+pub fn explanation(refusal: &Refusal) -> &'static str {
+    match refusal {
+        Refusal::BadArgument(_) => BAD_ARGUMENT,
+        Refusal::Reserved => RESERVED,
+        Refusal::RecipePrefix => RECIPE_PREFIX,
+        Refusal::NoSuch => NO_SUCH,
+        Refusal::Ambiguous(_) => AMBIGUOUS,
+        Refusal::Absent => ABSENT,
+        Refusal::Already => ALREADY,
+        Refusal::Taken => TAKEN,
+        Refusal::SharedRule(_) => SHARED_RULE,
+        Refusal::Straddles => STRADDLES,
+        Refusal::OpenValue => OPEN_VALUE,
+        Refusal::OpenLine => OPEN_LINE,
+        Refusal::OpenDefine => OPEN_DEFINE,
+        Refusal::Leans => LEANS,
+        Refusal::TooLong => TOO_LONG,
+        Refusal::NothingToUndo => NOTHING_TO_UNDO,
+        Refusal::NothingToRedo => NOTHING_TO_REDO,
+        Refusal::GroupOpen => GROUP_OPEN,
+        Refusal::NoGroup => NO_GROUP,
+        Refusal::NoMemory => NO_MEMORY,
+    }
+}
