@@ -99,28 +99,52 @@ fn assignments(session: &Session) -> u64 {
     count
 }
 
-fn measure(rt: &HostRuntime, text: &[u8]) -> anyhow::Result<()> {
+// Opens a text.
+fn opened(rt: &HostRuntime, text: &[u8]) -> anyhow::Result<Session> {
     let start = rt.process_cpu_time()?;
-    let mut session = Session::open(rt.alloc(), text, 10_000)?;
+    let session = Session::open(rt.alloc(), text, 10_000)?;
     told(rt, "open", start, 0, session.doc().len() as u64)?;
+    Ok(session)
+}
 
+// Walks over all lines once.
+fn walked(rt: &HostRuntime, session: &Session) -> anyhow::Result<()> {
     let start = rt.process_cpu_time()?;
-    let count = assignments(&session);
-    told(rt, "walk", start, 0, count)?;
+    let count = assignments(session);
+    told(rt, "walk", start, 0, count)
+}
 
+// Puts in the lines that are edited later, which is not measured.
+fn prepared(rt: &HostRuntime, session: &mut Session) -> anyhow::Result<()> {
     session.apply(&assign(rt, b"LAST_OF_ALL", b"1")?)?;
     session.apply(&rule(rt, b"build")?)?;
-    let sets = [
+    Ok(())
+}
+
+// Sets the last variable once, and many times to two values in turn.
+fn sets(rt: &HostRuntime, session: &mut Session) -> anyhow::Result<()> {
+    let values = [
         set(rt, b"LAST_OF_ALL", b"22")?,
         set(rt, b"LAST_OF_ALL", b"3")?,
     ];
-    applied(rt, &mut session, "set", &sets[..1], 1)?;
-    applied(rt, &mut session, "sets", &sets, MANY / 2)?;
-    let lines = [assign(rt, b"NEW_ONE", b"value")?];
-    applied(rt, &mut session, "assigns", &lines, MANY)?;
-    let renames = [rename(rt, b"build", b"output")?];
-    applied(rt, &mut session, "rename", &renames, 1)?;
+    applied(rt, session, "set", &values[..1], 1)?;
+    applied(rt, session, "sets", &values, MANY / 2)
+}
 
+// Puts many assignments at the end.
+fn assigns(rt: &HostRuntime, session: &mut Session) -> anyhow::Result<()> {
+    let lines = [assign(rt, b"NEW_ONE", b"value")?];
+    applied(rt, session, "assigns", &lines, MANY)
+}
+
+// Renames the last target.
+fn renames(rt: &HostRuntime, session: &mut Session) -> anyhow::Result<()> {
+    let names = [rename(rt, b"build", b"output")?];
+    applied(rt, session, "rename", &names, 1)
+}
+
+// Undoes all that was done.
+fn undos(rt: &HostRuntime, session: &mut Session) -> anyhow::Result<()> {
     let start = rt.process_cpu_time()?;
     let mut undone = 0u64;
     for _ in 0..u64::MAX {
@@ -130,6 +154,18 @@ fn measure(rt: &HostRuntime, text: &[u8]) -> anyhow::Result<()> {
         undone = undone.saturating_add(1);
     }
     told(rt, "undos", start, 0, undone)
+}
+
+// The steps are functions of their own: in one, each way out would drop all that is live there, and
+// its proof would take most of the time of this crate's.
+fn measure(rt: &HostRuntime, text: &[u8]) -> anyhow::Result<()> {
+    let mut session = opened(rt, text)?;
+    walked(rt, &session)?;
+    prepared(rt, &mut session)?;
+    sets(rt, &mut session)?;
+    assigns(rt, &mut session)?;
+    renames(rt, &mut session)?;
+    undos(rt, &mut session)
 }
 
 fn main(rt: HostRuntime) -> anyhow::Result<()> {

@@ -15,18 +15,24 @@ use std::alloc::{AllocError, Global};
 /// - After each command the document is what the parse of its text gives.
 /// - Undoing all leads to the first text, and redoing it to the last, through the same texts.
 pub fn check_row(alloc: Global, row: &Row<'_>) -> Result<(), Stop> {
+    check_by_session(alloc, row)?;
+    check_only_plan(alloc, row)
+}
+
+/// Runs the commands of a row in a session. What is checked there has the session by a reference: where
+/// a function owns it, each way out of the function drops it, which makes its proof long.
+fn check_by_session(alloc: Global, row: &Row<'_>) -> Result<(), Stop> {
     let mut session = opened(alloc, row)?;
+    check_session(alloc, &mut session, row)
+}
+
+/// Runs the commands of a row in its session, and undoes and redoes them.
+fn check_session(alloc: Global, session: &mut Session, row: &Row<'_>) -> Result<(), Stop> {
     for expectation in row.commands.iter() {
-        check_command(alloc, &mut session, expectation)?;
+        check_command(alloc, session, expectation)?;
     }
     if let Some(expected) = &row.expected {
-        let text = text_of(alloc, session.doc())?;
-        same_text(
-            alloc,
-            "the text at the end",
-            expected.as_slice(),
-            text.as_slice(),
-        )?;
+        check_text(alloc, "the text at the end", expected.as_slice(), session)?;
     }
     at_most(
         alloc,
@@ -34,8 +40,18 @@ pub fn check_row(alloc: Global, row: &Row<'_>) -> Result<(), Stop> {
         row.cost,
         session.rereads(),
     )?;
-    check_history(alloc, &mut session, row)?;
-    check_only_plan(alloc, row)
+    check_history(alloc, session, row)
+}
+
+/// Fails where a session has another text.
+fn check_text(
+    alloc: Global,
+    what: &'static str,
+    expected: &[u8],
+    session: &Session,
+) -> Result<(), Stop> {
+    let text = text_of(alloc, session.doc())?;
+    same_text(alloc, what, expected, text.as_slice())
 }
 
 /// Plans the only edit of a row, where it has no other command.
@@ -65,22 +81,31 @@ fn check_command(
 ) -> Result<(), Stop> {
     let before = text_of(alloc, session.doc())?;
     let answer = session.obey(&expectation.command);
-    let reply = reply_of(alloc, answer)?;
-    same_word(alloc, "the reply", expectation.reply, reply.as_str())?;
+    check_reply(alloc, "the reply", expectation.reply, answer)?;
     if answer.is_err() {
-        let after = text_of(alloc, session.doc())?;
-        same_text(
+        check_text(
             alloc,
             "the text after a refusal",
             before.as_slice(),
-            after.as_slice(),
+            session,
         )?;
     }
     check_lines(alloc, session.doc())
 }
 
+/// Fails where an answer is another one.
+pub fn check_reply(
+    alloc: Global,
+    what: &'static str,
+    expected: &str,
+    answer: Result<(), Refusal>,
+) -> Result<(), Stop> {
+    let reply = reply_of(alloc, answer)?;
+    same_word(alloc, what, expected, reply.as_str())
+}
+
 /// An answer as a row has it: `done`, or the number, the name and the detail of the refusal.
-pub fn reply_of(alloc: Global, answer: Result<(), Refusal>) -> Result<String, AllocError> {
+fn reply_of(alloc: Global, answer: Result<(), Refusal>) -> Result<String, AllocError> {
     let Err(refusal) = answer else {
         return String::from_str(alloc, "done");
     };
@@ -96,34 +121,38 @@ pub fn reply_of(alloc: Global, answer: Result<(), Refusal>) -> Result<String, Al
 fn check_history(alloc: Global, session: &mut Session, row: &Row<'_>) -> Result<(), Stop> {
     let _ = session.end();
     let read = session.rereads();
-    let texts = undone(alloc, session, row.commands.len())?;
-    if row.commands.len() <= row.depth as usize {
-        let text = text_of(alloc, session.doc())?;
-        same_text(
-            alloc,
-            "the text after all undos",
-            row.makefile.as_slice(),
-            text.as_slice(),
-        )?;
-    }
-    for expected in texts.iter().rev() {
-        let reply = reply_of(alloc, session.redo())?;
-        same_word(alloc, "the reply to a redo", "done", reply.as_str())?;
-        let text = text_of(alloc, session.doc())?;
-        same_text(
-            alloc,
-            "the text after a redo",
-            expected.as_slice(),
-            text.as_slice(),
-        )?;
-        check_lines(alloc, session.doc())?;
-    }
+    check_undos_and_redos(alloc, session, row)?;
     same_number(
         alloc,
         "the lines read by undos and redos",
         read,
         session.rereads(),
     )
+}
+
+/// Undoes all that can be undone, which leads to the first text where the depth is enough, and does it
+/// again.
+fn check_undos_and_redos(alloc: Global, session: &mut Session, row: &Row<'_>) -> Result<(), Stop> {
+    let texts = undone(alloc, session, row.commands.len())?;
+    if row.commands.len() <= row.depth as usize {
+        check_text(
+            alloc,
+            "the text after all undos",
+            row.makefile.as_slice(),
+            session,
+        )?;
+    }
+    for expected in texts.iter().rev() {
+        check_redo(alloc, session, expected.as_slice())?;
+    }
+    Ok(())
+}
+
+/// Does again what was undone last, which has to lead to a text.
+fn check_redo(alloc: Global, session: &mut Session, expected: &[u8]) -> Result<(), Stop> {
+    check_reply(alloc, "the reply to a redo", "done", session.redo())?;
+    check_text(alloc, "the text after a redo", expected, session)?;
+    check_lines(alloc, session.doc())
 }
 
 /// Undoes all that can be undone, at most so many steps. It gives the text before each of them.
@@ -137,12 +166,11 @@ fn undone(alloc: Global, session: &mut Session, most: usize) -> Result<Vec<Vec<u
         check_lines(alloc, session.doc())?;
         texts.push(text)?;
     }
-    let reply = reply_of(alloc, session.undo())?;
-    same_word(
+    check_reply(
         alloc,
         "the reply to the last undo",
         "16 NothingToUndo",
-        reply.as_str(),
+        session.undo(),
     )?;
     Ok(texts)
 }

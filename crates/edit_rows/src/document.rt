@@ -3,7 +3,7 @@ ghost use Rattle.std.specs.Prelude.{IfOk};
 ghost use Rattle.mk_tree.specs.Documents.{IsFaithful};
 
 use crate::difference::{Difference, Stop, not_opened, same_number, same_text};
-use mk_class::Meter;
+use mk_class::{Class, Meter};
 use mk_tree::{Doc, Line};
 use std::alloc::{AllocError, Global};
 
@@ -30,23 +30,33 @@ pub fn text_of(alloc: Global, doc: &Doc) -> Result<Vec<u8>, AllocError> {
     Ok(text)
 }
 
+/// The document of another one's text.
+fn parsed_again(alloc: Global, doc: &Doc) -> Result<Doc, Stop> {
+    let text = text_of(alloc, doc)?;
+    parsed(alloc, text.as_slice(), &mut Meter::new())
+}
+
 /// Fails where a document is not what the parse of its own text gives, line by line.
 pub fn check_lines(alloc: Global, doc: &Doc) -> Result<(), Stop> {
-    let text = text_of(alloc, doc)?;
-    let fresh = parsed(alloc, text.as_slice(), &mut Meter::new())?;
+    let fresh = parsed_again(alloc, doc)?;
+    same_lines(alloc, &fresh, doc)
+}
+
+/// Fails where two documents have not the same lines.
+fn same_lines(alloc: Global, expected: &Doc, found: &Doc) -> Result<(), Stop> {
     same_number(
         alloc,
         "the number of bytes",
-        fresh.size() as u64,
-        doc.size() as u64,
+        expected.size() as u64,
+        found.size() as u64,
     )?;
     same_number(
         alloc,
         "the number of lines",
-        fresh.len() as u64,
-        doc.len() as u64,
+        expected.len() as u64,
+        found.len() as u64,
     )?;
-    for (expected, found) in fresh.iter().zip(doc.iter()) {
+    for (expected, found) in expected.iter().zip(found.iter()) {
         check_line(alloc, expected, found)?;
     }
     Ok(())
@@ -68,7 +78,11 @@ fn check_line(alloc: Global, expected: &Line, found: &Line) -> Result<(), Stop> 
         expected_text,
         found_text,
     )?;
-    let (expected, found) = (expected.class(), found.class());
+    same_class(alloc, expected.class(), found.class())
+}
+
+/// Fails where two classes are not the same.
+fn same_class(alloc: Global, expected: Class, found: Class) -> Result<(), Stop> {
     if expected == found {
         return Ok(());
     }

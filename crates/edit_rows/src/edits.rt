@@ -20,10 +20,10 @@ pub fn read_command(alloc: Global, command: &str) -> Result<Command> {
         ["begin"] => Ok(Command::Begin),
         ["end"] => Ok(Command::End),
         ["cancel"] => Ok(Command::Cancel),
-        ["rename", from, to] => Ok(Command::Apply(Edit::RenameTarget {
-            from: unescape(alloc, from)?,
-            to: unescape(alloc, to)?,
-        })),
+        ["rename", from, to] => {
+            let (from, to) = unescape_both(alloc, from, to)?;
+            Ok(Command::Apply(Edit::RenameTarget { from, to }))
+        }
         [word, nth, fields @ ..] => Ok(Command::Apply(read_edit(
             alloc,
             word,
@@ -32,6 +32,13 @@ pub fn read_command(alloc: Global, command: &str) -> Result<Command> {
         )?)),
         _ => bail!("no command: {command}"),
     }
+}
+
+/// The bytes of two fields.
+fn unescape_both(alloc: Global, first: &str, second: &str) -> Result<(Vec<u8>, Vec<u8>)> {
+    let first = unescape(alloc, first)?;
+    let second = unescape(alloc, second)?;
+    Ok((first, second))
 }
 
 /// The number that `nth` gives, or none where it is `-`.
@@ -69,16 +76,14 @@ fn read_variable_edit(
     fields: &[&str],
 ) -> Result<Edit> {
     match (word, fields) {
-        ("set", [name, value]) => Ok(Edit::SetValue {
-            nth,
-            name: unescape(alloc, name)?,
-            value: unescape(alloc, value)?,
-        }),
-        ("append", [name, value]) => Ok(Edit::AppendValue {
-            nth,
-            name: unescape(alloc, name)?,
-            value: unescape(alloc, value)?,
-        }),
+        ("set", [name, value]) => {
+            let (name, value) = unescape_both(alloc, name, value)?;
+            Ok(Edit::SetValue { nth, name, value })
+        }
+        ("append", [name, value]) => {
+            let (name, value) = unescape_both(alloc, name, value)?;
+            Ok(Edit::AppendValue { nth, name, value })
+        }
         ("unset", [name]) => Ok(Edit::RemoveAssign {
             nth,
             name: unescape(alloc, name)?,
@@ -91,18 +96,26 @@ fn read_variable_edit(
 fn read_addition(alloc: Global, word: &str, nth: Option<u32>, fields: &[&str]) -> Result<Edit> {
     let (place, fields) = read_place(alloc, nth, fields)?;
     match (word, fields) {
-        ("assign", [name, operator, value]) => Ok(Edit::AddAssign {
-            place,
-            name: unescape(alloc, name)?,
-            flavor: read_operator(operator)?,
-            value: unescape(alloc, value)?,
-        }),
-        ("rule", [targets, colons, prereqs]) => Ok(Edit::AddRule {
-            place,
-            targets: unescape(alloc, targets)?,
-            colons: read_colons(colons)?,
-            prereqs: unescape(alloc, prereqs)?,
-        }),
+        ("assign", [name, operator, value]) => {
+            let flavor = read_operator(operator)?;
+            let (name, value) = unescape_both(alloc, name, value)?;
+            Ok(Edit::AddAssign {
+                place,
+                name,
+                flavor,
+                value,
+            })
+        }
+        ("rule", [targets, colons, prereqs]) => {
+            let colons = read_colons(colons)?;
+            let (targets, prereqs) = unescape_both(alloc, targets, prereqs)?;
+            Ok(Edit::AddRule {
+                place,
+                targets,
+                colons,
+                prereqs,
+            })
+        }
         _ => bail!("no new line: {word}"),
     }
 }
@@ -161,17 +174,20 @@ fn read_rule_edit(alloc: Global, word: &str, nth: Option<u32>, fields: &[&str]) 
             nth,
             target: unescape(alloc, target)?,
         }),
-        ("depend" | "depend-order", [target, prereq]) => Ok(Edit::AddPrereq {
-            order: word == "depend-order",
-            nth,
-            target: unescape(alloc, target)?,
-            word: unescape(alloc, prereq)?,
-        }),
-        ("undepend", [target, prereq]) => Ok(Edit::RemovePrereq {
-            nth,
-            target: unescape(alloc, target)?,
-            word: unescape(alloc, prereq)?,
-        }),
+        ("depend" | "depend-order", [target, prereq]) => {
+            let order = word == "depend-order";
+            let (target, word) = unescape_both(alloc, target, prereq)?;
+            Ok(Edit::AddPrereq {
+                order,
+                nth,
+                target,
+                word,
+            })
+        }
+        ("undepend", [target, prereq]) => {
+            let (target, word) = unescape_both(alloc, target, prereq)?;
+            Ok(Edit::RemovePrereq { nth, target, word })
+        }
         _ => bail!("no edit of a rule: {word}"),
     }
 }
@@ -179,17 +195,20 @@ fn read_rule_edit(alloc: Global, word: &str, nth: Option<u32>, fields: &[&str]) 
 /// The edit of a command on the recipe of a rule.
 fn read_recipe_edit(alloc: Global, word: &str, nth: Option<u32>, fields: &[&str]) -> Result<Edit> {
     match (word, fields) {
-        ("recipe", [target, line]) => Ok(Edit::AddRecipe {
-            nth,
-            target: unescape(alloc, target)?,
-            line: unescape(alloc, line)?,
-        }),
-        ("recipe-set", [target, number, line]) => Ok(Edit::SetRecipe {
-            nth,
-            target: unescape(alloc, target)?,
-            number: read_number(number)?,
-            line: unescape(alloc, line)?,
-        }),
+        ("recipe", [target, line]) => {
+            let (target, line) = unescape_both(alloc, target, line)?;
+            Ok(Edit::AddRecipe { nth, target, line })
+        }
+        ("recipe-set", [target, number, line]) => {
+            let number = read_number(number)?;
+            let (target, line) = unescape_both(alloc, target, line)?;
+            Ok(Edit::SetRecipe {
+                nth,
+                target,
+                number,
+                line,
+            })
+        }
         ("recipe-del", [target, number]) => Ok(Edit::RemoveRecipe {
             nth,
             target: unescape(alloc, target)?,

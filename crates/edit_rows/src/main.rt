@@ -67,6 +67,12 @@ impl<'a> Table<'a> {
     }
 }
 
+/// Runs the row of a line.
+fn run_row(rt: &HostRuntime, table: &mut Table<'_>, line: &str, columns: &str) -> Result<()> {
+    let row = read_row(rt.alloc(), columns).context(format_args!("in {line}"))?;
+    table.run(rt, &row)
+}
+
 /// Runs the rows of all tables.
 fn run_tables(rt: &HostRuntime, text: &str) -> Result<()> {
     let mut table = None;
@@ -77,10 +83,7 @@ fn run_tables(rt: &HostRuntime, text: &str) -> Result<()> {
                     last.print(rt)?;
                 }
             }
-            (Some(("row", columns)), Some(table)) => {
-                let row = read_row(rt.alloc(), columns).context(format_args!("in {line}"))?;
-                table.run(rt, &row)?;
-            }
+            (Some(("row", columns)), Some(table)) => run_row(rt, table, line, columns)?,
             _ => bail!("no row of a table: {line}"),
         }
     }

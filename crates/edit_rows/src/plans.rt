@@ -1,7 +1,8 @@
 //! The plan of one edit, and the patch that it gives.
+ghost use Rattle.std.specs.Prelude.{IfOk};
 ghost use Rattle.mk_patch.specs.Moves.{FitMoves};
 
-use crate::checks::reply_of;
+use crate::checks::check_reply;
 use crate::difference::{Stop, at_most, same_text, same_word};
 use crate::document::{check_lines, parsed, text_of};
 use crate::rows::Row;
@@ -31,10 +32,7 @@ pub fn check_plan(alloc: Global, row: &Row<'_>, reply: &str, edit: &Edit) -> Res
             same_word(alloc, "the reply of the plan", reply, "done")?;
             check_patch(alloc, row, doc, patch)
         }
-        Err(refusal) => {
-            let found = reply_of(alloc, Err(refusal))?;
-            same_word(alloc, "the reply of the plan", reply, found.as_str())
-        }
+        Err(refusal) => check_reply(alloc, "the reply of the plan", reply, Err(refusal)),
     }
 }
 
@@ -43,6 +41,19 @@ fn check_patch(alloc: Global, row: &Row<'_>, doc: Doc, patch: Patch) -> Result<(
     requires { FitMoves patch doc }
 {
     let mut doc = doc;
+    check_sizes(alloc, row, &patch)?;
+    let expected = row.expected.as_ref();
+    let what = "the text after the patch";
+    let back = check_making(alloc, what, expected, &mut doc, patch)?;
+    let what = "the text after the patch was taken back";
+    let again = check_making(alloc, what, Some(&row.makefile), &mut doc, back)?;
+    let what = "the text after the patch was made again";
+    let _ = check_making(alloc, what, expected, &mut doc, again)?;
+    Ok(())
+}
+
+/// Fails where a patch holds or takes more lines than its row says.
+fn check_sizes(alloc: Global, row: &Row<'_>, patch: &Patch) -> Result<(), Stop> {
     at_most(
         alloc,
         "the lines held by the patch",
@@ -54,28 +65,23 @@ fn check_patch(alloc: Global, row: &Row<'_>, doc: Doc, patch: Patch) -> Result<(
         "the lines that the patch takes",
         one_more(row.size),
         patch.takes() as u64,
-    )?;
-    let back = patch.make(&mut doc);
-    check_made(
-        alloc,
-        "the text after the patch",
-        row.expected.as_ref(),
-        &doc,
-    )?;
-    let again = back.make(&mut doc);
-    check_made(
-        alloc,
-        "the text after the patch was taken back",
-        Some(&row.makefile),
-        &doc,
-    )?;
-    let _ = again.make(&mut doc);
-    check_made(
-        alloc,
-        "the text after the patch was made again",
-        row.expected.as_ref(),
-        &doc,
     )
+}
+
+/// Makes a patch, which has to lead to a text, and gives the one that takes it back.
+fn check_making(
+    alloc: Global,
+    what: &'static str,
+    expected: Option<&Vec<u8>>,
+    doc: &mut Doc,
+    patch: Patch,
+) -> Result<Patch, Stop>
+    requires { FitMoves patch doc.old }
+    ensures { IfOk result (λ back. FitMoves back doc.new) }
+{
+    let back = patch.make(doc);
+    check_made(alloc, what, expected, doc)?;
+    Ok(back)
 }
 
 /// A limit with a line more: a last line gets a line end where a line is put in after it.

@@ -45,15 +45,27 @@ pub fn read_row<'a>(alloc: Global, columns: &'a str) -> Result<Row<'a>> {
     let [name, depth, makefile, expected, cost, size, commands @ ..] = columns.as_slice() else {
         bail!("a row without its columns");
     };
+    // (the numbers first, and the texts in a function of their own: a way out drops what was read before)
+    let depth = depth.parse::<u32>().context("no depth")?;
+    let cost = read_limit(cost)?;
+    let size = read_limit(size)?;
+    let (makefile, expected) = read_texts(alloc, makefile, expected)?;
     Ok(Row {
         name,
-        depth: depth.parse::<u32>().context("no depth")?,
-        makefile: unescape(alloc, makefile)?,
-        expected: read_expected(alloc, expected)?,
-        cost: read_limit(cost)?,
-        size: read_limit(size)?,
+        depth,
+        makefile,
+        expected,
+        cost,
+        size,
         commands: read_commands(alloc, commands)?,
     })
+}
+
+/// The texts before and after the commands.
+fn read_texts(alloc: Global, makefile: &str, expected: &str) -> Result<(Vec<u8>, Option<Vec<u8>>)> {
+    let makefile = unescape(alloc, makefile)?;
+    let expected = read_expected(alloc, expected)?;
+    Ok((makefile, expected))
 }
 
 /// The expected text, or none where the column is `-`.
@@ -76,11 +88,16 @@ fn read_limit(column: &str) -> Result<Option<u64>> {
 fn read_commands<'a>(alloc: Global, columns: &[&'a str]) -> Result<Vec<Expectation<'a>>> {
     let mut commands = Vec::new(alloc);
     for pair in columns.chunks(2) {
-        let [reply, command] = pair else {
-            bail!("a reply without its command");
-        };
-        let command = read_command(alloc, command)?;
-        commands.push(Expectation { command, reply })?;
+        commands.push(read_expectation(alloc, pair)?)?;
     }
     Ok(commands)
+}
+
+/// The command of two columns.
+fn read_expectation<'a>(alloc: Global, columns: &[&'a str]) -> Result<Expectation<'a>> {
+    let [reply, command] = columns else {
+        bail!("a reply without its command");
+    };
+    let command = read_command(alloc, command)?;
+    Ok(Expectation { command, reply })
 }

@@ -1,10 +1,12 @@
 //! What is checked of the plan of an edit. All memory comes from an allocator that a test watches.
 ghost use Rattle.std.specs.Prelude.{IfOk};
+ghost use Rattle.mk_patch.specs.Moves.{FitMoves};
 ghost use Rattle.mk_tree.specs.Documents.{IsFaithful};
 
 use mk_class::Meter;
 use mk_edit::{Edit, Refusal, plan};
 use mk_lines::Fault;
+use mk_patch::Patch;
 use mk_tree::Doc;
 use std::alloc::{AllocError, Allocator, Global};
 use std::test::Fail;
@@ -53,32 +55,67 @@ pub fn growths_of_plan<'a>(
     Ok(heap.passed())
 }
 
+/// Why an edit is refused, if it is.
+fn refusal_of<'a>(heap: Heap<'a>, doc: &Doc<Heap<'a>>, edit: &Edit<Heap<'a>>) -> Option<Refusal>
+    requires { IsFaithful doc.now }
+{
+    plan(heap, doc, edit, &mut Meter::new()).err()
+}
+
 /// Checks an edit of a makefile that is accepted.
 ///
 /// With each growth of its plan refused in turn the answer is `NoMemory`, and the document is the same.
 /// With ample memory the patch leads to the expected text and back, and takes no memory for it. Where
 /// all that holds, the allocator refuses no growth afterwards.
+///
+/// What is checked has the edit by a reference: where a function owns it, each way out of the function
+/// drops one of many kinds of edits, which makes its proof long.
 pub fn check_accepted<'a>(
     heap: Heap<'a>,
     makefile: &[u8],
     edit: Result<Edit<Heap<'a>>, AllocError>,
     expected: &[u8],
 ) -> Result<(), Fail> {
-    let edit = edit?;
-    let doc = document(heap, makefile)?;
-    let growths = growths_of_plan(heap, &doc, &edit)?;
+    match &edit {
+        Ok(edit) => check_edit(heap, makefile, edit, expected),
+        Err(_) => Err(Fail::from("no memory for the edit")),
+    }
+}
+
+/// Checks an edit of a makefile that is accepted.
+fn check_edit<'a>(
+    heap: Heap<'a>,
+    makefile: &[u8],
+    edit: &Edit<Heap<'a>>,
+    expected: &[u8],
+) -> Result<(), Fail> {
+    let mut doc = document(heap, makefile)?;
+    check_growths(heap, makefile, &doc, edit)?;
+    check_made(heap, makefile, &mut doc, edit, expected)
+}
+
+/// Checks that each refused growth of an edit's plan is `NoMemory`, and changes nothing.
+fn check_growths<'a>(
+    heap: Heap<'a>,
+    makefile: &[u8],
+    doc: &Doc<Heap<'a>>,
+    edit: &Edit<Heap<'a>>,
+) -> Result<(), Fail>
+    requires { IsFaithful doc.now }
+{
+    let growths = growths_of_plan(heap, doc, edit)?;
     check(growths.count > 0, "the plan takes memory")?;
     for admitted in 0..growths.count {
         heap.refuse_one_after(admitted);
-        let answer = plan(heap, &doc, &edit, &mut Meter::new());
+        let refusal = refusal_of(heap, doc, edit);
         check(heap.has_refused(), "a growth is refused")?;
         check(
-            matches!(answer, Err(Refusal::NoMemory)),
+            refusal == Some(Refusal::NoMemory),
             "a refused growth is NoMemory",
         )?;
-        check(is_text(&doc, makefile), "the document is the same")?;
+        check(is_text(doc, makefile), "the document is the same")?;
     }
-    check_made(heap, makefile, doc, &edit, expected)
+    Ok(())
 }
 
 /// Checks that with ample memory an edit leads to the expected text and back, and that its patch takes
@@ -86,26 +123,38 @@ pub fn check_accepted<'a>(
 fn check_made<'a>(
     heap: Heap<'a>,
     makefile: &[u8],
-    doc: Doc<Heap<'a>>,
+    doc: &mut Doc<Heap<'a>>,
     edit: &Edit<Heap<'a>>,
     expected: &[u8],
 ) -> Result<(), Fail>
-    requires { IsFaithful doc }
+    requires { IsFaithful doc.old }
 {
-    let mut doc = doc;
     heap.refuse_none();
-    let patch = match plan(heap, &doc, edit, &mut Meter::new()) {
+    let patch = match plan(heap, doc, edit, &mut Meter::new()) {
         Ok(patch) => patch,
         Err(refusal) => return Err(Fail::from(refusal)),
     };
     heap.refuse_all();
-    let back = patch.make(&mut doc);
-    check(is_text(&doc, expected), "the patch leads to the text")?;
-    let _again = back.make(&mut doc);
-    check(is_text(&doc, makefile), "its inverse leads back")?;
+    check_both_ways(makefile, doc, patch, expected)?;
     check(!heap.has_refused(), "a patch is made without memory")?;
     heap.refuse_none();
     Ok(())
+}
+
+/// Checks that a patch leads to the expected text and back.
+fn check_both_ways<'a>(
+    makefile: &[u8],
+    doc: &mut Doc<Heap<'a>>,
+    patch: Patch<Heap<'a>>,
+    expected: &[u8],
+) -> Result<(), Fail>
+    requires { FitMoves patch doc.old }
+{
+    let back = patch.make(doc);
+    let leads_there = is_text(doc, expected);
+    let _again = back.make(doc);
+    check(leads_there, "the patch leads to the text")?;
+    check(is_text(doc, makefile), "its inverse leads back")
 }
 
 /// Checks an edit of a makefile that is refused: it asks for no memory, so that the refusal is the same
@@ -117,15 +166,40 @@ pub fn check_refused<'a>(
     edit: Result<Edit<Heap<'a>>, AllocError>,
     refusal: Refusal,
 ) -> Result<(), Fail> {
-    let edit = edit?;
+    match &edit {
+        Ok(edit) => check_refused_edit(heap, makefile, edit, refusal),
+        Err(_) => Err(Fail::from("no memory for the edit")),
+    }
+}
+
+/// Checks an edit of a makefile that is refused.
+fn check_refused_edit<'a>(
+    heap: Heap<'a>,
+    makefile: &[u8],
+    edit: &Edit<Heap<'a>>,
+    refusal: Refusal,
+) -> Result<(), Fail> {
     let doc = document(heap, makefile)?;
+    check_refusal(heap, makefile, &doc, edit, refusal)
+}
+
+/// Checks that an edit is refused without memory, and leaves the document.
+fn check_refusal<'a>(
+    heap: Heap<'a>,
+    makefile: &[u8],
+    doc: &Doc<Heap<'a>>,
+    edit: &Edit<Heap<'a>>,
+    refusal: Refusal,
+) -> Result<(), Fail>
+    requires { IsFaithful doc.now }
+{
     heap.refuse_all();
-    match plan(heap, &doc, &edit, &mut Meter::new()) {
-        Ok(_) => return Err(Fail::from("the edit is accepted")),
-        Err(found) if found == refusal => (),
-        Err(found) => return Err(Fail::from(found)),
+    match refusal_of(heap, doc, edit) {
+        None => return Err(Fail::from("the edit is accepted")),
+        Some(found) if found == refusal => (),
+        Some(found) => return Err(Fail::from(found)),
     }
     check(!heap.has_refused(), "a refused edit asks for no memory")?;
     heap.refuse_none();
-    check(is_text(&doc, makefile), "the document is the same")
+    check(is_text(doc, makefile), "the document is the same")
 }

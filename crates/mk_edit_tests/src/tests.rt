@@ -1,5 +1,6 @@
 //! One test for each edit that is accepted, for each refusal, and for what a plan takes. The texts and
 //! the refusals of edits are those of tests/cases.
+ghost use Rattle.mk_patch.specs.Moves.{FitMoves};
 
 use crate::checks::{Heap, check_accepted, check_refused, document, growths_of_plan};
 use crate::edits::{
@@ -9,6 +10,8 @@ use crate::edits::{
 use mk_class::{Flavor, Meter};
 use mk_edit::{Colons, Edit, Field, Refusal, plan};
 use mk_lines::source::TEXT_LIMIT;
+use mk_patch::Patch;
+use mk_tree::Doc;
 use std::alloc::AllocError;
 use std::test::Fail;
 use watched::{Growths, Watched};
@@ -246,12 +249,34 @@ fn growths_above<'a>(heap: Heap<'a>, count: usize, edit: &Edit<Heap<'a>>) -> Res
     Ok(growths_of_plan(heap, &doc, edit)?)
 }
 
+// The growths of an edit's plan above one line, and above many.
+fn growths_above_few_and_many<'a>(
+    heap: Heap<'a>,
+    edit: &Edit<Heap<'a>>,
+) -> Result<(Growths, Growths), Fail> {
+    let few = growths_above(heap, 1, edit)?;
+    let many = growths_above(heap, 1_000, edit)?;
+    Ok((few, many))
+}
+
+// The same of an edit for which there may have been no memory. It does nothing else, since every way out
+// drops the edit.
+fn few_and_many<'a>(
+    heap: Heap<'a>,
+    edit: Result<Edit<Heap<'a>>, AllocError>,
+) -> Result<(Growths, Growths), Fail> {
+    match &edit {
+        Ok(edit) => growths_above_few_and_many(heap, edit),
+        Err(_) => Err(Fail::from("no memory for the edit")),
+    }
+}
+
 #[test]
 fn growths_do_not_depend_on_the_lines_of_the_file(rt: HostRuntime) -> Result<(), Fail> {
     let heap = Watched::new(rt.alloc());
-    for edit in [set(&heap, b"A", b"2")?, unset(&heap, b"A")?] {
-        let few = growths_above(&heap, 1, &edit)?;
-        let many = growths_above(&heap, 1_000, &edit)?;
+    let of_set = few_and_many(&heap, set(&heap, b"A", b"2"))?;
+    let of_unset = few_and_many(&heap, unset(&heap, b"A"))?;
+    for (few, many) in [of_set, of_unset] {
         assert!(rt; few.count > 0);
         assert_eq!(rt; few, many);
     }
@@ -260,17 +285,38 @@ fn growths_do_not_depend_on_the_lines_of_the_file(rt: HostRuntime) -> Result<(),
 
 const RULES: &[u8] = b"c:\n\tx\n\n# n\n\ty\nd:\n";
 
+// How many lines a patch holds and takes, and then the patch that takes it back.
+fn lines_of_patch<'a>(doc: &mut Doc<Heap<'a>>, patch: Patch<Heap<'a>>) -> [(usize, usize); 2]
+    requires { FitMoves patch doc.old }
+{
+    let before = (patch.held(), patch.takes());
+    let back = patch.make(doc);
+    [before, (back.held(), back.takes())]
+}
+
+// The same of the patch of an edit of `RULES`.
+fn lines_of_edit<'a>(heap: Heap<'a>, edit: &Edit<Heap<'a>>) -> Result<[(usize, usize); 2], Fail> {
+    let mut doc = document(heap, RULES)?;
+    match plan(heap, &doc, edit, &mut Meter::new()) {
+        Ok(patch) => Ok(lines_of_patch(&mut doc, patch)),
+        Err(refusal) => Err(Fail::from(refusal)),
+    }
+}
+
+fn lines_of_removal<'a>(
+    heap: Heap<'a>,
+    edit: Result<Edit<Heap<'a>>, AllocError>,
+) -> Result<[(usize, usize); 2], Fail> {
+    match &edit {
+        Ok(edit) => lines_of_edit(heap, edit),
+        Err(_) => Err(Fail::from("no memory for the edit")),
+    }
+}
+
 #[test]
 fn a_removal_holds_its_lines_only_after_it_is_made(rt: HostRuntime) -> Result<(), Fail> {
     let heap = Watched::new(rt.alloc());
-    let mut doc = document(&heap, RULES)?;
-    let edit = unrule(&heap, b"c")?;
-    let patch = match plan(&heap, &doc, &edit, &mut Meter::new()) {
-        Ok(patch) => patch,
-        Err(refusal) => return Err(Fail::from(refusal)),
-    };
-    assert_eq!(rt; (patch.held(), patch.takes()), (0, 5));
-    let back = patch.make(&mut doc);
-    assert_eq!(rt; (back.held(), back.takes()), (5, 0));
+    let lines = lines_of_removal(&heap, unrule(&heap, b"c"))?;
+    assert_eq!(rt; lines, [(0, 5), (5, 0)]);
     Ok(())
 }

@@ -23,6 +23,21 @@ enum DraftError {
     NoMemory,
 }
 
+#[derive(Clone, Copy)]
+enum Call {
+    SetFirst(u8),
+    SetSecond(u8),
+    SetThird(u8),
+    Undo,
+    Redo,
+    Begin,
+    End,
+    Cancel,
+}
+
+// A call, its answer, and the text after it.
+type Row = (Call, Result<(), DraftError>, [u8; 4]);
+
 #[derive(Drop)]
 struct Draft<A: Allocator> {
     alloc: A,
@@ -171,51 +186,74 @@ impl<A: Allocator + Copy> Draft<A> {
         };
         Ok(())
     }
+
+    // Without a contract, so that a test of many calls carries no facts from one to the next.
+    fn call(&mut self, call: Call) -> Result<(), DraftError> {
+        match call {
+            Call::SetFirst(byte) => self.set(0, byte),
+            Call::SetSecond(byte) => self.set(1, byte),
+            Call::SetThird(byte) => self.set(2, byte),
+            Call::Undo => self.undo(),
+            Call::Redo => self.redo(),
+            Call::Begin => self.begin(),
+            Call::End => self.end(),
+            Call::Cancel => self.cancel(),
+        }
+    }
 }
+
+// The first row that is answered in another way, of calls in turn.
+fn first_wrong<A: Allocator + Copy>(draft: &mut Draft<A>, rows: &[Row]) -> Option<usize> {
+    for (number, (call, answer, text)) in rows.iter().copied().enumerate() {
+        if draft.call(call) != answer || draft.text() != text {
+            return Some(number);
+        }
+    }
+    None
+}
+
+const ONE_GROUP: &[Row] = &[
+    (Call::End, Err(DraftError::NoGroup), *b"abcd"),
+    (Call::Cancel, Err(DraftError::NoGroup), *b"abcd"),
+    (Call::SetFirst(b'x'), Ok(()), *b"xbcd"),
+    (Call::Begin, Ok(()), *b"xbcd"),
+    (Call::Begin, Err(DraftError::GroupOpen), *b"xbcd"),
+    (Call::Undo, Err(DraftError::GroupOpen), *b"xbcd"),
+    (Call::Redo, Err(DraftError::GroupOpen), *b"xbcd"),
+    (Call::SetSecond(b'1'), Ok(()), *b"x1cd"),
+    (Call::SetSecond(b'2'), Ok(()), *b"x2cd"),
+    (Call::SetSecond(b'3'), Ok(()), *b"x3cd"),
+    (Call::SetThird(b'4'), Ok(()), *b"x34d"),
+    (Call::End, Ok(()), *b"x34d"),
+    (Call::Undo, Ok(()), *b"xbcd"),
+    (Call::Undo, Err(DraftError::NothingToUndo), *b"xbcd"),
+    (Call::Redo, Ok(()), *b"x34d"),
+];
 
 #[test]
 fn a_group_counts_as_one(rt: HostRuntime) -> Result<(), Fail> {
-    let Ok(mut draft) = Draft::open(rt.alloc(), *b"abcd", 1) else {
-        return Ok(());
-    };
-    assert_eq!(rt; draft.end(), Err(DraftError::NoGroup));
-    assert_eq!(rt; draft.cancel(), Err(DraftError::NoGroup));
-    assert_eq!(rt; draft.set(0, b'x'), Ok(()));
-    assert_eq!(rt; draft.begin(), Ok(()));
-    assert_eq!(rt; draft.begin(), Err(DraftError::GroupOpen));
-    assert_eq!(rt; draft.undo(), Err(DraftError::GroupOpen));
-    assert_eq!(rt; draft.redo(), Err(DraftError::GroupOpen));
-    for byte in [b'1', b'2', b'3'] {
-        assert_eq!(rt; draft.set(1, byte), Ok(()));
-    }
-    assert_eq!(rt; draft.set(2, b'4'), Ok(()));
-    assert_eq!(rt; draft.end(), Ok(()));
-    assert_eq!(rt; draft.text(), *b"x34d");
-    assert_eq!(rt; draft.undo(), Ok(()));
-    assert_eq!(rt; draft.text(), *b"xbcd");
-    assert_eq!(rt; draft.undo(), Err(DraftError::NothingToUndo));
-    assert_eq!(rt; draft.redo(), Ok(()));
-    assert_eq!(rt; draft.text(), *b"x34d");
+    let mut draft = Draft::open(rt.alloc(), *b"abcd", 1)?;
+    assert_eq!(rt; first_wrong(&mut draft, ONE_GROUP), None);
     Ok(())
 }
 
+const EMPTY_AND_CANCELLED: &[Row] = &[
+    (Call::SetFirst(b'x'), Ok(()), *b"xbcd"),
+    (Call::Undo, Ok(()), *b"abcd"),
+    (Call::Begin, Ok(()), *b"abcd"),
+    (Call::End, Ok(()), *b"abcd"),
+    (Call::Redo, Ok(()), *b"xbcd"),
+    (Call::Undo, Ok(()), *b"abcd"),
+    (Call::Begin, Ok(()), *b"abcd"),
+    (Call::SetFirst(b'y'), Ok(()), *b"ybcd"),
+    (Call::SetFirst(b'z'), Ok(()), *b"zbcd"),
+    (Call::Cancel, Ok(()), *b"abcd"),
+    (Call::Redo, Err(DraftError::NothingToRedo), *b"abcd"),
+];
+
 #[test]
 fn an_empty_group_leaves_nothing_and_a_cancelled_one_no_redo(rt: HostRuntime) -> Result<(), Fail> {
-    let Ok(mut draft) = Draft::open(rt.alloc(), *b"abcd", 9) else {
-        return Ok(());
-    };
-    assert_eq!(rt; draft.set(0, b'x'), Ok(()));
-    assert_eq!(rt; draft.undo(), Ok(()));
-    assert_eq!(rt; draft.begin(), Ok(()));
-    assert_eq!(rt; draft.end(), Ok(()));
-    assert_eq!(rt; draft.redo(), Ok(()));
-    assert_eq!(rt; draft.text(), *b"xbcd");
-    assert_eq!(rt; draft.undo(), Ok(()));
-    assert_eq!(rt; draft.begin(), Ok(()));
-    assert_eq!(rt; draft.set(0, b'y'), Ok(()));
-    assert_eq!(rt; draft.set(0, b'z'), Ok(()));
-    assert_eq!(rt; draft.cancel(), Ok(()));
-    assert_eq!(rt; draft.text(), *b"abcd");
-    assert_eq!(rt; draft.redo(), Err(DraftError::NothingToRedo));
+    let mut draft = Draft::open(rt.alloc(), *b"abcd", 9)?;
+    assert_eq!(rt; first_wrong(&mut draft, EMPTY_AND_CANCELLED), None);
     Ok(())
 }

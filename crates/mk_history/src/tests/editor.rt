@@ -50,9 +50,15 @@ impl<A: Allocator + Copy> Change for SetByte<A> {
 #[derive(Clone, Copy)]
 enum Call {
     SetFirst(u8),
+    SetSecond(u8),
+    SetLast(u8),
     Undo,
     Redo,
+    Forget,
 }
+
+// A call, its answer, and the text after it.
+type Row = (Call, Result<(), HistoryError>, [u8; 4]);
 
 #[derive(Drop)]
 struct Editor<A: Allocator> {
@@ -123,13 +129,49 @@ impl<A: Allocator + Copy> Editor<A> {
         self.history.forget();
     }
 
+    // Without a contract, so that a test of many calls carries no facts from one to the next.
     fn call(&mut self, alloc: A, call: Call) -> Result<(), HistoryError> {
         match call {
             Call::SetFirst(byte) => self.set(alloc, 0, byte),
+            Call::SetSecond(byte) => self.set(alloc, 1, byte),
+            Call::SetLast(byte) => self.set(alloc, 3, byte),
             Call::Undo => self.undo(),
             Call::Redo => self.redo(),
+            Call::Forget => {
+                self.forget();
+                Ok(())
+            }
         }
     }
+
+    // Sets the first byte a number of times, to 0 at first.
+    fn set_often(&mut self, alloc: A, times: u32) -> Result<(), HistoryError> {
+        for number in 0..times {
+            self.call(alloc, Call::SetFirst((number % 7) as u8))?;
+        }
+        Ok(())
+    }
+
+    fn undo_often(&mut self, alloc: A, times: u32) -> Result<(), HistoryError> {
+        for _ in 0..times {
+            self.call(alloc, Call::Undo)?;
+        }
+        Ok(())
+    }
+}
+
+// The first row that is answered in another way, of calls in turn.
+fn first_wrong<A: Allocator + Copy>(
+    alloc: A,
+    editor: &mut Editor<A>,
+    rows: &[Row],
+) -> Option<usize> {
+    for (number, (call, answer, text)) in rows.iter().copied().enumerate() {
+        if editor.call(alloc, call) != answer || editor.text() != text {
+            return Some(number);
+        }
+    }
+    None
 }
 
 #[test]
@@ -153,100 +195,127 @@ fn a_depth_is_from_1_to_10_000(rt: HostRuntime) -> Result<(), Fail> {
     Ok(())
 }
 
+// Why an editor of a depth is not opened, if it is not.
+fn fault_of<A: Allocator + Copy>(alloc: A, depth: u32) -> Option<Fault> {
+    Editor::open(alloc, [0; 4], depth).err()
+}
+
 #[test]
 fn new_makes_two_rings_after_the_test_of_the_depth(rt: HostRuntime) -> Result<(), Fail> {
     for admitted in 0..2 {
         let heap = Refusing::after(rt.alloc(), admitted);
-        assert_eq!(rt; Editor::open(&heap, [0; 4], 3).err(), Some(Fault::NoMemory));
-        assert_eq!(rt; Editor::open(&heap, [0; 4], 3).err(), None);
+        assert_eq!(rt; fault_of(&heap, 3), Some(Fault::NoMemory));
+        assert_eq!(rt; fault_of(&heap, 3), None);
     }
     let heap = Refusing::after(rt.alloc(), 2);
-    assert_eq!(rt; Editor::open(&heap, [0; 4], 3).err(), None);
+    assert_eq!(rt; fault_of(&heap, 3), None);
     assert!(rt; !heap.has_refused());
     let heap = Refusing::after(rt.alloc(), 0);
-    assert_eq!(rt; Editor::open(&heap, [0; 4], 0).err(), Some(Fault::BadDepth));
+    assert_eq!(rt; fault_of(&heap, 0), Some(Fault::BadDepth));
     assert!(rt; !heap.has_refused());
     Ok(())
 }
 
+const THROUGH_THE_TEXTS: &[Row] = &[
+    (Call::SetFirst(b'x'), Ok(()), *b"xbcd"),
+    (Call::SetFirst(b'y'), Ok(()), *b"ybcd"),
+    (Call::Redo, Err(HistoryError::NothingToRedo), *b"ybcd"),
+    (Call::Undo, Ok(()), *b"xbcd"),
+    (Call::Undo, Ok(()), *b"abcd"),
+    (Call::Undo, Err(HistoryError::NothingToUndo), *b"abcd"),
+    (Call::Redo, Ok(()), *b"xbcd"),
+    (Call::Redo, Ok(()), *b"ybcd"),
+    (Call::Undo, Ok(()), *b"xbcd"),
+    (Call::SetLast(b'z'), Ok(()), *b"xbcz"),
+    (Call::Redo, Err(HistoryError::NothingToRedo), *b"xbcz"),
+    (Call::Undo, Ok(()), *b"xbcd"),
+    (Call::Forget, Ok(()), *b"xbcd"),
+    (Call::Redo, Err(HistoryError::NothingToRedo), *b"xbcd"),
+    (Call::Undo, Ok(()), *b"abcd"),
+];
+
 #[test]
 fn undo_and_redo_go_through_the_texts(rt: HostRuntime) -> Result<(), Fail> {
     let mut editor = Editor::open(rt.alloc(), *b"abcd", 9)?;
-    editor.set(rt.alloc(), 0, b'x')?;
-    editor.set(rt.alloc(), 0, b'y')?;
-    assert_eq!(rt; editor.text(), *b"ybcd");
-    assert_eq!(rt; editor.redo(), Err(HistoryError::NothingToRedo));
-    editor.undo()?;
-    assert_eq!(rt; editor.text(), *b"xbcd");
-    editor.undo()?;
-    assert_eq!(rt; editor.text(), *b"abcd");
-    assert_eq!(rt; editor.undo(), Err(HistoryError::NothingToUndo));
-    editor.redo()?;
-    editor.redo()?;
-    assert_eq!(rt; editor.text(), *b"ybcd");
-    editor.undo()?;
-    editor.set(rt.alloc(), 3, b'z')?;
-    assert_eq!(rt; editor.redo(), Err(HistoryError::NothingToRedo));
-    editor.undo()?;
-    editor.forget();
-    assert_eq!(rt; editor.redo(), Err(HistoryError::NothingToRedo));
-    editor.undo()?;
-    assert_eq!(rt; editor.text(), *b"abcd");
+    assert_eq!(rt;
+        first_wrong(rt.alloc(), &mut editor, THROUGH_THE_TEXTS),
+        None
+    );
     Ok(())
+}
+
+// Whether so many of one edit more than the depth can be undone, and no other.
+fn is_depth<A: Allocator + Copy>(alloc: A, depth: u32) -> Result<bool, Fail> {
+    let mut editor = Editor::open(alloc, [9; 4], depth)?;
+    editor.set_often(alloc, depth.saturating_add(1))?;
+    editor.undo_often(alloc, depth)?;
+    let last = editor.call(alloc, Call::Undo);
+    Ok(last == Err(HistoryError::NothingToUndo) && editor.text() == [0, 9, 9, 9])
 }
 
 #[test]
 fn the_depth_bounds_the_undos(rt: HostRuntime) -> Result<(), Fail> {
     for depth in [1, 2, MAX_DEPTH] {
-        let mut editor = Editor::open(rt.alloc(), [9; 4], depth)?;
-        for number in 0..depth + 1 {
-            editor.set(rt.alloc(), 0, (number % 7) as u8)?;
-        }
-        for _ in 0..depth {
-            editor.undo()?;
-        }
-        assert_eq!(rt; editor.undo(), Err(HistoryError::NothingToUndo), "{depth}");
-        assert_eq!(rt; editor.text(), [0, 9, 9, 9], "{depth}");
+        assert!(rt; is_depth(rt.alloc(), depth)?, "{depth}");
     }
     Ok(())
 }
+
+const OUT_OF_THE_DEPTH: &[Row] = &[
+    (Call::SetFirst(1), Ok(()), [1, 0, 0, 0]),
+    (Call::SetFirst(2), Ok(()), [2, 0, 0, 0]),
+    (Call::SetFirst(3), Ok(()), [3, 0, 0, 0]),
+    (Call::Undo, Ok(()), [2, 0, 0, 0]),
+    (Call::Undo, Ok(()), [1, 0, 0, 0]),
+    (Call::SetSecond(1), Ok(()), [1, 1, 0, 0]),
+    (Call::Undo, Ok(()), [1, 0, 0, 0]),
+    (Call::Undo, Err(HistoryError::NothingToUndo), [1, 0, 0, 0]),
+];
 
 #[test]
 fn what_fell_out_of_the_depth_stays_out(rt: HostRuntime) -> Result<(), Fail> {
     let mut editor = Editor::open(rt.alloc(), [0; 4], 2)?;
-    for byte in 1..4 {
-        editor.set(rt.alloc(), 0, byte)?;
-    }
-    editor.undo()?;
-    editor.undo()?;
-    editor.set(rt.alloc(), 1, 1)?;
-    editor.undo()?;
-    assert_eq!(rt; editor.text(), [1, 0, 0, 0]);
-    assert_eq!(rt; editor.undo(), Err(HistoryError::NothingToUndo));
+    assert_eq!(rt;
+        first_wrong(rt.alloc(), &mut editor, OUT_OF_THE_DEPTH),
+        None
+    );
     Ok(())
 }
 
+// Makes a call, again where a growth was refused, which leaves the text, and says whether it leads to a
+// text.
+fn leads_to<A: Allocator + Copy>(
+    alloc: A,
+    editor: &mut Editor<A>,
+    call: Call,
+    text: [u8; 4],
+) -> bool {
+    let before = editor.text();
+    if let Err(error) = editor.call(alloc, call) {
+        let stayed = error == HistoryError::NoMemory && editor.text() == before;
+        if !stayed || editor.call(alloc, call).is_err() {
+            return false;
+        }
+    }
+    editor.text() == text
+}
+
+const REFUSED: &[(Call, [u8; 4])] = &[
+    (Call::SetFirst(b'x'), *b"xbcd"),
+    (Call::SetFirst(b'y'), *b"ybcd"),
+    (Call::Undo, *b"xbcd"),
+    (Call::Undo, *b"abcd"),
+    (Call::Redo, *b"xbcd"),
+    (Call::Redo, *b"ybcd"),
+];
+
 #[test]
 fn a_refused_change_stays_on_top(rt: HostRuntime) -> Result<(), Fail> {
-    let calls = [
-        (Call::SetFirst(b'x'), *b"xbcd"),
-        (Call::SetFirst(b'y'), *b"ybcd"),
-        (Call::Undo, *b"xbcd"),
-        (Call::Undo, *b"abcd"),
-        (Call::Redo, *b"xbcd"),
-        (Call::Redo, *b"ybcd"),
-    ];
     for growth in 0..7 {
         let heap = Refusing::after(rt.alloc(), 2 + growth);
         let mut editor = Editor::open(&heap, *b"abcd", 9)?;
-        for (call, text) in calls {
-            let before = editor.text();
-            if let Err(error) = editor.call(&heap, call) {
-                assert_eq!(rt; error, HistoryError::NoMemory);
-                assert_eq!(rt; editor.text(), before);
-                editor.call(&heap, call)?;
-            }
-            assert_eq!(rt; editor.text(), text);
+        for (call, text) in REFUSED.iter().copied() {
+            assert!(rt; leads_to(&heap, &mut editor, call, text));
         }
         assert_eq!(rt; heap.has_refused(), growth < 6);
     }

@@ -1,12 +1,13 @@
 //! Bytes that are set one after the other, as one change.
-ghost use Rattle.std.specs.Prelude.{◌≡◌, ◌<◌, [], ◌∷◌, IfOk};
-ghost use Rattle.mk_history.specs.Chain.{after_all};
+ghost use Rattle.std.specs.Prelude.{◌≡◌, ◌<◌, [], ◌∷◌, IfOk, slice_set};
+ghost use Rattle.mk_history.specs.Chain.{IsChain};
 
 use crate::change::{Change, SureChange};
 use crate::sequence::Sequence;
 use mk_lines::Fault;
 use refusing::Refusing;
 use std::alloc::{AllocError, Allocator};
+use std::process::Abort;
 use std::test::Fail;
 
 /// Sets a byte.
@@ -100,18 +101,21 @@ fn grown<A: Allocator + Copy>(alloc: A, count: u8) -> Result<Sequence<SetByte, A
     Ok(sets)
 }
 
+// How many changes, and the room for them that a sequence grown to so many has.
+const ROOMS: &[(u8, usize)] = &[
+    (0, 1),
+    (1, 1),
+    (2, 2),
+    (3, 4),
+    (5, 8),
+    (64, 64),
+    (65, 128),
+    (200, 256),
+];
+
 #[test]
 fn the_room_of_a_sequence_doubles(rt: HostRuntime) -> Result<(), Fail> {
-    for (count, room) in [
-        (0, 1),
-        (1, 1),
-        (2, 2),
-        (3, 4),
-        (5, 8),
-        (64, 64),
-        (65, 128),
-        (200, 256),
-    ] {
+    for (count, room) in ROOMS.iter().copied() {
         let sets = grown(rt.alloc(), count)?;
         assert_eq!(rt; sets.len(), count as usize);
         assert_eq!(rt; sets.room(), room, "{count}");
@@ -138,40 +142,66 @@ fn each_growth_of_a_sequence_may_be_refused(rt: HostRuntime) -> Result<(), Fail>
     Ok(())
 }
 
+// A sequence of one change, which a growth that is refused has to leave as it is.
+fn refused_once<A: Allocator + Copy>(
+    rt: &impl Abort,
+    alloc: A,
+) -> Result<Sequence<SetByte, A>, AllocError>
+    ensures { IfOk result (λ s. s.changes ≡ record { at = 0; byte = 2 } ∷ []) }
+{
+    let mut sets = Sequence::with_capacity(alloc, 1)?;
+    sets.push_back(SetByte { at: 0, byte: 2 });
+    assert!(rt; sets.reserve(1).is_err());
+    assert_eq!(rt; sets.len(), 1);
+    assert_eq!(rt; sets.room(), 1);
+    Ok(sets)
+}
+
+// Makes changes of a text of sevens, which have to lead to another, and takes them back.
+fn check_there_and_back<A: Allocator>(rt: &impl Abort, sets: Sequence<SetByte, A>, changed: [u8; 4])
+    requires { IsChain (λ change text. change.at < 4)
+        (λ change text. slice_set text change.at change.byte) sets.changes
+        (7 ∷ 7 ∷ 7 ∷ 7 ∷ []) }
+{
+    let mut text = [7; 4];
+    let Ok(inverse) = sets.apply(&mut text) else {
+        unreachable!()
+    };
+    assert_eq!(rt; text, changed);
+    let Ok(_) = inverse.apply(&mut text) else {
+        unreachable!()
+    };
+    assert_eq!(rt; text, [7; 4]);
+}
+
 #[test]
 fn a_refused_growth_leaves_the_changes(rt: HostRuntime) -> Result<(), Fail> {
     for admitted in 2..4 {
         let heap = Refusing::after(rt.alloc(), admitted);
-        let mut sets = Sequence::with_capacity(&heap, 1)?;
-        sets.push_back(SetByte { at: 0, byte: 2 });
-        assert!(rt; sets.reserve(1).is_err());
+        let mut sets = refused_once(&rt, &heap)?;
         assert!(rt; heap.has_refused());
-        assert_eq!(rt; sets.len(), 1);
-        assert_eq!(rt; sets.room(), 1);
         sets.reserve(0)?;
         sets.reserve(1)?;
         sets.push_back(SetByte { at: 1, byte: 5 });
-        let mut text = [7; 4];
-        let Ok(inverse) = sets.apply(&mut text) else {
-            unreachable!()
-        };
-        assert_eq!(rt; text, [2, 5, 7, 7]);
-        let Ok(_) = inverse.apply(&mut text) else {
-            unreachable!()
-        };
-        assert_eq!(rt; text, [7; 4]);
+        check_there_and_back(&rt, sets, [2, 5, 7, 7]);
     }
     Ok(())
+}
+
+// A sequence of three changes that had room for them from the beginning.
+fn three_in_room<A: Allocator + Copy>(alloc: A) -> Result<Sequence<SetByte, A>, AllocError> {
+    let mut sets = Sequence::with_capacity(alloc, 3)?;
+    for byte in 0..3 {
+        sets.reserve(3 - byte as usize)?;
+        sets.push_back(SetByte { at: 0, byte });
+    }
+    Ok(sets)
 }
 
 #[test]
 fn what_there_is_room_for_is_not_refused(rt: HostRuntime) -> Result<(), Fail> {
     let heap = Refusing::after(rt.alloc(), 2);
-    let mut sets = Sequence::with_capacity(&heap, 3)?;
-    for byte in 0..3 {
-        sets.reserve(3 - byte as usize)?;
-        sets.push_back(SetByte { at: 0, byte });
-    }
+    let mut sets = three_in_room(&heap)?;
     sets.reserve(0)?;
     assert!(rt; !heap.has_refused());
     assert!(rt; sets.reserve(usize::MAX).is_err());
