@@ -4,8 +4,8 @@
 #   make            proves and builds the program, where a source has changed, with one line a crate;
 #                   what the prover says is in crates/mkedit/out/build.log
 #   make demo       shows scripts at work, one that is refused, and the queries
-#   make check      the whole test: tests/house, tests/rows, the merge gate (rt ci), and tests/program
-#                   over what the gate built; the last line is 'N passed, M failed', the sum of all
+#   make check      the whole test: tests/house, tests/rows, the proofs (rt ci), the wrong bodies, and
+#                   tests/program over what rt ci built; the last line is 'N passed, M failed', the sum
 #   make soak       tries the program on random makefiles and scripts for MINUTES minutes; prints
 #                   the seed, which SEED=N takes again
 #   make judge      has GNU make judge edits of random makefiles, for MINUTES minutes
