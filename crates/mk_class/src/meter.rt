@@ -46,15 +46,3 @@ impl Meter {
         self.count = self.count.saturating_add(1);
     }
 }
-
-#[cfg(test)]
-mod tests {
-    use super::*;
-
-    #[test]
-    fn a_meter_stays_at_the_greatest_number(rt: HostRuntime) {
-        let mut meter = Meter { count: u64::MAX };
-        meter.add();
-        assert_eq!(rt; meter.count(), u64::MAX);
-    }
-}
