@@ -74,7 +74,6 @@ module _ (keep_going : Bool) (commands : List CommandAt) (makefile : List ℕ) (
   -- The commands keep every byte that no edit concerns. Each does as stated. The text after them is the makefile with the edits
   -- that stand replayed over it. If all of these edits are within the depth and no group is open, as many `undo` as members stand
   -- are all granted, and give back the makefile.
-  -- granted, and give back the makefile.
   pub record KeepEveryByte : Type 0 where
     pub each : DoAsStated calls first last
     pub replayed : last.text ≡ replay edited makefile (standing machine_after)
