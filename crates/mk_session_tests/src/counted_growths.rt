@@ -1,5 +1,5 @@
 //! How many growths calls take.
-use crate::steps::{Step, answers};
+use crate::steps::{Answer, Step, answers};
 use mk_class::Meter;
 use mk_session::{Command, Refusal, Session};
 use mk_tree::Doc;
@@ -15,48 +15,52 @@ const EDITED: &[u8] = b"X=1\nY=0\n";
 
 const GROUPED: &[u8] = b"X=1\nY=2\n";
 
+// The calls that lead from `FIRST` to an open group.
+const INTO_A_GROUP: &[(Step, Answer)] = &[
+    (Step::Set(b"X", b"1"), Ok(EDITED)),
+    (Step::Begin, Ok(EDITED)),
+    (Step::Set(b"Y", b"1"), Ok(b"X=1\nY=1\n")),
+    (Step::Set(b"Y", b"2"), Ok(GROUPED)),
+];
+
 // A session with an edit to undo, and an open group of two edits.
 fn in_a_group<'a>(rt: &HostRuntime, heap: &'a Heap) -> Result<Session<&'a Heap>, Fail> {
     let mut session = Session::open(heap, FIRST, 10)?;
-    let steps = [
-        (Step::Set(b"X", b"1"), Ok(EDITED)),
-        (Step::Begin, Ok(EDITED)),
-        (Step::Set(b"Y", b"1"), Ok(b"X=1\nY=1\n".as_slice())),
-        (Step::Set(b"Y", b"2"), Ok(GROUPED)),
-    ];
-    if !answers(rt, heap, &mut session, FIRST, &steps)? {
+    if !answers(rt, heap, &mut session, FIRST, INTO_A_GROUP)? {
         return Err(Fail::from("the edits are not made"));
     }
     Ok(session)
 }
 
+// Whether calls in the group of such a session are answered so without memory.
+fn takes_no_memory(rt: &HostRuntime, steps: &[(Step, Answer)]) -> Result<bool, Fail> {
+    let heap = Watched::new(rt.alloc());
+    let mut session = in_a_group(rt, &heap)?;
+    heap.refuse_all();
+    Ok(answers(rt, &heap, &mut session, GROUPED, steps)? && !heap.has_refused())
+}
+
+const END_UNDO_AND_REDO: &[(Step, Answer)] = &[
+    (Step::End, Ok(GROUPED)),
+    (Step::Undo, Ok(EDITED)),
+    (Step::Undo, Ok(FIRST)),
+    (Step::Undo, Err(Refusal::NothingToUndo)),
+    (Step::Redo, Ok(EDITED)),
+    (Step::Redo, Ok(GROUPED)),
+    (Step::Redo, Err(Refusal::NothingToRedo)),
+];
+
 #[test]
 fn end_undo_and_redo_take_no_memory(rt: HostRuntime) -> Result<(), Fail> {
-    let heap = Watched::new(rt.alloc());
-    let mut session = in_a_group(&rt, &heap)?;
-    let steps = [
-        (Step::End, Ok(GROUPED)),
-        (Step::Undo, Ok(EDITED)),
-        (Step::Undo, Ok(FIRST)),
-        (Step::Undo, Err(Refusal::NothingToUndo)),
-        (Step::Redo, Ok(EDITED)),
-        (Step::Redo, Ok(GROUPED)),
-        (Step::Redo, Err(Refusal::NothingToRedo)),
-    ];
-    heap.refuse_all();
-    assert!(rt; answers(&rt, &heap, &mut session, GROUPED, &steps)?);
-    assert!(rt; !heap.has_refused());
+    assert!(rt; takes_no_memory(&rt, END_UNDO_AND_REDO)?);
     Ok(())
 }
 
+const CANCEL: &[(Step, Answer)] = &[(Step::Cancel, Ok(EDITED)), (Step::Undo, Ok(FIRST))];
+
 #[test]
 fn cancel_takes_no_memory(rt: HostRuntime) -> Result<(), Fail> {
-    let heap = Watched::new(rt.alloc());
-    let mut session = in_a_group(&rt, &heap)?;
-    heap.refuse_all();
-    let steps = [(Step::Cancel, Ok(EDITED)), (Step::Undo, Ok(FIRST))];
-    assert!(rt; answers(&rt, &heap, &mut session, GROUPED, &steps)?);
-    assert!(rt; !heap.has_refused());
+    assert!(rt; takes_no_memory(&rt, CANCEL)?);
     Ok(())
 }
 
@@ -68,12 +72,18 @@ fn growths_of_open(heap: &Heap, depth: u32) -> Result<u64, Fail> {
     Ok(heap.passed().count)
 }
 
+// How many growths it takes to parse the text.
+fn growths_of_parse(heap: &Heap) -> Result<u64, Fail> {
+    heap.refuse_none();
+    let doc = Doc::parse(heap, FIRST, &mut Meter::new())?;
+    drop(doc);
+    Ok(heap.passed().count)
+}
+
 #[test]
 fn the_rings_of_the_greatest_depth_are_two_growths(rt: HostRuntime) -> Result<(), Fail> {
     let heap = Watched::new(rt.alloc());
-    let doc = Doc::parse(&heap, FIRST, &mut Meter::new())?;
-    drop(doc);
-    let growths = heap.passed().count.saturating_add(2);
+    let growths = growths_of_parse(&heap)?.saturating_add(2);
     assert_eq!(rt; growths_of_open(&heap, 1)?, growths);
     assert_eq!(rt; growths_of_open(&heap, 10_000)?, growths);
     Ok(())
@@ -94,9 +104,18 @@ fn growths_of<'a>(
 fn takes_the_same(heap: &Heap, depth: u32) -> Result<bool, Fail> {
     let mut session = Session::open(heap, FIRST, depth)?;
     let edit = Step::Set(b"X", b"1").command(heap)?;
-    let first = growths_of(heap, &mut session, &edit)?;
+    repeats_its_growths(heap, &mut session, &edit)
+}
+
+// Whether a call takes the same growths each of 200 times.
+fn repeats_its_growths<'a>(
+    heap: &'a Heap,
+    session: &mut Session<&'a Heap>,
+    command: &Command<&'a Heap>,
+) -> Result<bool, Fail> {
+    let first = growths_of(heap, session, command)?;
     for _ in 1..200 {
-        if growths_of(heap, &mut session, &edit)? != first {
+        if growths_of(heap, session, command)? != first {
             return Ok(false);
         }
     }
@@ -129,23 +148,38 @@ fn growths_after<'a>(
     command: &Command<&'a Heap>,
 ) -> Result<Growths, Fail> {
     let mut session = Session::open(heap, text, 100)?;
-    for _ in 0..times {
-        session.obey(edit)?;
-    }
+    obey_often(&mut session, edit, times)?;
     growths_of(heap, &mut session, command)
+}
+
+// Makes a call some times.
+fn obey_often<'a>(
+    session: &mut Session<&'a Heap>,
+    command: &Command<&'a Heap>,
+    times: usize,
+) -> Result<(), Refusal> {
+    for _ in 0..times {
+        session.obey(command)?;
+    }
+    Ok(())
+}
+
+// The same of a step, after one edit.
+fn growths_of_step(heap: &Heap, text: &[u8], times: usize, step: Step) -> Result<Growths, Fail> {
+    let edit = Step::Set(b"A", b"3").command(heap)?;
+    let command = step.command(heap)?;
+    growths_after(heap, text, &edit, times, &command)
 }
 
 #[test]
 fn the_growths_of_an_edit_hang_on_its_line_alone(rt: HostRuntime) -> Result<(), Fail> {
     let heap = Watched::new(rt.alloc());
     let (few, many) = (one_before(&rt, 1)?, one_before(&rt, 1_000)?);
-    let edit = Step::Set(b"A", b"3").command(&heap)?;
     for step in [Step::Set(b"A", b"2"), Step::Unset(b"A")] {
-        let command = step.command(&heap)?;
-        let growths = growths_after(&heap, few.as_slice(), &edit, 0, &command)?;
+        let growths = growths_of_step(&heap, few.as_slice(), 0, step)?;
         assert!(rt; growths.count > 0);
         for times in [0, 50] {
-            let others = growths_after(&heap, many.as_slice(), &edit, times, &command)?;
+            let others = growths_of_step(&heap, many.as_slice(), times, step)?;
             assert_eq!(rt; others, growths);
         }
     }

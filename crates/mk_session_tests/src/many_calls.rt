@@ -44,6 +44,17 @@ fn answers_alike(
     Ok(answer == wanted)
 }
 
+// Makes any call of both.
+fn answers_any_alike(
+    rt: &HostRuntime,
+    numbers: &mut Numbers,
+    session: &mut Session,
+    machine: &mut TextMachine,
+) -> Result<bool, Fail> {
+    let command = any_command(rt, numbers)?;
+    answers_alike(rt, session, machine, &command)
+}
+
 // Makes 50 calls over a text, compares each answer and each document, and says how many edits were made.
 fn run_calls(
     rt: &HostRuntime,
@@ -54,13 +65,23 @@ fn run_calls(
     let mut session = Session::open(rt.alloc(), text, depth)?;
     let mut machine = TextMachine::open(rt, text, depth)?;
     for _ in 0..50 {
-        let command = any_command(rt, numbers)?;
-        let alike = answers_alike(rt, &mut session, &mut machine, &command)?;
-        if !alike || !is_as_parsed(rt, session.doc(), machine.text())? {
-            return Err(Fail::from("a call leads elsewhere"));
-        }
+        run_call(rt, numbers, &mut session, &mut machine)?;
     }
     Ok(machine.edits())
+}
+
+// Makes a call, and compares its answer and the document.
+fn run_call(
+    rt: &HostRuntime,
+    numbers: &mut Numbers,
+    session: &mut Session,
+    machine: &mut TextMachine,
+) -> Result<(), Fail> {
+    let alike = answers_any_alike(rt, numbers, session, machine)?;
+    if !alike || !is_as_parsed(rt, session.doc(), machine.text())? {
+        return Err(Fail::from("a call leads elsewhere"));
+    }
+    Ok(())
 }
 
 #[test]

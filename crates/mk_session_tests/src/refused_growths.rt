@@ -2,8 +2,8 @@
 use crate::steps::{Answer, Step, answers};
 use crate::texts::is_as_parsed;
 use mk_lines::Fault;
-use mk_session::{Refusal, Session};
-use std::alloc::Global;
+use mk_session::{Command, Refusal, Session};
+use std::alloc::{AllocError, Global};
 use std::test::Fail;
 use watched::Watched;
 
@@ -18,24 +18,32 @@ const NOW: &[u8] = b"X=1\nall: a a\na:\n\tc\nY = 1 \\\n  2";
 
 const UNDONE: &[u8] = b"X=2\nall: a a\na:\n\tc\nY = 1 \\\n  2";
 
+// Why a session is not opened, if it is not. One that is opened has the document of its text.
+fn fault_of_open(rt: &HostRuntime, heap: &Heap) -> Result<Option<Fault>, Fail> {
+    match Session::open(heap, FIRST, 10) {
+        Ok(session) if is_as_parsed(rt, session.doc(), FIRST)? => Ok(None),
+        Ok(_) => Err(Fail::from("a session is opened on another text")),
+        Err(fault) => Ok(Some(fault)),
+    }
+}
+
+// The growths of the opening of a session: the text and the count of its owners, the spans of the lines
+// twice, a node of each line, three for the fold, and a ring each for undo and redo.
+const GROWTHS_OF_OPEN: u64 = 14;
+
 #[test]
 fn each_refused_growth_of_open_is_no_memory(rt: HostRuntime) -> Result<(), Fail> {
     let heap = Watched::new(rt.alloc());
-    for admitted in 0..MANY {
+    for admitted in 0..GROWTHS_OF_OPEN {
         heap.refuse_one_after(admitted);
-        match Session::open(&heap, FIRST, 10) {
-            Ok(session) => {
-                // the text and the count of its owners, the spans of the lines twice, a node of each
-                // line, three for the fold, and a ring each for undo and redo
-                assert_eq!(rt; (admitted, heap.has_refused()), (14, false));
-                assert!(rt; is_as_parsed(&rt, session.doc(), FIRST)?);
-                return Ok(());
-            }
-            Err(fault) => assert!(rt; heap.has_refused() && matches!(fault, Fault::NoMemory)),
-        }
-        assert!(rt; Session::open(&heap, FIRST, 10).is_ok());
+        assert_eq!(rt; fault_of_open(&rt, &heap)?, Some(Fault::NoMemory));
+        assert!(rt; heap.has_refused());
+        assert_eq!(rt; fault_of_open(&rt, &heap)?, None);
     }
-    Err(Fail::from("each growth was refused"))
+    heap.refuse_one_after(GROWTHS_OF_OPEN);
+    assert_eq!(rt; fault_of_open(&rt, &heap)?, None);
+    assert!(rt; !heap.has_refused());
+    Ok(())
 }
 
 // Where in a session a call is made. Its text is `NOW`.
@@ -134,7 +142,7 @@ fn session_at<'a>(
 fn counts_at<'a>(
     rt: &HostRuntime,
     heap: &'a Heap,
-    mut session: Session<&'a Heap>,
+    session: &mut Session<&'a Heap>,
     stage: Stage,
     text: &'static [u8],
 ) -> Result<bool, Fail> {
@@ -146,7 +154,58 @@ fn counts_at<'a>(
         (Step::Undo, Ok(stage.back)),
         (Step::Redo, Ok(text)),
     ];
-    answers(rt, heap, &mut session, text, &steps)
+    answers(rt, heap, session, text, &steps)
+}
+
+// Refuses a growth of a call. Gives its answer, and whether it has so many.
+fn obey_after<'a>(
+    heap: &'a Heap,
+    session: &mut Session<&'a Heap>,
+    command: &Command<&'a Heap>,
+    admitted: u64,
+) -> (Result<(), Refusal>, bool) {
+    heap.refuse_one_after(admitted);
+    let answer = session.obey(command);
+    let refused = heap.has_refused();
+    heap.refuse_none();
+    (answer, refused)
+}
+
+// Refuses a growth of a call at a stage, and says whether the call has so many. One that is refused
+// changes nothing, and can be made afterwards.
+fn is_call_refused<'a>(
+    rt: &HostRuntime,
+    heap: &'a Heap,
+    session: &mut Session<&'a Heap>,
+    stage: Stage,
+    command: &Command<&'a Heap>,
+    admitted: u64,
+) -> Result<bool, Fail> {
+    let (answer, refused) = obey_after(heap, session, command, admitted);
+    let made = if refused {
+        answer == Err(Refusal::NoMemory)
+            && answers(rt, heap, session, NOW, stage.stays)?
+            && session.obey(command).is_ok()
+    } else {
+        answer.is_ok()
+    };
+    if made {
+        return Ok(refused);
+    }
+    Err(Fail::from("a call is not answered as it should be"))
+}
+
+// The same of the call of a step.
+fn is_step_refused<'a>(
+    rt: &HostRuntime,
+    heap: &'a Heap,
+    session: &mut Session<&'a Heap>,
+    stage: Stage,
+    step: Step,
+    admitted: u64,
+) -> Result<bool, Fail> {
+    let command = step.command(heap)?;
+    is_call_refused(rt, heap, session, stage, &command, admitted)
 }
 
 // Refuses a growth of an edit at a stage, and says whether the edit has so many. An edit that is refused
@@ -159,22 +218,8 @@ fn is_refused(
     admitted: u64,
 ) -> Result<bool, Fail> {
     let mut session = session_at(rt, heap, stage)?;
-    let command = edit.command(heap)?;
-    heap.refuse_one_after(admitted);
-    let answer = session.obey(&command);
-    let refused = heap.has_refused();
-    heap.refuse_none();
-    let stays = if refused {
-        answer == Err(Refusal::NoMemory)
-            && answers(rt, heap, &mut session, NOW, stage.stays)?
-            && session.obey(&command).is_ok()
-    } else {
-        answer.is_ok()
-    };
-    if stays
-        && is_as_parsed(rt, session.doc(), text)?
-        && counts_at(rt, heap, session, stage, text)?
-    {
+    let refused = is_step_refused(rt, heap, &mut session, stage, edit, admitted)?;
+    if is_as_parsed(rt, session.doc(), text)? && counts_at(rt, heap, &mut session, stage, text)? {
         return Ok(refused);
     }
     Err(Fail::from("an edit is not answered as it should be"))
@@ -210,19 +255,8 @@ fn each_refused_growth_of_an_edit_changes_nothing(rt: HostRuntime) -> Result<(),
 // changes nothing, and can be made afterwards.
 fn is_begin_refused(rt: &HostRuntime, heap: &Heap, admitted: u64) -> Result<bool, Fail> {
     let mut session = session_at(rt, heap, ALONE)?;
-    heap.refuse_one_after(admitted);
-    let answer = session.begin();
-    let refused = heap.has_refused();
-    heap.refuse_none();
-    let begun = if refused {
-        answer == Err(Refusal::NoMemory)
-            && !session.has_open_group()
-            && answers(rt, heap, &mut session, NOW, ALONE.stays)?
-            && session.begin().is_ok()
-    } else {
-        answer.is_ok()
-    };
-    if begun && answers(rt, heap, &mut session, NOW, IN_NEW_GROUP.stays)? {
+    let refused = is_call_refused(rt, heap, &mut session, ALONE, &Command::Begin, admitted)?;
+    if answers(rt, heap, &mut session, NOW, IN_NEW_GROUP.stays)? {
         return Ok(refused);
     }
     Err(Fail::from("a begin is not answered as it should be"))
@@ -270,12 +304,22 @@ fn keeps_its_cause(
     if in_group {
         session.begin()?;
     }
-    let command = edit.command(heap)?;
+    let (answer, refused) = obey_without_memory(heap, &mut session, edit)?;
+    Ok(answer == Err(cause) && !refused && is_as_parsed(rt, session.doc(), text)?)
+}
+
+// Makes a call while every growth is refused. Gives its answer, and whether it met one.
+fn obey_without_memory<'a>(
+    heap: &'a Heap,
+    session: &mut Session<&'a Heap>,
+    step: Step,
+) -> Result<(Result<(), Refusal>, bool), AllocError> {
+    let command = step.command(heap)?;
     heap.refuse_all();
     let answer = session.obey(&command);
     let refused = heap.has_refused();
     heap.refuse_none();
-    Ok(answer == Err(cause) && !refused && is_as_parsed(rt, session.doc(), text)?)
+    Ok((answer, refused))
 }
 
 #[test]

@@ -1,8 +1,9 @@
 //! Worked rows where a growth is refused: the call that meets it changes nothing, and is answered as the
 //! row says when it is made again, as are all others.
 use crate::rows::{GROUP_ROWS, Row, UNDO_ROWS};
+use crate::steps::{Answer, Step};
 use crate::texts::is_as_parsed;
-use mk_session::{Refusal, Session};
+use mk_session::{Command, Refusal, Session};
 use std::alloc::Global;
 use std::test::Fail;
 use watched::Watched;
@@ -10,36 +11,76 @@ use watched::Watched;
 /// More growths than the calls of any row take.
 const MANY: u64 = 1_000;
 
+type Heap = Watched<Global>;
+
+// Makes a call on a text, again where it meets the growth that is refused, which changes nothing, and
+// fails where it is not answered as it should be.
+fn check_call<'a>(
+    rt: &HostRuntime,
+    heap: &'a Heap,
+    session: &mut Session<&'a Heap>,
+    command: &Command<&'a Heap>,
+    text: &'static [u8],
+    wanted: Answer,
+) -> Result<(), Fail> {
+    let before = heap.has_refused();
+    let mut answer = session.obey(command);
+    if heap.has_refused() && !before {
+        if answer != Err(Refusal::NoMemory) || !is_as_parsed(rt, session.doc(), text)? {
+            return Err(Fail::from("a refused growth changes something"));
+        }
+        answer = session.obey(command);
+    }
+    let after = wanted.unwrap_or(text);
+    if answer.err() != wanted.err() || !is_as_parsed(rt, session.doc(), after)? {
+        return Err(Fail::from("a call is not answered as the row says"));
+    }
+    Ok(())
+}
+
+// Makes the call of a step on a text. The command has memory of its own.
+fn check_step<'a>(
+    rt: &HostRuntime,
+    heap: &'a Heap,
+    own: &'a Heap,
+    session: &mut Session<&'a Heap>,
+    step: Step,
+    text: &'static [u8],
+    wanted: Answer,
+) -> Result<(), Fail> {
+    let command = step.command(own)?;
+    check_call(rt, heap, session, &command, text, wanted)
+}
+
+// Makes the calls of a row.
+fn check_calls<'a>(
+    rt: &HostRuntime,
+    heap: &'a Heap,
+    own: &'a Heap,
+    session: &mut Session<&'a Heap>,
+    row: Row,
+) -> Result<(), Fail> {
+    let mut text = row.text;
+    for (step, wanted) in row.steps.iter().copied() {
+        check_step(rt, heap, own, session, step, text, wanted)?;
+        text = wanted.unwrap_or(text);
+    }
+    Ok(())
+}
+
 // Asks a session for the calls of a row, the growth after so many others refused, and says whether they
-// have one. The commands have memory of their own.
+// have one.
 fn is_refused<'a>(
     rt: &HostRuntime,
-    heap: &'a Watched<Global>,
-    own: &'a Watched<Global>,
+    heap: &'a Heap,
+    own: &'a Heap,
     row: Row,
     admitted: u64,
 ) -> Result<bool, Fail> {
     let mut session = Session::open(heap, row.text, row.depth)?;
-    let mut text = row.text;
-    let mut refused = false;
     heap.refuse_one_after(admitted);
-    for (step, wanted) in row.steps.iter().copied() {
-        let command = step.command(own)?;
-        let mut answer = session.obey(&command);
-        if heap.has_refused() && !refused {
-            refused = true;
-            if answer != Err(Refusal::NoMemory) || !is_as_parsed(rt, session.doc(), text)? {
-                return Err(Fail::from("a refused growth changes something"));
-            }
-            answer = session.obey(&command);
-        }
-        if let Ok(after) = wanted {
-            text = after;
-        }
-        if answer.err() != wanted.err() || !is_as_parsed(rt, session.doc(), text)? {
-            return Err(Fail::from("a call is not answered as the row says"));
-        }
-    }
+    check_calls(rt, heap, own, &mut session, row)?;
+    let refused = heap.has_refused();
     heap.refuse_none();
     Ok(refused)
 }

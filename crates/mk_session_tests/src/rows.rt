@@ -2,6 +2,7 @@
 use crate::steps::{Answer, Step, answers};
 use mk_lines::Fault;
 use mk_session::{Refusal, Session};
+use std::alloc::AllocError;
 use std::test::Fail;
 
 /// Calls of a session in turn.
@@ -265,20 +266,32 @@ fn few_lines_are_read_again(rt: HostRuntime) -> Result<(), Fail> {
     Ok(())
 }
 
-#[test]
-fn a_depth_out_of_range_comes_before_all_else(rt: HostRuntime) -> Result<(), Fail> {
+// A text of more open conditionals than a makefile may have.
+fn too_deep(rt: &HostRuntime) -> Result<Vec<u8>, AllocError> {
     let mut deep = Vec::new(rt.alloc());
     for _ in 0..257 {
         deep.extend_from_slice(b"ifdef A\n")?;
     }
+    Ok(deep)
+}
+
+// Why a text is not opened, if it is not.
+fn fault_of(rt: &HostRuntime, text: &[u8], depth: u32) -> Option<Fault> {
+    Session::open(rt.alloc(), text, depth).err()
+}
+
+#[test]
+fn a_depth_out_of_range_comes_before_all_else(rt: HostRuntime) -> Result<(), Fail> {
+    let deep = too_deep(&rt)?;
     for depth in [0, 10_001] {
-        let answer = Session::open(rt.alloc(), deep.as_slice(), depth);
-        assert!(rt; matches!(answer, Err(Fault::BadDepth)));
+        assert_eq!(rt;
+            fault_of(&rt, deep.as_slice(), depth),
+            Some(Fault::BadDepth)
+        );
     }
     for depth in [1, 10_000] {
-        let answer = Session::open(rt.alloc(), deep.as_slice(), depth);
-        assert!(rt; matches!(answer, Err(Fault::TooDeep)));
-        assert!(rt; Session::open(rt.alloc(), b"all:\n\tx\n", depth).is_ok());
+        assert_eq!(rt; fault_of(&rt, deep.as_slice(), depth), Some(Fault::TooDeep));
+        assert_eq!(rt; fault_of(&rt, b"all:\n\tx\n", depth), None);
     }
     Ok(())
 }

@@ -37,22 +37,33 @@ pub type Answer = Result<&'static [u8], Refusal>;
 impl Step {
     /// The call, its texts copied into memory of an allocator.
     pub fn command<A: Allocator + Copy>(self, alloc: A) -> Result<Command<A>, AllocError> {
-        Ok(match self {
-            Step::Set(name, value) => Command::Apply(set(alloc, name, value)?),
-            Step::Append(name, value) => Command::Apply(append(alloc, name, value)?),
-            Step::Assign(name, value) => Command::Apply(assign(alloc, name, value)?),
-            Step::Unset(name) => Command::Apply(unset(alloc, name)?),
-            Step::Unrule(target) => Command::Apply(unrule(alloc, target)?),
-            Step::DependOrder(target, word) => Command::Apply(depend_order(alloc, target, word)?),
-            Step::Undepend(target, word) => Command::Apply(undepend(alloc, target, word)?),
-            Step::Rename(from, to) => Command::Apply(rename(alloc, from, to)?),
-            Step::Undo => Command::Undo,
-            Step::Redo => Command::Redo,
-            Step::Begin => Command::Begin,
-            Step::End => Command::End,
-            Step::Cancel => Command::Cancel,
-        })
+        let edit = match self {
+            Step::Set(name, value) => set(alloc, name, value),
+            Step::Append(name, value) => append(alloc, name, value),
+            Step::Assign(name, value) => assign(alloc, name, value),
+            Step::Unset(name) => unset(alloc, name),
+            Step::Unrule(target) => unrule(alloc, target),
+            Step::DependOrder(target, word) => depend_order(alloc, target, word),
+            Step::Undepend(target, word) => undepend(alloc, target, word),
+            Step::Rename(from, to) => rename(alloc, from, to),
+            Step::Undo => return Ok(Command::Undo),
+            Step::Redo => return Ok(Command::Redo),
+            Step::Begin => return Ok(Command::Begin),
+            Step::End => return Ok(Command::End),
+            Step::Cancel => return Ok(Command::Cancel),
+        };
+        Ok(Command::Apply(edit?))
     }
+}
+
+/// Makes a call of a session. The caller does not own the command, which every way out would drop.
+pub fn obey_step<A: Allocator + Copy>(
+    alloc: A,
+    session: &mut Session<A>,
+    step: Step,
+) -> Result<Result<(), Refusal>, AllocError> {
+    let command = step.command(alloc)?;
+    Ok(session.obey(&command))
 }
 
 /// Whether calls of a session, whose text is `text`, are answered so, each document being the parse of
@@ -65,8 +76,7 @@ pub fn answers<A: Allocator + Copy>(
     steps: &[(Step, Answer)],
 ) -> Result<bool, Fail> {
     for (step, wanted) in steps.iter().copied() {
-        let command = step.command(alloc)?;
-        let answer = session.obey(&command);
+        let answer = obey_step(alloc, session, step)?;
         if let Ok(after) = wanted {
             text = after;
         }

@@ -22,13 +22,18 @@ pub fn is_as_parsed<A: Allocator>(
     text: &[u8],
 ) -> Result<bool, Fault> {
     let parsed = Doc::parse(rt.alloc(), text, &mut Meter::new())?;
-    if doc.len() != parsed.len() || doc.size() != text.len() {
-        return Ok(false);
+    Ok(doc.size() == text.len() && has_same_lines(doc, &parsed))
+}
+
+// Whether two documents have the same lines, each with its class.
+fn has_same_lines<A: Allocator>(doc: &Doc<A>, parsed: &Doc) -> bool {
+    if doc.len() != parsed.len() {
+        return false;
     }
     for (line, other) in doc.iter().zip(parsed.iter()) {
         if line.bytes() != other.bytes() || line.class() != other.class() {
-            return Ok(false);
+            return false;
         }
     }
-    Ok(true)
+    true
 }
