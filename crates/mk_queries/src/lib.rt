@@ -17,12 +17,16 @@
 //! - `unread`: the query [`check`].
 //! - `variables`: the query [`vars`].
 //! - `headers`: the query [`rules`].
+//! - `seen`: what the lines above tell of rules, where make passes some of them.
+//! - `caveat`: what make may read in a line otherwise.
 #![tactic(auto)]
 
+mod caveat;
 mod gathering;
 mod headers;
 mod line_part;
 mod place;
+mod seen;
 mod spacing;
 mod targets;
 mod unread;
