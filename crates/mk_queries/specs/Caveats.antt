@@ -42,14 +42,14 @@ abbrev pub make_word : List ℕ → List ℕ
 make_word t = leading is_in_make_word (after_leading is_passed t)
 
 -- whether there is no such word, or it begins a comment
-abbrev pub is_no_word : List ℕ → Bool
+abbrev is_no_word : List ℕ → Bool
 is_no_word [] = true
 is_no_word (b ∷ w) = b == 35
 
 -- ---- the lines above
 
 -- whether a line of this class is opaque
-abbrev pub is_opaque : Class → Bool
+abbrev is_opaque : Class → Bool
 is_opaque variants.Opaque = true
 is_opaque k = false
 
@@ -99,11 +99,11 @@ is_rule flags.Rule = true
 is_rule f = false
 
 -- whether make may take it for a recipe line, of a rule above the conditional
-abbrev pub is_below_conditional : Context → Seen → Class → Bool
+abbrev is_below_conditional : Context → Seen → Class → Bool
 is_below_conditional c s k = is_other k && ((c.conditionals == 0) && is_rule s.outside)
 
 -- the caveat of a line of this class that begins with the recipe prefix
-abbrev pub led_caveat : Context → Seen → Class → Option Caveat
+abbrev led_caveat : Context → Seen → Class → Option Caveat
 led_caveat c s k =
     if is_opaque k && is_rule s.for_make then Some AfterEmpty else
     if is_below_conditional c s k then Some AfterConditional else
@@ -116,11 +116,11 @@ recipe_caveat c s l = if is_prefix_led c.prefix l.bytes then led_caveat c s l.cl
 -- ---- a line that make may obey by its first word
 
 -- the words of conditionals
-abbrev pub conditional_words : List (List ℕ)
+abbrev conditional_words : List (List ℕ)
 conditional_words = codes "ifeq" ∷ codes "ifneq" ∷ codes "ifdef" ∷ codes "ifndef" ∷ codes "else" ∷ codes "endif" ∷ []
 
 -- whether a recipe line may stand in a branch that make skips, together with its rule
-abbrev pub may_be_skipped : Context → Seen → Bool
+abbrev may_be_skipped : Context → Seen → Bool
 may_be_skipped c s = nat_lt 0 c.conditionals && not (is_rule s.outside)
 
 -- the caveat of a recipe line with this first word
@@ -145,15 +145,15 @@ is_assignment (variants.Assign a p) = true
 is_assignment k = false
 
 -- the caveat of an opaque line that, as the first line of a text, has this class
-abbrev pub unread_caveat : Class → Option Caveat
+abbrev unread_caveat : Class → Option Caveat
 unread_caveat k = if is_assignment k then Some Assignment else None
 
 -- whether a name begins with a vertical tab or a form feed
-abbrev pub begins_with_feed : List ℕ → Bool
+abbrev begins_with_feed : List ℕ → Bool
 begins_with_feed n = first_passes (λ b. (b == 11) || (b == 12)) n
 
 -- whether a text is one unit that begins with a dollar
-abbrev pub is_one_reference : List ℕ → Bool
+abbrev is_one_reference : List ℕ → Bool
 is_one_reference n = first_passes (λ b. b == 36) n && is_empty (after_first_unit (λ b. b) n)
 
 -- the caveat of an assignment with this name and value
