@@ -9,6 +9,7 @@ complete -c mkedit -n __fish_use_subcommand -a edit -d 'Runs a script of edits o
 complete -c mkedit -n __fish_use_subcommand -a vars -d 'Lists the assignments of a makefile'
 complete -c mkedit -n __fish_use_subcommand -a rules -d 'Lists the rules of a makefile'
 complete -c mkedit -n __fish_use_subcommand -a check -d 'Lists the lines of a makefile that are kept and not read inside'
+complete -c mkedit -n __fish_use_subcommand -a caveats -d 'Lists the lines of a makefile that make may read otherwise'
 complete -c mkedit -n __fish_use_subcommand -a explain -d 'Says why a command is refused, and what to do then'
 complete -c mkedit -n __fish_use_subcommand -a help -d 'Prints help for a command'
 
@@ -18,6 +19,6 @@ complete -c mkedit -n '__fish_seen_subcommand_from edit' -s o -l output -r -F -d
 complete -c mkedit -n '__fish_seen_subcommand_from edit' -s i -l in-place -d 'FILE gets the text, and is the old file or the new one at every moment'
 complete -c mkedit -n '__fish_seen_subcommand_from edit' -s e -l expression -x -d 'A command, in place of SCRIPT; several -e are the lines of a script'
 
-complete -c mkedit -n '__fish_seen_subcommand_from edit vars rules check; and not __fish_seen_subcommand_from help' -F
-complete -c mkedit -n '__fish_seen_subcommand_from help' -a 'edit vars rules check explain help'
+complete -c mkedit -n '__fish_seen_subcommand_from edit vars rules check caveats; and not __fish_seen_subcommand_from help' -F
+complete -c mkedit -n '__fish_seen_subcommand_from help' -a 'edit vars rules check caveats explain help'
 complete -c mkedit -n '__fish_seen_subcommand_from explain; and not __fish_seen_subcommand_from help' -a 'BadArgument Reserved RecipePrefix NoSuch Ambiguous Absent Already Taken SharedRule Straddles OpenValue OpenLine OpenDefine Leans TooLong NothingToUndo NothingToRedo GroupOpen NoGroup NoMemory'

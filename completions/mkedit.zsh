@@ -9,6 +9,7 @@ _mkedit_commands() {
         'vars:Lists the assignments of a makefile'
         'rules:Lists the rules of a makefile'
         'check:Lists the lines of a makefile that are kept and not read inside'
+        'caveats:Lists the lines of a makefile that make may read otherwise'
         'explain:Says why a command is refused, and what to do then'
         'help:Prints help for a command'
     )
@@ -61,7 +62,7 @@ _mkedit() {
     [[ $state == argument ]] || return
     case $line[1] in
         edit) _mkedit_edit ;;
-        vars | rules | check) _mkedit_query ;;
+        vars | rules | check | caveats) _mkedit_query ;;
         explain) _mkedit_explain ;;
         help) _arguments '1:command:_mkedit_commands' ;;
     esac

@@ -7,7 +7,8 @@ In an example `⏎` is a line feed, `⇥` a tab and `␌` a form feed. Two forms
                                                   side by side
 
 In the last chapter of docs/LANGUAGE.md each section with an example also names, as `5: opaque`, what
-`mkedit check` prints of the section's first makefile. docs/LIBRARY.md shows lines of two files.
+`mkedit check` prints of the section's first makefile, and as "`caveats` names line 6" of which line
+`mkedit caveats` tells. docs/LIBRARY.md shows lines of two files.
 """
 
 import re
@@ -31,6 +32,7 @@ EXAMPLE = re.compile(
 QUERY = re.compile(r"^### `mkedit (\w+)`\n(?:.*\n)*?\n((?:    .*\n)+)", re.M)
 SECTION = re.compile(r"^### (.*)\n((?:(?!### ).*\n)*)", re.M)
 UNREAD = re.compile(r"`(\d+: (?:rough|opaque))`")
+CAVEAT = re.compile(r"`caveats` names line (\d+)")
 CODE = re.compile(r"^```rust\n((?:(?!```).*\n)*)```\n", re.M)
 
 
@@ -65,6 +67,10 @@ def check_unread(room, chapter):
             room.write("Makefile", text_of(example[1]))
             wanted = "".join(f"{it}\n" for it in UNREAD.findall(section)).encode()
             yield title, differences(room.run("check", "Makefile"), Outcome(wanted, b"", 0))
+            named = re.findall(r"^(\d+): ", room.run("caveats", "Makefile").stdout.decode(), re.M)
+            caveats = CAVEAT.findall(section)
+            wrong = [f"caveats names {named}, wanted {caveats}"] if named != caveats else []
+            yield f"caveats, {title}", wrong
 
 
 def check_code(_, document):

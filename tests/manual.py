@@ -113,7 +113,7 @@ def the_manual_page_has_every_command_of_a_script(room):
 @check
 def the_manual_page_has_every_option_and_command_of_the_program(room):
     text = page()
-    for command in ("edit", "vars", "rules", "check", "explain", "help"):
+    for command in ("edit", "vars", "rules", "check", "caveats", "explain", "help"):
         if f".Cm {command}\n" not in text.partition(".Sh DESCRIPTION")[0]:
             yield f"the synopsis lacks {command}"
     shown = room.run("--help").stdout.decode() + room.run("edit", "--help").stdout.decode()

@@ -34,7 +34,7 @@ def makefiles():
 
 
 def run(program, tally):
-    """Compares the three queries over every makefile of the tables."""
+    """Compares the queries over every makefile of the tables."""
     check_readings(tally)
     with Room(program) as room:
         for text, name in makefiles().items():

@@ -1,4 +1,4 @@
-"""A makefile read by Python, from docs/LANGUAGE.md alone, and the texts of the three queries.
+"""A makefile read by Python, from docs/LANGUAGE.md alone, and the texts of the queries.
 
 It shares no line with the program, and is written to be compared with it: so it is plain and slow.
 queries.py compares it with the readings that tests/cases/readings gives, and the program with it.
@@ -20,6 +20,15 @@ DIRECTIVES = (
     b"include -include sinclude export unexport undefine vpath load -load".split()
 )
 PREFIX_NAME = b".RECIPEPREFIX"
+MAKE_WORD = re.compile(rb"[ \t\n\v\f\r\xef\xbb\xbf]*([^ \t\n\v\f\r]*)")
+# The classes of lines that make may take for recipe lines where they begin with the recipe prefix.
+NO_RECIPE = ("Opaque", "Assign", "DefineHead", "If", "Directive")
+EMPTY_ABOVE = b"make may take this for a recipe line: an opaque line above is empty for make"
+SKIPPED_ABOVE = b"make may take this for a recipe line: it may skip the conditional above"
+OBEYED = b"make may obey this as a line of a conditional"
+DEFINED = b"make may begin a define here"
+UNFOUND = b"make may set a variable here that no edit finds"
+PREFIX_SET = b"make may set the recipe prefix here"
 
 
 class Context(NamedTuple):
@@ -279,11 +288,15 @@ def rule(raw, text, places):
     return "Header", header(head, inline)
 
 
+def is_prefix_led(raw, context):
+    return raw[:1] == context.prefix
+
+
 @lru_cache(maxsize=4096)
 def class_of(raw, context):
     """The class of a line in its context, and its parts."""
     text, places = joined(raw)
-    is_led = raw[:1] == context.prefix
+    is_led = is_prefix_led(raw, context)
     if context.defines:
         word, _ = after_first_word(units(text))
         closes = not is_led and word == b"endef" and context.defines == 1
@@ -335,7 +348,7 @@ def context_after(context, raw, kind, parts):
         flag = "Off"
     if kind in ("DefineHead", "Endef"):
         defines = int(kind == "DefineHead")
-    elif kind == "Body" and raw[:1] != context.prefix:
+    elif kind == "Body" and not is_prefix_led(raw, context):
         word, _ = after_first_word(units(joined(raw)[0]))
         defines += (word == b"define") - (word == b"endef")
     conditionals += (kind == "If") - (kind == "Endif")
@@ -423,4 +436,74 @@ def check_text(text):
     return out + (b"end: defines %d\n" % end.defines if end.defines else b"")
 
 
-QUERIES = {"vars": vars_text, "rules": rules_text, "check": check_text}
+def flag_after(lines):
+    """The flag after some lines."""
+    flag = "Off"
+    for raw, context, kind, parts in lines:
+        flag = context_after(context._replace(flag=flag), raw, kind, parts).flag
+    return flag
+
+
+def make_word(raw):
+    """The first word of a line, as make finds it."""
+    return MAKE_WORD.match(joined(raw)[0])[1]
+
+
+def is_empty_for_make(raw, kind):
+    return kind == "Opaque" and make_word(raw)[:1] in (b"", b"#")
+
+
+def recipe_caveat(raw, context, kind, flag_for_make, flag_outside):
+    """What is said of a line that make may take for a recipe line."""
+    if not is_prefix_led(raw, context):
+        return None
+    if kind == "Opaque" and flag_for_make == "Rule":
+        return EMPTY_ABOVE
+    is_outside = context.conditionals == 0
+    return SKIPPED_ABOVE if kind in NO_RECIPE and is_outside and flag_outside == "Rule" else None
+
+
+def word_caveat(raw, context, kind, flag_outside):
+    """What is said of a line by its first word."""
+    word = make_word(raw)
+    may_be_skipped = kind == "Recipe" and context.conditionals > 0 and flag_outside != "Rule"
+    if kind == "Opaque" and word == b"define":
+        return DEFINED
+    is_conditional = word in (*CONDITIONALS, b"else", b"endif")
+    return OBEYED if is_conditional and (kind == "Opaque" or may_be_skipped) else None
+
+
+def assignment_caveat(raw, kind, parts):
+    """What is said of an assignment."""
+    if kind == "Opaque":
+        return UNFOUND if class_of(raw, Context())[0] == "Assign" else None
+    if kind != "Assign":
+        return None
+    name, value = parts[1], parts[3]
+    if name[:1] in (b"\f", b"\v"):
+        return UNFOUND
+    is_reference = name[:1] == b"$" and len(units(name)) == 1
+    return PREFIX_SET if is_reference and len(value) == 1 else None
+
+
+def caveats_text(text):
+    """What `mkedit caveats` prints."""
+    for_make, outside, context, out = [], [], Context(), b""
+    for number, raw in logical_lines(text):
+        kind, parts = class_of(raw, context)
+        flag_outside = flag_after(outside)
+        said = (
+            recipe_caveat(raw, context, kind, flag_after(for_make), flag_outside)
+            or word_caveat(raw, context, kind, flag_outside)
+            or assignment_caveat(raw, kind, parts)
+        )
+        out += b"%d: %s\n" % (number, said) if said else b""
+        line = raw, context, kind, parts
+        if not (is_prefix_led(raw, context) and kind in NO_RECIPE):
+            for_make += [] if is_empty_for_make(raw, kind) else [line]
+            outside += [line] if context.conditionals == 0 else []
+        context = context_after(context, raw, kind, parts)
+    return out
+
+
+QUERIES = {"vars": vars_text, "rules": rules_text, "check": check_text, "caveats": caveats_text}

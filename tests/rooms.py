@@ -12,11 +12,12 @@ from checks import Outcome, brief, differences
 
 TEXT = b"CC = gcc # c\n"
 # A makefile with a line for each query, and what they print.
-QUERIED = b"ifdef A\nCC = gcc # c\nall: main.o\n\tcc\n$(call it)\n"
+QUERIED = b"ifdef A\nCC = gcc # c\nall: main.o\n\tcc\n$(call it)\n\tX = 1\n"
 ANSWERS = {
     "vars": b"2:1: CC = gcc\n",
     "rules": b"3:1: all: main.o [1]\n",
-    "check": b"5: opaque\nend: conditionals 1\n",
+    "check": b"5: opaque\n6: opaque\nend: conditionals 1\n",
+    "caveats": b"6: make may set a variable here that no edit finds\n",
 }
 FILES = {
     "Makefile": TEXT,

@@ -7,7 +7,7 @@ the hostile part: that part stays as it is, and the block becomes what docs/EDIT
 
 from typing import NamedTuple
 
-QUERIES = ("vars", "rules", "check")
+QUERIES = ("vars", "rules", "check", "caveats")
 
 BLOCK = b"LAST = one # c\nlast: a b\n\tfirst\n\tsecond\nEND = 1\n"
 BLOCK_LINES = BLOCK.count(b"\n")
@@ -16,6 +16,7 @@ BLOCK_ANSWERS = {
     "vars": ((1, b":0: LAST = one\n"), (5, b":0: END = 1\n")),
     "rules": ((2, b":0: last: a b [2]\n"),),
     "check": (),
+    "caveats": (),
 }
 # Each kind of edit: its command, the piece of the block that goes, and the one that comes. A new
 # line ends as the first line of the text does, which is to stand for @.

@@ -10,7 +10,7 @@ tests/rows says which files the crates keep.
 
 A table with the columns name, query, makefile and stdout says the text of each query itself. A table
 with the columns name, makefile and reading says the items of each makefile (see reading_rows.py), and
-the texts of all three queries are made from these: the items are laid on the logical lines of the
+the texts of `vars`, `rules` and `check` are made from these: the items are laid on the logical lines of the
 makefile, which are cut here; the text of an item, or its being none, says on which line it is.
 
 row_tables.py says how a table is written.
@@ -176,15 +176,15 @@ def given(table):
 
 
 def made(table):
-    """The rows of a table of readings: the texts of all three queries."""
+    """The rows of a table of readings: the texts of `vars`, `rules` and `check`."""
     for name, text, reading in rows_of(table):
         laid = lay(text, reading)
         yield name, text, [text_of(laid) for text_of in QUERIES.values()]
 
 
 # What the two kinds of files import beside what both need.
-TEXTS = "Rattle.mk_queries.specs.Queries.{vars_text, rules_text, check_text}"
-ANSWERS = "Rattle.mk_queries_rows.proofs.Answers.{Answers, answers}"
+TEXTS = ("Rattle.mk_queries.specs.Queries.{vars_text, rules_text, check_text}", "Rattle.mk_queries.specs.Caveats.{caveats_text}")
+ANSWERS = ("Rattle.mk_queries_rows.proofs.Answers.{Answers, answers}",)
 
 
 def print_file(imported, equations):
@@ -192,7 +192,8 @@ def print_file(imported, equations):
     print("use Rattle.std.proofs.Common.{◌≡◌, refl, []}")
     print("use Rattle.std.specs.Prelude.{codes}")
     print("use Rattle.std.specs.Fmt.{digits}")
-    print(f"use {imported}")
+    for module in imported:
+        print(f"use {module}")
     for name, question, answer in equations:
         row = "row_" + name.replace("-", "_")
         print(f"\n{row} : {question} ≡ {answer}\nunfolding digits\n{row} = refl")

@@ -46,11 +46,12 @@ MODIFIERS = {b"override": "Override", b"export": "Export", b"private": "Private"
 
 
 def antt_text(text):
-    """A text as a term."""
+    """A text as a term, which draws no control character."""
     if not text:
         return "[]"
     escapes = {0: "\\0", 9: "\\t", 10: "\\n", 13: "\\r", 34: '\\"', 92: "\\\\"}
-    return '(codes "' + "".join(escapes.get(byte, chr(byte)) for byte in text) + '")'
+    term = '(codes "' + "".join(escapes.get(byte, chr(byte)) for byte in text) + '")'
+    return re.sub(r"[\x01-\x1f\x7f]", lambda found: f"\\u{{{ord(found.group()):x}}}", term)
 
 
 def antt_list(terms):

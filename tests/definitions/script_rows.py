@@ -20,8 +20,7 @@ import ast
 import re
 import sys
 
-import reading_rows
-from reading_rows import FLAVORS
+from reading_rows import FLAVORS, antt_text
 from row_tables import rows_of_table, unescape
 
 COLONS = {b":": "One", b"::": "Two"}
@@ -165,11 +164,6 @@ def stated(meaning):
 
 
 # ---- equations
-
-
-def antt_text(text):
-    """A text as a term, which draws no control character."""
-    return re.sub(r"[\x01-\x1f\x7f]", lambda found: f"\\u{{{ord(found.group()):x}}}", reading_rows.antt_text(text))
 
 
 def antt_argument(name, part):

@@ -3,6 +3,7 @@ use Rattle.std.proofs.Common.{◌≡◌, refl, []}
 use Rattle.std.specs.Prelude.{codes}
 use Rattle.std.specs.Fmt.{digits}
 use Rattle.mk_queries.specs.Queries.{vars_text, rules_text, check_text}
+use Rattle.mk_queries.specs.Caveats.{caveats_text}
 
 row_vars_of_an_empty_file : vars_text [] ≡ []
 unfolding digits
@@ -55,3 +56,103 @@ row_check_lists_a_line_with_a_stray_return = refl
 row_check_lists_a_bad_fold : check_text (codes "A=1\\\\\\\n2\n") ≡ (codes "1: opaque\n")
 unfolding digits
 row_check_lists_a_bad_fold = refl
+
+row_caveats_of_an_empty_file : caveats_text [] ≡ []
+unfolding digits
+row_caveats_of_an_empty_file = refl
+
+row_caveats_of_lines_that_make_reads_alike : caveats_text (codes "X = 1\nt: a\n\tb\n\n# c\n\td\nifdef X\nt2:\n\te\nendif\ninclude f\n") ≡ []
+unfolding digits
+row_caveats_of_lines_that_make_reads_alike = refl
+
+row_caveats_below_a_form_feed_inside_a_recipe : caveats_text (codes "s:\n\tx\nt:\n\ta\n\u{c}\n\tb\n") ≡ (codes "6: make may take this for a recipe line: an opaque line above is empty for make\n")
+unfolding digits
+row_caveats_below_a_form_feed_inside_a_recipe = refl
+
+row_caveats_below_a_vertical_tab_and_a_comment : caveats_text (codes "t:\n\ta\n\u{b} # c\n\tb\n\tc\n") ≡ (codes "4: make may take this for a recipe line: an opaque line above is empty for make\n5: make may take this for a recipe line: an opaque line above is empty for make\n")
+unfolding digits
+row_caveats_below_a_vertical_tab_and_a_comment = refl
+
+row_caveats_below_stray_returns_inside_a_recipe : caveats_text (codes "t:\n\ta\n\r\r\n\tb\n") ≡ (codes "4: make may take this for a recipe line: an opaque line above is empty for make\n")
+unfolding digits
+row_caveats_below_stray_returns_inside_a_recipe = refl
+
+row_caveats_below_a_form_feed_and_an_assignment : caveats_text (codes "t:\n\ta\n\u{c}\nX = 1\n\tY = 2\n") ≡ []
+unfolding digits
+row_caveats_below_a_form_feed_and_an_assignment = refl
+
+row_caveats_below_a_form_feed_and_another_opaque_line : caveats_text (codes "t:\n\u{c}\n$(call f)\n\tb\n") ≡ []
+unfolding digits
+row_caveats_below_a_form_feed_and_another_opaque_line = refl
+
+row_caveats_below_a_conditional_that_a_rule_stands_above : caveats_text (codes "t:\nifdef Z\nX = 1\nendif\n\tY = 2\n") ≡ (codes "5: make may take this for a recipe line: it may skip the conditional above\n")
+unfolding digits
+row_caveats_below_a_conditional_that_a_rule_stands_above = refl
+
+row_caveats_below_an_opaque_line_of_a_conditional : caveats_text (codes "t:\nifdef Z\n$(info)\nendif\n\tb\n\n\t# c\n") ≡ (codes "5: make may take this for a recipe line: it may skip the conditional above\n7: make may take this for a recipe line: it may skip the conditional above\n")
+unfolding digits
+row_caveats_below_an_opaque_line_of_a_conditional = refl
+
+row_caveats_below_a_conditional_inside_a_recipe : caveats_text (codes "t:\nifdef Z\n\ta\nendif\n\tb\n") ≡ []
+unfolding digits
+row_caveats_below_a_conditional_inside_a_recipe = refl
+
+row_caveats_below_a_conditional_after_an_assignment : caveats_text (codes "t:\nX = 1\nifdef Z\nX = 2\nendif\n\tY = 2\n") ≡ []
+unfolding digits
+row_caveats_below_a_conditional_after_an_assignment = refl
+
+row_caveats_of_a_define_after_a_form_feed : caveats_text (codes "\u{c}define D\nX = 1\nendef\n") ≡ (codes "1: make may begin a define here\n")
+unfolding digits
+row_caveats_of_a_define_after_a_form_feed = refl
+
+row_caveats_of_a_define_after_returns : caveats_text (codes "\r\rdefine D\nX = 1\nendef\n") ≡ (codes "1: make may begin a define here\n")
+unfolding digits
+row_caveats_of_a_define_after_returns = refl
+
+row_caveats_of_a_define_below_an_opaque_line : caveats_text (codes "$(info)\n\tdefine D\nX = 1\nendef\n") ≡ (codes "2: make may begin a define here\n")
+unfolding digits
+row_caveats_of_a_define_below_an_opaque_line = refl
+
+row_caveats_of_an_assignment_below_an_opaque_line : caveats_text (codes "X = 2\n$(call f)\n\tX = 1\n") ≡ (codes "3: make may set a variable here that no edit finds\n")
+unfolding digits
+row_caveats_of_an_assignment_below_an_opaque_line = refl
+
+row_caveats_of_an_assignment_after_a_form_feed : caveats_text (codes "X = 2\n\u{c}X = 1\n") ≡ (codes "2: make may set a variable here that no edit finds\n")
+unfolding digits
+row_caveats_of_an_assignment_after_a_form_feed = refl
+
+row_caveats_of_a_prefix_set_through_a_reference : caveats_text (codes "P = .RECIPEPREFIX\n$(P) = >\nt:\n>x\n") ≡ (codes "2: make may set the recipe prefix here\n")
+unfolding digits
+row_caveats_of_a_prefix_set_through_a_reference = refl
+
+row_caveats_of_references_in_other_names_and_values : caveats_text (codes "$(P)_a = >\n$(P) = ab\nP = >\n") ≡ []
+unfolding digits
+row_caveats_of_references_in_other_names_and_values = refl
+
+row_caveats_of_an_else_inside_a_recipe_in_a_conditional : caveats_text (codes "W = 1\nifndef W\nt:\n\telse\nendif\n") ≡ (codes "4: make may obey this as a line of a conditional\n")
+unfolding digits
+row_caveats_of_an_else_inside_a_recipe_in_a_conditional = refl
+
+row_caveats_of_an_endif_below_an_opaque_line : caveats_text (codes "ifdef Z\n$(info)\n\tendif # c\nX = 2\n") ≡ (codes "3: make may obey this as a line of a conditional\n")
+unfolding digits
+row_caveats_of_an_endif_below_an_opaque_line = refl
+
+row_caveats_of_an_else_below_a_rule_above_the_conditional : caveats_text (codes "t:\nifdef Z\n\telse\n\tX\nendif\n") ≡ []
+unfolding digits
+row_caveats_of_an_else_below_a_rule_above_the_conditional = refl
+
+row_caveats_of_an_else_outside_of_conditionals : caveats_text (codes "t:\n\telse\n") ≡ []
+unfolding digits
+row_caveats_of_an_else_outside_of_conditionals = refl
+
+row_caveats_of_an_ifdef_after_a_form_feed : caveats_text (codes "\u{c}ifdef Z\nX = 1\n") ≡ (codes "1: make may obey this as a line of a conditional\n")
+unfolding digits
+row_caveats_of_an_ifdef_after_a_form_feed = refl
+
+row_caveats_of_lines_below_one_that_is_below_a_conditional : caveats_text (codes "t:\nifdef Z\nX = 1\nendif\n\tY = 2\n\tinclude f\nX = 2\n\tY = 3\n") ≡ (codes "5: make may take this for a recipe line: it may skip the conditional above\n6: make may take this for a recipe line: it may skip the conditional above\n")
+unfolding digits
+row_caveats_of_lines_below_one_that_is_below_a_conditional = refl
+
+row_caveats_of_a_define_after_a_byte_order_mark : caveats_text (codes "ï»¿define D\nX = 1\nendef\n") ≡ (codes "1: make may begin a define here\n")
+unfolding digits
+row_caveats_of_a_define_after_a_byte_order_mark = refl

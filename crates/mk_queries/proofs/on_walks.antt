@@ -3,3 +3,4 @@ pub mod SaidLemmas
 pub mod UnreadLemmas
 pub mod VariableLemmas
 pub mod RuleLemmas
+pub mod CaveatLemmas

@@ -9,3 +9,4 @@ pub mod PlacedTexts
 pub mod Walks
 -- The queries
 pub mod Queries
+pub mod Caveats

@@ -1,9 +1,11 @@
 -- Walks over the lines of a document: what they say of the lines ahead.
 use Rattle.std.specs.Prelude.{◌==◌, ℕ, ◌+◌, if◌then◌else◌, Option, List, [], ◌∷◌, ◌++◌, codes, decimal}
-use Rattle.mk_class.specs.Contexts.{Context, context_after_places}
+use Rattle.mk_class.specs.Contexts.{Context, context_after_places, flag_after_places}
 use Rattle.mk_class.specs.declared.class.Class as class
 use Rattle.mk_class.specs.declared.class.Class.TheVariants as variants
 use Rattle.mk_tree.specs.PlacedLines.{PlacedLine, text_of_line}
+use Rattle.mk_queries.specs.declared.seen.Seen.{Seen}
+use Rattle.mk_queries.specs.Caveats.{caveat_of, caveat_text, tells_make, tells_outside}
 use Rattle.mk_queries.specs.PlacedTexts.{variable_placed, count_placed, rule_placed, counted_after}
 
 -- how many line feeds there are in a text
@@ -43,3 +45,17 @@ variables_ahead n c ls = said_ahead (λ n c l. variable_placed n c.conditionals 
 abbrev pub rules_ahead : (number : ℕ) → Context → (counted : Option ℕ) → List PlacedLine → List ℕ
 rules_ahead n c o [] = count_placed o
 rules_ahead n c o (l ∷ ls) = rule_placed n c.conditionals o (text_of_line l) l.class ++ rules_ahead (n + line_feeds l.bytes) (context_after_places c l.class) (counted_after o l.class) ls
+
+-- ---- caveats
+
+-- the flags that a line leaves, which stands in a context
+abbrev pub seen_after : Context → Seen → PlacedLine → Seen
+seen_after c s l = record {
+  for_make = if tells_make c l then flag_after_places s.for_make l.class else s.for_make;
+  outside = if tells_outside c l then flag_after_places s.outside l.class else s.outside;
+}
+
+-- what is said of some lines, the first of which has this number and stands in this context, below lines that leave these flags
+abbrev pub caveats_ahead : (number : ℕ) → Context → Seen → List PlacedLine → List ℕ
+caveats_ahead n c s [] = []
+caveats_ahead n c s (l ∷ ls) = caveat_text n (caveat_of c s l) ++ caveats_ahead (n + line_feeds l.bytes) (context_after_places c l.class) (seen_after c s l) ls

@@ -3,9 +3,10 @@
 //! - [`vars`]: a line of text on each assignment.
 //! - [`rules`]: a line of text on each rule.
 //! - [`check`]: a line of text on each line that is not read inside, and what is open at the end.
+//! - [`caveats`]: a line of text on each line that make may read otherwise, as far as the lines show it.
 //!
-//! A query walks over the lines of a document, reads no line anew and takes no memory. The formats
-//! are this project's profile.
+//! A query walks over the lines of a document and takes no memory. [`caveats`] reads each opaque line
+//! once more; no other query reads a line anew. The formats are this project's profile.
 //!
 //! The modules, lowest first:
 //!
@@ -17,17 +18,26 @@
 //! - `unread`: the query [`check`].
 //! - `variables`: the query [`vars`].
 //! - `headers`: the query [`rules`].
+//! - `make_word`: the first word of a line, as make finds it.
+//! - `seen`: what the lines above tell of rules, where make passes some of them.
+//! - `caveat`: what make may read in a line otherwise.
+//! - `otherwise`: the query [`caveats`].
 #![tactic(auto)]
 
+mod caveat;
 mod gathering;
 mod headers;
 mod line_part;
+mod make_word;
+mod otherwise;
 mod place;
+mod seen;
 mod spacing;
 mod targets;
 mod unread;
 mod variables;
 
 pub use headers::rules;
+pub use otherwise::caveats;
 pub use unread::check;
 pub use variables::vars;

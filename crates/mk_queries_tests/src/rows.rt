@@ -4,7 +4,7 @@ ghost use Rattle.std.specs.Prelude.{◌≡◌, false};
 ghost use Rattle.mk_tree.specs.Documents.{IsFaithful};
 
 use mk_lines::{ByteSink, Fault};
-use mk_queries::{check, rules, vars};
+use mk_queries::{caveats, check, rules, vars};
 use mk_tree::Doc;
 use std::alloc::Allocator;
 
@@ -14,6 +14,7 @@ pub enum Query {
     Vars,
     Rules,
     Check,
+    Caveats,
 }
 
 impl Query {
@@ -26,6 +27,7 @@ impl Query {
             Query::Vars => vars(doc, out),
             Query::Rules => rules(doc, out),
             Query::Check => check(doc, out),
+            Query::Caveats => caveats(doc, out),
         }
     }
 }
@@ -37,7 +39,7 @@ pub struct Row {
     pub text: &'static [u8],
 }
 
-pub static ROWS: [Row; 34] = [
+pub static ROWS: [Row; 41] = [
     // vars of an empty file
     Row {
         query: Query::Vars,
@@ -241,5 +243,47 @@ pub static ROWS: [Row; 34] = [
         query: Query::Check,
         makefile: b"A = 1\\\n2\n$(x)\n\n| a: b\n",
         text: b"3: opaque\n5: rough\n",
+    },
+    // caveats below a form feed inside a recipe
+    Row {
+        query: Query::Caveats,
+        makefile: b"t:\n\ta\n\x0c\n\tb\n\tc\n",
+        text: b"4: make may take this for a recipe line: an opaque line above is empty for make\n5: make may take this for a recipe line: an opaque line above is empty for make\n",
+    },
+    // caveats below a conditional that a rule stands above
+    Row {
+        query: Query::Caveats,
+        makefile: b"t:\nifdef Z\nX = 1\nendif\n\tY = 2\n",
+        text: b"5: make may take this for a recipe line: it may skip the conditional above\n",
+    },
+    // caveats of a define after a byte order mark
+    Row {
+        query: Query::Caveats,
+        makefile: b"\xef\xbb\xbfdefine D\nendef\n",
+        text: b"1: make may begin a define here\n",
+    },
+    // caveats of an assignment below an opaque line
+    Row {
+        query: Query::Caveats,
+        makefile: b"X = 2\\\n3\n$(call f)\n\tX = 1\n",
+        text: b"4: make may set a variable here that no edit finds\n",
+    },
+    // caveats of a prefix set through a reference
+    Row {
+        query: Query::Caveats,
+        makefile: b"P = .RECIPEPREFIX\n$(P) = >\n",
+        text: b"2: make may set the recipe prefix here\n",
+    },
+    // caveats of an else inside a recipe in a conditional
+    Row {
+        query: Query::Caveats,
+        makefile: b"ifndef W\nt:\n\telse\nendif\n",
+        text: b"3: make may obey this as a line of a conditional\n",
+    },
+    // caveats of a clean file
+    Row {
+        query: Query::Caveats,
+        makefile: b"A = 1\na: b\n\tc\n",
+        text: b"",
     },
 ];

@@ -112,6 +112,11 @@ fn long_texts_go_out_in_few_writes(rt: HostRuntime) -> Result<(), Fail> {
         (Query::Vars, b"X=1\n".as_slice(), ":0: X = 1"),
         (Query::Rules, b"a b:: c\n".as_slice(), ":0: a b:: c [0]"),
         (Query::Check, b"$(x)\n".as_slice(), ": opaque"),
+        (
+            Query::Caveats,
+            b"\x0cX=1\n".as_slice(),
+            ": make may set a variable here that no edit finds",
+        ),
     ] {
         assert!(rt; goes_out_in_few_writes(&rt, query, line, said)?);
     }

@@ -1,10 +1,12 @@
 -- What a query prints of the text of a makefile.
 use Rattle.std.specs.Prelude.{ℕ, List}
 use Rattle.mk_queries.specs.Queries.{vars_text, rules_text, check_text}
+use Rattle.mk_queries.specs.Caveats.{caveats_text}
 use Rattle.mkedit.specs.declared.query.Query.{Query}
-use Rattle.mkedit.specs.declared.query.Query.TheVariants.{Vars, Rules, Check}
+use Rattle.mkedit.specs.declared.query.Query.TheVariants.{Vars, Rules, Check, Caveats}
 
 abbrev pub query_text : Query → List ℕ → List ℕ
 query_text Vars text = vars_text text
 query_text Rules text = rules_text text
 query_text Check text = check_text text
+query_text Caveats text = caveats_text text

@@ -40,6 +40,8 @@ const RULES: &str = "rules";
 
 const CHECK: &str = "check";
 
+const CAVEATS: &str = "caveats";
+
 const EXPLAIN: &str = "explain";
 
 const SCRIPT: &str = "SCRIPT";
@@ -155,6 +157,7 @@ fn command_line<'a>(alloc: Global) -> Result<Command<'a>, AllocError> {
         .subcommand(query_command(alloc, VARS, help::ABOUT_VARS, help::VARS)?)?
         .subcommand(query_command(alloc, RULES, help::ABOUT_RULES, help::RULES)?)?
         .subcommand(query_command(alloc, CHECK, help::ABOUT_CHECK, help::CHECK)?)?
+        .subcommand(query_command(alloc, CAVEATS, help::ABOUT_CAVEATS, help::CAVEATS)?)?
         .subcommand(explain_command(alloc)?)
 }
 
@@ -166,6 +169,8 @@ fn query_of(name: &str) -> Option<Query> {
         Some(Query::Rules)
     } else if name == CHECK {
         Some(Query::Check)
+    } else if name == CAVEATS {
+        Some(Query::Caveats)
     } else {
         None
     }

@@ -89,6 +89,22 @@ prints
     end: conditionals 1
 ";
 
+/// What `caveats` does, in a line.
+pub const ABOUT_CAVEATS: &str = "Lists the lines of a makefile that make may read otherwise";
+
+/// Below the help of `caveats`.
+pub const CAVEATS: &str = "\
+A line for each line that make may read otherwise than mkedit does: the number of the line, and what
+make may do with it. Look at these lines before an edit. docs/LANGUAGE.md has what each sentence means,
+and what else make may read otherwise, of which nothing is said here.
+
+Example: with `all:`, `ifdef DEBUG`, `X = 1`, `endif` and a line of a tab and `Y = 2` in a Makefile,
+    mkedit caveats Makefile
+prints
+    5: make may take this for a recipe line: it may skip the conditional above
+since make skips `X = 1` where DEBUG is not set, and then the tab begins a recipe line of all.
+";
+
 /// What `explain` does, in a line.
 pub const ABOUT_EXPLAIN: &str = "Says why a command is refused, and what to do then";
 

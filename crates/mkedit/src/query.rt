@@ -1,4 +1,5 @@
-//! `mkedit vars`, `mkedit rules` and `mkedit check`: what a makefile has, a line for each thing.
+//! `mkedit vars`, `mkedit rules`, `mkedit check` and `mkedit caveats`: what a makefile has, a line for
+//! each thing.
 ghost use Rattle.std.specs.Prelude.{◌≡◌, ◌↔◌, ◌<◌, ◌||◌, ◌^◌, ℕ, List, IsTrue, IfOk, IfErr, IfSome, OnOk, OnErr, false, true, length, is_ok};
 ghost use Rattle.std.specs.Io.KnownBytes.{Appends};
 ghost use Rattle.mk_lines.specs.Device.{AppendsPrefix, count_if};
@@ -9,7 +10,7 @@ ghost use Rattle.mkedit.specs.QueryTexts.{query_text};
 use crate::files::{CannotOpen, open};
 use mk_lines::source::read_all;
 use mk_lines::{ByteSink, ByteSource, Fault, StdSink, StdSource};
-use mk_queries::{check, rules, vars};
+use mk_queries::{caveats, check, rules, vars};
 use mk_run::Outcome;
 use mk_session::Session;
 use mk_tree::Doc;
@@ -27,6 +28,8 @@ pub enum Query {
     Rules,
     /// The lines that are kept and not read inside.
     Check,
+    /// The lines that make may read otherwise.
+    Caveats,
 }
 
 // Writes the answer, and flushes it once.
@@ -44,6 +47,7 @@ fn put_out<A: Allocator, W: ByteSink>(query: Query, doc: &Doc<A>, out: &mut W) -
         Query::Vars => vars(doc, out)?,
         Query::Rules => rules(doc, out)?,
         Query::Check => check(doc, out)?,
+        Query::Caveats => caveats(doc, out)?,
     }
     out.flush()
 }

@@ -1,0 +1,158 @@
+//! What make may read in a line otherwise than it is read here.
+ghost use Rattle.std.specs.Prelude.{◌≡◌};
+ghost use Rattle.mk_lines.specs.Cells.{joined_byte};
+ghost use Rattle.mk_class.specs.ClassPlaces.{class_places};
+ghost use Rattle.mk_class.specs.ClassTable.{class_of};
+ghost use Rattle.mk_class.specs.Contexts.{start};
+ghost use Rattle.mk_tree.specs.PlacedLines.{text_of_line};
+ghost use Rattle.mk_tree.specs.Trees.{line_view};
+ghost use Rattle.mk_queries.specs.Caveats.{assignment_caveat, caveat_of, is_assignment, named_caveat, opaque_caveat, recipe_caveat, sentence, skipped_caveat, word_caveat};
+ghost use Rattle.mk_queries.specs.PlacedTexts.{IsClassedIn};
+
+use crate::line_part::{part, text_of_line};
+use crate::make_word::{is_text, make_word};
+use crate::seen::{Seen, is_led, is_other, is_rule};
+use mk_class::{Class, Context, Meter, class_with_cells};
+use mk_lines::after_first_unit;
+use mk_tree::Line;
+use std::alloc::Allocator;
+
+/// What make may read in a line otherwise than it is read here.
+#[derive(Clone, Copy)]
+pub(crate) enum Caveat {
+    /// A recipe line, since make takes an opaque line above for empty.
+    AfterEmpty,
+    /// A recipe line, since make may skip the lines of the conditional above.
+    AfterConditional,
+    /// A line of a conditional.
+    Conditional,
+    /// The line that begins a define.
+    Define,
+    /// An assignment that no edit finds.
+    Assignment,
+    /// An assignment of the recipe prefix.
+    Prefix,
+}
+
+impl Caveat {
+    /// What is said of it.
+    pub(crate) fn sentence(self) -> &'static [u8]
+        ensures { result.now ≡ sentence self }
+    {
+        match self {
+            Caveat::AfterEmpty => {
+                b"make may take this for a recipe line: an opaque line above is empty for make"
+            }
+            Caveat::AfterConditional => {
+                b"make may take this for a recipe line: it may skip the conditional above"
+            }
+            Caveat::Conditional => b"make may obey this as a line of a conditional",
+            Caveat::Define => b"make may begin a define here",
+            Caveat::Assignment => b"make may set a variable here that no edit finds",
+            Caveat::Prefix => b"make may set the recipe prefix here",
+        }
+    }
+}
+
+// The caveat of a line as a recipe line.
+fn recipe_caveat<A: Allocator>(context: Context, seen: Seen, line: &Line<A>) -> Option<Caveat>
+    ensures { result ≡ recipe_caveat context seen (line_view line.now) }
+{
+    let class = line.class();
+    if !is_led(context, line) {
+        None
+    } else if matches!(class, Class::Opaque) && is_rule(seen.for_make) {
+        Some(Caveat::AfterEmpty)
+    } else if is_other(&class) && context.conds() == 0 && is_rule(seen.outside) {
+        Some(Caveat::AfterConditional)
+    } else {
+        None
+    }
+}
+
+// The caveat of a recipe line with this first word.
+fn skipped_caveat(word: &[u8]) -> Option<Caveat>
+    ensures { result ≡ skipped_caveat word.now }
+{
+    let is_conditional = is_text(word, b"ifeq")
+        || is_text(word, b"ifneq")
+        || is_text(word, b"ifdef")
+        || is_text(word, b"ifndef")
+        || is_text(word, b"else")
+        || is_text(word, b"endif");
+    is_conditional.then_some(Caveat::Conditional)
+}
+
+// The caveat of an opaque line with this first word.
+fn opaque_caveat(word: &[u8]) -> Option<Caveat>
+    ensures { result ≡ opaque_caveat word.now }
+{
+    if is_text(word, b"define") {
+        Some(Caveat::Define)
+    } else {
+        skipped_caveat(word)
+    }
+}
+
+// The caveat of a line of this class by its first word.
+fn word_caveat(context: Context, seen: Seen, class: &Class, word: &[u8]) -> Option<Caveat>
+    ensures { result ≡ word_caveat context seen class.now word.now }
+{
+    match class {
+        Class::Opaque => opaque_caveat(word),
+        Class::Recipe if 0 < context.conds() && !is_rule(seen.outside) => skipped_caveat(word),
+        _ => None,
+    }
+}
+
+// The caveat of an assignment with this name and value.
+fn named_caveat(name: &[u8], value: &[u8]) -> Option<Caveat>
+    ensures { result ≡ named_caveat name.now value.now }
+{
+    match name {
+        [b'\x0b' | b'\x0c', ..] => Some(Caveat::Assignment),
+        [b'$', ..] if after_first_unit(name).is_empty() && value.len() == 1 => Some(Caveat::Prefix),
+        _ => None,
+    }
+}
+
+// Whether an opaque line would be an assignment as the first line of a text.
+fn is_unread_assignment<A: Allocator>(line: &Line<A>) -> bool
+    ensures { result ≡ is_assignment (class_places joined_byte (class_of start (line_view line.now).bytes)) }
+{
+    let read = class_with_cells(
+        line.bytes(),
+        line.cells(),
+        Context::start(),
+        &mut Meter::new(),
+    );
+    matches!(read, Ok((Class::Assign(..), _)))
+}
+
+// The caveat of a line as an assignment.
+fn assignment_caveat<A: Allocator>(context: Context, line: &Line<A>) -> Option<Caveat>
+    requires { IsClassedIn context (line_view line.now) }
+    ensures { result ≡ assignment_caveat (line_view line.now).bytes (text_of_line (line_view line.now)) (line_view line.now).class }
+{
+    let text = text_of_line(line);
+    match line.class() {
+        Class::Opaque => is_unread_assignment(line).then_some(Caveat::Assignment),
+        Class::Assign(at, _) => named_caveat(part(text, at.name), part(text, at.value)),
+        _ => None,
+    }
+}
+
+/// The caveat of a line that stands in a context, below lines that leave these flags.
+pub(crate) fn caveat_of<A: Allocator>(
+    context: Context,
+    seen: Seen,
+    line: &Line<A>,
+) -> Option<Caveat>
+    requires { IsClassedIn context (line_view line.now) }
+    ensures { result ≡ caveat_of context seen (line_view line.now) }
+{
+    let word = make_word(text_of_line(line));
+    recipe_caveat(context, seen, line)
+        .or(word_caveat(context, seen, &line.class(), word))
+        .or(assignment_caveat(context, line))
+}

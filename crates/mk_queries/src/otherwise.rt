@@ -1,0 +1,81 @@
+//! The query `caveats`: the lines that make may read otherwise.
+ghost use Rattle.std.specs.Prelude.{◌≡◌, ◌++◌, false, true, IfErr, OnOk};
+ghost use Rattle.std.specs.Io.KnownBytes.{Appends};
+ghost use Rattle.mk_lines.specs.Device.{AppendsPrefix};
+ghost use Rattle.mk_tree.specs.Documents.{IsFaithful};
+ghost use Rattle.mk_tree.specs.PlacedLines.{placed_text};
+ghost use Rattle.mk_tree.specs.Printing.{AppendsSoFar};
+ghost use Rattle.mk_queries.specs.Caveats.{caveat_text, caveats_text};
+
+use crate::caveat::{Caveat, caveat_of};
+use crate::gathering::put_parts;
+use crate::place::line_feeds;
+use crate::seen::Seen;
+use mk_lines::Fault;
+use mk_lines::sink::{ByteSink, write_all};
+use mk_tree::Doc;
+use mk_tree::gathering::Gathered;
+use std::alloc::Allocator;
+
+// Puts what is said of a line of this number behind the texts that are held back, where it has a caveat.
+fn put_caveat<W: ByteSink>(
+    gathered: &mut Gathered,
+    out: &mut W,
+    number: usize,
+    caveat: Option<Caveat>,
+) -> Result<(), Fault>
+    requires { W.failed out.old ≡ false }
+    ensures whole { OnOk result (AppendsSoFar (W.contents out.old) (W.contents out.new) (gathered.old.items ++ caveat_text number caveat) gathered.new.items) }
+    ensures prefix { AppendsPrefix (W.contents out.old) (W.contents out.new) (gathered.old.items ++ caveat_text number caveat) }
+    ensures works { OnOk result (W.failed out.new ≡ false) }
+    ensures fault { IfErr result (λ e. (e ≡ Fault.Write) × (W.failed out.new ≡ true)) }
+    ensures unflushed { W.flushes out.new ≡ W.flushes out.old }
+{
+    let Some(caveat) = caveat else {
+        return Ok(());
+    };
+    let mut digits = itoa::Buffer::new();
+    let number = digits.format(number).as_bytes();
+    put_parts(gathered, out, &[number, b": ", caveat.sentence(), b"\n"])
+}
+
+/// Writes a line of text on each line of the makefile that make may read otherwise than it is read here,
+/// as far as its class, its first word and the lines above show it. Nothing is flushed. Takes no memory.
+///
+/// The number that stands before the sentence is that of the line's first physical line, from 1:
+///
+/// ```text
+/// 5: make may take this for a recipe line: it may skip the conditional above
+/// 9: make may begin a define here
+/// ```
+///
+/// A makefile of which nothing is said may still mean something else to make: `docs/LANGUAGE.md` has what
+/// is known, in its chapter "Where make reads otherwise", and of which of it this query tells. An
+/// opaque line is read once more.
+///
+/// It asks for a faithful document.
+///
+/// # Errors
+///
+/// [`Fault::Write`] where a write answered it or took nothing. A prefix of the text is out then.
+pub fn caveats<A: Allocator, W: ByteSink>(doc: &Doc<A>, out: &mut W) -> Result<(), Fault>
+    requires faithful { IsFaithful doc.now }
+    requires works { W.failed out.old ≡ false }
+    ensures whole { OnOk result (Appends (W.contents out.old) (W.contents out.new) (caveats_text (placed_text doc.now))) }
+    ensures prefix { AppendsPrefix (W.contents out.old) (W.contents out.new) (caveats_text (placed_text doc.now)) }
+    ensures works { OnOk result (W.failed out.new ≡ false) }
+    ensures fault { IfErr result (λ e. (e ≡ Fault.Write) × (W.failed out.new ≡ true)) }
+    ensures unflushed { W.flushes out.new ≡ W.flushes out.old }
+{
+    // The contract of `size` says that the lines are within the limit, and so is each number.
+    let _size = doc.size();
+    let mut gathered = Gathered::new();
+    let mut number = 1;
+    let mut seen = Seen::start();
+    'lines: for (context, line) in doc.lines_with_contexts() {
+        put_caveat(&mut gathered, out, number, caveat_of(context, seen, line))?;
+        seen = seen.below(context, line);
+        number += line_feeds(line.bytes());
+    }
+    write_all(out, &gathered)
+}

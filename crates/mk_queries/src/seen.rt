@@ -1,0 +1,109 @@
+//! What the lines above tell of rules, where make passes some of them.
+ghost use Rattle.std.specs.Prelude.{◌≡◌, []};
+ghost use Rattle.mk_class.specs.Contexts.{flag_after_places};
+ghost use Rattle.mk_class.specs.RecipePrefix.{is_prefix_led};
+ghost use Rattle.mk_tree.specs.Trees.{line_view};
+ghost use Rattle.mk_queries.specs.Caveats.{is_empty_for_make, is_other, is_other_led, is_rule, seen_above};
+ghost use Rattle.mk_queries.specs.Walks.{seen_after};
+
+use crate::line_part::text_of_line;
+use crate::make_word::make_word;
+use mk_class::{Class, Context, Flag};
+use mk_tree::Line;
+use std::alloc::Allocator;
+
+/// The flags that the lines above leave, where some of them are left out.
+#[derive(Clone, Copy)]
+pub(crate) struct Seen {
+    /// Without the opaque lines that make takes for empty.
+    pub for_make: Flag,
+    /// Without the lines inside of conditionals.
+    pub outside: Flag,
+}
+
+impl Seen {
+    /// Above the first line nothing is left out, and no rule is open.
+    pub(crate) fn start() -> Seen
+        ensures { result ≡ seen_above [] }
+    {
+        Seen {
+            for_make: Flag::Off,
+            outside: Flag::Off,
+        }
+    }
+
+    /// The flags below a line, which stands in a context.
+    pub(crate) fn below<A: Allocator>(self, context: Context, line: &Line<A>) -> Seen
+        ensures { result ≡ seen_after context self (line_view line.now) }
+    {
+        let class = line.class();
+        let is_other = is_other_led(context, line);
+        let tells_make = !(is_other || is_empty_for_make(line));
+        let tells_outside = !is_other && context.conds() == 0;
+        Seen {
+            for_make: if tells_make {
+                flag_after(self.for_make, &class)
+            } else {
+                self.for_make
+            },
+            outside: if tells_outside {
+                flag_after(self.outside, &class)
+            } else {
+                self.outside
+            },
+        }
+    }
+}
+
+// The flag after a line of this class.
+fn flag_after(flag: Flag, class: &Class) -> Flag
+    ensures { result ≡ flag_after_places flag class.now }
+{
+    match class {
+        Class::Header(_) | Class::Rough | Class::Recipe => Flag::Rule,
+        Class::Opaque => Flag::Unknown,
+        Class::Blank | Class::Comment | Class::If | Class::Else | Class::Endif => flag,
+        _ => Flag::Off,
+    }
+}
+
+/// Whether a flag says that a rule is open.
+pub(crate) fn is_rule(flag: Flag) -> bool
+    ensures { result ≡ is_rule flag }
+{
+    matches!(flag, Flag::Rule)
+}
+
+/// Whether a line begins with the recipe prefix of its context.
+pub(crate) fn is_led<A: Allocator>(context: Context, line: &Line<A>) -> bool
+    ensures { result ≡ is_prefix_led context.prefix (line_view line.now).bytes }
+{
+    let prefix = context.prefix();
+    matches!(line.bytes(), [first, ..] if *first == prefix)
+}
+
+/// Whether a line of this class, which begins with the recipe prefix, is no recipe line, no line of a
+/// define, no blank and no comment.
+pub(crate) fn is_other(class: &Class) -> bool
+    ensures { result ≡ is_other class.now }
+{
+    matches!(
+        class,
+        Class::Opaque | Class::Assign(..) | Class::DefineHead(_) | Class::If | Class::Directive
+    )
+}
+
+// Whether a line is such a line, and begins with the recipe prefix.
+fn is_other_led<A: Allocator>(context: Context, line: &Line<A>) -> bool
+    ensures { result ≡ is_other_led context (line_view line.now) }
+{
+    is_led(context, line) && is_other(&line.class())
+}
+
+// Whether make takes a line, which is opaque, for empty: it finds no word but that of a comment.
+fn is_empty_for_make<A: Allocator>(line: &Line<A>) -> bool
+    ensures { result ≡ is_empty_for_make (line_view line.now) }
+{
+    matches!(line.class(), Class::Opaque)
+        && matches!(make_word(text_of_line(line)), [] | [b'#', ..])
+}
