@@ -1,21 +1,16 @@
 -- Lemmas of the tests of arguments: some, each, the first and the last byte of a text.
 use Rattle.std.proofs.Common.{◌≡◌, refl, ap, ◌∙◌, ℕ, suc, ◌-◌, ◌≤◌, Bool, true, false, not, ◌&&◌, ◌||◌, List, [], ◌∷◌, length, get_or, arith}
 use Rattle.std.specs.List.{list_any, list_all}
-use Rattle.mk_class.specs.Lists.{any, last_passes}
-
--- this crate's `any` and std's `list_any`
-pub any-list_any : (p : ℕ → Bool) (xs : List ℕ) → any p xs ≡ list_any p xs
-any-list_any p [] = refl
-any-list_any p (x ∷ xs) = ap (λ c. p x || c) (any-list_any p xs)
+use Rattle.mk_class.specs.Lists.{last_passes}
 
 not_or : (a b c : Bool) → not b ≡ c → not (not a || b) ≡ (a && c)
 not_or true b c h = h
 not_or false b c h = refl
 
 -- each element passes if none fails
-pub not_any-list_all : (p : ℕ → Bool) (xs : List ℕ) → not (any (λ x. not (p x)) xs) ≡ list_all p xs
+pub not_any-list_all : (p : ℕ → Bool) (xs : List ℕ) → not (list_any (λ x. not (p x)) xs) ≡ list_all p xs
 not_any-list_all p [] = refl
-not_any-list_all p (x ∷ xs) = not_or (p x) (any (λ y. not (p y)) xs) (list_all p xs) (not_any-list_all p xs)
+not_any-list_all p (x ∷ xs) = not_or (p x) (list_any (λ y. not (p y)) xs) (list_all p xs) (not_any-list_all p xs)
 
 -- the last element passes if the element at the last place does
 pub last_passes-at : (p : ℕ → Bool) (xs : List ℕ) → 1 ≤ length xs → last_passes p xs ≡ p (get_or xs (length xs - 1) 0)

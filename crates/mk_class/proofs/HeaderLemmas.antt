@@ -1,11 +1,12 @@
 -- Lemmas of the readers of headers.
 use Rattle.std.proofs.Common.{◌≡◌, refl, sym, ap, ◌∙◌, ℕ, List, [], ◌∷◌, Bool, true, false, not, ◌||◌, subst, length, take, drop, get_or, ◌-◌, ◌≤◌, ◌==◌, cond, eq-eqb, Bor}
+use Rattle.std.specs.List.{list_any}
 use Rattle.std.specs.Prelude.{MatchOption, Option}
 use Rattle.std.proofs.lemmas.Bool.{eqb-true}
 use Rattle.std.proofs.Math.Bool.{not-not, or-false}
 use Rattle.mk_lines.specs.Lists.{leading}
 use Rattle.mk_lines.specs.Units.Mark.{Dollar, Escape, OpenParen, CloseParen, OpenBrace, CloseBrace, Unmarked}
-use Rattle.mk_class.specs.Lists.{first_passes, any}
+use Rattle.mk_class.specs.Lists.{first_passes}
 use Rattle.mk_class.specs.Symbols.{Symbol, byte_symbol, is_hash, is_colon, is_bar, is_equals_symbol, is_hash_symbol, is_colon_symbol, is_semicolon_symbol, is_bar_symbol, is_equals, is_escape, is_dollar_before_blank}
 use Rattle.mk_class.specs.Symbols.Symbol.{Hash, Colon, Semicolon, Equals, Plus, Question, Exclamation, Bar, Ampersand, NoSymbol}
 use Rattle.mk_class.proofs.on_symbols.SymbolLemmas.{symbol_byte, byte_symbol-byte, equals_symbol-is, hash_symbol-is, colon_symbol-is, semicolon_symbol-is, bar_symbol-is}
@@ -78,18 +79,18 @@ lone_backslash (x ∷ []) h = escape_mark x h
 lone_backslash (x ∷ y ∷ u) h = cc
 
 -- a unit may stand in no word where it is amiss or leaves the text open
-unreadable-open : (us : List (List ℕ)) → has_unreadable itself us ≡ (any is_amiss us || leaves_open itself us)
+unreadable-open : (us : List (List ℕ)) → has_unreadable itself us ≡ (list_any is_amiss us || leaves_open itself us)
 unreadable-open [] = refl
 unreadable-open (u ∷ []) = escape_test (is_equals itself u) (is_escape itself u) (is_dollar_before_blank itself u) (is_unclosed_unit itself u) (is_lone_backslash itself u) (lone_backslash u)
 unreadable-open (u ∷ v ∷ us) =
     ap (λ z. (is_equals itself u || (is_escape itself u || (is_dollar_before_blank itself u || is_unclosed_unit itself u))) || z) (unreadable-open (v ∷ us))
-    ∙ more_tests (is_equals itself u) (is_escape itself u) (is_dollar_before_blank itself u) (is_unclosed_unit itself u) (any is_amiss (v ∷ us)) (leaves_open itself (v ∷ us))
+    ∙ more_tests (is_equals itself u) (is_escape itself u) (is_dollar_before_blank itself u) (is_unclosed_unit itself u) (list_any is_amiss (v ∷ us)) (leaves_open itself (v ∷ us))
 
 -- a text that is amiss, and one that is not
-pub unreadable-amiss : (t : List ℕ) → any is_amiss (units itself t) ≡ true → true ≡ has_unreadable itself (units itself t)
+pub unreadable-amiss : (t : List ℕ) → list_any is_amiss (units itself t) ≡ true → true ≡ has_unreadable itself (units itself t)
 unreadable-amiss t h = sym (unreadable-open (units itself t) ∙ ap (λ z. z || leaves_open itself (units itself t)) h)
 
-pub unreadable-closed : (t : List ℕ) → any is_amiss (units itself t) ≡ false → not (is_closed itself t) ≡ has_unreadable itself (units itself t)
+pub unreadable-closed : (t : List ℕ) → list_any is_amiss (units itself t) ≡ false → not (is_closed itself t) ≡ has_unreadable itself (units itself t)
 unreadable-closed t h =
     ap not (is_closed-leaves_open itself t)
     ∙ (not-not (leaves_open itself (units itself t))
@@ -165,7 +166,7 @@ is_in_head-byte [] = refl
 is_in_head-byte (x ∷ []) = ap not (ap (λ z. z || ((35 == x) || false)) (semicolon-test x) ∙ (ap (λ z. is_semicolon_symbol (byte_symbol x) || (z || false)) (hash-test x) ∙ head_end-symbol (byte_symbol x)))
 is_in_head-byte (x ∷ y ∷ u) = refl
 
-pub any-same : (p q : List ℕ → Bool) → ((u : List ℕ) → p u ≡ q u) → (us : List (List ℕ)) → any p us ≡ any q us
+pub any-same : (p q : List ℕ → Bool) → ((u : List ℕ) → p u ≡ q u) → (us : List (List ℕ)) → list_any p us ≡ list_any q us
 any-same p q h [] = refl
 any-same p q h (u ∷ us) = rw (h u, any-same p q h us) refl
 

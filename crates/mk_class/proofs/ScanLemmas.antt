@@ -9,7 +9,7 @@ use Rattle.std.proofs.lemmas.Bool.{eqb-true}
 use Rattle.mk_lines.specs.Lists.{concat, leading, after_leading, trailing, trim_end, trim_end_before, trailing_before, FirstFails}
 use Rattle.mk_lines.proofs.on_lists.ListLemmas.{after_leading-first_fails, concat-append, leading-after_leading, trim_end-trailing}
 use Rattle.std.proofs.lemmas.List.{take-append-drop}
-use Rattle.mk_class.specs.Lists.{any, first_passes, last_passes, until, from, is_empty}
+use Rattle.mk_class.specs.Lists.{first_passes, last_passes, until, from, is_empty}
 use Rattle.mk_class.proofs.on_symbols.ListLemmas.{until-from}
 use Rattle.mk_class.specs.ClassPlaces.{width}
 use Rattle.mk_lines.specs.Bytes.{byte_kind, is_blank_kind, ByteKind, is_blank_byte}
@@ -277,11 +277,11 @@ empty-units [] = refl
 empty-units (x ∷ t) = sym (zero_other (length t))
 
 -- some unit passes the test if something follows from that unit on
-pub any-left : (p : List ℕ → Bool) (us : List (List ℕ)) → any p us ≡ not (is_empty (after_leading (λ u. not (p u)) us))
+pub any-left : (p : List ℕ → Bool) (us : List (List ℕ)) → list_any p us ≡ not (is_empty (after_leading (λ u. not (p u)) us))
 any-left p [] = refl
 any-left p (u ∷ us) = go (p u) (any-left p us)
   where
-    go : (c : Bool) → any p us ≡ not (is_empty (after_leading (λ v. not (p v)) us)) → (c || any p us) ≡ not (is_empty (cond (not c) (after_leading (λ v. not (p v)) us) (u ∷ us)))
+    go : (c : Bool) → list_any p us ≡ not (is_empty (after_leading (λ v. not (p v)) us)) → (c || list_any p us) ≡ not (is_empty (cond (not c) (after_leading (λ v. not (p v)) us) (u ∷ us)))
     go true ih = refl
     go false ih = ih
 
@@ -304,16 +304,16 @@ split_at_unit-some byte t (x ∷ s) front after m h k f e =
     of true e h = eqb-true byte x e
     of false e h = cc
 
-pub has_unit-left : (byte : ℕ) (t rest : List ℕ) → units itself rest ≡ after_leading (is_other (byte ∷ [])) (units itself t) → not (length rest == 0) ≡ any (is_one_byte_of (byte ∷ [])) (units itself t)
+pub has_unit-left : (byte : ℕ) (t rest : List ℕ) → units itself rest ≡ after_leading (is_other (byte ∷ [])) (units itself t) → not (length rest == 0) ≡ list_any (is_one_byte_of (byte ∷ [])) (units itself t)
 has_unit-left byte t rest h = ap not (sym (empty-units rest) ∙ ap is_empty h) ∙ sym (any-left (is_one_byte_of (byte ∷ [])) (units itself t))
 
 -- the step over the first unit of a text that is not empty
-pub any-over : (p : List ℕ → Bool) (s r : List ℕ) → (length s == 0) ≡ false → first_passes p (units itself s) ≡ false → r ≡ after_first_unit itself s → any p (units itself r) ≡ any p (units itself s)
+pub any-over : (p : List ℕ → Bool) (s r : List ℕ) → (length s == 0) ≡ false → first_passes p (units itself s) ≡ false → r ≡ after_first_unit itself s → list_any p (units itself r) ≡ list_any p (units itself s)
 any-over p [] r h k e = cc
 any-over p (x ∷ t) r h k e =
     let us = units itself (after_first_unit itself (x ∷ t)) in
     let cut : units itself (x ∷ t) ≡ first_unit itself (x ∷ t) ∷ us = units-first_unit itself x t in
-    ap (λ z. any p (units itself z)) e ∙ sym (ap (any p) cut ∙ ap (λ c. c || any p us) (ap (first_passes p) (sym cut) ∙ k))
+    ap (λ z. list_any p (units itself z)) e ∙ sym (ap (list_any p) cut ∙ ap (λ c. c || list_any p us) (ap (first_passes p) (sym cut) ∙ k))
 
 pub from-over : (p : List (List ℕ) → Bool) (s r : List ℕ) → (length s == 0) ≡ false → p (units itself s) ≡ false → r ≡ after_first_unit itself s → from p (units itself r) ≡ from p (units itself s)
 from-over p [] r h k e = cc

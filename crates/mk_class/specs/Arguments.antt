@@ -1,9 +1,10 @@
 -- The tests of what an edit may write: values, words, targets, names and commands.
 use Rattle.std.specs.Prelude.{ℕ, ◌==◌, Bool, true, false, not, ◌&&◌, ◌||◌, nat_le, List}
+use Rattle.std.specs.List.{list_any}
 use Rattle.mk_lines.specs.Bytes.{ByteKind, LineFeed, CarriageReturn, byte_kind, is_backslash_kind, is_blank_byte}
 use Rattle.mk_lines.specs.Units.{units, is_closed}
 use Rattle.mk_lines.specs.Words.{is_gap}
-use Rattle.mk_class.specs.Lists.{is_empty, any, first_passes, last_passes}
+use Rattle.mk_class.specs.Lists.{is_empty, first_passes, last_passes}
 use Rattle.mk_class.specs.Symbols.{Symbol, Hash, Colon, Semicolon, Equals, Bar, symbol, is_hash, is_escape, is_dollar_before_blank}
 
 -- ---- bytes
@@ -20,7 +21,7 @@ is_barred_byte b = is_line_end_kind (byte_kind b) || (b == 0)
 
 -- whether a text has no such byte
 abbrev pub is_clean : List ℕ → Bool
-is_clean t = not (any is_barred_byte t)
+is_clean t = not (list_any is_barred_byte t)
 
 -- whether a byte is a backslash
 abbrev pub is_backslash_byte : ℕ → Bool
@@ -61,11 +62,11 @@ ends_word u = is_gap (λ b. b) u || (ends_word_symbol (symbol (λ b. b) u) || (i
 abbrev pub is_value : List ℕ → Bool
 is_value v =
     is_clean v && (not (first_passes is_blank_byte v) && (not (last_passes is_blank_byte v)
-    && (is_closed (λ b. b) v && (not (any (is_hash (λ b. b)) (units (λ b. b) v)) && not (last_passes is_backslash_byte v)))))
+    && (is_closed (λ b. b) v && (not (list_any (is_hash (λ b. b)) (units (λ b. b) v)) && not (last_passes is_backslash_byte v)))))
 
 -- whether a text may be a word: it is not empty, has no LF, CR or NUL, is closed, and has no unit that may stand in no word
 abbrev pub is_word : List ℕ → Bool
-is_word w = not (is_empty w) && (is_clean w && (is_closed (λ b. b) w && not (any ends_word (units (λ b. b) w))))
+is_word w = not (is_empty w) && (is_clean w && (is_closed (λ b. b) w && not (list_any ends_word (units (λ b. b) w))))
 
 -- whether a text may be a target: a word whose last byte is no `&`
 abbrev pub is_target : List ℕ → Bool
@@ -73,7 +74,7 @@ is_target t = is_word t && not (last_passes is_ampersand_byte t)
 
 -- whether a text may be a variable's name: one or more of the bytes of names
 abbrev pub is_name : List ℕ → Bool
-is_name n = not (is_empty n) && not (any (λ b. not (is_name_byte b)) n)
+is_name n = not (is_empty n) && not (list_any (λ b. not (is_name_byte b)) n)
 
 -- whether a text may be a recipe line's command: it has no LF, CR or NUL, and its last byte is no backslash
 abbrev pub is_command : List ℕ → Bool

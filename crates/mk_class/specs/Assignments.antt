@@ -1,9 +1,10 @@
 -- Assignments among the units of a cut text: modifiers, a name, an operator and a value.
 use Rattle.std.specs.Prelude.{ℕ, if◌then◌else◌, Bool, true, false, ◌||◌, List, [], ◌∷◌, ◌++◌, map, take, drop, Option, Some, None, codes}
+use Rattle.std.specs.Str.{bytes_eq}
 use Rattle.mk_lines.specs.Lists.{leading, after_leading, trim_end, trailing}
 use Rattle.mk_lines.specs.Words.{Token, Gap, Word, tokens, token_units, is_gap}
 use Rattle.mk_class.specs.Lists.{until, from, first_passes}
-use Rattle.mk_class.specs.Texts.{is_same_text, unit_text}
+use Rattle.mk_class.specs.Texts.{unit_text}
 use Rattle.mk_class.specs.Symbols.{Symbol, Colon, Semicolon, Equals, Plus, Question, Exclamation, symbol, is_equals}
 use Rattle.mk_class.specs.declared.assignment.Flavor.{Flavor}
 use Rattle.mk_class.specs.declared.assignment.Flavor.TheVariants.{Recursive, Simple, PosixSimple, Immediate, Conditional, Append, Shell}
@@ -99,9 +100,9 @@ module _ {A : Type 0} (byte : A → ℕ) where
   -- the modifier that a word is
   abbrev pub modifier_of : List (List A) → Option Modifier
   modifier_of w =
-      if is_same_text (unit_text byte w) (codes "override") then Some Override else
-      if is_same_text (unit_text byte w) (codes "export") then Some Export else
-      if is_same_text (unit_text byte w) (codes "private") then Some Private else
+      if bytes_eq (unit_text byte w) (codes "override") then Some Override else
+      if bytes_eq (unit_text byte w) (codes "export") then Some Export else
+      if bytes_eq (unit_text byte w) (codes "private") then Some Private else
       None
 
   -- an assignment with these units put before it

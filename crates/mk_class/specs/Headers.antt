@@ -1,8 +1,9 @@
 -- The parts of a header's line, and what makes such a line Rough.
 use Rattle.std.specs.Prelude.{ℕ, if◌then◌else◌, Bool, false, not, ◌&&◌, ◌||◌, List, [], ◌∷◌, take, drop, Option, Some, None, ◌++◌}
+use Rattle.std.specs.List.{list_any}
 use Rattle.mk_lines.specs.Lists.{leading, after_leading}
 use Rattle.mk_lines.specs.Words.{is_gap}
-use Rattle.mk_class.specs.Lists.{is_empty, any, first_passes, last_passes}
+use Rattle.mk_class.specs.Lists.{is_empty, first_passes, last_passes}
 use Rattle.mk_class.specs.Texts.{words_of}
 use Rattle.mk_class.specs.Symbols.{is_hash, is_colon, is_equals, is_bar, is_unreadable_unit}
 use Rattle.mk_class.specs.CutTexts.{head, after_head}
@@ -70,7 +71,7 @@ module _ {A : Type 0} (byte : A → ℕ) where
 
   -- whether there is a `=` or a unit that may stand in no word
   abbrev pub has_unreadable : List (List A) → Bool
-  has_unreadable us = any (λ u. is_equals byte u || is_unreadable_unit byte u) us
+  has_unreadable us = list_any (λ u. is_equals byte u || is_unreadable_unit byte u) us
 
   -- whether a `:` stands after a separator other than `:`
   abbrev pub has_colon_after_other : Header A → Bool
@@ -83,12 +84,12 @@ module _ {A : Type 0} (byte : A → ℕ) where
   -- whether there is a `|` among the prerequisites that is no word by itself
   abbrev pub has_bar_amiss : Header A → Bool
   has_bar_amiss h =
-      any (is_bar byte) h.targets || any (is_bar byte) h.pattern
+      list_any (is_bar byte) h.targets || list_any (is_bar byte) h.pattern
       || (not (is_empty h.bar) && (last_passes (λ u. not (is_gap byte u)) h.normal || first_passes (λ u. not (is_gap byte u)) h.order_only))
 
   -- whether there is a second `|` among the prerequisites
   abbrev pub has_second_bar : Header A → Bool
-  has_second_bar h = any (is_bar byte) h.order_only
+  has_second_bar h = list_any (is_bar byte) h.order_only
 
   -- whether a list has just one element
   abbrev pub is_single : {B : Type 0} → List B → Bool

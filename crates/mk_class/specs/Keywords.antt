@@ -1,7 +1,8 @@
 -- First words that say what a line is.
 use Rattle.std.specs.Prelude.{ℕ, if◌then◌else◌, Bool, List, [], ◌∷◌, codes}
+use Rattle.std.specs.Str.{bytes_eq}
 use Rattle.mk_lines.specs.Lists.{after_leading}
-use Rattle.mk_class.specs.Texts.{is_same_text, is_one_of}
+use Rattle.mk_class.specs.Texts.{is_one_of}
 
 -- what a first word says
 pub data Keyword : Type 0 where
@@ -30,13 +31,13 @@ modifier_words = codes "override" ∷ codes "export" ∷ codes "private" ∷ []
 -- what a word says as the first of a line
 abbrev pub keyword : List ℕ → Keyword
 keyword w =
-    if is_same_text w (codes "define") then DefineWord else
-    if is_same_text w (codes "endef") then EndefWord else
+    if bytes_eq w (codes "define") then DefineWord else
+    if bytes_eq w (codes "endef") then EndefWord else
     if is_one_of w if_words then IfWord else
-    if is_same_text w (codes "else") then ElseWord else
-    if is_same_text w (codes "endif") then EndifWord else
+    if bytes_eq w (codes "else") then ElseWord else
+    if bytes_eq w (codes "endif") then EndifWord else
     if is_one_of w directive_words then DirectiveWord else
-    if is_same_text w (codes "undefine") then UndefineWord else
+    if bytes_eq w (codes "undefine") then UndefineWord else
     NoKeyword
 
 -- what the first of some words says

@@ -1,15 +1,10 @@
 -- Words on lists that the definitions of assignments, rules and classes share.
-use Rattle.std.specs.Prelude.{if◌then◌else◌, Bool, true, false, ◌||◌, List, [], ◌∷◌}
+use Rattle.std.specs.Prelude.{if◌then◌else◌, Bool, true, false, List, [], ◌∷◌}
 
 -- whether a list has no element
 abbrev pub is_empty : {A : Type 0} → List A → Bool
 is_empty [] = true
 is_empty (x ∷ xs) = false
-
--- whether some element passes the test
-abbrev pub any : {A : Type 0} → (A → Bool) → List A → Bool
-any p [] = false
-any p (x ∷ xs) = p x || any p xs
 
 -- whether there is a first element and it passes the test
 abbrev pub first_passes : {A : Type 0} → (A → Bool) → List A → Bool

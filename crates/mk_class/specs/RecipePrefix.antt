@@ -1,7 +1,8 @@
 -- The recipe prefix: the byte that begins recipe lines, and the assignments that set it.
 use Rattle.std.specs.Prelude.{ℕ, ◌==◌, if◌then◌else◌, Bool, true, false, not, ◌&&◌, ◌||◌, nat_le, List, [], ◌∷◌, Option, Some, None, codes}
+use Rattle.std.specs.Str.{bytes_eq}
 use Rattle.mk_class.specs.Lists.{is_empty}
-use Rattle.mk_class.specs.Texts.{is_same_text, unit_text}
+use Rattle.mk_class.specs.Texts.{unit_text}
 use Rattle.mk_class.specs.Assignments.{Assignment}
 use Rattle.mk_class.specs.declared.assignment.Flavor.{Flavor}
 use Rattle.mk_class.specs.declared.assignment.Flavor.TheVariants.{Recursive, Simple, PosixSimple}
@@ -21,7 +22,7 @@ is_dot b = b == 46
 
 -- whether a variable's name is `.RECIPEPREFIX`
 abbrev pub is_prefix_name : List ℕ → Bool
-is_prefix_name n = is_same_text n (codes ".RECIPEPREFIX")
+is_prefix_name n = bytes_eq n (codes ".RECIPEPREFIX")
 
 -- whether an assignment of this flavor may set the prefix: `=`, `:=` or `::=`
 abbrev pub may_set_prefix : Flavor → Bool

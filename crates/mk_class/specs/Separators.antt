@@ -1,6 +1,7 @@
 -- The separator of a rule, and a text taken apart at its separator.
 use Rattle.std.specs.Prelude.{ℕ, Bool, true, false, ◌&&◌, ◌||◌, List, ◌∷◌, map, take, drop, ◌++◌}
-use Rattle.mk_class.specs.Lists.{any, until, from, first_passes}
+use Rattle.std.specs.List.{list_any}
+use Rattle.mk_class.specs.Lists.{until, from, first_passes}
 use Rattle.mk_class.specs.Symbols.{Symbol, Colon, Ampersand, symbol, is_colon, is_ampersand}
 use Rattle.mk_class.specs.declared.rule.Separator.{Separator}
 use Rattle.mk_class.specs.declared.rule.Separator.TheVariants.{SingleColon, DoubleColon, GroupedColon, GroupedDoubleColon}
@@ -41,7 +42,7 @@ pub record Separated (A : Type 0) : Type 0 where
 module _ {A : Type 0} (byte : A → ℕ) where
   -- whether there is a unit `:`
   abbrev pub has_colon : List (List A) → Bool
-  has_colon us = any (is_colon byte) us
+  has_colon us = list_any (is_colon byte) us
 
   -- whether a separator stands at the front of some units: a `:`, or a `&` with a `:` after it
   abbrev pub begins_separator : List (List A) → Bool

@@ -1,18 +1,13 @@
--- Texts compared, and the text of units and of words.
-use Rattle.std.specs.Prelude.{ℕ, ◌==◌, Bool, true, false, ◌&&◌, ◌||◌, List, [], ◌∷◌, map}
+-- Whether a text is one of some texts, and the text of units and of words.
+use Rattle.std.specs.Prelude.{ℕ, Bool, List, map}
+use Rattle.std.specs.List.{list_any}
+use Rattle.std.specs.Str.{bytes_eq}
 use Rattle.mk_lines.specs.Lists.{concat}
 use Rattle.mk_lines.specs.Words.{tokens, token_words}
 
--- whether two texts are the same
-abbrev pub is_same_text : List ℕ → List ℕ → Bool
-is_same_text [] [] = true
-is_same_text (x ∷ xs) (y ∷ ys) = (x == y) && is_same_text xs ys
-is_same_text xs ys = false
-
 -- whether a text is one of these
 abbrev pub is_one_of : List ℕ → List (List ℕ) → Bool
-is_one_of t [] = false
-is_one_of t (x ∷ xs) = is_same_text t x || is_one_of t xs
+is_one_of t ts = list_any (bytes_eq t) ts
 
 module _ {A : Type 0} (byte : A → ℕ) where
   -- the text of some units

@@ -8,7 +8,7 @@ ghost use Rattle.std.specs.List.{list_all, list_any};
 ghost use Rattle.mk_lines.specs.Units.{units};
 ghost use Rattle.mk_class.specs.Arguments.{ends_word, is_ampersand_byte, is_backslash_byte, is_barred_byte, is_clean, is_command, is_name, is_name_byte, is_target, is_value, is_word};
 ghost use Rattle.mk_lines.specs.Bytes.{is_blank_byte};
-ghost use Rattle.mk_class.specs.Lists.{any, first_passes, last_passes};
+ghost use Rattle.mk_class.specs.Lists.{first_passes, last_passes};
 ghost use Rattle.mk_class.specs.Symbols.{is_hash};
 
 use mk_lines::{is_closed, split_first_unit};
@@ -156,7 +156,7 @@ fn is_name_byte(byte: u8) -> bool
 
 /// Whether a text has a unit `#`.
 fn has_hash(text: &[u8]) -> bool
-    ensures { result ≡ any (is_hash (λ b. b)) (units (λ b. b) text.now) }
+    ensures { result ≡ list_any (is_hash (λ b. b)) (units (λ b. b) text.now) }
 {
     let mut rest = text;
     'units: while let Some((unit, after)) = split_first_unit(rest) {
@@ -170,7 +170,7 @@ fn has_hash(text: &[u8]) -> bool
 
 /// Whether a text has a unit that may stand in no word.
 fn has_word_end(text: &[u8]) -> bool
-    ensures { result ≡ any ends_word (units (λ b. b) text.now) }
+    ensures { result ≡ list_any ends_word (units (λ b. b) text.now) }
 {
     let mut rest = text;
     'units: while let Some((unit, after)) = split_first_unit(rest) {

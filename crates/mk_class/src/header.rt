@@ -1,9 +1,10 @@
 //! Headers, the lines of rules: their parts, and what makes such a line Rough.
 ghost use Rattle.std.specs.Prelude.{◌≡◌, ◌≤◌, ℕ, List, ◌∷◌, [], ◌||◌, length, true, false, not, IfSome, MatchOption};
+ghost use Rattle.std.specs.List.{list_any};
 ghost use Rattle.mk_lines.specs.Units.{units};
 ghost use Rattle.mk_lines.specs.Words.{is_gap};
 ghost use Rattle.mk_class.specs.CutTexts.{after_head, head as head_of};
-ghost use Rattle.mk_class.specs.Lists.{any, first_passes, from, is_empty, last_passes};
+ghost use Rattle.mk_class.specs.Lists.{first_passes, from, is_empty, last_passes};
 ghost use Rattle.mk_class.specs.Symbols.{is_blank_or_backslash, is_dollar_before_blank, is_bar, is_colon, is_equals, is_escape, is_hash};
 ghost use Rattle.mk_class.specs.Texts.{words_of};
 ghost use Rattle.mk_class.specs.Separators.{begins_separator, separated};
@@ -154,14 +155,14 @@ fn split_order_only(text: &[u8]) -> (&[u8], bool, &[u8])
 
 /// Whether a text has a unit `:`.
 fn has_colon(text: &[u8]) -> bool
-    ensures { result ≡ any (is_colon itself) (units itself text.now) }
+    ensures { result ≡ list_any (is_colon itself) (units itself text.now) }
 {
     has_unit(text, b':')
 }
 
 /// Whether a text has a unit `|`.
 fn has_bar(text: &[u8]) -> bool
-    ensures { result ≡ any (is_bar itself) (units itself text.now) }
+    ensures { result ≡ list_any (is_bar itself) (units itself text.now) }
 {
     has_unit(text, b'|')
 }
@@ -255,7 +256,7 @@ fn has_unreadable(head: &[u8]) -> bool
 /// Whether a text has a unit that is a `=`, begins with a backslash, or is a `$` before a blank or a
 /// backslash.
 fn has_unreadable_front(text: &[u8]) -> bool
-    ensures { result ≡ any (λ u. is_equals itself u || (is_escape itself u || is_dollar_before_blank itself u)) (units itself text.now) }
+    ensures { result ≡ list_any (λ u. is_equals itself u || (is_escape itself u || is_dollar_before_blank itself u)) (units itself text.now) }
 {
     let mut rest = text;
     while !rest.is_empty() {

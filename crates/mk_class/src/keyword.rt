@@ -5,12 +5,13 @@
 //! That a line goes by its first word, or by the first word after the modifiers, as the text stands
 //! and not as it expands, is this project's profile.
 ghost use Rattle.std.specs.Prelude.{◌≡◌};
+ghost use Rattle.std.specs.Str.{bytes_eq};
 ghost use Rattle.mk_lines.specs.Units.{units};
 ghost use Rattle.mk_class.specs.ClassTable.{defines_prefix, directive};
 ghost use Rattle.mk_class.specs.FirstWords.{known_class, meant_keyword, modifier, text_words};
 ghost use Rattle.mk_class.specs.Keywords.{after_modifiers, directive_words, first_keyword, if_words, is_reserved_word, keyword};
 ghost use Rattle.mk_class.specs.TextClasses.{body_text_class, itself};
-ghost use Rattle.mk_class.specs.Texts.{is_one_of, is_same_text};
+ghost use Rattle.mk_class.specs.Texts.{is_one_of};
 
 use crate::assignment::Modifier;
 use crate::class::Class;
@@ -186,7 +187,7 @@ fn is_directive_word(word: &[u8]) -> bool
 
 /// Whether two texts are the same.
 pub(crate) fn is_text(word: &[u8], text: &[u8]) -> bool
-    ensures { result ≡ is_same_text word.now text.now }
+    ensures { result ≡ bytes_eq word.now text.now }
 {
     word == text
 }

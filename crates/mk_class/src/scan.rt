@@ -5,6 +5,7 @@
 //! is first searched for the byte, and most texts are not read by units at all. All calls take time
 //! linear in the bytes that they pass over or search, and no memory.
 ghost use Rattle.std.specs.Prelude.{◌≡◌, ◌≤◌, ◌+◌, ◌++◌, List, [], ◌∷◌, ℕ, false, length, MatchOption};
+ghost use Rattle.std.specs.List.{list_any};
 ghost use Rattle.mk_lines.specs.Lists.{after_leading, trailing};
 ghost use Rattle.mk_lines.specs.Units.{byte_mark, units, Unmarked};
 ghost use Rattle.mk_lines.specs.Words.{is_gap};
@@ -12,7 +13,7 @@ ghost use Rattle.mk_lines.specs.Bytes.{is_blank_byte};
 ghost use Rattle.mk_class.specs.CutTexts.{after_head, cut_text, head};
 ghost use Rattle.mk_class.specs.TextClasses.{itself};
 ghost use Rattle.mk_class.specs.Scans.{AreUnmarked, IsSplitAt, is_one_byte_of, is_other};
-ghost use Rattle.mk_class.specs.Lists.{any, first_passes, last_passes};
+ghost use Rattle.mk_class.specs.Lists.{first_passes, last_passes};
 ghost use Rattle.mk_class.specs.Symbols.{is_colon, is_equals, is_hash};
 
 use memchr::{memchr, memchr2};
@@ -89,7 +90,7 @@ pub(crate) fn split_at_unit(text: &[u8], byte: u8) -> Option<(&[u8], &[u8])>
 /// Whether some unit of a text is this byte, which is neither `$` nor a backslash.
 pub(crate) fn has_unit(text: &[u8], byte: u8) -> bool
     requires { byte_mark byte ≡ Unmarked }
-    ensures { result ≡ any (is_one_byte_of (byte ∷ [])) (units itself text.now) }
+    ensures { result ≡ list_any (is_one_byte_of (byte ∷ [])) (units itself text.now) }
 {
     !from_unit(text, byte).is_empty()
 }
@@ -105,7 +106,7 @@ pub(crate) fn before<'a>(text: &'a [u8], rest: &[u8]) -> &'a [u8]
 
 /// Whether a text has a unit `#`.
 pub(crate) fn has_hash(text: &[u8]) -> bool
-    ensures { result ≡ any (is_hash itself) (units itself text.now) }
+    ensures { result ≡ list_any (is_hash itself) (units itself text.now) }
 {
     has_unit(text, b'#')
 }

@@ -1,7 +1,7 @@
 -- What a rename does to the lines of a document as a whole: how many words it replaces, and whether it would make a line begin
 -- with the recipe prefix.
 use Rattle.std.specs.Prelude.{◌≡◌, ℕ, ◌+◌, ◌&&◌, ◌||◌, Bool, false, List, [], ◌∷◌, length}
-use Rattle.mk_class.specs.Lists.{any}
+use Rattle.std.specs.List.{list_any}
 use Rattle.mk_class.specs.Contexts.{Context, context_after_places}
 use Rattle.mk_class.specs.RecipePrefix.{is_prefix_led}
 use Rattle.mk_tree.specs.PlacedLines.{PlacedLine}
@@ -28,7 +28,7 @@ replaced_bytes o (l ∷ ls) = bytes_in (renamed_places o l) + replaced_bytes o l
 -- stands in this context
 abbrev pub begins_some_line : (old new : List ℕ) → Context → List PlacedLine → Bool
 begins_some_line o n c [] = false
-begins_some_line o n c (l ∷ ls) = (any is_at_front (renamed_places o l) && is_prefix_led c.prefix n) || begins_some_line o n (context_after_places c l.class) ls
+begins_some_line o n c (l ∷ ls) = (list_any is_at_front (renamed_places o l) && is_prefix_led c.prefix n) || begins_some_line o n (context_after_places c l.class) ls
 
 -- the effect of a rename on lines, the first of which stands in this context
 abbrev pub effect_on : (old new : List ℕ) → Context → List PlacedLine → Effect

@@ -1,8 +1,9 @@
 -- The causes that decide where an edit applies: RecipePrefix, NoSuch and Ambiguous.
 use Rattle.std.specs.Prelude.{ℕ, Bool, true, false, not, ◌&&◌, ◌||◌, List, [], ◌∷◌, length, Option, Some, None, is_some}
+use Rattle.std.specs.List.{list_any}
 use Rattle.mk_lines.specs.Cells.{Cell, joined_byte}
 use Rattle.mk_lines.specs.Pieces.{Piece, new_bytes}
-use Rattle.mk_class.specs.Lists.{is_empty, any}
+use Rattle.mk_class.specs.Lists.{is_empty}
 use Rattle.mk_class.specs.Texts.{unit_text}
 use Rattle.mk_class.specs.RecipePrefix.{is_prefix_led, is_prefix_name}
 use Rattle.mk_class.specs.Classes.{Class}
@@ -30,7 +31,7 @@ is_unread_prefix (DefineHead p) = p
 is_unread_prefix k = false
 
 abbrev pub unread_prefix : List ClassedLine → Option Refusal
-unread_prefix ls = where_holds (any (λ l. is_unread_prefix l.class) ls) RecipePrefix
+unread_prefix ls = where_holds (list_any (λ l. is_unread_prefix l.class) ls) RecipePrefix
 
 -- ---- NoSuch: there is no such line, or no nth such line; the old name of a rename is no target
 
@@ -70,7 +71,7 @@ begins_new_line e (Some s) = is_prefix_led (context_of s.above).prefix (new_text
 
 -- whether a rename changes a line and the new line would begin with the prefix
 abbrev pub begins_renamed_line : (prefix : ℕ) → List Piece → Bool
-begins_renamed_line p ps = any is_replaced ps && is_prefix_led p (new_bytes ps)
+begins_renamed_line p ps = list_any is_replaced ps && is_prefix_led p (new_bytes ps)
 
 -- whether some line that a rename changes would begin with the prefix
 abbrev pub begins_some_renamed_line : (old new : List ℕ) → Context → List ClassedLine → Bool

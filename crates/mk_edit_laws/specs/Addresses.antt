@@ -1,8 +1,9 @@
 -- Which line an edit means.
 use Rattle.std.specs.Prelude.{ℕ, Bool, false, List, [], Option, Some, None}
+use Rattle.std.specs.Str.{bytes_eq}
+use Rattle.std.specs.List.{list_any}
 use Rattle.mk_lines.specs.Cells.{Cell, joined_byte}
-use Rattle.mk_class.specs.Lists.{any}
-use Rattle.mk_class.specs.Texts.{is_same_text, is_one_of, unit_text, word_texts}
+use Rattle.mk_class.specs.Texts.{is_one_of, unit_text, word_texts}
 use Rattle.mk_class.specs.Classes.{Class}
 use Rattle.mk_class.specs.Classes.Class.{Assign, TargetAssign, Header}
 use Rattle.mk_class.specs.ClassedLines.{ClassedLine}
@@ -17,7 +18,7 @@ pub data Address : Type 0 where
 
 -- whether a line of this class assigns the variable of this name
 abbrev pub assigns : List ℕ → Class Cell → Bool
-assigns n (Assign a p) = is_same_text (unit_text joined_byte a.name) n
+assigns n (Assign a p) = bytes_eq (unit_text joined_byte a.name) n
 assigns n k = false
 
 -- whether a line of this class is the header of a rule for this target
@@ -69,4 +70,4 @@ targets_of k = []
 
 -- whether a word is a target of any header or target assignment
 abbrev pub is_a_target : List ClassedLine → List ℕ → Bool
-is_a_target ls w = any (λ l. is_one_of w (targets_of l.class)) ls
+is_a_target ls w = list_any (λ l. is_one_of w (targets_of l.class)) ls

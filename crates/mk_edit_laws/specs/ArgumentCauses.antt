@@ -1,7 +1,8 @@
 -- The causes that the fields of an edit decide: BadArgument and Reserved.
 use Rattle.std.specs.Prelude.{ℕ, Bool, true, false, not, ◌&&◌, ◌||◌, List, [], ◌∷◌, ◌++◌, Option, Some, None}
+use Rattle.std.specs.List.{list_any}
 use Rattle.mk_lines.specs.Words.{words_in}
-use Rattle.mk_class.specs.Lists.{is_empty, any}
+use Rattle.mk_class.specs.Lists.{is_empty}
 use Rattle.mk_class.specs.Keywords.{is_reserved_word}
 use Rattle.mk_class.specs.RecipePrefix.{is_prefix_name}
 use Rattle.mk_class.specs.Arguments.{is_value, is_word, is_target, is_name, is_command}
@@ -32,11 +33,11 @@ is_place (BeforeRule nth t) = is_target t
 
 -- whether an argument is one or more targets
 abbrev pub are_targets : List ℕ → Bool
-are_targets t = not (is_empty (words_in t)) && not (any (λ w. not (is_target w)) (words_in t))
+are_targets t = not (is_empty (words_in t)) && not (list_any (λ w. not (is_target w)) (words_in t))
 
 -- whether each word of an argument passes the test of words; the argument may have no words
 abbrev pub are_words : List ℕ → Bool
-are_words t = not (any (λ w. not (is_word w)) (words_in t))
+are_words t = not (list_any (λ w. not (is_word w)) (words_in t))
 
 -- the fields of an edit in their order
 abbrev pub field_tests : Edit → List FieldTest
@@ -92,4 +93,4 @@ targets (RenameTarget o n) = o ∷ n ∷ []
 targets e = []
 
 abbrev pub reserved : Edit → Option Refusal
-reserved e = where_holds (any is_prefix_name (names e) || any is_reserved_word (targets e)) Reserved
+reserved e = where_holds (list_any is_prefix_name (names e) || list_any is_reserved_word (targets e)) Reserved

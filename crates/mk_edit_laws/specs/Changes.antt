@@ -1,12 +1,13 @@
 -- What an accepted edit does to the reading.
 use Rattle.std.specs.Prelude.{ℕ, ◌&&◌, ◌==◌, if◌then◌else◌, Bool, true, false, not, List, [], ◌∷◌, ◌++◌, map, take, drop, filter, length, None}
+use Rattle.std.specs.Str.{bytes_eq}
 use Rattle.mk_lines.specs.Lists.{concat}
 use Rattle.mk_lines.specs.Cells.{Cell, joined_byte}
 use Rattle.mk_lines.specs.CellFaults.{is_fold}
 use Rattle.mk_lines.specs.Pieces.{Replacement}
 use Rattle.mk_lines.specs.Words.{words_in}
 use Rattle.mk_class.specs.Lists.{is_empty, last_passes}
-use Rattle.mk_class.specs.Texts.{is_same_text, unit_text}
+use Rattle.mk_class.specs.Texts.{unit_text}
 use Rattle.mk_class.specs.Assignments.{Assignment}
 use Rattle.mk_class.specs.Classes.{Class}
 use Rattle.mk_class.specs.Classes.Class.{Assign as AssignLine, Header as HeaderLine}
@@ -86,7 +87,7 @@ with_prerequisite order w i = i
 
 -- words without each word that is this one
 abbrev pub without_word : (word : List ℕ) → List (List ℕ) → List (List ℕ)
-without_word w ws = filter (λ x. not (is_same_text x w)) ws
+without_word w ws = filter (λ x. not (bytes_eq x w)) ws
 
 -- a header without each prerequisite that is this word
 abbrev pub without_prerequisite : (word : List ℕ) → Item → Item
@@ -95,7 +96,7 @@ without_prerequisite w i = i
 
 -- words with the new word in the place of each old one
 abbrev pub rename_words : (old new : List ℕ) → List (List ℕ) → List (List ℕ)
-rename_words o n ws = map (λ w. if is_same_text w o then n else w) ws
+rename_words o n ws = map (λ w. if bytes_eq w o then n else w) ws
 
 -- an item with the new word in the place of each target and each prerequisite that is the old word
 abbrev pub renamed_item : (old new : List ℕ) → Item → Item

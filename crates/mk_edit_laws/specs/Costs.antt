@@ -1,6 +1,6 @@
 -- How many lines an edit reads again, and how many lines it replaces or takes out.
 use Rattle.std.specs.Prelude.{ℕ, Bool, List, length, filter, Option, Some, None}
-use Rattle.mk_class.specs.Lists.{any}
+use Rattle.std.specs.List.{list_any}
 use Rattle.mk_class.specs.ClassedLines.{ClassedLine, classed_lines}
 use Rattle.mk_edit_laws.specs.Edits.{Edit, AddAssign, RemoveAssign, AddRule, RemoveRule, AddRecipe, RemoveRecipe, RenameTarget}
 use Rattle.mk_edit_laws.specs.Stretches.{Stretch, removal}
@@ -8,7 +8,7 @@ use Rattle.mk_edit_laws.specs.WordPieces.{renamed_pieces, is_replaced}
 
 -- whether a line holds a word that a rename replaces
 abbrev pub is_renamed : (old new : List ℕ) → ClassedLine → Bool
-is_renamed o n l = any is_replaced (renamed_pieces o n l.class)
+is_renamed o n l = list_any is_replaced (renamed_pieces o n l.class)
 
 -- the greatest number of lines that an edit reads again
 abbrev pub cost : (text : List ℕ) → Edit → ℕ

@@ -1,8 +1,8 @@
 -- The lines of a text after a rename, each in the place of one line.
 use Rattle.std.specs.Prelude.{◌≡◌, ℕ, ◌+◌, ◌≤◌, if◌then◌else◌, Bool, true, false, List, [], ◌∷◌, ◌++◌, map, take, drop, length}
+use Rattle.std.specs.Str.{bytes_eq}
 use Rattle.mk_lines.specs.LogicalLines.{logical_lines}
 use Rattle.mk_lines.specs.Pieces.{Replacement, old_bytes, new_bytes}
-use Rattle.mk_class.specs.Texts.{is_same_text}
 use Rattle.mk_class.specs.Classes.{is_conditional}
 use Rattle.mk_class.specs.Contexts.{Context, start, context_after}
 use Rattle.mk_class.specs.ClassTable.{class_of}
@@ -50,7 +50,7 @@ AreLinesRenamedInPlace o n c (l ∷ ls) (m ∷ ms) = IsLineRenamed o n c l m × 
 abbrev pub differing : (before after : List (List ℕ)) → ℕ
 differing [] ms = length ms
 differing (l ∷ ls) [] = length (l ∷ ls)
-differing (l ∷ ls) (m ∷ ms) = (if is_same_text l m then 0 else 1) + differing ls ms
+differing (l ∷ ls) (m ∷ ms) = (if bytes_eq l m then 0 else 1) + differing ls ms
 
 -- replacements in lines; the first line begins at this place. Each replacement stands within one line, and that line passes the
 -- test

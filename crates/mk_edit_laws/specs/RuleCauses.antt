@@ -1,7 +1,7 @@
 -- The causes that rules and their words decide: Absent, Already, Taken, SharedRule and Straddles.
 use Rattle.std.specs.Prelude.{ℕ, Bool, true, false, not, ◌||◌, nat_lt, List, [], length, Option, Some, None, is_some}
+use Rattle.std.specs.List.{list_any}
 use Rattle.mk_lines.specs.Cells.{Cell, joined_byte}
-use Rattle.mk_class.specs.Lists.{any}
 use Rattle.mk_class.specs.Texts.{is_one_of, word_texts}
 use Rattle.mk_class.specs.Headers
 use Rattle.mk_class.specs.Classes.{Class, is_conditional}
@@ -78,7 +78,7 @@ shared_rule ls e = None
 -- whether a line of a conditional stands there
 abbrev pub has_conditional : Option StandingLine → Bool
 has_conditional None = false
-has_conditional (Some h) = any (λ l. is_conditional l.class) (recipe_run h.below)
+has_conditional (Some h) = list_any (λ l. is_conditional l.class) (recipe_run h.below)
 
 abbrev pub straddles : List ClassedLine → Edit → Option Refusal
 straddles ls (RemoveRule nth t) = where_holds (has_conditional (found ls (Rule nth t))) Straddles

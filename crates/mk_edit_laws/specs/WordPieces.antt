@@ -1,11 +1,12 @@
 -- Edits of the words of a rule's line, as pieces of the line: cells that stay, and cells that a text replaces.
 use Rattle.std.specs.Prelude.{ℕ, ◌&&◌, if◌then◌else◌, Bool, true, false, not, List, [], ◌∷◌, ◌++◌, codes}
+use Rattle.std.specs.Str.{bytes_eq}
 use Rattle.mk_lines.specs.Lists.{concat, trim_end, trailing}
 use Rattle.mk_lines.specs.Cells.{Cell, joined_byte}
 use Rattle.mk_lines.specs.Pieces.{Piece, Keep, Replace}
 use Rattle.mk_lines.specs.Words.{Token, Gap, Word, tokens, is_gap}
 use Rattle.mk_class.specs.Lists.{is_empty}
-use Rattle.mk_class.specs.Texts.{is_same_text, unit_text}
+use Rattle.mk_class.specs.Texts.{unit_text}
 use Rattle.mk_class.specs.Headers.{Header}
 use Rattle.mk_class.specs.Classes.{Class}
 use Rattle.mk_class.specs.Classes.Class.{Header as HeaderLine, TargetAssign as TargetLine}
@@ -18,7 +19,7 @@ kept us = Keep (concat us) ∷ []
 
 -- whether the units of a word are this text
 abbrev pub is_word_of : List ℕ → List (List Cell) → Bool
-is_word_of t w = is_same_text (unit_text joined_byte w) t
+is_word_of t w = bytes_eq (unit_text joined_byte w) t
 
 -- tokens as pieces: each word that is the old one becomes the new one
 abbrev pub renamed_tokens : (old new : List ℕ) → List (Token Cell) → List Piece

@@ -1,7 +1,7 @@
 -- What the definitions say of an edit, told as one value, so that a row is one equation.
 use Rattle.std.specs.Prelude.{ℕ, Bool, true, false, ◌&&◌, List, [], ◌∷◌, ◌++◌, map, length, Option, Some, None, Result, Ok, Err}
+use Rattle.std.specs.Str.{bytes_eq}
 use Rattle.mk_lines.specs.Pieces.{Replacement, replaced}
-use Rattle.mk_class.specs.Texts.{is_same_text}
 use Rattle.mk_class.specs.declared.assignment.Modifier.{Modifier}
 use Rattle.mk_class.specs.declared.assignment.Modifier.TheVariants.{Override, Export, Private}
 use Rattle.mk_class.specs.declared.rule.Separator.{Separator}
@@ -55,7 +55,7 @@ item_texts (Rough t) = (12 ∷ []) ∷ t ∷ []
 
 abbrev are_same_texts : List (List ℕ) → List (List ℕ) → Bool
 are_same_texts [] [] = true
-are_same_texts (x ∷ xs) (y ∷ ys) = is_same_text x y && are_same_texts xs ys
+are_same_texts (x ∷ xs) (y ∷ ys) = bytes_eq x y && are_same_texts xs ys
 are_same_texts xs ys = false
 
 abbrev is_same_reading : List Item → List Item → Bool

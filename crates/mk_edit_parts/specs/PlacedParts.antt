@@ -1,9 +1,10 @@
 -- What a document shows of a line by the places of its parts: the tests of a line that walks over a document make.
 use Rattle.std.specs.Prelude.{not, ◌&&◌, is_some, ◌≡◌, ℕ, Bool, false, List, [], ◌∷◌}
+use Rattle.std.specs.Str.{bytes_eq}
 use Rattle.mk_lines.specs.Cells.{joined_byte}
 use Rattle.mk_lines.specs.Ranges.{text_at}
 use Rattle.mk_lines.specs.Words.{words_in}
-use Rattle.mk_class.specs.Texts.{is_same_text, is_one_of}
+use Rattle.mk_class.specs.Texts.{is_one_of}
 use Rattle.mk_class.specs.RecipePrefix.{is_prefix_name}
 use Rattle.mk_class.specs.Contexts.{Context}
 use Rattle.mk_class.specs.ClassTable.{class_of}
@@ -27,7 +28,7 @@ words_before end t = words_in (text_at t (record { start = 0; end = end }))
 
 -- whether a line of this joined text and class assigns the variable of this name
 abbrev pub assigns_in : (text name : List ℕ) → class.Class → Bool
-assigns_in t n (variants.Assign a p) = is_same_text (text_at t a.name) n
+assigns_in t n (variants.Assign a p) = bytes_eq (text_at t a.name) n
 assigns_in t n k = false
 
 abbrev pub assigns_placed : (name : List ℕ) → PlacedLine → Bool

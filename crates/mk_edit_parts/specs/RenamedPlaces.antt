@@ -1,10 +1,10 @@
 -- Where the words that a rename replaces stand in a line, as a document shows the line.
 use Rattle.std.specs.Prelude.{ℕ, ◌+◌, ◌-◌, ◌≤◌, ◌==◌, ◌||◌, if◌then◌else◌, Bool, false, List, [], ◌∷◌, ◌++◌, length, Option, Some, None}
+use Rattle.std.specs.Str.{bytes_eq}
+use Rattle.std.specs.List.{list_any}
 use Rattle.mk_lines.specs.Cells.{Cell, joined_text, line_cells}
 use Rattle.mk_lines.specs.Ranges.{raw_range, text_at, word_ranges}
 use Rattle.mk_lines.specs.declared.split.Span.{Span}
-use Rattle.mk_class.specs.Lists.{any}
-use Rattle.mk_class.specs.Texts.{is_same_text}
 use Rattle.mk_class.specs.declared.class.Class as class
 use Rattle.mk_class.specs.declared.class.Class.TheVariants as variants
 use Rattle.mk_tree.specs.PlacedLines.{PlacedLine}
@@ -32,7 +32,7 @@ word_parts k = record { targets = span 0 0; normal = span 0 0; order_only = span
 -- the raw range of a word, if it is the old word; the word's range counts from the start of its part
 abbrev pub place_in : (cells : List Cell) → (part_start : ℕ) → (old : List ℕ) → Span → Option Span
 place_in cs at o w =
-    if is_same_text (text_at (joined_text cs) (span (at + w.start) (at + w.end))) o
+    if bytes_eq (text_at (joined_text cs) (span (at + w.start) (at + w.end))) o
     then Some (raw_range cs (at + w.start) (at + w.end))
     else None
 
@@ -71,7 +71,7 @@ is_at_front s = s.start == 0
 
 -- a count with the words in these ranges added
 abbrev pub tallied : Tally → List Span → Tally
-tallied t ss = record { words = t.words + length ss; bytes = t.bytes + bytes_in ss; at_front = t.at_front || any is_at_front ss }
+tallied t ss = record { words = t.words + length ss; bytes = t.bytes + bytes_in ss; at_front = t.at_front || list_any is_at_front ss }
 
 -- nothing counted
 abbrev pub no_words : Tally

@@ -1,6 +1,6 @@
 -- A walk over the lines of a document for the line that an address means.
 use Rattle.std.specs.Prelude.{◌≡◌, ◌||◌, ◌&&◌, ◌==◌, if◌then◌else◌, ℕ, ◌+◌, Bool, false, List, [], ◌∷◌, length, Option, Some, None, option_map}
-use Rattle.mk_class.specs.Lists.{any}
+use Rattle.std.specs.List.{list_any}
 use Rattle.mk_class.specs.Contexts.{start, context_after_places}
 use Rattle.mk_class.specs.ClassedLines.{ClassedLine}
 use Rattle.mk_class.specs.declared.class.Class as class
@@ -68,5 +68,5 @@ candidates_of ls (Some a) = candidates ls a
 pub record IsSought (ls : List ClassedLine) (a : Option Address) (s : Sought) : Type 0 where
   pub count_is : s.count ≡ length (candidates_of ls a)
   pub found_is : s.found ≡ option_map place_found (nth_of (wanted a) (candidates_of ls a))
-  pub unread_is : s.has_unread_prefix ≡ any (λ l. is_unread_prefix l.class) ls
+  pub unread_is : s.has_unread_prefix ≡ list_any (λ l. is_unread_prefix l.class) ls
   pub end_is : s.end ≡ record { at = length ls; context = context_of ls }

@@ -1,9 +1,9 @@
 -- The bytes of a line cut at its words, by their ranges.
 use Rattle.std.specs.Prelude.{ℕ, ◌+◌, if◌then◌else◌, List, [], ◌∷◌, ◌++◌}
+use Rattle.std.specs.Str.{bytes_eq}
 use Rattle.mk_lines.specs.Cells.{Cell, raw_text}
 use Rattle.mk_lines.specs.Ranges.{text_at}
 use Rattle.mk_lines.specs.declared.split.Span.{Span}
-use Rattle.mk_class.specs.Texts.{is_same_text}
 
 -- the raw bytes of the joined bytes from one place up to another
 abbrev pub raw_between : List Cell → (start end : ℕ) → List ℕ
@@ -15,7 +15,7 @@ raw_between cs start end = raw_text (text_at cs (record { start = start; end = e
 abbrev pub without_words : (cells : List Cell) → (start : ℕ) → (text word : List ℕ) → (done : ℕ) → List Span → (end : ℕ) → List ℕ
 without_words cs start t w done [] end = raw_between cs done end
 without_words cs start t w done (s ∷ ss) end =
-    (if is_same_text (text_at t s) w then [] else raw_between cs done (start + s.end)) ++ without_words cs start t w (start + s.end) ss end
+    (if bytes_eq (text_at t s) w then [] else raw_between cs done (start + s.end)) ++ without_words cs start t w (start + s.end) ss end
 
 -- where the last of some ranges ends, or this place if there is no range
 abbrev pub last_end : (at : ℕ) → List Span → ℕ

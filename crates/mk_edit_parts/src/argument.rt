@@ -1,8 +1,8 @@
 //! The causes of refusal that the fields of an edit decide by themselves.
 ghost use Rattle.std.specs.Prelude.{◌≡◌, ◌||◌, ◌∷◌, [], not};
+ghost use Rattle.std.specs.List.{list_any};
 ghost use Rattle.mk_class.specs.Arguments.{is_target, is_word};
 ghost use Rattle.mk_class.specs.Keywords.{is_reserved_word};
-ghost use Rattle.mk_class.specs.Lists.{any};
 ghost use Rattle.mk_class.specs.RecipePrefix.{is_prefix_name};
 ghost use Rattle.mk_edit_laws.specs.ArgumentCauses.{Tested, are_targets, are_words, bad_argument, first_failed, is_place, names, place_names, place_targets, targets};
 ghost use Rattle.mk_lines.specs.Words.{words_in};
@@ -115,7 +115,7 @@ fn are_targets(text: &[u8]) -> bool
 
 // Whether some word of a text may be no target.
 fn has_no_target(text: &[u8]) -> bool
-    ensures { result ≡ any (λ word. not (is_target word)) (words_in text.now) }
+    ensures { result ≡ list_any (λ word. not (is_target word)) (words_in text.now) }
 {
     let mut rest = text;
     'words: while let Some((word, after)) = split_first_word(rest) {
@@ -144,7 +144,7 @@ fn are_words(text: &[u8]) -> bool
 /// Whether an edit names the recipe prefix as a variable, or a word of directives as a target: the
 /// cause `Reserved`.
 pub fn is_reserved<A: Allocator>(edit: &Edit<A>) -> bool
-    ensures { result ≡ (any is_prefix_name (names (edit_of edit.now)) || any is_reserved_word (targets (edit_of edit.now))) }
+    ensures { result ≡ (list_any is_prefix_name (names (edit_of edit.now)) || list_any is_reserved_word (targets (edit_of edit.now))) }
 {
     match edit {
         Edit::SetValue { name, .. }
@@ -165,7 +165,7 @@ pub fn is_reserved<A: Allocator>(edit: &Edit<A>) -> bool
 
 // Whether a place names the recipe prefix, or a word of directives.
 fn is_reserved_place<A: Allocator>(place: &Place<A>) -> bool
-    ensures { result ≡ (any is_prefix_name (place_names (place_of place.now)) || any is_reserved_word (place_targets (place_of place.now))) }
+    ensures { result ≡ (list_any is_prefix_name (place_names (place_of place.now)) || list_any is_reserved_word (place_targets (place_of place.now))) }
 {
     match place {
         Place::Bottom => false,
@@ -176,7 +176,7 @@ fn is_reserved_place<A: Allocator>(place: &Place<A>) -> bool
 
 // Whether some word of a text is a word of directives.
 fn has_reserved_word(text: &[u8]) -> bool
-    ensures { result ≡ any is_reserved_word (words_in text.now) }
+    ensures { result ≡ list_any is_reserved_word (words_in text.now) }
 {
     let mut rest = text;
     'words: while let Some((word, after)) = split_first_word(rest) {

@@ -2,8 +2,8 @@
 //!
 //! A walk looks at the classes of the lines that it passes. It reads no line anew and takes no memory.
 ghost use Rattle.std.specs.Prelude.{◌≡◌, ◌≤◌, ◌+◌, length, option_map};
+ghost use Rattle.std.specs.List.{list_any};
 ghost use Rattle.mk_class.specs.Classes.{is_conditional};
-ghost use Rattle.mk_class.specs.Lists.{any};
 ghost use Rattle.mk_tree.specs.Documents.{IsFaithful};
 ghost use Rattle.mk_tree.specs.PlacedLines.{is_conditional_places};
 ghost use Rattle.mk_tree.specs.RecipeLines.{recipe_run};
@@ -29,7 +29,7 @@ pub fn recipe_below<A: Allocator>(doc: &Doc<A>, from: usize) -> Recipe
     requires faithful { IsFaithful doc.now }
     requires in_range { from ≤ length doc.now }
     ensures end { result.end ≡ from + length (recipe_run (lines_from doc.now from)) }
-    ensures is_split { result.is_split ≡ any (λ line. is_conditional line.class) (recipe_run (lines_from doc.now from)) }
+    ensures is_split { result.is_split ≡ list_any (λ line. is_conditional line.class) (recipe_run (lines_from doc.now from)) }
 {
     let mut recipe = Recipe {
         end: from,

@@ -1,14 +1,15 @@
 //! Texts compared.
 ghost use Rattle.std.specs.Prelude.{◌≡◌};
+ghost use Rattle.std.specs.Str.{bytes_eq};
 ghost use Rattle.mk_class.specs.RecipePrefix.{is_prefix_name};
-ghost use Rattle.mk_class.specs.Texts.{is_one_of, is_same_text};
+ghost use Rattle.mk_class.specs.Texts.{is_one_of};
 ghost use Rattle.mk_lines.specs.Words.{words_in};
 
 use mk_lines::split_first_word;
 
 /// Whether two texts are the same.
 pub fn is_same_text(left: &[u8], right: &[u8]) -> bool
-    ensures { result ≡ is_same_text left.now right.now }
+    ensures { result ≡ bytes_eq left.now right.now }
 {
     left == right
 }

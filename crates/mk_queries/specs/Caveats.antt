@@ -1,12 +1,13 @@
 -- What make may read in a line otherwise than it is read here.
 use Rattle.std.specs.Prelude.{ℕ, ◌==◌, if◌then◌else◌, Bool, true, false, not, ◌&&◌, ◌||◌, nat_le, nat_lt, List, [], ◌∷◌, ◌++◌, map, length, Option, Some, None, codes, decimal}
+use Rattle.std.specs.Str.{bytes_eq}
 use Rattle.std.specs.Option.{option_or}
 use Rattle.mk_lines.specs.Lists.{concat, leading, after_leading}
 use Rattle.mk_lines.specs.Cells.{joined_byte}
 use Rattle.mk_lines.specs.FirstUnit.{after_first_unit}
 use Rattle.mk_lines.specs.Ranges.{text_at}
 use Rattle.mk_class.specs.Lists.{is_empty, first_passes}
-use Rattle.mk_class.specs.Texts.{is_same_text, is_one_of}
+use Rattle.mk_class.specs.Texts.{is_one_of}
 use Rattle.mk_class.specs.RecipePrefix.{is_prefix_led}
 use Rattle.mk_class.specs.Contexts.{Context, start, context_after}
 use Rattle.mk_class.specs.ClassTable.{class_of}
@@ -129,7 +130,7 @@ skipped_caveat w = if is_one_of w conditional_words then Some Conditional else N
 
 -- the caveat of an opaque line with this first word
 abbrev pub opaque_caveat : List ℕ → Option Caveat
-opaque_caveat w = if is_same_text w (codes "define") then Some Define else skipped_caveat w
+opaque_caveat w = if bytes_eq w (codes "define") then Some Define else skipped_caveat w
 
 -- the caveat of a line of this class by its first word
 abbrev pub word_caveat : Context → Seen → Class → (word : List ℕ) → Option Caveat

@@ -1,7 +1,7 @@
 //! The first word of a line, as make finds it.
 ghost use Rattle.std.specs.Prelude.{◌≡◌, ◌≤◌, length};
+ghost use Rattle.std.specs.Str.{bytes_eq};
 ghost use Rattle.mk_lines.specs.Lists.{after_leading};
-ghost use Rattle.mk_class.specs.Texts.{is_same_text};
 ghost use Rattle.mk_queries.specs.Caveats.{is_in_make_word, is_make_blank, is_passed, make_word};
 
 // Whether a byte is a blank for make.
@@ -58,7 +58,7 @@ pub(crate) fn make_word(text: &[u8]) -> &[u8]
 
 /// Whether two texts are the same.
 pub(crate) fn is_text(word: &[u8], text: &[u8]) -> bool
-    ensures { result ≡ is_same_text word.now text.now }
+    ensures { result ≡ bytes_eq word.now text.now }
 {
     word == text
 }

@@ -1,9 +1,10 @@
 -- Laws of documents that change, each the contract of a public function.
 use Rattle.std.specs.Prelude.{◌≡◌, ℕ, ◌+◌, true, false, not, ◌&&◌, List, [], ◌∷◌, ◌++◌, length}
+use Rattle.std.specs.List.{list_any}
 use Rattle.mk_lines.specs.PhysicalLines.{line_end_bytes, file_line_end}
 use Rattle.mk_lines.specs.LogicalLines.{logical_lines, is_open, EndsWhereFollowed}
 use Rattle.mk_lines.specs.Pieces.{replaced}
-use Rattle.mk_class.specs.Lists.{is_empty, any, last_passes}
+use Rattle.mk_class.specs.Lists.{is_empty, last_passes}
 use Rattle.mk_class.specs.Arguments.{is_clean, is_backslash_byte}
 use Rattle.mk_class.specs.Classes.{leaves_flag}
 use Rattle.mk_class.specs.Contexts.{Context, start, context_after}
@@ -32,7 +33,7 @@ LinesBelowKeepTheirClasses = (old new : List ℕ) (above above' below : List (Li
 abbrev pub ContextsBelowAgree : Type 0
 ContextsBelowAgree = (one other : Context) (lines : List ClassedLine) → AgreeButForFlag one other
     → AgreeButForFlag (context_after_lines one lines) (context_after_lines other lines)
-    × (any (λ l. not (leaves_flag l.class)) lines ≡ true → context_after_lines one lines ≡ context_after_lines other lines)
+    × (list_any (λ l. not (leaves_flag l.class)) lines ≡ true → context_after_lines one lines ≡ context_after_lines other lines)
 
 -- ---- lines replaced, put in and taken out
 

@@ -1,5 +1,7 @@
 -- Assignments by their first unit `=` are the assignments that are defined by the longest operator.
 use Rattle.std.proofs.Common.{◌≡◌, refl, sym, ap, ◌∙◌, subst, ℕ, suc, List, [], ◌∷◌, ◌++◌, map, Bool, true, false, not, ◌==◌, ◌&&◌, ◌||◌, cond, Option, Some, None, append_assoc, length, take, drop}
+use Rattle.std.specs.Str.{bytes_eq}
+use Rattle.std.specs.List.{list_any}
 use Rattle.std.proofs.lemmas.List.{append-nil, map-append}
 use Rattle.std.proofs.Math.Seq.{take-append_seam, drop-append_seam}
 use Rattle.std.specs.Prelude.{codes}
@@ -7,8 +9,8 @@ use Rattle.mk_lines.specs.Lists.{concat, leading, after_leading, Each, FirstFail
 use Rattle.mk_lines.proofs.on_lists.ListLemmas.{leading-append, after_leading-append, leading-after_leading, leading-each, after_leading-first_fails, concat-append, Each-right}
 use Rattle.mk_lines.specs.Words.{Token, Gap, Word, tokens, before_tokens, token_units, is_gap}
 use Rattle.mk_lines.proofs.on_units.TokenLemmas.{token_units-tokens}
-use Rattle.mk_class.specs.Lists.{any, until, from, is_empty, first_passes}
-use Rattle.mk_class.specs.Texts.{is_same_text, unit_text}
+use Rattle.mk_class.specs.Lists.{until, from, is_empty, first_passes}
+use Rattle.mk_class.specs.Texts.{unit_text}
 use Rattle.mk_class.specs.Symbols.{Symbol, symbol, is_equals, is_equals_symbol}
 use Rattle.mk_class.specs.Symbols.Symbol.{Hash, Colon, Semicolon, Equals, Plus, Question, Exclamation, Bar, Ampersand, NoSymbol}
 use Rattle.mk_class.proofs.on_symbols.SymbolLemmas.{symbol-unit, equals-symbol, equals-no_gap}
@@ -336,17 +338,17 @@ module _ {A : Type 0} (byte : A → ℕ) where
 -- ---- a word with a `=` is no modifier
 
 -- a text with a byte that another has not is not the same
-pub not_same : (n : ℕ) (a c k : List ℕ) → any (λ b. n == b) k ≡ false → is_same_text (a ++ n ∷ c) k ≡ false
+pub not_same : (n : ℕ) (a c k : List ℕ) → list_any (λ b. n == b) k ≡ false → bytes_eq (a ++ n ∷ c) k ≡ false
 not_same n [] c [] h = refl
 not_same n [] c (y ∷ k) h = go (n == y) h
   where
-    go : (t : Bool) → (t || any (λ b. n == b) k) ≡ false → (t && is_same_text c k) ≡ false
+    go : (t : Bool) → (t || list_any (λ b. n == b) k) ≡ false → (t && bytes_eq c k) ≡ false
     go true e = cc
     go false e = refl
 not_same n (x ∷ a) c [] h = refl
 not_same n (x ∷ a) c (y ∷ k) h = rw (not_same n a c k (right (n == y) h)) (go (x == y))
   where
-    right : (t : Bool) → (t || any (λ b. n == b) k) ≡ false → any (λ b. n == b) k ≡ false
+    right : (t : Bool) → (t || list_any (λ b. n == b) k) ≡ false → list_any (λ b. n == b) k ≡ false
     right true e = cc
     right false e = e
 

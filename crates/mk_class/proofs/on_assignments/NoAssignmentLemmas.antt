@@ -1,13 +1,14 @@
 -- Texts that are no assignment: a text whose head has no `=` is none, since a `;` before the first `=` ends the name and is no
 -- part of an operator.
 use Rattle.std.proofs.Common.{◌≡◌, refl, sym, ap, ◌∙◌, ℕ, List, [], ◌∷◌, ◌++◌, map, Bool, true, false, not, ◌||◌, cond, Option, Some, None, append_assoc}
+use Rattle.std.specs.List.{list_any}
 use Rattle.std.proofs.lemmas.List.{append-nil, map-append}
 use Rattle.std.specs.Prelude.{codes}
 use Rattle.mk_lines.specs.Lists.{concat, leading, after_leading, Each, FirstFails}
 use Rattle.mk_lines.proofs.on_lists.ListLemmas.{Each-append, leading-after_leading, leading-each, after_leading-first_fails}
 use Rattle.mk_lines.specs.Words.{Token, Gap, Word, tokens, token_units, is_gap, AreTokens}
 use Rattle.mk_lines.proofs.on_units.TokenLemmas.{token_units-tokens, tokens-are_tokens}
-use Rattle.mk_class.specs.Lists.{any, until, from, is_empty}
+use Rattle.mk_class.specs.Lists.{until, from, is_empty}
 use Rattle.mk_class.specs.Texts.{unit_text}
 use Rattle.mk_class.specs.Symbols.{Symbol, symbol, is_equals, is_semicolon, is_semicolon_symbol, is_equals_symbol}
 use Rattle.mk_class.specs.Symbols.Symbol.{Hash, Colon, Semicolon, Equals, Plus, Question, Exclamation, Bar, Ampersand, NoSymbol}
@@ -20,7 +21,7 @@ use Rattle.mk_class.specs.declared.assignment.Flavor.{Flavor}
 use Rattle.mk_class.specs.declared.assignment.Modifier.{Modifier}
 
 -- no operator has a `;`
-flavor-semicolon : (s : List Symbol) → any is_semicolon_symbol s ≡ true → flavor_before_equals s ≡ None
+flavor-semicolon : (s : List Symbol) → list_any is_semicolon_symbol s ≡ true → flavor_before_equals s ≡ None
 flavor-semicolon [] h = cc
 flavor-semicolon (Hash ∷ s) h = refl
 flavor-semicolon (Colon ∷ []) h = cc
@@ -60,7 +61,7 @@ flavor-semicolon (NoSymbol ∷ s) h = refl
 module _ {A : Type 0} (byte : A → ℕ) where
   -- whether there is a unit `;`
   abbrev has_semicolon : List (List A) → Bool
-  has_semicolon us = any (is_semicolon byte) us
+  has_semicolon us = list_any (is_semicolon byte) us
 
   or-is : (a b : Bool) → a ≡ false → (a || b) ≡ true → b ≡ true
   or-is true b h k = cc
@@ -94,7 +95,7 @@ module _ {A : Type 0} (byte : A → ℕ) where
       go false e true f k = absurd (let m : true ≡ false = sym (name-ends u us f) ∙ e in cc)
       go false e false f k = k (or-is (is_semicolon byte u) (has_semicolon us) f h)
 
-  semicolon-symbols : (us : List (List A)) → any is_semicolon_symbol (map (symbol byte) us) ≡ has_semicolon us
+  semicolon-symbols : (us : List (List A)) → list_any is_semicolon_symbol (map (symbol byte) us) ≡ has_semicolon us
   semicolon-symbols [] = refl
   semicolon-symbols (u ∷ us) = ap (λ z. is_semicolon byte u || z) (semicolon-symbols us)
 

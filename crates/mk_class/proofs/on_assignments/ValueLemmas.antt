@@ -1,5 +1,6 @@
 -- Values: what a text that may be a value is among the cells of a line.
 use Rattle.std.proofs.Common.{◌≡◌, refl, sym, ap, ◌∙◌, subst, ℕ, List, [], ◌∷◌, ◌++◌, map, Bool, true, false, not, ◌||◌, ◌==◌}
+use Rattle.std.specs.List.{list_any}
 use Rattle.std.proofs.lemmas.Bool.{and_parts, not-true}
 use Rattle.mk_lines.specs.Lists.{concat, Each, FirstFails, LastFails}
 use Rattle.mk_lines.specs.Bytes.{ByteKind, byte_kind, is_blank_kind, is_backslash_kind, is_blank_byte}
@@ -14,7 +15,7 @@ use Rattle.mk_lines.specs.Units.UnitState.{Between}
 use Rattle.mk_lines.proofs.on_units.UnitLemmas.{units-map, is_closed-map, concat-units}
 use Rattle.mk_lines.specs.Words.{is_gap}
 use Rattle.mk_lines.proofs.on_lists.BoolLemmas.{or-left_false, or-right_false}
-use Rattle.mk_class.specs.Lists.{any, last_passes}
+use Rattle.mk_class.specs.Lists.{last_passes}
 use Rattle.mk_class.specs.Symbols.{symbol, is_hash, is_hash_symbol}
 use Rattle.mk_class.specs.CutTexts.{is_no_hash}
 use Rattle.mk_class.proofs.on_assignments.AssignmentsWhole.{AreValue}
@@ -40,11 +41,11 @@ symbol-bytes [] = refl
 symbol-bytes (x ∷ []) = refl
 symbol-bytes (x ∷ y ∷ u) = refl
 
-no_hash-bytes : (us : List (List ℕ)) → any (is_hash (λ b. b)) us ≡ false → Each (is_no_hash joined_byte) (map (map Byte) us)
+no_hash-bytes : (us : List (List ℕ)) → list_any (is_hash (λ b. b)) us ≡ false → Each (is_no_hash joined_byte) (map (map Byte) us)
 no_hash-bytes [] h = tt
 no_hash-bytes (u ∷ us) h = (
-  ap (λ s. not (is_hash_symbol s)) (symbol-bytes u) ∙ ap not (or-left_false (is_hash (λ b. b) u) (any (is_hash (λ b. b)) us) h),
-  no_hash-bytes us (or-right_false (is_hash (λ b. b) u) (any (is_hash (λ b. b)) us) h),
+  ap (λ s. not (is_hash_symbol s)) (symbol-bytes u) ∙ ap not (or-left_false (is_hash (λ b. b) u) (list_any (is_hash (λ b. b)) us) h),
+  no_hash-bytes us (or-right_false (is_hash (λ b. b) u) (list_any (is_hash (λ b. b)) us) h),
 )
 
 last-right : (p : ℕ → Bool) (a b : List ℕ) → last_passes p (a ++ b) ≡ false → last_passes p b ≡ false
@@ -88,11 +89,11 @@ no_end-kind Blank h = refl
 no_end-kind Ordinary h = refl
 
 -- a text without LF, CR and NUL has no line end
-pub clean-no_line_end : (v : List ℕ) → any is_barred_byte v ≡ false → HasNoLineEnd v
+pub clean-no_line_end : (v : List ℕ) → list_any is_barred_byte v ≡ false → HasNoLineEnd v
 clean-no_line_end [] h = tt
 clean-no_line_end (b ∷ v) h = (
-  no_end-kind (byte_kind b) (or-left_false (is_line_end_kind (byte_kind b)) (b == 0) (or-left_false (is_barred_byte b) (any is_barred_byte v) h)),
-  clean-no_line_end v (or-right_false (is_barred_byte b) (any is_barred_byte v) h),
+  no_end-kind (byte_kind b) (or-left_false (is_line_end_kind (byte_kind b)) (b == 0) (or-left_false (is_barred_byte b) (list_any is_barred_byte v) h)),
+  clean-no_line_end v (or-right_false (is_barred_byte b) (list_any is_barred_byte v) h),
 )
 
 stray-kind : (k : ByteKind) (z : Bool) → is_line_end_kind k ≡ false → z ≡ false → is_stray_by k z ≡ false
@@ -103,12 +104,12 @@ stray-kind Blank z h e = e
 stray-kind Ordinary z h e = e
 
 -- the cells of such a text have no stray byte
-pub clean-no_stray : (v : List ℕ) → any is_barred_byte v ≡ false → has_stray (map Byte v) ≡ false
+pub clean-no_stray : (v : List ℕ) → list_any is_barred_byte v ≡ false → has_stray (map Byte v) ≡ false
 clean-no_stray [] h = refl
 clean-no_stray (b ∷ v) h =
-    let s = or-left_false (is_barred_byte b) (any is_barred_byte v) h in
+    let s = or-left_false (is_barred_byte b) (list_any is_barred_byte v) h in
     ap (λ z. z || has_stray (map Byte v)) (stray-kind (byte_kind b) (b == 0) (or-left_false (is_line_end_kind (byte_kind b)) (b == 0) s) (or-right_false (is_line_end_kind (byte_kind b)) (b == 0) s))
-    ∙ clean-no_stray v (or-right_false (is_barred_byte b) (any is_barred_byte v) h)
+    ∙ clean-no_stray v (or-right_false (is_barred_byte b) (list_any is_barred_byte v) h)
 
 ordinary-kind : (k : ByteKind) → is_line_end_kind k ≡ false → is_blank_kind k ≡ false → is_backslash_kind k ≡ false → is_ordinary_kind k ≡ true
 ordinary-kind LineFeed h i j = cc
@@ -118,9 +119,9 @@ ordinary-kind Blank h i j = cc
 ordinary-kind Ordinary h i j = refl
 
 -- a text, not empty, without LF, CR and NUL, whose last byte is no blank and no backslash, ends in an ordinary byte
-clean-ends_ordinary : (b : ℕ) (v : List ℕ) → any is_barred_byte (b ∷ v) ≡ false → last_passes is_blank_byte (b ∷ v) ≡ false → last_passes is_backslash_byte (b ∷ v) ≡ false → ends_ordinary (b ∷ v) ≡ true
+clean-ends_ordinary : (b : ℕ) (v : List ℕ) → list_any is_barred_byte (b ∷ v) ≡ false → last_passes is_blank_byte (b ∷ v) ≡ false → last_passes is_backslash_byte (b ∷ v) ≡ false → ends_ordinary (b ∷ v) ≡ true
 clean-ends_ordinary b [] h i j = ordinary-kind (byte_kind b) (or-left_false (is_line_end_kind (byte_kind b)) (b == 0) (or-left_false (is_barred_byte b) false h)) i j
-clean-ends_ordinary b (c ∷ v) h i j = clean-ends_ordinary c v (or-right_false (is_barred_byte b) (any is_barred_byte (c ∷ v)) h) i j
+clean-ends_ordinary b (c ∷ v) h i j = clean-ends_ordinary c v (or-right_false (is_barred_byte b) (list_any is_barred_byte (c ∷ v)) h) i j
 
 -- ---- the value
 
@@ -132,8 +133,8 @@ value-text b r h =
     let p1 = and_parts (not (is_blank_byte b)) _ p0.1 in
     let p2 = and_parts (not (last_passes is_blank_byte v)) _ p1.1 in
     let p3 = and_parts (is_closed (λ b. b) v) _ p2.1 in
-    let p4 = and_parts (not (any (is_hash (λ b. b)) (units (λ b. b) v))) _ p3.1 in
-    let clean : any is_barred_byte v ≡ false = not-true (any is_barred_byte v) p0.0 in
+    let p4 = and_parts (not (list_any (is_hash (λ b. b)) (units (λ b. b) v))) _ p3.1 in
+    let clean : list_any is_barred_byte v ≡ false = not-true (list_any is_barred_byte v) p0.0 in
     let no_blank : last_passes is_blank_byte v ≡ false = not-true (last_passes is_blank_byte v) p2.0 in
     let cells : units joined_byte (map Byte v) ≡ map (map Byte) (units (λ b. b) v) = units-map Byte joined_byte v in
     let last : last_passes is_blank_byte (concat (units (λ b. b) v)) ≡ false = ap (last_passes is_blank_byte) (concat-units (λ b. b) v) ∙ no_blank in
@@ -144,7 +145,7 @@ value-text b r h =
         ends = clean-ends_ordinary b r clean no_blank (not-true (last_passes is_backslash_byte v) p4.1);
       };
       closed = is_closed-map Byte joined_byte v ∙ p3.0;
-      no_hash = subst (Each (is_no_hash joined_byte)) (sym cells) (no_hash-bytes (units (λ b. b) v) (not-true (any (is_hash (λ b. b)) (units (λ b. b) v)) p4.0));
+      no_hash = subst (Each (is_no_hash joined_byte)) (sym cells) (no_hash-bytes (units (λ b. b) v) (not-true (list_any (is_hash (λ b. b)) (units (λ b. b) v)) p4.0));
       begins = subst (FirstFails (is_gap joined_byte)) (sym cells) (first-bytes (units (λ b. b) v) (first_unit-no_gap b r (not-true (is_blank_byte b) p1.0)));
       ends = subst (LastFails (is_gap joined_byte)) (sym cells) (last-bytes (units (λ b. b) v) (last_unit-no_gap (units (λ b. b) v) last));
       not_empty = λ e. cc;

@@ -1,5 +1,6 @@
 -- Which lines have which class: what a class says of the context that the line stands in, and of the line.
 use Rattle.std.proofs.Common.{subst, ◌≡◌, refl, sym, ap, ◌∙◌, ℕ, List, [], ◌∷◌, ◌++◌, Bool, true, false, not, ◌||◌, cond, Option, Some, None, zero, suc}
+use Rattle.std.specs.List.{list_any}
 use Rattle.std.specs.Prelude.{nat_lt}
 use Rattle.std.proofs.lemmas.Bool.{or_from}
 use Rattle.mk_lines.specs.Lists.{after_leading, Each}
@@ -11,7 +12,7 @@ use Rattle.mk_lines.specs.PhysicalLines.{without_line_end}
 use Rattle.mk_lines.specs.Units.{units}
 use Rattle.mk_lines.specs.Words.{is_gap}
 use Rattle.mk_lines.proofs.on_lists.BoolLemmas.{or-left_false, or-right_false}
-use Rattle.mk_class.specs.Lists.{is_empty, any}
+use Rattle.mk_class.specs.Lists.{is_empty}
 use Rattle.mk_class.specs.Texts.{word_texts}
 use Rattle.mk_class.specs.Symbols.{is_hash, is_equals, is_equals_symbol}
 use Rattle.mk_class.proofs.on_symbols.SymbolLemmas.{gap-no_symbol}
@@ -144,7 +145,7 @@ fits-directive NoKeyword NoKeyword c ws x h = h
 fits-plain : (led c : Bool) (cs : List Cell) (us : List (List Cell)) → FitsOutside c (plain_class joined_byte led c (is_unreadable cs) us)
 fits-plain led c cs us =
     let ws = word_texts joined_byte (cut_text joined_byte us) in
-    fits-cond c (is_all_blanks joined_byte (cut_text joined_byte us)) _ _ (fits-cond c (any (is_hash joined_byte) us) Comment Blank tt tt) (
+    fits-cond c (is_all_blanks joined_byte (cut_text joined_byte us)) _ _ (fits-cond c (list_any (is_hash joined_byte) us) Comment Blank tt tt) (
     fits-cond c (is_unreadable cs) Opaque _ tt (
     fits-assign c (assignment joined_byte (cut_text joined_byte us)) _ (
     fits-directive (first_keyword ws) (first_keyword (after_modifiers ws)) c (after_modifiers ws) _ (

@@ -1,6 +1,7 @@
 -- The table of classes is natural: units and their images are of the same class, places and all. So the class of a line's cells
 -- is that of its joined text, and depends beside it only on whether the line has a stray byte or a bad fold.
 use Rattle.std.proofs.Common.{◌≡◌, refl, ap, ◌∙◌, sym, ℕ, suc, zero, List, map, Bool, true, false, not, ◌||◌, cond, Option, Some, None}
+use Rattle.std.specs.List.{list_any}
 use Rattle.std.specs.Prelude.{nat_lt}
 use Rattle.mk_lines.specs.Lists.{after_leading}
 use Rattle.mk_lines.specs.Cells.{joined_byte, joined_text, line_cells}
@@ -8,7 +9,7 @@ use Rattle.mk_lines.specs.Units.{units}
 use Rattle.mk_lines.proofs.on_units.UnitLemmas.{units-map}
 use Rattle.mk_lines.specs.Words.{is_gap}
 use Rattle.mk_lines.proofs.on_units.TokenLemmas.{is_gap-map}
-use Rattle.mk_class.specs.Lists.{is_empty, any}
+use Rattle.mk_class.specs.Lists.{is_empty}
 use Rattle.mk_class.proofs.on_symbols.ListMaps.{is_empty-map, any-map, after_leading-map}
 use Rattle.mk_class.specs.Texts.{word_texts}
 use Rattle.mk_class.specs.Symbols.{is_hash}
@@ -102,7 +103,7 @@ module _ {A B : Type 0} (f : A → B) (byte : B → ℕ) where
       let C = cut_text (λ x. byte (f x)) us in
       let D = directive c (word_texts (λ x. byte (f x)) C) in
       let N = is_all_blanks (λ x. byte (f x)) C in
-      let H = any (is_hash (λ x. byte (f x))) us in
+      let H = list_any (is_hash (λ x. byte (f x))) us in
       let K = has_colon (λ x. byte (f x)) (head (λ x. byte (f x)) us) in
       let O = assignment (λ x. byte (f x)) C in
       let cut = cut_text-map f byte us in

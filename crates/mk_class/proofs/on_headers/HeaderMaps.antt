@@ -1,10 +1,11 @@
 -- The parts of the image of a header's line are the images of the parts of the line, and the image is Rough if the line is.
 use Rattle.std.proofs.Common.{◌≡◌, refl, ap, ◌∙◌, ℕ, List, [], ◌∷◌, map, Bool, true, false, not, ◌&&◌, ◌||◌, cond, Some, None, take, drop}
+use Rattle.std.specs.List.{list_any}
 use Rattle.std.proofs.lemmas.List.{take-map, drop-map}
 use Rattle.mk_lines.specs.Lists.{leading, after_leading}
 use Rattle.mk_lines.specs.Words.{is_gap}
 use Rattle.mk_lines.proofs.on_units.TokenLemmas.{is_gap-map}
-use Rattle.mk_class.specs.Lists.{any, until, from, first_passes}
+use Rattle.mk_class.specs.Lists.{until, from, first_passes}
 use Rattle.mk_class.proofs.on_symbols.ListMaps.{is_empty-map, any-map, first_passes-map, last_passes-map, leading-map, after_leading-map, until-map, from-map}
 use Rattle.mk_class.specs.Symbols.{symbol, is_hash, is_colon, is_equals, is_bar, is_ampersand, is_unreadable_unit}
 use Rattle.mk_class.proofs.on_symbols.SymbolMaps.{symbols-map, is_hash-map, is_colon-map, is_equals-map, is_bar-map, is_ampersand-map, is_unreadable_unit-map, words_of-map, head-map, after_head-map}
@@ -128,7 +129,7 @@ module _ {A B : Type 0} (f : A → B) (byte : B → ℕ) where
 
   -- ---- what makes it Rough
 
-  has_bar-map : (us : List (List A)) → any (is_bar byte) (map (map f) us) ≡ any (is_bar (λ x. byte (f x))) us
+  has_bar-map : (us : List (List A)) → list_any (is_bar byte) (map (map f) us) ≡ list_any (is_bar (λ x. byte (f x))) us
   has_bar-map us = any-map (map f) (is_bar (λ x. byte (f x))) (is_bar byte) (is_bar-map f byte) us
 
   has_unreadable-map : (us : List (List A)) → has_unreadable byte (map (map f) us) ≡ has_unreadable (λ x. byte (f x)) us

@@ -1,7 +1,8 @@
 -- The words on lists over an image: what they keep of the image is the image of what they keep of the list.
 use Rattle.std.proofs.Common.{◌≡◌, refl, List, [], ◌∷◌, map, Bool, true, false, cond}
+use Rattle.std.specs.List.{list_any}
 use Rattle.mk_lines.specs.Lists.{leading, after_leading, trim_end, trailing, trim_end_before, trailing_before}
-use Rattle.mk_class.specs.Lists.{is_empty, any, first_passes, last_passes, until, from}
+use Rattle.mk_class.specs.Lists.{is_empty, first_passes, last_passes, until, from}
 
 module _ {A B : Type 0} (f : A → B) where
   -- an image is empty if the list is empty
@@ -12,7 +13,7 @@ module _ {A B : Type 0} (f : A → B) where
 -- a test of elements of the image that says the same as one of the elements
 module _ {A B : Type 0} (f : A → B) (p : A → Bool) (q : B → Bool) (same : (x : A) → q (f x) ≡ p x) where
   -- some element of the image passes if some element of the list does
-  pub any-map : (xs : List A) → any q (map f xs) ≡ any p xs
+  pub any-map : (xs : List A) → list_any q (map f xs) ≡ list_any p xs
   any-map [] = refl
   any-map (x ∷ xs) = rw (same x, any-map xs) refl
 

@@ -1,7 +1,7 @@
 -- A new recipe line: its place, and the cause that comes before those of the place.
 use Rattle.std.proofs.Common.{◌≡◌, refl, sym, ap, ◌∙◌, arith, ℕ, ◌+◌, ◌<◌, ◌≤◌, true, false, List, ◌∷◌, ◌++◌, append_assoc, length, length-append, Option, option_map}
+use Rattle.std.specs.List.{list_any}
 use Rattle.std.specs.Prelude.{Err}
-use Rattle.mk_class.specs.Lists.{any}
 use Rattle.mk_class.specs.Classes.{is_conditional}
 use Rattle.mk_class.specs.ClassedLines.{classed_lines}
 use Rattle.mk_tree.specs.Documents.{IsFaithful}
@@ -44,9 +44,9 @@ pub record IsAdditionOf (e : Edit) (ls : List PlacedLine) (f : Found) : Type 0 w
   pub within : f.at < length ls
   pub end_within : f.at + 1 + length (recipe_run (lines_from ls (f.at + 1))) ≤ length ls
   -- a line of a conditional in the recipe
-  pub straddling : true ≡ any (λ l. is_conditional l.class) (recipe_run (lines_from ls (f.at + 1))) → spans (placed_text ls) e ≡ Err Straddles
+  pub straddling : true ≡ list_any (λ l. is_conditional l.class) (recipe_run (lines_from ls (f.at + 1))) → spans (placed_text ls) e ≡ Err Straddles
   -- no line of a conditional stands in the recipe
-  pub decided : false ≡ any (λ l. is_conditional l.class) (recipe_run (lines_from ls (f.at + 1))) → IsDecidedByPlace (placed_text ls) e
+  pub decided : false ≡ list_any (λ l. is_conditional l.class) (recipe_run (lines_from ls (f.at + 1))) → IsDecidedByPlace (placed_text ls) e
   -- the place after the recipe
   pub inserted : (g : Found) → g.at ≡ f.at + 1 + length (recipe_run (lines_from ls (f.at + 1))) → IsPlaceOf ls g → IsInsertedAt ls (insertion (classed_lines (placed_text ls)) e) g
 

@@ -1,10 +1,10 @@
 -- The removal of a rule: its causes by what the code asks, and its plan.
 use Rattle.std.proofs.Common.{◌≡◌, refl, sym, ap, ◌∙◌, arith, ℕ, ◌+◌, ◌-◌, ◌^◌, ◌<◌, ◌≤◌, ◌&&◌, not, true, false, Bool, List, [], ◌∷◌, ◌++◌, length, drop, Option, Some, None, option_map}
+use Rattle.std.specs.List.{list_any}
 use Rattle.std.specs.Prelude.{Ok, Err, nat_lt, slice_get}
 use Rattle.std.proofs.lemmas.Bool.{lt-ltb, le-ltb}
 use Rattle.mk_lines.specs.Cells.{Cell, joined_byte, joined_text, line_cells}
 use Rattle.mk_lines.specs.Pieces.{Replacement}
-use Rattle.mk_class.specs.Lists.{any}
 use Rattle.mk_class.specs.Headers
 use Rattle.mk_class.specs.Classes.{is_conditional}
 use Rattle.mk_class.specs.Classes.Class.{Header}
@@ -63,11 +63,11 @@ shared-is ls nth g f l n R h k =
     let m : n ≡ length (targets_of s.line.class) = k ∙ (ap (λ (z : PlacedLine). length (header_targets_placed z)) same ∙ ap length (header-targets f.context s.line R.header R.line.class_is R.class_is)) in
     ap (λ (o : Option StandingLine). shared_by (targets_found (class_found o))) R.found_is ∙ ap (λ n. where_holds (nat_lt 1 n) (SharedRule n)) (sym m)
 
-pub straddles-is : (ls : List PlacedLine) (nth : Option ℕ) (g : List ℕ) (f : Found) (b : Bool) → IsRuleAt ls nth g f → b ≡ any (λ l. is_conditional l.class) (recipe_run (lines_from ls (f.at + 1)))
+pub straddles-is : (ls : List PlacedLine) (nth : Option ℕ) (g : List ℕ) (f : Found) (b : Bool) → IsRuleAt ls nth g f → b ≡ list_any (λ l. is_conditional l.class) (recipe_run (lines_from ls (f.at + 1)))
     → where_holds (has_conditional (found (classed_lines (placed_text ls)) (Rule nth g))) Straddles ≡ where_holds b Straddles
 straddles-is ls nth g f b R h =
     ap (λ (o : Option StandingLine). where_holds (has_conditional o) Straddles) R.found_is
-    ∙ ap (λ b. where_holds b Straddles) (sym (h ∙ ap (λ z. any (λ l. is_conditional l.class) (recipe_run z)) R.below_is))
+    ∙ ap (λ b. where_holds b Straddles) (sym (h ∙ ap (λ z. list_any (λ l. is_conditional l.class) (recipe_run z)) R.below_is))
 
 leaning-is : (ls : List PlacedLine) (nth : Option ℕ) (g : List ℕ) (f : Found) (end : ℕ) (b : Bool) → IsRuleAt ls nth g f → end ≡ f.at + 1 + length (recipe_run (lines_from ls (f.at + 1)))
     → b ≡ (not (is_same_flag f.context.flag flag.Rule) && is_led_first_placed f.context.prefix (drop end ls)) → leaning (classed_lines (placed_text ls)) (RemoveRule nth g) ≡ where_holds b Leans
@@ -104,14 +104,14 @@ pub record IsRemovalOf (e : Edit) (ls : List PlacedLine) (f : Found) : Type 0 wh
   pub shared : (l : PlacedLine) (n : ℕ) → Some l ≡ slice_get ls f.at → n ≡ length (header_targets_placed l) → 1 < n → spans (placed_text ls) e ≡ Err (SharedRule n)
   -- a line of a conditional in the recipe
   pub straddling : (l : PlacedLine) (n : ℕ) → Some l ≡ slice_get ls f.at → n ≡ length (header_targets_placed l) → n ≤ 1
-      → true ≡ any (λ l. is_conditional l.class) (recipe_run (lines_from ls (f.at + 1))) → spans (placed_text ls) e ≡ Err Straddles
+      → true ≡ list_any (λ l. is_conditional l.class) (recipe_run (lines_from ls (f.at + 1))) → spans (placed_text ls) e ≡ Err Straddles
   -- lines below that lean
   pub leaning_on : (l : PlacedLine) (n end : ℕ) → Some l ≡ slice_get ls f.at → n ≡ length (header_targets_placed l) → n ≤ 1
-      → false ≡ any (λ l. is_conditional l.class) (recipe_run (lines_from ls (f.at + 1))) → end ≡ f.at + 1 + length (recipe_run (lines_from ls (f.at + 1)))
+      → false ≡ list_any (λ l. is_conditional l.class) (recipe_run (lines_from ls (f.at + 1))) → end ≡ f.at + 1 + length (recipe_run (lines_from ls (f.at + 1)))
       → true ≡ (not (is_same_flag f.context.flag flag.Rule) && is_led_first_placed f.context.prefix (drop end ls)) → spans (placed_text ls) e ≡ Err Leans
   -- none of these causes holds
   pub accepted : (l : PlacedLine) (n end : ℕ) → size_of ls ≤ 2 ^ 24 → Some l ≡ slice_get ls f.at → n ≡ length (header_targets_placed l) → n ≤ 1
-      → false ≡ any (λ l. is_conditional l.class) (recipe_run (lines_from ls (f.at + 1))) → end ≡ f.at + 1 + length (recipe_run (lines_from ls (f.at + 1)))
+      → false ≡ list_any (λ l. is_conditional l.class) (recipe_run (lines_from ls (f.at + 1))) → end ≡ f.at + 1 + length (recipe_run (lines_from ls (f.at + 1)))
       → false ≡ (not (is_same_flag f.context.flag flag.Rule) && is_led_first_placed f.context.prefix (drop end ls))
       → (rs : List Replacement) × (spans (placed_text ls) e ≡ Ok rs) × IsTakenOut e ls f.at (end - f.at)
 

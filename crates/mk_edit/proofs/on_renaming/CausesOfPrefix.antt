@@ -1,12 +1,12 @@
 -- Whether a rename makes a line begin with the recipe prefix: a word at the very front of the line is replaced, and the new word
 -- begins with the prefix.
 use Rattle.std.proofs.Common.{◌≡◌, refl, sym, ap, ◌∙◌, arith, ℕ, ◌+◌, ◌==◌, ◌<◌, ◌&&◌, ◌||◌, false, List, [], ◌∷◌, ◌++◌, length}
+use Rattle.std.specs.List.{list_any}
 use Rattle.std.proofs.lemmas.Bool.{ne_eqb}
 use Rattle.std.proofs.Math.Bool.{and-false}
 use Rattle.mk_lines.specs.Cells.{Cell, raw_text}
 use Rattle.mk_lines.specs.Pieces.{Piece, Keep, Replace, Replacement, new_bytes, old_bytes, replacements}
 use Rattle.mk_lines.specs.declared.split.Span.{Span}
-use Rattle.mk_class.specs.Lists.{any}
 use Rattle.mk_class.specs.RecipePrefix.{is_prefix_led}
 use Rattle.mk_class.specs.Classes.{Class}
 use Rattle.mk_class.specs.Classes.Class.{Endef, Body, Recipe, Opaque, Blank, Comment, Assign, DefineHead, If, Else, Endif, Directive, TargetAssign, Rough, Header}
@@ -40,7 +40,7 @@ others [] = []
 others (r ∷ rs) = rs
 
 -- pieces after the front of a line replace no range at the front
-after-front : (n : List ℕ) (at : ℕ) (ps : List Piece) (ss : List Span) → 0 < at → replacing n ss ≡ replacements at ps → any is_at_front ss ≡ false
+after-front : (n : List ℕ) (at : ℕ) (ps : List Piece) (ss : List Span) → 0 < at → replacing n ss ≡ replacements at ps → list_any is_at_front ss ≡ false
 after-front n at [] [] h k = refl
 after-front n at [] (s ∷ ss) h k = absurd (cc)
 after-front n at (Keep cs ∷ ps) ss h k = after-front n (at + length (raw_text cs)) ps ss (omega (arith, h)) k
@@ -48,28 +48,28 @@ after-front n at (Replace cs v ∷ ps) [] h k = absurd (cc)
 after-front n at (Replace cs v ∷ ps) (s ∷ ss) h k =
     let e : s.start ≡ at = unfold first_start in ap first_start k in
     let r : replacing n ss ≡ replacements (at + length (raw_text cs)) ps = unfold others in ap others k in
-    ap (λ b. b || any is_at_front ss) (ne_eqb s.start 0 (λ i. absurd (omega (arith, i, e, h)))) ∙ after-front n (at + length (raw_text cs)) ps ss (omega (arith, h)) r
+    ap (λ b. b || list_any is_at_front ss) (ne_eqb s.start 0 (λ i. absurd (omega (arith, i, e, h)))) ∙ after-front n (at + length (raw_text cs)) ps ss (omega (arith, h)) r
 
 -- Pieces that begin a line; a text replaces some of them, and the old bytes do not begin with the prefix. Some piece is replaced
 -- and the new bytes begin with the prefix exactly if the front is replaced and the text begins with the prefix.
 pieces-led : (p : ℕ) (n : List ℕ) (ps : List Piece) (ss : List Span) → 0 < length n → replacing n ss ≡ replacements 0 ps → is_prefix_led p (old_bytes ps) ≡ false
-    → (any is_replaced ps && is_prefix_led p (new_bytes ps)) ≡ (any is_at_front ss && is_prefix_led p n)
+    → (list_any is_replaced ps && is_prefix_led p (new_bytes ps)) ≡ (list_any is_at_front ss && is_prefix_led p n)
 pieces-led p n [] [] h k f = refl
 pieces-led p n [] (s ∷ ss) h k f = absurd (cc)
 pieces-led p n (Keep cs ∷ ps) ss h k f = go (raw_text cs) k f (pieces-led p n ps ss h)
   where
     go : (r : List ℕ) → replacing n ss ≡ replacements (0 + length r) ps → is_prefix_led p (r ++ old_bytes ps) ≡ false
-        → (replacing n ss ≡ replacements 0 ps → is_prefix_led p (old_bytes ps) ≡ false → (any is_replaced ps && is_prefix_led p (new_bytes ps)) ≡ (any is_at_front ss && is_prefix_led p n))
-        → (any is_replaced ps && is_prefix_led p (r ++ new_bytes ps)) ≡ (any is_at_front ss && is_prefix_led p n)
+        → (replacing n ss ≡ replacements 0 ps → is_prefix_led p (old_bytes ps) ≡ false → (list_any is_replaced ps && is_prefix_led p (new_bytes ps)) ≡ (list_any is_at_front ss && is_prefix_led p n))
+        → (list_any is_replaced ps && is_prefix_led p (r ++ new_bytes ps)) ≡ (list_any is_at_front ss && is_prefix_led p n)
     go [] k f ih = ih k f
     go (b ∷ r) k f ih =
-        ap (λ z. any is_replaced ps && z) f ∙ (and-false (any is_replaced ps) ∙ ap (λ z. z && is_prefix_led p n) (sym (after-front n (0 + length (b ∷ r)) ps ss (omega arith) k)))
+        ap (λ z. list_any is_replaced ps && z) f ∙ (and-false (list_any is_replaced ps) ∙ ap (λ z. z && is_prefix_led p n) (sym (after-front n (0 + length (b ∷ r)) ps ss (omega arith) k)))
 pieces-led p n (Replace cs v ∷ ps) [] h k f = absurd (cc)
 pieces-led p [] (Replace cs v ∷ ps) (s ∷ ss) h k f = absurd (omega (arith, h))
 pieces-led p (b ∷ n) (Replace cs v ∷ ps) (s ∷ ss) h k f =
     let e : s.start ≡ 0 = unfold first_start in ap first_start k in
     let w : b ∷ n ≡ v = unfold first_new in ap first_new k in
-    ap (λ z. is_prefix_led p (z ++ new_bytes ps)) (sym w) ∙ ap (λ z. ((z == 0) || any is_at_front ss) && (b == p)) (sym e)
+    ap (λ z. is_prefix_led p (z ++ new_bytes ps)) (sym w) ∙ ap (λ z. ((z == 0) || list_any is_at_front ss) && (b == p)) (sym e)
 
 -- ---- a line
 
@@ -100,7 +100,7 @@ line-unled c l o n h = go l.class (holds-as c l.bytes l.class h) (line-begins c 
     go Rough s b = refl
 
 line-led : (c : Context) (l : ClassedLine) (o n : List ℕ) → class_of c l.bytes ≡ l.class → 0 < length n
-    → begins_renamed_line c.prefix (renamed_pieces o n l.class) ≡ (any is_at_front (renamed_places o (placed_line l)) && is_prefix_led c.prefix n)
+    → begins_renamed_line c.prefix (renamed_pieces o n l.class) ≡ (list_any is_at_front (renamed_places o (placed_line l)) && is_prefix_led c.prefix n)
 line-led c l o n h k = pieces-led c.prefix n (renamed_pieces o n l.class) (renamed_places o (placed_line l)) k (line-pieces c l o n h) (line-unled c l o n h)
 
 -- ---- the lines of a document
@@ -109,7 +109,7 @@ lines-led : (c : Context) (ls : List ClassedLine) (o n : List ℕ) → AreClasse
 lines-led c [] o n h k = refl
 lines-led c (l ∷ ls) o n h k =
     ap (λ b. b || begins_some_renamed_line o n (context_after c l.class) ls) (line-led c l o n (AreClassed-class c l ls h) k)
-    ∙ ap (λ b. (any is_at_front (renamed_places o (placed_line l)) && is_prefix_led c.prefix n) || b) (lines-led (context_after c l.class) ls o n (AreClassed-tail c l ls h) k)
+    ∙ ap (λ b. (list_any is_at_front (renamed_places o (placed_line l)) && is_prefix_led c.prefix n) || b) (lines-led (context_after c l.class) ls o n (AreClassed-tail c l ls h) k)
 
 -- A rename of a document makes some line begin with the prefix exactly if a word at the front of a line is replaced by a word
 -- that begins with it.

@@ -1,9 +1,10 @@
 -- The causes of a rename in their order, and what decides each.
 use Rattle.std.proofs.Common.{◌≡◌, refl, sym, ap, ◌∙◌, arith, ℕ, ◌+◌, ◌*◌, ◌<◌, ◌&&◌, Bool, false, not, List, [], ◌∷◌, length, Option, Some, None}
+use Rattle.std.specs.List.{list_any}
 use Rattle.std.specs.Prelude.{nat_lt}
 use Rattle.std.proofs.lemmas.Bool.{and_parts, not-true}
 use Rattle.mk_lines.specs.Units.{is_closed, units}
-use Rattle.mk_class.specs.Lists.{any, is_empty, last_passes}
+use Rattle.mk_class.specs.Lists.{is_empty, last_passes}
 use Rattle.mk_class.specs.Arguments.{ends_word, is_ampersand_byte, is_clean, is_target, is_word}
 use Rattle.mk_class.specs.ClassedLines.{ClassedLine, classed_lines}
 use Rattle.mk_class.specs.Contexts.{start}
@@ -37,7 +38,7 @@ new-some : (o n : List ℕ) → bad_argument (RenameTarget o n) ≡ None → 0 <
 new-some o n h =
     let target = (two-passed field.Old field.New (is_target o) (is_target n) h).1 in
     let word = (and_parts (is_word n) (not (last_passes is_ampersand_byte n)) target).0 in
-    let filled = (and_parts (not (is_empty n)) (is_clean n && (is_closed (λ b. b) n && not (any ends_word (units (λ b. b) n)))) word).0 in
+    let filled = (and_parts (not (is_empty n)) (is_clean n && (is_closed (λ b. b) n && not (list_any ends_word (units (λ b. b) n)))) word).0 in
     some n (not-true (is_empty n) filled)
   where
     some : (x : List ℕ) → is_empty x ≡ false → 0 < length x
@@ -102,7 +103,7 @@ only-these t ls o n long =
 -- if the fields of a rename are not bad, the first cause is one of five
 causes-are : (t : List ℕ) (ls : List ClassedLine) (o n : List ℕ) (l g : Bool) → bad_argument (RenameTarget o n) ≡ None → reserved (RenameTarget o n) ≡ None
     → begins_some_renamed_line o n start ls ≡ l → too_long t (spans_of t ls (RenameTarget o n)) ≡ where_holds g TooLong
-    → first_cause (causes t ls (RenameTarget o n)) ≡ rename_refusal (any (λ l. is_unread_prefix l.class) ls) (is_a_target ls o) l (is_a_target ls n) g
+    → first_cause (causes t ls (RenameTarget o n)) ≡ rename_refusal (list_any (λ l. is_unread_prefix l.class) ls) (is_a_target ls o) l (is_a_target ls n) g
 causes-are t ls o n l g b r i j =
     let e = RenameTarget o n in
     let long = too_long t (spans_of t ls e) in
@@ -126,7 +127,7 @@ long-told ls o n f size h k =
 
 -- The first cause that holds of a rename of a document, as a walk over the document tells it, if no field of the rename is bad.
 pub rename-causes : (ls : List PlacedLine) (e : Edit) (o n : List ℕ) (u f l k g : Bool) → IsRename o n e → IsFaithful ls → bad_argument e ≡ None → reserved e ≡ None
-    → u ≡ any (λ l. is_unread_prefix l.class) (classed_lines (placed_text ls)) → f ≡ is_a_target (classed_lines (placed_text ls)) o → l ≡ begins_some_line o n start ls → k ≡ is_a_target (classed_lines (placed_text ls)) n
+    → u ≡ list_any (λ l. is_unread_prefix l.class) (classed_lines (placed_text ls)) → f ≡ is_a_target (classed_lines (placed_text ls)) o → l ≡ begins_some_line o n start ls → k ≡ is_a_target (classed_lines (placed_text ls)) n
     → g ≡ nat_lt (greatest_length + replaced_bytes o ls) (size_of ls + replaced_words o ls * length n)
     → rename_refusal u f l k g ≡ first_cause (causes (placed_text ls) (classed_lines (placed_text ls)) e)
 rename-causes ls e o n u f l k g is h bad res iu if il ik ig =
@@ -137,6 +138,6 @@ rename-causes ls e o n u f l k g is h bad res iu if il ik ig =
     let led : begins_some_renamed_line o n start ds ≡ l = rename-led ls o n h (new-some o n b) ∙ sym il in
     let long : too_long t (spans_of t ds (RenameTarget o n)) ≡ where_holds g TooLong = long-is ls o n h ∙ ap (λ z. where_holds z TooLong) (sym ig) in
     ap (λ z. rename_refusal z f l k g) iu
-    ∙ (ap (λ z. rename_refusal (any (λ l. is_unread_prefix l.class) ds) z l k g) if
-    ∙ (ap (λ z. rename_refusal (any (λ l. is_unread_prefix l.class) ds) (is_a_target ds o) l z g) ik
+    ∙ (ap (λ z. rename_refusal (list_any (λ l. is_unread_prefix l.class) ds) z l k g) if
+    ∙ (ap (λ z. rename_refusal (list_any (λ l. is_unread_prefix l.class) ds) (is_a_target ds o) l z g) ik
     ∙ (sym (causes-are t ds o n l g b r led long) ∙ ap (λ z. first_cause (causes t ds z)) (sym is))))

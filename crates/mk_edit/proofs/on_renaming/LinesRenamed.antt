@@ -1,5 +1,6 @@
 -- One line after a rename: its bytes, by its pieces; where the words stand in it, and how many words there are; and its length.
 use Rattle.std.proofs.Common.{◌≡◌, refl, sym, ap, ◌∙◌, subst, arith, ℕ, ◌+◌, ◌-◌, ◌*◌, ◌≤◌, List, [], ◌∷◌, ◌++◌, drop, length, length-append, append_assoc}
+use Rattle.std.specs.List.{list_any}
 use Rattle.std.specs.Prelude.{slice_range, nat_lt}
 use Rattle.std.proofs.lemmas.List.{length-drop, length-take-le, drop-drop}
 use Rattle.std.proofs.lemmas.Bool.{lt-ltb}
@@ -7,7 +8,6 @@ use Rattle.mk_lines.specs.Cells.{raw_text}
 use Rattle.mk_lines.specs.Pieces.{Piece, Keep, Replace, old_bytes, new_bytes, replaced, replacements}
 use Rattle.mk_lines.specs.declared.split.Span.{Span}
 use Rattle.mk_lines.proofs.on_lists.PieceLemmas.{replaced-pieces}
-use Rattle.mk_class.specs.Lists.{any}
 use Rattle.mk_class.specs.Contexts.{Context}
 use Rattle.mk_class.specs.ClassTable.{class_of}
 use Rattle.mk_class.specs.ClassedLines.{ClassedLine}
@@ -90,7 +90,7 @@ replacing-number : (n : List ℕ) (ss : List Span) → length (replacing n ss) �
 replacing-number n [] = refl
 replacing-number n (s ∷ ss) = omega (arith, replacing-number n ss)
 
-replaced-some : (at : ℕ) (ps : List Piece) → nat_lt 0 (length (replacements at ps)) ≡ any is_replaced ps
+replaced-some : (at : ℕ) (ps : List Piece) → nat_lt 0 (length (replacements at ps)) ≡ list_any is_replaced ps
 replaced-some at [] = refl
 replaced-some at (Keep cs ∷ ps) = replaced-some (at + length (raw_text cs)) ps
 replaced-some at (Replace cs v ∷ ps) = lt-ltb 0 (length (replacements at (Replace cs v ∷ ps))) (omega arith)

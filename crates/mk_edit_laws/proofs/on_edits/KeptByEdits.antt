@@ -1,12 +1,12 @@
 -- The edits that leave the lines that their spans do not touch.
 use Rattle.std.proofs.Common.{◌≡◌, refl, sym, ap, ◌∙◌, subst, arith, ℕ, List, [], ◌∷◌, ◌++◌, Bool, true, false, not, ◌&&◌, length, ◌+◌, ◌≤◌, Option, Some, None, option_map}
+use Rattle.std.specs.List.{list_any}
 use Rattle.std.proofs.lemmas.Bool.{and_parts, not_from_false}
 use Rattle.std.specs.Prelude.{Ok}
 use Rattle.mk_lines.specs.PhysicalLines.{line_end_bytes, file_line_end}
 use Rattle.mk_lines.specs.Cells.{Cell}
 use Rattle.mk_lines.specs.Pieces.{Replacement, Piece, replacements, replaced}
 use Rattle.mk_lines.proofs.on_lists.BoolLemmas.{or-left_false, or-right_false}
-use Rattle.mk_class.specs.Lists.{any}
 use Rattle.mk_class.specs.Assignments.{Assignment}
 use Rattle.mk_class.specs.Headers
 use Rattle.mk_class.specs.Headers.{header_units}
@@ -95,11 +95,11 @@ recipe_removed-keeps nth g k t rs h =
 
 -- ---- a rule taken out
 
-unconditional : (ls : List ClassedLine) → any (λ l. is_conditional l.class) ls ≡ false → AreUnconditional ls
+unconditional : (ls : List ClassedLine) → list_any (λ l. is_conditional l.class) ls ≡ false → AreUnconditional ls
 unconditional [] h = tt
 unconditional (l ∷ ls) h =
     let c = is_conditional l.class in
-    (not_from_false c (or-left_false c (any (λ m. is_conditional m.class) ls) h), unconditional ls (or-right_false c (any (λ m. is_conditional m.class) ls) h))
+    (not_from_false c (or-left_false c (list_any (λ m. is_conditional m.class) ls) h), unconditional ls (or-right_false c (list_any (λ m. is_conditional m.class) ls) h))
 
 pub rule_removed-keeps : (nth : Option ℕ) (g t : List ℕ) (rs : List Replacement) → spans t (RemoveRule nth g) ≡ Ok rs → AreOthersKept t (RemoveRule nth g) rs
 rule_removed-keeps nth g t rs h =

@@ -1,12 +1,12 @@
 -- A rename leaves the lines that hold no word which it replaces, and makes each other line in its place.
 use Rattle.std.proofs.Common.{◌≡◌, refl, sym, ap, ◌∙◌, subst, arith, ℕ, List, [], ◌∷◌, ◌++◌, map, filter, Bool, true, false, zero, suc, take, length, length-append, ◌+◌, ◌≤◌}
+use Rattle.std.specs.Str.{bytes_eq}
+use Rattle.std.specs.List.{list_any}
 use Rattle.std.proofs.lemmas.Bool.{eq-eqb}
 use Rattle.std.specs.Prelude.{Ok, if◌then◌else◌}
 use Rattle.mk_lines.specs.LogicalLines.{logical_lines}
 use Rattle.mk_lines.specs.Cells.{Cell, raw_text}
 use Rattle.mk_lines.specs.Pieces.{Replacement, Piece, Keep, Replace, old_bytes, replacements, replaced}
-use Rattle.mk_class.specs.Lists.{any}
-use Rattle.mk_class.specs.Texts.{is_same_text}
 use Rattle.mk_class.specs.Classes.{Class, is_conditional}
 use Rattle.mk_class.specs.Contexts.{Context, start, context_after}
 use Rattle.mk_class.specs.ClassTable.{class_of}
@@ -30,7 +30,7 @@ use Rattle.mk_edit_laws.proofs.on_renames.RenamedHeaders.{none-replaced}
 
 -- ---- pieces of which none is replaced
 
-unreplaced-spans : (at : ℕ) (ps : List Piece) → any is_replaced ps ≡ false → replacements at ps ≡ []
+unreplaced-spans : (at : ℕ) (ps : List Piece) → list_any is_replaced ps ≡ false → replacements at ps ≡ []
 unreplaced-spans at [] h = refl
 unreplaced-spans at (Keep cs ∷ ps) h = unreplaced-spans (at + length (raw_text cs)) ps h
 unreplaced-spans at (Replace cs v ∷ ps) h = cc
@@ -45,7 +45,7 @@ same-line l m k h q =
 -- ---- classes
 
 -- a class with a word to rename is of no conditional, and neither is the class after the rename
-renamed-plain : (o n : List ℕ) (k : Class Cell) → any is_replaced (renamed_pieces o n k) ≡ true → (is_conditional k ≡ false) × (is_conditional (renamed_class o n k) ≡ false)
+renamed-plain : (o n : List ℕ) (k : Class Cell) → list_any is_replaced (renamed_pieces o n k) ≡ true → (is_conditional k ≡ false) × (is_conditional (renamed_class o n k) ≡ false)
 renamed-plain o n (Class.Header h) e = (refl, refl)
 renamed-plain o n (Class.TargetAssign a) e = (refl, refl)
 renamed-plain o n Class.If e = absurd (cc)
@@ -82,7 +82,7 @@ module _ (o n : List ℕ) where
   bytes_of-renamed (l ∷ ls) = ap (λ z. renamed_bytes o n l ∷ z) (bytes_of-renamed ls)
 
   -- a line without word to rename keeps its bytes
-  renamed-same : (l : ClassedLine) → l.bytes ≡ old_bytes (line_pieces o n l) ++ after_pieces (line_pieces o n) l → any is_replaced (line_pieces o n l) ≡ false → renamed_bytes o n l ≡ l.bytes
+  renamed-same : (l : ClassedLine) → l.bytes ≡ old_bytes (line_pieces o n l) ++ after_pieces (line_pieces o n) l → list_any is_replaced (line_pieces o n l) ≡ false → renamed_bytes o n l ≡ l.bytes
   renamed-same l b h = ap (λ x. x ++ after_pieces (line_pieces o n) l) (none-replaced (line_pieces o n l) h) ∙ sym b
 
   -- lines that can stand in the place of others stand there after the rename
@@ -107,7 +107,7 @@ module _ (o n : List ℕ) where
 
 -- ---- how many lines differ
 
-same_text-self : (x : List ℕ) → is_same_text x x ≡ true
+same_text-self : (x : List ℕ) → bytes_eq x x ≡ true
 same_text-self [] = refl
 same_text-self (b ∷ x) = rw (eq-eqb b b refl, same_text-self x) refl
 
@@ -124,13 +124,13 @@ few-differ : (o n : List ℕ) (ls : List ClassedLine) → BeginWithPieces (λ l.
     → differing (bytes_of ls) (map (renamed_bytes o n) ls) ≤ length (filter (is_renamed o n) ls)
 few-differ o n [] b = omega arith
 few-differ o n (l ∷ ls) b =
-    let same : is_renamed o n l ≡ false → is_same_text l.bytes (renamed_bytes o n l) ≡ true = λ z. ap (is_same_text l.bytes) (renamed-same o n l b.0 z) ∙ same_text-self l.bytes in
-    counted (is_same_text l.bytes (renamed_bytes o n l)) (is_renamed o n l) (differing (bytes_of ls) (map (renamed_bytes o n) ls)) l (filter (is_renamed o n) ls) same (few-differ o n ls b.1)
+    let same : is_renamed o n l ≡ false → bytes_eq l.bytes (renamed_bytes o n l) ≡ true = λ z. ap (bytes_eq l.bytes) (renamed-same o n l b.0 z) ∙ same_text-self l.bytes in
+    counted (bytes_eq l.bytes (renamed_bytes o n l)) (is_renamed o n l) (differing (bytes_of ls) (map (renamed_bytes o n) ls)) l (filter (is_renamed o n) ls) same (few-differ o n ls b.1)
 
 -- ---- spans
 
 module _ (f : ClassedLine → List Piece) where
-  pieces-stand : (at : ℕ) (ls : List ClassedLine) → BeginWithPieces f ls → StandInLines (λ l. any is_replaced (f l)) at ls (line_replacements f at ls)
+  pieces-stand : (at : ℕ) (ls : List ClassedLine) → BeginWithPieces f ls → StandInLines (λ l. list_any is_replaced (f l)) at ls (line_replacements f at ls)
   pieces-stand at [] b = refl
   pieces-stand at (l ∷ ls) b =
       let ps = f l in

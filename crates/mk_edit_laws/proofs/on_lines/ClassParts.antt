@@ -1,5 +1,6 @@
 -- The parts of a line, by its class, are of the line: they are no longer than it.
 use Rattle.std.proofs.Common.{◌≡◌, refl, sym, ap, ◌∙◌, arith, ℕ, zero, suc, List, [], ◌++◌, Bool, true, false, not, ◌||◌, cond, length, length-append, ◌+◌, ◌≤◌, Option, Some, None}
+use Rattle.std.specs.List.{list_any}
 use Rattle.std.specs.Prelude.{nat_lt}
 use Rattle.mk_lines.specs.Lists.{concat}
 use Rattle.mk_lines.proofs.on_lists.ListLemmas.{concat-append, leading-after_leading}
@@ -9,7 +10,6 @@ use Rattle.mk_lines.specs.Cells.{Cell, joined_byte, raw_text, line_cells}
 use Rattle.mk_lines.proofs.on_cells.CellLemmas.{raw_text-append, raw_text-cells}
 use Rattle.mk_lines.specs.Units.{units}
 use Rattle.mk_lines.proofs.on_units.UnitLemmas.{concat-units}
-use Rattle.mk_class.specs.Lists.{any}
 use Rattle.mk_class.specs.Texts.{word_texts}
 use Rattle.mk_class.specs.Symbols.{is_hash}
 use Rattle.mk_class.specs.CutTexts.{cut_text, comment, head, is_no_hash}
@@ -90,7 +90,7 @@ short-or us (Some s) x z h = short-said us s z
 short-plain : (led c : Bool) (cs : List Cell) (us : List (List Cell)) → AreWithin us (plain_class joined_byte led c (is_unreadable cs) us)
 short-plain led c cs us =
     let z : 0 ≤ raw_width us = omega arith in
-    short-cond us (is_all_blanks joined_byte (cut_text joined_byte us)) _ _ (short-cond us (any (is_hash joined_byte) us) Comment Blank z z) (
+    short-cond us (is_all_blanks joined_byte (cut_text joined_byte us)) _ _ (short-cond us (list_any (is_hash joined_byte) us) Comment Blank z z) (
     short-cond us (is_unreadable cs) Opaque _ z (
     short-assign us c (assignment joined_byte (cut_text joined_byte us)) _ refl (
     short-or us (directive c (word_texts joined_byte (cut_text joined_byte us))) _ z (

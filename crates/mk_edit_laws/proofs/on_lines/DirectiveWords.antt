@@ -1,6 +1,7 @@
 -- Which words keep a line from being a directive: the words up to the first with a `:`. Of these only what they say as keywords
 -- and modifiers counts.
 use Rattle.std.proofs.Common.{◌≡◌, refl, sym, ap, ◌∙◌, ℕ, List, [], ◌∷◌, ◌++◌, map, Bool, true, false, ◌||◌, ◌==◌, cond, Some, None, append_assoc}
+use Rattle.std.specs.List.{list_any}
 use Rattle.std.proofs.lemmas.Bool.{or_parts}
 use Rattle.std.proofs.lemmas.List.{append-nil, map-append}
 use Rattle.std.specs.Prelude.{◌⊎◌, codes}
@@ -10,7 +11,6 @@ use Rattle.mk_lines.proofs.on_lists.ListLemmas.{concat-append}
 use Rattle.mk_lines.specs.Cells.{Cell, joined_byte}
 use Rattle.mk_lines.specs.Words.{Token, Gap, Word, tokens, before_tokens, token_words, token_units, is_word_first, is_gap, IsWord, AreTokens}
 use Rattle.mk_lines.proofs.on_units.TokenLemmas.{tokens-word}
-use Rattle.mk_class.specs.Lists.{any}
 use Rattle.mk_class.specs.Texts.{is_one_of, word_texts}
 use Rattle.mk_class.proofs.on_assignments.AssignmentEqualsLemmas.{not_same}
 use Rattle.mk_class.specs.Keywords.{Keyword, DefineWord, EndefWord, IfWord, ElseWord, EndifWord, DirectiveWord, UndefineWord, NoKeyword, keyword, first_keyword, after_modifiers, if_words, directive_words, modifier_words}
@@ -117,10 +117,10 @@ pub data SaySame : List (List ℕ) → List (List ℕ) → Type 0 where
   Then : (w w' : List ℕ) (ws ws' : List (List ℕ)) → keyword w ≡ keyword w' → is_modifier w ≡ is_modifier w' → SaySame ws ws' → SaySame (w ∷ ws) (w' ∷ ws')
 
 -- a word with a `:` is none of some words that have no `:`
-not_one_of : (a c : List ℕ) (ks : List (List ℕ)) → any (λ k. any (λ b. 58 == b) k) ks ≡ false → is_one_of (a ++ 58 ∷ c) ks ≡ false
+not_one_of : (a c : List ℕ) (ks : List (List ℕ)) → list_any (λ k. list_any (λ b. 58 == b) k) ks ≡ false → is_one_of (a ++ 58 ∷ c) ks ≡ false
 not_one_of a c [] h = refl
 not_one_of a c (k ∷ ks) h =
-    let p = or_parts (any (λ b. 58 == b) k) (any (λ z. any (λ b. 58 == b) z) ks) h in
+    let p = or_parts (list_any (λ b. 58 == b) k) (list_any (λ z. list_any (λ b. 58 == b) z) ks) h in
     ap (λ z. z || is_one_of (a ++ 58 ∷ c) ks) (not_same 58 a c k p.0) ∙ not_one_of a c ks p.1
 
 colon-keyword : (x : List ℕ) → HasColon x → keyword x ≡ NoKeyword

@@ -1,6 +1,7 @@
 -- The units of a rule line's head that can be read. Each is closed and read again by itself. A unit that is no gap begins and
 -- ends in a byte that joins whatever stands beside it. So such units can be put together in any order.
 use Rattle.std.proofs.Common.{◌≡◌, refl, sym, ap, ◌∙◌, subst, ℕ, zero, suc, List, [], ◌∷◌, ◌++◌, Bool, true, false, not, ◌||◌, ◌==◌, cond, append_assoc}
+use Rattle.std.specs.List.{list_any}
 use Rattle.std.proofs.lemmas.List.{append-nil}
 use Rattle.std.proofs.lemmas.Bool.{or_parts, eqb-true}
 use Rattle.mk_lines.specs.Lists.{concat, Each}
@@ -17,7 +18,6 @@ use Rattle.mk_lines.proofs.on_units.UnitLemmas.{units-first, units-last, units-a
 use Rattle.mk_lines.specs.FirstUnit.{is_unclosed_unit, is_lone_backslash, is_backslash_mark, leaves_open}
 use Rattle.mk_lines.proofs.on_units.FirstUnitLemmas.{is_closed-leaves_open}
 use Rattle.mk_lines.specs.Words.{is_gap}
-use Rattle.mk_class.specs.Lists.{any}
 use Rattle.mk_class.specs.Symbols.{is_equals, is_escape, is_dollar_before_blank, is_unreadable_unit, is_blank_or_backslash}
 use Rattle.mk_class.specs.CutTexts.{is_in_head}
 use Rattle.mk_class.proofs.on_classes.ClassLemmas.{has_stray-append, has_stray-left, has_stray-right}
@@ -282,12 +282,12 @@ closed-unit u h r =
 
 -- the first units of a text are units of a head, if they have no stray byte, can be read and stand in the head
 pub first_units-are_head_units : (us rest : List (List Cell)) → units joined_byte (concat (us ++ rest)) ≡ us ++ rest → has_stray (concat us) ≡ false
-    → any (λ u. is_equals joined_byte u || is_unreadable_unit joined_byte u) us ≡ false → Each (is_in_head joined_byte) us → AllAre IsHeadUnit us
+    → list_any (λ u. is_equals joined_byte u || is_unreadable_unit joined_byte u) us ≡ false → Each (is_in_head joined_byte) us → AllAre IsHeadUnit us
 first_units-are_head_units [] rest h s r i = tt
 first_units-are_head_units (u ∷ us) rest h s r i =
     let n = append-nil u in
     let w : units joined_byte u ≡ u ∷ [] = subst (λ z. units joined_byte z ≡ u ∷ []) n (units-first joined_byte (concat ((u ∷ us) ++ rest)) (u ∷ []) (us ++ rest) h) in
-    let p = or_parts (is_equals joined_byte u || is_unreadable_unit joined_byte u) (any (λ z. is_equals joined_byte z || is_unreadable_unit joined_byte z) us) r in (
+    let p = or_parts (is_equals joined_byte u || is_unreadable_unit joined_byte u) (list_any (λ z. is_equals joined_byte z || is_unreadable_unit joined_byte z) us) r in (
       record {
         whole = w;
         closed = closed-unit u w ((or_parts (is_equals joined_byte u) (is_unreadable_unit joined_byte u) p.0).1);
@@ -309,7 +309,7 @@ head_units-no_stray [] h = refl
 head_units-no_stray (u ∷ us) h = has_stray-append u (concat us) h.0.no_stray (head_units-no_stray us h.1)
 
 -- such units can be read
-pub head_units-readable : (us : List (List Cell)) → AllAre IsHeadUnit us → any (λ u. is_equals joined_byte u || is_unreadable_unit joined_byte u) us ≡ false
+pub head_units-readable : (us : List (List Cell)) → AllAre IsHeadUnit us → list_any (λ u. is_equals joined_byte u || is_unreadable_unit joined_byte u) us ≡ false
 head_units-readable [] h = refl
 head_units-readable (u ∷ us) h = rw (h.0.readable) (head_units-readable us h.1)
 

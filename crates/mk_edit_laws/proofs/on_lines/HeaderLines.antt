@@ -1,11 +1,12 @@
 -- Lines of class Header: what the class says of a line, and which parts make a line of that class.
 use Rattle.std.proofs.Common.{◌≡◌, refl, sym, ap, ◌∙◌, subst, ℕ, zero, suc, List, [], ◌∷◌, ◌++◌, map, Bool, true, false, not, ◌||◌, cond, Option, Some, None, append_assoc}
+use Rattle.std.specs.List.{list_any}
 use Rattle.std.proofs.lemmas.Bool.{or_parts}
 use Rattle.mk_lines.specs.Lists.{leading, after_leading, Each, FirstFails}
 use Rattle.mk_lines.proofs.on_lists.ListLemmas.{Each-right, leading-append_all}
 use Rattle.mk_lines.specs.Cells.{Cell, joined_byte}
 use Rattle.mk_lines.specs.Words.{is_gap}
-use Rattle.mk_class.specs.Lists.{any, is_empty, first_passes}
+use Rattle.mk_class.specs.Lists.{is_empty, first_passes}
 use Rattle.mk_class.specs.Texts.{word_texts}
 use Rattle.mk_class.specs.Symbols.{Symbol, symbol, is_colon, is_equals, is_unreadable_unit, is_colon_symbol, is_hash_symbol, is_semicolon_symbol}
 use Rattle.mk_class.specs.Symbols.Symbol.{Hash, Colon, Semicolon, Equals, Plus, Question, Exclamation, Bar, Ampersand, NoSymbol}
@@ -65,7 +66,7 @@ class_at-header false zero Unknown c cs us h k = record { here = plain_class-hea
 -- ---- parts that make such a line
 
 -- if one of the last units passes, one of all units does
-pub any-after : {A : Type 0} (p : A → Bool) (a b : List A) → any p b ≡ true → any p (a ++ b) ≡ true
+pub any-after : {A : Type 0} (p : A → Bool) (a b : List A) → list_any p b ≡ true → list_any p (a ++ b) ≡ true
 any-after p [] b h = h
 any-after p (x ∷ a) b h = ap (λ z. p x || z) (any-after p a b h) ∙ go (p x)
   where
@@ -73,11 +74,11 @@ any-after p (x ∷ a) b h = ap (λ z. p x || z) (any-after p a b h) ∙ go (p x)
     go true = refl
     go false = refl
 
-any-before : {A : Type 0} (p : A → Bool) (a b : List A) → any p a ≡ true → any p (a ++ b) ≡ true
+any-before : {A : Type 0} (p : A → Bool) (a b : List A) → list_any p a ≡ true → list_any p (a ++ b) ≡ true
 any-before p [] b h = cc
 any-before p (x ∷ a) b h = go (p x) h (λ k. any-before p a b k)
   where
-    go : (c : Bool) → (c || any p a) ≡ true → (any p a ≡ true → any p (a ++ b) ≡ true) → (c || any p (a ++ b)) ≡ true
+    go : (c : Bool) → (c || list_any p a) ≡ true → (list_any p a ≡ true → list_any p (a ++ b) ≡ true) → (c || list_any p (a ++ b)) ≡ true
     go true e i = refl
     go false e i = i e
 
@@ -86,11 +87,11 @@ pub leading-all : {A : Type 0} (p : A → Bool) (xs ys : List A) → Each p xs �
 leading-all p [] ys h = refl
 leading-all p (x ∷ xs) ys h = rw (h.0, leading-all p xs ys h.1) refl
 
-colon-symbols : (us : List (List Cell)) → any is_colon_symbol (map (symbol joined_byte) us) ≡ has_colon joined_byte us
+colon-symbols : (us : List (List Cell)) → list_any is_colon_symbol (map (symbol joined_byte) us) ≡ has_colon joined_byte us
 colon-symbols [] = refl
 colon-symbols (u ∷ us) = ap (λ z. is_colon joined_byte u || z) (colon-symbols us)
 
-separator-colon : (s : Separator) → any is_colon_symbol (separator_symbols s) ≡ true
+separator-colon : (s : Separator) → list_any is_colon_symbol (separator_symbols s) ≡ true
 separator-colon SingleColon = refl
 separator-colon DoubleColon = refl
 separator-colon GroupedColon = refl
@@ -98,7 +99,7 @@ separator-colon GroupedDoubleColon = refl
 
 -- a separator has a `:`
 separator-has_colon : (us : List (List Cell)) (s : Separator) → map (symbol joined_byte) us ≡ separator_symbols s → has_colon joined_byte us ≡ true
-separator-has_colon us s h = sym (colon-symbols us) ∙ (ap (any is_colon_symbol) h ∙ separator-colon s)
+separator-has_colon us s h = sym (colon-symbols us) ∙ (ap (list_any is_colon_symbol) h ∙ separator-colon s)
 
 -- units with a `:` are not all blanks
 pub colon-filled : (us : List (List Cell)) → has_colon joined_byte us ≡ true → is_all_blanks joined_byte us ≡ false

@@ -1,5 +1,6 @@
 -- The parts of a header's line, and other parts put in the place of the words: a line of class Header again.
 use Rattle.std.proofs.Common.{◌≡◌, refl, sym, ap, ◌∙◌, subst, ℕ, List, [], ◌∷◌, ◌++◌, map, Bool, true, false, not, ◌&&◌, ◌||◌, None, append_assoc}
+use Rattle.std.specs.List.{list_any}
 use Rattle.std.proofs.lemmas.Bool.{or_parts, or_from}
 use Rattle.std.proofs.lemmas.List.{map-append}
 use Rattle.mk_lines.specs.Lists.{concat, Each}
@@ -11,7 +12,7 @@ use Rattle.mk_lines.specs.Units.{units}
 use Rattle.mk_lines.proofs.on_units.UnitLemmas.{units-last, concat-units}
 use Rattle.mk_lines.specs.Words.{Token, Gap, Word, tokens, before_tokens, token_units, is_gap, IsWord}
 use Rattle.mk_lines.proofs.on_units.TokenLemmas.{token_units-tokens, tokens-are_tokens}
-use Rattle.mk_class.specs.Lists.{any, is_empty, first_passes, last_passes}
+use Rattle.mk_class.specs.Lists.{is_empty, first_passes, last_passes}
 use Rattle.mk_class.specs.Texts.{word_texts}
 use Rattle.mk_class.specs.Symbols.{Symbol, symbol, is_colon, is_bar, is_ampersand}
 use Rattle.mk_class.specs.Symbols.Symbol.{Colon, Bar, Ampersand, NoSymbol}
@@ -55,22 +56,22 @@ part-has_colon : (us : List (List Cell)) → AllAre IsPartUnit us → has_colon 
 part-has_colon [] h = refl
 part-has_colon (u ∷ us) h = ap (λ z. z || has_colon joined_byte us) h.0.no_colon ∙ part-has_colon us h.1
 
-part-any_bar : (us : List (List Cell)) → AllAre IsPartUnit us → any (is_bar joined_byte) us ≡ false
+part-any_bar : (us : List (List Cell)) → AllAre IsPartUnit us → list_any (is_bar joined_byte) us ≡ false
 part-any_bar [] h = refl
-part-any_bar (u ∷ us) h = ap (λ z. z || any (is_bar joined_byte) us) h.0.no_bar ∙ part-any_bar us h.1
+part-any_bar (u ∷ us) h = ap (λ z. z || list_any (is_bar joined_byte) us) h.0.no_bar ∙ part-any_bar us h.1
 
 -- units of a head without a `:` and a `|`
-pub parts-of : (us : List (List Cell)) → AllAre IsHeadUnit us → has_colon joined_byte us ≡ false → any (is_bar joined_byte) us ≡ false → AllAre IsPartUnit us
+pub parts-of : (us : List (List Cell)) → AllAre IsHeadUnit us → has_colon joined_byte us ≡ false → list_any (is_bar joined_byte) us ≡ false → AllAre IsPartUnit us
 parts-of [] h c b = tt
 parts-of (u ∷ us) h c b =
     let p = or_parts (is_colon joined_byte u) (has_colon joined_byte us) c in
-    let q = or_parts (is_bar joined_byte u) (any (is_bar joined_byte) us) b in
+    let q = or_parts (is_bar joined_byte u) (list_any (is_bar joined_byte) us) b in
     (record { head = h.0; no_colon = p.0; no_bar = q.0 }, parts-of us h.1 p.1 q.1)
 
 -- if each unit fails the test, none passes it
-pub no-each : (p : List Cell → Bool) (us : List (List Cell)) → Each (λ u. not (p u)) us → any p us ≡ false
+pub no-each : (p : List Cell → Bool) (us : List (List Cell)) → Each (λ u. not (p u)) us → list_any p us ≡ false
 no-each p [] h = refl
-no-each p (u ∷ us) h = ap (λ z. z || any p us) (is (p u) h.0) ∙ no-each p us h.1
+no-each p (u ∷ us) h = ap (λ z. z || list_any p us) (is (p u) h.0) ∙ no-each p us h.1
   where
     is : (b : Bool) → not b ≡ true → b ≡ false
     is true e = cc
@@ -197,7 +198,7 @@ pub record HeaderKnown (c : Bool) (cs : List Cell) (h : Headers.Header Cell) : T
   pub targets : AllAre IsPartUnit h.targets
   pub normal : AllAre IsPartUnit h.normal
   pub order_only : AllAre IsPartUnit h.order_only
-  pub pattern_no_bar : any (is_bar joined_byte) h.pattern ≡ false
+  pub pattern_no_bar : list_any (is_bar joined_byte) h.pattern ≡ false
   pub bar_apart : is_bar_glued h.normal h.bar h.order_only ≡ false
   pub colon_after : has_colon_after_other joined_byte h ≡ false
   pub pattern_one : has_pattern_amiss joined_byte h ≡ false
@@ -218,8 +219,8 @@ header-known led c cs h a l =
     let r3 = or_parts (has_bar_amiss joined_byte h) _ r2.1 in
     let r4 = or_parts (has_second_bar joined_byte h) _ r3.1 in
     let third = or_parts (has_colon joined_byte h.normal) (has_colon joined_byte h.order_only) r2.0 in
-    let amiss = or_parts (any (is_bar joined_byte) h.targets || any (is_bar joined_byte) h.pattern) (is_bar_glued h.normal h.bar h.order_only) r3.0 in
-    let bars = or_parts (any (is_bar joined_byte) h.targets) (any (is_bar joined_byte) h.pattern) amiss.0 in
+    let amiss = or_parts (list_any (is_bar joined_byte) h.targets || list_any (is_bar joined_byte) h.pattern) (is_bar_glued h.normal h.bar h.order_only) r3.0 in
+    let bars = or_parts (list_any (is_bar joined_byte) h.targets) (list_any (is_bar joined_byte) h.pattern) amiss.0 in
     let cells : cs ≡ concat (header_units h) = sym (concat-units joined_byte cs) ∙ ap concat (sym whole) in
     let stray : has_stray (concat (header_units h)) ≡ false = ap has_stray (sym cells) ∙ (or_parts (has_stray cs) (has_bad_fold cs) l.readable).0 in
     let joined : concat (header_units h) ≡ concat (head_units h) ++ concat h.tail = ap concat (header_units-head h) ∙ concat-append (head_units h) h.tail in
@@ -362,7 +363,7 @@ changed-header c cs h T N B O k f a =
       not_rough =
           or_from (has_colon_after_other joined_byte g) _ k.colon_after
           (or_from (has_third_separator joined_byte g) _ (or_from (has_colon joined_byte N) (has_colon joined_byte O) (part-has_colon N f.normal) (part-has_colon O f.order_only))
-          (or_from (has_bar_amiss joined_byte g) _ (or_from (any (is_bar joined_byte) T || any (is_bar joined_byte) h.pattern) (is_bar_glued N B O) (or_from (any (is_bar joined_byte) T) (any (is_bar joined_byte) h.pattern) (part-any_bar T f.targets) k.pattern_no_bar) f.bar_apart)
+          (or_from (has_bar_amiss joined_byte g) _ (or_from (list_any (is_bar joined_byte) T || list_any (is_bar joined_byte) h.pattern) (is_bar_glued N B O) (or_from (list_any (is_bar joined_byte) T) (list_any (is_bar joined_byte) h.pattern) (part-any_bar T f.targets) k.pattern_no_bar) f.bar_apart)
           (or_from (has_second_bar joined_byte g) (has_pattern_amiss joined_byte g) (part-any_bar O f.order_only) k.pattern_one)));
       undirected = changed-undirected c h T N B O k.fits fits f.alike k.undirected;
     } in

@@ -1,5 +1,6 @@
 -- Bytes of names, and texts of bytes that are units by themselves.
 use Rattle.std.proofs.Common.{◌≡◌, refl, ap, ◌∙◌, arith, ℕ, List, [], ◌∷◌, ◌++◌, map, Bool, true, false, not, ◌&&◌, ◌||◌, ◌==◌, ◌<◌}
+use Rattle.std.specs.List.{list_any}
 use Rattle.std.proofs.lemmas.Bool.{and_parts, not-true, agree_below_at, eqb-true, leb-true}
 use Rattle.std.specs.Prelude.{nat_le}
 use Rattle.mk_lines.specs.Bytes.{ByteKind, byte_kind}
@@ -9,7 +10,6 @@ use Rattle.mk_lines.proofs.on_cells.CellsReplaced.{is_ordinary_kind}
 use Rattle.mk_lines.specs.Units.{Mark, byte_mark, units, is_closed}
 use Rattle.mk_lines.specs.Units.Mark.{Dollar, Escape, OpenParen, CloseParen, OpenBrace, CloseBrace, Unmarked}
 use Rattle.mk_lines.proofs.on_units.UnitLemmas.{units-append, is_closed-append}
-use Rattle.mk_class.specs.Lists.{any}
 use Rattle.mk_class.specs.Texts.{unit_text}
 use Rattle.mk_class.specs.Symbols.{Symbol, byte_symbol}
 use Rattle.mk_class.specs.Symbols.Symbol.{Hash, Colon, Semicolon, Equals, Plus, Question, Exclamation, Bar, Ampersand, NoSymbol}
@@ -85,11 +85,11 @@ abbrev pub AreNameBytes : List ℕ → Type 0
 AreNameBytes [] = Unit {0}
 AreNameBytes (b ∷ n) = (byte_kind b ≡ Ordinary) × (byte_mark b ≡ Unmarked) × (byte_symbol b ≡ NoSymbol) × ((b == 0) ≡ false) × AreNameBytes n
 
-name-bytes : (n : List ℕ) → any (λ b. not (is_name_byte b)) n ≡ false → AreNameBytes n
+name-bytes : (n : List ℕ) → list_any (λ b. not (is_name_byte b)) n ≡ false → AreNameBytes n
 name-bytes [] h = tt
 name-bytes (b ∷ n) h = go (is_name_byte b) refl h (λ k. name-bytes n k)
   where
-    go : (x : Bool) → is_name_byte b ≡ x → (not x || any (λ b. not (is_name_byte b)) n) ≡ false → (any (λ b. not (is_name_byte b)) n ≡ false → AreNameBytes n) → AreNameBytes (b ∷ n)
+    go : (x : Bool) → is_name_byte b ≡ x → (not x || list_any (λ b. not (is_name_byte b)) n) ≡ false → (list_any (λ b. not (is_name_byte b)) n ≡ false → AreNameBytes n) → AreNameBytes (b ∷ n)
     go false e h k = absurd (cc)
     go true e h k =
         let r = and_parts (is_ordinary_kind (byte_kind b)) _ (name-byte b e) in
@@ -99,10 +99,10 @@ name-bytes (b ∷ n) h = go (is_name_byte b) refl h (λ k. name-bytes n k)
 
 -- the bytes of a text that may be a name
 pub name-bytes_are : (b : ℕ) (n : List ℕ) → is_name (b ∷ n) ≡ true → AreNameBytes (b ∷ n)
-name-bytes_are b n h = name-bytes (b ∷ n) (not-true (any (λ b. not (is_name_byte b)) (b ∷ n)) h)
+name-bytes_are b n h = name-bytes (b ∷ n) (not-true (list_any (λ b. not (is_name_byte b)) (b ∷ n)) h)
 
 -- none of the bytes of a name is barred
-pub name-clean : (n : List ℕ) → AreNameBytes n → any is_barred_byte n ≡ false
+pub name-clean : (n : List ℕ) → AreNameBytes n → list_any is_barred_byte n ≡ false
 name-clean [] h = refl
 name-clean (b ∷ n) h = rw (h.0, h.3, name-clean n h.4) refl
 

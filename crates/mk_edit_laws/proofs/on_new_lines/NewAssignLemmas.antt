@@ -1,5 +1,6 @@
 -- An accepted new assignment puts its item into the reading, and no other item changes.
 use Rattle.std.proofs.Common.{◌≡◌, refl, sym, ap, ◌∙◌, subst, ℕ, List, [], ◌∷◌, ◌++◌, map, Bool, true, false, not, ◌||◌, Option, Some, None, append_assoc}
+use Rattle.std.specs.List.{list_any}
 use Rattle.std.proofs.lemmas.List.{append-nil, map-append}
 use Rattle.std.proofs.lemmas.Bool.{and_parts, not-true, or_from, not_from_false}
 use Rattle.std.specs.Prelude.{Ok, nat_lt}
@@ -18,7 +19,7 @@ use Rattle.mk_lines.specs.Words.{Token, Gap, Word, tokens, token_units, before_t
 use Rattle.mk_lines.proofs.on_units.TokenLemmas.{token_units-tokens}
 use Rattle.mk_lines.proofs.on_lists.BoolLemmas.{or-left_false, or-right_false}
 use Rattle.mk_lines.specs.Bytes.{is_blank_byte}
-use Rattle.mk_class.specs.Lists.{any, until, from, first_passes, last_passes}
+use Rattle.mk_class.specs.Lists.{until, from, first_passes, last_passes}
 use Rattle.mk_class.specs.Texts.{unit_text}
 use Rattle.mk_class.specs.Symbols.{symbol, is_hash}
 use Rattle.mk_class.specs.CutTexts.{cut_text, is_no_hash}
@@ -110,7 +111,7 @@ operator-no_hash Conditional = (refl, tt)
 operator-no_hash Append = (refl, tt)
 operator-no_hash Shell = (refl, tt)
 
-operator-clean : (f : Flavor) → any is_barred_byte (operator_front f) ≡ false
+operator-clean : (f : Flavor) → list_any is_barred_byte (operator_front f) ≡ false
 operator-clean Recursive = refl
 operator-clean Simple = refl
 operator-clean PosixSimple = refl
@@ -198,13 +199,13 @@ record AreValueUnits (v : List ℕ) : Type 0 where
   no_hash : Each (is_no_hash joined_byte) (units joined_byte (map Byte v))
   begins : FirstFails (is_gap joined_byte) (units joined_byte (map Byte v))
   ends : LastFails (is_gap joined_byte) (units joined_byte (map Byte v))
-  clean : any is_barred_byte v ≡ false
+  clean : list_any is_barred_byte v ≡ false
 
 value-units : (v : List ℕ) → is_value v ≡ true → AreValueUnits v
 value-units [] h = record { no_hash = tt; begins = tt; ends = tt; clean = refl }
 value-units (b ∷ v) h =
     let t = value-text b v h in
-    record { no_hash = t.no_hash; begins = t.begins; ends = t.ends; clean = not-true (any is_barred_byte (b ∷ v)) (and_parts (is_clean (b ∷ v)) _ h).0 }
+    record { no_hash = t.no_hash; begins = t.begins; ends = t.ends; clean = not-true (list_any is_barred_byte (b ∷ v)) (and_parts (is_clean (b ∷ v)) _ h).0 }
 
 -- the text in two parts, of bytes that are units by themselves and the value
 abbrev front_text : List ℕ → Flavor → List ℕ → List ℕ
@@ -286,17 +287,17 @@ new-assigned b n f v h k =
 
 -- ---- the line
 
-any-append : (p : ℕ → Bool) (a b : List ℕ) → any p a ≡ false → any p b ≡ false → any p (a ++ b) ≡ false
+any-append : (p : ℕ → Bool) (a b : List ℕ) → list_any p a ≡ false → list_any p b ≡ false → list_any p (a ++ b) ≡ false
 any-append p [] b h k = k
-any-append p (x ∷ a) b h k = or_from (p x) (any p (a ++ b)) (or-left_false (p x) (any p a) h) (any-append p a b (or-right_false (p x) (any p a) h) k)
+any-append p (x ∷ a) b h k = or_from (p x) (list_any p (a ++ b)) (or-left_false (p x) (list_any p a) h) (any-append p a b (or-right_false (p x) (list_any p a) h) k)
 
-gap-clean : (v : List ℕ) → any is_barred_byte (value_gap v) ≡ false
+gap-clean : (v : List ℕ) → list_any is_barred_byte (value_gap v) ≡ false
 gap-clean [] = refl
 gap-clean (b ∷ v) = refl
 
-line-unbarred : (n : List ℕ) (f : Flavor) (v : List ℕ) → AreNameBytes n → AreValueUnits v → any is_barred_byte (assign_text n f v) ≡ false
+line-unbarred : (n : List ℕ) (f : Flavor) (v : List ℕ) → AreNameBytes n → AreValueUnits v → list_any is_barred_byte (assign_text n f v) ≡ false
 line-unbarred n f v h k =
-    ap (any is_barred_byte) (assign_text-split n f v)
+    ap (list_any is_barred_byte) (assign_text-split n f v)
     ∙ any-append is_barred_byte (front_text n f v) v
     (any-append is_barred_byte n (32 ∷ (operator_front f ++ (61 ∷ value_gap v))) (name-clean n h) (any-append is_barred_byte (operator_front f) (61 ∷ value_gap v) (operator-clean f) (gap-clean v))) k.clean
 
@@ -309,7 +310,7 @@ line-no_backslash n f (b ∷ v) h =
     let p2 = and_parts (not (first_passes is_blank_byte (b ∷ v))) _ p1.1 in
     let p3 = and_parts (not (last_passes is_blank_byte (b ∷ v))) _ p2.1 in
     let p4 = and_parts (is_closed (λ x. x) (b ∷ v)) _ p3.1 in
-    let p5 = and_parts (not (any (is_hash (λ x. x)) (units (λ x. x) (b ∷ v)))) _ p4.1 in
+    let p5 = and_parts (not (list_any (is_hash (λ x. x)) (units (λ x. x) (b ∷ v)))) _ p4.1 in
     ap (last_passes is_backslash_byte) (assign_text-split n f (b ∷ v)) ∙ (last-append is_backslash_byte (front_text n f (b ∷ v)) b v ∙ not-true (last_passes is_backslash_byte (b ∷ v)) p5.1)
 
 new-class : (c : Context) (b : ℕ) (n : List ℕ) (f : Flavor) (v m : List ℕ) → c.defines ≡ 0 → AreNameBytes (b ∷ n) → AreValueUnits v
@@ -320,7 +321,7 @@ new-class c b n f v m d h k e p =
     let a = new_assignment (b ∷ n) f v in
     let unbarred = line-unbarred (b ∷ n) f v h k in
     let assigned = new-assigned b n f v h k in
-    let line = bytes-are_line_cells x (clean-no_line_end x (not_from_false (any is_barred_byte x) unbarred)) in
+    let line = bytes-are_line_cells x (clean-no_line_end x (not_from_false (list_any is_barred_byte x) unbarred)) in
     let is : IsAssignLine (map Byte x) (units joined_byte (map Byte x)) a = record {
       filled = assignment-filled (cut_text joined_byte (units joined_byte (map Byte x))) a assigned;
       readable = or_from _ _ (clean-no_stray x unbarred) line.clean.1;
@@ -345,7 +346,7 @@ assign-stands t s p b n f v whole d h k named led unopened leans =
     let V = value-units v k in
     let a = new_assignment (b ∷ n) f v in
     let unbarred = line-unbarred (b ∷ n) f v N V in
-    let clean = not_from_false (any is_barred_byte x) unbarred in
+    let clean = not_from_false (list_any is_barred_byte x) unbarred in
     let ended : IsEnded x e = new_line-clean x e clean (line-no_backslash (b ∷ n) f v k) (file_line_end-some t) in
     let same : line_cells (x ++ line_end_bytes e) ≡ map Byte x =
     ap cells (ended.same_text ∙ sym (raw_text-bytes x)) ∙ AreLineCells-cells (map Byte x) (bytes-are_line_cells x (clean-no_line_end x clean)) in
@@ -379,15 +380,15 @@ accepted-stands t p b n f v rs h =
     let e = AddAssign p (b ∷ n) f v in
     let A = accepted t e rs h in
     let u = three-passed field.Place field.Name field.Value (is_place p) (is_name (b ∷ n)) (is_value v) A.arguments in
-    let r : (is_prefix_name (b ∷ n) || any is_prefix_name (place_names p)) ≡ false = or-left_false _ _ (where_holds-none _ Reserved A.not_reserved) in
-    let P = new-place t p A.is_there A.is_one (or-right_false (is_prefix_name (b ∷ n)) (any is_prefix_name (place_names p)) r) A.define_closed in
+    let r : (is_prefix_name (b ∷ n) || list_any is_prefix_name (place_names p)) ≡ false = or-left_false _ _ (where_holds-none _ Reserved A.not_reserved) in
+    let P = new-place t p A.is_there A.is_one (or-right_false (is_prefix_name (b ∷ n)) (list_any is_prefix_name (place_names p)) r) A.define_closed in
     let s = P.stretch in
     let led : begins_new_line e (Some s) ≡ false = subst (λ (z : Option Stretch). begins_new_line e z ≡ false) P.found_is (where_holds-none _ RecipePrefix A.not_led) in
     let unopened : follows_open_line (Some s) ≡ false = subst (λ (z : Option Stretch). follows_open_line z ≡ false) P.found_is (where_holds-none _ OpenLine A.line_closed) in
     let leans : new_line_leans e (Some s) ≡ false = subst (λ (z : Option Stretch). new_line_leans e z ≡ false) P.found_is (or-left_false _ _ (where_holds-none _ Leans A.not_leaning)) in
     record {
       place = P;
-      stands = assign-stands t s p b n f v P.whole P.no_define u.1.0 u.1.1 (or-left_false (is_prefix_name (b ∷ n)) (any is_prefix_name (place_names p)) r) led unopened leans;
+      stands = assign-stands t s p b n f v P.whole P.no_define u.1.0 u.1.1 (or-left_false (is_prefix_name (b ∷ n)) (list_any is_prefix_name (place_names p)) r) led unopened leans;
       spans_are = subst (λ (z : Option Stretch). where_found (new_line_span t e) z ≡ rs) P.found_is A.spans_are;
     }
 

@@ -1,10 +1,10 @@
 -- Where an accepted new line goes: between lines of the text, outside defines.
 use Rattle.std.proofs.Common.{◌≡◌, refl, sym, ap, ◌∙◌, subst, ℕ, List, [], ◌∷◌, ◌++◌, false, Some, None, option_map, append_assoc, arith}
+use Rattle.std.specs.List.{list_any}
 use Rattle.std.proofs.lemmas.List.{append-nil}
 use Rattle.std.proofs.lemmas.Bool.{ltb-false}
 use Rattle.std.specs.Prelude.{nat_lt}
 use Rattle.mk_lines.proofs.on_lists.BoolLemmas.{or-left_false}
-use Rattle.mk_class.specs.Lists.{any}
 use Rattle.mk_class.specs.RecipePrefix.{is_prefix_name}
 use Rattle.mk_class.specs.Classes.{Class}
 use Rattle.mk_class.specs.Contexts.{context_after}
@@ -36,7 +36,7 @@ none-open n h = omega (arith, ltb-false 0 n h)
 
 -- the place is found, and if it is the end of the text, no define is open there
 pub new-place : (t : List ℕ) (p : Place) → no_such_line (classed_lines t) (place_address p) ≡ None → ambiguous_line (classed_lines t) (place_address p) ≡ None
-    → any is_prefix_name (place_names p) ≡ false → open_define_at (classed_lines t) p ≡ None → IsNewPlace t p
+    → list_any is_prefix_name (place_names p) ≡ false → open_define_at (classed_lines t) p ≡ None → IsNewPlace t p
 new-place t Bottom h k n d = record {
   stretch = bottom (classed_lines t);
   found_is = refl;

@@ -1,5 +1,7 @@
 -- The line of a new rule: its words, joined by single spaces around its separator, are read again as they are.
 use Rattle.std.proofs.Common.{◌≡◌, refl, sym, ap, ◌∙◌, subst, ℕ, List, [], ◌∷◌, ◌++◌, map, Bool, true, false, not, ◌&&◌, ◌||◌, ◌==◌, cond, append_assoc, None}
+use Rattle.std.specs.Str.{bytes_eq}
+use Rattle.std.specs.List.{list_any}
 use Rattle.std.specs.Prelude.{codes, nat_lt}
 use Rattle.std.proofs.lemmas.Bool.{or_parts, not-true}
 use Rattle.std.proofs.lemmas.List.{append-nil, map-append}
@@ -15,8 +17,8 @@ use Rattle.mk_lines.proofs.on_units.UnitLemmas.{units-append}
 use Rattle.mk_lines.specs.Words.{Token, Gap, Word, tokens, token_words, token_units, is_word_first, is_gap, IsWord, AreTokens}
 use Rattle.mk_lines.proofs.on_units.TokenLemmas.{tokens-word, tokens-token_units}
 use Rattle.mk_lines.specs.declared.ends.End.{End}
-use Rattle.mk_class.specs.Lists.{is_empty, any, first_passes, last_passes}
-use Rattle.mk_class.specs.Texts.{is_same_text, is_one_of, word_texts}
+use Rattle.mk_class.specs.Lists.{is_empty, first_passes, last_passes}
+use Rattle.mk_class.specs.Texts.{is_one_of, word_texts}
 use Rattle.mk_class.specs.Symbols.{symbol, is_colon, is_bar, is_hash, is_ampersand, is_unreadable_unit, is_equals}
 use Rattle.mk_class.specs.CutTexts.{cut_text, head, is_in_head, is_no_hash}
 use Rattle.mk_class.specs.Keywords.{NoKeyword, keyword, modifier_words, is_reserved_word, reserved_words}
@@ -56,25 +58,25 @@ pub record IsLineText (x : List ℕ) : Type 0 where
 -- a line whose first word is not reserved is no directive
 unreserved-no_directive : (c : Bool) (x : List ℕ) (ws : List (List ℕ)) → is_reserved_word x ≡ false → directive c (x ∷ ws) ≡ None
 unreserved-no_directive c x ws h =
-    let a = or_parts (is_same_text x (codes "ifeq")) _ h in
-    let b = or_parts (is_same_text x (codes "ifneq")) _ a.1 in
-    let d = or_parts (is_same_text x (codes "ifdef")) _ b.1 in
-    let e = or_parts (is_same_text x (codes "ifndef")) _ d.1 in
-    let f = or_parts (is_same_text x (codes "else")) _ e.1 in
-    let g = or_parts (is_same_text x (codes "endif")) _ f.1 in
-    let i = or_parts (is_same_text x (codes "define")) _ g.1 in
-    let j = or_parts (is_same_text x (codes "endef")) _ i.1 in
-    let k = or_parts (is_same_text x (codes "undefine")) _ j.1 in
-    let l = or_parts (is_same_text x (codes "include")) _ k.1 in
-    let m = or_parts (is_same_text x (codes "-include")) _ l.1 in
-    let n = or_parts (is_same_text x (codes "sinclude")) _ m.1 in
-    let o = or_parts (is_same_text x (codes "load")) _ n.1 in
-    let p = or_parts (is_same_text x (codes "-load")) _ o.1 in
-    let q = or_parts (is_same_text x (codes "export")) _ p.1 in
-    let r = or_parts (is_same_text x (codes "unexport")) _ q.1 in
-    let s = or_parts (is_same_text x (codes "override")) _ r.1 in
-    let t = or_parts (is_same_text x (codes "private")) _ s.1 in
-    let u = or_parts (is_same_text x (codes "vpath")) _ t.1 in
+    let a = or_parts (bytes_eq x (codes "ifeq")) _ h in
+    let b = or_parts (bytes_eq x (codes "ifneq")) _ a.1 in
+    let d = or_parts (bytes_eq x (codes "ifdef")) _ b.1 in
+    let e = or_parts (bytes_eq x (codes "ifndef")) _ d.1 in
+    let f = or_parts (bytes_eq x (codes "else")) _ e.1 in
+    let g = or_parts (bytes_eq x (codes "endif")) _ f.1 in
+    let i = or_parts (bytes_eq x (codes "define")) _ g.1 in
+    let j = or_parts (bytes_eq x (codes "endef")) _ i.1 in
+    let k = or_parts (bytes_eq x (codes "undefine")) _ j.1 in
+    let l = or_parts (bytes_eq x (codes "include")) _ k.1 in
+    let m = or_parts (bytes_eq x (codes "-include")) _ l.1 in
+    let n = or_parts (bytes_eq x (codes "sinclude")) _ m.1 in
+    let o = or_parts (bytes_eq x (codes "load")) _ n.1 in
+    let p = or_parts (bytes_eq x (codes "-load")) _ o.1 in
+    let q = or_parts (bytes_eq x (codes "export")) _ p.1 in
+    let r = or_parts (bytes_eq x (codes "unexport")) _ q.1 in
+    let s = or_parts (bytes_eq x (codes "override")) _ r.1 in
+    let t = or_parts (bytes_eq x (codes "private")) _ s.1 in
+    let u = or_parts (bytes_eq x (codes "vpath")) _ t.1 in
     let key : keyword x ≡ NoKeyword = rw (i.0, j.0, a.0, b.0, d.0, e.0, f.0, g.0, l.0, m.0, n.0, q.0, r.0, u.0, o.0, p.0, k.0) refl in
     let bare : is_one_of x modifier_words ≡ false = rw (s.0, q.0, t.0) refl in
     rw (bare, key) refl
@@ -83,10 +85,10 @@ unreserved-no_directive c x ws h =
 colon-unreserved : (a c : List ℕ) → is_reserved_word (a ++ 58 ∷ c) ≡ false
 colon-unreserved a c = none reserved_words refl
   where
-    none : (ks : List (List ℕ)) → any (λ k. any (λ b. 58 == b) k) ks ≡ false → is_one_of (a ++ 58 ∷ c) ks ≡ false
+    none : (ks : List (List ℕ)) → list_any (λ k. list_any (λ b. 58 == b) k) ks ≡ false → is_one_of (a ++ 58 ∷ c) ks ≡ false
     none [] h = refl
     none (k ∷ ks) h =
-        let p = or_parts (any (λ b. 58 == b) k) (any (λ z. any (λ b. 58 == b) z) ks) h in
+        let p = or_parts (list_any (λ b. 58 == b) k) (list_any (λ z. list_any (λ b. 58 == b) z) ks) h in
         ap (λ z. z || is_one_of (a ++ 58 ∷ c) ks) (not_same 58 a c k p.0) ∙ none ks p.1
 
 -- ---- tokens of the new line
@@ -265,15 +267,15 @@ rule-fits t ts c ws W =
     colons Two = refl
 
 -- no cause makes it Rough
-any-append : {A : Type 0} (p : A → Bool) (a b : List A) → any p a ≡ false → any p b ≡ false → any p (a ++ b) ≡ false
+any-append : {A : Type 0} (p : A → Bool) (a b : List A) → list_any p a ≡ false → list_any p b ≡ false → list_any p (a ++ b) ≡ false
 any-append p [] b h k = k
-any-append p (x ∷ a) b h k = let q = or_parts (p x) (any p a) h in rw (q.0) (any-append p a b q.1 k)
+any-append p (x ∷ a) b h k = let q = or_parts (p x) (list_any p a) h in rw (q.0) (any-append p a b q.1 k)
 
-none-of : {A : Type 0} (p : A → Bool) (xs : List A) → Each (λ x. not (p x)) xs → any p xs ≡ false
+none-of : {A : Type 0} (p : A → Bool) (xs : List A) → Each (λ x. not (p x)) xs → list_any p xs ≡ false
 none-of p [] h = refl
 none-of p (x ∷ xs) h = go (p x) h.0 (none-of p xs h.1)
   where
-    go : (b : Bool) → not b ≡ true → any p xs ≡ false → (b || any p xs) ≡ false
+    go : (b : Bool) → not b ≡ true → list_any p xs ≡ false → (b || list_any p xs) ≡ false
     go true e k = cc
     go false e k = k
 
@@ -284,13 +286,13 @@ rule-not_rough t ts c ws W =
     let x = rule_units-bland joined_byte X (targets-rule_units t ts W.first W.others) in
     let n = rule_units-bland joined_byte N (spaced-rule_units ws W.prereqs) in
     let test : List Cell → Bool = λ u. is_equals joined_byte u || is_unreadable_unit joined_byte u in
-    let readable : any test (X ++ (colon_units c ++ (N ++ []))) ≡ false =
+    let readable : list_any test (X ++ (colon_units c ++ (N ++ []))) ≡ false =
     any-append test X (colon_units c ++ (N ++ [])) x.readable (any-append test (colon_units c) (N ++ []) (colons c) (any-append test N [] n.readable refl)) in
-    let no_colon : any (is_colon joined_byte) N ≡ false = none-of (is_colon joined_byte) N n.no_colon in
-    let no_bar : any (is_bar joined_byte) X ≡ false = none-of (is_bar joined_byte) X x.no_bar in
+    let no_colon : list_any (is_colon joined_byte) N ≡ false = none-of (is_colon joined_byte) N n.no_colon in
+    let no_bar : list_any (is_bar joined_byte) X ≡ false = none-of (is_bar joined_byte) X x.no_bar in
     rw (readable, no_colon, no_bar) refl
   where
-    colons : (c : Colons) → any (λ u. is_equals joined_byte u || is_unreadable_unit joined_byte u) (colon_units c) ≡ false
+    colons : (c : Colons) → list_any (λ u. is_equals joined_byte u || is_unreadable_unit joined_byte u) (colon_units c) ≡ false
     colons One = refl
     colons Two = refl
 
@@ -372,7 +374,7 @@ takes Two = refl
 -- `:`, and `r` is the class that it has if its head has one
 abbrev plain_by : Bool → List Cell → (us z : List (List Cell)) → (b : Bool) → (r : Class Cell) → Class Cell
 plain_by d cs us z b r =
-    cond (is_all_blanks joined_byte z) (cond (any (is_hash joined_byte) us) Class.Comment Class.Blank) (
+    cond (is_all_blanks joined_byte z) (cond (list_any (is_hash joined_byte) us) Class.Comment Class.Blank) (
     cond (is_unreadable cs) Class.Opaque (
     assign_class joined_byte d (assignment joined_byte z) (or_class (directive d (word_texts joined_byte z)) (cond (not b) Class.Opaque r))))
 
@@ -427,7 +429,7 @@ pub record IsNewRule (t : List ℕ) (ts : List (List ℕ)) (c : Colons) (ws : Li
       → class_of C (text_of_rule (t ∷ ts) c ws ++ line_end_bytes e) ≡ HeaderLine (new_rule t ts c ws)
   pub item : header_item (new_rule t ts c ws) ≡ item.Header (t ∷ ts) (separator_of c) [] ws [] None
 
-spaced-clean : (ws : List (List ℕ)) → AreNewWords ws → any is_barred_byte (each_spaced ws) ≡ false
+spaced-clean : (ws : List (List ℕ)) → AreNewWords ws → list_any is_barred_byte (each_spaced ws) ≡ false
 spaced-clean [] h = refl
 spaced-clean ([] ∷ ws) h = absurd (let k : true ≡ false = h.0.filled in cc)
 spaced-clean ((b ∷ w) ∷ ws) h = any-append is_barred_byte (b ∷ w) (each_spaced ws) h.0.clean (spaced-clean ws h.1)
@@ -446,7 +448,7 @@ rule-text t ts c ws W =
       no_backslash = last-neither is_backslash_byte (t ++ F) (colons_text c ++ N) (last-neither is_backslash_byte t F W.first.no_backslash (spaced-no_backslash ts W.others)) (last-neither is_backslash_byte (colons_text c) N (last c) (spaced-no_backslash ws W.prereqs));
     })
   where
-    clean : (c : Colons) → any is_barred_byte (colons_text c) ≡ false
+    clean : (c : Colons) → list_any is_barred_byte (colons_text c) ≡ false
     clean One = refl
     clean Two = refl
 
@@ -474,7 +476,7 @@ new_rule-is t ts c ws W =
     let n : HasNoLineEnd s = clean-no_line_end s L.clean in
     let A : AreLineCells (map Byte s) = bytes-are_line_cells s n in
     let same : cells s ≡ map Byte s = ap cells (sym (raw_text-bytes s)) ∙ AreLineCells-cells (map Byte s) A in
-    let readable : is_unreadable (map Byte s) ≡ false = rw (clean-no_stray s (not-true (any is_barred_byte s) L.clean)) A.clean.1 in
+    let readable : is_unreadable (map Byte s) ≡ false = rw (clean-no_stray s (not-true (list_any is_barred_byte s) L.clean)) A.clean.1 in
     let split : s ≡ t ++ (each_spaced ts ++ (colons_text c ++ each_spaced ws)) = ap (λ z. z ++ (colons_text c ++ each_spaced ws)) (first-target t ts W.first) ∙ append_assoc t (each_spaced ts) (colons_text c ++ each_spaced ws) in
     record {
       text = L;

@@ -1,12 +1,13 @@
 -- The reading law for new rules.
 use Rattle.std.proofs.Common.{◌≡◌, refl, sym, ap, ◌∙◌, subst, ℕ, List, [], ◌∷◌, ◌++◌, true, false, not, Option, Some, None}
+use Rattle.std.specs.List.{list_any}
 use Rattle.std.specs.Prelude.{Ok}
 use Rattle.std.proofs.lemmas.Bool.{and_parts, or_parts, not-false, not-true}
 use Rattle.mk_lines.specs.PhysicalLines.{file_line_end}
 use Rattle.mk_lines.specs.Cells.{Cell}
 use Rattle.mk_lines.specs.Pieces.{Replacement, replaced}
 use Rattle.mk_lines.specs.Words.{words_in}
-use Rattle.mk_class.specs.Lists.{is_empty, any, last_passes}
+use Rattle.mk_class.specs.Lists.{is_empty, last_passes}
 use Rattle.mk_class.specs.Keywords.{is_reserved_word}
 use Rattle.mk_class.specs.Arguments.{is_word, is_target, is_ampersand_byte}
 use Rattle.mk_class.specs.Headers.{Header}
@@ -36,22 +37,22 @@ use Rattle.mk_edit_laws.specs.declared.edit.Colons.{Colons}
 
 -- ---- the words of the arguments
 
-new_words : (ws : List (List ℕ)) → any (λ w. not (is_word w)) ws ≡ false → AreNewWords ws
+new_words : (ws : List (List ℕ)) → list_any (λ w. not (is_word w)) ws ≡ false → AreNewWords ws
 new_words [] h = tt
 new_words (w ∷ ws) h =
-    let p = or_parts (not (is_word w)) (any (λ x. not (is_word x)) ws) h in
+    let p = or_parts (not (is_word w)) (list_any (λ x. not (is_word x)) ws) h in
     (word-is_new w (not-false (is_word w) p.0), new_words ws p.1)
 
-new_targets : (ts : List (List ℕ)) → any (λ w. not (is_target w)) ts ≡ false → AreNewWords ts × EndInNoAmpersand ts
+new_targets : (ts : List (List ℕ)) → list_any (λ w. not (is_target w)) ts ≡ false → AreNewWords ts × EndInNoAmpersand ts
 new_targets [] h = (tt, tt)
 new_targets (w ∷ ts) h =
-    let p = or_parts (not (is_target w)) (any (λ x. not (is_target x)) ts) h in
+    let p = or_parts (not (is_target w)) (list_any (λ x. not (is_target x)) ts) h in
     let q = and_parts (is_word w) (not (last_passes is_ampersand_byte w)) (not-false (is_target w) p.0) in
     let r = new_targets ts p.1 in
     ((word-is_new w q.0, r.0), (not-true (last_passes is_ampersand_byte w) q.1, r.1))
 
 -- the words of an accepted new rule
-rule_words : (t : List ℕ) (ts ws : List (List ℕ)) → any (λ w. not (is_target w)) (t ∷ ts) ≡ false → any (λ w. not (is_word w)) ws ≡ false → is_reserved_word t ≡ false → AreRuleWords t ts ws
+rule_words : (t : List ℕ) (ts ws : List (List ℕ)) → list_any (λ w. not (is_target w)) (t ∷ ts) ≡ false → list_any (λ w. not (is_word w)) ws ≡ false → is_reserved_word t ≡ false → AreRuleWords t ts ws
 rule_words t ts ws h k r =
     let a = new_targets (t ∷ ts) h in
     record { first = a.0.0; others = a.0.1; prereqs = new_words ws k; ends = a.1; unreserved = r }
@@ -74,18 +75,18 @@ pub rule-stands : (p : Place) (g : List ℕ) (c : Colons) (w t : List ℕ) (rs :
 rule-stands p g c w t rs h =
     let A = accepted t (AddRule p g c w) rs h in
     let tests = three-passed _ _ _ _ _ _ A.arguments in
-    let T = and_parts (not (is_empty (words_in g))) (not (any (λ x. not (is_target x)) (words_in g))) tests.1.0 in
-    let R = or_parts (any is_prefix_name (place_names p)) (any is_reserved_word (words_in g ++ place_targets p)) (where_holds-none _ _ A.not_reserved) in
+    let T = and_parts (not (is_empty (words_in g))) (not (list_any (λ x. not (is_target x)) (words_in g))) tests.1.0 in
+    let R = or_parts (list_any is_prefix_name (place_names p)) (list_any is_reserved_word (words_in g ++ place_targets p)) (where_holds-none _ _ A.not_reserved) in
     go A (words_in g) refl T.0 (not-true _ T.1) (not-true _ tests.1.1) R.0 R.1
   where
-    go : IsAccepted t (AddRule p g c w) rs → (ts : List (List ℕ)) → words_in g ≡ ts → not (is_empty ts) ≡ true → any (λ x. not (is_target x)) ts ≡ false
-        → any (λ x. not (is_word x)) (words_in w) ≡ false → any is_prefix_name (place_names p) ≡ false → any is_reserved_word (ts ++ place_targets p) ≡ false
+    go : IsAccepted t (AddRule p g c w) rs → (ts : List (List ℕ)) → words_in g ≡ ts → not (is_empty ts) ≡ true → list_any (λ x. not (is_target x)) ts ≡ false
+        → list_any (λ x. not (is_word x)) (words_in w) ≡ false → list_any is_prefix_name (place_names p) ≡ false → list_any is_reserved_word (ts ++ place_targets p) ≡ false
         → RuleStands t (AddRule p g c w) (new_header g c w) rs
     go A [] e f i k q r = absurd (cc)
     go A (x ∷ ts) e f i k q r =
         let E = AddRule p g c w in
         let ws = words_in w in
-        let W = rule_words x ts ws i k ((or_parts (is_reserved_word x) (any is_reserved_word (ts ++ place_targets p)) r).0) in
+        let W = rule_words x ts ws i k ((or_parts (is_reserved_word x) (list_any is_reserved_word (ts ++ place_targets p)) r).0) in
         let N = new_rule-is x ts c ws W in
         let P = new-place t p A.is_there A.is_one q A.define_closed in
         let s = P.stretch in

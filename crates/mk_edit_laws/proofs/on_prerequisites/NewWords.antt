@@ -1,5 +1,6 @@
 -- Words that an edit may write, as the units of a line's cells: none is a gap, a symbol or a unit that no word may have.
 use Rattle.std.proofs.Common.{◌≡◌, refl, sym, ap, ◌∙◌, subst, ℕ, List, [], ◌∷◌, ◌++◌, map, Bool, true, false, not, ◌&&◌, ◌||◌}
+use Rattle.std.specs.List.{list_any}
 use Rattle.std.proofs.lemmas.Bool.{and_parts, or_parts, not-true}
 use Rattle.std.proofs.lemmas.List.{append-nil}
 use Rattle.mk_lines.specs.Lists.{concat, Each}
@@ -12,7 +13,7 @@ use Rattle.mk_lines.specs.FirstUnit.{is_unclosed_unit, is_lone_backslash, leaves
 use Rattle.mk_lines.proofs.on_units.FirstUnitLemmas.{is_closed-leaves_open}
 use Rattle.mk_lines.specs.Words.{is_gap, IsWord}
 use Rattle.mk_lines.proofs.on_units.TokenLemmas.{is_gap-map}
-use Rattle.mk_class.specs.Lists.{is_empty, any, last_passes}
+use Rattle.mk_class.specs.Lists.{is_empty, last_passes}
 use Rattle.mk_class.proofs.on_symbols.ListMaps.{last_passes-map}
 use Rattle.mk_class.specs.Symbols.{Symbol, symbol, is_equals, is_ampersand, is_ampersand_symbol, is_hash_symbol, is_colon_symbol, is_equals_symbol, is_bar_symbol, is_unreadable_unit, is_escape, is_dollar_before_blank}
 use Rattle.mk_class.specs.Symbols.Symbol.{Hash, Colon, Semicolon, Equals, Plus, Question, Exclamation, Bar, Ampersand, NoSymbol}
@@ -61,7 +62,7 @@ module _ {A : Type 0} (byte : A → ℕ) where
     pub no_colon : Each (is_no_colon byte) us
     pub no_equals : Each (is_no_equals byte) us
     pub no_bar : Each (is_no_bar byte) us
-    pub readable : any (λ u. is_equals byte u || is_unreadable_unit byte u) us ≡ false
+    pub readable : list_any (λ u. is_equals byte u || is_unreadable_unit byte u) us ≡ false
 
   pub rule_units-bland : (us : List (List A)) → Each (is_rule_unit byte) us → AreBland us
   rule_units-bland [] h = record { in_head = tt; no_hash = tt; no_colon = tt; no_equals = tt; no_bar = tt; readable = refl }
@@ -91,12 +92,12 @@ word_unit u h k =
     let r = or_parts (is_escape (λ b. b) u) (is_dollar_before_blank (λ b. b) u) q.1 in
     rw (p.0, q.0, r.0, r.1, k) refl
 
-word_units : (us : List (List ℕ)) → any ends_word us ≡ false → leaves_open (λ b. b) us ≡ false → Each (is_word_unit (λ b. b)) us
+word_units : (us : List (List ℕ)) → list_any ends_word us ≡ false → leaves_open (λ b. b) us ≡ false → Each (is_word_unit (λ b. b)) us
 word_units [] h k = tt
 word_units (u ∷ []) h k =
     (word_unit u ((or_parts (ends_word u) false h).0) ((or_parts (is_unclosed_unit (λ b. b) u) (is_lone_backslash (λ b. b) u) k).0), tt)
 word_units (u ∷ v ∷ us) h k =
-    let p = or_parts (ends_word u) (any ends_word (v ∷ us)) h in
+    let p = or_parts (ends_word u) (list_any ends_word (v ∷ us)) h in
     let q = or_parts (is_unclosed_unit (λ b. b) u) (leaves_open (λ b. b) (v ∷ us)) k in
     (word_unit u p.0 q.0, word_units (v ∷ us) p.1 q.1)
 
@@ -129,7 +130,7 @@ concat-cell_units w = concat-units joined_byte (map Byte w)
 -- what is known of a word that an edit may write
 pub record IsNewWord (w : List ℕ) : Type 0 where
   pub filled : is_empty w ≡ false
-  pub clean : any is_barred_byte w ≡ false
+  pub clean : list_any is_barred_byte w ≡ false
   pub closed : is_closed joined_byte (map Byte w) ≡ true
   pub word : IsWord joined_byte (cell_units w)
   pub units : Each (is_rule_unit joined_byte) (cell_units w)
@@ -157,8 +158,8 @@ pub word-is_new : (w : List ℕ) → is_word w ≡ true → IsNewWord w
 word-is_new w h =
     let a = and_parts (not (is_empty w)) _ h in
     let b = and_parts (is_clean w) _ a.1 in
-    let c = and_parts (is_closed (λ b. b) w) (not (any ends_word (units (λ b. b) w))) b.1 in
-    let clean = not-true (any is_barred_byte w) b.0 in
+    let c = and_parts (is_closed (λ b. b) w) (not (list_any ends_word (units (λ b. b) w))) b.1 in
+    let clean = not-true (list_any is_barred_byte w) b.0 in
     let ends : leaves_open (λ b. b) (units (λ b. b) w) ≡ false = not-true _ (sym (is_closed-leaves_open (λ b. b) w) ∙ c.0) in
     let us : Each (is_word_unit joined_byte) (cell_units w) =
     subst (Each (is_word_unit joined_byte)) (sym (cell_units-are w)) (word_units-cells (units (λ b. b) w) (word_units (units (λ b. b) w) (not-true _ c.1) ends)) in

@@ -1,9 +1,9 @@
 -- A line of class Recipe begins with the prefix and stands in a rule, outside defines.
 use Rattle.std.proofs.Common.{◌≡◌, refl, sym, ◌∙◌, ℕ, List, Bool, true, false, not, ◌||◌, cond, Option, Some, None, zero, suc}
+use Rattle.std.specs.List.{list_any}
 use Rattle.std.specs.Prelude.{nat_lt}
 use Rattle.mk_lines.specs.Cells.{Cell, joined_byte, line_cells}
 use Rattle.mk_lines.specs.Units.{units}
-use Rattle.mk_class.specs.Lists.{any}
 use Rattle.mk_class.specs.Texts.{word_texts}
 use Rattle.mk_class.specs.Symbols.{is_hash}
 use Rattle.mk_class.specs.CutTexts.{cut_text, head}
@@ -52,7 +52,7 @@ not_recipe-or (Some s) x h = not_recipe-said s
 
 not_recipe-plain : (led c : Bool) (cs : List Cell) (us : List (List Cell)) → is_recipe (plain_class joined_byte led c (is_unreadable cs) us) ≡ false
 not_recipe-plain led c cs us =
-    not_recipe-cond (is_all_blanks joined_byte (cut_text joined_byte us)) _ _ (not_recipe-cond (any (is_hash joined_byte) us) Comment Blank refl refl) (
+    not_recipe-cond (is_all_blanks joined_byte (cut_text joined_byte us)) _ _ (not_recipe-cond (list_any (is_hash joined_byte) us) Comment Blank refl refl) (
     not_recipe-cond (is_unreadable cs) Opaque _ refl (
     not_recipe-assign c (assignment joined_byte (cut_text joined_byte us)) _ (
     not_recipe-or (directive c (word_texts joined_byte (cut_text joined_byte us))) _ (

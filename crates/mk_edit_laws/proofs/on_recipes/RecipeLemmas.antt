@@ -1,5 +1,6 @@
 -- Accepted edits of recipe lines change the reading by that line alone.
 use Rattle.std.proofs.Common.{◌≡◌, refl, sym, ap, ◌∙◌, subst, ℕ, List, [], ◌∷◌, ◌++◌, Bool, true, false, not, ◌||◌, ◌&&◌, ◌==◌, Option, Some, length, drop, option_map, append_assoc, map, arith, reverse, ◌+◌}
+use Rattle.std.specs.List.{list_any}
 use Rattle.std.proofs.lemmas.Bool.{and_parts, eq-eqb, eqb-true}
 use Rattle.std.proofs.lemmas.List.{reverse-append}
 use Rattle.std.specs.Prelude.{Ok, nat_lt}
@@ -20,7 +21,7 @@ use Rattle.mk_lines.specs.Pieces.{Replacement, replaced}
 use Rattle.mk_lines.specs.declared.ends.End.{End}
 use Rattle.mk_lines.specs.declared.ends.End.TheVariants as ends
 use Rattle.mk_lines.proofs.on_lists.BoolLemmas.{or-left_false}
-use Rattle.mk_class.specs.Lists.{any, last_passes}
+use Rattle.mk_class.specs.Lists.{last_passes}
 use Rattle.mk_class.specs.RecipePrefix.{is_prefix_led}
 use Rattle.mk_class.specs.Arguments.{is_barred_byte, is_backslash_byte, is_clean, is_command, is_target}
 use Rattle.mk_class.specs.Classes.{Class, is_recipe}
@@ -61,7 +62,7 @@ not-both false b h k = ap (λ z. not (z || false)) k
 
 -- the prefix and a command
 recipe-clean : (p : ℕ) (c : List ℕ) → CanBegin p → is_command c ≡ true → is_clean (p ∷ c) ≡ true
-recipe-clean p c h k = not-both (any is_barred_byte c) (is_barred_byte p) (and_parts (is_clean c) _ k).0 h.not_barred
+recipe-clean p c h k = not-both (list_any is_barred_byte c) (is_barred_byte p) (and_parts (is_clean c) _ k).0 h.not_barred
 
 recipe-no_backslash : (p : ℕ) (c : List ℕ) → CanBegin p → is_command c ≡ true → last_passes is_backslash_byte (p ∷ c) ≡ false
 recipe-no_backslash p [] h k = h.no_backslash

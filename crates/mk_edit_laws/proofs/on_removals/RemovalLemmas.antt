@@ -1,12 +1,12 @@
 -- Accepted removals of a rule and of a recipe line remove their items, and no other item changes.
 use Rattle.std.proofs.Common.{◌≡◌, refl, sym, ap, ◌∙◌, subst, ℕ, List, [], ◌∷◌, ◌++◌, true, false, Option, Some, option_map}
+use Rattle.std.specs.List.{list_any}
 use Rattle.std.specs.Prelude.{Ok}
 use Rattle.std.proofs.lemmas.Option.{same_Some}
 use Rattle.mk_lines.specs.Lists.{Each}
 use Rattle.mk_lines.specs.Pieces.{Replacement, replaced}
 use Rattle.mk_lines.specs.Cells.{Cell}
 use Rattle.mk_lines.proofs.on_lists.BoolLemmas.{or-left_false, or-right_false}
-use Rattle.mk_class.specs.Lists.{any}
 use Rattle.mk_class.specs.Headers.{Header}
 use Rattle.mk_class.specs.Classes.{Class, is_conditional}
 use Rattle.mk_class.specs.Contexts.{Context, context_after}
@@ -75,15 +75,15 @@ class-agrees c Class.Rough h n = absurd (cc)
 class-agrees c (Class.Header x) h n = absurd (cc)
 
 -- if no line of a conditional is among them, the context after them is as before in all except perhaps the flag
-run-agrees : (c : Context) (ls : List ClassedLine) → Each (λ l. stays_in_rule l.class) ls → any (λ l. is_conditional l.class) ls ≡ false → AgreeButForFlag c (context_after_lines c ls)
+run-agrees : (c : Context) (ls : List ClassedLine) → Each (λ l. stays_in_rule l.class) ls → list_any (λ l. is_conditional l.class) ls ≡ false → AgreeButForFlag c (context_after_lines c ls)
 run-agrees c [] h n = agrees-self c
 run-agrees c (l ∷ ls) h n =
     let d = context_after c l.class in
-    agrees-then c d (context_after_lines d ls) (class-agrees c l.class h.0 (or-left_false (is_conditional l.class) (any (λ m. is_conditional m.class) ls) n))
-    (run-agrees d ls h.1 (or-right_false (is_conditional l.class) (any (λ m. is_conditional m.class) ls) n))
+    agrees-then c d (context_after_lines d ls) (class-agrees c l.class h.0 (or-left_false (is_conditional l.class) (list_any (λ m. is_conditional m.class) ls) n))
+    (run-agrees d ls h.1 (or-right_false (is_conditional l.class) (list_any (λ m. is_conditional m.class) ls) n))
 
 header-agrees : (A : List ClassedLine) (l : ClassedLine) (R : List ClassedLine) (x : Header Cell) → l.class ≡ Class.Header x
-    → Each (λ m. stays_in_rule m.class) R → any (λ m. is_conditional m.class) R ≡ false → AgreeButForFlag (context_of A) (context_of (A ++ l ∷ R))
+    → Each (λ m. stays_in_rule m.class) R → list_any (λ m. is_conditional m.class) R ≡ false → AgreeButForFlag (context_of A) (context_of (A ++ l ∷ R))
 header-agrees A l R x h k n =
     let c = context_of A in
     let d = context_after c l.class in

@@ -1,5 +1,7 @@
 -- The lines that the removal of a rule takes out are its line and its recipe.
 use Rattle.std.proofs.Common.{◌≡◌, refl, sym, ap, ◌∙◌, subst, arith, ℕ, List, [], ◌∷◌, ◌++◌, map, filter, append_assoc, Bool, true, false, not, ◌||◌, ◌&&◌, length, drop, ◌≤◌, Option, Some, option_map, ltb-false}
+use Rattle.std.specs.Str.{bytes_eq}
+use Rattle.std.specs.List.{list_any}
 use Rattle.std.proofs.lemmas.Bool.{or_parts, not-true, not-false}
 use Rattle.std.proofs.Math.Seq.{drop-append_seam}
 use Rattle.std.specs.Prelude.{Ok, if◌then◌else◌, nat_lt}
@@ -8,12 +10,12 @@ use Rattle.mk_lines.proofs.on_lists.ListLemmas.{trailing-each, after_leading-fir
 use Rattle.mk_lines.specs.PhysicalLines.{without_line_end}
 use Rattle.mk_lines.specs.Cells.{Cell, joined_byte}
 use Rattle.mk_lines.specs.Pieces.{Replacement}
-use Rattle.mk_class.specs.Lists.{any, first_passes}
-use Rattle.mk_class.specs.Texts.{is_same_text, is_one_of, word_texts}
+use Rattle.mk_class.specs.Lists.{first_passes}
+use Rattle.mk_class.specs.Texts.{is_one_of, word_texts}
 use Rattle.mk_class.specs.Classes.{Class, is_conditional, is_recipe}
 use Rattle.mk_class.specs.Classes.Class.{Endef, Body, Recipe, Opaque, Blank, Comment, Assign, DefineHead, If, Else, Endif, Directive, TargetAssign, Rough, Header}
 use Rattle.mk_class.specs.ClassedLines.{ClassedLine, classed_lines}
-use Rattle.mk_class.proofs.WordLemmas.{same_text-is}
+use Rattle.std.proofs.lemmas.Slice.Eq.{bytes_eq-Decides}
 use Rattle.mk_tree.specs.RecipeLines.{stays_in_rule, ends_rule, rule_lines, recipe_run, after_recipe}
 use Rattle.mk_tree.proofs.on_changes.RecipeRunLemmas.{recipe_run-after, recipe_run-stays}
 use Rattle.mk_tree.specs.Items
@@ -36,10 +38,10 @@ use Rattle.mk_edit_laws.specs.declared.refusal.Refusal.TheVariants.{NoSuch, Stra
 -- a word among fewer than two is the only one
 only-word : (w : List ℕ) (ws : List (List ℕ)) → is_one_of w ws ≡ true → nat_lt 1 (length ws) ≡ false → ws ≡ w ∷ []
 only-word w [] h n = absurd (cc)
-only-word w (x ∷ []) h n = go (is_same_text w x) refl h
+only-word w (x ∷ []) h n = go (bytes_eq w x) refl h
   where
-    go : (b : Bool) → is_same_text w x ≡ b → (b || false) ≡ true → x ∷ [] ≡ w ∷ []
-    go true e k = ap (λ z. z ∷ []) (sym (same_text-is w x e))
+    go : (b : Bool) → bytes_eq w x ≡ b → (b || false) ≡ true → x ∷ [] ≡ w ∷ []
+    go true e k = ap (λ z. z ∷ []) (sym ((bytes_eq-Decides w x).0 e))
     go false e k = absurd (cc)
 only-word w (x ∷ y ∷ ws) h n = let k : length (x ∷ y ∷ ws) ≤ 1 = ltb-false 1 (length (x ∷ y ∷ ws)) n in absurd (omega (arith, k))
 
@@ -63,10 +65,10 @@ class-of_recipe (TargetAssign a) h n = absurd (cc)
 class-of_recipe Rough h n = absurd (cc)
 class-of_recipe (Header x) h n = absurd (cc)
 
-lines-of_recipe : (ls : List ClassedLine) → Each (λ l. stays_in_rule l.class) ls → any (λ l. is_conditional l.class) ls ≡ false → Each (λ l. is_of_recipe l.class) ls
+lines-of_recipe : (ls : List ClassedLine) → Each (λ l. stays_in_rule l.class) ls → list_any (λ l. is_conditional l.class) ls ≡ false → Each (λ l. is_of_recipe l.class) ls
 lines-of_recipe [] h n = tt
 lines-of_recipe (l ∷ ls) h n =
-    let p = or_parts (is_conditional l.class) (any (λ m. is_conditional m.class) ls) n in
+    let p = or_parts (is_conditional l.class) (list_any (λ m. is_conditional m.class) ls) n in
     (class-of_recipe l.class h.0 p.0, lines-of_recipe ls h.1 p.1)
 
 -- the last of trimmed lines is a recipe line

@@ -1,5 +1,6 @@
 -- A header's line after a rename stands in the place of the old one: a line of class Header with the new word for each that was the old.
 use Rattle.std.proofs.Common.{◌≡◌, refl, sym, ap, ◌∙◌, subst, ℕ, List, [], ◌∷◌, ◌++◌, map, Bool, true, false, not, ◌&&◌, cond, append_assoc}
+use Rattle.std.specs.List.{list_any}
 use Rattle.std.proofs.lemmas.List.{append-nil}
 use Rattle.std.specs.Prelude.{nat_lt}
 use Rattle.mk_lines.specs.Lists.{concat}
@@ -12,7 +13,7 @@ use Rattle.mk_lines.proofs.on_cells.LineCells.{AreLineCells}
 use Rattle.mk_lines.proofs.on_lines.LineLemmas.{OneLine, EndsBefore}
 use Rattle.mk_lines.specs.Words.{tokens, token_words, token_units, IsWord}
 use Rattle.mk_lines.proofs.on_units.TokenLemmas.{token_text, token_units-tokens, token_text-tokens, tokens-are_tokens, tokens-token_units}
-use Rattle.mk_class.specs.Lists.{any, first_passes, last_passes}
+use Rattle.mk_class.specs.Lists.{first_passes, last_passes}
 use Rattle.mk_class.specs.Texts.{word_texts}
 use Rattle.mk_class.specs.Symbols.{is_colon, is_ampersand}
 use Rattle.mk_class.specs.Headers
@@ -168,7 +169,7 @@ rename-item o n new h =
 -- ---- the front of the line
 
 -- if no piece is replaced, the bytes stay
-pub none-replaced : (ps : List Piece) → any is_replaced ps ≡ false → new_bytes ps ≡ old_bytes ps
+pub none-replaced : (ps : List Piece) → list_any is_replaced ps ≡ false → new_bytes ps ≡ old_bytes ps
 none-replaced [] h = refl
 none-replaced (Keep cs ∷ ps) h = ap (λ z. raw_text cs ++ z) (none-replaced ps h)
 none-replaced (Replace cs v ∷ ps) h = absurd (cc)
@@ -176,9 +177,9 @@ none-replaced (Replace cs v ∷ ps) h = absurd (cc)
 -- the new line does not begin with the prefix if no line that the rename changes would
 pub renamed-not_led : (prefix : ℕ) (ps : List Piece) (end : List ℕ) (x : ℕ) (y : List ℕ) → new_bytes ps ≡ x ∷ y → begins_renamed_line prefix ps ≡ false → is_prefix_led prefix (old_bytes ps ++ end) ≡ false
     → is_prefix_led prefix (new_bytes ps ++ end) ≡ false
-renamed-not_led prefix ps end x y e h k = go (any is_replaced ps) refl h
+renamed-not_led prefix ps end x y e h k = go (list_any is_replaced ps) refl h
   where
-    go : (c : Bool) → any is_replaced ps ≡ c → (c && is_prefix_led prefix (new_bytes ps)) ≡ false → is_prefix_led prefix (new_bytes ps ++ end) ≡ false
+    go : (c : Bool) → list_any is_replaced ps ≡ c → (c && is_prefix_led prefix (new_bytes ps)) ≡ false → is_prefix_led prefix (new_bytes ps ++ end) ≡ false
     go true f i = led-same prefix (new_bytes ps) end [] x y e ∙ (ap (is_prefix_led prefix) (append-nil (new_bytes ps)) ∙ i)
     go false f i = ap (λ z. is_prefix_led prefix (z ++ end)) (none-replaced ps f) ∙ k
 

@@ -1,6 +1,7 @@
 -- A target assignment's line after a rename stands in the place of the old one: a line of class TargetAssign with the new word for
 -- each target that was the old.
 use Rattle.std.proofs.Common.{◌≡◌, refl, sym, ap, ◌∙◌, subst, ℕ, List, [], ◌∷◌, ◌++◌, map, Bool, true, false, cond, append_assoc, reverse}
+use Rattle.std.specs.List.{list_any}
 use Rattle.std.specs.Prelude.{nat_lt}
 use Rattle.std.proofs.lemmas.Bool.{or_from}
 use Rattle.mk_lines.specs.Lists.{concat, Each}
@@ -20,7 +21,7 @@ use Rattle.mk_lines.specs.Words.{Token, Gap, Word, tokens, token_units, AreToken
 use Rattle.mk_lines.proofs.on_units.TokenLemmas.{token_text, token_units-tokens, token_text-tokens, tokens-are_tokens}
 use Rattle.mk_lines.proofs.on_lists.BoolLemmas.{or-left_false}
 use Rattle.mk_lines.proofs.on_cells.CellsReplaced.{not_empty-append}
-use Rattle.mk_class.specs.Lists.{any, is_empty, last_passes}
+use Rattle.mk_class.specs.Lists.{is_empty, last_passes}
 use Rattle.mk_class.specs.Texts.{word_texts}
 use Rattle.mk_class.specs.Symbols.{is_colon, is_ampersand}
 use Rattle.mk_class.specs.CutTexts.{is_in_head, is_no_hash}
@@ -114,13 +115,13 @@ filled-after [] b e = cc
 filled-after (z ∷ a) b e = (z, a ++ b, refl)
 
 -- if some piece is replaced, there are bytes
-replaced-filled : (o n : List ℕ) → is_empty n ≡ false → (ts : List (Token Cell)) → any is_replaced (renamed_tokens o n ts) ≡ true → (x : ℕ) × (y : List ℕ) × (new_bytes (renamed_tokens o n ts) ≡ x ∷ y)
+replaced-filled : (o n : List ℕ) → is_empty n ≡ false → (ts : List (Token Cell)) → list_any is_replaced (renamed_tokens o n ts) ≡ true → (x : ℕ) × (y : List ℕ) × (new_bytes (renamed_tokens o n ts) ≡ x ∷ y)
 replaced-filled o n f [] h = cc
 replaced-filled o n f (Gap u ∷ ts) h = let r = replaced-filled o n f ts h in not_empty-append (raw_text u) (new_bytes (renamed_tokens o n ts)) r.0 r.1 r.2
 replaced-filled o n f (Word w ∷ ts) h = go (is_word_of o w) h (λ k. replaced-filled o n f ts k)
   where
-    go : (c : Bool) → any is_replaced (cond c (Replace (concat w) n) (Keep (concat w)) ∷ renamed_tokens o n ts) ≡ true
-        → (any is_replaced (renamed_tokens o n ts) ≡ true → (x : ℕ) × (y : List ℕ) × (new_bytes (renamed_tokens o n ts) ≡ x ∷ y))
+    go : (c : Bool) → list_any is_replaced (cond c (Replace (concat w) n) (Keep (concat w)) ∷ renamed_tokens o n ts) ≡ true
+        → (list_any is_replaced (renamed_tokens o n ts) ≡ true → (x : ℕ) × (y : List ℕ) × (new_bytes (renamed_tokens o n ts) ≡ x ∷ y))
         → (x : ℕ) × (y : List ℕ) × (new_bytes (cond c (Replace (concat w) n) (Keep (concat w)) ∷ renamed_tokens o n ts) ≡ x ∷ y)
     go true k i = filled-after n (new_bytes (renamed_tokens o n ts)) f
     go false k i = let r = i k in not_empty-append (raw_text (concat w)) (new_bytes (renamed_tokens o n ts)) r.0 r.1 r.2
@@ -128,9 +129,9 @@ replaced-filled o n f (Word w ∷ ts) h = go (is_word_of o w) h (λ k. replaced-
 -- the new line does not begin with the prefix
 target-not_led : (o n : List ℕ) → is_empty n ≡ false → (prefix : ℕ) (us : List (List Cell)) (rest : List ℕ) → begins_renamed_line prefix (renamed_words o n us) ≡ false
     → is_prefix_led prefix (old_bytes (renamed_words o n us) ++ rest) ≡ false → is_prefix_led prefix (new_bytes (renamed_words o n us) ++ rest) ≡ false
-target-not_led o n f prefix us rest h k = go (any is_replaced (renamed_words o n us)) refl
+target-not_led o n f prefix us rest h k = go (list_any is_replaced (renamed_words o n us)) refl
   where
-    go : (c : Bool) → any is_replaced (renamed_words o n us) ≡ c → is_prefix_led prefix (new_bytes (renamed_words o n us) ++ rest) ≡ false
+    go : (c : Bool) → list_any is_replaced (renamed_words o n us) ≡ c → is_prefix_led prefix (new_bytes (renamed_words o n us) ++ rest) ≡ false
     go true e = let s = replaced-filled o n f (tokens joined_byte us) e in renamed-not_led prefix (renamed_words o n us) rest s.0 s.1 s.2 h k
     go false e = ap (λ z. is_prefix_led prefix (z ++ rest)) (none-replaced (renamed_words o n us) e) ∙ k
 

@@ -1,6 +1,7 @@
 -- A rename of targets makes no assignment of a line that is none: if what stands before the first `=` is no front of an
 -- assignment, it is none after the rename.
 use Rattle.std.proofs.Common.{◌≡◌, refl, sym, ap, ◌∙◌, ℕ, List, [], ◌∷◌, ◌++◌, map, Bool, true, false, not, ◌||◌, cond, Option, Some, None, append_assoc}
+use Rattle.std.specs.Str.{bytes_eq}
 use Rattle.std.proofs.lemmas.List.{append-nil, map-append}
 use Rattle.std.proofs.lemmas.Bool.{or_parts, not-true}
 use Rattle.std.specs.Prelude.{codes}
@@ -9,7 +10,7 @@ use Rattle.mk_lines.specs.Cells.{Cell, joined_byte}
 use Rattle.mk_lines.specs.Words.{Token, Gap, Word, tokens, before_tokens, token_units, is_word_first, is_gap, IsWord, AreTokens}
 use Rattle.mk_lines.proofs.on_units.TokenLemmas.{tokens-word, token_units-tokens}
 use Rattle.mk_class.specs.Lists.{until, from, is_empty}
-use Rattle.mk_class.specs.Texts.{is_same_text, unit_text}
+use Rattle.mk_class.specs.Texts.{unit_text}
 use Rattle.mk_class.specs.Symbols.{Symbol, symbol, is_colon_symbol}
 use Rattle.mk_class.specs.Symbols.Symbol.{Hash, Colon, Semicolon, Equals, Plus, Question, Exclamation, Bar, Ampersand, NoSymbol}
 use Rattle.mk_class.proofs.on_symbols.SymbolLemmas.{gap-no_symbol, symbol-no_gap}
@@ -200,9 +201,9 @@ word-front (u ∷ w) w' z Z Z' h h' b b' e e' k d =
 -- a word that is no modifier
 no_modifier : (w : List (List Cell)) → is_modifier (unit_text joined_byte w) ≡ false → modifier_of joined_byte w ≡ None
 no_modifier w h =
-    let a = or_parts (is_same_text (unit_text joined_byte w) (codes "override")) _ h in
-    let b = or_parts (is_same_text (unit_text joined_byte w) (codes "export")) _ a.1 in
-    let c = or_parts (is_same_text (unit_text joined_byte w) (codes "private")) _ b.1 in
+    let a = or_parts (bytes_eq (unit_text joined_byte w) (codes "override")) _ h in
+    let b = or_parts (bytes_eq (unit_text joined_byte w) (codes "export")) _ a.1 in
+    let c = or_parts (bytes_eq (unit_text joined_byte w) (codes "private")) _ b.1 in
     rw (a.0, b.0, c.0) refl
 
 -- what follows the last of some targets, where that is a word, is a `:`

@@ -1,6 +1,7 @@
 -- A line that is no assignment stays none after a rename in its targets: the new words have no unit that ends a name, so the
 -- first `=` stays where it is, and what stands before it is no front.
 use Rattle.std.proofs.Common.{◌≡◌, refl, sym, ap, ◌∙◌, subst, ℕ, List, [], ◌∷◌, ◌++◌, map, Bool, true, false, not, cond, Option, Some, None, append_assoc}
+use Rattle.std.specs.List.{list_any}
 use Rattle.std.proofs.lemmas.List.{append-nil}
 use Rattle.std.proofs.lemmas.Bool.{and_parts, or_parts, not-true}
 use Rattle.mk_lines.specs.Lists.{concat, leading, after_leading, Each, FirstFails}
@@ -9,7 +10,7 @@ use Rattle.mk_lines.specs.Cells.{Cell, Byte, joined_byte}
 use Rattle.mk_lines.specs.Units.{units, is_closed}
 use Rattle.mk_lines.proofs.on_units.UnitLemmas.{units-first, units-last, units-map, concat-units}
 use Rattle.mk_lines.specs.Words.{Token, Gap, Word, tokens, token_units, is_word_first, is_gap, AreTokens}
-use Rattle.mk_class.specs.Lists.{any, is_empty}
+use Rattle.mk_class.specs.Lists.{is_empty}
 use Rattle.mk_class.specs.Texts.{unit_text}
 use Rattle.mk_class.specs.Symbols.{Symbol, symbol, is_equals_symbol}
 use Rattle.mk_class.specs.Symbols.Symbol.{Hash, Colon, Semicolon, Equals, Plus, Question, Exclamation, Bar, Ampersand, NoSymbol}
@@ -19,7 +20,7 @@ use Rattle.mk_class.specs.Arguments.{is_clean, ends_word_symbol, ends_word, is_w
 use Rattle.mk_class.specs.Assignments.{ends_name_by, assignment}
 use Rattle.mk_class.specs.AssignmentsAtEquals.{Front, front_of, with_value, is_no_equals, assignment_from}
 use Rattle.mk_class.proofs.on_assignments.AssignmentEqualsLemmas.{assignment-at_equals}
-use Rattle.mk_class.proofs.WordLemmas.{same_text-is}
+use Rattle.std.proofs.lemmas.Slice.Eq.{bytes_eq-Decides}
 use Rattle.mk_edit_laws.specs.WordPieces.{is_word_of}
 use Rattle.mk_edit_laws.proofs.on_lines.HeaderLines.{leading-all}
 use Rattle.mk_edit_laws.proofs.on_prerequisites.NewWords.{cell_units, cell_units-text, rule_units-bland}
@@ -45,10 +46,10 @@ name-symbol NoSymbol h = refl
 abbrev is_name_text : List ℕ → Bool
 is_name_text u = not (ends_name_by (symbol (λ b. b) u) false)
 
-name-texts : (us : List (List ℕ)) → any ends_word us ≡ false → Each is_name_text us
+name-texts : (us : List (List ℕ)) → list_any ends_word us ≡ false → Each is_name_text us
 name-texts [] h = tt
 name-texts (u ∷ us) h =
-    let p = or_parts (ends_word u) (any ends_word us) h in
+    let p = or_parts (ends_word u) (list_any ends_word us) h in
     let q = or_parts (is_gap (λ b. b) u) _ p.0 in
     (name-symbol (symbol (λ b. b) u) ((or_parts (ends_word_symbol (symbol (λ b. b) u)) _ q.1).0), name-texts us p.1)
 
@@ -61,7 +62,7 @@ word-names : (x : List ℕ) → is_word x ≡ true → (w : List (List Cell)) �
 word-names x h w e k =
     let a = and_parts (not (is_empty x)) _ h in
     let b = and_parts (is_clean x) _ a.1 in
-    let c = and_parts (is_closed (λ b. b) x) (not (any ends_word (units (λ b. b) x))) b.1 in
+    let c = and_parts (is_closed (λ b. b) x) (not (list_any ends_word (units (λ b. b) x))) b.1 in
     let own : units (λ b. b) x ≡ map (map joined_byte) w = ap (units (λ b. b)) (sym k) ∙ (units-map joined_byte (λ b. b) (concat w) ∙ ap (map (map joined_byte)) e) in
     name-cells w (subst (Each is_name_text) own (name-texts (units (λ b. b) x) (not-true _ c.1)))
 
@@ -76,7 +77,7 @@ old-names o i (Gap u ∷ ts) t R h = old-names o i ts (concat (token_units ts ++
 old-names o i (Word w ∷ ts) t R h =
     let X = token_units ts ++ R in
     let k : units joined_byte t ≡ w ++ X = h ∙ append_assoc w (token_units ts) R in
-    (λ e. word-names o i w (units-first joined_byte t w X k) (same_text-is (unit_text joined_byte w) o e), old-names o i ts (concat X) R (units-last joined_byte t w X k))
+    (λ e. word-names o i w (units-first joined_byte t w X k) ((bytes_eq-Decides (unit_text joined_byte w) o).0 e), old-names o i ts (concat X) R (units-last joined_byte t w X k))
 
 -- ---- what stands before the first `=`
 

@@ -12,7 +12,7 @@ use Rattle.mk_class.specs.Contexts.{Context}
 use Rattle.mk_class.specs.ClassTable.{class_of}
 use Rattle.mk_class.proofs.on_classes.ClassLemmas.{plain_class-assign, assign-plain_class, class_at-assign}
 use Rattle.mk_class.specs.ClassedLines.{classed_lines}
-use Rattle.mk_class.proofs.WordLemmas.{same_text-is}
+use Rattle.std.proofs.lemmas.Slice.Eq.{bytes_eq-Decides}
 use Rattle.mk_tree.specs.Documents.{context_of}
 use Rattle.mk_tree.proofs.on_documents.LinePlaces.{located}
 use Rattle.mk_tree.specs.LineTexts.{StandingLine}
@@ -46,7 +46,7 @@ record IsNamed (n : List ℕ) (k : Class Cell) : Type 0 where
   name_is : unit_text joined_byte assigned.name ≡ n
 
 assigns-named : (n : List ℕ) (k : Class Cell) → assigns n k ≡ true → IsNamed n k
-assigns-named n (Assign a s) h = record { assigned = a; sets = s; class_is = refl; name_is = same_text-is (unit_text joined_byte a.name) n h }
+assigns-named n (Assign a s) h = record { assigned = a; sets = s; class_is = refl; name_is = (bytes_eq-Decides (unit_text joined_byte a.name) n).0 h }
 assigns-named n Endef h = absurd (cc)
 assigns-named n (Body d) h = absurd (cc)
 assigns-named n Recipe h = absurd (cc)

@@ -1,7 +1,7 @@
 -- The causes before an edit's own, for every edit that means one place.
 use Rattle.std.proofs.Common.{◌≡◌, refl, sym, ap, ◌∙◌, List, Bool, ◌||◌, ◌∷◌, [], ℕ, Option, Some, None}
+use Rattle.std.specs.List.{list_any}
 use Rattle.std.specs.Prelude.{Err}
-use Rattle.mk_class.specs.Lists.{any}
 use Rattle.mk_class.specs.Keywords.{is_reserved_word}
 use Rattle.mk_class.specs.RecipePrefix.{is_prefix_name}
 use Rattle.mk_class.specs.ClassedLines.{ClassedLine, classed_lines}
@@ -18,10 +18,10 @@ use Rattle.mk_edit_parts.specs.Found.{IsNotPicked}
 use Rattle.mk_edit_parts.proofs.CauseLemmas.{passed, refused}
 
 -- the cause Reserved, and the prefix that is not read, by their tests
-pub reserved-holds : (e : Edit) (b : Bool) → b ≡ (any is_prefix_name (names e) || any is_reserved_word (targets e)) → reserved e ≡ where_holds b Reserved
+pub reserved-holds : (e : Edit) (b : Bool) → b ≡ (list_any is_prefix_name (names e) || list_any is_reserved_word (targets e)) → reserved e ≡ where_holds b Reserved
 reserved-holds e b h = ap (λ z. where_holds z Reserved) (sym h)
 
-pub unread-holds : (ls : List ClassedLine) (b : Bool) → b ≡ any (λ l. is_unread_prefix l.class) ls → unread_prefix ls ≡ where_holds b RecipePrefix
+pub unread-holds : (ls : List ClassedLine) (b : Bool) → b ≡ list_any (λ l. is_unread_prefix l.class) ls → unread_prefix ls ≡ where_holds b RecipePrefix
 unread-holds ls b h = ap (λ z. where_holds z RecipePrefix) (sym h)
 
 -- for an edit of one place, whether there is no such line is told by its address

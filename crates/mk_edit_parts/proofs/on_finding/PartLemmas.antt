@@ -1,9 +1,10 @@
 -- The parts of a document's line by their places, and the tests of lines that look at them.
 use Rattle.std.proofs.Common.{◌≡◌, refl, sym, ap, ◌∙◌, ℕ, List, [], length, Option, Some, None}
+use Rattle.std.specs.Str.{bytes_eq}
 use Rattle.std.proofs.lemmas.List.{length-map}
 use Rattle.mk_lines.specs.Cells.{Cell, joined_byte, joined_text, line_cells}
 use Rattle.mk_lines.specs.Ranges.{text_at}
-use Rattle.mk_class.specs.Texts.{is_same_text, is_one_of, word_texts}
+use Rattle.mk_class.specs.Texts.{is_one_of, word_texts}
 use Rattle.mk_class.specs.RecipePrefix.{is_prefix_name}
 use Rattle.mk_class.specs.Classes.{Class}
 use Rattle.mk_class.specs.Classes.Class.{Endef, Body, Recipe, Opaque, Blank, Comment, Assign, DefineHead, If, Else, Endif, Directive, TargetAssign, Rough, Header}
@@ -53,7 +54,7 @@ pub assigns-placed : (n : List ℕ) (c : Context) (l : ClassedLine) → class_of
 assigns-placed n c l h = go l.class h (parts c l h)
   where
     go : (k : Class Cell) → class_of c l.bytes ≡ k → ArePartsPlaced (line_cells l.bytes) (class_of c l.bytes) (class_places joined_byte k) → assigns_in (joined_text (line_cells l.bytes)) n (class_places joined_byte k) ≡ assigns n k
-    go (Assign a p) e s = ap (λ z. is_same_text z n) s.2.name.text_is ∙ ap (λ k. assigns n k) (sym s.1 ∙ e)
+    go (Assign a p) e s = ap (λ z. bytes_eq z n) s.2.name.text_is ∙ ap (λ k. assigns n k) (sym s.1 ∙ e)
     go Endef e s = refl
     go (Body d) e s = refl
     go Recipe e s = refl

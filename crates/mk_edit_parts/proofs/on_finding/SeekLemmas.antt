@@ -1,10 +1,10 @@
 -- What a walk over the lines of a document has seen is what an address means.
 use Rattle.mk_class.specs.Texts.{is_one_of}
 use Rattle.std.proofs.Common.{◌≡◌, refl, sym, ap, ◌∙◌, subst, arith, ℕ, zero, suc, ◌+◌, ◌==◌, ◌≤◌, ◌&&◌, ◌||◌, List, [], ◌∷◌, map, Bool, true, false, if◌then◌else◌, length, zero-add, Option, Some, None, option_map}
+use Rattle.std.specs.List.{list_any}
 use Rattle.std.proofs.lemmas.Bool.{ne_eqb, eq-eqb}
 use Rattle.std.proofs.lemmas.List.{length-map}
 use Rattle.std.proofs.Math.Bool.{or_assoc}
-use Rattle.mk_class.specs.Lists.{any}
 use Rattle.mk_lines.specs.Cells.{joined_byte}
 use Rattle.mk_class.specs.Contexts.{Context, start, context_after}
 use Rattle.mk_class.specs.ClassPlaces.{class_places}
@@ -50,10 +50,10 @@ or-false true = refl
 or-false false = refl
 
 seek-unread : (p : PlacedLine → Bool) (w : ℕ) (s : Sought) (ls : List ClassedLine) → AgreeAlong is_unread_placed (λ l. is_unread_prefix l.class) ls
-    → (seek p w s (placed_lines ls)).has_unread_prefix ≡ (s.has_unread_prefix || any (λ l. is_unread_prefix l.class) ls)
+    → (seek p w s (placed_lines ls)).has_unread_prefix ≡ (s.has_unread_prefix || list_any (λ l. is_unread_prefix l.class) ls)
 seek-unread p w s [] A = or-false s.has_unread_prefix
 seek-unread p w s (l ∷ ls) A =
-    let below = any (λ l. is_unread_prefix l.class) ls in
+    let below = list_any (λ l. is_unread_prefix l.class) ls in
     seek-unread p w (noted p w (placed_line l) s) ls A.1 ∙ (ap (λ b. (s.has_unread_prefix || b) || below) A.0 ∙ or_assoc s.has_unread_prefix (is_unread_prefix l.class) below)
 
 -- ---- how many
@@ -199,14 +199,14 @@ seek-over s ahead d p w v e f h = sym (ap (seek p w s) e) ∙ (h ∙ ap (λ n. s
 
 -- ---- targets
 
-targets-along : (w : List ℕ) (c : Context) (ls : List ClassedLine) → AreClassed c ls → any (is_target_placed w) (placed_lines ls) ≡ is_a_target ls w
+targets-along : (w : List ℕ) (c : Context) (ls : List ClassedLine) → AreClassed c ls → list_any (is_target_placed w) (placed_lines ls) ≡ is_a_target ls w
 targets-along w c [] h = refl
 targets-along w c (l ∷ ls) h =
-    ap (λ b. b || any (is_target_placed w) (placed_lines ls)) (target-placed w c l (AreClassed-class c l ls h))
+    ap (λ b. b || list_any (is_target_placed w) (placed_lines ls)) (target-placed w c l (AreClassed-class c l ls h))
     ∙ ap (λ b. is_one_of w (targets_of l.class) || b) (targets-along w (context_after c l.class) ls (AreClassed-tail c l ls h))
 
 pub targets-from : (d ahead : List PlacedLine) (w : List ℕ) → ahead ≡ d → IsFaithful d
-    → Unit {0} × Unit {0} × AreEachClassed ahead × (any (is_target_placed w) ahead ≡ is_a_target (classed_lines (placed_text d)) w)
+    → Unit {0} × Unit {0} × AreEachClassed ahead × (list_any (is_target_placed w) ahead ≡ is_a_target (classed_lines (placed_text d)) w)
 targets-from d ahead w e h =
     let ls = classed_lines (placed_text d) in
-    rw e (tt, tt, faithful-each d h, ap (any (is_target_placed w)) h ∙ targets-along w start ls (AreClassed-lines (placed_text d) ls refl))
+    rw e (tt, tt, faithful-each d h, ap (list_any (is_target_placed w)) h ∙ targets-along w start ls (AreClassed-lines (placed_text d) ls refl))

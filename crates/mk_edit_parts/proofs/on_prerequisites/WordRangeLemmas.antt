@@ -1,5 +1,6 @@
 -- A line cut at the ranges of its words: where the last word ends, and the bytes without some words.
 use Rattle.std.proofs.Common.{◌≡◌, refl, sym, ap, ◌∙◌, subst, arith, ℕ, ◌+◌, ◌-◌, ◌≤◌, List, [], ◌∷◌, ◌++◌, map, length, length-append, length-take, length-drop, take, drop, append_assoc, Bool, true, false, if◌then◌else◌}
+use Rattle.std.specs.Str.{bytes_eq}
 use Rattle.std.specs.Prelude.{slice_range}
 use Rattle.std.proofs.lemmas.List.{append-nil, map-append, length-map}
 use Rattle.std.proofs.Math.Seq.{take-append_seam, drop-append_seam}
@@ -12,7 +13,7 @@ use Rattle.mk_lines.specs.declared.split.Span.{Span}
 use Rattle.mk_lines.specs.Units.{units}
 use Rattle.mk_lines.proofs.on_units.UnitLemmas.{concat-units}
 use Rattle.mk_lines.proofs.on_units.TokenLemmas.{token_text, map_token, concat-map, tokens-map, tokens-are_tokens, token_units-tokens, token_text-tokens}
-use Rattle.mk_class.specs.Texts.{is_same_text, word_texts}
+use Rattle.mk_class.specs.Texts.{word_texts}
 use Rattle.mk_class.specs.ClassPlaces.{width}
 use Rattle.mk_class.specs.PartPlaces.{IsPart}
 use Rattle.mk_class.specs.TextClasses.{itself}
@@ -156,7 +157,7 @@ without-tokens cs w start t done k end F G (Word x ∷ ts) A P C =
       place_is = omega (arith, C.place_is, length-append F (G ++ X), length-append G X);
       end_is = omega (arith, C.end_is, length-append F (G ++ X), length-append G X, length-append X (token_text ts));
     }) in
-    ap (λ z. (if is_same_text z w then [] else raw_between cs done (start + e)) ++ without_words cs start t w (start + e) (word_token_ranges e ts) end) text
+    ap (λ z. (if bytes_eq z w then [] else raw_between cs done (start + e)) ++ without_words cs start t w (start + e) (word_token_ranges e ts) end) text
     ∙ without-one (is_word_of w x) (raw_between cs done (start + e)) [] _ (G ++ X) (removed_tokens w [] ts) raw rest
 
 -- the bytes of a part without a word, by the ranges of its words, are those of the pieces that take it out

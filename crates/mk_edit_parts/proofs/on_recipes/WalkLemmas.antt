@@ -1,11 +1,11 @@
 -- A walk down from the header of a rule finds where its recipe ends, and the recipe line of a number.
 use Rattle.std.proofs.Common.{◌≡◌, refl, sym, ap, ◌∙◌, arith, ℕ, zero, suc, ◌+◌, ◌==◌, ◌≤◌, ◌||◌, List, [], ◌∷◌, map, Bool, true, false, not, if◌then◌else◌, length, take, drop, Some, None, option_map, filter}
+use Rattle.std.specs.List.{list_any}
 use Rattle.std.proofs.lemmas.Bool.{ne_eqb, eq-eqb}
 use Rattle.std.proofs.lemmas.List.{take-map, drop-map}
 use Rattle.std.specs.Prelude.{slice_get}
 use Rattle.mk_lines.specs.Lists.{trim_end, trim_end_before}
 use Rattle.mk_lines.specs.Cells.{Cell, joined_byte}
-use Rattle.mk_class.specs.Lists.{any}
 use Rattle.mk_class.specs.Classes.{Class, is_recipe, is_conditional, leaves_flag}
 use Rattle.mk_class.specs.Classes.Class.{Endef, Body, Recipe, Opaque, Blank, Comment, Assign, DefineHead, If, Else, Endif, Directive, TargetAssign, Rough, Header}
 use Rattle.mk_class.specs.ClassPlaces.{class_places}
@@ -49,7 +49,7 @@ asked (Header x) = record { recipe_is = refl; stays_is = refl; conditional_is = 
 -- what a walk has found once it has passed a run of lines up to a recipe line
 run_told : recipe.Recipe → (conditional : Bool) → (at : ℕ) → List ClassedLine → recipe.Recipe
 run_told r c at [] = r
-run_told r c at (x ∷ xs) = record { end = at + length (x ∷ xs); is_split = c || any (λ l. is_conditional l.class) (x ∷ xs) }
+run_told r c at (x ∷ xs) = record { end = at + length (x ∷ xs); is_split = c || list_any (λ l. is_conditional l.class) (x ∷ xs) }
 
 -- one line more, whose class is no conditional's and ends what was passed
 told-ended : (c d : Bool) (at : ℕ) (x : ClassedLine) (xs : List ClassedLine) → is_conditional x.class ≡ false
@@ -64,8 +64,8 @@ told-ended c d at x [] h =
     or-none false q h = sym (ap (λ b. b || false) h)
 told-ended c d at x (y ∷ ys) h =
     let n : at + 1 + length (y ∷ ys) ≡ at + length (x ∷ y ∷ ys) = omega arith in
-    ap (λ (n : ℕ). record { end = n; is_split = c || any (λ l. is_conditional l.class) (y ∷ ys) }) n
-    ∙ ap (λ b. record { end = at + length (x ∷ y ∷ ys); is_split = c || (b || any (λ l. is_conditional l.class) (y ∷ ys)) }) (sym h)
+    ap (λ (n : ℕ). record { end = n; is_split = c || list_any (λ l. is_conditional l.class) (y ∷ ys) }) n
+    ∙ ap (λ b. record { end = at + length (x ∷ y ∷ ys); is_split = c || (b || list_any (λ l. is_conditional l.class) (y ∷ ys)) }) (sym h)
 
 -- one line more that a later recipe line may bring in
 told-passed : (r : recipe.Recipe) (c : Bool) (at : ℕ) (x : ClassedLine) (xs : List ClassedLine)
@@ -74,8 +74,8 @@ unfolding run_told
 told-passed r c at x [] = refl
 told-passed r c at x (y ∷ ys) =
     let n : at + 1 + length (y ∷ ys) ≡ at + length (x ∷ y ∷ ys) = omega arith in
-    ap (λ (n : ℕ). record { end = n; is_split = (c || is_conditional x.class) || any (λ l. is_conditional l.class) (y ∷ ys) }) n
-    ∙ ap (λ b. record { end = at + length (x ∷ y ∷ ys); is_split = b }) (or-assoc c (is_conditional x.class) (any (λ l. is_conditional l.class) (y ∷ ys)))
+    ap (λ (n : ℕ). record { end = n; is_split = (c || is_conditional x.class) || list_any (λ l. is_conditional l.class) (y ∷ ys) }) n
+    ∙ ap (λ b. record { end = at + length (x ∷ y ∷ ys); is_split = b }) (or-assoc c (is_conditional x.class) (list_any (λ l. is_conditional l.class) (y ∷ ys)))
   where
     or-assoc : (a b c : Bool) → ((a || b) || c) ≡ (a || (b || c))
     or-assoc true b c = refl
@@ -186,11 +186,11 @@ faithful-from ls at h = ap (drop at) h ∙ drop-map placed_line at (classed_line
 
 -- the recipe below a place
 pub recipe-found : (ls : List PlacedLine) (at : ℕ) (r : recipe.Recipe) → IsFaithful ls → r ≡ recipe_from (record { end = at; is_split = false }) false at (drop at ls)
-    → (r.end ≡ at + length (recipe_run (lines_from ls at))) × (r.is_split ≡ any (λ l. is_conditional l.class) (recipe_run (lines_from ls at)))
+    → (r.end ≡ at + length (recipe_run (lines_from ls at))) × (r.is_split ≡ list_any (λ l. is_conditional l.class) (recipe_run (lines_from ls at)))
 unfolding run_told
 recipe-found ls at r f h = go (recipe_run (lines_from ls at)) (h ∙ (ap (recipe_from (record { end = at; is_split = false }) false at) (faithful-from ls at f) ∙ run-told (record { end = at; is_split = false }) false at (lines_from ls at)))
   where
-    go : (run : List ClassedLine) → r ≡ run_told (record { end = at; is_split = false }) false at run → (r.end ≡ at + length run) × (r.is_split ≡ any (λ l. is_conditional l.class) run)
+    go : (run : List ClassedLine) → r ≡ run_told (record { end = at; is_split = false }) false at run → (r.end ≡ at + length run) × (r.is_split ≡ list_any (λ l. is_conditional l.class) run)
     go [] e = let n : at ≡ at + 0 = omega arith in (ap (λ (z : recipe.Recipe). z.end) e ∙ n, ap (λ (z : recipe.Recipe). z.is_split) e)
     go (x ∷ xs) e = (ap (λ (z : recipe.Recipe). z.end) e, ap (λ (z : recipe.Recipe). z.is_split) e)
 

@@ -1,5 +1,6 @@
 -- The ranges of the words that a rename replaces in a line are the ranges of the replacements that the line's pieces make.
 use Rattle.std.proofs.Common.{◌≡◌, refl, sym, ap, ◌∙◌, arith, ℕ, ◌+◌, ◌-◌, Bool, true, false, List, [], ◌∷◌, ◌++◌, take, drop, map, length, length-append, append_assoc, Option, Some, None}
+use Rattle.std.specs.Str.{bytes_eq}
 use Rattle.std.specs.Prelude.{slice_range, if◌then◌else◌}
 use Rattle.std.proofs.lemmas.List.{length-map, map-append}
 use Rattle.std.proofs.Math.Seq.{take-append_seam, drop-append_seam}
@@ -12,7 +13,6 @@ use Rattle.mk_lines.specs.Words.{Token, Gap, Word, tokens}
 use Rattle.mk_lines.specs.declared.split.Span.{Span}
 use Rattle.mk_lines.proofs.on_cells.CellLemmas.{raw_text-append}
 use Rattle.mk_lines.proofs.on_units.TokenLemmas.{token_text, token_text-tokens, map_token, tokens-map, concat-map}
-use Rattle.mk_class.specs.Texts.{is_same_text}
 use Rattle.mk_class.specs.TextClasses.{itself}
 use Rattle.mk_class.proofs.on_classes.PartPlaceLemmas.{place-after}
 use Rattle.mk_tree.proofs.on_changes.SpansInLines.{replacements-append}
@@ -71,9 +71,9 @@ places-pieces cs b (Word w ∷ ts) a o n start at h k =
     let first : raw_place cs S ≡ length (raw_text b) = place-after cs b (W ++ (token_text ts ++ a)) S f k in
     let last : raw_place cs E ≡ length (raw_text b) + length (raw_text W) = place-after cs (b ++ W) (token_text ts ++ a) E e m ∙ r in
     let rest = places-pieces cs (b ++ W) ts a o n start (at + length W) e m ∙ ap (λ z. replacements z (renamed_tokens o n ts)) r in
-    go (is_word_of o w) (ap (λ t. is_same_text t o) text) first last rest
+    go (is_word_of o w) (ap (λ t. bytes_eq t o) text) first last rest
   where
-    go : (c : Bool) → is_same_text (text_at (joined_text cs) (span (start + at) (start + (at + length (concat w))))) o ≡ c
+    go : (c : Bool) → bytes_eq (text_at (joined_text cs) (span (start + at) (start + (at + length (concat w))))) o ≡ c
         → raw_place cs (start + at) ≡ length (raw_text b) → raw_place cs (start + (at + length (concat w))) ≡ length (raw_text b) + length (raw_text (concat w))
         → replacing n (places_in cs start o (word_token_ranges (at + length (concat w)) ts)) ≡ replacements (length (raw_text b) + length (raw_text (concat w))) (renamed_tokens o n ts)
         → replacing n (places_in cs start o (word_token_ranges at (Word w ∷ ts))) ≡ replacements (length (raw_text b)) ((if c then Replace (concat w) n else Keep (concat w)) ∷ renamed_tokens o n ts)

@@ -1,5 +1,6 @@
 -- The ranges of words in a line and their raw ranges, and where they stand.
 use Rattle.std.proofs.Common.{◌≡◌, refl, sym, ap, ◌∙◌, subst, arith, ℕ, ◌+◌, ◌-◌, ◌^◌, ◌<◌, ◌≤◌, List, [], ◌∷◌, ◌++◌, take, drop, length, length-append, Bool, false, ◌||◌, Option, Some, None}
+use Rattle.std.specs.List.{list_any}
 use Rattle.std.proofs.lemmas.List.{length-map, length-drop, length-take-le, take-append-drop}
 use Rattle.std.proofs.Math.Bool.{or-false, or_assoc}
 use Rattle.mk_lines.specs.Lists.{concat}
@@ -11,7 +12,6 @@ use Rattle.mk_lines.specs.declared.split.Span.{Span}
 use Rattle.mk_lines.proofs.on_cells.CellLemmas.{raw_text-append}
 use Rattle.mk_lines.proofs.on_units.TokenLemmas.{token_text, token_text-tokens}
 use Rattle.mk_lines.proofs.on_units.UnitLemmas.{concat-units}
-use Rattle.mk_class.specs.Lists.{any}
 use Rattle.mk_class.specs.PartPlaces.{IsPart}
 use Rattle.mk_class.specs.declared.class.Class as class
 use Rattle.mk_edit_laws.proofs.on_lines.ClassParts.{cells-within}
@@ -71,13 +71,13 @@ same-tally s t h i j =
 
 -- one range more, if there is one, and then others
 pub tallied-before : (t : Tally) (o : Option Span) (ss : List Span) → tallied (tallied t (before_places o [])) ss ≡ tallied t (before_places o ss)
-tallied-before t None ss = same-tally _ _ (omega arith) (omega arith) (or_assoc t.at_front false (any is_at_front ss))
+tallied-before t None ss = same-tally _ _ (omega arith) (omega arith) (or_assoc t.at_front false (list_any is_at_front ss))
 tallied-before t (Some s) ss =
-    same-tally _ _ (omega arith) (omega arith) (or_assoc t.at_front (is_at_front s || false) (any is_at_front ss) ∙ ap (λ z. t.at_front || (z || any is_at_front ss)) (or-false (is_at_front s)))
+    same-tally _ _ (omega arith) (omega arith) (or_assoc t.at_front (is_at_front s || false) (list_any is_at_front ss) ∙ ap (λ z. t.at_front || (z || list_any is_at_front ss)) (or-false (is_at_front s)))
 
-any-append : (p : Span → Bool) (a b : List Span) → any p (a ++ b) ≡ (any p a || any p b)
+any-append : (p : Span → Bool) (a b : List Span) → list_any p (a ++ b) ≡ (list_any p a || list_any p b)
 any-append p [] b = refl
-any-append p (s ∷ a) b = ap (λ z. p s || z) (any-append p a b) ∙ sym (or_assoc (p s) (any p a) (any p b))
+any-append p (s ∷ a) b = ap (λ z. p s || z) (any-append p a b) ∙ sym (or_assoc (p s) (list_any p a) (list_any p b))
 
 bytes_in-append : (a b : List Span) → bytes_in (a ++ b) ≡ bytes_in a + bytes_in b
 bytes_in-append [] b = omega arith
@@ -86,7 +86,7 @@ bytes_in-append (s ∷ a) b = omega (arith, bytes_in-append a b)
 -- some ranges, and then others
 pub tallied-append : (t : Tally) (a b : List Span) → tallied (tallied t a) b ≡ tallied t (a ++ b)
 tallied-append t a b =
-    same-tally _ _ (omega (arith, length-append a b)) (omega (arith, bytes_in-append a b)) (or_assoc t.at_front (any is_at_front a) (any is_at_front b) ∙ ap (λ z. t.at_front || z) (sym (any-append is_at_front a b)))
+    same-tally _ _ (omega (arith, length-append a b)) (omega (arith, bytes_in-append a b)) (or_assoc t.at_front (list_any is_at_front a) (list_any is_at_front b) ∙ ap (λ z. t.at_front || z) (sym (any-append is_at_front a b)))
 
 -- a count to which nothing is added is as it was
 pub tallied-none : (t : Tally) → tallied t [] ≡ t

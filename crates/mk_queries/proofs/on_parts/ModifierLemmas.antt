@@ -1,27 +1,28 @@
 -- The modifiers of an assignment are the words before its name.
 use Rattle.std.proofs.Common.{◌≡◌, refl, sym, ap, ◌∙◌, subst, ℕ, List, [], ◌∷◌, ◌++◌, map, Bool, true, false, if◌then◌else◌, Option, Some, None}
+use Rattle.std.specs.Str.{bytes_eq}
 use Rattle.std.specs.Prelude.{codes}
 use Rattle.mk_lines.specs.Lists.{leading}
 use Rattle.mk_lines.specs.Words.{Token, Gap, Word, tokens, before_tokens, token_words, token_units, is_word_first, is_gap, IsWord, AreTokens}
 use Rattle.mk_lines.proofs.on_units.TokenLemmas.{tokens-word, tokens-are_tokens}
-use Rattle.mk_class.specs.Texts.{is_same_text, unit_text, word_texts}
+use Rattle.mk_class.specs.Texts.{unit_text, word_texts}
 use Rattle.mk_class.specs.Assignments.{Assignment, blanks, defined_by, definition, modifier_of, after_units, after_modifier, assignment_of, assignment}
 use Rattle.mk_class.specs.declared.assignment.Flavor.{Flavor}
 use Rattle.mk_class.specs.declared.assignment.Modifier.{Modifier}
 use Rattle.mk_class.specs.declared.assignment.Modifier.TheVariants.{Override, Export, Private}
-use Rattle.mk_class.proofs.WordLemmas.{same_text-is}
+use Rattle.std.proofs.lemmas.Slice.Eq.{bytes_eq-Decides}
 use Rattle.mk_queries.specs.PartTexts.{modifier_text}
 
 module _ {A : Type 0} (byte : A → ℕ) where
   -- the word of a modifier
   modifier-word : (w : List (List A)) (m : Modifier) → modifier_of byte w ≡ Some m → unit_text byte w ≡ modifier_text m
-  modifier-word w m h = go (is_same_text (unit_text byte w) (codes "override")) (is_same_text (unit_text byte w) (codes "export")) (is_same_text (unit_text byte w) (codes "private")) refl refl refl h
+  modifier-word w m h = go (bytes_eq (unit_text byte w) (codes "override")) (bytes_eq (unit_text byte w) (codes "export")) (bytes_eq (unit_text byte w) (codes "private")) refl refl refl h
     where
-      go : (o e p : Bool) → is_same_text (unit_text byte w) (codes "override") ≡ o → is_same_text (unit_text byte w) (codes "export") ≡ e → is_same_text (unit_text byte w) (codes "private") ≡ p
+      go : (o e p : Bool) → bytes_eq (unit_text byte w) (codes "override") ≡ o → bytes_eq (unit_text byte w) (codes "export") ≡ e → bytes_eq (unit_text byte w) (codes "private") ≡ p
           → (if o then Some Override else if e then Some Export else if p then Some Private else None) ≡ Some m → unit_text byte w ≡ modifier_text m
-      go true e p i j k h = let s : Override ≡ m = cc in same_text-is (unit_text byte w) (codes "override") i ∙ ap modifier_text s
-      go false true p i j k h = let s : Export ≡ m = cc in same_text-is (unit_text byte w) (codes "export") j ∙ ap modifier_text s
-      go false false true i j k h = let s : Private ≡ m = cc in same_text-is (unit_text byte w) (codes "private") k ∙ ap modifier_text s
+      go true e p i j k h = let s : Override ≡ m = cc in (bytes_eq-Decides (unit_text byte w) (codes "override")).0 i ∙ ap modifier_text s
+      go false true p i j k h = let s : Export ≡ m = cc in (bytes_eq-Decides (unit_text byte w) (codes "export")).0 j ∙ ap modifier_text s
+      go false false true i j k h = let s : Private ≡ m = cc in (bytes_eq-Decides (unit_text byte w) (codes "private")).0 k ∙ ap modifier_text s
       go false false false i j k h = absurd (cc)
 
   -- the words before the name are the modifiers

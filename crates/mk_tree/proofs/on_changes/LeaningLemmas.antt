@@ -1,9 +1,9 @@
 -- The leaning law: lines keep their classes if what is above them changes, provided that the open defines, the open conditionals
 -- and the prefix before them are as they were, and that the lines do not lean on the flag.
 use Rattle.std.proofs.Common.{◌≡◌, refl, sym, ap, ◌∙◌, ℕ, List, [], ◌∷◌, ◌++◌, Bool, true, false, not, ◌&&◌, ◌||◌}
+use Rattle.std.specs.List.{list_any}
 use Rattle.mk_lines.specs.LogicalLines.{logical_lines}
 use Rattle.mk_lines.specs.Cells.{Cell}
-use Rattle.mk_class.specs.Lists.{any}
 use Rattle.mk_class.specs.Classes.{Class, leaves_flag}
 use Rattle.mk_class.specs.Contexts.{Context, start, context_after, flag_after, defines_after, conditionals_after, prefix_after}
 use Rattle.mk_class.specs.ClassedLines.{ClassedLine, classed, classed_lines, context_after_lines, is_led_first}
@@ -99,20 +99,20 @@ flag-same_after_lines c d [] h = h
 flag-same_after_lines c d (l ∷ ls) h = flag-same_after_lines (context_after c l.class) (context_after d l.class) ls (ap (λ z. flag_after z l.class) h)
 
 -- the flag after lines of which one sets it is the same whatever it was before them
-flag-set_by_lines : (c d : Context) (ls : List ClassedLine) → any (λ l. not (leaves_flag l.class)) ls ≡ true → (context_after_lines c ls).flag ≡ (context_after_lines d ls).flag
+flag-set_by_lines : (c d : Context) (ls : List ClassedLine) → list_any (λ l. not (leaves_flag l.class)) ls ≡ true → (context_after_lines c ls).flag ≡ (context_after_lines d ls).flag
 flag-set_by_lines c d [] h = cc
 flag-set_by_lines c d (l ∷ ls) h = go (leaves_flag l.class) refl h (λ k. flag-set_by_lines (context_after c l.class) (context_after d l.class) ls k)
     (λ e. flag-same_after_lines (context_after c l.class) (context_after d l.class) ls e)
   where
-    go : (b : Bool) → leaves_flag l.class ≡ b → (not b || any (λ l. not (leaves_flag l.class)) ls) ≡ true
-        → (any (λ l. not (leaves_flag l.class)) ls ≡ true → (context_after_lines (context_after c l.class) ls).flag ≡ (context_after_lines (context_after d l.class) ls).flag)
+    go : (b : Bool) → leaves_flag l.class ≡ b → (not b || list_any (λ l. not (leaves_flag l.class)) ls) ≡ true
+        → (list_any (λ l. not (leaves_flag l.class)) ls ≡ true → (context_after_lines (context_after c l.class) ls).flag ≡ (context_after_lines (context_after d l.class) ls).flag)
         → (flag_after c.flag l.class ≡ flag_after d.flag l.class → (context_after_lines (context_after c l.class) ls).flag ≡ (context_after_lines (context_after d l.class) ls).flag)
         → (context_after_lines (context_after c l.class) ls).flag ≡ (context_after_lines (context_after d l.class) ls).flag
     go true e h ih same = ih h
     go false e h ih same = same (flag_after-set c.flag d.flag l.class e)
 
 -- contexts that agree are the same after lines of which one sets the flag
-pub same-after_lines : (c d : Context) (ls : List ClassedLine) → AgreeButForFlag c d → any (λ l. not (leaves_flag l.class)) ls ≡ true → context_after_lines c ls ≡ context_after_lines d ls
+pub same-after_lines : (c d : Context) (ls : List ClassedLine) → AgreeButForFlag c d → list_any (λ l. not (leaves_flag l.class)) ls ≡ true → context_after_lines c ls ≡ context_after_lines d ls
 same-after_lines c d ls h k = agrees-is (context_after_lines c ls) (context_after_lines d ls) (agrees-after_lines c d ls h) (flag-set_by_lines c d ls k)
 
 -- ---- the law

@@ -1,6 +1,7 @@
 -- A new line put between lines: it is one line there. If it comes last, the line above it gets a line end if it has none, and is
 -- otherwise as it was.
 use Rattle.std.proofs.Common.{◌≡◌, refl, sym, ap, ◌∙◌, subst, ℕ, List, [], ◌∷◌, ◌++◌, append_assoc, Bool, true, false, not, ◌&&◌, ◌||◌, if◌then◌else◌, reverse, length, map}
+use Rattle.std.specs.List.{list_any}
 use Rattle.std.specs.Prelude.{nat_lt, ◌==◌}
 use Rattle.std.proofs.lemmas.List.{append-nil, reverse-append, map-append}
 use Rattle.std.proofs.lemmas.Bool.{or_from, and_right}
@@ -18,7 +19,7 @@ use Rattle.mk_lines.proofs.on_lines.LineEndAdded.{IsEnded, line_end-added, not_o
 use Rattle.mk_lines.specs.Pieces.{replaced}
 use Rattle.mk_lines.specs.declared.ends.End.{End}
 use Rattle.mk_lines.specs.declared.ends.End.TheVariants.{None, Lf, CrLf}
-use Rattle.mk_class.specs.Lists.{is_empty, any, last_passes}
+use Rattle.mk_class.specs.Lists.{is_empty, last_passes}
 use Rattle.mk_class.specs.Arguments.{is_backslash_byte, is_barred_byte, is_clean, is_line_end_kind}
 use Rattle.mk_class.specs.Classes.{Class}
 use Rattle.mk_class.specs.RecipePrefix.{is_prefix_led}
@@ -114,7 +115,7 @@ no_line_end-no_line_feed (b ∷ t) h = (kind (byte_kind b) h.0, no_line_end-no_l
 -- what an edit may write has neither
 pub clean-no_line_end : (t : List ℕ) → is_clean t ≡ true → HasNoLineEnd t
 clean-no_line_end [] h = tt
-clean-no_line_end (b ∷ t) h = go (byte_kind b) (b == 0) (any is_barred_byte t) h (λ k. clean-no_line_end t k)
+clean-no_line_end (b ∷ t) h = go (byte_kind b) (b == 0) (list_any is_barred_byte t) h (λ k. clean-no_line_end t k)
   where
     go : (k : ByteKind) (z r : Bool) → not ((is_line_end_kind k || z) || r) ≡ true → (not r ≡ true → HasNoLineEnd t) → (is_no_line_end_kind k ≡ true) × HasNoLineEnd t
     go LineFeed z r h ih = cc

@@ -1,6 +1,6 @@
 -- No line so far has the word as a target: the lines ahead say whether any has.
 use Rattle.std.proofs.Common.{◌≡◌}
-use Rattle.mk_class.specs.Lists.{any}
+use Rattle.std.specs.List.{list_any}
 use Rattle.mk_class.specs.ClassedLines.{classed_lines}
 use Rattle.mk_tree.specs.PlacedLines.{placed_text}
 use Rattle.mk_edit_laws.specs.Addresses.{is_a_target}
@@ -11,4 +11,4 @@ abbrev pub invariant-lines : goal.invariant-lines
 invariant-lines g l =
     (goal.iterator-lines g).can_next l.line-iterator × (goal.iterator-lines g).is_finite l.line-iterator
     × AreEachClassed l.line-iterator
-    × (any (is_target_placed l.word) l.line-iterator ≡ is_a_target (classed_lines (placed_text l.doc)) l.word)
+    × (list_any (is_target_placed l.word) l.line-iterator ≡ is_a_target (classed_lines (placed_text l.doc)) l.word)
