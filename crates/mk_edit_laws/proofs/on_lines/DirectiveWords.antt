@@ -2,6 +2,7 @@
 -- and modifiers counts.
 use Rattle.std.proofs.Common.{◌≡◌, refl, sym, ap, ◌∙◌, ℕ, List, [], ◌∷◌, ◌++◌, map, Bool, true, false, ◌||◌, ◌==◌, cond, Some, None, append_assoc}
 use Rattle.std.specs.List.{list_any}
+use Rattle.std.specs.Str.{bytes_eq}
 use Rattle.std.proofs.lemmas.Bool.{or_parts}
 use Rattle.std.proofs.lemmas.List.{append-nil, map-append}
 use Rattle.std.specs.Prelude.{◌⊎◌, codes}
@@ -13,7 +14,7 @@ use Rattle.mk_lines.specs.Words.{Token, Gap, Word, tokens, before_tokens, token_
 use Rattle.mk_lines.proofs.on_units.TokenLemmas.{tokens-word}
 use Rattle.mk_class.specs.Texts.{is_one_of, word_texts}
 use Rattle.mk_class.proofs.on_assignments.AssignmentEqualsLemmas.{not_same}
-use Rattle.mk_class.specs.Keywords.{Keyword, DefineWord, EndefWord, IfWord, ElseWord, EndifWord, DirectiveWord, UndefineWord, NoKeyword, keyword, first_keyword, after_modifiers, if_words, directive_words, modifier_words}
+use Rattle.mk_class.specs.Keywords.{Keyword, DefineWord, EndefWord, IfWord, ElseWord, EndifWord, DirectiveWord, UndefineWord, NoKeyword, keyword, first_keyword, after_modifiers, if_words, directive_words, modifier_words, is_reserved_word}
 use Rattle.mk_class.specs.Classes.{Said}
 use Rattle.mk_class.specs.Classes.Said.{DefineHead, If, Else, Endif, Directive}
 use Rattle.mk_class.specs.ClassTable.{directive_by, directive, defines_prefix}
@@ -107,6 +108,30 @@ directive-cases NoKeyword NoKeyword c ws ws' = inl (refl, refl)
 abbrev pub is_modifier : List ℕ → Bool
 is_modifier w = is_one_of w modifier_words
 
+-- a word that is not reserved is no keyword and no modifier
+pub not_reserved-keyword : (w : List ℕ) → is_reserved_word w ≡ false → (keyword w ≡ NoKeyword) × (is_modifier w ≡ false)
+not_reserved-keyword w h =
+    let a0 = or_parts (bytes_eq w (codes "ifeq")) _ h in
+    let a1 = or_parts (bytes_eq w (codes "ifneq")) _ a0.1 in
+    let a2 = or_parts (bytes_eq w (codes "ifdef")) _ a1.1 in
+    let a3 = or_parts (bytes_eq w (codes "ifndef")) _ a2.1 in
+    let a4 = or_parts (bytes_eq w (codes "else")) _ a3.1 in
+    let a5 = or_parts (bytes_eq w (codes "endif")) _ a4.1 in
+    let a6 = or_parts (bytes_eq w (codes "define")) _ a5.1 in
+    let a7 = or_parts (bytes_eq w (codes "endef")) _ a6.1 in
+    let a8 = or_parts (bytes_eq w (codes "undefine")) _ a7.1 in
+    let a9 = or_parts (bytes_eq w (codes "include")) _ a8.1 in
+    let b0 = or_parts (bytes_eq w (codes "-include")) _ a9.1 in
+    let b1 = or_parts (bytes_eq w (codes "sinclude")) _ b0.1 in
+    let b2 = or_parts (bytes_eq w (codes "load")) _ b1.1 in
+    let b3 = or_parts (bytes_eq w (codes "-load")) _ b2.1 in
+    let b4 = or_parts (bytes_eq w (codes "export")) _ b3.1 in
+    let b5 = or_parts (bytes_eq w (codes "unexport")) _ b4.1 in
+    let b6 = or_parts (bytes_eq w (codes "override")) _ b5.1 in
+    let b7 = or_parts (bytes_eq w (codes "private")) _ b6.1 in
+    let b8 = or_parts (bytes_eq w (codes "vpath")) _ b7.1 in
+    (rw (a6.0, a7.0, a0.0, a1.0, a2.0, a3.0, a4.0, a5.0, a9.0, b0.0, b1.0, b4.0, b5.0, b8.0, b2.0, b3.0, a8.0) refl, rw (b6.0, b4.0, b7.0) refl)
+
 -- a text with a `:`
 abbrev HasColon : List ℕ → Type 0
 HasColon x = (a c : List ℕ) × (x ≡ a ++ 58 ∷ c)
@@ -117,7 +142,7 @@ pub data SaySame : List (List ℕ) → List (List ℕ) → Type 0 where
   Then : (w w' : List ℕ) (ws ws' : List (List ℕ)) → keyword w ≡ keyword w' → is_modifier w ≡ is_modifier w' → SaySame ws ws' → SaySame (w ∷ ws) (w' ∷ ws')
 
 -- a word with a `:` is none of some words that have no `:`
-not_one_of : (a c : List ℕ) (ks : List (List ℕ)) → list_any (λ k. list_any (λ b. 58 == b) k) ks ≡ false → is_one_of (a ++ 58 ∷ c) ks ≡ false
+pub not_one_of : (a c : List ℕ) (ks : List (List ℕ)) → list_any (λ k. list_any (λ b. 58 == b) k) ks ≡ false → is_one_of (a ++ 58 ∷ c) ks ≡ false
 not_one_of a c [] h = refl
 not_one_of a c (k ∷ ks) h =
     let p = or_parts (list_any (λ b. 58 == b) k) (list_any (λ z. list_any (λ b. 58 == b) z) ks) h in

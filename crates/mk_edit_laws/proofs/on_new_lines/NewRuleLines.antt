@@ -1,8 +1,7 @@
 -- The line of a new rule: its words, joined by single spaces around its separator, are read again as they are.
-use Rattle.std.proofs.Common.{◌≡◌, refl, sym, ap, ◌∙◌, subst, ℕ, List, [], ◌∷◌, ◌++◌, map, Bool, true, false, not, ◌&&◌, ◌||◌, ◌==◌, cond, append_assoc, None}
-use Rattle.std.specs.Str.{bytes_eq}
+use Rattle.std.proofs.Common.{◌≡◌, refl, sym, ap, ◌∙◌, subst, ℕ, List, [], ◌∷◌, ◌++◌, map, Bool, true, false, not, ◌&&◌, ◌||◌, cond, append_assoc, None}
 use Rattle.std.specs.List.{list_any}
-use Rattle.std.specs.Prelude.{codes, nat_lt}
+use Rattle.std.specs.Prelude.{nat_lt}
 use Rattle.std.proofs.lemmas.Bool.{or_parts, not-true}
 use Rattle.std.proofs.lemmas.List.{append-nil, map-append}
 use Rattle.mk_lines.specs.Lists.{concat, leading, after_leading, Each}
@@ -18,13 +17,13 @@ use Rattle.mk_lines.specs.Words.{Token, Gap, Word, tokens, token_words, token_un
 use Rattle.mk_lines.proofs.on_units.TokenLemmas.{tokens-word, tokens-token_units}
 use Rattle.mk_lines.specs.declared.ends.End.{End}
 use Rattle.mk_class.specs.Lists.{is_empty, first_passes, last_passes}
-use Rattle.mk_class.specs.Texts.{is_one_of, word_texts}
+use Rattle.mk_class.specs.Texts.{word_texts}
 use Rattle.mk_class.specs.Symbols.{symbol, is_colon, is_bar, is_hash, is_ampersand, is_unreadable_unit, is_equals}
 use Rattle.mk_class.specs.CutTexts.{cut_text, head, is_in_head, is_no_hash}
-use Rattle.mk_class.specs.Keywords.{NoKeyword, keyword, modifier_words, is_reserved_word, reserved_words}
+use Rattle.mk_class.specs.Keywords.{is_reserved_word, reserved_words}
 use Rattle.mk_class.specs.Assignments.{assignment}
 use Rattle.mk_class.specs.AssignmentsAtEquals.{is_no_equals}
-use Rattle.mk_class.proofs.on_assignments.AssignmentEqualsLemmas.{no_assignment, not_same}
+use Rattle.mk_class.proofs.on_assignments.AssignmentEqualsLemmas.{no_assignment}
 use Rattle.mk_class.specs.Arguments.{is_barred_byte, is_backslash_byte, is_ampersand_byte, is_clean}
 use Rattle.mk_class.specs.Separators.{separated, has_colon, takes_assignment}
 use Rattle.mk_class.specs.Headers.{Header, header, is_rough, is_no_colon}
@@ -46,6 +45,7 @@ use Rattle.mk_edit_laws.specs.Changes.{separator_of}
 use Rattle.mk_edit_laws.specs.declared.edit.Colons.{Colons}
 use Rattle.mk_edit_laws.specs.declared.edit.Colons.TheVariants.{One, Two}
 use Rattle.mk_edit_laws.proofs.on_lines.HeadWords.{last-more}
+use Rattle.mk_edit_laws.proofs.on_lines.DirectiveWords.{not_one_of, not_reserved-keyword}
 use Rattle.mk_edit_laws.proofs.on_prerequisites.NewWords.{is_rule_unit, rule_units-bland, cell_units, cell_units-text, IsNewWord, target-no_ampersand}
 
 -- a text that a line may have: no LF, CR or NUL, and no backslash last
@@ -58,38 +58,12 @@ pub record IsLineText (x : List ℕ) : Type 0 where
 -- a line whose first word is not reserved is no directive
 unreserved-no_directive : (c : Bool) (x : List ℕ) (ws : List (List ℕ)) → is_reserved_word x ≡ false → directive c (x ∷ ws) ≡ None
 unreserved-no_directive c x ws h =
-    let a = or_parts (bytes_eq x (codes "ifeq")) _ h in
-    let b = or_parts (bytes_eq x (codes "ifneq")) _ a.1 in
-    let d = or_parts (bytes_eq x (codes "ifdef")) _ b.1 in
-    let e = or_parts (bytes_eq x (codes "ifndef")) _ d.1 in
-    let f = or_parts (bytes_eq x (codes "else")) _ e.1 in
-    let g = or_parts (bytes_eq x (codes "endif")) _ f.1 in
-    let i = or_parts (bytes_eq x (codes "define")) _ g.1 in
-    let j = or_parts (bytes_eq x (codes "endef")) _ i.1 in
-    let k = or_parts (bytes_eq x (codes "undefine")) _ j.1 in
-    let l = or_parts (bytes_eq x (codes "include")) _ k.1 in
-    let m = or_parts (bytes_eq x (codes "-include")) _ l.1 in
-    let n = or_parts (bytes_eq x (codes "sinclude")) _ m.1 in
-    let o = or_parts (bytes_eq x (codes "load")) _ n.1 in
-    let p = or_parts (bytes_eq x (codes "-load")) _ o.1 in
-    let q = or_parts (bytes_eq x (codes "export")) _ p.1 in
-    let r = or_parts (bytes_eq x (codes "unexport")) _ q.1 in
-    let s = or_parts (bytes_eq x (codes "override")) _ r.1 in
-    let t = or_parts (bytes_eq x (codes "private")) _ s.1 in
-    let u = or_parts (bytes_eq x (codes "vpath")) _ t.1 in
-    let key : keyword x ≡ NoKeyword = rw (i.0, j.0, a.0, b.0, d.0, e.0, f.0, g.0, l.0, m.0, n.0, q.0, r.0, u.0, o.0, p.0, k.0) refl in
-    let bare : is_one_of x modifier_words ≡ false = rw (s.0, q.0, t.0) refl in
-    rw (bare, key) refl
+    let none = not_reserved-keyword x h in
+    rw (none.1, none.0) refl
 
 -- a word with a `:` is not reserved
 colon-unreserved : (a c : List ℕ) → is_reserved_word (a ++ 58 ∷ c) ≡ false
-colon-unreserved a c = none reserved_words refl
-  where
-    none : (ks : List (List ℕ)) → list_any (λ k. list_any (λ b. 58 == b) k) ks ≡ false → is_one_of (a ++ 58 ∷ c) ks ≡ false
-    none [] h = refl
-    none (k ∷ ks) h =
-        let p = or_parts (list_any (λ b. 58 == b) k) (list_any (λ z. list_any (λ b. 58 == b) z) ks) h in
-        ap (λ z. z || is_one_of (a ++ 58 ∷ c) ks) (not_same 58 a c k p.0) ∙ none ks p.1
+colon-unreserved a c = not_one_of a c reserved_words refl
 
 -- ---- tokens of the new line
 

@@ -20,10 +20,10 @@ use Rattle.mk_class.proofs.on_assignments.AssignmentEqualsLemmas.{or_front, fron
 use Rattle.mk_class.specs.declared.assignment.Flavor.{Flavor}
 use Rattle.mk_class.specs.declared.assignment.Modifier.{Modifier}
 use Rattle.mk_edit_laws.specs.WordPieces.{is_word_of}
-use Rattle.mk_edit_laws.proofs.on_lines.DirectiveWords.{is_modifier, colon-no_modifier, word-glued, glued-colon}
+use Rattle.mk_edit_laws.proofs.on_lines.DirectiveWords.{is_modifier, colon-no_modifier, word-glued, glued-colon, not_reserved-keyword}
 use Rattle.mk_edit_laws.proofs.on_lines.HeaderParts.{colons-begin}
 use Rattle.mk_edit_laws.proofs.on_prerequisites.NewWords.{cell_units, cell_units-text}
-use Rattle.mk_edit_laws.proofs.on_renames.WordsRenamed.{tokens_renamed, not_reserved-keyword}
+use Rattle.mk_edit_laws.proofs.on_renames.WordsRenamed.{tokens_renamed}
 use Rattle.mk_edit_laws.proofs.on_renames.RenamedHeaders.{IsNewTarget}
 use Rattle.mk_class.specs.declared.rule.Separator.TheVariants.{SingleColon}
 

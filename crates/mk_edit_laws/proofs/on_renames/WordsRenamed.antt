@@ -1,9 +1,7 @@
 -- Words of units with another in the place of each that is one: the words are those with the new one, and the cells join.
 use Rattle.std.proofs.Common.{◌≡◌, refl, sym, ap, ◌∙◌, subst, ℕ, List, [], ◌∷◌, ◌++◌, map, Bool, true, false, cond, append_assoc}
-use Rattle.std.specs.Str.{bytes_eq}
 use Rattle.std.proofs.lemmas.List.{append-nil}
-use Rattle.std.proofs.lemmas.Bool.{or_parts}
-use Rattle.std.specs.Prelude.{if◌then◌else◌, codes}
+use Rattle.std.specs.Prelude.{if◌then◌else◌}
 use Rattle.mk_lines.specs.Lists.{concat}
 use Rattle.mk_lines.specs.Cells.{Cell, Byte, joined_byte}
 use Rattle.mk_lines.specs.Pieces.{Keep, Replace, old_cells, new_cells}
@@ -13,14 +11,14 @@ use Rattle.mk_lines.specs.Words.{Token, Gap, Word, token_words, token_units, is_
 use Rattle.mk_lines.proofs.on_units.TokenLemmas.{token_text}
 use Rattle.mk_class.specs.Lists.{last_passes}
 use Rattle.mk_class.proofs.on_assignments.ValueLemmas.{clean-no_line_end}
-use Rattle.mk_class.specs.Keywords.{keyword, is_reserved_word, NoKeyword}
+use Rattle.mk_class.specs.Keywords.{keyword, is_reserved_word}
 use Rattle.std.proofs.lemmas.Slice.Eq.{bytes_eq-Decides}
 use Rattle.mk_edit_laws.specs.WordPieces.{is_word_of, renamed_tokens}
 use Rattle.mk_edit_laws.specs.Changes.{rename_words}
 use Rattle.mk_edit_laws.proofs.on_lines.HeadUnits.{AllAre, AllAre-append, AllAre-left, AllAre-right, IsHeadUnit, BeginsSolid-before, EndsSolid, EndsSolid-after, line_cells-after_solid, line_cells-before_solid}
 use Rattle.mk_edit_laws.proofs.on_lines.LineTails.{EndsAs, EndsAs-after}
 use Rattle.mk_edit_laws.proofs.on_lines.HeadWords.{token_text-append, AreGaps, IsGapToken, gaps-end, word-solid, last-more}
-use Rattle.mk_edit_laws.proofs.on_lines.DirectiveWords.{AlikeTokens, is_modifier}
+use Rattle.mk_edit_laws.proofs.on_lines.DirectiveWords.{AlikeTokens, is_modifier, not_reserved-keyword}
 use Rattle.mk_edit_laws.proofs.on_prerequisites.NewWords.{IsNewWord, cell_units, cell_units-text}
 use Rattle.mk_edit_laws.proofs.on_prerequisites.WordsAdded.{new_word-solid}
 
@@ -33,32 +31,6 @@ abbrev pub tokens_renamed : (old new : List ℕ) → List (Token Cell) → List 
 tokens_renamed o n [] = []
 tokens_renamed o n (Gap u ∷ ts) = Gap u ∷ tokens_renamed o n ts
 tokens_renamed o n (Word w ∷ ts) = Word (renamed_word o n w) ∷ tokens_renamed o n ts
-
--- ---- reserved words
-
--- a word that is not reserved is no keyword and no modifier
-pub not_reserved-keyword : (w : List ℕ) → is_reserved_word w ≡ false → (keyword w ≡ NoKeyword) × (is_modifier w ≡ false)
-not_reserved-keyword w h =
-    let a0 = or_parts (bytes_eq w (codes "ifeq")) _ h in
-    let a1 = or_parts (bytes_eq w (codes "ifneq")) _ a0.1 in
-    let a2 = or_parts (bytes_eq w (codes "ifdef")) _ a1.1 in
-    let a3 = or_parts (bytes_eq w (codes "ifndef")) _ a2.1 in
-    let a4 = or_parts (bytes_eq w (codes "else")) _ a3.1 in
-    let a5 = or_parts (bytes_eq w (codes "endif")) _ a4.1 in
-    let a6 = or_parts (bytes_eq w (codes "define")) _ a5.1 in
-    let a7 = or_parts (bytes_eq w (codes "endef")) _ a6.1 in
-    let a8 = or_parts (bytes_eq w (codes "undefine")) _ a7.1 in
-    let a9 = or_parts (bytes_eq w (codes "include")) _ a8.1 in
-    let b0 = or_parts (bytes_eq w (codes "-include")) _ a9.1 in
-    let b1 = or_parts (bytes_eq w (codes "sinclude")) _ b0.1 in
-    let b2 = or_parts (bytes_eq w (codes "load")) _ b1.1 in
-    let b3 = or_parts (bytes_eq w (codes "-load")) _ b2.1 in
-    let b4 = or_parts (bytes_eq w (codes "export")) _ b3.1 in
-    let b5 = or_parts (bytes_eq w (codes "unexport")) _ b4.1 in
-    let b6 = or_parts (bytes_eq w (codes "override")) _ b5.1 in
-    let b7 = or_parts (bytes_eq w (codes "private")) _ b6.1 in
-    let b8 = or_parts (bytes_eq w (codes "vpath")) _ b7.1 in
-    (rw (a6.0, a7.0, a0.0, a1.0, a2.0, a3.0, a4.0, a5.0, a9.0, b0.0, b1.0, b4.0, b5.0, b8.0, b2.0, b3.0, a8.0) refl, rw (b6.0, b4.0, b7.0) refl)
 
 module _ (o n : List ℕ) where
   -- the cells before the rename are those of the tokens
