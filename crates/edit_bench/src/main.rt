@@ -20,7 +20,7 @@ fn bytes(rt: &HostRuntime, text: &[u8]) -> Result<Vec<u8>, AllocError> {
 }
 
 // Gives the only variable of a name another value.
-fn set(rt: &HostRuntime, name: &[u8], value: &[u8]) -> Result<Edit, AllocError> {
+fn set_value(rt: &HostRuntime, name: &[u8], value: &[u8]) -> Result<Edit, AllocError> {
     Ok(Edit::SetValue {
         nth: None,
         name: bytes(rt, name)?,
@@ -29,7 +29,7 @@ fn set(rt: &HostRuntime, name: &[u8], value: &[u8]) -> Result<Edit, AllocError> 
 }
 
 // Puts an assignment at the end.
-fn assign(rt: &HostRuntime, name: &[u8], value: &[u8]) -> Result<Edit, AllocError> {
+fn add_assign(rt: &HostRuntime, name: &[u8], value: &[u8]) -> Result<Edit, AllocError> {
     Ok(Edit::AddAssign {
         place: Place::Bottom,
         name: bytes(rt, name)?,
@@ -39,7 +39,7 @@ fn assign(rt: &HostRuntime, name: &[u8], value: &[u8]) -> Result<Edit, AllocErro
 }
 
 // Puts a rule without prerequisites at the end.
-fn rule(rt: &HostRuntime, target: &[u8]) -> Result<Edit, AllocError> {
+fn add_rule(rt: &HostRuntime, target: &[u8]) -> Result<Edit, AllocError> {
     Ok(Edit::AddRule {
         place: Place::Bottom,
         targets: bytes(rt, target)?,
@@ -49,7 +49,7 @@ fn rule(rt: &HostRuntime, target: &[u8]) -> Result<Edit, AllocError> {
 }
 
 // Gives a target another name.
-fn rename(rt: &HostRuntime, from: &[u8], to: &[u8]) -> Result<Edit, AllocError> {
+fn rename_target(rt: &HostRuntime, from: &[u8], to: &[u8]) -> Result<Edit, AllocError> {
     Ok(Edit::RenameTarget {
         from: bytes(rt, from)?,
         to: bytes(rt, to)?,
@@ -116,16 +116,16 @@ fn walked(rt: &HostRuntime, session: &Session) -> anyhow::Result<()> {
 
 // Puts in the lines that are edited later, which is not measured.
 fn prepared(rt: &HostRuntime, session: &mut Session) -> anyhow::Result<()> {
-    session.apply(&assign(rt, b"LAST_OF_ALL", b"1")?)?;
-    session.apply(&rule(rt, b"build")?)?;
+    session.apply(&add_assign(rt, b"LAST_OF_ALL", b"1")?)?;
+    session.apply(&add_rule(rt, b"build")?)?;
     Ok(())
 }
 
 // Sets the last variable once, and many times to two values in turn.
 fn sets(rt: &HostRuntime, session: &mut Session) -> anyhow::Result<()> {
     let values = [
-        set(rt, b"LAST_OF_ALL", b"22")?,
-        set(rt, b"LAST_OF_ALL", b"3")?,
+        set_value(rt, b"LAST_OF_ALL", b"22")?,
+        set_value(rt, b"LAST_OF_ALL", b"3")?,
     ];
     applied(rt, session, "set", &values[..1], 1)?;
     applied(rt, session, "sets", &values, MANY / 2)
@@ -133,13 +133,13 @@ fn sets(rt: &HostRuntime, session: &mut Session) -> anyhow::Result<()> {
 
 // Puts many assignments at the end.
 fn assigns(rt: &HostRuntime, session: &mut Session) -> anyhow::Result<()> {
-    let lines = [assign(rt, b"NEW_ONE", b"value")?];
+    let lines = [add_assign(rt, b"NEW_ONE", b"value")?];
     applied(rt, session, "assigns", &lines, MANY)
 }
 
 // Renames the last target.
 fn renames(rt: &HostRuntime, session: &mut Session) -> anyhow::Result<()> {
-    let names = [rename(rt, b"build", b"output")?];
+    let names = [rename_target(rt, b"build", b"output")?];
     applied(rt, session, "rename", &names, 1)
 }
 

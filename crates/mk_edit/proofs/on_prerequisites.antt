@@ -1,5 +1,5 @@
 -- Lemmas. The words of a rule's line, and its bytes with one more or one less.
 pub mod HeaderPlaces
 pub mod WordPlans
-pub mod UndependPlans
-pub mod DependPlans
+pub mod RemovePrereqPlans
+pub mod AddPrereqPlans

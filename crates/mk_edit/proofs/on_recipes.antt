@@ -1,8 +1,8 @@
 -- Lemmas. The recipes of rules, and the edits of rules and recipes.
 pub mod OwnCauses
 pub mod RulePlaces
-pub mod RuleRemovals
+pub mod RemoveRulePlans
 pub mod RecipePlaces
-pub mod RecipeRemovals
-pub mod RecipeAdditions
-pub mod RecipeSettings
+pub mod RemoveRecipePlans
+pub mod AddRecipePlans
+pub mod SetRecipePlans

@@ -3,7 +3,7 @@ pub mod SizesOfWords
 pub mod SizesOfTexts
 pub mod SizesOfEffects
 pub mod CausesOfPrefix
-pub mod CausesOfRename
+pub mod CausesOfRenameTarget
 pub mod LinesRenamed
 pub mod PatchTurns
 pub mod LinesAlong

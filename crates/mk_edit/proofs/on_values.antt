@@ -1,4 +1,4 @@
 -- Lemmas. Edits of a value, planned.
 pub mod ValuePlaces
-pub mod ValuePlans
-pub mod AppendPlans
+pub mod SetValuePlans
+pub mod AppendValuePlans

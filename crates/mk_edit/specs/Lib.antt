@@ -8,7 +8,7 @@ pub mod RecipeEdits
 -- The words of a rule's line
 pub mod PrerequisiteEdits
 -- A rename
-pub mod RenameEffects
-pub mod RenamePatches
+pub mod RenameTargetEffects
+pub mod RenameTargetPatches
 -- Edits of a value
 pub mod ValuesGiven

@@ -6,13 +6,13 @@ use Rattle.mk_edit_laws.specs.Edits.{Edit, AddPrereq, RemovePrereq}
 use Rattle.mk_edit_laws.specs.RuleCauses.{is_normal, is_order_only}
 
 -- an edit puts this word last among the order-only prerequisites, or among the normal ones
-pub record IsPrerequisiteAdded (order : Bool) (word : List ℕ) (e : Edit) : Type 0 where
+pub record IsAddPrereq (order : Bool) (word : List ℕ) (e : Edit) : Type 0 where
   pub nth : Option ℕ
   pub target : List ℕ
   pub is : e ≡ AddPrereq order nth target word
 
 -- an edit takes this word out of the prerequisites
-pub record IsPrerequisiteRemoved (word : List ℕ) (e : Edit) : Type 0 where
+pub record IsRemovePrereq (word : List ℕ) (e : Edit) : Type 0 where
   pub nth : Option ℕ
   pub target : List ℕ
   pub is : e ≡ RemovePrereq nth target word

@@ -5,24 +5,24 @@ use Rattle.mk_lines.specs.declared.split.Span.{Span}
 use Rattle.mk_edit_laws.specs.Edits.{Edit, RemoveRule, AddRecipe, SetRecipe, RemoveRecipe}
 
 -- the removal of a rule
-abbrev pub IsRuleRemoval : Edit → Type 0
-IsRuleRemoval (RemoveRule nth t) = Unit {0}
-IsRuleRemoval e = ⊥
+abbrev pub IsRemoveRule : Edit → Type 0
+IsRemoveRule (RemoveRule nth t) = Unit {0}
+IsRemoveRule e = ⊥
 
 -- a new recipe line
-abbrev pub IsRecipeAddition : Edit → Type 0
-IsRecipeAddition (AddRecipe nth t c) = Unit {0}
-IsRecipeAddition e = ⊥
+abbrev pub IsAddRecipe : Edit → Type 0
+IsAddRecipe (AddRecipe nth t c) = Unit {0}
+IsAddRecipe e = ⊥
 
 -- another command for the recipe line of this number
-abbrev pub IsRecipeSetting : (number : ℕ) → (command : List ℕ) → Edit → Type 0
-IsRecipeSetting n c (SetRecipe nth t k d) = (k ≡ n) × (d ≡ c)
-IsRecipeSetting n c e = ⊥
+abbrev pub IsSetRecipe : (number : ℕ) → (command : List ℕ) → Edit → Type 0
+IsSetRecipe n c (SetRecipe nth t k d) = (k ≡ n) × (d ≡ c)
+IsSetRecipe n c e = ⊥
 
 -- the removal of the recipe line of this number
-abbrev pub IsRecipeRemoval : (number : ℕ) → Edit → Type 0
-IsRecipeRemoval n (RemoveRecipe nth t k) = k ≡ n
-IsRecipeRemoval n e = ⊥
+abbrev pub IsRemoveRecipe : (number : ℕ) → Edit → Type 0
+IsRemoveRecipe n (RemoveRecipe nth t k) = k ≡ n
+IsRemoveRecipe n e = ⊥
 
 -- where the command of a recipe line stands among the line's bytes: after the first byte, up to the line end
 abbrev pub command_range : (line : List ℕ) → Span

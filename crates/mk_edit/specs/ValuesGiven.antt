@@ -8,13 +8,13 @@ use Rattle.mk_tree.specs.PlacedLines.{PlacedLine, text_of_line}
 use Rattle.mk_edit_laws.specs.Edits.{Edit, SetValue, AppendValue}
 
 -- an edit sets a variable to this value
-pub record IsSetTo (e : Edit) (value : List ℕ) : Type 0 where
+pub record IsSetValue (e : Edit) (value : List ℕ) : Type 0 where
   pub nth : Option ℕ
   pub name : List ℕ
   pub is : e ≡ SetValue nth name value
 
 -- an edit appends this text to a variable's value
-pub record IsAppended (e : Edit) (value : List ℕ) : Type 0 where
+pub record IsAppendValue (e : Edit) (value : List ℕ) : Type 0 where
   pub nth : Option ℕ
   pub name : List ℕ
   pub is : e ≡ AppendValue nth name value

@@ -9,33 +9,33 @@
 //! The other modules are the crate's own, lowest first:
 //!
 //! - `moves`: the patches of edits whose causes are decided.
-//! - `unrule`: the removal of a rule.
-//! - `recipe_del`: the removal of a recipe line.
-//! - `recipe_set`: another command for a recipe line.
+//! - `remove_rule`: the removal of a rule.
+//! - `remove_recipe`: the removal of a recipe line.
+//! - `set_recipe`: another command for a recipe line.
 //! - `insertion`: where new lines go, and the causes of refusal that their places decide.
 //! - `addition`: new lines, planned.
-//! - `recipe_add`: a new recipe line, planned.
-//! - `depend`: a new prerequisite, and a prerequisite taken out, planned.
+//! - `add_recipe`: a new recipe line, planned.
+//! - `prereq`: a new prerequisite, and a prerequisite taken out, planned.
 //! - `value`: edits of a value, planned.
-//! - `removals`: edits that take lines out.
-//! - `rename_causes`: the causes of refusal of a rename.
-//! - `rename_patch`: the patch of a rename whose causes are decided.
-//! - `rename`: a rename, planned.
+//! - `remove_assign`: the removal of an assignment.
+//! - `rename_target_causes`: the causes of refusal of a rename.
+//! - `rename_target_patch`: the patch of a rename whose causes are decided.
+//! - `rename_target`: a rename, planned.
 #![tactic(auto)]
 
+mod add_recipe;
 mod addition;
-mod depend;
 mod insertion;
 mod moves;
 pub mod planning;
-mod recipe_add;
-mod recipe_del;
-mod recipe_set;
-mod removals;
-mod rename;
-mod rename_causes;
-mod rename_patch;
-mod unrule;
+mod prereq;
+mod remove_assign;
+mod remove_recipe;
+mod remove_rule;
+mod rename_target;
+mod rename_target_causes;
+mod rename_target_patch;
+mod set_recipe;
 mod value;
 
 pub use mk_edit_laws::{Colons, Detail, Field, Refusal};

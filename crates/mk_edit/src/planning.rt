@@ -7,14 +7,14 @@ ghost use Rattle.mk_edit_laws.specs.Costs.{cost};
 ghost use Rattle.mk_edit_parts.specs.EditViews.{edit_of};
 ghost use Rattle.mk_edit.specs.Planned.{IsPlanned, IsRefusal};
 
+use crate::add_recipe::plan_add_recipe;
 use crate::addition::plan_addition;
-use crate::depend::{plan_depend, plan_undepend};
-use crate::recipe_add::plan_recipe;
-use crate::recipe_del::plan_recipe_del;
-use crate::recipe_set::plan_recipe_set;
-use crate::removals::unset;
-use crate::rename::plan_rename;
-use crate::unrule::plan_unrule;
+use crate::prereq::{plan_add_prereq, plan_remove_prereq};
+use crate::remove_assign::plan_remove_assign;
+use crate::remove_recipe::plan_remove_recipe;
+use crate::remove_rule::plan_remove_rule;
+use crate::rename_target::plan_rename_target;
+use crate::set_recipe::plan_set_recipe;
 use crate::value::{plan_append_value, plan_set_value};
 use mk_class::Meter;
 use mk_edit_laws::Refusal;
@@ -53,15 +53,17 @@ pub fn plan<A: Allocator + Copy>(
         Edit::SetValue { value, .. } => plan_set_value(alloc, doc, edit, value, meter),
         Edit::AppendValue { value, .. } => plan_append_value(alloc, doc, edit, value, meter),
         Edit::AddAssign { .. } | Edit::AddRule { .. } => plan_addition(alloc, doc, edit, meter),
-        Edit::RemoveAssign { .. } => unset(alloc, doc, edit),
-        Edit::RemoveRule { .. } => plan_unrule(alloc, doc, edit),
-        Edit::AddPrereq { order, word, .. } => plan_depend(alloc, doc, edit, *order, word, meter),
-        Edit::RemovePrereq { word, .. } => plan_undepend(alloc, doc, edit, word, meter),
-        Edit::AddRecipe { .. } => plan_recipe(alloc, doc, edit, meter),
-        Edit::SetRecipe { number, line, .. } => {
-            plan_recipe_set(alloc, doc, edit, *number, line, meter)
+        Edit::RemoveAssign { .. } => plan_remove_assign(alloc, doc, edit),
+        Edit::RemoveRule { .. } => plan_remove_rule(alloc, doc, edit),
+        Edit::AddPrereq { order, word, .. } => {
+            plan_add_prereq(alloc, doc, edit, *order, word, meter)
         }
-        Edit::RemoveRecipe { number, .. } => plan_recipe_del(alloc, doc, edit, *number),
-        Edit::RenameTarget { from, to } => plan_rename(alloc, doc, edit, from, to, meter),
+        Edit::RemovePrereq { word, .. } => plan_remove_prereq(alloc, doc, edit, word, meter),
+        Edit::AddRecipe { .. } => plan_add_recipe(alloc, doc, edit, meter),
+        Edit::SetRecipe { number, line, .. } => {
+            plan_set_recipe(alloc, doc, edit, *number, line, meter)
+        }
+        Edit::RemoveRecipe { number, .. } => plan_remove_recipe(alloc, doc, edit, *number),
+        Edit::RenameTarget { from, to } => plan_rename_target(alloc, doc, edit, from, to, meter),
     }
 }

@@ -7,7 +7,7 @@ ghost use Rattle.mk_edit_laws.specs.Costs.{cost};
 ghost use Rattle.mk_edit_parts.specs.EditViews.{edit_of};
 ghost use Rattle.mk_edit.specs.Planned.{IsPlanned, IsRefusal};
 ghost use Rattle.mk_edit_parts.specs.PlacedParts.{IsClassed};
-ghost use Rattle.mk_edit.specs.ValuesGiven.{IsAppended, IsSetTo, space_after, value_text_placed};
+ghost use Rattle.mk_edit.specs.ValuesGiven.{IsAppendValue, IsSetValue, space_after, value_text_placed};
 ghost use Rattle.mk_tree.specs.Trees.{line_view};
 
 use crate::moves::replace_line;
@@ -39,7 +39,7 @@ pub(crate) fn plan_set_value<A: Allocator + Copy>(
     meter: &mut Meter,
 ) -> Result<Patch<A>, Refusal>
     requires faithful { IsFaithful doc.now }
-    requires edit { IsSetTo (edit_of edit.now) value.now }
+    requires edit { IsSetValue (edit_of edit.now) value.now }
     ensures planned { IfOk result (λ patch. IsPlanned (edit_of edit.now) doc.now patch) }
     ensures refused { IfErr result (λ refusal. IsRefusal (placed_text doc.now) (edit_of edit.now) refusal) }
     ensures counted { OnOk result (AreCounted meter.old (cost (placed_text doc.now) (edit_of edit.now)) meter.new) }
@@ -72,7 +72,7 @@ pub(crate) fn plan_append_value<A: Allocator + Copy>(
     meter: &mut Meter,
 ) -> Result<Patch<A>, Refusal>
     requires faithful { IsFaithful doc.now }
-    requires edit { IsAppended (edit_of edit.now) value.now }
+    requires edit { IsAppendValue (edit_of edit.now) value.now }
     ensures planned { IfOk result (λ patch. IsPlanned (edit_of edit.now) doc.now patch) }
     ensures refused { IfErr result (λ refusal. IsRefusal (placed_text doc.now) (edit_of edit.now) refusal) }
     ensures counted { OnOk result (AreCounted meter.old (cost (placed_text doc.now) (edit_of edit.now)) meter.new) }

@@ -1,6 +1,6 @@
 -- Lemmas. New assignments and rules.
 pub mod NewPlaces
 pub mod NewLineStands
-pub mod NewAssignLemmas
+pub mod AddAssignLemmas
 pub mod NewRuleLines
-pub mod NewRules
+pub mod AddRuleLemmas

@@ -3,5 +3,5 @@ pub mod HeaderEdits
 pub mod NewWords
 pub mod WordsAdded
 pub mod WordsRemoved
-pub mod DependLemmas
-pub mod UndependLemmas
+pub mod AddPrereqLemmas
+pub mod RemovePrereqLemmas

@@ -1,4 +1,4 @@
 -- Lemmas. Lines taken out.
 pub mod RemovalLemmas
-pub mod UnsetLemmas
+pub mod RemoveAssignLemmas
 pub mod RuleTakenLemmas

@@ -7,4 +7,4 @@ pub mod TargetUnits
 pub mod TargetLines
 pub mod TargetNames
 pub mod RenamedTargets
-pub mod RenameLemmas
+pub mod RenameTargetLemmas

@@ -2,9 +2,9 @@
 pub mod FoundAssignments
 pub mod ValueLines
 pub mod ValueEdits
-pub mod SetLemmas
+pub mod SetValueLemmas
 pub mod FoldEnds
-pub mod SetEmptyLemmas
+pub mod SetValueEmptyLemmas
 pub mod LastFoldLemmas
 pub mod BlankAdded
-pub mod AppendLemmas
+pub mod AppendValueLemmas

@@ -10,7 +10,7 @@ use Rattle.mk_edit_laws.specs.Lengths.{bytes_taken, bytes_put}
 use Rattle.mk_edit_laws.specs.RisingSpans.{IsReplacedAt}
 use Rattle.mk_edit_laws.specs.TouchedLines.{IsOfOnePlace, TouchFew}
 use Rattle.mk_edit_laws.specs.KeptLines.{AreOthersKept, above_after}
-use Rattle.mk_edit_laws.specs.RenamedLines.{AreOthersKeptByRename}
+use Rattle.mk_edit_laws.specs.RenamedLines.{AreOthersKeptByRenameTarget}
 use Rattle.mk_edit_laws.specs.Refusals.{spans, text_after}
 
 -- the spans of an edit rise within the text and do not overlap, and the bytes outside them are as before
@@ -38,7 +38,7 @@ KeepsOthers e = (text : List ℕ) (replacements : List Replacement) → spans te
 -- What an edit leaves. A rename may touch lines that stand apart: it leaves the lines that have no word to rename, makes each
 -- other line in its place, and opens no conditional.
 abbrev pub LeavesOthers : Edit → Type 0
-LeavesOthers (RenameTarget old new) = (text : List ℕ) (replacements : List Replacement) → spans text (RenameTarget old new) ≡ Ok replacements → AreOthersKeptByRename old new text replacements
+LeavesOthers (RenameTarget old new) = (text : List ℕ) (replacements : List Replacement) → spans text (RenameTarget old new) ≡ Ok replacements → AreOthersKeptByRenameTarget old new text replacements
 LeavesOthers e = KeepsOthers e
 
 -- each edit leaves the lines that its spans do not touch

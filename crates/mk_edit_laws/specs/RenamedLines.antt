@@ -63,7 +63,7 @@ StandInLines p at (l ∷ ls) rs =
 -- their words renamed. Each stands in its place; a line without a word to rename is the same, with the same class. The context
 -- after each number of lines is as before. At most as many lines have different bytes as the rename costs. The spans stand within
 -- the lines that have a word to rename. The greatest number of conditionals open at once is as before.
-pub record AreOthersKeptByRename (o n t : List ℕ) (rs : List Replacement) : Type 0 where
+pub record AreOthersKeptByRenameTarget (o n t : List ℕ) (rs : List Replacement) : Type 0 where
   pub lines : logical_lines (text_after t (RenameTarget o n)) ≡ map (renamed_bytes o n) (classed_lines t)
   pub in_place : AreLinesRenamedInPlace o n start (classed_lines t) (classed_lines (text_after t (RenameTarget o n)))
   pub contexts : (number : ℕ) → context_of (take number (classed_lines (text_after t (RenameTarget o n)))) ≡ context_of (take number (classed_lines t))

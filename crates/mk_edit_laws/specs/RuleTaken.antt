@@ -74,5 +74,5 @@ pub record TakesTheRuleAlone (nth : Option ℕ) (target text : List ℕ) : Type 
   pub next_item : first_passes is_recipe_item (items rest) ≡ false
 
 -- an accepted removal of a rule takes out its line and its recipe, and nothing else
-abbrev pub UnruleTakesTheRuleAlone : Type 0
-UnruleTakesTheRuleAlone = (nth : Option ℕ) (target text : List ℕ) (replacements : List Replacement) → spans text (RemoveRule nth target) ≡ Ok replacements → TakesTheRuleAlone nth target text
+abbrev pub RemoveRuleTakesTheRuleAlone : Type 0
+RemoveRuleTakesTheRuleAlone = (nth : Option ℕ) (target text : List ℕ) (replacements : List Replacement) → spans text (RemoveRule nth target) ≡ Ok replacements → TakesTheRuleAlone nth target text

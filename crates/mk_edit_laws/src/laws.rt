@@ -1,7 +1,7 @@
 //! Laws of edits: each contract is a theorem on the definitions that the calls of this crate are
 //! specified by. The functions do nothing.
 ghost use Rattle.mk_edit_laws.specs.Laws.{EditsReadAsChanged, NewAssignmentsStand, OtherLinesStay, RefusedChangesNothing};
-ghost use Rattle.mk_edit_laws.specs.RuleTaken.{UnruleTakesTheRuleAlone};
+ghost use Rattle.mk_edit_laws.specs.RuleTaken.{RemoveRuleTakesTheRuleAlone};
 
 pub mod outside;
 
@@ -30,8 +30,8 @@ pub fn edits_read_as_changed()
 /// Each line that goes with the rule's line is a recipe line, a blank line or a comment, and the
 /// last is a recipe line. The lines that go read as the item of the header and the items of the
 /// recipe lines. No recipe line of the rule stays.
-pub fn unrule_takes_the_rule_alone()
-    ensures { UnruleTakesTheRuleAlone }
+pub fn remove_rule_takes_the_rule_alone()
+    ensures { RemoveRuleTakesTheRuleAlone }
 {}
 
 /// An accepted edit that takes lines out leaves the lines above and below them, each with its

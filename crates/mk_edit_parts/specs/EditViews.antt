@@ -52,6 +52,6 @@ field_refusal (Some f) = Some (BadArgument f)
 -- ---- edits by their kind
 
 -- an edit that takes an assignment out
-abbrev pub IsUnset : edits.Edit → Type 0
-IsUnset (edits.RemoveAssign nth n) = Unit {0}
-IsUnset e = ⊥
+abbrev pub IsRemoveAssign : edits.Edit → Type 0
+IsRemoveAssign (edits.RemoveAssign nth n) = Unit {0}
+IsRemoveAssign e = ⊥

@@ -6,8 +6,12 @@ use mk_class::Flavor;
 use mk_edit::{Colons, Edit, Place};
 use std::alloc::AllocError;
 
-/// `set NAME VALUE`.
-pub fn set<'a>(heap: Heap<'a>, name: &[u8], value: &[u8]) -> Result<Edit<Heap<'a>>, AllocError> {
+/// Gives a variable another value.
+pub fn set_value<'a>(
+    heap: Heap<'a>,
+    name: &[u8],
+    value: &[u8],
+) -> Result<Edit<Heap<'a>>, AllocError> {
     Ok(Edit::SetValue {
         nth: None,
         name: Vec::from_slice(heap, name)?,
@@ -15,8 +19,12 @@ pub fn set<'a>(heap: Heap<'a>, name: &[u8], value: &[u8]) -> Result<Edit<Heap<'a
     })
 }
 
-/// `append NAME VALUE`.
-pub fn append<'a>(heap: Heap<'a>, name: &[u8], value: &[u8]) -> Result<Edit<Heap<'a>>, AllocError> {
+/// Puts a text after the value of a variable.
+pub fn append_value<'a>(
+    heap: Heap<'a>,
+    name: &[u8],
+    value: &[u8],
+) -> Result<Edit<Heap<'a>>, AllocError> {
     Ok(Edit::AppendValue {
         nth: None,
         name: Vec::from_slice(heap, name)?,
@@ -24,8 +32,8 @@ pub fn append<'a>(heap: Heap<'a>, name: &[u8], value: &[u8]) -> Result<Edit<Heap
     })
 }
 
-/// `assign bottom NAME OPERATOR VALUE`.
-pub fn assign_bottom<'a>(
+/// Puts the line of an assignment at the end.
+pub fn add_assign<'a>(
     heap: Heap<'a>,
     name: &[u8],
     flavor: Flavor,
@@ -39,16 +47,16 @@ pub fn assign_bottom<'a>(
     })
 }
 
-/// `unset NAME`.
-pub fn unset<'a>(heap: Heap<'a>, name: &[u8]) -> Result<Edit<Heap<'a>>, AllocError> {
+/// Takes out the assignment of a name.
+pub fn remove_assign<'a>(heap: Heap<'a>, name: &[u8]) -> Result<Edit<Heap<'a>>, AllocError> {
     Ok(Edit::RemoveAssign {
         nth: None,
         name: Vec::from_slice(heap, name)?,
     })
 }
 
-/// `rule bottom TARGETS COLONS PREREQS`.
-pub fn rule_bottom<'a>(
+/// Puts the line of a rule at the end.
+pub fn add_rule<'a>(
     heap: Heap<'a>,
     targets: &[u8],
     colons: Colons,
@@ -62,16 +70,16 @@ pub fn rule_bottom<'a>(
     })
 }
 
-/// `unrule TARGET`.
-pub fn unrule<'a>(heap: Heap<'a>, target: &[u8]) -> Result<Edit<Heap<'a>>, AllocError> {
+/// Takes out the rule of a target.
+pub fn remove_rule<'a>(heap: Heap<'a>, target: &[u8]) -> Result<Edit<Heap<'a>>, AllocError> {
     Ok(Edit::RemoveRule {
         nth: None,
         target: Vec::from_slice(heap, target)?,
     })
 }
 
-/// `depend-order TARGET WORD` where `order` says so, and `depend TARGET WORD` where not.
-pub fn depend<'a>(
+/// Puts a word after the prerequisites of a target: the order-only ones if `order` says so.
+pub fn add_prereq<'a>(
     heap: Heap<'a>,
     order: bool,
     target: &[u8],
@@ -85,8 +93,8 @@ pub fn depend<'a>(
     })
 }
 
-/// `undepend TARGET WORD`.
-pub fn undepend<'a>(
+/// Takes a word out of the prerequisites of a target.
+pub fn remove_prereq<'a>(
     heap: Heap<'a>,
     target: &[u8],
     word: &[u8],
@@ -98,8 +106,8 @@ pub fn undepend<'a>(
     })
 }
 
-/// `recipe TARGET LINE`.
-pub fn recipe<'a>(
+/// Puts a line after the recipe of a target.
+pub fn add_recipe<'a>(
     heap: Heap<'a>,
     target: &[u8],
     line: &[u8],
@@ -111,8 +119,8 @@ pub fn recipe<'a>(
     })
 }
 
-/// `recipe-set TARGET NUMBER LINE`.
-pub fn recipe_set<'a>(
+/// Gives a recipe line of a target another command.
+pub fn set_recipe<'a>(
     heap: Heap<'a>,
     target: &[u8],
     number: u32,
@@ -126,8 +134,8 @@ pub fn recipe_set<'a>(
     })
 }
 
-/// `recipe-del TARGET NUMBER`.
-pub fn recipe_del<'a>(
+/// Takes out a recipe line of a target.
+pub fn remove_recipe<'a>(
     heap: Heap<'a>,
     target: &[u8],
     number: u32,
@@ -139,8 +147,12 @@ pub fn recipe_del<'a>(
     })
 }
 
-/// `rename OLD NEW`.
-pub fn rename<'a>(heap: Heap<'a>, from: &[u8], to: &[u8]) -> Result<Edit<Heap<'a>>, AllocError> {
+/// Gives a target another name.
+pub fn rename_target<'a>(
+    heap: Heap<'a>,
+    from: &[u8],
+    to: &[u8],
+) -> Result<Edit<Heap<'a>>, AllocError> {
     Ok(Edit::RenameTarget {
         from: Vec::from_slice(heap, from)?,
         to: Vec::from_slice(heap, to)?,

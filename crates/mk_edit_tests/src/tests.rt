@@ -4,8 +4,8 @@ ghost use Rattle.mk_patch.specs.Moves.{FitMoves};
 
 use crate::checks::{Heap, check_accepted, check_refused, document, growths_of_plan};
 use crate::edits::{
-    append, assign_bottom, depend, recipe, recipe_del, recipe_set, rename, rule_bottom, set,
-    undepend, unrule, unset,
+    add_assign, add_prereq, add_recipe, add_rule, append_value, remove_assign, remove_prereq,
+    remove_recipe, remove_rule, rename_target, set_recipe, set_value,
 };
 use mk_class::{Flavor, Meter};
 use mk_edit::{Colons, Edit, Field, Refusal, plan};
@@ -21,35 +21,35 @@ use watched::{Growths, Watched};
 #[test]
 fn a_value_is_set(rt: HostRuntime) -> Result<(), Fail> {
     let heap = Watched::new(rt.alloc());
-    let edit = set(&heap, b"CC", b"clang");
+    let edit = set_value(&heap, b"CC", b"clang");
     check_accepted(&heap, b"CC = gcc # c\n", edit, b"CC = clang # c\n")
 }
 
 #[test]
 fn a_text_is_appended_to_a_value(rt: HostRuntime) -> Result<(), Fail> {
     let heap = Watched::new(rt.alloc());
-    let edit = append(&heap, b"X", b"b");
+    let edit = append_value(&heap, b"X", b"b");
     check_accepted(&heap, b"X = a\n", edit, b"X = a b\n")
 }
 
 #[test]
 fn an_assignment_is_put_in(rt: HostRuntime) -> Result<(), Fail> {
     let heap = Watched::new(rt.alloc());
-    let edit = assign_bottom(&heap, b"Y", Flavor::Simple, b"2");
+    let edit = add_assign(&heap, b"Y", Flavor::Simple, b"2");
     check_accepted(&heap, b"X=1", edit, b"X=1\nY := 2\n")
 }
 
 #[test]
 fn an_assignment_is_taken_out(rt: HostRuntime) -> Result<(), Fail> {
     let heap = Watched::new(rt.alloc());
-    let edit = unset(&heap, b"X");
+    let edit = remove_assign(&heap, b"X");
     check_accepted(&heap, b"foo:\nX = 1\nbar:\n", edit, b"foo:\nbar:\n")
 }
 
 #[test]
 fn a_rule_is_put_in(rt: HostRuntime) -> Result<(), Fail> {
     let heap = Watched::new(rt.alloc());
-    let edit = rule_bottom(&heap, b"a b", Colons::Two, b"$(subst x y,z,w) c");
+    let edit = add_rule(&heap, b"a b", Colons::Two, b"$(subst x y,z,w) c");
     check_accepted(
         &heap,
         b"X = 1\n",
@@ -61,7 +61,7 @@ fn a_rule_is_put_in(rt: HostRuntime) -> Result<(), Fail> {
 #[test]
 fn a_rule_is_taken_out(rt: HostRuntime) -> Result<(), Fail> {
     let heap = Watched::new(rt.alloc());
-    let edit = unrule(&heap, b"c");
+    let edit = remove_rule(&heap, b"c");
     check_accepted(&heap, RULES, edit, b"d:\n")
 }
 
@@ -69,16 +69,16 @@ fn a_rule_is_taken_out(rt: HostRuntime) -> Result<(), Fail> {
 fn a_prerequisite_is_added(rt: HostRuntime) -> Result<(), Fail> {
     let heap = Watched::new(rt.alloc());
     // the new line has a fold, for which reading it takes memory
-    let edit = depend(&heap, false, b"a", b"c");
+    let edit = add_prereq(&heap, false, b"a", b"c");
     check_accepted(&heap, b"a:\\\n | b\n", edit, b"a: c\\\n | b\n")?;
-    let edit = depend(&heap, true, b"foo", b"d");
+    let edit = add_prereq(&heap, true, b"foo", b"d");
     check_accepted(&heap, b"foo: a\n", edit, b"foo: a | d\n")
 }
 
 #[test]
 fn a_prerequisite_is_taken_out(rt: HostRuntime) -> Result<(), Fail> {
     let heap = Watched::new(rt.alloc());
-    let edit = undepend(&heap, b"foo", b"b");
+    let edit = remove_prereq(&heap, b"foo", b"b");
     check_accepted(
         &heap,
         b"foo: a \\\n b # c\n\tcmd\n",
@@ -90,7 +90,7 @@ fn a_prerequisite_is_taken_out(rt: HostRuntime) -> Result<(), Fail> {
 #[test]
 fn a_recipe_line_is_put_in(rt: HostRuntime) -> Result<(), Fail> {
     let heap = Watched::new(rt.alloc());
-    let edit = recipe(&heap, b"foo", b"ls");
+    let edit = add_recipe(&heap, b"foo", b"ls");
     check_accepted(
         &heap,
         b".RECIPEPREFIX = >\nfoo:\n>echo\n",
@@ -102,7 +102,7 @@ fn a_recipe_line_is_put_in(rt: HostRuntime) -> Result<(), Fail> {
 #[test]
 fn a_recipe_line_gets_another_command(rt: HostRuntime) -> Result<(), Fail> {
     let heap = Watched::new(rt.alloc());
-    let edit = recipe_set(&heap, b"all", 1, b"x y");
+    let edit = set_recipe(&heap, b"all", 1, b"x y");
     check_accepted(
         &heap,
         b"all:\n\ta \\\n\tb\n\tc\n",
@@ -114,7 +114,7 @@ fn a_recipe_line_gets_another_command(rt: HostRuntime) -> Result<(), Fail> {
 #[test]
 fn a_recipe_line_is_taken_out(rt: HostRuntime) -> Result<(), Fail> {
     let heap = Watched::new(rt.alloc());
-    let edit = recipe_del(&heap, b"foo", 1);
+    let edit = remove_recipe(&heap, b"foo", 1);
     check_accepted(
         &heap,
         b"foo:\nifdef A\n\tx\nendif\n",
@@ -126,7 +126,7 @@ fn a_recipe_line_is_taken_out(rt: HostRuntime) -> Result<(), Fail> {
 #[test]
 fn a_target_is_renamed(rt: HostRuntime) -> Result<(), Fail> {
     let heap = Watched::new(rt.alloc());
-    let edit = rename(&heap, b"clean", b"tidy");
+    let edit = rename_target(&heap, b"clean", b"tidy");
     check_accepted(
         &heap,
         b".PHONY: clean\nall: clean\nclean:\n\t$(MAKE) clean\n",
@@ -140,22 +140,22 @@ fn a_target_is_renamed(rt: HostRuntime) -> Result<(), Fail> {
 #[test]
 fn bad_fields_and_reserved_names_are_refused(rt: HostRuntime) -> Result<(), Fail> {
     let heap = Watched::new(rt.alloc());
-    let edit = set(&heap, b"X", b"a #b");
+    let edit = set_value(&heap, b"X", b"a #b");
     check_refused(&heap, b"X=\n", edit, Refusal::BadArgument(Field::Value))?;
-    let edit = rename(&heap, b"all", b"include");
+    let edit = rename_target(&heap, b"all", b"include");
     check_refused(&heap, b"all:\n", edit, Refusal::Reserved)
 }
 
 #[test]
 fn a_recipe_prefix_refuses_edits(rt: HostRuntime) -> Result<(), Fail> {
     let heap = Watched::new(rt.alloc());
-    let edit = set(&heap, b"X", b"2");
+    let edit = set_value(&heap, b"X", b"2");
     let makefile = b".RECIPEPREFIX ?= >\nX = 1\n".as_slice();
     check_refused(&heap, makefile, edit, Refusal::RecipePrefix)?;
-    let edit = assign_bottom(&heap, b"X", Flavor::Recursive, b"2");
+    let edit = add_assign(&heap, b"X", Flavor::Recursive, b"2");
     let makefile = b".RECIPEPREFIX = X\nA = 1\n".as_slice();
     check_refused(&heap, makefile, edit, Refusal::RecipePrefix)?;
-    let edit = rename(&heap, b"all", b"tidy");
+    let edit = rename_target(&heap, b"all", b"tidy");
     let makefile = b".RECIPEPREFIX = t\nall: a\n".as_slice();
     check_refused(&heap, makefile, edit, Refusal::RecipePrefix)
 }
@@ -163,9 +163,9 @@ fn a_recipe_prefix_refuses_edits(rt: HostRuntime) -> Result<(), Fail> {
 #[test]
 fn a_line_has_to_be_there_once(rt: HostRuntime) -> Result<(), Fail> {
     let heap = Watched::new(rt.alloc());
-    let edit = rename(&heap, b"c", b"d");
+    let edit = rename_target(&heap, b"c", b"d");
     check_refused(&heap, b"a: b\nb:\n", edit, Refusal::NoSuch)?;
-    let edit = set(&heap, b"CC", b"z");
+    let edit = set_value(&heap, b"CC", b"z");
     let makefile = b"ifdef A\nCC=x\nelse\nCC=y\nendif\n".as_slice();
     check_refused(&heap, makefile, edit, Refusal::Ambiguous(2))
 }
@@ -173,41 +173,41 @@ fn a_line_has_to_be_there_once(rt: HostRuntime) -> Result<(), Fail> {
 #[test]
 fn prerequisites_and_recipe_lines_are_absent_or_there_already(rt: HostRuntime) -> Result<(), Fail> {
     let heap = Watched::new(rt.alloc());
-    let edit = undepend(&heap, b"a", b"p");
+    let edit = remove_prereq(&heap, b"a", b"p");
     check_refused(&heap, b"a: p: b\n", edit, Refusal::Absent)?;
-    let edit = recipe_del(&heap, b"a", 0);
+    let edit = remove_recipe(&heap, b"a", 0);
     check_refused(&heap, b"a:\n\tx\n", edit, Refusal::Absent)?;
-    let edit = depend(&heap, false, b"foo", b"b");
+    let edit = add_prereq(&heap, false, b"foo", b"b");
     check_refused(&heap, b"foo: a b | d\n", edit, Refusal::Already)
 }
 
 #[test]
 fn a_taken_name_is_refused(rt: HostRuntime) -> Result<(), Fail> {
     let heap = Watched::new(rt.alloc());
-    let edit = rename(&heap, b"a", b"b");
+    let edit = rename_target(&heap, b"a", b"b");
     check_refused(&heap, b"a: b\nb:\n", edit, Refusal::Taken)
 }
 
 #[test]
 fn shared_and_split_rules_are_refused(rt: HostRuntime) -> Result<(), Fail> {
     let heap = Watched::new(rt.alloc());
-    let edit = unrule(&heap, b"a");
+    let edit = remove_rule(&heap, b"a");
     check_refused(&heap, b"a b: c\n", edit, Refusal::SharedRule(2))?;
     let makefile = b"foo:\nifdef A\n\tx\nendif\n".as_slice();
-    let edit = unrule(&heap, b"foo");
+    let edit = remove_rule(&heap, b"foo");
     check_refused(&heap, makefile, edit, Refusal::Straddles)?;
-    let edit = recipe(&heap, b"foo", b"y");
+    let edit = add_recipe(&heap, b"foo", b"y");
     check_refused(&heap, makefile, edit, Refusal::Straddles)
 }
 
 #[test]
 fn open_ends_are_refused(rt: HostRuntime) -> Result<(), Fail> {
     let heap = Watched::new(rt.alloc());
-    let edit = append(&heap, b"X", b"${)#}");
+    let edit = append_value(&heap, b"X", b"${)#}");
     check_refused(&heap, b"X = $(foo\n", edit, Refusal::OpenValue)?;
-    let edit = assign_bottom(&heap, b"Y", Flavor::Recursive, b"1");
+    let edit = add_assign(&heap, b"Y", Flavor::Recursive, b"1");
     check_refused(&heap, b"X = a\\", edit, Refusal::OpenLine)?;
-    let edit = assign_bottom(&heap, b"Y", Flavor::Recursive, b"1");
+    let edit = add_assign(&heap, b"Y", Flavor::Recursive, b"1");
     let makefile = b"define D\nX = 1\n\tendef\n".as_slice();
     check_refused(&heap, makefile, edit, Refusal::OpenDefine)
 }
@@ -215,7 +215,7 @@ fn open_ends_are_refused(rt: HostRuntime) -> Result<(), Fail> {
 #[test]
 fn lines_that_lean_refuse_a_removal(rt: HostRuntime) -> Result<(), Fail> {
     let heap = Watched::new(rt.alloc());
-    let edit = unset(&heap, b"X");
+    let edit = remove_assign(&heap, b"X");
     let makefile = b"foo:\nX = 1\n\tY = 2\n".as_slice();
     check_refused(&heap, makefile, edit, Refusal::Leans)
 }
@@ -231,9 +231,9 @@ fn longest_makefile<'a>(heap: Heap<'a>) -> Result<Vec<u8, Heap<'a>>, AllocError>
 fn a_text_above_the_limit_is_refused(rt: HostRuntime) -> Result<(), Fail> {
     let heap = Watched::new(rt.alloc());
     let makefile = longest_makefile(&heap)?;
-    let edit = set(&heap, b"A", b"12");
+    let edit = set_value(&heap, b"A", b"12");
     check_refused(&heap, &makefile, edit, Refusal::TooLong)?;
-    let edit = assign_bottom(&heap, b"B", Flavor::Simple, b"2");
+    let edit = add_assign(&heap, b"B", Flavor::Simple, b"2");
     check_refused(&heap, &makefile, edit, Refusal::TooLong)
 }
 
@@ -274,9 +274,9 @@ fn few_and_many<'a>(
 #[test]
 fn growths_do_not_depend_on_the_lines_of_the_file(rt: HostRuntime) -> Result<(), Fail> {
     let heap = Watched::new(rt.alloc());
-    let of_set = few_and_many(&heap, set(&heap, b"A", b"2"))?;
-    let of_unset = few_and_many(&heap, unset(&heap, b"A"))?;
-    for (few, many) in [of_set, of_unset] {
+    let of_set_value = few_and_many(&heap, set_value(&heap, b"A", b"2"))?;
+    let of_remove_assign = few_and_many(&heap, remove_assign(&heap, b"A"))?;
+    for (few, many) in [of_set_value, of_remove_assign] {
         assert!(rt; few.count > 0);
         assert_eq!(rt; few, many);
     }
@@ -316,7 +316,7 @@ fn lines_of_removal<'a>(
 #[test]
 fn a_removal_holds_its_lines_only_after_it_is_made(rt: HostRuntime) -> Result<(), Fail> {
     let heap = Watched::new(rt.alloc());
-    let lines = lines_of_removal(&heap, unrule(&heap, b"c"))?;
+    let lines = lines_of_removal(&heap, remove_rule(&heap, b"c"))?;
     assert_eq!(rt; lines, [(0, 5), (5, 0)]);
     Ok(())
 }

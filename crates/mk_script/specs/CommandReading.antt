@@ -48,29 +48,29 @@ of_one make rest = option_map make (one_field rest)
 abbrev pub of_two : (List ℕ → List ℕ → Edit) → (rest : List ℕ) → Option Edit
 of_two make rest = option_map (λ p. make p.0 p.1) (two_fields rest)
 
-abbrev pub assign_of : Place → Option Flavor → (name value : List ℕ) → Option Edit
-assign_of place None name value = None
-assign_of place (Some flavor) name value = Some (AddAssign place name flavor value)
+abbrev pub add_assign_of : Place → Option Flavor → (name value : List ℕ) → Option Edit
+add_assign_of place None name value = None
+add_assign_of place (Some flavor) name value = Some (AddAssign place name flavor value)
 
-abbrev pub assign_at : Place → Option (List ℕ × List ℕ × List ℕ) → Option Edit
-assign_at place None = None
-assign_at place (Some p) = assign_of place (named operators p.1) p.0 p.2
+abbrev pub add_assign_at : Place → Option (List ℕ × List ℕ × List ℕ) → Option Edit
+add_assign_at place None = None
+add_assign_at place (Some p) = add_assign_of place (named operators p.1) p.0 p.2
 
-abbrev pub assign_after : Option (Place × List ℕ) → Option Edit
-assign_after None = None
-assign_after (Some p) = assign_at p.0 (three_fields p.1)
+abbrev pub add_assign_after : Option (Place × List ℕ) → Option Edit
+add_assign_after None = None
+add_assign_after (Some p) = add_assign_at p.0 (three_fields p.1)
 
-abbrev pub rule_of : Place → Option Colons → (targets prereqs : List ℕ) → Option Edit
-rule_of place None targets prereqs = None
-rule_of place (Some colons) targets prereqs = Some (AddRule place targets colons prereqs)
+abbrev pub add_rule_of : Place → Option Colons → (targets prereqs : List ℕ) → Option Edit
+add_rule_of place None targets prereqs = None
+add_rule_of place (Some colons) targets prereqs = Some (AddRule place targets colons prereqs)
 
-abbrev pub rule_at : Place → Option (List ℕ × List ℕ × List ℕ) → Option Edit
-rule_at place None = None
-rule_at place (Some p) = rule_of place (named separators p.1) p.0 p.2
+abbrev pub add_rule_at : Place → Option (List ℕ × List ℕ × List ℕ) → Option Edit
+add_rule_at place None = None
+add_rule_at place (Some p) = add_rule_of place (named separators p.1) p.0 p.2
 
-abbrev pub rule_after : Option (Place × List ℕ) → Option Edit
-rule_after None = None
-rule_after (Some p) = rule_at p.0 (three_fields p.1)
+abbrev pub add_rule_after : Option (Place × List ℕ) → Option Edit
+add_rule_after None = None
+add_rule_after (Some p) = add_rule_at p.0 (three_fields p.1)
 
 abbrev pub set_recipe_of : (nth : Option ℕ) → (target : List ℕ) → Option ℕ → (line : List ℕ) → Option Edit
 set_recipe_of nth target None line = None
@@ -89,17 +89,17 @@ remove_recipe_after nth None = None
 remove_recipe_after nth (Some p) = remove_recipe_of nth p.0 (number p.1)
 
 -- a rename, before which no number stands
-abbrev pub rename_of : (nth : Option ℕ) → (rest : List ℕ) → Option Edit
-rename_of None rest = of_two RenameTarget rest
-rename_of (Some n) rest = None
+abbrev pub rename_target_of : (nth : Option ℕ) → (rest : List ℕ) → Option Edit
+rename_target_of None rest = of_two RenameTarget rest
+rename_target_of (Some n) rest = None
 
 abbrev pub edit_by_word : (nth : Option ℕ) → Option EditWord → (rest : List ℕ) → Option Edit
 edit_by_word nth None rest = None
 edit_by_word nth (Some word.Set) rest = of_two (SetValue nth) rest
 edit_by_word nth (Some word.Append) rest = of_two (AppendValue nth) rest
 edit_by_word nth (Some word.Unset) rest = of_one (RemoveAssign nth) rest
-edit_by_word nth (Some word.Assign) rest = assign_after (place_at_front nth rest)
-edit_by_word nth (Some word.Rule) rest = rule_after (place_at_front nth rest)
+edit_by_word nth (Some word.Assign) rest = add_assign_after (place_at_front nth rest)
+edit_by_word nth (Some word.Rule) rest = add_rule_after (place_at_front nth rest)
 edit_by_word nth (Some word.Unrule) rest = of_one (RemoveRule nth) rest
 edit_by_word nth (Some word.Depend) rest = of_two (AddPrereq false nth) rest
 edit_by_word nth (Some word.DependOrder) rest = of_two (AddPrereq true nth) rest
@@ -107,7 +107,7 @@ edit_by_word nth (Some word.Undepend) rest = of_two (RemovePrereq nth) rest
 edit_by_word nth (Some word.Recipe) rest = of_two (AddRecipe nth) rest
 edit_by_word nth (Some word.RecipeSet) rest = set_recipe_after nth (three_fields rest)
 edit_by_word nth (Some word.RecipeDel) rest = remove_recipe_after nth (two_fields rest)
-edit_by_word nth (Some word.Rename) rest = rename_of nth rest
+edit_by_word nth (Some word.Rename) rest = rename_target_of nth rest
 
 -- an edit, from its first field and what follows that field
 abbrev pub edit : (nth : Option ℕ) → (first rest : List ℕ) → Option Edit

@@ -6,7 +6,7 @@ ghost use Rattle.std.specs.Prelude.{◌≡◌, IfOk, true, false};
 ghost use Rattle.mk_edit_laws.specs.Edits as edits;
 ghost use Rattle.mk_edit_parts.specs.EditViews.{edit_of, place_of};
 ghost use Rattle.mk_script.specs.SeenFields.{field_text};
-ghost use Rattle.mk_script.specs.CommandReading.{assign_after, edit, of_one, of_two, place_at_front, remove_recipe_after, rename_of, rule_after, set_recipe_after};
+ghost use Rattle.mk_script.specs.CommandReading.{add_assign_after, edit, of_one, of_two, place_at_front, remove_recipe_after, rename_target_of, add_rule_after, set_recipe_after};
 ghost use Rattle.mk_script.specs.FieldReading.{three_fields, two_fields};
 ghost use Rattle.mk_script.specs.Readings.{IsFound, IsRead, place_and_rest, written_place};
 
@@ -155,7 +155,7 @@ fn read_assign<A: Allocator + Copy>(
     nth: Option<u32>,
     rest: &[u8],
 ) -> Result<Edit<A>, LineFault>
-    ensures { IsRead edit_of (assign_after (place_at_front nth rest.now)) result }
+    ensures { IsRead edit_of (add_assign_after (place_at_front nth rest.now)) result }
 {
     let (place, rest) = place_at_front(nth, rest)?;
     let (name, operator, value) = three_fields(rest)?;
@@ -179,7 +179,7 @@ fn read_rule<A: Allocator + Copy>(
     nth: Option<u32>,
     rest: &[u8],
 ) -> Result<Edit<A>, LineFault>
-    ensures { IsRead edit_of (rule_after (place_at_front nth rest.now)) result }
+    ensures { IsRead edit_of (add_rule_after (place_at_front nth rest.now)) result }
 {
     let (place, rest) = place_at_front(nth, rest)?;
     let (targets, separator, prereqs) = three_fields(rest)?;
@@ -301,7 +301,7 @@ fn read_rename<A: Allocator + Copy>(
     nth: Option<u32>,
     rest: &[u8],
 ) -> Result<Edit<A>, LineFault>
-    ensures { IsRead edit_of (rename_of nth rest.now) result }
+    ensures { IsRead edit_of (rename_target_of nth rest.now) result }
 {
     if nth.is_some() {
         return Err(LineFault::NotACommand);

@@ -17,10 +17,10 @@ const GROUPED: &[u8] = b"X=1\nY=2\n";
 
 // The calls that lead from `FIRST` to an open group.
 const INTO_A_GROUP: &[(Step, Answer)] = &[
-    (Step::Set(b"X", b"1"), Ok(EDITED)),
+    (Step::SetValue(b"X", b"1"), Ok(EDITED)),
     (Step::Begin, Ok(EDITED)),
-    (Step::Set(b"Y", b"1"), Ok(b"X=1\nY=1\n")),
-    (Step::Set(b"Y", b"2"), Ok(GROUPED)),
+    (Step::SetValue(b"Y", b"1"), Ok(b"X=1\nY=1\n")),
+    (Step::SetValue(b"Y", b"2"), Ok(GROUPED)),
 ];
 
 // A session with an edit to undo, and an open group of two edits.
@@ -103,7 +103,7 @@ fn growths_of<'a>(
 // Whether 200 edits of a session of a depth take the same growths each.
 fn takes_the_same(heap: &Heap, depth: u32) -> Result<bool, Fail> {
     let mut session = Session::open(heap, FIRST, depth)?;
-    let edit = Step::Set(b"X", b"1").command(heap)?;
+    let edit = Step::SetValue(b"X", b"1").command(heap)?;
     repeats_its_growths(heap, &mut session, &edit)
 }
 
@@ -166,7 +166,7 @@ fn obey_often<'a>(
 
 // The same of a step, after one edit.
 fn growths_of_step(heap: &Heap, text: &[u8], times: usize, step: Step) -> Result<Growths, Fail> {
-    let edit = Step::Set(b"A", b"3").command(heap)?;
+    let edit = Step::SetValue(b"A", b"3").command(heap)?;
     let command = step.command(heap)?;
     growths_after(heap, text, &edit, times, &command)
 }
@@ -175,7 +175,7 @@ fn growths_of_step(heap: &Heap, text: &[u8], times: usize, step: Step) -> Result
 fn the_growths_of_an_edit_hang_on_its_line_alone(rt: HostRuntime) -> Result<(), Fail> {
     let heap = Watched::new(rt.alloc());
     let (few, many) = (one_before(&rt, 1)?, one_before(&rt, 1_000)?);
-    for step in [Step::Set(b"A", b"2"), Step::Unset(b"A")] {
+    for step in [Step::SetValue(b"A", b"2"), Step::RemoveAssign(b"A")] {
         let growths = growths_of_step(&heap, few.as_slice(), 0, step)?;
         assert!(rt; growths.count > 0);
         for times in [0, 50] {

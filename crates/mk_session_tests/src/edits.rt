@@ -6,7 +6,7 @@ use mk_session::{Edit, Place};
 use std::alloc::{AllocError, Allocator};
 
 /// Gives a variable another value.
-pub fn set<A: Allocator + Copy>(
+pub fn set_value<A: Allocator + Copy>(
     alloc: A,
     name: &[u8],
     value: &[u8],
@@ -21,7 +21,7 @@ pub fn set<A: Allocator + Copy>(
 }
 
 /// Puts a text after the value of a variable.
-pub fn append<A: Allocator + Copy>(
+pub fn append_value<A: Allocator + Copy>(
     alloc: A,
     name: &[u8],
     value: &[u8],
@@ -36,7 +36,7 @@ pub fn append<A: Allocator + Copy>(
 }
 
 /// Puts `NAME := VALUE` at the end.
-pub fn assign<A: Allocator + Copy>(
+pub fn add_assign<A: Allocator + Copy>(
     alloc: A,
     name: &[u8],
     value: &[u8],
@@ -52,19 +52,19 @@ pub fn assign<A: Allocator + Copy>(
 }
 
 /// Takes out the assignment of a name.
-pub fn unset<A: Allocator + Copy>(alloc: A, name: &[u8]) -> Result<Edit<A>, AllocError> {
+pub fn remove_assign<A: Allocator + Copy>(alloc: A, name: &[u8]) -> Result<Edit<A>, AllocError> {
     let name = Vec::from_slice(alloc, name)?;
     Ok(Edit::RemoveAssign { nth: None, name })
 }
 
 /// Takes out the rule of a target.
-pub fn unrule<A: Allocator + Copy>(alloc: A, target: &[u8]) -> Result<Edit<A>, AllocError> {
+pub fn remove_rule<A: Allocator + Copy>(alloc: A, target: &[u8]) -> Result<Edit<A>, AllocError> {
     let target = Vec::from_slice(alloc, target)?;
     Ok(Edit::RemoveRule { nth: None, target })
 }
 
 /// Puts a word after the order-only prerequisites of a target.
-pub fn depend_order<A: Allocator + Copy>(
+pub fn add_order_prereq<A: Allocator + Copy>(
     alloc: A,
     target: &[u8],
     word: &[u8],
@@ -80,7 +80,7 @@ pub fn depend_order<A: Allocator + Copy>(
 }
 
 /// Takes a word out of the prerequisites of a target.
-pub fn undepend<A: Allocator + Copy>(
+pub fn remove_prereq<A: Allocator + Copy>(
     alloc: A,
     target: &[u8],
     word: &[u8],
@@ -95,7 +95,7 @@ pub fn undepend<A: Allocator + Copy>(
 }
 
 /// Gives a target another name.
-pub fn rename<A: Allocator + Copy>(
+pub fn rename_target<A: Allocator + Copy>(
     alloc: A,
     from: &[u8],
     to: &[u8],

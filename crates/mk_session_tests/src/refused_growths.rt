@@ -60,8 +60,8 @@ struct Stage {
 // Outside a group, with an edit to undo and an edit to redo.
 const ALONE: Stage = Stage {
     before: &[
-        (Step::Set(b"X", b"1"), Ok(NOW)),
-        (Step::Set(b"X", b"2"), Ok(UNDONE)),
+        (Step::SetValue(b"X", b"1"), Ok(NOW)),
+        (Step::SetValue(b"X", b"2"), Ok(UNDONE)),
         (Step::Undo, Ok(NOW)),
     ],
     stays: &[
@@ -78,8 +78,8 @@ const ALONE: Stage = Stage {
 // In a group without edits, with the same to undo and redo.
 const IN_NEW_GROUP: Stage = Stage {
     before: &[
-        (Step::Set(b"X", b"1"), Ok(NOW)),
-        (Step::Set(b"X", b"2"), Ok(UNDONE)),
+        (Step::SetValue(b"X", b"1"), Ok(NOW)),
+        (Step::SetValue(b"X", b"2"), Ok(UNDONE)),
         (Step::Undo, Ok(NOW)),
         (Step::Begin, Ok(NOW)),
     ],
@@ -97,7 +97,7 @@ const IN_NEW_GROUP: Stage = Stage {
 
 // In a group with an edit, with nothing else to undo or redo.
 const IN_GROUP: Stage = Stage {
-    before: &[(Step::Begin, Ok(FIRST)), (Step::Set(b"X", b"1"), Ok(NOW))],
+    before: &[(Step::Begin, Ok(FIRST)), (Step::SetValue(b"X", b"1"), Ok(NOW))],
     stays: &[
         (Step::Undo, Err(Refusal::GroupOpen)),
         (Step::Redo, Err(Refusal::GroupOpen)),
@@ -107,19 +107,19 @@ const IN_GROUP: Stage = Stage {
 
 // Edits of `NOW`, each with the text that it makes.
 const EDITS: [(Step, &[u8]); 6] = [
-    (Step::Set(b"Y", b"5"), b"X=1\nall: a a\na:\n\tc\nY = 5"),
-    (Step::Unset(b"Y"), b"X=1\nall: a a\na:\n\tc\n"),
+    (Step::SetValue(b"Y", b"5"), b"X=1\nall: a a\na:\n\tc\nY = 5"),
+    (Step::RemoveAssign(b"Y"), b"X=1\nall: a a\na:\n\tc\n"),
     (
-        Step::Assign(b"Z", b"2"),
+        Step::AddAssign(b"Z", b"2"),
         b"X=1\nall: a a\na:\n\tc\nY = 1 \\\n  2\nZ := 2\n",
     ),
     (
-        Step::Rename(b"a", b"b"),
+        Step::RenameTarget(b"a", b"b"),
         b"X=1\nall: b b\nb:\n\tc\nY = 1 \\\n  2",
     ),
-    (Step::Unrule(b"a"), b"X=1\nall: a a\nY = 1 \\\n  2"),
+    (Step::RemoveRule(b"a"), b"X=1\nall: a a\nY = 1 \\\n  2"),
     (
-        Step::DependOrder(b"a", b"d"),
+        Step::AddOrderPrereq(b"a", b"d"),
         b"X=1\nall: a a\na: | d\n\tc\nY = 1 \\\n  2",
     ),
 ];
@@ -273,24 +273,24 @@ fn each_refused_growth_of_a_begin_changes_nothing(rt: HostRuntime) -> Result<(),
 
 // Edits that are refused, each with the text that it finds and the cause.
 const REFUSED_EDITS: [(&[u8], Step, Refusal); 6] = [
-    (b"foo:\nX = 1\n\tY = 2\n", Step::Unset(b"X"), Refusal::Leans),
+    (b"foo:\nX = 1\n\tY = 2\n", Step::RemoveAssign(b"X"), Refusal::Leans),
     (
         b"ifdef A\nCC=x\nelse\nCC=y\nendif\n",
-        Step::Set(b"CC", b"z"),
+        Step::SetValue(b"CC", b"z"),
         Refusal::Ambiguous(2),
     ),
     (
         b"X = $(foo\n",
-        Step::Append(b"X", b"${)#}"),
+        Step::AppendValue(b"X", b"${)#}"),
         Refusal::OpenValue,
     ),
     (
         b"all:\n",
-        Step::Rename(b"all", b"include"),
+        Step::RenameTarget(b"all", b"include"),
         Refusal::Reserved,
     ),
-    (b"foo: |\n", Step::Undepend(b"foo", b"a"), Refusal::Absent),
-    (b"a: b\nb:\n", Step::Rename(b"a", b"b"), Refusal::Taken),
+    (b"foo: |\n", Step::RemovePrereq(b"foo", b"a"), Refusal::Absent),
+    (b"a: b\nb:\n", Step::RenameTarget(b"a", b"b"), Refusal::Taken),
 ];
 
 // Whether an edit is refused for its cause where every growth is refused, and meets none.

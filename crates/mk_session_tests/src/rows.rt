@@ -26,7 +26,7 @@ pub const UNDO_ROWS: [Row; 4] = [
         depth: 100,
         text: b"F = a \\\n    b\nG=1\n",
         steps: &[
-            (Step::Set(b"F", b"x y"), Ok(b"F = x y\nG=1\n")),
+            (Step::SetValue(b"F", b"x y"), Ok(b"F = x y\nG=1\n")),
             (Step::Undo, Ok(b"F = a \\\n    b\nG=1\n")),
             (Step::Redo, Ok(b"F = x y\nG=1\n")),
         ],
@@ -37,7 +37,7 @@ pub const UNDO_ROWS: [Row; 4] = [
         depth: 100,
         text: b"ifdef A\nendif",
         steps: &[
-            (Step::Assign(b"Y", b"1"), Ok(b"ifdef A\nendif\nY := 1\n")),
+            (Step::AddAssign(b"Y", b"1"), Ok(b"ifdef A\nendif\nY := 1\n")),
             (Step::Undo, Ok(b"ifdef A\nendif")),
             (Step::Redo, Ok(b"ifdef A\nendif\nY := 1\n")),
         ],
@@ -48,9 +48,9 @@ pub const UNDO_ROWS: [Row; 4] = [
         depth: 2,
         text: b"X=0\n",
         steps: &[
-            (Step::Set(b"X", b"1"), Ok(b"X=1\n")),
-            (Step::Set(b"X", b"2"), Ok(b"X=2\n")),
-            (Step::Set(b"X", b"3"), Ok(b"X=3\n")),
+            (Step::SetValue(b"X", b"1"), Ok(b"X=1\n")),
+            (Step::SetValue(b"X", b"2"), Ok(b"X=2\n")),
+            (Step::SetValue(b"X", b"3"), Ok(b"X=3\n")),
             (Step::Undo, Ok(b"X=2\n")),
             (Step::Undo, Ok(b"X=1\n")),
             (Step::Undo, Err(Refusal::NothingToUndo)),
@@ -65,9 +65,9 @@ pub const UNDO_ROWS: [Row; 4] = [
         depth: 100,
         text: b"X=0\n",
         steps: &[
-            (Step::Set(b"X", b"1"), Ok(b"X=1\n")),
+            (Step::SetValue(b"X", b"1"), Ok(b"X=1\n")),
             (Step::Undo, Ok(b"X=0\n")),
-            (Step::Set(b"X", b"2"), Ok(b"X=2\n")),
+            (Step::SetValue(b"X", b"2"), Ok(b"X=2\n")),
             (Step::Redo, Err(Refusal::NothingToRedo)),
         ],
         rereads: 2,
@@ -82,8 +82,8 @@ pub const GROUP_ROWS: [Row; 7] = [
         text: b"X=0\nY=0\n",
         steps: &[
             (Step::Begin, Ok(b"X=0\nY=0\n")),
-            (Step::Set(b"X", b"1"), Ok(b"X=1\nY=0\n")),
-            (Step::Set(b"Y", b"1"), Ok(b"X=1\nY=1\n")),
+            (Step::SetValue(b"X", b"1"), Ok(b"X=1\nY=0\n")),
+            (Step::SetValue(b"Y", b"1"), Ok(b"X=1\nY=1\n")),
             (Step::End, Ok(b"X=1\nY=1\n")),
             (Step::Undo, Ok(b"X=0\nY=0\n")),
             (Step::Undo, Err(Refusal::NothingToUndo)),
@@ -100,7 +100,7 @@ pub const GROUP_ROWS: [Row; 7] = [
             (Step::Undo, Err(Refusal::GroupOpen)),
             (Step::Redo, Err(Refusal::GroupOpen)),
             (Step::Begin, Err(Refusal::GroupOpen)),
-            (Step::Set(b"X", b"1"), Ok(b"X=1\n")),
+            (Step::SetValue(b"X", b"1"), Ok(b"X=1\n")),
         ],
         rereads: 1,
     },
@@ -119,10 +119,10 @@ pub const GROUP_ROWS: [Row; 7] = [
         depth: 1,
         text: b"X=0\n",
         steps: &[
-            (Step::Set(b"X", b"1"), Ok(b"X=1\n")),
+            (Step::SetValue(b"X", b"1"), Ok(b"X=1\n")),
             (Step::Begin, Ok(b"X=1\n")),
-            (Step::Set(b"X", b"2"), Ok(b"X=2\n")),
-            (Step::Set(b"X", b"3"), Ok(b"X=3\n")),
+            (Step::SetValue(b"X", b"2"), Ok(b"X=2\n")),
+            (Step::SetValue(b"X", b"3"), Ok(b"X=3\n")),
             (Step::End, Ok(b"X=3\n")),
             (Step::Undo, Ok(b"X=1\n")),
             (Step::Undo, Err(Refusal::NothingToUndo)),
@@ -134,10 +134,10 @@ pub const GROUP_ROWS: [Row; 7] = [
         depth: 100,
         text: b"X=0\n",
         steps: &[
-            (Step::Set(b"X", b"1"), Ok(b"X=1\n")),
+            (Step::SetValue(b"X", b"1"), Ok(b"X=1\n")),
             (Step::Undo, Ok(b"X=0\n")),
             (Step::Begin, Ok(b"X=0\n")),
-            (Step::Set(b"X", b"2"), Ok(b"X=2\n")),
+            (Step::SetValue(b"X", b"2"), Ok(b"X=2\n")),
             (Step::Cancel, Ok(b"X=0\n")),
             (Step::Redo, Err(Refusal::NothingToRedo)),
             (Step::Undo, Err(Refusal::NothingToUndo)),
@@ -149,7 +149,7 @@ pub const GROUP_ROWS: [Row; 7] = [
         depth: 100,
         text: b"X=0\n",
         steps: &[
-            (Step::Set(b"X", b"1"), Ok(b"X=1\n")),
+            (Step::SetValue(b"X", b"1"), Ok(b"X=1\n")),
             (Step::Undo, Ok(b"X=0\n")),
             (Step::Begin, Ok(b"X=0\n")),
             (Step::End, Ok(b"X=0\n")),
@@ -165,9 +165,9 @@ pub const GROUP_ROWS: [Row; 7] = [
         text: b"X=0\n",
         steps: &[
             (Step::Begin, Ok(b"X=0\n")),
-            (Step::Set(b"X", b"1"), Ok(b"X=1\n")),
-            (Step::Set(b"Z", b"2"), Err(Refusal::NoSuch)),
-            (Step::Set(b"X", b"2"), Ok(b"X=2\n")),
+            (Step::SetValue(b"X", b"1"), Ok(b"X=1\n")),
+            (Step::SetValue(b"Z", b"2"), Err(Refusal::NoSuch)),
+            (Step::SetValue(b"X", b"2"), Ok(b"X=2\n")),
             (Step::End, Ok(b"X=2\n")),
             (Step::Undo, Ok(b"X=0\n")),
         ],
@@ -183,7 +183,7 @@ const REREAD_ROWS: [Row; 5] = [
         text: b".PHONY: clean\nall: clean\nclean:\n\t$(MAKE) clean\n",
         steps: &[
             (
-                Step::Rename(b"clean", b"tidy"),
+                Step::RenameTarget(b"clean", b"tidy"),
                 Ok(b".PHONY: tidy\nall: tidy\ntidy:\n\t$(MAKE) clean\n"),
             ),
             (
@@ -201,7 +201,7 @@ const REREAD_ROWS: [Row; 5] = [
         name: "a rename reads a line with two of its words once",
         depth: 100,
         text: b"all: a a\na:\n",
-        steps: &[(Step::Rename(b"a", b"b"), Ok(b"all: b b\nb:\n"))],
+        steps: &[(Step::RenameTarget(b"a", b"b"), Ok(b"all: b b\nb:\n"))],
         rereads: 2,
     },
     Row {
@@ -209,7 +209,7 @@ const REREAD_ROWS: [Row; 5] = [
         depth: 100,
         text: b"foo:\nX = 1\nbar:\n",
         steps: &[
-            (Step::Unset(b"X"), Ok(b"foo:\nbar:\n")),
+            (Step::RemoveAssign(b"X"), Ok(b"foo:\nbar:\n")),
             (Step::Undo, Ok(b"foo:\nX = 1\nbar:\n")),
         ],
         rereads: 0,
@@ -219,7 +219,7 @@ const REREAD_ROWS: [Row; 5] = [
         depth: 100,
         text: b"X=1",
         steps: &[
-            (Step::Assign(b"Y", b"2"), Ok(b"X=1\nY := 2\n")),
+            (Step::AddAssign(b"Y", b"2"), Ok(b"X=1\nY := 2\n")),
             (Step::Undo, Ok(b"X=1")),
             (Step::Redo, Ok(b"X=1\nY := 2\n")),
         ],
@@ -229,7 +229,7 @@ const REREAD_ROWS: [Row; 5] = [
         name: "a refused edit reads no line",
         depth: 100,
         text: b"foo:\nX = 1\n\tY = 2\n",
-        steps: &[(Step::Unset(b"X"), Err(Refusal::Leans))],
+        steps: &[(Step::RemoveAssign(b"X"), Err(Refusal::Leans))],
         rereads: 0,
     },
 ];

@@ -1,5 +1,8 @@
 //! Calls of a session as constants, each with its answer, and sessions that are asked for them.
-use crate::edits::{append, assign, depend_order, rename, set, undepend, unrule, unset};
+use crate::edits::{
+    add_assign, add_order_prereq, append_value, remove_assign, remove_prereq, remove_rule,
+    rename_target, set_value,
+};
 use crate::texts::is_as_parsed;
 use mk_session::{Command, Refusal, Session};
 use std::alloc::{AllocError, Allocator};
@@ -9,21 +12,21 @@ use std::test::Fail;
 #[derive(Clone, Copy)]
 pub enum Step {
     /// Name and value.
-    Set(&'static [u8], &'static [u8]),
+    SetValue(&'static [u8], &'static [u8]),
     /// Name and text.
-    Append(&'static [u8], &'static [u8]),
+    AppendValue(&'static [u8], &'static [u8]),
     /// Name and value.
-    Assign(&'static [u8], &'static [u8]),
+    AddAssign(&'static [u8], &'static [u8]),
     /// Name.
-    Unset(&'static [u8]),
+    RemoveAssign(&'static [u8]),
     /// Target.
-    Unrule(&'static [u8]),
+    RemoveRule(&'static [u8]),
     /// Target and word.
-    DependOrder(&'static [u8], &'static [u8]),
+    AddOrderPrereq(&'static [u8], &'static [u8]),
     /// Target and word.
-    Undepend(&'static [u8], &'static [u8]),
+    RemovePrereq(&'static [u8], &'static [u8]),
     /// The old and the new target.
-    Rename(&'static [u8], &'static [u8]),
+    RenameTarget(&'static [u8], &'static [u8]),
     Undo,
     Redo,
     Begin,
@@ -38,14 +41,14 @@ impl Step {
     /// The call, its texts copied into memory of an allocator.
     pub fn command<A: Allocator + Copy>(self, alloc: A) -> Result<Command<A>, AllocError> {
         let edit = match self {
-            Step::Set(name, value) => set(alloc, name, value),
-            Step::Append(name, value) => append(alloc, name, value),
-            Step::Assign(name, value) => assign(alloc, name, value),
-            Step::Unset(name) => unset(alloc, name),
-            Step::Unrule(target) => unrule(alloc, target),
-            Step::DependOrder(target, word) => depend_order(alloc, target, word),
-            Step::Undepend(target, word) => undepend(alloc, target, word),
-            Step::Rename(from, to) => rename(alloc, from, to),
+            Step::SetValue(name, value) => set_value(alloc, name, value),
+            Step::AppendValue(name, value) => append_value(alloc, name, value),
+            Step::AddAssign(name, value) => add_assign(alloc, name, value),
+            Step::RemoveAssign(name) => remove_assign(alloc, name),
+            Step::RemoveRule(target) => remove_rule(alloc, target),
+            Step::AddOrderPrereq(target, word) => add_order_prereq(alloc, target, word),
+            Step::RemovePrereq(target, word) => remove_prereq(alloc, target, word),
+            Step::RenameTarget(from, to) => rename_target(alloc, from, to),
             Step::Undo => return Ok(Command::Undo),
             Step::Redo => return Ok(Command::Redo),
             Step::Begin => return Ok(Command::Begin),

@@ -22,7 +22,7 @@ use Rattle.mk_edit_laws.specs.EditedLines.{edited_bytes}
 use Rattle.mk_edit_laws.specs.Refusals.{first_cause, spans}
 use Rattle.mk_edit_laws.specs.declared.refusal.Refusal.TheVariants.{Leans}
 use Rattle.mk_edit_laws.proofs.on_edits.EditPlaces.{found-spot}
-use Rattle.mk_edit_parts.specs.EditViews.{IsUnset}
+use Rattle.mk_edit_parts.specs.EditViews.{IsRemoveAssign}
 use Rattle.mk_edit_parts.specs.Found.{IsFoundAt, IsAddressed, IsPlaceOf}
 use Rattle.mk_edit_parts.specs.LineRanges.{is_led_first_placed}
 use Rattle.mk_edit.specs.PlannedMoves.{stretch_at}
@@ -126,12 +126,12 @@ taking_out-planned e ls f at count b g few A T h k =
 
 -- ---- an assignment taken out
 
-pub record IsUnsetAt (e : Edit) (ls : List PlacedLine) (f : Found) : Type 0 where
+pub record IsRemoveAssignAt (e : Edit) (ls : List PlacedLine) (f : Found) : Type 0 where
   pub place : IsPlaceOf ls f
   pub takes : TakesOut e ls f.at 1
 
-pub unset-at : (e : Edit) (ls : List PlacedLine) (f : Found) → IsUnset e → IsFaithful ls → IsAddressed e ls f → IsUnsetAt e ls f
-unset-at (RemoveAssign nth n) ls f u g A =
+pub remove_assign-at : (e : Edit) (ls : List PlacedLine) (f : Found) → IsRemoveAssign e → IsFaithful ls → IsAddressed e ls f → IsRemoveAssignAt e ls f
+remove_assign-at (RemoveAssign nth n) ls f u g A =
     let t = placed_text ls in
     let cs = classed_lines t in
     let e = RemoveAssign nth n in
@@ -155,14 +155,14 @@ unset-at (RemoveAssign nth n) ls f u g A =
         others = refl;
       };
     }
-unset-at (SetValue nth n v) ls f u g A = absurd u
-unset-at (AppendValue nth n v) ls f u g A = absurd u
-unset-at (AddAssign p n f' v) ls f u g A = absurd u
-unset-at (AddRule p ts c ws) ls f u g A = absurd u
-unset-at (RemoveRule nth t) ls f u g A = absurd u
-unset-at (AddPrereq order nth t w) ls f u g A = absurd u
-unset-at (RemovePrereq nth t w) ls f u g A = absurd u
-unset-at (AddRecipe nth t c) ls f u g A = absurd u
-unset-at (SetRecipe nth t k c) ls f u g A = absurd u
-unset-at (RemoveRecipe nth t k) ls f u g A = absurd u
-unset-at (RenameTarget o n) ls f u g A = absurd u
+remove_assign-at (SetValue nth n v) ls f u g A = absurd u
+remove_assign-at (AppendValue nth n v) ls f u g A = absurd u
+remove_assign-at (AddAssign p n f' v) ls f u g A = absurd u
+remove_assign-at (AddRule p ts c ws) ls f u g A = absurd u
+remove_assign-at (RemoveRule nth t) ls f u g A = absurd u
+remove_assign-at (AddPrereq order nth t w) ls f u g A = absurd u
+remove_assign-at (RemovePrereq nth t w) ls f u g A = absurd u
+remove_assign-at (AddRecipe nth t c) ls f u g A = absurd u
+remove_assign-at (SetRecipe nth t k c) ls f u g A = absurd u
+remove_assign-at (RemoveRecipe nth t k) ls f u g A = absurd u
+remove_assign-at (RenameTarget o n) ls f u g A = absurd u

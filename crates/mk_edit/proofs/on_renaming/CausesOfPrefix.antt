@@ -20,7 +20,7 @@ use Rattle.mk_tree.proofs.on_documents.LinePlaces.{AreClassed, AreClassed-class,
 use Rattle.mk_edit_laws.specs.AddressCauses.{begins_renamed_line, begins_some_renamed_line}
 use Rattle.mk_edit_laws.specs.WordPieces.{is_replaced, renamed_pieces}
 use Rattle.mk_edit_parts.specs.RenamedPlaces.{is_at_front, renamed_places}
-use Rattle.mk_edit.specs.RenameEffects.{begins_some_line}
+use Rattle.mk_edit.specs.RenameTargetEffects.{begins_some_line}
 use Rattle.mk_edit_parts.proofs.on_renaming.PiecePlaces.{replacing}
 use Rattle.mk_edit_parts.proofs.on_renaming.LinePieces.{BeginsWith, line-begins, line-pieces}
 
@@ -113,7 +113,7 @@ lines-led c (l ∷ ls) o n h k =
 
 -- A rename of a document makes some line begin with the prefix exactly if a word at the front of a line is replaced by a word
 -- that begins with it.
-pub rename-led : (ls : List PlacedLine) (o n : List ℕ) → IsFaithful ls → 0 < length n → begins_some_renamed_line o n start (classed_lines (placed_text ls)) ≡ begins_some_line o n start ls
-rename-led ls o n h k =
+pub rename_target-led : (ls : List PlacedLine) (o n : List ℕ) → IsFaithful ls → 0 < length n → begins_some_renamed_line o n start (classed_lines (placed_text ls)) ≡ begins_some_line o n start ls
+rename_target-led ls o n h k =
     let ds = classed_lines (placed_text ls) in
     lines-led start ds o n (AreClassed-lines (placed_text ls) ds refl) k ∙ ap (begins_some_line o n start) (sym h)

@@ -18,7 +18,7 @@ use Rattle.mk_patch.specs.Moves.{IsPlain}
 use Rattle.mk_patch.proofs.on_moves.TextLineLemmas.{plain-placed}
 use Rattle.mk_edit_parts.specs.RenamedPlaces.{renamed_places}
 use Rattle.mk_edit_parts.specs.RenamedTexts.{renamed_text}
-use Rattle.mk_edit.specs.RenamePatches.{holds_word, line_renamed, HasFewWords, HaveFewWords, CanBeRenamed, CanEachBeRenamed}
+use Rattle.mk_edit.specs.RenameTargetPatches.{holds_word, line_renamed, HasFewWords, HaveFewWords, CanBeRenamed, CanEachBeRenamed}
 use Rattle.mk_edit_parts.proofs.on_renaming.LinePieces.{line-begins}
 use Rattle.mk_edit.proofs.on_renaming.LinesRenamed.{apart-bytes, line-apart, line-rewritten, holds-renamed}
 use Rattle.mk_edit.proofs.on_renaming.SizesOfWords.{renamed-few}

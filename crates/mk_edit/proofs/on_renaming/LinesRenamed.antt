@@ -18,7 +18,7 @@ use Rattle.mk_edit_laws.specs.RisingSpans.{Rise}
 use Rattle.mk_edit_laws.proofs.on_edits.RisingSpanLemmas.{Rise-until, Rise-pieces}
 use Rattle.mk_edit_parts.specs.RenamedPlaces.{renamed_places, bytes_in}
 use Rattle.mk_edit_parts.specs.RenamedTexts.{AreApart, written, renamed_text}
-use Rattle.mk_edit.specs.RenamePatches.{holds_word}
+use Rattle.mk_edit.specs.RenameTargetPatches.{holds_word}
 use Rattle.mk_edit_parts.proofs.on_renaming.PiecePlaces.{replacing}
 use Rattle.mk_edit_parts.proofs.on_renaming.LinePieces.{line-pieces}
 use Rattle.mk_edit_parts.specs.WordCuts.{last_end}

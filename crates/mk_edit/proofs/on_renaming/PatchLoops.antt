@@ -7,9 +7,9 @@ use Rattle.mk_tree.specs.Counting.{AreCounted}
 use Rattle.mk_tree.specs.PlacedLines.{PlacedLine}
 use Rattle.mk_tree.specs.Walks.{LinesInContext}
 use Rattle.mk_patch.specs.Moves.{Move, Exchange, MovesWithRoom}
-use Rattle.mk_edit.specs.RenamePatches.{is_exchanged, exchanged_count, line_renamed, before_moves, turn_moves_from, turn_moves, renaming_moves, CanEachBeRenamed}
-use Rattle.mk_edit.specs.declared.rename_patch.Turn.{Turn}
-use Rattle.mk_edit.specs.declared.rename_patch.Turn.TheVariants as turn
+use Rattle.mk_edit.specs.RenameTargetPatches.{is_exchanged, exchanged_count, line_renamed, before_moves, turn_moves_from, turn_moves, renaming_moves, CanEachBeRenamed}
+use Rattle.mk_edit.specs.declared.rename_target_patch.Turn.{Turn}
+use Rattle.mk_edit.specs.declared.rename_target_patch.Turn.TheVariants as turn
 use Rattle.mk_edit.proofs.on_renaming.PatchPlans.{filter-step}
 
 -- Some lines ahead in a turn of the rename of a document; the first stands at this place. Each of them can be renamed. The patch

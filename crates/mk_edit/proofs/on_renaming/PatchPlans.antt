@@ -11,16 +11,16 @@ use Rattle.mk_edit_laws.specs.Costs.{cost, is_renamed}
 use Rattle.mk_edit_laws.specs.Spans.{spans_of}
 use Rattle.mk_edit_laws.specs.Refusals.{causes, first_cause, spans, text_after, unless_refused}
 use Rattle.mk_edit_laws.specs.declared.refusal.Refusal.{Refusal}
-use Rattle.mk_edit_laws.proofs.on_edits.KeptByRenameLemmas.{rename-keeps}
+use Rattle.mk_edit_laws.proofs.on_edits.KeptByRenameTargetLemmas.{rename_target-keeps}
 use Rattle.mk_patch.specs.Moves.{Exchange, IsPlain, FitMoves, after_moves, held_by, taken_by}
 use Rattle.mk_patch.proofs.on_moves.MoveLemmas.{after_moves-append, fit-append, held_by-append, taken_by-append}
 use Rattle.mk_patch.proofs.on_moves.ShapeLemmas.{LeadTo}
 use Rattle.mk_patch.proofs.on_moves.ExchangeLemmas.{exchanges, DifferWhereChosen, AreNoLonger, how_many, exchanges-lead, exchanges-held_chosen, exchanges-taken_chosen, within-shrunk, within-grown}
 use Rattle.mk_edit.specs.Planned.{IsPlanned}
 use Rattle.mk_edit_parts.specs.RenamedPlaces.{renamed_places, bytes_in}
-use Rattle.mk_edit.specs.RenamePatches.{holds_word, is_turn_of, is_exchanged, exchanged_count, line_renamed, before_moves, turn_moves_from, turn_moves, renaming_moves, HaveFewWords, CanEachBeRenamed}
-use Rattle.mk_edit.specs.declared.rename_patch.Turn.{Turn}
-use Rattle.mk_edit.specs.declared.rename_patch.Turn.TheVariants as turn
+use Rattle.mk_edit.specs.RenameTargetPatches.{holds_word, is_turn_of, is_exchanged, exchanged_count, line_renamed, before_moves, turn_moves_from, turn_moves, renaming_moves, HaveFewWords, CanEachBeRenamed}
+use Rattle.mk_edit.specs.declared.rename_target_patch.Turn.{Turn}
+use Rattle.mk_edit.specs.declared.rename_target_patch.Turn.TheVariants as turn
 use Rattle.mk_edit.proofs.on_plans.PlanLemmas.{lead-planned, after-fits, faithful-length}
 use Rattle.mk_edit.proofs.on_renaming.LinesRenamed.{holds-renamed}
 use Rattle.mk_edit.proofs.on_renaming.LinesAlong.{line_where, renamed_where, lines-few_words, lines-can, lines-become}
@@ -254,22 +254,22 @@ count-from o d ahead e f few some = rw e (tt, tt, document-few_words o d f few, 
 
 -- What is known of a document and a rename that no cause refuses. Each line can be renamed where it stands. The number of lines
 -- that are exchanged in the two turns is the rename's cost, and the moves of the two turns are what is planned.
-pub record IsRenamePlanned (o n : List ℕ) (ls : List PlacedLine) : Type 0 where
+pub record IsRenameTargetPlanned (o n : List ℕ) (ls : List PlacedLine) : Type 0 where
   pub can : CanEachBeRenamed o n start ls
   pub number : exchanged_count turn.NoLonger o n ls + exchanged_count turn.Longer o n ls ≡ length (filter (holds_word o) ls)
   pub costs : length (filter (holds_word o) ls) ≡ cost (placed_text ls) (RenameTarget o n)
   pub planned : IsPlanned (RenameTarget o n) ls (renaming_moves o n ls)
 
-pub rename-planned : (o n : List ℕ) (ls : List PlacedLine) → IsFaithful ls → size_of ls ≤ 2 ^ 24 → length ls ≤ size_of ls
-    → first_cause (causes (placed_text ls) (classed_lines (placed_text ls)) (RenameTarget o n)) ≡ None → IsRenamePlanned o n ls
-rename-planned o n ls f few_bytes few h =
+pub rename_target-planned : (o n : List ℕ) (ls : List PlacedLine) → IsFaithful ls → size_of ls ≤ 2 ^ 24 → length ls ≤ size_of ls
+    → first_cause (causes (placed_text ls) (classed_lines (placed_text ls)) (RenameTarget o n)) ≡ None → IsRenameTargetPlanned o n ls
+rename_target-planned o n ls f few_bytes few h =
     let e = RenameTarget o n in
     let t = placed_text ls in
     let before = classed_lines t in
     let after = classed_lines (text_after t e) in
     let rs = spans_of t before e in
     let spans_are : spans t e ≡ Ok rs = ap (λ (r : Option Refusal). unless_refused r rs) h in
-    let K = rename-keeps o n t rs spans_are in
+    let K = rename_target-keeps o n t rs spans_are in
     let A = AreClassed-lines t before refl in
     let old_bytes : size_of (placed_lines before) ≤ 2 ^ 24 = subst (λ (z : List PlacedLine). size_of z ≤ 2 ^ 24) f few_bytes in
     let new_bytes : size_of (placed_lines after) ≤ 2 ^ 24 = after-fits t e rs after spans_are refl in

@@ -7,9 +7,9 @@ use Rattle.mk_tree.specs.Counting.{AreCounted}
 use Rattle.mk_tree.specs.PlacedLines.{PlacedLine}
 use Rattle.mk_edit_parts.specs.RenamedPlaces.{bytes_in, no_words, renamed_places, tallied}
 use Rattle.mk_edit_parts.specs.RenamedTexts.{renamed_text}
-use Rattle.mk_edit.specs.RenamePatches.{holds_word, is_turn_of, is_exchanged, CanBeRenamed}
-use Rattle.mk_edit.specs.declared.rename_patch.Turn.{Turn}
-use Rattle.mk_edit.specs.declared.rename_patch.Turn.TheVariants as turn
+use Rattle.mk_edit.specs.RenameTargetPatches.{holds_word, is_turn_of, is_exchanged, CanBeRenamed}
+use Rattle.mk_edit.specs.declared.rename_target_patch.Turn.{Turn}
+use Rattle.mk_edit.specs.declared.rename_target_patch.Turn.TheVariants as turn
 use Rattle.mk_edit_parts.specs.declared.tally.Tally.{Tally}
 use Rattle.mk_edit.proofs.on_renaming.LinesRenamed.{apart-bytes, renamed-length}
 

@@ -8,8 +8,8 @@ use Rattle.mk_tree.specs.PlacedLines.{PlacedLine, size_of}
 use Rattle.mk_tree.specs.Walks.{LinesInContext}
 use Rattle.mk_edit_parts.specs.PlacedParts.{AreEachClassed}
 use Rattle.mk_edit_parts.specs.RenamedPlaces.{bytes_in, no_words, renamed_places, tallied}
-use Rattle.mk_edit.specs.RenameEffects.{effect_of_line, effect_on, joined, no_effect, replaced_bytes, replaced_words}
-use Rattle.mk_edit.specs.declared.rename_causes.Effect.{Effect}
+use Rattle.mk_edit.specs.RenameTargetEffects.{effect_of_line, effect_on, joined, no_effect, replaced_bytes, replaced_words}
+use Rattle.mk_edit.specs.declared.rename_target_causes.Effect.{Effect}
 use Rattle.mk_edit_parts.specs.declared.tally.Tally.{Tally}
 use Rattle.mk_edit_parts.proofs.on_finding.SeekLemmas.{faithful-each}
 use Rattle.mk_edit.proofs.on_renaming.SizesOfWords.{all-bytes, all-words}

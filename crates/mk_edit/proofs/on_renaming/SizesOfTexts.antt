@@ -13,7 +13,7 @@ use Rattle.mk_edit_laws.specs.Lengths.{bytes_taken, bytes_put}
 use Rattle.mk_edit_laws.specs.Spans.{renamed_spans, spans_of}
 use Rattle.mk_edit_laws.specs.WordPieces.{renamed_pieces}
 use Rattle.mk_edit_parts.specs.RenamedPlaces.{bytes_in, renamed_places}
-use Rattle.mk_edit.specs.RenameEffects.{replaced_bytes, replaced_words}
+use Rattle.mk_edit.specs.RenameTargetEffects.{replaced_bytes, replaced_words}
 use Rattle.mk_edit_parts.proofs.on_renaming.LinePieces.{line-pieces}
 use Rattle.mk_edit.proofs.on_renaming.SizesOfWords.{taken-replacing, put-replacing}
 
@@ -64,12 +64,12 @@ lines-put c (l ∷ ls) o n at h =
     omega (arith, put-append (replacements at (renamed_pieces o n l.class)) rs, line-put c l o n at (AreClassed-class c l ls h), lines-put (context_after c l.class) ls o n (at + length l.bytes) (AreClassed-tail c l ls h))
 
 -- The spans of a rename of a document take out the bytes of the words that it replaces, and put in the new word for each.
-pub rename-taken : (ls : List PlacedLine) (o n : List ℕ) → IsFaithful ls → bytes_taken (spans_of (placed_text ls) (classed_lines (placed_text ls)) (RenameTarget o n)) ≡ replaced_bytes o ls
-rename-taken ls o n h =
+pub rename_target-taken : (ls : List PlacedLine) (o n : List ℕ) → IsFaithful ls → bytes_taken (spans_of (placed_text ls) (classed_lines (placed_text ls)) (RenameTarget o n)) ≡ replaced_bytes o ls
+rename_target-taken ls o n h =
     let ds = classed_lines (placed_text ls) in
     lines-taken start ds o n 0 (AreClassed-lines (placed_text ls) ds refl) ∙ ap (replaced_bytes o) (sym h)
 
-pub rename-put : (ls : List PlacedLine) (o n : List ℕ) → IsFaithful ls → bytes_put (spans_of (placed_text ls) (classed_lines (placed_text ls)) (RenameTarget o n)) ≡ replaced_words o ls * length n
-rename-put ls o n h =
+pub rename_target-put : (ls : List PlacedLine) (o n : List ℕ) → IsFaithful ls → bytes_put (spans_of (placed_text ls) (classed_lines (placed_text ls)) (RenameTarget o n)) ≡ replaced_words o ls * length n
+rename_target-put ls o n h =
     let ds = classed_lines (placed_text ls) in
     lines-put start ds o n 0 (AreClassed-lines (placed_text ls) ds refl) ∙ ap (λ z. replaced_words o z * length n) (sym h)

@@ -21,7 +21,7 @@ use Rattle.mk_edit_laws.proofs.on_edits.RisingSpanLemmas.{Rise-pieces}
 use Rattle.mk_edit_laws.proofs.on_lines.ClassParts.{cells-within}
 use Rattle.mk_edit_parts.specs.PlacedParts.{IsClassed, AreEachClassed}
 use Rattle.mk_edit_parts.specs.RenamedPlaces.{before_places, bytes_in, part_places, place_in, places_in, renamed_places, word_parts}
-use Rattle.mk_edit.specs.RenameEffects.{replaced_bytes, replaced_words}
+use Rattle.mk_edit.specs.RenameTargetEffects.{replaced_bytes, replaced_words}
 use Rattle.mk_edit_parts.proofs.on_renaming.PiecePlaces.{replacing}
 use Rattle.mk_edit_parts.proofs.on_renaming.LinePieces.{line-begins, line-pieces}
 

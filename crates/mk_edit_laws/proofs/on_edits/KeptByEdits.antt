@@ -37,23 +37,23 @@ use Rattle.mk_edit_laws.proofs.on_edits.Accepted.{accepted, where_holds-none, tw
 use Rattle.mk_edit_laws.proofs.on_values.FoundAssignments.{FoundAssignment, assignment-found}
 use Rattle.mk_edit_laws.proofs.on_lines.SpotLemmas.{FoundRule, recipe-found, recipe-class, rule-found}
 use Rattle.mk_edit_laws.proofs.on_lines.LineReplaced.{IsLineReplaced, replaced-same}
-use Rattle.mk_edit_laws.proofs.on_values.SetLemmas.{not_prefix}
-use Rattle.mk_edit_laws.proofs.on_values.LastFoldLemmas.{set-replaced}
-use Rattle.mk_edit_laws.proofs.on_values.AppendLemmas.{append-line, closed-found}
+use Rattle.mk_edit_laws.proofs.on_values.SetValueLemmas.{not_prefix}
+use Rattle.mk_edit_laws.proofs.on_values.LastFoldLemmas.{set_value-replaced}
+use Rattle.mk_edit_laws.proofs.on_values.AppendValueLemmas.{append_value-line, closed-found}
 use Rattle.mk_edit_laws.proofs.on_prerequisites.NewWords.{word-is_new}
 use Rattle.mk_edit_laws.proofs.on_prerequisites.HeaderEdits.{word_spans-header}
-use Rattle.mk_edit_laws.proofs.on_prerequisites.DependLemmas.{depend-line}
+use Rattle.mk_edit_laws.proofs.on_prerequisites.AddPrereqLemmas.{add_prereq-line}
 use Rattle.mk_edit_laws.proofs.on_new_lines.NewLineStands.{StandsAt, stands-span, stands-lines}
-use Rattle.mk_edit_laws.proofs.on_new_lines.NewAssignLemmas.{new_assignment, accepted-stands, no_name}
-use Rattle.mk_edit_laws.proofs.on_new_lines.NewRules.{rule-stands}
+use Rattle.mk_edit_laws.proofs.on_new_lines.AddAssignLemmas.{new_assignment, accepted-stands, no_name}
+use Rattle.mk_edit_laws.proofs.on_new_lines.AddRuleLemmas.{add_rule-stands}
 use Rattle.mk_class.specs.declared.assignment.Flavor.{Flavor}
 use Rattle.mk_class.specs.PartPlaces.{raw_width}
 use Rattle.mk_edit_laws.specs.declared.edit.Colons.{Colons}
-use Rattle.mk_edit_laws.proofs.on_prerequisites.UndependLemmas.{undepend-line}
-use Rattle.mk_edit_laws.proofs.on_recipes.RecipeLemmas.{recipe-set, recipe_added-stands}
+use Rattle.mk_edit_laws.proofs.on_prerequisites.RemovePrereqLemmas.{remove_prereq-line}
+use Rattle.mk_edit_laws.proofs.on_recipes.RecipeLemmas.{set_recipe-line, add_recipe-stands}
 use Rattle.mk_edit_laws.proofs.on_edits.EditPlaces.{rule-stretch}
 use Rattle.mk_edit_laws.specs.RisingSpans.{Rise}
-use Rattle.mk_edit_laws.proofs.on_edits.SpansRise.{RisesInAssignment, set-rises, append-rises, value-rises, spot-rises, rise-header, recipe-rises, old_length, add-length, remove-length}
+use Rattle.mk_edit_laws.proofs.on_edits.SpansRise.{RisesInAssignment, set_value-rises, append_value-rises, value-rises, spot-rises, rise-header, recipe-rises, old_length, add-length, remove-length}
 use Rattle.mk_edit_laws.specs.EditedLines.{new_line_bytes, respanned_bytes, edited_bytes}
 use Rattle.mk_edit_laws.specs.KeptLines.{AreOthersKept}
 use Rattle.mk_edit_laws.proofs.on_edits.KeptLineLemmas.{replaced-kept, stretch-kept, new_line-kept}
@@ -68,8 +68,8 @@ agrees-last A l k h g = subst (AgreeButForFlag (context_of A)) (sym (context_of-
 
 -- ---- an assignment taken out
 
-pub unset-keeps : (nth : Option ℕ) (n t : List ℕ) (rs : List Replacement) → spans t (RemoveAssign nth n) ≡ Ok rs → AreOthersKept t (RemoveAssign nth n) rs
-unset-keeps nth n t rs h =
+pub remove_assign-keeps : (nth : Option ℕ) (n t : List ℕ) (rs : List Replacement) → spans t (RemoveAssign nth n) ≡ Ok rs → AreOthersKept t (RemoveAssign nth n) rs
+remove_assign-keeps nth n t rs h =
     let e = RemoveAssign nth n in
     let A = accepted t e rs h in
     let F = assignment-found t n nth (where_holds-none _ _ A.is_there) (where_holds-none _ _ A.is_one) (not_prefix n A.not_reserved) in
@@ -81,8 +81,8 @@ unset-keeps nth n t rs h =
 
 -- ---- a recipe line taken out
 
-pub recipe_removed-keeps : (nth : Option ℕ) (g : List ℕ) (k : ℕ) (t : List ℕ) (rs : List Replacement) → spans t (RemoveRecipe nth g k) ≡ Ok rs → AreOthersKept t (RemoveRecipe nth g k) rs
-recipe_removed-keeps nth g k t rs h =
+pub remove_recipe-keeps : (nth : Option ℕ) (g : List ℕ) (k : ℕ) (t : List ℕ) (rs : List Replacement) → spans t (RemoveRecipe nth g k) ≡ Ok rs → AreOthersKept t (RemoveRecipe nth g k) rs
+remove_recipe-keeps nth g k t rs h =
     let e = RemoveRecipe nth g k in
     let A = accepted t e rs h in
     let F = recipe-found (classed_lines t) nth g k (where_holds-none _ _ A.not_absent) in
@@ -101,8 +101,8 @@ unconditional (l ∷ ls) h =
     let c = is_conditional l.class in
     (not_from_false c (or-left_false c (list_any (λ m. is_conditional m.class) ls) h), unconditional ls (or-right_false c (list_any (λ m. is_conditional m.class) ls) h))
 
-pub rule_removed-keeps : (nth : Option ℕ) (g t : List ℕ) (rs : List Replacement) → spans t (RemoveRule nth g) ≡ Ok rs → AreOthersKept t (RemoveRule nth g) rs
-rule_removed-keeps nth g t rs h =
+pub remove_rule-keeps : (nth : Option ℕ) (g t : List ℕ) (rs : List Replacement) → spans t (RemoveRule nth g) ≡ Ok rs → AreOthersKept t (RemoveRule nth g) rs
+remove_rule-keeps nth g t rs h =
     let e = RemoveRule nth g in
     let ls = classed_lines t in
     let A = accepted t e rs h in
@@ -135,32 +135,32 @@ value-keeps t n nth e rs f i F g h w r p q d c z =
     (unconditional-class s.line.class (Class.Assign F.assigned None) F.class_is refl)
 
 -- another value
-pub set-keeps : (nth : Option ℕ) (n v t : List ℕ) (rs : List Replacement) → spans t (SetValue nth n v) ≡ Ok rs → AreOthersKept t (SetValue nth n v) rs
-set-keeps nth n v t rs h =
+pub set_value-keeps : (nth : Option ℕ) (n v t : List ℕ) (rs : List Replacement) → spans t (SetValue nth n v) ≡ Ok rs → AreOthersKept t (SetValue nth n v) rs
+set_value-keeps nth n v t rs h =
     let A = accepted t (SetValue nth n v) rs h in
     let i : is_value v ≡ true = (two-passed _ _ (is_name n) (is_value v) A.arguments).1 in
     let F = assignment-found t n nth (where_holds-none _ _ A.is_there) (where_holds-none _ _ A.is_one) (not_prefix n A.not_reserved) in
     let s = F.spot in
-    value-keeps t n nth (SetValue nth n v) rs (set_value_span v) _ F (set-rises v) h A.spans_are (set-replaced t s.above s.line s.below F.assigned v F.whole F.class_is F.no_prefix i) (ap (option_map this_line) F.found_is) refl refl (omega arith) (omega arith)
+    value-keeps t n nth (SetValue nth n v) rs (set_value_span v) _ F (set_value-rises v) h A.spans_are (set_value-replaced t s.above s.line s.below F.assigned v F.whole F.class_is F.no_prefix i) (ap (option_map this_line) F.found_is) refl refl (omega arith) (omega arith)
 
 -- a text appended to a value
-pub append-keeps : (nth : Option ℕ) (n v t : List ℕ) (rs : List Replacement) → spans t (AppendValue nth n v) ≡ Ok rs → AreOthersKept t (AppendValue nth n v) rs
-append-keeps nth n [] t rs h =
+pub append_value-keeps : (nth : Option ℕ) (n v t : List ℕ) (rs : List Replacement) → spans t (AppendValue nth n v) ≡ Ok rs → AreOthersKept t (AppendValue nth n v) rs
+append_value-keeps nth n [] t rs h =
     let A = accepted t (AppendValue nth n []) rs h in
     absurd (let q : false ≡ true = (and_parts (is_value []) false (two-passed _ _ (is_name n) (is_value [] && false) A.arguments).1).1 in cc)
-append-keeps nth n (b ∷ v) t rs h =
+append_value-keeps nth n (b ∷ v) t rs h =
     let e = AppendValue nth n (b ∷ v) in
     let A = accepted t e rs h in
     let i = and_parts (is_value (b ∷ v)) true (two-passed _ _ (is_name n) (is_value (b ∷ v) && true) A.arguments).1 in
     let F = assignment-found t n nth (where_holds-none _ _ A.is_there) (where_holds-none _ _ A.is_one) (not_prefix n A.not_reserved) in
     let s = F.spot in
     let closed = closed-found t n nth F (where_holds-none _ _ A.value_closed) in
-    value-keeps t n nth e rs (append_value_span (b ∷ v)) _ F (append-rises (b ∷ v)) h A.spans_are
-    (append-line t s.above s.line s.below F.assigned b v F.whole F.class_is F.no_prefix i.0 closed F.assigned.value refl) (ap (option_map this_line) F.found_is) refl refl (omega arith) (omega arith)
+    value-keeps t n nth e rs (append_value_span (b ∷ v)) _ F (append_value-rises (b ∷ v)) h A.spans_are
+    (append_value-line t s.above s.line s.below F.assigned b v F.whole F.class_is F.no_prefix i.0 closed F.assigned.value refl) (ap (option_map this_line) F.found_is) refl refl (omega arith) (omega arith)
 
 -- a recipe line with another command
-pub recipe_set-keeps : (nth : Option ℕ) (g : List ℕ) (k : ℕ) (c t : List ℕ) (rs : List Replacement) → spans t (SetRecipe nth g k c) ≡ Ok rs → AreOthersKept t (SetRecipe nth g k c) rs
-recipe_set-keeps nth g k c t rs h =
+pub set_recipe-keeps : (nth : Option ℕ) (g : List ℕ) (k : ℕ) (c t : List ℕ) (rs : List Replacement) → spans t (SetRecipe nth g k c) ≡ Ok rs → AreOthersKept t (SetRecipe nth g k c) rs
+set_recipe-keeps nth g k c t rs h =
     let e = SetRecipe nth g k c in
     let A = accepted t e rs h in
     let i : is_command c ≡ true = (two-passed _ _ (is_target g) (is_command c) A.arguments).1 in
@@ -168,7 +168,7 @@ recipe_set-keeps nth g k c t rs h =
     let s = F.spot in
     let at = length (text_of s.above) in
     let y : recipe_span c s ≡ rs = subst (λ (z : Option StandingLine). where_found (recipe_span c) z ≡ rs) F.found_is A.spans_are in
-    replaced-kept t e rs s (Recipe c) h (ap (option_map this_line) F.found_is) F.whole (replaced-same _ _ s.above s.below _ _ (ap (replaced 0 t) y) refl (recipe-set t s c F.whole F.is_recipe_line i))
+    replaced-kept t e rs s (Recipe c) h (ap (option_map this_line) F.found_is) F.whole (replaced-same _ _ s.above s.below _ _ (ap (replaced 0 t) y) refl (set_recipe-line t s c F.whole F.is_recipe_line i))
     (subst (Rise at (at + length s.line.bytes)) y (recipe-rises t c s F.whole F.is_recipe_line)) refl refl (omega arith) (omega arith)
     (unconditional-class s.line.class Class.Recipe (recipe-class s.line.class F.is_recipe_line) refl)
 
@@ -187,23 +187,23 @@ words-keep t g nth e rs f i F l h w r p q d c z =
     (subst (Rise at (at + length s.line.bytes)) x (spot-rises t s (header_spans f) F.whole (rise-header f l))) q d c z (unconditional-class s.line.class (Class.Header F.header) F.class_is refl)
 
 -- a new prerequisite
-pub depend-keeps : (order : Bool) (nth : Option ℕ) (g w t : List ℕ) (rs : List Replacement) → spans t (AddPrereq order nth g w) ≡ Ok rs → AreOthersKept t (AddPrereq order nth g w) rs
-depend-keeps order nth g w t rs h =
+pub add_prereq-keeps : (order : Bool) (nth : Option ℕ) (g w t : List ℕ) (rs : List Replacement) → spans t (AddPrereq order nth g w) ≡ Ok rs → AreOthersKept t (AddPrereq order nth g w) rs
+add_prereq-keeps order nth g w t rs h =
     let e = AddPrereq order nth g w in
     let A = accepted t e rs h in
     let F = rule-found (classed_lines t) nth g (where_holds-none _ _ A.is_there) (where_holds-none _ _ A.is_one) in
     let word = word-is_new w (two-passed _ _ (is_target g) (is_word w) A.arguments).1 in
     let s = F.spot in
-    words-keep t g nth e rs (add_pieces order w) _ F (add-length order w) h A.spans_are (depend-line order t s.above s.line s.below F.header w word F.whole F.class_is) (ap (option_map this_line) F.found_is) refl refl (omega arith) (omega arith)
+    words-keep t g nth e rs (add_pieces order w) _ F (add-length order w) h A.spans_are (add_prereq-line order t s.above s.line s.below F.header w word F.whole F.class_is) (ap (option_map this_line) F.found_is) refl refl (omega arith) (omega arith)
 
 -- a prerequisite removed
-pub undepend-keeps : (nth : Option ℕ) (g w t : List ℕ) (rs : List Replacement) → spans t (RemovePrereq nth g w) ≡ Ok rs → AreOthersKept t (RemovePrereq nth g w) rs
-undepend-keeps nth g w t rs h =
+pub remove_prereq-keeps : (nth : Option ℕ) (g w t : List ℕ) (rs : List Replacement) → spans t (RemovePrereq nth g w) ≡ Ok rs → AreOthersKept t (RemovePrereq nth g w) rs
+remove_prereq-keeps nth g w t rs h =
     let e = RemovePrereq nth g w in
     let A = accepted t e rs h in
     let F = rule-found (classed_lines t) nth g (where_holds-none _ _ A.is_there) (where_holds-none _ _ A.is_one) in
     let s = F.spot in
-    words-keep t g nth e rs (remove_pieces w) _ F (remove-length w) h A.spans_are (undepend-line t s.above s.line s.below F.header w F.whole F.class_is) (ap (option_map this_line) F.found_is) refl refl (omega arith) (omega arith)
+    words-keep t g nth e rs (remove_pieces w) _ F (remove-length w) h A.spans_are (remove_prereq-line t s.above s.line s.below F.header w F.whole F.class_is) (ap (option_map this_line) F.found_is) refl refl (omega arith) (omega arith)
 
 -- ---- a new line at a place
 
@@ -220,20 +220,20 @@ added-keeps t e rs s x k h i y p n S d c u =
     new_line-kept t e rs s.above s.below m v h S.whole y lines s i (p ∙ ap (option_map between) i) S.class (d ∙ ap (λ z. (z ++ line_end_bytes E) ∷ []) n) c u
 
 -- a new assignment
-pub assign-keeps : (p : Place) (n : List ℕ) (f : Flavor) (v t : List ℕ) (rs : List Replacement) → spans t (AddAssign p n f v) ≡ Ok rs → AreOthersKept t (AddAssign p n f v) rs
-assign-keeps p [] f v t rs h = absurd (no_name p f v t rs h)
-assign-keeps p (b ∷ n) f v t rs h =
+pub add_assign-keeps : (p : Place) (n : List ℕ) (f : Flavor) (v t : List ℕ) (rs : List Replacement) → spans t (AddAssign p n f v) ≡ Ok rs → AreOthersKept t (AddAssign p n f v) rs
+add_assign-keeps p [] f v t rs h = absurd (no_name p f v t rs h)
+add_assign-keeps p (b ∷ n) f v t rs h =
     let S = accepted-stands t p b n f v rs h in
     added-keeps t (AddAssign p (b ∷ n) f v) rs S.place.stretch (assign_text (b ∷ n) f v) (Class.Assign (new_assignment (b ∷ n) f v) None) h S.place.found_is S.spans_are refl refl S.stands refl (omega arith) refl
 
 -- a new rule
-pub rule_added-keeps : (p : Place) (g : List ℕ) (c : Colons) (w t : List ℕ) (rs : List Replacement) → spans t (AddRule p g c w) ≡ Ok rs → AreOthersKept t (AddRule p g c w) rs
-rule_added-keeps p g c w t rs h =
-    let S = rule-stands p g c w t rs h in
+pub add_rule-keeps : (p : Place) (g : List ℕ) (c : Colons) (w t : List ℕ) (rs : List Replacement) → spans t (AddRule p g c w) ≡ Ok rs → AreOthersKept t (AddRule p g c w) rs
+add_rule-keeps p g c w t rs h =
+    let S = add_rule-stands p g c w t rs h in
     added-keeps t (AddRule p g c w) rs S.stretch S.text (Class.Header S.header) h S.found_is S.spans_are refl S.text_is S.stands refl (omega arith) refl
 
 -- a new recipe line
-pub recipe_added-keeps : (nth : Option ℕ) (g c t : List ℕ) (rs : List Replacement) → spans t (AddRecipe nth g c) ≡ Ok rs → AreOthersKept t (AddRecipe nth g c) rs
-recipe_added-keeps nth g c t rs h =
-    let S = recipe_added-stands nth g c t rs h in
+pub add_recipe-keeps : (nth : Option ℕ) (g c t : List ℕ) (rs : List Replacement) → spans t (AddRecipe nth g c) ≡ Ok rs → AreOthersKept t (AddRecipe nth g c) rs
+add_recipe-keeps nth g c t rs h =
+    let S = add_recipe-stands nth g c t rs h in
     added-keeps t (AddRecipe nth g c) rs S.stretch ((context_of S.stretch.above).prefix ∷ c) Class.Recipe h S.found_is S.spans_are refl refl S.stands refl (omega arith) refl

@@ -97,8 +97,8 @@ abbrev pub RisesInAssignment : (ℕ → Assignment Cell → Replacement) → Typ
 RisesInAssignment f = (at : ℕ) (a : Assignment Cell) (n : ℕ) → raw_width (assignment_units a) ≤ n → Rise at (at + n) (f at a ∷ [])
 
 -- the value that is set
-pub set-rises : (v : List ℕ) → RisesInAssignment (set_value_span v)
-set-rises v at a n h = go (is_empty v) (assignment-length a)
+pub set_value-rises : (v : List ℕ) → RisesInAssignment (set_value_span v)
+set_value-rises v at a n h = go (is_empty v) (assignment-length a)
   where
     go : (b : Bool) → raw_width (assignment_units a) ≡ raw_width (before_value a) + (raw_width a.value + raw_width a.after)
         → Rise at (at + n) (record { start = at + raw_width (before_value a); end = cond b (at + raw_width (before_value a) + raw_width a.value + raw_width a.after) (at + raw_width (before_value a) + raw_width a.value); new = v } ∷ [])
@@ -106,8 +106,8 @@ set-rises v at a n h = go (is_empty v) (assignment-length a)
     go false e = (omega arith, omega arith, omega (arith, e, h))
 
 -- what is appended to it
-pub append-rises : (v : List ℕ) → RisesInAssignment (append_value_span v)
-append-rises v at a n h = let e = assignment-length a in (omega arith, omega arith, omega (arith, e, h))
+pub append_value-rises : (v : List ℕ) → RisesInAssignment (append_value_span v)
+append_value-rises v at a n h = let e = assignment-length a in (omega arith, omega arith, omega (arith, e, h))
 
 -- spans that rise within a line, which begins at a place and has n bytes, whatever its class
 abbrev RisesInLine : (ℕ → Class Cell → List Replacement) → Type 0
@@ -300,9 +300,9 @@ rise-recipe t c s h r =
 -- the spans of each edit rise within the text
 pub spans-rise : (t : List ℕ) (e : Edit) → RiseIn t (spans_of t (classed_lines t) e)
 spans-rise t (SetValue nth n v) = rise-found t (value_span (set_value_span v)) (found (classed_lines t) (Variable nth n))
-    (λ s i. rise-spot t s (assignment_span (set_value_span v)) (found-spot (classed_lines t) (Variable nth n) s i) (rise-value (set_value_span v) (set-rises v)))
+    (λ s i. rise-spot t s (assignment_span (set_value_span v)) (found-spot (classed_lines t) (Variable nth n) s i) (rise-value (set_value_span v) (set_value-rises v)))
 spans-rise t (AppendValue nth n v) = rise-found t (value_span (append_value_span v)) (found (classed_lines t) (Variable nth n))
-    (λ s i. rise-spot t s (assignment_span (append_value_span v)) (found-spot (classed_lines t) (Variable nth n) s i) (rise-value (append_value_span v) (append-rises v)))
+    (λ s i. rise-spot t s (assignment_span (append_value_span v)) (found-spot (classed_lines t) (Variable nth n) s i) (rise-value (append_value_span v) (append_value-rises v)))
 spans-rise t (AddAssign p n f v) = rise-found t (new_line_span t (AddAssign p n f v)) (insertion (classed_lines t) (AddAssign p n f v))
     (λ s i. rise-inserted t (AddAssign p n f v) s (insertion-stretch (classed_lines t) (AddAssign p n f v) s i))
 spans-rise t (RemoveAssign nth n) = rise-found t removed_span (removal (classed_lines t) (RemoveAssign nth n)) (λ s i. rise-removed t s (removal-stretch (classed_lines t) (RemoveAssign nth n) s i))

@@ -18,7 +18,7 @@ use Rattle.mk_edit_laws.specs.Refusals.{spans}
 use Rattle.mk_edit_laws.proofs.on_edits.Accepted.{accepted}
 use Rattle.mk_edit_laws.specs.RisingSpans.{Rise}
 use Rattle.mk_edit_laws.proofs.on_edits.EditPlaces.{IsSpotOf, found-spot, recipe_found-spot, recipe_found-recipe, insertion-stretch, removal-stretch}
-use Rattle.mk_edit_laws.proofs.on_edits.SpansRise.{set-rises, append-rises, value-rises, spot-rises, recipe-rises, rise-header, add-length, remove-length}
+use Rattle.mk_edit_laws.proofs.on_edits.SpansRise.{set_value-rises, append_value-rises, value-rises, spot-rises, recipe-rises, rise-header, add-length, remove-length}
 use Rattle.mk_edit_laws.specs.TouchedLines.{TouchFew, IsOfOnePlace}
 
 few-found : {A : Type 0} (t : List ℕ) (e : Edit) (f : A → List Replacement) (o : Option A) → ((x : A) → o ≡ Some x → TouchFew t e (f x)) → TouchFew t e (where_found f o)
@@ -54,9 +54,9 @@ one-gone (Some x) s i = let k : this_line x ≡ s = cc in subst (λ (z : Stretch
 
 few-of_one : (t : List ℕ) (e : Edit) → IsOfOnePlace e → TouchFew t e (spans_of t (classed_lines t) e)
 few-of_one t (SetValue nth n v) p = few-found t (SetValue nth n v) (value_span (set_value_span v)) (found (classed_lines t) (Variable nth n))
-    (λ s i. let w = found-spot (classed_lines t) (Variable nth n) s i in few-spot t (SetValue nth n v) (value_span (set_value_span v) s) s w (value-rises t s (set_value_span v) w (set-rises v)) (omega arith))
+    (λ s i. let w = found-spot (classed_lines t) (Variable nth n) s i in few-spot t (SetValue nth n v) (value_span (set_value_span v) s) s w (value-rises t s (set_value_span v) w (set_value-rises v)) (omega arith))
 few-of_one t (AppendValue nth n v) p = few-found t (AppendValue nth n v) (value_span (append_value_span v)) (found (classed_lines t) (Variable nth n))
-    (λ s i. let w = found-spot (classed_lines t) (Variable nth n) s i in few-spot t (AppendValue nth n v) (value_span (append_value_span v) s) s w (value-rises t s (append_value_span v) w (append-rises v)) (omega arith))
+    (λ s i. let w = found-spot (classed_lines t) (Variable nth n) s i in few-spot t (AppendValue nth n v) (value_span (append_value_span v) s) s w (value-rises t s (append_value_span v) w (append_value-rises v)) (omega arith))
 few-of_one t (AddAssign q n f v) p = few-found t (AddAssign q n f v) (new_line_span t (AddAssign q n f v)) (insertion (classed_lines t) (AddAssign q n f v))
     (λ s i. few-inserted t (AddAssign q n f v) s (insertion-stretch (classed_lines t) (AddAssign q n f v) s i))
 few-of_one t (AddRule q ts c ws) p = few-found t (AddRule q ts c ws) (new_line_span t (AddRule q ts c ws)) (insertion (classed_lines t) (AddRule q ts c ws))

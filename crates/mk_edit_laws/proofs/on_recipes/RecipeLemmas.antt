@@ -90,8 +90,8 @@ pub record RecipeStands (t c : List ℕ) (e : Edit) (rs : List Replacement) : Ty
   pub spans_are : new_line_span t e stretch ≡ rs
 
 -- an accepted one stands there
-pub recipe_added-stands : (nth : Option ℕ) (g c t : List ℕ) (rs : List Replacement) → spans t (AddRecipe nth g c) ≡ Ok rs → RecipeStands t c (AddRecipe nth g c) rs
-recipe_added-stands nth g c t rs h =
+pub add_recipe-stands : (nth : Option ℕ) (g c t : List ℕ) (rs : List Replacement) → spans t (AddRecipe nth g c) ≡ Ok rs → RecipeStands t c (AddRecipe nth g c) rs
+add_recipe-stands nth g c t rs h =
     let e = AddRecipe nth g c in
     let A = accepted t e rs h in
     let k : is_command c ≡ true = (two-passed field.Target field.Line (is_target g) (is_command c) A.arguments).1 in
@@ -125,10 +125,10 @@ recipe_added-stands nth g c t rs h =
     }
 
 -- the law of a new recipe line
-pub recipe_added-reads : (nth : Option ℕ) (g c t : List ℕ) (rs : List Replacement) → spans t (AddRecipe nth g c) ≡ Ok rs
+pub add_recipe-reads : (nth : Option ℕ) (g c t : List ℕ) (rs : List Replacement) → spans t (AddRecipe nth g c) ≡ Ok rs
     → reading (text_after t (AddRecipe nth g c)) ≡ change t (AddRecipe nth g c)
-recipe_added-reads nth g c t rs h =
-    let S = recipe_added-stands nth g c t rs h in
+add_recipe-reads nth g c t rs h =
+    let S = add_recipe-stands nth g c t rs h in
     let s = S.stretch in
     let z : change t (AddRecipe nth g c) ≡ with_item (Recipe c) s = ap (where_found (with_item (Recipe c))) S.found_is in
     ap (λ q. reading (text_by t q)) h
@@ -185,9 +185,9 @@ keeps-apart ends.Lf x h = first-not CarriageReturn (reverse x) refl (each-revers
 keeps-apart ends.CrLf x h = tt
 
 -- the line of a recipe with another command
-pub recipe-set : (t : List ℕ) (s : StandingLine) (c : List ℕ) → classed_lines t ≡ s.above ++ s.line ∷ s.below → is_recipe s.line.class ≡ true → is_command c ≡ true
+pub set_recipe-line : (t : List ℕ) (s : StandingLine) (c : List ℕ) → classed_lines t ≡ s.above ++ s.line ∷ s.below → is_recipe s.line.class ≡ true → is_command c ≡ true
     → IsLineReplaced (replaced 0 t (recipe_span c s)) s.above s.below (Recipe c)
-recipe-set t s c w r k =
+set_recipe-line t s c w r k =
     let C = context_of s.above in
     let l = s.line.bytes in
     let L = located t s.above s.line s.below w in
@@ -215,9 +215,9 @@ recipe-set t s c w r k =
     (replaced-line t s.above s.line s.below m Class.Recipe (Recipe c) w one ends class context refl (ap (λ z. Recipe (drop 1 z) ∷ []) read))
 
 -- the law of a recipe line changed
-pub recipe_set-reads : (nth : Option ℕ) (g : List ℕ) (k : ℕ) (c t : List ℕ) (rs : List Replacement) → spans t (SetRecipe nth g k c) ≡ Ok rs
+pub set_recipe-reads : (nth : Option ℕ) (g : List ℕ) (k : ℕ) (c t : List ℕ) (rs : List Replacement) → spans t (SetRecipe nth g k c) ≡ Ok rs
     → reading (text_after t (SetRecipe nth g k c)) ≡ change t (SetRecipe nth g k c)
-recipe_set-reads nth g k c t rs h =
+set_recipe-reads nth g k c t rs h =
     let A = accepted t (SetRecipe nth g k c) rs h in
     let u = two-passed field.Target field.Line (is_target g) (is_command c) A.arguments in
     let F = recipe-found (classed_lines t) nth g k (where_holds-none _ Absent A.not_absent) in
@@ -225,4 +225,4 @@ recipe_set-reads nth g k c t rs h =
     let y : recipe_span c s ≡ rs = subst (λ (z : Option StandingLine). where_found (recipe_span c) z ≡ rs) F.found_is A.spans_are in
     let z : change t (SetRecipe nth g k c) ≡ with_items (Recipe c ∷ []) s = ap (where_found (with_items (Recipe c ∷ []))) F.found_is in
     ap (λ q. reading (text_by t q)) h
-    ∙ (ap (λ q. reading (replaced 0 t q)) (sym y) ∙ ((recipe-set t s c F.whole F.is_recipe_line u.1).reads ∙ sym z))
+    ∙ (ap (λ q. reading (replaced 0 t q)) (sym y) ∙ ((set_recipe-line t s c F.whole F.is_recipe_line u.1).reads ∙ sym z))

@@ -28,8 +28,8 @@ use Rattle.mk_edit_laws.specs.Refusals.{spans, text_by, text_after}
 use Rattle.mk_edit_laws.specs.Changes.{change, without_items}
 use Rattle.mk_edit_laws.proofs.on_edits.Accepted.{accepted, where_holds-none}
 use Rattle.mk_edit_laws.proofs.on_lines.SpotLemmas.{recipe-found, recipe-class, rule-found}
-use Rattle.mk_edit_laws.proofs.on_removals.UnsetLemmas.{stretch-lines, stretch-removed, assignment-agrees}
-use Rattle.mk_edit_laws.proofs.on_values.SetLemmas.{not_prefix}
+use Rattle.mk_edit_laws.proofs.on_removals.RemoveAssignLemmas.{stretch-lines, stretch-removed, assignment-agrees}
+use Rattle.mk_edit_laws.proofs.on_values.SetValueLemmas.{not_prefix}
 use Rattle.mk_edit_laws.proofs.on_values.FoundAssignments.{assignment-found}
 use Rattle.mk_edit_laws.specs.declared.refusal.Refusal.TheVariants.{NoSuch, Absent, Straddles, Leans}
 
@@ -42,9 +42,9 @@ recipe-agrees A l h =
     subst (AgreeButForFlag c) (sym e) (record { defines = refl; conditionals = refl; prefix = refl })
 
 -- the law of a recipe line
-pub recipe_removed-reads : (nth : Option ℕ) (g : List ℕ) (k : ℕ) (t : List ℕ) (rs : List Replacement) → spans t (RemoveRecipe nth g k) ≡ Ok rs
+pub remove_recipe-reads : (nth : Option ℕ) (g : List ℕ) (k : ℕ) (t : List ℕ) (rs : List Replacement) → spans t (RemoveRecipe nth g k) ≡ Ok rs
     → reading (text_after t (RemoveRecipe nth g k)) ≡ change t (RemoveRecipe nth g k)
-recipe_removed-reads nth g k t rs h =
+remove_recipe-reads nth g k t rs h =
     let A = accepted t (RemoveRecipe nth g k) rs h in
     let F = recipe-found (classed_lines t) nth g k (where_holds-none _ Absent A.not_absent) in
     let s = F.spot in
@@ -92,9 +92,9 @@ header-agrees A l R x h k n =
     subst (AgreeButForFlag c) (sym e) (agrees-then c d (context_after_lines d R) one (run-agrees d R k n))
 
 -- the law of a rule
-pub rule_removed-reads : (nth : Option ℕ) (g t : List ℕ) (rs : List Replacement) → spans t (RemoveRule nth g) ≡ Ok rs
+pub remove_rule-reads : (nth : Option ℕ) (g t : List ℕ) (rs : List Replacement) → spans t (RemoveRule nth g) ≡ Ok rs
     → reading (text_after t (RemoveRule nth g)) ≡ change t (RemoveRule nth g)
-rule_removed-reads nth g t rs h =
+remove_rule-reads nth g t rs h =
     let A = accepted t (RemoveRule nth g) rs h in
     let F = rule-found (classed_lines t) nth g (where_holds-none _ NoSuch A.is_there) (where_holds-none _ _ A.is_one) in
     let s = F.spot in
@@ -114,9 +114,9 @@ lines-by : (t : List ℕ) (e : Edit) (rs : List Replacement) (s s' : Stretch) �
 lines-by t e rs s s' h r i k =
     ap (λ q. classed_lines (text_by t q)) h ∙ (ap (λ q. classed_lines (replaced 0 t q)) (sym r) ∙ (k ∙ ap (λ (z : Stretch). z.above ++ z.below) i))
 
-unset-lines : (t n : List ℕ) (nth : Option ℕ) (rs : List Replacement) (s : Stretch) → spans t (RemoveAssign nth n) ≡ Ok rs → removal (classed_lines t) (RemoveAssign nth n) ≡ Some s
+remove_assign-lines : (t n : List ℕ) (nth : Option ℕ) (rs : List Replacement) (s : Stretch) → spans t (RemoveAssign nth n) ≡ Ok rs → removal (classed_lines t) (RemoveAssign nth n) ≡ Some s
     → classed_lines (text_after t (RemoveAssign nth n)) ≡ s.above ++ s.below
-unset-lines t n nth rs s h k =
+remove_assign-lines t n nth rs s h k =
     let e = RemoveAssign nth n in
     let A = accepted t e rs h in
     let F = assignment-found t n nth (where_holds-none _ NoSuch A.is_there) (where_holds-none _ _ A.is_one) (not_prefix n A.not_reserved) in
@@ -126,9 +126,9 @@ unset-lines t n nth rs s h k =
     let i : this_line p ≡ s = same_Some (this_line p) s (sym (ap (option_map this_line) F.found_is) ∙ k) in
     lines-by t e rs s (this_line p) h y i (stretch-lines t (this_line p) F.whole (assignment-agrees p.above p.line F.assigned F.class_is) leans)
 
-recipe-lines : (t g : List ℕ) (nth : Option ℕ) (number : ℕ) (rs : List Replacement) (s : Stretch) → spans t (RemoveRecipe nth g number) ≡ Ok rs → removal (classed_lines t) (RemoveRecipe nth g number) ≡ Some s
+remove_recipe-lines : (t g : List ℕ) (nth : Option ℕ) (number : ℕ) (rs : List Replacement) (s : Stretch) → spans t (RemoveRecipe nth g number) ≡ Ok rs → removal (classed_lines t) (RemoveRecipe nth g number) ≡ Some s
     → classed_lines (text_after t (RemoveRecipe nth g number)) ≡ s.above ++ s.below
-recipe-lines t g nth number rs s h k =
+remove_recipe-lines t g nth number rs s h k =
     let e = RemoveRecipe nth g number in
     let A = accepted t e rs h in
     let F = recipe-found (classed_lines t) nth g number (where_holds-none _ Absent A.not_absent) in
@@ -138,9 +138,9 @@ recipe-lines t g nth number rs s h k =
     let i : this_line p ≡ s = same_Some (this_line p) s (sym (ap (option_map this_line) F.found_is) ∙ k) in
     lines-by t e rs s (this_line p) h y i (stretch-lines t (this_line p) F.whole (recipe-agrees p.above p.line (recipe-class p.line.class F.is_recipe_line)) leans)
 
-rule-lines : (t g : List ℕ) (nth : Option ℕ) (rs : List Replacement) (s : Stretch) → spans t (RemoveRule nth g) ≡ Ok rs → removal (classed_lines t) (RemoveRule nth g) ≡ Some s
+remove_rule-lines : (t g : List ℕ) (nth : Option ℕ) (rs : List Replacement) (s : Stretch) → spans t (RemoveRule nth g) ≡ Ok rs → removal (classed_lines t) (RemoveRule nth g) ≡ Some s
     → classed_lines (text_after t (RemoveRule nth g)) ≡ s.above ++ s.below
-rule-lines t g nth rs s h k =
+remove_rule-lines t g nth rs s h k =
     let e = RemoveRule nth g in
     let A = accepted t e rs h in
     let F = rule-found (classed_lines t) nth g (where_holds-none _ NoSuch A.is_there) (where_holds-none _ _ A.is_one) in
@@ -154,9 +154,9 @@ rule-lines t g nth rs s h k =
 
 -- an accepted edit that takes lines out leaves the others, each with its class
 pub removed-lines : (e : Edit) (t : List ℕ) (rs : List Replacement) (s : Stretch) → spans t e ≡ Ok rs → removal (classed_lines t) e ≡ Some s → classed_lines (text_after t e) ≡ s.above ++ s.below
-removed-lines (RemoveAssign nth n) t rs s h k = unset-lines t n nth rs s h k
-removed-lines (RemoveRule nth g) t rs s h k = rule-lines t g nth rs s h k
-removed-lines (RemoveRecipe nth g number) t rs s h k = recipe-lines t g nth number rs s h k
+removed-lines (RemoveAssign nth n) t rs s h k = remove_assign-lines t n nth rs s h k
+removed-lines (RemoveRule nth g) t rs s h k = remove_rule-lines t g nth rs s h k
+removed-lines (RemoveRecipe nth g number) t rs s h k = remove_recipe-lines t g nth number rs s h k
 removed-lines (SetValue nth n v) t rs s h k = absurd (cc)
 removed-lines (AppendValue nth n v) t rs s h k = absurd (cc)
 removed-lines (AddAssign p n f v) t rs s h k = absurd (cc)

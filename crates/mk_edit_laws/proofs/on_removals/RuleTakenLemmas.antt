@@ -166,8 +166,8 @@ next-item (l ∷ ls) h = go l.class h (next-item ls)
 
 -- ---- the law
 
-pub unrule-takes : (nth : Option ℕ) (g t : List ℕ) (rs : List Replacement) → spans t (RemoveRule nth g) ≡ Ok rs → TakesTheRuleAlone nth g t
-unrule-takes nth g t rs h =
+pub remove_rule-takes : (nth : Option ℕ) (g t : List ℕ) (rs : List Replacement) → spans t (RemoveRule nth g) ≡ Ok rs → TakesTheRuleAlone nth g t
+remove_rule-takes nth g t rs h =
     let e = RemoveRule nth g in
     let ls = classed_lines t in
     let A = accepted t e rs h in

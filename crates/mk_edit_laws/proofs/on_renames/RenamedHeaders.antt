@@ -34,7 +34,7 @@ use Rattle.mk_edit_laws.proofs.on_lines.DirectiveWords.{AlikeTokens}
 use Rattle.mk_edit_laws.proofs.on_lines.HeaderParts.{IsPartUnit, part-head, HeaderKnown, is_no_gap, FitIn, with_parts}
 use Rattle.mk_edit_laws.proofs.on_lines.HeaderChanges.{middle_units, middle-solid, header-cells, FitAsCells, HeaderHere, header-changed, IsHeaderWith, line_of, solid-bytes}
 use Rattle.mk_edit_laws.proofs.on_prerequisites.HeaderEdits.{header_pieces-new, header_pieces-whole, lists-end, list-cells, fits-bar_again}
-use Rattle.mk_edit_laws.proofs.on_prerequisites.UndependLemmas.{glued-apart}
+use Rattle.mk_edit_laws.proofs.on_prerequisites.RemovePrereqLemmas.{glued-apart}
 use Rattle.mk_edit_laws.proofs.on_prerequisites.NewWords.{IsNewWord, cell_units}
 use Rattle.mk_edit_laws.proofs.on_prerequisites.WordsAdded.{word-parts}
 use Rattle.mk_edit_laws.proofs.on_renames.WordsRenamed.{tokens_renamed, renamed-new_cells, renamed-old_cells, renamed-word_first, renamed-are_tokens, renamed-words, renamed-all, renamed-line_cells, renamed-ends, renamed-last, renamed-alike}

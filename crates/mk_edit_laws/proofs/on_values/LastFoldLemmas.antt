@@ -1,4 +1,4 @@
--- An accepted `set` to the empty value changes the reading by this value alone. If a part of a fold stays without its next line,
+-- An accepted `SetValue` to nothing changes the reading by this value alone. If a part of a fold stays without its next line,
 -- the value is one lone backslash.
 use Rattle.std.proofs.Common.{◌≡◌, refl, sym, ap, ◌∙◌, subst, ℕ, List, [], ◌∷◌, ◌++◌, map, Bool, true, false, not, ◌&&◌, ◌==◌, Option, Some, None, length, append_assoc, reverse, cond}
 use Rattle.std.proofs.lemmas.Bool.{eqb-true, or_from, and_parts}
@@ -53,8 +53,8 @@ use Rattle.mk_edit_laws.proofs.on_values.ValueLines.{parts-units}
 use Rattle.mk_edit_laws.proofs.on_values.FoundAssignments.{assignment-found, no_prefix-set}
 use Rattle.mk_edit_laws.proofs.on_values.FoldEnds.{escape_cells, fold-ends_escaped}
 use Rattle.mk_edit_laws.proofs.on_lines.LineReplaced.{IsLineReplaced, replaced-line, replaced-same}
-use Rattle.mk_edit_laws.proofs.on_values.SetLemmas.{value-found, not_prefix, set-line, set-some}
-use Rattle.mk_edit_laws.proofs.on_values.SetEmptyLemmas.{line-emptied, text-emptied, set-emptied, last-same, last_of_reverse, last-append, last-line}
+use Rattle.mk_edit_laws.proofs.on_values.SetValueLemmas.{value-found, not_prefix, set_value-line, set_value-some}
+use Rattle.mk_edit_laws.proofs.on_values.SetValueEmptyLemmas.{line-emptied, text-emptied, set_value-emptied, last-same, last_of_reverse, last-append, last-line}
 use Rattle.mk_edit_laws.specs.declared.refusal.Refusal.TheVariants.{NoSuch}
 
 -- ---- blanks and folds, and a lone backslash
@@ -334,10 +334,10 @@ nothing-no_end ends.Lf h = cc
 nothing-no_end ends.CrLf h = cc
 
 -- an assignment's line without its value, if a part of a fold stays without its next line
-set-left : (t : List ℕ) (A : List ClassedLine) (l : ClassedLine) (B : List ClassedLine) (a : Assignment Cell)
+set_value-left : (t : List ℕ) (A : List ClassedLine) (l : ClassedLine) (B : List ClassedLine) (a : Assignment Cell)
     → classed_lines t ≡ A ++ l ∷ B → l.class ≡ Assign a None → is_prefix_name (unit_text joined_byte a.name) ≡ false → leaves_fold_last t (set_value_span [] (length (text_of A)) a) ≡ true
     → IsLineReplaced (replaced 0 t (set_value_span [] (length (text_of A)) a ∷ [])) A B (item_with_value a (92 ∷ []))
-set-left t A l B a h k f n =
+set_value-left t A l B a h k f n =
     let c = context_of A in
     let L = located t A l B h in
     let M = line-emptied c l.bytes (bytes_of B) a None (L.class ∙ k) L.one L.ends in
@@ -362,35 +362,35 @@ set-left t A l B a h k f n =
     (replaced-line t A l B (raw_text P) (Assign m None) (item_with_value a (92 ∷ [])) h line.one ends class (ap (context_after c) (sym k)) refl refl)
 
 -- an assignment's line without its value
-set-to_nothing : (t : List ℕ) (A : List ClassedLine) (l : ClassedLine) (B : List ClassedLine) (a : Assignment Cell) → classed_lines t ≡ A ++ l ∷ B → l.class ≡ Assign a None
+set_value-to_nothing : (t : List ℕ) (A : List ClassedLine) (l : ClassedLine) (B : List ClassedLine) (a : Assignment Cell) → classed_lines t ≡ A ++ l ∷ B → l.class ≡ Assign a None
     → is_prefix_name (unit_text joined_byte a.name) ≡ false
     → IsLineReplaced (replaced 0 t (set_value_span [] (length (text_of A)) a ∷ [])) A B (item_with_value a (value_set t [] (length (text_of A)) a))
-set-to_nothing t A l B a h k f = go (leaves_fold_last t (set_value_span [] (length (text_of A)) a)) refl
+set_value-to_nothing t A l B a h k f = go (leaves_fold_last t (set_value_span [] (length (text_of A)) a)) refl
   where
     go : (b : Bool) → leaves_fold_last t (set_value_span [] (length (text_of A)) a) ≡ b
         → IsLineReplaced (replaced 0 t (set_value_span [] (length (text_of A)) a ∷ [])) A B (item_with_value a (value_set t [] (length (text_of A)) a))
-    go false e = replaced-same _ _ A B _ _ refl (ap (λ b. item_with_value a (cond b (92 ∷ []) [])) (sym e)) (set-emptied t A l B a h k f e)
-    go true e = replaced-same _ _ A B _ _ refl (ap (λ b. item_with_value a (cond b (92 ∷ []) [])) (sym e)) (set-left t A l B a h k f e)
+    go false e = replaced-same _ _ A B _ _ refl (ap (λ b. item_with_value a (cond b (92 ∷ []) [])) (sym e)) (set_value-emptied t A l B a h k f e)
+    go true e = replaced-same _ _ A B _ _ refl (ap (λ b. item_with_value a (cond b (92 ∷ []) [])) (sym e)) (set_value-left t A l B a h k f e)
 
 -- an assignment's line with another value, empty or not
-pub set-replaced : (t : List ℕ) (A : List ClassedLine) (l : ClassedLine) (B : List ClassedLine) (a : Assignment Cell) (v : List ℕ) → classed_lines t ≡ A ++ l ∷ B → l.class ≡ Assign a None
+pub set_value-replaced : (t : List ℕ) (A : List ClassedLine) (l : ClassedLine) (B : List ClassedLine) (a : Assignment Cell) (v : List ℕ) → classed_lines t ≡ A ++ l ∷ B → l.class ≡ Assign a None
     → is_prefix_name (unit_text joined_byte a.name) ≡ false → is_value v ≡ true
     → IsLineReplaced (replaced 0 t (set_value_span v (length (text_of A)) a ∷ [])) A B (item_with_value a (value_set t v (length (text_of A)) a))
-set-replaced t A l B a [] h k f i = set-to_nothing t A l B a h k f
-set-replaced t A l B a (b ∷ v) h k f i = set-line t A l B a b v h k f i
+set_value-replaced t A l B a [] h k f i = set_value-to_nothing t A l B a h k f
+set_value-replaced t A l B a (b ∷ v) h k f i = set_value-line t A l B a b v h k f i
 
 -- ---- the law
 
 -- the law, of the empty value
-set-nothing : (t n : List ℕ) (nth : Option ℕ) (rs : List Replacement) → spans t (SetValue nth n []) ≡ Ok rs → reading (text_after t (SetValue nth n [])) ≡ change t (SetValue nth n [])
-set-nothing t n nth rs h =
+set_value-nothing : (t n : List ℕ) (nth : Option ℕ) (rs : List Replacement) → spans t (SetValue nth n []) ≡ Ok rs → reading (text_after t (SetValue nth n [])) ≡ change t (SetValue nth n [])
+set_value-nothing t n nth rs h =
     let A = accepted t (SetValue nth n []) rs h in
     let F = assignment-found t n nth (where_holds-none _ NoSuch A.is_there) (where_holds-none _ _ A.is_one) (not_prefix n A.not_reserved) in
     let s = F.spot in
     ap (λ z. reading (text_by t z)) h
-    ∙ value-found t n nth rs (set_value_span []) (value_set t []) F (set-to_nothing t s.above s.line s.below F.assigned F.whole F.class_is F.no_prefix) A.spans_are
+    ∙ value-found t n nth rs (set_value_span []) (value_set t []) F (set_value-to_nothing t s.above s.line s.below F.assigned F.whole F.class_is F.no_prefix) A.spans_are
 
 -- the law, of each value
-pub set-reads : (nth : Option ℕ) (n v t : List ℕ) (rs : List Replacement) → spans t (SetValue nth n v) ≡ Ok rs → reading (text_after t (SetValue nth n v)) ≡ change t (SetValue nth n v)
-set-reads nth n [] t rs h = set-nothing t n nth rs h
-set-reads nth n (b ∷ v) t rs h = set-some t n nth b v rs h
+pub set_value-reads : (nth : Option ℕ) (n v t : List ℕ) (rs : List Replacement) → spans t (SetValue nth n v) ≡ Ok rs → reading (text_after t (SetValue nth n v)) ≡ change t (SetValue nth n v)
+set_value-reads nth n [] t rs h = set_value-nothing t n nth rs h
+set_value-reads nth n (b ∷ v) t rs h = set_value-some t n nth b v rs h

@@ -13,7 +13,7 @@ use Rattle.mk_script.specs.Numbers.{IsNumber}
 use Rattle.mk_script.specs.Commands.{IsAfterNth, place_words, nth_of_place, IsCommand}
 use Rattle.mk_script.specs.FieldReading.{first_field, one_field, two_fields, three_fields}
 use Rattle.mk_script.specs.WordReading.{named, calls}
-use Rattle.mk_script.specs.CommandReading.{place_at_front, place_after, assign_after, assign_at, assign_of, rule_after, rule_at, rule_of, set_recipe_after, set_recipe_of, remove_recipe_after, remove_recipe_of, edit, edit_after_nth, edit_after_number, numbered_edit, call_or_edit, command_after, command}
+use Rattle.mk_script.specs.CommandReading.{place_at_front, place_after, add_assign_after, add_assign_at, add_assign_of, add_rule_after, add_rule_at, add_rule_of, set_recipe_after, set_recipe_of, remove_recipe_after, remove_recipe_of, edit, edit_after_nth, edit_after_number, numbered_edit, call_or_edit, command_after, command}
 use Rattle.mk_script.proofs.on_fields.BlankLemmas.{is-blank}
 use Rattle.mk_script.proofs.on_fields.FirstLemmas.{begins-read, one-read, two-read, three-read}
 use Rattle.mk_script.proofs.on_fields.NumberLemmas.{is-number}
@@ -70,21 +70,21 @@ place-read (BeforeRule nth target) text others h =
       others_are = h.2.2;
     }
 
-assign-read : (place : Place) (name value text : List ℕ) (flavor : Flavor) → HasFields text (place_words place ++ name ∷ operator_text flavor ∷ value ∷ [])
-    → assign_after (place_at_front (nth_of_place place) text) ≡ Some (AddAssign place name flavor value)
-assign-read place name value text flavor h =
+add_assign-read : (place : Place) (name value text : List ℕ) (flavor : Flavor) → HasFields text (place_words place ++ name ∷ operator_text flavor ∷ value ∷ [])
+    → add_assign_after (place_at_front (nth_of_place place) text) ≡ Some (AddAssign place name flavor value)
+add_assign-read place name value text flavor h =
     let p = place-read place text (name ∷ operator_text flavor ∷ value ∷ []) h in
-    ap (λ o. assign_after o) p.read
-    ∙ (ap (λ o. assign_at place o) (three-read p.rest name (operator_text flavor) value p.others_are)
-    ∙ ap (λ o. assign_of place o name value) (operator-named flavor))
+    ap (λ o. add_assign_after o) p.read
+    ∙ (ap (λ o. add_assign_at place o) (three-read p.rest name (operator_text flavor) value p.others_are)
+    ∙ ap (λ o. add_assign_of place o name value) (operator-named flavor))
 
-rule-read : (place : Place) (targets prereqs text : List ℕ) (colons : Colons) → HasFields text (place_words place ++ targets ∷ colons_text colons ∷ prereqs ∷ [])
-    → rule_after (place_at_front (nth_of_place place) text) ≡ Some (AddRule place targets colons prereqs)
-rule-read place targets prereqs text colons h =
+add_rule-read : (place : Place) (targets prereqs text : List ℕ) (colons : Colons) → HasFields text (place_words place ++ targets ∷ colons_text colons ∷ prereqs ∷ [])
+    → add_rule_after (place_at_front (nth_of_place place) text) ≡ Some (AddRule place targets colons prereqs)
+add_rule-read place targets prereqs text colons h =
     let p = place-read place text (targets ∷ colons_text colons ∷ prereqs ∷ []) h in
-    ap (λ o. rule_after o) p.read
-    ∙ (ap (λ o. rule_at place o) (three-read p.rest targets (colons_text colons) prereqs p.others_are)
-    ∙ ap (λ o. rule_of place o targets prereqs) (separator-named colons))
+    ap (λ o. add_rule_after o) p.read
+    ∙ (ap (λ o. add_rule_at place o) (three-read p.rest targets (colons_text colons) prereqs p.others_are)
+    ∙ ap (λ o. add_rule_of place o targets prereqs) (separator-named colons))
 
 set_recipe-read : (nth : Option ℕ) (target digits line text : List ℕ) (n : ℕ) → IsNumber digits n → HasFields text (target ∷ digits ∷ line ∷ [])
     → set_recipe_after nth (three_fields text) ≡ Some (SetRecipe nth target n line)
@@ -112,12 +112,12 @@ edit-read line fields (AppendValue nth name value) h is =
     addressed-read nth line (codes "append") (name ∷ value ∷ []) fields _ (edit_word (codes "append") refl refl) h is (of_two-read (AppendValue nth) name value)
 edit-read line fields (AddAssign place name flavor value) h is =
     addressed-read (nth_of_place place) line (codes "assign") (place_words place ++ name ∷ operator_text flavor ∷ value ∷ []) fields _
-    (edit_word (codes "assign") refl refl) h is (λ rest. assign-read place name value rest flavor)
+    (edit_word (codes "assign") refl refl) h is (λ rest. add_assign-read place name value rest flavor)
 edit-read line fields (RemoveAssign nth name) h is =
     addressed-read nth line (codes "unset") (name ∷ []) fields _ (edit_word (codes "unset") refl refl) h is (of_one-read (RemoveAssign nth) name)
 edit-read line fields (AddRule place targets colons prereqs) h is =
     addressed-read (nth_of_place place) line (codes "rule") (place_words place ++ targets ∷ colons_text colons ∷ prereqs ∷ []) fields _
-    (edit_word (codes "rule") refl refl) h is (λ rest. rule-read place targets prereqs rest colons)
+    (edit_word (codes "rule") refl refl) h is (λ rest. add_rule-read place targets prereqs rest colons)
 edit-read line fields (RemoveRule nth target) h is =
     addressed-read nth line (codes "unrule") (target ∷ []) fields _ (edit_word (codes "unrule") refl refl) h is (of_one-read (RemoveRule nth) target)
 edit-read line fields (AddPrereq false nth target word) h is =

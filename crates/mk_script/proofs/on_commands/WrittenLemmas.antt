@@ -15,7 +15,7 @@ use Rattle.mk_script.specs.Lines.{HasCommand}
 use Rattle.mk_script.specs.FieldReading.{is_blank, first_field, one_field, two_fields, three_fields}
 use Rattle.mk_script.specs.NumberReading.{number}
 use Rattle.mk_script.specs.WordReading.{named, calls, edit_words, places, operators, separators}
-use Rattle.mk_script.specs.CommandReading.{placed_at, bottom, place_by_word, place_at_front, place_after, of_one, of_two, assign_after, assign_at, assign_of, rule_after, rule_at, rule_of, set_recipe_after, set_recipe_of, remove_recipe_after, remove_recipe_of, rename_of, edit_by_word, edit, edit_after_nth, edit_after_number, numbered_edit, addressed_edit, call_or_edit, command_after, command}
+use Rattle.mk_script.specs.CommandReading.{placed_at, bottom, place_by_word, place_at_front, place_after, of_one, of_two, add_assign_after, add_assign_at, add_assign_of, add_rule_after, add_rule_at, add_rule_of, set_recipe_after, set_recipe_of, remove_recipe_after, remove_recipe_of, rename_target_of, edit_by_word, edit, edit_after_nth, edit_after_number, numbered_edit, addressed_edit, call_or_edit, command_after, command}
 use Rattle.mk_script.specs.declared.word.EditWord.{EditWord}
 use Rattle.mk_script.specs.declared.word.EditWord.TheVariants as word
 use Rattle.mk_script.specs.declared.word.PlaceWord.{PlaceWord}
@@ -125,11 +125,11 @@ front-written nth text place rest h = go (first_field text) refl h
 
 -- ---- edits of places and of numbers
 
-assign-written : (nth : Option ℕ) (rest : List ℕ) (e : Edit) → assign_after (place_at_front nth rest) ≡ Some e → IsWrittenEdit nth (codes "assign") rest e
-assign-written nth rest e h = go (place_at_front nth rest) refl h
+add_assign-written : (nth : Option ℕ) (rest : List ℕ) (e : Edit) → add_assign_after (place_at_front nth rest) ≡ Some e → IsWrittenEdit nth (codes "assign") rest e
+add_assign-written nth rest e h = go (place_at_front nth rest) refl h
   where
     of_fields : (p : Place × List ℕ) → place_at_front nth rest ≡ Some p → (q : List ℕ × List ℕ × List ℕ) → three_fields p.1 ≡ Some q
-        → (o : Option Flavor) → named operators q.1 ≡ o → assign_of p.0 o q.0 q.2 ≡ Some e → IsWrittenEdit nth (codes "assign") rest e
+        → (o : Option Flavor) → named operators q.1 ≡ o → add_assign_of p.0 o q.0 q.2 ≡ Some e → IsWrittenEdit nth (codes "assign") rest e
     of_fields p k q m None n x = absurd (cc)
     of_fields p k q m (Some flavor) n x =
         let w = front-written nth rest p.0 p.1 k in
@@ -143,20 +143,20 @@ assign-written nth rest e h = go (place_at_front nth rest) refl h
               (subst (λ z. IsAfterNth z fields (codes "assign" ∷ (place_words p.0 ++ q.0 ∷ operator_text flavor ∷ q.2 ∷ []))) w.nth_is a);
         }
 
-    of_place : (p : Place × List ℕ) → place_at_front nth rest ≡ Some p → (o : Option (List ℕ × List ℕ × List ℕ)) → three_fields p.1 ≡ o → assign_at p.0 o ≡ Some e
+    of_place : (p : Place × List ℕ) → place_at_front nth rest ≡ Some p → (o : Option (List ℕ × List ℕ × List ℕ)) → three_fields p.1 ≡ o → add_assign_at p.0 o ≡ Some e
         → IsWrittenEdit nth (codes "assign") rest e
     of_place p k None m n = absurd (cc)
     of_place p k (Some q) m n = of_fields p k q m (named operators q.1) refl n
 
-    go : (o : Option (Place × List ℕ)) → place_at_front nth rest ≡ o → assign_after o ≡ Some e → IsWrittenEdit nth (codes "assign") rest e
+    go : (o : Option (Place × List ℕ)) → place_at_front nth rest ≡ o → add_assign_after o ≡ Some e → IsWrittenEdit nth (codes "assign") rest e
     go None k m = absurd (cc)
     go (Some p) k m = of_place p k (three_fields p.1) refl m
 
-rule-written : (nth : Option ℕ) (rest : List ℕ) (e : Edit) → rule_after (place_at_front nth rest) ≡ Some e → IsWrittenEdit nth (codes "rule") rest e
-rule-written nth rest e h = go (place_at_front nth rest) refl h
+add_rule-written : (nth : Option ℕ) (rest : List ℕ) (e : Edit) → add_rule_after (place_at_front nth rest) ≡ Some e → IsWrittenEdit nth (codes "rule") rest e
+add_rule-written nth rest e h = go (place_at_front nth rest) refl h
   where
     of_fields : (p : Place × List ℕ) → place_at_front nth rest ≡ Some p → (q : List ℕ × List ℕ × List ℕ) → three_fields p.1 ≡ Some q
-        → (o : Option Colons) → named separators q.1 ≡ o → rule_of p.0 o q.0 q.2 ≡ Some e → IsWrittenEdit nth (codes "rule") rest e
+        → (o : Option Colons) → named separators q.1 ≡ o → add_rule_of p.0 o q.0 q.2 ≡ Some e → IsWrittenEdit nth (codes "rule") rest e
     of_fields p k q m None n x = absurd (cc)
     of_fields p k q m (Some colons) n x =
         let w = front-written nth rest p.0 p.1 k in
@@ -170,12 +170,12 @@ rule-written nth rest e h = go (place_at_front nth rest) refl h
               (subst (λ z. IsAfterNth z fields (codes "rule" ∷ (place_words p.0 ++ q.0 ∷ colons_text colons ∷ q.2 ∷ []))) w.nth_is a);
         }
 
-    of_place : (p : Place × List ℕ) → place_at_front nth rest ≡ Some p → (o : Option (List ℕ × List ℕ × List ℕ)) → three_fields p.1 ≡ o → rule_at p.0 o ≡ Some e
+    of_place : (p : Place × List ℕ) → place_at_front nth rest ≡ Some p → (o : Option (List ℕ × List ℕ × List ℕ)) → three_fields p.1 ≡ o → add_rule_at p.0 o ≡ Some e
         → IsWrittenEdit nth (codes "rule") rest e
     of_place p k None m n = absurd (cc)
     of_place p k (Some q) m n = of_fields p k q m (named separators q.1) refl n
 
-    go : (o : Option (Place × List ℕ)) → place_at_front nth rest ≡ o → rule_after o ≡ Some e → IsWrittenEdit nth (codes "rule") rest e
+    go : (o : Option (Place × List ℕ)) → place_at_front nth rest ≡ o → add_rule_after o ≡ Some e → IsWrittenEdit nth (codes "rule") rest e
     go None k m = absurd (cc)
     go (Some p) k m = of_place p k (three_fields p.1) refl m
 
@@ -215,16 +215,16 @@ remove_recipe-written nth rest e h = go (two_fields rest) refl h
     go None k m = absurd (cc)
     go (Some q) k m = of_number q k (number q.1) refl m
 
-rename-written : (nth : Option ℕ) (rest : List ℕ) (e : Edit) → rename_of nth rest ≡ Some e → IsWrittenEdit nth (codes "rename") rest e
-rename-written None rest e h = two-written None (codes "rename") rest e RenameTarget h (λ a b fields k. k)
-rename-written (Some n) rest e h = absurd (cc)
+rename_target-written : (nth : Option ℕ) (rest : List ℕ) (e : Edit) → rename_target_of nth rest ≡ Some e → IsWrittenEdit nth (codes "rename") rest e
+rename_target-written None rest e h = two-written None (codes "rename") rest e RenameTarget h (λ a b fields k. k)
+rename_target-written (Some n) rest e h = absurd (cc)
 
 by_word-written : (nth : Option ℕ) (k : EditWord) (rest : List ℕ) (e : Edit) → edit_by_word nth (Some k) rest ≡ Some e → IsWrittenEdit nth (word_text k) rest e
 by_word-written nth word.Set rest e h = two-written nth (codes "set") rest e (SetValue nth) h (λ a b fields k. k)
 by_word-written nth word.Append rest e h = two-written nth (codes "append") rest e (AppendValue nth) h (λ a b fields k. k)
 by_word-written nth word.Unset rest e h = one-written nth (codes "unset") rest e (RemoveAssign nth) h (λ a fields k. k)
-by_word-written nth word.Assign rest e h = assign-written nth rest e h
-by_word-written nth word.Rule rest e h = rule-written nth rest e h
+by_word-written nth word.Assign rest e h = add_assign-written nth rest e h
+by_word-written nth word.Rule rest e h = add_rule-written nth rest e h
 by_word-written nth word.Unrule rest e h = one-written nth (codes "unrule") rest e (RemoveRule nth) h (λ a fields k. k)
 by_word-written nth word.Depend rest e h = two-written nth (codes "depend") rest e (AddPrereq false nth) h (λ a b fields k. k)
 by_word-written nth word.DependOrder rest e h = two-written nth (codes "depend-order") rest e (AddPrereq true nth) h (λ a b fields k. k)
@@ -232,7 +232,7 @@ by_word-written nth word.Undepend rest e h = two-written nth (codes "undepend") 
 by_word-written nth word.Recipe rest e h = two-written nth (codes "recipe") rest e (AddRecipe nth) h (λ a b fields k. k)
 by_word-written nth word.RecipeSet rest e h = set_recipe-written nth rest e h
 by_word-written nth word.RecipeDel rest e h = remove_recipe-written nth rest e h
-by_word-written nth word.Rename rest e h = rename-written nth rest e h
+by_word-written nth word.Rename rest e h = rename_target-written nth rest e h
 
 edit-written : (nth : Option ℕ) (first rest : List ℕ) (e : Edit) → edit nth first rest ≡ Some e → IsWrittenEdit nth first rest e
 edit-written nth first rest e h = go (named edit_words first) refl h

@@ -8,7 +8,7 @@ use Rattle.mk_edit_parts.proofs.on_finding.PlaceLemmas.{faithful-at}
 use Rattle.mk_edit.proofs.on_plans.PlanLemmas.{planned-if_ok, planned-if_err}
 use Rattle.mk_edit.proofs.on_plans.RangePlans.{range-long, range-accepted, range-replaced}
 use Rattle.mk_edit.proofs.on_values.ValuePlaces.{variable-place}
-use Rattle.mk_edit.proofs.on_values.AppendPlans.{append-open, append-range, appended-line, end_of}
+use Rattle.mk_edit.proofs.on_values.AppendValuePlans.{append_value-open, append_value-range, appended-line, end_of}
 use Rattle.mk_edit.proofs.value.plan_append_value.Goals as goal
 
 pub line-line-requires : goal.line-line-requires
@@ -23,7 +23,7 @@ pub returns-then-not-is_closed-clause-refused : goal.returns-then-not-is_closed-
 returns-then-not-is_closed-clause-refused g c =
     let e = edit_of c.args.edit.now in
     let l = line_view c.line-line.result.now in
-    inl (append-open e c.args.doc.now c.args.value.now c.in_ok-found.found l c.value_text-old.result.now c.requires.faithful c.requires.edit c.in_ok-found.ensures.found c.line-line.ensures c.value_text-old.ensures
+    inl (append_value-open e c.args.doc.now c.args.value.now c.in_ok-found.found l c.value_text-old.result.now c.requires.faithful c.requires.edit c.in_ok-found.ensures.found c.line-line.ensures c.value_text-old.ensures
     (sym c.is_closed.ensures ∙ c.if-not-is_closed.true))
 
 pub value_range-range-requires : goal.value_range-range-requires
@@ -37,7 +37,7 @@ returns-then-size-space-gt-SIZE_LIMIT-clause-refused g c =
     let r = value_range_placed false l in
     let v = c.args.value.now in
     let text = c.value_text-old.result.now in
-    let E = append-range e ls v c.in_ok-found.found l r text c.requires.faithful c.requires.edit c.in_ok-found.ensures.found c.line-line.ensures refl c.value_text-old.ensures (sym c.is_closed.ensures ∙ c.if-not-is_closed.false) in
+    let E = append_value-range e ls v c.in_ok-found.found l r text c.requires.faithful c.requires.edit c.in_ok-found.ensures.found c.line-line.ensures refl c.value_text-old.ensures (sym c.is_closed.ensures ∙ c.if-not-is_closed.false) in
     let long : length (space_after text ++ v) ≡ length c.space_after-space.result.now + length v = length-append (space_after text) v ∙ ap (λ z. length z + length v) (sym c.space_after-space.ensures.space) in
     inl (range-long e ls c.in_ok-found.found.at l (end_of r) (space_after text ++ v) E (omega (arith, long, c.size.ensures.number, c.if-size-space-gt-SIZE_LIMIT.true)))
 
@@ -49,7 +49,7 @@ with_put_in-requires-clause-within g c =
     let r = c.value_range-range.result in
     let v = c.args.value.now in
     let text = c.value_text-old.result.now in
-    let E = append-range e ls v c.in_ok-found.found l r text c.requires.faithful c.requires.edit c.in_ok-found.ensures.found c.line-line.ensures c.value_range-range.ensures c.value_text-old.ensures (sym c.is_closed.ensures ∙ c.if-not-is_closed.false) in
+    let E = append_value-range e ls v c.in_ok-found.found l r text c.requires.faithful c.requires.edit c.in_ok-found.ensures.found c.line-line.ensures c.value_range-range.ensures c.value_text-old.ensures (sym c.is_closed.ensures ∙ c.if-not-is_closed.false) in
     omega (arith, E.within, ap length c.bytes.ensures.bytes)
 
 pub returns-in_default-clause-refused : goal.returns-in_default-clause-refused
@@ -60,7 +60,7 @@ returns-in_default-clause-refused g c =
     let r = c.value_range-range.result in
     let v = c.args.value.now in
     let text = c.value_text-old.result.now in
-    let E = append-range e ls v c.in_ok-found.found l r text c.requires.faithful c.requires.edit c.in_ok-found.ensures.found c.line-line.ensures c.value_range-range.ensures c.value_text-old.ensures (sym c.is_closed.ensures ∙ c.if-not-is_closed.false) in
+    let E = append_value-range e ls v c.in_ok-found.found l r text c.requires.faithful c.requires.edit c.in_ok-found.ensures.found c.line-line.ensures c.value_range-range.ensures c.value_text-old.ensures (sym c.is_closed.ensures ∙ c.if-not-is_closed.false) in
     let long : length (space_after text ++ v) ≡ length c.space_after-space.result.now + length v = length-append (space_after text) v ∙ ap (λ z. length z + length v) (sym c.space_after-space.ensures.space) in
     inr (refl, _, range-accepted e ls c.in_ok-found.found.at l (end_of r) (space_after text ++ v) E (omega (arith, long, c.size.ensures.number, c.if-size-space-gt-SIZE_LIMIT.false)))
 
@@ -77,7 +77,7 @@ replace_line-requires-clause-can g c =
     let r = c.value_range-range.result in
     let v = c.args.value.now in
     let text = c.value_text-old.result.now in
-    let E = append-range e ls v c.in_ok-found.found l r text c.requires.faithful c.requires.edit c.in_ok-found.ensures.found c.line-line.ensures c.value_range-range.ensures c.value_text-old.ensures (sym c.is_closed.ensures ∙ c.if-not-is_closed.false) in
+    let E = append_value-range e ls v c.in_ok-found.found l r text c.requires.faithful c.requires.edit c.in_ok-found.ensures.found c.line-line.ensures c.value_range-range.ensures c.value_text-old.ensures (sym c.is_closed.ensures ∙ c.if-not-is_closed.false) in
     let long : length (space_after text ++ v) ≡ length c.space_after-space.result.now + length v = length-append (space_after text) v ∙ ap (λ z. length z + length v) (sym c.space_after-space.ensures.space) in
     let R = range-replaced e ls c.in_ok-found.found.at l (end_of r) (space_after text ++ v) c.in-Ok.bytes.items c.requires.faithful E (omega (arith, long, c.size.ensures.number, c.if-size-space-gt-SIZE_LIMIT.false))
     (appended-line c.in-Ok.bytes.items _ _ text v l r c.in-Ok.ensures c.bytes.ensures.bytes c.space_after-space.ensures.space) in
@@ -91,7 +91,7 @@ returns-clause-planned g c =
     let r = c.value_range-range.result in
     let v = c.args.value.now in
     let text = c.value_text-old.result.now in
-    let E = append-range e ls v c.in_ok-found.found l r text c.requires.faithful c.requires.edit c.in_ok-found.ensures.found c.line-line.ensures c.value_range-range.ensures c.value_text-old.ensures (sym c.is_closed.ensures ∙ c.if-not-is_closed.false) in
+    let E = append_value-range e ls v c.in_ok-found.found l r text c.requires.faithful c.requires.edit c.in_ok-found.ensures.found c.line-line.ensures c.value_range-range.ensures c.value_text-old.ensures (sym c.is_closed.ensures ∙ c.if-not-is_closed.false) in
     let long : length (space_after text ++ v) ≡ length c.space_after-space.result.now + length v = length-append (space_after text) v ∙ ap (λ z. length z + length v) (sym c.space_after-space.ensures.space) in
     let R = range-replaced e ls c.in_ok-found.found.at l (end_of r) (space_after text ++ v) c.in-Ok.bytes.items c.requires.faithful E (omega (arith, long, c.size.ensures.number, c.if-size-space-gt-SIZE_LIMIT.false))
     (appended-line c.in-Ok.bytes.items _ _ text v l r c.in-Ok.ensures c.bytes.ensures.bytes c.space_after-space.ensures.space) in
@@ -105,7 +105,7 @@ returns-clause-refused g c =
     let r = c.value_range-range.result in
     let v = c.args.value.now in
     let text = c.value_text-old.result.now in
-    let E = append-range e ls v c.in_ok-found.found l r text c.requires.faithful c.requires.edit c.in_ok-found.ensures.found c.line-line.ensures c.value_range-range.ensures c.value_text-old.ensures (sym c.is_closed.ensures ∙ c.if-not-is_closed.false) in
+    let E = append_value-range e ls v c.in_ok-found.found l r text c.requires.faithful c.requires.edit c.in_ok-found.ensures.found c.line-line.ensures c.value_range-range.ensures c.value_text-old.ensures (sym c.is_closed.ensures ∙ c.if-not-is_closed.false) in
     let long : length (space_after text ++ v) ≡ length c.space_after-space.result.now + length v = length-append (space_after text) v ∙ ap (λ z. length z + length v) (sym c.space_after-space.ensures.space) in
     let R = range-replaced e ls c.in_ok-found.found.at l (end_of r) (space_after text ++ v) c.in-Ok.bytes.items c.requires.faithful E (omega (arith, long, c.size.ensures.number, c.if-size-space-gt-SIZE_LIMIT.false))
     (appended-line c.in-Ok.bytes.items _ _ text v l r c.in-Ok.ensures c.bytes.ensures.bytes c.space_after-space.ensures.space) in

@@ -1,0 +1,53 @@
+//! A new recipe line, planned.
+ghost use Rattle.std.specs.Prelude.{◌≡◌, ◌≤◌, ◌+◌, IfOk, IfErr, OnOk};
+ghost use Rattle.mk_tree.specs.Counting.{AreCounted};
+ghost use Rattle.mk_tree.specs.Documents.{IsFaithful};
+ghost use Rattle.mk_tree.specs.PlacedLines.{placed_text};
+ghost use Rattle.mk_edit_laws.specs.Costs.{cost};
+ghost use Rattle.mk_edit_parts.specs.EditViews.{edit_of};
+ghost use Rattle.mk_edit.specs.Planned.{IsPlanned, IsRefusal};
+ghost use Rattle.mk_edit.specs.RecipeEdits.{IsAddRecipe};
+
+use crate::addition::add_line;
+use mk_class::Meter;
+use mk_edit_laws::Refusal;
+use mk_edit_parts::edit::Edit;
+use mk_edit_parts::find::find;
+use mk_edit_parts::place::after_lines;
+use mk_edit_parts::recipe::recipe_below;
+use mk_patch::Patch;
+use mk_tree::Doc;
+use std::alloc::Allocator;
+
+/// Plans a new recipe line. It goes after the last recipe line of its rule, or after the header if
+/// the rule has no recipe line. The call reads the new line.
+///
+/// # Errors
+///
+/// The first cause of the edit that holds: the causes of [`find`]; [`Refusal::Straddles`] if a line
+/// of a conditional stands between the header and the last recipe line; and the causes of the
+/// line's place. If no cause holds, [`Refusal::NoMemory`] if a growth was refused.
+pub(crate) fn plan_add_recipe<A: Allocator + Copy>(
+    alloc: A,
+    doc: &Doc<A>,
+    edit: &Edit<A>,
+    meter: &mut Meter,
+) -> Result<Patch<A>, Refusal>
+    requires faithful { IsFaithful doc.now }
+    requires kind { IsAddRecipe (edit_of edit.now) }
+    ensures planned { IfOk result (λ patch. IsPlanned (edit_of edit.now) doc.now patch) }
+    ensures refused { IfErr result (λ refusal. IsRefusal (placed_text doc.now) (edit_of edit.now) refusal) }
+    ensures counted { OnOk result (AreCounted meter.old (cost (placed_text doc.now) (edit_of edit.now)) meter.new) }
+    ensures few_read { meter.new ≤ meter.old + cost (placed_text doc.now) (edit_of edit.now) }
+    ensures forward { meter.old ≤ meter.new }
+{
+    // The contract of `len` bounds the number of lines, so that places can be added to.
+    let _count = doc.len();
+    let header = find(doc, edit)?;
+    let recipe = recipe_below(doc, header.at + 1);
+    if recipe.is_split {
+        return Err(Refusal::Straddles);
+    }
+    let place = after_lines(doc, header, recipe.end - header.at);
+    add_line(alloc, doc, edit, place, meter)
+}

@@ -1,0 +1,136 @@
+//! A new prerequisite of a rule, and a prerequisite taken out, planned.
+ghost use Rattle.std.specs.Prelude.{◌≡◌, ◌≤◌, ◌+◌, ◌||◌, IfOk, IfErr, OnOk};
+ghost use Rattle.mk_lines.specs.Cells.{Cell};
+ghost use Rattle.mk_class.specs.Headers;
+ghost use Rattle.mk_tree.specs.Counting.{AreCounted};
+ghost use Rattle.mk_tree.specs.Documents.{IsFaithful};
+ghost use Rattle.mk_tree.specs.PlacedLines.{placed_text};
+ghost use Rattle.mk_tree.specs.Trees.{line_view};
+ghost use Rattle.mk_edit_laws.specs.Costs.{cost};
+ghost use Rattle.mk_edit_laws.specs.RuleCauses.{is_normal, is_order_only};
+ghost use Rattle.mk_edit_parts.specs.EditViews.{edit_of};
+ghost use Rattle.mk_edit.specs.Planned.{IsPlanned, IsRefusal};
+ghost use Rattle.mk_edit_parts.specs.SeenHeaders.{HasHeader, IsHeaderSeen, IsRuleLine, IsPlacedIn};
+ghost use Rattle.mk_edit.specs.PrerequisiteEdits.{IsAddPrereq, IsRemovePrereq, is_in_list};
+
+use crate::moves::replace_line;
+use mk_class::{Class, Header, Meter};
+use mk_edit_laws::Refusal;
+use mk_edit_parts::edit::Edit;
+use mk_edit_parts::find::find;
+use mk_edit_parts::prerequisite::{
+    has_normal, has_order_only, len_of_new, with_prerequisite, without_prerequisite,
+};
+use mk_patch::Patch;
+use mk_tree::parse::SIZE_LIMIT;
+use mk_tree::{Doc, Line};
+use std::alloc::Allocator;
+
+/// Plans a new prerequisite of a rule, which goes last in its list: in the order-only prerequisites
+/// if `order` says so, and otherwise in the normal ones.
+///
+/// # Errors
+///
+/// The first cause of the edit that holds: the causes of [`find`]; [`Refusal::Already`] if the word
+/// is in that list; and [`Refusal::TooLong`]. If no cause holds, [`Refusal::NoMemory`] if a growth
+/// was refused.
+pub(crate) fn plan_add_prereq<A: Allocator + Copy>(
+    alloc: A,
+    doc: &Doc<A>,
+    edit: &Edit<A>,
+    order: bool,
+    word: &[u8],
+    meter: &mut Meter,
+) -> Result<Patch<A>, Refusal>
+    requires faithful { IsFaithful doc.now }
+    requires kind { IsAddPrereq order word.now (edit_of edit.now) }
+    ensures planned { IfOk result (λ patch. IsPlanned (edit_of edit.now) doc.now patch) }
+    ensures refused { IfErr result (λ refusal. IsRefusal (placed_text doc.now) (edit_of edit.now) refusal) }
+    ensures counted { OnOk result (AreCounted meter.old (cost (placed_text doc.now) (edit_of edit.now)) meter.new) }
+    ensures few_read { meter.new ≤ meter.old + cost (placed_text doc.now) (edit_of edit.now) }
+    ensures forward { meter.old ≤ meter.new }
+{
+    let size = doc.size();
+    let place = find(doc, edit)?;
+    let line = doc.line(place.at);
+    let header = header_of(line);
+    if is_in_list(line, header, order, word) {
+        return Err(Refusal::Already);
+    }
+    if size + len_of_new(line, header, order, word) > SIZE_LIMIT {
+        return Err(Refusal::TooLong);
+    }
+    let Ok(bytes) = with_prerequisite(alloc, line, header, order, word) else {
+        return Err(Refusal::NoMemory);
+    };
+    replace_line(alloc, doc, place, bytes, meter)
+}
+
+/// Plans the line of a rule without a prerequisite: the word goes wherever it stands in the two
+/// lists.
+///
+/// # Errors
+///
+/// The first cause of the edit that holds: the causes of [`find`], or [`Refusal::Absent`] if the
+/// word is in neither list. If no cause holds, [`Refusal::NoMemory`] if a growth was refused.
+pub(crate) fn plan_remove_prereq<A: Allocator + Copy>(
+    alloc: A,
+    doc: &Doc<A>,
+    edit: &Edit<A>,
+    word: &[u8],
+    meter: &mut Meter,
+) -> Result<Patch<A>, Refusal>
+    requires faithful { IsFaithful doc.now }
+    requires kind { IsRemovePrereq word.now (edit_of edit.now) }
+    ensures planned { IfOk result (λ patch. IsPlanned (edit_of edit.now) doc.now patch) }
+    ensures refused { IfErr result (λ refusal. IsRefusal (placed_text doc.now) (edit_of edit.now) refusal) }
+    ensures counted { OnOk result (AreCounted meter.old (cost (placed_text doc.now) (edit_of edit.now)) meter.new) }
+    ensures few_read { meter.new ≤ meter.old + cost (placed_text doc.now) (edit_of edit.now) }
+    ensures forward { meter.old ≤ meter.new }
+{
+    // The contract of `size` says that the text is within the limit, and so is the text without a
+    // word.
+    let _size = doc.size();
+    let place = find(doc, edit)?;
+    let line = doc.line(place.at);
+    let header = header_of(line);
+    if !is_prerequisite(line, header, word) {
+        return Err(Refusal::Absent);
+    }
+    let Ok(bytes) = without_prerequisite(alloc, line, header, word) else {
+        return Err(Refusal::NoMemory);
+    };
+    replace_line(alloc, doc, place, bytes, meter)
+}
+
+// Where the parts of a rule's line stand.
+fn header_of<A: Allocator>(line: &Line<A>) -> Header
+    requires { IsRuleLine (line_view line.now) }
+    ensures { IsPlacedIn (line_view line.now) result }
+{
+    match line.class() {
+        Class::Header(header) => header,
+        // The line of a rule is a header.
+        _ => unreachable!(),
+    }
+}
+
+// Whether a word is already in the list of prerequisites that it is put in.
+fn is_in_list<A: Allocator>(line: &Line<A>, header: Header, order: bool, word: &[u8]) -> bool
+    requires { HasHeader (line_view line.now) header }
+    ensures { (h : Headers.Header Cell) → IsHeaderSeen (line_view line.now) header h → result ≡ is_in_list order word.now h }
+{
+    if order {
+        has_order_only(line, header, word)
+    } else {
+        has_normal(line, header, word)
+    }
+}
+
+// Whether a word is in either list of prerequisites.
+fn is_prerequisite<A: Allocator>(line: &Line<A>, header: Header, word: &[u8]) -> bool
+    requires { HasHeader (line_view line.now) header }
+    ensures { (h : Headers.Header Cell) → IsHeaderSeen (line_view line.now) header h → result ≡ (is_normal word.now h || is_order_only word.now h) }
+{
+    has_normal(line, header, word) || has_order_only(line, header, word)
+}

@@ -1,0 +1,50 @@
+//! The removal of a recipe line.
+ghost use Rattle.std.specs.Prelude.{◌≡◌, IfOk, IfErr};
+ghost use Rattle.mk_tree.specs.Documents.{IsFaithful};
+ghost use Rattle.mk_tree.specs.PlacedLines.{placed_text};
+ghost use Rattle.mk_edit_parts.specs.EditViews.{edit_of};
+ghost use Rattle.mk_edit.specs.Planned.{IsPlanned, IsRefusal};
+ghost use Rattle.mk_edit.specs.RecipeEdits.{IsRemoveRecipe};
+
+use crate::moves::take_out;
+use mk_edit_laws::Refusal;
+use mk_edit_parts::edit::Edit;
+use mk_edit_parts::find::find;
+use mk_edit_parts::recipe::recipe_line;
+use mk_patch::Patch;
+use mk_tree::Doc;
+use std::alloc::Allocator;
+
+/// Plans the removal of a rule's recipe line, by its number from 1. It reads no line anew.
+///
+/// # Errors
+///
+/// The first cause of the edit that holds: the causes of [`find`], or [`Refusal::Absent`] if the
+/// rule has no recipe line of that number. If no cause holds, [`Refusal::NoMemory`] if a growth was
+/// refused.
+pub(crate) fn plan_remove_recipe<A: Allocator + Copy>(
+    alloc: A,
+    doc: &Doc<A>,
+    edit: &Edit<A>,
+    number: u32,
+) -> Result<Patch<A>, Refusal>
+    requires faithful { IsFaithful doc.now }
+    requires kind { IsRemoveRecipe number (edit_of edit.now) }
+    ensures planned { IfOk result (λ patch. IsPlanned (edit_of edit.now) doc.now patch) }
+    ensures refused { IfErr result (λ refusal. IsRefusal (placed_text doc.now) (edit_of edit.now) refusal) }
+{
+    // The contract of `size` says that the text is within the limit, and so is the rest of it.
+    let _size = doc.size();
+    let header = match find(doc, edit) {
+        Ok(header) => header,
+        Err(refusal) => return Err(refusal),
+    };
+    // No line below leans on a recipe line: a rule is open before it and after it.
+    let Some(at) = recipe_line(doc, header.at + 1, number) else {
+        return Err(Refusal::Absent);
+    };
+    match take_out(alloc, at, 1) {
+        Ok(patch) => Ok(patch),
+        Err(refusal) => Err(refusal),
+    }
+}

@@ -1,0 +1,98 @@
+//! The removal of a rule: its header, its recipe, and the lines between them.
+ghost use Rattle.std.specs.Prelude.{◌≡◌, IfOk, IfErr, length};
+ghost use Rattle.mk_tree.specs.Documents.{IsFaithful};
+ghost use Rattle.mk_tree.specs.PlacedLines.{placed_text};
+ghost use Rattle.mk_tree.specs.Trees.{line_view};
+ghost use Rattle.mk_lines.specs.Words.{words_in};
+ghost use Rattle.mk_edit_parts.specs.EditViews.{edit_of};
+ghost use Rattle.mk_edit_parts.specs.PlacedParts.{IsClassed};
+ghost use Rattle.mk_edit.specs.Planned.{IsPlanned, IsRefusal};
+ghost use Rattle.mk_edit.specs.RecipeEdits.{IsRemoveRule};
+ghost use Rattle.mk_edit_parts.specs.RecipeWalks.{header_targets_placed};
+
+use crate::moves::take_out;
+use mk_class::{Class, Flag};
+use mk_edit_laws::Refusal;
+use mk_edit_parts::edit::Edit;
+use mk_edit_parts::find::find;
+use mk_edit_parts::lean::leans;
+use mk_edit_parts::part::{part, text_of_line};
+use mk_edit_parts::recipe::recipe_below;
+use mk_lines::split::Span;
+use mk_lines::split_first_word;
+use mk_patch::Patch;
+use mk_tree::{Doc, Line};
+use std::alloc::Allocator;
+
+/// Plans the removal of a rule. It reads no line anew.
+///
+/// # Errors
+///
+/// The first cause of the edit that holds: the causes of [`find`]; [`Refusal::SharedRule`] if the
+/// rule has several targets; [`Refusal::Straddles`] if a line of a conditional stands in its
+/// recipe; and [`Refusal::Leans`] if the lines below would be read in another way. If no cause
+/// holds, [`Refusal::NoMemory`] if a growth was refused.
+pub(crate) fn plan_remove_rule<A: Allocator + Copy>(
+    alloc: A,
+    doc: &Doc<A>,
+    edit: &Edit<A>,
+) -> Result<Patch<A>, Refusal>
+    requires faithful { IsFaithful doc.now }
+    requires kind { IsRemoveRule (edit_of edit.now) }
+    ensures planned { IfOk result (λ patch. IsPlanned (edit_of edit.now) doc.now patch) }
+    ensures refused { IfErr result (λ refusal. IsRefusal (placed_text doc.now) (edit_of edit.now) refusal) }
+{
+    // The contract of `size` says that the text is within the limit, and so is the rest of it.
+    let _size = doc.size();
+    let header = match find(doc, edit) {
+        Ok(header) => header,
+        Err(refusal) => return Err(refusal),
+    };
+    let targets = target_count(doc.line(header.at));
+    if targets > 1 {
+        return Err(Refusal::SharedRule(targets as u64));
+    }
+    let recipe = recipe_below(doc, header.at + 1);
+    if recipe.is_split {
+        return Err(Refusal::Straddles);
+    }
+    let prefix = header.context.prefix();
+    // After a header and its recipe the flag says that a rule is open.
+    if leans(doc, recipe.end, prefix, header.context.flag(), Flag::Rule) {
+        return Err(Refusal::Leans);
+    }
+    match take_out(alloc, header.at, recipe.end - header.at) {
+        Ok(patch) => Ok(patch),
+        Err(refusal) => Err(refusal),
+    }
+}
+
+// How many targets a header has; 0 for any other line.
+fn target_count<A: Allocator>(line: &Line<A>) -> usize
+    requires { IsClassed (line_view line.now) }
+    ensures { result ≡ length (header_targets_placed (line_view line.now)) }
+{
+    match line.class() {
+        Class::Header(header) => {
+            let targets = Span {
+                start: 0,
+                end: header.targets_end,
+            };
+            word_count(part(text_of_line(line), targets))
+        }
+        _ => 0,
+    }
+}
+
+// How many words a text has.
+fn word_count(text: &[u8]) -> usize
+    ensures { result ≡ length (words_in text.now) }
+{
+    let mut count = 0;
+    let mut rest = text;
+    'words: while let Some((_, after)) = split_first_word(rest) {
+        count += 1;
+        rest = after;
+    }
+    count
+}

@@ -1,0 +1,46 @@
+//! A rename, planned.
+ghost use Rattle.std.specs.Prelude.{◌≤◌, ◌+◌, IfOk, IfErr, OnOk};
+ghost use Rattle.mk_tree.specs.Counting.{AreCounted};
+ghost use Rattle.mk_tree.specs.Documents.{IsFaithful};
+ghost use Rattle.mk_tree.specs.PlacedLines.{placed_text};
+ghost use Rattle.mk_edit_laws.specs.Costs.{cost};
+ghost use Rattle.mk_edit_parts.specs.EditViews.{edit_of};
+ghost use Rattle.mk_edit.specs.Planned.{IsPlanned, IsRefusal};
+ghost use Rattle.mk_edit.specs.RenameTargetEffects.{IsRenameTarget};
+
+use crate::rename_target_causes::rename_target_refusal;
+use crate::rename_target_patch::rename_target_patch;
+use mk_class::Meter;
+use mk_edit_laws::Refusal;
+use mk_edit_parts::edit::Edit;
+use mk_patch::Patch;
+use mk_tree::Doc;
+use std::alloc::Allocator;
+
+/// Plans a rename: a word in all targets and prerequisites becomes another one.
+///
+/// # Errors
+///
+/// The first cause of the edit that holds, as [`rename_target_refusal`] answers it. If no cause
+/// holds, [`Refusal::NoMemory`] if a growth was refused.
+pub(crate) fn plan_rename_target<A: Allocator + Copy>(
+    alloc: A,
+    doc: &Doc<A>,
+    edit: &Edit<A>,
+    from: &[u8],
+    to: &[u8],
+    meter: &mut Meter,
+) -> Result<Patch<A>, Refusal>
+    requires faithful { IsFaithful doc.now }
+    requires kind { IsRenameTarget from.now to.now (edit_of edit.now) }
+    ensures planned { IfOk result (λ patch. IsPlanned (edit_of edit.now) doc.now patch) }
+    ensures refused { IfErr result (λ refusal. IsRefusal (placed_text doc.now) (edit_of edit.now) refusal) }
+    ensures counted { OnOk result (AreCounted meter.old (cost (placed_text doc.now) (edit_of edit.now)) meter.new) }
+    ensures few_read { meter.new ≤ meter.old + cost (placed_text doc.now) (edit_of edit.now) }
+    ensures forward { meter.old ≤ meter.new }
+{
+    match rename_target_refusal(doc, edit, from, to) {
+        Some(refusal) => Err(refusal),
+        None => rename_target_patch(alloc, doc, from, to, meter),
+    }
+}

@@ -1,0 +1,76 @@
+//! Another command for a recipe line, planned.
+ghost use Rattle.std.specs.Prelude.{◌≡◌, ◌≤◌, ◌+◌, IfOk, IfErr, OnOk};
+ghost use Rattle.mk_tree.specs.Counting.{AreCounted};
+ghost use Rattle.mk_tree.specs.Documents.{IsFaithful};
+ghost use Rattle.mk_tree.specs.PlacedLines.{placed_text};
+ghost use Rattle.mk_edit_laws.specs.Costs.{cost};
+ghost use Rattle.mk_edit_parts.specs.EditViews.{edit_of};
+ghost use Rattle.mk_edit.specs.Planned.{IsPlanned, IsRefusal};
+ghost use Rattle.mk_edit.specs.RecipeEdits.{IsSetRecipe, command_range};
+
+use crate::moves::replace_line;
+use mk_class::Meter;
+use mk_edit_laws::Refusal;
+use mk_edit_parts::edit::Edit;
+use mk_edit_parts::find::find;
+use mk_edit_parts::place::after_lines;
+use mk_edit_parts::range::with_replaced;
+use mk_edit_parts::recipe::recipe_line;
+use mk_lines::ends::without_line_end;
+use mk_lines::split::Span;
+use mk_patch::Patch;
+use mk_tree::Doc;
+use mk_tree::parse::SIZE_LIMIT;
+use std::alloc::Allocator;
+
+/// Plans another command for a rule's recipe line, by its number from 1. The recipe prefix and the
+/// line end stay.
+///
+/// # Errors
+///
+/// The first cause of the edit that holds: the causes of [`find`]; [`Refusal::Absent`] if the rule
+/// has no recipe line of that number; and [`Refusal::TooLong`]. If no cause holds,
+/// [`Refusal::NoMemory`] if a growth was refused.
+pub(crate) fn plan_set_recipe<A: Allocator + Copy>(
+    alloc: A,
+    doc: &Doc<A>,
+    edit: &Edit<A>,
+    number: u32,
+    command: &[u8],
+    meter: &mut Meter,
+) -> Result<Patch<A>, Refusal>
+    requires faithful { IsFaithful doc.now }
+    requires kind { IsSetRecipe number command.now (edit_of edit.now) }
+    ensures planned { IfOk result (λ patch. IsPlanned (edit_of edit.now) doc.now patch) }
+    ensures refused { IfErr result (λ refusal. IsRefusal (placed_text doc.now) (edit_of edit.now) refusal) }
+    ensures counted { OnOk result (AreCounted meter.old (cost (placed_text doc.now) (edit_of edit.now)) meter.new) }
+    ensures few_read { meter.new ≤ meter.old + cost (placed_text doc.now) (edit_of edit.now) }
+    ensures forward { meter.old ≤ meter.new }
+{
+    let size = doc.size();
+    let header = find(doc, edit)?;
+    let Some(at) = recipe_line(doc, header.at + 1, number) else {
+        return Err(Refusal::Absent);
+    };
+    let line = doc.line(at);
+    let range = command_range(line.bytes());
+    if size + command.len() > SIZE_LIMIT + (range.end - range.start) {
+        return Err(Refusal::TooLong);
+    }
+    let Ok(bytes) = with_replaced(alloc, line.bytes(), range, command) else {
+        return Err(Refusal::NoMemory);
+    };
+    let place = after_lines(doc, header, at - header.at);
+    replace_line(alloc, doc, place, bytes, meter)
+}
+
+// Where the command of a recipe line stands among its bytes: after the first byte, which is the
+// recipe prefix, up to the line end.
+fn command_range(line: &[u8]) -> Span
+    ensures { result ≡ command_range line.now }
+{
+    Span {
+        start: 1,
+        end: without_line_end(line).len(),
+    }
+}
