@@ -39,7 +39,7 @@ IMPORTS = [
     ("Rattle.mk_history.specs.Machine", ["Command", "Apply", *CALLS.values()]),
     ("Rattle.mk_history.specs.Shown", ["shown_opened"]),
     ("Rattle.mk_script.specs.Scripts", ["CommandAt"]),
-    ("Rattle.mk_run.specs.Commands", ["obeyed"]),
+    ("Rattle.mk_run.specs.ObeyedCommands", ["obeyed"]),
     ("Rattle.mk_run.specs.Runs", ["RunResult", "result_after"]),
     ("Rattle.mk_run.specs.declared.outcome.Outcome", ["Outcome"]),
     ("Rattle.mk_run.specs.declared.outcome.Outcome.TheVariants", ["Done", "Refused"]),

@@ -10,7 +10,7 @@ use Rattle.mk_lines.proofs.on_units.FirstUnitLemmas.{units-first_unit}
 use Rattle.mk_lines.specs.Words.{Token, Word, tokens, token_units, before_tokens, is_gap}
 use Rattle.mk_lines.proofs.on_units.TokenLemmas.{token_units-tokens}
 use Rattle.mk_lines.proofs.on_lists.ListLemmas.{leading-after_leading}
-use Rattle.mk_class.specs.Lists.{until, from}
+use Rattle.mk_class.specs.ListTests.{until, from}
 use Rattle.mk_class.specs.Symbols.{symbol}
 use Rattle.mk_class.specs.Symbols.Symbol.{Colon}
 use Rattle.mk_class.specs.Assignments.{Assignment, operator_at, operator_length, ends_name, after_blanks, blanks, defined_by, definition, modifier_of, after_units, after_modifier, assignment, assignment_of}
@@ -18,9 +18,9 @@ use Rattle.mk_class.specs.TextClasses.{itself}
 use Rattle.mk_class.specs.Scans.{IsOperatorAt, is_other}
 use Rattle.mk_class.specs.declared.assignment.Flavor.{Flavor}
 use Rattle.mk_class.specs.declared.assignment.Modifier.{Modifier}
-use Rattle.mk_class.specs.ClassPlaces.{width}
-use Rattle.mk_class.specs.AssignmentPlaces.{placed}
-use Rattle.mk_class.specs.declared.assignment.Assignment as places
+use Rattle.mk_class.specs.LocatedClasses.{width}
+use Rattle.mk_class.specs.LocatedAssignments.{located}
+use Rattle.mk_class.specs.declared.assignment.Assignment as offsets
 use Rattle.std.specs.Option.{is_some}
 use Rattle.mk_lines.proofs.on_units.UnitLemmas.{concat-units}
 use Rattle.mk_class.specs.FirstWords.{modifier}
@@ -64,29 +64,29 @@ pub definition-parts : (us N R O : List (List ℕ)) → N ≡ after_blanks itsel
     → definition itself us ≡ defined_by itself (operator_at (map (symbol itself) O)) (blanks itself us) (until (ends_name itself) N) (blanks itself R) O
 definition-parts us N R O h k l = rw (l, k, h) refl
 
--- the places of an assignment
-abbrev made : Flavor → (name_start name_end value_start value_end end : ℕ) → places.Assignment
+-- the offsets of an assignment
+abbrev made : Flavor → (name_start name_end value_start value_end end : ℕ) → offsets.Assignment
 made f a b c d e = record { flavor = f; name = record { start = a; end = b }; value = record { start = c; end = d }; end = e }
 
 made-same : (f : Flavor) (a b c d e A B C D E : ℕ) → a ≡ A → b ≡ B → c ≡ C → d ≡ D → e ≡ E → made f a b c d e ≡ made f A B C D E
 made-same f a b c d e A B C D E h i j k l = rw (h, i, j, k, l) refl
 
--- places counted by what follows are the places counted by what stands before
-made-places : (f : Flavor) (len t nm an o op v av wb wn wg wk wc wt wa : ℕ) → t ≤ len
+-- offsets counted by what follows are the offsets counted by what stands before
+made-offsets : (f : Flavor) (len t nm an o op v av wb wn wg wk wc wt wa : ℕ) → t ≤ len
     → t ≡ wb + nm → nm ≡ wn + an → an ≡ wg + o → o ≡ wk + op → op ≡ wc + v → v ≡ wt + av → av ≡ wa
     → made f (len - nm) (len - an) (len - v) (len - av) len
     ≡ made f ((len - t) + wb) (((len - t) + wb) + wn) ((((len - t) + wb) + wn) + (wg + (wk + wc))) (((((len - t) + wb) + wn) + (wg + (wk + wc))) + wt) ((((((len - t) + wb) + wn) + (wg + (wk + wc))) + wt) + wa)
-made-places f len t nm an o op v av wb wn wg wk wc wt wa h a b c d e g i =
+made-offsets f len t nm an o op v av wb wn wg wk wc wt wa h a b c d e g i =
     made-same f _ _ _ _ _ _ _ _ _ _ (omega arith) (omega arith) (omega arith) (omega arith) (omega arith)
 
--- the places of a definition
-defined-places : (len : ℕ) (f : Flavor) (b n g r : List (List ℕ)) (t nm an o op v av : ℕ) → t ≤ len
+-- the offsets of a definition
+defined-offsets : (len : ℕ) (f : Flavor) (b n g r : List (List ℕ)) (t nm an o op v av : ℕ) → t ≤ len
     → t ≡ width b + nm → nm ≡ width n + an → an ≡ width g + o → o ≡ width (take (operator_length f) r) + op → op ≡ width (blanks itself (drop (operator_length f) r)) + v
     → v ≡ width (trim_end (is_gap itself) (after_blanks itself (drop (operator_length f) r))) + av → av ≡ width (trailing (is_gap itself) (after_blanks itself (drop (operator_length f) r)))
     → (an ≡ nm → ⊥)
-    → Some (made f (len - nm) (len - an) (len - v) (len - av) len) ≡ placed (len - t) (defined_by itself (Some f) b n g r)
-defined-places len f b [] g r t nm an o op v av h a i c d e j k q = absurd (let z : nm ≡ 0 + an = i in q (omega (arith, z)))
-defined-places len f b (u ∷ n) g r t nm an o op v av h a i c d e j k q =
+    → Some (made f (len - nm) (len - an) (len - v) (len - av) len) ≡ located (len - t) (defined_by itself (Some f) b n g r)
+defined-offsets len f b [] g r t nm an o op v av h a i c d e j k q = absurd (let z : nm ≡ 0 + an = i in q (omega (arith, z)))
+defined-offsets len f b (u ∷ n) g r t nm an o op v av h a i c d e j k q =
     let R = drop (operator_length f) r in
     let w : width g + (width (take (operator_length f) r) + width (blanks itself R)) ≡ width (g ++ (take (operator_length f) r ++ blanks itself R)) =
     ap (λ z. width g + z) (sym (width-append (take (operator_length f) r) (blanks itself R))) ∙ sym (width-append g (take (operator_length f) r ++ blanks itself R)) in
@@ -94,7 +94,7 @@ defined-places len f b (u ∷ n) g r t nm an o op v av h a i c d e j k q =
     let V = width (trim_end (is_gap itself) (after_blanks itself R)) in
     let A = width (trailing (is_gap itself) (after_blanks itself R)) in
     ap Some (
-    made-places f len t nm an o op v av (width b) (width (u ∷ n)) (width g) (width (take (operator_length f) r)) (width (blanks itself R)) V A h a i c d e j k
+    made-offsets f len t nm an o op v av (width b) (width (u ∷ n)) (width g) (width (take (operator_length f) r)) (width (blanks itself R)) V A h a i c d e j k
     ∙ ap (λ z. made f ((len - t) + width b) at (at + z) ((at + z) + V) (((at + z) + V) + A)) w
     )
 
@@ -107,11 +107,11 @@ pub definition_read : (len : ℕ) (t nm an o op v av : List ℕ) (f : Flavor) �
     → units itself v ≡ after_leading (is_gap itself) (units itself op)
     → units itself av ≡ trailing (is_gap itself) (units itself v)
     → (length an ≡ length nm → ⊥)
-    → Some (made f (len - length nm) (len - length an) (len - length v) (len - length av) len) ≡ placed (len - length t) (definition itself (units itself t))
+    → Some (made f (len - length nm) (len - length an) (len - length v) (len - length av) len) ≡ located (len - length t) (definition itself (units itself t))
 definition_read len t nm an o op v av f l h i j k m n q =
     let V : units itself v ≡ after_blanks itself (drop (operator_length f) (units itself o)) = m ∙ ap (after_leading (is_gap itself)) k.1 in
     let A : units itself av ≡ trailing (is_gap itself) (after_blanks itself (drop (operator_length f) (units itself o))) = n ∙ ap (trailing (is_gap itself)) V in
-    defined-places len f (blanks itself (units itself t)) (until (ends_name itself) (units itself nm)) (blanks itself (units itself an)) (units itself o)
+    defined-offsets len f (blanks itself (units itself t)) (until (ends_name itself) (units itself nm)) (blanks itself (units itself an)) (units itself o)
     (length t) (length nm) (length an) (length o) (length op) (length v) (length av) l
     (width-before t nm _ (leading-before (is_gap itself) t nm h))
     (width-before nm an _ (until-before (ends_name itself) nm an i))
@@ -120,7 +120,7 @@ definition_read len t nm an o op v av f l h i j k m n q =
     (width-before op v _ (leading-before (is_gap itself) op v m) ∙ ap (λ z. width (blanks itself z) + length v) k.1)
     (width-before v av _ (trim_end-before (is_gap itself) v av n) ∙ ap (λ z. width (trim_end (is_gap itself) z) + length av) V)
     (sym (width-units av) ∙ ap width A) q
-    ∙ ap (placed (len - length t)) (sym (
+    ∙ ap (located (len - length t)) (sym (
     definition-parts (units itself t) (units itself nm) (units itself an) (units itself o) h i j
     ∙ ap (λ z. defined_by itself z (blanks itself (units itself t)) (until (ends_name itself) (units itself nm)) (blanks itself (units itself an)) (units itself o)) k.0
     ))
@@ -131,9 +131,9 @@ no_name (Some f) b n g r h = ap (λ z. defined_by itself (Some f) b z g r) h
 
 -- there is no definition without a name
 pub definition_unnamed : (at : ℕ) (t nm an : List ℕ) → units itself nm ≡ after_leading (is_gap itself) (units itself t) → units itself an ≡ from (ends_name itself) (units itself nm)
-    → length an ≡ length nm → None ≡ placed at (definition itself (units itself t))
+    → length an ≡ length nm → None ≡ located at (definition itself (units itself t))
 definition_unnamed at t nm an h i q =
-    ap (placed at) (sym (
+    ap (located at) (sym (
     definition-parts (units itself t) (units itself nm) (units itself an) (after_blanks itself (units itself an)) h i refl
     ∙ no_name (operator_at (map (symbol itself) (after_blanks itself (units itself an)))) _ _ _ _ (until-none (ends_name itself) nm an i q)
     ))
@@ -217,26 +217,26 @@ assignment-step (u ∷ us) = go (is_gap itself u) refl (assignment-step us)
         ∙ (ap (λ z. elim (definition itself z) [ Some a ↦ Some a | None ↦ elim (modifier_of itself W) [ Some k ↦ after_modifier itself k W (assignment_of itself ts) | None ↦ None ] ]) whole
         ∙ (of_word (definition itself (u ∷ us)) (modifier_of itself W) W ts ∙ goal_of))
 
-placed-none : (at : ℕ) (d : Option (Assignment ℕ)) (r : Option places.Assignment) → r ≡ placed at d → is_some r ≡ false → d ≡ None
-placed-none at None r h k = refl
-placed-none at (Some a) r h k = absurd (let e : is_some r ≡ true = ap is_some h in cc)
+located-none : (at : ℕ) (d : Option (Assignment ℕ)) (r : Option offsets.Assignment) → r ≡ located at d → is_some r ≡ false → d ≡ None
+located-none at None r h k = refl
+located-none at (Some a) r h k = absurd (let e : is_some r ≡ true = ap is_some h in cc)
 
 -- the assignment is a definition that was read
-pub definition-first : (at : ℕ) (us : List (List ℕ)) (r : Option places.Assignment) → r ≡ placed at (definition itself us) → is_some r ≡ true → r ≡ placed at (assignment itself us)
+pub definition-first : (at : ℕ) (us : List (List ℕ)) (r : Option offsets.Assignment) → r ≡ located at (definition itself us) → is_some r ≡ true → r ≡ located at (assignment itself us)
 definition-first at us r h k = h ∙ go (definition itself us) refl (ap is_some (sym h) ∙ k)
   where
-    go : (d : Option (Assignment ℕ)) → definition itself us ≡ d → is_some (placed at d) ≡ true → placed at d ≡ placed at (assignment itself us)
+    go : (d : Option (Assignment ℕ)) → definition itself us ≡ d → is_some (located at d) ≡ true → located at d ≡ located at (assignment itself us)
     go None e z = cc
-    go (Some a) e z = ap (placed at) (sym (assignment-step us ∙ ap (λ d. or_modified d (modifier_of itself (first_word us)) (blanks itself us) (first_word us) (assignment itself (after_first_word us))) e))
+    go (Some a) e z = ap (located at) (sym (assignment-step us ∙ ap (λ d. or_modified d (modifier_of itself (first_word us)) (blanks itself us) (first_word us) (assignment itself (after_first_word us))) e))
 
 -- the modifier that the units of a word are
 modifier-word : (s : List ℕ) (w : List (List ℕ)) → units itself s ≡ w → modifier_of itself w ≡ modifier s
 modifier-word s w h = ap modifier (map-itself (concat w) ∙ (ap concat (sym h) ∙ concat-units itself s))
 
--- the place of what stands before the name does not matter to what follows it
-placed-after : (at : ℕ) (m : Modifier) (g w : List (List ℕ)) (o : Option (Assignment ℕ)) → placed at (after_units itself g (after_modifier itself m w o)) ≡ placed ((at + width g) + width w) o
-placed-after at m g w None = refl
-placed-after at m g w (Some a) =
+-- the offset of what stands before the name does not matter to what follows it
+located-after : (at : ℕ) (m : Modifier) (g w : List (List ℕ)) (o : Option (Assignment ℕ)) → located at (after_units itself g (after_modifier itself m w o)) ≡ located ((at + width g) + width w) o
+located-after at m g w None = refl
+located-after at m g w (Some a) =
     let n : at + width (g ++ (w ++ a.before)) ≡ ((at + width g) + width w) + width a.before =
     let e : width (g ++ (w ++ a.before)) ≡ width g + (width w + width a.before) = width-append g (w ++ a.before) ∙ ap (λ z. width g + z) (width-append w a.before) in
     omega (arith, e) in
@@ -253,34 +253,34 @@ word-before rest word after h k =
     h ∙ (sym (leading-after_leading no_gap (after_blanks itself (units itself rest))) ∙ ap (λ z. first_word (units itself rest) ++ z) (sym (after_word-is rest word after h k)))
 
 -- there is no assignment where the first word is no modifier
-pub assignment-none : (at : ℕ) (rest word after w : List ℕ) (r : Option places.Assignment) → units itself word ≡ after_leading (is_gap itself) (units itself rest)
+pub assignment-none : (at : ℕ) (rest word after w : List ℕ) (r : Option offsets.Assignment) → units itself word ≡ after_leading (is_gap itself) (units itself rest)
     → units itself after ≡ after_leading (is_other (32 ∷ 9 ∷ [])) (units itself word) → ((front : List (List ℕ)) → units itself word ≡ front ++ units itself after → units itself w ≡ front)
-    → r ≡ placed at (definition itself (units itself rest)) → is_some r ≡ false → modifier w ≡ None → None ≡ placed at (assignment itself (units itself rest))
+    → r ≡ located at (definition itself (units itself rest)) → is_some r ≡ false → modifier w ≡ None → None ≡ located at (assignment itself (units itself rest))
 assignment-none at rest word after w r h k f d z m =
     let us = units itself rest in
-    ap (placed at) (sym (
+    ap (located at) (sym (
     assignment-step us
-    ∙ (ap (λ e. or_modified e (modifier_of itself (first_word us)) (blanks itself us) (first_word us) (assignment itself (after_first_word us))) (placed-none at (definition itself us) r d z)
+    ∙ (ap (λ e. or_modified e (modifier_of itself (first_word us)) (blanks itself us) (first_word us) (assignment itself (after_first_word us))) (located-none at (definition itself us) r d z)
     ∙ ap (λ e. or_modified None e (blanks itself us) (first_word us) (assignment itself (after_first_word us))) (modifier-word w (first_word us) (f (first_word us) (word-before rest word after h k)) ∙ m))
     ))
 
 -- the step over one modifier
-pub assignment-next : (len : ℕ) (rest word after w : List ℕ) (r : Option places.Assignment) (m : Modifier) → length rest ≤ len → units itself word ≡ after_leading (is_gap itself) (units itself rest)
+pub assignment-next : (len : ℕ) (rest word after w : List ℕ) (r : Option offsets.Assignment) (m : Modifier) → length rest ≤ len → units itself word ≡ after_leading (is_gap itself) (units itself rest)
     → units itself after ≡ after_leading (is_other (32 ∷ 9 ∷ [])) (units itself word) → ((front : List (List ℕ)) → units itself word ≡ front ++ units itself after → units itself w ≡ front)
-    → r ≡ placed (len - length rest) (definition itself (units itself rest)) → is_some r ≡ false → modifier w ≡ Some m
-    → placed (len - length after) (assignment itself (units itself after)) ≡ placed (len - length rest) (assignment itself (units itself rest))
+    → r ≡ located (len - length rest) (definition itself (units itself rest)) → is_some r ≡ false → modifier w ≡ Some m
+    → located (len - length after) (assignment itself (units itself after)) ≡ located (len - length rest) (assignment itself (units itself rest))
 assignment-next len rest word after w r m l h k f d z e =
     let us = units itself rest in
     let at = len - length rest in
     let step : assignment itself us ≡ after_units itself (blanks itself us) (after_modifier itself m (first_word us) (assignment itself (after_first_word us))) =
     assignment-step us
-    ∙ (ap (λ i. or_modified i (modifier_of itself (first_word us)) (blanks itself us) (first_word us) (assignment itself (after_first_word us))) (placed-none at (definition itself us) r d z)
+    ∙ (ap (λ i. or_modified i (modifier_of itself (first_word us)) (blanks itself us) (first_word us) (assignment itself (after_first_word us))) (located-none at (definition itself us) r d z)
     ∙ ap (λ i. or_modified None i (blanks itself us) (first_word us) (assignment itself (after_first_word us))) (modifier-word w (first_word us) (f (first_word us) (word-before rest word after h k)) ∙ e)) in
     let a : length rest ≡ width (blanks itself us) + length word = width-before rest word (blanks itself us) (leading-before (is_gap itself) rest word h) in
     let b : length word ≡ width (first_word us) + length after = width-before word after (first_word us) (word-before rest word after h k) in
     let n : len - length after ≡ (at + width (blanks itself us)) + width (first_word us) = omega (arith, a, b) in
     sym (
-    ap (placed at) step
-    ∙ (placed-after at m (blanks itself us) (first_word us) (assignment itself (after_first_word us))
-    ∙ (ap (λ i. placed i (assignment itself (after_first_word us))) (sym n) ∙ ap (λ i. placed (len - length after) (assignment itself i)) (sym (after_word-is rest word after h k))))
+    ap (located at) step
+    ∙ (located-after at m (blanks itself us) (first_word us) (assignment itself (after_first_word us))
+    ∙ (ap (λ i. located i (assignment itself (after_first_word us))) (sym n) ∙ ap (λ i. located (len - length after) (assignment itself i)) (sym (after_word-is rest word after h k))))
     )

@@ -6,7 +6,7 @@ use Rattle.std.proofs.lemmas.Bool.{eqb-true}
 use Rattle.std.proofs.Math.Bool.{not-not, or-false}
 use Rattle.mk_lines.specs.Lists.{leading}
 use Rattle.mk_lines.specs.Units.Mark.{Dollar, Escape, OpenParen, CloseParen, OpenBrace, CloseBrace, Unmarked}
-use Rattle.mk_class.specs.Lists.{first_passes}
+use Rattle.mk_class.specs.ListTests.{first_passes}
 use Rattle.mk_class.specs.Symbols.{Symbol, byte_symbol, is_hash, is_colon, is_bar, is_equals_symbol, is_hash_symbol, is_colon_symbol, is_semicolon_symbol, is_bar_symbol, is_equals, is_escape, is_dollar_before_blank}
 use Rattle.mk_class.specs.Symbols.Symbol.{Hash, Colon, Semicolon, Equals, Plus, Question, Exclamation, Bar, Ampersand, NoSymbol}
 use Rattle.mk_class.proofs.on_symbols.SymbolLemmas.{symbol_byte, byte_symbol-byte, equals_symbol-is, hash_symbol-is, colon_symbol-is, semicolon_symbol-is, bar_symbol-is}
@@ -25,8 +25,8 @@ use Rattle.mk_class.specs.Headers.{has_unreadable}
 use Rattle.mk_class.specs.TextClasses.{itself}
 
 -- whether a unit is a `=`, begins with a backslash, or is a dollar before a blank or a backslash
-abbrev pub is_amiss : List ℕ → Bool
-is_amiss u = is_equals itself u || (is_escape itself u || is_dollar_before_blank itself u)
+abbrev pub is_bad_unit : List ℕ → Bool
+is_bad_unit u = is_equals itself u || (is_escape itself u || is_dollar_before_blank itself u)
 
 -- an unclosed unit besides
 escape_test : (a b c d l : Bool) → (l ≡ true → b ≡ true) → ((a || (b || (c || d))) || false) ≡ (((a || (b || c)) || false) || (d || l))
@@ -78,19 +78,19 @@ lone_backslash [] h = cc
 lone_backslash (x ∷ []) h = escape_mark x h
 lone_backslash (x ∷ y ∷ u) h = cc
 
--- a unit may stand in no word where it is amiss or leaves the text open
-unreadable-open : (us : List (List ℕ)) → has_unreadable itself us ≡ (list_any is_amiss us || leaves_open itself us)
+-- a unit may stand in no word where it is bad or leaves the text open
+unreadable-open : (us : List (List ℕ)) → has_unreadable itself us ≡ (list_any is_bad_unit us || leaves_open itself us)
 unreadable-open [] = refl
 unreadable-open (u ∷ []) = escape_test (is_equals itself u) (is_escape itself u) (is_dollar_before_blank itself u) (is_unclosed_unit itself u) (is_lone_backslash itself u) (lone_backslash u)
 unreadable-open (u ∷ v ∷ us) =
     ap (λ z. (is_equals itself u || (is_escape itself u || (is_dollar_before_blank itself u || is_unclosed_unit itself u))) || z) (unreadable-open (v ∷ us))
-    ∙ more_tests (is_equals itself u) (is_escape itself u) (is_dollar_before_blank itself u) (is_unclosed_unit itself u) (list_any is_amiss (v ∷ us)) (leaves_open itself (v ∷ us))
+    ∙ more_tests (is_equals itself u) (is_escape itself u) (is_dollar_before_blank itself u) (is_unclosed_unit itself u) (list_any is_bad_unit (v ∷ us)) (leaves_open itself (v ∷ us))
 
--- a text that is amiss, and one that is not
-pub unreadable-amiss : (t : List ℕ) → list_any is_amiss (units itself t) ≡ true → true ≡ has_unreadable itself (units itself t)
-unreadable-amiss t h = sym (unreadable-open (units itself t) ∙ ap (λ z. z || leaves_open itself (units itself t)) h)
+-- a text that is bad, and one that is not
+pub unreadable-bad : (t : List ℕ) → list_any is_bad_unit (units itself t) ≡ true → true ≡ has_unreadable itself (units itself t)
+unreadable-bad t h = sym (unreadable-open (units itself t) ∙ ap (λ z. z || leaves_open itself (units itself t)) h)
 
-pub unreadable-closed : (t : List ℕ) → list_any is_amiss (units itself t) ≡ false → not (is_closed itself t) ≡ has_unreadable itself (units itself t)
+pub unreadable-closed : (t : List ℕ) → list_any is_bad_unit (units itself t) ≡ false → not (is_closed itself t) ≡ has_unreadable itself (units itself t)
 unreadable-closed t h =
     ap not (is_closed-leaves_open itself t)
     ∙ (not-not (leaves_open itself (units itself t))

@@ -9,9 +9,9 @@ use Rattle.std.proofs.lemmas.Bool.{eqb-true}
 use Rattle.mk_lines.specs.Lists.{concat, leading, after_leading, trailing, trim_end, trim_end_before, trailing_before, FirstFails}
 use Rattle.mk_lines.proofs.on_lists.ListLemmas.{after_leading-first_fails, concat-append, leading-after_leading, trim_end-trailing}
 use Rattle.std.proofs.lemmas.List.{take-append-drop}
-use Rattle.mk_class.specs.Lists.{first_passes, last_passes, until, from, is_empty}
+use Rattle.mk_class.specs.ListTests.{first_passes, last_passes, until, from, is_empty}
 use Rattle.mk_class.proofs.on_symbols.ListLemmas.{until-from}
-use Rattle.mk_class.specs.ClassPlaces.{width}
+use Rattle.mk_class.specs.LocatedClasses.{width}
 use Rattle.mk_lines.specs.Bytes.{byte_kind, is_blank_kind, ByteKind, is_blank_byte}
 use Rattle.mk_lines.specs.Units.{byte_mark, units, unit_step, unit_begins}
 use Rattle.mk_lines.specs.Units.Mark.{Unmarked}
@@ -254,7 +254,7 @@ trim_end-before p t r h = sym (trim_end-trailing p (units itself t)) ∙ ap (λ 
 pub take-before : (n : ℕ) (t r : List ℕ) → units itself r ≡ drop n (units itself t) → units itself t ≡ take n (units itself t) ++ units itself r
 take-before n t r h = sym (take-append-drop n (units itself t)) ∙ ap (λ z. take n (units itself t) ++ z) (sym h)
 
--- if nothing stands before the place, the text has as many bytes from there on
+-- if nothing stands before the offset, the text has as many bytes from there on
 cut-none : (c : Bool) (x : ℕ) (m : List ℕ) (u : List ℕ) (us : List (List ℕ)) → u ≡ x ∷ m → width (cond c [] (u ∷ us)) ≡ 0 → cond c [] (u ∷ us) ≡ []
 cut-none true x m u us e z = refl
 cut-none false x m u us e z = absurd (let n : suc (length (m ++ concat us)) ≡ 0 = ap (λ w. width (w ∷ us)) (sym e) ∙ z in omega (arith, n))

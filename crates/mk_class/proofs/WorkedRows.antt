@@ -12,7 +12,7 @@ use Rattle.mk_class.specs.Arguments.{is_value, is_word, is_target, is_name, is_c
 use Rattle.mk_class.specs.declared.assignment.Flavor.TheVariants.{Recursive, Simple, PosixSimple, Immediate, Conditional, Append, Shell}
 use Rattle.mk_class.specs.declared.assignment.Modifier.TheVariants.{Override, Export, Private}
 use Rattle.mk_class.specs.declared.rule.Separator.TheVariants.{SingleColon, GroupedDoubleColon}
-use Rattle.mk_class.specs.declared.context.Flag.TheVariants.{Off, Rule, Unknown}
+use Rattle.mk_class.specs.declared.context.RuleFlag.TheVariants.{Off, Rule, Unknown}
 use Rattle.mk_class.proofs.ClassNames.{class_names, contexts}
 
 -- ---- classes, line by line

@@ -3,5 +3,5 @@ pub mod ClassLemmas
 pub mod ClassHolds
 pub mod ClassMaps
 pub mod FirstWordLemmas
-pub mod PartPlaceLemmas
+pub mod PartOffsetLemmas
 pub mod LinePartLemmas

@@ -4,7 +4,7 @@ use Rattle.std.specs.List.{list_any}
 use Rattle.mk_lines.specs.Bytes.{ByteKind, LineFeed, CarriageReturn, byte_kind, is_backslash_kind, is_blank_byte}
 use Rattle.mk_lines.specs.Units.{units, is_closed}
 use Rattle.mk_lines.specs.Words.{is_gap}
-use Rattle.mk_class.specs.Lists.{is_empty, first_passes, last_passes}
+use Rattle.mk_class.specs.ListTests.{is_empty, first_passes, last_passes}
 use Rattle.mk_class.specs.Symbols.{Symbol, Hash, Colon, Semicolon, Equals, Bar, symbol, is_hash, is_escape, is_dollar_before_blank}
 
 -- ---- bytes

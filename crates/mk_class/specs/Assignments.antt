@@ -3,7 +3,7 @@ use Rattle.std.specs.Prelude.{ℕ, if◌then◌else◌, Bool, true, false, ◌||
 use Rattle.std.specs.Str.{bytes_eq}
 use Rattle.mk_lines.specs.Lists.{leading, after_leading, trim_end, trailing}
 use Rattle.mk_lines.specs.Words.{Token, Gap, Word, tokens, token_units, is_gap}
-use Rattle.mk_class.specs.Lists.{until, from, first_passes}
+use Rattle.mk_class.specs.ListTests.{until, from, first_passes}
 use Rattle.mk_class.specs.Texts.{unit_text}
 use Rattle.mk_class.specs.Symbols.{Symbol, Colon, Semicolon, Equals, Plus, Question, Exclamation, symbol, is_equals}
 use Rattle.mk_class.specs.declared.assignment.Flavor.{Flavor}

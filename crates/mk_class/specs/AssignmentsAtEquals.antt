@@ -3,7 +3,7 @@
 use Rattle.std.specs.Prelude.{ℕ, Bool, false, not, ◌||◌, List, [], ◌∷◌, ◌++◌, map, Option, Some, None}
 use Rattle.mk_lines.specs.Lists.{leading, after_leading, trim_end, trailing}
 use Rattle.mk_lines.specs.Words.{Token, Gap, Word, tokens, token_units, is_gap}
-use Rattle.mk_class.specs.Lists.{is_empty, until, from}
+use Rattle.mk_class.specs.ListTests.{is_empty, until, from}
 use Rattle.mk_class.specs.Symbols.{Symbol, Colon, Plus, Question, Exclamation, symbol, is_equals}
 use Rattle.mk_class.specs.Assignments.{Assignment, ends_name_by, after_blanks, blanks, modifier_of}
 use Rattle.mk_class.specs.declared.assignment.Flavor.{Flavor}

@@ -1,7 +1,7 @@
 -- Which parts fit a header: parts that are read again from their units, when these stand in a line.
 use Rattle.std.specs.Prelude.{◌≡◌, ℕ, ◌&&◌, true, false, map, List, [], ◌∷◌, ◌++◌}
 use Rattle.mk_lines.specs.Lists.{Each, FirstFails}
-use Rattle.mk_class.specs.Lists.{first_passes, last_passes}
+use Rattle.mk_class.specs.ListTests.{first_passes, last_passes}
 use Rattle.mk_class.specs.Symbols.{Symbol, Colon, Ampersand, symbol, is_colon, is_bar, is_ampersand}
 use Rattle.mk_class.specs.CutTexts.{is_in_head}
 use Rattle.mk_class.specs.Headers.{Header, is_no_bar, is_no_colon}

@@ -3,7 +3,7 @@ use Rattle.std.specs.Prelude.{ℕ, if◌then◌else◌, Bool, false, not, ◌&&�
 use Rattle.std.specs.List.{list_any}
 use Rattle.mk_lines.specs.Lists.{leading, after_leading}
 use Rattle.mk_lines.specs.Words.{is_gap}
-use Rattle.mk_class.specs.Lists.{is_empty, first_passes, last_passes}
+use Rattle.mk_class.specs.ListTests.{is_empty, first_passes, last_passes}
 use Rattle.mk_class.specs.Texts.{words_of}
 use Rattle.mk_class.specs.Symbols.{is_hash, is_colon, is_equals, is_bar, is_unreadable_unit}
 use Rattle.mk_class.specs.CutTexts.{head, after_head}
@@ -82,8 +82,8 @@ module _ {A : Type 0} (byte : A → ℕ) where
   has_third_separator h = has_colon byte h.normal || has_colon byte h.order_only
 
   -- whether there is a `|` among the prerequisites that is no word by itself
-  abbrev pub has_bar_amiss : Header A → Bool
-  has_bar_amiss h =
+  abbrev pub has_bad_bar : Header A → Bool
+  has_bad_bar h =
       list_any (is_bar byte) h.targets || list_any (is_bar byte) h.pattern
       || (not (is_empty h.bar) && (last_passes (λ u. not (is_gap byte u)) h.normal || first_passes (λ u. not (is_gap byte u)) h.order_only))
 
@@ -97,12 +97,12 @@ module _ {A : Type 0} (byte : A → ℕ) where
   is_single (x ∷ xs) = is_empty xs
 
   -- whether anything but one word stands between two separators
-  abbrev pub has_pattern_amiss : Header A → Bool
-  has_pattern_amiss h = not (is_empty h.second_colon) && not (is_single (words_of byte h.pattern))
+  abbrev pub has_bad_pattern : Header A → Bool
+  has_bad_pattern h = not (is_empty h.second_colon) && not (is_single (words_of byte h.pattern))
 
   -- whether a line with this head and these parts is Rough
   abbrev pub is_rough : (head : List (List A)) → Header A → Bool
-  is_rough us h = has_unreadable us || (has_colon_after_other h || (has_third_separator h || (has_bar_amiss h || (has_second_bar h || has_pattern_amiss h))))
+  is_rough us h = has_unreadable us || (has_colon_after_other h || (has_third_separator h || (has_bad_bar h || (has_second_bar h || has_bad_pattern h))))
 
   -- ---- the inline recipe
 

@@ -6,7 +6,7 @@ use Rattle.mk_lines.specs.Units.{byte_mark, Unmarked}
 use Rattle.mk_class.specs.Symbols.{symbol}
 use Rattle.mk_class.specs.Assignments.{operator_at, operator_length}
 use Rattle.mk_class.specs.TextClasses.{itself}
-use Rattle.mk_class.specs.Lists.{from}
+use Rattle.mk_class.specs.ListTests.{from}
 use Rattle.mk_class.specs.Separators.{begins_separator, separator_at, separator_length}
 use Rattle.mk_class.specs.declared.assignment.Flavor.{Flavor}
 use Rattle.mk_class.specs.declared.rule.Separator.{Separator}

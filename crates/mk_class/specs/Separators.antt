@@ -1,7 +1,7 @@
 -- The separator of a rule, and a text taken apart at its separator.
 use Rattle.std.specs.Prelude.{ℕ, Bool, true, false, ◌&&◌, ◌||◌, List, ◌∷◌, map, take, drop, ◌++◌}
 use Rattle.std.specs.List.{list_any}
-use Rattle.mk_class.specs.Lists.{until, from, first_passes}
+use Rattle.mk_class.specs.ListTests.{until, from, first_passes}
 use Rattle.mk_class.specs.Symbols.{Symbol, Colon, Ampersand, symbol, is_colon, is_ampersand}
 use Rattle.mk_class.specs.declared.rule.Separator.{Separator}
 use Rattle.mk_class.specs.declared.rule.Separator.TheVariants.{SingleColon, DoubleColon, GroupedColon, GroupedDoubleColon}

@@ -8,7 +8,7 @@ ghost use Rattle.std.specs.List.{list_all, list_any};
 ghost use Rattle.mk_lines.specs.Units.{units};
 ghost use Rattle.mk_class.specs.Arguments.{ends_word, is_ampersand_byte, is_backslash_byte, is_barred_byte, is_clean, is_command, is_name, is_name_byte, is_target, is_value, is_word};
 ghost use Rattle.mk_lines.specs.Bytes.{is_blank_byte};
-ghost use Rattle.mk_class.specs.Lists.{first_passes, last_passes};
+ghost use Rattle.mk_class.specs.ListTests.{first_passes, last_passes};
 ghost use Rattle.mk_class.specs.Symbols.{is_hash};
 
 use mk_lines::{is_closed, split_first_unit};

@@ -4,12 +4,12 @@ ghost use Rattle.std.specs.Prelude.{◌≡◌, ◌≤◌, ◌-◌, ◌∷◌, []
 ghost use Rattle.std.specs.List.{list_any};
 ghost use Rattle.memchr.specs.Find.{is_byte};
 ghost use Rattle.mk_lines.specs.Units.{units};
-ghost use Rattle.mk_class.specs.Lists.{from};
+ghost use Rattle.mk_class.specs.ListTests.{from};
 ghost use Rattle.mk_class.specs.Symbols.{Colon, symbol};
 ghost use Rattle.mk_class.specs.Assignments.{assignment, definition, ends_name, operator_at};
 ghost use Rattle.mk_class.specs.TextClasses.{itself};
 ghost use Rattle.mk_class.specs.Scans.{IsOperatorAt};
-ghost use Rattle.mk_class.specs.AssignmentPlaces.{placed};
+ghost use Rattle.mk_class.specs.LocatedAssignments.{located};
 ghost use Rattle.mk_class.specs.OperatorTexts.{operator_text};
 
 use crate::keyword::modifier_of;
@@ -86,11 +86,11 @@ pub struct Assignment {
     pub name: Span,
     /// The value, without the blanks around it. An empty value stands at the end of the cut text.
     pub value: Span,
-    /// The end of the cut text. Only blanks stand between the value and this place.
+    /// The end of the cut text. Only blanks stand between the value and this offset.
     pub end: usize,
 }
 
-/// Where the parts of an assignment for targets stand, as places in the line's joined text, in
+/// Where the parts of an assignment for targets stand, as offsets in the line's joined text, in
 /// bytes from 0.
 ///
 /// GNU make manual, "Target-specific Variable Values" and "Pattern-specific Variable Values".
@@ -98,9 +98,9 @@ pub struct Assignment {
 pub struct TargetAssignment {
     /// What stands between the targets and the assignment: `:` or `::`.
     pub separator: Separator,
-    /// The end of the targets, which begin at 0: the place of the separator.
+    /// The end of the targets, which begin at 0: the offset of the separator.
     pub targets_end: usize,
-    /// The assignment, with its places in the whole joined text.
+    /// The assignment, with its offsets in the whole joined text.
     pub assignment: Assignment,
 }
 
@@ -108,7 +108,7 @@ pub struct TargetAssignment {
 ///
 /// The time is linear in the bytes of the text, and no memory is taken.
 pub(crate) fn read_assignment(cut: &[u8]) -> Option<Assignment>
-    ensures { result ≡ placed 0 (assignment itself (units itself cut.now)) }
+    ensures { result ≡ located 0 (assignment itself (units itself cut.now)) }
 {
     if !has_equals(cut) {
         return None;
@@ -124,11 +124,11 @@ pub(crate) fn has_equals(text: &[u8]) -> bool
     memchr(b'=', text).is_some()
 }
 
-/// The assignment that `text`, the end of a cut text of `len` bytes, is. Its places are those in
+/// The assignment that `text`, the end of a cut text of `len` bytes, is. Its offsets are those in
 /// the whole cut text.
 pub(crate) fn assignment_at_end(text: &[u8], len: usize) -> Option<Assignment>
     requires { length text.now ≤ len }
-    ensures { result ≡ placed (len - length text.now) (assignment itself (units itself text.now)) }
+    ensures { result ≡ located (len - length text.now) (assignment itself (units itself text.now)) }
 {
     let mut rest = text;
     loop {
@@ -146,7 +146,7 @@ pub(crate) fn assignment_at_end(text: &[u8], len: usize) -> Option<Assignment>
 /// The assignment without modifiers that `text`, the end of a cut text of `len` bytes, is.
 fn read_definition(text: &[u8], len: usize) -> Option<Assignment>
     requires { length text.now ≤ len }
-    ensures { result ≡ placed (len - length text.now) (definition itself (units itself text.now)) }
+    ensures { result ≡ located (len - length text.now) (definition itself (units itself text.now)) }
 {
     let named = after_blanks(text);
     let after_name = after_name(named);

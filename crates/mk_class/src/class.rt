@@ -4,7 +4,7 @@ use crate::assignment::{Assignment, TargetAssignment};
 use crate::context::Nesting;
 use crate::rule::Header;
 
-/// What a logical line is. The places are those of its joined text, in bytes from 0.
+/// What a logical line is. The offsets are those of its joined text, in bytes from 0.
 ///
 /// The class of a line is the first that fits, in the order of the table in docs/LANGUAGE.md. That
 /// table says what each class is and where it comes from.

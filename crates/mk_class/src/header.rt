@@ -4,13 +4,13 @@ ghost use Rattle.std.specs.List.{list_any};
 ghost use Rattle.mk_lines.specs.Units.{units};
 ghost use Rattle.mk_lines.specs.Words.{is_gap};
 ghost use Rattle.mk_class.specs.CutTexts.{after_head, head as head_of};
-ghost use Rattle.mk_class.specs.Lists.{first_passes, from, is_empty, last_passes};
+ghost use Rattle.mk_class.specs.ListTests.{first_passes, from, is_empty, last_passes};
 ghost use Rattle.mk_class.specs.Symbols.{is_blank_or_backslash, is_dollar_before_blank, is_bar, is_colon, is_equals, is_escape, is_hash};
 ghost use Rattle.mk_class.specs.Texts.{words_of};
 ghost use Rattle.mk_class.specs.Separators.{begins_separator, separated};
 ghost use Rattle.mk_class.specs.Scans.{AreSeparated, IsSeparatorAt};
-ghost use Rattle.mk_class.specs.Headers.{has_bar_amiss, has_unreadable, header_parts, is_single};
-ghost use Rattle.mk_class.specs.HeaderParts.{FitsHead, IsBarSplit, IsPatternSplit, is_rough_apart, parts_header};
+ghost use Rattle.mk_class.specs.Headers.{has_bad_bar, has_unreadable, header_parts, is_single};
+ghost use Rattle.mk_class.specs.HeadParts.{FitsHead, IsBarSplit, IsPatternSplit, is_rough_apart, parts_header};
 ghost use Rattle.mk_class.specs.TextClasses.{header_text_class, itself};
 
 use crate::class::Class;
@@ -95,14 +95,14 @@ impl<'a> Parts<'a> {
     {
         (self.has_pattern && self.separator != Separator::SingleColon)
             || (has_colon(self.normal) || has_colon(self.order_only))
-            || self.has_bar_amiss()
+            || self.has_bad_bar()
             || has_bar(self.order_only)
             || (self.has_pattern && !is_one_word(self.pattern))
     }
 
     /// Whether there is a `|` among the prerequisites that is no word by itself.
-    fn has_bar_amiss(&self) -> bool
-        ensures { result ≡ has_bar_amiss itself (parts_header [] self.now []) }
+    fn has_bad_bar(&self) -> bool
+        ensures { result ≡ has_bad_bar itself (parts_header [] self.now []) }
     {
         has_bar(self.targets)
             || has_bar(self.pattern)
@@ -116,7 +116,7 @@ fn head_parts<'a>(head: &'a [u8], split: Separated<'a>) -> Parts<'a>
     requires parts { AreSeparated (units itself head.now) split.separator (units itself split.from.now) (units itself split.rest.now) }
     requires from { length split.from.now ≤ length head.now }
     ensures parts { (tail : List (List ℕ)) → header_parts itself (separated itself (units itself head.now)) tail ≡ parts_header (separated itself (units itself head.now)).colons result tail }
-    ensures places { FitsHead head.now result }
+    ensures offsets { FitsHead head.now result }
 {
     let (has_pattern, pattern, prerequisites) = split_pattern(split.rest);
     let (normal, has_order_only, order_only) = split_order_only(prerequisites);

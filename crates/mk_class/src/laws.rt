@@ -1,6 +1,6 @@
 //! Laws of classes and assignments: each contract is a theorem on the definitions that the calls of
 //! this crate are specified by. The functions do nothing.
-ghost use Rattle.mk_class.specs.Laws.{AssignmentsAreWhole, ClassesAreOfJoinedTexts, ClassesFitCounts, ClassesLookUp, ContextsOfAllLines, FirstEqualsDecides, FlagIsForFirstLines, FlagIsForLedLines, HeadersAreReadAgain, HeadersAreWhole, HeadersFit, HeadsDecideAssignments, PlacesAreParts, PrefixesAreMarks, ValueIsFree, ValueTextIsFree};
+ghost use Rattle.mk_class.specs.ClassLaws.{AssignmentsAreWhole, ClassesAreOfJoinedTexts, ClassesFitCounts, ClassesLookUp, ContextsOfAllLines, FirstEqualsDecides, FlagIsForFirstLines, FlagIsForLedLines, HeadersAreReadAgain, HeadersAreWhole, HeadersFit, HeadsDecideAssignments, OffsetsAreParts, PrefixesAreMarks, ValueIsFree, ValueTextIsFree};
 
 /// A line that does not begin with the recipe prefix has the same class under each flag.
 pub fn flag_is_for_led_lines()
@@ -32,7 +32,7 @@ pub fn classes_fit_counts()
     ensures { ClassesFitCounts }
 {}
 
-/// The class of a line, with its places, is that of its joined text.
+/// The class of a line, with its offsets, is that of its joined text.
 ///
 /// Apart from the text it depends only on the context, on whether the line begins with the recipe
 /// prefix, and on whether it has a stray byte or a bad fold.
@@ -40,11 +40,11 @@ pub fn classes_are_of_joined_texts()
     ensures { ClassesAreOfJoinedTexts }
 {}
 
-/// If the class of a line has the places of the parts of an assignment or a rule, these parts stand
+/// If the class of a line has the offsets of the parts of an assignment or a rule, these parts stand
 /// there: each range of the joined text has the text, the units and the words of its part, and the
 /// raw range has the raw bytes of the part.
-pub fn places_are_parts()
-    ensures { PlacesAreParts }
+pub fn offsets_are_parts()
+    ensures { OffsetsAreParts }
 {}
 
 /// The recipe prefix in force is a tab, or a printable byte of ASCII other than the blank, `$` and

@@ -26,7 +26,7 @@ mod scan;
 pub use argument::{is_command, is_name, is_target, is_value, is_word};
 pub use assignment::{Assignment, Flavor, Modifier, TargetAssignment};
 pub use class::Class;
-pub use context::{Context, Flag, Nesting};
+pub use context::{Context, Nesting, RuleFlag};
 pub use keyword::is_reserved_word;
 pub use meter::Meter;
 pub use reading::{class_with_cells, classify};

@@ -5,15 +5,15 @@
 //! fits, in the order of the table in docs/LANGUAGE.md.
 ghost use Rattle.std.specs.Prelude.{◌≡◌, ◌⊎◌, ◌<◌, ◌≤◌, ◌≢◌, ◌+◌, ◌-◌, ◌^◌, ℕ, List, true, false, All, IfErr, IfOk, MatchOption, Some, min, nat_lt};
 ghost use Rattle.mk_lines.specs.Units.{units};
-ghost use Rattle.mk_lines.specs.KeptCells.{AreCellsOf};
+ghost use Rattle.mk_lines.specs.StoredCells.{AreCellsOf};
 ghost use Rattle.mk_lines.specs.PhysicalLines.{without_line_end};
 ghost use Rattle.mk_class.specs.Assignments.{Assignment, assignment};
 ghost use Rattle.mk_lines.specs.Cells.{line_cells};
 ghost use Rattle.mk_class.specs.ClassTable.{is_unreadable};
 ghost use Rattle.mk_class.specs.declared.class.Class.TheVariants.{If, TargetAssign};
-ghost use Rattle.mk_class.specs.LineReads.{IsRead, IsTooDeep};
+ghost use Rattle.mk_class.specs.LineReads.{IsLineRead, OpensTooDeep};
 ghost use Rattle.mk_class.specs.CutTexts.{cut_text};
-ghost use Rattle.mk_class.specs.Lists.{first_passes};
+ghost use Rattle.mk_class.specs.ListTests.{first_passes};
 ghost use Rattle.mk_class.specs.RecipePrefix.{is_dot, may_be_prefix, may_set_prefix, prefix_of_value, prefix_set_by};
 ghost use Rattle.mk_class.specs.Separators.{takes_assignment};
 ghost use Rattle.mk_class.specs.TextClasses.{header_text_class, itself, plain_text_class, rule_text_class, text_class};
@@ -23,7 +23,7 @@ use crate::assignment::{
     read_operator,
 };
 use crate::class::Class;
-use crate::context::{Context, Flag, MAX_CONDITIONALS};
+use crate::context::{Context, MAX_CONDITIONALS, RuleFlag};
 use crate::header::{read_header, separate};
 use crate::keyword::{body_class, directive_class, is_text};
 use crate::meter::Meter;
@@ -52,8 +52,8 @@ pub fn classify<A: Allocator + Copy>(
     meter: &mut Meter,
 ) -> Result<(Class, Context), Fault>
     requires { context.defines < 2 ^ 24 }
-    ensures class { IfOk result (λ read. IsRead context line.now read.0 read.1) }
-    ensures fault { IfErr result (λ fault. (fault ≡ Fault.NoMemory) ⊎ ((fault ≡ Fault.TooDeep) × IsTooDeep context line.now)) }
+    ensures class { IfOk result (λ read. IsLineRead context line.now read.0 read.1) }
+    ensures fault { IfErr result (λ fault. (fault ≡ Fault.NoMemory) ⊎ ((fault ≡ Fault.TooDeep) × OpensTooDeep context line.now)) }
     ensures plain { All (λ b. b ≢ 10) (without_line_end line.now) → IfErr result (λ fault. fault ≡ Fault.TooDeep) }
     ensures meter { meter.new ≡ min (meter.old + 1) (2 ^ 64 - 1) }
     ensures forward { meter.old ≤ meter.new }
@@ -82,8 +82,8 @@ pub fn class_with_cells<A: Allocator>(
 ) -> Result<(Class, Context), Fault>
     requires cells { AreCellsOf cells.now line.now }
     requires defines { context.defines < 2 ^ 24 }
-    ensures class { IfOk result (λ read. IsRead context line.now read.0 read.1) }
-    ensures fault { IfErr result (λ fault. (fault ≡ Fault.TooDeep) × IsTooDeep context line.now) }
+    ensures class { IfOk result (λ read. IsLineRead context line.now read.0 read.1) }
+    ensures fault { IfErr result (λ fault. (fault ≡ Fault.TooDeep) × OpensTooDeep context line.now) }
     ensures meter { meter.new ≡ min (meter.old + 1) (2 ^ 64 - 1) }
     ensures forward { meter.old ≤ meter.new }
 {
@@ -128,8 +128,8 @@ fn text_class(text: &[u8], is_led: bool, context: Context, is_unreadable: bool) 
         return body_class(text, is_led, defines);
     }
     match context.flag() {
-        Flag::Rule if is_led => Class::Recipe,
-        Flag::Unknown if is_led => Class::Opaque,
+        RuleFlag::Rule if is_led => Class::Recipe,
+        RuleFlag::Unknown if is_led => Class::Opaque,
         _ => plain_class(text, is_led, context.conds() > 0, is_unreadable),
     }
 }

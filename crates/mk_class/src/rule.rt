@@ -32,7 +32,7 @@ impl Separator {
     }
 }
 
-/// Where the parts of a header, the line of a rule, stand, as places in the line's joined text, in
+/// Where the parts of a header, the line of a rule, stand, as offsets in the line's joined text, in
 /// bytes from 0.
 ///
 /// They follow one another: the targets; the separator; a pattern and a second `:`, if there is
@@ -51,12 +51,12 @@ pub struct Header {
     pub has_order_only: bool,
     /// Whether a `;` ends the head. The inline recipe follows it, and may be empty.
     pub has_recipe: bool,
-    /// The end of the targets, which begin at 0: the place of the separator.
+    /// The end of the targets, which begin at 0: the offset of the separator.
     pub targets_end: usize,
     /// The start of the normal prerequisites: the end of the separator, or of the second `:`.
     pub normal_start: usize,
-    /// The end of the normal prerequisites: the place of the `|`, if there is one.
+    /// The end of the normal prerequisites: the offset of the `|`, if there is one.
     pub normal_end: usize,
-    /// The end of the head: the place of a `;` or `#`, or the length of the joined text.
+    /// The end of the head: the offset of a `;` or `#`, or the length of the joined text.
     pub head_end: usize,
 }

@@ -13,7 +13,7 @@ ghost use Rattle.mk_lines.specs.Bytes.{is_blank_byte};
 ghost use Rattle.mk_class.specs.CutTexts.{after_head, cut_text, head};
 ghost use Rattle.mk_class.specs.TextClasses.{itself};
 ghost use Rattle.mk_class.specs.Scans.{AreUnmarked, IsSplitAt, is_one_byte_of, is_other};
-ghost use Rattle.mk_class.specs.Lists.{first_passes, last_passes};
+ghost use Rattle.mk_class.specs.ListTests.{first_passes, last_passes};
 ghost use Rattle.mk_class.specs.Symbols.{is_colon, is_equals, is_hash};
 
 use memchr::{memchr, memchr2};

@@ -4,10 +4,10 @@ use Rattle.mk_lines.specs.LogicalLines.{is_open}
 use Rattle.mk_lines.specs.PhysicalLines.{line_end_bytes, file_line_end}
 use Rattle.mk_class.specs.ClassedLines.{classed_lines}
 use Rattle.mk_tree.specs.Documents.{context_of}
-use Rattle.mk_tree.specs.PlacedLines.{PlacedLine, placed_text}
+use Rattle.mk_tree.specs.LocatedLines.{LocatedLine, located_text}
 use Rattle.mk_edit_laws.specs.Edits.{Place, Bottom, Edit, AddAssign, AddRule, AddRecipe}
 use Rattle.mk_edit_laws.specs.Stretches.{Stretch}
-use Rattle.mk_edit_laws.specs.Spans.{spans_of}
+use Rattle.mk_edit_laws.specs.EditSpans.{spans_of}
 use Rattle.mk_edit_laws.specs.LineCauses.{open_line, open_define, leaning, too_long}
 use Rattle.mk_edit_laws.specs.Refusals.{causes, first_cause}
 use Rattle.mk_edit_laws.specs.declared.refusal.Refusal.{Refusal}
@@ -39,10 +39,10 @@ is_at_bottom (AddRule p ts c ws) = is_bottom p
 is_at_bottom e = false
 
 -- A new line goes between the lines of a document: there is a stretch for it, which begins at this place, with the context there.
-pub record IsInsertedAt (ls : List PlacedLine) (insertion : Option Stretch) (place : Found) : Type 0 where
+pub record IsInsertedAt (ls : List LocatedLine) (insertion : Option Stretch) (place : Found) : Type 0 where
   pub stretch : Stretch
   pub stretch_is : insertion ≡ Some stretch
-  pub whole : classed_lines (placed_text ls) ≡ stretch.above ++ stretch.below
+  pub whole : classed_lines (located_text ls) ≡ stretch.above ++ stretch.below
   pub place_is : length stretch.above ≡ place.at
   pub context_is : context_of stretch.above ≡ place.context
 
@@ -55,13 +55,13 @@ abbrev pub IsDecidedByPlace : (text : List ℕ) → Edit → Type 0
 IsDecidedByPlace t e = first_cause (causes t (classed_lines t) e) ≡ first_cause (place_causes t e)
 
 -- whether a line is open; false if there is no line
-abbrev pub is_open_line : Option PlacedLine → Bool
+abbrev pub is_open_line : Option LocatedLine → Bool
 is_open_line None = false
 is_open_line (Some l) = is_open l.bytes
 
 -- how many bytes the line ends have that come with a line put in at a place: its own, and the line end that a last line without
 -- one gets
-abbrev pub ends_length : List PlacedLine → (at : ℕ) → ℕ
+abbrev pub ends_length : List LocatedLine → (at : ℕ) → ℕ
 ends_length ls at =
-    let n = length (line_end_bytes (file_line_end (placed_text ls))) in
+    let n = length (line_end_bytes (file_line_end (located_text ls))) in
     if follows_unended ls at then n + n else n

@@ -2,7 +2,7 @@
 use Rattle.std.specs.Prelude.{◌≡◌, ◌⊎◌, ◌+◌, if◌then◌else◌, ℕ, List, length, Option, Some, None, Ok, Err}
 use Rattle.mk_lines.specs.Pieces.{Replacement}
 use Rattle.mk_class.specs.ClassedLines.{classed_lines}
-use Rattle.mk_tree.specs.PlacedLines.{PlacedLine, placed_text}
+use Rattle.mk_tree.specs.LocatedLines.{LocatedLine, located_text}
 use Rattle.mk_tree.specs.Documents.{IsFaithful, IsFaithfulTo}
 use Rattle.mk_tree.specs.Readings.{reading}
 use Rattle.mk_edit_laws.specs.Edits.{Edit}
@@ -17,27 +17,27 @@ use Rattle.mk_edit.specs.PlannedMoves.{follows_unended}
 
 -- how many last lines get a line end if a new line goes into a stretch: one, if the new line goes after a last line without a
 -- line end
-abbrev pub ended_by : List PlacedLine → Option Stretch → ℕ
+abbrev pub ended_by : List LocatedLine → Option Stretch → ℕ
 ended_by ls None = 0
 ended_by ls (Some s) = if follows_unended ls (length s.above) then 1 else 0
 
 -- how many last lines get a line end by an edit
-abbrev pub ended_lines : List PlacedLine → Edit → ℕ
-ended_lines ls e = ended_by ls (insertion (classed_lines (placed_text ls)) e)
+abbrev pub ended_lines : List LocatedLine → Edit → ℕ
+ended_lines ls e = ended_by ls (insertion (classed_lines (located_text ls)) e)
 
 -- A patch planned for a document. The edit has spans. The patch fits the document, and leads to the document of the text with
 -- these spans replaced, which is faithful and reads as the edit's stated change says. The patch holds exactly as many lines as
 -- the edit reads again, and takes out exactly as many as the edit's size says; each number is one higher if a last line gets a
 -- line end.
-pub record IsPlanned (e : Edit) (ls : List PlacedLine) (patch : List Move) : Type 0 where
+pub record IsPlanned (e : Edit) (ls : List LocatedLine) (patch : List Move) : Type 0 where
   pub replacements : List Replacement
-  pub spans_are : spans (placed_text ls) e ≡ Ok replacements
+  pub spans_are : spans (located_text ls) e ≡ Ok replacements
   pub fit : FitMoves patch ls
-  pub leads : IsFaithfulTo (after_moves patch ls) (text_after (placed_text ls) e)
+  pub leads : IsFaithfulTo (after_moves patch ls) (text_after (located_text ls) e)
   pub faithful : IsFaithful (after_moves patch ls)
-  pub reads : reading (text_after (placed_text ls) e) ≡ change (placed_text ls) e
-  pub held : held_by patch ≡ cost (placed_text ls) e + ended_lines ls e
-  pub taken : taken_by patch ≡ size (placed_text ls) e + ended_lines ls e
+  pub reads : reading (text_after (located_text ls) e) ≡ change (located_text ls) e
+  pub held : held_by patch ≡ cost (located_text ls) e + ended_lines ls e
+  pub taken : taken_by patch ≡ size (located_text ls) e + ended_lines ls e
 
 -- A refusal of an edit of a text: the first refusal whose cause holds; or NoMemory, if no cause holds and a growth was refused.
 abbrev pub IsRefusal : (text : List ℕ) → Edit → Refusal → Type 0

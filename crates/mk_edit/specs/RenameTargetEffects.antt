@@ -2,36 +2,36 @@
 -- with the recipe prefix.
 use Rattle.std.specs.Prelude.{◌≡◌, ℕ, ◌+◌, ◌&&◌, ◌||◌, Bool, false, List, [], ◌∷◌, length}
 use Rattle.std.specs.List.{list_any}
-use Rattle.mk_class.specs.Contexts.{Context, context_after_places}
+use Rattle.mk_class.specs.Contexts.{Context, context_after_located}
 use Rattle.mk_class.specs.RecipePrefix.{is_prefix_led}
-use Rattle.mk_tree.specs.PlacedLines.{PlacedLine}
+use Rattle.mk_tree.specs.LocatedLines.{LocatedLine}
 use Rattle.mk_edit_laws.specs.Edits.{Edit, RenameTarget}
 use Rattle.mk_edit.specs.declared.rename_target_causes.Effect.{Effect}
 use Rattle.mk_edit_parts.specs.declared.tally.Tally.{Tally}
-use Rattle.mk_edit_parts.specs.RenamedPlaces.{bytes_in, is_at_front, renamed_places}
+use Rattle.mk_edit_parts.specs.RenamedRanges.{bytes_in, is_at_front, renamed_ranges}
 
 -- an edit renames this word to that one
 abbrev pub IsRenameTarget : (old new : List ℕ) → Edit → Type 0
 IsRenameTarget o n e = e ≡ RenameTarget o n
 
 -- how many words of some lines are replaced
-abbrev pub replaced_words : (old : List ℕ) → List PlacedLine → ℕ
+abbrev pub replaced_words : (old : List ℕ) → List LocatedLine → ℕ
 replaced_words o [] = 0
-replaced_words o (l ∷ ls) = length (renamed_places o l) + replaced_words o ls
+replaced_words o (l ∷ ls) = length (renamed_ranges o l) + replaced_words o ls
 
 -- how many bytes the words that are replaced have in the lines as they stand
-abbrev pub replaced_bytes : (old : List ℕ) → List PlacedLine → ℕ
+abbrev pub replaced_bytes : (old : List ℕ) → List LocatedLine → ℕ
 replaced_bytes o [] = 0
-replaced_bytes o (l ∷ ls) = bytes_in (renamed_places o l) + replaced_bytes o ls
+replaced_bytes o (l ∷ ls) = bytes_in (renamed_ranges o l) + replaced_bytes o ls
 
 -- whether a word at the very front of a line is replaced by a word that begins with the prefix in force there; the first line
 -- stands in this context
-abbrev pub begins_some_line : (old new : List ℕ) → Context → List PlacedLine → Bool
+abbrev pub begins_some_line : (old new : List ℕ) → Context → List LocatedLine → Bool
 begins_some_line o n c [] = false
-begins_some_line o n c (l ∷ ls) = (list_any is_at_front (renamed_places o l) && is_prefix_led c.prefix n) || begins_some_line o n (context_after_places c l.class) ls
+begins_some_line o n c (l ∷ ls) = (list_any is_at_front (renamed_ranges o l) && is_prefix_led c.prefix n) || begins_some_line o n (context_after_located c l.class) ls
 
 -- the effect of a rename on lines, the first of which stands in this context
-abbrev pub effect_on : (old new : List ℕ) → Context → List PlacedLine → Effect
+abbrev pub effect_on : (old new : List ℕ) → Context → List LocatedLine → Effect
 effect_on o n c ls = record { words = replaced_words o ls; bytes = replaced_bytes o ls; begins_line = begins_some_line o n c ls }
 
 -- the effect on some lines and on other lines together

@@ -1,10 +1,10 @@
 -- The edits of a value, by the text that they give, and the value of a document's line.
 use Rattle.std.specs.Prelude.{◌≡◌, ℕ, List, [], ◌∷◌, Option, if◌then◌else◌}
 use Rattle.mk_lines.specs.Ranges.{text_at}
-use Rattle.mk_class.specs.Lists.{is_empty}
+use Rattle.mk_class.specs.ListTests.{is_empty}
 use Rattle.mk_class.specs.declared.class.Class as class
 use Rattle.mk_class.specs.declared.class.Class.TheVariants as variants
-use Rattle.mk_tree.specs.PlacedLines.{PlacedLine, text_of_line}
+use Rattle.mk_tree.specs.LocatedLines.{LocatedLine, text_of_line}
 use Rattle.mk_edit_laws.specs.Edits.{Edit, SetValue, AppendValue}
 
 -- an edit sets a variable to this value
@@ -24,8 +24,8 @@ abbrev value_text_in : (text : List ℕ) → class.Class → List ℕ
 value_text_in t (variants.Assign at p) = text_at t at.value
 value_text_in t k = []
 
-abbrev pub value_text_placed : PlacedLine → List ℕ
-value_text_placed l = value_text_in (text_of_line l) l.class
+abbrev pub value_text_located : LocatedLine → List ℕ
+value_text_located l = value_text_in (text_of_line l) l.class
 
 -- what stands between a value and a text that is appended to it: a space, or nothing if the value is empty
 abbrev pub space_after : (value : List ℕ) → List ℕ

@@ -3,7 +3,7 @@ ghost use Rattle.std.specs.Prelude.{◌≡◌, ◌≤◌, ◌+◌, IfOk, IfErr, 
 ghost use Rattle.mk_class.specs.ClassedLines.{classed_lines};
 ghost use Rattle.mk_tree.specs.Counting.{AreCounted};
 ghost use Rattle.mk_tree.specs.Documents.{IsFaithful};
-ghost use Rattle.mk_tree.specs.PlacedLines.{placed_text};
+ghost use Rattle.mk_tree.specs.LocatedLines.{located_text};
 ghost use Rattle.mk_edit_laws.specs.Costs.{cost};
 ghost use Rattle.mk_edit_laws.specs.Stretches.{insertion};
 ghost use Rattle.mk_edit_parts.specs.EditViews.{edit_of};
@@ -39,9 +39,9 @@ pub(crate) fn plan_addition<A: Allocator + Copy>(
     requires faithful { IsFaithful doc.now }
     requires kind { IsOfPlace (edit_of edit.now) }
     ensures planned { IfOk result (λ patch. IsPlanned (edit_of edit.now) doc.now patch) }
-    ensures refused { IfErr result (λ refusal. IsRefusal (placed_text doc.now) (edit_of edit.now) refusal) }
-    ensures counted { OnOk result (AreCounted meter.old (cost (placed_text doc.now) (edit_of edit.now)) meter.new) }
-    ensures few_read { meter.new ≤ meter.old + cost (placed_text doc.now) (edit_of edit.now) }
+    ensures refused { IfErr result (λ refusal. IsRefusal (located_text doc.now) (edit_of edit.now) refusal) }
+    ensures counted { OnOk result (AreCounted meter.old (cost (located_text doc.now) (edit_of edit.now)) meter.new) }
+    ensures few_read { meter.new ≤ meter.old + cost (located_text doc.now) (edit_of edit.now) }
     ensures forward { meter.old ≤ meter.new }
 {
     let found = find(doc, edit)?;
@@ -68,12 +68,12 @@ pub(crate) fn add_line<A: Allocator + Copy>(
 ) -> Result<Patch<A>, Refusal>
     requires faithful { IsFaithful doc.now }
     requires kind { IsOfNewLine (edit_of edit.now) }
-    requires decided { IsDecidedByPlace (placed_text doc.now) (edit_of edit.now) }
-    requires inserted { IsInsertedAt doc.now (insertion (classed_lines (placed_text doc.now)) (edit_of edit.now)) place }
+    requires decided { IsDecidedByPlace (located_text doc.now) (edit_of edit.now) }
+    requires inserted { IsInsertedAt doc.now (insertion (classed_lines (located_text doc.now)) (edit_of edit.now)) place }
     ensures planned { IfOk result (λ patch. IsPlanned (edit_of edit.now) doc.now patch) }
-    ensures refused { IfErr result (λ refusal. IsRefusal (placed_text doc.now) (edit_of edit.now) refusal) }
-    ensures counted { OnOk result (AreCounted meter.old (cost (placed_text doc.now) (edit_of edit.now)) meter.new) }
-    ensures few_read { meter.new ≤ meter.old + cost (placed_text doc.now) (edit_of edit.now) }
+    ensures refused { IfErr result (λ refusal. IsRefusal (located_text doc.now) (edit_of edit.now) refusal) }
+    ensures counted { OnOk result (AreCounted meter.old (cost (located_text doc.now) (edit_of edit.now)) meter.new) }
+    ensures few_read { meter.new ≤ meter.old + cost (located_text doc.now) (edit_of edit.now) }
     ensures forward { meter.old ≤ meter.new }
 {
     if let Some(refusal) = place_refusal(doc, edit, &place) {

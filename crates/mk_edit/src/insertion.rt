@@ -2,10 +2,10 @@
 ghost use Rattle.std.specs.Prelude.{◌≡◌, ◌+◌, ◌<◌, ◌≤◌, ◌==◌, ◌&&◌, nat_lt, not, ℕ, drop, length, take, min};
 ghost use Rattle.mk_class.specs.ClassedLines.{classed_lines};
 ghost use Rattle.mk_lines.specs.PhysicalLines.{line_end_bytes};
-ghost use Rattle.mk_edit_parts.specs.LineRanges.{is_led_first_placed};
+ghost use Rattle.mk_edit_parts.specs.LineRanges.{is_led_first_located};
 ghost use Rattle.mk_tree.specs.Documents.{IsFaithful, context_of};
 ghost use Rattle.mk_tree.specs.Leaning.{is_same_flag};
-ghost use Rattle.mk_tree.specs.PlacedLines.{last_line, placed_text, size_of};
+ghost use Rattle.mk_tree.specs.LocatedLines.{last_line, located_text, size_of};
 ghost use Rattle.mk_edit_laws.specs.Addresses as addresses;
 ghost use Rattle.mk_edit_laws.specs.LineCauses.{flag_below_new, greatest_length};
 ghost use Rattle.mk_edit_laws.specs.Refusals.{first_cause};
@@ -17,7 +17,7 @@ ghost use Rattle.mk_edit_parts.specs.Found.{IsMeant};
 ghost use Rattle.mk_edit.specs.Insertions.{IsInsertedAt, IsOfNewLine, IsOfPlace, ends_length, is_at_bottom, is_bottom, is_open_line, place_causes};
 
 use crate::moves::follows_unended;
-use mk_class::Flag;
+use mk_class::RuleFlag;
 use mk_edit_laws::Refusal;
 use mk_edit_parts::edit::{Edit, Place};
 use mk_edit_parts::lean::leans;
@@ -35,8 +35,8 @@ use std::alloc::Allocator;
 pub(crate) fn insertion_of<A: Allocator>(doc: &Doc<A>, edit: &Edit<A>, found: Found) -> Found
     requires faithful { IsFaithful doc.now }
     requires of_place { IsOfPlace (edit_of edit.now) }
-    requires meant { IsMeant (classed_lines (placed_text doc.now)) (addresses.address (edit_of edit.now)) found }
-    ensures { IsInsertedAt doc.now (insertion (classed_lines (placed_text doc.now)) (edit_of edit.now)) result }
+    requires meant { IsMeant (classed_lines (located_text doc.now)) (addresses.address (edit_of edit.now)) found }
+    ensures { IsInsertedAt doc.now (insertion (classed_lines (located_text doc.now)) (edit_of edit.now)) result }
 {
     match edit {
         Edit::AddAssign { place, .. } | Edit::AddRule { place, .. } => place_of(doc, place, found),
@@ -47,8 +47,8 @@ pub(crate) fn insertion_of<A: Allocator>(doc: &Doc<A>, edit: &Edit<A>, found: Fo
 // Where a new line of this place goes.
 fn place_of<A: Allocator>(doc: &Doc<A>, place: &Place<A>, found: Found) -> Found
     requires faithful { IsFaithful doc.now }
-    requires meant { IsMeant (classed_lines (placed_text doc.now)) (addresses.place_address (views.place_of place.now)) found }
-    ensures { IsInsertedAt doc.now (place_found (classed_lines (placed_text doc.now)) (views.place_of place.now)) result }
+    requires meant { IsMeant (classed_lines (located_text doc.now)) (addresses.place_address (views.place_of place.now)) found }
+    ensures { IsInsertedAt doc.now (place_found (classed_lines (located_text doc.now)) (views.place_of place.now)) result }
 {
     match place {
         Place::AfterVar { .. } => after_lines(doc, found, 1),
@@ -67,8 +67,8 @@ pub(crate) fn place_refusal<A: Allocator>(
 ) -> Option<Refusal>
     requires faithful { IsFaithful doc.now }
     requires of_new_line { IsOfNewLine (edit_of edit.now) }
-    requires inserted { IsInsertedAt doc.now (insertion (classed_lines (placed_text doc.now)) (edit_of edit.now)) place.now }
-    ensures { result ≡ first_cause (place_causes (placed_text doc.now) (edit_of edit.now)) }
+    requires inserted { IsInsertedAt doc.now (insertion (classed_lines (located_text doc.now)) (edit_of edit.now)) place.now }
+    ensures { result ≡ first_cause (place_causes (located_text doc.now) (edit_of edit.now)) }
 {
     if follows_open_line(doc, place.at) {
         return Some(Refusal::OpenLine);
@@ -128,7 +128,7 @@ fn is_bottom<A: Allocator>(place: &Place<A>) -> bool
 // and the flag without it.
 fn is_leaned_on<A: Allocator>(doc: &Doc<A>, edit: &Edit<A>, place: &Found) -> bool
     requires { place.now.at ≤ length doc.now }
-    ensures { result ≡ (not (is_same_flag (flag_below_new (edit_of edit.now)) place.now.context.flag) && is_led_first_placed place.now.context.prefix (drop place.now.at doc.now)) }
+    ensures { result ≡ (not (is_same_flag (flag_below_new (edit_of edit.now)) place.now.context.flag) && is_led_first_located place.now.context.prefix (drop place.now.at doc.now)) }
 {
     let context = place.context;
     let below = flag_below(edit);
@@ -136,12 +136,12 @@ fn is_leaned_on<A: Allocator>(doc: &Doc<A>, edit: &Edit<A>, place: &Found) -> bo
 }
 
 // The flag below the new line of an edit.
-fn flag_below<A: Allocator>(edit: &Edit<A>) -> Flag
+fn flag_below<A: Allocator>(edit: &Edit<A>) -> RuleFlag
     ensures { result ≡ flag_below_new (edit_of edit.now) }
 {
     match edit {
-        Edit::AddAssign { .. } => Flag::Off,
-        _ => Flag::Rule,
+        Edit::AddAssign { .. } => RuleFlag::Off,
+        _ => RuleFlag::Rule,
     }
 }
 

@@ -7,11 +7,11 @@ ghost use Rattle.std.specs.Prelude.{◌≡◌, ◌≤◌, ◌<◌, ◌+◌, ◌^
 ghost use Rattle.mk_tree.specs.Counting.{AreCounted};
 ghost use Rattle.mk_tree.specs.Documents.{IsFaithful};
 ghost use Rattle.mk_tree.specs.LineTexts.{line_in};
-ghost use Rattle.mk_tree.specs.PlacedLines.{last_line, placed_line};
+ghost use Rattle.mk_tree.specs.LocatedLines.{last_line, located_line};
 ghost use Rattle.mk_tree.specs.Trees.{line_view};
 ghost use Rattle.mk_lines.specs.LogicalLines.{logical_lines};
 ghost use Rattle.mk_patch.specs.Moves.{IsPlain};
-ghost use Rattle.mk_patch.specs.Steps.{move_of};
+ghost use Rattle.mk_patch.specs.StepMoves.{move_of};
 ghost use Rattle.mk_edit.specs.PlannedMoves.{CanInsert, CanReplace, follows_unended, inserting_moves, is_unended, last_bytes_ended, removing_moves, replacing_moves};
 ghost use Rattle.mk_edit_parts.specs.Found.{IsPlaceOf};
 
@@ -170,9 +170,9 @@ pub(crate) fn read_line<A: Allocator + Copy>(
     meter: &mut Meter,
 ) -> Result<Line<A>, Refusal>
     requires one { logical_lines bytes.items ≡ bytes.items ∷ [] }
-    requires plain { IsPlain (placed_line (line_in context bytes.items)) }
+    requires plain { IsPlain (located_line (line_in context bytes.items)) }
     requires defines { context.defines < 2 ^ 24 }
-    ensures line { IfOk result (λ line. line_view line ≡ placed_line (line_in context bytes.items)) }
+    ensures line { IfOk result (λ line. line_view line ≡ located_line (line_in context bytes.items)) }
     ensures refused { IsOkUnless result Refusal.NoMemory }
     ensures counted { OnOk result (AreCounted meter.old 1 meter.new) }
     ensures few_read { meter.new ≤ meter.old + 1 }

@@ -4,13 +4,13 @@ ghost use Rattle.mk_lines.specs.Cells.{Cell};
 ghost use Rattle.mk_class.specs.Headers;
 ghost use Rattle.mk_tree.specs.Counting.{AreCounted};
 ghost use Rattle.mk_tree.specs.Documents.{IsFaithful};
-ghost use Rattle.mk_tree.specs.PlacedLines.{placed_text};
+ghost use Rattle.mk_tree.specs.LocatedLines.{located_text};
 ghost use Rattle.mk_tree.specs.Trees.{line_view};
 ghost use Rattle.mk_edit_laws.specs.Costs.{cost};
 ghost use Rattle.mk_edit_laws.specs.RuleCauses.{is_normal, is_order_only};
 ghost use Rattle.mk_edit_parts.specs.EditViews.{edit_of};
 ghost use Rattle.mk_edit.specs.Planned.{IsPlanned, IsRefusal};
-ghost use Rattle.mk_edit_parts.specs.SeenHeaders.{HasHeader, IsHeaderSeen, IsRuleLine, IsPlacedIn};
+ghost use Rattle.mk_edit_parts.specs.SeenHeaders.{HasHeader, IsHeaderSeen, IsRuleLine, IsHeaderAt};
 ghost use Rattle.mk_edit.specs.PrerequisiteEdits.{IsAddPrereq, IsRemovePrereq, is_in_list};
 
 use crate::moves::replace_line;
@@ -45,9 +45,9 @@ pub(crate) fn plan_add_prereq<A: Allocator + Copy>(
     requires faithful { IsFaithful doc.now }
     requires kind { IsAddPrereq order word.now (edit_of edit.now) }
     ensures planned { IfOk result (λ patch. IsPlanned (edit_of edit.now) doc.now patch) }
-    ensures refused { IfErr result (λ refusal. IsRefusal (placed_text doc.now) (edit_of edit.now) refusal) }
-    ensures counted { OnOk result (AreCounted meter.old (cost (placed_text doc.now) (edit_of edit.now)) meter.new) }
-    ensures few_read { meter.new ≤ meter.old + cost (placed_text doc.now) (edit_of edit.now) }
+    ensures refused { IfErr result (λ refusal. IsRefusal (located_text doc.now) (edit_of edit.now) refusal) }
+    ensures counted { OnOk result (AreCounted meter.old (cost (located_text doc.now) (edit_of edit.now)) meter.new) }
+    ensures few_read { meter.new ≤ meter.old + cost (located_text doc.now) (edit_of edit.now) }
     ensures forward { meter.old ≤ meter.new }
 {
     let size = doc.size();
@@ -83,9 +83,9 @@ pub(crate) fn plan_remove_prereq<A: Allocator + Copy>(
     requires faithful { IsFaithful doc.now }
     requires kind { IsRemovePrereq word.now (edit_of edit.now) }
     ensures planned { IfOk result (λ patch. IsPlanned (edit_of edit.now) doc.now patch) }
-    ensures refused { IfErr result (λ refusal. IsRefusal (placed_text doc.now) (edit_of edit.now) refusal) }
-    ensures counted { OnOk result (AreCounted meter.old (cost (placed_text doc.now) (edit_of edit.now)) meter.new) }
-    ensures few_read { meter.new ≤ meter.old + cost (placed_text doc.now) (edit_of edit.now) }
+    ensures refused { IfErr result (λ refusal. IsRefusal (located_text doc.now) (edit_of edit.now) refusal) }
+    ensures counted { OnOk result (AreCounted meter.old (cost (located_text doc.now) (edit_of edit.now)) meter.new) }
+    ensures few_read { meter.new ≤ meter.old + cost (located_text doc.now) (edit_of edit.now) }
     ensures forward { meter.old ≤ meter.new }
 {
     // The contract of `size` says that the text is within the limit, and so is the text without a
@@ -106,7 +106,7 @@ pub(crate) fn plan_remove_prereq<A: Allocator + Copy>(
 // Where the parts of a rule's line stand.
 fn header_of<A: Allocator>(line: &Line<A>) -> Header
     requires { IsRuleLine (line_view line.now) }
-    ensures { IsPlacedIn (line_view line.now) result }
+    ensures { IsHeaderAt (line_view line.now) result }
 {
     match line.class() {
         Class::Header(header) => header,

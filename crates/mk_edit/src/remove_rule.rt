@@ -1,17 +1,17 @@
 //! The removal of a rule: its header, its recipe, and the lines between them.
 ghost use Rattle.std.specs.Prelude.{◌≡◌, IfOk, IfErr, length};
 ghost use Rattle.mk_tree.specs.Documents.{IsFaithful};
-ghost use Rattle.mk_tree.specs.PlacedLines.{placed_text};
+ghost use Rattle.mk_tree.specs.LocatedLines.{located_text};
 ghost use Rattle.mk_tree.specs.Trees.{line_view};
 ghost use Rattle.mk_lines.specs.Words.{words_in};
 ghost use Rattle.mk_edit_parts.specs.EditViews.{edit_of};
-ghost use Rattle.mk_edit_parts.specs.PlacedParts.{IsClassed};
+ghost use Rattle.mk_edit_parts.specs.LocatedParts.{IsClassed};
 ghost use Rattle.mk_edit.specs.Planned.{IsPlanned, IsRefusal};
 ghost use Rattle.mk_edit.specs.RecipeEdits.{IsRemoveRule};
-ghost use Rattle.mk_edit_parts.specs.RecipeWalks.{header_targets_placed};
+ghost use Rattle.mk_edit_parts.specs.RecipeWalks.{header_targets_located};
 
 use crate::moves::take_out;
-use mk_class::{Class, Flag};
+use mk_class::{Class, RuleFlag};
 use mk_edit_laws::Refusal;
 use mk_edit_parts::edit::Edit;
 use mk_edit_parts::find::find;
@@ -40,7 +40,7 @@ pub(crate) fn plan_remove_rule<A: Allocator + Copy>(
     requires faithful { IsFaithful doc.now }
     requires kind { IsRemoveRule (edit_of edit.now) }
     ensures planned { IfOk result (λ patch. IsPlanned (edit_of edit.now) doc.now patch) }
-    ensures refused { IfErr result (λ refusal. IsRefusal (placed_text doc.now) (edit_of edit.now) refusal) }
+    ensures refused { IfErr result (λ refusal. IsRefusal (located_text doc.now) (edit_of edit.now) refusal) }
 {
     // The contract of `size` says that the text is within the limit, and so is the rest of it.
     let _size = doc.size();
@@ -58,7 +58,13 @@ pub(crate) fn plan_remove_rule<A: Allocator + Copy>(
     }
     let prefix = header.context.prefix();
     // After a header and its recipe the flag says that a rule is open.
-    if leans(doc, recipe.end, prefix, header.context.flag(), Flag::Rule) {
+    if leans(
+        doc,
+        recipe.end,
+        prefix,
+        header.context.flag(),
+        RuleFlag::Rule,
+    ) {
         return Err(Refusal::Leans);
     }
     match take_out(alloc, header.at, recipe.end - header.at) {
@@ -70,7 +76,7 @@ pub(crate) fn plan_remove_rule<A: Allocator + Copy>(
 // How many targets a header has; 0 for any other line.
 fn target_count<A: Allocator>(line: &Line<A>) -> usize
     requires { IsClassed (line_view line.now) }
-    ensures { result ≡ length (header_targets_placed (line_view line.now)) }
+    ensures { result ≡ length (header_targets_located (line_view line.now)) }
 {
     match line.class() {
         Class::Header(header) => {

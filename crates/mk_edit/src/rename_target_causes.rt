@@ -3,7 +3,7 @@ ghost use Rattle.std.specs.Prelude.{◌≡◌, ◌+◌, ◌*◌, ◌<◌, ◌≤
 ghost use Rattle.mk_class.specs.ClassedLines.{classed_lines};
 ghost use Rattle.mk_class.specs.Contexts.{start};
 ghost use Rattle.mk_tree.specs.Documents.{IsFaithful};
-ghost use Rattle.mk_tree.specs.PlacedLines.{placed_text};
+ghost use Rattle.mk_tree.specs.LocatedLines.{located_text};
 ghost use Rattle.mk_edit_laws.specs.LineCauses.{greatest_length};
 ghost use Rattle.mk_edit_laws.specs.Refusals.{causes, first_cause};
 ghost use Rattle.mk_edit_parts.specs.EditViews.{edit_of};
@@ -46,7 +46,7 @@ pub(crate) fn rename_target_refusal<A: Allocator>(
 ) -> Option<Refusal>
     requires faithful { IsFaithful doc.now }
     requires kind { IsRenameTarget from.now to.now (edit_of edit.now) }
-    ensures { result ≡ first_cause (causes (placed_text doc.now) (classed_lines (placed_text doc.now)) (edit_of edit.now)) }
+    ensures { result ≡ first_cause (causes (located_text doc.now) (classed_lines (located_text doc.now)) (edit_of edit.now)) }
 {
     if let Some(field) = bad_field(edit) {
         return Some(Refusal::BadArgument(field));

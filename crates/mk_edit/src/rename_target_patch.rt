@@ -9,7 +9,7 @@ ghost use Rattle.mk_class.specs.ClassedLines.{classed_lines};
 ghost use Rattle.mk_class.specs.Contexts.{start};
 ghost use Rattle.mk_tree.specs.Counting.{AreCounted};
 ghost use Rattle.mk_tree.specs.Documents.{IsFaithful};
-ghost use Rattle.mk_tree.specs.PlacedLines.{placed_text};
+ghost use Rattle.mk_tree.specs.LocatedLines.{located_text};
 ghost use Rattle.mk_tree.specs.Trees.{line_view};
 ghost use Rattle.mk_edit_laws.specs.Costs.{cost};
 ghost use Rattle.mk_edit_laws.specs.Edits.{RenameTarget};
@@ -49,11 +49,11 @@ pub(crate) fn rename_target_patch<A: Allocator + Copy>(
     meter: &mut Meter,
 ) -> Result<Patch<A>, Refusal>
     requires faithful { IsFaithful doc.now }
-    requires accepted { first_cause (causes (placed_text doc.now) (classed_lines (placed_text doc.now)) (RenameTarget from.now to.now)) ≡ None }
+    requires accepted { first_cause (causes (located_text doc.now) (classed_lines (located_text doc.now)) (RenameTarget from.now to.now)) ≡ None }
     ensures planned { IfOk result (λ patch. IsPlanned (RenameTarget from.now to.now) doc.now patch) }
     ensures refused { IsOkUnless result Refusal.NoMemory }
-    ensures counted { OnOk result (AreCounted meter.old (cost (placed_text doc.now) (RenameTarget from.now to.now)) meter.new) }
-    ensures few_read { meter.new ≤ meter.old + cost (placed_text doc.now) (RenameTarget from.now to.now) }
+    ensures counted { OnOk result (AreCounted meter.old (cost (located_text doc.now) (RenameTarget from.now to.now)) meter.new) }
+    ensures few_read { meter.new ≤ meter.old + cost (located_text doc.now) (RenameTarget from.now to.now) }
     ensures forward { meter.old ≤ meter.new }
 {
     // The contract of `size` says that the text is within the limit, as the first turn asks.
@@ -107,7 +107,7 @@ fn exchange_lines<A: Allocator + Copy>(
     ensures few_read { meter.new ≤ meter.old + exchanged_count turn from.now to.now doc.now }
     ensures forward { meter.old ≤ meter.new }
 {
-    // The contract of `len` bounds the number of lines, as counting their places asks.
+    // The contract of `len` bounds the number of lines, as counting them asks.
     let _count = doc.len();
     'lines: for (at, (context, line)) in doc.lines_with_contexts().enumerate() {
         if let Some(renamed) = line_of_turn(alloc, line, context, from, to, turn, meter)? {

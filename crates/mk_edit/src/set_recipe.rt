@@ -2,7 +2,7 @@
 ghost use Rattle.std.specs.Prelude.{◌≡◌, ◌≤◌, ◌+◌, IfOk, IfErr, OnOk};
 ghost use Rattle.mk_tree.specs.Counting.{AreCounted};
 ghost use Rattle.mk_tree.specs.Documents.{IsFaithful};
-ghost use Rattle.mk_tree.specs.PlacedLines.{placed_text};
+ghost use Rattle.mk_tree.specs.LocatedLines.{located_text};
 ghost use Rattle.mk_edit_laws.specs.Costs.{cost};
 ghost use Rattle.mk_edit_parts.specs.EditViews.{edit_of};
 ghost use Rattle.mk_edit.specs.Planned.{IsPlanned, IsRefusal};
@@ -42,9 +42,9 @@ pub(crate) fn plan_set_recipe<A: Allocator + Copy>(
     requires faithful { IsFaithful doc.now }
     requires kind { IsSetRecipe number command.now (edit_of edit.now) }
     ensures planned { IfOk result (λ patch. IsPlanned (edit_of edit.now) doc.now patch) }
-    ensures refused { IfErr result (λ refusal. IsRefusal (placed_text doc.now) (edit_of edit.now) refusal) }
-    ensures counted { OnOk result (AreCounted meter.old (cost (placed_text doc.now) (edit_of edit.now)) meter.new) }
-    ensures few_read { meter.new ≤ meter.old + cost (placed_text doc.now) (edit_of edit.now) }
+    ensures refused { IfErr result (λ refusal. IsRefusal (located_text doc.now) (edit_of edit.now) refusal) }
+    ensures counted { OnOk result (AreCounted meter.old (cost (located_text doc.now) (edit_of edit.now)) meter.new) }
+    ensures few_read { meter.new ≤ meter.old + cost (located_text doc.now) (edit_of edit.now) }
     ensures forward { meter.old ≤ meter.new }
 {
     let size = doc.size();

@@ -2,12 +2,12 @@
 ghost use Rattle.std.specs.Prelude.{◌≡◌, ◌≤◌, ◌+◌, ◌++◌, IfOk, IfErr, OnOk, take, drop, length};
 ghost use Rattle.mk_tree.specs.Counting.{AreCounted};
 ghost use Rattle.mk_tree.specs.Documents.{IsFaithful};
-ghost use Rattle.mk_tree.specs.PlacedLines.{placed_text};
+ghost use Rattle.mk_tree.specs.LocatedLines.{located_text};
 ghost use Rattle.mk_edit_laws.specs.Costs.{cost};
 ghost use Rattle.mk_edit_parts.specs.EditViews.{edit_of};
 ghost use Rattle.mk_edit.specs.Planned.{IsPlanned, IsRefusal};
-ghost use Rattle.mk_edit_parts.specs.PlacedParts.{IsClassed};
-ghost use Rattle.mk_edit.specs.ValuesGiven.{IsAppendValue, IsSetValue, space_after, value_text_placed};
+ghost use Rattle.mk_edit_parts.specs.LocatedParts.{IsClassed};
+ghost use Rattle.mk_edit.specs.ValuesGiven.{IsAppendValue, IsSetValue, space_after, value_text_located};
 ghost use Rattle.mk_tree.specs.Trees.{line_view};
 
 use crate::moves::replace_line;
@@ -41,9 +41,9 @@ pub(crate) fn plan_set_value<A: Allocator + Copy>(
     requires faithful { IsFaithful doc.now }
     requires edit { IsSetValue (edit_of edit.now) value.now }
     ensures planned { IfOk result (λ patch. IsPlanned (edit_of edit.now) doc.now patch) }
-    ensures refused { IfErr result (λ refusal. IsRefusal (placed_text doc.now) (edit_of edit.now) refusal) }
-    ensures counted { OnOk result (AreCounted meter.old (cost (placed_text doc.now) (edit_of edit.now)) meter.new) }
-    ensures few_read { meter.new ≤ meter.old + cost (placed_text doc.now) (edit_of edit.now) }
+    ensures refused { IfErr result (λ refusal. IsRefusal (located_text doc.now) (edit_of edit.now) refusal) }
+    ensures counted { OnOk result (AreCounted meter.old (cost (located_text doc.now) (edit_of edit.now)) meter.new) }
+    ensures few_read { meter.new ≤ meter.old + cost (located_text doc.now) (edit_of edit.now) }
     ensures forward { meter.old ≤ meter.new }
 {
     let found = find(doc, edit)?;
@@ -74,9 +74,9 @@ pub(crate) fn plan_append_value<A: Allocator + Copy>(
     requires faithful { IsFaithful doc.now }
     requires edit { IsAppendValue (edit_of edit.now) value.now }
     ensures planned { IfOk result (λ patch. IsPlanned (edit_of edit.now) doc.now patch) }
-    ensures refused { IfErr result (λ refusal. IsRefusal (placed_text doc.now) (edit_of edit.now) refusal) }
-    ensures counted { OnOk result (AreCounted meter.old (cost (placed_text doc.now) (edit_of edit.now)) meter.new) }
-    ensures few_read { meter.new ≤ meter.old + cost (placed_text doc.now) (edit_of edit.now) }
+    ensures refused { IfErr result (λ refusal. IsRefusal (located_text doc.now) (edit_of edit.now) refusal) }
+    ensures counted { OnOk result (AreCounted meter.old (cost (located_text doc.now) (edit_of edit.now)) meter.new) }
+    ensures few_read { meter.new ≤ meter.old + cost (located_text doc.now) (edit_of edit.now) }
     ensures forward { meter.old ≤ meter.new }
 {
     let found = find(doc, edit)?;
@@ -99,7 +99,7 @@ pub(crate) fn plan_append_value<A: Allocator + Copy>(
 // The text of the value of an assignment's line.
 fn value_text<A: Allocator>(line: &Line<A>) -> &[u8]
     requires { IsClassed (line_view line.now) }
-    ensures { result.now ≡ value_text_placed (line_view line.now) }
+    ensures { result.now ≡ value_text_located (line_view line.now) }
 {
     match line.class() {
         Class::Assign(assignment, _) => part(text_of_line(line), assignment.value),

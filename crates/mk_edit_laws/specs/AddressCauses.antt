@@ -3,7 +3,7 @@ use Rattle.std.specs.Prelude.{ℕ, Bool, true, false, not, ◌&&◌, ◌||◌, L
 use Rattle.std.specs.List.{list_any}
 use Rattle.mk_lines.specs.Cells.{Cell, joined_byte}
 use Rattle.mk_lines.specs.Pieces.{Piece, new_bytes}
-use Rattle.mk_class.specs.Lists.{is_empty}
+use Rattle.mk_class.specs.ListTests.{is_empty}
 use Rattle.mk_class.specs.Texts.{unit_text}
 use Rattle.mk_class.specs.RecipePrefix.{is_prefix_led, is_prefix_name}
 use Rattle.mk_class.specs.Classes.{Class}

@@ -6,7 +6,7 @@ use Rattle.mk_lines.specs.Cells.{Cell, joined_byte}
 use Rattle.mk_lines.specs.CellFaults.{is_fold}
 use Rattle.mk_lines.specs.Pieces.{Replacement}
 use Rattle.mk_lines.specs.Words.{words_in}
-use Rattle.mk_class.specs.Lists.{is_empty, last_passes}
+use Rattle.mk_class.specs.ListTests.{is_empty, last_passes}
 use Rattle.mk_class.specs.Texts.{unit_text}
 use Rattle.mk_class.specs.Assignments.{Assignment}
 use Rattle.mk_class.specs.Classes.{Class}
@@ -22,7 +22,7 @@ use Rattle.mk_edit_laws.specs.Edits.{Edit, SetValue, AppendValue, AddAssign, Rem
 use Rattle.mk_edit_laws.specs.Addresses.{Variable, Rule, found}
 use Rattle.mk_edit_laws.specs.Stretches.{Stretch, insertion, removal, recipe_found}
 use Rattle.mk_edit_laws.specs.ValueSpans.{set_value_span}
-use Rattle.mk_edit_laws.specs.Spans.{where_found}
+use Rattle.mk_edit_laws.specs.EditSpans.{where_found}
 use Rattle.mk_edit_laws.specs.declared.edit.Colons.{Colons}
 use Rattle.mk_edit_laws.specs.declared.edit.Colons.TheVariants.{One, Two}
 
@@ -46,7 +46,7 @@ without_items s = items s.above ++ items s.below
 abbrev pub item_with_value : Assignment Cell → (value : List ℕ) → Item
 item_with_value a v = Assign (Sets a.modifiers (unit_text joined_byte a.name) a.flavor v)
 
--- the item of a line of this class with another value; the line begins at this place
+-- the item of a line of this class with another value; the line begins at this offset
 abbrev pub value_item : (ℕ → Assignment Cell → List ℕ) → (line_start : ℕ) → Class Cell → List Item
 value_item f at (AssignLine a p) = item_with_value a (f at a) ∷ []
 value_item f at k = []

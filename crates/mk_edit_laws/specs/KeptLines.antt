@@ -4,7 +4,7 @@ use Rattle.mk_lines.specs.PhysicalLines.{file_line_end}
 use Rattle.mk_lines.specs.Pieces.{Replacement}
 use Rattle.mk_class.specs.ClassedLines.{ClassedLine, classed_lines}
 use Rattle.mk_tree.specs.Documents.{text_of, most_conditionals, AreUnconditional}
-use Rattle.mk_tree.specs.NewLines.{above_ended}
+use Rattle.mk_tree.specs.NewLineEnds.{above_ended}
 use Rattle.mk_edit_laws.specs.Edits.{Edit}
 use Rattle.mk_edit_laws.specs.Stretches.{Stretch, insertion, touched_by, IsStretchOf}
 use Rattle.mk_edit_laws.specs.Costs.{cost, size}

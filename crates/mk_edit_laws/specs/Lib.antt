@@ -9,7 +9,7 @@ pub mod Lengths
 pub mod EditedLines
 pub mod ValueSpans
 pub mod WordPieces
-pub mod Spans
+pub mod EditSpans
 pub mod RisingSpans
 -- Causes of refusal, each by itself
 pub mod Causes
@@ -28,5 +28,5 @@ pub mod KeptLines
 pub mod RenamedLines
 pub mod RuleTaken
 -- Statements of laws
-pub mod Laws
+pub mod EditLaws
 pub mod OutsideLaws

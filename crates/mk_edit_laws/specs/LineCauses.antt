@@ -6,12 +6,12 @@ use Rattle.mk_lines.specs.LogicalLines.{is_open}
 use Rattle.mk_lines.specs.Cells.{Cell, joined_byte}
 use Rattle.mk_lines.specs.Units.{is_closed}
 use Rattle.mk_lines.specs.Pieces.{Replacement, replaced}
-use Rattle.mk_class.specs.Lists.{is_empty, last_passes}
+use Rattle.mk_class.specs.ListTests.{is_empty, last_passes}
 use Rattle.mk_class.specs.Classes.{Class}
 use Rattle.mk_class.specs.Classes.Class.{Assign}
 use Rattle.mk_class.specs.ClassedLines.{ClassedLine}
-use Rattle.mk_class.specs.declared.context.Flag.{Flag}
-use Rattle.mk_class.specs.declared.context.Flag.TheVariants.{Off, Rule}
+use Rattle.mk_class.specs.declared.context.RuleFlag.{RuleFlag}
+use Rattle.mk_class.specs.declared.context.RuleFlag.TheVariants.{Off, Rule}
 use Rattle.mk_edit_laws.specs.Edits.{Place, Bottom, Edit, AppendValue, AddAssign, AddRule}
 use Rattle.mk_edit_laws.specs.Addresses.{Variable, found}
 use Rattle.mk_edit_laws.specs.Stretches.{Stretch, insertion, removal}
@@ -57,7 +57,7 @@ open_define ls e = None
 -- ---- Leans: the flag below the change differs, and the next line that counts begins with the recipe prefix
 
 -- the flag below a new line
-abbrev pub flag_below_new : Edit → Flag
+abbrev pub flag_below_new : Edit → RuleFlag
 flag_below_new (AddAssign p n f v) = Off
 flag_below_new e = Rule
 

@@ -7,7 +7,7 @@ use Rattle.mk_lines.specs.Words.{words_in}
 use Rattle.mk_class.specs.declared.assignment.Flavor.{Flavor}
 use Rattle.mk_class.specs.OperatorTexts.{operator_text}
 use Rattle.mk_tree.specs.Documents.{text_of, context_of}
-use Rattle.mk_tree.specs.NewLines.{missing_line_end}
+use Rattle.mk_tree.specs.NewLineEnds.{missing_line_end}
 use Rattle.mk_edit_laws.specs.Edits.{Edit, AddAssign, AddRule, AddRecipe}
 use Rattle.mk_edit_laws.specs.Stretches.{Stretch}
 use Rattle.mk_edit_laws.specs.declared.edit.Colons.{Colons}

@@ -3,7 +3,7 @@ use Rattle.std.specs.Prelude.{ℕ, List, [], ◌∷◌, Option, Some, None, Resu
 use Rattle.mk_lines.specs.Pieces.{Replacement, replaced}
 use Rattle.mk_class.specs.ClassedLines.{ClassedLine, classed_lines}
 use Rattle.mk_edit_laws.specs.Edits.{Edit}
-use Rattle.mk_edit_laws.specs.Spans.{spans_of}
+use Rattle.mk_edit_laws.specs.EditSpans.{spans_of}
 use Rattle.mk_edit_laws.specs.ArgumentCauses.{bad_argument, reserved}
 use Rattle.mk_edit_laws.specs.AddressCauses.{unread_prefix, no_such, ambiguous, prefix_led}
 use Rattle.mk_edit_laws.specs.RuleCauses.{absent, already, taken, shared_rule, straddles}

@@ -46,13 +46,13 @@ AreLinesRenamedInPlace o n c [] (m ∷ ms) = ⊥
 AreLinesRenamedInPlace o n c (l ∷ ls) [] = ⊥
 AreLinesRenamedInPlace o n c (l ∷ ls) (m ∷ ms) = IsLineRenamed o n c l m × AreLinesRenamedInPlace o n (context_after c l.class) ls ms
 
--- At how many places two lists of lines have different bytes. A place that only one of the lists has counts too.
+-- At how many indices two lists of lines have different bytes. An index that only one of the lists has counts too.
 abbrev pub differing : (before after : List (List ℕ)) → ℕ
 differing [] ms = length ms
 differing (l ∷ ls) [] = length (l ∷ ls)
 differing (l ∷ ls) (m ∷ ms) = (if bytes_eq l m then 0 else 1) + differing ls ms
 
--- replacements in lines; the first line begins at this place. Each replacement stands within one line, and that line passes the
+-- replacements in lines; the first line begins at this offset. Each replacement stands within one line, and that line passes the
 -- test
 abbrev pub StandInLines : (test : ClassedLine → Bool) → (at : ℕ) → List ClassedLine → List Replacement → Type 0
 StandInLines p at [] rs = rs ≡ []

@@ -5,7 +5,7 @@ use Rattle.mk_lines.specs.PhysicalLines.{without_line_end}
 use Rattle.mk_lines.specs.Cells.{Cell, joined_byte}
 use Rattle.mk_lines.specs.Pieces.{Replacement}
 use Rattle.mk_lines.specs.Lists.{Each}
-use Rattle.mk_class.specs.Lists.{first_passes}
+use Rattle.mk_class.specs.ListTests.{first_passes}
 use Rattle.mk_class.specs.Texts.{word_texts}
 use Rattle.mk_class.specs.Headers.{Header}
 use Rattle.mk_class.specs.Classes.{Class, is_recipe}

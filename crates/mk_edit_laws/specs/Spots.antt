@@ -1,4 +1,4 @@
--- Spots: a line with the lines above and below it, which tell its place without a number.
+-- Spots. A spot is a line with the lines above and below it (`StandingLine`), which tell where it stands without a number.
 use Rattle.std.specs.Prelude.{ℕ, suc, zero, Bool, true, false, List, [], ◌∷◌, map, Option, Some, None}
 use Rattle.mk_class.specs.ClassedLines.{ClassedLine}
 use Rattle.mk_tree.specs.LineTexts.{StandingLine}

@@ -8,7 +8,7 @@ use Rattle.mk_edit_laws.specs.Edits.{Place, Bottom, BeforeVar, AfterVar, BeforeR
 use Rattle.mk_edit_laws.specs.Spots.{spots, nth_of}
 use Rattle.mk_edit_laws.specs.Addresses.{Variable, Rule, found}
 
--- some lines, or none, with the lines above and below them
+-- A stretch: some lines, or none, with the lines above and below them.
 pub record Stretch : Type 0 where
   pub above : List ClassedLine
   pub lines : List ClassedLine

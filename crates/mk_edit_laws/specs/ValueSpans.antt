@@ -2,15 +2,15 @@
 use Rattle.std.specs.Prelude.{ℕ, ◌+◌, if◌then◌else◌, List, [], ◌∷◌, length}
 use Rattle.mk_lines.specs.Cells.{Cell}
 use Rattle.mk_lines.specs.Pieces.{Replacement}
-use Rattle.mk_class.specs.Lists.{is_empty}
+use Rattle.mk_class.specs.ListTests.{is_empty}
 use Rattle.mk_class.specs.Assignments.{Assignment, before_value}
 use Rattle.mk_class.specs.Classes.{Class}
 use Rattle.mk_class.specs.Classes.Class.{Assign}
-use Rattle.mk_class.specs.PartPlaces.{raw_width}
+use Rattle.mk_class.specs.PartOffsets.{raw_width}
 use Rattle.mk_tree.specs.Documents.{text_of}
 use Rattle.mk_tree.specs.LineTexts.{StandingLine}
 
--- where the value of an assignment begins, if its line begins at this place; where the value ends; and where the blanks and folds
+-- where the value of an assignment begins, if its line begins at this offset; where the value ends; and where the blanks and folds
 -- after it end
 abbrev pub value_start : (line_start : ℕ) → Assignment Cell → ℕ
 value_start at a = at + raw_width (before_value a)
@@ -38,7 +38,7 @@ append_value_span v at a = record {
   new = if is_empty a.value then v else 32 ∷ v;
 }
 
--- the span in a line of this class; the line begins at this place
+-- the span in a line of this class; the line begins at this offset
 abbrev pub assignment_span : (ℕ → Assignment Cell → Replacement) → (line_start : ℕ) → Class Cell → List Replacement
 assignment_span f at (Assign a p) = f at a ∷ []
 assignment_span f at k = []

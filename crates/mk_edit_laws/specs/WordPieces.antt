@@ -5,7 +5,7 @@ use Rattle.mk_lines.specs.Lists.{concat, trim_end, trailing}
 use Rattle.mk_lines.specs.Cells.{Cell, joined_byte}
 use Rattle.mk_lines.specs.Pieces.{Piece, Keep, Replace}
 use Rattle.mk_lines.specs.Words.{Token, Gap, Word, tokens, is_gap}
-use Rattle.mk_class.specs.Lists.{is_empty}
+use Rattle.mk_class.specs.ListTests.{is_empty}
 use Rattle.mk_class.specs.Texts.{unit_text}
 use Rattle.mk_class.specs.Headers.{Header}
 use Rattle.mk_class.specs.Classes.{Class}

@@ -1,6 +1,6 @@
 //! Laws of edits: each contract is a theorem on the definitions that the calls of this crate are
 //! specified by. The functions do nothing.
-ghost use Rattle.mk_edit_laws.specs.Laws.{EditsReadAsChanged, NewAssignmentsStand, OtherLinesStay, RefusedChangesNothing};
+ghost use Rattle.mk_edit_laws.specs.EditLaws.{EditsReadAsChanged, NewAssignmentsStand, OtherLinesStay, RefusedChangesNothing};
 ghost use Rattle.mk_edit_laws.specs.RuleTaken.{RemoveRuleTakesTheRuleAlone};
 
 pub mod outside;

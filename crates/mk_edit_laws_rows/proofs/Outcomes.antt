@@ -16,7 +16,7 @@ use Rattle.mk_edit_laws.specs.Costs.{cost, size}
 use Rattle.mk_edit_laws.specs.Changes.{change}
 use Rattle.mk_edit_laws.specs.declared.refusal.Refusal.{Refusal}
 
--- bytes that replace those from a place to another
+-- bytes that replace those from an offset to another
 abbrev pub span : (start end : ℕ) → (new : List ℕ) → Replacement
 span s e n = record { start = s; end = e; new = n }
 

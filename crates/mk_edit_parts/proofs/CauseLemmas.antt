@@ -3,7 +3,7 @@ use Rattle.std.proofs.Common.{◌≡◌, ap, ◌∙◌, ℕ, List, ◌∷◌, Op
 use Rattle.std.specs.Prelude.{Ok, Err}
 use Rattle.mk_class.specs.ClassedLines.{classed_lines}
 use Rattle.mk_edit_laws.specs.Edits.{Edit}
-use Rattle.mk_edit_laws.specs.Spans.{spans_of}
+use Rattle.mk_edit_laws.specs.EditSpans.{spans_of}
 use Rattle.mk_edit_laws.specs.Refusals.{first_cause, unless_refused, causes, spans}
 use Rattle.mk_edit_laws.specs.declared.refusal.Refusal.{Refusal}
 

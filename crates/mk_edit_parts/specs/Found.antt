@@ -2,7 +2,7 @@
 use Rattle.std.specs.Prelude.{◌≡◌, List, [], ◌∷◌, length, take, Option, Some, None}
 use Rattle.mk_class.specs.ClassedLines.{ClassedLine, classed_lines}
 use Rattle.mk_tree.specs.Documents.{context_of}
-use Rattle.mk_tree.specs.PlacedLines.{PlacedLine, placed_text}
+use Rattle.mk_tree.specs.LocatedLines.{LocatedLine, located_text}
 use Rattle.mk_tree.specs.LineTexts.{StandingLine}
 use Rattle.mk_edit_laws.specs.Edits.{Edit}
 use Rattle.mk_edit_laws.specs.Addresses.{Address, address, found}
@@ -40,14 +40,14 @@ abbrev pub IsNotPicked : List ClassedLine → Option Address → Refusal → Typ
 IsNotPicked ls a r = first_cause (no_such_line ls a ∷ ambiguous_line ls a ∷ []) ≡ Some r
 
 -- No cause holds that comes before the edit's own causes, and the place where the edit applies is found.
-pub record IsAddressed (e : Edit) (ls : List PlacedLine) (f : Found) : Type 0 where
+pub record IsAddressed (e : Edit) (ls : List LocatedLine) (f : Found) : Type 0 where
   pub arguments : bad_argument e ≡ None
   pub not_reserved : reserved e ≡ None
-  pub prefix_read : unread_prefix (classed_lines (placed_text ls)) ≡ None
-  pub is_there : no_such (classed_lines (placed_text ls)) e ≡ None
-  pub is_one : ambiguous (classed_lines (placed_text ls)) e ≡ None
-  pub meant : IsMeant (classed_lines (placed_text ls)) (address e) f
+  pub prefix_read : unread_prefix (classed_lines (located_text ls)) ≡ None
+  pub is_there : no_such (classed_lines (located_text ls)) e ≡ None
+  pub is_one : ambiguous (classed_lines (located_text ls)) e ≡ None
+  pub meant : IsMeant (classed_lines (located_text ls)) (address e) f
 
 -- a place of a document, with the context of the lines before it
-abbrev pub IsPlaceOf : List PlacedLine → Found → Type 0
-IsPlaceOf ls place = context_of (take place.at (classed_lines (placed_text ls))) ≡ place.context
+abbrev pub IsPlaceOf : List LocatedLine → Found → Type 0
+IsPlaceOf ls place = context_of (take place.at (classed_lines (located_text ls))) ≡ place.context

@@ -1,6 +1,6 @@
 pub mod EditViews
 -- The line that an edit means
-pub mod PlacedParts
+pub mod LocatedParts
 pub mod Seeking
 pub mod Found
 pub mod LineRanges
@@ -11,5 +11,5 @@ pub mod SeenHeaders
 pub mod WordCuts
 pub mod NewPrerequisites
 -- A rename
-pub mod RenamedPlaces
+pub mod RenamedRanges
 pub mod RenamedTexts

@@ -6,7 +6,7 @@ use Rattle.mk_lines.specs.declared.split.Span.{Span}
 use Rattle.mk_class.specs.RecipePrefix.{is_prefix_led}
 use Rattle.mk_class.specs.declared.class.Class as class
 use Rattle.mk_class.specs.declared.class.Class.TheVariants as variants
-use Rattle.mk_tree.specs.PlacedLines.{PlacedLine}
+use Rattle.mk_tree.specs.LocatedLines.{LocatedLine}
 
 -- where the value of an assignment's line stands among its raw bytes, with the blanks and folds after it if `with_blanks` says
 -- so; an empty range for any other line
@@ -14,19 +14,19 @@ abbrev value_range_in : (with_blanks : Bool) → List Cell → class.Class → S
 value_range_in b cs (variants.Assign at p) = raw_range cs at.value.start (if b then at.end else at.value.end)
 value_range_in b cs k = record { start = 0; end = 0 }
 
-abbrev pub value_range_placed : (with_blanks : Bool) → PlacedLine → Span
-value_range_placed b l = value_range_in b (line_cells l.bytes) l.class
+abbrev pub value_range_located : (with_blanks : Bool) → LocatedLine → Span
+value_range_located b l = value_range_in b (line_cells l.bytes) l.class
 
 -- whether a line of this class leaves the flag as it is
-abbrev pub leaves_flag_placed : class.Class → Bool
-leaves_flag_placed variants.Blank = true
-leaves_flag_placed variants.Comment = true
-leaves_flag_placed variants.If = true
-leaves_flag_placed variants.Else = true
-leaves_flag_placed variants.Endif = true
-leaves_flag_placed k = false
+abbrev pub leaves_flag_located : class.Class → Bool
+leaves_flag_located variants.Blank = true
+leaves_flag_located variants.Comment = true
+leaves_flag_located variants.If = true
+leaves_flag_located variants.Else = true
+leaves_flag_located variants.Endif = true
+leaves_flag_located k = false
 
 -- whether the first line that begins with the prefix, or has a class that sets the flag, begins with the prefix
-abbrev pub is_led_first_placed : (prefix : ℕ) → List PlacedLine → Bool
-is_led_first_placed p [] = false
-is_led_first_placed p (l ∷ ls) = is_prefix_led p l.bytes || (leaves_flag_placed l.class && is_led_first_placed p ls)
+abbrev pub is_led_first_located : (prefix : ℕ) → List LocatedLine → Bool
+is_led_first_located p [] = false
+is_led_first_located p (l ∷ ls) = is_prefix_led p l.bytes || (leaves_flag_located l.class && is_led_first_located p ls)

@@ -18,18 +18,18 @@ brings_bar order at = order && not at.has_order_only
 abbrev pub part_of_new : (order : Bool) → header.Header → Span
 part_of_new order at = if order && at.has_order_only then order_only_span at else normal_span at
 
-abbrev pub place_of_new : (order : Bool) → (text : List ℕ) → header.Header → ℕ
-place_of_new order t at = words_end t (part_of_new order at)
+abbrev pub offset_of_new : (order : Bool) → (text : List ℕ) → header.Header → ℕ
+offset_of_new order t at = words_end t (part_of_new order at)
 
 -- what is written before a new prerequisite: a space, or a `|` between two spaces
 abbrev pub before_new : (order : Bool) → header.Header → List ℕ
 before_new order at = if brings_bar order at then codes " | " else 32 ∷ []
 
--- what is written after a new prerequisite that goes to this place: a space if a `|` follows a normal prerequisite directly, and
+-- what is written after a new prerequisite that goes to this offset: a space if a `|` follows a normal prerequisite directly, and
 -- otherwise nothing
-abbrev pub after_new : (order : Bool) → (place : ℕ) → header.Header → List ℕ
-after_new order place at = if not order && (at.has_order_only && (place == at.normal_end)) then 32 ∷ [] else []
+abbrev pub after_new : (order : Bool) → (offset : ℕ) → header.Header → List ℕ
+after_new order offset at = if not order && (at.has_order_only && (offset == at.normal_end)) then 32 ∷ [] else []
 
 -- the bytes that are written: the new prerequisite, with what stands before and after it
-abbrev pub new_text : (order : Bool) → (place : ℕ) → (word : List ℕ) → header.Header → List ℕ
-new_text order place w at = before_new order at ++ (w ++ after_new order place at)
+abbrev pub new_word_text : (order : Bool) → (offset : ℕ) → (word : List ℕ) → header.Header → List ℕ
+new_word_text order offset w at = before_new order at ++ (w ++ after_new order offset at)

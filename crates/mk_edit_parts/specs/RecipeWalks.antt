@@ -4,51 +4,51 @@ use Rattle.mk_class.specs.declared.class.Class.{Class}
 use Rattle.mk_class.specs.declared.class.Class.TheVariants.{Recipe, Blank, Comment, If, Else, Endif, Header}
 use Rattle.mk_class.specs.Classes as classes
 use Rattle.mk_class.specs.ClassedLines.{ClassedLine, classed_lines}
-use Rattle.mk_tree.specs.PlacedLines.{PlacedLine, placed_text, is_conditional_places, text_of_line}
+use Rattle.mk_tree.specs.LocatedLines.{LocatedLine, located_text, is_conditional_located, text_of_line}
 use Rattle.mk_tree.specs.RecipeLines.{recipe_lines}
 use Rattle.mk_tree.specs.LineTexts.{StandingLine}
 use Rattle.mk_edit_laws.specs.Spots.{spots}
-use Rattle.mk_edit_parts.specs.PlacedParts.{words_before}
+use Rattle.mk_edit_parts.specs.LocatedParts.{words_before}
 use Rattle.mk_edit_parts.specs.declared.recipe.Recipe as recipe
 
--- the lines of a document's text from a place on
-abbrev pub lines_from : List PlacedLine → (at : ℕ) → List ClassedLine
-lines_from ls at = drop at (classed_lines (placed_text ls))
+-- the lines of a document's text from an index on
+abbrev pub lines_from : List LocatedLine → (at : ℕ) → List ClassedLine
+lines_from ls at = drop at (classed_lines (located_text ls))
 
 -- the recipe lines of a header among the lines after it
 abbrev pub recipe_spots_in : List ClassedLine → List StandingLine
 recipe_spots_in after = take (length (recipe_lines after)) (spots (λ l. classes.is_recipe l.class) after)
 
 -- whether a line of this class is a recipe line
-abbrev pub is_recipe_places : Class → Bool
-is_recipe_places Recipe = true
-is_recipe_places k = false
+abbrev pub is_recipe_located : Class → Bool
+is_recipe_located Recipe = true
+is_recipe_located k = false
 
 -- whether a line of this class may stand among the recipe lines of a rule
-abbrev pub stays_in_rule_places : Class → Bool
-stays_in_rule_places Recipe = true
-stays_in_rule_places Blank = true
-stays_in_rule_places Comment = true
-stays_in_rule_places If = true
-stays_in_rule_places Else = true
-stays_in_rule_places Endif = true
-stays_in_rule_places k = false
+abbrev pub stays_in_rule_located : Class → Bool
+stays_in_rule_located Recipe = true
+stays_in_rule_located Blank = true
+stays_in_rule_located Comment = true
+stays_in_rule_located If = true
+stays_in_rule_located Else = true
+stays_in_rule_located Endif = true
+stays_in_rule_located k = false
 
--- What a walk has found after some more lines; the first of these stands at this place. It has found where the recipe ends, and
+-- What a walk has found after some more lines; the first of these stands at this index. It has found where the recipe ends, and
 -- whether a line of a conditional was passed before that end. `conditional` says whether such a line was passed so far.
-abbrev pub recipe_from : recipe.Recipe → (conditional : Bool) → (at : ℕ) → List PlacedLine → recipe.Recipe
+abbrev pub recipe_from : recipe.Recipe → (conditional : Bool) → (at : ℕ) → List LocatedLine → recipe.Recipe
 recipe_from r c at [] = r
 recipe_from r c at (l ∷ ls) =
-    if is_recipe_places l.class then recipe_from (record { end = at + 1; is_split = c }) c (at + 1) ls
-    else if stays_in_rule_places l.class then recipe_from r (c || is_conditional_places l.class) (at + 1) ls
+    if is_recipe_located l.class then recipe_from (record { end = at + 1; is_split = c }) c (at + 1) ls
+    else if stays_in_rule_located l.class then recipe_from r (c || is_conditional_located l.class) (at + 1) ls
     else r
 
 -- where the recipe line of this number stands; `passed` recipe lines were passed so far
-abbrev pub recipe_place_from : (number passed at : ℕ) → List PlacedLine → Option ℕ
-recipe_place_from n p at [] = None
-recipe_place_from n p at (l ∷ ls) =
-    if is_recipe_places l.class then (if p + 1 == n then Some at else recipe_place_from n (p + 1) (at + 1) ls)
-    else if stays_in_rule_places l.class then recipe_place_from n p (at + 1) ls
+abbrev pub recipe_index_from : (number passed at : ℕ) → List LocatedLine → Option ℕ
+recipe_index_from n p at [] = None
+recipe_index_from n p at (l ∷ ls) =
+    if is_recipe_located l.class then (if p + 1 == n then Some at else recipe_index_from n (p + 1) (at + 1) ls)
+    else if stays_in_rule_located l.class then recipe_index_from n p (at + 1) ls
     else None
 
 -- ---- the targets of a header
@@ -58,5 +58,5 @@ abbrev pub header_targets_in : (text : List ℕ) → Class → List (List ℕ)
 header_targets_in t (Header h) = words_before h.targets_end t
 header_targets_in t k = []
 
-abbrev pub header_targets_placed : PlacedLine → List (List ℕ)
-header_targets_placed l = header_targets_in (text_of_line l) l.class
+abbrev pub header_targets_located : LocatedLine → List (List ℕ)
+header_targets_located l = header_targets_in (text_of_line l) l.class

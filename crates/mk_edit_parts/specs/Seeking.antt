@@ -1,24 +1,24 @@
 -- A walk over the lines of a document for the line that an address means.
 use Rattle.std.specs.Prelude.{◌≡◌, ◌||◌, ◌&&◌, ◌==◌, if◌then◌else◌, ℕ, ◌+◌, Bool, false, List, [], ◌∷◌, length, Option, Some, None, option_map}
 use Rattle.std.specs.List.{list_any}
-use Rattle.mk_class.specs.Contexts.{start, context_after_places}
+use Rattle.mk_class.specs.Contexts.{start, context_after_located}
 use Rattle.mk_class.specs.ClassedLines.{ClassedLine}
 use Rattle.mk_class.specs.declared.class.Class as class
 use Rattle.mk_tree.specs.Documents.{context_of}
-use Rattle.mk_tree.specs.PlacedLines.{PlacedLine}
+use Rattle.mk_tree.specs.LocatedLines.{LocatedLine}
 use Rattle.mk_tree.specs.LineTexts.{StandingLine}
 use Rattle.mk_edit_laws.specs.Spots.{nth_of}
 use Rattle.mk_edit_laws.specs.Addresses.{Address, Variable, Rule, candidates, nth_meant}
 use Rattle.mk_edit_laws.specs.AddressCauses.{is_unread_prefix}
-use Rattle.mk_edit_parts.specs.PlacedParts.{assigns_placed, is_rule_for_placed, is_unread_placed}
+use Rattle.mk_edit_parts.specs.LocatedParts.{assigns_located, is_rule_for_located, is_unread_located}
 use Rattle.mk_edit_parts.specs.declared.seek.Found.{Found}
 use Rattle.mk_edit_parts.specs.declared.seek.Sought.{Sought}
 
 -- whether a line is one that an address may mean
-abbrev pub may_mean : Option Address → PlacedLine → Bool
+abbrev pub may_mean : Option Address → LocatedLine → Bool
 may_mean None l = false
-may_mean (Some (Variable nth n)) l = assigns_placed n l
-may_mean (Some (Rule nth t)) l = is_rule_for_placed t l
+may_mean (Some (Variable nth n)) l = assigns_located n l
+may_mean (Some (Rule nth t)) l = is_rule_for_located t l
 
 -- the number that is sought, from 1; if no number is given, 1
 abbrev wanted_of : Option ℕ → ℕ
@@ -37,14 +37,14 @@ noted_by m u w k s = record {
   count = if m then s.count + 1 else s.count;
   found = if m && (s.count + 1 == w) then Some s.end else s.found;
   has_unread_prefix = s.has_unread_prefix || u;
-  end = record { at = s.end.at + 1; context = context_after_places s.end.context k };
+  end = record { at = s.end.at + 1; context = context_after_located s.end.context k };
 }
 
-abbrev pub noted : (test : PlacedLine → Bool) → (wanted : ℕ) → PlacedLine → Sought → Sought
-noted test w l s = noted_by (test l) (is_unread_placed l) w l.class s
+abbrev pub noted : (test : LocatedLine → Bool) → (wanted : ℕ) → LocatedLine → Sought → Sought
+noted test w l s = noted_by (test l) (is_unread_located l) w l.class s
 
 -- what a walk has seen after some more lines
-abbrev pub seek : (test : PlacedLine → Bool) → (wanted : ℕ) → Sought → List PlacedLine → Sought
+abbrev pub seek : (test : LocatedLine → Bool) → (wanted : ℕ) → Sought → List LocatedLine → Sought
 seek test w s [] = s
 seek test w s (l ∷ ls) = seek test w (noted test w l s) ls
 
@@ -55,8 +55,8 @@ nothing_seen = record { count = 0; found = None; has_unread_prefix = false; end 
 -- ---- what it finds, on lines as they are defined
 
 -- where a line stands: how many lines are above it, and the context that they leave
-abbrev pub place_found : StandingLine → Found
-place_found s = record { at = length s.above; context = context_of s.above }
+abbrev pub standing_found : StandingLine → Found
+standing_found s = record { at = length s.above; context = context_of s.above }
 
 -- the lines that an address may mean
 abbrev pub candidates_of : List ClassedLine → Option Address → List StandingLine
@@ -67,6 +67,6 @@ candidates_of ls (Some a) = candidates ls a
 -- prefix is set in a way that is not read, and where the lines end.
 pub record IsSought (ls : List ClassedLine) (a : Option Address) (s : Sought) : Type 0 where
   pub count_is : s.count ≡ length (candidates_of ls a)
-  pub found_is : s.found ≡ option_map place_found (nth_of (wanted a) (candidates_of ls a))
+  pub found_is : s.found ≡ option_map standing_found (nth_of (wanted a) (candidates_of ls a))
   pub unread_is : s.has_unread_prefix ≡ list_any (λ l. is_unread_prefix l.class) ls
   pub end_is : s.end ≡ record { at = length ls; context = context_of ls }

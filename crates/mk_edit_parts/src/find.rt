@@ -3,7 +3,7 @@
 ghost use Rattle.std.specs.Prelude.{◌≡◌, ◌≤◌, length, IfOk, IfErr, Err, List, is_some};
 ghost use Rattle.mk_class.specs.ClassedLines.{ClassedLine, classed_lines};
 ghost use Rattle.mk_tree.specs.Documents.{IsFaithful};
-ghost use Rattle.mk_tree.specs.PlacedLines.{placed_text};
+ghost use Rattle.mk_tree.specs.LocatedLines.{located_text};
 ghost use Rattle.mk_edit_laws.specs.Addresses.{nth_meant};
 ghost use Rattle.mk_edit_laws.specs.Refusals.{spans};
 ghost use Rattle.mk_edit_laws.specs.TouchedLines.{IsOfOnePlace};
@@ -30,7 +30,7 @@ pub fn find<A: Allocator>(doc: &Doc<A>, edit: &Edit<A>) -> Result<Found, Refusal
     requires faithful { IsFaithful doc.now }
     requires one_place { IsOfOnePlace (edit_of edit.now) }
     ensures found { IfOk result (λ found. IsAddressed (edit_of edit.now) doc.now found) }
-    ensures refused { IfErr result (λ refusal. spans (placed_text doc.now) (edit_of edit.now) ≡ Err refusal) }
+    ensures refused { IfErr result (λ refusal. spans (located_text doc.now) (edit_of edit.now) ≡ Err refusal) }
 {
     if let Some(field) = bad_field(edit) {
         return Err(Refusal::BadArgument(field));

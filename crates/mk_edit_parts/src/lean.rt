@@ -2,38 +2,46 @@
 ghost use Rattle.std.specs.Prelude.{◌≡◌, ◌≤◌, ◌&&◌, not, drop, length};
 ghost use Rattle.mk_class.specs.RecipePrefix.{is_prefix_led};
 ghost use Rattle.mk_tree.specs.Leaning.{is_same_flag};
-ghost use Rattle.mk_edit_parts.specs.LineRanges.{is_led_first_placed, leaves_flag_placed};
+ghost use Rattle.mk_edit_parts.specs.LineRanges.{is_led_first_located, leaves_flag_located};
 
-use mk_class::{Class, Flag};
+use mk_class::{Class, RuleFlag};
 use mk_tree::Doc;
 use std::alloc::Allocator;
 
-/// Whether the lines of a document from a place on lean on the flags before and after a change
+/// Whether the lines of a document from an index on lean on the flags before and after a change
 /// above them: the flags differ, and the first line that counts begins with the prefix.
 ///
 /// It walks over these lines up to the first that counts, reads no line anew and takes no memory.
-pub fn leans<A: Allocator>(doc: &Doc<A>, from: usize, prefix: u8, before: Flag, after: Flag) -> bool
+pub fn leans<A: Allocator>(
+    doc: &Doc<A>,
+    from: usize,
+    prefix: u8,
+    before: RuleFlag,
+    after: RuleFlag,
+) -> bool
     requires { from ≤ length doc.now }
-    ensures { result ≡ (not (is_same_flag before after) && is_led_first_placed prefix (drop from doc.now)) }
+    ensures { result ≡ (not (is_same_flag before after) && is_led_first_located prefix (drop from doc.now)) }
 {
     !is_same_flag(before, after) && is_led_first(doc, from, prefix)
 }
 
 // Whether two flags are the same.
-fn is_same_flag(left: Flag, right: Flag) -> bool
+fn is_same_flag(left: RuleFlag, right: RuleFlag) -> bool
     ensures { result ≡ is_same_flag left right }
 {
     matches!(
         (left, right),
-        (Flag::Off, Flag::Off) | (Flag::Rule, Flag::Rule) | (Flag::Unknown, Flag::Unknown)
+        (RuleFlag::Off, RuleFlag::Off)
+            | (RuleFlag::Rule, RuleFlag::Rule)
+            | (RuleFlag::Unknown, RuleFlag::Unknown)
     )
 }
 
-// Whether the first of the lines from a place on that begins with the prefix or sets the flag
+// Whether the first of the lines from an index on that begins with the prefix or sets the flag
 // begins with the prefix.
 fn is_led_first<A: Allocator>(doc: &Doc<A>, from: usize, prefix: u8) -> bool
     requires { from ≤ length doc.now }
-    ensures { result ≡ is_led_first_placed prefix (drop from doc.now) }
+    ensures { result ≡ is_led_first_located prefix (drop from doc.now) }
 {
     'lines: for at in from..doc.len() {
         let line = doc.line(at);
@@ -56,7 +64,7 @@ pub fn begins_with(line: &[u8], prefix: u8) -> bool
 
 // Whether a line of this class leaves the flag as it is.
 fn leaves_flag(class: &Class) -> bool
-    ensures { result ≡ leaves_flag_placed class.now }
+    ensures { result ≡ leaves_flag_located class.now }
 {
     matches!(
         class,

@@ -2,7 +2,7 @@
 ghost use Rattle.std.specs.Prelude.{◌≡◌, ◌++◌, IfOk};
 ghost use Rattle.mk_lines.specs.PhysicalLines.{file_line_end, line_end_bytes};
 ghost use Rattle.mk_tree.specs.Documents.{IsFaithful};
-ghost use Rattle.mk_tree.specs.PlacedLines.{placed_text};
+ghost use Rattle.mk_tree.specs.LocatedLines.{located_text};
 
 use mk_lines::ends::{self, End};
 use mk_tree::Doc;
@@ -12,7 +12,7 @@ use std::alloc::{AllocError, Allocator};
 /// line has none. Takes no memory.
 pub fn file_line_end<A: Allocator>(doc: &Doc<A>) -> End
     requires { IsFaithful doc.now }
-    ensures { result ≡ file_line_end (placed_text doc.now) }
+    ensures { result ≡ file_line_end (located_text doc.now) }
 {
     if doc.is_empty() {
         End::Lf

@@ -4,8 +4,8 @@
 //! Each test takes the class of the line, which the caller has at hand.
 ghost use Rattle.std.specs.Prelude.{◌≡◌, ◌≤◌, length};
 ghost use Rattle.mk_class.specs.Texts.{is_one_of};
-ghost use Rattle.mk_edit_parts.specs.PlacedParts.{IsClassed, assigns_placed, is_rule_for_placed, is_target_placed, is_unread_placed, words_before};
-ghost use Rattle.mk_tree.specs.PlacedLines.{text_of_line};
+ghost use Rattle.mk_edit_parts.specs.LocatedParts.{IsClassed, assigns_located, is_rule_for_located, is_target_located, is_unread_located, words_before};
+ghost use Rattle.mk_tree.specs.LocatedLines.{text_of_line};
 ghost use Rattle.mk_lines.specs.Cells.{line_cells};
 ghost use Rattle.mk_tree.specs.Trees.{line_view};
 
@@ -20,7 +20,7 @@ use std::alloc::Allocator;
 pub fn assigns<A: Allocator>(line: &Line<A>, class: &Class, name: &[u8]) -> bool
     requires classed { IsClassed (line_view line.now) }
     requires class { class.now ≡ (line_view line.now).class }
-    ensures { result ≡ assigns_placed name.now (line_view line.now) }
+    ensures { result ≡ assigns_located name.now (line_view line.now) }
 {
     match class {
         Class::Assign(assignment, _) => {
@@ -34,7 +34,7 @@ pub fn assigns<A: Allocator>(line: &Line<A>, class: &Class, name: &[u8]) -> bool
 pub fn is_rule_for<A: Allocator>(line: &Line<A>, class: &Class, target: &[u8]) -> bool
     requires classed { IsClassed (line_view line.now) }
     requires class { class.now ≡ (line_view line.now).class }
-    ensures { result ≡ is_rule_for_placed target.now (line_view line.now) }
+    ensures { result ≡ is_rule_for_located target.now (line_view line.now) }
 {
     match class {
         Class::Header(header) => has_word_before(line, header.targets_end, target),
@@ -46,7 +46,7 @@ pub fn is_rule_for<A: Allocator>(line: &Line<A>, class: &Class, target: &[u8]) -
 pub fn has_target<A: Allocator>(line: &Line<A>, class: &Class, word: &[u8]) -> bool
     requires classed { IsClassed (line_view line.now) }
     requires class { class.now ≡ (line_view line.now).class }
-    ensures { result ≡ is_target_placed word.now (line_view line.now) }
+    ensures { result ≡ is_target_located word.now (line_view line.now) }
 {
     match class {
         Class::Header(header) => has_word_before(line, header.targets_end, word),
@@ -59,7 +59,7 @@ pub fn has_target<A: Allocator>(line: &Line<A>, class: &Class, word: &[u8]) -> b
 pub fn is_unread<A: Allocator>(line: &Line<A>, class: &Class) -> bool
     requires classed { IsClassed (line_view line.now) }
     requires class { class.now ≡ (line_view line.now).class }
-    ensures { result ≡ is_unread_placed (line_view line.now) }
+    ensures { result ≡ is_unread_located (line_view line.now) }
 {
     match class {
         Class::Assign(assignment, None) => {
@@ -70,7 +70,7 @@ pub fn is_unread<A: Allocator>(line: &Line<A>, class: &Class) -> bool
     }
 }
 
-// Whether a word is one of those before a place in the joined text of a line.
+// Whether a word is one of those before an offset in the joined text of a line.
 fn has_word_before<A: Allocator>(line: &Line<A>, end: usize, word: &[u8]) -> bool
     requires within { end ≤ length (line_cells (line_view line.now).bytes) }
     ensures { result ≡ is_one_of word.now (words_before end (text_of_line (line_view line.now))) }

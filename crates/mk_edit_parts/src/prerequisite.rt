@@ -9,11 +9,11 @@ ghost use Rattle.mk_class.specs.Headers;
 ghost use Rattle.mk_tree.specs.Trees.{line_view};
 ghost use Rattle.mk_edit_laws.specs.RuleCauses.{is_normal, is_order_only};
 ghost use Rattle.mk_edit_laws.specs.WordPieces.{add_pieces, remove_pieces};
-ghost use Rattle.mk_tree.specs.PlacedLines.{text_of_line};
+ghost use Rattle.mk_tree.specs.LocatedLines.{text_of_line};
 ghost use Rattle.mk_edit_parts.specs.SeenHeaders.{HasHeader, IsHeaderSeen};
 ghost use Rattle.mk_class.specs.LineParts.{order_only_span, normal_span};
 ghost use Rattle.mk_edit_parts.specs.WordCuts.{raw_between, without_words};
-ghost use Rattle.mk_edit_parts.specs.NewPrerequisites.{after_new, before_new, new_text, part_of_new, place_of_new, words_end};
+ghost use Rattle.mk_edit_parts.specs.NewPrerequisites.{after_new, before_new, new_word_text, part_of_new, offset_of_new, words_end};
 
 use crate::part::{part, text_of_line};
 use crate::text::{has_word, is_same_text};
@@ -75,7 +75,7 @@ fn raw_part<A: Allocator>(line: &Line<A>, span: Span) -> &[u8]
     part(line.bytes(), line.cells().raw_range(span.start, span.end))
 }
 
-// The raw bytes of a line from a place in its joined text on, with its line end.
+// The raw bytes of a line from an offset in its joined text on, with its line end.
 fn raw_rest<A: Allocator>(line: &Line<A>, start: usize) -> &[u8]
     requires within { start ≤ length (line_cells (line_view line.now).bytes) }
     ensures { result.now ≡ raw_text (drop start (line_cells (line_view line.now).bytes)) ++ line_end_bytes (line_end (line_view line.now).bytes) }
@@ -90,9 +90,9 @@ fn raw_rest<A: Allocator>(line: &Line<A>, start: usize) -> &[u8]
 
 /// Where a new prerequisite goes into the joined text: after the last word of its list, or at the
 /// front of the list if it has no word.
-pub fn place_of_new<A: Allocator>(line: &Line<A>, header: Header, order: bool) -> usize
+pub fn offset_of_new<A: Allocator>(line: &Line<A>, header: Header, order: bool) -> usize
     requires { HasHeader (line_view line.now) header }
-    ensures { result ≡ place_of_new order (text_of_line (line_view line.now)) header }
+    ensures { result ≡ offset_of_new order (text_of_line (line_view line.now)) header }
 {
     words_end(text_of_line(line), part_of_new(header, order))
 }
@@ -135,12 +135,12 @@ pub fn before_new(header: Header, order: bool) -> &'static [u8]
     }
 }
 
-/// What is written after a new prerequisite at a place: a space if a `|` would follow it directly,
+/// What is written after a new prerequisite at an offset: a space if a `|` would follow it directly,
 /// and otherwise nothing.
-pub fn after_new(header: Header, order: bool, place: usize) -> &'static [u8]
-    ensures { result.now ≡ after_new order place header }
+pub fn after_new(header: Header, order: bool, offset: usize) -> &'static [u8]
+    ensures { result.now ≡ after_new order offset header }
 {
-    if !order && header.has_order_only && place == header.normal_end {
+    if !order && header.has_order_only && offset == header.normal_end {
         b" "
     } else {
         b""
@@ -150,10 +150,10 @@ pub fn after_new(header: Header, order: bool, place: usize) -> &'static [u8]
 /// How many bytes a new prerequisite adds to a line.
 pub fn len_of_new<A: Allocator>(line: &Line<A>, header: Header, order: bool, word: &[u8]) -> usize
     requires { HasHeader (line_view line.now) header }
-    ensures { result ≡ length (new_text order (place_of_new order (text_of_line (line_view line.now)) header) word.now header) }
+    ensures { result ≡ length (new_word_text order (offset_of_new order (text_of_line (line_view line.now)) header) word.now header) }
 {
-    let place = place_of_new(line, header, order);
-    before_new(header, order).len() + word.len() + after_new(header, order, place).len()
+    let offset = offset_of_new(line, header, order);
+    before_new(header, order).len() + word.len() + after_new(header, order, offset).len()
 }
 
 /// The line with a new prerequisite. All memory is taken at once.
@@ -173,19 +173,19 @@ pub fn with_prerequisite<A: Allocator + Copy>(
     ensures { IfOk result (λ bytes. (h : Headers.Header Cell) → IsHeaderSeen (line_view line.now) header h
         → bytes.items ≡ new_bytes (add_pieces order word.now h) ++ line_end_bytes (line_end (line_view line.now).bytes)) }
 {
-    let place = place_of_new(line, header, order);
+    let offset = offset_of_new(line, header, order);
     let mut bytes = Vec::with_capacity(alloc, line.bytes().len() + word.len() + 3)?;
     bytes.extend_from_slice(raw_part(
         line,
         Span {
             start: 0,
-            end: place,
+            end: offset,
         },
     ))?;
     bytes.extend_from_slice(before_new(header, order))?;
     bytes.extend_from_slice(word)?;
-    bytes.extend_from_slice(after_new(header, order, place))?;
-    bytes.extend_from_slice(raw_rest(line, place))?;
+    bytes.extend_from_slice(after_new(header, order, offset))?;
+    bytes.extend_from_slice(raw_rest(line, offset))?;
     Ok(bytes)
 }
 

@@ -1,8 +1,8 @@
 //! Ranges of the bytes of a line: where its value stands, and the line with a range replaced.
 ghost use Rattle.std.specs.Prelude.{◌≡◌, ◌≤◌, ◌++◌, IfOk, take, drop, length};
 ghost use Rattle.mk_tree.specs.Trees.{line_view};
-ghost use Rattle.mk_edit_parts.specs.LineRanges.{value_range_placed};
-ghost use Rattle.mk_edit_parts.specs.PlacedParts.{IsClassed};
+ghost use Rattle.mk_edit_parts.specs.LineRanges.{value_range_located};
+ghost use Rattle.mk_edit_parts.specs.LocatedParts.{IsClassed};
 
 use mk_class::Class;
 use mk_lines::split::Span;
@@ -13,7 +13,7 @@ use std::alloc::{AllocError, Allocator};
 /// it if `with_blanks` says so.
 pub fn value_range<A: Allocator>(line: &Line<A>, with_blanks: bool) -> Span
     requires { IsClassed (line_view line.now) }
-    ensures { result ≡ value_range_placed with_blanks (line_view line.now) }
+    ensures { result ≡ value_range_located with_blanks (line_view line.now) }
 {
     match line.class() {
         Class::Assign(assignment, _) => {

@@ -5,10 +5,10 @@ ghost use Rattle.std.specs.Prelude.{◌≡◌, ◌≤◌, ◌+◌, length, optio
 ghost use Rattle.std.specs.List.{list_any};
 ghost use Rattle.mk_class.specs.Classes.{is_conditional};
 ghost use Rattle.mk_tree.specs.Documents.{IsFaithful};
-ghost use Rattle.mk_tree.specs.PlacedLines.{is_conditional_places};
+ghost use Rattle.mk_tree.specs.LocatedLines.{is_conditional_located};
 ghost use Rattle.mk_tree.specs.RecipeLines.{recipe_run};
 ghost use Rattle.mk_edit_laws.specs.Spots.{nth_of};
-ghost use Rattle.mk_edit_parts.specs.RecipeWalks.{is_recipe_places, lines_from, recipe_spots_in, stays_in_rule_places};
+ghost use Rattle.mk_edit_parts.specs.RecipeWalks.{is_recipe_located, lines_from, recipe_spots_in, stays_in_rule_located};
 
 use mk_class::Class;
 use mk_tree::Doc;
@@ -17,14 +17,14 @@ use std::alloc::Allocator;
 /// Where the recipe of a rule ends.
 #[derive(Clone, Copy)]
 pub struct Recipe {
-    /// The place after the last recipe line of the rule, or after the header if the rule has no
+    /// The index after the last recipe line of the rule, or after the header if the rule has no
     /// recipe line.
     pub end: usize,
     /// Whether a line of a conditional stands between the header and the last recipe line.
     pub is_split: bool,
 }
 
-/// Where the recipe of a header ends. The header stands directly before the place `from`.
+/// Where the recipe of a header ends. The header stands directly before the index `from`.
 pub fn recipe_below<A: Allocator>(doc: &Doc<A>, from: usize) -> Recipe
     requires faithful { IsFaithful doc.now }
     requires in_range { from ≤ length doc.now }
@@ -53,8 +53,8 @@ pub fn recipe_below<A: Allocator>(doc: &Doc<A>, from: usize) -> Recipe
     recipe
 }
 
-/// The place of a header's recipe line, by its number from 1. The header stands directly before the
-/// place `from`.
+/// The index of a header's recipe line, by its number from 1. The header stands directly before the
+/// index `from`.
 pub fn recipe_line<A: Allocator>(doc: &Doc<A>, from: usize, number: u32) -> Option<usize>
     requires faithful { IsFaithful doc.now }
     requires in_range { from ≤ length doc.now }
@@ -77,21 +77,21 @@ pub fn recipe_line<A: Allocator>(doc: &Doc<A>, from: usize, number: u32) -> Opti
 
 // Whether a line of this class is a recipe line.
 fn is_recipe(class: &Class) -> bool
-    ensures { result ≡ is_recipe_places class.now }
+    ensures { result ≡ is_recipe_located class.now }
 {
     matches!(class, Class::Recipe)
 }
 
 // Whether a line of this class belongs to a conditional.
 fn is_conditional(class: &Class) -> bool
-    ensures { result ≡ is_conditional_places class.now }
+    ensures { result ≡ is_conditional_located class.now }
 {
     matches!(class, Class::If | Class::Else | Class::Endif)
 }
 
 // Whether a line of this class may stand among the recipe lines of a rule.
 fn stays_in_rule(class: &Class) -> bool
-    ensures { result ≡ stays_in_rule_places class.now }
+    ensures { result ≡ stays_in_rule_located class.now }
 {
     matches!(
         class,

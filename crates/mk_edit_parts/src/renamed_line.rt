@@ -2,13 +2,13 @@
 ghost use Rattle.std.specs.Prelude.{◌≡◌, ◌≤◌, [], ◌∷◌, ◌++◌, IfOk, length};
 ghost use Rattle.mk_lines.specs.Cells.{line_cells};
 ghost use Rattle.mk_tree.specs.Trees.{line_view};
-ghost use Rattle.mk_edit_parts.specs.PlacedParts.{IsClassed};
-ghost use Rattle.mk_edit_parts.specs.RenamedPlaces.{IsWithin, part_places, renamed_places};
+ghost use Rattle.mk_edit_parts.specs.LocatedParts.{IsClassed};
+ghost use Rattle.mk_edit_parts.specs.RenamedRanges.{IsWithin, part_ranges, renamed_ranges};
 ghost use Rattle.mk_edit_parts.specs.RenamedTexts.{AreApart, renamed_text, written};
 ghost use Rattle.mk_edit_parts.specs.WordCuts.{last_end};
 
 use crate::part::{part, rest, text_of_line};
-use crate::word_parts::{parts_of, place_of_word};
+use crate::word_parts::{parts_of, range_of_word};
 use mk_class::Class;
 use mk_lines::split::Span;
 use mk_lines::words;
@@ -31,7 +31,7 @@ pub fn renamed_bytes<A: Allocator + Copy>(
 ) -> Result<Vec<u8, A>, AllocError>
     requires classed { IsClassed (line_view line.now) }
     requires class { class.now ≡ (line_view line.now).class }
-    requires apart { AreApart 0 (length (line_view line.now).bytes) (renamed_places from.now (line_view line.now)) }
+    requires apart { AreApart 0 (length (line_view line.now).bytes) (renamed_ranges from.now (line_view line.now)) }
     ensures { IfOk result (λ bytes. bytes.items ≡ renamed_text from.now to.now (line_view line.now)) }
 {
     let parts = parts_of(line, class);
@@ -43,8 +43,8 @@ pub fn renamed_bytes<A: Allocator + Copy>(
     Ok(bytes)
 }
 
-// Writes a line from a place up to the end of the last word of a part that is replaced, and answers
-// this end; if no word is replaced, it writes nothing and answers the place.
+// Writes a line from an offset up to the end of the last word of a part that is replaced, and answers
+// this end; if no word is replaced, it writes nothing and answers the offset.
 fn write_part<A: Allocator + Copy>(
     bytes: &mut Vec<u8, A>,
     line: &Line<A>,
@@ -54,21 +54,21 @@ fn write_part<A: Allocator + Copy>(
     done: usize,
 ) -> Result<usize, AllocError>
     requires within { IsWithin (length (line_cells (line_view line.now).bytes)) span }
-    requires apart { AreApart done (length (line_view line.now).bytes) (part_places (line_cells (line_view line.now).bytes) from.now span) }
-    ensures end { IfOk result (λ end. end ≡ last_end done (part_places (line_cells (line_view line.now).bytes) from.now span)) }
-    ensures written { IfOk result (λ end. bytes.new.items ≡ bytes.old.items ++ written (line_view line.now).bytes done to.now (part_places (line_cells (line_view line.now).bytes) from.now span)) }
+    requires apart { AreApart done (length (line_view line.now).bytes) (part_ranges (line_cells (line_view line.now).bytes) from.now span) }
+    ensures end { IfOk result (λ end. end ≡ last_end done (part_ranges (line_cells (line_view line.now).bytes) from.now span)) }
+    ensures written { IfOk result (λ end. bytes.new.items ≡ bytes.old.items ++ written (line_view line.now).bytes done to.now (part_ranges (line_cells (line_view line.now).bytes) from.now span)) }
 {
     let mut done = done;
     'words: for word in words(part(text_of_line(line), span)) {
-        if let Some(place) = place_of_word(line, span.start, word, from) {
-            write_word(bytes, line.bytes(), done, place, to)?;
-            done = place.end;
+        if let Some(range) = range_of_word(line, span.start, word, from) {
+            write_word(bytes, line.bytes(), done, range, to)?;
+            done = range.end;
         }
     }
     Ok(done)
 }
 
-// Writes a line from a place up to a word, and then the new word.
+// Writes a line from an offset up to a word, and then the new word.
 fn write_word<A: Allocator>(
     bytes: &mut Vec<u8, A>,
     line: &[u8],

@@ -3,10 +3,10 @@ ghost use Rattle.std.specs.Prelude.{◌≡◌, ◌<◌, ◌≤◌, ◌^◌};
 ghost use Rattle.mk_class.specs.ClassedLines.{classed_lines};
 ghost use Rattle.mk_class.specs.Contexts.{Admits};
 ghost use Rattle.mk_tree.specs.Documents.{IsFaithful};
-ghost use Rattle.mk_tree.specs.PlacedLines.{placed_text};
+ghost use Rattle.mk_tree.specs.LocatedLines.{located_text};
 ghost use Rattle.mk_tree.specs.Trees.{line_view};
 ghost use Rattle.mk_edit_parts.specs.EditViews.{address_seen};
-ghost use Rattle.mk_edit_parts.specs.PlacedParts.{IsClassed};
+ghost use Rattle.mk_edit_parts.specs.LocatedParts.{IsClassed};
 ghost use Rattle.mk_edit_parts.specs.Seeking.{IsSought, may_mean, noted_by, nothing_seen, wanted};
 
 use crate::address::Address;
@@ -42,7 +42,7 @@ pub struct Sought {
 /// stands. The call reads no line anew and takes no memory.
 pub fn seek<A: Allocator>(doc: &Doc<A>, address: Option<Address>) -> Sought
     requires { IsFaithful doc.now }
-    ensures { IsSought (classed_lines (placed_text doc.now)) (address_seen address.entry) result }
+    ensures { IsSought (classed_lines (located_text doc.now)) (address_seen address.entry) result }
 {
     let wanted = wanted(address);
     let mut sought = nothing_seen();

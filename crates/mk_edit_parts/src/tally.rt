@@ -2,11 +2,11 @@
 ghost use Rattle.std.specs.Prelude.{◌≡◌, ◌+◌, ◌<◌, ◌≤◌, ◌^◌, [], length, IfSome};
 ghost use Rattle.mk_lines.specs.Cells.{line_cells};
 ghost use Rattle.mk_tree.specs.Trees.{line_view};
-ghost use Rattle.mk_edit_parts.specs.PlacedParts.{IsClassed};
-ghost use Rattle.mk_edit_parts.specs.RenamedPlaces.{IsWithin, before_places, bytes_in, no_words, part_places, renamed_places, tallied};
+ghost use Rattle.mk_edit_parts.specs.LocatedParts.{IsClassed};
+ghost use Rattle.mk_edit_parts.specs.RenamedRanges.{IsWithin, before_ranges, bytes_in, no_words, part_ranges, renamed_ranges, tallied};
 
 use crate::part::{part, text_of_line};
-use crate::word_parts::{parts_of, place_of_word};
+use crate::word_parts::{parts_of, range_of_word};
 use mk_class::Class;
 use mk_lines::split::Span;
 use mk_lines::words;
@@ -28,9 +28,9 @@ pub struct Tally {
 pub fn count_words<A: Allocator>(line: &Line<A>, class: &Class, from: &[u8]) -> Tally
     requires classed { IsClassed (line_view line.now) }
     requires class { class.now ≡ (line_view line.now).class }
-    requires few { length (renamed_places from.now (line_view line.now)) < 2 ^ 32 }
-    requires few_bytes { bytes_in (renamed_places from.now (line_view line.now)) ≤ 2 ^ 32 }
-    ensures { result ≡ tallied no_words (renamed_places from.now (line_view line.now)) }
+    requires few { length (renamed_ranges from.now (line_view line.now)) < 2 ^ 32 }
+    requires few_bytes { bytes_in (renamed_ranges from.now (line_view line.now)) ≤ 2 ^ 32 }
+    ensures { result ≡ tallied no_words (renamed_ranges from.now (line_view line.now)) }
 {
     let parts = parts_of(line, class);
     let none = Tally {
@@ -46,30 +46,30 @@ pub fn count_words<A: Allocator>(line: &Line<A>, class: &Class, from: &[u8]) -> 
 // The count with the words of a part added that are `from`.
 fn count_in_part<A: Allocator>(line: &Line<A>, span: Span, from: &[u8], tally: Tally) -> Tally
     requires within { IsWithin (length (line_cells (line_view line.now).bytes)) span }
-    requires few { tally.words + length (part_places (line_cells (line_view line.now).bytes) from.now span) < 2 ^ 32 }
-    requires few_bytes { tally.bytes + bytes_in (part_places (line_cells (line_view line.now).bytes) from.now span) ≤ 2 ^ 32 }
-    ensures { result ≡ tallied tally (part_places (line_cells (line_view line.now).bytes) from.now span) }
+    requires few { tally.words + length (part_ranges (line_cells (line_view line.now).bytes) from.now span) < 2 ^ 32 }
+    requires few_bytes { tally.bytes + bytes_in (part_ranges (line_cells (line_view line.now).bytes) from.now span) ≤ 2 ^ 32 }
+    ensures { result ≡ tallied tally (part_ranges (line_cells (line_view line.now).bytes) from.now span) }
 {
     let mut tally = tally;
     'words: for word in words(part(text_of_line(line), span)) {
-        tally = counted(tally, place_of_word(line, span.start, word, from));
+        tally = counted(tally, range_of_word(line, span.start, word, from));
     }
     tally
 }
 
 // The count with one more word, if there is one.
-fn counted(tally: Tally, place: Option<Span>) -> Tally
+fn counted(tally: Tally, range: Option<Span>) -> Tally
     requires few { tally.words < 2 ^ 32 }
-    requires few_bytes { tally.bytes + bytes_in (before_places place []) ≤ 2 ^ 32 }
-    requires rises { IfSome place (λ place. place.start ≤ place.end) }
-    ensures { result ≡ tallied tally (before_places place []) }
+    requires few_bytes { tally.bytes + bytes_in (before_ranges range []) ≤ 2 ^ 32 }
+    requires rises { IfSome range (λ range. range.start ≤ range.end) }
+    ensures { result ≡ tallied tally (before_ranges range []) }
 {
-    match place {
+    match range {
         None => tally,
-        Some(place) => Tally {
+        Some(range) => Tally {
             words: tally.words + 1,
-            bytes: tally.bytes + (place.end - place.start),
-            at_front: tally.at_front || place.start == 0,
+            bytes: tally.bytes + (range.end - range.start),
+            at_front: tally.at_front || range.start == 0,
         },
     }
 }

@@ -2,8 +2,8 @@
 ghost use Rattle.std.specs.Prelude.{◌≡◌, ◌+◌, ◌≤◌, IfSome, length};
 ghost use Rattle.mk_lines.specs.Cells.{line_cells};
 ghost use Rattle.mk_tree.specs.Trees.{line_view};
-ghost use Rattle.mk_edit_parts.specs.PlacedParts.{IsClassed};
-ghost use Rattle.mk_edit_parts.specs.RenamedPlaces.{ArePartsWithin, IsWithin, place_in, word_parts};
+ghost use Rattle.mk_edit_parts.specs.LocatedParts.{IsClassed};
+ghost use Rattle.mk_edit_parts.specs.RenamedRanges.{ArePartsWithin, IsWithin, range_in, word_parts};
 
 use crate::part::{part, text_of_line};
 use crate::text::is_same_text;
@@ -31,7 +31,7 @@ pub fn parts_of<A: Allocator>(line: &Line<A>, class: &Class) -> WordParts
     ensures parts { result ≡ word_parts class.now }
     ensures within { ArePartsWithin (length (line_cells (line_view line.now).bytes)) result }
 {
-    // The length of a text is bounded, so the place after its end is a number.
+    // The length of a text is bounded, so the offset after its end is a number.
     let _text = text_of_line(line);
     let none = Span { start: 0, end: 0 };
     match class {
@@ -71,7 +71,7 @@ pub fn parts_of<A: Allocator>(line: &Line<A>, class: &Class) -> WordParts
 
 /// The raw range of a word of a line, if the word is `wanted`. The range of the word in the joined
 /// text counts from the start of its part.
-pub fn place_of_word<A: Allocator>(
+pub fn range_of_word<A: Allocator>(
     line: &Line<A>,
     part_start: usize,
     word: Span,
@@ -79,8 +79,8 @@ pub fn place_of_word<A: Allocator>(
 ) -> Option<Span>
     requires rises { word.start ≤ word.end }
     requires within { part_start + word.end ≤ length (line_cells (line_view line.now).bytes) }
-    ensures place { result ≡ place_in (line_cells (line_view line.now).bytes) part_start wanted.now word }
-    ensures within { IfSome result (λ place. IsWithin (length (line_view line.now).bytes) place) }
+    ensures range { result ≡ range_in (line_cells (line_view line.now).bytes) part_start wanted.now word }
+    ensures within { IfSome result (λ range. IsWithin (length (line_view line.now).bytes) range) }
 {
     let text = text_of_line(line);
     let start = part_start + word.start;

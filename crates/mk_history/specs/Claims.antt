@@ -7,7 +7,7 @@ use Rattle.mk_history.specs.Chain.{Moves}
 use Rattle.mk_history.specs.Stacks.{Stacks, Several, after_in_turn}
 use Rattle.mk_history.specs.Machine.{Command, Apply, Undo, Redo, Begin, End, Cancel, Refusal, NothingToUndo, NothingToRedo, GroupOpen, NoGroup, Machine, opened, answer, next, after_calls, text, settled, replay}
 use Rattle.mk_history.specs.Shown.{Shown, shown, shown_opened, shown_answer, shown_history, shown_session}
-use Rattle.mk_history.specs.Steps.{Reply, Granted, Refused, NoMemory, IsStep, IsRun}
+use Rattle.mk_history.specs.CallSteps.{Reply, Granted, Refused, NoMemory, IsStep, AreSteps}
 
 -- once a group has an edit, nothing can be redone
 abbrev pub IsFresh : {E : Type 0} → (group : Option (List E)) → (undone : List (List E)) → Type 0
@@ -28,7 +28,7 @@ module _ {E T R : Type 0} (act : E → T → Result T R) where
   -- if the floor is 0 and no group is open, as many undos as members stand are granted, and lead to the first text
   abbrev pub UndoesAll : Type 0
   UndoesAll = (depth : ℕ) (m : Machine E T) → m.floor ≡ 0 → m.group ≡ None
-      → (n : Machine E T) × (IsRun (answer act depth) (replicate (length m.done) (Undo, Granted)) m n × (text act n ≡ m.first))
+      → (n : Machine E T) × (AreSteps (answer act depth) (replicate (length m.done) (Undo, Granted)) m n × (text act n ≡ m.first))
 
   -- a redo after an undo that is granted gives the machine before the undo
   abbrev pub RedoesUndo : Type 0
@@ -72,14 +72,14 @@ module _ {E T R : Type 0} (act : E → T → Result T R) where
   -- shown at first goes through the same calls with the same replies, and is shown at the end.
   abbrev pub Follows : Type 0
   Follows = (depth : ℕ) (calls : List (Command E × Reply (Refusal R))) (m : Machine E T) (s : Shown T)
-      → IsWithin depth m → IsRun (shown_answer act) calls (shown act depth m) s
-      → (n : Machine E T) × (IsRun (answer act depth) calls m n × (s ≡ shown act depth n) × IsWithin depth n)
+      → IsWithin depth m → AreSteps (shown_answer act) calls (shown act depth m) s
+      → (n : Machine E T) × (AreSteps (answer act depth) calls m n × (s ≡ shown act depth n) × IsWithin depth n)
 
   -- the same for the machine of a session that was opened on a text
   abbrev pub FollowsOpened : Type 0
   FollowsOpened = (depth : ℕ) (calls : List (Command E × Reply (Refusal R))) (t : T) (s : Shown T)
-      → IsRun (shown_answer act) calls (shown_opened depth t) s
-      → (n : Machine E T) × (IsRun (answer act depth) calls (opened t) n × (s ≡ shown act depth n) × IsWithin depth n)
+      → AreSteps (shown_answer act) calls (shown_opened depth t) s
+      → (n : Machine E T) × (AreSteps (answer act depth) calls (opened t) n × (s ≡ shown act depth n) × IsWithin depth n)
 
 -- ---- a history, as it is seen
 

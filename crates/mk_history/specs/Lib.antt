@@ -4,7 +4,7 @@ pub mod Stacks
 -- The session machine, and what is seen of it
 pub mod Machine
 pub mod Shown
-pub mod Steps
+pub mod CallSteps
 -- Statements of laws
 pub mod Claims
 -- For tests

@@ -70,13 +70,13 @@ module _ {E T R : Type 0} (act : E → T → Result T R) where
   replay t es = fold edited t es
 
   -- the text that members lead to
-  abbrev pub text_of : T → List (List E) → T
-  text_of t [] = t
-  text_of t (es ∷ done) = replay (text_of t done) es
+  abbrev pub text_of_members : T → List (List E) → T
+  text_of_members t [] = t
+  text_of_members t (es ∷ done) = replay (text_of_members t done) es
 
   -- the text of the members that stand; if a group is open, that is the text at its beginning
   abbrev pub settled : Machine E T → T
-  settled m = text_of m.first m.done
+  settled m = text_of_members m.first m.done
 
   -- the text, after the edits of the open group too
   abbrev pub text : Machine E T → T

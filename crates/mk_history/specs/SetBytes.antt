@@ -3,7 +3,7 @@ use Rattle.std.specs.Prelude.{ℕ, List, Result, Ok, slice_set}
 use Rattle.mk_history.specs.Machine.{Command, Refusal}
 use Rattle.mk_history.specs.Shown.{Shown, shown_answer}
 
--- an edit is a place and a byte, and is never refused
+-- an edit is an index and a byte, and is never refused
 abbrev pub set_act : ℕ × ℕ → List ℕ → Result (List ℕ) ℕ
 set_act e text = Ok (slice_set text e.0 e.1)
 

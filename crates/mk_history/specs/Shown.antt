@@ -2,7 +2,7 @@
 use Rattle.std.specs.Prelude.{◌≡◌, ◌<◌, ℕ, zero, suc, ◌+◌, ◌-◌, List, [], ◌∷◌, length, map, take, Option, Some, None, Result, Ok, Err, option_map}
 use Rattle.mk_history.specs.Chain.{IsChain, states}
 use Rattle.mk_history.specs.Stacks.{Stacks, Several, FitInTurn, after_in_turn}
-use Rattle.mk_history.specs.Machine.{Command, Apply, Undo, Redo, Begin, End, Cancel, Refusal, EditRefused, NothingToUndo, NothingToRedo, GroupOpen, NoGroup, Machine, text, settled, text_of, replay}
+use Rattle.mk_history.specs.Machine.{Command, Apply, Undo, Redo, Begin, End, Cancel, Refusal, EditRefused, NothingToUndo, NothingToRedo, GroupOpen, NoGroup, Machine, text, settled, text_of_members, replay}
 
 -- The depth; the text; the texts that undoing leads back through, and the texts that redoing leads through, with the nearest text
 -- of each list first; and, if a group is open, the text at its beginning and the number of its edits. Without this number it
@@ -26,7 +26,7 @@ module _ {E T R : Type 0} (act : E → T → Result T R) where
   -- the texts before each of the members, with the newest member first
   abbrev pub texts_before : T → List (List E) → List T
   texts_before t [] = []
-  texts_before t (es ∷ done) = text_of act t done ∷ texts_before t done
+  texts_before t (es ∷ done) = text_of_members act t done ∷ texts_before t done
 
   -- the texts after each of the undone members
   abbrev texts_after : T → List (List E) → List T

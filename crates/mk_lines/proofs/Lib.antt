@@ -9,9 +9,9 @@ pub mod PrefixLemmas
 pub mod SplitLemmas
 pub mod UnitWalkLemmas
 pub mod StackLemmas
-pub mod KeptLemmas
+pub mod StoredLemmas
 mod TakenLemmas
 -- Definitions computed
 mod WorkedRows
-mod KeptRows
+mod StoredRows
 mod RandomRows

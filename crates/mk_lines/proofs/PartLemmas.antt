@@ -12,7 +12,7 @@ more (part ∷ parts) (suc i) d below =
 pub text_of_parts-more : (parts : List (Bor (List ℕ))) (i : ℕ) (d : Bor (List ℕ)) → i < length parts → text_of_parts (take (i + 1) parts) ≡ text_of_parts (take i parts) ++ (get_or parts i d).now
 text_of_parts-more parts i d below = rw add-one (more parts i d below)
 
--- the parts before a place, the part there, and the rest
+-- the parts before an index, the part there, and the rest
 pub text_of_parts-at : (parts : List (Bor (List ℕ))) (i : ℕ) (d : Bor (List ℕ)) → i < length parts → text_of_parts parts ≡ text_of_parts (take i parts) ++ ((get_or parts i d).now ++ text_of_parts (drop (suc i) parts))
 text_of_parts-at [] i d below = absurd (omega arith)
 text_of_parts-at (part ∷ parts) zero d below = refl

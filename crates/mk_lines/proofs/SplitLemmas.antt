@@ -52,7 +52,7 @@ no-feed [] (suc k) none = tt
 no-feed (b ∷ text) zero none = tt
 no-feed (b ∷ text) (suc k) none = (λ is. none 0 (omega arith) (line_feed-byte b is), no-feed text k (λ j below. none (suc j) (omega arith)))
 
--- the next place that a search gives, or that there is none
+-- the next offset that a search gives, or that there is none
 module _ (test : ℕ → Bool) (text : List ℕ) where
   places-next : (n i at : ℕ) (more : List ℕ) → places_from test text i n ≡ at ∷ more → NoneBefore (Passes test text) i (i + n) at × (Passes test text at × (more ≡ places_between test text (at + 1) (i + n)))
   unfolding places_from
@@ -66,9 +66,9 @@ module _ (test : ℕ → Bool) (text : List ℕ) where
           let same : i ≡ at = cc in
           let left : places_from test text (i + 1) n ≡ more = cc in
           let count : i + suc n - (at + 1) ≡ n = omega arith in
-          let place : i + 1 ≡ at + 1 = omega arith in (
+          let offset : i + 1 ≡ at + 1 = omega arith in (
             record { low = omega arith; high = omega arith; before = λ k low high passes. absurd (omega arith) },
-            (subst (Passes test text) same p, sym left ∙ ap (λ k. places_from test text k n) place ∙ ap (places_from test text (at + 1)) (sym count)),
+            (subst (Passes test text) same p, sym left ∙ ap (λ k. places_from test text k n) offset ∙ ap (places_from test text (at + 1)) (sym count)),
           )
       go false p e f =
           let later = f e in
@@ -155,7 +155,7 @@ with_begun (b ∷ begun) lines = onto_first (b ∷ begun) lines
 -- `start`; it was read up to `last`, and nothing from `last` on.
 pub record SplitUpTo (text : List ℕ) (spans : List Span) (start last : ℕ) : Type 0 where
   pub begun : List ℕ
-  pub place : start + length begun ≡ last
+  pub offset : start + length begun ≡ last
   pub within : last ≤ length text
   pub ranges : line_ranges text ≡ spans ++ piece_ranges start (with_begun begun (logical_lines (drop last text)))
 
@@ -170,19 +170,19 @@ with_begun-onto (b ∷ begun) line lines some = onto_first-twice (b ∷ begun) l
 
 -- nothing was read
 pub SplitUpTo-none : (text : List ℕ) → SplitUpTo text [] 0 0
-SplitUpTo-none text = record { begun = []; place = refl; within = omega arith; ranges = refl }
+SplitUpTo-none text = record { begun = []; offset = refl; within = omega arith; ranges = refl }
 
 -- one line more was read
 pub SplitUpTo-line : (text : List ℕ) (spans : List Span) (start last end : ℕ) (line : List ℕ) → SplitUpTo text spans start last → IsFirstLine (drop last text) line (drop end text)
     → last ≤ end → end ≤ length text → is_continued line ≡ false → SplitUpTo text (spans ++ record { start = start; end = end } ∷ []) end end
 SplitUpTo-line text spans start last end line h first order within ends =
     let lengths : length (drop last text) ≡ length line + length (drop end text) = ap length first.whole ∙ length-append line (drop end text) in
-    let place = h.place in
+    let offset = h.offset in
     let at : start + length (h.begun ++ line) ≡ end = omega (arith, length-append h.begun line, length-drop last text, length-drop end text) in
     let lines : logical_lines (drop last text) ≡ line ∷ logical_lines (drop end text) = first.lines ∙ ap (λ c. before_group c line (logical_lines (drop end text))) ends in
     record {
       begun = [];
-      place = omega arith;
+      offset = omega arith;
       within = within;
       ranges = h.ranges ∙ ap (λ ls. spans ++ piece_ranges start (with_begun h.begun ls)) lines
           ∙ ap (λ ls. spans ++ piece_ranges start ls) (with_begun-cons h.begun line (logical_lines (drop end text)))
@@ -195,11 +195,11 @@ pub SplitUpTo-continued : (text : List ℕ) (spans : List Span) (start last end 
     → last ≤ end → end ≤ length text → is_continued line ≡ true → SplitUpTo text spans start end
 SplitUpTo-continued text spans start last end line h first order within continued =
     let lengths : length (drop last text) ≡ length line + length (drop end text) = ap length first.whole ∙ length-append line (drop end text) in
-    let place = h.place in
+    let offset = h.offset in
     let lines : logical_lines (drop last text) ≡ onto_first line (logical_lines (drop end text)) = first.lines ∙ ap (λ c. before_group c line (logical_lines (drop end text))) continued in
     record {
       begun = h.begun ++ line;
-      place = omega (arith, length-append h.begun line, length-drop last text, length-drop end text);
+      offset = omega (arith, length-append h.begun line, length-drop last text, length-drop end text);
       within = within;
       ranges = h.ranges ∙ ap (λ ls. spans ++ piece_ranges start (with_begun h.begun ls)) lines
           ∙ ap (λ ls. spans ++ piece_ranges start ls) (with_begun-onto h.begun line (logical_lines (drop end text)) first.some);
@@ -226,7 +226,7 @@ nothing (b ∷ text) none = absurd (omega arith)
 pub SplitUpTo-last : (text : List ℕ) (spans : List Span) (start last : ℕ) → SplitUpTo text spans start last → Nowhere (Passes (is_byte 10) text) last (length text) → start < length text
     → spans ++ record { start = start; end = length text } ∷ [] ≡ line_ranges text
 SplitUpTo-last text spans start last h none some =
-    let place = h.place in
+    let offset = h.offset in
     let within = h.within in
     let rest = drop last text in
     let end : start + length (h.begun ++ rest) ≡ length text = omega (arith, length-append h.begun rest, length-drop last text) in
@@ -236,7 +236,7 @@ SplitUpTo-last text spans start last h none some =
 -- everything was read
 pub SplitUpTo-all : (text : List ℕ) (spans : List Span) (start last : ℕ) → SplitUpTo text spans start last → (start < length text → ⊥) → spans ≡ line_ranges text
 SplitUpTo-all text spans start last h over =
-    let place = h.place in
+    let offset = h.offset in
     let within = h.within in
     let begun : h.begun ≡ [] = nothing h.begun (omega arith) in
     let rest : drop last text ≡ [] = nothing (drop last text) (omega (arith, length-drop last text)) in

@@ -15,9 +15,9 @@ use Rattle.mk_lines.specs.Cells.{Cell, Byte, Fold, LfEnd, CrLfEnd, raw_text, joi
 use Rattle.mk_lines.specs.CellFaults.{has_bad_fold, is_fold_first, is_stray_by}
 use Rattle.mk_lines.proofs.on_lists.ListLemmas.{leading-after_leading, leading-append_all, after_leading-append_all}
 use Rattle.mk_lines.proofs.on_cells.CellLemmas.{AreCells, FitsBefore, raw_text-bytes}
-use Rattle.mk_lines.specs.KeptCells.{fold_ends}
+use Rattle.mk_lines.specs.StoredCells.{fold_ends}
 use Rattle.mk_lines.specs.CellStack.{CellStack, top_of, stack_of}
-use Rattle.mk_lines.specs.declared.cells.kept.FoldEnd.{FoldEnd}
+use Rattle.mk_lines.specs.declared.cells.stored.FoldEnd.{FoldEnd}
 use Rattle.mk_lines.specs.declared.cells.stack.Top.{Top}
 use Rattle.mk_lines.specs.declared.cells.stack.Top.TheVariants as top
 
@@ -56,7 +56,7 @@ prefix_len-blanks (b ∷ t) =
     go true l h = omega (arith, h)
     go false l h = refl
 
--- the number of blanks, as a function that reads the text from a place on counts them
+-- the number of blanks, as a function that reads the text from an offset on counts them
 pub counted-blanks : (text : List ℕ) (k n : ℕ) → n ≡ prefix_len (λ b. b == 32 || b == 9) (take (length text - k) (drop k text)) → n ≡ length (leading (λ b. is_blank_kind (byte_kind b)) (drop k text))
 counted-blanks text k n h =
     let w : take (length text - k) (drop k text) ≡ drop k text = ap (λ m. take m (drop k text)) (sym (length-drop k text)) ∙ take-length (drop k text) in
@@ -94,7 +94,7 @@ search-stray t r h = search-any (is_byte3 0 10 13) t r h ∙ any_same (is_byte3 
 pub search-no_line_feed : (t : List ℕ) → IsFirstByte (is_byte 10) t None → All (λ b. b ≡ 10 → ⊥) t
 search-no_line_feed t h = All-from_get_or (λ b. b ≡ 10 → ⊥) t 0 (λ k l e. h k (omega arith) l ((Decides-eqb (get_or t k 0) 10).1 e))
 
--- a place that was found behind another, by the place in the whole text
+-- an offset that was found behind another, by the offset in the whole text
 abbrev further : ℕ → Option ℕ → Option ℕ
 further first None = None
 further first (Some n) = Some (first + n)
@@ -106,7 +106,7 @@ search-further t first r h g = moved r (subst (λ u. IsFirstByte (is_byte 10) u 
     before : (k : ℕ) → k < first → Passes (is_byte 10) t k → ⊥
     before k l e = let feed : get_or t k 0 ≡ 10 = eqb-true (get_or t k 0) 10 e in h.0.before k (omega arith) l (rw feed refl)
 
-    -- at a place behind the first stray byte
+    -- at an offset behind the first stray byte
     at : (k : ℕ) → first ≤ k → get_or (drop first t) (k - first) 0 ≡ get_or t k 0
     at k l = get_or-drop first t (k - first) 0 ∙ ap (λ i. get_or t i 0) (omega arith)
 
@@ -137,28 +137,28 @@ ends_at : (m n : ℕ) (cs : List Cell) → m ≡ n → fold_ends m cs ++ record 
 ends_at m n cs e = ap (λ z. fold_ends z cs ++ record { after = length cs; raw_end = z } ∷ []) e
 
 -- a first cell with these raw bytes becomes another with one raw byte more
-replaced : (place : ℕ) (r : List ℕ) (cs : List Cell) (was byte : ℕ) (first second : Top)
-    → IsReplaced (record { joined = was ∷ joined_text cs; ends = fold_ends (place + 1 + length r) cs ++ record { after = length cs; raw_end = place + 1 + length r } ∷ []; top = first; bad_fold = has_bad_fold cs }) byte second
-    (record { joined = byte ∷ joined_text cs; ends = fold_ends (place + suc (length r)) cs ++ record { after = length cs; raw_end = place + suc (length r) } ∷ []; top = second; bad_fold = has_bad_fold cs })
-replaced place r cs was byte first second = record {
+replaced : (offset : ℕ) (r : List ℕ) (cs : List Cell) (was byte : ℕ) (first second : Top)
+    → IsReplaced (record { joined = was ∷ joined_text cs; ends = fold_ends (offset + 1 + length r) cs ++ record { after = length cs; raw_end = offset + 1 + length r } ∷ []; top = first; bad_fold = has_bad_fold cs }) byte second
+    (record { joined = byte ∷ joined_text cs; ends = fold_ends (offset + suc (length r)) cs ++ record { after = length cs; raw_end = offset + suc (length r) } ∷ []; top = second; bad_fold = has_bad_fold cs })
+replaced offset r cs was byte first second = record {
   before = joined_text cs;
   last = was;
   was = refl;
   is = same_stack (byte ∷ joined_text cs) (byte ∷ joined_text cs)
-      (fold_ends (place + 1 + length r) cs ++ record { after = length cs; raw_end = place + 1 + length r } ∷ []) (fold_ends (place + suc (length r)) cs ++ record { after = length cs; raw_end = place + suc (length r) } ∷ [])
-      second (has_bad_fold cs) (has_bad_fold cs) refl (ends_at (place + 1 + length r) (place + suc (length r)) cs (omega arith)) refl;
+      (fold_ends (offset + 1 + length r) cs ++ record { after = length cs; raw_end = offset + 1 + length r } ∷ []) (fold_ends (offset + suc (length r)) cs ++ record { after = length cs; raw_end = offset + suc (length r) } ∷ [])
+      second (has_bad_fold cs) (has_bad_fold cs) refl (ends_at (offset + 1 + length r) (offset + suc (length r)) cs (omega arith)) refl;
 }
 
 -- a backslash makes a fold of a line end
-pub backslash-line_end : (place : ℕ) (cs : List Cell) → (top_of cs ≡ top.Lf) ⊎ (top_of cs ≡ top.CrLf) → IsReplaced (stack_of (place + 1) cs) 32 top.Fold (stack_of place (prepend Backslash 92 cs))
-backslash-line_end place [] (inl e) = cc
-backslash-line_end place [] (inr e) = cc
-backslash-line_end place (Byte b ∷ cs) (inl e) = cc
-backslash-line_end place (Byte b ∷ cs) (inr e) = cc
-backslash-line_end place (Fold r ∷ cs) (inl e) = cc
-backslash-line_end place (Fold r ∷ cs) (inr e) = cc
-backslash-line_end place (LfEnd r ∷ cs) h = replaced place r cs 10 32 top.Lf top.Fold
-backslash-line_end place (CrLfEnd r ∷ cs) h = replaced place r cs 10 32 top.CrLf top.Fold
+pub backslash-line_end : (offset : ℕ) (cs : List Cell) → (top_of cs ≡ top.Lf) ⊎ (top_of cs ≡ top.CrLf) → IsReplaced (stack_of (offset + 1) cs) 32 top.Fold (stack_of offset (prepend Backslash 92 cs))
+backslash-line_end offset [] (inl e) = cc
+backslash-line_end offset [] (inr e) = cc
+backslash-line_end offset (Byte b ∷ cs) (inl e) = cc
+backslash-line_end offset (Byte b ∷ cs) (inr e) = cc
+backslash-line_end offset (Fold r ∷ cs) (inl e) = cc
+backslash-line_end offset (Fold r ∷ cs) (inr e) = cc
+backslash-line_end offset (LfEnd r ∷ cs) h = replaced offset r cs 10 32 top.Lf top.Fold
+backslash-line_end offset (CrLfEnd r ∷ cs) h = replaced offset r cs 10 32 top.CrLf top.Fold
 
 fits-first_fails : (r : List ℕ) (cs : List Cell) → FitsBefore (Fold r) cs → FirstFails is_blank_cell cs
 fits-first_fails r [] h = tt
@@ -169,16 +169,16 @@ fits-first_fails r (d ∷ cs) h = go (is_blank_cell d) h
     go false e = refl
 
 -- a line feed takes a fold directly after it
-pub line_feed-fold : (place : ℕ) (cs : List Cell) → AreCells cs → top_of cs ≡ top.Fold → IsReplaced (stack_of (place + 1) cs) 10 top.Lf (stack_of place (prepend LineFeed 10 cs))
-line_feed-fold place [] f e = cc
-line_feed-fold place (Byte b ∷ cs) f e = cc
-line_feed-fold place (LfEnd r ∷ cs) f e = cc
-line_feed-fold place (CrLfEnd r ∷ cs) f e = cc
-line_feed-fold place (Fold r ∷ cs) f e =
+pub line_feed-fold : (offset : ℕ) (cs : List Cell) → AreCells cs → top_of cs ≡ top.Fold → IsReplaced (stack_of (offset + 1) cs) 10 top.Lf (stack_of offset (prepend LineFeed 10 cs))
+line_feed-fold offset [] f e = cc
+line_feed-fold offset (Byte b ∷ cs) f e = cc
+line_feed-fold offset (LfEnd r ∷ cs) f e = cc
+line_feed-fold offset (CrLfEnd r ∷ cs) f e = cc
+line_feed-fold offset (Fold r ∷ cs) f e =
     let l : leading is_blank_cell cs ≡ [] = leading-append_all is_blank_cell [] cs tt (fits-first_fails r cs f.1) in
     let a : after_leading is_blank_cell cs ≡ cs = after_leading-append_all is_blank_cell [] cs tt (fits-first_fails r cs f.1) in
     let s : r ++ [] ≡ r = append-nil r in
-    rw (l, a, s) (replaced place r cs 32 10 top.Fold top.Lf)
+    rw (l, a, s) (replaced offset r cs 32 10 top.Fold top.Lf)
 
 -- ---- a line feed before blanks
 
@@ -241,8 +241,8 @@ length-joined_text [] = refl
 length-joined_text (c ∷ cs) = ap suc (length-joined_text cs)
 
 -- the joined bytes that stay behind a line feed
-kept_joined : (v : List ℕ) (cs : List Cell) → drop (length v) (joined_text (map Byte v ++ cs)) ≡ joined_text cs
-kept_joined v cs = ap (drop (length v)) (joined_text-blanks v cs) ∙ drop-append_seam v (joined_text cs)
+stored_joined : (v : List ℕ) (cs : List Cell) → drop (length v) (joined_text (map Byte v ++ cs)) ≡ joined_text cs
+stored_joined v cs = ap (drop (length v)) (joined_text-blanks v cs) ∙ drop-append_seam v (joined_text cs)
 
 -- there are at least as many cells on the stack as blanks at the front of the text
 pub blanks-stacked : (t : List ℕ) → (top_of (cells t) ≡ top.Fold → ⊥) → length (leading (λ b. is_blank_kind (byte_kind b)) t) ≤ length (joined_text (cells t))
@@ -254,41 +254,41 @@ blanks-stacked t h =
     omega (arith, ap length j, length-append v (joined_text R))
 
 -- a line feed before cells whose first is no fold
-line_feed-blanks : (place : ℕ) (t : List ℕ) → (top_of (cells t) ≡ top.Fold → ⊥) → (joined : List ℕ) (n : ℕ) → n ≡ length (leading (λ b. is_blank_kind (byte_kind b)) t)
+line_feed-blanks : (offset : ℕ) (t : List ℕ) → (top_of (cells t) ≡ top.Fold → ⊥) → (joined : List ℕ) (n : ℕ) → n ≡ length (leading (λ b. is_blank_kind (byte_kind b)) t)
     → joined ≡ drop n (joined_text (cells t))
-    → ◌≡◌ {A = CellStack} (record { joined = 10 ∷ joined; ends = fold_ends (place + 1) (cells t) ++ record { after = length joined; raw_end = place + 1 + n } ∷ []; top = top.Lf; bad_fold = has_bad_fold (cells t) })
-    (stack_of place (prepend LineFeed 10 (cells t)))
-line_feed-blanks place t h joined n m j =
+    → ◌≡◌ {A = CellStack} (record { joined = 10 ∷ joined; ends = fold_ends (offset + 1) (cells t) ++ record { after = length joined; raw_end = offset + 1 + n } ∷ []; top = top.Lf; bad_fold = has_bad_fold (cells t) })
+    (stack_of offset (prepend LineFeed 10 (cells t)))
+line_feed-blanks offset t h joined n m j =
     let v = leading (λ b. is_blank_kind (byte_kind b)) t in
     let R = after_leading is_blank_cell (cells t) in
     let L : leading is_blank_cell (cells t) ≡ map Byte v = leading-blanks t h in
     let e : cells t ≡ map Byte v ++ R = sym (leading-after_leading is_blank_cell (cells t)) ∙ ap (λ z. z ++ R) L in
-    let k : joined ≡ joined_text R = j ∙ (ap (λ z. drop z (joined_text (cells t))) m ∙ (ap (λ z. drop (length v) (joined_text z)) e ∙ kept_joined v R)) in
+    let k : joined ≡ joined_text R = j ∙ (ap (λ z. drop z (joined_text (cells t))) m ∙ (ap (λ z. drop (length v) (joined_text z)) e ∙ stored_joined v R)) in
     let w : length (raw_text (leading is_blank_cell (cells t))) ≡ n = ap (λ z. length (raw_text z)) L ∙ (ap length (raw_text-bytes v) ∙ sym m) in
-    let p : place + 1 + n ≡ place + suc (length (raw_text (leading is_blank_cell (cells t)))) = omega (arith, w) in
+    let p : offset + 1 + n ≡ offset + suc (length (raw_text (leading is_blank_cell (cells t)))) = omega (arith, w) in
     let c : length joined ≡ length R = ap length k ∙ length-joined_text R in
-    let f : fold_ends (place + 1) (cells t) ≡ fold_ends (place + 1 + n) R = ap (fold_ends (place + 1)) e ∙ (fold_ends-blanks (place + 1) v R ∙ ap (λ z. fold_ends (place + 1 + z) R) (sym m)) in
-    let x : fold_ends (place + 1) (cells t) ++ record { after = length joined; raw_end = place + 1 + n } ∷ [] ≡ fold_ends (place + 1 + n) R ++ record { after = length R; raw_end = place + 1 + n } ∷ [] =
-    ap (λ z. z ++ record { after = length joined; raw_end = place + 1 + n } ∷ []) f ∙ ap (λ z. fold_ends (place + 1 + n) R ++ record { after = z; raw_end = place + 1 + n } ∷ []) c in
-    let q = place + suc (length (raw_text (leading is_blank_cell (cells t)))) in
+    let f : fold_ends (offset + 1) (cells t) ≡ fold_ends (offset + 1 + n) R = ap (fold_ends (offset + 1)) e ∙ (fold_ends-blanks (offset + 1) v R ∙ ap (λ z. fold_ends (offset + 1 + z) R) (sym m)) in
+    let x : fold_ends (offset + 1) (cells t) ++ record { after = length joined; raw_end = offset + 1 + n } ∷ [] ≡ fold_ends (offset + 1 + n) R ++ record { after = length R; raw_end = offset + 1 + n } ∷ [] =
+    ap (λ z. z ++ record { after = length joined; raw_end = offset + 1 + n } ∷ []) f ∙ ap (λ z. fold_ends (offset + 1 + n) R ++ record { after = z; raw_end = offset + 1 + n } ∷ []) c in
+    let q = offset + suc (length (raw_text (leading is_blank_cell (cells t)))) in
     same_stack (10 ∷ joined) (10 ∷ joined_text R)
-    (fold_ends (place + 1) (cells t) ++ record { after = length joined; raw_end = place + 1 + n } ∷ []) (fold_ends q R ++ record { after = length R; raw_end = q } ∷ [])
+    (fold_ends (offset + 1) (cells t) ++ record { after = length joined; raw_end = offset + 1 + n } ∷ []) (fold_ends q R ++ record { after = length R; raw_end = q } ∷ [])
     top.Lf (has_bad_fold (cells t)) (has_bad_fold R)
     (ap (λ z. 10 ∷ z) k)
-    (x ∙ ends_at (place + 1 + n) q R p)
+    (x ∙ ends_at (offset + 1 + n) q R p)
     (sym (bad_fold-after_leading (cells t)))
 
 -- a line feed before such cells, with the parts of the stack after it
-pub line_feed-pushed : (place : ℕ) (t : List ℕ) → (top_of (cells t) ≡ top.Fold → ⊥) → (n : ℕ) (cut joined : List ℕ) (ends : List FoldEnd) (bad : Bool)
+pub line_feed-pushed : (offset : ℕ) (t : List ℕ) → (top_of (cells t) ≡ top.Fold → ⊥) → (n : ℕ) (cut joined : List ℕ) (ends : List FoldEnd) (bad : Bool)
     → n ≡ length (leading (λ b. is_blank_kind (byte_kind b)) t)
     → cut ≡ drop n (joined_text (cells t))
     → joined ≡ 10 ∷ cut
-    → ends ≡ fold_ends (place + 1) (cells t) ++ record { after = length cut; raw_end = place + 1 + n } ∷ []
+    → ends ≡ fold_ends (offset + 1) (cells t) ++ record { after = length cut; raw_end = offset + 1 + n } ∷ []
     → bad ≡ has_bad_fold (cells t)
-    → ◌≡◌ {A = CellStack} (record { joined = joined; ends = ends; top = top.Lf; bad_fold = bad }) (stack_of place (prepend LineFeed 10 (cells t)))
-line_feed-pushed place t h n cut joined ends bad m c j e b =
-    same_stack joined (10 ∷ cut) ends (fold_ends (place + 1) (cells t) ++ record { after = length cut; raw_end = place + 1 + n } ∷ []) top.Lf bad (has_bad_fold (cells t)) j e b
-    ∙ line_feed-blanks place t h cut n m c
+    → ◌≡◌ {A = CellStack} (record { joined = joined; ends = ends; top = top.Lf; bad_fold = bad }) (stack_of offset (prepend LineFeed 10 (cells t)))
+line_feed-pushed offset t h n cut joined ends bad m c j e b =
+    same_stack joined (10 ∷ cut) ends (fold_ends (offset + 1) (cells t) ++ record { after = length cut; raw_end = offset + 1 + n } ∷ []) top.Lf bad (has_bad_fold (cells t)) j e b
+    ∙ line_feed-blanks offset t h cut n m c
 
 -- ---- a run of bytes that stand for themselves
 
@@ -330,14 +330,14 @@ bad_fold-run (b ∷ p) cs e = go (is_backslash_kind (byte_kind b)) (map Byte p +
     go true (CrLfEnd r ∷ ds) f i = i
 
 -- the stack with a run of bytes on it
-pub run-stacked : (text : List ℕ) (start place : ℕ) → start < place → place ≤ length text → top_of (cells (drop place text)) ≡ top.Byte
-    → ((k : ℕ) → start ≤ k → k < place → get_or text k 0 ≡ 10 → ⊥)
-    → ◌≡◌ {A = CellStack} (record { joined = take (place - start) (drop start text) ++ joined_text (cells (drop place text)); ends = fold_ends place (cells (drop place text)); top = top.Byte; bad_fold = has_bad_fold (cells (drop place text)) })
+pub run-stacked : (text : List ℕ) (start offset : ℕ) → start < offset → offset ≤ length text → top_of (cells (drop offset text)) ≡ top.Byte
+    → ((k : ℕ) → start ≤ k → k < offset → get_or text k 0 ≡ 10 → ⊥)
+    → ◌≡◌ {A = CellStack} (record { joined = take (offset - start) (drop start text) ++ joined_text (cells (drop offset text)); ends = fold_ends offset (cells (drop offset text)); top = top.Byte; bad_fold = has_bad_fold (cells (drop offset text)) })
     (stack_of start (cells (drop start text)))
-run-stacked text start place some within first none =
-    let n = place - start in
+run-stacked text start offset some within first none =
+    let n = offset - start in
     let p = take n (drop start text) in
-    let t = drop place text in
+    let t = drop offset text in
     let cs = cells t in
     let seam : drop n (drop start text) ≡ t = drop-drop n start text ∙ ap (λ k. drop k text) (omega arith) in
     let whole : drop start text ≡ p ++ t = sym (take-append-drop n (drop start text)) ∙ ap (λ z. p ++ z) seam in
@@ -346,9 +346,9 @@ run-stacked text start place some within first none =
     All-from_get_or (λ b. b ≡ 10 → ⊥) p 0 (λ k l e. none (start + k) (omega arith) (omega arith) (sym (get_or-take n (drop start text) k 0 (omega arith) ∙ get_or-drop start text k 0) ∙ e)) in
     let is : cells (drop start text) ≡ map Byte p ++ cs = ap cells whole ∙ cells-run p t all first in
     let joined : joined_text (map Byte p ++ cs) ≡ p ++ joined_text cs = joined_text-blanks p cs in
-    let ends : fold_ends start (map Byte p ++ cs) ≡ fold_ends place cs = fold_ends-blanks start p cs ∙ ap (λ z. fold_ends z cs) (omega (arith, long)) in
-    subst (λ ds. ◌≡◌ {A = CellStack} (record { joined = p ++ joined_text cs; ends = fold_ends place cs; top = top.Byte; bad_fold = has_bad_fold cs }) (stack_of start ds)) (sym is)
-    (run_parts (p ++ joined_text cs) (fold_ends place cs) (has_bad_fold cs) start (map Byte p ++ cs) (sym joined) (sym ends) (sym (top_of-run p cs first)) (sym (bad_fold-run p cs first)))
+    let ends : fold_ends start (map Byte p ++ cs) ≡ fold_ends offset cs = fold_ends-blanks start p cs ∙ ap (λ z. fold_ends z cs) (omega (arith, long)) in
+    subst (λ ds. ◌≡◌ {A = CellStack} (record { joined = p ++ joined_text cs; ends = fold_ends offset cs; top = top.Byte; bad_fold = has_bad_fold cs }) (stack_of start ds)) (sym is)
+    (run_parts (p ++ joined_text cs) (fold_ends offset cs) (has_bad_fold cs) start (map Byte p ++ cs) (sym joined) (sym ends) (sym (top_of-run p cs first)) (sym (bad_fold-run p cs first)))
   where
     run_parts : (j : List ℕ) (e : List FoldEnd) (b : Bool) (start : ℕ) (ds : List Cell) → j ≡ joined_text ds → e ≡ fold_ends start ds → top.Byte ≡ top_of ds → b ≡ has_bad_fold ds
         → ◌≡◌ {A = CellStack} (record { joined = j; ends = e; top = top.Byte; bad_fold = b }) (stack_of start ds)

@@ -8,7 +8,7 @@ use Rattle.mk_lines.specs.CellFaults.{has_bad_fold, has_stray}
 use Rattle.mk_lines.specs.Units.{units, is_closed}
 use Rattle.mk_lines.specs.FirstUnit.{first_unit, leaves_open}
 use Rattle.mk_lines.specs.Words.{words}
-use Rattle.mk_lines.specs.Ranges.{line_ranges, unit_ranges, word_ranges, raw_place, raw_range}
+use Rattle.mk_lines.specs.Ranges.{line_ranges, unit_ranges, word_ranges, raw_offset, raw_range}
 use Rattle.mk_lines.specs.declared.ends.End.TheVariants.{None, Lf, CrLf}
 
 -- ---- lines
@@ -148,9 +148,9 @@ fold_before_comment = refl
 fold_at_end : joined_text (line_cells (codes "X = a \\\n\n")) ≡ codes "X = a "
 fold_at_end = refl
 
--- a value that is not there has its place after the whole fold
-place_after_fold : raw_place (line_cells (codes "X = \\\n # c\n")) 4 ≡ 7
-place_after_fold = refl
+-- a value that is not there has its offset after the whole fold
+offset_after_fold : raw_offset (line_cells (codes "X = \\\n # c\n")) 4 ≡ 7
+offset_after_fold = refl
 
 -- ---- bad folds and stray bytes
 

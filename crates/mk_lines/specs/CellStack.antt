@@ -1,9 +1,9 @@
--- Cells as a stack: those of the text behind a place, the first cell on top.
+-- Cells as a stack: those of the text behind an offset, the first cell on top.
 use Rattle.std.specs.Prelude.{ℕ, Bool, List, [], ◌∷◌}
 use Rattle.mk_lines.specs.Cells.{Cell, Byte, Fold, LfEnd, CrLfEnd, joined_text}
 use Rattle.mk_lines.specs.CellFaults.{has_bad_fold}
-use Rattle.mk_lines.specs.KeptCells.{fold_ends}
-use Rattle.mk_lines.specs.declared.cells.kept.FoldEnd.{FoldEnd}
+use Rattle.mk_lines.specs.StoredCells.{fold_ends}
+use Rattle.mk_lines.specs.declared.cells.stored.FoldEnd.{FoldEnd}
 use Rattle.mk_lines.specs.declared.cells.stack.Top.{Top}
 use Rattle.mk_lines.specs.declared.cells.stack.Top.TheVariants as top
 
@@ -22,9 +22,9 @@ top_of (Fold r ∷ cs) = top.Fold
 top_of (LfEnd r ∷ cs) = top.Lf
 top_of (CrLfEnd r ∷ cs) = top.CrLf
 
--- the stack of cells, the first of which begins at this raw place
-abbrev pub stack_of : (place : ℕ) → List Cell → CellStack
-stack_of place cs = record { joined = joined_text cs; ends = fold_ends place cs; top = top_of cs; bad_fold = has_bad_fold cs }
+-- the stack of cells, the first of which begins at this raw offset
+abbrev pub stack_of : (offset : ℕ) → List Cell → CellStack
+stack_of offset cs = record { joined = joined_text cs; ends = fold_ends offset cs; top = top_of cs; bad_fold = has_bad_fold cs }
 
 -- a stack with room for `room` joined bytes more
 pub record StackWithRoom : Type 0 where

@@ -20,9 +20,9 @@ is_end (Ok n) buf = (n == 0) && nat_lt 0 (length buf)
 is_end (Err e) buf = false
 
 -- how many bytes a write took
-abbrev pub taken_by : {E : Type 0} → Result ℕ E → ℕ
-taken_by (Ok n) = n
-taken_by (Err e) = 0
+abbrev pub count_taken : {E : Type 0} → Result ℕ E → ℕ
+count_taken (Ok n) = n
+count_taken (Err e) = 0
 
 -- the count that a device tells, raised by `more`
 abbrev pub count_more : Option ℕ → ℕ → Option ℕ
@@ -50,10 +50,10 @@ text_of_parts [] = []
 text_of_parts (part ∷ parts) = part.now ++ text_of_parts parts
 
 -- a fault that reading a source to its end can answer
-abbrev pub IsReadingFault : Fault → Type 0
-IsReadingFault NoMemory = Unit {0}
-IsReadingFault TooLong = Unit {0}
-IsReadingFault TooDeep = ⊥
-IsReadingFault BadDepth = ⊥
-IsReadingFault Read = Unit {0}
-IsReadingFault Write = ⊥
+abbrev pub IsSourceFault : Fault → Type 0
+IsSourceFault NoMemory = Unit {0}
+IsSourceFault TooLong = Unit {0}
+IsSourceFault TooDeep = ⊥
+IsSourceFault BadDepth = ⊥
+IsSourceFault Read = Unit {0}
+IsSourceFault Write = ⊥

@@ -45,8 +45,8 @@ module _ {A : Type 0} (byte : A → ℕ) where
   abbrev pub has_level_braces : List A → Bool
   has_level_braces t = mark_count is_open_brace t == mark_count is_close_brace t
 
-  -- A dollar with what it takes. Before `(` or `{` that is the reference: up to the least place at which these brackets are
-  -- level, or up to the end of the text if there is no such place. Otherwise it is the next byte, or nothing at the end of the
+  -- A dollar with what it takes. Before `(` or `{` that is the reference: up to the least offset at which these brackets are
+  -- level, or up to the end of the text if there is no such offset. Otherwise it is the next byte, or nothing at the end of the
   -- text.
   abbrev pub dollar_unit_at : Mark → (dollar next : A) → List A → List A
   dollar_unit_at OpenParen d x t = d ∷ least_prefix has_level_parens (x ∷ t)

@@ -1,4 +1,4 @@
--- A text with some stretches replaced, and the pieces of a line: cells that stay, and cells that a text replaces.
+-- A text with some parts replaced, and the pieces of a line: cells that stay, and cells that a text replaces.
 use Rattle.std.specs.Prelude.{ℕ, ◌+◌, ◌-◌, List, [], ◌∷◌, ◌++◌, map, length, take, drop}
 use Rattle.mk_lines.specs.Cells.{Cell, Byte, raw_text}
 
@@ -8,7 +8,7 @@ pub record Replacement : Type 0 where
   pub end : ℕ
   pub new : List ℕ
 
--- A text with replacements made. The replacements rise and do not overlap; `at` is the place in the whole text at which this text
+-- A text with replacements made. The replacements rise and do not overlap; `at` is the offset in the whole text at which this text
 -- begins.
 abbrev pub replaced : (at : ℕ) → List ℕ → List Replacement → List ℕ
 replaced at t [] = t
@@ -41,7 +41,7 @@ new_bytes [] = []
 new_bytes (Keep cs ∷ ps) = raw_text cs ++ new_bytes ps
 new_bytes (Replace cs v ∷ ps) = v ++ new_bytes ps
 
--- the replacements that pieces are; the first piece begins at the place `at` of the text
+-- the replacements that pieces are; the first piece begins at the offset `at` of the text
 abbrev pub replacements : (at : ℕ) → List Piece → List Replacement
 replacements at [] = []
 replacements at (Keep cs ∷ ps) = replacements (at + length (raw_text cs)) ps

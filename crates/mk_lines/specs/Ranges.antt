@@ -1,4 +1,4 @@
--- Places by lengths: the ranges of pieces that follow one another, the ranges of words, and the raw range of some joined bytes.
+-- Offsets by lengths: the ranges of pieces that follow one another, the ranges of words, and the raw range of some joined bytes.
 use Rattle.std.specs.Prelude.{ℕ, ◌+◌, List, [], ◌∷◌, length, take, slice_range}
 use Rattle.mk_lines.specs.Lists.{concat}
 use Rattle.mk_lines.specs.LogicalLines.{logical_lines}
@@ -11,12 +11,12 @@ use Rattle.mk_lines.specs.declared.split.Span.{Span}
 abbrev pub text_at : {A : Type 0} → List A → Span → List A
 text_at t s = slice_range t s.start s.end
 
--- the ranges of pieces that follow one another; the first piece begins at this place
+-- the ranges of pieces that follow one another; the first piece begins at this offset
 abbrev pub piece_ranges : {A : Type 0} → ℕ → List (List A) → List Span
 piece_ranges at [] = []
 piece_ranges at (p ∷ ps) = record { start = at; end = at + length p } ∷ piece_ranges (at + length p) ps
 
--- the ranges of the words among tokens; the first token begins at this place
+-- the ranges of the words among tokens; the first token begins at this offset
 abbrev pub word_token_ranges : {A : Type 0} → ℕ → List (Token A) → List Span
 word_token_ranges at [] = []
 word_token_ranges at (Gap u ∷ ts) = word_token_ranges (at + length u) ts
@@ -34,10 +34,10 @@ unit_ranges t = piece_ranges 0 (units (λ b. b) t)
 abbrev pub word_ranges : List ℕ → List Span
 word_ranges t = word_token_ranges 0 (tokens (λ b. b) (units (λ b. b) t))
 
--- the raw place of a joined place: how many raw bytes stand before the joined byte there
-abbrev pub raw_place : List Cell → ℕ → ℕ
-raw_place cs n = length (raw_text (take n cs))
+-- the raw offset of a joined offset: how many raw bytes stand before the joined byte there
+abbrev pub raw_offset : List Cell → ℕ → ℕ
+raw_offset cs n = length (raw_text (take n cs))
 
 -- the raw range of the joined bytes from `start` up to `end`
 abbrev pub raw_range : List Cell → (start end : ℕ) → Span
-raw_range cs start end = record { start = raw_place cs start; end = raw_place cs end }
+raw_range cs start end = record { start = raw_offset cs start; end = raw_offset cs end }

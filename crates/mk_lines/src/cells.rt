@@ -15,18 +15,18 @@ ghost use Rattle.std.specs.Prelude.{◌≡◌, ◌≢◌, ◌<◌, ℕ, Some, sl
 ghost use Rattle.memchr.specs.Find.{IsFirstByte, is_byte3};
 ghost use Rattle.mk_lines.specs.PhysicalLines.{without_line_end};
 ghost use Rattle.mk_lines.specs.Cells.{cells};
-ghost use Rattle.mk_lines.specs.KeptCells.{AreCellsOf, kept_cells};
+ghost use Rattle.mk_lines.specs.StoredCells.{AreCellsOf, stored_cells};
 
-mod kept;
 mod stack;
+mod stored;
 
 use crate::ends::without_line_end;
 use crate::fault::Fault;
-pub use kept::Cells;
-use kept::{Folded, first_stray_byte, has_stray_byte};
 use memchr::memchr;
 use stack::stack_of_text;
 use std::alloc::Allocator;
+pub use stored::Cells;
+use stored::{Folded, first_stray_byte, has_stray_byte};
 
 /// The cells of a logical line, without its line end.
 ///
@@ -41,7 +41,7 @@ use std::alloc::Allocator;
 /// [`Fault::NoMemory`] if the line has folds and there is no memory for its joined text, for the
 /// list of its folds, or for the two together.
 pub fn cells<A: Allocator + Copy>(alloc: A, line: &[u8]) -> Result<Cells<A>, Fault>
-    ensures cells { IfOk result (λ kept. AreCellsOf kept line.now) }
+    ensures cells { IfOk result (λ stored. AreCellsOf stored line.now) }
     ensures plain { All (λ b. b ≢ 10) (without_line_end line.now) → IsOk result }
     ensures fault { IsOkUnless result Fault.NoMemory }
 {
@@ -61,7 +61,7 @@ pub fn cells<A: Allocator + Copy>(alloc: A, line: &[u8]) -> Result<Cells<A>, Fau
 #[inline(never)]
 fn stray_cells<A: Allocator + Copy>(alloc: A, text: &[u8], first: usize) -> Result<Cells<A>, Fault>
     requires { IsFirstByte (is_byte3 0 10 13) text.now (Some first) }
-    ensures cells { IfOk result (λ kept. kept ≡ kept_cells (cells text.now)) }
+    ensures cells { IfOk result (λ stored. stored ≡ stored_cells (cells text.now)) }
     ensures plain { All (λ b. b ≢ 10) text.now → IsOk result }
     ensures fault { IsOkUnless result Fault.NoMemory }
 {
@@ -75,7 +75,7 @@ fn stray_cells<A: Allocator + Copy>(alloc: A, text: &[u8], first: usize) -> Resu
 fn folded_cells<A: Allocator + Copy>(alloc: A, text: &[u8], feed: usize) -> Result<Cells<A>, Fault>
     requires some { All (λ b. b ≢ 10) text.now → ⊥ }
     requires before { (k : ℕ) → k < feed → slice_index text.now k ≢ 10 }
-    ensures cells { IfOk result (λ kept. kept ≡ kept_cells (cells text.now)) }
+    ensures cells { IfOk result (λ stored. stored ≡ stored_cells (cells text.now)) }
     ensures fault { IsOkUnless result Fault.NoMemory }
 {
     let stack = stack_of_text(alloc, text, feed)?;

@@ -1,6 +1,6 @@
 //! Laws of lines, cells, units and words: each contract is a theorem on the definitions that the
 //! calls of this crate are specified by. The functions do nothing.
-ghost use Rattle.mk_lines.specs.Laws.{CellsAreBytesOrFolds, CellsJoined, ClosedByUnits, FileEndsAsFirstLine, JoinedUnits, LinesAreLocal, LinesAreSingle, LinesJoined, RangesCut, RawPlacesCut, UnitsAreFirstUnits, UnitsJoined, UnitsOfClosed, WordsAreRuns};
+ghost use Rattle.mk_lines.specs.LineLaws.{CellsAreBytesOrFolds, CellsJoined, ClosedByUnits, FileEndsAsFirstLine, JoinedUnits, LinesAreLocal, LinesAreSingle, LinesJoined, RangesCut, RawOffsetsCut, UnitsAreFirstUnits, UnitsJoined, UnitsOfClosed, WordsAreRuns};
 
 /// The logical lines of a text, joined, are the text.
 pub fn lines_joined()
@@ -44,8 +44,8 @@ pub fn units_joined()
 
 /// What a unit is: the units of a text are its first unit and then the units of what follows it.
 ///
-/// The first unit is a reference up to the least place at which its own two brackets are level, or
-/// to the end of the text if there is no such place; a dollar with the byte after it; a backslash
+/// The first unit is a reference up to the least offset at which its own two brackets are level, or
+/// to the end of the text if there is no such offset; a dollar with the byte after it; a backslash
 /// with the byte after it, unless that is a dollar; or one byte.
 pub fn units_are_first_units()
     ensures { UnitsAreFirstUnits }
@@ -77,8 +77,8 @@ pub fn ranges_cut()
     ensures { RangesCut }
 {}
 
-/// A raw place cuts a line, without its line end, in two: the raw bytes of the cells before the
-/// place, and those of the other cells.
-pub fn raw_places_cut()
-    ensures { RawPlacesCut }
+/// A raw offset cuts a line, without its line end, in two: the raw bytes of the cells before the
+/// offset, and those of the other cells.
+pub fn raw_offsets_cut()
+    ensures { RawOffsetsCut }
 {}

@@ -1,7 +1,7 @@
 //! Where bytes go to.
 ghost use Rattle.std.specs.Prelude.{◌≡◌, ◌||◌, ◌≤◌, ℕ, Bool, List, Option, None, true, false, is_err, is_ok, length, IfOk, IfErr, OnOk, OnErr};
 ghost use Rattle.std.specs.Io.KnownBytes.{Appends, Keeps, WriteAppends};
-ghost use Rattle.mk_lines.specs.Device.{AppendsPrefix, count_if, count_more, is_refused, reset_if, taken_by, text_of_parts};
+ghost use Rattle.mk_lines.specs.Device.{AppendsPrefix, count_if, count_more, is_refused, reset_if, count_taken, text_of_parts};
 
 use crate::fault::Fault;
 use std::io::{ErrorKind, Write};
@@ -32,7 +32,7 @@ pub trait ByteSink {
         ensures fault { IfErr result (λ e. e ≡ Fault.Write) }
         ensures failed { failed self.new ≡ (failed self.old || is_refused result text.now) }
         ensures flushes { flushes self.new ≡ flushes self.old }
-        ensures pending { pending self.new ≡ count_more (pending self.old) (taken_by result) };
+        ensures pending { pending self.new ≡ count_more (pending self.old) (count_taken result) };
 
     /// Passes on the bytes that were taken and are still held back. The only fault is
     /// [`Fault::Write`].

@@ -1,7 +1,7 @@
 //! Where bytes come from.
 ghost use Rattle.std.specs.Prelude.{◌≡◌, ◌≢◌, ◌||◌, ◌≤◌, ◌<◌, ◌+◌, ℕ, Bool, List, Option, None, true, false, is_err, length, vec_len, is_ok, IfOk, IfErr, IfSome};
 ghost use Rattle.std.specs.Io.KnownBytes.{ReadConsumes};
-ghost use Rattle.mk_lines.specs.Device.{IsReadingFault, TakesAtMost, count_if, is_end};
+ghost use Rattle.mk_lines.specs.Device.{IsSourceFault, TakesAtMost, count_if, is_end};
 
 use crate::fault::Fault;
 use std::alloc::Allocator;
@@ -106,7 +106,7 @@ pub fn read_all<A: Allocator, R: ByteSource>(alloc: A, source: &mut R) -> Result
     ensures too_long { IfSome (R.remaining source.old) (λ bytes. result ≡ Err Fault.TooLong → TEXT_LIMIT < length bytes) }
     ensures read { result ≡ Err Fault.Read → R.failed source.new ≡ true }
     ensures works { result ≢ Err Fault.Read → R.failed source.new ≡ false }
-    ensures few { IfErr result IsReadingFault }
+    ensures few { IfErr result IsSourceFault }
     ensures taken { TakesAtMost (R.remaining source.old) (R.remaining source.new) (TEXT_LIMIT + BUFFER) }
     ensures ends { R.ends source.new ≡ count_if (is_ok result) (R.ends source.old) }
 {

@@ -8,7 +8,7 @@ use crate::fault::Fault;
 use memchr::memchr_iter;
 use std::alloc::Allocator;
 
-/// A stretch of a text, in bytes from 0: from `start`, its first byte, up to `end`, which is not in
+/// A part of a text, in bytes from 0: from `start`, its first byte, up to `end`, which is not in
 /// it.
 #[derive(Clone, Copy, Debug, PartialEq, Eq)]
 pub struct Span {

@@ -1,43 +1,43 @@
 -- Lines that are moved: what each move does to the lines of a document, and which lines it fits.
 use Rattle.std.specs.Prelude.{◌≡◌, ℕ, ◌+◌, ◌^◌, ◌<◌, ◌≤◌, false, List, [], ◌∷◌, ◌++◌, length, take, drop, slice_get, IfSome}
 use Rattle.mk_lines.specs.PhysicalLines.{without_line_end}
-use Rattle.mk_tree.specs.PlacedLines.{PlacedLine, bytes_of_line, is_conditional_places, last_line, size_of, with_last_bytes}
+use Rattle.mk_tree.specs.LocatedLines.{LocatedLine, bytes_of_line, is_conditional_located, last_line, size_of, with_last_bytes}
 
 -- ---- one move
 
 -- a move of one line, or of the line end of the last line
 pub data Move : Type 0 where
-  -- a line is put before the line at a place, or at the end
-  PutIn : (at : ℕ) → (line : PlacedLine) → Move
-  -- the line at a place is taken out
+  -- a line is put before the line at an index, or at the end
+  PutIn : (at : ℕ) → (line : LocatedLine) → Move
+  -- the line at an index is taken out
   TakeOut : (at : ℕ) → Move
   -- a line is put in the place of another
-  Exchange : (at : ℕ) → (line : PlacedLine) → Move
+  Exchange : (at : ℕ) → (line : LocatedLine) → Move
   -- other bytes are put in the place of the last line's bytes; its class stays
   SwapEnd : (bytes : List ℕ) → Move
 
 -- lines with another line in the place of the one at `at`
-abbrev pub exchanged : (at : ℕ) → PlacedLine → List PlacedLine → List PlacedLine
+abbrev pub exchanged : (at : ℕ) → LocatedLine → List LocatedLine → List LocatedLine
 exchanged at l ls = take at ls ++ l ∷ drop (at + 1) ls
 
 -- the lines after a move
-abbrev pub after_move : Move → List PlacedLine → List PlacedLine
+abbrev pub after_move : Move → List LocatedLine → List LocatedLine
 after_move (PutIn at l) ls = take at ls ++ l ∷ drop at ls
 after_move (TakeOut at) ls = take at ls ++ drop (at + 1) ls
 after_move (Exchange at l) ls = exchanged at l ls
 after_move (SwapEnd bytes) ls = with_last_bytes bytes ls
 
 -- a line is of no conditional
-abbrev pub IsPlain : PlacedLine → Type 0
-IsPlain l = is_conditional_places l.class ≡ false
+abbrev pub IsPlain : LocatedLine → Type 0
+IsPlain l = is_conditional_located l.class ≡ false
 
--- the line at a place is of no conditional
-abbrev pub IsPlainAt : (at : ℕ) → List PlacedLine → Type 0
+-- the line at an index is of no conditional
+abbrev pub IsPlainAt : (at : ℕ) → List LocatedLine → Type 0
 IsPlainAt at ls = IfSome (slice_get ls at) IsPlain
 
--- The lines that a move fits: its place is one of theirs, no line of a conditional goes in or comes out, and the lines after it
+-- The lines that a move fits: its index is one of theirs, no line of a conditional goes in or comes out, and the lines after it
 -- have at most 16,777,216 bytes. The new bytes of a last line are not empty, and equal the old ones except for the line end.
-abbrev pub FitsMove : Move → List PlacedLine → Type 0
+abbrev pub FitsMove : Move → List LocatedLine → Type 0
 FitsMove (PutIn at l) ls = (at ≤ length ls) × IsPlain l × (size_of ls + length l.bytes ≤ 2 ^ 24)
 FitsMove (TakeOut at) ls = (at < length ls) × IsPlainAt at ls
 FitsMove (Exchange at l) ls = (at < length ls) × IsPlainAt at ls × IsPlain l × (size_of (exchanged at l ls) ≤ 2 ^ 24)
@@ -61,12 +61,12 @@ taken_by_move (SwapEnd bytes) = 1
 -- ---- several moves, the first of which is made first
 
 -- the lines after moves
-abbrev pub after_moves : List Move → List PlacedLine → List PlacedLine
+abbrev pub after_moves : List Move → List LocatedLine → List LocatedLine
 after_moves [] ls = ls
 after_moves (m ∷ ms) ls = after_moves ms (after_move m ls)
 
 -- each move fits the lines to which those before it lead
-abbrev pub FitMoves : List Move → List PlacedLine → Type 0
+abbrev pub FitMoves : List Move → List LocatedLine → Type 0
 FitMoves [] ls = Unit {0}
 FitMoves (m ∷ ms) ls = FitsMove m ls × FitMoves ms (after_move m ls)
 

@@ -1,6 +1,6 @@
 //! A patch whose steps are being gathered.
 ghost use Rattle.std.specs.Prelude.{◌≡◌, ◌<◌, ◌++◌, [], ◌∷◌, length, IfOk};
-ghost use Rattle.mk_patch.specs.Steps.{move_of};
+ghost use Rattle.mk_patch.specs.StepMoves.{move_of};
 
 use crate::patch::Patch;
 use crate::step::Step;
@@ -27,7 +27,7 @@ pub struct PatchBuilder<A: Allocator = Global> {
 impl<A: Allocator> Model for PatchBuilder<A> {
     ghost use Rattle.std.specs.Prelude.{◌≡◌, ◌≤◌, [], length};
     ghost use Rattle.mk_patch.specs.Moves.{MovesWithRoom, held_by, taken_by};
-    ghost use Rattle.mk_patch.specs.Steps.{moves_of};
+    ghost use Rattle.mk_patch.specs.StepMoves.{moves_of};
 
     ghost Value = { MovesWithRoom };
 

@@ -1,7 +1,7 @@
 //! Several lines that are moved, as one change.
 ghost use Rattle.std.specs.Prelude.{◌≡◌, ◌≤◌, ◌+◌, [], length};
 ghost use Rattle.mk_patch.specs.Moves.{FitMoves, after_moves, held_by, taken_by};
-ghost use Rattle.mk_patch.specs.Steps.{moves_of};
+ghost use Rattle.mk_patch.specs.StepMoves.{moves_of};
 
 use crate::step::Step;
 use circular_buffer::HeapCircularBuffer;
@@ -28,7 +28,7 @@ pub struct Patch<A: Allocator = Global> {
 impl<A: Allocator> Model for Patch<A> {
     ghost use Rattle.std.specs.Prelude.{◌≡◌, ◌≤◌, List, [], length};
     ghost use Rattle.mk_patch.specs.Moves.{Move, held_by, taken_by};
-    ghost use Rattle.mk_patch.specs.Steps.{moves_of};
+    ghost use Rattle.mk_patch.specs.StepMoves.{moves_of};
 
     ghost Value = { List Move };
 

@@ -1,7 +1,7 @@
 //! One line that is moved.
 ghost use Rattle.std.specs.Prelude.{◌≡◌};
 ghost use Rattle.mk_patch.specs.Moves.{FitsMove, after_move, held_by_move, taken_by_move};
-ghost use Rattle.mk_patch.specs.Steps.{move_of};
+ghost use Rattle.mk_patch.specs.StepMoves.{move_of};
 
 use mk_tree::{Doc, Line, LineBytes};
 use std::alloc::{Allocator, Global};
@@ -9,15 +9,15 @@ use std::alloc::{Allocator, Global};
 /// One line that is moved, or the line end of the last line. Contracts see it as a move
 /// (`move_of`).
 ///
-/// Places are those in the document when the step is made, from 0. A step that is made becomes the
+/// Indices are those in the document when the step is made, from 0. A step that is made becomes the
 /// step that takes it back: the line goes from the one into the other, so no memory is taken.
 #[derive(Drop)]
 pub enum Step<A: Allocator = Global> {
-    /// Puts a line before the line at a place, or at the end.
+    /// Puts a line before the line at an index, or at the end.
     PutIn(usize, Line<A>),
-    /// Takes out the line at a place.
+    /// Takes out the line at an index.
     TakeOut(usize),
-    /// Puts a line in the place of the one at a place.
+    /// Puts a line in the place of the one at an index.
     Exchange(usize, Line<A>),
     /// Puts other bytes in the place of the last line's bytes: the same text, perhaps with another
     /// line end.

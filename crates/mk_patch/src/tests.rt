@@ -1,10 +1,10 @@
 //! Patches of small documents, made and taken back.
 ghost use Rattle.std.specs.Prelude.{◌≡◌, ◌+◌, ◌^◌, ◌≤◌, ◌<◌, [], ◌∷◌, IsTrue, IfOk, IfSome, length};
 ghost use Rattle.mk_lines.specs.LogicalLines.{logical_lines};
-ghost use Rattle.mk_tree.specs.PlacedLines.{size_of};
+ghost use Rattle.mk_tree.specs.LocatedLines.{size_of};
 ghost use Rattle.mk_tree.specs.Trees.{line_view};
 ghost use Rattle.mk_patch.specs.Moves.{FitMoves, FitsMove, IsPlain, IsPlainAt, SwapEnd};
-ghost use Rattle.mk_patch.specs.Steps.{move_of};
+ghost use Rattle.mk_patch.specs.StepMoves.{move_of};
 
 use crate::builder::PatchBuilder;
 use crate::patch::Patch;
@@ -38,9 +38,9 @@ fn is_admitted<A: Allocator>(line: &Line<A>, doc: &Doc<A>) -> bool
     line.bytes().len() <= SIZE_LIMIT - doc.size() && is_assignment(line)
 }
 
-// Whether the line at a place is an assignment.
+// Whether the line at an index is an assignment.
 fn has_assignment<A: Allocator>(doc: &Doc<A>, at: usize) -> bool
-    ensures place { IsTrue result → at < length doc.now }
+    ensures in_range { IsTrue result → at < length doc.now }
     ensures plain { IsTrue result → IsPlainAt at doc.now }
 {
     at < doc.len() && is_assignment(doc.line(at))
@@ -139,7 +139,7 @@ fn is_step(
 }
 
 #[test]
-fn a_line_is_put_in_at_each_place(rt: HostRuntime) -> Result<(), Fail> {
+fn a_line_is_put_in_at_each_index(rt: HostRuntime) -> Result<(), Fail> {
     for (at, after) in [
         (0, b"Z=3\nX=1\nY=2\n".as_slice()),
         (1, b"X=1\nZ=3\nY=2\n".as_slice()),
@@ -152,7 +152,7 @@ fn a_line_is_put_in_at_each_place(rt: HostRuntime) -> Result<(), Fail> {
 }
 
 #[test]
-fn a_line_is_taken_out_at_each_place(rt: HostRuntime) -> Result<(), Fail> {
+fn a_line_is_taken_out_at_each_index(rt: HostRuntime) -> Result<(), Fail> {
     for (at, after) in [
         (0, b"Y=2\nZ=3".as_slice()),
         (1, b"X=1\nZ=3".as_slice()),
@@ -168,7 +168,7 @@ fn a_line_is_taken_out_at_each_place(rt: HostRuntime) -> Result<(), Fail> {
 }
 
 #[test]
-fn a_line_is_exchanged_at_each_place(rt: HostRuntime) -> Result<(), Fail> {
+fn a_line_is_exchanged_at_each_index(rt: HostRuntime) -> Result<(), Fail> {
     for (at, after) in [
         (0, b"LONG = 4\nY=2\nZ=3\n".as_slice()),
         (1, b"X=1\nLONG = 4\nZ=3\n".as_slice()),

@@ -6,19 +6,19 @@ use Rattle.mk_lines.specs.Lists.{concat, leading, after_leading}
 use Rattle.mk_lines.specs.Cells.{joined_byte}
 use Rattle.mk_lines.specs.FirstUnit.{after_first_unit}
 use Rattle.mk_lines.specs.Ranges.{text_at}
-use Rattle.mk_class.specs.Lists.{is_empty, first_passes}
+use Rattle.mk_class.specs.ListTests.{is_empty, first_passes}
 use Rattle.mk_class.specs.Texts.{is_one_of}
 use Rattle.mk_class.specs.RecipePrefix.{is_prefix_led}
 use Rattle.mk_class.specs.Contexts.{Context, start, context_after}
 use Rattle.mk_class.specs.ClassTable.{class_of}
-use Rattle.mk_class.specs.ClassPlaces.{class_places}
+use Rattle.mk_class.specs.LocatedClasses.{located_class}
 use Rattle.mk_class.specs.ClassedLines.{ClassedLine}
-use Rattle.mk_class.specs.declared.context.Flag.{Flag}
-use Rattle.mk_class.specs.declared.context.Flag.TheVariants as flags
+use Rattle.mk_class.specs.declared.context.RuleFlag.{RuleFlag}
+use Rattle.mk_class.specs.declared.context.RuleFlag.TheVariants as flags
 use Rattle.mk_class.specs.declared.class.Class.{Class}
 use Rattle.mk_class.specs.declared.class.Class.TheVariants as variants
 use Rattle.mk_tree.specs.LineTexts.{context_of, StandingLine}
-use Rattle.mk_tree.specs.PlacedLines.{PlacedLine, placed_line, text_of_line}
+use Rattle.mk_tree.specs.LocatedLines.{LocatedLine, located_line, text_of_line}
 use Rattle.mk_queries.specs.declared.caveat.Caveat.{Caveat}
 use Rattle.mk_queries.specs.declared.caveat.Caveat.TheVariants.{AfterEmpty, AfterConditional, Conditional, Define, Assignment, Prefix}
 use Rattle.mk_queries.specs.declared.seen.Seen.{Seen}
@@ -55,37 +55,37 @@ is_opaque variants.Opaque = true
 is_opaque k = false
 
 -- whether make takes an opaque line for empty
-abbrev pub is_empty_for_make : PlacedLine → Bool
+abbrev pub is_empty_for_make : LocatedLine → Bool
 is_empty_for_make l = is_opaque l.class && is_no_word (make_word (text_of_line l))
 
 -- whether a line of this class, which begins with the recipe prefix, is no recipe line, no line of a define, no blank and no comment
-abbrev pub is_other : Class → Bool
-is_other variants.Opaque = true
-is_other (variants.Assign a p) = true
-is_other (variants.DefineHead p) = true
-is_other variants.If = true
-is_other variants.Directive = true
-is_other k = false
+abbrev pub is_other_class : Class → Bool
+is_other_class variants.Opaque = true
+is_other_class (variants.Assign a p) = true
+is_other_class (variants.DefineHead p) = true
+is_other_class variants.If = true
+is_other_class variants.Directive = true
+is_other_class k = false
 
 -- whether a line is such a line, which make takes for a recipe line where it has a rule open
-abbrev pub is_other_led : Context → PlacedLine → Bool
-is_other_led c l = is_prefix_led c.prefix l.bytes && is_other l.class
+abbrev pub is_other_led : Context → LocatedLine → Bool
+is_other_led c l = is_prefix_led c.prefix l.bytes && is_other_class l.class
 
 -- whether a line tells of a rule where make passes the opaque lines that are empty for it
-abbrev pub tells_make : Context → PlacedLine → Bool
+abbrev pub tells_make : Context → LocatedLine → Bool
 tells_make c l = not (is_other_led c l || is_empty_for_make l)
 
 -- whether a line tells of a rule where make passes the lines inside of conditionals
-abbrev pub tells_outside : Context → PlacedLine → Bool
+abbrev pub tells_outside : Context → LocatedLine → Bool
 tells_outside c l = not (is_other_led c l) && (c.conditionals == 0)
 
 -- those of some lines that pass a test; the first of the lines stands in a context
-abbrev pub lines_passing : (Context → PlacedLine → Bool) → Context → List ClassedLine → List ClassedLine
+abbrev pub lines_passing : (Context → LocatedLine → Bool) → Context → List ClassedLine → List ClassedLine
 lines_passing p c [] = []
-lines_passing p c (l ∷ ls) = if p c (placed_line l) then l ∷ lines_passing p (context_after c l.class) ls else lines_passing p (context_after c l.class) ls
+lines_passing p c (l ∷ ls) = if p c (located_line l) then l ∷ lines_passing p (context_after c l.class) ls else lines_passing p (context_after c l.class) ls
 
 -- the flag that those of the lines above leave that pass a test
-abbrev pub flag_by : (Context → PlacedLine → Bool) → (above : List ClassedLine) → Flag
+abbrev pub flag_by : (Context → LocatedLine → Bool) → (above : List ClassedLine) → RuleFlag
 flag_by p ls = (context_of (lines_passing p start ls)).flag
 
 -- the flags that the lines above leave where make passes some of them
@@ -95,13 +95,13 @@ seen_above ls = record { for_make = flag_by tells_make ls; outside = flag_by tel
 -- ---- a line that begins with the recipe prefix
 
 -- whether a flag says that a rule is open
-abbrev pub is_rule : Flag → Bool
+abbrev pub is_rule : RuleFlag → Bool
 is_rule flags.Rule = true
 is_rule f = false
 
 -- whether make may take it for a recipe line, of a rule above the conditional
 abbrev is_below_conditional : Context → Seen → Class → Bool
-is_below_conditional c s k = is_other k && ((c.conditionals == 0) && is_rule s.outside)
+is_below_conditional c s k = is_other_class k && ((c.conditionals == 0) && is_rule s.outside)
 
 -- the caveat of a line of this class that begins with the recipe prefix
 abbrev led_caveat : Context → Seen → Class → Option Caveat
@@ -111,7 +111,7 @@ led_caveat c s k =
     None
 
 -- the caveat of a line as a recipe line
-abbrev pub recipe_caveat : Context → Seen → PlacedLine → Option Caveat
+abbrev pub recipe_caveat : Context → Seen → LocatedLine → Option Caveat
 recipe_caveat c s l = if is_prefix_led c.prefix l.bytes then led_caveat c s l.class else None
 
 -- ---- a line that make may obey by its first word
@@ -166,14 +166,14 @@ named_caveat n v =
 
 -- the caveat of a line as an assignment
 abbrev pub assignment_caveat : (bytes text : List ℕ) → Class → Option Caveat
-assignment_caveat bytes t variants.Opaque = unread_caveat (class_places joined_byte (class_of start bytes))
+assignment_caveat bytes t variants.Opaque = unread_caveat (located_class joined_byte (class_of start bytes))
 assignment_caveat bytes t (variants.Assign at p) = named_caveat (text_at t at.name) (text_at t at.value)
 assignment_caveat bytes t k = None
 
 -- ---- the text
 
 -- the caveat of a line that stands in a context, below lines that leave these flags
-abbrev pub caveat_of : Context → Seen → PlacedLine → Option Caveat
+abbrev pub caveat_of : Context → Seen → LocatedLine → Option Caveat
 caveat_of c s l =
     option_or (option_or (recipe_caveat c s l) (word_caveat c s l.class (make_word (text_of_line l)))) (assignment_caveat l.bytes (text_of_line l) l.class)
 
@@ -193,7 +193,7 @@ caveat_text n (Some k) = decimal n ++ (codes ": " ++ (sentence k ++ codes "\n"))
 
 -- the same of a line where it stands
 abbrev pub caveat_line : StandingLine → List ℕ
-caveat_line s = caveat_text (line_number s) (caveat_of (context_of s.above) (seen_above s.above) (placed_line s.line))
+caveat_line s = caveat_text (line_number s) (caveat_of (context_of s.above) (seen_above s.above) (located_line s.line))
 
 -- the text of `caveats`
 abbrev pub caveats_text : List ℕ → List ℕ

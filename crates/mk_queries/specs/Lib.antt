@@ -5,8 +5,8 @@ pub mod Spacing
 pub mod PartTexts
 pub mod ItemLines
 -- What the code says of lines, and its walks
-pub mod PlacedTexts
-pub mod Walks
+pub mod LocatedTexts
+pub mod QueryWalks
 -- The queries
 pub mod Queries
 pub mod Caveats

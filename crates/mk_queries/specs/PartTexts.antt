@@ -5,7 +5,7 @@ use Rattle.mk_class.specs.declared.assignment.Modifier.TheVariants.{Override, Ex
 use Rattle.mk_class.specs.declared.rule.Separator.{Separator}
 use Rattle.mk_class.specs.OperatorTexts.{operator_text, separator_text}
 use Rattle.mk_tree.specs.Items.{Assigned, Sets}
-use Rattle.mk_queries.specs.Spacing.{spaced, each_after_space, each_before_space, after_space}
+use Rattle.mk_queries.specs.Spacing.{spaced_words, each_after_space, each_before_space, after_space}
 
 -- ---- assignments
 
@@ -23,7 +23,7 @@ assigned_text (Sets ms n f v) = each_before_space (map modifier_text ms) ++ (n +
 
 -- targets with one space between them, and the separator
 abbrev pub targets_text : List (List ℕ) → Separator → List ℕ
-targets_text ts s = spaced ts ++ separator_text s
+targets_text ts s = spaced_words ts ++ separator_text s
 
 -- a pattern, if there is one, with a space before it and a `:` after it
 abbrev pub pattern_text : (pattern : List (List ℕ)) → List ℕ

@@ -22,13 +22,13 @@ abbrev pub rules_text : List ℕ → List ℕ
 rules_text t = said_of_lines (λ s. rule_line (line_number s) (depth s) (recipe_count s)) (standing_lines t)
 
 -- a line on how many of this kind are open at the end of a text; nothing if none are
-abbrev pub open_line : (kind : List ℕ) → (count : ℕ) → List ℕ
-open_line k zero = []
-open_line k (suc n) = codes "end: " ++ (k ++ (codes " " ++ (decimal (suc n) ++ codes "\n")))
+abbrev pub open_count_line : (kind : List ℕ) → (count : ℕ) → List ℕ
+open_count_line k zero = []
+open_count_line k (suc n) = codes "end: " ++ (k ++ (codes " " ++ (decimal (suc n) ++ codes "\n")))
 
 -- the lines on what is open at the end of a text
 abbrev pub end_lines : Context → List ℕ
-end_lines c = open_line (codes "conditionals") c.conditionals ++ open_line (codes "defines") c.defines
+end_lines c = open_count_line (codes "conditionals") c.conditionals ++ open_count_line (codes "defines") c.defines
 
 -- the text of `check`
 abbrev pub check_text : List ℕ → List ℕ

@@ -12,9 +12,9 @@ each_before_space [] = []
 each_before_space (w ∷ ws) = w ++ (codes " " ++ each_before_space ws)
 
 -- words with one space between them
-abbrev pub spaced : List (List ℕ) → List ℕ
-spaced [] = []
-spaced (w ∷ ws) = w ++ each_after_space ws
+abbrev pub spaced_words : List (List ℕ) → List ℕ
+spaced_words [] = []
+spaced_words (w ∷ ws) = w ++ each_after_space ws
 
 -- a text with a space before it; nothing if the text is empty
 abbrev pub after_space : List ℕ → List ℕ

@@ -1,17 +1,17 @@
 //! What make may read in a line otherwise than it is read here.
 ghost use Rattle.std.specs.Prelude.{◌≡◌};
 ghost use Rattle.mk_lines.specs.Cells.{joined_byte};
-ghost use Rattle.mk_class.specs.ClassPlaces.{class_places};
+ghost use Rattle.mk_class.specs.LocatedClasses.{located_class};
 ghost use Rattle.mk_class.specs.ClassTable.{class_of};
 ghost use Rattle.mk_class.specs.Contexts.{start};
-ghost use Rattle.mk_tree.specs.PlacedLines.{text_of_line};
+ghost use Rattle.mk_tree.specs.LocatedLines.{text_of_line};
 ghost use Rattle.mk_tree.specs.Trees.{line_view};
 ghost use Rattle.mk_queries.specs.Caveats.{assignment_caveat, caveat_of, is_assignment, named_caveat, opaque_caveat, recipe_caveat, sentence, skipped_caveat, word_caveat};
-ghost use Rattle.mk_queries.specs.PlacedTexts.{IsClassedIn};
+ghost use Rattle.mk_queries.specs.LocatedTexts.{IsClassedIn};
 
 use crate::line_part::{part, text_of_line};
 use crate::make_word::{is_text, make_word};
-use crate::seen::{Seen, is_led, is_other, is_rule};
+use crate::seen::{Seen, is_led, is_other_class, is_rule};
 use mk_class::{Class, Context, Meter, class_with_cells};
 use mk_lines::after_first_unit;
 use mk_tree::Line;
@@ -63,7 +63,7 @@ fn recipe_caveat<A: Allocator>(context: Context, seen: Seen, line: &Line<A>) -> 
         None
     } else if matches!(class, Class::Opaque) && is_rule(seen.for_make) {
         Some(Caveat::AfterEmpty)
-    } else if is_other(&class) && context.conds() == 0 && is_rule(seen.outside) {
+    } else if is_other_class(&class) && context.conds() == 0 && is_rule(seen.outside) {
         Some(Caveat::AfterConditional)
     } else {
         None
@@ -118,7 +118,7 @@ fn named_caveat(name: &[u8], value: &[u8]) -> Option<Caveat>
 
 // Whether an opaque line would be an assignment as the first line of a text.
 fn is_unread_assignment<A: Allocator>(line: &Line<A>) -> bool
-    ensures { result ≡ is_assignment (class_places joined_byte (class_of start (line_view line.now).bytes)) }
+    ensures { result ≡ is_assignment (located_class joined_byte (class_of start (line_view line.now).bytes)) }
 {
     let read = class_with_cells(
         line.bytes(),

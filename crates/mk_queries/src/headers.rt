@@ -4,18 +4,18 @@ ghost use Rattle.std.specs.Io.KnownBytes.{Appends};
 ghost use Rattle.mk_lines.specs.Device.{AppendsPrefix};
 ghost use Rattle.mk_lines.specs.Ranges.{text_at};
 ghost use Rattle.mk_tree.specs.Documents.{IsFaithful};
-ghost use Rattle.mk_tree.specs.PlacedLines.{placed_text, text_of_line};
+ghost use Rattle.mk_tree.specs.LocatedLines.{located_text, text_of_line};
 ghost use Rattle.mk_tree.specs.Printing.{AppendsSoFar};
 ghost use Rattle.mk_tree.specs.Trees.{line_view};
 ghost use Rattle.mk_queries.specs.PartTexts.{order_only_text, pattern_text};
-ghost use Rattle.mk_queries.specs.PlacedTexts.{IsClassedIn, IsHeaderWithin, count_of, count_placed, counted_after, header_placed, one_more, pattern_span, rule_placed};
+ghost use Rattle.mk_queries.specs.LocatedTexts.{IsClassedIn, IsHeaderWithin, count_of, count_located, counted_after, header_located, one_more, pattern_span, rule_located};
 ghost use Rattle.mk_class.specs.LineParts.{order_only_span};
 ghost use Rattle.mk_lines.specs.Words.{words_in};
 ghost use Rattle.mk_queries.specs.Queries.{rules_text};
 
 use crate::gathering::put_parts;
 use crate::line_part::{part, text_of_line};
-use crate::place::{line_feeds, put_place};
+use crate::position::{line_feeds, put_position};
 use crate::spacing::put_each_after_space;
 use crate::targets::put_targets;
 use mk_class::{Class, Context, Header};
@@ -49,8 +49,8 @@ use std::alloc::Allocator;
 pub fn rules<A: Allocator, W: ByteSink>(doc: &Doc<A>, out: &mut W) -> Result<(), Fault>
     requires faithful { IsFaithful doc.now }
     requires works { W.failed out.old ≡ false }
-    ensures whole { OnOk result (Appends (W.contents out.old) (W.contents out.new) (rules_text (placed_text doc.now))) }
-    ensures prefix { AppendsPrefix (W.contents out.old) (W.contents out.new) (rules_text (placed_text doc.now)) }
+    ensures whole { OnOk result (Appends (W.contents out.old) (W.contents out.new) (rules_text (located_text doc.now))) }
+    ensures prefix { AppendsPrefix (W.contents out.old) (W.contents out.new) (rules_text (located_text doc.now)) }
     ensures works { OnOk result (W.failed out.new ≡ false) }
     ensures fault { IfErr result (λ e. (e ≡ Fault.Write) × (W.failed out.new ≡ true)) }
     ensures unflushed { W.flushes out.new ≡ W.flushes out.old }
@@ -83,9 +83,9 @@ fn put_rule<A: Allocator, W: ByteSink>(
     requires works { W.failed out.old ≡ false }
     requires classed { IsClassedIn context (line_view line.now) }
     requires few { count_of counted < 2 ^ 32 }
-    ensures whole { OnOk result (AppendsSoFar (W.contents out.old) (W.contents out.new) (gathered.old.items ++ rule_placed number context.conditionals counted (text_of_line (line_view line.now)) (line_view line.now).class) gathered.new.items) }
+    ensures whole { OnOk result (AppendsSoFar (W.contents out.old) (W.contents out.new) (gathered.old.items ++ rule_located number context.conditionals counted (text_of_line (line_view line.now)) (line_view line.now).class) gathered.new.items) }
     ensures counted { IfOk result (λ after. after ≡ counted_after counted (line_view line.now).class) }
-    ensures prefix { AppendsPrefix (W.contents out.old) (W.contents out.new) (gathered.old.items ++ rule_placed number context.conditionals counted (text_of_line (line_view line.now)) (line_view line.now).class) }
+    ensures prefix { AppendsPrefix (W.contents out.old) (W.contents out.new) (gathered.old.items ++ rule_located number context.conditionals counted (text_of_line (line_view line.now)) (line_view line.now).class) }
     ensures works { OnOk result (W.failed out.new ≡ false) }
     ensures fault { IfErr result (λ e. (e ≡ Fault.Write) × (W.failed out.new ≡ true)) }
     ensures unflushed { W.flushes out.new ≡ W.flushes out.old }
@@ -93,7 +93,7 @@ fn put_rule<A: Allocator, W: ByteSink>(
     match line.class() {
         Class::Header(header) => {
             put_count(gathered, out, counted)?;
-            put_place(gathered, out, number, context.conds())?;
+            put_position(gathered, out, number, context.conds())?;
             put_header(gathered, out, text_of_line(line), &header)?;
             Ok(Some(usize::from(header.has_recipe)))
         }
@@ -122,8 +122,8 @@ fn put_count<W: ByteSink>(
     counted: Option<usize>,
 ) -> Result<(), Fault>
     requires { W.failed out.old ≡ false }
-    ensures whole { OnOk result (AppendsSoFar (W.contents out.old) (W.contents out.new) (gathered.old.items ++ count_placed counted) gathered.new.items) }
-    ensures prefix { AppendsPrefix (W.contents out.old) (W.contents out.new) (gathered.old.items ++ count_placed counted) }
+    ensures whole { OnOk result (AppendsSoFar (W.contents out.old) (W.contents out.new) (gathered.old.items ++ count_located counted) gathered.new.items) }
+    ensures prefix { AppendsPrefix (W.contents out.old) (W.contents out.new) (gathered.old.items ++ count_located counted) }
     ensures works { OnOk result (W.failed out.new ≡ false) }
     ensures fault { IfErr result (λ e. (e ≡ Fault.Write) × (W.failed out.new ≡ true)) }
     ensures unflushed { W.flushes out.new ≡ W.flushes out.old }
@@ -145,8 +145,8 @@ fn put_header<W: ByteSink>(
 ) -> Result<(), Fault>
     requires works { W.failed out.old ≡ false }
     requires within { IsHeaderWithin (length text.now) at.now }
-    ensures whole { OnOk result (AppendsSoFar (W.contents out.old) (W.contents out.new) (gathered.old.items ++ header_placed text.now at.now) gathered.new.items) }
-    ensures prefix { AppendsPrefix (W.contents out.old) (W.contents out.new) (gathered.old.items ++ header_placed text.now at.now) }
+    ensures whole { OnOk result (AppendsSoFar (W.contents out.old) (W.contents out.new) (gathered.old.items ++ header_located text.now at.now) gathered.new.items) }
+    ensures prefix { AppendsPrefix (W.contents out.old) (W.contents out.new) (gathered.old.items ++ header_located text.now at.now) }
     ensures works { OnOk result (W.failed out.new ≡ false) }
     ensures fault { IfErr result (λ e. (e ≡ Fault.Write) × (W.failed out.new ≡ true)) }
     ensures unflushed { W.flushes out.new ≡ W.flushes out.old }

@@ -12,8 +12,8 @@
 //!
 //! - `gathering`: texts that go out in few writes.
 //! - `spacing`: the words of a text, with spaces.
-//! - `line_part`: parts of a line by their places.
-//! - `place`: the numbers of lines, and where an item stands.
+//! - `line_part`: parts of a line by their offsets.
+//! - `position`: the numbers of lines, and where an item stands.
 //! - `targets`: targets with the separator after them.
 //! - `unread`: the query [`check`].
 //! - `variables`: the query [`vars`].
@@ -30,7 +30,7 @@ mod headers;
 mod line_part;
 mod make_word;
 mod otherwise;
-mod place;
+mod position;
 mod seen;
 mod spacing;
 mod targets;

@@ -1,8 +1,8 @@
-//! Parts of a line's joined text, by their places.
+//! Parts of a line's joined text, by their offsets.
 ghost use Rattle.std.specs.Prelude.{◌≡◌, ◌≤◌, length};
 ghost use Rattle.mk_lines.specs.Ranges.{text_at};
 ghost use Rattle.mk_tree.specs.Trees.{line_view};
-ghost use Rattle.mk_tree.specs.PlacedLines.{text_of_line};
+ghost use Rattle.mk_tree.specs.LocatedLines.{text_of_line};
 
 use mk_lines::split::Span;
 use mk_tree::Line;

@@ -3,13 +3,13 @@ ghost use Rattle.std.specs.Prelude.{◌≡◌, ◌++◌, false, true, IfErr, OnO
 ghost use Rattle.std.specs.Io.KnownBytes.{Appends};
 ghost use Rattle.mk_lines.specs.Device.{AppendsPrefix};
 ghost use Rattle.mk_tree.specs.Documents.{IsFaithful};
-ghost use Rattle.mk_tree.specs.PlacedLines.{placed_text};
+ghost use Rattle.mk_tree.specs.LocatedLines.{located_text};
 ghost use Rattle.mk_tree.specs.Printing.{AppendsSoFar};
 ghost use Rattle.mk_queries.specs.Caveats.{caveat_text, caveats_text};
 
 use crate::caveat::{Caveat, caveat_of};
 use crate::gathering::put_parts;
-use crate::place::line_feeds;
+use crate::position::line_feeds;
 use crate::seen::Seen;
 use mk_lines::Fault;
 use mk_lines::sink::{ByteSink, write_all};
@@ -61,8 +61,8 @@ fn put_caveat<W: ByteSink>(
 pub fn caveats<A: Allocator, W: ByteSink>(doc: &Doc<A>, out: &mut W) -> Result<(), Fault>
     requires faithful { IsFaithful doc.now }
     requires works { W.failed out.old ≡ false }
-    ensures whole { OnOk result (Appends (W.contents out.old) (W.contents out.new) (caveats_text (placed_text doc.now))) }
-    ensures prefix { AppendsPrefix (W.contents out.old) (W.contents out.new) (caveats_text (placed_text doc.now)) }
+    ensures whole { OnOk result (Appends (W.contents out.old) (W.contents out.new) (caveats_text (located_text doc.now))) }
+    ensures prefix { AppendsPrefix (W.contents out.old) (W.contents out.new) (caveats_text (located_text doc.now)) }
     ensures works { OnOk result (W.failed out.new ≡ false) }
     ensures fault { IfErr result (λ e. (e ≡ Fault.Write) × (W.failed out.new ≡ true)) }
     ensures unflushed { W.flushes out.new ≡ W.flushes out.old }

@@ -1,14 +1,14 @@
 //! What the lines above tell of rules, where make passes some of them.
 ghost use Rattle.std.specs.Prelude.{◌≡◌, []};
-ghost use Rattle.mk_class.specs.Contexts.{flag_after_places};
+ghost use Rattle.mk_class.specs.Contexts.{flag_after_located};
 ghost use Rattle.mk_class.specs.RecipePrefix.{is_prefix_led};
 ghost use Rattle.mk_tree.specs.Trees.{line_view};
-ghost use Rattle.mk_queries.specs.Caveats.{is_empty_for_make, is_other, is_other_led, is_rule, seen_above};
-ghost use Rattle.mk_queries.specs.Walks.{seen_after};
+ghost use Rattle.mk_queries.specs.Caveats.{is_empty_for_make, is_other_class, is_other_led, is_rule, seen_above};
+ghost use Rattle.mk_queries.specs.QueryWalks.{seen_after};
 
 use crate::line_part::text_of_line;
 use crate::make_word::make_word;
-use mk_class::{Class, Context, Flag};
+use mk_class::{Class, Context, RuleFlag};
 use mk_tree::Line;
 use std::alloc::Allocator;
 
@@ -16,9 +16,9 @@ use std::alloc::Allocator;
 #[derive(Clone, Copy)]
 pub(crate) struct Seen {
     /// Without the opaque lines that make takes for empty.
-    pub for_make: Flag,
+    pub for_make: RuleFlag,
     /// Without the lines inside of conditionals.
-    pub outside: Flag,
+    pub outside: RuleFlag,
 }
 
 impl Seen {
@@ -27,8 +27,8 @@ impl Seen {
         ensures { result ≡ seen_above [] }
     {
         Seen {
-            for_make: Flag::Off,
-            outside: Flag::Off,
+            for_make: RuleFlag::Off,
+            outside: RuleFlag::Off,
         }
     }
 
@@ -56,22 +56,22 @@ impl Seen {
 }
 
 // The flag after a line of this class.
-fn flag_after(flag: Flag, class: &Class) -> Flag
-    ensures { result ≡ flag_after_places flag class.now }
+fn flag_after(flag: RuleFlag, class: &Class) -> RuleFlag
+    ensures { result ≡ flag_after_located flag class.now }
 {
     match class {
-        Class::Header(_) | Class::Rough | Class::Recipe => Flag::Rule,
-        Class::Opaque => Flag::Unknown,
+        Class::Header(_) | Class::Rough | Class::Recipe => RuleFlag::Rule,
+        Class::Opaque => RuleFlag::Unknown,
         Class::Blank | Class::Comment | Class::If | Class::Else | Class::Endif => flag,
-        _ => Flag::Off,
+        _ => RuleFlag::Off,
     }
 }
 
 /// Whether a flag says that a rule is open.
-pub(crate) fn is_rule(flag: Flag) -> bool
+pub(crate) fn is_rule(flag: RuleFlag) -> bool
     ensures { result ≡ is_rule flag }
 {
-    matches!(flag, Flag::Rule)
+    matches!(flag, RuleFlag::Rule)
 }
 
 /// Whether a line begins with the recipe prefix of its context.
@@ -84,8 +84,8 @@ pub(crate) fn is_led<A: Allocator>(context: Context, line: &Line<A>) -> bool
 
 /// Whether a line of this class, which begins with the recipe prefix, is no recipe line, no line of a
 /// define, no blank and no comment.
-pub(crate) fn is_other(class: &Class) -> bool
-    ensures { result ≡ is_other class.now }
+pub(crate) fn is_other_class(class: &Class) -> bool
+    ensures { result ≡ is_other_class class.now }
 {
     matches!(
         class,
@@ -97,7 +97,7 @@ pub(crate) fn is_other(class: &Class) -> bool
 fn is_other_led<A: Allocator>(context: Context, line: &Line<A>) -> bool
     ensures { result ≡ is_other_led context (line_view line.now) }
 {
-    is_led(context, line) && is_other(&line.class())
+    is_led(context, line) && is_other_class(&line.class())
 }
 
 // Whether make takes a line, which is opaque, for empty: it finds no word but that of a comment.

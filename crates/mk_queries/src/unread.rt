@@ -3,13 +3,13 @@ ghost use Rattle.std.specs.Prelude.{◌≡◌, ◌++◌, false, true, IfErr, OnO
 ghost use Rattle.std.specs.Io.KnownBytes.{Appends};
 ghost use Rattle.mk_lines.specs.Device.{AppendsPrefix};
 ghost use Rattle.mk_tree.specs.Documents.{IsFaithful};
-ghost use Rattle.mk_tree.specs.PlacedLines.{placed_text};
+ghost use Rattle.mk_tree.specs.LocatedLines.{located_text};
 ghost use Rattle.mk_tree.specs.Printing.{AppendsSoFar};
-ghost use Rattle.mk_queries.specs.Queries.{check_text, end_lines, open_line};
-ghost use Rattle.mk_queries.specs.Walks.{unread_placed};
+ghost use Rattle.mk_queries.specs.Queries.{check_text, end_lines, open_count_line};
+ghost use Rattle.mk_queries.specs.QueryWalks.{unread_located};
 
 use crate::gathering::put_parts;
-use crate::place::line_feeds;
+use crate::position::line_feeds;
 use mk_class::{Class, Context};
 use mk_lines::Fault;
 use mk_lines::sink::{ByteSink, write_all};
@@ -39,8 +39,8 @@ use std::alloc::Allocator;
 pub fn check<A: Allocator, W: ByteSink>(doc: &Doc<A>, out: &mut W) -> Result<(), Fault>
     requires faithful { IsFaithful doc.now }
     requires works { W.failed out.old ≡ false }
-    ensures whole { OnOk result (Appends (W.contents out.old) (W.contents out.new) (check_text (placed_text doc.now))) }
-    ensures prefix { AppendsPrefix (W.contents out.old) (W.contents out.new) (check_text (placed_text doc.now)) }
+    ensures whole { OnOk result (Appends (W.contents out.old) (W.contents out.new) (check_text (located_text doc.now))) }
+    ensures prefix { AppendsPrefix (W.contents out.old) (W.contents out.new) (check_text (located_text doc.now)) }
     ensures works { OnOk result (W.failed out.new ≡ false) }
     ensures fault { IfErr result (λ e. (e ≡ Fault.Write) × (W.failed out.new ≡ true)) }
     ensures unflushed { W.flushes out.new ≡ W.flushes out.old }
@@ -65,8 +65,8 @@ fn put_unread<W: ByteSink>(
     class: &Class,
 ) -> Result<(), Fault>
     requires { W.failed out.old ≡ false }
-    ensures whole { OnOk result (AppendsSoFar (W.contents out.old) (W.contents out.new) (gathered.old.items ++ unread_placed number class.now) gathered.new.items) }
-    ensures prefix { AppendsPrefix (W.contents out.old) (W.contents out.new) (gathered.old.items ++ unread_placed number class.now) }
+    ensures whole { OnOk result (AppendsSoFar (W.contents out.old) (W.contents out.new) (gathered.old.items ++ unread_located number class.now) gathered.new.items) }
+    ensures prefix { AppendsPrefix (W.contents out.old) (W.contents out.new) (gathered.old.items ++ unread_located number class.now) }
     ensures works { OnOk result (W.failed out.new ≡ false) }
     ensures fault { IfErr result (λ e. (e ≡ Fault.Write) × (W.failed out.new ≡ true)) }
     ensures unflushed { W.flushes out.new ≡ W.flushes out.old }
@@ -102,8 +102,8 @@ fn put_open<W: ByteSink>(
     count: u32,
 ) -> Result<(), Fault>
     requires { W.failed out.old ≡ false }
-    ensures whole { OnOk result (AppendsSoFar (W.contents out.old) (W.contents out.new) (gathered.old.items ++ open_line kind.now count) gathered.new.items) }
-    ensures prefix { AppendsPrefix (W.contents out.old) (W.contents out.new) (gathered.old.items ++ open_line kind.now count) }
+    ensures whole { OnOk result (AppendsSoFar (W.contents out.old) (W.contents out.new) (gathered.old.items ++ open_count_line kind.now count) gathered.new.items) }
+    ensures prefix { AppendsPrefix (W.contents out.old) (W.contents out.new) (gathered.old.items ++ open_count_line kind.now count) }
     ensures works { OnOk result (W.failed out.new ≡ false) }
     ensures fault { IfErr result (λ e. (e ≡ Fault.Write) × (W.failed out.new ≡ true)) }
     ensures unflushed { W.flushes out.new ≡ W.flushes out.old }

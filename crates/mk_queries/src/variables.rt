@@ -3,16 +3,16 @@ ghost use Rattle.std.specs.Prelude.{◌≡◌, ◌≤◌, ◌++◌, false, true,
 ghost use Rattle.std.specs.Io.KnownBytes.{Appends};
 ghost use Rattle.mk_lines.specs.Device.{AppendsPrefix};
 ghost use Rattle.mk_tree.specs.Documents.{IsFaithful};
-ghost use Rattle.mk_tree.specs.PlacedLines.{placed_text, text_of_line};
+ghost use Rattle.mk_tree.specs.LocatedLines.{located_text, text_of_line};
 ghost use Rattle.mk_tree.specs.Printing.{AppendsSoFar};
 ghost use Rattle.mk_tree.specs.Trees.{line_view};
-ghost use Rattle.mk_queries.specs.PlacedTexts.{IsAssignmentWithin, IsClassedIn, assigned_placed, assigned_start, target_assigned_placed, variable_placed};
+ghost use Rattle.mk_queries.specs.LocatedTexts.{IsAssignmentWithin, IsClassedIn, assigned_located, assigned_start, target_assigned_located, variable_located};
 ghost use Rattle.mk_queries.specs.Queries.{vars_text};
 ghost use Rattle.mk_queries.specs.Spacing.{after_space};
 
 use crate::gathering::put_parts;
 use crate::line_part::{part, text_of_line};
-use crate::place::{line_feeds, put_place};
+use crate::position::{line_feeds, put_position};
 use crate::spacing::put_each_before_space;
 use crate::targets::put_targets;
 use mk_class::{Assignment, Class, Context, TargetAssignment};
@@ -45,8 +45,8 @@ use std::alloc::Allocator;
 pub fn vars<A: Allocator, W: ByteSink>(doc: &Doc<A>, out: &mut W) -> Result<(), Fault>
     requires faithful { IsFaithful doc.now }
     requires works { W.failed out.old ≡ false }
-    ensures whole { OnOk result (Appends (W.contents out.old) (W.contents out.new) (vars_text (placed_text doc.now))) }
-    ensures prefix { AppendsPrefix (W.contents out.old) (W.contents out.new) (vars_text (placed_text doc.now)) }
+    ensures whole { OnOk result (Appends (W.contents out.old) (W.contents out.new) (vars_text (located_text doc.now))) }
+    ensures prefix { AppendsPrefix (W.contents out.old) (W.contents out.new) (vars_text (located_text doc.now)) }
     ensures works { OnOk result (W.failed out.new ≡ false) }
     ensures fault { IfErr result (λ e. (e ≡ Fault.Write) × (W.failed out.new ≡ true)) }
     ensures unflushed { W.flushes out.new ≡ W.flushes out.old }
@@ -73,8 +73,8 @@ fn put_variable<A: Allocator, W: ByteSink>(
 ) -> Result<(), Fault>
     requires works { W.failed out.old ≡ false }
     requires classed { IsClassedIn context (line_view line.now) }
-    ensures whole { OnOk result (AppendsSoFar (W.contents out.old) (W.contents out.new) (gathered.old.items ++ variable_placed number context.conditionals (text_of_line (line_view line.now)) (line_view line.now).class) gathered.new.items) }
-    ensures prefix { AppendsPrefix (W.contents out.old) (W.contents out.new) (gathered.old.items ++ variable_placed number context.conditionals (text_of_line (line_view line.now)) (line_view line.now).class) }
+    ensures whole { OnOk result (AppendsSoFar (W.contents out.old) (W.contents out.new) (gathered.old.items ++ variable_located number context.conditionals (text_of_line (line_view line.now)) (line_view line.now).class) gathered.new.items) }
+    ensures prefix { AppendsPrefix (W.contents out.old) (W.contents out.new) (gathered.old.items ++ variable_located number context.conditionals (text_of_line (line_view line.now)) (line_view line.now).class) }
     ensures works { OnOk result (W.failed out.new ≡ false) }
     ensures fault { IfErr result (λ e. (e ≡ Fault.Write) × (W.failed out.new ≡ true)) }
     ensures unflushed { W.flushes out.new ≡ W.flushes out.old }
@@ -82,11 +82,11 @@ fn put_variable<A: Allocator, W: ByteSink>(
     let text = text_of_line(line);
     match line.class() {
         Class::Assign(assignment, _) => {
-            put_place(gathered, out, number, context.conds())?;
+            put_position(gathered, out, number, context.conds())?;
             put_assigned(gathered, out, text, 0, &assignment)
         }
         Class::TargetAssign(assignment) => {
-            put_place(gathered, out, number, context.conds())?;
+            put_position(gathered, out, number, context.conds())?;
             put_target_assigned(gathered, out, text, &assignment)
         }
         _ => Ok(()),
@@ -103,8 +103,8 @@ fn put_target_assigned<W: ByteSink>(
     requires works { W.failed out.old ≡ false }
     requires targets_within { at.now.targets_end ≤ length text.now }
     requires within { IsAssignmentWithin (length text.now) (assigned_start at.now) at.now.assignment }
-    ensures whole { OnOk result (AppendsSoFar (W.contents out.old) (W.contents out.new) (gathered.old.items ++ target_assigned_placed text.now at.now) gathered.new.items) }
-    ensures prefix { AppendsPrefix (W.contents out.old) (W.contents out.new) (gathered.old.items ++ target_assigned_placed text.now at.now) }
+    ensures whole { OnOk result (AppendsSoFar (W.contents out.old) (W.contents out.new) (gathered.old.items ++ target_assigned_located text.now at.now) gathered.new.items) }
+    ensures prefix { AppendsPrefix (W.contents out.old) (W.contents out.new) (gathered.old.items ++ target_assigned_located text.now at.now) }
     ensures works { OnOk result (W.failed out.new ≡ false) }
     ensures fault { IfErr result (λ e. (e ≡ Fault.Write) × (W.failed out.new ≡ true)) }
     ensures unflushed { W.flushes out.new ≡ W.flushes out.old }
@@ -120,7 +120,7 @@ fn put_target_assigned<W: ByteSink>(
 }
 
 // Puts an assignment up to the end of its line behind the texts that are held back. Its modifiers
-// begin at a place.
+// begin at an offset.
 fn put_assigned<W: ByteSink>(
     gathered: &mut Gathered,
     out: &mut W,
@@ -130,8 +130,8 @@ fn put_assigned<W: ByteSink>(
 ) -> Result<(), Fault>
     requires works { W.failed out.old ≡ false }
     requires within { IsAssignmentWithin (length text.now) start at.now }
-    ensures whole { OnOk result (AppendsSoFar (W.contents out.old) (W.contents out.new) (gathered.old.items ++ assigned_placed text.now start at.now) gathered.new.items) }
-    ensures prefix { AppendsPrefix (W.contents out.old) (W.contents out.new) (gathered.old.items ++ assigned_placed text.now start at.now) }
+    ensures whole { OnOk result (AppendsSoFar (W.contents out.old) (W.contents out.new) (gathered.old.items ++ assigned_located text.now start at.now) gathered.new.items) }
+    ensures prefix { AppendsPrefix (W.contents out.old) (W.contents out.new) (gathered.old.items ++ assigned_located text.now start at.now) }
     ensures works { OnOk result (W.failed out.new ≡ false) }
     ensures fault { IfErr result (λ e. (e ≡ Fault.Write) × (W.failed out.new ≡ true)) }
     ensures unflushed { W.flushes out.new ≡ W.flushes out.old }

@@ -9,7 +9,7 @@ use Rattle.mk_edit_laws.specs.Edits.{SetValue, AppendValue, AddAssign, RemoveAss
 use Rattle.mk_history.specs.Machine.{Command, Apply, Undo, Redo, Begin, End, Cancel}
 use Rattle.mk_history.specs.Shown.{shown_opened}
 use Rattle.mk_script.specs.Scripts.{CommandAt}
-use Rattle.mk_run.specs.Commands.{obeyed}
+use Rattle.mk_run.specs.ObeyedCommands.{obeyed}
 use Rattle.mk_run.specs.Runs.{RunResult, result_after}
 use Rattle.mk_run.specs.declared.outcome.Outcome.{Outcome}
 use Rattle.mk_run.specs.declared.outcome.Outcome.TheVariants.{Done, Refused}

@@ -2,9 +2,9 @@
 pub mod Report
 pub mod Outcome
 -- Runs
-pub mod Commands
+pub mod ObeyedCommands
 pub mod Runs
 pub mod RunEnds
-pub mod Steps
+pub mod RunSteps
 -- Laws
 pub mod RunLaws

@@ -6,7 +6,7 @@ use Rattle.mk_history.specs.Shown.{Shown, shown_opened}
 use Rattle.mk_session.specs.Sessions.{answer}
 use Rattle.mk_session.specs.Calls.{takes_memory}
 use Rattle.mk_script.specs.Scripts.{CommandAt, IsScript}
-use Rattle.mk_run.specs.Commands.{obeyed}
+use Rattle.mk_run.specs.ObeyedCommands.{obeyed}
 use Rattle.mk_run.specs.Runs.{RunResult, IsRun, result_after}
 use Rattle.mk_run.specs.declared.outcome.Outcome.{Outcome}
 use Rattle.mk_run.specs.declared.outcome.Outcome.TheVariants.{NoMemory, Read, Write}

@@ -5,12 +5,12 @@ use Rattle.mk_edit_laws.specs.declared.refusal.Refusal.{Refusal}
 use Rattle.mk_history.specs.Machine as machine
 use Rattle.mk_history.specs.Machine.{Command, Apply, Undo, opened, replay}
 use Rattle.mk_history.specs.Shown.{Shown, shown_opened}
-use Rattle.mk_history.specs.Steps.{Granted, Refused, NoMemory}
+use Rattle.mk_history.specs.CallSteps.{Granted, Refused, NoMemory}
 use Rattle.mk_session.specs.Sessions.{answer, edited}
 use Rattle.mk_session.specs.Calls.{Call, EditMachine, after_calls, standing}
 use Rattle.mk_session.specs.SessionLaws.{IsMade}
 use Rattle.mk_script.specs.Scripts.{CommandAt, IsScript}
-use Rattle.mk_run.specs.Commands.{obeyed}
+use Rattle.mk_run.specs.ObeyedCommands.{obeyed}
 use Rattle.mk_run.specs.Runs.{RunResult, IsRun}
 
 -- ---- a run has one result

@@ -7,7 +7,7 @@ use Rattle.mk_history.specs.Machine.{End}
 use Rattle.mk_history.specs.Shown.{Shown, shown_opened}
 use Rattle.mk_session.specs.Sessions.{IsBadDepth, answer}
 use Rattle.mk_script.specs.Scripts.{CommandAt, IsScript, HasNoCommand}
-use Rattle.mk_run.specs.Commands.{Obeyed, obeyed}
+use Rattle.mk_run.specs.ObeyedCommands.{Obeyed, obeyed}
 use Rattle.mk_run.specs.declared.outcome.Outcome as o
 use Rattle.mk_run.specs.declared.outcome.Outcome.TheVariants.{Done, Refused, NotACommand, BadDepth, TooLong, TooDeep}
 

@@ -7,7 +7,7 @@ ghost use Rattle.mk_script.specs.Scripts.{numbered};
 ghost use Rattle.mk_run.specs.Outcome.{is_printed, may_report};
 ghost use Rattle.mk_run.specs.Runs.{ended};
 ghost use Rattle.mk_run.specs.RunEnds.{IsRunOver, written};
-ghost use Rattle.mk_run.specs.Steps.{AreObeyed, GivesCommands, GivesSession, StopsCommands, StopsMakefile, StopsScript};
+ghost use Rattle.mk_run.specs.RunSteps.{AreObeyed, GivesCommands, GivesSession, StopsCommands, StopsMakefile, StopsScript};
 
 use crate::outcome::Outcome;
 use crate::report::report_refusal;

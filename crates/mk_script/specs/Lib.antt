@@ -1,7 +1,7 @@
 -- Fields, numbers and commands of a script
 pub mod Fields
 pub mod Numbers
-pub mod Commands
+pub mod CommandTable
 pub mod Lines
 -- Scripts, and laws of them
 pub mod Scripts
@@ -12,4 +12,4 @@ pub mod SeenFields
 pub mod NumberReading
 pub mod WordReading
 pub mod CommandReading
-pub mod Readings
+pub mod ReaderAnswers

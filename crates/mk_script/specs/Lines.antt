@@ -6,7 +6,7 @@ use Rattle.mk_lines.specs.Bytes.{is_blank_byte}
 use Rattle.mk_edit_laws.specs.Edits.{Edit}
 use Rattle.mk_history.specs.Machine.{Command}
 use Rattle.mk_script.specs.Fields.{HasFields}
-use Rattle.mk_script.specs.Commands.{IsCommand}
+use Rattle.mk_script.specs.CommandTable.{IsCommand}
 
 -- the lines of a script, without their line ends, which are LF or CR LF
 abbrev pub script_lines : List ℕ → List (List ℕ)

@@ -3,7 +3,7 @@ use Rattle.std.specs.Prelude.{◌≡◌, ◌⊎◌, ℕ, ◌≤◌, List, [], �
 use Rattle.mk_edit_laws.specs.Edits.{Edit, SetValue, AppendValue, AddAssign, RemoveAssign, AddRule, RemoveRule, AddPrereq, RemovePrereq, AddRecipe, SetRecipe, RemoveRecipe, RenameTarget}
 use Rattle.mk_history.specs.Machine.{Command, Apply}
 use Rattle.mk_script.specs.Fields.{quoted, HasFields}
-use Rattle.mk_script.specs.Commands.{nth_of_place}
+use Rattle.mk_script.specs.CommandTable.{nth_of_place}
 use Rattle.mk_script.specs.Lines.{HasCommand, IsSkipped}
 use Rattle.mk_script.specs.Scripts.{CommandAt, IsScript, HasNoCommand}
 

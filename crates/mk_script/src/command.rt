@@ -5,7 +5,7 @@ ghost use Rattle.mk_session.specs.CommandViews.{command_of};
 ghost use Rattle.mk_edit_parts.specs.EditViews.{edit_of};
 ghost use Rattle.mk_script.specs.SeenFields.{field_text};
 ghost use Rattle.mk_script.specs.CommandReading.{addressed_edit, command};
-ghost use Rattle.mk_script.specs.Readings.{IsRead, begins_comment, is_skipped};
+ghost use Rattle.mk_script.specs.ReaderAnswers.{IsRead, begins_comment, is_skipped};
 
 use crate::edit::read_edit;
 use crate::fault::LineFault;

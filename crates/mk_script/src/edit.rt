@@ -8,7 +8,7 @@ ghost use Rattle.mk_edit_parts.specs.EditViews.{edit_of, place_of};
 ghost use Rattle.mk_script.specs.SeenFields.{field_text};
 ghost use Rattle.mk_script.specs.CommandReading.{add_assign_after, edit, of_one, of_two, place_at_front, remove_recipe_after, rename_target_of, add_rule_after, set_recipe_after};
 ghost use Rattle.mk_script.specs.FieldReading.{three_fields, two_fields};
-ghost use Rattle.mk_script.specs.Readings.{IsFound, IsRead, place_and_rest, written_place};
+ghost use Rattle.mk_script.specs.ReaderAnswers.{IsFound, IsRead, place_and_rest, written_place};
 
 use crate::fault::{LineFault, NotThere};
 use crate::field::Field;

@@ -6,7 +6,7 @@ ghost use Rattle.mk_lines.specs.Bytes.{is_blank_byte};
 ghost use Rattle.mk_script.specs.Fields.{is_special};
 ghost use Rattle.mk_script.specs.FieldReading.{after_blanks, bare_len, blanks_before, ends_field, first_field, is_blank, one_field, quoted_field, three_fields, two_fields, until_quote};
 ghost use Rattle.mk_script.specs.SeenFields.{field_and_rest, field_text, three_texts, two_parts, two_texts};
-ghost use Rattle.mk_script.specs.Readings.{IsFound};
+ghost use Rattle.mk_script.specs.ReaderAnswers.{IsFound};
 
 use crate::fault::NotThere;
 use crate::field::Field;

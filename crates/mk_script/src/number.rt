@@ -2,7 +2,7 @@
 ghost use Rattle.std.specs.Prelude.{◌≡◌};
 ghost use Rattle.mk_script.specs.NumberReading.{number};
 ghost use Rattle.mk_script.specs.SeenFields.{field_text};
-ghost use Rattle.mk_script.specs.Readings.{IsFound};
+ghost use Rattle.mk_script.specs.ReaderAnswers.{IsFound};
 ghost use Rattle.mk_class.specs.TextClasses.{itself};
 
 use crate::fault::NotThere;

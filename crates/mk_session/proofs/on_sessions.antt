@@ -1,4 +1,4 @@
-pub mod KeptLemmas
+pub mod StoredLemmas
 pub mod StepLemmas
 pub mod CallLemmas
 pub mod AnswerLemmas

@@ -8,8 +8,8 @@ use Rattle.mk_edit_laws.specs.declared.refusal.Refusal.TheVariants as refusal
 use Rattle.mk_history.specs.Machine as machine
 use Rattle.mk_history.specs.Machine.{Command, Apply, Begin, Machine, next, text}
 use Rattle.mk_history.specs.Shown.{Shown}
-use Rattle.mk_history.specs.Steps as steps
-use Rattle.mk_history.specs.Steps.{Granted, Refused, NoMemory, IsStep}
+use Rattle.mk_history.specs.CallSteps as steps
+use Rattle.mk_history.specs.CallSteps.{Granted, Refused, NoMemory, IsStep}
 use Rattle.mk_session.specs.Sessions.{Seen, answer, edited, session_refusal}
 
 -- what a call replies: it was done, it was refused, or it found no memory

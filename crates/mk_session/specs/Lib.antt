@@ -1,8 +1,8 @@
 -- The session machine of makefiles
 pub mod Sessions
 pub mod CommandViews
--- What a session keeps
-pub mod KeptSessions
+-- What a session stores
+pub mod StoredSessions
 -- Any calls
 pub mod Calls
 pub mod SessionLaws

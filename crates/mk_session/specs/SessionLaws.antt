@@ -8,7 +8,7 @@ use Rattle.mk_edit_laws.specs.Refusals.{spans}
 use Rattle.mk_edit_laws.specs.RisingSpans.{IsReplacedAt}
 use Rattle.mk_history.specs.Machine.{Apply, Undo, opened, replay}
 use Rattle.mk_history.specs.Shown.{shown}
-use Rattle.mk_history.specs.Steps.{Granted}
+use Rattle.mk_history.specs.CallSteps.{Granted}
 use Rattle.mk_session.specs.Sessions.{Seen, seen_opened, edited}
 use Rattle.mk_session.specs.Calls.{Reply, Call, IsCall, AreCalls, after_calls, standing, costs_of}
 

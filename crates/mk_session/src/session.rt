@@ -1,7 +1,7 @@
 //! A makefile that is edited.
 ghost use Rattle.std.specs.Prelude.{◌≡◌, ◌≤◌, ◌+◌, ◌<◌, ◌↔◌, ◌^◌, Ok, Err, IfOk, IfErr, IsOkUnless, OnOk, OnErr, length, is_some, Some, None};
 ghost use Rattle.mk_tree.specs.Documents.{IsFaithful, IsFaithfulTo, IsTooDeep};
-ghost use Rattle.mk_tree.specs.PlacedLines.{placed_text};
+ghost use Rattle.mk_tree.specs.LocatedLines.{located_text};
 ghost use Rattle.mk_edit_laws.specs.Costs.{cost};
 ghost use Rattle.mk_edit_parts.specs.EditViews.{edit_of};
 ghost use Rattle.mk_history.specs.Machine.{Apply, Undo, Redo, Begin, End, Cancel};
@@ -43,14 +43,14 @@ pub struct Session<A: Allocator = Global> {
 impl<A: Allocator> Model for Session<A> {
     ghost use Rattle.std.specs.Prelude.{◌≤◌, ◌-◌};
     ghost use Rattle.mk_session.specs.Sessions.{Seen};
-    ghost use Rattle.mk_session.specs.KeptSessions.{IsKept, shown_kept};
+    ghost use Rattle.mk_session.specs.StoredSessions.{IsStored, shown_stored};
 
     ghost Value = { Seen };
 
     ghost view = { λ s.
-        record { shown = shown_kept s.history s.group s.doc; rereads = s.meter - s.opened_at } };
+        record { shown = shown_stored s.history s.group s.doc; rereads = s.meter - s.opened_at } };
 
-    ghost invariant = { λ s. IsKept s.history s.group s.doc × (s.opened_at ≤ s.meter) };
+    ghost invariant = { λ s. IsStored s.history s.group s.doc × (s.opened_at ≤ s.meter) };
 }
 
 // Refuses a depth that a session cannot have.
@@ -114,7 +114,7 @@ impl<A: Allocator + Copy> Session<A> {
     fn over(alloc: A, doc: Doc<A>, depth: u32, meter: Meter) -> Result<Session<A>, Fault>
         requires good { IsBadDepth depth → ⊥ }
         requires faithful { IsFaithful doc }
-        ensures opened { IfOk result (λ s. s ≡ seen_opened depth (placed_text doc)) }
+        ensures opened { IfOk result (λ s. s ≡ seen_opened depth (located_text doc)) }
         ensures fault { IsOkUnless result Fault.NoMemory }
     {
         let history = History::new(alloc, depth)?;

@@ -97,7 +97,10 @@ const IN_NEW_GROUP: Stage = Stage {
 
 // In a group with an edit, with nothing else to undo or redo.
 const IN_GROUP: Stage = Stage {
-    before: &[(Step::Begin, Ok(FIRST)), (Step::SetValue(b"X", b"1"), Ok(NOW))],
+    before: &[
+        (Step::Begin, Ok(FIRST)),
+        (Step::SetValue(b"X", b"1"), Ok(NOW)),
+    ],
     stays: &[
         (Step::Undo, Err(Refusal::GroupOpen)),
         (Step::Redo, Err(Refusal::GroupOpen)),
@@ -273,7 +276,11 @@ fn each_refused_growth_of_a_begin_changes_nothing(rt: HostRuntime) -> Result<(),
 
 // Edits that are refused, each with the text that it finds and the cause.
 const REFUSED_EDITS: [(&[u8], Step, Refusal); 6] = [
-    (b"foo:\nX = 1\n\tY = 2\n", Step::RemoveAssign(b"X"), Refusal::Leans),
+    (
+        b"foo:\nX = 1\n\tY = 2\n",
+        Step::RemoveAssign(b"X"),
+        Refusal::Leans,
+    ),
     (
         b"ifdef A\nCC=x\nelse\nCC=y\nendif\n",
         Step::SetValue(b"CC", b"z"),
@@ -289,8 +296,16 @@ const REFUSED_EDITS: [(&[u8], Step, Refusal); 6] = [
         Step::RenameTarget(b"all", b"include"),
         Refusal::Reserved,
     ),
-    (b"foo: |\n", Step::RemovePrereq(b"foo", b"a"), Refusal::Absent),
-    (b"a: b\nb:\n", Step::RenameTarget(b"a", b"b"), Refusal::Taken),
+    (
+        b"foo: |\n",
+        Step::RemovePrereq(b"foo", b"a"),
+        Refusal::Absent,
+    ),
+    (
+        b"a: b\nb:\n",
+        Step::RenameTarget(b"a", b"b"),
+        Refusal::Taken,
+    ),
 ];
 
 // Whether an edit is refused for its cause where every growth is refused, and meets none.

@@ -4,8 +4,8 @@ use Rattle.mk_lines.specs.LogicalLines.{logical_lines}
 use Rattle.mk_lines.specs.Cells.{Cell, joined_byte}
 use Rattle.mk_class.specs.Classes.{Class}
 use Rattle.mk_class.specs.Classes.Class.{Endef, Body, Recipe, Opaque, Blank, Comment, Assign, DefineHead, If, Else, Endif, Directive, TargetAssign, Rough, Header}
-use Rattle.mk_class.specs.Contexts.{Context, start, context_after, defines_after, context_after_places, FitsDefines, conditionals_after_places, FitsConditionals}
-use Rattle.mk_class.specs.ClassPlaces.{class_places}
+use Rattle.mk_class.specs.Contexts.{Context, start, context_after, defines_after, context_after_located, FitsDefines, conditionals_after_located, FitsConditionals}
+use Rattle.mk_class.specs.LocatedClasses.{located_class}
 use Rattle.mk_class.specs.ClassTable.{class_of}
 use Rattle.mk_class.specs.CountsOfClasses.{FitsCounts}
 use Rattle.mk_class.proofs.on_classes.ClassLemmas.{class_of-counts}
@@ -13,7 +13,7 @@ use Rattle.mk_class.specs.ClassedLines.{ClassedLine, classed, classed_lines, con
 use Rattle.mk_class.specs.declared.class.Class as class
 use Rattle.mk_class.specs.declared.class.Class.TheVariants as variants
 use Rattle.mk_class.specs.declared.context.Nesting.TheVariants.{Opens, Closes, Keeps}
-use Rattle.mk_tree.specs.PlacedLines.{PlacedLine, placed_line, placed_lines, placed_text, AreConditionalsFit, context_after_placed}
+use Rattle.mk_tree.specs.LocatedLines.{LocatedLine, located_line, located_lines, located_text, AreConditionalsFit, context_after_located_lines}
 use Rattle.mk_tree.specs.Documents.{IsFaithful}
 use Rattle.mk_tree.specs.Admissions.{AreAdmitted}
 
@@ -38,7 +38,7 @@ defines_after-few n Rough = omega arith
 defines_after-few n (Header h) = omega arith
 
 -- the class of a line fits the open defines where it stands, where they are few
-defines-fit : (n c : ℕ) (k : Class Cell) → n < 2 ^ 24 → FitsCounts n c k → FitsDefines n (class_places joined_byte k)
+defines-fit : (n c : ℕ) (k : Class Cell) → n < 2 ^ 24 → FitsCounts n c k → FitsDefines n (located_class joined_byte k)
 defines-fit n c Endef few h = omega (arith, h)
 defines-fit n c (Body Opens) few h = few
 defines-fit n c (Body Closes) few (m, e) = omega (arith, e)
@@ -58,32 +58,32 @@ defines-fit n c Rough few h = tt
 defines-fit n c (Header x) few h = tt
 
 -- the lines of a text are admitted where their conditionals fit and they are few
-admitted-classed : (c : Context) (ls : List (List ℕ)) → AreConditionalsFit c.conditionals (placed_lines (classed c ls)) → c.defines + length ls ≤ 2 ^ 24 → AreAdmitted c (placed_lines (classed c ls))
+admitted-classed : (c : Context) (ls : List (List ℕ)) → AreConditionalsFit c.conditionals (located_lines (classed c ls)) → c.defines + length ls ≤ 2 ^ 24 → AreAdmitted c (located_lines (classed c ls))
 admitted-classed c [] h few = tt
 admitted-classed c (l ∷ ls) h few =
     let k = class_of c l in
     let next = context_after c k in
-    let e : context_after_places c (class_places joined_byte k) ≡ next = refl in
-    let fits : AreConditionalsFit next.conditionals (placed_lines (classed next ls)) = subst (λ (z : Context). AreConditionalsFit z.conditionals (placed_lines (classed next ls))) e h.1 in
-    let rest : AreAdmitted next (placed_lines (classed next ls)) = admitted-classed next ls fits (omega (arith, few, defines_after-few c.defines k)) in
-    ((h.0, defines-fit c.defines c.conditionals k (omega (arith, few)) (class_of-counts c l)), subst (λ (z : Context). AreAdmitted z (placed_lines (classed next ls))) (sym e) rest)
+    let e : context_after_located c (located_class joined_byte k) ≡ next = refl in
+    let fits : AreConditionalsFit next.conditionals (located_lines (classed next ls)) = subst (λ (z : Context). AreConditionalsFit z.conditionals (located_lines (classed next ls))) e h.1 in
+    let rest : AreAdmitted next (located_lines (classed next ls)) = admitted-classed next ls fits (omega (arith, few, defines_after-few c.defines k)) in
+    ((h.0, defines-fit c.defines c.conditionals k (omega (arith, few)) (class_of-counts c l)), subst (λ (z : Context). AreAdmitted z (located_lines (classed next ls))) (sym e) rest)
 
 -- the number of lines that are shown is the number of lines
-pub length-classed : (c : Context) (ls : List (List ℕ)) → length (placed_lines (classed c ls)) ≡ length ls
+pub length-classed : (c : Context) (ls : List (List ℕ)) → length (located_lines (classed c ls)) ≡ length ls
 length-classed c [] = refl
 length-classed c (l ∷ ls) = ap suc (length-classed (context_after c (class_of c l)) ls)
 
 -- the lines of a faithful document are admitted
-pub admitted-faithful : (ls : List PlacedLine) → IsFaithful ls → AreConditionalsFit 0 ls → length ls ≤ 2 ^ 24 → AreAdmitted start ls
+pub admitted-faithful : (ls : List LocatedLine) → IsFaithful ls → AreConditionalsFit 0 ls → length ls ≤ 2 ^ 24 → AreAdmitted start ls
 admitted-faithful ls e h few =
-    let own = logical_lines (placed_text ls) in
+    let own = logical_lines (located_text ls) in
     let n : 0 + length own ≤ 2 ^ 24 = omega (arith, few, ap length e, length-classed start own) in
     subst (AreAdmitted start) (sym e) (admitted-classed start own (subst (AreConditionalsFit 0) e h) n)
 
 -- ---- open conditionals
 
 -- a line that fits leaves at most 256 open
-conditionals-within : (n : ℕ) (k : class.Class) → n ≤ 256 → FitsConditionals n k → conditionals_after_places n k ≤ 256
+conditionals-within : (n : ℕ) (k : class.Class) → n ≤ 256 → FitsConditionals n k → conditionals_after_located n k ≤ 256
 conditionals-within n variants.Endef few h = few
 conditionals-within n (variants.Body b) few h = few
 conditionals-within n variants.Recipe few h = few
@@ -101,73 +101,73 @@ conditionals-within n variants.Rough few h = few
 conditionals-within n (variants.Header x) few h = few
 
 -- lines that all fit leave at most 256 open too, after any number of them
-pub conditionals-few_after : (c : Context) (ls : List PlacedLine) (n : ℕ) → c.conditionals ≤ 256 → AreConditionalsFit c.conditionals ls → (context_after_placed c (take n ls)).conditionals ≤ 256
+pub conditionals-few_after : (c : Context) (ls : List LocatedLine) (n : ℕ) → c.conditionals ≤ 256 → AreConditionalsFit c.conditionals ls → (context_after_located_lines c (take n ls)).conditionals ≤ 256
 conditionals-few_after c ls zero few h = few
 conditionals-few_after c [] (suc n) few h = few
 conditionals-few_after c (l ∷ ls) (suc n) few h =
-    conditionals-few_after (context_after_places c l.class) ls n (conditionals-within c.conditionals l.class few h.0) h.1
+    conditionals-few_after (context_after_located c l.class) ls n (conditionals-within c.conditionals l.class few h.0) h.1
 
 -- ---- one step of a walk over lines
 
 -- the context after one more line
-pub context_after-step : (c : Context) (ls left : List PlacedLine) (x : PlacedLine) (n : ℕ) → drop n ls ≡ x ∷ left → context_after_placed c (take (n + 1) ls) ≡ context_after_places (context_after_placed c (take n ls)) x.class
+pub context_after-step : (c : Context) (ls left : List LocatedLine) (x : LocatedLine) (n : ℕ) → drop n ls ≡ x ∷ left → context_after_located_lines c (take (n + 1) ls) ≡ context_after_located (context_after_located_lines c (take n ls)) x.class
 context_after-step c [] left x zero e = cc
 context_after-step c [] left x (suc n) e = cc
-context_after-step c (l ∷ ls) left x zero e = let same : l ≡ x = cc in ap (λ (z : PlacedLine). context_after_places c z.class) same
-context_after-step c (l ∷ ls) left x (suc n) e = rw (suc-add n 1) (context_after-step (context_after_places c l.class) ls left x n e)
+context_after-step c (l ∷ ls) left x zero e = let same : l ≡ x = cc in ap (λ (z : LocatedLine). context_after_located c z.class) same
+context_after-step c (l ∷ ls) left x (suc n) e = rw (suc-add n 1) (context_after-step (context_after_located c l.class) ls left x n e)
 
 -- the lines that are left after one more line
-drop-step : (ls left : List PlacedLine) (x : PlacedLine) (n : ℕ) → drop n ls ≡ x ∷ left → drop (n + 1) ls ≡ left
+drop-step : (ls left : List LocatedLine) (x : LocatedLine) (n : ℕ) → drop n ls ≡ x ∷ left → drop (n + 1) ls ≡ left
 drop-step [] left x zero e = cc
 drop-step [] left x (suc n) e = cc
 drop-step (l ∷ ls) left x zero e = cc
 drop-step (l ∷ ls) left x (suc n) e = rw (suc-add n 1) (drop-step ls left x n e)
 
 -- while lines are left, a walk is not at its end
-pub drop-none : (ls : List PlacedLine) (n : ℕ) → n < length ls → drop n ls ≡ [] → ⊥
+pub drop-none : (ls : List LocatedLine) (n : ℕ) → n < length ls → drop n ls ≡ [] → ⊥
 drop-none [] n h e = omega (arith, h)
 drop-none (l ∷ ls) zero h e = cc
 drop-none (l ∷ ls) (suc n) h e = drop-none ls n (omega (arith, h)) e
 
 -- one line passed
-pub walk-step : (ls ahead left : List PlacedLine) (x : PlacedLine) (n : ℕ) (c next : Context) (k : class.Class) → drop n ls ≡ ahead → ahead ≡ x ∷ left → c ≡ context_after_placed start (take n ls) → AreAdmitted c ahead
-    → k ≡ x.class → next ≡ context_after_places c k → (drop (n + 1) ls ≡ left) × (next ≡ context_after_placed start (take (n + 1) ls)) × AreAdmitted next left
+pub walk-step : (ls ahead left : List LocatedLine) (x : LocatedLine) (n : ℕ) (c next : Context) (k : class.Class) → drop n ls ≡ ahead → ahead ≡ x ∷ left → c ≡ context_after_located_lines start (take n ls) → AreAdmitted c ahead
+    → k ≡ x.class → next ≡ context_after_located c k → (drop (n + 1) ls ≡ left) × (next ≡ context_after_located_lines start (take (n + 1) ls)) × AreAdmitted next left
 walk-step ls ahead left x n c next k at e here fits same step =
     let d : drop n ls ≡ x ∷ left = at ∙ e in
-    let s : next ≡ context_after_places c x.class = step ∙ ap (context_after_places c) same in
+    let s : next ≡ context_after_located c x.class = step ∙ ap (context_after_located c) same in
     let all : AreAdmitted c (x ∷ left) = subst (AreAdmitted c) e fits in (
       drop-step ls left x n d,
-      s ∙ (ap (λ z. context_after_places z x.class) here ∙ sym (context_after-step start ls left x n d)),
+      s ∙ (ap (λ z. context_after_located z x.class) here ∙ sym (context_after-step start ls left x n d)),
       subst (λ z. AreAdmitted z left) (sym s) all.1,
     )
 
 -- ---- the context of the definitions
 
-context_after_placed-lines : (c : Context) (ls : List ClassedLine) → context_after_placed c (placed_lines ls) ≡ context_after_lines c ls
-context_after_placed-lines c [] = refl
-context_after_placed-lines c (l ∷ ls) =
-    context_after_placed-lines (context_after c l.class) ls
+context_after_located_lines-lines : (c : Context) (ls : List ClassedLine) → context_after_located_lines c (located_lines ls) ≡ context_after_lines c ls
+context_after_located_lines-lines c [] = refl
+context_after_located_lines-lines c (l ∷ ls) =
+    context_after_located_lines-lines (context_after c l.class) ls
 
-placed_lines-take : (n : ℕ) (ls : List ClassedLine) → take n (placed_lines ls) ≡ placed_lines (take n ls)
-placed_lines-take zero ls = refl
-placed_lines-take (suc n) [] = refl
-placed_lines-take (suc n) (l ∷ ls) = ap (λ z. placed_line l ∷ z) (placed_lines-take n ls)
+located_lines-take : (n : ℕ) (ls : List ClassedLine) → take n (located_lines ls) ≡ located_lines (take n ls)
+located_lines-take zero ls = refl
+located_lines-take (suc n) [] = refl
+located_lines-take (suc n) (l ∷ ls) = ap (λ z. located_line l ∷ z) (located_lines-take n ls)
 
 -- the context after some lines of a faithful document
-pub context-faithful : (ls : List PlacedLine) (n : ℕ) → IsFaithful ls → context_after_placed start (take n ls) ≡ context_after_lines start (take n (classed_lines (placed_text ls)))
+pub context-faithful : (ls : List LocatedLine) (n : ℕ) → IsFaithful ls → context_after_located_lines start (take n ls) ≡ context_after_lines start (take n (classed_lines (located_text ls)))
 context-faithful ls n e =
-    let own = classed_lines (placed_text ls) in
-    ap (λ z. context_after_placed start (take n z)) e ∙ (ap (context_after_placed start) (placed_lines-take n own) ∙ context_after_placed-lines start (take n own))
+    let own = classed_lines (located_text ls) in
+    ap (λ z. context_after_located_lines start (take n z)) e ∙ (ap (context_after_located_lines start) (located_lines-take n own) ∙ context_after_located_lines-lines start (take n own))
 
 -- the context after all of them
-pub context-faithful_end : (ls : List PlacedLine) → IsFaithful ls → context_after_placed start ls ≡ context_after_lines start (classed_lines (placed_text ls))
-context-faithful_end ls e = ap (context_after_placed start) e ∙ context_after_placed-lines start (classed_lines (placed_text ls))
+pub context-faithful_end : (ls : List LocatedLine) → IsFaithful ls → context_after_located_lines start ls ≡ context_after_lines start (classed_lines (located_text ls))
+context-faithful_end ls e = ap (context_after_located_lines start) e ∙ context_after_located_lines-lines start (classed_lines (located_text ls))
 
-take-whole : (ls : List PlacedLine) → take (length ls) ls ≡ ls
+take-whole : (ls : List LocatedLine) → take (length ls) ls ≡ ls
 take-whole [] = refl
 take-whole (l ∷ ls) = ap (λ z. l ∷ z) (take-whole ls)
 
 -- the context after all lines
-pub context-whole : (ls self : List PlacedLine) (n : ℕ) (c : Context) → n ≡ length ls → ls ≡ self → c ≡ context_after_placed start (take n ls) → c ≡ context_after_placed start self
+pub context-whole : (ls self : List LocatedLine) (n : ℕ) (c : Context) → n ≡ length ls → ls ≡ self → c ≡ context_after_located_lines start (take n ls) → c ≡ context_after_located_lines start self
 context-whole ls self n c count same here =
-    here ∙ (ap (λ z. context_after_placed start (take z ls)) count ∙ (ap (context_after_placed start) (take-whole ls) ∙ ap (context_after_placed start) same))
+    here ∙ (ap (λ z. context_after_located_lines start (take z ls)) count ∙ (ap (context_after_located_lines start) (take-whole ls) ∙ ap (context_after_located_lines start) same))

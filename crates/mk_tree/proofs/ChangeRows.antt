@@ -4,9 +4,9 @@ use Rattle.std.specs.Prelude.{codes}
 use Rattle.mk_lines.specs.PhysicalLines.{file_line_end}
 use Rattle.mk_class.specs.RecipePrefix.{tab}
 use Rattle.mk_class.specs.ClassedLines.{ClassedLine, classed_lines}
-use Rattle.mk_class.specs.declared.context.Flag.TheVariants.{Off, Rule, Unknown}
+use Rattle.mk_class.specs.declared.context.RuleFlag.TheVariants.{Off, Rule, Unknown}
 use Rattle.mk_tree.specs.Leaning.{leans}
-use Rattle.mk_tree.specs.NewLines.{above_ended, missing_line_end}
+use Rattle.mk_tree.specs.NewLineEnds.{above_ended, missing_line_end}
 
 -- the texts of some lines
 abbrev texts : List ClassedLine → List (List ℕ)

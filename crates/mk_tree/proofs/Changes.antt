@@ -1,13 +1,13 @@
 -- Lines put in, taken out or replaced: the bytes, and the open conditionals.
 use Rattle.std.proofs.Common.{◌≡◌, ℕ, zero, suc, ◌+◌, ◌<◌, false, refl, arith, List, [], ◌∷◌, ◌++◌, length, take, drop, suc-add}
 use Rattle.std.specs.Prelude.{slice_get, IfSome}
-use Rattle.mk_class.specs.Contexts.{conditionals_after_places, FitsConditionals}
+use Rattle.mk_class.specs.Contexts.{conditionals_after_located, FitsConditionals}
 use Rattle.mk_class.specs.declared.class.Class.{Class}
 use Rattle.mk_class.specs.declared.class.Class.TheVariants.{Endef, Body, Recipe, Opaque, Blank, Comment, Assign, DefineHead, If, Else, Endif, Directive, TargetAssign, Rough, Header}
-use Rattle.mk_tree.specs.PlacedLines.{PlacedLine, size_of, size_of_line, is_conditional_places, AreConditionalsFit}
+use Rattle.mk_tree.specs.LocatedLines.{LocatedLine, size_of, size_of_line, is_conditional_located, AreConditionalsFit}
 
 -- a line of no conditional leaves the number of open ones
-conditionals-left : (n : ℕ) (k : Class) → is_conditional_places k ≡ false → conditionals_after_places n k ≡ n
+conditionals-left : (n : ℕ) (k : Class) → is_conditional_located k ≡ false → conditionals_after_located n k ≡ n
 conditionals-left n Endef h = refl
 conditionals-left n (Body b) h = refl
 conditionals-left n Recipe h = refl
@@ -25,7 +25,7 @@ conditionals-left n Rough h = refl
 conditionals-left n (Header x) h = refl
 
 -- a line of no conditional fits each number
-conditionals-fit : (n : ℕ) (k : Class) → is_conditional_places k ≡ false → FitsConditionals n k
+conditionals-fit : (n : ℕ) (k : Class) → is_conditional_located k ≡ false → FitsConditionals n k
 conditionals-fit n Endef h = tt
 conditionals-fit n (Body b) h = tt
 conditionals-fit n Recipe h = tt
@@ -44,51 +44,51 @@ conditionals-fit n (Header x) h = tt
 
 -- ---- one line put in
 
-fit-before : (n : ℕ) (x : PlacedLine) (ls : List PlacedLine) → is_conditional_places x.class ≡ false → AreConditionalsFit n ls → AreConditionalsFit n (x ∷ ls)
+fit-before : (n : ℕ) (x : LocatedLine) (ls : List LocatedLine) → is_conditional_located x.class ≡ false → AreConditionalsFit n ls → AreConditionalsFit n (x ∷ ls)
 fit-before n x ls p h = (conditionals-fit n x.class p, rw (conditionals-left n x.class p) h)
 
-fit-insert : (n : ℕ) (x : PlacedLine) (ls : List PlacedLine) (at : ℕ) → is_conditional_places x.class ≡ false → AreConditionalsFit n ls → AreConditionalsFit n (take at ls ++ x ∷ drop at ls)
+fit-insert : (n : ℕ) (x : LocatedLine) (ls : List LocatedLine) (at : ℕ) → is_conditional_located x.class ≡ false → AreConditionalsFit n ls → AreConditionalsFit n (take at ls ++ x ∷ drop at ls)
 fit-insert n x ls zero p h = fit-before n x ls p h
 fit-insert n x [] (suc at) p h = fit-before n x [] p h
-fit-insert n x (l ∷ ls) (suc at) p h = (h.0, fit-insert (conditionals_after_places n l.class) x ls at p h.1)
+fit-insert n x (l ∷ ls) (suc at) p h = (h.0, fit-insert (conditionals_after_located n l.class) x ls at p h.1)
 
 -- ---- one line taken out
 
-fit-after : (n : ℕ) (l : PlacedLine) (ls : List PlacedLine) → is_conditional_places l.class ≡ false → AreConditionalsFit n (l ∷ ls) → AreConditionalsFit n ls
+fit-after : (n : ℕ) (l : LocatedLine) (ls : List LocatedLine) → is_conditional_located l.class ≡ false → AreConditionalsFit n (l ∷ ls) → AreConditionalsFit n ls
 fit-after n l ls p h = rw (conditionals-left n l.class p) at h.1
 
-fit-remove : (n : ℕ) (ls : List PlacedLine) (at : ℕ) → IfSome (slice_get ls at) (λ l. is_conditional_places l.class ≡ false) → AreConditionalsFit n ls → AreConditionalsFit n (take at ls ++ drop (at + 1) ls)
+fit-remove : (n : ℕ) (ls : List LocatedLine) (at : ℕ) → IfSome (slice_get ls at) (λ l. is_conditional_located l.class ≡ false) → AreConditionalsFit n ls → AreConditionalsFit n (take at ls ++ drop (at + 1) ls)
 fit-remove n [] zero p h = tt
 fit-remove n [] (suc at) p h = rw (suc-add at 1) tt
 fit-remove n (l ∷ ls) zero p h = fit-after n l ls p h
-fit-remove n (l ∷ ls) (suc at) p h = (h.0, rw (suc-add at 1) (fit-remove (conditionals_after_places n l.class) ls at p h.1))
+fit-remove n (l ∷ ls) (suc at) p h = (h.0, rw (suc-add at 1) (fit-remove (conditionals_after_located n l.class) ls at p h.1))
 
 -- ---- one line for another
 
-fit-replace : (n : ℕ) (x : PlacedLine) (ls : List PlacedLine) (at : ℕ) → IfSome (slice_get ls at) (λ l. is_conditional_places l.class ≡ false) → is_conditional_places x.class ≡ false
+fit-replace : (n : ℕ) (x : LocatedLine) (ls : List LocatedLine) (at : ℕ) → IfSome (slice_get ls at) (λ l. is_conditional_located l.class ≡ false) → is_conditional_located x.class ≡ false
     → AreConditionalsFit n ls → AreConditionalsFit n (take at ls ++ x ∷ drop (at + 1) ls)
 fit-replace n x [] zero p q h = fit-before n x [] q h
 fit-replace n x [] (suc at) p q h = rw (suc-add at 1) (fit-before n x [] q h)
 fit-replace n x (l ∷ ls) zero p q h = fit-before n x ls q (fit-after n l ls p h)
-fit-replace n x (l ∷ ls) (suc at) p q h = (h.0, rw (suc-add at 1) (fit-replace (conditionals_after_places n l.class) x ls at p q h.1))
+fit-replace n x (l ∷ ls) (suc at) p q h = (h.0, rw (suc-add at 1) (fit-replace (conditionals_after_located n l.class) x ls at p q h.1))
 
-pub size_of-replace : (x : PlacedLine) (ls : List PlacedLine) (at : ℕ) → at < length ls → size_of (take at ls ++ x ∷ drop (at + 1) ls) + size_of_line (slice_get ls at) ≡ size_of ls + length x.bytes
+pub size_of-replace : (x : LocatedLine) (ls : List LocatedLine) (at : ℕ) → at < length ls → size_of (take at ls ++ x ∷ drop (at + 1) ls) + size_of_line (slice_get ls at) ≡ size_of ls + length x.bytes
 size_of-replace x [] at h = absurd (omega (arith, h))
 size_of-replace x (l ∷ ls) zero h = omega arith
 size_of-replace x (l ∷ ls) (suc at) h = rw (suc-add at 1) (omega (arith, size_of-replace x ls at (omega (arith, h))))
 
 -- ---- the same, through what each step leaves
 
-pub fit-insert_steps : (x : PlacedLine) (inside taken new : List PlacedLine) (at : ℕ) → taken ≡ inside → is_conditional_places x.class ≡ false → AreConditionalsFit 0 inside
+pub fit-insert_steps : (x : LocatedLine) (inside taken new : List LocatedLine) (at : ℕ) → taken ≡ inside → is_conditional_located x.class ≡ false → AreConditionalsFit 0 inside
     → new ≡ take at taken ++ x ∷ drop at taken → AreConditionalsFit 0 new
 fit-insert_steps x inside taken new at e p h r = rw (r, e) (fit-insert 0 x inside at p h)
 
-pub fit-remove_steps : (inside taken self new : List PlacedLine) (at : ℕ) → taken ≡ inside → inside ≡ self → IfSome (slice_get self at) (λ l. is_conditional_places l.class ≡ false) → AreConditionalsFit 0 inside
+pub fit-remove_steps : (inside taken self new : List LocatedLine) (at : ℕ) → taken ≡ inside → inside ≡ self → IfSome (slice_get self at) (λ l. is_conditional_located l.class ≡ false) → AreConditionalsFit 0 inside
     → new ≡ take at taken ++ drop (at + 1) taken → AreConditionalsFit 0 new
 fit-remove_steps inside taken self new at e v p h r = rw (r, e) (fit-remove 0 inside at (rw v p) h)
 
-pub fit-replace_steps : (x : PlacedLine) (inside taken self new : List PlacedLine) (at : ℕ) → taken ≡ inside → inside ≡ self → IfSome (slice_get self at) (λ l. is_conditional_places l.class ≡ false)
-    → is_conditional_places x.class ≡ false → AreConditionalsFit 0 inside → new ≡ take at taken ++ x ∷ drop (at + 1) taken → AreConditionalsFit 0 new
+pub fit-replace_steps : (x : LocatedLine) (inside taken self new : List LocatedLine) (at : ℕ) → taken ≡ inside → inside ≡ self → IfSome (slice_get self at) (λ l. is_conditional_located l.class ≡ false)
+    → is_conditional_located x.class ≡ false → AreConditionalsFit 0 inside → new ≡ take at taken ++ x ∷ drop (at + 1) taken → AreConditionalsFit 0 new
 fit-replace_steps x inside taken self new at e v p q h r = rw (r, e) (fit-replace 0 x inside at (rw v p) q h)
 
 -- the bytes of a document with one line for another

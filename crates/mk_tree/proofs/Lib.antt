@@ -9,7 +9,7 @@ pub mod Ends
 pub mod Heights
 pub mod Lowness
 pub mod Nodes
-pub mod Places
+pub mod Indices
 pub mod Prefixes
 pub mod Reading
 pub mod WalkLemmas

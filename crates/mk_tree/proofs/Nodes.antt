@@ -1,16 +1,16 @@
 -- A line put between two trees: what its counts say.
 use Rattle.std.proofs.Common.{◌≡◌, ℕ, ◌+◌, ◌≤◌, ◌<◌, ◌^◌, max, arith, List, ◌∷◌, ◌++◌, length, length-append, refl, subst}
-use Rattle.mk_tree.specs.PlacedLines.{PlacedLine, size_of}
+use Rattle.mk_tree.specs.LocatedLines.{LocatedLine, size_of}
 use Rattle.mk_tree.specs.Trees.{DifferByAtMost, AreFew, IsNode, IsBalanced, IsTop, IsUnlinked, fewest_lines, lines_and_height}
 use Rattle.mk_tree.specs.declared.tree.Counts.{Counts}
 use Rattle.mk_tree.specs.declared.tree.Line.{Line}
 use Rattle.mk_tree.specs.declared.tree.Link.{Link}
 use Rattle.mk_tree.specs.declared.tree.Link.TheVariants.{Empty, Full}
 use Rattle.mk_tree.proofs.Heights.{fewest_lines-join, fewest_lines-low}
-use Rattle.mk_tree.proofs.Places.{size_of-append, size_of-whole}
+use Rattle.mk_tree.proofs.Indices.{size_of-append, size_of-whole}
 
 -- what a line between two trees of almost the same height counts
-pub node-join : (l r : List PlacedLine × ℕ) (x : PlacedLine) (higher own lines_left lines_right bytes_left bytes_right : ℕ) → DifferByAtMost 1 l.1 r.1 → AreFew l.0 l.1 → AreFew r.0 r.1 → 0 < length x.bytes
+pub node-join : (l r : List LocatedLine × ℕ) (x : LocatedLine) (higher own lines_left lines_right bytes_left bytes_right : ℕ) → DifferByAtMost 1 l.1 r.1 → AreFew l.0 l.1 → AreFew r.0 r.1 → 0 < length x.bytes
     → size_of l.0 + length x.bytes + size_of r.0 ≤ 2 ^ 24 → higher ≡ max l.1 r.1 → own ≡ length x.bytes → lines_left ≡ length l.0 → lines_right ≡ length r.0 → bytes_left ≡ size_of l.0 → bytes_right ≡ size_of r.0
     → IsNode l x r (record { height = higher + 1; lines = lines_left + 1 + lines_right; bytes = bytes_left + own + bytes_right })
 node-join l r x higher own lines_left lines_right bytes_left bytes_right near a b some fits h o m n p q =
@@ -34,11 +34,11 @@ node-join l r x higher own lines_left lines_right bytes_left bytes_right near a 
     }
 
 -- what a node of a tree says of the tree
-unlinked-of_node : (l r : List PlacedLine × ℕ) (x : PlacedLine) (counts : Counts) → IsNode l x r counts → IsUnlinked (l.0 ++ x ∷ r.0, counts.height) l x r
+unlinked-of_node : (l r : List LocatedLine × ℕ) (x : LocatedLine) (counts : Counts) → IsNode l x r counts → IsUnlinked (l.0 ++ x ∷ r.0, counts.height) l x r
 unlinked-of_node l r x counts h = record { lines = refl; size = size_of-whole l.0 r.0 x; height = h.height_is; balanced = h.balanced; few = h.few }
 
 -- the top of a tree, with what stands before and after it
-pub top-of_link : {A : _} (link : Link A) (counts : Counts) (l : Line A) (whole : List PlacedLine × ℕ) → link ≡ Full counts l → IsBalanced link → lines_and_height link ≡ whole → IsTop whole l
+pub top-of_link : {A : _} (link : Link A) (counts : Counts) (l : Line A) (whole : List LocatedLine × ℕ) → link ≡ Full counts l → IsBalanced link → lines_and_height link ≡ whole → IsTop whole l
 top-of_link Empty counts l whole e h v = cc
 top-of_link (Full c x) counts l whole e h v =
     let same : x ≡ l = cc in

@@ -6,7 +6,7 @@ use Rattle.std.proofs.KnownBytes.{Appends-nil, Appends-trans}
 use Rattle.std.proofs.Math.Seq.{take-append_seam}
 use Rattle.mk_lines.specs.Device.{AppendsPrefix}
 use Rattle.mk_lines.proofs.PrefixLemmas.{AppendsPrefix-more}
-use Rattle.mk_tree.specs.PlacedLines.{PlacedLine, placed_text}
+use Rattle.mk_tree.specs.LocatedLines.{LocatedLine, located_text}
 use Rattle.mk_tree.specs.Printing.{AppendsSoFar}
 
 -- the whole is a prefix
@@ -52,10 +52,10 @@ gather-prefix a b c held out more f first then = AppendsPrefix-more a b c held m
 -- ---- a line of a document
 
 -- one line more is out or held back
-pub line-step : (front bytes whole : List ℕ) (x : PlacedLine) (ahead left : List PlacedLine) → ahead ≡ x ∷ left → bytes ≡ x.bytes → front ++ placed_text ahead ≡ whole → (front ++ bytes) ++ placed_text left ≡ whole
+pub line-step : (front bytes whole : List ℕ) (x : LocatedLine) (ahead left : List LocatedLine) → ahead ≡ x ∷ left → bytes ≡ x.bytes → front ++ located_text ahead ≡ whole → (front ++ bytes) ++ located_text left ≡ whole
 line-step front bytes whole x ahead left e f h =
-    append_assoc front bytes (placed_text left) ∙ (ap (λ z. front ++ (z ++ placed_text left)) f ∙ (ap (λ z. front ++ placed_text z) (sym e) ∙ h))
+    append_assoc front bytes (located_text left) ∙ (ap (λ z. front ++ (z ++ located_text left)) f ∙ (ap (λ z. front ++ located_text z) (sym e) ∙ h))
 
 -- no line is left, so everything is out or held back
-pub line-end : (front whole : List ℕ) (ahead : List PlacedLine) → ahead ≡ [] → front ++ placed_text ahead ≡ whole → front ≡ whole
-line-end front whole ahead e h = sym (append-nil front) ∙ (ap (λ z. front ++ placed_text z) (sym e) ∙ h)
+pub line-end : (front whole : List ℕ) (ahead : List LocatedLine) → ahead ≡ [] → front ++ located_text ahead ≡ whole → front ≡ whole
+line-end front whole ahead e h = sym (append-nil front) ∙ (ap (λ z. front ++ located_text z) (sym e) ∙ h)

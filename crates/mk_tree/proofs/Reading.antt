@@ -10,23 +10,23 @@ use Rattle.mk_lines.specs.declared.split.Span.{Span}
 use Rattle.mk_lines.specs.Cells.{Cell, joined_byte}
 use Rattle.mk_class.specs.Classes.{Class}
 use Rattle.mk_class.specs.Classes.Class.{Endef, Body, Recipe, Opaque, Blank, Comment, Assign, DefineHead, If, Else, Endif, Directive, TargetAssign, Rough, Header}
-use Rattle.mk_class.specs.Contexts.{Context, start, context_after, conditionals_after, context_after_places, FitsConditionals}
-use Rattle.mk_class.specs.ClassPlaces.{class_places}
+use Rattle.mk_class.specs.Contexts.{Context, start, context_after, conditionals_after, context_after_located, FitsConditionals}
+use Rattle.mk_class.specs.LocatedClasses.{located_class}
 use Rattle.mk_class.specs.ClassTable.{class_of}
 use Rattle.mk_class.specs.CountsOfClasses.{FitsCounts}
 use Rattle.mk_class.proofs.on_classes.ClassLemmas.{class_of-counts}
 use Rattle.mk_class.specs.ClassedLines.{ClassedLine, classed}
-use Rattle.mk_class.specs.LineReads.{IsRead}
+use Rattle.mk_class.specs.LineReads.{IsLineRead}
 use Rattle.mk_class.specs.LineReads as line_reads
-use Rattle.mk_tree.specs.PlacedLines.{PlacedLine, placed_lines, size_of, AreConditionalsFit}
+use Rattle.mk_tree.specs.LocatedLines.{LocatedLine, located_lines, size_of, AreConditionalsFit}
 use Rattle.mk_tree.proofs.on_documents.DocumentLemmas.{faithful-text}
 use Rattle.mk_tree.specs.Documents.{document_lines, most_conditionals, IsTooDeep}
 use Rattle.mk_lines.specs.declared.fault.Fault.{Fault}
 use Rattle.mk_lines.specs.declared.fault.Fault.TheVariants.{NoMemory, TooLong, TooDeep, BadDepth, Read, Write}
 use Rattle.mk_tree.specs.Faults.{IsReadingFault}
-use Rattle.mk_tree.specs.Unread.{UnreadLines, shown, AreTooDeep, AreReadFrom, AreUnread, AreSingle, texts_at}
+use Rattle.mk_tree.specs.Unread.{UnreadLines, shown_lines, AreTooDeep, AreReadFrom, AreUnread, AreSingle, texts_at}
 use Rattle.mk_tree.proofs.AdmissionLemmas.{length-classed}
-use Rattle.mk_tree.proofs.Places.{size_of-append, size_of-whole}
+use Rattle.mk_tree.proofs.Indices.{size_of-append, size_of-whole}
 use Rattle.mk_tree.proofs.on_changes.Sizes.{size_of-text}
 
 -- ---- spans
@@ -87,7 +87,7 @@ most_conditionals-self n [] = omega arith
 most_conditionals-self n (l ∷ ls) = omega arith
 
 -- a line that does not open one too many fits
-conditionals-fit : (n m : ℕ) (k : Class Cell) → FitsCounts m n k → (k ≡ If → n < 256) → FitsConditionals n (class_places joined_byte k)
+conditionals-fit : (n m : ℕ) (k : Class Cell) → FitsCounts m n k → (k ≡ If → n < 256) → FitsConditionals n (located_class joined_byte k)
 conditionals-fit n m Endef h p = tt
 conditionals-fit n m (Body b) h p = tt
 conditionals-fit n m Recipe h p = tt
@@ -111,49 +111,49 @@ opens-deep n k rest h = subst (λ z. 256 < most_conditionals (conditionals_after
 -- ---- one more line read
 
 -- lines of the same bytes and class are the same
-placed-same : (l k : PlacedLine) → l.bytes ≡ k.bytes → l.class ≡ k.class → l ≡ k
-placed-same l k b c = ap (λ z. record { bytes = z; class = l.class }) b ∙ ap (λ z. record { bytes = k.bytes; class = z }) c
+located-same : (l k : LocatedLine) → l.bytes ≡ k.bytes → l.class ≡ k.class → l ≡ k
+located-same l k b c = ap (λ z. record { bytes = z; class = l.class }) b ∙ ap (λ z. record { bytes = k.bytes; class = z }) c
 
-pub read-first : (c after : Context) (l : List ℕ) (rest : List (List ℕ)) (x : PlacedLine) → x.bytes ≡ l → IsRead c l x.class after
+pub read-first : (c after : Context) (l : List ℕ) (rest : List (List ℕ)) (x : LocatedLine) → x.bytes ≡ l → IsLineRead c l x.class after
     → AreReadFrom (record { context = c; lines = l ∷ rest }) (x ∷ []) (record { context = after; lines = rest })
 read-first c after l rest x b (v, e, few) =
     let k = class_of c l in
-    let here : PlacedLine = record { bytes = l; class = class_places joined_byte k } in
+    let here : LocatedLine = record { bytes = l; class = located_class joined_byte k } in
     let next = context_after c k in
-    let placed : context_after_places c (class_places joined_byte k) ≡ next = refl in
+    let located : context_after_located c (located_class joined_byte k) ≡ next = refl in
     let read : AreReadFrom (record { context = c; lines = l ∷ rest }) (x ∷ []) (record { context = next; lines = rest }) = record {
-      all = ap (λ z. z ∷ placed_lines (classed next rest)) (placed-same x here b v);
-      fit = λ h. (conditionals-fit c.conditionals c.defines k (class_of-counts c l) few, subst (λ (z : Context). AreConditionalsFit z.conditionals (placed_lines (classed next rest))) (sym placed) h);
+      all = ap (λ z. z ∷ located_lines (classed next rest)) (located-same x here b v);
+      fit = λ h. (conditionals-fit c.conditionals c.defines k (class_of-counts c l) few, subst (λ (z : Context). AreConditionalsFit z.conditionals (located_lines (classed next rest))) (sym located) h);
       deep = λ h. omega (arith, h);
     } in
     subst (λ z. AreReadFrom (record { context = c; lines = l ∷ rest }) (x ∷ []) (record { context = z; lines = rest })) (sym e) read
 
 -- a line that opens a conditional too many
-pub first-deep : (c : Context) (l : List ℕ) (rest : List (List ℕ)) → line_reads.IsTooDeep c l → AreTooDeep (record { context = c; lines = l ∷ rest })
+pub first-deep : (c : Context) (l : List ℕ) (rest : List (List ℕ)) → line_reads.OpensTooDeep c l → AreTooDeep (record { context = c; lines = l ∷ rest })
 first-deep c l rest h =
     omega (arith, opens-deep c.conditionals (class_of c l) (classed (context_after c (class_of c l)) rest) h)
 
 -- some lines were read, then one line, and then others
-pub read-joined : (first second third last : UnreadLines) (left right : List PlacedLine) (x : PlacedLine) → AreReadFrom first left second → AreReadFrom second (x ∷ []) third → AreReadFrom third right last
+pub read-joined : (first second third last : UnreadLines) (left right : List LocatedLine) (x : LocatedLine) → AreReadFrom first left second → AreReadFrom second (x ∷ []) third → AreReadFrom third right last
     → AreReadFrom first (left ++ x ∷ right) last
 read-joined first second third last left right x a b d = record {
-  all = append_assoc left (x ∷ right) (shown last) ∙ (ap (λ z. left ++ x ∷ z) d.all ∙ (ap (λ z. left ++ z) b.all ∙ a.all));
+  all = append_assoc left (x ∷ right) (shown_lines last) ∙ (ap (λ z. left ++ x ∷ z) d.all ∙ (ap (λ z. left ++ z) b.all ∙ a.all));
   fit = λ h. a.fit (b.fit (d.fit h));
   deep = λ h. a.deep (b.deep (d.deep h));
 }
 
 -- the lines that are left have at most as many bytes as all lines
-pub left-fits : (old left : UnreadLines) (read : List PlacedLine) → AreReadFrom old read left → size_of (shown old) ≤ 2 ^ 24 → size_of (shown left) ≤ 2 ^ 24
-left-fits old left read h few = omega (arith, ap size_of h.all, size_of-append read (shown left), few)
+pub left-fits : (old left : UnreadLines) (read : List LocatedLine) → AreReadFrom old read left → size_of (shown_lines old) ≤ 2 ^ 24 → size_of (shown_lines left) ≤ 2 ^ 24
+left-fits old left read h few = omega (arith, ap size_of h.all, size_of-append read (shown_lines left), few)
 
 -- a line that is read and the lines on both sides of it have together at most as many bytes as all lines
-pub sides-fit : (old left : UnreadLines) (before after : List PlacedLine) (x : PlacedLine) → AreReadFrom old (before ++ x ∷ after) left → size_of (shown old) ≤ 2 ^ 24
+pub sides-fit : (old left : UnreadLines) (before after : List LocatedLine) (x : LocatedLine) → AreReadFrom old (before ++ x ∷ after) left → size_of (shown_lines old) ≤ 2 ^ 24
     → size_of before + length x.bytes + size_of after ≤ 2 ^ 24
 sides-fit old left before after x h few =
-    omega (arith, ap size_of h.all, size_of-append (before ++ x ∷ after) (shown left), size_of-whole before after x, few)
+    omega (arith, ap size_of h.all, size_of-append (before ++ x ∷ after) (shown_lines left), size_of-whole before after x, few)
 
 -- all lines are read
-pub read-all : (text : List ℕ) (old left : UnreadLines) (read : List PlacedLine) → old ≡ record { context = start; lines = logical_lines text } → AreReadFrom old read left
+pub read-all : (text : List ℕ) (old left : UnreadLines) (read : List LocatedLine) → old ≡ record { context = start; lines = logical_lines text } → AreReadFrom old read left
     → length old.lines ≡ length left.lines + length old.lines → (read ≡ document_lines text) × AreConditionalsFit 0 (document_lines text)
 read-all text old left read e h n = go left.lines refl
   where
@@ -162,14 +162,14 @@ read-all text old left read e h n = go left.lines refl
 
     go : (ls : List (List ℕ)) → left.lines ≡ ls → (read ≡ document_lines text) × AreConditionalsFit 0 (document_lines text)
     go [] none =
-        let empty : shown left ≡ [] = ap (λ z. placed_lines (classed left.context z)) none in (
+        let empty : shown_lines left ≡ [] = ap (λ z. located_lines (classed left.context z)) none in (
           sym (append-nil read) ∙ (ap (λ z. read ++ z) (sym empty) ∙ whole.all),
           whole.fit (subst (AreConditionalsFit left.context.conditionals) (sym empty) tt),
         )
     go (l ∷ ls) some = absurd (omega (arith, n, ap length some))
 
 -- as many lines were counted as there are
-pub all-counted : (text : List ℕ) (old left : UnreadLines) (read : List PlacedLine) → old ≡ record { context = start; lines = logical_lines text } → AreReadFrom old read left
+pub all-counted : (text : List ℕ) (old left : UnreadLines) (read : List LocatedLine) → old ≡ record { context = start; lines = logical_lines text } → AreReadFrom old read left
     → length old.lines ≡ length left.lines + length old.lines → length read ≡ length old.lines
 all-counted text old left read e h n =
     ap length (read-all text old left read e h n).0 ∙ (length-classed start (logical_lines text) ∙ ap (λ (u : UnreadLines). length u.lines) (sym e))
@@ -177,7 +177,7 @@ all-counted text old left read e h n =
 -- ---- the whole text
 
 -- a line that fits leaves no more than 256 open
-conditionals-few : (n : ℕ) (k : Class Cell) → n ≤ 256 → FitsConditionals n (class_places joined_byte k) → conditionals_after n k ≤ 256
+conditionals-few : (n : ℕ) (k : Class Cell) → n ≤ 256 → FitsConditionals n (located_class joined_byte k) → conditionals_after n k ≤ 256
 conditionals-few n Endef h p = h
 conditionals-few n (Body b) h p = h
 conditionals-few n Recipe h p = h
@@ -195,13 +195,13 @@ conditionals-few n Rough h p = h
 conditionals-few n (Header x) h p = h
 
 -- lines whose conditionals fit are not too deep
-most_conditionals-fit : (c : Context) (ls : List (List ℕ)) → c.conditionals ≤ 256 → AreConditionalsFit c.conditionals (placed_lines (classed c ls)) → most_conditionals c.conditionals (classed c ls) ≤ 256
+most_conditionals-fit : (c : Context) (ls : List (List ℕ)) → c.conditionals ≤ 256 → AreConditionalsFit c.conditionals (located_lines (classed c ls)) → most_conditionals c.conditionals (classed c ls) ≤ 256
 most_conditionals-fit c [] h k = omega (arith, h)
 most_conditionals-fit c (l ∷ ls) h k =
     let kind = class_of c l in
     let next = context_after c kind in
     let few : next.conditionals ≤ 256 = conditionals-few c.conditionals kind h k.0 in
-    let fits : AreConditionalsFit next.conditionals (placed_lines (classed next ls)) = k.1 in
+    let fits : AreConditionalsFit next.conditionals (located_lines (classed next ls)) = k.1 in
     omega (arith, h, most_conditionals-fit next ls few fits)
 
 pub shallow : (text : List ℕ) → AreConditionalsFit 0 (document_lines text) → IsTooDeep text → ⊥

@@ -1,9 +1,9 @@
 -- A walk over the lines of a tree: one more line passed on its left side.
 use Rattle.std.proofs.Common.{◌≡◌, ℕ, ◌+◌, ◌<◌, ◌≤◌, sym, ap, ◌∙◌, arith, List, [], ◌∷◌, ◌++◌, length, Option, Some, None, append_assoc, append-nil}
 use Rattle.std.specs.Borrow.{Bor}
-use Rattle.mk_tree.specs.PlacedLines.{PlacedLine}
+use Rattle.mk_tree.specs.LocatedLines.{LocatedLine}
 use Rattle.mk_tree.specs.Trees.{line_view, IsTop}
-use Rattle.mk_tree.specs.Walks.{lines_ahead, AreWithin}
+use Rattle.mk_tree.specs.TreeWalks.{lines_ahead, HaveRoom}
 use Rattle.mk_tree.specs.declared.tree.Line.{Line}
 
 lines_ahead-push : {A : _} (passed : List (Option (Bor (Line A)))) (l : Bor (Line A)) → lines_ahead (passed ++ Some l ∷ []) ≡ line_view l.now ∷ l.now.node.value.right.0 ++ lines_ahead passed
@@ -12,21 +12,21 @@ lines_ahead-push (None ∷ passed) l = lines_ahead-push passed l
 lines_ahead-push (Some x ∷ passed) l =
     ap (λ z. z ++ line_view x.now ∷ x.now.node.value.right.0) (lines_ahead-push passed l) ∙ append_assoc (line_view l.now ∷ l.now.node.value.right.0) (lines_ahead passed) (line_view x.now ∷ x.now.node.value.right.0)
 
-AreWithin-push : {A : _} (depth : ℕ) (passed : List (Option (Bor (Line A)))) (l : Bor (Line A)) → AreWithin depth passed → depth + length passed + l.now.node.value.right.1 < 34 → AreWithin depth (passed ++ Some l ∷ [])
-AreWithin-push depth [] l h k = (omega (arith, k), tt)
-AreWithin-push depth (None ∷ passed) l h k = elim h [ ]
-AreWithin-push depth (Some x ∷ passed) l h k = (h.0, AreWithin-push (depth + 1) passed l h.1 (omega (arith, k)))
+HaveRoom-push : {A : _} (depth : ℕ) (passed : List (Option (Bor (Line A)))) (l : Bor (Line A)) → HaveRoom depth passed → depth + length passed + l.now.node.value.right.1 < 34 → HaveRoom depth (passed ++ Some l ∷ [])
+HaveRoom-push depth [] l h k = (omega (arith, k), tt)
+HaveRoom-push depth (None ∷ passed) l h k = elim h [ ]
+HaveRoom-push depth (Some x ∷ passed) l h k = (h.0, HaveRoom-push (depth + 1) passed l h.1 (omega (arith, k)))
 
 -- one step down: the line is passed, and what stands before it is still to be passed
-pub down-step : {A : _} (passed new : List (Option (Bor (Line A)))) (l : Bor (Line A)) (tree before : List PlacedLine × ℕ) (whole : List PlacedLine) (n m : ℕ)
+pub down-step : {A : _} (passed new : List (Option (Bor (Line A)))) (l : Bor (Line A)) (tree before : List LocatedLine × ℕ) (whole : List LocatedLine) (n m : ℕ)
     → n ≡ length passed → m ≡ n + 1 → new ≡ passed ++ Some l ∷ [] → before ≡ l.now.node.value.left → IsTop tree l.now
-    → n + tree.1 ≤ 34 → AreWithin 0 passed → tree.0 ++ lines_ahead passed ≡ whole
-    → (m + before.1 ≤ 34) × AreWithin 0 new × (before.0 ++ lines_ahead new ≡ whole)
+    → n + tree.1 ≤ 34 → HaveRoom 0 passed → tree.0 ++ lines_ahead passed ≡ whole
+    → (m + before.1 ≤ 34) × HaveRoom 0 new × (before.0 ++ lines_ahead new ≡ whole)
 down-step passed new l tree before whole n m count more e b top room within ahead =
     let left = l.now.node.value.left in
     let right = l.now.node.value.right in (
       rw b (omega (arith, more, top.height, room)),
-      rw e (AreWithin-push 0 passed l within (omega (arith, count, top.height, room))),
+      rw e (HaveRoom-push 0 passed l within (omega (arith, count, top.height, room))),
       rw (e, b) (ap (λ z. left.0 ++ z) (lines_ahead-push passed l) ∙ (sym (append_assoc left.0 (line_view l.now ∷ right.0) (lines_ahead passed)) ∙ (ap (λ z. z ++ lines_ahead passed) (sym top.lines) ∙ ahead))),
     )
 
@@ -35,31 +35,31 @@ abbrev IsLastPassed : {A : _} → ℕ → Option (Bor (Line A)) → Type 0
 IsLastPassed depth None = ⊥
 IsLastPassed depth (Some l) = depth + l.now.node.value.right.1 < 34
 
-AreWithin-pop : {A : _} (depth : ℕ) (passed : List (Option (Bor (Line A)))) (last : Option (Bor (Line A))) → AreWithin depth (passed ++ last ∷ []) → AreWithin depth passed × IsLastPassed (depth + length passed) last
-AreWithin-pop depth [] None h = elim h [ ]
-AreWithin-pop depth [] (Some l) h = (tt, omega (arith, h.0))
-AreWithin-pop depth (None ∷ passed) last h = elim h [ ]
-AreWithin-pop depth (Some x ∷ passed) None h = elim (AreWithin-pop (depth + 1) passed None h.1).1 [ ]
-AreWithin-pop depth (Some x ∷ passed) (Some l) h =
-    let rest = AreWithin-pop (depth + 1) passed (Some l) h.1 in
+HaveRoom-pop : {A : _} (depth : ℕ) (passed : List (Option (Bor (Line A)))) (last : Option (Bor (Line A))) → HaveRoom depth (passed ++ last ∷ []) → HaveRoom depth passed × IsLastPassed (depth + length passed) last
+HaveRoom-pop depth [] None h = elim h [ ]
+HaveRoom-pop depth [] (Some l) h = (tt, omega (arith, h.0))
+HaveRoom-pop depth (None ∷ passed) last h = elim h [ ]
+HaveRoom-pop depth (Some x ∷ passed) None h = elim (HaveRoom-pop (depth + 1) passed None h.1).1 [ ]
+HaveRoom-pop depth (Some x ∷ passed) (Some l) h =
+    let rest = HaveRoom-pop (depth + 1) passed (Some l) h.1 in
     ((h.0, rest.0), omega (arith, rest.1))
 
 -- ---- the last line that was passed, taken off
 
-pub pop-within : {A : _} (old new : List (Option (Bor (Line A)))) (last : Option (Bor (Line A))) (l : Bor (Line A)) → old ≡ new ++ last ∷ [] → last ≡ Some l → AreWithin 0 old
-    → (length new + l.now.node.value.right.1 ≤ 34) × AreWithin 0 new
+pub pop-within : {A : _} (old new : List (Option (Bor (Line A)))) (last : Option (Bor (Line A))) (l : Bor (Line A)) → old ≡ new ++ last ∷ [] → last ≡ Some l → HaveRoom 0 old
+    → (length new + l.now.node.value.right.1 ≤ 34) × HaveRoom 0 new
 pop-within old new last l e f h =
-    let here = AreWithin-pop 0 new last (rw e at h) in
+    let here = HaveRoom-pop 0 new last (rw e at h) in
     let room : IsLastPassed (0 + length new) (Some l) = rw f at here.1 in
     (omega (arith, room), here.0)
 
-pub pop-nothing : {A : _} (old new : List (Option (Bor (Line A)))) (last : Option (Bor (Line A))) → old ≡ new ++ last ∷ [] → last ≡ None → AreWithin 0 old → ⊥
+pub pop-nothing : {A : _} (old new : List (Option (Bor (Line A)))) (last : Option (Bor (Line A))) → old ≡ new ++ last ∷ [] → last ≡ None → HaveRoom 0 old → ⊥
 pop-nothing {A} old new last e f h =
-    let here = AreWithin-pop 0 new last (rw e at h) in
+    let here = HaveRoom-pop 0 new last (rw e at h) in
     let room : IsLastPassed {A = A} (0 + length new) None = rw f at here.1 in
     room
 
-pub pop-ahead : {A : _} (old new : List (Option (Bor (Line A)))) (last : Option (Bor (Line A))) (l : Bor (Line A)) (after : List PlacedLine × ℕ) (self ahead : List PlacedLine)
+pub pop-ahead : {A : _} (old new : List (Option (Bor (Line A)))) (last : Option (Bor (Line A))) (l : Bor (Line A)) (after : List LocatedLine × ℕ) (self ahead : List LocatedLine)
     → old ≡ new ++ last ∷ [] → last ≡ Some l → lines_ahead old ≡ self → after ≡ l.now.node.value.right → ahead ≡ after.0 ++ lines_ahead new → self ≡ line_view l.now ∷ ahead
 pop-ahead old new last l after self ahead e f v a b =
     sym v ∙ (ap lines_ahead (rw f at e) ∙ (lines_ahead-push new l ∙ ap (λ z. line_view l.now ∷ z) (ap (λ z. z.0 ++ lines_ahead new) (sym a) ∙ sym b)))

@@ -1,4 +1,4 @@
--- Lemmas. Lines with their places in a text, documents, and open conditionals.
-pub mod LinePlaces
+-- Lemmas. Lines as they stand in a text, documents, and open conditionals.
+pub mod LinesInText
 pub mod DocumentLemmas
 pub mod ConditionalLemmas

@@ -1,10 +1,10 @@
 -- Lines that each may stand in the context of those before it.
 use Rattle.std.specs.Prelude.{List, [], ◌∷◌}
 use Rattle.mk_class.specs.Contexts.{Context}
-use Rattle.mk_class.specs.Contexts.{context_after_places, Admits}
-use Rattle.mk_tree.specs.PlacedLines.{PlacedLine}
+use Rattle.mk_class.specs.Contexts.{context_after_located, Admits}
+use Rattle.mk_tree.specs.LocatedLines.{LocatedLine}
 
 -- each of some lines, the first of which stands in this context, is admitted where it stands
-abbrev pub AreAdmitted : Context → List PlacedLine → Type 0
+abbrev pub AreAdmitted : Context → List LocatedLine → Type 0
 AreAdmitted c [] = Unit {0}
-AreAdmitted c (l ∷ ls) = Admits c l.class × AreAdmitted (context_after_places c l.class) ls
+AreAdmitted c (l ∷ ls) = Admits c l.class × AreAdmitted (context_after_located c l.class) ls

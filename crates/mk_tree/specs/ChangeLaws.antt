@@ -4,7 +4,7 @@ use Rattle.std.specs.List.{list_any}
 use Rattle.mk_lines.specs.PhysicalLines.{line_end_bytes, file_line_end}
 use Rattle.mk_lines.specs.LogicalLines.{logical_lines, is_open, EndsWhereFollowed}
 use Rattle.mk_lines.specs.Pieces.{replaced}
-use Rattle.mk_class.specs.Lists.{is_empty, last_passes}
+use Rattle.mk_class.specs.ListTests.{is_empty, last_passes}
 use Rattle.mk_class.specs.Arguments.{is_clean, is_backslash_byte}
 use Rattle.mk_class.specs.Classes.{leaves_flag}
 use Rattle.mk_class.specs.Contexts.{Context, start, context_after}
@@ -12,7 +12,7 @@ use Rattle.mk_class.specs.ClassedLines.{ClassedLine, classed, classed_lines, con
 use Rattle.mk_tree.specs.Items.{items}
 use Rattle.mk_tree.specs.Readings.{reading}
 use Rattle.mk_tree.specs.LineTexts.{line_in, text_of, bytes_of, context_of}
-use Rattle.mk_tree.specs.NewLines.{missing_line_end, above_ended}
+use Rattle.mk_tree.specs.NewLineEnds.{missing_line_end, above_ended}
 use Rattle.mk_tree.specs.EachReplaced.{ReplaceEach}
 use Rattle.mk_tree.specs.Leaning.{AgreeButForFlag, leans}
 
@@ -72,7 +72,7 @@ NewLinesStand = (text new : List ℕ) (above below : List ClassedLine) → class
     ≡ above_ended (file_line_end text) above below ++ new_line_below text above new ∷ below)
     × (items (above_ended (file_line_end text) above below) ≡ items above)
 
--- Bytes inside a line, replaced by their places in the text: the line begins at the length of the text of the lines above it.
+-- Bytes inside a line, replaced by their offsets in the text: the line begins at the length of the text of the lines above it.
 abbrev pub SpansStayInLines : Type 0
 SpansStayInLines = (text : List ℕ) (above : List ClassedLine) (line : ClassedLine) (below : List ClassedLine) (before old after new : List ℕ) → classed_lines text ≡ above ++ line ∷ below
     → line.bytes ≡ before ++ (old ++ after)

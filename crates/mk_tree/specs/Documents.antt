@@ -6,19 +6,19 @@ use Rattle.mk_class.specs.Classes.{is_conditional}
 use Rattle.mk_class.specs.Contexts.{conditionals_after}
 use Rattle.mk_class.specs.ClassedLines.{ClassedLine, classed_lines}
 pub use Rattle.mk_tree.specs.LineTexts.{text_of, context_of}
-use Rattle.mk_tree.specs.PlacedLines.{PlacedLine, placed_lines, placed_text}
+use Rattle.mk_tree.specs.LocatedLines.{LocatedLine, located_lines, located_text}
 
 -- the lines of a text as a document shows them
-abbrev pub document_lines : List ℕ → List PlacedLine
-document_lines t = placed_lines (classed_lines t)
+abbrev pub document_lines : List ℕ → List LocatedLine
+document_lines t = located_lines (classed_lines t)
 
 -- the lines are those of a text
-abbrev pub IsFaithfulTo : List PlacedLine → List ℕ → Type 0
+abbrev pub IsFaithfulTo : List LocatedLine → List ℕ → Type 0
 IsFaithfulTo ls t = ls ≡ document_lines t
 
 -- the lines are those of their own text
-abbrev pub IsFaithful : List PlacedLine → Type 0
-IsFaithful ls = IsFaithfulTo ls (placed_text ls)
+abbrev pub IsFaithful : List LocatedLine → Type 0
+IsFaithful ls = IsFaithfulTo ls (located_text ls)
 
 -- the most conditionals that are open before, between or after some lines; `open_before` are open before the first
 abbrev pub most_conditionals : (open_before : ℕ) → List ClassedLine → ℕ

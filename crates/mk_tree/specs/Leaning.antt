@@ -2,11 +2,11 @@
 use Rattle.std.specs.Prelude.{◌≡◌, ℕ, Bool, true, false, not, ◌&&◌, List}
 use Rattle.mk_class.specs.Contexts.{Context}
 use Rattle.mk_class.specs.ClassedLines.{ClassedLine, is_led_first}
-use Rattle.mk_class.specs.declared.context.Flag.{Flag}
-use Rattle.mk_class.specs.declared.context.Flag.TheVariants.{Off, Rule, Unknown}
+use Rattle.mk_class.specs.declared.context.RuleFlag.{RuleFlag}
+use Rattle.mk_class.specs.declared.context.RuleFlag.TheVariants.{Off, Rule, Unknown}
 
 -- whether two flags are the same
-abbrev pub is_same_flag : Flag → Flag → Bool
+abbrev pub is_same_flag : RuleFlag → RuleFlag → Bool
 is_same_flag Off Off = true
 is_same_flag Rule Rule = true
 is_same_flag Unknown Unknown = true
@@ -14,7 +14,7 @@ is_same_flag f g = false
 
 -- Whether lines lean on two flags: the flags differ, and the first of the lines that begins with the prefix, or has a class that
 -- sets the flag, begins with the prefix.
-abbrev pub leans : (prefix : ℕ) → (before after : Flag) → (rest : List ClassedLine) → Bool
+abbrev pub leans : (prefix : ℕ) → (before after : RuleFlag) → (rest : List ClassedLine) → Bool
 leans p f g ls = not (is_same_flag f g) && is_led_first p ls
 
 -- Contexts that agree in all except perhaps the flag.

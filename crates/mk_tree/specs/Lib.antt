@@ -4,22 +4,22 @@ pub mod Items
 pub mod Readings
 pub mod RecipeLines
 -- Documents
-pub mod PlacedLines
+pub mod LocatedLines
 pub mod Documents
 pub mod Faults
 pub mod Counting
 -- Changes of lines
 pub mod Leaning
-pub mod NewLines
+pub mod NewLineEnds
 pub mod EachReplaced
--- What the code keeps
-pub mod KeptClasses
+-- What the code stores
+pub mod StoredClasses
 pub mod Contents
 pub mod Trees
-pub mod Walks
+pub mod TreeWalks
 pub mod Admissions
 pub mod Unread
 pub mod Printing
 -- Statements of laws
-pub mod Laws
+pub mod DocumentLaws
 pub mod ChangeLaws

@@ -22,7 +22,7 @@ context_of ls = context_after_lines start ls
 abbrev pub line_in : Context → List ℕ → ClassedLine
 line_in c l = record { bytes = l; class = class_of c l }
 
--- a line of a text, with the lines above and below it, which tell its place without a number
+-- a line of a text, with the lines above and below it, which tell where it stands without a number
 pub record StandingLine : Type 0 where
   pub above : List ClassedLine
   pub line : ClassedLine

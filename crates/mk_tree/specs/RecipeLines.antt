@@ -5,8 +5,8 @@ use Rattle.mk_lines.specs.Cells.{Cell}
 use Rattle.mk_class.specs.Classes.{Class, is_recipe, leaves_flag}
 use Rattle.mk_class.specs.Classes.Class.{Rough, Header}
 use Rattle.mk_class.specs.Contexts.{flag_after}
-use Rattle.mk_class.specs.declared.context.Flag.{Flag}
-use Rattle.mk_class.specs.declared.context.Flag.TheVariants.{Rule}
+use Rattle.mk_class.specs.declared.context.RuleFlag.{RuleFlag}
+use Rattle.mk_class.specs.declared.context.RuleFlag.TheVariants.{Rule}
 use Rattle.mk_class.specs.ClassedLines.{ClassedLine}
 
 -- whether a line of this class may stand among the recipe lines of a rule: a recipe line, or one that leaves the flag
@@ -38,7 +38,7 @@ begins_rule (Header h) = true
 begins_rule k = false
 
 -- whether the flag says that a rule is open
-abbrev is_rule_flag : Flag → Bool
+abbrev is_rule_flag : RuleFlag → Bool
 is_rule_flag Rule = true
 is_rule_flag f = false
 

@@ -1,17 +1,17 @@
 -- What a tree of lines is seen as, and what holds of it.
 use Rattle.std.specs.Prelude.{◌≡◌, ℕ, suc, zero, ◌+◌, ◌*◌, ◌^◌, ◌<◌, ◌≤◌, max, List, [], ◌∷◌, ◌++◌, length}
-use Rattle.mk_tree.specs.PlacedLines.{PlacedLine, size_of}
+use Rattle.mk_tree.specs.LocatedLines.{LocatedLine, size_of}
 use Rattle.mk_tree.specs.declared.tree.Counts.{Counts}
 use Rattle.mk_tree.specs.declared.tree.Line.{Line}
 use Rattle.mk_tree.specs.declared.tree.Link.{Link}
 use Rattle.mk_tree.specs.declared.tree.Link.TheVariants.{Empty, Full}
 
 -- what a line says, whatever stands left and right of it in its tree
-abbrev pub line_view : {A : _} → Line A → PlacedLine
+abbrev pub line_view : {A : _} → Line A → LocatedLine
 line_view l = l.node.value.content
 
 -- the lines of a tree in order, and its height
-abbrev pub lines_and_height : {A : _} → Link A → List PlacedLine × ℕ
+abbrev pub lines_and_height : {A : _} → Link A → List LocatedLine × ℕ
 lines_and_height Empty = ([], 0)
 lines_and_height (Full counts l) = (l.node.value.left.0 ++ l.node.value.content ∷ l.node.value.right.0, counts.height)
 
@@ -26,14 +26,14 @@ fewest_lines (suc zero) = 1
 fewest_lines (suc (suc h)) = fewest_lines (suc h) + fewest_lines h + 1
 
 -- a tree of this height has enough lines for it, no line is empty, and the bytes are within the limit; so the tree is low
-pub record AreFew (lines : List PlacedLine) (height : ℕ) : Type 0 where
+pub record AreFew (lines : List LocatedLine) (height : ℕ) : Type 0 where
   pub enough : fewest_lines height ≤ length lines
   pub some_bytes : length lines ≤ size_of lines
   pub few_bytes : size_of lines ≤ 2 ^ 24
   pub low : height ≤ 34
 
 -- the counts of a link are those of the tree below it, and the sides of its line differ by at most one in height
-pub record IsNode (left : List PlacedLine × ℕ) (line : PlacedLine) (right : List PlacedLine × ℕ) (counts : Counts) : Type 0 where
+pub record IsNode (left : List LocatedLine × ℕ) (line : LocatedLine) (right : List LocatedLine × ℕ) (counts : Counts) : Type 0 where
   pub height_is : counts.height ≡ max left.1 right.1 + 1
   pub balanced : DifferByAtMost 1 left.1 right.1
   pub lines_are : counts.lines ≡ length (left.0 ++ line ∷ right.0)
@@ -46,7 +46,7 @@ IsBalanced Empty = Unit {0}
 IsBalanced (Full counts l) = let n = l.node.value in IsNode n.left n.content n.right counts
 
 -- the parts of a tree: a line, and what stands left and right of it
-pub record IsUnlinked (whole left : List PlacedLine × ℕ) (line : PlacedLine) (right : List PlacedLine × ℕ) : Type 0 where
+pub record IsUnlinked (whole left : List LocatedLine × ℕ) (line : LocatedLine) (right : List LocatedLine × ℕ) : Type 0 where
   pub lines : whole.0 ≡ left.0 ++ line ∷ right.0
   pub size : size_of whole.0 ≡ size_of left.0 + length line.bytes + size_of right.0
   pub height : whole.1 ≡ max left.1 right.1 + 1
@@ -54,7 +54,7 @@ pub record IsUnlinked (whole left : List PlacedLine × ℕ) (line : PlacedLine) 
   pub few : AreFew whole.0 whole.1
 
 -- the top of a tree is this line, with what stands before it and what stands after it below it
-abbrev pub IsTop : {A : _} → List PlacedLine × ℕ → Line A → Type 0
+abbrev pub IsTop : {A : _} → List LocatedLine × ℕ → Line A → Type 0
 IsTop whole l = IsUnlinked whole l.node.value.left (line_view l) l.node.value.right
 
 -- a tree of `lines` lines is as low as a tree of this number of lines can be

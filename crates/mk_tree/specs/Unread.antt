@@ -7,7 +7,7 @@ use Rattle.mk_lines.specs.declared.split.Span.{Span}
 use Rattle.mk_class.specs.Contexts.{Context}
 use Rattle.mk_class.specs.ClassedLines.{classed}
 use Rattle.mk_tree.specs.Documents.{conditional_limit, most_conditionals}
-use Rattle.mk_tree.specs.PlacedLines.{PlacedLine, placed_lines, AreConditionalsFit}
+use Rattle.mk_tree.specs.LocatedLines.{LocatedLine, located_lines, AreConditionalsFit}
 
 -- some logical lines; the first of them stands in this context
 pub record UnreadLines : Type 0 where
@@ -15,8 +15,8 @@ pub record UnreadLines : Type 0 where
   pub lines : List (List ℕ)
 
 -- unread lines as a document will show them
-abbrev pub shown : UnreadLines → List PlacedLine
-shown u = placed_lines (classed u.context u.lines)
+abbrev pub shown_lines : UnreadLines → List LocatedLine
+shown_lines u = located_lines (classed u.context u.lines)
 
 -- unread lines open more conditionals at once than a document may have
 abbrev pub AreTooDeep : UnreadLines → Type 0
@@ -25,9 +25,9 @@ AreTooDeep u = conditional_limit < most_conditionals u.context.conditionals (cla
 -- Of some unread lines the first ones are read, and the others are left. The lines that are read and those that are left are
 -- shown as all of them are. If the conditionals of the lines that are left fit, those of all lines do; if the lines that are left
 -- are too deep, all lines are.
-pub record AreReadFrom (old : UnreadLines) (read : List PlacedLine) (left : UnreadLines) : Type 0 where
-  pub all : read ++ shown left ≡ shown old
-  pub fit : AreConditionalsFit left.context.conditionals (shown left) → AreConditionalsFit old.context.conditionals (shown old)
+pub record AreReadFrom (old : UnreadLines) (read : List LocatedLine) (left : UnreadLines) : Type 0 where
+  pub all : read ++ shown_lines left ≡ shown_lines old
+  pub fit : AreConditionalsFit left.context.conditionals (shown_lines left) → AreConditionalsFit old.context.conditionals (shown_lines old)
   pub deep : AreTooDeep left → AreTooDeep old
 
 -- the lines of a text that some spans stand for

@@ -1,11 +1,11 @@
-//! What a document keeps of a line.
+//! What a document stores of a line.
 ghost use Rattle.std.specs.Prelude.{◌≡◌, ◌<◌, length};
-ghost use Rattle.mk_lines.specs.KeptCells.{AreCellsOf};
+ghost use Rattle.mk_lines.specs.StoredCells.{AreCellsOf};
 ghost use Rattle.mk_lines.specs.PhysicalLines.{without_line_end};
-ghost use Rattle.mk_tree.specs.KeptClasses.{whole_class};
+ghost use Rattle.mk_tree.specs.StoredClasses.{whole_class};
 
-use crate::kept_class::KeptClass;
 use crate::line_bytes::LineBytes;
+use crate::stored_class::StoredClass;
 use mk_class::Class;
 use mk_lines::Cells;
 use std::alloc::{Allocator, Global};
@@ -17,15 +17,15 @@ use std::mem;
 pub(crate) struct Content<A: Allocator = Global> {
     bytes: LineBytes<A>,
     cells: Cells<A>,
-    class: KeptClass<A>,
+    class: StoredClass<A>,
 }
 
 impl<A: Allocator> Model for Content<A> {
-    ghost use Rattle.mk_tree.specs.PlacedLines.{PlacedLine};
+    ghost use Rattle.mk_tree.specs.LocatedLines.{LocatedLine};
     ghost use Rattle.mk_tree.specs.Contents.{IsContent};
-    ghost use Rattle.mk_tree.specs.KeptClasses.{whole_class};
+    ghost use Rattle.mk_tree.specs.StoredClasses.{whole_class};
 
-    ghost Value = { PlacedLine };
+    ghost Value = { LocatedLine };
 
     ghost view = { λ c. record { bytes = c.bytes; class = whole_class c.class } };
 
@@ -33,7 +33,7 @@ impl<A: Allocator> Model for Content<A> {
 }
 
 impl<A: Allocator> Content<A> {
-    pub(crate) fn new(bytes: LineBytes<A>, cells: Cells<A>, class: KeptClass<A>) -> Content<A>
+    pub(crate) fn new(bytes: LineBytes<A>, cells: Cells<A>, class: StoredClass<A>) -> Content<A>
         requires some_bytes { 0 < length bytes }
         requires cells { AreCellsOf cells bytes }
         ensures bytes { result.bytes ≡ bytes }

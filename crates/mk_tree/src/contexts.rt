@@ -2,7 +2,7 @@
 ghost use Rattle.std.specs.Prelude.{◌≡◌, ◌≤◌, drop, length, take};
 ghost use Rattle.mk_class.specs.Contexts.{start};
 ghost use Rattle.mk_class.specs.ClassedLines.{classed_lines, context_after_lines};
-ghost use Rattle.mk_tree.specs.PlacedLines.{AreConditionalsFit, context_after_placed, placed_text};
+ghost use Rattle.mk_tree.specs.LocatedLines.{AreConditionalsFit, context_after_located_lines, located_text};
 ghost use Rattle.mk_tree.specs.Documents.{IsFaithful};
 ghost use Rattle.mk_tree.specs.Admissions.{AreAdmitted};
 
@@ -13,16 +13,16 @@ use mk_class::Context;
 use std::alloc::Allocator;
 
 impl<A: Allocator> Doc<A> {
-    /// The context of the line at a place from 0, or at the end of the document: what the lines
-    /// before the place leave. Takes no memory. It walks over these lines. From the answer,
-    /// [`Context::step`](mk_class::Context::step) may step over the lines from the place on.
+    /// The context of the line at an index from 0, or at the end of the document: what the lines
+    /// before the index leave. Takes no memory. It walks over these lines. From the answer,
+    /// [`Context::step`](mk_class::Context::step) may step over the lines from the index on.
     ///
     /// It asks for a faithful document.
     pub fn context(&self, at: usize) -> Context
         requires in_range { at ≤ length self.now }
         requires faithful { IsFaithful self.now }
-        ensures context { result ≡ context_after_lines start (take at (classed_lines (placed_text self.now))) }
-        ensures placed { result ≡ context_after_placed start (take at self.now) }
+        ensures context { result ≡ context_after_lines start (take at (classed_lines (located_text self.now))) }
+        ensures located { result ≡ context_after_located_lines start (take at self.now) }
         ensures few { result.conditionals ≤ 256 }
         ensures admitted { AreAdmitted result (drop at self.now) }
     {
@@ -34,8 +34,8 @@ impl<A: Allocator> Doc<A> {
     /// It asks for a faithful document.
     pub fn end_context(&self) -> Context
         requires { IsFaithful self.now }
-        ensures context { result ≡ context_after_lines start (classed_lines (placed_text self.now)) }
-        ensures placed { result ≡ context_after_placed start self.now }
+        ensures context { result ≡ context_after_lines start (classed_lines (located_text self.now)) }
+        ensures located { result ≡ context_after_located_lines start self.now }
         ensures few { result.conditionals ≤ 256 }
         ensures conditionals { AreConditionalsFit 0 self.now }
     {
@@ -48,13 +48,13 @@ fn context_before<A: Allocator>(tree: &Tree<A>, count: usize) -> Context
     requires in_range { count ≤ length tree.now.0 }
     requires faithful { IsFaithful tree.now.0 }
     requires conditionals { AreConditionalsFit 0 tree.now.0 }
-    ensures context { result ≡ context_after_placed start (take count tree.now.0) }
+    ensures context { result ≡ context_after_located_lines start (take count tree.now.0) }
     ensures few { result.conditionals ≤ 256 }
     ensures admitted { AreAdmitted result (drop count tree.now.0) }
 {
     let mut context = Context::start();
     let mut lines = Lines::new(tree);
-    'lines: for place in 0..count {
+    'lines: for at in 0..count {
         let Some(line) = lines.next() else {
             unreachable!()
         };

@@ -2,7 +2,7 @@
 ghost use Rattle.std.specs.Prelude.{◌≡◌, ◌+◌, ◌^◌, ◌<◌, ◌≤◌, ◌↔◌, [], ◌∷◌, ◌++◌, IsTrue, IfSome, IsOk, false, length, slice_get, take, drop};
 ghost use Rattle.mk_lines.specs.PhysicalLines.{without_line_end};
 ghost use Rattle.mk_class.specs.Contexts.{start};
-ghost use Rattle.mk_tree.specs.PlacedLines.{AreConditionalsFit, bytes_of_line, is_conditional_places, last_line, size_of, size_of_line, with_last_bytes};
+ghost use Rattle.mk_tree.specs.LocatedLines.{AreConditionalsFit, bytes_of_line, is_conditional_located, last_line, size_of, size_of_line, with_last_bytes};
 ghost use Rattle.mk_tree.specs.Admissions.{AreAdmitted};
 ghost use Rattle.mk_tree.specs.Documents.{IsFaithful};
 ghost use Rattle.mk_tree.specs.Trees.{line_view};
@@ -29,9 +29,9 @@ pub struct Doc<A: Allocator = Global> {
 
 impl<A: Allocator> Model for Doc<A> {
     ghost use Rattle.std.specs.Prelude.{List};
-    ghost use Rattle.mk_tree.specs.PlacedLines.{PlacedLine, AreConditionalsFit};
+    ghost use Rattle.mk_tree.specs.LocatedLines.{LocatedLine, AreConditionalsFit};
 
-    ghost Value = { List PlacedLine };
+    ghost Value = { List LocatedLine };
 
     ghost view = { λ d. d.tree.0 };
 
@@ -63,7 +63,7 @@ impl<A: Allocator> Doc<A> {
         self.tree.size()
     }
 
-    /// The line at a place, from 0. Takes no memory.
+    /// The line at an index, from 0. Takes no memory.
     pub fn line(&self, at: usize) -> &Line<A>
         requires { at < length self.now }
         ensures { Some (line_view result.now) ≡ slice_get self.now at }
@@ -85,14 +85,14 @@ impl<A: Allocator> Doc<A> {
         Lines::new(&self.tree)
     }
 
-    /// Puts a line before the line at a place from 0, or at the end of the document. Takes no
+    /// Puts a line before the line at an index from 0, or at the end of the document. Takes no
     /// memory and is never refused.
     ///
     /// It asks that the line belongs to no conditional, and that the document has at most
     /// 16,777,216 bytes with it.
     pub fn insert(&mut self, at: usize, line: Line<A>) -> Result<(), (Line<A>, Fault)>
         requires in_range { at ≤ length self.old }
-        requires plain { is_conditional_places (line_view line).class ≡ false }
+        requires plain { is_conditional_located (line_view line).class ≡ false }
         requires fits { size_of self.old + length (line_view line).bytes ≤ 2 ^ 24 }
         ensures done { IsOk result }
         ensures lines { self.new ≡ take at self.old ++ line_view line ∷ drop at self.old }
@@ -102,12 +102,12 @@ impl<A: Allocator> Doc<A> {
         Ok(())
     }
 
-    /// Takes out the line at a place, from 0. Takes no memory.
+    /// Takes out the line at an index, from 0. Takes no memory.
     ///
     /// It asks that the line belongs to no conditional.
     pub fn remove(&mut self, at: usize) -> Line<A>
         requires in_range { at < length self.old }
-        requires plain { IfSome (slice_get self.old at) (λ line. is_conditional_places line.class ≡ false) }
+        requires plain { IfSome (slice_get self.old at) (λ line. is_conditional_located line.class ≡ false) }
         ensures line { Some (line_view result) ≡ slice_get self.old at }
         ensures lines { self.new ≡ take at self.old ++ drop (at + 1) self.old }
     {
@@ -117,7 +117,7 @@ impl<A: Allocator> Doc<A> {
         line
     }
 
-    /// Puts a line in the place of another, which it hands out. Places count from 0. Takes no
+    /// Puts a line in the place of another, which it hands out. Indices count from 0. Takes no
     /// memory.
     ///
     /// It asks that neither line belongs to a conditional, and that the document then has at most
@@ -125,8 +125,8 @@ impl<A: Allocator> Doc<A> {
     #[tactic(auto, using(crate::proofs::Changes::sizes))]
     pub fn replace(&mut self, at: usize, line: Line<A>) -> Line<A>
         requires in_range { at < length self.old }
-        requires old_plain { IfSome (slice_get self.old at) (λ old. is_conditional_places old.class ≡ false) }
-        requires plain { is_conditional_places (line_view line).class ≡ false }
+        requires old_plain { IfSome (slice_get self.old at) (λ old. is_conditional_located old.class ≡ false) }
+        requires plain { is_conditional_located (line_view line).class ≡ false }
         requires fits { size_of (take at self.old ++ line_view line ∷ drop (at + 1) self.old) ≤ 2 ^ 24 }
         ensures line { Some (line_view result) ≡ slice_get self.old at }
         ensures lines { self.new ≡ take at self.old ++ line_view line ∷ drop (at + 1) self.old }

@@ -1,7 +1,7 @@
 //! The lines of a tree in order.
 ghost use Rattle.std.specs.Prelude.{◌≡◌, ◌+◌, ◌^◌, ◌≤◌, ◌++◌, length};
 ghost use Rattle.arrayvec.specs.ArrayVec.{array_vec_len};
-ghost use Rattle.mk_tree.specs.Walks.{lines_ahead, AreWithin};
+ghost use Rattle.mk_tree.specs.TreeWalks.{lines_ahead, HaveRoom};
 
 use crate::tree::{HEIGHT_LIMIT, Line, Tree};
 use arrayvec::ArrayVec;
@@ -24,14 +24,14 @@ pub struct Lines<'a, A: Allocator = Global> {
 
 impl<'a, A: Allocator> Model for Lines<'a, A> {
     ghost use Rattle.std.specs.Prelude.{List};
-    ghost use Rattle.mk_tree.specs.PlacedLines.{PlacedLine};
-    ghost use Rattle.mk_tree.specs.Walks.{lines_ahead, AreWithin};
+    ghost use Rattle.mk_tree.specs.LocatedLines.{LocatedLine};
+    ghost use Rattle.mk_tree.specs.TreeWalks.{lines_ahead, HaveRoom};
 
-    ghost Value = { List PlacedLine };
+    ghost Value = { List LocatedLine };
 
     ghost view = { λ i. lines_ahead i.passed.items };
 
-    ghost invariant = { λ i. AreWithin 0 i.passed.items };
+    ghost invariant = { λ i. HaveRoom 0 i.passed.items };
 }
 
 impl<'a, A: Allocator> Lines<'a, A> {
@@ -51,9 +51,9 @@ impl<'a, A: Allocator> Lines<'a, A> {
 // Goes down to the first line of a tree, past the lines on the way.
 fn pass_left<'a, A: Allocator>(passed: &mut Passed<'a, A>, tree: &'a Tree<A>)
     requires room { array_vec_len passed.old + tree.now.1 ≤ 34 }
-    requires within { AreWithin 0 passed.old.items }
+    requires within { HaveRoom 0 passed.old.items }
     ensures ahead { lines_ahead passed.new.items ≡ tree.now.0 ++ lines_ahead passed.old.items }
-    ensures within { AreWithin 0 passed.new.items }
+    ensures within { HaveRoom 0 passed.new.items }
 {
     let mut tree = tree;
     'down: while let Some(line) = tree.top() {
@@ -67,7 +67,7 @@ impl<'a, A: Allocator> Iterator for Lines<'a, A> {
 
     ghost use Rattle.std.specs.Prelude.{length};
     ghost use Rattle.std.specs.Iterator.{at_most};
-    ghost use Rattle.mk_tree.specs.Walks.{GivesLine};
+    ghost use Rattle.mk_tree.specs.TreeWalks.{GivesLine};
 
     ghost next_gives = { GivesLine };
 

@@ -1,7 +1,7 @@
 //! Laws of documents: each contract is a theorem on the definitions that the calls of this crate
 //! are specified by. The functions do nothing.
 ghost use Rattle.mk_tree.specs.ChangeLaws.{ContextsBelowAgree, LinesAreReplacedEach, LinesBelowKeepTheirClasses, NewLinesStand, RunsAreReplaced, SpansStayInLines};
-ghost use Rattle.mk_tree.specs.Laws.{LinesAreTheText, RulesEndByFlag};
+ghost use Rattle.mk_tree.specs.DocumentLaws.{LinesAreTheText, RulesEndByFlag};
 
 /// The lines of a text, joined, are the text.
 pub fn lines_are_the_text()
@@ -54,7 +54,7 @@ pub fn new_lines_stand()
     ensures { NewLinesStand }
 {}
 
-/// Bytes inside a line, replaced by their places in the text: the line begins at the length of the
+/// Bytes inside a line, replaced by their offsets in the text: the line begins at the length of the
 /// text of the lines above it.
 pub fn spans_stay_in_lines()
     ensures { SpansStayInLines }

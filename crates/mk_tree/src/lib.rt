@@ -5,7 +5,7 @@
 //! - [`iter`]: the lines of a document in order.
 //! - [`walk`]: the lines of a document in order, each with its context.
 //! - [`tree`]: the balanced tree that the lines stand in, and a line by itself.
-//! - [`line_bytes`]: the bytes of a line, a stretch of the text that it was parsed from.
+//! - [`line_bytes`]: the bytes of a line, a part of the text that it was parsed from.
 //! - [`laws`]: theorems on the definitions of documents.
 #![tactic(auto)]
 
@@ -14,12 +14,12 @@ mod contexts;
 pub mod document;
 pub mod gathering;
 pub mod iter;
-mod kept_class;
 pub mod laws;
 pub mod line_bytes;
 pub mod parse;
 mod print;
 mod read;
+mod stored_class;
 pub mod tree;
 mod unread;
 pub mod walk;

@@ -1,4 +1,4 @@
-//! The bytes of a line, as a stretch of a text.
+//! The bytes of a line, as a part of a text.
 ghost use Rattle.std.specs.Prelude.{◌≡◌, ◌^◌, ◌<◌, ◌≤◌, IfOk, IsOkUnless, length};
 ghost use Rattle.std.specs.Rc.{rc_slice_items};
 ghost use Rattle.mk_lines.specs.Ranges.{text_at};
@@ -9,7 +9,7 @@ use std::alloc::{Allocator, Global};
 use std::marker::Model;
 use std::rc::RcSlice;
 
-/// The bytes of a line: a stretch of a text. The lines that were parsed from the text own it
+/// The bytes of a line: a part of a text. The lines that were parsed from the text own it
 /// together.
 ///
 /// So a document has one copy of its text instead of one for each line, and frees it at once. The
@@ -17,7 +17,7 @@ use std::rc::RcSlice;
 #[derive(Drop)]
 pub struct LineBytes<A: Allocator = Global> {
     text: RcSlice<u8, A>,
-    // How many bytes of the text stand before and after the stretch. A document keeps these two
+    // How many bytes of the text stand before and after the part. A document stores these two
     // numbers for each line, so they have 32 bits; for a whole text, of any length, both are 0.
     before: u32,
     after: u32,
@@ -53,7 +53,7 @@ impl<A: Allocator> LineBytes<A> {
         })
     }
 
-    /// A stretch of a text. Nothing is copied.
+    /// A part of a text. Nothing is copied.
     ///
     /// # Errors
     ///

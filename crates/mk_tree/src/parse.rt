@@ -4,9 +4,9 @@ ghost use Rattle.mk_lines.specs.LogicalLines.{logical_lines};
 ghost use Rattle.mk_tree.specs.Counting.{AreCounted};
 ghost use Rattle.mk_tree.specs.Faults.{IsParsingFault, IsReadingFault};
 ghost use Rattle.mk_tree.specs.Documents.{IsFaithful, IsFaithfulTo, IsTooDeep};
-ghost use Rattle.mk_tree.specs.PlacedLines.{size_of};
+ghost use Rattle.mk_tree.specs.LocatedLines.{size_of};
 ghost use Rattle.mk_tree.specs.Trees.{IsLowest};
-ghost use Rattle.mk_tree.specs.Unread.{AreReadFrom, AreTooDeep, shown};
+ghost use Rattle.mk_tree.specs.Unread.{AreReadFrom, AreTooDeep, shown_lines};
 
 use crate::document::Doc;
 use crate::tree::Tree;
@@ -87,7 +87,7 @@ fn read_tree<A: Allocator + Copy>(
     meter: &mut Meter,
 ) -> Result<Tree<A>, Fault>
     requires in_range { count ≤ length lines.old.lines }
-    requires fits { size_of (shown lines.old) ≤ 2 ^ 24 }
+    requires fits { size_of (shown_lines lines.old) ≤ 2 ^ 24 }
     ensures read { IfOk result (λ tree. AreReadFrom lines.old tree.0 lines.new) }
     ensures count { IfOk result (λ _. length lines.old.lines ≡ length lines.new.lines + count) }
     ensures low { IfOk result (λ tree. IsLowest count tree.1) }

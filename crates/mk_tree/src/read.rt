@@ -4,14 +4,14 @@ ghost use Rattle.mk_lines.specs.LogicalLines.{logical_lines};
 ghost use Rattle.mk_lines.specs.Cells.{joined_byte};
 ghost use Rattle.mk_class.specs.Classes.Class.{If};
 ghost use Rattle.mk_class.specs.ClassTable.{class_of};
-ghost use Rattle.mk_class.specs.ClassPlaces.{class_places};
-ghost use Rattle.mk_class.specs.LineReads.{IsRead, IsTooDeep};
+ghost use Rattle.mk_class.specs.LocatedClasses.{located_class};
+ghost use Rattle.mk_class.specs.LineReads.{IsLineRead, OpensTooDeep};
 ghost use Rattle.mk_tree.specs.Faults.{IsReadingFault};
 ghost use Rattle.mk_tree.specs.Trees.{line_view};
 
 use crate::content::Content;
-use crate::kept_class::KeptClass;
 use crate::line_bytes::LineBytes;
+use crate::stored_class::StoredClass;
 use crate::tree::Line;
 use mk_class::{Context, Meter, class_with_cells};
 use mk_lines::Fault;
@@ -36,16 +36,16 @@ impl<A: Allocator + Copy> Line<A> {
     ) -> Result<Line<A>, Fault>
         requires line { logical_lines bytes.items ≡ bytes.items ∷ [] }
         requires defines { context.defines < 2 ^ 24 }
-        ensures line { IfOk result (λ line. line_view line ≡ record { bytes = bytes.items; class = class_places joined_byte (class_of context bytes.items) }) }
+        ensures line { IfOk result (λ line. line_view line ≡ record { bytes = bytes.items; class = located_class joined_byte (class_of context bytes.items) }) }
         ensures shallow { IfOk result (λ _. class_of context bytes.items ≡ If → context.conditionals < 256) }
-        ensures fault { IfErr result (λ fault. IsReadingFault (IsTooDeep context bytes.items) fault) }
+        ensures fault { IfErr result (λ fault. IsReadingFault (OpensTooDeep context bytes.items) fault) }
         ensures counted { OnOk result (meter.new ≡ min (meter.old + 1) (2 ^ 64 - 1)) }
         ensures forward { meter.old ≤ meter.new }
         ensures once { meter.new ≤ meter.old + 1 }
     {
         let cells = cells(alloc, &bytes)?;
         let (class, _) = class_with_cells(&bytes, &cells, context, meter)?;
-        let class = KeptClass::new(alloc, class)?;
+        let class = StoredClass::new(alloc, class)?;
         let bytes = LineBytes::new(bytes)?;
         Ok(Line::new(alloc, Content::new(bytes, cells, class))?)
     }
@@ -61,15 +61,15 @@ pub(crate) fn read_line<A: Allocator + Copy>(
     requires line { logical_lines bytes ≡ bytes ∷ [] }
     requires defines { context.defines < 2 ^ 24 }
     ensures bytes { IfOk result (λ r. (line_view r.0).bytes ≡ bytes) }
-    ensures read { IfOk result (λ r. IsRead context bytes (line_view r.0).class r.1) }
-    ensures fault { IfErr result (λ fault. IsReadingFault (IsTooDeep context bytes) fault) }
+    ensures read { IfOk result (λ r. IsLineRead context bytes (line_view r.0).class r.1) }
+    ensures fault { IfErr result (λ fault. IsReadingFault (OpensTooDeep context bytes) fault) }
     ensures counted { OnOk result (meter.new ≡ min (meter.old + 1) (2 ^ 64 - 1)) }
     ensures forward { meter.old ≤ meter.new }
     ensures once { meter.new ≤ meter.old + 1 }
 {
     let cells = cells(alloc, bytes.as_slice())?;
     let (class, after) = class_with_cells(bytes.as_slice(), &cells, context, meter)?;
-    let class = KeptClass::new(alloc, class)?;
+    let class = StoredClass::new(alloc, class)?;
     let line = Line::new(alloc, Content::new(bytes, cells, class))?;
     Ok((line, after))
 }

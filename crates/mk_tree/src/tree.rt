@@ -5,9 +5,9 @@
 //! tree is changed by value: [`Tree::unlink`] takes it apart at its top, and [`Tree::join`] puts
 //! two trees and a line between them together.
 ghost use Rattle.std.specs.Prelude.{◌≡◌, ◌+◌, ◌^◌, ◌<◌, ◌≤◌, max, [], ◌∷◌, ◌++◌, length, Some, IfOk, MatchOption, slice_get, take, drop};
-ghost use Rattle.mk_lines.specs.KeptCells.{AreCellsOf};
+ghost use Rattle.mk_lines.specs.StoredCells.{AreCellsOf};
 ghost use Rattle.mk_lines.specs.PhysicalLines.{without_line_end};
-ghost use Rattle.mk_tree.specs.PlacedLines.{bytes_of_line, last_line, size_of, size_of_line, with_last_bytes};
+ghost use Rattle.mk_tree.specs.LocatedLines.{bytes_of_line, last_line, size_of, size_of_line, with_last_bytes};
 ghost use Rattle.mk_tree.specs.Trees.{line_view, lines_and_height, DifferByAtMost, AreFew, IsUnlinked, IsTop, IsHeightAfter};
 
 use crate::content::Content;
@@ -66,9 +66,9 @@ const _: () = prove!(size_of::<Node<Global>>() == 120);
 
 impl<A: Allocator> Model for Tree<A> {
     ghost use Rattle.std.specs.Prelude.{ℕ, List, length};
-    ghost use Rattle.mk_tree.specs.PlacedLines.{PlacedLine};
+    ghost use Rattle.mk_tree.specs.LocatedLines.{LocatedLine};
 
-    ghost Value = { List PlacedLine × ℕ };
+    ghost Value = { List LocatedLine × ℕ };
 
     ghost use Rattle.mk_tree.specs.Trees.{lines_and_height, IsBalanced};
 
@@ -117,7 +117,7 @@ impl<A: Allocator> Line<A> {
         self.node.content.bytes()
     }
 
-    /// What the line is, with the places of its parts in the joined text. Takes no memory.
+    /// What the line is, with the offsets of its parts in the joined text. Takes no memory.
     pub fn class(&self) -> Class
         ensures { result ≡ (line_view self.now).class }
     {
@@ -213,7 +213,7 @@ impl<A: Allocator> Tree<A> {
         }
     }
 
-    /// The line at a place, from 0.
+    /// The line at an index, from 0.
     pub(crate) fn line(&self, at: usize) -> &Line<A>
         requires in_range { at < length self.now.0 }
         ensures line { Some (line_view result.now) ≡ slice_get self.now.0 at }
@@ -233,8 +233,8 @@ impl<A: Allocator> Tree<A> {
         }
     }
 
-    /// Puts a line before the line at a place, or at the end. Takes no memory.
-    #[tactic(auto, using(crate::proofs::Places::places))]
+    /// Puts a line before the line at an index, or at the end. Takes no memory.
+    #[tactic(auto, using(crate::proofs::Indices::indices))]
     pub(crate) fn insert(self, at: usize, line: Line<A>) -> Tree<A>
         requires in_range { at ≤ length self.0 }
         requires fits { size_of self.0 + length (line_view line).bytes ≤ 2 ^ 24 }
@@ -255,8 +255,8 @@ impl<A: Allocator> Tree<A> {
         }
     }
 
-    /// Takes out the line at a place.
-    #[tactic(auto, using(crate::proofs::Places::places))]
+    /// Takes out the line at an index.
+    #[tactic(auto, using(crate::proofs::Indices::indices))]
     pub(crate) fn remove(self, at: usize) -> (Tree<A>, Line<A>)
         requires in_range { at < length self.0 }
         ensures line { Some (line_view result.1) ≡ slice_get self.0 at }
@@ -285,7 +285,7 @@ impl<A: Allocator> Tree<A> {
     }
 
     /// Puts a line in the place of another, which it hands out.
-    #[tactic(auto, using(crate::proofs::Places::places))]
+    #[tactic(auto, using(crate::proofs::Indices::indices))]
     pub(crate) fn replace(self, at: usize, line: Line<A>) -> (Tree<A>, Line<A>)
         requires in_range { at < length self.0 }
         requires fits { size_of self.0 + length (line_view line).bytes ≤ 2 ^ 24 + size_of_line (slice_get self.0 at) }
@@ -330,7 +330,7 @@ impl<A: Allocator> Tree<A> {
 
     // Takes a tree apart: what stands before the line at the top, this line, and what stands after
     // it.
-    #[tactic(auto, using(crate::proofs::Places::sizes))]
+    #[tactic(auto, using(crate::proofs::Indices::sizes))]
     fn unlink(self) -> Option<(Tree<A>, Line<A>, Tree<A>)>
         ensures { MatchOption result (self ≡ ([], 0)) (λ parts. IsUnlinked self parts.0 (line_view parts.1) parts.2) }
     {
@@ -345,7 +345,7 @@ impl<A: Allocator> Tree<A> {
     }
 
     // Joins two trees whose heights differ by at most one, with a line between them.
-    #[tactic(auto, using(crate::proofs::Places::sizes))]
+    #[tactic(auto, using(crate::proofs::Indices::sizes))]
     pub(crate) fn join(left: Tree<A>, mut line: Line<A>, right: Tree<A>) -> Tree<A>
         requires balanced { DifferByAtMost 1 left.1 right.1 }
         requires fits { size_of left.0 + length (line_view line).bytes + size_of right.0 ≤ 2 ^ 24 }

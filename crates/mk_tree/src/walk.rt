@@ -23,7 +23,7 @@ pub struct ContextedLines<'a, A: Allocator = Global> {
 
 impl<'a, A: Allocator> Model for ContextedLines<'a, A> {
     ghost use Rattle.mk_tree.specs.Admissions.{AreAdmitted};
-    ghost use Rattle.mk_tree.specs.Walks.{LinesInContext};
+    ghost use Rattle.mk_tree.specs.TreeWalks.{LinesInContext};
 
     ghost Value = { LinesInContext };
 
@@ -36,7 +36,7 @@ impl<A: Allocator> Doc<A> {
     /// The lines in order, each with its context: what the lines before it leave. The call copies
     /// nothing and takes no memory; a walk over all of them takes time linear in their number.
     ///
-    /// It asks for a faithful document. The context of the line at a place is the one that
+    /// It asks for a faithful document. The context of the line at an index is the one that
     /// [`Doc::context`] answers there.
     pub fn lines_with_contexts(&self) -> ContextedLines<'_, A>
         requires { IsFaithful self.now }
@@ -54,7 +54,7 @@ impl<'a, A: Allocator> Iterator for ContextedLines<'a, A> {
 
     ghost use Rattle.std.specs.Prelude.{length};
     ghost use Rattle.std.specs.Iterator.{at_most};
-    ghost use Rattle.mk_tree.specs.Walks.{GivesLineInContext};
+    ghost use Rattle.mk_tree.specs.TreeWalks.{GivesLineInContext};
 
     ghost next_gives = { GivesLineInContext };
 

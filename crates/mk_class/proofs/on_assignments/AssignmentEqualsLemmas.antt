@@ -9,7 +9,7 @@ use Rattle.mk_lines.specs.Lists.{concat, leading, after_leading, Each, FirstFail
 use Rattle.mk_lines.proofs.on_lists.ListLemmas.{leading-append, after_leading-append, leading-after_leading, leading-each, after_leading-first_fails, concat-append, Each-right}
 use Rattle.mk_lines.specs.Words.{Token, Gap, Word, tokens, before_tokens, token_units, is_gap}
 use Rattle.mk_lines.proofs.on_units.TokenLemmas.{token_units-tokens}
-use Rattle.mk_class.specs.Lists.{until, from, is_empty, first_passes}
+use Rattle.mk_class.specs.ListTests.{until, from, is_empty, first_passes}
 use Rattle.mk_class.specs.Texts.{unit_text}
 use Rattle.mk_class.specs.Symbols.{Symbol, symbol, is_equals, is_equals_symbol}
 use Rattle.mk_class.specs.Symbols.Symbol.{Hash, Colon, Semicolon, Equals, Plus, Question, Exclamation, Bar, Ampersand, NoSymbol}

@@ -3,7 +3,7 @@ use Rattle.std.proofs.Common.{◌≡◌, refl, sym, ap, ◌∙◌, ℕ, List, []
 use Rattle.std.proofs.lemmas.List.{map-append, take-map, drop-map}
 use Rattle.mk_lines.specs.Words.{Token, Gap, Word, tokens, token_units, is_gap}
 use Rattle.mk_lines.proofs.on_units.TokenLemmas.{map_token, is_gap-map, tokens-map, token_units-map}
-use Rattle.mk_class.specs.Lists.{until, from}
+use Rattle.mk_class.specs.ListTests.{until, from}
 use Rattle.mk_class.proofs.on_symbols.ListMaps.{first_passes-map, leading-map, after_leading-map, trim_end-map, trailing-map, until-map, from-map}
 use Rattle.mk_class.specs.Symbols.{symbol, is_equals}
 use Rattle.mk_class.proofs.on_symbols.SymbolMaps.{symbol-map, symbols-map, is_equals-map, unit_text-map}

@@ -8,7 +8,7 @@ use Rattle.mk_lines.specs.Units.{units, is_closed}
 use Rattle.mk_lines.proofs.on_units.UnitLemmas.{EndsPlain, EndsPlain-append, EndsPlain-closed, units-replaced}
 use Rattle.mk_lines.specs.Words.{Token, Gap, Word, tokens, token_units, is_gap}
 use Rattle.mk_lines.proofs.on_units.TokenLemmas.{token_units-tokens}
-use Rattle.mk_class.specs.Lists.{until, from}
+use Rattle.mk_class.specs.ListTests.{until, from}
 use Rattle.mk_class.proofs.on_symbols.ListLemmas.{until-from}
 use Rattle.mk_class.specs.Symbols.{symbol, is_equals}
 use Rattle.mk_class.proofs.on_symbols.SymbolLemmas.{equals-plain, gap-plain}

@@ -15,7 +15,7 @@ use Rattle.mk_lines.specs.Units.UnitState.{Between}
 use Rattle.mk_lines.proofs.on_units.UnitLemmas.{units-map, is_closed-map, concat-units}
 use Rattle.mk_lines.specs.Words.{is_gap}
 use Rattle.mk_lines.proofs.on_lists.BoolLemmas.{or-left_false, or-right_false}
-use Rattle.mk_class.specs.Lists.{last_passes}
+use Rattle.mk_class.specs.ListTests.{last_passes}
 use Rattle.mk_class.specs.Symbols.{symbol, is_hash, is_hash_symbol}
 use Rattle.mk_class.specs.CutTexts.{is_no_hash}
 use Rattle.mk_class.proofs.on_assignments.AssignmentsWhole.{AreValue}

@@ -12,7 +12,7 @@ use Rattle.mk_lines.specs.PhysicalLines.{without_line_end}
 use Rattle.mk_lines.specs.Units.{units}
 use Rattle.mk_lines.specs.Words.{is_gap}
 use Rattle.mk_lines.proofs.on_lists.BoolLemmas.{or-left_false, or-right_false}
-use Rattle.mk_class.specs.Lists.{is_empty}
+use Rattle.mk_class.specs.ListTests.{is_empty}
 use Rattle.mk_class.specs.Texts.{word_texts}
 use Rattle.mk_class.specs.Symbols.{is_hash, is_equals, is_equals_symbol}
 use Rattle.mk_class.proofs.on_symbols.SymbolLemmas.{gap-no_symbol}
@@ -29,8 +29,8 @@ use Rattle.mk_class.specs.RecipePrefix.{is_prefix_led, prefix_set_by}
 use Rattle.mk_class.specs.Contexts.{Context}
 use Rattle.mk_class.proofs.on_classes.ClassHolds.{Holds, plain_class-holds, said-no_parts}
 use Rattle.mk_class.specs.ClassTable.{class_of, class_at, define_class, directive_by, header_class, target_class, rule_class, assign_class, or_class, is_all_blanks, is_unreadable, plain_class, undefined_class}
-use Rattle.mk_class.specs.declared.context.Flag.{Flag}
-use Rattle.mk_class.specs.declared.context.Flag.TheVariants.{Off, Rule, Unknown}
+use Rattle.mk_class.specs.declared.context.RuleFlag.{RuleFlag}
+use Rattle.mk_class.specs.declared.context.RuleFlag.TheVariants.{Off, Rule, Unknown}
 use Rattle.mk_class.specs.declared.context.Nesting.TheVariants.{Opens, Closes, Keeps}
 use Rattle.mk_class.specs.CountsOfClasses.{FitsCounts}
 
@@ -151,7 +151,7 @@ fits-plain led c cs us =
     fits-directive (first_keyword ws) (first_keyword (after_modifiers ws)) c (after_modifiers ws) _ (
     fits-cond c (led || not (has_colon joined_byte (head joined_byte us))) Opaque (rule_class joined_byte us) tt (fits-rule c us)))))
 
-fits-undefined : (led : Bool) (f : Flag) (c : Bool) (cs : List Cell) (us : List (List Cell)) → FitsOutside c (undefined_class joined_byte led f c (is_unreadable cs) us)
+fits-undefined : (led : Bool) (f : RuleFlag) (c : Bool) (cs : List Cell) (us : List (List Cell)) → FitsOutside c (undefined_class joined_byte led f c (is_unreadable cs) us)
 fits-undefined true Rule c cs us = tt
 fits-undefined true Unknown c cs us = tt
 fits-undefined true Off c cs us = fits-plain true c cs us
@@ -193,7 +193,7 @@ counts-define n c DirectiveWord = (n, refl)
 counts-define n c UndefineWord = (n, refl)
 counts-define n c NoKeyword = (n, refl)
 
-counts-at : (led : Bool) (n : ℕ) (f : Flag) (c : ℕ) (cs : List Cell) (us : List (List Cell)) → FitsCounts n c (class_at joined_byte led n f (nat_lt 0 c) (is_unreadable cs) us)
+counts-at : (led : Bool) (n : ℕ) (f : RuleFlag) (c : ℕ) (cs : List Cell) (us : List (List Cell)) → FitsCounts n c (class_at joined_byte led n f (nat_lt 0 c) (is_unreadable cs) us)
 counts-at led zero f c cs us = counts-outside c (undefined_class joined_byte led f (nat_lt 0 c) (is_unreadable cs) us) (fits-undefined led f (nat_lt 0 c) cs us)
 counts-at true (suc n) f c cs us = (n, refl)
 counts-at false (suc n) f c cs us = counts-define n c (first_keyword (word_texts joined_byte us))
@@ -221,13 +221,13 @@ pub assign-plain_class : (led c : Bool) (cs : List Cell) (us : List (List Cell))
 assign-plain_class led c cs us a h = rw (h.filled, h.readable, h.assigned) refl
 
 -- an assignment's line stands outside defines and recipes, and so does each line in its place that begins with the same byte
-pub record IsReadOutside (led : Bool) (defines : ℕ) (f : Flag) (c : Bool) (cs : List Cell) (us : List (List Cell)) (a : Assignment Cell) (p : Option ℕ) : Type 0 where
+pub record IsReadOutside (led : Bool) (defines : ℕ) (f : RuleFlag) (c : Bool) (cs : List Cell) (us : List (List Cell)) (a : Assignment Cell) (p : Option ℕ) : Type 0 where
   pub here : plain_class joined_byte led c (is_unreadable cs) us ≡ Assign a p
   pub also : (cs' : List Cell) (us' : List (List Cell)) → class_at joined_byte led defines f c (is_unreadable cs') us' ≡ plain_class joined_byte led c (is_unreadable cs') us'
   pub no_define : defines ≡ 0
 
 -- each line of class Assign stands there
-pub class_at-assign : (led : Bool) (n : ℕ) (f : Flag) (c : Bool) (cs : List Cell) (us : List (List Cell)) (a : Assignment Cell) (p : Option ℕ)
+pub class_at-assign : (led : Bool) (n : ℕ) (f : RuleFlag) (c : Bool) (cs : List Cell) (us : List (List Cell)) (a : Assignment Cell) (p : Option ℕ)
     → class_at joined_byte led n f c (is_unreadable cs) us ≡ Assign a p → IsReadOutside led n f c cs us a p
 class_at-assign true (suc n) f c cs us a p h = absurd (cc)
 class_at-assign false (suc n) f c cs us a p h = absurd (said-no_parts (define_class (first_keyword (word_texts joined_byte us)) (suc n)) (Assign a p) h refl)

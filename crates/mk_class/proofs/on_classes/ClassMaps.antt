@@ -1,4 +1,4 @@
--- The table of classes is natural: units and their images are of the same class, places and all. So the class of a line's cells
+-- The table of classes is natural: units and their images are of the same class, offsets and all. So the class of a line's cells
 -- is that of its joined text, and depends beside it only on whether the line has a stray byte or a bad fold.
 use Rattle.std.proofs.Common.{◌≡◌, refl, ap, ◌∙◌, sym, ℕ, suc, zero, List, map, Bool, true, false, not, ◌||◌, cond, Option, Some, None}
 use Rattle.std.specs.List.{list_any}
@@ -9,7 +9,7 @@ use Rattle.mk_lines.specs.Units.{units}
 use Rattle.mk_lines.proofs.on_units.UnitLemmas.{units-map}
 use Rattle.mk_lines.specs.Words.{is_gap}
 use Rattle.mk_lines.proofs.on_units.TokenLemmas.{is_gap-map}
-use Rattle.mk_class.specs.Lists.{is_empty}
+use Rattle.mk_class.specs.ListTests.{is_empty}
 use Rattle.mk_class.proofs.on_symbols.ListMaps.{is_empty-map, any-map, after_leading-map}
 use Rattle.mk_class.specs.Texts.{word_texts}
 use Rattle.mk_class.specs.Symbols.{is_hash}
@@ -20,16 +20,16 @@ use Rattle.mk_class.proofs.on_assignments.AssignmentMaps.{map_assigned, assignme
 use Rattle.mk_class.specs.Separators.{Separated, separated, has_colon, takes_assignment}
 use Rattle.mk_class.specs.Headers.{header, is_rough}
 use Rattle.mk_class.proofs.on_headers.HeaderMaps.{map_separated, map_header, has_colon-map, separated-map, header-map, is_rough-map}
-use Rattle.mk_class.proofs.on_symbols.PlaceMaps.{assignment_places-map, target_places-map, header_places-map, prefix_set_by-map}
+use Rattle.mk_class.proofs.on_symbols.OffsetMaps.{located_assignment-map, located_target_assignment-map, located_header-map, prefix_set_by-map}
 use Rattle.mk_class.specs.Classes.{Class, Said, class_said}
 use Rattle.mk_class.specs.Classes.Class.{Opaque, Rough, Header}
 use Rattle.mk_class.specs.RecipePrefix.{is_prefix_led}
 use Rattle.mk_class.specs.Contexts.{Context}
 use Rattle.mk_class.specs.ClassTable.{body_class, directive, header_class, target_class, separated_class, rule_class, assign_class, or_class, is_all_blanks, is_unreadable, answered, plain_class, undefined_class, class_at, class_of}
-use Rattle.mk_class.specs.ClassPlaces.{class_places}
+use Rattle.mk_class.specs.LocatedClasses.{located_class}
 use Rattle.mk_class.specs.TextClasses.{itself, text_class}
-use Rattle.mk_class.specs.declared.context.Flag.{Flag}
-use Rattle.mk_class.specs.declared.context.Flag.TheVariants.{Off, Rule, Unknown}
+use Rattle.mk_class.specs.declared.context.RuleFlag.{RuleFlag}
+use Rattle.mk_class.specs.declared.context.RuleFlag.TheVariants.{Off, Rule, Unknown}
 use Rattle.mk_class.specs.declared.class.Class.TheVariants as variants
 
 -- equal answers give equal classes
@@ -38,15 +38,15 @@ pub answered-same : {A : Type 0} (byte : A → ℕ) (led c un e h k E H K : Bool
 answered-same byte led c un e h k E H K a b d s r i j l m n = rw (i, j, l, m, n) refl
 
 module _ {A B : Type 0} (f : A → B) (byte : B → ℕ) where
-  -- a class of units and one of their images have the same places
-  abbrev SamePlaces : Class A → Class B → Type 0
-  SamePlaces k j = class_places byte j ≡ class_places (λ x. byte (f x)) k
+  -- a class of units and one of their images have the same offsets
+  abbrev HaveSameOffsets : Class A → Class B → Type 0
+  HaveSameOffsets k j = located_class byte j ≡ located_class (λ x. byte (f x)) k
 
-  same-if : (c : Bool) (k l : Class A) (i j : Class B) → SamePlaces k i → SamePlaces l j → SamePlaces (cond c k l) (cond c i j)
+  same-if : (c : Bool) (k l : Class A) (i j : Class B) → HaveSameOffsets k i → HaveSameOffsets l j → HaveSameOffsets (cond c k l) (cond c i j)
   same-if true k l i j h e = h
   same-if false k l i j h e = e
 
-  same-said : (s : Said) → SamePlaces (class_said s) (class_said s)
+  same-said : (s : Said) → HaveSameOffsets (class_said s) (class_said s)
   same-said Said.Endef = refl
   same-said (Said.Body n) = refl
   same-said (Said.DefineHead p) = refl
@@ -55,50 +55,50 @@ module _ {A B : Type 0} (f : A → B) (byte : B → ℕ) where
   same-said Said.Endif = refl
   same-said Said.Directive = refl
 
-  same-or : (o : Option Said) (k : Class A) (j : Class B) → SamePlaces k j → SamePlaces (or_class o k) (or_class o j)
+  same-or : (o : Option Said) (k : Class A) (j : Class B) → HaveSameOffsets k j → HaveSameOffsets (or_class o k) (or_class o j)
   same-or None k j h = h
   same-or (Some s) k j h = same-said s
 
-  same-assign : (c : Bool) (o : Option (Assignment A)) (k : Class A) (j : Class B) → SamePlaces k j
-      → SamePlaces (assign_class (λ x. byte (f x)) c o k) (assign_class byte c (map_assigned f o) j)
+  same-assign : (c : Bool) (o : Option (Assignment A)) (k : Class A) (j : Class B) → HaveSameOffsets k j
+      → HaveSameOffsets (assign_class (λ x. byte (f x)) c o k) (assign_class byte c (map_assigned f o) j)
   same-assign c None k j h = h
-  same-assign c (Some a) k j h = rw (assignment_places-map f 0 a, prefix_set_by-map f byte c a) refl
+  same-assign c (Some a) k j h = rw (located_assignment-map f 0 a, prefix_set_by-map f byte c a) refl
 
-  same-target : (s : Separated A) (o : Option (Assignment A)) (k : Class A) (j : Class B) → SamePlaces k j → SamePlaces (target_class s o k) (target_class (map_separated f s) (map_assigned f o) j)
+  same-target : (s : Separated A) (o : Option (Assignment A)) (k : Class A) (j : Class B) → HaveSameOffsets k j → HaveSameOffsets (target_class s o k) (target_class (map_separated f s) (map_assigned f o) j)
   same-target s None k j h = h
-  same-target s (Some a) k j h = ap variants.TargetAssign (target_places-map f (record { separator = s.separator; targets = s.targets; colons = s.colons; assigned = a }))
+  same-target s (Some a) k j h = ap variants.TargetAssign (located_target_assignment-map f (record { separator = s.separator; targets = s.targets; colons = s.colons; assigned = a }))
 
-  same-header : (us : List (List A)) → SamePlaces (header_class (λ x. byte (f x)) us) (header_class byte (map (map f) us))
+  same-header : (us : List (List A)) → HaveSameOffsets (header_class (λ x. byte (f x)) us) (header_class byte (map (map f) us))
   same-header us =
       let H = header (λ x. byte (f x)) us in
       let D = head (λ x. byte (f x)) us in
       let e : header_class byte (map (map f) us) ≡ cond (is_rough (λ x. byte (f x)) D H) Rough (Header (map_header f H)) =
       ap (λ z. cond (is_rough byte z (header byte (map (map f) us))) Rough (Header (header byte (map (map f) us)))) (head-map f byte us)
       ∙ (ap (λ z. cond (is_rough byte (map (map f) D) z) Rough (Header z)) (header-map f byte us) ∙ ap (λ z. cond z Rough (Header (map_header f H))) (is_rough-map f byte D H)) in
-      ap (class_places byte) e ∙ same-if (is_rough (λ x. byte (f x)) D H) Rough (Header H) Rough (Header (map_header f H)) refl (ap variants.Header (header_places-map f byte H))
+      ap (located_class byte) e ∙ same-if (is_rough (λ x. byte (f x)) D H) Rough (Header H) Rough (Header (map_header f H)) refl (ap variants.Header (located_header-map f byte H))
 
-  same-separated : (s : Separated A) (us : List (List A)) → SamePlaces (separated_class (λ x. byte (f x)) s us) (separated_class byte (map_separated f s) (map (map f) us))
+  same-separated : (s : Separated A) (us : List (List A)) → HaveSameOffsets (separated_class (λ x. byte (f x)) s us) (separated_class byte (map_separated f s) (map (map f) us))
   same-separated s us =
       let O = assignment (λ x. byte (f x)) s.rest in
       rw (assignment-map f byte s.rest) (same-if (takes_assignment s.separator) _ _ _ _ (same-target s O _ _ (same-header us)) (same-header us))
 
-  same-rule : (us : List (List A)) → SamePlaces (rule_class (λ x. byte (f x)) us) (rule_class byte (map (map f) us))
+  same-rule : (us : List (List A)) → HaveSameOffsets (rule_class (λ x. byte (f x)) us) (rule_class byte (map (map f) us))
   same-rule us =
       let C = cut_text (λ x. byte (f x)) us in
-      ap (λ z. class_places byte (separated_class byte z (map (map f) us))) (ap (separated byte) (cut_text-map f byte us) ∙ separated-map f byte C) ∙ same-separated (separated (λ x. byte (f x)) C) us
+      ap (λ z. located_class byte (separated_class byte z (map (map f) us))) (ap (separated byte) (cut_text-map f byte us) ∙ separated-map f byte C) ∙ same-separated (separated (λ x. byte (f x)) C) us
 
   all_blanks-map : (us : List (List A)) → is_all_blanks byte (map (map f) us) ≡ is_all_blanks (λ x. byte (f x)) us
   all_blanks-map us =
       ap is_empty (after_leading-map (map f) (is_gap (λ x. byte (f x))) (is_gap byte) (is_gap-map f byte) us) ∙ is_empty-map (map f) (after_leading (is_gap (λ x. byte (f x))) us)
 
-  same-answered : (led c un e h k : Bool) (o : Option (Assignment A)) (d : Option Said) (r : Class A) (q : Class B) → SamePlaces r q
-      → SamePlaces (answered (λ x. byte (f x)) led c un e h k o d r) (answered byte led c un e h k (map_assigned f o) d q)
+  same-answered : (led c un e h k : Bool) (o : Option (Assignment A)) (d : Option Said) (r : Class A) (q : Class B) → HaveSameOffsets r q
+      → HaveSameOffsets (answered (λ x. byte (f x)) led c un e h k o d r) (answered byte led c un e h k (map_assigned f o) d q)
   same-answered led c un true true k o d r q s = refl
   same-answered led c un true false k o d r q s = refl
   same-answered led c true false h k o d r q s = refl
   same-answered led c false false h k o d r q s = same-assign c o _ _ (same-or d _ _ (same-if (led || not k) Opaque r Opaque q refl s))
 
-  same-plain : (led c unreadable : Bool) (us : List (List A)) → SamePlaces (plain_class (λ x. byte (f x)) led c unreadable us) (plain_class byte led c unreadable (map (map f) us))
+  same-plain : (led c unreadable : Bool) (us : List (List A)) → HaveSameOffsets (plain_class (λ x. byte (f x)) led c unreadable us) (plain_class byte led c unreadable (map (map f) us))
   same-plain led c unreadable us =
       let C = cut_text (λ x. byte (f x)) us in
       let D = directive c (word_texts (λ x. byte (f x)) C) in
@@ -107,7 +107,7 @@ module _ {A B : Type 0} (f : A → B) (byte : B → ℕ) where
       let K = has_colon (λ x. byte (f x)) (head (λ x. byte (f x)) us) in
       let O = assignment (λ x. byte (f x)) C in
       let cut = cut_text-map f byte us in
-      ap (class_places byte) (
+      ap (located_class byte) (
       answered-same byte led c unreadable _ _ _ N H K _ (map_assigned f O) _ D (rule_class byte (map (map f) us))
       (ap (is_all_blanks byte) cut ∙ all_blanks-map C)
       (any-map (map f) (is_hash (λ x. byte (f x))) (is_hash byte) (is_hash-map f byte) us)
@@ -116,21 +116,21 @@ module _ {A B : Type 0} (f : A → B) (byte : B → ℕ) where
       )
       ∙ same-answered led c unreadable N H K O D (rule_class (λ x. byte (f x)) us) (rule_class byte (map (map f) us)) (same-rule us)
 
-  same-undefined : (led : Bool) (k : Flag) (c unreadable : Bool) (us : List (List A)) → SamePlaces (undefined_class (λ x. byte (f x)) led k c unreadable us) (undefined_class byte led k c unreadable (map (map f) us))
+  same-undefined : (led : Bool) (k : RuleFlag) (c unreadable : Bool) (us : List (List A)) → HaveSameOffsets (undefined_class (λ x. byte (f x)) led k c unreadable us) (undefined_class byte led k c unreadable (map (map f) us))
   same-undefined true Off c unreadable us = same-plain true c unreadable us
   same-undefined true Rule c unreadable us = refl
   same-undefined true Unknown c unreadable us = refl
   same-undefined false k c unreadable us = same-plain false c unreadable us
 
-  -- the class of the images of units has the places of the class of the units
-  class_at-map : (led : Bool) (defines : ℕ) (k : Flag) (c unreadable : Bool) (us : List (List A))
-      → class_places byte (class_at byte led defines k c unreadable (map (map f) us)) ≡ class_places (λ x. byte (f x)) (class_at (λ x. byte (f x)) led defines k c unreadable us)
+  -- the class of the images of units has the offsets of the class of the units
+  class_at-map : (led : Bool) (defines : ℕ) (k : RuleFlag) (c unreadable : Bool) (us : List (List A))
+      → located_class byte (class_at byte led defines k c unreadable (map (map f) us)) ≡ located_class (λ x. byte (f x)) (class_at (λ x. byte (f x)) led defines k c unreadable us)
   class_at-map led zero k c unreadable us = same-undefined led k c unreadable us
   class_at-map led (suc n) k c unreadable us = rw (word_texts-map f byte us) (same-said (body_class led (suc n) (word_texts (λ x. byte (f x)) us)))
 
 -- the class of a line in a context, as the code has it, is that of its joined text
 pub class_of-text : (context : Context) (line : List ℕ)
-    → class_places joined_byte (class_of context line)
+    → located_class joined_byte (class_of context line)
     ≡ text_class (is_prefix_led context.prefix line) context.defines context.flag (nat_lt 0 context.conditionals) (is_unreadable (line_cells line)) (joined_text (line_cells line))
 class_of-text c l =
     let cs = line_cells l in

@@ -1,11 +1,11 @@
--- The parts of a line by the class that the code has for it: what stands in each range that it places, for assignments,
+-- The parts of a line by the class that the code has for it: what stands in each range that it gives, for assignments,
 -- assignments for targets and headers.
 use Rattle.std.proofs.Common.{◌≡◌, refl, sym, ap, ◌∙◌, subst, arith, ℕ, suc, ◌+◌, List, [], ◌∷◌, ◌++◌, map, length, append_assoc, Bool, not}
 use Rattle.std.specs.Prelude.{nat_lt, if◌then◌else◌}
 use Rattle.mk_lines.proofs.on_lists.ListLemmas.{leading-after_leading}
 use Rattle.mk_lines.specs.Cells.{Cell, joined_byte, line_cells}
 use Rattle.mk_lines.specs.Units.{units}
-use Rattle.mk_class.specs.Lists.{is_empty}
+use Rattle.mk_class.specs.ListTests.{is_empty}
 use Rattle.mk_class.specs.Symbols.{Symbol, symbol}
 use Rattle.mk_class.specs.Symbols.Symbol.{Colon, Bar, NoSymbol}
 use Rattle.mk_class.proofs.on_symbols.SymbolLemmas.{symbol-unit, colon_symbol-is, bar_symbol-is}
@@ -23,13 +23,13 @@ use Rattle.mk_class.specs.Classes.Class.{Endef, Body, Recipe, Opaque, Blank, Com
 use Rattle.mk_class.specs.RecipePrefix.{is_prefix_led}
 use Rattle.mk_class.specs.Contexts.{Context}
 use Rattle.mk_class.specs.ClassTable.{class_of, is_unreadable}
-use Rattle.mk_class.specs.ClassPlaces.{width, class_places, assignment_places, target_assignment_places, header_places}
+use Rattle.mk_class.specs.LocatedClasses.{width, located_class, located_assignment, located_target_assignment, located_header}
 use Rattle.mk_class.proofs.on_classes.ClassHolds.{IsTarget, IsHeader, Holds, class_at-holds}
-use Rattle.mk_class.proofs.on_classes.PartPlaceLemmas.{part-is, width-append}
+use Rattle.mk_class.proofs.on_classes.PartOffsetLemmas.{part-is, width-append}
 use Rattle.mk_class.specs.declared.rule.Separator.{Separator}
 use Rattle.mk_class.specs.declared.rule.Separator.TheVariants.{SingleColon, DoubleColon, GroupedColon, GroupedDoubleColon}
 use Rattle.mk_class.specs.declared.class.Class as class
-use Rattle.mk_class.specs.LineParts.{IsHeaderPlaced, IsAssignmentPlaced, IsTargetAssignmentPlaced, ArePartsPlaced}
+use Rattle.mk_class.specs.LineParts.{IsHeaderLocated, IsAssignmentLocated, IsTargetAssignmentLocated, ArePartsLocated}
 
 -- ---- headers
 
@@ -76,7 +76,7 @@ colons-width s us h = symbols us (separator_symbols s) h (no-none s) ∙ count s
     count GroupedColon = refl
     count GroupedDoubleColon = refl
 
-header-parts : (led c un : Bool) (cs : List Cell) (h : Headers.Header Cell) → IsHeader joined_byte (units joined_byte cs) led c un h → IsHeaderPlaced cs (header_places joined_byte h) h
+header-parts : (led c un : Bool) (cs : List Cell) (h : Headers.Header Cell) → IsHeader joined_byte (units joined_byte cs) led c un h → IsHeaderLocated cs (located_header joined_byte h) h
 header-parts led c un cs h i =
     let us = units joined_byte cs in
     let T = h.targets in
@@ -103,7 +103,7 @@ header-parts led c un cs h i =
       order_only = part-is cs _ _ (T ++ (C ++ (P ++ (D ++ (N ++ B))))) O h.tail (whole ∙ simp append_assoc) (omega (arith, b, w3)) (omega (arith, b));
     }
 
-assign-parts : (cs : List Cell) (n : ℕ) (front rest : List (List Cell)) (a : Assignment Cell) → units joined_byte cs ≡ front ++ (assignment_units a ++ rest) → n ≡ width front → IsAssignmentPlaced cs (assignment_places n a) front a
+assign-parts : (cs : List Cell) (n : ℕ) (front rest : List (List Cell)) (a : Assignment Cell) → units joined_byte cs ≡ front ++ (assignment_units a ++ rest) → n ≡ width front → IsAssignmentLocated cs (located_assignment n a) front a
 assign-parts cs n F rest a whole m =
     let X = a.before in
     let N = a.name in
@@ -121,7 +121,7 @@ assign-parts cs n F rest a whole m =
       after = part-is cs _ _ (F ++ (X ++ (N ++ (O ++ V)))) a.after rest (whole ∙ simp append_assoc) (sym w4) refl;
     }
 
-target-parts : (led c un : Bool) (cs : List Cell) (t : TargetAssignment Cell) → IsTarget joined_byte (units joined_byte cs) led c un t → IsTargetAssignmentPlaced cs (target_assignment_places t) t
+target-parts : (led c un : Bool) (cs : List Cell) (t : TargetAssignment Cell) → IsTarget joined_byte (units joined_byte cs) led c un t → IsTargetAssignmentLocated cs (located_target_assignment t) t
 target-parts led c un cs t i =
     let us = units joined_byte cs in
     let S : Separated Cell = separated joined_byte (cut_text joined_byte us) in
@@ -134,45 +134,45 @@ target-parts led c un cs t i =
       assigned = assign-parts cs _ (t.targets ++ t.colons) (comment joined_byte us) t.assigned (line ∙ simp append_assoc) (sym (width-append t.targets t.colons));
     }
 
-parts_placed : (led c un : Bool) (cs : List Cell) (k : Class Cell) → Holds joined_byte (units joined_byte cs) led c un k → ArePartsPlaced cs k (class_places joined_byte k)
-parts_placed led c un cs (Assign a p) h =
+parts_located : (led c un : Bool) (cs : List Cell) (k : Class Cell) → Holds joined_byte (units joined_byte cs) led c un k → ArePartsLocated cs k (located_class joined_byte k)
+parts_located led c un cs (Assign a p) h =
     let us = units joined_byte cs in
     let own : cut_text joined_byte us ≡ assignment_units a = sym (assignment-is joined_byte (cut_text joined_byte us) a h.assigned).whole in
     (a, refl, assign-parts cs 0 [] (comment joined_byte us) a (sym (leading-after_leading (is_no_hash joined_byte) us) ∙ ap (λ z. z ++ comment joined_byte us) own) refl)
-parts_placed led c un cs (TargetAssign t) h = (t, refl, target-parts led c un cs t h)
-parts_placed led c un cs (Header x) h = (x, refl, header-parts led c un cs x h)
-parts_placed led c un cs Endef h = tt
-parts_placed led c un cs (Body n) h = tt
-parts_placed led c un cs Recipe h = tt
-parts_placed led c un cs Opaque h = tt
-parts_placed led c un cs Blank h = tt
-parts_placed led c un cs Comment h = tt
-parts_placed led c un cs (DefineHead p) h = tt
-parts_placed led c un cs If h = tt
-parts_placed led c un cs Else h = tt
-parts_placed led c un cs Endif h = tt
-parts_placed led c un cs Directive h = tt
-parts_placed led c un cs Rough h = tt
+parts_located led c un cs (TargetAssign t) h = (t, refl, target-parts led c un cs t h)
+parts_located led c un cs (Header x) h = (x, refl, header-parts led c un cs x h)
+parts_located led c un cs Endef h = tt
+parts_located led c un cs (Body n) h = tt
+parts_located led c un cs Recipe h = tt
+parts_located led c un cs Opaque h = tt
+parts_located led c un cs Blank h = tt
+parts_located led c un cs Comment h = tt
+parts_located led c un cs (DefineHead p) h = tt
+parts_located led c un cs If h = tt
+parts_located led c un cs Else h = tt
+parts_located led c un cs Endif h = tt
+parts_located led c un cs Directive h = tt
+parts_located led c un cs Rough h = tt
 
 -- what is known of a line by the class that the code has for it
-pub line-parts_placed : (c : Context) (l : List ℕ) (k : class.Class) → k ≡ class_places joined_byte (class_of c l) → ArePartsPlaced (line_cells l) (class_of c l) k
-line-parts_placed c l k h =
+pub line-parts_located : (c : Context) (l : List ℕ) (k : class.Class) → k ≡ located_class joined_byte (class_of c l) → ArePartsLocated (line_cells l) (class_of c l) k
+line-parts_located c l k h =
     let cs = line_cells l in
-    subst (ArePartsPlaced cs (class_of c l)) (sym h) (
-    parts_placed (is_prefix_led c.prefix l) (nat_lt 0 c.conditionals) (is_unreadable cs) cs (class_of c l) (class_at-holds joined_byte (units joined_byte cs) (is_prefix_led c.prefix l) (nat_lt 0 c.conditionals) (is_unreadable cs) c.defines c.flag)
+    subst (ArePartsLocated cs (class_of c l)) (sym h) (
+    parts_located (is_prefix_led c.prefix l) (nat_lt 0 c.conditionals) (is_unreadable cs) cs (class_of c l) (class_at-holds joined_byte (units joined_byte cs) (is_prefix_led c.prefix l) (nat_lt 0 c.conditionals) (is_unreadable cs) c.defines c.flag)
     )
 
--- the places of the parts of a header
-pub header-placed : (c : Context) (l : List ℕ) (h : Headers.Header Cell) → class_of c l ≡ Header h → IsHeaderPlaced (line_cells l) (header_places joined_byte h) h
-header-placed c l h e =
-    let s = line-parts_placed c l (class_places joined_byte (Header h)) (ap (class_places joined_byte) (sym e)) in
+-- the offsets of the parts of a header
+pub header-located : (c : Context) (l : List ℕ) (h : Headers.Header Cell) → class_of c l ≡ Header h → IsHeaderLocated (line_cells l) (located_header joined_byte h) h
+header-located c l h e =
+    let s = line-parts_located c l (located_class joined_byte (Header h)) (ap (located_class joined_byte) (sym e)) in
     let q : Header s.0 ≡ Header h = sym s.1 ∙ e in
     let r : s.0 ≡ h = cc in
-    subst (IsHeaderPlaced (line_cells l) (header_places joined_byte h)) r s.2
+    subst (IsHeaderLocated (line_cells l) (located_header joined_byte h)) r s.2
 
-pub target-placed : (c : Context) (l : List ℕ) (t : TargetAssignment Cell) → class_of c l ≡ TargetAssign t → IsTargetAssignmentPlaced (line_cells l) (target_assignment_places t) t
-target-placed c l t e =
-    let s = line-parts_placed c l (class_places joined_byte (TargetAssign t)) (ap (class_places joined_byte) (sym e)) in
+pub target-located : (c : Context) (l : List ℕ) (t : TargetAssignment Cell) → class_of c l ≡ TargetAssign t → IsTargetAssignmentLocated (line_cells l) (located_target_assignment t) t
+target-located c l t e =
+    let s = line-parts_located c l (located_class joined_byte (TargetAssign t)) (ap (located_class joined_byte) (sym e)) in
     let q : TargetAssign s.0 ≡ TargetAssign t = sym s.1 ∙ e in
     let r : s.0 ≡ t = cc in
-    subst (IsTargetAssignmentPlaced (line_cells l) (target_assignment_places t)) r s.2
+    subst (IsTargetAssignmentLocated (line_cells l) (located_target_assignment t)) r s.2

@@ -13,12 +13,12 @@ use Rattle.mk_class.specs.ContextsOfLines.{flag_set_by, first_flag, flag_after_l
 use Rattle.mk_class.proofs.on_contexts.FlagLemmas.{context_after_lines-append, flag_after-left}
 use Rattle.mk_class.specs.CountsOfClasses.{FitsCounts}
 use Rattle.mk_class.proofs.on_classes.ClassLemmas.{class_of-counts}
-use Rattle.mk_class.specs.declared.context.Flag.{Flag}
+use Rattle.mk_class.specs.declared.context.RuleFlag.{RuleFlag}
 use Rattle.mk_class.specs.declared.context.Nesting.TheVariants.{Opens, Closes, Keeps}
 
 -- ---- flag and prefix
 
-flag-set : (f : Flag) (k : Class Cell) → leaves_flag k ≡ false → flag_after f k ≡ flag_set_by k
+flag-set : (f : RuleFlag) (k : Class Cell) → leaves_flag k ≡ false → flag_after f k ≡ flag_set_by k
 flag-set f Endef h = refl
 flag-set f (Body n) h = refl
 flag-set f Recipe h = refl

@@ -8,7 +8,7 @@ use Rattle.mk_lines.specs.Units.{units}
 use Rattle.mk_class.specs.Texts.{unit_text}
 use Rattle.mk_class.specs.Assignments.{Assignment}
 use Rattle.mk_class.specs.Classes.{Class}
-use Rattle.mk_class.specs.ClassPlaces.{class_places}
+use Rattle.mk_class.specs.LocatedClasses.{located_class}
 use Rattle.mk_class.specs.RecipePrefix.{tab, may_be_prefix, is_prefix_led, prefix_of_value, is_read_for_prefix, prefix_set_by, is_prefix_byte}
 use Rattle.mk_class.specs.Contexts.{Context, prefix_after, context_after, Admits}
 use Rattle.mk_class.specs.ClassTable.{class_of}
@@ -21,7 +21,7 @@ use Rattle.mk_class.specs.declared.context.Nesting.TheVariants.{Opens, Closes, K
 
 -- a class that fits the counts may be stepped over, if fewer than 2 ^ 24 defines are open, and if a line that opens a conditional
 -- finds fewer than 256 open
-Admits-counts : (c : Context) (k : Class Cell) → FitsCounts c.defines c.conditionals k → (k ≡ Class.If → c.conditionals < 256) → c.defines < 2 ^ 24 → Admits c (class_places joined_byte k)
+Admits-counts : (c : Context) (k : Class Cell) → FitsCounts c.defines c.conditionals k → (k ≡ Class.If → c.conditionals < 256) → c.defines < 2 ^ 24 → Admits c (located_class joined_byte k)
 Admits-counts c Class.Endef f h d = (tt, omega arith)
 Admits-counts c (Class.Body Opens) f h d = (tt, d)
 Admits-counts c (Class.Body Closes) f h d = (tt, omega (arith, f.1))
@@ -41,7 +41,7 @@ Admits-counts c Class.Rough f h d = (tt, tt)
 Admits-counts c (Class.Header x) f h d = (tt, tt)
 
 -- each line may be stepped over in its context
-pub class_of-admits : (c : Context) (l : List ℕ) → (class_of c l ≡ Class.If → c.conditionals < 256) → c.defines < 2 ^ 24 → Admits c (class_places joined_byte (class_of c l))
+pub class_of-admits : (c : Context) (l : List ℕ) → (class_of c l ≡ Class.If → c.conditionals < 256) → c.defines < 2 ^ 24 → Admits c (located_class joined_byte (class_of c l))
 class_of-admits c l = Admits-counts c (class_of c l) (class_of-counts c l)
 
 some_same : (a b : ℕ) → Some a ≡ Some b → a ≡ b

@@ -5,12 +5,12 @@ use Rattle.std.proofs.lemmas.Bool.{not-false}
 use Rattle.mk_lines.specs.Lists.{leading, after_leading, Each, FirstFails}
 use Rattle.mk_lines.proofs.on_lists.ListLemmas.{leading-after_leading, leading-each, after_leading-first_fails}
 use Rattle.mk_lines.proofs.on_lists.BoolLemmas.{or-left_false, or-right_false}
-use Rattle.mk_class.specs.Lists.{is_empty, until, from, first_passes, last_passes}
+use Rattle.mk_class.specs.ListTests.{is_empty, until, from, first_passes, last_passes}
 use Rattle.mk_class.specs.Symbols.{Symbol, symbol, is_colon, is_bar, is_ampersand, is_colon_symbol, is_ampersand_symbol}
 use Rattle.mk_class.specs.Symbols.Symbol.{Hash, Colon, Semicolon, Equals, Plus, Question, Exclamation, Bar, Ampersand, NoSymbol}
 use Rattle.mk_class.specs.CutTexts.{head, after_head, is_in_head}
 use Rattle.mk_class.specs.Separators.{Separated, separated, separator_at, separator_length, begins_separator, has_colon, is_single_colon, separated_units}
-use Rattle.mk_class.specs.Headers.{Header, header, header_parts, with_prerequisites, is_no_bar, is_no_colon, has_unreadable, has_colon_after_other, has_third_separator, has_bar_amiss, has_second_bar, has_pattern_amiss, is_rough}
+use Rattle.mk_class.specs.Headers.{Header, header, header_parts, with_prerequisites, is_no_bar, is_no_colon, has_unreadable, has_colon_after_other, has_third_separator, has_bad_bar, has_second_bar, has_bad_pattern, is_rough}
 use Rattle.mk_class.proofs.on_headers.HeadersWhole.{separated-whole}
 use Rattle.mk_class.specs.HeaderFits.{separator_symbols, FitsPattern, FitsBar, FitsHeader}
 
@@ -190,8 +190,8 @@ module _ {A : Type 0} (byte : A → ℕ) where
   -- what is not Rough has no `:` after a separator other than `:`
   not_rough-separator : (us : List (List A)) (h : Header A) → is_rough byte us h ≡ false → has_colon_after_other byte h ≡ false
   not_rough-separator us h r =
-      or-left_false (has_colon_after_other byte h) (has_third_separator byte h || (has_bar_amiss byte h || (has_second_bar byte h || has_pattern_amiss byte h)))
-      (or-right_false (has_unreadable byte us) (has_colon_after_other byte h || (has_third_separator byte h || (has_bar_amiss byte h || (has_second_bar byte h || has_pattern_amiss byte h)))) r)
+      or-left_false (has_colon_after_other byte h) (has_third_separator byte h || (has_bad_bar byte h || (has_second_bar byte h || has_bad_pattern byte h)))
+      (or-right_false (has_unreadable byte us) (has_colon_after_other byte h || (has_third_separator byte h || (has_bad_bar byte h || (has_second_bar byte h || has_bad_pattern byte h)))) r)
 
   -- ---- the line
 

@@ -5,15 +5,15 @@ use Rattle.std.proofs.lemmas.List.{take-map, drop-map}
 use Rattle.mk_lines.specs.Lists.{leading, after_leading}
 use Rattle.mk_lines.specs.Words.{is_gap}
 use Rattle.mk_lines.proofs.on_units.TokenLemmas.{is_gap-map}
-use Rattle.mk_class.specs.Lists.{until, from, first_passes}
+use Rattle.mk_class.specs.ListTests.{until, from, first_passes}
 use Rattle.mk_class.proofs.on_symbols.ListMaps.{is_empty-map, any-map, first_passes-map, last_passes-map, leading-map, after_leading-map, until-map, from-map}
 use Rattle.mk_class.specs.Symbols.{symbol, is_hash, is_colon, is_equals, is_bar, is_ampersand, is_unreadable_unit}
 use Rattle.mk_class.proofs.on_symbols.SymbolMaps.{symbols-map, is_hash-map, is_colon-map, is_equals-map, is_bar-map, is_ampersand-map, is_unreadable_unit-map, words_of-map, head-map, after_head-map}
 use Rattle.mk_class.specs.Texts.{words_of}
 use Rattle.mk_class.specs.CutTexts.{head, after_head}
 use Rattle.mk_class.specs.Separators.{Separated, separator_at, separator_length, has_colon, begins_separator, separated_before, separated}
-use Rattle.mk_class.specs.Headers.{Header, is_no_colon, is_no_bar, with_prerequisites, header_parts, header, has_unreadable, has_colon_after_other, has_third_separator, has_bar_amiss, has_second_bar, is_single, has_pattern_amiss, is_rough, inline_recipe}
-use Rattle.mk_class.specs.ClassPlaces.{is_some}
+use Rattle.mk_class.specs.Headers.{Header, is_no_colon, is_no_bar, with_prerequisites, header_parts, header, has_unreadable, has_colon_after_other, has_third_separator, has_bad_bar, has_second_bar, is_single, has_bad_pattern, is_rough, inline_recipe}
+use Rattle.mk_class.specs.LocatedClasses.{is_some}
 use Rattle.mk_class.specs.declared.rule.Separator.{Separator}
 
 -- the image of a text taken apart at its separator
@@ -146,8 +146,8 @@ module _ {A B : Type 0} (f : A → B) (byte : B → ℕ) where
   is_no_gap-map : (u : List A) → not (is_gap byte (map f u)) ≡ not (is_gap (λ x. byte (f x)) u)
   is_no_gap-map u = ap not (is_gap-map f byte u)
 
-  has_bar_amiss-map : (h : Header A) → has_bar_amiss byte (map_header f h) ≡ has_bar_amiss (λ x. byte (f x)) h
-  has_bar_amiss-map h =
+  has_bad_bar-map : (h : Header A) → has_bad_bar byte (map_header f h) ≡ has_bad_bar (λ x. byte (f x)) h
+  has_bad_bar-map h =
       rw (
         has_bar-map h.targets,
         has_bar-map h.pattern,
@@ -163,15 +163,15 @@ module _ {A B : Type 0} (f : A → B) (byte : B → ℕ) where
   is_single-map [] = refl
   is_single-map (w ∷ ws) = is_empty-map (map f) ws
 
-  has_pattern_amiss-map : (h : Header A) → has_pattern_amiss byte (map_header f h) ≡ has_pattern_amiss (λ x. byte (f x)) h
-  has_pattern_amiss-map h =
+  has_bad_pattern-map : (h : Header A) → has_bad_pattern byte (map_header f h) ≡ has_bad_pattern (λ x. byte (f x)) h
+  has_bad_pattern-map h =
       let e : is_single byte (words_of byte (map (map f) h.pattern)) ≡ is_single (λ x. byte (f x)) (words_of (λ x. byte (f x)) h.pattern) = ap (is_single byte) (words_of-map f byte h.pattern) ∙ is_single-map (words_of (λ x. byte (f x)) h.pattern) in
       rw (is_empty-map (map f) h.second_colon, e) refl
 
   -- the image of a line is Rough if the line is
   pub is_rough-map : (us : List (List A)) (h : Header A) → is_rough byte (map (map f) us) (map_header f h) ≡ is_rough (λ x. byte (f x)) us h
   is_rough-map us h =
-      rw (has_unreadable-map us, has_colon_after_other-map h, has_third_separator-map h, has_bar_amiss-map h, has_second_bar-map h, has_pattern_amiss-map h) refl
+      rw (has_unreadable-map us, has_colon_after_other-map h, has_third_separator-map h, has_bad_bar-map h, has_second_bar-map h, has_bad_pattern-map h) refl
 
   -- ---- the inline recipe
 

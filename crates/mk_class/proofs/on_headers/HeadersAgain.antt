@@ -5,7 +5,7 @@ use Rattle.std.proofs.Math.Bool.{and-false}
 use Rattle.std.proofs.lemmas.Bool.{not-true}
 use Rattle.mk_lines.specs.Lists.{leading, after_leading, Each}
 use Rattle.mk_lines.proofs.on_lists.ListLemmas.{leading-append_all, after_leading-append_all}
-use Rattle.mk_class.specs.Lists.{until, from, first_passes, last_passes}
+use Rattle.mk_class.specs.ListTests.{until, from, first_passes, last_passes}
 use Rattle.mk_class.specs.Symbols.{Symbol, symbol, is_colon, is_ampersand, is_colon_symbol}
 use Rattle.mk_class.specs.Symbols.Symbol.{Hash, Colon, Semicolon, Equals, Plus, Question, Exclamation, Bar, Ampersand, NoSymbol}
 use Rattle.mk_class.specs.CutTexts.{head, after_head, is_in_head}

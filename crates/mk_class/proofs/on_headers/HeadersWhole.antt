@@ -3,7 +3,7 @@ use Rattle.std.proofs.Common.{◌≡◌, ap, ◌∙◌, ℕ, List, [], ◌++◌,
 use Rattle.std.proofs.lemmas.List.{take-append-drop}
 use Rattle.mk_lines.specs.Lists.{leading, after_leading}
 use Rattle.mk_lines.proofs.on_lists.ListLemmas.{leading-after_leading}
-use Rattle.mk_class.specs.Lists.{until, from}
+use Rattle.mk_class.specs.ListTests.{until, from}
 use Rattle.mk_class.specs.Symbols.{symbol}
 use Rattle.mk_class.specs.CutTexts.{head, after_head, is_in_head}
 use Rattle.mk_class.proofs.on_symbols.ListLemmas.{until-from}

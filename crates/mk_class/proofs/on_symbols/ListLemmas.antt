@@ -1,8 +1,8 @@
 -- Laws of the words on lists.
 use Rattle.std.proofs.Common.{◌≡◌, refl, ap, List, [], ◌∷◌, ◌++◌, Bool, true, false, cond}
-use Rattle.mk_class.specs.Lists.{until, from}
+use Rattle.mk_class.specs.ListTests.{until, from}
 
--- a list up to a place and from there on is the list
+-- a list up to an index and from there on is the list
 pub until-from : {A : Type 0} (p : List A → Bool) (xs : List A) → until p xs ++ from p xs ≡ xs
 until-from p [] = refl
 until-from p (x ∷ xs) = go (p (x ∷ xs)) (until-from p xs)

@@ -2,7 +2,7 @@
 use Rattle.std.proofs.Common.{◌≡◌, refl, List, [], ◌∷◌, map, Bool, true, false, cond}
 use Rattle.std.specs.List.{list_any}
 use Rattle.mk_lines.specs.Lists.{leading, after_leading, trim_end, trailing, trim_end_before, trailing_before}
-use Rattle.mk_class.specs.Lists.{is_empty, first_passes, last_passes, until, from}
+use Rattle.mk_class.specs.ListTests.{is_empty, first_passes, last_passes, until, from}
 
 module _ {A B : Type 0} (f : A → B) where
   -- an image is empty if the list is empty
@@ -66,9 +66,9 @@ module _ {A B : Type 0} (f : A → B) (p : A → Bool) (q : B → Bool) (same : 
   trailing-map [] = refl
   trailing-map (x ∷ xs) = rw (same x, trim_end-map xs, trailing-map xs) (trailing_before-map (p x) x (trim_end p xs) (trailing p xs))
 
--- a test of places in the image that says the same as one of the places in the list
+-- a test of indices in the image that says the same as one of the indices in the list
 module _ {A B : Type 0} (f : A → B) (p : List A → Bool) (q : List B → Bool) (same : (xs : List A) → q (map f xs) ≡ p xs) where
-  -- the image up to the first place that passes
+  -- the image up to the first index that passes
   pub until-map : (xs : List A) → until q (map f xs) ≡ map f (until p xs)
   until-map [] = refl
   until-map (x ∷ xs) = rw (same (x ∷ xs), until-map xs) (go (p (x ∷ xs)))

@@ -1,7 +1,7 @@
 //! The contexts after lines, and the count of lines.
 use mk_class::assignment::{Assignment, Flavor};
 use mk_class::class::Class;
-use mk_class::context::{Context, Flag, MAX_CONDITIONALS, Nesting};
+use mk_class::context::{Context, MAX_CONDITIONALS, Nesting, RuleFlag};
 use mk_class::meter::Meter;
 use mk_class::reading::classify;
 use mk_lines::Span;
@@ -10,7 +10,7 @@ use std::test::Fail;
 #[test]
 fn a_text_starts_with_nothing_open(rt: HostRuntime) {
     let context = Context::start();
-    assert_eq!(rt; context.flag(), Flag::Off);
+    assert_eq!(rt; context.flag(), RuleFlag::Off);
     assert_eq!(rt; context.prefix(), b'\t');
     assert_eq!(rt; context.defines(), 0);
     assert_eq!(rt; context.conds(), 0);
@@ -22,9 +22,9 @@ fn blank_lines_keep_a_rule_open(rt: HostRuntime) {
         .step(&Class::Rough)
         .step(&Class::Comment)
         .step(&Class::Blank);
-    assert_eq!(rt; context.flag(), Flag::Rule);
-    assert_eq!(rt; context.step(&Class::Opaque).flag(), Flag::Unknown);
-    assert_eq!(rt; context.step(&Class::Directive).flag(), Flag::Off);
+    assert_eq!(rt; context.flag(), RuleFlag::Rule);
+    assert_eq!(rt; context.step(&Class::Opaque).flag(), RuleFlag::Unknown);
+    assert_eq!(rt; context.step(&Class::Directive).flag(), RuleFlag::Off);
 }
 
 #[test]

@@ -211,7 +211,7 @@ fn class_of<A: Allocator + Copy>(alloc: A, line: &[u8]) -> Result<Class, Fault> 
 }
 
 #[test]
-fn places_are_those_of_the_joined_text(rt: HostRuntime) -> Result<(), Fail> {
+fn offsets_are_those_of_the_joined_text(rt: HostRuntime) -> Result<(), Fail> {
     for (line, expected) in [
         (
             b"  override X \\\n += a b  # c\n".as_slice(),

@@ -7,37 +7,37 @@ use Rattle.mk_lines.specs.LogicalLines.{is_open}
 use Rattle.mk_lines.specs.PhysicalLines.{line_end_bytes, file_line_end}
 use Rattle.mk_lines.specs.Pieces.{replaced}
 use Rattle.mk_lines.specs.declared.ends.End.{End}
-use Rattle.mk_class.specs.Lists.{is_empty, last_passes}
+use Rattle.mk_class.specs.ListTests.{is_empty, last_passes}
 use Rattle.mk_class.specs.ClassedLines.{ClassedLine, classed_lines}
 use Rattle.mk_tree.specs.Documents.{IsFaithful, text_of, context_of}
 use Rattle.mk_tree.specs.Leaning.{is_same_flag, leans}
-use Rattle.mk_tree.specs.NewLines.{missing_line_end, lacks_line_end}
-use Rattle.mk_tree.specs.PlacedLines.{PlacedLine, placed_text, size_of, last_line}
+use Rattle.mk_tree.specs.NewLineEnds.{missing_line_end, lacks_line_end}
+use Rattle.mk_tree.specs.LocatedLines.{LocatedLine, located_text, size_of, last_line}
 use Rattle.mk_tree.proofs.on_changes.Sizes.{size_of-text}
 use Rattle.mk_edit_laws.specs.Causes.{where_holds}
 use Rattle.mk_edit_laws.specs.Edits.{Place, Bottom, BeforeVar, AfterVar, BeforeRule, Edit, SetValue, AppendValue, AddAssign, RemoveAssign, AddRule, RemoveRule, AddPrereq, RemovePrereq, AddRecipe, SetRecipe, RemoveRecipe, RenameTarget}
 use Rattle.mk_edit_laws.specs.LineCauses.{follows_open_line, open_line, open_define, open_define_at, flag_below_new, new_line_leans, removal_leans, leaning, greatest_length, too_long}
 use Rattle.mk_edit_laws.specs.NewLines.{new_text, new_line_span}
-use Rattle.mk_edit_laws.specs.Spans.{spans_of, where_found}
+use Rattle.mk_edit_laws.specs.EditSpans.{spans_of, where_found}
 use Rattle.mk_edit_laws.specs.Stretches.{Stretch, bottom, insertion, removal, place_found}
 use Rattle.mk_edit_laws.specs.declared.refusal.Refusal.TheVariants.{OpenLine, OpenDefine, Leans, TooLong}
 use Rattle.mk_edit.specs.Insertions.{IsInsertedAt, IsOfNewLine, is_bottom, is_at_bottom, is_open_line, ends_length}
-use Rattle.mk_edit_parts.specs.LineRanges.{is_led_first_placed}
+use Rattle.mk_edit_parts.specs.LineRanges.{is_led_first_located}
 use Rattle.mk_edit.specs.PlannedMoves.{is_unended, follows_unended}
 use Rattle.mk_edit_parts.specs.declared.seek.Found.{Found}
-use Rattle.mk_edit_parts.proofs.on_finding.LeanLemmas.{led_first-placed}
+use Rattle.mk_edit_parts.proofs.on_finding.LeanLemmas.{led_first-located}
 use Rattle.mk_edit.proofs.on_new_lines.InsertionLemmas.{place-in, follows-last}
 
 -- ---- OpenLine
 
-pub open_line-at : (ls : List PlacedLine) (e : Edit) (f : Found) (b : Bool) → IsFaithful ls → IsInsertedAt ls (insertion (classed_lines (placed_text ls)) e) f
-    → b ≡ ((f.at == length ls) && is_open_line (last_line ls)) → open_line (classed_lines (placed_text ls)) e ≡ where_holds b OpenLine
+pub open_line-at : (ls : List LocatedLine) (e : Edit) (f : Found) (b : Bool) → IsFaithful ls → IsInsertedAt ls (insertion (classed_lines (located_text ls)) e) f
+    → b ≡ ((f.at == length ls) && is_open_line (last_line ls)) → open_line (classed_lines (located_text ls)) e ≡ where_holds b OpenLine
 open_line-at ls e f b h N k =
     let s = N.stretch in
-    let I = place-in ls (insertion (classed_lines (placed_text ls)) e) f h N in
+    let I = place-in ls (insertion (classed_lines (located_text ls)) e) f h N in
     let same : b ≡ (is_empty s.below && last_passes (λ l. is_open l.bytes) s.above) =
     k
-    ∙ (ap (λ (z : List PlacedLine). (f.at == length z) && is_open_line (last_line z)) I.shown
+    ∙ (ap (λ (z : List LocatedLine). (f.at == length z) && is_open_line (last_line z)) I.shown
     ∙ follows-last is_open_line (λ l. is_open l.bytes) refl (λ l. refl) s.above s.below f.at N.place_is) in
     ap (λ o. where_holds (follows_open_line o) OpenLine) N.stretch_is ∙ ap (λ z. where_holds z OpenLine) (sym same)
 
@@ -55,16 +55,16 @@ define-at ls (BeforeVar nth x) n h = refl
 define-at ls (AfterVar nth x) n h = refl
 define-at ls (BeforeRule nth g) n h = refl
 
-place-defines : (ls : List PlacedLine) (p : Place) (f : Found) → IsInsertedAt ls (place_found (classed_lines (placed_text ls)) p) f → is_bottom p ≡ true
-    → (context_of (classed_lines (placed_text ls))).defines ≡ f.context.defines
+place-defines : (ls : List LocatedLine) (p : Place) (f : Found) → IsInsertedAt ls (place_found (classed_lines (located_text ls)) p) f → is_bottom p ≡ true
+    → (context_of (classed_lines (located_text ls))).defines ≡ f.context.defines
 place-defines ls p f N b =
-    let k : classed_lines (placed_text ls) ≡ N.stretch.above = bottom-context (classed_lines (placed_text ls)) p N.stretch b N.stretch_is in
+    let k : classed_lines (located_text ls) ≡ N.stretch.above = bottom-context (classed_lines (located_text ls)) p N.stretch b N.stretch_is in
     ap (λ (z : List ClassedLine). (context_of z).defines) k ∙ ap (λ c. c.defines) N.context_is
 
-pub open_define-at : (ls : List PlacedLine) (e : Edit) (f : Found) (b : Bool) → IsOfNewLine e → IsInsertedAt ls (insertion (classed_lines (placed_text ls)) e) f
-    → b ≡ (is_at_bottom e && nat_lt 0 f.context.defines) → open_define (classed_lines (placed_text ls)) e ≡ where_holds b OpenDefine
-open_define-at ls (AddAssign p n g v) f b u N k = define-at (classed_lines (placed_text ls)) p f.context.defines (place-defines ls p f N) ∙ ap (λ z. where_holds z OpenDefine) (sym k)
-open_define-at ls (AddRule p ts c ws) f b u N k = define-at (classed_lines (placed_text ls)) p f.context.defines (place-defines ls p f N) ∙ ap (λ z. where_holds z OpenDefine) (sym k)
+pub open_define-at : (ls : List LocatedLine) (e : Edit) (f : Found) (b : Bool) → IsOfNewLine e → IsInsertedAt ls (insertion (classed_lines (located_text ls)) e) f
+    → b ≡ (is_at_bottom e && nat_lt 0 f.context.defines) → open_define (classed_lines (located_text ls)) e ≡ where_holds b OpenDefine
+open_define-at ls (AddAssign p n g v) f b u N k = define-at (classed_lines (located_text ls)) p f.context.defines (place-defines ls p f N) ∙ ap (λ z. where_holds z OpenDefine) (sym k)
+open_define-at ls (AddRule p ts c ws) f b u N k = define-at (classed_lines (located_text ls)) p f.context.defines (place-defines ls p f N) ∙ ap (λ z. where_holds z OpenDefine) (sym k)
 open_define-at ls (AddRecipe nth g c) f b u N k = ap (λ z. where_holds z OpenDefine) (sym k)
 open_define-at ls (SetValue nth n v) f b u N k = absurd u
 open_define-at ls (AppendValue nth n v) f b u N k = absurd u
@@ -92,14 +92,14 @@ none-removed ls (SetRecipe nth g k c) u = absurd u
 none-removed ls (RemoveRecipe nth g k) u = absurd u
 none-removed ls (RenameTarget o n) u = absurd u
 
-pub leaning-at : (ls : List PlacedLine) (e : Edit) (f : Found) (b : Bool) → IsFaithful ls → IsOfNewLine e → IsInsertedAt ls (insertion (classed_lines (placed_text ls)) e) f
-    → b ≡ (not (is_same_flag (flag_below_new e) f.context.flag) && is_led_first_placed f.context.prefix (drop f.at ls))
-    → leaning (classed_lines (placed_text ls)) e ≡ where_holds b Leans
+pub leaning-at : (ls : List LocatedLine) (e : Edit) (f : Found) (b : Bool) → IsFaithful ls → IsOfNewLine e → IsInsertedAt ls (insertion (classed_lines (located_text ls)) e) f
+    → b ≡ (not (is_same_flag (flag_below_new e) f.context.flag) && is_led_first_located f.context.prefix (drop f.at ls))
+    → leaning (classed_lines (located_text ls)) e ≡ where_holds b Leans
 leaning-at ls e f b h u N k =
-    let cls = classed_lines (placed_text ls) in
+    let cls = classed_lines (located_text ls) in
     let s = N.stretch in
     let I = place-in ls (insertion cls e) f h N in
-    let led : is_led_first_placed f.context.prefix (drop f.at ls) ≡ _ = ap (is_led_first_placed f.context.prefix) I.below_is ∙ led_first-placed f.context.prefix s.below in
+    let led : is_led_first_located f.context.prefix (drop f.at ls) ≡ _ = ap (is_led_first_located f.context.prefix) I.below_is ∙ led_first-located f.context.prefix s.below in
     let new : new_line_leans e (insertion cls e) ≡ leans f.context.prefix (flag_below_new e) f.context.flag s.below =
     ap (new_line_leans e) N.stretch_is ∙ ap (λ c. leans c.prefix (flag_below_new e) c.flag s.below) N.context_is in
     let same : b ≡ leans f.context.prefix (flag_below_new e) f.context.flag s.below = k ∙ ap (λ z. not (is_same_flag (flag_below_new e) f.context.flag) && z) led in
@@ -136,11 +136,11 @@ missing-length e above below b k =
     go true = refl
     go false = omega arith
 
-pub too_long-at : (ls : List PlacedLine) (e : Edit) (f : Found) (b : Bool) → IsFaithful ls → IsOfNewLine e → IsInsertedAt ls (insertion (classed_lines (placed_text ls)) e) f
+pub too_long-at : (ls : List LocatedLine) (e : Edit) (f : Found) (b : Bool) → IsFaithful ls → IsOfNewLine e → IsInsertedAt ls (insertion (classed_lines (located_text ls)) e) f
     → ((prefix : ℕ) → b ≡ nat_lt greatest_length (size_of ls + (length (new_text prefix e) + ends_length ls f.at)))
-    → too_long (placed_text ls) (spans_of (placed_text ls) (classed_lines (placed_text ls)) e) ≡ where_holds b TooLong
+    → too_long (located_text ls) (spans_of (located_text ls) (classed_lines (located_text ls)) e) ≡ where_holds b TooLong
 too_long-at ls e f b h u N k =
-    let t = placed_text ls in
+    let t = located_text ls in
     let cls = classed_lines t in
     let s = N.stretch in
     let end = file_line_end t in
@@ -148,7 +148,7 @@ too_long-at ls e f b h u N k =
     let p = (context_of s.above).prefix in
     let spans : spans_of t cls e ≡ new_line_span t e s = new-spans t cls e u ∙ ap (where_found (new_line_span t e)) N.stretch_is in
     let follows : follows_unended ls f.at ≡ (is_empty s.below && last_passes lacks_line_end s.above) =
-    ap (λ (z : List PlacedLine). (f.at == length z) && is_unended (last_line z)) I.shown ∙ follows-last is_unended lacks_line_end refl (λ l. refl) s.above s.below f.at N.place_is in
+    ap (λ (z : List LocatedLine). (f.at == length z) && is_unended (last_line z)) I.shown ∙ follows-last is_unended lacks_line_end refl (λ l. refl) s.above s.below f.at N.place_is in
     let ends = missing-length end s.above s.below (follows_unended ls f.at) follows in
     let put = put-length (length (text_of s.above)) t (missing_line_end end s.above s.below ++ (new_text p e ++ line_end_bytes end)) in
     let total : length (replaced 0 t (new_line_span t e s)) ≡ size_of ls + (length (new_text p e) + ends_length ls f.at) =

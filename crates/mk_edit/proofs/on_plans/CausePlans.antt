@@ -4,9 +4,9 @@ use Rattle.std.specs.Prelude.{nat_lt}
 use Rattle.std.proofs.lemmas.Bool.{lt-ltb, le-ltb, ltb-true, ltb-false}
 use Rattle.mk_lines.specs.Pieces.{replaced}
 use Rattle.mk_class.specs.ClassedLines.{ClassedLine, classed_lines}
-use Rattle.mk_tree.specs.PlacedLines.{PlacedLine, placed_text}
+use Rattle.mk_tree.specs.LocatedLines.{LocatedLine, located_text}
 use Rattle.mk_edit_laws.specs.Edits.{Edit}
-use Rattle.mk_edit_laws.specs.Spans.{spans_of}
+use Rattle.mk_edit_laws.specs.EditSpans.{spans_of}
 use Rattle.mk_edit_laws.specs.Stretches.{Stretch, insertion, removal}
 use Rattle.mk_edit_laws.specs.Causes.{where_holds}
 use Rattle.mk_edit_laws.specs.ArgumentCauses.{bad_argument, reserved}
@@ -41,10 +41,10 @@ own_causes t ls e =
     ∷ []
 
 -- the edit's own causes decide, once the line is found
-pub addressed-own : (e : Edit) (ls : List PlacedLine) (f : Found) (r : Option Refusal) → IsAddressed e ls f → first_cause (own_causes (placed_text ls) (classed_lines (placed_text ls)) e) ≡ r
-    → first_cause (causes (placed_text ls) (classed_lines (placed_text ls)) e) ≡ r
+pub addressed-own : (e : Edit) (ls : List LocatedLine) (f : Found) (r : Option Refusal) → IsAddressed e ls f → first_cause (own_causes (located_text ls) (classed_lines (located_text ls)) e) ≡ r
+    → first_cause (causes (located_text ls) (classed_lines (located_text ls)) e) ≡ r
 addressed-own e ls f r A h =
-    let cs = classed_lines (placed_text ls) in
+    let cs = classed_lines (located_text ls) in
     passed (bad_argument e) _ r A.arguments
     (passed (reserved e) _ r A.not_reserved
     (passed (unread_prefix cs) _ r A.prefix_read (passed (no_such cs e) _ r A.is_there (passed (ambiguous cs e) _ r A.is_one h))))

@@ -6,10 +6,10 @@ use Rattle.mk_lines.specs.LogicalLines.{has_no_line_end}
 use Rattle.mk_lines.specs.PhysicalLines.{line_end, line_end_bytes, file_line_end}
 use Rattle.mk_class.specs.Contexts.{Context, start, context_after}
 use Rattle.mk_class.specs.ClassedLines.{ClassedLine, classed_lines, context_after_lines}
-use Rattle.mk_tree.specs.PlacedLines.{PlacedLine, placed_text}
-use Rattle.mk_tree.specs.PlacedLines.{size_of, last_line, bytes_of_line}
+use Rattle.mk_tree.specs.LocatedLines.{LocatedLine, located_text}
+use Rattle.mk_tree.specs.LocatedLines.{size_of, last_line, bytes_of_line}
 use Rattle.mk_tree.proofs.AdmissionLemmas.{defines_after-few}
-use Rattle.mk_tree.proofs.Ends.{last-place}
+use Rattle.mk_tree.proofs.Ends.{last-index}
 use Rattle.mk_edit.specs.PlannedMoves.{is_unended, last_bytes_ended, CanInsert}
 use Rattle.mk_edit_parts.specs.Found.{IsPlaceOf}
 use Rattle.mk_edit_parts.specs.declared.seek.Found.{Found}
@@ -27,10 +27,10 @@ take-few (suc n) [] = omega arith
 take-few (suc n) (x ∷ xs) = omega (arith, take-few n xs)
 
 -- few defines are open at a place whose number is low
-pub place-defines : (ls : List PlacedLine) (place : Found) → IsPlaceOf ls place → place.at < 2 ^ 24 → place.context.defines < 2 ^ 24
+pub place-defines : (ls : List LocatedLine) (place : Found) → IsPlaceOf ls place → place.at < 2 ^ 24 → place.context.defines < 2 ^ 24
 place-defines ls place p low =
-    let above = take place.at (classed_lines (placed_text ls)) in
-    subst (λ (c : Context). c.defines < 2 ^ 24) p (omega (arith, defines-few start above, take-few place.at (classed_lines (placed_text ls))))
+    let above = take place.at (classed_lines (located_text ls)) in
+    subst (λ (c : Context). c.defines < 2 ^ 24) p (omega (arith, defines-few start above, take-few place.at (classed_lines (located_text ls))))
 
 -- a line has some bytes
 some-line : (m : List ℕ) → logical_lines m ≡ m ∷ [] → 0 < length m
@@ -38,13 +38,13 @@ some-line [] h = absurd (let g : [] ≡ [] ∷ [] = h in cc)
 some-line (b ∷ m) h = omega arith
 
 -- the number of a place at which a line can be put in is low
-pub insert-low : (ls : List PlacedLine) (at : ℕ) (m : List ℕ) → CanInsert ls at m → length ls ≤ size_of ls → at < 2 ^ 24
+pub insert-low : (ls : List LocatedLine) (at : ℕ) (m : List ℕ) → CanInsert ls at m → length ls ≤ size_of ls → at < 2 ^ 24
 insert-low ls at m C few = omega (arith, C.in_range, C.fits, some-line m C.line.one, few)
 
 -- ---- the last line
 
-pub last-unended : (ls : List PlacedLine) (l : PlacedLine) (at : ℕ) → 0 < length ls → at ≡ length ls - 1 → Some l ≡ slice_get ls at → is_unended (last_line ls) ≡ has_no_line_end (line_end l.bytes)
-last-unended ls l at some e h = ap is_unended (last-place ls l at some e h)
+pub last-unended : (ls : List LocatedLine) (l : LocatedLine) (at : ℕ) → 0 < length ls → at ≡ length ls - 1 → Some l ≡ slice_get ls at → is_unended (last_line ls) ≡ has_no_line_end (line_end l.bytes)
+last-unended ls l at some e h = ap is_unended (last-index ls l at some e h)
 
-pub last-ended_bytes : (ls : List PlacedLine) (l : PlacedLine) (at : ℕ) → 0 < length ls → at ≡ length ls - 1 → Some l ≡ slice_get ls at → last_bytes_ended ls ≡ l.bytes ++ line_end_bytes (file_line_end (placed_text ls))
-last-ended_bytes ls l at some e h = ap (λ o. bytes_of_line o ++ line_end_bytes (file_line_end (placed_text ls))) (last-place ls l at some e h)
+pub last-ended_bytes : (ls : List LocatedLine) (l : LocatedLine) (at : ℕ) → 0 < length ls → at ≡ length ls - 1 → Some l ≡ slice_get ls at → last_bytes_ended ls ≡ l.bytes ++ line_end_bytes (file_line_end (located_text ls))
+last-ended_bytes ls l at some e h = ap (λ o. bytes_of_line o ++ line_end_bytes (file_line_end (located_text ls))) (last-index ls l at some e h)

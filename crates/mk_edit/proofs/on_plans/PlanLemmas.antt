@@ -7,7 +7,7 @@ use Rattle.mk_lines.specs.Pieces.{Replacement}
 use Rattle.mk_class.specs.ClassedLines.{ClassedLine, classed_lines}
 use Rattle.mk_tree.specs.Documents.{IsFaithful, document_lines, context_of}
 use Rattle.mk_tree.specs.LineTexts.{line_in}
-use Rattle.mk_tree.specs.PlacedLines.{PlacedLine, placed_line, placed_lines, placed_text, size_of}
+use Rattle.mk_tree.specs.LocatedLines.{LocatedLine, located_line, located_lines, located_text, size_of}
 use Rattle.mk_tree.proofs.on_documents.DocumentLemmas.{faithful-own}
 use Rattle.mk_edit_laws.specs.Edits.{Edit, SetValue, AppendValue, AddAssign, RemoveAssign, AddRule, RemoveRule, AddPrereq, RemovePrereq, AddRecipe, SetRecipe, RemoveRecipe, RenameTarget}
 use Rattle.mk_edit_laws.specs.Stretches.{Stretch, between, insertion, touched_by}
@@ -24,40 +24,40 @@ use Rattle.mk_edit.specs.Planned.{IsPlanned, IsRefusal, ended_lines}
 use Rattle.mk_edit.specs.PlannedMoves.{line_read_at}
 
 -- moves that lead from the lines of the text to those after the edit are what is planned
-pub lead-planned : (e : Edit) (ls : List PlacedLine) (rs : List Replacement) (patch : List Move) (before after : List ClassedLine) → IsFaithful ls → spans (placed_text ls) e ≡ Ok rs
-    → classed_lines (placed_text ls) ≡ before → classed_lines (text_after (placed_text ls) e) ≡ after → LeadTo patch (placed_lines before) (placed_lines after)
-    → held_by patch ≡ cost (placed_text ls) e + ended_lines ls e → taken_by patch ≡ size (placed_text ls) e + ended_lines ls e → IsPlanned e ls patch
+pub lead-planned : (e : Edit) (ls : List LocatedLine) (rs : List Replacement) (patch : List Move) (before after : List ClassedLine) → IsFaithful ls → spans (located_text ls) e ≡ Ok rs
+    → classed_lines (located_text ls) ≡ before → classed_lines (text_after (located_text ls) e) ≡ after → LeadTo patch (located_lines before) (located_lines after)
+    → held_by patch ≡ cost (located_text ls) e + ended_lines ls e → taken_by patch ≡ size (located_text ls) e + ended_lines ls e → IsPlanned e ls patch
 lead-planned e ls rs patch before after f h b a l held taken =
-    let own : placed_lines before ≡ ls = ap placed_lines (sym b) ∙ sym f in
-    let led : placed_lines after ≡ document_lines (text_after (placed_text ls) e) = ap placed_lines (sym a) in
-    let L = same-lead patch patch (placed_lines before) ls (placed_lines after) (document_lines (text_after (placed_text ls) e)) refl own led l in
+    let own : located_lines before ≡ ls = ap located_lines (sym b) ∙ sym f in
+    let led : located_lines after ≡ document_lines (text_after (located_text ls) e) = ap located_lines (sym a) in
+    let L = same-lead patch patch (located_lines before) ls (located_lines after) (document_lines (text_after (located_text ls) e)) refl own led l in
     record {
       replacements = rs;
       spans_are = h;
       fit = L.fit;
       leads = L.lead;
-      faithful = faithful-own _ (text_after (placed_text ls) e) L.lead;
-      reads = edits-read e (placed_text ls) rs h;
+      faithful = faithful-own _ (text_after (located_text ls) e) L.lead;
+      reads = edits-read e (located_text ls) rs h;
       held = held;
       taken = taken;
     }
 
 -- the lines after an accepted edit are within the limit
-pub after-fits : (t : List ℕ) (e : Edit) (rs : List Replacement) (after : List ClassedLine) → spans t e ≡ Ok rs → classed_lines (text_after t e) ≡ after → size_of (placed_lines after) ≤ 2 ^ 24
-after-fits t e rs after h a = subst (λ (z : List ClassedLine). size_of (placed_lines z) ≤ 2 ^ 24) a (size-fits t e rs h)
+pub after-fits : (t : List ℕ) (e : Edit) (rs : List Replacement) (after : List ClassedLine) → spans t e ≡ Ok rs → classed_lines (text_after t e) ≡ after → size_of (located_lines after) ≤ 2 ^ 24
+after-fits t e rs after h a = subst (λ (z : List ClassedLine). size_of (located_lines z) ≤ 2 ^ 24) a (size-fits t e rs h)
 
 -- ---- a place of a faithful document
 
 -- a faithful document has as many lines as its text
-pub faithful-length : (ls : List PlacedLine) (before : List ClassedLine) → IsFaithful ls → classed_lines (placed_text ls) ≡ before → length ls ≡ length before
-faithful-length ls before f b = ap length f ∙ (length-map (classed_lines (placed_text ls)) placed_line ∙ ap length b)
+pub faithful-length : (ls : List LocatedLine) (before : List ClassedLine) → IsFaithful ls → classed_lines (located_text ls) ≡ before → length ls ≡ length before
+faithful-length ls before f b = ap length f ∙ (length-map (classed_lines (located_text ls)) located_line ∙ ap length b)
 
 -- a line read at a place is one in the context of the lines above it
-pub read-at : (ls : List PlacedLine) (above rest : List ClassedLine) (at : ℕ) (m : List ℕ) → classed_lines (placed_text ls) ≡ above ++ rest → length above ≡ at
-    → line_read_at ls at m ≡ placed_line (line_in (context_of above) m)
+pub read-at : (ls : List LocatedLine) (above rest : List ClassedLine) (at : ℕ) (m : List ℕ) → classed_lines (located_text ls) ≡ above ++ rest → length above ≡ at
+    → line_read_at ls at m ≡ located_line (line_in (context_of above) m)
 read-at ls above rest at m b p =
-    let front : take at (classed_lines (placed_text ls)) ≡ above = ap (take at) b ∙ (ap (λ n. take n (above ++ rest)) (sym p) ∙ take-append_seam above rest) in
-    ap (λ (z : List ClassedLine). placed_line (line_in (context_of z) m)) front
+    let front : take at (classed_lines (located_text ls)) ≡ above = ap (take at) b ∙ (ap (λ n. take n (above ++ rest)) (sym p) ∙ take-append_seam above rest) in
+    ap (λ (z : List ClassedLine). located_line (line_in (context_of z) m)) front
 
 -- ---- edits of one place, by what they leave
 
@@ -143,11 +143,11 @@ puts-in t (RenameTarget o n) rs s h = absurd (cc)
 -- ---- the answer of a function that makes the planned moves
 
 -- what such a function gives is planned
-pub planned-if_ok : (e : Edit) (ls : List PlacedLine) (moves : List Move) (r : Result (List Move) Refusal) → IsPlanned e ls moves → IfOk r (λ patch. patch ≡ moves) → IfOk r (λ patch. IsPlanned e ls patch)
+pub planned-if_ok : (e : Edit) (ls : List LocatedLine) (moves : List Move) (r : Result (List Move) Refusal) → IsPlanned e ls moves → IfOk r (λ patch. patch ≡ moves) → IfOk r (λ patch. IsPlanned e ls patch)
 planned-if_ok e ls moves (Ok patch) P h = subst (IsPlanned e ls) (sym h) P
 planned-if_ok e ls moves (Err x) P h = tt
 
 -- such a function refuses only if a growth is refused
-pub planned-if_err : (e : Edit) (ls : List PlacedLine) (moves : List Move) (r : Result (List Move) Refusal) → IsPlanned e ls moves → IsOkUnless r NoMemory → IfErr r (λ x. IsRefusal (placed_text ls) e x)
+pub planned-if_err : (e : Edit) (ls : List LocatedLine) (moves : List Move) (r : Result (List Move) Refusal) → IsPlanned e ls moves → IsOkUnless r NoMemory → IfErr r (λ x. IsRefusal (located_text ls) e x)
 planned-if_err e ls moves (Ok patch) P h = tt
 planned-if_err e ls moves (Err x) P h = inr (h, P.replacements, P.spans_are)

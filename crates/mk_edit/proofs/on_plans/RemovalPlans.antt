@@ -8,10 +8,10 @@ use Rattle.mk_class.specs.Contexts.{Context}
 use Rattle.mk_class.specs.ClassedLines.{ClassedLine, classed_lines, is_led_first}
 use Rattle.mk_tree.specs.Documents.{IsFaithful, context_of}
 use Rattle.mk_tree.specs.Leaning.{is_same_flag, leans}
-use Rattle.mk_tree.specs.PlacedLines.{PlacedLine, placed_lines, placed_text, size_of}
+use Rattle.mk_tree.specs.LocatedLines.{LocatedLine, located_lines, located_text, size_of}
 use Rattle.mk_tree.proofs.on_changes.Sizes.{size_of-text}
 use Rattle.mk_edit_laws.specs.Edits.{Edit, SetValue, AppendValue, AddAssign, RemoveAssign, AddRule, RemoveRule, AddPrereq, RemovePrereq, AddRecipe, SetRecipe, RemoveRecipe, RenameTarget}
-use Rattle.mk_edit_laws.specs.Spans.{spans_of, removed_span, where_found}
+use Rattle.mk_edit_laws.specs.EditSpans.{spans_of, removed_span, where_found}
 use Rattle.mk_edit_laws.specs.Stretches.{Stretch, this_line, insertion, removal, touched_by}
 use Rattle.mk_edit_laws.specs.Addresses.{Address, Variable}
 use Rattle.mk_edit_laws.specs.Causes.{where_holds}
@@ -24,11 +24,11 @@ use Rattle.mk_edit_laws.specs.declared.refusal.Refusal.TheVariants.{Leans}
 use Rattle.mk_edit_laws.proofs.on_edits.EditPlaces.{found-spot}
 use Rattle.mk_edit_parts.specs.EditViews.{IsRemoveAssign}
 use Rattle.mk_edit_parts.specs.Found.{IsFoundAt, IsAddressed, IsPlaceOf}
-use Rattle.mk_edit_parts.specs.LineRanges.{is_led_first_placed}
+use Rattle.mk_edit_parts.specs.LineRanges.{is_led_first_located}
 use Rattle.mk_edit.specs.PlannedMoves.{stretch_at}
 use Rattle.mk_edit_parts.specs.declared.seek.Found.{Found}
 use Rattle.mk_edit_parts.proofs.CauseLemmas.{passed, holds, refused, unrefused}
-use Rattle.mk_edit_parts.proofs.on_finding.LeanLemmas.{led_first-placed}
+use Rattle.mk_edit_parts.proofs.on_finding.LeanLemmas.{led_first-located}
 use Rattle.mk_edit.proofs.on_plans.PlanLemmas.{faithful-length}
 use Rattle.mk_edit.proofs.on_plans.LinePlans.{IsTakenOut, lines-taken_out}
 use Rattle.mk_edit.proofs.on_plans.CausePlans.{own_causes, addressed-own, removal-leaning, never-long}
@@ -41,10 +41,10 @@ take-both (suc m) zero [] = rw (suc-add m 0) refl
 take-both (suc m) (suc n) [] = rw (suc-add m (suc n)) refl
 take-both (suc m) n (l ∷ ls) = rw (suc-add m n) (ap (λ z. l ∷ z) (take-both m n ls))
 
-drop-placed : (n : ℕ) (ls : List ClassedLine) → drop n (placed_lines ls) ≡ placed_lines (drop n ls)
-drop-placed zero ls = refl
-drop-placed (suc n) [] = refl
-drop-placed (suc n) (l ∷ ls) = drop-placed n ls
+drop-located : (n : ℕ) (ls : List ClassedLine) → drop n (located_lines ls) ≡ located_lines (drop n ls)
+drop-located zero ls = refl
+drop-located (suc n) [] = refl
+drop-located (suc n) (l ∷ ls) = drop-located n ls
 
 same_stretch : (a b c d e f : List ClassedLine) → a ≡ d → b ≡ e → c ≡ f → record { above = a; lines = b; below = c } ≡ (let s : Stretch = record { above = d; lines = e; below = f } in s)
 same_stretch a b c d e f h k i = rw (h, k, i) refl
@@ -60,15 +60,15 @@ stretch-is ls s at count h p n =
     same_stretch (take at ls) (take count (drop at ls)) (drop (at + count) ls) s.above s.lines s.below above lines below
 
 -- whether the lines below lean, by the flags and by the lines of the document
-pub leans-said : (ls : List PlacedLine) (place after : Found) (count : ℕ) (b : Bool) → IsFaithful ls → IsPlaceOf ls place → IsPlaceOf ls after → after.at ≡ place.at + count
-    → b ≡ (not (is_same_flag place.context.flag after.context.flag) && is_led_first_placed place.context.prefix (drop after.at ls))
-    → b ≡ removal_leans (Some (stretch_at (classed_lines (placed_text ls)) place.at count))
+pub leans-said : (ls : List LocatedLine) (place after : Found) (count : ℕ) (b : Bool) → IsFaithful ls → IsPlaceOf ls place → IsPlaceOf ls after → after.at ≡ place.at + count
+    → b ≡ (not (is_same_flag place.context.flag after.context.flag) && is_led_first_located place.context.prefix (drop after.at ls))
+    → b ≡ removal_leans (Some (stretch_at (classed_lines (located_text ls)) place.at count))
 leans-said ls place after count b f p q n h =
-    let cs = classed_lines (placed_text ls) in
+    let cs = classed_lines (located_text ls) in
     let s = stretch_at cs place.at count in
     let both : context_of (s.above ++ s.lines) ≡ after.context = ap context_of (take-both place.at count cs) ∙ (ap (λ k. context_of (take k cs)) (sym n) ∙ q) in
-    let shown : drop after.at ls ≡ placed_lines s.below = ap (drop after.at) f ∙ (drop-placed after.at cs ∙ ap (λ k. placed_lines (drop k cs)) n) in
-    let led : is_led_first_placed place.context.prefix (drop after.at ls) ≡ is_led_first place.context.prefix s.below = ap (is_led_first_placed place.context.prefix) shown ∙ led_first-placed place.context.prefix s.below in
+    let shown : drop after.at ls ≡ located_lines s.below = ap (drop after.at) f ∙ (drop-located after.at cs ∙ ap (λ k. located_lines (drop k cs)) n) in
+    let led : is_led_first_located place.context.prefix (drop after.at ls) ≡ is_led_first place.context.prefix s.below = ap (is_led_first_located place.context.prefix) shown ∙ led_first-located place.context.prefix s.below in
     h
     ∙ (ap (λ z. not (is_same_flag place.context.flag after.context.flag) && z) led
     ∙ (ap (λ (c : Context). leans c.prefix c.flag after.context.flag s.below) (sym p) ∙ ap (λ (c : Context). leans (context_of s.above).prefix (context_of s.above).flag c.flag s.below) (sym both)))
@@ -76,10 +76,10 @@ leans-said ls place after count b f p q n h =
 -- ---- where an edit applies
 
 -- the place of the line that an address means
-pub place-found : (ls : List PlacedLine) (a : Address) (f : Found) → IsFoundAt (classed_lines (placed_text ls)) a f → IsPlaceOf ls f
+pub place-found : (ls : List LocatedLine) (a : Address) (f : Found) → IsFoundAt (classed_lines (located_text ls)) a f → IsPlaceOf ls f
 place-found ls a f F =
     let s = F.spot in
-    let cs = classed_lines (placed_text ls) in
+    let cs = classed_lines (located_text ls) in
     let w : cs ≡ s.above ++ s.line ∷ s.below = found-spot cs a s F.found_is in
     let above : take f.at cs ≡ s.above = ap (take f.at) w ∙ (ap (λ k. take k (s.above ++ s.line ∷ s.below)) (sym F.place_is) ∙ take-append_seam s.above (s.line ∷ s.below)) in
     ap context_of above ∙ F.context_is
@@ -87,23 +87,23 @@ place-found ls a f F =
 -- ---- edits that take out a number of lines from a place on
 
 -- Only two of the edit's own causes can still hold: Leans and TooLong.
-pub record TakesOut (e : Edit) (ls : List PlacedLine) (at count : ℕ) : Type 0 where
-  pub removal_is : removal (classed_lines (placed_text ls)) e ≡ Some (stretch_at (classed_lines (placed_text ls)) at count)
-  pub touched_is : touched_by (classed_lines (placed_text ls)) e ≡ Some (stretch_at (classed_lines (placed_text ls)) at count)
-  pub none_put : insertion (classed_lines (placed_text ls)) e ≡ None
-  pub cost_is : cost (placed_text ls) e ≡ 0
-  pub size_is : size (placed_text ls) e ≡ count
-  pub no_bytes : bytes_put (spans_of (placed_text ls) (classed_lines (placed_text ls)) e) ≡ 0
-  pub nothing_left : (rs : List Replacement) → edited_bytes (placed_text ls) e (stretch_at (classed_lines (placed_text ls)) at count) rs ≡ []
+pub record TakesOut (e : Edit) (ls : List LocatedLine) (at count : ℕ) : Type 0 where
+  pub removal_is : removal (classed_lines (located_text ls)) e ≡ Some (stretch_at (classed_lines (located_text ls)) at count)
+  pub touched_is : touched_by (classed_lines (located_text ls)) e ≡ Some (stretch_at (classed_lines (located_text ls)) at count)
+  pub none_put : insertion (classed_lines (located_text ls)) e ≡ None
+  pub cost_is : cost (located_text ls) e ≡ 0
+  pub size_is : size (located_text ls) e ≡ count
+  pub no_bytes : bytes_put (spans_of (located_text ls) (classed_lines (located_text ls)) e) ≡ 0
+  pub nothing_left : (rs : List Replacement) → edited_bytes (located_text ls) e (stretch_at (classed_lines (located_text ls)) at count) rs ≡ []
   pub in_range : at + count ≤ length ls
-  pub others : first_cause (own_causes (placed_text ls) (classed_lines (placed_text ls)) e)
-      ≡ first_cause (leaning (classed_lines (placed_text ls)) e ∷ too_long (placed_text ls) (spans_of (placed_text ls) (classed_lines (placed_text ls)) e) ∷ [])
+  pub others : first_cause (own_causes (located_text ls) (classed_lines (located_text ls)) e)
+      ≡ first_cause (leaning (classed_lines (located_text ls)) e ∷ too_long (located_text ls) (spans_of (located_text ls) (classed_lines (located_text ls)) e) ∷ [])
 
 -- if the lines below lean, the edit is refused
-pub taking_out-leans : (e : Edit) (ls : List PlacedLine) (f : Found) (at count : ℕ) (b : Bool) → IsAddressed e ls f → TakesOut e ls at count
-    → b ≡ removal_leans (Some (stretch_at (classed_lines (placed_text ls)) at count)) → b ≡ true → spans (placed_text ls) e ≡ Err Leans
+pub taking_out-leans : (e : Edit) (ls : List LocatedLine) (f : Found) (at count : ℕ) (b : Bool) → IsAddressed e ls f → TakesOut e ls at count
+    → b ≡ removal_leans (Some (stretch_at (classed_lines (located_text ls)) at count)) → b ≡ true → spans (located_text ls) e ≡ Err Leans
 taking_out-leans e ls f at count b A T h k =
-    let t = placed_text ls in
+    let t = located_text ls in
     let cs = classed_lines t in
     let lean : leaning cs e ≡ Some Leans = removal-leaning cs e (stretch_at cs at count) b T.none_put T.removal_is h ∙ ap (λ q. where_holds q Leans) k in
     refused t e Leans (addressed-own e ls f (Some Leans) A (T.others ∙ holds (leaning cs e) _ Leans lean))
@@ -112,10 +112,10 @@ length-both : (ls : List ClassedLine) (at count : ℕ) → at + count ≤ length
 length-both ls at count h = (grind (arith, common_steps), grind (arith, common_steps))
 
 -- if the lines below do not lean, the moves are planned
-pub taking_out-planned : (e : Edit) (ls : List PlacedLine) (f : Found) (at count : ℕ) (b : Bool) → IsFaithful ls → size_of ls ≤ 2 ^ 24 → IsAddressed e ls f → TakesOut e ls at count
-    → b ≡ removal_leans (Some (stretch_at (classed_lines (placed_text ls)) at count)) → b ≡ false → IsTakenOut e ls at count
+pub taking_out-planned : (e : Edit) (ls : List LocatedLine) (f : Found) (at count : ℕ) (b : Bool) → IsFaithful ls → size_of ls ≤ 2 ^ 24 → IsAddressed e ls f → TakesOut e ls at count
+    → b ≡ removal_leans (Some (stretch_at (classed_lines (located_text ls)) at count)) → b ≡ false → IsTakenOut e ls at count
 taking_out-planned e ls f at count b g few A T h k =
-    let t = placed_text ls in
+    let t = located_text ls in
     let cs = classed_lines t in
     let s = stretch_at cs at count in
     let lean : leaning cs e ≡ None = removal-leaning cs e s b T.none_put T.removal_is h ∙ ap (λ q. where_holds q Leans) k in
@@ -126,13 +126,13 @@ taking_out-planned e ls f at count b g few A T h k =
 
 -- ---- an assignment taken out
 
-pub record IsRemoveAssignAt (e : Edit) (ls : List PlacedLine) (f : Found) : Type 0 where
+pub record IsRemoveAssignAt (e : Edit) (ls : List LocatedLine) (f : Found) : Type 0 where
   pub place : IsPlaceOf ls f
   pub takes : TakesOut e ls f.at 1
 
-pub remove_assign-at : (e : Edit) (ls : List PlacedLine) (f : Found) → IsRemoveAssign e → IsFaithful ls → IsAddressed e ls f → IsRemoveAssignAt e ls f
+pub remove_assign-at : (e : Edit) (ls : List LocatedLine) (f : Found) → IsRemoveAssign e → IsFaithful ls → IsAddressed e ls f → IsRemoveAssignAt e ls f
 remove_assign-at (RemoveAssign nth n) ls f u g A =
-    let t = placed_text ls in
+    let t = located_text ls in
     let cs = classed_lines t in
     let e = RemoveAssign nth n in
     let F : IsFoundAt cs (Variable nth n) f = A.meant in

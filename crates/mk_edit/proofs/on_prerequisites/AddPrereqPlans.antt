@@ -8,21 +8,21 @@ use Rattle.mk_lines.specs.Lists.{concat}
 use Rattle.mk_lines.specs.Cells.{Cell, line_cells, raw_text}
 use Rattle.mk_lines.specs.Pieces.{Replacement, new_bytes, old_bytes, old_cells, replacements}
 use Rattle.mk_lines.proofs.on_cells.CellLemmas.{raw_text-append}
-use Rattle.mk_class.specs.Lists.{is_empty}
+use Rattle.mk_class.specs.ListTests.{is_empty}
 use Rattle.mk_class.specs.Headers
 use Rattle.mk_class.specs.Headers.{header_units}
 use Rattle.mk_class.specs.Classes.{Class}
 use Rattle.mk_class.specs.ClassedLines.{ClassedLine, classed_lines}
 use Rattle.mk_class.specs.declared.rule.Header as header
 use Rattle.mk_tree.specs.Documents.{IsFaithful, text_of}
-use Rattle.mk_tree.specs.PlacedLines.{PlacedLine, placed_text, size_of, text_of_line}
+use Rattle.mk_tree.specs.LocatedLines.{LocatedLine, located_text, size_of, text_of_line}
 use Rattle.mk_tree.proofs.on_changes.Sizes.{size_of-text}
 use Rattle.mk_tree.specs.LineTexts.{StandingLine}
 use Rattle.mk_edit_laws.specs.Addresses.{Rule}
 use Rattle.mk_edit_laws.specs.Edits.{Edit, AddPrereq}
 use Rattle.mk_edit_laws.specs.Lengths.{bytes_put, bytes_taken}
 use Rattle.mk_edit_laws.specs.Stretches.{this_line}
-use Rattle.mk_edit_laws.specs.Spans.{spans_of, word_spans, where_found}
+use Rattle.mk_edit_laws.specs.EditSpans.{spans_of, word_spans, where_found}
 use Rattle.mk_edit_laws.specs.Causes.{where_holds}
 use Rattle.mk_edit_laws.specs.LineCauses.{too_long, greatest_length}
 use Rattle.mk_edit_laws.specs.Refusals.{spans}
@@ -32,9 +32,9 @@ use Rattle.mk_edit_laws.specs.declared.refusal.Refusal.TheVariants.{Already, Too
 use Rattle.mk_edit_laws.proofs.on_prerequisites.HeaderEdits.{header_pieces-whole, kept-old, word_spans-header}
 use Rattle.mk_edit_laws.proofs.on_prerequisites.AddPrereqLemmas.{put_last-old}
 use Rattle.mk_edit_parts.specs.Found.{IsAddressed, IsPlaceOf}
-use Rattle.mk_edit_parts.specs.NewPrerequisites.{after_new, before_new, new_text, place_of_new}
+use Rattle.mk_edit_parts.specs.NewPrerequisites.{after_new, before_new, new_word_text, offset_of_new}
 use Rattle.mk_edit.specs.PrerequisiteEdits.{IsAddPrereq, is_in_list}
-use Rattle.mk_edit_parts.specs.SeenHeaders.{IsHeaderSeen, IsPlacedIn, IsRuleLine}
+use Rattle.mk_edit_parts.specs.SeenHeaders.{IsHeaderSeen, IsHeaderAt, IsRuleLine}
 use Rattle.mk_edit_parts.specs.WordCuts.{raw_between}
 use Rattle.mk_edit_parts.specs.declared.seek.Found.{Found}
 use Rattle.mk_edit_parts.proofs.CauseLemmas.{passed, holds}
@@ -59,23 +59,23 @@ add-old true w h = go (is_empty h.bar)
     go false = header_pieces-whole h (kept h.targets) (kept h.normal) (put_last (32 ∷ w) h.order_only) (kept-old h.targets) (kept-old h.normal) (put_last-old (32 ∷ w) h.order_only)
 
 -- what a line gets by a new prerequisite
-abbrev line_text_new : (order : Bool) → (word : List ℕ) → PlacedLine → header.Header → List ℕ
-line_text_new order w l at = new_text order (place_of_new order (text_of_line l) at) w at
+abbrev line_text_new : (order : Bool) → (word : List ℕ) → LocatedLine → header.Header → List ℕ
+line_text_new order w l at = new_word_text order (offset_of_new order (text_of_line l) at) w at
 
 -- the word is no longer than that
-pub word-short : (order : Bool) (w : List ℕ) (l : PlacedLine) (at : header.Header) → length w ≤ length (line_text_new order w l at)
+pub word-short : (order : Bool) (w : List ℕ) (l : LocatedLine) (at : header.Header) → length w ≤ length (line_text_new order w l at)
 word-short order w l at =
-    let a = after_new order (place_of_new order (text_of_line l) at) at in
+    let a = after_new order (offset_of_new order (text_of_line l) at) at in
     omega (arith, length-append (before_new order at) (w ++ a), length-append w a)
 
 -- the line is so much longer
-add-longer : (order : Bool) (w : List ℕ) (l : PlacedLine) (at : header.Header) (h : Headers.Header Cell) (base : ℕ) → IsHeaderSeen l at h
+add-longer : (order : Bool) (w : List ℕ) (l : LocatedLine) (at : header.Header) (h : Headers.Header Cell) (base : ℕ) → IsHeaderSeen l at h
     → bytes_put (replacements base (add_pieces order w h)) ≡ bytes_taken (replacements base (add_pieces order w h)) + length (line_text_new order w l at)
 add-longer order w l at h base S =
     let ps = add_pieces order w h in
     let cs = line_cells l.bytes in
     let E = line_end_bytes (line_end l.bytes) in
-    let p = place_of_new order (text_of_line l) at in
+    let p = offset_of_new order (text_of_line l) at in
     let b = before_new order at in
     let a = after_new order p at in
     let X = take p cs in
@@ -104,22 +104,22 @@ add-longer order w l at h base S =
 -- ---- the whole
 
 -- What the code asks of a document if a rule gets a prerequisite, and what follows from the answers.
-pub record IsAddPrereqOf (order : Bool) (w : List ℕ) (e : Edit) (ls : List PlacedLine) (f : Found) : Type 0 where
+pub record IsAddPrereqOf (order : Bool) (w : List ℕ) (e : Edit) (ls : List LocatedLine) (f : Found) : Type 0 where
   pub parts : Headers.Header Cell
   pub within : f.at < length ls
   pub place : IsPlaceOf ls f
-  pub rule : (l : PlacedLine) → Some l ≡ slice_get ls f.at → IsRuleLine l
-  pub seen : (l : PlacedLine) (at : header.Header) → Some l ≡ slice_get ls f.at → IsPlacedIn l at → IsHeaderSeen l at parts
-  pub listed : true ≡ is_in_list order w parts → spans (placed_text ls) e ≡ Err Already
-  pub long : (l : PlacedLine) (at : header.Header) → false ≡ is_in_list order w parts → Some l ≡ slice_get ls f.at → IsPlacedIn l at → 2 ^ 24 < size_of ls + length (line_text_new order w l at) → spans (placed_text ls) e ≡ Err TooLong
-  pub accepted : (l : PlacedLine) (at : header.Header) → false ≡ is_in_list order w parts → Some l ≡ slice_get ls f.at → IsPlacedIn l at → size_of ls + length (line_text_new order w l at) ≤ 2 ^ 24
-      → spans (placed_text ls) e ≡ Ok (spans_of (placed_text ls) (classed_lines (placed_text ls)) e)
-  pub replaced : (l : PlacedLine) (at : header.Header) (m : List ℕ) → false ≡ is_in_list order w parts → Some l ≡ slice_get ls f.at → IsPlacedIn l at → size_of ls + length (line_text_new order w l at) ≤ 2 ^ 24
+  pub rule : (l : LocatedLine) → Some l ≡ slice_get ls f.at → IsRuleLine l
+  pub seen : (l : LocatedLine) (at : header.Header) → Some l ≡ slice_get ls f.at → IsHeaderAt l at → IsHeaderSeen l at parts
+  pub listed : true ≡ is_in_list order w parts → spans (located_text ls) e ≡ Err Already
+  pub long : (l : LocatedLine) (at : header.Header) → false ≡ is_in_list order w parts → Some l ≡ slice_get ls f.at → IsHeaderAt l at → 2 ^ 24 < size_of ls + length (line_text_new order w l at) → spans (located_text ls) e ≡ Err TooLong
+  pub accepted : (l : LocatedLine) (at : header.Header) → false ≡ is_in_list order w parts → Some l ≡ slice_get ls f.at → IsHeaderAt l at → size_of ls + length (line_text_new order w l at) ≤ 2 ^ 24
+      → spans (located_text ls) e ≡ Ok (spans_of (located_text ls) (classed_lines (located_text ls)) e)
+  pub replaced : (l : LocatedLine) (at : header.Header) (m : List ℕ) → false ≡ is_in_list order w parts → Some l ≡ slice_get ls f.at → IsHeaderAt l at → size_of ls + length (line_text_new order w l at) ≤ 2 ^ 24
       → m ≡ new_bytes (add_pieces order w parts) ++ line_end_bytes (line_end l.bytes) → IsReplaced e ls f.at m
 
 -- whether the word is in its list decides the cause
-already-asked : (order : Bool) (nth : Option ℕ) (g w : List ℕ) (ls : List PlacedLine) (f : Found) (b : Bool) → (R : IsRuleAt ls nth g f) → b ≡ is_in_list order w R.header
-    → already (classed_lines (placed_text ls)) (AddPrereq order nth g w) ≡ where_holds b Already
+already-asked : (order : Bool) (nth : Option ℕ) (g w : List ℕ) (ls : List LocatedLine) (f : Found) (b : Bool) → (R : IsRuleAt ls nth g f) → b ≡ is_in_list order w R.header
+    → already (classed_lines (located_text ls)) (AddPrereq order nth g w) ≡ where_holds b Already
 already-asked true nth g w ls f b R q =
     ap (λ (o : Option StandingLine). where_holds (header_passes (is_order_only w) (class_found o)) Already) R.found_is
     ∙ (ap (λ (k : Class Cell). where_holds (header_passes (is_order_only w) (Some k)) Already) R.class_is ∙ ap (λ b. where_holds b Already) (sym q))
@@ -127,7 +127,7 @@ already-asked false nth g w ls f b R q =
     ap (λ (o : Option StandingLine). where_holds (header_passes (is_normal w) (class_found o)) Already) R.found_is
     ∙ (ap (λ (k : Class Cell). where_holds (header_passes (is_normal w) (Some k)) Already) R.class_is ∙ ap (λ b. where_holds b Already) (sym q))
 
-add_prereq : (order : Bool) (nth : Option ℕ) (g w : List ℕ) (ls : List PlacedLine) (f : Found) → IsFaithful ls → IsAddressed (AddPrereq order nth g w) ls f → IsAddPrereqOf order w (AddPrereq order nth g w) ls f
+add_prereq : (order : Bool) (nth : Option ℕ) (g w : List ℕ) (ls : List LocatedLine) (f : Found) → IsFaithful ls → IsAddressed (AddPrereq order nth g w) ls f → IsAddPrereqOf order w (AddPrereq order nth g w) ls f
 add_prereq order nth g w ls f h A = record {
   parts = x;
   within = R.line.within;
@@ -144,7 +144,7 @@ add_prereq order nth g w ls f h A = record {
 }
   where
     t : List ℕ
-    t = placed_text ls
+    t = located_text ls
 
     lines : List ClassedLine
     lines = classed_lines t
@@ -167,28 +167,28 @@ add_prereq order nth g w ls f h A = record {
     spans_are : rs ≡ replacements (length (text_of s.above)) (add_pieces order w x)
     spans_are = ap (where_found (word_spans (add_pieces order w))) R.found_is ∙ word_spans-header (add_pieces order w) s x R.class_is
 
-    longer : (l : PlacedLine) (at : header.Header) → Some l ≡ slice_get ls f.at → IsPlacedIn l at → bytes_put rs ≡ bytes_taken rs + length (line_text_new order w l at)
+    longer : (l : LocatedLine) (at : header.Header) → Some l ≡ slice_get ls f.at → IsHeaderAt l at → bytes_put rs ≡ bytes_taken rs + length (line_text_new order w l at)
     longer l at k p =
         ap bytes_put spans_are ∙ (add-longer order w l at x (length (text_of s.above)) (header-seen ls nth g f l at R k p) ∙ ap (λ z. bytes_taken z + length (line_text_new order w l at)) (sym spans_are))
 
     decided : too_long t rs ≡ where_holds (nat_lt (greatest_length + bytes_taken rs) (length t + bytes_put rs)) TooLong
     decided = long-said t e (bytes_taken rs) (bytes_put rs) refl refl
 
-    taken : (l : PlacedLine) (at : header.Header) → false ≡ is_in_list order w x → Some l ≡ slice_get ls f.at → IsPlacedIn l at → size_of ls + length (line_text_new order w l at) ≤ 2 ^ 24 → spans t e ≡ Ok rs
+    taken : (l : LocatedLine) (at : header.Header) → false ≡ is_in_list order w x → Some l ≡ slice_get ls f.at → IsHeaderAt l at → size_of ls + length (line_text_new order w l at) ≤ 2 ^ 24 → spans t e ≡ Ok rs
     taken l at q k p z =
         own-accepted e ls f A
         (passed (already lines e) _ None (already-asked order nth g w ls f false R q)
         (passed (too_long t rs) [] None (decided ∙ ap (λ b. where_holds b TooLong) (le-ltb (greatest_length + bytes_taken rs) (length t + bytes_put rs) (omega (arith, z, longer l at k p, size_of-text ls)))) refl))
 
-    edit : (l : PlacedLine) (at : header.Header) → Some l ≡ slice_get ls f.at → IsPlacedIn l at → IsWordEdit e ls f.at l (add_pieces order w x)
+    edit : (l : LocatedLine) (at : header.Header) → Some l ≡ slice_get ls f.at → IsHeaderAt l at → IsWordEdit e ls f.at l (add_pieces order w x)
     edit l at k p = record {
       spot = s;
       place_is = R.place_is;
       touched_is = ap (option_map this_line) R.found_is;
       left_is = λ rs. refl;
       spans_are = spans_are;
-      whole = sym (ap (λ (z : PlacedLine). z.bytes) (rule-line ls nth g f l R k)) ∙ pieces-whole l at x (add_pieces order w x) (header-seen ls nth g f l at R k p) (add-old order w x);
+      whole = sym (ap (λ (z : LocatedLine). z.bytes) (rule-line ls nth g f l R k)) ∙ pieces-whole l at x (add_pieces order w x) (header-seen ls nth g f l at R k p) (add-old order w x);
     }
 
-pub add_prereq-of : (order : Bool) (w : List ℕ) (e : Edit) (ls : List PlacedLine) (f : Found) → IsFaithful ls → IsAddPrereq order w e → IsAddressed e ls f → IsAddPrereqOf order w e ls f
+pub add_prereq-of : (order : Bool) (w : List ℕ) (e : Edit) (ls : List LocatedLine) (f : Found) → IsFaithful ls → IsAddPrereq order w e → IsAddressed e ls f → IsAddPrereqOf order w e ls f
 add_prereq-of order w e ls f h K A = subst (λ z. IsAddPrereqOf order w z ls f) (sym K.is) (add_prereq order K.nth K.target w ls f h (subst (λ z. IsAddressed z ls f) K.is A))

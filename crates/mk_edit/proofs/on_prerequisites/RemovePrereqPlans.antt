@@ -12,14 +12,14 @@ use Rattle.mk_class.specs.Classes.{Class}
 use Rattle.mk_class.specs.ClassedLines.{ClassedLine, classed_lines}
 use Rattle.mk_class.specs.declared.rule.Header as header
 use Rattle.mk_tree.specs.Documents.{IsFaithful, text_of}
-use Rattle.mk_tree.specs.PlacedLines.{PlacedLine, placed_text, size_of}
+use Rattle.mk_tree.specs.LocatedLines.{LocatedLine, located_text, size_of}
 use Rattle.mk_tree.proofs.on_changes.Sizes.{size_of-text}
 use Rattle.mk_tree.specs.LineTexts.{StandingLine}
 use Rattle.mk_edit_laws.specs.Addresses.{Rule}
 use Rattle.mk_edit_laws.specs.Edits.{Edit, RemovePrereq}
 use Rattle.mk_edit_laws.specs.Lengths.{bytes_put}
 use Rattle.mk_edit_laws.specs.Stretches.{this_line}
-use Rattle.mk_edit_laws.specs.Spans.{spans_of, word_spans, where_found}
+use Rattle.mk_edit_laws.specs.EditSpans.{spans_of, word_spans, where_found}
 use Rattle.mk_edit_laws.specs.Causes.{where_holds}
 use Rattle.mk_edit_laws.specs.LineCauses.{too_long}
 use Rattle.mk_edit_laws.specs.Refusals.{spans}
@@ -30,7 +30,7 @@ use Rattle.mk_edit_laws.proofs.on_prerequisites.HeaderEdits.{header_pieces-whole
 use Rattle.mk_edit_laws.proofs.on_prerequisites.RemovePrereqLemmas.{removed-old}
 use Rattle.mk_edit_parts.specs.Found.{IsAddressed, IsPlaceOf}
 use Rattle.mk_edit.specs.PrerequisiteEdits.{IsRemovePrereq}
-use Rattle.mk_edit_parts.specs.SeenHeaders.{IsHeaderSeen, IsPlacedIn, IsRuleLine}
+use Rattle.mk_edit_parts.specs.SeenHeaders.{IsHeaderSeen, IsHeaderAt, IsRuleLine}
 use Rattle.mk_edit_parts.specs.declared.seek.Found.{Found}
 use Rattle.mk_edit_parts.proofs.CauseLemmas.{passed, holds}
 use Rattle.mk_edit.proofs.on_plans.CausePlans.{never-long}
@@ -59,18 +59,18 @@ remove-nothing w h =
 -- ---- the whole
 
 -- What the code asks of a document if a prerequisite is taken out, and what follows from the answers.
-pub record IsRemovePrereqOf (w : List ℕ) (e : Edit) (ls : List PlacedLine) (f : Found) : Type 0 where
+pub record IsRemovePrereqOf (w : List ℕ) (e : Edit) (ls : List LocatedLine) (f : Found) : Type 0 where
   pub parts : Headers.Header Cell
   pub within : f.at < length ls
   pub place : IsPlaceOf ls f
-  pub rule : (l : PlacedLine) → Some l ≡ slice_get ls f.at → IsRuleLine l
-  pub seen : (l : PlacedLine) (at : header.Header) → Some l ≡ slice_get ls f.at → IsPlacedIn l at → IsHeaderSeen l at parts
-  pub missing : false ≡ (is_normal w parts || is_order_only w parts) → spans (placed_text ls) e ≡ Err Absent
-  pub accepted : size_of ls ≤ 2 ^ 24 → true ≡ (is_normal w parts || is_order_only w parts) → spans (placed_text ls) e ≡ Ok (spans_of (placed_text ls) (classed_lines (placed_text ls)) e)
-  pub replaced : (l : PlacedLine) (at : header.Header) (m : List ℕ) → size_of ls ≤ 2 ^ 24 → true ≡ (is_normal w parts || is_order_only w parts) → Some l ≡ slice_get ls f.at → IsPlacedIn l at
+  pub rule : (l : LocatedLine) → Some l ≡ slice_get ls f.at → IsRuleLine l
+  pub seen : (l : LocatedLine) (at : header.Header) → Some l ≡ slice_get ls f.at → IsHeaderAt l at → IsHeaderSeen l at parts
+  pub missing : false ≡ (is_normal w parts || is_order_only w parts) → spans (located_text ls) e ≡ Err Absent
+  pub accepted : size_of ls ≤ 2 ^ 24 → true ≡ (is_normal w parts || is_order_only w parts) → spans (located_text ls) e ≡ Ok (spans_of (located_text ls) (classed_lines (located_text ls)) e)
+  pub replaced : (l : LocatedLine) (at : header.Header) (m : List ℕ) → size_of ls ≤ 2 ^ 24 → true ≡ (is_normal w parts || is_order_only w parts) → Some l ≡ slice_get ls f.at → IsHeaderAt l at
       → m ≡ new_bytes (remove_pieces w parts) ++ line_end_bytes (line_end l.bytes) → IsReplaced e ls f.at m
 
-remove_prereq : (nth : Option ℕ) (g w : List ℕ) (ls : List PlacedLine) (f : Found) → IsFaithful ls → IsAddressed (RemovePrereq nth g w) ls f → IsRemovePrereqOf w (RemovePrereq nth g w) ls f
+remove_prereq : (nth : Option ℕ) (g w : List ℕ) (ls : List LocatedLine) (f : Found) → IsFaithful ls → IsAddressed (RemovePrereq nth g w) ls f → IsRemovePrereqOf w (RemovePrereq nth g w) ls f
 remove_prereq nth g w ls f h A = record {
   parts = x;
   within = R.line.within;
@@ -83,7 +83,7 @@ remove_prereq nth g w ls f h A = record {
 }
   where
     t : List ℕ
-    t = placed_text ls
+    t = located_text ls
 
     lines : List ClassedLine
     lines = classed_lines t
@@ -120,15 +120,15 @@ remove_prereq nth g w ls f h A = record {
     old : old_cells (remove_pieces w x) ≡ concat (header_units x)
     old = header_pieces-whole x (kept x.targets) (removed_words w x.normal) (removed_words w x.order_only) (kept-old x.targets) (removed-old w x.normal) (removed-old w x.order_only)
 
-    edit : (l : PlacedLine) (at : header.Header) → Some l ≡ slice_get ls f.at → IsPlacedIn l at → IsWordEdit e ls f.at l (remove_pieces w x)
+    edit : (l : LocatedLine) (at : header.Header) → Some l ≡ slice_get ls f.at → IsHeaderAt l at → IsWordEdit e ls f.at l (remove_pieces w x)
     edit l at k p = record {
       spot = s;
       place_is = R.place_is;
       touched_is = ap (option_map this_line) R.found_is;
       left_is = λ rs. refl;
       spans_are = spans_are;
-      whole = sym (ap (λ (z : PlacedLine). z.bytes) (rule-line ls nth g f l R k)) ∙ pieces-whole l at x (remove_pieces w x) (header-seen ls nth g f l at R k p) old;
+      whole = sym (ap (λ (z : LocatedLine). z.bytes) (rule-line ls nth g f l R k)) ∙ pieces-whole l at x (remove_pieces w x) (header-seen ls nth g f l at R k p) old;
     }
 
-pub remove_prereq-of : (w : List ℕ) (e : Edit) (ls : List PlacedLine) (f : Found) → IsFaithful ls → IsRemovePrereq w e → IsAddressed e ls f → IsRemovePrereqOf w e ls f
+pub remove_prereq-of : (w : List ℕ) (e : Edit) (ls : List LocatedLine) (f : Found) → IsFaithful ls → IsRemovePrereq w e → IsAddressed e ls f → IsRemovePrereqOf w e ls f
 remove_prereq-of w e ls f h K A = subst (λ z. IsRemovePrereqOf w z ls f) (sym K.is) (remove_prereq K.nth K.target w ls f h (subst (λ z. IsAddressed z ls f) K.is A))

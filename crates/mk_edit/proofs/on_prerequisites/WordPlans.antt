@@ -12,12 +12,12 @@ use Rattle.mk_class.specs.Headers.{header_units}
 use Rattle.mk_class.specs.ClassedLines.{classed_lines}
 use Rattle.mk_class.specs.declared.rule.Header as header
 use Rattle.mk_tree.specs.Documents.{IsFaithful, text_of}
-use Rattle.mk_tree.specs.PlacedLines.{PlacedLine, placed_text}
+use Rattle.mk_tree.specs.LocatedLines.{LocatedLine, located_text}
 use Rattle.mk_tree.specs.LineTexts.{StandingLine}
 use Rattle.mk_edit_laws.specs.Edits.{Edit}
 use Rattle.mk_edit_laws.specs.Lengths.{bytes_taken, bytes_put}
 use Rattle.mk_edit_laws.specs.Stretches.{this_line, touched_by}
-use Rattle.mk_edit_laws.specs.Spans.{spans_of}
+use Rattle.mk_edit_laws.specs.EditSpans.{spans_of}
 use Rattle.mk_edit_laws.specs.EditedLines.{respanned_bytes, edited_bytes}
 use Rattle.mk_edit_laws.specs.Refusals.{spans}
 use Rattle.mk_edit_laws.proofs.on_edits.EditedLineLemmas.{respanned-pieces}
@@ -25,26 +25,26 @@ use Rattle.mk_edit_parts.specs.SeenHeaders.{IsHeaderSeen}
 use Rattle.mk_edit.proofs.on_plans.LinePlans.{IsReplaced, line-replaced}
 
 -- An edit that makes these pieces of the line at a place, whose line end stays.
-pub record IsWordEdit (e : Edit) (ls : List PlacedLine) (at : ℕ) (l : PlacedLine) (ps : List Piece) : Type 0 where
+pub record IsWordEdit (e : Edit) (ls : List LocatedLine) (at : ℕ) (l : LocatedLine) (ps : List Piece) : Type 0 where
   pub spot : StandingLine
   pub place_is : length spot.above ≡ at
-  pub touched_is : touched_by (classed_lines (placed_text ls)) e ≡ Some (this_line spot)
-  pub left_is : (rs : List Replacement) → edited_bytes (placed_text ls) e (this_line spot) rs ≡ respanned_bytes (this_line spot) rs ∷ []
-  pub spans_are : spans_of (placed_text ls) (classed_lines (placed_text ls)) e ≡ replacements (length (text_of spot.above)) ps
+  pub touched_is : touched_by (classed_lines (located_text ls)) e ≡ Some (this_line spot)
+  pub left_is : (rs : List Replacement) → edited_bytes (located_text ls) e (this_line spot) rs ≡ respanned_bytes (this_line spot) rs ∷ []
+  pub spans_are : spans_of (located_text ls) (classed_lines (located_text ls)) e ≡ replacements (length (text_of spot.above)) ps
   pub whole : spot.line.bytes ≡ old_bytes ps ++ line_end_bytes (line_end l.bytes)
 
 -- the line that the pieces make is what the edit leaves, where no cause holds
-pub words-replaced : (e : Edit) (ls : List PlacedLine) (at : ℕ) (l : PlacedLine) (ps : List Piece) (m : List ℕ) → IsFaithful ls → IsWordEdit e ls at l ps
-    → spans (placed_text ls) e ≡ Ok (spans_of (placed_text ls) (classed_lines (placed_text ls)) e) → m ≡ new_bytes ps ++ line_end_bytes (line_end l.bytes) → IsReplaced e ls at m
+pub words-replaced : (e : Edit) (ls : List LocatedLine) (at : ℕ) (l : LocatedLine) (ps : List Piece) (m : List ℕ) → IsFaithful ls → IsWordEdit e ls at l ps
+    → spans (located_text ls) e ≡ Ok (spans_of (located_text ls) (classed_lines (located_text ls)) e) → m ≡ new_bytes ps ++ line_end_bytes (line_end l.bytes) → IsReplaced e ls at m
 words-replaced e ls at l ps m f W h k =
     let s = W.spot in
-    let rs = spans_of (placed_text ls) (classed_lines (placed_text ls)) e in
+    let rs = spans_of (located_text ls) (classed_lines (located_text ls)) e in
     let E = line_end_bytes (line_end l.bytes) in
     let bytes : respanned_bytes (this_line s) rs ≡ m = ap (respanned_bytes (this_line s)) W.spans_are ∙ (respanned-pieces (this_line s) ps E (append-nil s.line.bytes ∙ W.whole) ∙ sym k) in
     line-replaced e ls rs s at m f h W.touched_is W.place_is (W.left_is rs ∙ ap (λ z. z ∷ []) bytes)
 
 -- the old bytes of the pieces of a header's line are the line's
-pub pieces-whole : (l : PlacedLine) (at : header.Header) (h : Headers.Header Cell) (ps : List Piece) → IsHeaderSeen l at h → old_cells ps ≡ concat (header_units h) → l.bytes ≡ old_bytes ps ++ line_end_bytes (line_end l.bytes)
+pub pieces-whole : (l : LocatedLine) (at : header.Header) (h : Headers.Header Cell) (ps : List Piece) → IsHeaderSeen l at h → old_cells ps ≡ concat (header_units h) → l.bytes ≡ old_bytes ps ++ line_end_bytes (line_end l.bytes)
 pieces-whole l at h ps S k = S.whole ∙ ap (λ z. z ++ line_end_bytes (line_end l.bytes)) (sym (ap raw_text k) ∙ raw_text-old_cells ps)
 
 -- ---- lengths

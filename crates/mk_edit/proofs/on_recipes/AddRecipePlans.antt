@@ -5,7 +5,7 @@ use Rattle.std.specs.Prelude.{Err}
 use Rattle.mk_class.specs.Classes.{is_conditional}
 use Rattle.mk_class.specs.ClassedLines.{classed_lines}
 use Rattle.mk_tree.specs.Documents.{IsFaithful}
-use Rattle.mk_tree.specs.PlacedLines.{PlacedLine, placed_text}
+use Rattle.mk_tree.specs.LocatedLines.{LocatedLine, located_text}
 use Rattle.mk_tree.specs.RecipeLines.{recipe_run, after_recipe}
 use Rattle.mk_tree.proofs.on_changes.RecipeRunLemmas.{recipe_run-after}
 use Rattle.mk_edit_laws.specs.Edits.{Edit, AddRecipe}
@@ -28,32 +28,32 @@ use Rattle.mk_edit.proofs.on_recipes.RemoveRulePlans.{straddles-is}
 use Rattle.mk_edit.proofs.on_plans.RemovalPlans.{place-found}
 
 -- the place after the recipe of a rule is the one of its new line
-inserted-after_rule : (ls : List PlacedLine) (nth : Option ℕ) (t c : List ℕ) (f g : Found) → IsRuleAt ls nth t f → g.at ≡ f.at + 1 + length (recipe_run (lines_from ls (f.at + 1)))
-    → IsPlaceOf ls g → IsInsertedAt ls (insertion (classed_lines (placed_text ls)) (AddRecipe nth t c)) g
+inserted-after_rule : (ls : List LocatedLine) (nth : Option ℕ) (t c : List ℕ) (f g : Found) → IsRuleAt ls nth t f → g.at ≡ f.at + 1 + length (recipe_run (lines_from ls (f.at + 1)))
+    → IsPlaceOf ls g → IsInsertedAt ls (insertion (classed_lines (located_text ls)) (AddRecipe nth t c)) g
 inserted-after_rule ls nth t c f g R at p =
     let s = R.spot in
     let run = recipe_run s.below in
-    let whole : classed_lines (placed_text ls) ≡ (s.above ++ s.line ∷ run) ++ after_recipe s.below =
+    let whole : classed_lines (located_text ls) ≡ (s.above ++ s.line ∷ run) ++ after_recipe s.below =
     R.line.lines ∙ (ap (λ z. s.above ++ s.line ∷ z) (sym (recipe_run-after s.below)) ∙ sym (append_assoc s.above (s.line ∷ run) (after_recipe s.below))) in
     let place : length (s.above ++ s.line ∷ run) ≡ g.at = omega (arith, at, R.place_is, ap (λ z. length (recipe_run z)) R.below_is, length-append s.above (s.line ∷ run)) in
     inserted-between ls _ (after_rule s) g (ap (option_map after_rule) R.found_is) whole place p
 
 -- What the code asks of a document if a recipe line is added, and what follows from the answers.
-pub record IsAddRecipeOf (e : Edit) (ls : List PlacedLine) (f : Found) : Type 0 where
+pub record IsAddRecipeOf (e : Edit) (ls : List LocatedLine) (f : Found) : Type 0 where
   pub place : IsPlaceOf ls f
   pub within : f.at < length ls
   pub end_within : f.at + 1 + length (recipe_run (lines_from ls (f.at + 1))) ≤ length ls
   -- a line of a conditional in the recipe
-  pub straddling : true ≡ list_any (λ l. is_conditional l.class) (recipe_run (lines_from ls (f.at + 1))) → spans (placed_text ls) e ≡ Err Straddles
+  pub straddling : true ≡ list_any (λ l. is_conditional l.class) (recipe_run (lines_from ls (f.at + 1))) → spans (located_text ls) e ≡ Err Straddles
   -- no line of a conditional stands in the recipe
-  pub decided : false ≡ list_any (λ l. is_conditional l.class) (recipe_run (lines_from ls (f.at + 1))) → IsDecidedByPlace (placed_text ls) e
+  pub decided : false ≡ list_any (λ l. is_conditional l.class) (recipe_run (lines_from ls (f.at + 1))) → IsDecidedByPlace (located_text ls) e
   -- the place after the recipe
-  pub inserted : (g : Found) → g.at ≡ f.at + 1 + length (recipe_run (lines_from ls (f.at + 1))) → IsPlaceOf ls g → IsInsertedAt ls (insertion (classed_lines (placed_text ls)) e) g
+  pub inserted : (g : Found) → g.at ≡ f.at + 1 + length (recipe_run (lines_from ls (f.at + 1))) → IsPlaceOf ls g → IsInsertedAt ls (insertion (classed_lines (located_text ls)) e) g
 
-add_recipe : (nth : Option ℕ) (t c : List ℕ) (ls : List PlacedLine) (f : Found) → IsFaithful ls → IsAddressed (AddRecipe nth t c) ls f → IsAddRecipeOf (AddRecipe nth t c) ls f
+add_recipe : (nth : Option ℕ) (t c : List ℕ) (ls : List LocatedLine) (f : Found) → IsFaithful ls → IsAddressed (AddRecipe nth t c) ls f → IsAddRecipeOf (AddRecipe nth t c) ls f
 add_recipe nth t c ls f h A =
     let e = AddRecipe nth t c in
-    let text = placed_text ls in
+    let text = located_text ls in
     let cls = classed_lines text in
     let R = rule-at ls nth t f h A.is_there A.is_one A.meant in
     record {
@@ -65,6 +65,6 @@ add_recipe nth t c ls f h A =
       inserted = λ g at p. inserted-after_rule ls nth t c f g R at p;
     }
 
-pub add_recipe-of : (e : Edit) (ls : List PlacedLine) (f : Found) → IsFaithful ls → IsAddRecipe e → IsAddressed e ls f → IsAddRecipeOf e ls f
+pub add_recipe-of : (e : Edit) (ls : List LocatedLine) (f : Found) → IsFaithful ls → IsAddRecipe e → IsAddressed e ls f → IsAddRecipeOf e ls f
 add_recipe-of (AddRecipe nth t c) ls f h u A = add_recipe nth t c ls f h A
 add_recipe-of e ls f h u A = absurd u

@@ -5,10 +5,10 @@ use Rattle.std.proofs.lemmas.List.{length-map}
 use Rattle.mk_class.specs.Classes.{Class, is_recipe}
 use Rattle.mk_class.specs.Contexts.{Context, context_after}
 use Rattle.mk_class.specs.ClassedLines.{classed_lines}
-use Rattle.mk_class.specs.declared.context.Flag.TheVariants as flag
+use Rattle.mk_class.specs.declared.context.RuleFlag.TheVariants as flag
 use Rattle.mk_tree.specs.Documents.{IsFaithful, context_of}
-use Rattle.mk_tree.specs.PlacedLines.{PlacedLine, placed_line, placed_text}
-use Rattle.mk_tree.proofs.on_documents.LinePlaces.{located, context_of-last}
+use Rattle.mk_tree.specs.LocatedLines.{LocatedLine, located_line, located_text}
+use Rattle.mk_tree.proofs.on_documents.LinesInText.{line-in_text, context_of-last}
 use Rattle.mk_tree.specs.LineTexts.{StandingLine}
 use Rattle.mk_edit_laws.specs.Spots.{nth_of}
 use Rattle.mk_edit_laws.specs.Stretches.{below_header, recipe_spot, recipe_found}
@@ -26,18 +26,18 @@ nth-map f (suc zero) (x ∷ xs) = refl
 nth-map f (suc (suc n)) (x ∷ xs) = nth-map f (suc n) xs
 
 -- where the code finds a rule's recipe line, by its number
-abbrev pub place_in_rule : List PlacedLine → (from number : ℕ) → Option ℕ
-place_in_rule ls from n = option_map (λ s. from + length s.above) (nth_of n (recipe_spots_in (lines_from ls from)))
+abbrev pub index_in_rule : List LocatedLine → (from number : ℕ) → Option ℕ
+index_in_rule ls from n = option_map (λ s. from + length s.above) (nth_of n (recipe_spots_in (lines_from ls from)))
 
 -- what the number means, by the lines below the header
-found-below : (ls : List PlacedLine) (nth : Option ℕ) (g : List ℕ) (f : Found) (n : ℕ) → (R : IsRuleAt ls nth g f)
-    → recipe_found (classed_lines (placed_text ls)) nth g n ≡ option_map (below_header R.spot) (nth_of n (recipe_spots_in (lines_from ls (f.at + 1))))
+found-below : (ls : List LocatedLine) (nth : Option ℕ) (g : List ℕ) (f : Found) (n : ℕ) → (R : IsRuleAt ls nth g f)
+    → recipe_found (classed_lines (located_text ls)) nth g n ≡ option_map (below_header R.spot) (nth_of n (recipe_spots_in (lines_from ls (f.at + 1))))
 found-below ls nth g f n R =
     ap (option_and_then (recipe_spot n)) R.found_is
     ∙ (nth-map (below_header R.spot) n (recipe_spots_in R.spot.below) ∙ ap (λ z. option_map (below_header R.spot) (nth_of n (recipe_spots_in z))) (sym R.below_is))
 
 -- the code finds no recipe line if the rule has none of this number
-pub found-none : (ls : List PlacedLine) (nth : Option ℕ) (g : List ℕ) (f : Found) (n : ℕ) → IsRuleAt ls nth g f → None ≡ place_in_rule ls (f.at + 1) n → recipe_found (classed_lines (placed_text ls)) nth g n ≡ None
+pub found-none : (ls : List LocatedLine) (nth : Option ℕ) (g : List ℕ) (f : Found) (n : ℕ) → IsRuleAt ls nth g f → None ≡ index_in_rule ls (f.at + 1) n → recipe_found (classed_lines (located_text ls)) nth g n ≡ None
 found-none ls nth g f n R h = found-below ls nth g f n R ∙ go (nth_of n (recipe_spots_in (lines_from ls (f.at + 1)))) h
   where
     go : (o : Option StandingLine) → None ≡ option_map (λ (s : StandingLine). f.at + 1 + length s.above) o → option_map (below_header R.spot) o ≡ None
@@ -45,10 +45,10 @@ found-none ls nth g f n R h = found-below ls nth g f n R ∙ go (nth_of n (recip
     go (Some q) e = absurd (cc)
 
 -- what is known of a document where a recipe line stands
-pub record IsRecipeAt (ls : List PlacedLine) (nth : Option ℕ) (g : List ℕ) (n at : ℕ) : Type 0 where
+pub record IsRecipeAt (ls : List LocatedLine) (nth : Option ℕ) (g : List ℕ) (n at : ℕ) : Type 0 where
   pub spot : StandingLine
-  pub found_is : recipe_found (classed_lines (placed_text ls)) nth g n ≡ Some spot
-  pub lines : classed_lines (placed_text ls) ≡ spot.above ++ spot.line ∷ spot.below
+  pub found_is : recipe_found (classed_lines (located_text ls)) nth g n ≡ Some spot
+  pub lines : classed_lines (located_text ls) ≡ spot.above ++ spot.line ∷ spot.below
   pub place_is : length spot.above ≡ at
   pub within : at < length ls
   pub class_is : spot.line.class ≡ Class.Recipe
@@ -56,15 +56,15 @@ pub record IsRecipeAt (ls : List PlacedLine) (nth : Option ℕ) (g : List ℕ) (
   pub flag_before : (context_of spot.above).flag ≡ flag.Rule
   pub flag_after : (context_of (spot.above ++ spot.line ∷ [])).flag ≡ flag.Rule
 
-recipe-at : (ls : List PlacedLine) (nth : Option ℕ) (g : List ℕ) (n at : ℕ) (s : StandingLine) → IsFaithful ls → recipe_found (classed_lines (placed_text ls)) nth g n ≡ Some s → length s.above ≡ at → IsRecipeAt ls nth g n at
+recipe-at : (ls : List LocatedLine) (nth : Option ℕ) (g : List ℕ) (n at : ℕ) (s : StandingLine) → IsFaithful ls → recipe_found (classed_lines (located_text ls)) nth g n ≡ Some s → length s.above ≡ at → IsRecipeAt ls nth g n at
 recipe-at ls nth g n at s h e p =
-    let lines = classed_lines (placed_text ls) in
+    let lines = classed_lines (located_text ls) in
     let whole : lines ≡ s.above ++ s.line ∷ s.below = recipe_found-spot lines nth g n s e in
     let r : is_recipe s.line.class ≡ true = recipe_found-recipe lines nth g n s e in
     let k = recipe-class s.line.class r in
-    let L = located (placed_text ls) s.above s.line s.below whole in
+    let L = line-in_text (located_text ls) s.above s.line s.below whole in
     let S = recipe-stands (context_of s.above) s.line.bytes (ap is_recipe L.class ∙ r) in
-    let many : length ls ≡ length (s.above ++ s.line ∷ s.below) = ap length h ∙ (length-map lines placed_line ∙ ap length whole) in
+    let many : length ls ≡ length (s.above ++ s.line ∷ s.below) = ap length h ∙ (length-map lines located_line ∙ ap length whole) in
     record {
       spot = s;
       found_is = e;
@@ -77,10 +77,10 @@ recipe-at ls nth g n at s h e p =
     }
 
 -- the code finds it where it stands
-pub found-some : (ls : List PlacedLine) (nth : Option ℕ) (g : List ℕ) (f : Found) (n at : ℕ) → IsFaithful ls → IsRuleAt ls nth g f → Some at ≡ place_in_rule ls (f.at + 1) n → IsRecipeAt ls nth g n at
+pub found-some : (ls : List LocatedLine) (nth : Option ℕ) (g : List ℕ) (f : Found) (n at : ℕ) → IsFaithful ls → IsRuleAt ls nth g f → Some at ≡ index_in_rule ls (f.at + 1) n → IsRecipeAt ls nth g n at
 found-some ls nth g f n at h R e = go (nth_of n (recipe_spots_in (lines_from ls (f.at + 1)))) e (found-below ls nth g f n R)
   where
-    go : (o : Option StandingLine) → Some at ≡ option_map (λ (s : StandingLine). f.at + 1 + length s.above) o → recipe_found (classed_lines (placed_text ls)) nth g n ≡ option_map (below_header R.spot) o → IsRecipeAt ls nth g n at
+    go : (o : Option StandingLine) → Some at ≡ option_map (λ (s : StandingLine). f.at + 1 + length s.above) o → recipe_found (classed_lines (located_text ls)) nth g n ≡ option_map (below_header R.spot) o → IsRecipeAt ls nth g n at
     go None e k = absurd (cc)
     go (Some q) e k =
         let m : at ≡ f.at + 1 + length q.above = cc in

@@ -3,16 +3,16 @@ use Rattle.std.proofs.Common.{◌≡◌, refl, ap, ◌∙◌, subst, arith, ℕ,
 use Rattle.std.specs.Prelude.{Ok, Err}
 use Rattle.mk_lines.specs.Pieces.{Replacement}
 use Rattle.mk_class.specs.ClassedLines.{ClassedLine, classed_lines}
-use Rattle.mk_class.specs.declared.context.Flag.{Flag}
-use Rattle.mk_class.specs.declared.context.Flag.TheVariants as flag
+use Rattle.mk_class.specs.declared.context.RuleFlag.{RuleFlag}
+use Rattle.mk_class.specs.declared.context.RuleFlag.TheVariants as flag
 use Rattle.mk_tree.specs.Documents.{IsFaithful, context_of}
 use Rattle.mk_tree.specs.Leaning.{leans}
-use Rattle.mk_tree.specs.PlacedLines.{PlacedLine, placed_text, size_of}
+use Rattle.mk_tree.specs.LocatedLines.{LocatedLine, located_text, size_of}
 use Rattle.mk_tree.proofs.on_changes.Sizes.{size_of-text}
 use Rattle.mk_tree.specs.LineTexts.{StandingLine}
 use Rattle.mk_edit_laws.specs.Edits.{Edit, RemoveRecipe}
 use Rattle.mk_edit_laws.specs.Stretches.{this_line}
-use Rattle.mk_edit_laws.specs.Spans.{removed_span, spans_of, where_found}
+use Rattle.mk_edit_laws.specs.EditSpans.{removed_span, spans_of, where_found}
 use Rattle.mk_edit_laws.specs.Causes.{where_holds}
 use Rattle.mk_edit_laws.specs.RuleCauses.{absent}
 use Rattle.mk_edit_laws.specs.LineCauses.{removal_leans, leaning, too_long}
@@ -27,30 +27,30 @@ use Rattle.mk_edit.proofs.on_plans.CausePlans.{never-long}
 use Rattle.mk_edit.proofs.on_plans.LinePlans.{IsTakenOut, lines-taken_out}
 use Rattle.mk_edit.proofs.on_recipes.OwnCauses.{own-refused, own-accepted}
 use Rattle.mk_edit.proofs.on_recipes.RulePlaces.{IsRuleAt, rule-at}
-use Rattle.mk_edit.proofs.on_recipes.RecipePlaces.{place_in_rule, found-none, IsRecipeAt, found-some}
+use Rattle.mk_edit.proofs.on_recipes.RecipePlaces.{index_in_rule, found-none, IsRecipeAt, found-some}
 
 -- no line leans on a recipe line, since a rule is open before it and after it
-not_leaning : (ls : List PlacedLine) (nth : Option ℕ) (g : List ℕ) (n at : ℕ) → IsRecipeAt ls nth g n at → leaning (classed_lines (placed_text ls)) (RemoveRecipe nth g n) ≡ None
+not_leaning : (ls : List LocatedLine) (nth : Option ℕ) (g : List ℕ) (n at : ℕ) → IsRecipeAt ls nth g n at → leaning (classed_lines (located_text ls)) (RemoveRecipe nth g n) ≡ None
 not_leaning ls nth g n at R =
     let s = R.spot in
     let C = context_of s.above in
     let E = context_of (s.above ++ s.line ∷ []) in
     ap (λ (o : Option StandingLine). where_holds (removal_leans (option_map this_line o)) Leans) R.found_is
-    ∙ (ap (λ (z : Flag). where_holds (leans C.prefix z E.flag s.below) Leans) R.flag_before ∙ ap (λ (z : Flag). where_holds (leans C.prefix flag.Rule z s.below) Leans) R.flag_after)
+    ∙ (ap (λ (z : RuleFlag). where_holds (leans C.prefix z E.flag s.below) Leans) R.flag_before ∙ ap (λ (z : RuleFlag). where_holds (leans C.prefix flag.Rule z s.below) Leans) R.flag_after)
 
 -- the rest of the text is no longer than the text
-within-limit : (ls : List PlacedLine) (nth : Option ℕ) (g : List ℕ) (n at : ℕ) → IsRecipeAt ls nth g n at → size_of ls ≤ 2 ^ 24
-    → too_long (placed_text ls) (spans_of (placed_text ls) (classed_lines (placed_text ls)) (RemoveRecipe nth g n)) ≡ None
+within-limit : (ls : List LocatedLine) (nth : Option ℕ) (g : List ℕ) (n at : ℕ) → IsRecipeAt ls nth g n at → size_of ls ≤ 2 ^ 24
+    → too_long (located_text ls) (spans_of (located_text ls) (classed_lines (located_text ls)) (RemoveRecipe nth g n)) ≡ None
 within-limit ls nth g n at R z =
-    never-long (placed_text ls) (RemoveRecipe nth g n) (ap (λ (o : Option StandingLine). bytes_put (where_found removed_span (option_map this_line o))) R.found_is) (omega (arith, size_of-text ls, z))
+    never-long (located_text ls) (RemoveRecipe nth g n) (ap (λ (o : Option StandingLine). bytes_put (where_found removed_span (option_map this_line o))) R.found_is) (omega (arith, size_of-text ls, z))
 
 -- What the code asks of a document if a recipe line is taken out, and what follows from the answers.
-pub record IsRemoveRecipeOf (n : ℕ) (e : Edit) (ls : List PlacedLine) (f : Found) : Type 0 where
+pub record IsRemoveRecipeOf (n : ℕ) (e : Edit) (ls : List LocatedLine) (f : Found) : Type 0 where
   pub within : f.at < length ls
-  pub missing : None ≡ place_in_rule ls (f.at + 1) n → spans (placed_text ls) e ≡ Err Absent
-  pub accepted : (at : ℕ) → size_of ls ≤ 2 ^ 24 → Some at ≡ place_in_rule ls (f.at + 1) n → (rs : List Replacement) × (spans (placed_text ls) e ≡ Ok rs) × IsTakenOut e ls at 1
+  pub missing : None ≡ index_in_rule ls (f.at + 1) n → spans (located_text ls) e ≡ Err Absent
+  pub accepted : (at : ℕ) → size_of ls ≤ 2 ^ 24 → Some at ≡ index_in_rule ls (f.at + 1) n → (rs : List Replacement) × (spans (located_text ls) e ≡ Ok rs) × IsTakenOut e ls at 1
 
-remove_recipe : (nth : Option ℕ) (g : List ℕ) (n : ℕ) (ls : List PlacedLine) (f : Found) → IsFaithful ls → IsAddressed (RemoveRecipe nth g n) ls f → IsRemoveRecipeOf n (RemoveRecipe nth g n) ls f
+remove_recipe : (nth : Option ℕ) (g : List ℕ) (n : ℕ) (ls : List LocatedLine) (f : Found) → IsFaithful ls → IsAddressed (RemoveRecipe nth g n) ls f → IsRemoveRecipeOf n (RemoveRecipe nth g n) ls f
 remove_recipe nth g n ls f h A = record {
   within = R.line.within;
   missing = λ m. own-refused e ls f Absent A (holds (absent lines e) _ Absent (ap (λ (o : Option StandingLine). where_holds (not (is_some o)) Absent) (found-none ls nth g f n R m)));
@@ -63,7 +63,7 @@ remove_recipe nth g n ls f h A = record {
 }
   where
     t : List ℕ
-    t = placed_text ls
+    t = located_text ls
 
     lines : List ClassedLine
     lines = classed_lines t
@@ -74,6 +74,6 @@ remove_recipe nth g n ls f h A = record {
     R : IsRuleAt ls nth g f
     R = rule-at ls nth g f h A.is_there A.is_one A.meant
 
-pub remove_recipe-of : (n : ℕ) (e : Edit) (ls : List PlacedLine) (f : Found) → IsFaithful ls → IsRemoveRecipe n e → IsAddressed e ls f → IsRemoveRecipeOf n e ls f
+pub remove_recipe-of : (n : ℕ) (e : Edit) (ls : List LocatedLine) (f : Found) → IsFaithful ls → IsRemoveRecipe n e → IsAddressed e ls f → IsRemoveRecipeOf n e ls f
 remove_recipe-of n (RemoveRecipe nth g k) ls f h i A = subst (λ m. IsRemoveRecipeOf m (RemoveRecipe nth g k) ls f) i (remove_recipe nth g k ls f h A)
 remove_recipe-of n e ls f h i A = absurd i

@@ -8,23 +8,23 @@ use Rattle.mk_lines.specs.Pieces.{Replacement}
 use Rattle.mk_class.specs.Headers
 use Rattle.mk_class.specs.Classes.{is_conditional}
 use Rattle.mk_class.specs.Classes.Class.{Header}
-use Rattle.mk_class.specs.ClassPlaces.{class_places}
+use Rattle.mk_class.specs.LocatedClasses.{located_class}
 use Rattle.mk_class.specs.Contexts.{Context}
 use Rattle.mk_class.specs.ClassTable.{class_of}
 use Rattle.mk_class.specs.ClassedLines.{ClassedLine, classed_lines}
-use Rattle.mk_class.proofs.on_classes.LinePartLemmas.{line-parts_placed}
-use Rattle.mk_class.specs.declared.context.Flag.{Flag}
-use Rattle.mk_class.specs.declared.context.Flag.TheVariants as flag
+use Rattle.mk_class.proofs.on_classes.LinePartLemmas.{line-parts_located}
+use Rattle.mk_class.specs.declared.context.RuleFlag.{RuleFlag}
+use Rattle.mk_class.specs.declared.context.RuleFlag.TheVariants as flag
 use Rattle.mk_tree.specs.Documents.{IsFaithful, context_of}
 use Rattle.mk_tree.specs.Leaning.{is_same_flag, leans}
-use Rattle.mk_tree.specs.PlacedLines.{PlacedLine, placed_line, placed_lines, placed_text, size_of}
+use Rattle.mk_tree.specs.LocatedLines.{LocatedLine, located_line, located_lines, located_text, size_of}
 use Rattle.mk_tree.specs.RecipeLines.{recipe_run, after_recipe}
 use Rattle.mk_tree.proofs.on_changes.Sizes.{size_of-text}
 use Rattle.mk_tree.specs.LineTexts.{StandingLine}
 use Rattle.mk_edit_laws.specs.Edits.{Edit, RemoveRule}
 use Rattle.mk_edit_laws.specs.Addresses.{Rule, targets_of, found}
 use Rattle.mk_edit_laws.specs.Stretches.{whole_rule}
-use Rattle.mk_edit_laws.specs.Spans.{removed_span, spans_of, where_found}
+use Rattle.mk_edit_laws.specs.EditSpans.{removed_span, spans_of, where_found}
 use Rattle.mk_edit_laws.specs.Causes.{where_holds}
 use Rattle.mk_edit_laws.specs.Costs.{line_count}
 use Rattle.mk_edit_laws.specs.RuleCauses.{class_found, targets_found, shared_by, shared_rule, has_conditional, straddles}
@@ -33,12 +33,12 @@ use Rattle.mk_edit_laws.specs.Lengths.{bytes_put}
 use Rattle.mk_edit_laws.specs.Refusals.{spans}
 use Rattle.mk_edit_laws.specs.declared.refusal.Refusal.TheVariants.{SharedRule, Straddles, Leans}
 use Rattle.mk_edit_parts.specs.Found.{IsAddressed}
-use Rattle.mk_edit_parts.specs.LineRanges.{is_led_first_placed}
+use Rattle.mk_edit_parts.specs.LineRanges.{is_led_first_located}
 use Rattle.mk_edit.specs.RecipeEdits.{IsRemoveRule}
-use Rattle.mk_edit_parts.specs.RecipeWalks.{lines_from, header_targets_in, header_targets_placed}
+use Rattle.mk_edit_parts.specs.RecipeWalks.{lines_from, header_targets_in, header_targets_located}
 use Rattle.mk_edit_parts.specs.declared.seek.Found.{Found}
 use Rattle.mk_edit_parts.proofs.CauseLemmas.{passed, holds}
-use Rattle.mk_edit_parts.proofs.on_finding.LeanLemmas.{led_first-placed}
+use Rattle.mk_edit_parts.proofs.on_finding.LeanLemmas.{led_first-located}
 use Rattle.mk_edit_parts.proofs.on_finding.PartLemmas.{words-part}
 use Rattle.mk_edit.proofs.on_plans.CausePlans.{never-long}
 use Rattle.mk_edit.proofs.on_plans.LinePlans.{IsTakenOut, lines-taken_out}
@@ -47,75 +47,75 @@ use Rattle.mk_edit.proofs.on_recipes.RulePlaces.{IsRuleAt, rule-at, rule-within}
 
 -- ---- the targets of a header
 
-header-targets : (c : Context) (l : ClassedLine) (x : Headers.Header Cell) → class_of c l.bytes ≡ l.class → l.class ≡ Header x → header_targets_placed (placed_line l) ≡ targets_of l.class
+header-targets : (c : Context) (l : ClassedLine) (x : Headers.Header Cell) → class_of c l.bytes ≡ l.class → l.class ≡ Header x → header_targets_located (located_line l) ≡ targets_of l.class
 header-targets c l x h k =
-    let P = line-parts_placed c l.bytes (class_places joined_byte (Header x)) (ap (class_places joined_byte) (sym (h ∙ k))) in
-    ap (header_targets_in (joined_text (line_cells l.bytes))) (ap (class_places joined_byte) k) ∙ (words-part (line_cells l.bytes) _ [] P.0.targets P.2.targets ∙ ap targets_of (sym P.1 ∙ h))
+    let P = line-parts_located c l.bytes (located_class joined_byte (Header x)) (ap (located_class joined_byte) (sym (h ∙ k))) in
+    ap (header_targets_in (joined_text (line_cells l.bytes))) (ap (located_class joined_byte) k) ∙ (words-part (line_cells l.bytes) _ [] P.0.targets P.2.targets ∙ ap targets_of (sym P.1 ∙ h))
 
 -- ---- causes
 
-shared-is : (ls : List PlacedLine) (nth : Option ℕ) (g : List ℕ) (f : Found) (l : PlacedLine) (n : ℕ) → IsRuleAt ls nth g f → Some l ≡ slice_get ls f.at → n ≡ length (header_targets_placed l)
-    → shared_rule (classed_lines (placed_text ls)) (RemoveRule nth g) ≡ where_holds (nat_lt 1 n) (SharedRule n)
+shared-is : (ls : List LocatedLine) (nth : Option ℕ) (g : List ℕ) (f : Found) (l : LocatedLine) (n : ℕ) → IsRuleAt ls nth g f → Some l ≡ slice_get ls f.at → n ≡ length (header_targets_located l)
+    → shared_rule (classed_lines (located_text ls)) (RemoveRule nth g) ≡ where_holds (nat_lt 1 n) (SharedRule n)
 shared-is ls nth g f l n R h k =
     let s = R.spot in
-    let q : Some l ≡ Some (placed_line s.line) = h ∙ R.line.line_is in
-    let same : l ≡ placed_line s.line = cc in
-    let m : n ≡ length (targets_of s.line.class) = k ∙ (ap (λ (z : PlacedLine). length (header_targets_placed z)) same ∙ ap length (header-targets f.context s.line R.header R.line.class_is R.class_is)) in
+    let q : Some l ≡ Some (located_line s.line) = h ∙ R.line.line_is in
+    let same : l ≡ located_line s.line = cc in
+    let m : n ≡ length (targets_of s.line.class) = k ∙ (ap (λ (z : LocatedLine). length (header_targets_located z)) same ∙ ap length (header-targets f.context s.line R.header R.line.class_is R.class_is)) in
     ap (λ (o : Option StandingLine). shared_by (targets_found (class_found o))) R.found_is ∙ ap (λ n. where_holds (nat_lt 1 n) (SharedRule n)) (sym m)
 
-pub straddles-is : (ls : List PlacedLine) (nth : Option ℕ) (g : List ℕ) (f : Found) (b : Bool) → IsRuleAt ls nth g f → b ≡ list_any (λ l. is_conditional l.class) (recipe_run (lines_from ls (f.at + 1)))
-    → where_holds (has_conditional (found (classed_lines (placed_text ls)) (Rule nth g))) Straddles ≡ where_holds b Straddles
+pub straddles-is : (ls : List LocatedLine) (nth : Option ℕ) (g : List ℕ) (f : Found) (b : Bool) → IsRuleAt ls nth g f → b ≡ list_any (λ l. is_conditional l.class) (recipe_run (lines_from ls (f.at + 1)))
+    → where_holds (has_conditional (found (classed_lines (located_text ls)) (Rule nth g))) Straddles ≡ where_holds b Straddles
 straddles-is ls nth g f b R h =
     ap (λ (o : Option StandingLine). where_holds (has_conditional o) Straddles) R.found_is
     ∙ ap (λ b. where_holds b Straddles) (sym (h ∙ ap (λ z. list_any (λ l. is_conditional l.class) (recipe_run z)) R.below_is))
 
-leaning-is : (ls : List PlacedLine) (nth : Option ℕ) (g : List ℕ) (f : Found) (end : ℕ) (b : Bool) → IsRuleAt ls nth g f → end ≡ f.at + 1 + length (recipe_run (lines_from ls (f.at + 1)))
-    → b ≡ (not (is_same_flag f.context.flag flag.Rule) && is_led_first_placed f.context.prefix (drop end ls)) → leaning (classed_lines (placed_text ls)) (RemoveRule nth g) ≡ where_holds b Leans
+leaning-is : (ls : List LocatedLine) (nth : Option ℕ) (g : List ℕ) (f : Found) (end : ℕ) (b : Bool) → IsRuleAt ls nth g f → end ≡ f.at + 1 + length (recipe_run (lines_from ls (f.at + 1)))
+    → b ≡ (not (is_same_flag f.context.flag flag.Rule) && is_led_first_located f.context.prefix (drop end ls)) → leaning (classed_lines (located_text ls)) (RemoveRule nth g) ≡ where_holds b Leans
 leaning-is ls nth g f end b R e h =
     let s = R.spot in
     let C = context_of s.above in
     let E = context_of (s.above ++ s.line ∷ recipe_run s.below) in
-    let rest : drop end ls ≡ placed_lines (after_recipe s.below) = ap (λ n. drop n ls) (e ∙ ap (λ z. f.at + 1 + length (recipe_run z)) R.below_is) ∙ R.after_is in
+    let rest : drop end ls ≡ located_lines (after_recipe s.below) = ap (λ n. drop n ls) (e ∙ ap (λ z. f.at + 1 + length (recipe_run z)) R.below_is) ∙ R.after_is in
     let same : leans C.prefix C.flag E.flag (after_recipe s.below) ≡ b =
     ap (λ z. leans C.prefix C.flag z (after_recipe s.below)) R.flag_is
     ∙ (ap (λ (c : Context). leans c.prefix c.flag flag.Rule (after_recipe s.below)) R.line.context_is
-    ∙ (ap (λ z. not (is_same_flag f.context.flag flag.Rule) && z) (sym (ap (is_led_first_placed f.context.prefix) rest ∙ led_first-placed f.context.prefix (after_recipe s.below))) ∙ sym h)) in
+    ∙ (ap (λ z. not (is_same_flag f.context.flag flag.Rule) && z) (sym (ap (is_led_first_located f.context.prefix) rest ∙ led_first-located f.context.prefix (after_recipe s.below))) ∙ sym h)) in
     ap (λ (o : Option StandingLine). where_holds (removal_leans (option_map whole_rule o)) Leans) R.found_is ∙ ap (λ z. where_holds z Leans) same
 
 -- the rest of the text is no longer than the text
-within-limit : (ls : List PlacedLine) (nth : Option ℕ) (g : List ℕ) (f : Found) → IsRuleAt ls nth g f → size_of ls ≤ 2 ^ 24
-    → too_long (placed_text ls) (spans_of (placed_text ls) (classed_lines (placed_text ls)) (RemoveRule nth g)) ≡ None
+within-limit : (ls : List LocatedLine) (nth : Option ℕ) (g : List ℕ) (f : Found) → IsRuleAt ls nth g f → size_of ls ≤ 2 ^ 24
+    → too_long (located_text ls) (spans_of (located_text ls) (classed_lines (located_text ls)) (RemoveRule nth g)) ≡ None
 within-limit ls nth g f R z =
-    never-long (placed_text ls) (RemoveRule nth g) (ap (λ (o : Option StandingLine). bytes_put (where_found removed_span (option_map whole_rule o))) R.found_is) (omega (arith, size_of-text ls, z))
+    never-long (located_text ls) (RemoveRule nth g) (ap (λ (o : Option StandingLine). bytes_put (where_found removed_span (option_map whole_rule o))) R.found_is) (omega (arith, size_of-text ls, z))
 
 -- ---- the whole
 
 -- what the code asks of the lines below, through what it has of the context
-pub leaning-asked : (ls : List PlacedLine) (f : Found) (end : ℕ) (b : Bool) (before : Flag) (prefix : ℕ) → b ≡ (not (is_same_flag before flag.Rule) && is_led_first_placed prefix (drop end ls))
-    → before ≡ f.context.flag → prefix ≡ f.context.prefix → b ≡ (not (is_same_flag f.context.flag flag.Rule) && is_led_first_placed f.context.prefix (drop end ls))
+pub leaning-asked : (ls : List LocatedLine) (f : Found) (end : ℕ) (b : Bool) (before : RuleFlag) (prefix : ℕ) → b ≡ (not (is_same_flag before flag.Rule) && is_led_first_located prefix (drop end ls))
+    → before ≡ f.context.flag → prefix ≡ f.context.prefix → b ≡ (not (is_same_flag f.context.flag flag.Rule) && is_led_first_located f.context.prefix (drop end ls))
 leaning-asked ls f end b before prefix h k m =
-    h ∙ (ap (λ (z : Flag). not (is_same_flag z flag.Rule) && is_led_first_placed prefix (drop end ls)) k ∙ ap (λ z. not (is_same_flag f.context.flag flag.Rule) && is_led_first_placed z (drop end ls)) m)
+    h ∙ (ap (λ (z : RuleFlag). not (is_same_flag z flag.Rule) && is_led_first_located prefix (drop end ls)) k ∙ ap (λ z. not (is_same_flag f.context.flag flag.Rule) && is_led_first_located z (drop end ls)) m)
 
 -- What the code asks of a document if a rule is removed, and what follows from the answers.
-pub record IsRemoveRuleOf (e : Edit) (ls : List PlacedLine) (f : Found) : Type 0 where
+pub record IsRemoveRuleOf (e : Edit) (ls : List LocatedLine) (f : Found) : Type 0 where
   pub within : f.at < length ls
   pub end_within : f.at + 1 + length (recipe_run (lines_from ls (f.at + 1))) ≤ length ls
   -- several targets
-  pub shared : (l : PlacedLine) (n : ℕ) → Some l ≡ slice_get ls f.at → n ≡ length (header_targets_placed l) → 1 < n → spans (placed_text ls) e ≡ Err (SharedRule n)
+  pub shared : (l : LocatedLine) (n : ℕ) → Some l ≡ slice_get ls f.at → n ≡ length (header_targets_located l) → 1 < n → spans (located_text ls) e ≡ Err (SharedRule n)
   -- a line of a conditional in the recipe
-  pub straddling : (l : PlacedLine) (n : ℕ) → Some l ≡ slice_get ls f.at → n ≡ length (header_targets_placed l) → n ≤ 1
-      → true ≡ list_any (λ l. is_conditional l.class) (recipe_run (lines_from ls (f.at + 1))) → spans (placed_text ls) e ≡ Err Straddles
+  pub straddling : (l : LocatedLine) (n : ℕ) → Some l ≡ slice_get ls f.at → n ≡ length (header_targets_located l) → n ≤ 1
+      → true ≡ list_any (λ l. is_conditional l.class) (recipe_run (lines_from ls (f.at + 1))) → spans (located_text ls) e ≡ Err Straddles
   -- lines below that lean
-  pub leaning_on : (l : PlacedLine) (n end : ℕ) → Some l ≡ slice_get ls f.at → n ≡ length (header_targets_placed l) → n ≤ 1
+  pub leaning_on : (l : LocatedLine) (n end : ℕ) → Some l ≡ slice_get ls f.at → n ≡ length (header_targets_located l) → n ≤ 1
       → false ≡ list_any (λ l. is_conditional l.class) (recipe_run (lines_from ls (f.at + 1))) → end ≡ f.at + 1 + length (recipe_run (lines_from ls (f.at + 1)))
-      → true ≡ (not (is_same_flag f.context.flag flag.Rule) && is_led_first_placed f.context.prefix (drop end ls)) → spans (placed_text ls) e ≡ Err Leans
+      → true ≡ (not (is_same_flag f.context.flag flag.Rule) && is_led_first_located f.context.prefix (drop end ls)) → spans (located_text ls) e ≡ Err Leans
   -- none of these causes holds
-  pub accepted : (l : PlacedLine) (n end : ℕ) → size_of ls ≤ 2 ^ 24 → Some l ≡ slice_get ls f.at → n ≡ length (header_targets_placed l) → n ≤ 1
+  pub accepted : (l : LocatedLine) (n end : ℕ) → size_of ls ≤ 2 ^ 24 → Some l ≡ slice_get ls f.at → n ≡ length (header_targets_located l) → n ≤ 1
       → false ≡ list_any (λ l. is_conditional l.class) (recipe_run (lines_from ls (f.at + 1))) → end ≡ f.at + 1 + length (recipe_run (lines_from ls (f.at + 1)))
-      → false ≡ (not (is_same_flag f.context.flag flag.Rule) && is_led_first_placed f.context.prefix (drop end ls))
-      → (rs : List Replacement) × (spans (placed_text ls) e ≡ Ok rs) × IsTakenOut e ls f.at (end - f.at)
+      → false ≡ (not (is_same_flag f.context.flag flag.Rule) && is_led_first_located f.context.prefix (drop end ls))
+      → (rs : List Replacement) × (spans (located_text ls) e ≡ Ok rs) × IsTakenOut e ls f.at (end - f.at)
 
-remove_rule : (nth : Option ℕ) (g : List ℕ) (ls : List PlacedLine) (f : Found) → IsFaithful ls → IsAddressed (RemoveRule nth g) ls f → IsRemoveRuleOf (RemoveRule nth g) ls f
+remove_rule : (nth : Option ℕ) (g : List ℕ) (ls : List LocatedLine) (f : Found) → IsFaithful ls → IsAddressed (RemoveRule nth g) ls f → IsRemoveRuleOf (RemoveRule nth g) ls f
 remove_rule nth g ls f h A = record {
   within = R.line.within;
   end_within = rule-within ls nth g f h R;
@@ -134,7 +134,7 @@ remove_rule nth g ls f h A = record {
 }
   where
     t : List ℕ
-    t = placed_text ls
+    t = located_text ls
 
     lines : List ClassedLine
     lines = classed_lines t
@@ -148,9 +148,9 @@ remove_rule nth g ls f h A = record {
     s : StandingLine
     s = R.spot
 
-    one : (l : PlacedLine) (n : ℕ) → Some l ≡ slice_get ls f.at → n ≡ length (header_targets_placed l) → n ≤ 1 → shared_rule lines e ≡ None
+    one : (l : LocatedLine) (n : ℕ) → Some l ≡ slice_get ls f.at → n ≡ length (header_targets_located l) → n ≤ 1 → shared_rule lines e ≡ None
     one l n i k m = shared-is ls nth g f l n R i k ∙ ap (λ b. where_holds b (SharedRule n)) (le-ltb 1 n m)
 
-pub remove_rule-of : (e : Edit) (ls : List PlacedLine) (f : Found) → IsFaithful ls → IsRemoveRule e → IsAddressed e ls f → IsRemoveRuleOf e ls f
+pub remove_rule-of : (e : Edit) (ls : List LocatedLine) (f : Found) → IsFaithful ls → IsRemoveRule e → IsAddressed e ls f → IsRemoveRuleOf e ls f
 remove_rule-of (RemoveRule nth g) ls f h k A = remove_rule nth g ls f h A
 remove_rule-of e ls f h k A = absurd k

@@ -7,11 +7,11 @@ use Rattle.mk_class.specs.Headers
 use Rattle.mk_class.specs.Classes.Class.{Header}
 use Rattle.mk_class.specs.Contexts.{Context}
 use Rattle.mk_class.specs.ClassedLines.{classed_lines, context_after_lines}
-use Rattle.mk_class.specs.declared.context.Flag.TheVariants as flag
+use Rattle.mk_class.specs.declared.context.RuleFlag.TheVariants as flag
 use Rattle.mk_tree.specs.Documents.{IsFaithful, context_of}
-use Rattle.mk_tree.specs.PlacedLines.{PlacedLine, placed_line, placed_lines, placed_text}
+use Rattle.mk_tree.specs.LocatedLines.{LocatedLine, located_line, located_lines, located_text}
 use Rattle.mk_tree.specs.RecipeLines.{recipe_run, after_recipe}
-use Rattle.mk_tree.proofs.on_documents.LinePlaces.{located, context_of-append}
+use Rattle.mk_tree.proofs.on_documents.LinesInText.{line-in_text, context_of-append}
 use Rattle.mk_tree.proofs.on_changes.RecipeRunLemmas.{rule-context, recipe_run-after, recipe_run-stays}
 use Rattle.mk_tree.specs.LineTexts.{StandingLine}
 use Rattle.mk_edit_laws.specs.Addresses.{Rule, found}
@@ -25,9 +25,9 @@ use Rattle.mk_edit_parts.specs.declared.seek.Found.{Found}
 use Rattle.mk_edit_parts.proofs.on_finding.PlaceLemmas.{IsLineAt, line-at}
 
 -- what is known of a document where the header of a rule stands
-pub record IsRuleAt (ls : List PlacedLine) (nth : Option ℕ) (g : List ℕ) (f : Found) : Type 0 where
+pub record IsRuleAt (ls : List LocatedLine) (nth : Option ℕ) (g : List ℕ) (f : Found) : Type 0 where
   pub spot : StandingLine
-  pub found_is : found (classed_lines (placed_text ls)) (Rule nth g) ≡ Some spot
+  pub found_is : found (classed_lines (located_text ls)) (Rule nth g) ≡ Some spot
   pub line : IsLineAt ls f spot
   pub place_is : length spot.above ≡ f.at
   pub header : Headers.Header Cell
@@ -35,15 +35,15 @@ pub record IsRuleAt (ls : List PlacedLine) (nth : Option ℕ) (g : List ℕ) (f 
   -- the lines of the text below it
   pub below_is : lines_from ls (f.at + 1) ≡ spot.below
   -- the lines of the document below its recipe
-  pub after_is : drop (f.at + 1 + length (recipe_run spot.below)) ls ≡ placed_lines (after_recipe spot.below)
+  pub after_is : drop (f.at + 1 + length (recipe_run spot.below)) ls ≡ located_lines (after_recipe spot.below)
   -- the flag after its recipe
   pub flag_is : (context_of (spot.above ++ spot.line ∷ recipe_run spot.below)).flag ≡ flag.Rule
   pub prefix_is : (context_of (spot.above ++ spot.line ∷ recipe_run spot.below)).prefix ≡ f.context.prefix
 
-pub rule-at : (ls : List PlacedLine) (nth : Option ℕ) (g : List ℕ) (f : Found) → IsFaithful ls → no_such_line (classed_lines (placed_text ls)) (Some (Rule nth g)) ≡ None
-    → ambiguous_line (classed_lines (placed_text ls)) (Some (Rule nth g)) ≡ None → IsFoundAt (classed_lines (placed_text ls)) (Rule nth g) f → IsRuleAt ls nth g f
+pub rule-at : (ls : List LocatedLine) (nth : Option ℕ) (g : List ℕ) (f : Found) → IsFaithful ls → no_such_line (classed_lines (located_text ls)) (Some (Rule nth g)) ≡ None
+    → ambiguous_line (classed_lines (located_text ls)) (Some (Rule nth g)) ≡ None → IsFoundAt (classed_lines (located_text ls)) (Rule nth g) f → IsRuleAt ls nth g f
 rule-at ls nth g f h there one F =
-    let lines = classed_lines (placed_text ls) in
+    let lines = classed_lines (located_text ls) in
     let s = F.spot in
     let L = line-at ls (Rule nth g) f h F in
     let R = rule-found lines nth g (where_holds-none _ NoSuch there) (where_holds-none _ _ one) in
@@ -53,9 +53,9 @@ rule-at ls nth g f h there one F =
     let run = recipe_run s.below in
     let below : lines_from ls (f.at + 1) ≡ s.below =
     ap (drop (f.at + 1)) L.lines ∙ (ap (λ n. drop (n + 1) (s.above ++ s.line ∷ s.below)) (sym F.place_is) ∙ drop-append-add s.above (s.line ∷ s.below) 1) in
-    let rest : drop (f.at + 1 + length run) ls ≡ placed_lines (after_recipe s.below) =
-    sym (drop-drop (length run) (f.at + 1) ls) ∙ (ap (drop (length run)) L.below_is ∙ drop-map placed_line (length run) s.below) in
-    let C = rule-context (context_of s.above) s.line R.header run (located (placed_text ls) s.above s.line s.below L.lines).class k (recipe_run-stays s.below) in
+    let rest : drop (f.at + 1 + length run) ls ≡ located_lines (after_recipe s.below) =
+    sym (drop-drop (length run) (f.at + 1) ls) ∙ (ap (drop (length run)) L.below_is ∙ drop-map located_line (length run) s.below) in
+    let C = rule-context (context_of s.above) s.line R.header run (line-in_text (located_text ls) s.above s.line s.below L.lines).class k (recipe_run-stays s.below) in
     let into : context_of (s.above ++ s.line ∷ run) ≡ context_after_lines (context_of s.above) (s.line ∷ run) = context_of-append s.above (s.line ∷ run) in
     record {
       spot = s;
@@ -71,10 +71,10 @@ rule-at ls nth g f h there one F =
     }
 
 -- the recipe of the rule ends within the document
-pub rule-within : (ls : List PlacedLine) (nth : Option ℕ) (g : List ℕ) (f : Found) → IsFaithful ls → IsRuleAt ls nth g f → f.at + 1 + length (recipe_run (lines_from ls (f.at + 1))) ≤ length ls
+pub rule-within : (ls : List LocatedLine) (nth : Option ℕ) (g : List ℕ) (f : Found) → IsFaithful ls → IsRuleAt ls nth g f → f.at + 1 + length (recipe_run (lines_from ls (f.at + 1))) ≤ length ls
 rule-within ls nth g f h R =
     let s = R.spot in
     let ends : length (recipe_run (lines_from ls (f.at + 1))) ≡ length (recipe_run s.below) = ap (λ z. length (recipe_run z)) R.below_is in
     let below : length s.below ≡ length (recipe_run s.below) + length (after_recipe s.below) = ap length (sym (recipe_run-after s.below)) ∙ length-append (recipe_run s.below) (after_recipe s.below) in
-    let all : length ls ≡ length s.above + length (s.line ∷ s.below) = ap length h ∙ (length-map (classed_lines (placed_text ls)) placed_line ∙ (ap length R.line.lines ∙ length-append s.above (s.line ∷ s.below))) in
+    let all : length ls ≡ length s.above + length (s.line ∷ s.below) = ap length h ∙ (length-map (classed_lines (located_text ls)) located_line ∙ (ap length R.line.lines ∙ length-append s.above (s.line ∷ s.below))) in
     omega (arith, ends, below, all, R.place_is)

@@ -15,13 +15,13 @@ use Rattle.mk_class.specs.ClassedLines.{ClassedLine, classed_lines}
 use Rattle.mk_class.specs.Contexts.{Context, start, context_after}
 use Rattle.mk_class.proofs.on_classes.ClassHolds.{HoldsOf, holds-as}
 use Rattle.mk_tree.specs.Documents.{IsFaithful}
-use Rattle.mk_tree.specs.PlacedLines.{PlacedLine, placed_line, placed_lines, placed_text}
-use Rattle.mk_tree.proofs.on_documents.LinePlaces.{AreClassed, AreClassed-class, AreClassed-tail, AreClassed-lines}
+use Rattle.mk_tree.specs.LocatedLines.{LocatedLine, located_line, located_lines, located_text}
+use Rattle.mk_tree.proofs.on_documents.LinesInText.{AreClassed, AreClassed-class, AreClassed-tail, AreClassed-lines}
 use Rattle.mk_edit_laws.specs.AddressCauses.{begins_renamed_line, begins_some_renamed_line}
 use Rattle.mk_edit_laws.specs.WordPieces.{is_replaced, renamed_pieces}
-use Rattle.mk_edit_parts.specs.RenamedPlaces.{is_at_front, renamed_places}
+use Rattle.mk_edit_parts.specs.RenamedRanges.{is_at_front, renamed_ranges}
 use Rattle.mk_edit.specs.RenameTargetEffects.{begins_some_line}
-use Rattle.mk_edit_parts.proofs.on_renaming.PiecePlaces.{replacing}
+use Rattle.mk_edit_parts.proofs.on_renaming.PieceRanges.{replacing}
 use Rattle.mk_edit_parts.proofs.on_renaming.LinePieces.{BeginsWith, line-begins, line-pieces}
 
 -- ---- pieces
@@ -100,20 +100,20 @@ line-unled c l o n h = go l.class (holds-as c l.bytes l.class h) (line-begins c 
     go Rough s b = refl
 
 line-led : (c : Context) (l : ClassedLine) (o n : List ℕ) → class_of c l.bytes ≡ l.class → 0 < length n
-    → begins_renamed_line c.prefix (renamed_pieces o n l.class) ≡ (list_any is_at_front (renamed_places o (placed_line l)) && is_prefix_led c.prefix n)
-line-led c l o n h k = pieces-led c.prefix n (renamed_pieces o n l.class) (renamed_places o (placed_line l)) k (line-pieces c l o n h) (line-unled c l o n h)
+    → begins_renamed_line c.prefix (renamed_pieces o n l.class) ≡ (list_any is_at_front (renamed_ranges o (located_line l)) && is_prefix_led c.prefix n)
+line-led c l o n h k = pieces-led c.prefix n (renamed_pieces o n l.class) (renamed_ranges o (located_line l)) k (line-pieces c l o n h) (line-unled c l o n h)
 
 -- ---- the lines of a document
 
-lines-led : (c : Context) (ls : List ClassedLine) (o n : List ℕ) → AreClassed c ls → 0 < length n → begins_some_renamed_line o n c ls ≡ begins_some_line o n c (placed_lines ls)
+lines-led : (c : Context) (ls : List ClassedLine) (o n : List ℕ) → AreClassed c ls → 0 < length n → begins_some_renamed_line o n c ls ≡ begins_some_line o n c (located_lines ls)
 lines-led c [] o n h k = refl
 lines-led c (l ∷ ls) o n h k =
     ap (λ b. b || begins_some_renamed_line o n (context_after c l.class) ls) (line-led c l o n (AreClassed-class c l ls h) k)
-    ∙ ap (λ b. (list_any is_at_front (renamed_places o (placed_line l)) && is_prefix_led c.prefix n) || b) (lines-led (context_after c l.class) ls o n (AreClassed-tail c l ls h) k)
+    ∙ ap (λ b. (list_any is_at_front (renamed_ranges o (located_line l)) && is_prefix_led c.prefix n) || b) (lines-led (context_after c l.class) ls o n (AreClassed-tail c l ls h) k)
 
 -- A rename of a document makes some line begin with the prefix exactly if a word at the front of a line is replaced by a word
 -- that begins with it.
-pub rename_target-led : (ls : List PlacedLine) (o n : List ℕ) → IsFaithful ls → 0 < length n → begins_some_renamed_line o n start (classed_lines (placed_text ls)) ≡ begins_some_line o n start ls
+pub rename_target-led : (ls : List LocatedLine) (o n : List ℕ) → IsFaithful ls → 0 < length n → begins_some_renamed_line o n start (classed_lines (located_text ls)) ≡ begins_some_line o n start ls
 rename_target-led ls o n h k =
-    let ds = classed_lines (placed_text ls) in
-    lines-led start ds o n (AreClassed-lines (placed_text ls) ds refl) k ∙ ap (begins_some_line o n start) (sym h)
+    let ds = classed_lines (located_text ls) in
+    lines-led start ds o n (AreClassed-lines (located_text ls) ds refl) k ∙ ap (begins_some_line o n start) (sym h)

@@ -11,15 +11,15 @@ use Rattle.mk_lines.proofs.on_lists.PieceLemmas.{replaced-pieces}
 use Rattle.mk_class.specs.Contexts.{Context}
 use Rattle.mk_class.specs.ClassTable.{class_of}
 use Rattle.mk_class.specs.ClassedLines.{ClassedLine}
-use Rattle.mk_tree.specs.PlacedLines.{PlacedLine, placed_line}
+use Rattle.mk_tree.specs.LocatedLines.{LocatedLine, located_line}
 use Rattle.mk_edit_laws.specs.WordPieces.{renamed_pieces, is_replaced}
 use Rattle.mk_edit_laws.specs.Costs.{is_renamed}
 use Rattle.mk_edit_laws.specs.RisingSpans.{Rise}
 use Rattle.mk_edit_laws.proofs.on_edits.RisingSpanLemmas.{Rise-until, Rise-pieces}
-use Rattle.mk_edit_parts.specs.RenamedPlaces.{renamed_places, bytes_in}
+use Rattle.mk_edit_parts.specs.RenamedRanges.{renamed_ranges, bytes_in}
 use Rattle.mk_edit_parts.specs.RenamedTexts.{AreApart, written, renamed_text}
 use Rattle.mk_edit.specs.RenameTargetPatches.{holds_word}
-use Rattle.mk_edit_parts.proofs.on_renaming.PiecePlaces.{replacing}
+use Rattle.mk_edit_parts.proofs.on_renaming.PieceRanges.{replacing}
 use Rattle.mk_edit_parts.proofs.on_renaming.LinePieces.{line-pieces}
 use Rattle.mk_edit_parts.specs.WordCuts.{last_end}
 
@@ -35,7 +35,7 @@ pub apart-bytes : (a b : ℕ) (ss : List Span) → AreApart a b ss → a + bytes
 apart-bytes a b [] h = omega (arith, h)
 apart-bytes a b (s ∷ ss) h = omega (arith, h.0, h.1, apart-bytes s.end b ss h.2)
 
--- a text from a place on with a text for each of them is the text with the replacements made
+-- a text from an offset on with a text for each of them is the text with the replacements made
 written-replaced : (l : List ℕ) (at : ℕ) (n : List ℕ) (ss : List Span) → AreApart at (length l) ss → written l at n ss ++ drop (last_end at ss) l ≡ replaced at (drop at l) (replacing n ss)
 written-replaced l at n [] h = refl
 written-replaced l at n (s ∷ ss) h =
@@ -63,26 +63,26 @@ written-length l at n (s ∷ ss) h =
 
 -- ---- the words of a line
 
-pub line-apart : (c : Context) (l : ClassedLine) (o n rest : List ℕ) → class_of c l.bytes ≡ l.class → l.bytes ≡ old_bytes (renamed_pieces o n l.class) ++ rest → AreApart 0 (length l.bytes) (renamed_places o (placed_line l))
+pub line-apart : (c : Context) (l : ClassedLine) (o n rest : List ℕ) → class_of c l.bytes ≡ l.class → l.bytes ≡ old_bytes (renamed_pieces o n l.class) ++ rest → AreApart 0 (length l.bytes) (renamed_ranges o (located_line l))
 line-apart c l o n rest h e =
     let ps = renamed_pieces o n l.class in
-    let places = renamed_places o (placed_line l) in
+    let ranges = renamed_ranges o (located_line l) in
     let few : 0 + length (old_bytes ps) ≤ length l.bytes = omega (arith, ap length e, length-append (old_bytes ps) rest) in
     let r = Rise-until 0 (0 + length (old_bytes ps)) (length l.bytes) (replacements 0 ps) (Rise-pieces 0 ps) few in
-    apart-rise 0 (length l.bytes) n places (subst (Rise 0 (length l.bytes)) (sym (line-pieces c l o n h)) r)
+    apart-rise 0 (length l.bytes) n ranges (subst (Rise 0 (length l.bytes)) (sym (line-pieces c l o n h)) r)
 
 -- the line after is its pieces with each old word replaced, and its rest
 pub line-rewritten : (c : Context) (l : ClassedLine) (o n rest m : List ℕ) → class_of c l.bytes ≡ l.class → l.bytes ≡ old_bytes (renamed_pieces o n l.class) ++ rest → m ≡ new_bytes (renamed_pieces o n l.class) ++ rest
-    → renamed_text o n (placed_line l) ≡ m
+    → renamed_text o n (located_line l) ≡ m
 line-rewritten c l o n rest m h e k =
     let ps = renamed_pieces o n l.class in
-    let places = renamed_places o (placed_line l) in
-    written-replaced l.bytes 0 n places (line-apart c l o n rest h e)
+    let ranges = renamed_ranges o (located_line l) in
+    written-replaced l.bytes 0 n ranges (line-apart c l o n rest h e)
     ∙ (ap (replaced 0 l.bytes) (line-pieces c l o n h) ∙ (ap (λ z. replaced 0 z (replacements 0 ps)) e ∙ (replaced-pieces [] ps rest ∙ sym k)))
 
 -- how long it is, by how many words are replaced and how many bytes they have
-pub renamed-length : (o n : List ℕ) (l : PlacedLine) → AreApart 0 (length l.bytes) (renamed_places o l) → length (renamed_text o n l) + bytes_in (renamed_places o l) ≡ length l.bytes + length (renamed_places o l) * length n
-renamed-length o n l h = omega (arith, written-length l.bytes 0 n (renamed_places o l) h)
+pub renamed-length : (o n : List ℕ) (l : LocatedLine) → AreApart 0 (length l.bytes) (renamed_ranges o l) → length (renamed_text o n l) + bytes_in (renamed_ranges o l) ≡ length l.bytes + length (renamed_ranges o l) * length n
+renamed-length o n l h = omega (arith, written-length l.bytes 0 n (renamed_ranges o l) h)
 
 -- ---- which lines hold a word
 
@@ -96,7 +96,7 @@ replaced-some at (Keep cs ∷ ps) = replaced-some (at + length (raw_text cs)) ps
 replaced-some at (Replace cs v ∷ ps) = lt-ltb 0 (length (replacements at (Replace cs v ∷ ps))) (omega arith)
 
 -- a line holds a word where a piece of it is replaced
-pub holds-renamed : (c : Context) (l : ClassedLine) (o n : List ℕ) → class_of c l.bytes ≡ l.class → holds_word o (placed_line l) ≡ is_renamed o n l
+pub holds-renamed : (c : Context) (l : ClassedLine) (o n : List ℕ) → class_of c l.bytes ≡ l.class → holds_word o (located_line l) ≡ is_renamed o n l
 holds-renamed c l o n h =
-    let places = renamed_places o (placed_line l) in
-    ap (nat_lt 0) (sym (replacing-number n places) ∙ ap length (line-pieces c l o n h)) ∙ replaced-some 0 (renamed_pieces o n l.class)
+    let ranges = renamed_ranges o (located_line l) in
+    ap (nat_lt 0) (sym (replacing-number n ranges) ∙ ap length (line-pieces c l o n h)) ∙ replaced-some 0 (renamed_pieces o n l.class)

@@ -2,20 +2,20 @@
 -- lines.
 use Rattle.std.proofs.Common.{◌≡◌, refl, sym, ap, ◌∙◌, subst, arith, ℕ, ◌+◌, ◌^◌, ◌≤◌, Bool, true, false, List, [], ◌∷◌, ◌++◌, length, length-append, append_assoc, Option, Some, None}
 use Rattle.std.specs.Prelude.{if◌then◌else◌, ◌-◌, min}
-use Rattle.mk_class.specs.Contexts.{Context, start, context_after_places}
+use Rattle.mk_class.specs.Contexts.{Context, start, context_after_located}
 use Rattle.mk_tree.specs.Counting.{AreCounted}
-use Rattle.mk_tree.specs.PlacedLines.{PlacedLine}
-use Rattle.mk_tree.specs.Walks.{LinesInContext}
+use Rattle.mk_tree.specs.LocatedLines.{LocatedLine}
+use Rattle.mk_tree.specs.TreeWalks.{LinesInContext}
 use Rattle.mk_patch.specs.Moves.{Move, Exchange, MovesWithRoom}
 use Rattle.mk_edit.specs.RenameTargetPatches.{is_exchanged, exchanged_count, line_renamed, before_moves, turn_moves_from, turn_moves, renaming_moves, CanEachBeRenamed}
 use Rattle.mk_edit.specs.declared.rename_target_patch.Turn.{Turn}
 use Rattle.mk_edit.specs.declared.rename_target_patch.Turn.TheVariants as turn
 use Rattle.mk_edit.proofs.on_renaming.PatchPlans.{filter-step}
 
--- Some lines ahead in a turn of the rename of a document; the first stands at this place. Each of them can be renamed. The patch
+-- Some lines ahead in a turn of the rename of a document; the first stands at this index. Each of them can be renamed. The patch
 -- had some moves before, and has room for the moves of the lines ahead. The meter counts the lines that are exchanged, and no
 -- others.
-pub record IsTurnBuilt (t : Turn) (o n : List ℕ) (document : List PlacedLine) (before now : MovesWithRoom) (at : ℕ) (ahead : LinesInContext) (meter_before meter_now : ℕ) : Type 0 where
+pub record IsTurnBuilt (t : Turn) (o n : List ℕ) (document : List LocatedLine) (before now : MovesWithRoom) (at : ℕ) (ahead : LinesInContext) (meter_before meter_now : ℕ) : Type 0 where
   pub can : CanEachBeRenamed o n ahead.context ahead.lines
   pub few : at + length ahead.lines ≤ 2 ^ 24
   pub room : now.room ≡ before.room
@@ -26,17 +26,17 @@ pub record IsTurnBuilt (t : Turn) (o n : List ℕ) (document : List PlacedLine) 
   pub forward : meter_before ≤ meter_now
 
 -- a patch with the step of a line at a place added, if the line is exchanged
-abbrev with_step : MovesWithRoom → (at : ℕ) → Option PlacedLine → MovesWithRoom
+abbrev with_step : MovesWithRoom → (at : ℕ) → Option LocatedLine → MovesWithRoom
 with_step p at None = p
 with_step p at (Some x) = record p { moves = p.moves ++ Exchange at x ∷ [] }
 
 -- what one line adds, where it is exchanged or is not
-record IsAdded (is_exchanged : Bool) (at : ℕ) (x : PlacedLine) (rest : List Move) (now after : MovesWithRoom) : Type 0 where
+record IsAdded (is_exchanged : Bool) (at : ℕ) (x : LocatedLine) (rest : List Move) (now after : MovesWithRoom) : Type 0 where
   room : after.room ≡ now.room
   number : length after.moves ≡ length now.moves + (if is_exchanged then 1 else 0)
   moves : after.moves ++ rest ≡ now.moves ++ before_moves is_exchanged (Exchange at x) rest
 
-added : (b : Bool) (at : ℕ) (x : PlacedLine) (rest : List Move) (now after : MovesWithRoom) → after ≡ with_step now at (if b then Some x else None) → IsAdded b at x rest now after
+added : (b : Bool) (at : ℕ) (x : LocatedLine) (rest : List Move) (now after : MovesWithRoom) → after ≡ with_step now at (if b then Some x else None) → IsAdded b at x rest now after
 added true at x rest now after e = record {
   room = ap (λ (z : MovesWithRoom). z.room) e;
   number = ap (λ (z : MovesWithRoom). length z.moves) e ∙ length-append now.moves (Exchange at x ∷ []);
@@ -53,30 +53,30 @@ counted-on : (m k one ahead left total : ℕ) → ahead ≡ one + left → AreCo
 counted-on m k one ahead left total number counted h = omega (arith, number, counted, h)
 
 -- what a walk tells of the line that it hands out
-pub record IsHandedOut (ahead left : LinesInContext) (at next : ℕ) (context : Context) (place : ℕ) (l : PlacedLine) : Type 0 where
+pub record IsHandedOut (ahead left : LinesInContext) (at next : ℕ) (context : Context) (place : ℕ) (l : LocatedLine) : Type 0 where
   pub context_is : context ≡ ahead.context
   pub place_is : place ≡ at
   pub next_is : next ≡ at + 1
   pub first_is : ahead.lines ≡ l ∷ left.lines
-  pub then_in : left.context ≡ context_after_places ahead.context l.class
+  pub then_in : left.context ≡ context_after_located ahead.context l.class
 
-pub handed-out : (ahead left : LinesInContext) (at next : ℕ) (context : Context) (place : ℕ) (l : PlacedLine) → context ≡ ahead.context → ahead.lines ≡ l ∷ left.lines → left.context ≡ context_after_places ahead.context l.class → place ≡ at → next ≡ at + 1
+pub handed-out : (ahead left : LinesInContext) (at next : ℕ) (context : Context) (place : ℕ) (l : LocatedLine) → context ≡ ahead.context → ahead.lines ≡ l ∷ left.lines → left.context ≡ context_after_located ahead.context l.class → place ≡ at → next ≡ at + 1
     → IsHandedOut ahead left at next context place l
 handed-out ahead left at next context place l c f t p n = record { context_is = c; place_is = p; next_is = n; first_is = f; then_in = t }
 
-module _ (t : Turn) (o n : List ℕ) (d : List PlacedLine) (before : MovesWithRoom) (meter : ℕ) where
+module _ (t : Turn) (o n : List ℕ) (d : List LocatedLine) (before : MovesWithRoom) (meter : ℕ) where
   -- one line on
-  pub turn-stepped : (now after : MovesWithRoom) (at next : ℕ) (ahead left : LinesInContext) (m k : ℕ) (c : Context) (place : ℕ) (l : PlacedLine) (r : Option PlacedLine) → IsTurnBuilt t o n d before now at ahead meter m
+  pub turn-stepped : (now after : MovesWithRoom) (at next : ℕ) (ahead left : LinesInContext) (m k : ℕ) (c : Context) (place : ℕ) (l : LocatedLine) (r : Option LocatedLine) → IsTurnBuilt t o n d before now at ahead meter m
       → IsHandedOut ahead left at next c place l → r ≡ (if is_exchanged t o n l then Some (line_renamed o n c l) else None) → AreCounted m (if is_exchanged t o n l then 1 else 0) k → k ≤ m + (if is_exchanged t o n l then 1 else 0) → m ≤ k → after ≡ with_step now place r
       → IsTurnBuilt t o n d before after next left meter k
   turn-stepped now after at next ahead left m k c place l r B H e counted few forward w =
       let b = is_exchanged t o n l in
       let x = line_renamed o n ahead.context l in
-      let inside = context_after_places ahead.context l.class in
+      let inside = context_after_located ahead.context l.class in
       let rest = turn_moves_from t o n (at + 1) inside left.lines in
       let can : CanEachBeRenamed o n ahead.context (l ∷ left.lines) = subst (CanEachBeRenamed o n ahead.context) H.first_is B.can in
       let made : after ≡ with_step now at (if b then Some x else None) =
-      w ∙ (ap (λ (z : Option PlacedLine). with_step now place z) (e ∙ ap (λ (z : Context). if b then Some (line_renamed o n z l) else None) H.context_is) ∙ ap (λ (z : ℕ). with_step now z (if b then Some x else None)) H.place_is) in
+      w ∙ (ap (λ (z : Option LocatedLine). with_step now place z) (e ∙ ap (λ (z : Context). if b then Some (line_renamed o n z l) else None) H.context_is) ∙ ap (λ (z : ℕ). with_step now z (if b then Some x else None)) H.place_is) in
       let A = added b at x rest now after made in
       let number : exchanged_count t o n ahead.lines ≡ (if b then 1 else 0) + exchanged_count t o n left.lines = ap (exchanged_count t o n) H.first_is ∙ filter-step (is_exchanged t o n) l left.lines in
       let ahead_is : turn_moves_from t o n at ahead.context ahead.lines ≡ before_moves b (Exchange at x) rest = ap (turn_moves_from t o n at ahead.context) H.first_is in
@@ -93,7 +93,7 @@ module _ (t : Turn) (o n : List ℕ) (d : List PlacedLine) (before : MovesWithRo
       }
 
   -- a line that could not be read is one of those ahead
-  pub turn-refused : (now : MovesWithRoom) (at next : ℕ) (ahead left : LinesInContext) (m k : ℕ) (c : Context) (place : ℕ) (l : PlacedLine) → IsTurnBuilt t o n d before now at ahead meter m
+  pub turn-refused : (now : MovesWithRoom) (at next : ℕ) (ahead left : LinesInContext) (m k : ℕ) (c : Context) (place : ℕ) (l : LocatedLine) → IsTurnBuilt t o n d before now at ahead meter m
       → IsHandedOut ahead left at next c place l → k ≤ m + (if is_exchanged t o n l then 1 else 0) → k ≤ meter + exchanged_count t o n d
   turn-refused now at next ahead left m k c place l B H few =
       let number : exchanged_count t o n ahead.lines ≡ (if is_exchanged t o n l then 1 else 0) + exchanged_count t o n left.lines = ap (exchanged_count t o n) H.first_is ∙ filter-step (is_exchanged t o n) l left.lines in
@@ -102,10 +102,10 @@ module _ (t : Turn) (o n : List ℕ) (d : List PlacedLine) (before : MovesWithRo
 -- ---- both turns
 
 -- a turn has as many steps as lines that are exchanged
-turn_moves-number : (t : Turn) (o n : List ℕ) (at : ℕ) (c : Context) (ls : List PlacedLine) → length (turn_moves_from t o n at c ls) ≡ exchanged_count t o n ls
+turn_moves-number : (t : Turn) (o n : List ℕ) (at : ℕ) (c : Context) (ls : List LocatedLine) → length (turn_moves_from t o n at c ls) ≡ exchanged_count t o n ls
 turn_moves-number t o n at c [] = refl
 turn_moves-number t o n at c (l ∷ ls) =
-    go (is_exchanged t o n l) (Exchange at (line_renamed o n c l)) (turn_moves_from t o n (at + 1) (context_after_places c l.class) ls) (turn_moves-number t o n (at + 1) (context_after_places c l.class) ls)
+    go (is_exchanged t o n l) (Exchange at (line_renamed o n c l)) (turn_moves_from t o n (at + 1) (context_after_located c l.class) ls) (turn_moves-number t o n (at + 1) (context_after_located c l.class) ls)
     ∙ sym (filter-step (is_exchanged t o n) l ls)
   where
     go : (b : Bool) (m : Move) (ms : List Move) → length ms ≡ exchanged_count t o n ls → length (before_moves b m ms) ≡ (if b then 1 else 0) + exchanged_count t o n ls
@@ -113,7 +113,7 @@ turn_moves-number t o n at c (l ∷ ls) =
     go false m ms h = omega (arith, h)
 
 -- A patch with room for the lines that hold the word has room for each turn after the other, and their steps are those of the rename.
-module _ (o n : List ℕ) (d : List PlacedLine) (before : MovesWithRoom) (lines : ℕ) where
+module _ (o n : List ℕ) (d : List LocatedLine) (before : MovesWithRoom) (lines : ℕ) where
   pub room-first : before ≡ record { moves = []; room = lines } → exchanged_count turn.NoLonger o n d + exchanged_count turn.Longer o n d ≡ lines → length before.moves + exchanged_count turn.NoLonger o n d ≤ before.room
   room-first e number = omega (arith, number, ap (λ (z : MovesWithRoom). z.room) e, ap (λ (z : MovesWithRoom). length z.moves) e)
 

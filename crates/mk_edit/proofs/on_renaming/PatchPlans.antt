@@ -1,14 +1,14 @@
 -- The patch of a rename: its two turns lead from the lines of a document to those after the rename, and hold few lines.
 use Rattle.std.proofs.Common.{◌≡◌, refl, sym, ap, ◌∙◌, subst, arith, ℕ, ◌+◌, ◌*◌, ◌^◌, ◌≤◌, Bool, true, false, not, ◌&&◌, List, [], ◌∷◌, map, length, filter, Option, None}
 use Rattle.std.specs.Prelude.{Ok, nat_lt, if◌then◌else◌}
-use Rattle.mk_class.specs.Contexts.{Context, start, context_after, context_after_places}
+use Rattle.mk_class.specs.Contexts.{Context, start, context_after, context_after_located}
 use Rattle.mk_class.specs.ClassedLines.{ClassedLine, classed_lines}
 use Rattle.mk_tree.specs.Documents.{IsFaithful}
-use Rattle.mk_tree.specs.PlacedLines.{PlacedLine, placed_line, placed_lines, placed_text, size_of}
-use Rattle.mk_tree.proofs.on_documents.LinePlaces.{AreClassed, AreClassed-class, AreClassed-tail, AreClassed-lines}
+use Rattle.mk_tree.specs.LocatedLines.{LocatedLine, located_line, located_lines, located_text, size_of}
+use Rattle.mk_tree.proofs.on_documents.LinesInText.{AreClassed, AreClassed-class, AreClassed-tail, AreClassed-lines}
 use Rattle.mk_edit_laws.specs.Edits.{RenameTarget}
 use Rattle.mk_edit_laws.specs.Costs.{cost, is_renamed}
-use Rattle.mk_edit_laws.specs.Spans.{spans_of}
+use Rattle.mk_edit_laws.specs.EditSpans.{spans_of}
 use Rattle.mk_edit_laws.specs.Refusals.{causes, first_cause, spans, text_after, unless_refused}
 use Rattle.mk_edit_laws.specs.declared.refusal.Refusal.{Refusal}
 use Rattle.mk_edit_laws.proofs.on_edits.KeptByRenameTargetLemmas.{rename_target-keeps}
@@ -17,7 +17,7 @@ use Rattle.mk_patch.proofs.on_moves.MoveLemmas.{after_moves-append, fit-append, 
 use Rattle.mk_patch.proofs.on_moves.ShapeLemmas.{LeadTo}
 use Rattle.mk_patch.proofs.on_moves.ExchangeLemmas.{exchanges, DifferWhereChosen, AreNoLonger, how_many, exchanges-lead, exchanges-held_chosen, exchanges-taken_chosen, within-shrunk, within-grown}
 use Rattle.mk_edit.specs.Planned.{IsPlanned}
-use Rattle.mk_edit_parts.specs.RenamedPlaces.{renamed_places, bytes_in}
+use Rattle.mk_edit_parts.specs.RenamedRanges.{renamed_ranges, bytes_in}
 use Rattle.mk_edit.specs.RenameTargetPatches.{holds_word, is_turn_of, is_exchanged, exchanged_count, line_renamed, before_moves, turn_moves_from, turn_moves, renaming_moves, HaveFewWords, CanEachBeRenamed}
 use Rattle.mk_edit.specs.declared.rename_target_patch.Turn.{Turn}
 use Rattle.mk_edit.specs.declared.rename_target_patch.Turn.TheVariants as turn
@@ -39,20 +39,20 @@ filter-step p x xs = go (p x)
 
 module _ (t : Turn) (o n : List ℕ) where
   -- each line that is exchanged in a turn is renamed after it
-  turn-exchanges : (p : PlacedLine → Bool) → ((l : PlacedLine) → is_exchanged t o n l ≡ true → p l ≡ true) → (at : ℕ) (c : Context) (ls : List PlacedLine)
+  turn-exchanges : (p : LocatedLine → Bool) → ((l : LocatedLine) → is_exchanged t o n l ≡ true → p l ≡ true) → (at : ℕ) (c : Context) (ls : List LocatedLine)
       → exchanges at (map (is_exchanged t o n) ls) (renamed_where p o n c ls) ≡ turn_moves_from t o n at c ls
   turn-exchanges p f at c [] = refl
-  turn-exchanges p f at c (l ∷ ls) = go (is_exchanged t o n l) (f l) (turn-exchanges p f (at + 1) (context_after_places c l.class) ls)
+  turn-exchanges p f at c (l ∷ ls) = go (is_exchanged t o n l) (f l) (turn-exchanges p f (at + 1) (context_after_located c l.class) ls)
     where
-      go : (b : Bool) → (b ≡ true → p l ≡ true) → exchanges (at + 1) (map (is_exchanged t o n) ls) (renamed_where p o n (context_after_places c l.class) ls) ≡ turn_moves_from t o n (at + 1) (context_after_places c l.class) ls
-          → exchanges at (b ∷ map (is_exchanged t o n) ls) (line_where (p l) (line_renamed o n c l) l ∷ renamed_where p o n (context_after_places c l.class) ls)
-          ≡ before_moves b (Exchange at (line_renamed o n c l)) (turn_moves_from t o n (at + 1) (context_after_places c l.class) ls)
+      go : (b : Bool) → (b ≡ true → p l ≡ true) → exchanges (at + 1) (map (is_exchanged t o n) ls) (renamed_where p o n (context_after_located c l.class) ls) ≡ turn_moves_from t o n (at + 1) (context_after_located c l.class) ls
+          → exchanges at (b ∷ map (is_exchanged t o n) ls) (line_where (p l) (line_renamed o n c l) l ∷ renamed_where p o n (context_after_located c l.class) ls)
+          ≡ before_moves b (Exchange at (line_renamed o n c l)) (turn_moves_from t o n (at + 1) (context_after_located c l.class) ls)
       go true h i =
-          ap (λ z. Exchange at (line_where z (line_renamed o n c l) l) ∷ exchanges (at + 1) (map (is_exchanged t o n) ls) (renamed_where p o n (context_after_places c l.class) ls)) (h refl)
+          ap (λ z. Exchange at (line_where z (line_renamed o n c l) l) ∷ exchanges (at + 1) (map (is_exchanged t o n) ls) (renamed_where p o n (context_after_located c l.class) ls)) (h refl)
           ∙ ap (λ z. Exchange at (line_renamed o n c l) ∷ z) i
       go false h i = i
 
-  turn-number : (ls : List PlacedLine) → how_many (map (is_exchanged t o n) ls) ≡ exchanged_count t o n ls
+  turn-number : (ls : List LocatedLine) → how_many (map (is_exchanged t o n) ls) ≡ exchanged_count t o n ls
   turn-number [] = refl
   turn-number (l ∷ ls) = go (is_exchanged t o n l) (turn-number ls) ∙ sym (filter-step (is_exchanged t o n) l ls)
     where
@@ -84,11 +84,11 @@ parted w b n some = go (nat_lt b (w * n)) (nat_lt 0 w) some
 
 -- ---- one line in the two turns, where these are the line after the rename and the line before it
 
-differ-line : (q : Bool) (x l : PlacedLine) (cs : List Bool) (olds news : List PlacedLine) → (q ≡ true → IsPlain l × IsPlain x) → DifferWhereChosen cs olds news → DifferWhereChosen (q ∷ cs) (l ∷ olds) (line_where q x l ∷ news)
+differ-line : (q : Bool) (x l : LocatedLine) (cs : List Bool) (olds news : List LocatedLine) → (q ≡ true → IsPlain l × IsPlain x) → DifferWhereChosen cs olds news → DifferWhereChosen (q ∷ cs) (l ∷ olds) (line_where q x l ∷ news)
 differ-line true x l cs olds news f i = let p = f refl in (p.0, p.1, i)
 differ-line false x l cs olds news f i = (refl, i)
 
-differ-again : (p q h : Bool) (x l : PlacedLine) (cs : List Bool) (olds news : List PlacedLine) → ArePartedTests p q h → (h ≡ true → IsPlain l × IsPlain x) → DifferWhereChosen cs olds news
+differ-again : (p q h : Bool) (x l : LocatedLine) (cs : List Bool) (olds news : List LocatedLine) → ArePartedTests p q h → (h ≡ true → IsPlain l × IsPlain x) → DifferWhereChosen cs olds news
     → DifferWhereChosen (q ∷ cs) (line_where p x l ∷ olds) (line_where h x l ∷ news)
 differ-again p true h x l cs olds news T f i =
     let b = T.both refl in
@@ -98,11 +98,11 @@ differ-again p true h x l cs olds news T f i =
     (old, new, i)
 differ-again p false h x l cs olds news T f i = (ap (λ z. line_where z x l) (T.one refl), i)
 
-shorter-line : (p : Bool) (x l : PlacedLine) → (p ≡ true → length x.bytes ≤ length l.bytes) → length (line_where p x l).bytes ≤ length l.bytes
+shorter-line : (p : Bool) (x l : LocatedLine) → (p ≡ true → length x.bytes ≤ length l.bytes) → length (line_where p x l).bytes ≤ length l.bytes
 shorter-line true x l f = f refl
 shorter-line false x l f = omega arith
 
-longer-line : (p q h : Bool) (x l : PlacedLine) → ArePartedTests p q h → (q ≡ true → length l.bytes ≤ length x.bytes) → length (line_where p x l).bytes ≤ length (line_where h x l).bytes
+longer-line : (p q h : Bool) (x l : LocatedLine) → ArePartedTests p q h → (q ≡ true → length l.bytes ≤ length x.bytes) → length (line_where p x l).bytes ≤ length (line_where h x l).bytes
 longer-line p true h x l T f =
     let b = T.both refl in
     let old : length (line_where p x l).bytes ≡ length l.bytes = ap (λ z. length (line_where z x l).bytes) b.0 in
@@ -122,41 +122,41 @@ one-of_two p false h T = plus (if p then 1 else 0) ∙ ap (λ z. if z then 1 els
 -- ---- all lines
 
 module _ (o n : List ℕ) where
-  abbrev first : PlacedLine → Bool
+  abbrev first : LocatedLine → Bool
   first = is_exchanged turn.NoLonger o n
 
-  abbrev second : PlacedLine → Bool
+  abbrev second : LocatedLine → Bool
   second = is_exchanged turn.Longer o n
 
-  line-parted : (l : PlacedLine) → ArePartedTests (first l) (second l) (holds_word o l)
-  line-parted l = parted (length (renamed_places o l)) (bytes_in (renamed_places o l)) (length n) (exchanged-holds turn.Longer o n l)
+  line-parted : (l : LocatedLine) → ArePartedTests (first l) (second l) (holds_word o l)
+  line-parted l = parted (length (renamed_ranges o l)) (bytes_in (renamed_ranges o l)) (length n) (exchanged-holds turn.Longer o n l)
 
   -- the first turn changes the lines that it exchanges alone, and makes none longer
-  first-differ : (c : Context) (ls : List PlacedLine) → CanEachBeRenamed o n c ls → DifferWhereChosen (map first ls) ls (renamed_where first o n c ls)
+  first-differ : (c : Context) (ls : List LocatedLine) → CanEachBeRenamed o n c ls → DifferWhereChosen (map first ls) ls (renamed_where first o n c ls)
   first-differ c [] C = tt
   first-differ c (l ∷ ls) C =
-      differ-line (first l) (line_renamed o n c l) l (map first ls) ls (renamed_where first o n (context_after_places c l.class) ls) (λ e. C.0.plain (exchanged-holds turn.NoLonger o n l e))
-      (first-differ (context_after_places c l.class) ls C.1)
+      differ-line (first l) (line_renamed o n c l) l (map first ls) ls (renamed_where first o n (context_after_located c l.class) ls) (λ e. C.0.plain (exchanged-holds turn.NoLonger o n l e))
+      (first-differ (context_after_located c l.class) ls C.1)
 
-  first-shorter : (c : Context) (ls : List PlacedLine) → CanEachBeRenamed o n c ls → AreNoLonger (renamed_where first o n c ls) ls
+  first-shorter : (c : Context) (ls : List LocatedLine) → CanEachBeRenamed o n c ls → AreNoLonger (renamed_where first o n c ls) ls
   first-shorter c [] C = tt
   first-shorter c (l ∷ ls) C =
-      (shorter-line (first l) (line_renamed o n c l) l (exchanged-no_longer o n c l C.0), first-shorter (context_after_places c l.class) ls C.1)
+      (shorter-line (first l) (line_renamed o n c l) l (exchanged-no_longer o n c l C.0), first-shorter (context_after_located c l.class) ls C.1)
 
   -- the second turn changes only the lines that it exchanges, makes none shorter, and leaves all lines that hold the word renamed
-  second-differ : (c : Context) (ls : List PlacedLine) → CanEachBeRenamed o n c ls → DifferWhereChosen (map second ls) (renamed_where first o n c ls) (renamed_where (holds_word o) o n c ls)
+  second-differ : (c : Context) (ls : List LocatedLine) → CanEachBeRenamed o n c ls → DifferWhereChosen (map second ls) (renamed_where first o n c ls) (renamed_where (holds_word o) o n c ls)
   second-differ c [] C = tt
   second-differ c (l ∷ ls) C =
-      differ-again (first l) (second l) (holds_word o l) (line_renamed o n c l) l (map second ls) (renamed_where first o n (context_after_places c l.class) ls) (renamed_where (holds_word o) o n (context_after_places c l.class) ls)
-      (line-parted l) C.0.plain (second-differ (context_after_places c l.class) ls C.1)
+      differ-again (first l) (second l) (holds_word o l) (line_renamed o n c l) l (map second ls) (renamed_where first o n (context_after_located c l.class) ls) (renamed_where (holds_word o) o n (context_after_located c l.class) ls)
+      (line-parted l) C.0.plain (second-differ (context_after_located c l.class) ls C.1)
 
-  second-longer : (c : Context) (ls : List PlacedLine) → CanEachBeRenamed o n c ls → AreNoLonger (renamed_where first o n c ls) (renamed_where (holds_word o) o n c ls)
+  second-longer : (c : Context) (ls : List LocatedLine) → CanEachBeRenamed o n c ls → AreNoLonger (renamed_where first o n c ls) (renamed_where (holds_word o) o n c ls)
   second-longer c [] C = tt
   second-longer c (l ∷ ls) C =
-      (longer-line (first l) (second l) (holds_word o l) (line_renamed o n c l) l (line-parted l) (exchanged-longer o n c l C.0), second-longer (context_after_places c l.class) ls C.1)
+      (longer-line (first l) (second l) (holds_word o l) (line_renamed o n c l) l (line-parted l) (exchanged-longer o n c l C.0), second-longer (context_after_located c l.class) ls C.1)
 
   -- each line that holds the word is exchanged in exactly one of the two turns
-  turns-number : (ls : List PlacedLine) → exchanged_count turn.NoLonger o n ls + exchanged_count turn.Longer o n ls ≡ length (filter (holds_word o) ls)
+  turns-number : (ls : List LocatedLine) → exchanged_count turn.NoLonger o n ls + exchanged_count turn.Longer o n ls ≡ length (filter (holds_word o) ls)
   turns-number [] = refl
   turns-number (l ∷ ls) =
       omega (
@@ -169,7 +169,7 @@ module _ (o n : List ℕ) where
       )
 
   -- The moves of both turns lead to the lines after the rename.
-  turns-lead : (ls : List PlacedLine) → CanEachBeRenamed o n start ls → size_of ls ≤ 2 ^ 24 → size_of (renamed_where (holds_word o) o n start ls) ≤ 2 ^ 24 → LeadTo (renaming_moves o n ls) ls (renamed_where (holds_word o) o n start ls)
+  turns-lead : (ls : List LocatedLine) → CanEachBeRenamed o n start ls → size_of ls ≤ 2 ^ 24 → size_of (renamed_where (holds_word o) o n start ls) ≤ 2 ^ 24 → LeadTo (renaming_moves o n ls) ls (renamed_where (holds_word o) o n start ls)
   turns-lead ls C few_old few_new =
       let middle = renamed_where first o n start ls in
       let after = renamed_where (holds_word o) o n start ls in
@@ -186,7 +186,7 @@ module _ (o n : List ℕ) where
       }
 
   -- the moves hold as many lines as hold the word, and take out as many
-  turns-held : (ls : List PlacedLine) → CanEachBeRenamed o n start ls → held_by (renaming_moves o n ls) ≡ length (filter (holds_word o) ls)
+  turns-held : (ls : List LocatedLine) → CanEachBeRenamed o n start ls → held_by (renaming_moves o n ls) ≡ length (filter (holds_word o) ls)
   turns-held ls C =
       let middle = renamed_where first o n start ls in
       let after = renamed_where (holds_word o) o n start ls in
@@ -206,7 +206,7 @@ module _ (o n : List ℕ) where
         turns-number ls,
       )
 
-  turns-taken : (ls : List PlacedLine) → CanEachBeRenamed o n start ls → taken_by (renaming_moves o n ls) ≡ length (filter (holds_word o) ls)
+  turns-taken : (ls : List LocatedLine) → CanEachBeRenamed o n start ls → taken_by (renaming_moves o n ls) ≡ length (filter (holds_word o) ls)
   turns-taken ls C =
       let middle = renamed_where first o n start ls in
       let after = renamed_where (holds_word o) o n start ls in
@@ -227,13 +227,13 @@ module _ (o n : List ℕ) where
       )
 
   -- the number of lines that hold the word is the rename's cost
-  holding-number : (c : Context) (ls : List ClassedLine) → AreClassed c ls → length (filter (holds_word o) (placed_lines ls)) ≡ length (filter (is_renamed o n) ls)
+  holding-number : (c : Context) (ls : List ClassedLine) → AreClassed c ls → length (filter (holds_word o) (located_lines ls)) ≡ length (filter (is_renamed o n) ls)
   holding-number c [] h = refl
   holding-number c (l ∷ ls) h =
       let one : Bool → ℕ = λ b. if b then 1 else 0 in
       omega (
         arith,
-        filter-step (holds_word o) (placed_line l) (placed_lines ls),
+        filter-step (holds_word o) (located_line l) (located_lines ls),
         filter-step (is_renamed o n) l ls,
         ap one (holds-renamed c l o n (AreClassed-class c l ls h)),
         holding-number (context_after c l.class) ls (AreClassed-tail c l ls h),
@@ -242,49 +242,49 @@ module _ (o n : List ℕ) where
 -- ---- the whole rename
 
 -- The lines of a faithful document within the limit have few words.
-document-few_words : (o : List ℕ) (ls : List PlacedLine) → IsFaithful ls → size_of ls ≤ 2 ^ 24 → HaveFewWords o ls
+document-few_words : (o : List ℕ) (ls : List LocatedLine) → IsFaithful ls → size_of ls ≤ 2 ^ 24 → HaveFewWords o ls
 document-few_words o ls f few =
-    let ds = classed_lines (placed_text ls) in
-    subst (HaveFewWords o) (sym f) (lines-few_words o start ds (AreClassed-lines (placed_text ls) ds refl) (subst (λ (z : List PlacedLine). size_of z ≤ 2 ^ 24) f few))
+    let ds = classed_lines (located_text ls) in
+    subst (HaveFewWords o) (sym f) (lines-few_words o start ds (AreClassed-lines (located_text ls) ds refl) (subst (λ (z : List LocatedLine). size_of z ≤ 2 ^ 24) f few))
 
 -- A walk that counts the lines of a document which hold a word begins with all of them ahead.
-pub count-from : (o : List ℕ) (d ahead : List PlacedLine) → ahead ≡ d → IsFaithful d → size_of d ≤ 2 ^ 24 → length d ≤ size_of d
+pub count-from : (o : List ℕ) (d ahead : List LocatedLine) → ahead ≡ d → IsFaithful d → size_of d ≤ 2 ^ 24 → length d ≤ size_of d
     → Unit {0} × Unit {0} × HaveFewWords o ahead × (0 + length ahead ≤ 2 ^ 24) × (0 + length (filter (holds_word o) ahead) ≡ length (filter (holds_word o) d))
 count-from o d ahead e f few some = rw e (tt, tt, document-few_words o d f few, omega (arith, few, some), omega arith)
 
 -- What is known of a document and a rename that no cause refuses. Each line can be renamed where it stands. The number of lines
 -- that are exchanged in the two turns is the rename's cost, and the moves of the two turns are what is planned.
-pub record IsRenameTargetPlanned (o n : List ℕ) (ls : List PlacedLine) : Type 0 where
+pub record IsRenameTargetPlanned (o n : List ℕ) (ls : List LocatedLine) : Type 0 where
   pub can : CanEachBeRenamed o n start ls
   pub number : exchanged_count turn.NoLonger o n ls + exchanged_count turn.Longer o n ls ≡ length (filter (holds_word o) ls)
-  pub costs : length (filter (holds_word o) ls) ≡ cost (placed_text ls) (RenameTarget o n)
+  pub costs : length (filter (holds_word o) ls) ≡ cost (located_text ls) (RenameTarget o n)
   pub planned : IsPlanned (RenameTarget o n) ls (renaming_moves o n ls)
 
-pub rename_target-planned : (o n : List ℕ) (ls : List PlacedLine) → IsFaithful ls → size_of ls ≤ 2 ^ 24 → length ls ≤ size_of ls
-    → first_cause (causes (placed_text ls) (classed_lines (placed_text ls)) (RenameTarget o n)) ≡ None → IsRenameTargetPlanned o n ls
+pub rename_target-planned : (o n : List ℕ) (ls : List LocatedLine) → IsFaithful ls → size_of ls ≤ 2 ^ 24 → length ls ≤ size_of ls
+    → first_cause (causes (located_text ls) (classed_lines (located_text ls)) (RenameTarget o n)) ≡ None → IsRenameTargetPlanned o n ls
 rename_target-planned o n ls f few_bytes few h =
     let e = RenameTarget o n in
-    let t = placed_text ls in
+    let t = located_text ls in
     let before = classed_lines t in
     let after = classed_lines (text_after t e) in
     let rs = spans_of t before e in
     let spans_are : spans t e ≡ Ok rs = ap (λ (r : Option Refusal). unless_refused r rs) h in
     let K = rename_target-keeps o n t rs spans_are in
     let A = AreClassed-lines t before refl in
-    let old_bytes : size_of (placed_lines before) ≤ 2 ^ 24 = subst (λ (z : List PlacedLine). size_of z ≤ 2 ^ 24) f few_bytes in
-    let new_bytes : size_of (placed_lines after) ≤ 2 ^ 24 = after-fits t e rs after spans_are refl in
+    let old_bytes : size_of (located_lines before) ≤ 2 ^ 24 = subst (λ (z : List LocatedLine). size_of z ≤ 2 ^ 24) f few_bytes in
+    let new_bytes : size_of (located_lines after) ≤ 2 ^ 24 = after-fits t e rs after spans_are refl in
     let low : start.defines + length before ≤ 2 ^ 24 = omega (arith, few, few_bytes, faithful-length ls before f refl) in
     let C = lines-can o n start before after A K.in_place old_bytes new_bytes low in
     let become = lines-become o n start before after A K.in_place in
-    let L : LeadTo (renaming_moves o n (placed_lines before)) (placed_lines before) (placed_lines after) =
-    subst (LeadTo (renaming_moves o n (placed_lines before)) (placed_lines before)) become (turns-lead o n (placed_lines before) C old_bytes (subst (λ (z : List PlacedLine). size_of z ≤ 2 ^ 24) (sym become) new_bytes)) in
+    let L : LeadTo (renaming_moves o n (located_lines before)) (located_lines before) (located_lines after) =
+    subst (LeadTo (renaming_moves o n (located_lines before)) (located_lines before)) become (turns-lead o n (located_lines before) C old_bytes (subst (λ (z : List LocatedLine). size_of z ≤ 2 ^ 24) (sym become) new_bytes)) in
     let can : CanEachBeRenamed o n start ls = subst (CanEachBeRenamed o n start) (sym f) C in
-    let costs : length (filter (holds_word o) ls) ≡ cost t e = ap (λ (z : List PlacedLine). length (filter (holds_word o) z)) f ∙ holding-number o n start before A in
+    let costs : length (filter (holds_word o) ls) ≡ cost t e = ap (λ (z : List LocatedLine). length (filter (holds_word o) z)) f ∙ holding-number o n start before A in
     record {
       can = can;
       number = turns-number o n ls;
       costs = costs;
       planned =
-          lead-planned e ls rs (renaming_moves o n ls) before after f spans_are refl refl (subst (λ (z : List PlacedLine). LeadTo (renaming_moves o n z) (placed_lines before) (placed_lines after)) (sym f) L)
+          lead-planned e ls rs (renaming_moves o n ls) before after f spans_are refl refl (subst (λ (z : List LocatedLine). LeadTo (renaming_moves o n z) (located_lines before) (located_lines after)) (sym f) L)
           (omega (arith, turns-held o n ls can, costs)) (omega (arith, turns-taken o n ls can, costs));
     }

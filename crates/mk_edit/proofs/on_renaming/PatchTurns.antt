@@ -4,8 +4,8 @@ use Rattle.std.specs.Prelude.{nat_lt, if◌then◌else◌}
 use Rattle.std.proofs.lemmas.Bool.{and_parts, lt-ltb, ltb-true, ltb-false, not-true}
 use Rattle.mk_class.specs.Contexts.{Context}
 use Rattle.mk_tree.specs.Counting.{AreCounted}
-use Rattle.mk_tree.specs.PlacedLines.{PlacedLine}
-use Rattle.mk_edit_parts.specs.RenamedPlaces.{bytes_in, no_words, renamed_places, tallied}
+use Rattle.mk_tree.specs.LocatedLines.{LocatedLine}
+use Rattle.mk_edit_parts.specs.RenamedRanges.{bytes_in, no_words, renamed_ranges, tallied}
 use Rattle.mk_edit_parts.specs.RenamedTexts.{renamed_text}
 use Rattle.mk_edit.specs.RenameTargetPatches.{holds_word, is_turn_of, is_exchanged, CanBeRenamed}
 use Rattle.mk_edit.specs.declared.rename_target_patch.Turn.{Turn}
@@ -32,29 +32,29 @@ longer w b n h = ltb-true b (w * n) h
 
 -- ---- by lines
 
-pub exchanged-holds : (t : Turn) (o n : List ℕ) (l : PlacedLine) → is_exchanged t o n l ≡ true → holds_word o l ≡ true
-exchanged-holds t o n l h = turn-words t (length (renamed_places o l)) (bytes_in (renamed_places o l)) (length n) h
+pub exchanged-holds : (t : Turn) (o n : List ℕ) (l : LocatedLine) → is_exchanged t o n l ≡ true → holds_word o l ≡ true
+exchanged-holds t o n l h = turn-words t (length (renamed_ranges o l)) (bytes_in (renamed_ranges o l)) (length n) h
 
-pub exchanged-no_longer : (o n : List ℕ) (c : Context) (l : PlacedLine) → CanBeRenamed o n c l → is_exchanged turn.NoLonger o n l ≡ true → length (renamed_text o n l) ≤ length l.bytes
+pub exchanged-no_longer : (o n : List ℕ) (c : Context) (l : LocatedLine) → CanBeRenamed o n c l → is_exchanged turn.NoLonger o n l ≡ true → length (renamed_text o n l) ≤ length l.bytes
 exchanged-no_longer o n c l C h =
-    omega (arith, renamed-length o n l C.apart, no-longer (length (renamed_places o l)) (bytes_in (renamed_places o l)) (length n) h)
+    omega (arith, renamed-length o n l C.apart, no-longer (length (renamed_ranges o l)) (bytes_in (renamed_ranges o l)) (length n) h)
 
-pub exchanged-longer : (o n : List ℕ) (c : Context) (l : PlacedLine) → CanBeRenamed o n c l → is_exchanged turn.Longer o n l ≡ true → length l.bytes ≤ length (renamed_text o n l)
+pub exchanged-longer : (o n : List ℕ) (c : Context) (l : LocatedLine) → CanBeRenamed o n c l → is_exchanged turn.Longer o n l ≡ true → length l.bytes ≤ length (renamed_text o n l)
 exchanged-longer o n c l C h =
-    omega (arith, renamed-length o n l C.apart, longer (length (renamed_places o l)) (bytes_in (renamed_places o l)) (length n) h)
+    omega (arith, renamed-length o n l C.apart, longer (length (renamed_ranges o l)) (bytes_in (renamed_ranges o l)) (length n) h)
 
 -- ---- what the code counts
 
 -- The words of a line, as they are counted, have room, and tell the turn.
-pub record IsCounted (o n : List ℕ) (l : PlacedLine) (t : Tally) : Type 0 where
+pub record IsCounted (o n : List ℕ) (l : LocatedLine) (t : Tally) : Type 0 where
   pub product : t.words * length n < 2 ^ 64
   pub taken : t.bytes ≤ length l.bytes
   pub room : length l.bytes - t.bytes + t.words * length n < 2 ^ 64
   pub turn : (r : Turn) → is_turn_of r t.words t.bytes (length n) ≡ is_exchanged r o n l
 
-pub words-counted : (o n : List ℕ) (c : Context) (l : PlacedLine) (t : Tally) → CanBeRenamed o n c l → t ≡ tallied no_words (renamed_places o l) → IsCounted o n l t
+pub words-counted : (o n : List ℕ) (c : Context) (l : LocatedLine) (t : Tally) → CanBeRenamed o n c l → t ≡ tallied no_words (renamed_ranges o l) → IsCounted o n l t
 words-counted o n c l t C e =
-    let ss = renamed_places o l in
+    let ss = renamed_ranges o l in
     let w : t.words ≡ length ss = ap (λ (z : Tally). z.words) e ∙ plus (length ss) in
     let b : t.bytes ≡ bytes_in ss = ap (λ (z : Tally). z.bytes) e ∙ plus (bytes_in ss) in
     let k : t.words * length n ≡ length ss * length n = ap (λ z. z * length n) w in
@@ -71,7 +71,7 @@ words-counted o n c l t C e =
 
 -- ---- what it answers
 
-pub exchanged-some : (b : Bool) (x y : PlacedLine) → b ≡ true → x ≡ y → Some x ≡ (if b then Some y else None)
+pub exchanged-some : (b : Bool) (x y : LocatedLine) → b ≡ true → x ≡ y → Some x ≡ (if b then Some y else None)
 exchanged-some b x y h e = ap Some e ∙ ap (λ z. if z then Some y else None) (sym h)
 
 pub exchanged-one : (b : Bool) (new old : ℕ) → b ≡ true → new ≤ old + 1 → new ≤ old + (if b then 1 else 0)

@@ -6,13 +6,13 @@ use Rattle.mk_class.specs.Contexts.{Context, start, context_after}
 use Rattle.mk_class.specs.ClassTable.{class_of}
 use Rattle.mk_class.specs.ClassedLines.{ClassedLine, classed_lines}
 use Rattle.mk_tree.specs.Documents.{IsFaithful}
-use Rattle.mk_tree.specs.PlacedLines.{PlacedLine, placed_line, placed_lines, placed_text}
-use Rattle.mk_tree.proofs.on_documents.LinePlaces.{AreClassed, AreClassed-class, AreClassed-tail, AreClassed-lines}
+use Rattle.mk_tree.specs.LocatedLines.{LocatedLine, located_line, located_lines, located_text}
+use Rattle.mk_tree.proofs.on_documents.LinesInText.{AreClassed, AreClassed-class, AreClassed-tail, AreClassed-lines}
 use Rattle.mk_edit_laws.specs.Edits.{RenameTarget}
 use Rattle.mk_edit_laws.specs.Lengths.{bytes_taken, bytes_put}
-use Rattle.mk_edit_laws.specs.Spans.{renamed_spans, spans_of}
+use Rattle.mk_edit_laws.specs.EditSpans.{renamed_spans, spans_of}
 use Rattle.mk_edit_laws.specs.WordPieces.{renamed_pieces}
-use Rattle.mk_edit_parts.specs.RenamedPlaces.{bytes_in, renamed_places}
+use Rattle.mk_edit_parts.specs.RenamedRanges.{bytes_in, renamed_ranges}
 use Rattle.mk_edit.specs.RenameTargetEffects.{replaced_bytes, replaced_words}
 use Rattle.mk_edit_parts.proofs.on_renaming.LinePieces.{line-pieces}
 use Rattle.mk_edit.proofs.on_renaming.SizesOfWords.{taken-replacing, put-replacing}
@@ -41,35 +41,35 @@ put-moved at to (Replace cs v ∷ ps) = ap (λ z. length v + z) (put-moved (at +
 
 -- ---- a line
 
-line-taken : (c : Context) (l : ClassedLine) (o n : List ℕ) (at : ℕ) → class_of c l.bytes ≡ l.class → bytes_taken (replacements at (renamed_pieces o n l.class)) ≡ bytes_in (renamed_places o (placed_line l))
+line-taken : (c : Context) (l : ClassedLine) (o n : List ℕ) (at : ℕ) → class_of c l.bytes ≡ l.class → bytes_taken (replacements at (renamed_pieces o n l.class)) ≡ bytes_in (renamed_ranges o (located_line l))
 line-taken c l o n at h =
-    taken-moved at 0 (renamed_pieces o n l.class) ∙ (ap bytes_taken (sym (line-pieces c l o n h)) ∙ taken-replacing n (renamed_places o (placed_line l)))
+    taken-moved at 0 (renamed_pieces o n l.class) ∙ (ap bytes_taken (sym (line-pieces c l o n h)) ∙ taken-replacing n (renamed_ranges o (located_line l)))
 
-line-put : (c : Context) (l : ClassedLine) (o n : List ℕ) (at : ℕ) → class_of c l.bytes ≡ l.class → bytes_put (replacements at (renamed_pieces o n l.class)) ≡ length (renamed_places o (placed_line l)) * length n
+line-put : (c : Context) (l : ClassedLine) (o n : List ℕ) (at : ℕ) → class_of c l.bytes ≡ l.class → bytes_put (replacements at (renamed_pieces o n l.class)) ≡ length (renamed_ranges o (located_line l)) * length n
 line-put c l o n at h =
-    put-moved at 0 (renamed_pieces o n l.class) ∙ (ap bytes_put (sym (line-pieces c l o n h)) ∙ put-replacing n (renamed_places o (placed_line l)))
+    put-moved at 0 (renamed_pieces o n l.class) ∙ (ap bytes_put (sym (line-pieces c l o n h)) ∙ put-replacing n (renamed_ranges o (located_line l)))
 
 -- ---- the lines of a text
 
-lines-taken : (c : Context) (ls : List ClassedLine) (o n : List ℕ) (at : ℕ) → AreClassed c ls → bytes_taken (renamed_spans o n at ls) ≡ replaced_bytes o (placed_lines ls)
+lines-taken : (c : Context) (ls : List ClassedLine) (o n : List ℕ) (at : ℕ) → AreClassed c ls → bytes_taken (renamed_spans o n at ls) ≡ replaced_bytes o (located_lines ls)
 lines-taken c [] o n at h = refl
 lines-taken c (l ∷ ls) o n at h =
     let rs = renamed_spans o n (at + length l.bytes) ls in
     omega (arith, taken-append (replacements at (renamed_pieces o n l.class)) rs, line-taken c l o n at (AreClassed-class c l ls h), lines-taken (context_after c l.class) ls o n (at + length l.bytes) (AreClassed-tail c l ls h))
 
-lines-put : (c : Context) (ls : List ClassedLine) (o n : List ℕ) (at : ℕ) → AreClassed c ls → bytes_put (renamed_spans o n at ls) ≡ replaced_words o (placed_lines ls) * length n
+lines-put : (c : Context) (ls : List ClassedLine) (o n : List ℕ) (at : ℕ) → AreClassed c ls → bytes_put (renamed_spans o n at ls) ≡ replaced_words o (located_lines ls) * length n
 lines-put c [] o n at h = omega arith
 lines-put c (l ∷ ls) o n at h =
     let rs = renamed_spans o n (at + length l.bytes) ls in
     omega (arith, put-append (replacements at (renamed_pieces o n l.class)) rs, line-put c l o n at (AreClassed-class c l ls h), lines-put (context_after c l.class) ls o n (at + length l.bytes) (AreClassed-tail c l ls h))
 
 -- The spans of a rename of a document take out the bytes of the words that it replaces, and put in the new word for each.
-pub rename_target-taken : (ls : List PlacedLine) (o n : List ℕ) → IsFaithful ls → bytes_taken (spans_of (placed_text ls) (classed_lines (placed_text ls)) (RenameTarget o n)) ≡ replaced_bytes o ls
+pub rename_target-taken : (ls : List LocatedLine) (o n : List ℕ) → IsFaithful ls → bytes_taken (spans_of (located_text ls) (classed_lines (located_text ls)) (RenameTarget o n)) ≡ replaced_bytes o ls
 rename_target-taken ls o n h =
-    let ds = classed_lines (placed_text ls) in
-    lines-taken start ds o n 0 (AreClassed-lines (placed_text ls) ds refl) ∙ ap (replaced_bytes o) (sym h)
+    let ds = classed_lines (located_text ls) in
+    lines-taken start ds o n 0 (AreClassed-lines (located_text ls) ds refl) ∙ ap (replaced_bytes o) (sym h)
 
-pub rename_target-put : (ls : List PlacedLine) (o n : List ℕ) → IsFaithful ls → bytes_put (spans_of (placed_text ls) (classed_lines (placed_text ls)) (RenameTarget o n)) ≡ replaced_words o ls * length n
+pub rename_target-put : (ls : List LocatedLine) (o n : List ℕ) → IsFaithful ls → bytes_put (spans_of (located_text ls) (classed_lines (located_text ls)) (RenameTarget o n)) ≡ replaced_words o ls * length n
 rename_target-put ls o n h =
-    let ds = classed_lines (placed_text ls) in
-    lines-put start ds o n 0 (AreClassed-lines (placed_text ls) ds refl) ∙ ap (λ z. replaced_words o z * length n) (sym h)
+    let ds = classed_lines (located_text ls) in
+    lines-put start ds o n 0 (AreClassed-lines (located_text ls) ds refl) ∙ ap (λ z. replaced_words o z * length n) (sym h)

@@ -8,21 +8,21 @@ use Rattle.mk_lines.specs.Ranges.{text_at, word_token_ranges, word_ranges}
 use Rattle.mk_lines.specs.Units.{units}
 use Rattle.mk_lines.specs.Words.{tokens}
 use Rattle.mk_lines.specs.declared.split.Span.{Span}
-use Rattle.mk_lines.proofs.KeptLemmas.{length-raw_text}
+use Rattle.mk_lines.proofs.StoredLemmas.{length-raw_text}
 use Rattle.mk_lines.proofs.UnitWalkLemmas.{words_left-count}
 use Rattle.mk_lines.proofs.on_cells.CellLemmas.{cells-are_cells}
 use Rattle.mk_class.specs.ClassTable.{class_of}
 use Rattle.mk_class.specs.ClassedLines.{ClassedLine}
-use Rattle.mk_tree.specs.PlacedLines.{PlacedLine, placed_line, size_of}
+use Rattle.mk_tree.specs.LocatedLines.{LocatedLine, located_line, size_of}
 use Rattle.mk_edit_laws.specs.Lengths.{bytes_taken, bytes_put}
 use Rattle.mk_edit_laws.specs.RisingSpans.{Rise}
 use Rattle.mk_edit_laws.specs.WordPieces.{renamed_pieces}
 use Rattle.mk_edit_laws.proofs.on_edits.RisingSpanLemmas.{Rise-pieces}
 use Rattle.mk_edit_laws.proofs.on_lines.ClassParts.{cells-within}
-use Rattle.mk_edit_parts.specs.PlacedParts.{IsClassed, AreEachClassed}
-use Rattle.mk_edit_parts.specs.RenamedPlaces.{before_places, bytes_in, part_places, place_in, places_in, renamed_places, word_parts}
+use Rattle.mk_edit_parts.specs.LocatedParts.{IsClassed, AreEachClassed}
+use Rattle.mk_edit_parts.specs.RenamedRanges.{before_ranges, bytes_in, part_ranges, range_in, ranges_in, renamed_ranges, word_parts}
 use Rattle.mk_edit.specs.RenameTargetEffects.{replaced_bytes, replaced_words}
-use Rattle.mk_edit_parts.proofs.on_renaming.PiecePlaces.{replacing}
+use Rattle.mk_edit_parts.proofs.on_renaming.PieceRanges.{replacing}
 use Rattle.mk_edit_parts.proofs.on_renaming.LinePieces.{line-begins, line-pieces}
 
 -- ---- how many there are
@@ -33,31 +33,31 @@ words-count t =
     let e : length t - length t ≡ 0 = omega arith in
     subst (λ n. length (word_token_ranges n (tokens (λ b. b) (units (λ b. b) t))) ≤ length t) e (words_left-count (length t) t)
 
-before-count : (o : Option Span) (ss : List Span) → length (before_places o ss) ≤ suc (length ss)
+before-count : (o : Option Span) (ss : List Span) → length (before_ranges o ss) ≤ suc (length ss)
 before-count None ss = omega arith
 before-count (Some s) ss = omega arith
 
 -- at most as many of some words are the old one as there are words
-places-count : (cs : List Cell) (at : ℕ) (o : List ℕ) (ws : List Span) → length (places_in cs at o ws) ≤ length ws
-places-count cs at o [] = omega arith
-places-count cs at o (w ∷ ws) = omega (arith, before-count (place_in cs at o w) (places_in cs at o ws), places-count cs at o ws)
+ranges-count : (cs : List Cell) (at : ℕ) (o : List ℕ) (ws : List Span) → length (ranges_in cs at o ws) ≤ length ws
+ranges-count cs at o [] = omega arith
+ranges-count cs at o (w ∷ ws) = omega (arith, before-count (range_in cs at o w) (ranges_in cs at o ws), ranges-count cs at o ws)
 
 -- a part of a text is no longer than the text
 part-short : (t : List ℕ) (p : Span) → length (text_at t p) ≤ length t
 part-short t p = omega (arith, length-take (p.end - p.start) (drop p.start t), length-drop p.start t)
 
-part-count : (cs : List Cell) (o : List ℕ) (p : Span) → length (part_places cs o p) ≤ length cs
+part-count : (cs : List Cell) (o : List ℕ) (p : Span) → length (part_ranges cs o p) ≤ length cs
 part-count cs o p =
-    omega (arith, places-count cs p.start o (word_ranges (text_at (joined_text cs) p)), words-count (text_at (joined_text cs) p), part-short (joined_text cs) p, length-map cs joined_byte)
+    omega (arith, ranges-count cs p.start o (word_ranges (text_at (joined_text cs) p)), words-count (text_at (joined_text cs) p), part-short (joined_text cs) p, length-map cs joined_byte)
 
 -- each of the three parts of a line has no more words than the line has bytes
-pub renamed-few : (o : List ℕ) (l : PlacedLine) → length (renamed_places o l) ≤ 3 * length l.bytes
+pub renamed-few : (o : List ℕ) (l : LocatedLine) → length (renamed_ranges o l) ≤ 3 * length l.bytes
 renamed-few o l =
     let cs = line_cells l.bytes in
     let p = word_parts l.class in
-    let T = part_places cs o p.targets in
-    let N = part_places cs o p.normal in
-    let O = part_places cs o p.order_only in
+    let T = part_ranges cs o p.targets in
+    let N = part_ranges cs o p.normal in
+    let O = part_ranges cs o p.order_only in
     let n : length cs ≤ length l.bytes = omega (arith, length-raw_text cs (cells-are_cells (without_line_end l.bytes)), cells-within l.bytes) in
     omega (arith, n, length-append T (N ++ O), length-append N O, part-count cs o p.targets, part-count cs o p.normal, part-count cs o p.order_only)
 
@@ -78,23 +78,23 @@ put-replacing n [] = omega arith
 put-replacing n (s ∷ ss) = omega (arith, put-replacing n ss)
 
 -- the ranges of a line have at most as many bytes as the line
-few-bytes : (o : List ℕ) (l : PlacedLine) → IsClassed l → bytes_in (renamed_places o l) ≤ length l.bytes
+few-bytes : (o : List ℕ) (l : LocatedLine) → IsClassed l → bytes_in (renamed_ranges o l) ≤ length l.bytes
 few-bytes o l h =
     let d : ClassedLine = record { bytes = l.bytes; class = class_of h.context l.bytes } in
     let ps = renamed_pieces o o d.class in
     let B = line-begins h.context d o o refl in
-    let e : placed_line d ≡ l = ap (λ k. record { bytes = l.bytes; class = k }) (sym h.class_is) in
-    let t : bytes_in (renamed_places o (placed_line d)) ≡ bytes_taken (replacements 0 ps) = sym (taken-replacing o (renamed_places o (placed_line d))) ∙ ap bytes_taken (line-pieces h.context d o o refl) in
-    let k : bytes_in (renamed_places o (placed_line d)) ≤ length l.bytes =
+    let e : located_line d ≡ l = ap (λ k. record { bytes = l.bytes; class = k }) (sym h.class_is) in
+    let t : bytes_in (renamed_ranges o (located_line d)) ≡ bytes_taken (replacements 0 ps) = sym (taken-replacing o (renamed_ranges o (located_line d))) ∙ ap bytes_taken (line-pieces h.context d o o refl) in
+    let k : bytes_in (renamed_ranges o (located_line d)) ≤ length l.bytes =
     omega (arith, t, taken-within 0 (0 + length (old_bytes ps)) (replacements 0 ps) (Rise-pieces 0 ps), ap length B.is, length-append (old_bytes ps) B.rest) in
-    subst (λ z. bytes_in (renamed_places o z) ≤ length l.bytes) e k
+    subst (λ z. bytes_in (renamed_ranges o z) ≤ length l.bytes) e k
 
 -- ---- the lines of a document
 
-pub all-words : (o : List ℕ) (ls : List PlacedLine) → replaced_words o ls ≤ 3 * size_of ls
+pub all-words : (o : List ℕ) (ls : List LocatedLine) → replaced_words o ls ≤ 3 * size_of ls
 all-words o [] = omega arith
 all-words o (l ∷ ls) = omega (arith, renamed-few o l, all-words o ls)
 
-pub all-bytes : (o : List ℕ) (ls : List PlacedLine) → AreEachClassed ls → replaced_bytes o ls ≤ size_of ls
+pub all-bytes : (o : List ℕ) (ls : List LocatedLine) → AreEachClassed ls → replaced_bytes o ls ≤ size_of ls
 all-bytes o [] h = omega arith
 all-bytes o (l ∷ ls) h = omega (arith, few-bytes o l h.0, all-bytes o ls h.1)

@@ -6,15 +6,15 @@ use Rattle.mk_lines.specs.Cells.{Cell, joined_byte}
 use Rattle.mk_lines.specs.Units.{is_closed, units}
 use Rattle.mk_lines.proofs.on_units.UnitLemmas.{is_closed-map}
 use Rattle.mk_lines.specs.declared.split.Span.{Span}
-use Rattle.mk_class.specs.Lists.{is_empty}
+use Rattle.mk_class.specs.ListTests.{is_empty}
 use Rattle.mk_class.specs.TextClasses.{itself}
 use Rattle.mk_class.specs.Assignments.{Assignment}
 use Rattle.mk_class.specs.Classes.{Class}
 use Rattle.mk_class.specs.Classes.Class.{Assign}
-use Rattle.mk_class.specs.ClassPlaces.{class_places}
+use Rattle.mk_class.specs.LocatedClasses.{located_class}
 use Rattle.mk_class.specs.ClassedLines.{classed_lines}
 use Rattle.mk_tree.specs.Documents.{IsFaithful, text_of}
-use Rattle.mk_tree.specs.PlacedLines.{PlacedLine, placed_text}
+use Rattle.mk_tree.specs.LocatedLines.{LocatedLine, located_text}
 use Rattle.mk_tree.specs.LineTexts.{StandingLine}
 use Rattle.mk_edit_laws.specs.Edits.{Edit, AppendValue}
 use Rattle.mk_edit_laws.specs.Stretches.{this_line}
@@ -22,18 +22,18 @@ use Rattle.mk_edit_laws.specs.RuleCauses.{class_found}
 use Rattle.mk_edit_laws.specs.LineCauses.{has_open_value, open_value}
 use Rattle.mk_edit_laws.specs.Causes.{where_holds}
 use Rattle.mk_edit_laws.specs.ValueSpans.{value_end, append_value_span, value_span, assignment_span}
-use Rattle.mk_edit_laws.specs.Spans.{where_found}
+use Rattle.mk_edit_laws.specs.EditSpans.{where_found}
 use Rattle.mk_edit_laws.specs.Refusals.{spans}
 use Rattle.mk_edit_laws.specs.declared.refusal.Refusal.TheVariants.{OpenValue}
 use Rattle.mk_edit_laws.proofs.on_values.SetValueLemmas.{not_prefix}
 use Rattle.mk_edit_parts.specs.Found.{IsAddressed}
-use Rattle.mk_edit_parts.specs.LineRanges.{value_range_placed}
-use Rattle.mk_edit.specs.ValuesGiven.{IsAppendValue, value_text_placed, space_after}
+use Rattle.mk_edit_parts.specs.LineRanges.{value_range_located}
+use Rattle.mk_edit.specs.ValuesGiven.{IsAppendValue, value_text_located, space_after}
 use Rattle.mk_edit_parts.specs.declared.seek.Found.{Found}
 use Rattle.mk_edit_parts.proofs.CauseLemmas.{passed, holds, refused}
 use Rattle.mk_edit.proofs.on_plans.CausePlans.{addressed-own}
 use Rattle.mk_edit.proofs.on_plans.RangePlans.{IsRangeEdit, line_with}
-use Rattle.mk_edit.proofs.on_values.ValuePlaces.{IsValueRange, IsValuePlace, value-place, assignment-placed}
+use Rattle.mk_edit.proofs.on_values.ValuePlaces.{IsValueRange, IsValuePlace, value-place, assignment-located}
 
 -- ---- the text of the value
 
@@ -47,13 +47,13 @@ empty-units [] text h k = ap is_empty h
 empty-units (u ∷ us) (b ∷ text) h k = refl
 empty-units (u ∷ us) [] h k = absurd (cc)
 
-value-text : (ls : List PlacedLine) (nth : Option ℕ) (n : List ℕ) (f : Found) (l : PlacedLine) (b : Bool) (r : Span) (text : List ℕ) → (P : IsValuePlace ls nth n f l b r) → text ≡ value_text_placed l → IsValueText P.assigned text
+value-text : (ls : List LocatedLine) (nth : Option ℕ) (n : List ℕ) (f : Found) (l : LocatedLine) (b : Bool) (r : Span) (text : List ℕ) → (P : IsValuePlace ls nth n f l b r) → text ≡ value_text_located l → IsValueText P.assigned text
 value-text ls nth n f l b r text P h =
     let a = P.assigned in
     let m = P.spot.line.bytes in
-    let seen : l ≡ record { bytes = m; class = class_places joined_byte (Assign a None) } = P.line_is ∙ ap (λ (q : Class Cell). record { bytes = m; class = class_places joined_byte q }) P.class_is in
-    let V = (assignment-placed f.context m a P.here).value in
-    let shown : text ≡ value_text_placed (record { bytes = m; class = class_places joined_byte (Assign a None) }) = h ∙ ap value_text_placed seen in
+    let seen : l ≡ record { bytes = m; class = located_class joined_byte (Assign a None) } = P.line_is ∙ ap (λ (q : Class Cell). record { bytes = m; class = located_class joined_byte q }) P.class_is in
+    let V = (assignment-located f.context m a P.here).value in
+    let shown : text ≡ value_text_located (record { bytes = m; class = located_class joined_byte (Assign a None) }) = h ∙ ap value_text_located seen in
     let is : text ≡ map joined_byte (concat a.value) = shown ∙ V.text_is in
     record {
       empty_is = empty-units a.value text is (ap (units itself) shown ∙ V.units_are);
@@ -63,25 +63,25 @@ value-text ls nth n f l b r text P h =
 -- ---- AppendValue
 
 -- whether the value is open decides its cause
-append_value-open_value : (ls : List PlacedLine) (nth : Option ℕ) (n v : List ℕ) (f : Found) (l : PlacedLine) (b : Bool) (r : Span) (text : List ℕ) → IsValuePlace ls nth n f l b r → text ≡ value_text_placed l
-    → open_value (classed_lines (placed_text ls)) (AppendValue nth n v) ≡ where_holds (not (is_closed (λ b. b) text)) OpenValue
+append_value-open_value : (ls : List LocatedLine) (nth : Option ℕ) (n v : List ℕ) (f : Found) (l : LocatedLine) (b : Bool) (r : Span) (text : List ℕ) → IsValuePlace ls nth n f l b r → text ≡ value_text_located l
+    → open_value (classed_lines (located_text ls)) (AppendValue nth n v) ≡ where_holds (not (is_closed (λ b. b) text)) OpenValue
 append_value-open_value ls nth n v f l b r text P h =
     ap (λ (o : Option StandingLine). where_holds (has_open_value (class_found o)) OpenValue) P.found_is
     ∙ (ap (λ (k : Class Cell). where_holds (has_open_value (Some k)) OpenValue) P.class_is ∙ ap (λ q. where_holds (not q) OpenValue) (sym (value-text ls nth n f l b r text P h).closed_is))
 
-open_of : (ls : List PlacedLine) (nth : Option ℕ) (n v : List ℕ) (f : Found) (l : PlacedLine) (text : List ℕ) → IsFaithful ls → IsAddressed (AppendValue nth n v) ls f → Some l ≡ slice_get ls f.at
-    → text ≡ value_text_placed l → is_closed (λ b. b) text ≡ false → spans (placed_text ls) (AppendValue nth n v) ≡ Err OpenValue
+open_of : (ls : List LocatedLine) (nth : Option ℕ) (n v : List ℕ) (f : Found) (l : LocatedLine) (text : List ℕ) → IsFaithful ls → IsAddressed (AppendValue nth n v) ls f → Some l ≡ slice_get ls f.at
+    → text ≡ value_text_located l → is_closed (λ b. b) text ≡ false → spans (located_text ls) (AppendValue nth n v) ≡ Err OpenValue
 open_of ls nth n v f l text h A g k o =
     let e = AppendValue nth n v in
-    let P = value-place ls nth n f l false (value_range_placed false l) h A.is_there A.is_one (not_prefix n A.not_reserved) A.meant g refl in
-    refused (placed_text ls) e OpenValue
+    let P = value-place ls nth n f l false (value_range_located false l) h A.is_there A.is_one (not_prefix n A.not_reserved) A.meant g refl in
+    refused (located_text ls) e OpenValue
     (addressed-own e ls f (Some OpenValue) A
-    (holds (open_value (classed_lines (placed_text ls)) e) _ OpenValue (append_value-open_value ls nth n v f l false _ text P k ∙ ap (λ q. where_holds (not q) OpenValue) o)))
+    (holds (open_value (classed_lines (located_text ls)) e) _ OpenValue (append_value-open_value ls nth n v f l false _ text P k ∙ ap (λ q. where_holds (not q) OpenValue) o)))
 
-pub append_value-open : (e : Edit) (ls : List PlacedLine) (v : List ℕ) (f : Found) (l : PlacedLine) (text : List ℕ) → IsFaithful ls → IsAppendValue e v → IsAddressed e ls f → Some l ≡ slice_get ls f.at
-    → text ≡ value_text_placed l → is_closed (λ b. b) text ≡ false → spans (placed_text ls) e ≡ Err OpenValue
+pub append_value-open : (e : Edit) (ls : List LocatedLine) (v : List ℕ) (f : Found) (l : LocatedLine) (text : List ℕ) → IsFaithful ls → IsAppendValue e v → IsAddressed e ls f → Some l ≡ slice_get ls f.at
+    → text ≡ value_text_located l → is_closed (λ b. b) text ≡ false → spans (located_text ls) e ≡ Err OpenValue
 append_value-open e ls v f l text h S A g k o =
-    subst (λ z. spans (placed_text ls) z ≡ Err OpenValue) (sym S.is) (open_of ls S.nth S.name v f l text h (subst (λ z. IsAddressed z ls f) S.is A) g k o)
+    subst (λ z. spans (located_text ls) z ≡ Err OpenValue) (sym S.is) (open_of ls S.nth S.name v f l text h (subst (λ z. IsAddressed z ls f) S.is A) g k o)
 
 -- the range is the value's end
 abbrev pub end_of : Span → Span
@@ -98,16 +98,16 @@ append_value_span-range l a v text at r R T =
     let w : (if is_empty a.value then v else 32 ∷ v) ≡ space_after text ++ v = ap (λ b. if b then v else 32 ∷ v) (sym T.empty_is) ∙ spaced (is_empty text) v in
     ap (λ (q : ℕ). record { start = q; end = q; new = if is_empty a.value then v else 32 ∷ v }) i ∙ ap (λ (z : List ℕ). record { start = at + r.end; end = at + r.end; new = z }) w
 
-append_value-range_of : (ls : List PlacedLine) (nth : Option ℕ) (n v : List ℕ) (f : Found) (l : PlacedLine) (r : Span) (text : List ℕ) → IsFaithful ls → IsAddressed (AppendValue nth n v) ls f → Some l ≡ slice_get ls f.at
-    → r ≡ value_range_placed false l → text ≡ value_text_placed l → is_closed (λ b. b) text ≡ true → IsRangeEdit (AppendValue nth n v) ls f.at l (end_of r) (space_after text ++ v)
+append_value-range_of : (ls : List LocatedLine) (nth : Option ℕ) (n v : List ℕ) (f : Found) (l : LocatedLine) (r : Span) (text : List ℕ) → IsFaithful ls → IsAddressed (AppendValue nth n v) ls f → Some l ≡ slice_get ls f.at
+    → r ≡ value_range_located false l → text ≡ value_text_located l → is_closed (λ b. b) text ≡ true → IsRangeEdit (AppendValue nth n v) ls f.at l (end_of r) (space_after text ++ v)
 append_value-range_of ls nth n v f l r text h A g k w o =
-    let t = placed_text ls in
+    let t = located_text ls in
     let cs = classed_lines t in
     let e = AppendValue nth n v in
     let P = value-place ls nth n f l false r h A.is_there A.is_one (not_prefix n A.not_reserved) A.meant g k in
     let s = P.spot in
     let base = length (text_of s.above) in
-    let bytes : l.bytes ≡ s.line.bytes = ap (λ (z : PlacedLine). z.bytes) P.line_is in
+    let bytes : l.bytes ≡ s.line.bytes = ap (λ (z : LocatedLine). z.bytes) P.line_is in
     let T = value-text ls nth n f l false r text P w in
     record {
       spot = s;
@@ -124,13 +124,13 @@ append_value-range_of ls nth n v f l r text h A g k w o =
           addressed-own e ls f _ A (passed (open_value cs e) _ _ (append_value-open_value ls nth n v f l false r text P w ∙ ap (λ q. where_holds (not q) OpenValue) o) refl);
     }
 
-pub append_value-range : (e : Edit) (ls : List PlacedLine) (v : List ℕ) (f : Found) (l : PlacedLine) (r : Span) (text : List ℕ) → IsFaithful ls → IsAppendValue e v → IsAddressed e ls f → Some l ≡ slice_get ls f.at
-    → r ≡ value_range_placed false l → text ≡ value_text_placed l → is_closed (λ b. b) text ≡ true → IsRangeEdit e ls f.at l (end_of r) (space_after text ++ v)
+pub append_value-range : (e : Edit) (ls : List LocatedLine) (v : List ℕ) (f : Found) (l : LocatedLine) (r : Span) (text : List ℕ) → IsFaithful ls → IsAppendValue e v → IsAddressed e ls f → Some l ≡ slice_get ls f.at
+    → r ≡ value_range_located false l → text ≡ value_text_located l → is_closed (λ b. b) text ≡ true → IsRangeEdit e ls f.at l (end_of r) (space_after text ++ v)
 append_value-range e ls v f l r text h S A g k w o =
     subst (λ z. IsRangeEdit z ls f.at l (end_of r) (space_after text ++ v)) (sym S.is) (append_value-range_of ls S.nth S.name v f l r text h (subst (λ z. IsAddressed z ls f) S.is A) g k w o)
 
 -- the line with a space and the text put in there
-pub appended-line : (m bytes space text v : List ℕ) (l : PlacedLine) (r : Span) → m ≡ take r.end bytes ++ (space ++ (v ++ drop r.end bytes)) → bytes ≡ l.bytes → space ≡ space_after text
+pub appended-line : (m bytes space text v : List ℕ) (l : LocatedLine) (r : Span) → m ≡ take r.end bytes ++ (space ++ (v ++ drop r.end bytes)) → bytes ≡ l.bytes → space ≡ space_after text
     → m ≡ line_with l (end_of r) (space_after text ++ v)
 appended-line m bytes space text v l r h b s =
     h

@@ -4,19 +4,19 @@ use Rattle.std.specs.Prelude.{slice_get, ◌==◌}
 use Rattle.std.proofs.lemmas.Bool.{ne_eqb}
 use Rattle.mk_lines.specs.Cells.{Cell}
 use Rattle.mk_lines.specs.declared.split.Span.{Span}
-use Rattle.mk_class.specs.Lists.{is_empty}
+use Rattle.mk_class.specs.ListTests.{is_empty}
 use Rattle.mk_class.specs.Assignments.{Assignment, before_value}
 use Rattle.mk_class.specs.ClassedLines.{classed_lines}
-use Rattle.mk_class.specs.PartPlaces.{raw_width}
+use Rattle.mk_class.specs.PartOffsets.{raw_width}
 use Rattle.mk_tree.specs.Documents.{IsFaithful, text_of}
-use Rattle.mk_tree.specs.PlacedLines.{PlacedLine, placed_text}
+use Rattle.mk_tree.specs.LocatedLines.{LocatedLine, located_text}
 use Rattle.mk_edit_laws.specs.Edits.{Edit, SetValue}
 use Rattle.mk_edit_laws.specs.Stretches.{this_line}
 use Rattle.mk_edit_laws.specs.ValueSpans.{set_value_span, value_span, assignment_span}
-use Rattle.mk_edit_laws.specs.Spans.{where_found}
+use Rattle.mk_edit_laws.specs.EditSpans.{where_found}
 use Rattle.mk_edit_laws.proofs.on_values.SetValueLemmas.{not_prefix}
 use Rattle.mk_edit_parts.specs.Found.{IsAddressed}
-use Rattle.mk_edit_parts.specs.LineRanges.{value_range_placed}
+use Rattle.mk_edit_parts.specs.LineRanges.{value_range_located}
 use Rattle.mk_edit.specs.ValuesGiven.{IsSetValue}
 use Rattle.mk_edit_parts.specs.declared.seek.Found.{Found}
 use Rattle.mk_edit.proofs.on_plans.CausePlans.{addressed-own}
@@ -42,16 +42,16 @@ set_value_span-range l a (b ∷ v) at r R =
     let j : at + raw_width (before_value a) + raw_width a.value ≡ at + r.end = omega (arith, R.end_is) in
     ap (λ (n : ℕ). record { start = n; end = at + raw_width (before_value a) + raw_width a.value; new = b ∷ v }) i ∙ ap (λ (n : ℕ). record { start = at + r.start; end = n; new = b ∷ v }) j
 
-set_value-range_of : (ls : List PlacedLine) (nth : Option ℕ) (n v : List ℕ) (f : Found) (l : PlacedLine) (r : Span) → IsFaithful ls → IsAddressed (SetValue nth n v) ls f → Some l ≡ slice_get ls f.at
-    → r ≡ value_range_placed (is_empty v) l → IsRangeEdit (SetValue nth n v) ls f.at l r v
+set_value-range_of : (ls : List LocatedLine) (nth : Option ℕ) (n v : List ℕ) (f : Found) (l : LocatedLine) (r : Span) → IsFaithful ls → IsAddressed (SetValue nth n v) ls f → Some l ≡ slice_get ls f.at
+    → r ≡ value_range_located (is_empty v) l → IsRangeEdit (SetValue nth n v) ls f.at l r v
 set_value-range_of ls nth n v f l r h A g k =
-    let t = placed_text ls in
+    let t = located_text ls in
     let cs = classed_lines t in
     let e = SetValue nth n v in
     let P = value-place ls nth n f l (is_empty v) r h A.is_there A.is_one (not_prefix n A.not_reserved) A.meant g k in
     let s = P.spot in
     let base = length (text_of s.above) in
-    let bytes : l.bytes ≡ s.line.bytes = ap (λ (z : PlacedLine). z.bytes) P.line_is in
+    let bytes : l.bytes ≡ s.line.bytes = ap (λ (z : LocatedLine). z.bytes) P.line_is in
     record {
       spot = s;
       place_is = P.place_is;
@@ -66,8 +66,8 @@ set_value-range_of ls nth n v f l r h A g k =
       causes_are = addressed-own e ls f _ A refl;
     }
 
-pub set_value-range : (e : Edit) (ls : List PlacedLine) (v : List ℕ) (f : Found) (l : PlacedLine) (r : Span) → IsFaithful ls → IsSetValue e v → IsAddressed e ls f → Some l ≡ slice_get ls f.at
-    → r ≡ value_range_placed (length v == 0) l → IsRangeEdit e ls f.at l r v
+pub set_value-range : (e : Edit) (ls : List LocatedLine) (v : List ℕ) (f : Found) (l : LocatedLine) (r : Span) → IsFaithful ls → IsSetValue e v → IsAddressed e ls f → Some l ≡ slice_get ls f.at
+    → r ≡ value_range_located (length v == 0) l → IsRangeEdit e ls f.at l r v
 set_value-range e ls v f l r h S A g k =
     subst (λ z. IsRangeEdit z ls f.at l r v) (sym S.is)
-    (set_value-range_of ls S.nth S.name v f l r h (subst (λ z. IsAddressed z ls f) S.is A) g (k ∙ ap (λ b. value_range_placed b l) (sym (is_empty-length v))))
+    (set_value-range_of ls S.nth S.name v f l r h (subst (λ z. IsAddressed z ls f) S.is A) g (k ∙ ap (λ b. value_range_located b l) (sym (is_empty-length v))))

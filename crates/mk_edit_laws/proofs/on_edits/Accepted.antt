@@ -6,7 +6,7 @@ use Rattle.mk_class.specs.ClassedLines.{classed_lines}
 use Rattle.mk_tree.specs.LineTexts.{StandingLine}
 use Rattle.mk_edit_laws.specs.Edits.{Edit}
 use Rattle.mk_edit_laws.specs.Spots.{nth_of, picked}
-use Rattle.mk_edit_laws.specs.Spans.{spans_of}
+use Rattle.mk_edit_laws.specs.EditSpans.{spans_of}
 use Rattle.mk_edit_laws.specs.Causes.{where_holds}
 use Rattle.mk_edit_laws.specs.ArgumentCauses.{Tested, first_failed, bad_argument, reserved}
 use Rattle.mk_edit_laws.specs.AddressCauses.{unread_prefix, no_such, ambiguous, prefix_led, is_missing, is_several}

@@ -1,6 +1,6 @@
 -- The reading law of every edit.
 use Rattle.mk_edit_laws.specs.Edits.{Edit, SetValue, AppendValue, AddAssign, RemoveAssign, AddRule, RemoveRule, AddPrereq, RemovePrereq, AddRecipe, SetRecipe, RemoveRecipe, RenameTarget}
-use Rattle.mk_edit_laws.specs.Laws.{ReadsAsChanged}
+use Rattle.mk_edit_laws.specs.EditLaws.{ReadsAsChanged}
 use Rattle.mk_edit_laws.proofs.on_values.LastFoldLemmas.{set_value-reads}
 use Rattle.mk_edit_laws.proofs.on_values.AppendValueLemmas.{append_value-reads}
 use Rattle.mk_edit_laws.proofs.on_new_lines.AddAssignLemmas.{add_assign-reads}

@@ -11,7 +11,7 @@ use Rattle.mk_class.specs.ClassTable.{class_of}
 use Rattle.mk_class.specs.ClassedLines.{classed, classed_lines}
 use Rattle.mk_tree.specs.Documents.{text_of, context_of, AreUnconditional}
 use Rattle.mk_tree.specs.LineTexts.{line_in}
-use Rattle.mk_tree.proofs.on_documents.LinePlaces.{located}
+use Rattle.mk_tree.proofs.on_documents.LinesInText.{line-in_text}
 use Rattle.mk_edit_laws.specs.Edits.{Edit, SetValue, AppendValue, AddAssign, RemoveAssign, AddRule, RemoveRule, AddPrereq, RemovePrereq, AddRecipe, SetRecipe, RemoveRecipe, RenameTarget}
 use Rattle.mk_edit_laws.specs.Stretches.{Stretch, insertion, touched_by}
 use Rattle.mk_edit_laws.specs.EditedLines.{respanned_bytes, edited_bytes, edited_lines}
@@ -75,7 +75,7 @@ put-there t e rs s m p h b =
     let new : edited_lines t e s rs ≡ line_in c m ∷ [] = ap (classed c) b in
     let lines : classed_lines (text_after t e) ≡ A ++ line_in c m ∷ s.below = E.after ∙ ap (λ z. A ++ (z ++ s.below)) new in
     let plain : AreUnconditional (line_in c m ∷ []) = subst AreUnconditional new E.new_plain in
-    record { lines = lines; one = OneLine-logical m (located (text_after t e) A (line_in c m) s.below lines).one; plain = plain.0 }
+    record { lines = lines; one = OneLine-logical m (line-in_text (text_after t e) A (line_in c m) s.below lines).one; plain = plain.0 }
 
 -- ---- no new line
 
@@ -86,7 +86,7 @@ taken-out t e rs s p h b =
 
 -- ---- the bytes of touched lines with their spans replaced
 
--- the bytes with one range replaced, by its places in these lines
+-- the bytes with one range replaced, by its offsets in these lines
 pub respanned-one : (s : Stretch) (start end a b : ℕ) (v : List ℕ) → start ≡ length (text_of s.above) + a → end ≡ length (text_of s.above) + b
     → respanned_bytes s (record { start = start; end = end; new = v } ∷ []) ≡ take a (text_of s.lines) ++ (v ++ drop b (text_of s.lines))
 respanned-one s start end a b v h k =

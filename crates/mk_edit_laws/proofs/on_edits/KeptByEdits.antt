@@ -18,8 +18,8 @@ use Rattle.mk_tree.specs.Documents.{text_of, context_of, AreUnconditional}
 use Rattle.mk_tree.specs.RecipeLines.{recipe_run}
 use Rattle.mk_tree.specs.Items.{Item, Recipe}
 use Rattle.mk_tree.specs.Leaning.{AgreeButForFlag}
-use Rattle.mk_tree.proofs.on_documents.LinePlaces.{located, context_of-last, context_of-append}
-use Rattle.mk_tree.specs.NewLines.{above_ended, missing_line_end}
+use Rattle.mk_tree.proofs.on_documents.LinesInText.{line-in_text, context_of-last, context_of-append}
+use Rattle.mk_tree.specs.NewLineEnds.{above_ended, missing_line_end}
 use Rattle.mk_tree.proofs.on_changes.RecipeRunLemmas.{recipe_run-stays, rule-agrees, assign-agrees, recipe-agrees}
 use Rattle.mk_tree.specs.LineTexts.{StandingLine}
 use Rattle.mk_edit_laws.specs.Edits.{Edit, Place, SetValue, AppendValue, AddAssign, RemoveAssign, AddRule, RemoveRule, AddPrereq, RemovePrereq, AddRecipe, SetRecipe, RemoveRecipe}
@@ -28,7 +28,7 @@ use Rattle.mk_edit_laws.specs.Stretches.{Stretch, this_line, whole_rule, between
 use Rattle.mk_edit_laws.specs.NewLines.{assign_text, new_text, new_line_span}
 use Rattle.mk_edit_laws.specs.ValueSpans.{set_value_span, append_value_span, value_span, assignment_span}
 use Rattle.mk_edit_laws.specs.WordPieces.{add_pieces, remove_pieces}
-use Rattle.mk_edit_laws.specs.Spans.{removed_span, recipe_span, header_spans, word_spans, where_found}
+use Rattle.mk_edit_laws.specs.EditSpans.{removed_span, recipe_span, header_spans, word_spans, where_found}
 use Rattle.mk_edit_laws.specs.RuleCauses.{has_conditional}
 use Rattle.mk_edit_laws.specs.LineCauses.{removal_leans}
 use Rattle.mk_edit_laws.specs.Costs.{cost, size, line_count}
@@ -47,7 +47,7 @@ use Rattle.mk_edit_laws.proofs.on_new_lines.NewLineStands.{StandsAt, stands-span
 use Rattle.mk_edit_laws.proofs.on_new_lines.AddAssignLemmas.{new_assignment, accepted-stands, no_name}
 use Rattle.mk_edit_laws.proofs.on_new_lines.AddRuleLemmas.{add_rule-stands}
 use Rattle.mk_class.specs.declared.assignment.Flavor.{Flavor}
-use Rattle.mk_class.specs.PartPlaces.{raw_width}
+use Rattle.mk_class.specs.PartOffsets.{raw_width}
 use Rattle.mk_edit_laws.specs.declared.edit.Colons.{Colons}
 use Rattle.mk_edit_laws.proofs.on_prerequisites.RemovePrereqLemmas.{remove_prereq-line}
 use Rattle.mk_edit_laws.proofs.on_recipes.RecipeLemmas.{set_recipe-line, add_recipe-stands}
@@ -116,7 +116,7 @@ remove_rule-keeps nth g t rs h =
     let u = unconditional R plain in
     let agree : AgreeButForFlag (context_of s.above) (context_of (s.above ++ s.line ∷ R)) =
     subst (AgreeButForFlag (context_of s.above)) (sym (context_of-append s.above (s.line ∷ R)))
-    (rule-agrees (context_of s.above) s.line F.header R (located t s.above s.line s.below F.whole).class F.class_is (recipe_run-stays s.below) u) in
+    (rule-agrees (context_of s.above) s.line F.header R (line-in_text t s.above s.line s.below F.whole).class F.class_is (recipe_run-stays s.below) u) in
     stretch-kept t e rs (whole_rule s) h (ap (option_map whole_rule) F.found_is) (rule-stretch ls s F.whole) y agree free refl refl (omega (arith, many)) (unconditional-class s.line.class (Class.Header F.header) F.class_is refl, u)
 
 -- ---- a line replaced

@@ -12,7 +12,7 @@ use Rattle.mk_class.specs.Contexts.{Context, start, context_after}
 use Rattle.mk_class.specs.ClassTable.{class_of}
 use Rattle.mk_class.specs.ClassedLines.{ClassedLine, classed_lines, context_after_lines}
 use Rattle.mk_tree.specs.Documents.{context_of, most_conditionals}
-use Rattle.mk_tree.proofs.on_documents.LinePlaces.{bytes_of, bytes_of-classed}
+use Rattle.mk_tree.proofs.on_documents.LinesInText.{bytes_of, bytes_of-classed}
 use Rattle.mk_tree.proofs.on_changes.SpansInLines.{after_pieces, BeginWithPieces, line_replacements}
 use Rattle.mk_tree.specs.EachReplaced.{ReplaceEach}
 use Rattle.mk_tree.proofs.on_changes.EachReplacedLemmas.{lines-in_place, with_pieces}

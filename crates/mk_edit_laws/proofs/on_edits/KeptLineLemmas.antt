@@ -13,14 +13,14 @@ use Rattle.mk_class.specs.ClassedLines.{ClassedLine, classed, classed_lines}
 use Rattle.mk_tree.specs.Documents.{text_of, context_of, most_conditionals, AreUnconditional}
 use Rattle.mk_tree.specs.Items.{Item}
 use Rattle.mk_tree.specs.Leaning.{AgreeButForFlag}
-use Rattle.mk_tree.specs.NewLines.{above_ended, last_ended, lacks_line_end, with_line_end}
-use Rattle.mk_tree.proofs.on_documents.LinePlaces.{located}
+use Rattle.mk_tree.specs.NewLineEnds.{above_ended, last_ended, lacks_line_end, with_line_end}
+use Rattle.mk_tree.proofs.on_documents.LinesInText.{line-in_text}
 use Rattle.mk_tree.proofs.on_changes.RunsReplaced.{text-run_replaced, run-removed}
 use Rattle.mk_tree.proofs.on_documents.ConditionalLemmas.{most_conditionals-run_replaced, most_conditionals-without}
 use Rattle.mk_tree.specs.LineTexts.{StandingLine}
 use Rattle.mk_edit_laws.specs.Edits.{Edit}
 use Rattle.mk_edit_laws.specs.Stretches.{Stretch, this_line, insertion, touched_by, IsStretchOf}
-use Rattle.mk_edit_laws.specs.Spans.{removed_span}
+use Rattle.mk_edit_laws.specs.EditSpans.{removed_span}
 use Rattle.mk_edit_laws.specs.LineCauses.{removal_leans}
 use Rattle.mk_edit_laws.specs.Costs.{cost, size}
 use Rattle.mk_edit_laws.specs.Refusals.{spans, text_by, text_after}
@@ -49,10 +49,10 @@ line-kept t e rs s m h p w k r i d c z u v =
     let bytes : m.bytes ≡ respanned_bytes (this_line s) rs =
     append_cancel_right m.bytes (replaced at s.line.bytes rs) (text_of s.below)
     (append_cancel_left (text_of s.above) (m.bytes ++ text_of s.below) (replaced at s.line.bytes rs ++ text_of s.below)
-    (sym (located (replaced 0 t rs) s.above m s.below k).text
-    ∙ (ap (λ q. replaced 0 q rs) (located t s.above s.line s.below w).text ∙ Rise-within (text_of s.above) s.line.bytes (text_of s.below) rs r)))
+    (sym (line-in_text (replaced 0 t rs) s.above m s.below k).text
+    ∙ (ap (λ q. replaced 0 q rs) (line-in_text t s.above s.line s.below w).text ∙ Rise-within (text_of s.above) s.line.bytes (text_of s.below) rs r)))
     ∙ ap (λ q. replaced at q rs) (sym (append-nil s.line.bytes)) in
-    let class : class_of (context_of s.above) m.bytes ≡ m.class = (located (replaced 0 t rs) s.above m s.below k).class in
+    let class : class_of (context_of s.above) m.bytes ≡ m.class = (line-in_text (replaced 0 t rs) s.above m s.below k).class in
     let lines : classed_lines (text_after t e) ≡ s.above ++ m ∷ s.below = ap (λ q. classed_lines (text_by t q)) h ∙ k in
     record {
       touched = this_line s;

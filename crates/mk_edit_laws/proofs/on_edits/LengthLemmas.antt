@@ -4,7 +4,7 @@ use Rattle.std.proofs.lemmas.List.{length-take-le, length-drop}
 use Rattle.std.proofs.lemmas.Bool.{ltb-false}
 use Rattle.std.specs.Prelude.{Ok}
 use Rattle.mk_lines.specs.Pieces.{Replacement, replaced}
-use Rattle.mk_tree.specs.PlacedLines.{size_of}
+use Rattle.mk_tree.specs.LocatedLines.{size_of}
 use Rattle.mk_tree.specs.Documents.{document_lines}
 use Rattle.mk_tree.proofs.Reading.{size_of-document}
 use Rattle.mk_edit_laws.specs.Edits.{Edit}
@@ -17,7 +17,7 @@ use Rattle.mk_edit_laws.proofs.on_edits.RisingSpanLemmas.{Rise-from_to}
 use Rattle.mk_edit_laws.proofs.on_edits.SpansRise.{only_spans-replaced}
 use Rattle.mk_edit_laws.specs.declared.refusal.Refusal.TheVariants.{TooLong}
 
--- the length, if the replacements rise within the text; the text begins at this place
+-- the length, if the replacements rise within the text; the text begins at this offset
 pub length-replaced : (a b : ℕ) (t : List ℕ) (rs : List Replacement) → Rise a b rs → b ≡ a + length t → length (replaced a t rs) + bytes_taken rs ≡ length t + bytes_put rs
 length-replaced a b t [] h k = refl
 length-replaced a b t (r ∷ rs) h k =

@@ -15,12 +15,12 @@ pub Rise-from_to : (a b : ℕ) (rs : List Replacement) → Rise a b rs → a ≤
 Rise-from_to a b [] h = h
 Rise-from_to a b (r ∷ rs) h = let i = Rise-from_to r.end b rs h.2 in omega (arith, h.0, h.1, i)
 
--- replacements that rise up to a place rise up to a later place
+-- replacements that rise up to an offset rise up to a later offset
 pub Rise-until : (a b c : ℕ) (rs : List Replacement) → Rise a b rs → b ≤ c → Rise a c rs
 Rise-until a b c [] h k = omega (arith, h, k)
 Rise-until a b c (r ∷ rs) h k = (h.0, h.1, Rise-until r.end b c rs h.2 k)
 
--- replacements that rise from a place rise from an earlier place
+-- replacements that rise from an offset rise from an earlier offset
 pub Rise-since : (a b c : ℕ) (rs : List Replacement) → Rise b c rs → a ≤ b → Rise a c rs
 Rise-since a b c [] h k = omega (arith, h, k)
 Rise-since a b c (r ∷ rs) h k = let i : a ≤ r.start = omega (arith, h.0, k) in (i, h.1, h.2)
@@ -32,12 +32,12 @@ Rise-append a b c (r ∷ rs) qs h k = (h.0, h.1, Rise-append r.end b c rs qs h.2
 
 -- ---- the pieces
 
--- a text cut at replacements, the text beginning at a place
+-- a text cut at replacements, the text beginning at an offset
 record AreCut (at : ℕ) (t : List ℕ) (rs : List Replacement) : Type 0 where
   pieces : List Piece
   old : old_bytes pieces ≡ t
   new : new_bytes pieces ≡ replaced at t rs
-  places : replacements at pieces ≡ rs
+  ranges : replacements at pieces ≡ rs
 
 same_replacement : (s e s' e' : ℕ) (v : List ℕ) (rs qs : List Replacement) → s ≡ s' → e ≡ e' → rs ≡ qs
     → record { start = s; end = e; new = v } ∷ rs ≡ record { start = s'; end = e'; new = v } ∷ qs
@@ -48,7 +48,7 @@ cut a b t [] h k = record {
   pieces = Keep (map Byte t) ∷ [];
   old = append-nil (raw_text (map Byte t)) ∙ raw_text-bytes t;
   new = append-nil (raw_text (map Byte t)) ∙ raw_text-bytes t;
-  places = refl;
+  ranges = refl;
 }
 cut a b t (r ∷ rs) h k =
     let n = r.start - a in
@@ -78,21 +78,21 @@ cut a b t (r ∷ rs) h k =
           ∙ (ap (λ z. K ++ (z ++ old_bytes I.pieces)) bytes_w
           ∙ (ap (λ z. K ++ (W ++ z)) I.old ∙ (ap (λ z. K ++ z) (take-append-drop m T) ∙ take-append-drop n t)));
       new = ap (λ z. z ++ (r.new ++ new_bytes I.pieces)) bytes_k ∙ ap (λ z. K ++ (r.new ++ z)) (I.new ∙ ap (λ z. replaced r.end z rs) (sym same));
-      places =
+      ranges =
           same_replacement (a + length (raw_text (map Byte K))) (a + length (raw_text (map Byte K)) + length (raw_text (map Byte W))) r.start r.end r.new (replacements (a + length (raw_text (map Byte K)) + length (raw_text (map Byte W))) I.pieces) rs
-          at_start at_end (ap (λ z. replacements z I.pieces) at_end ∙ I.places);
+          at_start at_end (ap (λ z. replacements z I.pieces) at_end ∙ I.ranges);
     }
 
 -- If the replacements rise within the text, no others are made.
 pub Rise-replaced : (t : List ℕ) (rs : List Replacement) → Rise 0 (length t) rs → IsReplacedAt t (replaced 0 t rs) rs
-Rise-replaced t rs h = let c = cut 0 (length t) t rs h (omega arith) in record { rise = h; pieces = c.pieces; old = c.old; new = c.new; places = c.places }
+Rise-replaced t rs h = let c = cut 0 (length t) t rs h (omega arith) in record { rise = h; pieces = c.pieces; old = c.old; new = c.new; ranges = c.ranges }
 
 -- If they rise within a stretch of a text, they are made in this stretch, and the text before and after it stays.
 pub Rise-within : (p w q : List ℕ) (rs : List Replacement) → Rise (length p) (length p + length w) rs → replaced 0 (p ++ (w ++ q)) rs ≡ p ++ (replaced (length p) w rs ++ q)
 Rise-within p w q rs h =
     let c = cut (length p) (length p + length w) w rs h refl in
     ap (λ z. replaced 0 (p ++ (z ++ q)) rs) (sym c.old)
-    ∙ (ap (replaced 0 (p ++ (old_bytes c.pieces ++ q))) (sym c.places) ∙ (replaced-pieces p c.pieces q ∙ ap (λ z. p ++ (z ++ q)) c.new))
+    ∙ (ap (replaced 0 (p ++ (old_bytes c.pieces ++ q))) (sym c.ranges) ∙ (replaced-pieces p c.pieces q ∙ ap (λ z. p ++ (z ++ q)) c.new))
 
 -- ---- which replacements rise
 

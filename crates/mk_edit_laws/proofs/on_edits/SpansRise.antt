@@ -12,7 +12,7 @@ use Rattle.mk_lines.specs.Words.{tokens, is_gap}
 use Rattle.mk_lines.proofs.on_units.TokenLemmas.{token_text-tokens}
 use Rattle.mk_lines.specs.Pieces.{Replacement, Piece, old_cells, old_bytes, replacements}
 use Rattle.mk_lines.proofs.on_lists.PieceLemmas.{raw_text-old_cells, old_bytes-append}
-use Rattle.mk_class.specs.Lists.{is_empty}
+use Rattle.mk_class.specs.ListTests.{is_empty}
 use Rattle.mk_class.specs.Assignments.{Assignment, before_value}
 use Rattle.mk_class.proofs.on_assignments.AssignmentsWhole.{assignment_units}
 use Rattle.mk_class.specs.Headers
@@ -25,9 +25,9 @@ use Rattle.mk_lines.specs.declared.ends.End.TheVariants as ends
 use Rattle.mk_class.specs.Classes.Class.{Endef, Body, Recipe, Opaque, Blank, Comment, Assign, DefineHead, If, Else, Endif, Directive, TargetAssign, Rough, Header}
 use Rattle.mk_class.specs.Contexts.{Context, start, context_after}
 use Rattle.mk_class.specs.ClassedLines.{ClassedLine, classed_lines}
-use Rattle.mk_class.specs.PartPlaces.{raw_width}
+use Rattle.mk_class.specs.PartOffsets.{raw_width}
 use Rattle.mk_tree.specs.Documents.{text_of, context_of}
-use Rattle.mk_tree.proofs.on_documents.LinePlaces.{located, located-run, AreClassed, AreClassed-class, AreClassed-tail, AreClassed-lines}
+use Rattle.mk_tree.proofs.on_documents.LinesInText.{line-in_text, run-in_text, AreClassed, AreClassed-class, AreClassed-tail, AreClassed-lines}
 use Rattle.mk_tree.proofs.on_documents.DocumentLemmas.{text_of-classed_lines}
 use Rattle.mk_tree.specs.LineTexts.{StandingLine}
 use Rattle.mk_edit_laws.specs.Edits.{Edit, SetValue, AppendValue, AddAssign, RemoveAssign, AddRule, RemoveRule, AddPrereq, RemovePrereq, AddRecipe, SetRecipe, RemoveRecipe, RenameTarget}
@@ -37,7 +37,7 @@ use Rattle.mk_edit_laws.specs.NewLines.{new_line_span}
 use Rattle.mk_edit_laws.specs.ValueSpans.{value_span, set_value_span, append_value_span, assignment_span}
 use Rattle.mk_edit_laws.specs.WordPieces.{add_pieces, remove_pieces, rename_pieces, renamed_pieces, header_pieces, kept, put_last, prerequisite_text, removed_words, renamed_words}
 use Rattle.mk_edit_laws.proofs.on_prerequisites.WordsRemoved.{removed-old_cells}
-use Rattle.mk_edit_laws.specs.Spans.{removed_span, header_spans, word_spans, renamed_spans, recipe_span, where_found, spans_of}
+use Rattle.mk_edit_laws.specs.EditSpans.{removed_span, header_spans, word_spans, renamed_spans, recipe_span, where_found, spans_of}
 use Rattle.mk_edit_laws.specs.Refusals.{spans, text_by, text_after}
 use Rattle.mk_edit_laws.proofs.on_edits.Accepted.{accepted}
 use Rattle.mk_edit_laws.specs.RisingSpans.{Rise, IsReplacedAt}
@@ -61,12 +61,12 @@ rise-found t f (Some x) h = h x refl
 
 rise-removed : (t : List ℕ) (s : Stretch) → IsStretchOf (classed_lines t) s → RiseIn t (removed_span s)
 rise-removed t s h =
-    Rise-one (text_of s.above) (text_of s.lines) (text_of s.below) [] t (length (text_of s.above)) (length (text_of s.above) + length (text_of s.lines)) (located-run t s.above s.lines s.below h).text refl refl
+    Rise-one (text_of s.above) (text_of s.lines) (text_of s.below) [] t (length (text_of s.above)) (length (text_of s.above) + length (text_of s.lines)) (run-in_text t s.above s.lines s.below h).text refl refl
 
 rise-inserted : (t : List ℕ) (e : Edit) (s : Stretch) → IsStretchOf (classed_lines t) s → RiseIn t (new_line_span t e s)
 rise-inserted t e s h =
     let at = length (text_of s.above) in
-    let e : length t ≡ at + length (text_of s.lines ++ text_of s.below) = ap length (located-run t s.above s.lines s.below h).text ∙ length-append (text_of s.above) (text_of s.lines ++ text_of s.below) in
+    let e : length t ≡ at + length (text_of s.lines ++ text_of s.below) = ap length (run-in_text t s.above s.lines s.below h).text ∙ length-append (text_of s.above) (text_of s.lines ++ text_of s.below) in
     (omega arith, omega arith, omega (arith, e))
 
 -- ---- inside a line
@@ -74,7 +74,7 @@ rise-inserted t e s h =
 -- what a line and the lines above it have together is within the text
 line-within : (t : List ℕ) (s : StandingLine) → IsSpotOf (classed_lines t) s → length (text_of s.above) + length s.line.bytes ≤ length t
 line-within t s h =
-    let P = located t s.above s.line s.below h in
+    let P = line-in_text t s.above s.line s.below h in
     let e : length t ≡ length (text_of s.above) + (length s.line.bytes + length (text_of s.below)) =
     ap length P.text ∙ (length-append (text_of s.above) (s.line.bytes ++ text_of s.below) ∙ ap (λ z. length (text_of s.above) + z) (length-append s.line.bytes (text_of s.below))) in
     omega (arith, e)
@@ -82,7 +82,7 @@ line-within t s h =
 -- the parts of a line have at most as many raw bytes as the line
 spot-parts : (t : List ℕ) (s : StandingLine) → IsSpotOf (classed_lines t) s → raw_width (part_units s.line.class) ≤ length s.line.bytes
 spot-parts t s h =
-    let P = located t s.above s.line s.below h in
+    let P = line-in_text t s.above s.line s.below h in
     subst (λ (z : Class Cell). raw_width (part_units z) ≤ length s.line.bytes) P.class (parts-within (context_of s.above) s.line.bytes)
 
 -- ---- values
@@ -109,7 +109,7 @@ set_value-rises v at a n h = go (is_empty v) (assignment-length a)
 pub append_value-rises : (v : List ℕ) → RisesInAssignment (append_value_span v)
 append_value-rises v at a n h = let e = assignment-length a in (omega arith, omega arith, omega (arith, e, h))
 
--- spans that rise within a line, which begins at a place and has n bytes, whatever its class
+-- spans that rise within a line, which begins at an offset and has n bytes, whatever its class
 abbrev RisesInLine : (ℕ → Class Cell → List Replacement) → Type 0
 RisesInLine f = (at n : ℕ) (k : Class Cell) → raw_width (part_units k) ≤ n → Rise at (at + n) (f at k)
 
@@ -282,7 +282,7 @@ some-text p (b ∷ r) h k = go (without_line_end (b ∷ r)) (line_end (b ∷ r))
 pub recipe-rises : (t c : List ℕ) (s : StandingLine) → IsSpotOf (classed_lines t) s → is_recipe s.line.class ≡ true
     → Rise (length (text_of s.above)) (length (text_of s.above) + length s.line.bytes) (recipe_span c s)
 recipe-rises t c s h r =
-    let P = located t s.above s.line s.below h in
+    let P = line-in_text t s.above s.line s.below h in
     let C = context_of s.above in
     let stands = recipe-stands C s.line.bytes (ap is_recipe P.class ∙ r) in
     let text = some-text C.prefix s.line.bytes stands.is_led (context-can_begin s.above P.above_classed) in

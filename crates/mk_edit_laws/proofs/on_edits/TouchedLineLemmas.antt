@@ -12,7 +12,7 @@ use Rattle.mk_edit_laws.specs.Stretches.{Stretch, this_line, bottom, insertion, 
 use Rattle.mk_edit_laws.specs.NewLines.{new_line_span}
 use Rattle.mk_edit_laws.specs.ValueSpans.{value_span, set_value_span, append_value_span}
 use Rattle.mk_edit_laws.specs.WordPieces.{add_pieces, remove_pieces}
-use Rattle.mk_edit_laws.specs.Spans.{removed_span, header_spans, word_spans, recipe_span, where_found, spans_of}
+use Rattle.mk_edit_laws.specs.EditSpans.{removed_span, header_spans, word_spans, recipe_span, where_found, spans_of}
 use Rattle.mk_edit_laws.specs.Costs.{size, line_count}
 use Rattle.mk_edit_laws.specs.Refusals.{spans}
 use Rattle.mk_edit_laws.proofs.on_edits.Accepted.{accepted}

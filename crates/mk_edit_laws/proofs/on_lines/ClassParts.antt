@@ -24,9 +24,9 @@ use Rattle.mk_class.specs.Classes.Class.{Assign, TargetAssign, Header, Opaque, R
 use Rattle.mk_class.specs.RecipePrefix.{is_prefix_led}
 use Rattle.mk_class.specs.Contexts.{Context}
 use Rattle.mk_class.specs.ClassTable.{class_of, class_at, define_class, header_class, target_class, rule_class, assign_class, or_class, is_all_blanks, is_unreadable, plain_class, directive}
-use Rattle.mk_class.specs.declared.context.Flag.{Flag}
-use Rattle.mk_class.specs.declared.context.Flag.TheVariants.{Off, Rule, Unknown}
-use Rattle.mk_class.specs.PartPlaces.{raw_width}
+use Rattle.mk_class.specs.declared.context.RuleFlag.{RuleFlag}
+use Rattle.mk_class.specs.declared.context.RuleFlag.TheVariants.{Off, Rule, Unknown}
+use Rattle.mk_class.specs.PartOffsets.{raw_width}
 
 -- the units of the parts that a class tells of
 abbrev pub part_units : Class Cell → List (List Cell)
@@ -96,7 +96,7 @@ short-plain led c cs us =
     short-or us (directive c (word_texts joined_byte (cut_text joined_byte us))) _ z (
     short-cond us (led || not (has_colon joined_byte (head joined_byte us))) Opaque (rule_class joined_byte us) z (short-rule us)))))
 
-short-at : (led : Bool) (n : ℕ) (f : Flag) (c : Bool) (cs : List Cell) (us : List (List Cell)) → AreWithin us (class_at joined_byte led n f c (is_unreadable cs) us)
+short-at : (led : Bool) (n : ℕ) (f : RuleFlag) (c : Bool) (cs : List Cell) (us : List (List Cell)) → AreWithin us (class_at joined_byte led n f c (is_unreadable cs) us)
 short-at true (suc n) f c cs us = omega arith
 short-at false (suc n) f c cs us = short-said us (define_class (first_keyword (word_texts joined_byte us)) (suc n)) (omega arith)
 short-at true zero Rule c cs us = omega arith

@@ -66,7 +66,7 @@ mark-byte b s n =
     chosen b 125 (b == 125) CloseBrace _ s (eqb-true b 125) refl (
     λ h. absurd (n h)))))))
 
--- ---- cells that join whatever stands beside them
+-- ---- solid: cells that join whatever stands beside them
 
 -- cells that begin with a byte that is no blank, and so does whatever stands before them join
 pub record BeginsSolid (cs : List Cell) : Type 0 where
@@ -207,7 +207,7 @@ pub record IsHeadUnit (u : List Cell) : Type 0 where
   pub readable : (is_equals joined_byte u || is_unreadable_unit joined_byte u) ≡ false
   pub in_head : is_in_head joined_byte u ≡ true
 
--- cells that join whatever stands on either side
+-- solid cells, which join whatever stands on either side
 pub record IsSolid (u : List Cell) : Type 0 where
   pub begins : BeginsSolid u
   pub ends : EndsSolid u

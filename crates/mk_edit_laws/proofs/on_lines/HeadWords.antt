@@ -8,7 +8,7 @@ use Rattle.mk_lines.proofs.on_lists.ListLemmas.{concat-append}
 use Rattle.mk_lines.specs.Cells.{Cell, joined_byte}
 use Rattle.mk_lines.specs.Words.{Token, Gap, Word, token_words, token_units, is_word_first, is_gap, IsWord, AreTokens}
 use Rattle.mk_lines.proofs.on_units.TokenLemmas.{token_text}
-use Rattle.mk_class.specs.Lists.{first_passes, last_passes}
+use Rattle.mk_class.specs.ListTests.{first_passes, last_passes}
 use Rattle.mk_class.proofs.on_assignments.AssignmentLineLemmas.{gap_cell-reset}
 use Rattle.mk_edit_laws.proofs.on_lines.HeadUnits.{AllAre, IsHeadUnit, IsSolid, BeginsSolid-before, EndsSolid-after, head_unit-solid}
 use Rattle.mk_edit_laws.proofs.on_lines.LineTails.{EndsAs, EndsEmpty, EndsAs-same}

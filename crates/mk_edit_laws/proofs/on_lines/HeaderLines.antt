@@ -6,7 +6,7 @@ use Rattle.mk_lines.specs.Lists.{leading, after_leading, Each, FirstFails}
 use Rattle.mk_lines.proofs.on_lists.ListLemmas.{Each-right, leading-append_all}
 use Rattle.mk_lines.specs.Cells.{Cell, joined_byte}
 use Rattle.mk_lines.specs.Words.{is_gap}
-use Rattle.mk_class.specs.Lists.{is_empty, first_passes}
+use Rattle.mk_class.specs.ListTests.{is_empty, first_passes}
 use Rattle.mk_class.specs.Texts.{word_texts}
 use Rattle.mk_class.specs.Symbols.{Symbol, symbol, is_colon, is_equals, is_unreadable_unit, is_colon_symbol, is_hash_symbol, is_semicolon_symbol}
 use Rattle.mk_class.specs.Symbols.Symbol.{Hash, Colon, Semicolon, Equals, Plus, Question, Exclamation, Bar, Ampersand, NoSymbol}
@@ -17,15 +17,15 @@ use Rattle.mk_class.specs.AssignmentsAtEquals.{is_no_equals}
 use Rattle.mk_class.proofs.on_assignments.NoAssignmentLemmas.{no_assignment-head}
 use Rattle.mk_class.specs.Separators.{Separated, separated, has_colon, takes_assignment}
 use Rattle.mk_class.specs.Headers
-use Rattle.mk_class.specs.Headers.{header, has_unreadable, has_colon_after_other, has_third_separator, has_bar_amiss, has_second_bar, has_pattern_amiss, is_rough, header_units}
+use Rattle.mk_class.specs.Headers.{header, has_unreadable, has_colon_after_other, has_third_separator, has_bad_bar, has_second_bar, has_bad_pattern, is_rough, header_units}
 use Rattle.mk_class.specs.HeaderFits.{FitsHeader, head_units, after_separator, separator_symbols}
 use Rattle.mk_class.proofs.on_headers.HeadersAgain.{header-again, separated-again}
 use Rattle.mk_class.specs.Classes.Class.{Rough, Header}
 use Rattle.mk_class.specs.Keywords.{first_keyword}
 use Rattle.mk_class.proofs.on_classes.ClassHolds.{Holds, plain_class-holds, said-no_parts}
 use Rattle.mk_class.specs.ClassTable.{class_at, define_class, directive, header_class, target_class, rule_class, is_all_blanks, is_unreadable, plain_class}
-use Rattle.mk_class.specs.declared.context.Flag.{Flag}
-use Rattle.mk_class.specs.declared.context.Flag.TheVariants.{Off, Rule, Unknown}
+use Rattle.mk_class.specs.declared.context.RuleFlag.{RuleFlag}
+use Rattle.mk_class.specs.declared.context.RuleFlag.TheVariants.{Off, Rule, Unknown}
 use Rattle.mk_class.specs.declared.rule.Separator.{Separator}
 use Rattle.mk_class.specs.declared.rule.Separator.TheVariants.{SingleColon, DoubleColon, GroupedColon, GroupedDoubleColon}
 
@@ -47,13 +47,13 @@ plain_class-header led c cs us h k =
     record { not_led = H.rule.not_led; readable = H.rule.readable; undirected = H.rule.undirected; colon = H.rule.colon; not_rough = H.not_rough; is = H.is }
 
 -- a line that is a Header stands outside defines and recipes, and so does each line in its place that begins with the same byte
-pub record IsHeaderRead (led : Bool) (defines : ℕ) (f : Flag) (c : Bool) (cs : List Cell) (us : List (List Cell)) (h : Headers.Header Cell) : Type 0 where
+pub record IsHeaderRead (led : Bool) (defines : ℕ) (f : RuleFlag) (c : Bool) (cs : List Cell) (us : List (List Cell)) (h : Headers.Header Cell) : Type 0 where
   pub here : IsHeaderLine led c cs us h
   pub also : (cs' : List Cell) (us' : List (List Cell)) → class_at joined_byte led defines f c (is_unreadable cs') us' ≡ plain_class joined_byte led c (is_unreadable cs') us'
   pub no_define : defines ≡ 0
 
 -- each line of class Header stands there
-pub class_at-header : (led : Bool) (n : ℕ) (f : Flag) (c : Bool) (cs : List Cell) (us : List (List Cell)) (h : Headers.Header Cell) → class_at joined_byte led n f c (is_unreadable cs) us ≡ Header h → IsHeaderRead led n f c cs us h
+pub class_at-header : (led : Bool) (n : ℕ) (f : RuleFlag) (c : Bool) (cs : List Cell) (us : List (List Cell)) (h : Headers.Header Cell) → class_at joined_byte led n f c (is_unreadable cs) us ≡ Header h → IsHeaderRead led n f c cs us h
 class_at-header true (suc n) f c cs us h k = absurd (cc)
 class_at-header false (suc n) f c cs us h k = absurd (said-no_parts (define_class (first_keyword (word_texts joined_byte us)) (suc n)) (Header h) k refl)
 class_at-header true zero Rule c cs us h k = absurd (cc)
@@ -177,7 +177,7 @@ first-follows (u ∷ a) k h f = h
 -- what else than a unit makes a line Rough
 abbrev pub is_rough_made : Headers.Header Cell → Bool
 is_rough_made h =
-    has_colon_after_other joined_byte h || (has_third_separator joined_byte h || (has_bar_amiss joined_byte h || (has_second_bar joined_byte h || has_pattern_amiss joined_byte h)))
+    has_colon_after_other joined_byte h || (has_third_separator joined_byte h || (has_bad_bar joined_byte h || (has_second_bar joined_byte h || has_bad_pattern joined_byte h)))
 
 -- parts that make a line of class Header
 pub record MakeHeader (c : Bool) (cs : List Cell) (h : Headers.Header Cell) : Type 0 where

@@ -12,7 +12,7 @@ use Rattle.mk_lines.specs.Units.{units}
 use Rattle.mk_lines.proofs.on_units.UnitLemmas.{units-last, concat-units}
 use Rattle.mk_lines.specs.Words.{Token, Gap, Word, tokens, before_tokens, token_units, is_gap, IsWord}
 use Rattle.mk_lines.proofs.on_units.TokenLemmas.{token_units-tokens, tokens-are_tokens}
-use Rattle.mk_class.specs.Lists.{is_empty, first_passes, last_passes}
+use Rattle.mk_class.specs.ListTests.{is_empty, first_passes, last_passes}
 use Rattle.mk_class.specs.Texts.{word_texts}
 use Rattle.mk_class.specs.Symbols.{Symbol, symbol, is_colon, is_bar, is_ampersand}
 use Rattle.mk_class.specs.Symbols.Symbol.{Colon, Bar, Ampersand, NoSymbol}
@@ -20,7 +20,7 @@ use Rattle.mk_class.proofs.on_symbols.SymbolLemmas.{symbol-unit, symbol-no_gap, 
 use Rattle.mk_class.specs.CutTexts.{cut_text, head as head_at, is_in_head}
 use Rattle.mk_class.specs.Separators.{has_colon}
 use Rattle.mk_class.specs.Headers
-use Rattle.mk_class.specs.Headers.{is_no_bar, is_no_colon, has_unreadable, has_colon_after_other, has_third_separator, has_bar_amiss, has_second_bar, has_pattern_amiss, is_rough, header_units}
+use Rattle.mk_class.specs.Headers.{is_no_bar, is_no_colon, has_unreadable, has_colon_after_other, has_third_separator, has_bad_bar, has_second_bar, has_bad_pattern, is_rough, header_units}
 use Rattle.mk_class.proofs.on_headers.HeadersWhole.{header-whole}
 use Rattle.mk_class.specs.HeaderFits.{FitsHeader, FitsPattern, FitsBar, head_units, after_separator, prerequisite_units, separator_symbols}
 use Rattle.mk_class.proofs.on_headers.HeaderFitsLemmas.{header-fits}
@@ -201,7 +201,7 @@ pub record HeaderKnown (c : Bool) (cs : List Cell) (h : Headers.Header Cell) : T
   pub pattern_no_bar : list_any (is_bar joined_byte) h.pattern ≡ false
   pub bar_apart : is_bar_glued h.normal h.bar h.order_only ≡ false
   pub colon_after : has_colon_after_other joined_byte h ≡ false
-  pub pattern_one : has_pattern_amiss joined_byte h ≡ false
+  pub pattern_one : has_bad_pattern joined_byte h ≡ false
   pub undirected : directive c (word_texts joined_byte (cut_text joined_byte (header_units h))) ≡ None
 
 -- the parts of a line of class Header
@@ -216,11 +216,11 @@ header-known led c cs h a l =
     let r0 = or_parts (has_unreadable joined_byte (head_units h)) (is_rough_made h) rough in
     let r1 = or_parts (has_colon_after_other joined_byte h) _ r0.1 in
     let r2 = or_parts (has_third_separator joined_byte h) _ r1.1 in
-    let r3 = or_parts (has_bar_amiss joined_byte h) _ r2.1 in
+    let r3 = or_parts (has_bad_bar joined_byte h) _ r2.1 in
     let r4 = or_parts (has_second_bar joined_byte h) _ r3.1 in
     let third = or_parts (has_colon joined_byte h.normal) (has_colon joined_byte h.order_only) r2.0 in
-    let amiss = or_parts (list_any (is_bar joined_byte) h.targets || list_any (is_bar joined_byte) h.pattern) (is_bar_glued h.normal h.bar h.order_only) r3.0 in
-    let bars = or_parts (list_any (is_bar joined_byte) h.targets) (list_any (is_bar joined_byte) h.pattern) amiss.0 in
+    let bad = or_parts (list_any (is_bar joined_byte) h.targets || list_any (is_bar joined_byte) h.pattern) (is_bar_glued h.normal h.bar h.order_only) r3.0 in
+    let bars = or_parts (list_any (is_bar joined_byte) h.targets) (list_any (is_bar joined_byte) h.pattern) bad.0 in
     let cells : cs ≡ concat (header_units h) = sym (concat-units joined_byte cs) ∙ ap concat (sym whole) in
     let stray : has_stray (concat (header_units h)) ≡ false = ap has_stray (sym cells) ∙ (or_parts (has_stray cs) (has_bad_fold cs) l.readable).0 in
     let joined : concat (header_units h) ≡ concat (head_units h) ++ concat h.tail = ap concat (header_units-head h) ∙ concat-append (head_units h) h.tail in
@@ -241,7 +241,7 @@ header-known led c cs h a l =
       normal = parts-of h.normal (AllAre-left IsHeadUnit h.normal (h.bar ++ h.order_only) pre) third.0 (no-each (is_bar joined_byte) h.normal f.no_bar);
       order_only = parts-of h.order_only (AllAre-right IsHeadUnit h.bar h.order_only (AllAre-right IsHeadUnit h.normal (h.bar ++ h.order_only) pre)) third.1 r4.0;
       pattern_no_bar = bars.1;
-      bar_apart = amiss.1;
+      bar_apart = bad.1;
       colon_after = r1.0;
       pattern_one = r4.1;
       undirected = ap (λ z. directive c (word_texts joined_byte (cut_text joined_byte z))) whole ∙ l.undirected;
@@ -363,8 +363,8 @@ changed-header c cs h T N B O k f a =
       not_rough =
           or_from (has_colon_after_other joined_byte g) _ k.colon_after
           (or_from (has_third_separator joined_byte g) _ (or_from (has_colon joined_byte N) (has_colon joined_byte O) (part-has_colon N f.normal) (part-has_colon O f.order_only))
-          (or_from (has_bar_amiss joined_byte g) _ (or_from (list_any (is_bar joined_byte) T || list_any (is_bar joined_byte) h.pattern) (is_bar_glued N B O) (or_from (list_any (is_bar joined_byte) T) (list_any (is_bar joined_byte) h.pattern) (part-any_bar T f.targets) k.pattern_no_bar) f.bar_apart)
-          (or_from (has_second_bar joined_byte g) (has_pattern_amiss joined_byte g) (part-any_bar O f.order_only) k.pattern_one)));
+          (or_from (has_bad_bar joined_byte g) _ (or_from (list_any (is_bar joined_byte) T || list_any (is_bar joined_byte) h.pattern) (is_bar_glued N B O) (or_from (list_any (is_bar joined_byte) T) (list_any (is_bar joined_byte) h.pattern) (part-any_bar T f.targets) k.pattern_no_bar) f.bar_apart)
+          (or_from (has_second_bar joined_byte g) (has_bad_pattern joined_byte g) (part-any_bar O f.order_only) k.pattern_one)));
       undirected = changed-undirected c h T N B O k.fits fits f.alike k.undirected;
     } in
     ap (plain_class joined_byte false c (is_unreadable (concat (header_units g)))) again ∙ made-header c (concat (header_units g)) g m

@@ -9,7 +9,7 @@ use Rattle.mk_class.specs.ClassedLines.{ClassedLine, classed_lines}
 use Rattle.mk_tree.specs.Documents.{text_of, context_of}
 use Rattle.mk_tree.specs.Items.{Item, items, items_of_line}
 use Rattle.mk_tree.specs.Readings.{reading}
-use Rattle.mk_tree.proofs.on_documents.LinePlaces.{bytes_of, reading-line}
+use Rattle.mk_tree.proofs.on_documents.LinesInText.{bytes_of, reading-line}
 use Rattle.mk_tree.proofs.on_changes.RunsReplaced.{line-replaced}
 
 -- A text whose lines are those above and those below, with one line between them, which is of no conditional and reads as one

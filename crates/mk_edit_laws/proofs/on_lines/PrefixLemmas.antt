@@ -16,7 +16,7 @@ use Rattle.mk_class.specs.Contexts.{Context, start, context_after, prefix_after}
 use Rattle.mk_class.specs.ClassTable.{class_of}
 use Rattle.mk_class.specs.ClassedLines.{ClassedLine, context_after_lines}
 use Rattle.mk_tree.specs.Documents.{context_of}
-use Rattle.mk_tree.proofs.on_documents.LinePlaces.{AreClassed, AreClassed-class, AreClassed-tail}
+use Rattle.mk_tree.proofs.on_documents.LinesInText.{AreClassed, AreClassed-class, AreClassed-tail}
 use Rattle.mk_edit_laws.proofs.on_values.FoundAssignments.{prefix-of_class}
 
 -- a byte that a line may begin with: no LF, CR or NUL, and no backslash

@@ -19,7 +19,7 @@ use Rattle.mk_lines.specs.Words.{Token, Gap, Word, tokens, token_units, before_t
 use Rattle.mk_lines.proofs.on_units.TokenLemmas.{token_units-tokens}
 use Rattle.mk_lines.proofs.on_lists.BoolLemmas.{or-left_false, or-right_false}
 use Rattle.mk_lines.specs.Bytes.{is_blank_byte}
-use Rattle.mk_class.specs.Lists.{until, from, first_passes, last_passes}
+use Rattle.mk_class.specs.ListTests.{until, from, first_passes, last_passes}
 use Rattle.mk_class.specs.Texts.{unit_text}
 use Rattle.mk_class.specs.Symbols.{symbol, is_hash}
 use Rattle.mk_class.specs.CutTexts.{cut_text, is_no_hash}
@@ -48,7 +48,7 @@ use Rattle.mk_edit_laws.specs.Stretches.{Stretch, place_found}
 use Rattle.mk_edit_laws.specs.ArgumentCauses.{is_place, place_names}
 use Rattle.mk_edit_laws.specs.AddressCauses.{begins_new_line}
 use Rattle.mk_edit_laws.specs.NewLines.{spaced, assign_text, new_line_span}
-use Rattle.mk_edit_laws.specs.Spans.{where_found}
+use Rattle.mk_edit_laws.specs.EditSpans.{where_found}
 use Rattle.mk_edit_laws.specs.LineCauses.{follows_open_line, new_line_leans}
 use Rattle.mk_edit_laws.specs.Refusals.{spans, text_by, text_after}
 use Rattle.mk_edit_laws.specs.Changes.{change, with_item, new_assign}
@@ -57,7 +57,7 @@ use Rattle.mk_edit_laws.proofs.on_values.FoundAssignments.{no_prefix-set}
 use Rattle.mk_edit_laws.proofs.on_values.SetValueLemmas.{bytes-joined, unit_text-units}
 use Rattle.mk_edit_laws.proofs.on_new_lines.NewPlaces.{IsNewPlace, new-place}
 use Rattle.mk_edit_laws.proofs.on_new_lines.NewLineStands.{StandsAt, with_line, stands-reading, stands-lines}
-use Rattle.mk_tree.specs.NewLines.{above_ended}
+use Rattle.mk_tree.specs.NewLineEnds.{above_ended}
 use Rattle.mk_edit_laws.proofs.on_lines.NameLemmas.{AreNameBytes, name-bytes_are, name-clean, AreUnmarked, name-unmarked, unmarked-append, singles, singles-append, unit_text-singles, unmarked-closed, unmarked-units}
 use Rattle.mk_edit_laws.specs.declared.refusal.Field.TheVariants as field
 use Rattle.mk_edit_laws.specs.declared.refusal.Refusal.TheVariants.{RecipePrefix, OpenLine, Leans, Reserved}

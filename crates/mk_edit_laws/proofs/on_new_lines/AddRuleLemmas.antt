@@ -7,7 +7,7 @@ use Rattle.mk_lines.specs.PhysicalLines.{file_line_end}
 use Rattle.mk_lines.specs.Cells.{Cell}
 use Rattle.mk_lines.specs.Pieces.{Replacement, replaced}
 use Rattle.mk_lines.specs.Words.{words_in}
-use Rattle.mk_class.specs.Lists.{is_empty, last_passes}
+use Rattle.mk_class.specs.ListTests.{is_empty, last_passes}
 use Rattle.mk_class.specs.Keywords.{is_reserved_word}
 use Rattle.mk_class.specs.Arguments.{is_word, is_target, is_ampersand_byte}
 use Rattle.mk_class.specs.Headers.{Header}
@@ -22,7 +22,7 @@ use Rattle.mk_tree.proofs.on_changes.NewLineLemmas.{file_line_end-some, new_line
 use Rattle.mk_edit_laws.specs.Edits.{Edit, Place, AddRule}
 use Rattle.mk_edit_laws.specs.Stretches.{Stretch, insertion, removal}
 use Rattle.mk_edit_laws.specs.NewLines.{new_text, new_line_span}
-use Rattle.mk_edit_laws.specs.Spans.{where_found}
+use Rattle.mk_edit_laws.specs.EditSpans.{where_found}
 use Rattle.mk_edit_laws.specs.ArgumentCauses.{place_names, place_targets}
 use Rattle.mk_edit_laws.specs.AddressCauses.{begins_new_line}
 use Rattle.mk_edit_laws.specs.LineCauses.{follows_open_line, new_line_leans, removal_leans}

@@ -5,7 +5,7 @@ use Rattle.mk_lines.specs.LogicalLines.{is_open}
 use Rattle.mk_lines.proofs.on_lines.LineEndAdded.{IsEnded}
 use Rattle.mk_lines.specs.Pieces.{replaced}
 use Rattle.mk_lines.specs.Cells.{Cell}
-use Rattle.mk_class.specs.Lists.{is_empty, last_passes}
+use Rattle.mk_class.specs.ListTests.{is_empty, last_passes}
 use Rattle.mk_class.specs.Classes.{Class}
 use Rattle.mk_class.specs.Contexts.{context_after, flag_after}
 use Rattle.mk_class.specs.ClassTable.{class_of}
@@ -14,7 +14,7 @@ use Rattle.mk_tree.specs.Documents.{text_of, context_of}
 use Rattle.mk_tree.specs.Items.{items, items_of_line}
 use Rattle.mk_tree.specs.Readings.{reading}
 use Rattle.mk_tree.specs.Leaning.{leans, AgreeButForFlag}
-use Rattle.mk_tree.specs.NewLines.{missing_line_end, above_ended}
+use Rattle.mk_tree.specs.NewLineEnds.{missing_line_end, above_ended}
 use Rattle.mk_tree.proofs.on_changes.NewLineLemmas.{file_line_end-some, line-added, reading-line_added}
 use Rattle.mk_tree.proofs.on_changes.RunsReplaced.{text-inserted}
 use Rattle.mk_edit_laws.specs.Edits.{Edit}

@@ -12,7 +12,7 @@ use Rattle.mk_class.specs.CountsOfClasses.{FitsCounts}
 use Rattle.mk_class.proofs.on_classes.ClassLemmas.{class_of-counts}
 use Rattle.mk_class.specs.ClassedLines.{classed_lines}
 use Rattle.mk_tree.specs.Documents.{context_of}
-use Rattle.mk_tree.proofs.on_documents.LinePlaces.{located, context_of-last}
+use Rattle.mk_tree.proofs.on_documents.LinesInText.{line-in_text, context_of-last}
 use Rattle.mk_edit_laws.specs.Edits.{Place, Bottom, BeforeVar, AfterVar, BeforeRule}
 use Rattle.mk_edit_laws.specs.Addresses.{place_address}
 use Rattle.mk_edit_laws.specs.Stretches.{Stretch, bottom, before_line, after_line, place_found}
@@ -51,13 +51,13 @@ new-place t (BeforeVar nth at) h k n d =
       stretch = before_line s;
       found_is = ap (option_map before_line) F.found_is;
       whole = F.whole;
-      no_define = subst (FitsCounts c.defines c.conditionals) ((located t s.above s.line s.below F.whole).class ∙ F.class_is) (class_of-counts c s.line.bytes);
+      no_define = subst (FitsCounts c.defines c.conditionals) ((line-in_text t s.above s.line s.below F.whole).class ∙ F.class_is) (class_of-counts c s.line.bytes);
     }
 new-place t (AfterVar nth at) h k n d =
     let F = assignment-found t at nth (where_holds-none _ NoSuch h) (where_holds-none _ _ k) (or-left_false (is_prefix_name at) false n) in
     let s = F.spot in
     let c = context_of s.above in
-    let z : c.defines ≡ 0 = subst (FitsCounts c.defines c.conditionals) ((located t s.above s.line s.below F.whole).class ∙ F.class_is) (class_of-counts c s.line.bytes) in
+    let z : c.defines ≡ 0 = subst (FitsCounts c.defines c.conditionals) ((line-in_text t s.above s.line s.below F.whole).class ∙ F.class_is) (class_of-counts c s.line.bytes) in
     let after : context_of (s.above ++ s.line ∷ []) ≡ context_after c (Class.Assign F.assigned None) = context_of-last s.above s.line ∙ ap (context_after c) F.class_is in
     record {
       stretch = after_line s;
@@ -73,5 +73,5 @@ new-place t (BeforeRule nth g) h k n d =
       stretch = before_line s;
       found_is = ap (option_map before_line) F.found_is;
       whole = F.whole;
-      no_define = subst (FitsCounts c.defines c.conditionals) ((located t s.above s.line s.below F.whole).class ∙ F.class_is) (class_of-counts c s.line.bytes);
+      no_define = subst (FitsCounts c.defines c.conditionals) ((line-in_text t s.above s.line s.below F.whole).class ∙ F.class_is) (class_of-counts c s.line.bytes);
     }

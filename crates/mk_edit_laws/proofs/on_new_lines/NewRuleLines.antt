@@ -16,7 +16,7 @@ use Rattle.mk_lines.proofs.on_units.UnitLemmas.{units-append}
 use Rattle.mk_lines.specs.Words.{Token, Gap, Word, tokens, token_words, token_units, is_word_first, is_gap, IsWord, AreTokens}
 use Rattle.mk_lines.proofs.on_units.TokenLemmas.{tokens-word, tokens-token_units}
 use Rattle.mk_lines.specs.declared.ends.End.{End}
-use Rattle.mk_class.specs.Lists.{is_empty, first_passes, last_passes}
+use Rattle.mk_class.specs.ListTests.{is_empty, first_passes, last_passes}
 use Rattle.mk_class.specs.Texts.{word_texts}
 use Rattle.mk_class.specs.Symbols.{symbol, is_colon, is_bar, is_hash, is_ampersand, is_unreadable_unit, is_equals}
 use Rattle.mk_class.specs.CutTexts.{cut_text, head, is_in_head, is_no_hash}
@@ -34,8 +34,8 @@ use Rattle.mk_class.specs.Classes.Class.{Header as HeaderLine}
 use Rattle.mk_class.specs.RecipePrefix.{is_prefix_led}
 use Rattle.mk_class.specs.Contexts.{Context}
 use Rattle.mk_class.specs.ClassTable.{class_of, directive, plain_class, undefined_class, is_all_blanks, is_unreadable, rule_class, header_class, separated_class, assign_class, or_class}
-use Rattle.mk_class.specs.declared.context.Flag.{Flag}
-use Rattle.mk_class.specs.declared.context.Flag.TheVariants.{Off, Rule, Unknown}
+use Rattle.mk_class.specs.declared.context.RuleFlag.{RuleFlag}
+use Rattle.mk_class.specs.declared.context.RuleFlag.TheVariants.{Off, Rule, Unknown}
 use Rattle.mk_class.proofs.on_assignments.ValueLemmas.{clean-no_stray}
 use Rattle.mk_tree.specs.Items.{header_item}
 use Rattle.mk_tree.specs.Items as item
@@ -46,7 +46,7 @@ use Rattle.mk_edit_laws.specs.declared.edit.Colons.{Colons}
 use Rattle.mk_edit_laws.specs.declared.edit.Colons.TheVariants.{One, Two}
 use Rattle.mk_edit_laws.proofs.on_lines.HeadWords.{last-more}
 use Rattle.mk_edit_laws.proofs.on_lines.DirectiveWords.{not_one_of, not_reserved-keyword}
-use Rattle.mk_edit_laws.proofs.on_prerequisites.NewWords.{is_rule_unit, rule_units-bland, cell_units, cell_units-text, IsNewWord, target-no_ampersand}
+use Rattle.mk_edit_laws.proofs.on_prerequisites.NewWords.{is_rule_unit, rule_units-are, cell_units, cell_units-text, IsNewWord, target-no_ampersand}
 
 -- a text that a line may have: no LF, CR or NUL, and no backslash last
 pub record IsLineText (x : List ℕ) : Type 0 where
@@ -222,8 +222,8 @@ rule-fits : (t : List ℕ) (ts : List (List ℕ)) (c : Colons) (ws : List (List 
 rule-fits t ts c ws W =
     let X = token_units (target_tokens t ts) in
     let N = token_units (spaced_tokens ws) in
-    let x = rule_units-bland joined_byte X (targets-rule_units t ts W.first W.others) in
-    let n = rule_units-bland joined_byte N (spaced-rule_units ws W.prereqs) in
+    let x = rule_units-are joined_byte X (targets-rule_units t ts W.first W.others) in
+    let n = rule_units-are joined_byte N (spaced-rule_units ws W.prereqs) in
     record {
       in_head = three-each (is_in_head joined_byte) X (colon_units c) N x.in_head (colons-in_head c) n.in_head;
       tail_ends = tt;
@@ -257,8 +257,8 @@ rule-not_rough : (t : List ℕ) (ts : List (List ℕ)) (c : Colons) (ws : List (
 rule-not_rough t ts c ws W =
     let X = token_units (target_tokens t ts) in
     let N = token_units (spaced_tokens ws) in
-    let x = rule_units-bland joined_byte X (targets-rule_units t ts W.first W.others) in
-    let n = rule_units-bland joined_byte N (spaced-rule_units ws W.prereqs) in
+    let x = rule_units-are joined_byte X (targets-rule_units t ts W.first W.others) in
+    let n = rule_units-are joined_byte N (spaced-rule_units ws W.prereqs) in
     let test : List Cell → Bool = λ u. is_equals joined_byte u || is_unreadable_unit joined_byte u in
     let readable : list_any test (X ++ (colon_units c ++ (N ++ []))) ≡ false =
     any-append test X (colon_units c ++ (N ++ [])) x.readable (any-append test (colon_units c) (N ++ []) (colons c) (any-append test N [] n.readable refl)) in
@@ -367,8 +367,8 @@ rule-plain_class t ts c ws d cs W r =
     let N = token_units (spaced_tokens ws) in
     let us = rule_units_of t ts c ws in
     let h = new_rule t ts c ws in
-    let x = rule_units-bland joined_byte X (targets-rule_units t ts W.first W.others) in
-    let n = rule_units-bland joined_byte N (spaced-rule_units ws W.prereqs) in
+    let x = rule_units-are joined_byte X (targets-rule_units t ts W.first W.others) in
+    let n = rule_units-are joined_byte N (spaced-rule_units ws W.prereqs) in
     let F = rule-fits t ts c ws W in
     let cut : cut_text joined_byte us ≡ us =
     ap (leading (is_no_hash joined_byte)) (sym (append-nil us)) ∙ leading-append_all (is_no_hash joined_byte) us [] (three-each (is_no_hash joined_byte) X (colon_units c) N x.no_hash (colons-no_hash c) n.no_hash) tt in
@@ -437,7 +437,7 @@ led-longer p (b ∷ t) x y h = refl
 outside : (c : Context) (l : List ℕ) (k : Class Cell) → c.defines ≡ 0 → is_prefix_led c.prefix l ≡ false → plain_class joined_byte false (nat_lt 0 c.conditionals) (is_unreadable (line_cells l)) (units joined_byte (line_cells l)) ≡ k → class_of c l ≡ k
 outside c l k d p h = rw (d, p) (go c.flag)
   where
-    go : (f : Flag) → undefined_class joined_byte false f (nat_lt 0 c.conditionals) (is_unreadable (line_cells l)) (units joined_byte (line_cells l)) ≡ k
+    go : (f : RuleFlag) → undefined_class joined_byte false f (nat_lt 0 c.conditionals) (is_unreadable (line_cells l)) (units joined_byte (line_cells l)) ≡ k
     go Off = h
     go Rule = h
     go Unknown = h

@@ -11,7 +11,7 @@ use Rattle.mk_lines.specs.Pieces.{Replacement, replaced, old_cells, new_cells, r
 use Rattle.mk_lines.proofs.on_cells.LineCells.{AreLineCells, AreLineCells-none, AreLineCells-left, AreLineCells-right, bytes-are_line_cells}
 use Rattle.mk_lines.proofs.on_units.UnitLemmas.{concat-units}
 use Rattle.mk_lines.specs.Words.{tokens, is_gap}
-use Rattle.mk_class.specs.Lists.{is_empty, first_passes, last_passes}
+use Rattle.mk_class.specs.ListTests.{is_empty, first_passes, last_passes}
 use Rattle.mk_class.specs.Texts.{word_texts}
 use Rattle.mk_class.specs.Headers
 use Rattle.mk_class.specs.Headers.{header_units}
@@ -20,13 +20,13 @@ use Rattle.mk_class.specs.Arguments.{is_target, is_word}
 use Rattle.mk_class.specs.Classes.Class.{Header}
 use Rattle.mk_class.specs.ClassedLines.{ClassedLine, classed_lines}
 use Rattle.mk_tree.specs.LineTexts.{text_of, context_of, StandingLine}
-use Rattle.mk_tree.proofs.on_documents.LinePlaces.{located}
+use Rattle.mk_tree.proofs.on_documents.LinesInText.{line-in_text}
 use Rattle.mk_tree.specs.Items
 use Rattle.mk_tree.specs.Items.{header_item, raw_units}
 use Rattle.mk_tree.specs.Readings.{reading}
 use Rattle.mk_edit_laws.specs.Edits.{AddPrereq}
 use Rattle.mk_edit_laws.specs.WordPieces.{add_pieces, normal_pieces, header_pieces, prerequisite_text, put_last, kept}
-use Rattle.mk_edit_laws.specs.Spans.{word_spans, where_found}
+use Rattle.mk_edit_laws.specs.EditSpans.{word_spans, where_found}
 use Rattle.mk_edit_laws.specs.Refusals.{spans, text_by, text_after}
 use Rattle.mk_edit_laws.specs.Changes.{change, with_header, with_prerequisite}
 use Rattle.mk_edit_laws.proofs.on_edits.Accepted.{accepted, where_holds-none, two-passed}
@@ -174,7 +174,7 @@ normal-line : (t : List ℕ) (A : List ClassedLine) (l : ClassedLine) (B : List 
     → IsLineReplaced (replaced 0 t (replacements (length (text_of A)) (normal_pieces w h))) A B (with_prerequisite false w (header_item h))
 normal-line t A l B h w n e k =
     let c = context_of A in
-    let H = header-here c l.bytes h ((located t A l B e).class ∙ k) in
+    let H = header-here c l.bytes h ((line-in_text t A l B e).class ∙ k) in
     let flag = nat_lt 0 c.conditionals in
     replaced-same _ _ A B _ _ refl (normal-item h w n)
     (header-replaced t A l B h (normal_pieces w h) h.targets (normal_with w h) h.bar h.order_only e k
@@ -252,7 +252,7 @@ order-line : (t : List ℕ) (A : List ClassedLine) (l : ClassedLine) (B : List C
     → IsLineReplaced (replaced 0 t (replacements (length (text_of A)) (header_pieces h (kept h.targets) (kept h.normal) (put_last (32 ∷ w) h.order_only)))) A B (with_prerequisite true w (header_item h))
 order-line t A l B h w n b e k =
     let c = context_of A in
-    let H = header-here c l.bytes h ((located t A l B e).class ∙ k) in
+    let H = header-here c l.bytes h ((line-in_text t A l B e).class ∙ k) in
     let flag = nat_lt 0 c.conditionals in
     replaced-same _ _ A B _ _ refl (order-item h w n)
     (header-replaced t A l B h (header_pieces h (kept h.targets) (kept h.normal) (put_last (32 ∷ w) h.order_only)) h.targets h.normal h.bar (order_with w h) e k
@@ -357,7 +357,7 @@ bar-line : (t : List ℕ) (A : List ClassedLine) (l : ClassedLine) (B : List Cla
     → IsLineReplaced (replaced 0 t (replacements (length (text_of A)) (header_pieces h (kept h.targets) (put_last (codes " | " ++ w) h.normal) (kept h.order_only)))) A B (with_prerequisite true w (header_item h))
 bar-line t A l B h w n b e k =
     let c = context_of A in
-    let H = header-here c l.bytes h ((located t A l B e).class ∙ k) in
+    let H = header-here c l.bytes h ((line-in_text t A l B e).class ∙ k) in
     let flag = nat_lt 0 c.conditionals in
     let z = no_order h.bar h.order_only b H.known.fits.bar_fits in
     replaced-same _ _ A B _ _ refl (bar-item h w n z.1)

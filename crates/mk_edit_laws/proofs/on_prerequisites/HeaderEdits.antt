@@ -15,10 +15,10 @@ use Rattle.mk_class.specs.Contexts.{context_after}
 use Rattle.mk_class.specs.Classes.Class.{Header}
 use Rattle.mk_class.specs.ClassedLines.{ClassedLine, classed_lines}
 use Rattle.mk_tree.specs.LineTexts.{text_of, context_of, bytes_of, StandingLine}
-use Rattle.mk_tree.proofs.on_documents.LinePlaces.{located}
+use Rattle.mk_tree.proofs.on_documents.LinesInText.{line-in_text}
 use Rattle.mk_tree.specs.Items.{Item, items, header_item}
 use Rattle.mk_tree.proofs.on_changes.SpansInLines.{text-pieces_replaced}
-use Rattle.mk_edit_laws.specs.Spans.{word_spans, header_spans}
+use Rattle.mk_edit_laws.specs.EditSpans.{word_spans, header_spans}
 use Rattle.mk_edit_laws.specs.Changes.{with_header, header_items}
 use Rattle.mk_edit_laws.proofs.on_lines.LineReplaced.{IsLineReplaced, replaced-line, replaced-same}
 use Rattle.mk_edit_laws.proofs.on_lines.HeadUnits.{EndsSolid, EndsSolid-after}
@@ -63,7 +63,7 @@ pub header-replaced : (t : List ℕ) (A : List ClassedLine) (l : ClassedLine) (B
     → IsLineReplaced (replaced 0 t (replacements (length (text_of A)) ps)) A B (header_item (with_parts h T N Bar O))
 header-replaced t A l B h ps T N Bar O w k old new f g led =
     let c = context_of A in
-    let L = located t A l B w in
+    let L = line-in_text t A l B w in
     let H = header-here c l.bytes h (L.class ∙ k) in
     let end = line_end_bytes (line_end l.bytes) in
     let W = header-changed c l.bytes (bytes_of B) h T N Bar O H L.one L.ends f g led in

@@ -13,7 +13,7 @@ use Rattle.mk_lines.specs.FirstUnit.{is_unclosed_unit, is_lone_backslash, leaves
 use Rattle.mk_lines.proofs.on_units.FirstUnitLemmas.{is_closed-leaves_open}
 use Rattle.mk_lines.specs.Words.{is_gap, IsWord}
 use Rattle.mk_lines.proofs.on_units.TokenLemmas.{is_gap-map}
-use Rattle.mk_class.specs.Lists.{is_empty, last_passes}
+use Rattle.mk_class.specs.ListTests.{is_empty, last_passes}
 use Rattle.mk_class.proofs.on_symbols.ListMaps.{last_passes-map}
 use Rattle.mk_class.specs.Symbols.{Symbol, symbol, is_equals, is_ampersand, is_ampersand_symbol, is_hash_symbol, is_colon_symbol, is_equals_symbol, is_bar_symbol, is_unreadable_unit, is_escape, is_dollar_before_blank}
 use Rattle.mk_class.specs.Symbols.Symbol.{Hash, Colon, Semicolon, Equals, Plus, Question, Exclamation, Bar, Ampersand, NoSymbol}
@@ -35,28 +35,28 @@ abbrev pub is_rule_unit : {A : Type 0} → (A → ℕ) → List A → Bool
 is_rule_unit byte u = not (ends_word_symbol (symbol byte u) || is_unreadable_unit byte u)
 
 -- what is known of a symbol that does not end a word
-record IsBland (s : Symbol) : Type 0 where
+record EndsNoWord (s : Symbol) : Type 0 where
   hash : is_hash_symbol s ≡ false
   colon : is_colon_symbol s ≡ false
   equals : is_equals_symbol s ≡ false
   bar : is_bar_symbol s ≡ false
   head_end : is_head_end_symbol s ≡ false
 
-bland : (s : Symbol) → ends_word_symbol s ≡ false → IsBland s
-bland Hash h = absurd (cc)
-bland Colon h = absurd (cc)
-bland Semicolon h = absurd (cc)
-bland Equals h = absurd (cc)
-bland Bar h = absurd (cc)
-bland Plus h = record { hash = refl; colon = refl; equals = refl; bar = refl; head_end = refl }
-bland Question h = record { hash = refl; colon = refl; equals = refl; bar = refl; head_end = refl }
-bland Exclamation h = record { hash = refl; colon = refl; equals = refl; bar = refl; head_end = refl }
-bland Ampersand h = record { hash = refl; colon = refl; equals = refl; bar = refl; head_end = refl }
-bland NoSymbol h = record { hash = refl; colon = refl; equals = refl; bar = refl; head_end = refl }
+ends-no_word : (s : Symbol) → ends_word_symbol s ≡ false → EndsNoWord s
+ends-no_word Hash h = absurd (cc)
+ends-no_word Colon h = absurd (cc)
+ends-no_word Semicolon h = absurd (cc)
+ends-no_word Equals h = absurd (cc)
+ends-no_word Bar h = absurd (cc)
+ends-no_word Plus h = record { hash = refl; colon = refl; equals = refl; bar = refl; head_end = refl }
+ends-no_word Question h = record { hash = refl; colon = refl; equals = refl; bar = refl; head_end = refl }
+ends-no_word Exclamation h = record { hash = refl; colon = refl; equals = refl; bar = refl; head_end = refl }
+ends-no_word Ampersand h = record { hash = refl; colon = refl; equals = refl; bar = refl; head_end = refl }
+ends-no_word NoSymbol h = record { hash = refl; colon = refl; equals = refl; bar = refl; head_end = refl }
 
 module _ {A : Type 0} (byte : A → ℕ) where
-  -- what such units are
-  pub record AreBland (us : List (List A)) : Type 0 where
+  -- what units of a new rule are
+  pub record AreRuleUnits (us : List (List A)) : Type 0 where
     pub in_head : Each (is_in_head byte) us
     pub no_hash : Each (is_no_hash byte) us
     pub no_colon : Each (is_no_colon byte) us
@@ -64,12 +64,12 @@ module _ {A : Type 0} (byte : A → ℕ) where
     pub no_bar : Each (is_no_bar byte) us
     pub readable : list_any (λ u. is_equals byte u || is_unreadable_unit byte u) us ≡ false
 
-  pub rule_units-bland : (us : List (List A)) → Each (is_rule_unit byte) us → AreBland us
-  rule_units-bland [] h = record { in_head = tt; no_hash = tt; no_colon = tt; no_equals = tt; no_bar = tt; readable = refl }
-  rule_units-bland (u ∷ us) h =
-      let r = rule_units-bland us h.1 in
+  pub rule_units-are : (us : List (List A)) → Each (is_rule_unit byte) us → AreRuleUnits us
+  rule_units-are [] h = record { in_head = tt; no_hash = tt; no_colon = tt; no_equals = tt; no_bar = tt; readable = refl }
+  rule_units-are (u ∷ us) h =
+      let r = rule_units-are us h.1 in
       let p = or_parts (ends_word_symbol (symbol byte u)) (is_unreadable_unit byte u) (not-true _ h.0) in
-      let b = bland (symbol byte u) p.0 in
+      let b = ends-no_word (symbol byte u) p.0 in
       record {
         in_head = (ap not b.head_end, r.in_head);
         no_hash = (ap not b.hash, r.no_hash);
@@ -164,7 +164,7 @@ word-is_new w h =
     let us : Each (is_word_unit joined_byte) (cell_units w) =
     subst (Each (is_word_unit joined_byte)) (sym (cell_units-are w)) (word_units-cells (units (λ b. b) w) (word_units (units (λ b. b) w) (not-true _ c.1) ends)) in
     let rs : Each (is_rule_unit joined_byte) (cell_units w) = rule_units (cell_units w) us in
-    let B = rule_units-bland joined_byte (cell_units w) rs in
+    let B = rule_units-are joined_byte (cell_units w) rs in
     let word : IsWord joined_byte (cell_units w) = no_gaps-word (cell_units w) us (filled-units w (not-true _ a.0)) in
     let again : units joined_byte (concat (cell_units w ++ [])) ≡ cell_units w ++ [] =
     ap (λ z. units joined_byte (concat z)) (append-nil (cell_units w)) ∙ (ap (units joined_byte) (concat-cell_units w) ∙ sym (append-nil (cell_units w))) in

@@ -9,20 +9,20 @@ use Rattle.mk_lines.specs.Pieces.{Replacement, replaced, old_cells, new_cells, r
 use Rattle.mk_lines.proofs.on_cells.LineCells.{AreLineCells}
 use Rattle.mk_lines.specs.Words.{tokens, token_words, token_units, is_word_first, is_gap}
 use Rattle.mk_lines.proofs.on_units.TokenLemmas.{token_text, token_units-tokens, token_text-tokens, tokens-are_tokens, tokens-token_units}
-use Rattle.mk_class.specs.Lists.{first_passes, last_passes}
+use Rattle.mk_class.specs.ListTests.{first_passes, last_passes}
 use Rattle.mk_class.specs.Texts.{word_texts}
 use Rattle.mk_class.specs.Headers
 use Rattle.mk_class.specs.Headers.{header_units}
 use Rattle.mk_class.specs.Classes.Class.{Header}
 use Rattle.mk_class.specs.ClassedLines.{ClassedLine, classed_lines}
 use Rattle.mk_tree.specs.LineTexts.{text_of, context_of, StandingLine}
-use Rattle.mk_tree.proofs.on_documents.LinePlaces.{located}
+use Rattle.mk_tree.proofs.on_documents.LinesInText.{line-in_text}
 use Rattle.mk_tree.specs.Items
 use Rattle.mk_tree.specs.Items.{header_item, raw_units}
 use Rattle.mk_tree.specs.Readings.{reading}
 use Rattle.mk_edit_laws.specs.Edits.{RemovePrereq}
 use Rattle.mk_edit_laws.specs.WordPieces.{removed_words, remove_pieces, kept}
-use Rattle.mk_edit_laws.specs.Spans.{word_spans, where_found}
+use Rattle.mk_edit_laws.specs.EditSpans.{word_spans, where_found}
 use Rattle.mk_edit_laws.specs.Refusals.{spans, text_by, text_after}
 use Rattle.mk_edit_laws.specs.Changes.{change, with_header, without_prerequisite, without_word}
 use Rattle.mk_edit_laws.proofs.on_edits.Accepted.{accepted, where_holds-none}
@@ -141,7 +141,7 @@ pub remove_prereq-line : (t : List ℕ) (A : List ClassedLine) (l : ClassedLine)
     → IsLineReplaced (replaced 0 t (replacements (length (text_of A)) (remove_pieces w h))) A B (without_prerequisite w (header_item h))
 remove_prereq-line t A l B h w e k =
     let c = context_of A in
-    let H = header-here c l.bytes h ((located t A l B e).class ∙ k) in
+    let H = header-here c l.bytes h ((line-in_text t A l B e).class ∙ k) in
     let cond = nat_lt 0 c.conditionals in
     replaced-same _ _ A B _ _ refl (removed-item h w)
     (header-replaced t A l B h (remove_pieces w h) h.targets (removed_units w h.normal) h.bar (removed_units w h.order_only) e k

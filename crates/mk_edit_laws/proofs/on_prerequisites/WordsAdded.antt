@@ -19,7 +19,7 @@ use Rattle.mk_edit_laws.proofs.on_lines.HeadUnits.{AllAre, AllAre-append, AllAre
 use Rattle.mk_edit_laws.proofs.on_lines.LineTails.{EndsAs, EndsEmpty, EndsAs-after}
 use Rattle.mk_edit_laws.proofs.on_lines.HeadWords.{gap-ends, word-solid}
 use Rattle.mk_edit_laws.proofs.on_lines.HeaderParts.{IsPartUnit, part-head, parts-of, no-each}
-use Rattle.mk_edit_laws.proofs.on_prerequisites.NewWords.{IsNewWord, cell_units, cell_units-text, rule_units-bland}
+use Rattle.mk_edit_laws.proofs.on_prerequisites.NewWords.{IsNewWord, cell_units, cell_units-text, rule_units-are}
 
 -- ---- gaps
 
@@ -121,7 +121,7 @@ space-part = record { head = record { whole = refl; closed = refl; no_stray = re
 -- the units of a new word
 pub word-parts : (w : List ℕ) → IsNewWord w → AllAre IsPartUnit (cell_units w)
 word-parts w h =
-    let B = rule_units-bland joined_byte (cell_units w) h.units in
+    let B = rule_units-are joined_byte (cell_units w) h.units in
     let e : concat (cell_units w) ≡ map Byte w = concat-units joined_byte (map Byte w) in
     let n = append-nil (cell_units w) in
     let again : units joined_byte (concat (cell_units w ++ [])) ≡ cell_units w ++ [] = ap (λ z. units joined_byte (concat z)) n ∙ (ap (units joined_byte) e ∙ sym n) in

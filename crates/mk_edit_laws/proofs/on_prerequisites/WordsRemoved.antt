@@ -8,7 +8,7 @@ use Rattle.mk_lines.specs.Pieces.{Keep, Replace, old_cells, new_cells}
 use Rattle.mk_lines.proofs.on_cells.LineCells.{AreLineCells, AreLineCells-left, AreLineCells-right}
 use Rattle.mk_lines.specs.Words.{Token, Gap, Word, token_words, token_units, is_word_first, is_gap, IsWord, AreTokens}
 use Rattle.mk_lines.proofs.on_units.TokenLemmas.{token_text}
-use Rattle.mk_class.specs.Lists.{last_passes}
+use Rattle.mk_class.specs.ListTests.{last_passes}
 use Rattle.mk_edit_laws.specs.WordPieces.{is_word_of, removed_tokens}
 use Rattle.mk_edit_laws.specs.Changes.{without_word}
 use Rattle.mk_edit_laws.proofs.on_lines.HeadUnits.{AllAre, AllAre-append, AllAre-left, AllAre-right, IsHeadUnit, line_cells-after_solid, EndsSolid, EndsSolid-after}

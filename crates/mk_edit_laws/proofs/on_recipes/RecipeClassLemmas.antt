@@ -16,8 +16,8 @@ use Rattle.mk_class.specs.Classes.Class.{Opaque, Blank, Comment, Rough, Header}
 use Rattle.mk_class.specs.RecipePrefix.{is_prefix_led}
 use Rattle.mk_class.specs.Contexts.{Context}
 use Rattle.mk_class.specs.ClassTable.{class_of, class_at, define_class, header_class, target_class, rule_class, assign_class, or_class, is_all_blanks, is_unreadable, plain_class, directive}
-use Rattle.mk_class.specs.declared.context.Flag.{Flag}
-use Rattle.mk_class.specs.declared.context.Flag.TheVariants.{Off, Rule, Unknown}
+use Rattle.mk_class.specs.declared.context.RuleFlag.{RuleFlag}
+use Rattle.mk_class.specs.declared.context.RuleFlag.TheVariants.{Off, Rule, Unknown}
 
 not_recipe-cond : (b : Bool) (x y : Class Cell) → is_recipe x ≡ false → is_recipe y ≡ false → is_recipe (cond b x y) ≡ false
 not_recipe-cond true x y h k = h
@@ -59,18 +59,18 @@ not_recipe-plain led c cs us =
     not_recipe-cond (led || not (has_colon joined_byte (head joined_byte us))) Opaque (rule_class joined_byte us) refl (not_recipe-rule us)))))
 
 -- what a line of class Recipe says of its context
-pub record StandsInRule (led : Bool) (defines : ℕ) (f : Flag) : Type 0 where
+pub record StandsInRule (led : Bool) (defines : ℕ) (f : RuleFlag) : Type 0 where
   pub is_led : led ≡ true
   pub no_define : defines ≡ 0
   pub in_rule : f ≡ Rule
 
-at-recipe : (led : Bool) (n : ℕ) (f : Flag) (c : Bool) (cs : List Cell) (us : List (List Cell)) → is_recipe (class_at joined_byte led n f c (is_unreadable cs) us) ≡ true → StandsInRule led n f
+at-recipe : (led : Bool) (n : ℕ) (f : RuleFlag) (c : Bool) (cs : List Cell) (us : List (List Cell)) → is_recipe (class_at joined_byte led n f c (is_unreadable cs) us) ≡ true → StandsInRule led n f
 at-recipe true zero Rule c cs us h = record { is_led = refl; no_define = refl; in_rule = refl }
 at-recipe true zero Unknown c cs us h = absurd (cc)
 at-recipe true zero Off c cs us h = absurd (let e : true ≡ false = sym h ∙ not_recipe-plain true c cs us in cc)
 at-recipe false zero f c cs us h = absurd (plain f h)
   where
-    plain : (f : Flag) → is_recipe (class_at joined_byte false zero f c (is_unreadable cs) us) ≡ true → ⊥
+    plain : (f : RuleFlag) → is_recipe (class_at joined_byte false zero f c (is_unreadable cs) us) ≡ true → ⊥
     plain Off h = let e : true ≡ false = sym h ∙ not_recipe-plain false c cs us in cc
     plain Rule h = let e : true ≡ false = sym h ∙ not_recipe-plain false c cs us in cc
     plain Unknown h = let e : true ≡ false = sym h ∙ not_recipe-plain false c cs us in cc

@@ -21,19 +21,19 @@ use Rattle.mk_lines.specs.Pieces.{Replacement, replaced}
 use Rattle.mk_lines.specs.declared.ends.End.{End}
 use Rattle.mk_lines.specs.declared.ends.End.TheVariants as ends
 use Rattle.mk_lines.proofs.on_lists.BoolLemmas.{or-left_false}
-use Rattle.mk_class.specs.Lists.{last_passes}
+use Rattle.mk_class.specs.ListTests.{last_passes}
 use Rattle.mk_class.specs.RecipePrefix.{is_prefix_led}
 use Rattle.mk_class.specs.Arguments.{is_barred_byte, is_backslash_byte, is_clean, is_command, is_target}
 use Rattle.mk_class.specs.Classes.{Class, is_recipe}
 use Rattle.mk_class.specs.Contexts.{Context, context_after}
 use Rattle.mk_class.specs.ClassTable.{is_unreadable, class_of, class_at}
 use Rattle.mk_class.specs.ClassedLines.{classed_lines, context_after_lines}
-use Rattle.mk_class.specs.declared.context.Flag.TheVariants as flag
+use Rattle.mk_class.specs.declared.context.RuleFlag.TheVariants as flag
 use Rattle.mk_tree.specs.Documents.{text_of, context_of}
 use Rattle.mk_tree.specs.Items.{items, Recipe}
 use Rattle.mk_tree.specs.Readings.{reading}
 use Rattle.mk_tree.specs.RecipeLines.{recipe_run, after_recipe}
-use Rattle.mk_tree.proofs.on_documents.LinePlaces.{located, bytes_of, located-run, context_of-append}
+use Rattle.mk_tree.proofs.on_documents.LinesInText.{line-in_text, bytes_of, run-in_text, context_of-append}
 use Rattle.mk_tree.proofs.on_changes.NewLineLemmas.{file_line_end-some, new_line-clean, clean-no_line_end}
 use Rattle.mk_tree.proofs.on_changes.SpansInLines.{text-span_replaced}
 use Rattle.mk_tree.proofs.on_changes.RecipeRunLemmas.{rule-context, recipe_run-after, recipe_run-stays, recipe-agrees}
@@ -41,7 +41,7 @@ use Rattle.mk_tree.specs.LineTexts.{StandingLine}
 use Rattle.mk_edit_laws.specs.Edits.{Edit, AddRecipe, SetRecipe}
 use Rattle.mk_edit_laws.specs.Stretches.{Stretch, after_rule, insertion}
 use Rattle.mk_edit_laws.specs.NewLines.{new_line_span}
-use Rattle.mk_edit_laws.specs.Spans.{where_found, recipe_span}
+use Rattle.mk_edit_laws.specs.EditSpans.{where_found, recipe_span}
 use Rattle.mk_edit_laws.specs.LineCauses.{follows_open_line, new_line_leans}
 use Rattle.mk_edit_laws.specs.Refusals.{spans, text_by, text_after}
 use Rattle.mk_edit_laws.specs.Changes.{change, with_item, with_items}
@@ -104,11 +104,11 @@ add_recipe-stands nth g c t rs h =
     let E = file_line_end t in
     let whole : classed_lines t ≡ above ++ below =
     F.whole ∙ (ap (λ z. s.above ++ s.line ∷ z) (sym (recipe_run-after s.below)) ∙ sym (append_assoc s.above (s.line ∷ R) below)) in
-    let rule = rule-context (context_of s.above) s.line F.header R (located t s.above s.line s.below F.whole).class F.class_is (recipe_run-stays s.below) in
+    let rule = rule-context (context_of s.above) s.line F.header R (line-in_text t s.above s.line s.below F.whole).class F.class_is (recipe_run-stays s.below) in
     let same : C ≡ context_after_lines (context_of s.above) (s.line ∷ R) = context_of-append s.above (s.line ∷ R) in
     let f : C.flag ≡ flag.Rule = ap (λ z. z.flag) same ∙ rule.flag in
     let d : C.defines ≡ 0 = ap (λ z. z.defines) same ∙ rule.no_define in
-    let can : CanBegin C.prefix = context-can_begin above (located-run t above [] below whole).above_classed in
+    let can : CanBegin C.prefix = context-can_begin above (run-in_text t above [] below whole).above_classed in
     let text = C.prefix ∷ c in
     record {
       stretch = after_rule s;
@@ -190,7 +190,7 @@ pub set_recipe-line : (t : List ℕ) (s : StandingLine) (c : List ℕ) → class
 set_recipe-line t s c w r k =
     let C = context_of s.above in
     let l = s.line.bytes in
-    let L = located t s.above s.line s.below w in
+    let L = line-in_text t s.above s.line s.below w in
     let can : CanBegin C.prefix = context-can_begin s.above L.above_classed in
     let R = recipe-text C l (ap is_recipe L.class ∙ r) can in
     let p = C.prefix in

@@ -14,14 +14,14 @@ use Rattle.mk_class.specs.ClassedLines.{ClassedLine, classed_lines, context_afte
 use Rattle.mk_tree.specs.Documents.{context_of}
 use Rattle.mk_tree.specs.RecipeLines.{stays_in_rule, recipe_run, after_recipe}
 use Rattle.mk_tree.specs.Readings.{reading}
-use Rattle.mk_tree.proofs.on_documents.LinePlaces.{context_of-last, context_of-append}
+use Rattle.mk_tree.proofs.on_documents.LinesInText.{context_of-last, context_of-append}
 use Rattle.mk_tree.proofs.on_changes.RecipeRunLemmas.{recipe_run-after, recipe_run-stays}
 use Rattle.mk_tree.specs.Leaning.{AgreeButForFlag}
 use Rattle.mk_tree.proofs.on_changes.LeaningLemmas.{agrees-self, agrees-then}
 use Rattle.mk_tree.specs.LineTexts.{StandingLine}
 use Rattle.mk_edit_laws.specs.Edits.{Edit, SetValue, AppendValue, AddAssign, RemoveAssign, AddRule, RemoveRule, AddPrereq, RemovePrereq, AddRecipe, SetRecipe, RemoveRecipe, RenameTarget}
 use Rattle.mk_edit_laws.specs.Stretches.{Stretch, removal, this_line, whole_rule}
-use Rattle.mk_edit_laws.specs.Spans.{removed_span, where_found}
+use Rattle.mk_edit_laws.specs.EditSpans.{removed_span, where_found}
 use Rattle.mk_edit_laws.specs.RuleCauses.{has_conditional}
 use Rattle.mk_edit_laws.specs.LineCauses.{removal_leans}
 use Rattle.mk_edit_laws.specs.Refusals.{spans, text_by, text_after}

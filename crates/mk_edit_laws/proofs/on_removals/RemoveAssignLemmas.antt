@@ -9,14 +9,14 @@ use Rattle.mk_class.specs.Classes.Class.{Assign}
 use Rattle.mk_class.specs.ClassedLines.{ClassedLine, classed_lines}
 use Rattle.mk_tree.specs.Documents.{context_of}
 use Rattle.mk_tree.specs.Readings.{reading}
-use Rattle.mk_tree.proofs.on_documents.LinePlaces.{context_of-last, reading-two}
+use Rattle.mk_tree.proofs.on_documents.LinesInText.{context_of-last, reading-two}
 use Rattle.mk_tree.specs.Leaning.{leans, AgreeButForFlag}
 use Rattle.mk_tree.proofs.on_changes.RunsReplaced.{text-run_replaced, run-removed}
 use Rattle.mk_tree.specs.LineTexts.{StandingLine}
 use Rattle.mk_edit_laws.specs.Edits.{RemoveAssign}
 use Rattle.mk_edit_laws.specs.Addresses.{Variable, found}
 use Rattle.mk_edit_laws.specs.Stretches.{Stretch, this_line}
-use Rattle.mk_edit_laws.specs.Spans.{removed_span, where_found}
+use Rattle.mk_edit_laws.specs.EditSpans.{removed_span, where_found}
 use Rattle.mk_edit_laws.specs.LineCauses.{removal_leans}
 use Rattle.mk_edit_laws.specs.Refusals.{spans, text_by, text_after}
 use Rattle.mk_edit_laws.specs.Changes.{change, without_items}

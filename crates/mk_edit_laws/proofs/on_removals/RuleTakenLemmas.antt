@@ -10,7 +10,7 @@ use Rattle.mk_lines.proofs.on_lists.ListLemmas.{trailing-each, after_leading-fir
 use Rattle.mk_lines.specs.PhysicalLines.{without_line_end}
 use Rattle.mk_lines.specs.Cells.{Cell, joined_byte}
 use Rattle.mk_lines.specs.Pieces.{Replacement}
-use Rattle.mk_class.specs.Lists.{first_passes}
+use Rattle.mk_class.specs.ListTests.{first_passes}
 use Rattle.mk_class.specs.Texts.{is_one_of, word_texts}
 use Rattle.mk_class.specs.Classes.{Class, is_conditional, is_recipe}
 use Rattle.mk_class.specs.Classes.Class.{Endef, Body, Recipe, Opaque, Blank, Comment, Assign, DefineHead, If, Else, Endif, Directive, TargetAssign, Rough, Header}
@@ -20,7 +20,7 @@ use Rattle.mk_tree.specs.RecipeLines.{stays_in_rule, ends_rule, rule_lines, reci
 use Rattle.mk_tree.proofs.on_changes.RecipeRunLemmas.{recipe_run-after, recipe_run-stays}
 use Rattle.mk_tree.specs.Items
 use Rattle.mk_tree.specs.Items.{items, items_of_line, header_item}
-use Rattle.mk_tree.proofs.on_documents.LinePlaces.{items-append}
+use Rattle.mk_tree.proofs.on_documents.LinesInText.{items-append}
 use Rattle.mk_tree.specs.LineTexts.{StandingLine}
 use Rattle.mk_edit_laws.specs.Edits.{RemoveRule}
 use Rattle.mk_edit_laws.specs.Addresses.{Rule, is_rule_for, found}

@@ -4,7 +4,7 @@ use Rattle.std.proofs.lemmas.Bool.{and_parts, or_parts, not-true}
 use Rattle.std.specs.Prelude.{Ok}
 use Rattle.mk_lines.specs.Pieces.{Replacement, replaced}
 use Rattle.mk_lines.specs.Cells.{Cell}
-use Rattle.mk_class.specs.Lists.{last_passes}
+use Rattle.mk_class.specs.ListTests.{last_passes}
 use Rattle.mk_class.specs.Keywords.{is_reserved_word}
 use Rattle.mk_class.specs.Classes.{Class}
 use Rattle.mk_class.specs.Arguments.{is_word, is_target, is_ampersand_byte}

@@ -13,7 +13,7 @@ use Rattle.mk_lines.proofs.on_cells.LineCells.{AreLineCells}
 use Rattle.mk_lines.proofs.on_lines.LineLemmas.{OneLine, EndsBefore}
 use Rattle.mk_lines.specs.Words.{tokens, token_words, token_units, IsWord}
 use Rattle.mk_lines.proofs.on_units.TokenLemmas.{token_text, token_units-tokens, token_text-tokens, tokens-are_tokens, tokens-token_units}
-use Rattle.mk_class.specs.Lists.{first_passes, last_passes}
+use Rattle.mk_class.specs.ListTests.{first_passes, last_passes}
 use Rattle.mk_class.specs.Texts.{word_texts}
 use Rattle.mk_class.specs.Symbols.{is_colon, is_ampersand}
 use Rattle.mk_class.specs.Headers

@@ -21,7 +21,7 @@ use Rattle.mk_lines.specs.Words.{Token, Gap, Word, tokens, token_units, AreToken
 use Rattle.mk_lines.proofs.on_units.TokenLemmas.{token_text, token_units-tokens, token_text-tokens, tokens-are_tokens}
 use Rattle.mk_lines.proofs.on_lists.BoolLemmas.{or-left_false}
 use Rattle.mk_lines.proofs.on_cells.CellsReplaced.{not_empty-append}
-use Rattle.mk_class.specs.Lists.{is_empty, last_passes}
+use Rattle.mk_class.specs.ListTests.{is_empty, last_passes}
 use Rattle.mk_class.specs.Texts.{word_texts}
 use Rattle.mk_class.specs.Symbols.{is_colon, is_ampersand}
 use Rattle.mk_class.specs.CutTexts.{is_in_head, is_no_hash}
@@ -43,7 +43,7 @@ use Rattle.mk_edit_laws.proofs.on_lines.HeadUnits.{line_cells-before_solid}
 use Rattle.mk_edit_laws.proofs.on_lines.HeadWords.{concat-token_units}
 use Rattle.mk_edit_laws.proofs.on_lines.DirectiveWords.{alike-say_same, same-no_directive}
 use Rattle.mk_edit_laws.proofs.on_lines.HeaderParts.{colon-is, colons-begin}
-use Rattle.mk_edit_laws.proofs.on_prerequisites.NewWords.{IsNewWord, cell_units, rule_units-bland}
+use Rattle.mk_edit_laws.proofs.on_prerequisites.NewWords.{IsNewWord, cell_units, rule_units-are}
 use Rattle.mk_edit_laws.proofs.on_renames.WordsRenamed.{tokens_renamed, renamed_word, renamed-are_tokens, renamed-alike}
 use Rattle.mk_edit_laws.proofs.on_renames.RenamedHeaders.{IsNewTarget, renamed_units, renamed-cells, renamed-last_ampersand, renamed-old, renamed-new, and-right, and-of, none-replaced, renamed-not_led}
 use Rattle.mk_edit_laws.proofs.on_renames.RenamedTexts.{AreRenamed, targets_renamed}
@@ -73,7 +73,7 @@ renamed-fit o n new i j c cs a p =
     let T = a.targets in
     let ts = tokens joined_byte T in
     let F = p.first ∷ p.rest in
-    let B = rule_units-bland joined_byte (cell_units n) new.word.units in
+    let B = rule_units-are joined_byte (cell_units n) new.word.units in
     let same : token_units ts ≡ T = token_units-tokens joined_byte T in
     let are : AreTokens joined_byte ts = tokens-are_tokens joined_byte T in
     let names = old-names o i ts cs (p.first ∷ (p.rest ++ p.tail)) (p.units_are ∙ ap (λ z. z ++ (p.first ∷ (p.rest ++ p.tail))) (sym same)) in

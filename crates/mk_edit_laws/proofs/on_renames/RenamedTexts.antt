@@ -23,7 +23,7 @@ use Rattle.mk_tree.specs.EachReplaced.{ReplacesLine, ReplaceEach}
 use Rattle.mk_tree.proofs.on_changes.EachReplacedLemmas.{EachInContext, replace-each, lines-in_place, with_pieces, all_pieces-replaced}
 use Rattle.mk_edit_laws.specs.AddressCauses.{begins_renamed_line, begins_some_renamed_line}
 use Rattle.mk_edit_laws.specs.WordPieces.{renamed_pieces}
-use Rattle.mk_edit_laws.specs.Spans.{renamed_spans}
+use Rattle.mk_edit_laws.specs.EditSpans.{renamed_spans}
 use Rattle.mk_edit_laws.specs.Changes.{renamed_item}
 use Rattle.mk_edit_laws.proofs.on_lines.HeaderChanges.{header-here}
 use Rattle.mk_edit_laws.proofs.on_renames.RenamedHeaders.{IsNewTarget, renamed_units, renamed-texts, header_renamed, rename-pieces_old, rename-pieces_new, rename-item, renamed-header}

@@ -9,7 +9,7 @@ use Rattle.mk_lines.specs.Lists.{Each}
 use Rattle.mk_lines.specs.Cells.{Cell, joined_byte}
 use Rattle.mk_lines.specs.Words.{Token, Gap, Word, tokens, before_tokens, token_units, is_word_first, is_gap, IsWord, AreTokens}
 use Rattle.mk_lines.proofs.on_units.TokenLemmas.{tokens-word, token_units-tokens}
-use Rattle.mk_class.specs.Lists.{until, from, is_empty}
+use Rattle.mk_class.specs.ListTests.{until, from, is_empty}
 use Rattle.mk_class.specs.Texts.{unit_text}
 use Rattle.mk_class.specs.Symbols.{Symbol, symbol, is_colon_symbol}
 use Rattle.mk_class.specs.Symbols.Symbol.{Hash, Colon, Semicolon, Equals, Plus, Question, Exclamation, Bar, Ampersand, NoSymbol}
@@ -207,11 +207,11 @@ no_modifier w h =
     rw (a.0, b.0, c.0) refl
 
 -- what follows the last of some targets, where that is a word, is a `:`
-abbrev pub Sealed : List (Token Cell) → List (List Cell) → Type 0
-Sealed [] R = Unit {0}
-Sealed (Gap u ∷ ts) R = Sealed ts R
-Sealed (Word w ∷ []) R = (c : List Cell) × (r : List (List Cell)) × (R ≡ c ∷ r) × (symbol joined_byte c ≡ Colon)
-Sealed (Word w ∷ t ∷ ts) R = Sealed (t ∷ ts) R
+abbrev pub EndsAtColon : List (Token Cell) → List (List Cell) → Type 0
+EndsAtColon [] R = Unit {0}
+EndsAtColon (Gap u ∷ ts) R = EndsAtColon ts R
+EndsAtColon (Word w ∷ []) R = (c : List Cell) × (r : List (List Cell)) × (R ≡ c ∷ r) × (symbol joined_byte c ≡ Colon)
+EndsAtColon (Word w ∷ t ∷ ts) R = EndsAtColon (t ∷ ts) R
 
 -- the words that are renamed have units that end no name
 abbrev pub OldAreNames : (old : List ℕ) → List (Token Cell) → Type 0
@@ -239,7 +239,7 @@ module _ (o n : List ℕ) (new : IsNewTarget o n) (names : Each is_name_unit (ce
   renamed-name w false h = h
 
   -- what stands after blanks is no operator where it was none
-  operator-none : (ts : List (Token Cell)) (R : List (List Cell)) → AreTokens joined_byte ts → Sealed ts R → flavor_before_equals (front_gap (token_units ts ++ R)) ≡ None
+  operator-none : (ts : List (Token Cell)) (R : List (List Cell)) → AreTokens joined_byte ts → EndsAtColon ts R → flavor_before_equals (front_gap (token_units ts ++ R)) ≡ None
       → flavor_before_equals (front_gap (token_units (tokens_renamed o n ts) ++ R)) ≡ None
   operator-none [] R a s h = h
   operator-none (Gap u ∷ ts) R a s h =
@@ -322,7 +322,7 @@ module _ (o n : List ℕ) (new : IsNewTarget o n) (names : Each is_name_unit (ce
       ∙ ap (λ z. or_front joined_byte (definition_front joined_byte (x ++ z)) (modifier_of joined_byte x) x (front_of joined_byte (tokens joined_byte X))) (token_units-tokens joined_byte X)))
 
   -- What stands before the first `=` is no front where it was none before the rename.
-  pub front-none : (ts : List (Token Cell)) (R : List (List Cell)) → AreTokens joined_byte ts → Sealed ts R → OldAreNames o ts → front_of joined_byte (tokens joined_byte (token_units ts ++ R)) ≡ None
+  pub front-none : (ts : List (Token Cell)) (R : List (List Cell)) → AreTokens joined_byte ts → EndsAtColon ts R → OldAreNames o ts → front_of joined_byte (tokens joined_byte (token_units ts ++ R)) ≡ None
       → front_of joined_byte (tokens joined_byte (token_units (tokens_renamed o n ts) ++ R)) ≡ None
   front-none [] R a s b h = h
   front-none (Gap u ∷ ts) R a s b h =
@@ -365,7 +365,7 @@ module _ (o n : List ℕ) (new : IsNewTarget o n) (names : Each is_name_unit (ce
           let k : flavor_before_equals (front_gap Z) ≡ None → flavor_before_equals (front_gap Z') ≡ None = operator-none ts R a.2.1 (rest ts s) in
           at c e old.0 (λ x q. i (old.1 x q)) k
         where
-          rest : (ts : List (Token Cell)) → Sealed (Gap g ∷ ts) R → Sealed ts R
+          rest : (ts : List (Token Cell)) → EndsAtColon (Gap g ∷ ts) R → EndsAtColon ts R
           rest ts s = s
 
           at : (c : Bool) → is_word_of o w ≡ c → definition_front joined_byte (w ++ g ∷ (token_units ts ++ R)) ≡ None

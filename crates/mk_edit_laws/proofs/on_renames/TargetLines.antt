@@ -4,7 +4,7 @@ use Rattle.std.proofs.lemmas.Bool.{not-true}
 use Rattle.mk_lines.specs.Lists.{Each, FirstFails}
 use Rattle.mk_lines.proofs.on_lists.ListLemmas.{Each-left, Each-right, leading-each, leading-append_all, leading-after_leading, after_leading-first_fails}
 use Rattle.mk_lines.specs.Cells.{Cell, joined_byte}
-use Rattle.mk_class.specs.Lists.{first_passes, last_passes, until, from}
+use Rattle.mk_class.specs.ListTests.{first_passes, last_passes, until, from}
 use Rattle.mk_class.proofs.on_symbols.ListLemmas.{until-from}
 use Rattle.mk_class.specs.Texts.{word_texts}
 use Rattle.mk_class.specs.Symbols.{Symbol, symbol, is_colon, is_ampersand, is_colon_symbol, is_ampersand_symbol}
@@ -19,8 +19,8 @@ use Rattle.mk_class.specs.Classes.Class.{TargetAssign}
 use Rattle.mk_class.specs.Keywords.{first_keyword}
 use Rattle.mk_class.proofs.on_classes.ClassHolds.{Holds, plain_class-holds, said-no_parts}
 use Rattle.mk_class.specs.ClassTable.{class_at, define_class, directive, header_class, target_class, separated_class, rule_class, is_all_blanks, is_unreadable, plain_class}
-use Rattle.mk_class.specs.declared.context.Flag.{Flag}
-use Rattle.mk_class.specs.declared.context.Flag.TheVariants.{Off, Rule, Unknown}
+use Rattle.mk_class.specs.declared.context.RuleFlag.{RuleFlag}
+use Rattle.mk_class.specs.declared.context.RuleFlag.TheVariants.{Off, Rule, Unknown}
 use Rattle.mk_edit_laws.proofs.on_lines.HeaderLines.{any-after, leading-all, colon-filled}
 use Rattle.mk_edit_laws.proofs.on_renames.TargetUnits.{Free, until-free, free-no_colon, separated-targets}
 
@@ -57,12 +57,12 @@ plain_class-target led c cs us a k =
     }
 
 -- an assignment for targets stands outside defines and recipes, and so does each line in its place that begins with the same byte
-pub record IsTargetRead (led : Bool) (defines : ℕ) (f : Flag) (c : Bool) (cs : List Cell) (us : List (List Cell)) (a : Headers.TargetAssignment Cell) : Type 0 where
+pub record IsTargetRead (led : Bool) (defines : ℕ) (f : RuleFlag) (c : Bool) (cs : List Cell) (us : List (List Cell)) (a : Headers.TargetAssignment Cell) : Type 0 where
   pub here : IsTargetLine led c cs us a
   pub also : (cs' : List Cell) (us' : List (List Cell)) → class_at joined_byte led defines f c (is_unreadable cs') us' ≡ plain_class joined_byte led c (is_unreadable cs') us'
 
 -- each line of class TargetAssign stands there
-pub class_at-target : (led : Bool) (n : ℕ) (f : Flag) (c : Bool) (cs : List Cell) (us : List (List Cell)) (a : Headers.TargetAssignment Cell) → class_at joined_byte led n f c (is_unreadable cs) us ≡ TargetAssign a → IsTargetRead led n f c cs us a
+pub class_at-target : (led : Bool) (n : ℕ) (f : RuleFlag) (c : Bool) (cs : List Cell) (us : List (List Cell)) (a : Headers.TargetAssignment Cell) → class_at joined_byte led n f c (is_unreadable cs) us ≡ TargetAssign a → IsTargetRead led n f c cs us a
 class_at-target true (suc n) f c cs us a k = absurd (cc)
 class_at-target false (suc n) f c cs us a k = absurd (said-no_parts (define_class (first_keyword (word_texts joined_byte us)) (suc n)) (TargetAssign a) k refl)
 class_at-target true zero Rule c cs us a k = absurd (cc)

@@ -10,7 +10,7 @@ use Rattle.mk_lines.specs.Cells.{Cell, Byte, joined_byte}
 use Rattle.mk_lines.specs.Units.{units, is_closed}
 use Rattle.mk_lines.proofs.on_units.UnitLemmas.{units-first, units-last, units-map, concat-units}
 use Rattle.mk_lines.specs.Words.{Token, Gap, Word, tokens, token_units, is_word_first, is_gap, AreTokens}
-use Rattle.mk_class.specs.Lists.{is_empty}
+use Rattle.mk_class.specs.ListTests.{is_empty}
 use Rattle.mk_class.specs.Texts.{unit_text}
 use Rattle.mk_class.specs.Symbols.{Symbol, symbol, is_equals_symbol}
 use Rattle.mk_class.specs.Symbols.Symbol.{Hash, Colon, Semicolon, Equals, Plus, Question, Exclamation, Bar, Ampersand, NoSymbol}
@@ -23,10 +23,10 @@ use Rattle.mk_class.proofs.on_assignments.AssignmentEqualsLemmas.{assignment-at_
 use Rattle.std.proofs.lemmas.Slice.Eq.{bytes_eq-Decides}
 use Rattle.mk_edit_laws.specs.WordPieces.{is_word_of}
 use Rattle.mk_edit_laws.proofs.on_lines.HeaderLines.{leading-all}
-use Rattle.mk_edit_laws.proofs.on_prerequisites.NewWords.{cell_units, cell_units-text, rule_units-bland}
+use Rattle.mk_edit_laws.proofs.on_prerequisites.NewWords.{cell_units, cell_units-text, rule_units-are}
 use Rattle.mk_edit_laws.proofs.on_renames.WordsRenamed.{tokens_renamed, renamed_word}
 use Rattle.mk_edit_laws.proofs.on_renames.RenamedHeaders.{IsNewTarget}
-use Rattle.mk_edit_laws.proofs.on_renames.TargetFronts.{is_name_unit, Sealed, OldAreNames, front-none}
+use Rattle.mk_edit_laws.proofs.on_renames.TargetFronts.{is_name_unit, EndsAtColon, OldAreNames, front-none}
 
 -- ---- the units of a word
 
@@ -107,7 +107,7 @@ record FrontPart (o n : List ℕ) (ts : List (Token Cell)) (F : List (List Cell)
   front : List (Token Cell)
   last : List (List Cell)
   are_tokens : AreTokens joined_byte front
-  sealed : Sealed front last
+  ends_at_colon : EndsAtColon front last
   names : OldAreNames o front
   old_is : leading (is_no_equals joined_byte) (token_units ts ++ F) ≡ token_units front ++ last
   new_is : leading (is_no_equals joined_byte) (token_units (tokens_renamed o n ts) ++ F) ≡ token_units (tokens_renamed o n front) ++ last
@@ -128,7 +128,7 @@ module _ (o n : List ℕ) (new : IsNewTarget o n) (x : List Cell) (r : List (Lis
   renamed-no_equals w h = go (is_word_of o w)
     where
       go : (c : Bool) → Each passes (cond c (cell_units n) w)
-      go true = (rule_units-bland joined_byte (cell_units n) new.word.units).no_equals
+      go true = (rule_units-are joined_byte (cell_units n) new.word.units).no_equals
       go false = h
 
   -- units without a `=` stand before what stands before the first
@@ -144,7 +144,7 @@ module _ (o n : List ℕ) (new : IsNewTarget o n) (x : List Cell) (r : List (Lis
     front = [];
     last = leading passes following;
     are_tokens = tt;
-    sealed = tt;
+    ends_at_colon = tt;
     names = tt;
     old_is = refl;
     new_is = refl;
@@ -161,7 +161,7 @@ module _ (o n : List ℕ) (new : IsNewTarget o n) (x : List Cell) (r : List (Lis
         front = Gap u ∷ i.front;
         last = i.last;
         are_tokens = (a.0, i.are_tokens);
-        sealed = i.sealed;
+        ends_at_colon = i.ends_at_colon;
         names = i.names;
         old_is = ap (λ c. cond c (u ∷ leading passes X) []) g ∙ ap (λ z. u ∷ z) i.old_is;
         new_is = ap (λ c. cond c (u ∷ leading passes X') []) g ∙ ap (λ z. u ∷ z) i.new_is;
@@ -171,9 +171,9 @@ module _ (o n : List ℕ) (new : IsNewTarget o n) (x : List Cell) (r : List (Lis
       }
   front-part (Word w ∷ ts) a b = go (after_leading passes w) refl (after_leading-first_fails passes w) (front-part ts a.2 b.1)
     where
-      seal : (f : List (Token Cell)) (L : List (List Cell)) → Sealed f L → (f ≡ [] → BeginsColon L) → Sealed (Word w ∷ f) L
-      seal [] L s c = c refl
-      seal (t ∷ f) L s c = s
+      colon_after : (f : List (Token Cell)) (L : List (List Cell)) → EndsAtColon f L → (f ≡ [] → BeginsColon L) → EndsAtColon (Word w ∷ f) L
+      colon_after [] L s c = c refl
+      colon_after (t ∷ f) L s c = s
 
       whole : (m : List (List Cell)) → after_leading passes w ≡ m → leading passes w ++ m ≡ w
       whole m q = ap (λ z. leading passes w ++ z) (sym q) ∙ leading-after_leading passes w
@@ -207,7 +207,7 @@ module _ (o n : List ℕ) (new : IsNewTarget o n) (x : List Cell) (r : List (Lis
             front = Word w ∷ i.front;
             last = i.last;
             are_tokens = (a.0, i.no_word a.1, i.are_tokens);
-            sealed = seal i.front i.last i.sealed (i.colon a.1);
+            ends_at_colon = colon_after i.front i.last i.ends_at_colon (i.colon a.1);
             names = (b.0, i.names);
             old_is = before-first w U (token_units i.front) i.last each i.old_is;
             new_is = before-first (renamed_word o n w) U' (token_units (tokens_renamed o n i.front)) i.last (renamed-no_equals w each) i.new_is;
@@ -222,7 +222,7 @@ module _ (o n : List ℕ) (new : IsNewTarget o n) (x : List Cell) (r : List (Lis
             front = [];
             last = leading passes w;
             are_tokens = tt;
-            sealed = tt;
+            ends_at_colon = tt;
             names = tt;
             old_is = cut e m U q f;
             new_is = ap (λ c. leading passes ((cond c (cell_units n) w ++ U') ++ following)) (stays e m q f (is_word_of o w) refl) ∙ cut e m U' q f;
@@ -254,5 +254,5 @@ module _ (o n : List ℕ) (new : IsNewTarget o n) (x : List Cell) (r : List (Lis
       go (y ∷ m) q p e =
           let f : front_of joined_byte (tokens joined_byte (leading passes (token_units ts ++ following))) ≡ None =
           no_value (front_of joined_byte (tokens joined_byte (leading passes (token_units ts ++ following)))) y m (sym (ap (assignment_from joined_byte (leading passes (token_units ts ++ following))) q) ∙ e) in
-          let g = front-none o n new names p.front p.last p.are_tokens p.sealed p.names (ap (λ z. front_of joined_byte (tokens joined_byte z)) (sym p.old_is) ∙ f) in
+          let g = front-none o n new names p.front p.last p.are_tokens p.ends_at_colon p.names (ap (λ z. front_of joined_byte (tokens joined_byte z)) (sym p.old_is) ∙ f) in
           no_front (leading passes (token_units (tokens_renamed o n ts) ++ following)) (after_leading passes (token_units (tokens_renamed o n ts) ++ following)) (ap (λ z. front_of joined_byte (tokens joined_byte z)) p.new_is ∙ g)

@@ -10,7 +10,7 @@ use Rattle.mk_lines.specs.Units.{units, is_closed}
 use Rattle.mk_lines.proofs.on_units.UnitLemmas.{concat-units, units-replaced, EndsPlain-append, EndsPlain-closed}
 use Rattle.mk_lines.specs.Words.{Token, Gap, Word, token_units, is_word_first, AreTokens}
 use Rattle.mk_lines.proofs.on_units.TokenLemmas.{token_text}
-use Rattle.mk_class.specs.Lists.{until, from, first_passes, last_passes}
+use Rattle.mk_class.specs.ListTests.{until, from, first_passes, last_passes}
 use Rattle.mk_class.proofs.on_symbols.ListLemmas.{until-from}
 use Rattle.mk_class.specs.Symbols.{symbol, is_colon, is_ampersand}
 use Rattle.mk_class.proofs.on_symbols.SymbolLemmas.{gap-plain}
@@ -22,12 +22,12 @@ use Rattle.mk_edit_laws.proofs.on_renames.WordsRenamed.{tokens_renamed}
 
 -- ---- the separator
 
--- at no place of `before` does the rest of it, with `after` behind it, pass the test
+-- at no index of `before` does the rest of it, with `after` behind it, pass the test
 abbrev pub Free : {A : Type 0} → (List A → Bool) → (before after : List A) → Type 0
 Free p [] F = Unit {0}
 Free p (u ∷ T) F = (p (u ∷ (T ++ F)) ≡ false) × Free p T F
 
--- before the first place that passes the test, no place passes it
+-- before the first index that passes the test, no index passes it
 pub until-free : {A : Type 0} (p : List A → Bool) (us : List A) → Free p (until p us) (from p us)
 until-free p [] = tt
 until-free p (u ∷ us) = go (p (u ∷ us)) refl (until-free p us)
@@ -36,7 +36,7 @@ until-free p (u ∷ us) = go (p (u ∷ us)) refl (until-free p us)
     go true e h = tt
     go false e h = (ap (λ z. p (u ∷ z)) (until-from p us) ∙ e, h)
 
--- a list in which no place passes is what stands before the first place that passes
+-- a list in which no index passes is what stands before the first index that passes
 free-until : {A : Type 0} (p : List A → Bool) (T F : List A) → Free p T F → p F ≡ true → (until p (T ++ F) ≡ T) × (from p (T ++ F) ≡ F)
 free-until p [] [] h k = (refl, refl)
 free-until p [] (x ∷ F) h k = (ap (λ c. cond c [] (x ∷ until p F)) k, ap (λ c. cond c (x ∷ F) (from p F)) k)

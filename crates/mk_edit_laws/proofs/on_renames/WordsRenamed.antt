@@ -9,7 +9,7 @@ use Rattle.mk_lines.proofs.on_cells.LineCells.{AreLineCells, AreLineCells-left, 
 use Rattle.mk_lines.proofs.on_units.UnitLemmas.{concat-units}
 use Rattle.mk_lines.specs.Words.{Token, Gap, Word, token_words, token_units, is_word_first, IsWord, AreTokens}
 use Rattle.mk_lines.proofs.on_units.TokenLemmas.{token_text}
-use Rattle.mk_class.specs.Lists.{last_passes}
+use Rattle.mk_class.specs.ListTests.{last_passes}
 use Rattle.mk_class.proofs.on_assignments.ValueLemmas.{clean-no_line_end}
 use Rattle.mk_class.specs.Keywords.{keyword, is_reserved_word}
 use Rattle.std.proofs.lemmas.Slice.Eq.{bytes_eq-Decides}

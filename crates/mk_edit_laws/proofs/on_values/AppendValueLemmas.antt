@@ -20,7 +20,7 @@ use Rattle.mk_lines.proofs.on_units.UnitLemmas.{units-append, units-first, units
 use Rattle.mk_lines.specs.Words.{is_gap}
 use Rattle.mk_lines.specs.Pieces.{Replacement, replaced}
 use Rattle.mk_lines.proofs.on_lists.BoolLemmas.{or-left_false}
-use Rattle.mk_class.specs.Lists.{is_empty, last_passes}
+use Rattle.mk_class.specs.ListTests.{is_empty, last_passes}
 use Rattle.mk_class.specs.Texts.{unit_text}
 use Rattle.mk_class.specs.CutTexts.{is_no_hash}
 use Rattle.mk_class.specs.Assignments.{Assignment, before_value}
@@ -35,10 +35,10 @@ use Rattle.mk_class.proofs.on_classes.ClassLemmas.{plain_class-assign, class_at-
 use Rattle.mk_class.proofs.on_assignments.AssignmentsWhole.{assignment_units}
 use Rattle.mk_class.proofs.on_assignments.AssignmentLineLemmas.{AssignParts, assign_parts, safe-after, line-with_value, line_with, with_text}
 use Rattle.mk_class.specs.ClassedLines.{ClassedLine, classed_lines}
-use Rattle.mk_class.specs.PartPlaces.{raw_width}
+use Rattle.mk_class.specs.PartOffsets.{raw_width}
 use Rattle.mk_tree.specs.Documents.{text_of, context_of}
 use Rattle.mk_tree.specs.Readings.{reading}
-use Rattle.mk_tree.proofs.on_documents.LinePlaces.{located, bytes_of}
+use Rattle.mk_tree.proofs.on_documents.LinesInText.{line-in_text, bytes_of}
 use Rattle.mk_tree.specs.LineTexts.{StandingLine}
 use Rattle.mk_edit_laws.specs.Edits.{AppendValue}
 use Rattle.mk_edit_laws.specs.Addresses.{Variable, found}
@@ -287,7 +287,7 @@ pub append_value-line : (t : List ℕ) (A : List ClassedLine) (l : ClassedLine) 
     (item_with_value a (unit_text joined_byte a.value ++ (if is_empty U then b ∷ v else after_value (last_passes is_fold (concat a.value)) (b ∷ v))))
 append_value-line t A l B a b v h k f i closed [] e =
     let c = context_of A in
-    let L = located t A l B h in
+    let L = line-in_text t A l B h in
     let w = line-with_value c l.bytes (bytes_of B) a None (b ∷ v) (value-text b v i) (L.class ∙ k) L.one L.ends in
     let at = length (text_of A) in
     let none : raw_width a.value ≡ 0 = ap raw_width e in
@@ -302,7 +302,7 @@ append_value-line t A l B a b v h k f i closed [] e =
     (unit_text-units (map Byte (b ∷ v)) ∙ (bytes-joined (b ∷ v) ∙ value)))
 append_value-line t A l B a b v h k f i closed (u ∷ us) e =
     let c = context_of A in
-    let L = located t A l B h in
+    let L = line-in_text t A l B h in
     let w = line-appended c l.bytes (bytes_of B) a None b v u us e closed (value-text b v i) (L.class ∙ k) L.one L.ends in
     let at = length (text_of A) in
     let P = concat (before_value a) in

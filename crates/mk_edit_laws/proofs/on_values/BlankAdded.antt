@@ -11,7 +11,7 @@ use Rattle.mk_lines.specs.CellFaults.{is_fold, has_stray, is_stray, has_bad_fold
 use Rattle.mk_lines.proofs.on_cells.LineCells.{AreLineCells, AreLineCells-cells, cells-are_line_cells}
 use Rattle.mk_lines.proofs.on_cells.LineOfCells.{IsClean}
 use Rattle.mk_lines.proofs.on_lists.BoolLemmas.{or-left_false, or-right_false}
-use Rattle.mk_class.specs.Lists.{last_passes}
+use Rattle.mk_class.specs.ListTests.{last_passes}
 
 -- cells with a space after them
 abbrev pub add_blank : List Cell → List Cell

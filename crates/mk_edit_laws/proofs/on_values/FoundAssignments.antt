@@ -14,7 +14,7 @@ use Rattle.mk_class.proofs.on_classes.ClassLemmas.{plain_class-assign, assign-pl
 use Rattle.mk_class.specs.ClassedLines.{classed_lines}
 use Rattle.std.proofs.lemmas.Slice.Eq.{bytes_eq-Decides}
 use Rattle.mk_tree.specs.Documents.{context_of}
-use Rattle.mk_tree.proofs.on_documents.LinePlaces.{located}
+use Rattle.mk_tree.proofs.on_documents.LinesInText.{line-in_text}
 use Rattle.mk_tree.specs.LineTexts.{StandingLine}
 use Rattle.mk_edit_laws.specs.Spots.{spots}
 use Rattle.mk_edit_laws.specs.Addresses.{Variable, assigns, found}
@@ -78,7 +78,7 @@ assignment-found t n nth h k f =
     let s = spot-picked nth (spots (λ l. assigns n l.class) (classed_lines t)) h k in
     let q = picked-is (λ l. assigns n l.class) (classed_lines t) nth s.0 s.1 in
     let m = assigns-named n s.0.line.class q.passes in
-    let L = located t s.0.above s.0.line s.0.below q.whole in
+    let L = line-in_text t s.0.above s.0.line s.0.below q.whole in
     let g : is_prefix_name (unit_text joined_byte m.assigned.name) ≡ false = subst (λ z. is_prefix_name z ≡ false) (sym m.name_is) f in
     let p : m.sets ≡ None = prefix-of_class (context_of s.0.above) s.0.line.bytes m.assigned m.sets (L.class ∙ m.class_is) ∙ no_prefix-set (nat_lt 0 (context_of s.0.above).conditionals) m.assigned g in
     record {

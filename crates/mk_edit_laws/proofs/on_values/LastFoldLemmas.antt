@@ -25,7 +25,7 @@ use Rattle.mk_lines.proofs.on_units.UnitLemmas.{EndsPlain, EndsPlain-append, End
 use Rattle.mk_lines.specs.Words.{is_gap}
 use Rattle.mk_lines.specs.Pieces.{Replacement, replaced}
 use Rattle.mk_lines.proofs.on_lists.BoolLemmas.{or-left_false}
-use Rattle.mk_class.specs.Lists.{is_empty, last_passes}
+use Rattle.mk_class.specs.ListTests.{is_empty, last_passes}
 use Rattle.mk_class.specs.Texts.{unit_text}
 use Rattle.mk_class.specs.Symbols.{byte_symbol, is_equals, is_hash_symbol}
 use Rattle.mk_class.specs.Symbols.Symbol.{Equals}
@@ -43,7 +43,7 @@ use Rattle.mk_class.proofs.on_classes.ClassLemmas.{IsAssignLine, plain_class-ass
 use Rattle.mk_class.specs.ClassedLines.{ClassedLine, classed_lines}
 use Rattle.mk_tree.specs.Documents.{text_of, context_of}
 use Rattle.mk_tree.specs.Readings.{reading}
-use Rattle.mk_tree.proofs.on_documents.LinePlaces.{located, bytes_of}
+use Rattle.mk_tree.proofs.on_documents.LinesInText.{line-in_text, bytes_of}
 use Rattle.mk_edit_laws.specs.Edits.{SetValue}
 use Rattle.mk_edit_laws.specs.ValueSpans.{set_value_span}
 use Rattle.mk_edit_laws.specs.Refusals.{spans, text_by, text_after}
@@ -339,7 +339,7 @@ set_value-left : (t : List ℕ) (A : List ClassedLine) (l : ClassedLine) (B : Li
     → IsLineReplaced (replaced 0 t (set_value_span [] (length (text_of A)) a ∷ [])) A B (item_with_value a (92 ∷ []))
 set_value-left t A l B a h k f n =
     let c = context_of A in
-    let L = located t A l B h in
+    let L = line-in_text t A l B h in
     let M = line-emptied c l.bytes (bytes_of B) a None (L.class ∙ k) L.one L.ends in
     let P = concat (before_value a) in
     let Q = concat M.parts.rest in

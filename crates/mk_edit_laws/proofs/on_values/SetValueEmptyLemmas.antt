@@ -26,7 +26,7 @@ use Rattle.mk_lines.specs.Units.Mark.{Unmarked}
 use Rattle.mk_lines.proofs.on_units.UnitLemmas.{EndsPlain, EndsPlain-split}
 use Rattle.mk_lines.specs.Pieces.{replaced}
 use Rattle.mk_lines.proofs.on_lists.BoolLemmas.{or-left_false}
-use Rattle.mk_class.specs.Lists.{is_empty, last_passes}
+use Rattle.mk_class.specs.ListTests.{is_empty, last_passes}
 use Rattle.mk_class.specs.Texts.{unit_text}
 use Rattle.mk_class.specs.Symbols.{Symbol, byte_symbol, is_hash, is_hash_symbol}
 use Rattle.mk_class.specs.Symbols.Symbol.{Hash, Colon, Semicolon, Equals, Plus, Question, Exclamation, Bar, Ampersand, NoSymbol}
@@ -40,9 +40,9 @@ use Rattle.mk_class.specs.Contexts.{Context}
 use Rattle.mk_class.specs.ClassTable.{class_of}
 use Rattle.mk_class.proofs.on_classes.ClassLemmas.{plain_class-assign, class_at-assign, has_stray-left, has_stray-right, readable-are_line_cells}
 use Rattle.mk_class.specs.ClassedLines.{ClassedLine, classed_lines}
-use Rattle.mk_class.specs.PartPlaces.{raw_width}
+use Rattle.mk_class.specs.PartOffsets.{raw_width}
 use Rattle.mk_tree.specs.Documents.{text_of, context_of}
-use Rattle.mk_tree.proofs.on_documents.LinePlaces.{located, bytes_of}
+use Rattle.mk_tree.proofs.on_documents.LinesInText.{line-in_text, bytes_of}
 use Rattle.mk_edit_laws.specs.ValueSpans.{set_value_span, value_start, blanks_end}
 use Rattle.mk_edit_laws.specs.Changes.{item_with_value, leaves_fold_last}
 use Rattle.mk_edit_laws.proofs.on_values.ValueLines.{IsValue, IsValueLine, with_cells, cells_with, line_of, parts-cells, value-line_of, line_of-some}
@@ -255,7 +255,7 @@ text-emptied t A l B a Q h cells_are =
     let line_is : l.bytes ≡ (raw_text P ++ (raw_text W ++ raw_text Q)) ++ line_end_bytes e =
     sym (without_line_end-line_end l.bytes)
     ∙ ap (λ z. z ++ line_end_bytes e) (sym (raw_text-cells (without_line_end l.bytes)) ∙ (ap raw_text cells_are ∙ (raw_text-append P (W ++ Q) ∙ ap (λ z. raw_text P ++ z) (raw_text-append W Q)))) in
-    let whole : t ≡ (text_of A ++ raw_text P) ++ (raw_text W ++ tail) = (located t A l B h).text ∙ (ap (λ z. text_of A ++ (z ++ text_of B)) line_is ∙ simp append_assoc) in
+    let whole : t ≡ (text_of A ++ raw_text P) ++ (raw_text W ++ tail) = (line-in_text t A l B h).text ∙ (ap (λ z. text_of A ++ (z ++ text_of B)) line_is ∙ simp append_assoc) in
     let start_is : value_start at a ≡ length (text_of A ++ raw_text P) = sym (length-append (text_of A) (raw_text P)) in
     let stop_is : blanks_end at a ≡ length ((text_of A ++ raw_text P) ++ raw_text W) = stop ∙ (ap (λ z. z + length (raw_text W)) start_is ∙ sym (length-append (text_of A ++ raw_text P) (raw_text W))) in
     let front : take (value_start at a) t ≡ text_of A ++ raw_text P = take-front t (text_of A ++ raw_text P) (raw_text W ++ tail) (value_start at a) whole start_is in
@@ -271,7 +271,7 @@ pub set_value-emptied : (t : List ℕ) (A : List ClassedLine) (l : ClassedLine) 
     → IsLineReplaced (replaced 0 t (set_value_span [] (length (text_of A)) a ∷ [])) A B (item_with_value a [])
 set_value-emptied t A l B a h k f n =
     let c = context_of A in
-    let L = located t A l B h in
+    let L = line-in_text t A l B h in
     let M = line-emptied c l.bytes (bytes_of B) a None (L.class ∙ k) L.one L.ends in
     let P = concat (before_value a) in
     let Q = concat M.parts.rest in

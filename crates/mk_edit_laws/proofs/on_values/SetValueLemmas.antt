@@ -20,12 +20,12 @@ use Rattle.mk_class.specs.ClassedLines.{ClassedLine, classed_lines}
 use Rattle.mk_tree.specs.Documents.{text_of, context_of}
 use Rattle.mk_tree.specs.Items.{items}
 use Rattle.mk_tree.specs.Readings.{reading}
-use Rattle.mk_tree.proofs.on_documents.LinePlaces.{located, bytes_of}
+use Rattle.mk_tree.proofs.on_documents.LinesInText.{line-in_text, bytes_of}
 use Rattle.mk_tree.specs.LineTexts.{StandingLine}
 use Rattle.mk_edit_laws.specs.Edits.{SetValue}
 use Rattle.mk_edit_laws.specs.Addresses.{Variable, found}
 use Rattle.mk_edit_laws.specs.ValueSpans.{set_value_span, value_span, assignment_span, value_start, value_end}
-use Rattle.mk_edit_laws.specs.Spans.{where_found}
+use Rattle.mk_edit_laws.specs.EditSpans.{where_found}
 use Rattle.mk_edit_laws.specs.Refusals.{spans, text_by, text_after}
 use Rattle.mk_edit_laws.specs.Changes.{change, item_with_value, value_item, with_value, with_items, value_set}
 use Rattle.mk_edit_laws.specs.Causes.{where_holds}
@@ -51,7 +51,7 @@ pub set_value-line : (t : List ℕ) (A : List ClassedLine) (l : ClassedLine) (B 
     → IsLineReplaced (replaced 0 t (set_value_span (b ∷ v) (length (text_of A)) a ∷ [])) A B (item_with_value a (b ∷ v))
 set_value-line t A l B a b v h k f i =
     let c = context_of A in
-    let L = located t A l B h in
+    let L = line-in_text t A l B h in
     let w = line-with_value c l.bytes (bytes_of B) a None (b ∷ v) (value-text b v i) (L.class ∙ k) L.one L.ends in
     let at = length (text_of A) in
     let text = text-replaced_in_line t A l B (concat (before_value a)) (concat a.value) (concat (a.after ++ w.parts.rest)) (b ∷ v) (value_start at a) (value_end at a) h w.parts.cells_are refl refl in

@@ -14,7 +14,7 @@ use Rattle.mk_class.specs.Contexts.{context_after}
 use Rattle.mk_class.specs.ClassTable.{class_of}
 use Rattle.mk_class.specs.ClassedLines.{ClassedLine, classed_lines}
 use Rattle.mk_tree.specs.Documents.{text_of, context_of}
-use Rattle.mk_tree.proofs.on_documents.LinePlaces.{located, bytes_of}
+use Rattle.mk_tree.proofs.on_documents.LinesInText.{line-in_text, bytes_of}
 use Rattle.mk_edit_laws.specs.Changes.{item_with_value}
 use Rattle.mk_edit_laws.proofs.on_values.ValueLines.{with_cells}
 use Rattle.mk_edit_laws.proofs.on_lines.LineReplaced.{IsLineReplaced, replaced-line}
@@ -29,7 +29,7 @@ text-replaced_in_line t A l B P X Q v s e h c i j =
     sym (without_line_end-line_end l.bytes)
     ∙ ap (λ z. z ++ end) (sym (raw_text-cells (without_line_end l.bytes)) ∙ (ap raw_text c ∙ (raw_text-append P (X ++ Q) ∙ ap (λ z. raw_text P ++ z) (raw_text-append X Q)))) in
     let apart : t ≡ (text_of A ++ raw_text P) ++ (raw_text X ++ (raw_text Q ++ (end ++ text_of B))) =
-    (located t A l B h).text ∙ (ap (λ z. text_of A ++ (z ++ text_of B)) whole ∙ simp append_assoc) in
+    (line-in_text t A l B h).text ∙ (ap (λ z. text_of A ++ (z ++ text_of B)) whole ∙ simp append_assoc) in
     replaced-one t (text_of A ++ raw_text P) (raw_text X) (raw_text Q ++ (end ++ text_of B)) v s e apart (i ∙ sym (length-append (text_of A) (raw_text P))) j
     ∙ simp append_assoc
 

@@ -7,27 +7,27 @@ use Rattle.std.proofs.lemmas.List.{length-map}
 use Rattle.std.proofs.Math.Bool.{or_assoc}
 use Rattle.mk_lines.specs.Cells.{joined_byte}
 use Rattle.mk_class.specs.Contexts.{Context, start, context_after}
-use Rattle.mk_class.specs.ClassPlaces.{class_places}
+use Rattle.mk_class.specs.LocatedClasses.{located_class}
 use Rattle.mk_class.specs.ClassTable.{class_of}
 use Rattle.mk_class.specs.ClassedLines.{ClassedLine, classed_lines, context_after_lines}
-use Rattle.mk_tree.specs.PlacedLines.{PlacedLine, placed_line, placed_lines, placed_text}
+use Rattle.mk_tree.specs.LocatedLines.{LocatedLine, located_line, located_lines, located_text}
 use Rattle.mk_tree.specs.Documents.{IsFaithful, context_of}
 use Rattle.mk_tree.specs.Admissions.{AreAdmitted}
-use Rattle.mk_tree.proofs.on_documents.LinePlaces.{AreClassed, AreClassed-class, AreClassed-tail, AreClassed-lines}
+use Rattle.mk_tree.proofs.on_documents.LinesInText.{AreClassed, AreClassed-class, AreClassed-tail, AreClassed-lines}
 use Rattle.mk_tree.specs.LineTexts.{StandingLine}
 use Rattle.mk_edit_laws.specs.Spots.{spots, spot_if, under, nth_of}
 use Rattle.mk_edit_laws.specs.Addresses.{Address, Variable, Rule, assigns, is_rule_for, is_a_target, targets_of}
 use Rattle.mk_edit_laws.specs.AddressCauses.{is_unread_prefix}
-use Rattle.mk_edit_parts.specs.PlacedParts.{AreEachClassed, is_unread_placed, is_target_placed}
-use Rattle.mk_edit_parts.specs.Seeking.{may_mean, wanted, noted_by, noted, seek, nothing_seen, place_found, candidates_of, IsSought}
+use Rattle.mk_edit_parts.specs.LocatedParts.{AreEachClassed, is_unread_located, is_target_located}
+use Rattle.mk_edit_parts.specs.Seeking.{may_mean, wanted, noted_by, noted, seek, nothing_seen, standing_found, candidates_of, IsSought}
 use Rattle.mk_edit_parts.specs.declared.seek.Found.{Found}
 use Rattle.mk_edit_parts.specs.declared.seek.Sought.{Sought}
-use Rattle.mk_edit_parts.proofs.on_finding.PartLemmas.{assigns-placed, rule_for-placed, unread-placed, target-placed}
+use Rattle.mk_edit_parts.proofs.on_finding.PartLemmas.{assigns-located, rule_for-located, unread-located, target-located}
 
 -- a test of lines as a document shows them is one of lines as they are defined
-abbrev AgreeAlong : (PlacedLine → Bool) → (ClassedLine → Bool) → List ClassedLine → Type 0
+abbrev AgreeAlong : (LocatedLine → Bool) → (ClassedLine → Bool) → List ClassedLine → Type 0
 AgreeAlong p q [] = Unit {0}
-AgreeAlong p q (l ∷ ls) = (p (placed_line l) ≡ q l) × AgreeAlong p q ls
+AgreeAlong p q (l ∷ ls) = (p (located_line l) ≡ q l) × AgreeAlong p q ls
 
 -- where a spot of some lines stands; the first of these lines stands at this place
 abbrev place_from : Found → StandingLine → Found
@@ -39,22 +39,22 @@ next f l = record { at = f.at + 1; context = context_after f.context l.class }
 
 -- ---- the end, and the prefix
 
-seek-end : (p : PlacedLine → Bool) (w : ℕ) (s : Sought) (ls : List ClassedLine) → (seek p w s (placed_lines ls)).end ≡ record { at = s.end.at + length ls; context = context_after_lines s.end.context ls }
+seek-end : (p : LocatedLine → Bool) (w : ℕ) (s : Sought) (ls : List ClassedLine) → (seek p w s (located_lines ls)).end ≡ record { at = s.end.at + length ls; context = context_after_lines s.end.context ls }
 seek-end p w s [] = let n : s.end.at ≡ s.end.at + 0 = omega arith in ap (λ (n : ℕ). record { at = n; context = s.end.context }) n
 seek-end p w s (l ∷ ls) =
     let n : s.end.at + 1 + length ls ≡ s.end.at + suc (length ls) = omega arith in
-    seek-end p w (noted p w (placed_line l) s) ls ∙ ap (λ (n : ℕ). record { at = n; context = context_after_lines (context_after s.end.context l.class) ls }) n
+    seek-end p w (noted p w (located_line l) s) ls ∙ ap (λ (n : ℕ). record { at = n; context = context_after_lines (context_after s.end.context l.class) ls }) n
 
 or-false : (a : Bool) → a ≡ (a || false)
 or-false true = refl
 or-false false = refl
 
-seek-unread : (p : PlacedLine → Bool) (w : ℕ) (s : Sought) (ls : List ClassedLine) → AgreeAlong is_unread_placed (λ l. is_unread_prefix l.class) ls
-    → (seek p w s (placed_lines ls)).has_unread_prefix ≡ (s.has_unread_prefix || list_any (λ l. is_unread_prefix l.class) ls)
+seek-unread : (p : LocatedLine → Bool) (w : ℕ) (s : Sought) (ls : List ClassedLine) → AgreeAlong is_unread_located (λ l. is_unread_prefix l.class) ls
+    → (seek p w s (located_lines ls)).has_unread_prefix ≡ (s.has_unread_prefix || list_any (λ l. is_unread_prefix l.class) ls)
 seek-unread p w s [] A = or-false s.has_unread_prefix
 seek-unread p w s (l ∷ ls) A =
     let below = list_any (λ l. is_unread_prefix l.class) ls in
-    seek-unread p w (noted p w (placed_line l) s) ls A.1 ∙ (ap (λ b. (s.has_unread_prefix || b) || below) A.0 ∙ or_assoc s.has_unread_prefix (is_unread_prefix l.class) below)
+    seek-unread p w (noted p w (located_line l) s) ls A.1 ∙ (ap (λ b. (s.has_unread_prefix || b) || below) A.0 ∙ or_assoc s.has_unread_prefix (is_unread_prefix l.class) below)
 
 -- ---- how many
 
@@ -63,10 +63,10 @@ spots-count : (b : Bool) (first : StandingLine) (l : ClassedLine) (ss : List Sta
 spots-count true first l ss n = omega (arith, length-map ss (under l))
 spots-count false first l ss n = omega (arith, length-map ss (under l))
 
-seek-count : (p : PlacedLine → Bool) (q : ClassedLine → Bool) (w : ℕ) (s : Sought) (ls : List ClassedLine) → AgreeAlong p q ls → (seek p w s (placed_lines ls)).count ≡ s.count + length (spots q ls)
+seek-count : (p : LocatedLine → Bool) (q : ClassedLine → Bool) (w : ℕ) (s : Sought) (ls : List ClassedLine) → AgreeAlong p q ls → (seek p w s (located_lines ls)).count ≡ s.count + length (spots q ls)
 seek-count p q w s [] A = omega arith
 seek-count p q w s (l ∷ ls) A =
-    seek-count p q w (noted p w (placed_line l) s) ls A.1
+    seek-count p q w (noted p w (located_line l) s) ls A.1
     ∙ (ap (λ b. (if b then s.count + 1 else s.count) + length (spots q ls)) A.0 ∙ spots-count (q l) (record { above = []; line = l; below = ls }) l (spots q ls) s.count)
 
 -- ---- which
@@ -80,7 +80,7 @@ places-under f l (s ∷ ss) (suc zero) =
 places-under f l (s ∷ ss) (suc (suc n)) = places-under f l ss (suc n)
 
 -- once the wanted one is found, it stays
-seek-stays : (p : PlacedLine → Bool) (w : ℕ) (s : Sought) (ls : List PlacedLine) → w ≤ s.count → (seek p w s ls).found ≡ s.found
+seek-stays : (p : LocatedLine → Bool) (w : ℕ) (s : Sought) (ls : List LocatedLine) → w ≤ s.count → (seek p w s ls).found ≡ s.found
 seek-stays p w s [] h = refl
 seek-stays p w s (l ∷ ls) h = seek-stays p w (noted p w l s) ls (bound (p l)) ∙ same (p l)
   where
@@ -93,44 +93,44 @@ seek-stays p w s (l ∷ ls) h = seek-stays p w (noted p w l s) ls (bound (p l)) 
     bound false = h
 
 -- the wanted one is the spot of that number
-seek-finds : (p : PlacedLine → Bool) (q : ClassedLine → Bool) (w : ℕ) (ls : List ClassedLine) → AgreeAlong p q ls → (k : ℕ) (s : Sought) → w ≡ s.count + suc k → s.found ≡ None
-    → (seek p w s (placed_lines ls)).found ≡ option_map (place_from s.end) (nth_of (suc k) (spots q ls))
+seek-finds : (p : LocatedLine → Bool) (q : ClassedLine → Bool) (w : ℕ) (ls : List ClassedLine) → AgreeAlong p q ls → (k : ℕ) (s : Sought) → w ≡ s.count + suc k → s.found ≡ None
+    → (seek p w s (located_lines ls)).found ≡ option_map (place_from s.end) (nth_of (suc k) (spots q ls))
 seek-finds p q w [] A k s e h = h
 seek-finds p q w (l ∷ ls) A k s e h =
-    ap (λ b. (seek p w (noted_by b (is_unread_placed (placed_line l)) w (placed_line l).class s) (placed_lines ls)).found) A.0
-    ∙ go (q l) k e (λ j z. seek-finds p q w ls A.1 j z) (λ z. seek-stays p w z (placed_lines ls))
+    ap (λ b. (seek p w (noted_by b (is_unread_located (located_line l)) w (located_line l).class s) (located_lines ls)).found) A.0
+    ∙ go (q l) k e (λ j z. seek-finds p q w ls A.1 j z) (λ z. seek-stays p w z (located_lines ls))
   where
     go : (b : Bool) (k : ℕ) → w ≡ s.count + suc k
-        → ((j : ℕ) (z : Sought) → w ≡ z.count + suc j → z.found ≡ None → (seek p w z (placed_lines ls)).found ≡ option_map (place_from z.end) (nth_of (suc j) (spots q ls)))
-        → ((z : Sought) → w ≤ z.count → (seek p w z (placed_lines ls)).found ≡ z.found)
-        → (seek p w (noted_by b (is_unread_placed (placed_line l)) w (placed_line l).class s) (placed_lines ls)).found
+        → ((j : ℕ) (z : Sought) → w ≡ z.count + suc j → z.found ≡ None → (seek p w z (located_lines ls)).found ≡ option_map (place_from z.end) (nth_of (suc j) (spots q ls)))
+        → ((z : Sought) → w ≤ z.count → (seek p w z (located_lines ls)).found ≡ z.found)
+        → (seek p w (noted_by b (is_unread_located (located_line l)) w (located_line l).class s) (located_lines ls)).found
         ≡ option_map (place_from s.end) (nth_of (suc k) (spot_if b (record { above = []; line = l; below = ls }) (map (under l) (spots q ls))))
     go true zero e ih stays =
-        let z = noted_by true (is_unread_placed (placed_line l)) w (placed_line l).class s in
+        let z = noted_by true (is_unread_located (located_line l)) w (located_line l).class s in
         let n : s.end.at ≡ s.end.at + 0 = omega arith in
         let is : (s.count + 1 == w) ≡ true = eq-eqb (s.count + 1) w (omega (arith, e)) in
         stays z (omega (arith, e)) ∙ (ap (λ b. if b then Some s.end else s.found) is ∙ ap (λ (n : ℕ). Some (record { at = n; context = s.end.context })) n)
     go true (suc k) e ih stays =
-        let z = noted_by true (is_unread_placed (placed_line l)) w (placed_line l).class s in
+        let z = noted_by true (is_unread_located (located_line l)) w (located_line l).class s in
         let ne : (s.count + 1 == w) ≡ false = ne_eqb (s.count + 1) w (λ i. absurd (omega (arith, i, e))) in
         ih k z (omega (arith, e)) (ap (λ b. if b then Some s.end else s.found) ne ∙ h) ∙ places-under s.end l (spots q ls) (suc k)
-    go false k e ih stays = ih k (noted_by false (is_unread_placed (placed_line l)) w (placed_line l).class s) e h ∙ places-under s.end l (spots q ls) (suc k)
+    go false k e ih stays = ih k (noted_by false (is_unread_located (located_line l)) w (located_line l).class s) e h ∙ places-under s.end l (spots q ls) (suc k)
 
 -- ---- the lines of a faithful document
 
-each-classed : (c : Context) (ls : List ClassedLine) → AreClassed c ls → AreEachClassed (placed_lines ls)
+each-classed : (c : Context) (ls : List ClassedLine) → AreClassed c ls → AreEachClassed (located_lines ls)
 each-classed c [] h = tt
 each-classed c (l ∷ ls) h =
-    (record { context = c; class_is = ap (class_places joined_byte) (sym (AreClassed-class c l ls h)) }, each-classed (context_after c l.class) ls (AreClassed-tail c l ls h))
+    (record { context = c; class_is = ap (located_class joined_byte) (sym (AreClassed-class c l ls h)) }, each-classed (context_after c l.class) ls (AreClassed-tail c l ls h))
 
 -- a test that agrees on each line with its class agrees along
-agree-along : (p : PlacedLine → Bool) (q : ClassedLine → Bool) → ((c : Context) (l : ClassedLine) → class_of c l.bytes ≡ l.class → p (placed_line l) ≡ q l) → (c : Context) (ls : List ClassedLine) → AreClassed c ls → AgreeAlong p q ls
+agree-along : (p : LocatedLine → Bool) (q : ClassedLine → Bool) → ((c : Context) (l : ClassedLine) → class_of c l.bytes ≡ l.class → p (located_line l) ≡ q l) → (c : Context) (ls : List ClassedLine) → AreClassed c ls → AgreeAlong p q ls
 agree-along p q f c [] h = tt
 agree-along p q f c (l ∷ ls) h = (f c l (AreClassed-class c l ls h), agree-along p q f (context_after c l.class) ls (AreClassed-tail c l ls h))
 
 -- each line has its class
-pub faithful-each : (ls : List PlacedLine) → IsFaithful ls → AreEachClassed ls
-faithful-each ls h = subst AreEachClassed (sym h) (each-classed start (classed_lines (placed_text ls)) (AreClassed-lines (placed_text ls) (classed_lines (placed_text ls)) refl))
+pub faithful-each : (ls : List LocatedLine) → IsFaithful ls → AreEachClassed ls
+faithful-each ls h = subst AreEachClassed (sym h) (each-classed start (classed_lines (located_text ls)) (AreClassed-lines (located_text ls) (classed_lines (located_text ls)) refl))
 
 -- whether a line is one that an address may mean
 abbrev means : Option Address → ClassedLine → Bool
@@ -138,10 +138,10 @@ means None l = false
 means (Some (Variable nth n)) l = assigns n l.class
 means (Some (Rule nth t)) l = is_rule_for t l.class
 
-means-placed : (a : Option Address) (c : Context) (l : ClassedLine) → class_of c l.bytes ≡ l.class → may_mean a (placed_line l) ≡ means a l
-means-placed None c l h = refl
-means-placed (Some (Variable nth n)) c l h = assigns-placed n c l h
-means-placed (Some (Rule nth t)) c l h = rule_for-placed t c l h
+means-located : (a : Option Address) (c : Context) (l : ClassedLine) → class_of c l.bytes ≡ l.class → may_mean a (located_line l) ≡ means a l
+means-located None c l h = refl
+means-located (Some (Variable nth n)) c l h = assigns-located n c l h
+means-located (Some (Rule nth t)) c l h = rule_for-located t c l h
 
 no-spots : (ls : List ClassedLine) → spots (λ l. false) ls ≡ []
 no-spots [] = refl
@@ -153,8 +153,8 @@ candidates-spots ls (Some (Variable nth n)) = refl
 candidates-spots ls (Some (Rule nth t)) = refl
 
 -- the spot of any number
-seek-nth : (p : PlacedLine → Bool) (q : ClassedLine → Bool) (ls : List ClassedLine) → AgreeAlong p q ls → (w : ℕ) → (seek p w nothing_seen (placed_lines ls)).found ≡ option_map (place_from nothing_seen.end) (nth_of w (spots q ls))
-seek-nth p q ls A zero = seek-stays p zero nothing_seen (placed_lines ls) (omega arith) ∙ none (spots q ls)
+seek-nth : (p : LocatedLine → Bool) (q : ClassedLine → Bool) (ls : List ClassedLine) → AgreeAlong p q ls → (w : ℕ) → (seek p w nothing_seen (located_lines ls)).found ≡ option_map (place_from nothing_seen.end) (nth_of w (spots q ls))
+seek-nth p q ls A zero = seek-stays p zero nothing_seen (located_lines ls) (omega arith) ∙ none (spots q ls)
   where
     none : (ss : List StandingLine) → None ≡ option_map (place_from nothing_seen.end) (nth_of 0 ss)
     none [] = refl
@@ -162,51 +162,51 @@ seek-nth p q ls A zero = seek-stays p zero nothing_seen (placed_lines ls) (omega
 seek-nth p q ls A (suc k) = seek-finds p q (suc k) ls A k nothing_seen (omega arith) refl
 
 -- counted from the first line
-places-first : (o : Option StandingLine) → option_map (place_from nothing_seen.end) o ≡ option_map place_found o
+places-first : (o : Option StandingLine) → option_map (place_from nothing_seen.end) o ≡ option_map standing_found o
 places-first None = refl
 places-first (Some s) = let n : 0 + length s.above ≡ length s.above = omega arith in ap (λ (n : ℕ). Some (record { at = n; context = context_of s.above })) n
 
-pub lines-sought : (ls : List PlacedLine) (a : Option Address) → IsFaithful ls → IsSought (classed_lines (placed_text ls)) a (seek (may_mean a) (wanted a) nothing_seen ls)
+pub lines-sought : (ls : List LocatedLine) (a : Option Address) → IsFaithful ls → IsSought (classed_lines (located_text ls)) a (seek (may_mean a) (wanted a) nothing_seen ls)
 lines-sought ls a h = subst (λ z. IsSought ds a (seek (may_mean a) (wanted a) nothing_seen z)) (sym h) (record {
   count_is = seek-count (may_mean a) (means a) (wanted a) nothing_seen ds A ∙ (zero-add (length (spots (means a) ds)) ∙ ap length (sym (candidates-spots ds a)));
-  found_is = seek-nth (may_mean a) (means a) ds A (wanted a) ∙ (places-first (nth_of (wanted a) (spots (means a) ds)) ∙ ap (λ ss. option_map place_found (nth_of (wanted a) ss)) (sym (candidates-spots ds a)));
+  found_is = seek-nth (may_mean a) (means a) ds A (wanted a) ∙ (places-first (nth_of (wanted a) (spots (means a) ds)) ∙ ap (λ ss. option_map standing_found (nth_of (wanted a) ss)) (sym (candidates-spots ds a)));
   unread_is = seek-unread (may_mean a) (wanted a) nothing_seen ds U;
   end_is = seek-end (may_mean a) (wanted a) nothing_seen ds ∙ ap (λ (n : ℕ). record { at = n; context = context_of ds }) (zero-add (length ds));
 })
   where
     ds : List ClassedLine
-    ds = classed_lines (placed_text ls)
+    ds = classed_lines (located_text ls)
 
     C : AreClassed start ds
-    C = AreClassed-lines (placed_text ls) ds refl
+    C = AreClassed-lines (located_text ls) ds refl
 
     A : AgreeAlong (may_mean a) (means a) ds
-    A = agree-along (may_mean a) (means a) (means-placed a) start ds C
+    A = agree-along (may_mean a) (means a) (means-located a) start ds C
 
-    U : AgreeAlong is_unread_placed (λ l. is_unread_prefix l.class) ds
-    U = agree-along is_unread_placed (λ l. is_unread_prefix l.class) unread-placed start ds C
+    U : AgreeAlong is_unread_located (λ l. is_unread_prefix l.class) ds
+    U = agree-along is_unread_located (λ l. is_unread_prefix l.class) unread-located start ds C
 
 -- ---- the walk of the code
 
 -- the walk at its start
-pub seek-from : (d ahead : List PlacedLine) (s : Sought) (p : PlacedLine → Bool) (w : ℕ) → ahead ≡ d → s ≡ nothing_seen → IsFaithful d → AreAdmitted start d
+pub seek-from : (d ahead : List LocatedLine) (s : Sought) (p : LocatedLine → Bool) (w : ℕ) → ahead ≡ d → s ≡ nothing_seen → IsFaithful d → AreAdmitted start d
     → Unit {0} × Unit {0} × AreEachClassed ahead × AreAdmitted s.end.context ahead × (s.count ≤ s.end.at) × (s.end.at + length ahead ≡ length d) × (seek p w s ahead ≡ seek p w nothing_seen d)
 seek-from d ahead s p w e i h k = rw (e, i) (tt, tt, faithful-each d h, k, omega arith, zero-add (length d), refl)
 
 -- the walk at its end
-pub seek-over : (s : Sought) (ahead d : List PlacedLine) (p : PlacedLine → Bool) (w v : ℕ) → ahead ≡ [] → w ≡ v → seek p w s ahead ≡ seek p w nothing_seen d → s ≡ seek p v nothing_seen d
+pub seek-over : (s : Sought) (ahead d : List LocatedLine) (p : LocatedLine → Bool) (w v : ℕ) → ahead ≡ [] → w ≡ v → seek p w s ahead ≡ seek p w nothing_seen d → s ≡ seek p v nothing_seen d
 seek-over s ahead d p w v e f h = sym (ap (seek p w s) e) ∙ (h ∙ ap (λ n. seek p n nothing_seen d) f)
 
 -- ---- targets
 
-targets-along : (w : List ℕ) (c : Context) (ls : List ClassedLine) → AreClassed c ls → list_any (is_target_placed w) (placed_lines ls) ≡ is_a_target ls w
+targets-along : (w : List ℕ) (c : Context) (ls : List ClassedLine) → AreClassed c ls → list_any (is_target_located w) (located_lines ls) ≡ is_a_target ls w
 targets-along w c [] h = refl
 targets-along w c (l ∷ ls) h =
-    ap (λ b. b || list_any (is_target_placed w) (placed_lines ls)) (target-placed w c l (AreClassed-class c l ls h))
+    ap (λ b. b || list_any (is_target_located w) (located_lines ls)) (target-located w c l (AreClassed-class c l ls h))
     ∙ ap (λ b. is_one_of w (targets_of l.class) || b) (targets-along w (context_after c l.class) ls (AreClassed-tail c l ls h))
 
-pub targets-from : (d ahead : List PlacedLine) (w : List ℕ) → ahead ≡ d → IsFaithful d
-    → Unit {0} × Unit {0} × AreEachClassed ahead × (list_any (is_target_placed w) ahead ≡ is_a_target (classed_lines (placed_text d)) w)
+pub targets-from : (d ahead : List LocatedLine) (w : List ℕ) → ahead ≡ d → IsFaithful d
+    → Unit {0} × Unit {0} × AreEachClassed ahead × (list_any (is_target_located w) ahead ≡ is_a_target (classed_lines (located_text d)) w)
 targets-from d ahead w e h =
-    let ls = classed_lines (placed_text d) in
-    rw e (tt, tt, faithful-each d h, ap (list_any (is_target_placed w)) h ∙ targets-along w start ls (AreClassed-lines (placed_text d) ls refl))
+    let ls = classed_lines (located_text d) in
+    rw e (tt, tt, faithful-each d h, ap (list_any (is_target_located w)) h ∙ targets-along w start ls (AreClassed-lines (located_text d) ls refl))

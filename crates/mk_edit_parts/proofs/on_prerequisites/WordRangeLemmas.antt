@@ -14,10 +14,10 @@ use Rattle.mk_lines.specs.Units.{units}
 use Rattle.mk_lines.proofs.on_units.UnitLemmas.{concat-units}
 use Rattle.mk_lines.proofs.on_units.TokenLemmas.{token_text, map_token, concat-map, tokens-map, tokens-are_tokens, token_units-tokens, token_text-tokens}
 use Rattle.mk_class.specs.Texts.{word_texts}
-use Rattle.mk_class.specs.ClassPlaces.{width}
-use Rattle.mk_class.specs.PartPlaces.{IsPart}
+use Rattle.mk_class.specs.LocatedClasses.{width}
+use Rattle.mk_class.specs.PartOffsets.{IsPart}
 use Rattle.mk_class.specs.TextClasses.{itself}
-use Rattle.mk_class.proofs.on_classes.PartPlaceLemmas.{width-append}
+use Rattle.mk_class.proofs.on_classes.PartOffsetLemmas.{width-append}
 use Rattle.mk_class.proofs.on_classes.FirstWordLemmas.{text_words-words}
 use Rattle.mk_edit_laws.specs.WordPieces.{is_word_of, removed_tokens}
 use Rattle.mk_edit_parts.specs.WordCuts.{raw_between, without_words, last_end}
@@ -46,7 +46,7 @@ part-ranges cs s e b p h =
     ap (λ us. word_token_ranges 0 (tokens itself us)) h.units_are
     ∙ (ap (word_token_ranges 0) (tokens-map joined_byte itself p) ∙ ranges-map joined_byte 0 (tokens joined_byte p))
 
--- ranges that follow one another from one place to another
+-- ranges that follow one another from one offset to another
 abbrev pub AreRising : (from to : ℕ) → List Span → Type 0
 AreRising a b [] = a ≤ b
 AreRising a b (s ∷ ss) = (a ≤ s.start) × (s.start ≤ s.end) × (s.end ≤ b) × AreRising s.end b ss
@@ -74,7 +74,7 @@ trim-word (u ∷ []) us h = ap (λ b. trim_end_before b u (trim_end (is_gap join
 trim-word (u ∷ v ∷ x) us h =
     ap (λ b. trim_end_before b u (trim_end (is_gap joined_byte) (v ∷ x ++ us))) h.0 ∙ ap (λ z. u ∷ z) (trim-word (v ∷ x) us h.1)
 
--- where units end that begin at a place; the other place `k` if there are no units
+-- where units end that begin at an offset; the other offset `k` if there are no units
 abbrev ends_at : (at k : ℕ) → List (List Cell) → ℕ
 ends_at at k [] = at
 ends_at at k (u ∷ us) = k + width (u ∷ us)
@@ -101,7 +101,7 @@ ends-first : (us : List (List Cell)) → ends_at 0 0 us ≡ width us
 ends-first [] = refl
 ends-first (u ∷ us) = omega arith
 
--- the place where the last word of units ends is the place where their front ends
+-- the offset where the last word of units ends is the offset where their front ends
 pub units-last_end : (us : List (List Cell)) → last_end 0 (word_token_ranges 0 (tokens joined_byte us)) ≡ width (trim_end (is_gap joined_byte) us)
 units-last_end us =
     tokens-end 0 0 (tokens joined_byte us) (tokens-are_tokens joined_byte us)
@@ -116,7 +116,7 @@ record IsCut (cs : List Cell) (start : ℕ) (t : List ℕ) (done k end : ℕ) (F
   text_is : t ≡ map joined_byte (P ++ token_text ts)
   done_is : done ≡ length F
   seen_is : k ≡ length P
-  place_is : start + k ≡ length F + length G
+  offset_is : start + k ≡ length F + length G
   end_is : end ≡ length F + (length G + length (token_text ts))
 
 without-one : (b : Bool) (r x R : List ℕ) (cs : List Cell) (ps : List Piece) → r ≡ raw_text cs → R ≡ new_bytes ps → (if b then [] else r) ++ R ≡ new_bytes ((if b then Replace cs [] else Keep cs) ∷ ps)
@@ -135,7 +135,7 @@ without-tokens cs w start t done k end F G (Gap u ∷ ts) A P C =
       text_is = C.text_is ∙ ap (map joined_byte) (sym (append_assoc P u (token_text ts)));
       done_is = C.done_is;
       seen_is = omega (arith, C.seen_is, length-append P u);
-      place_is = omega (arith, C.place_is, length-append G u);
+      offset_is = omega (arith, C.offset_is, length-append G u);
       end_is = omega (arith, C.end_is, length-append G u, length-append u (token_text ts));
     })
 without-tokens cs w start t done k end F G (Word x ∷ ts) A P C =
@@ -147,14 +147,14 @@ without-tokens cs w start t done k end F G (Word x ∷ ts) A P C =
     ∙ slice-at k e (J P) (J X) (J (token_text ts)) (C.seen_is ∙ sym (length-map P joined_byte)) (omega (arith, C.seen_is, length-map P joined_byte, length-map X joined_byte)) in
     let whole : cs ≡ F ++ ((G ++ X) ++ (token_text ts ++ A)) = C.cells_are ∙ simp append_assoc in
     let raw : raw_between cs done (start + e) ≡ raw_text (G ++ X) =
-    ap raw_text (ap (λ z. slice_range z done (start + e)) whole ∙ slice-at done (start + e) F (G ++ X) (token_text ts ++ A) C.done_is (omega (arith, C.place_is, length-append G X))) in
+    ap raw_text (ap (λ z. slice_range z done (start + e)) whole ∙ slice-at done (start + e) F (G ++ X) (token_text ts ++ A) C.done_is (omega (arith, C.offset_is, length-append G X))) in
     let rest : without_words cs start t w (start + e) (word_token_ranges e ts) end ≡ new_bytes (removed_tokens w [] ts) =
     without-tokens cs w start t (start + e) e end (F ++ (G ++ X)) [] ts A (P ++ X) (record {
       cells_are = whole ∙ simp append_assoc;
       text_is = C.text_is ∙ ap J (sym (append_assoc P X (token_text ts)));
-      done_is = omega (arith, C.place_is, length-append F (G ++ X), length-append G X);
+      done_is = omega (arith, C.offset_is, length-append F (G ++ X), length-append G X);
       seen_is = omega (arith, C.seen_is, length-append P X);
-      place_is = omega (arith, C.place_is, length-append F (G ++ X), length-append G X);
+      offset_is = omega (arith, C.offset_is, length-append F (G ++ X), length-append G X);
       end_is = omega (arith, C.end_is, length-append F (G ++ X), length-append G X, length-append X (token_text ts));
     }) in
     ap (λ z. (if bytes_eq z w then [] else raw_between cs done (start + e)) ++ without_words cs start t w (start + e) (word_token_ranges e ts) end) text
@@ -164,7 +164,7 @@ without-tokens cs w start t done k end F G (Word x ∷ ts) A P C =
 pub part-without : (cs : List Cell) (w : List ℕ) (s e : ℕ) (b p : List (List Cell)) (F A : List Cell) → IsPart cs s e b p → cs ≡ F ++ (concat p ++ A) → s ≡ length F → e ≡ length F + width p
     → without_words cs s (text_at (joined_text cs) (record { start = s; end = e })) w s (word_ranges (text_at (joined_text cs) (record { start = s; end = e }))) e
     ≡ new_bytes (removed_tokens w [] (tokens joined_byte p))
-part-without cs w s e b p F A h whole place end =
+part-without cs w s e b p F A h whole offset end =
     let t = text_at (joined_text cs) (record { start = s; end = e }) in
     let ts = tokens joined_byte p in
     let own : token_text ts ≡ concat p = token_text-tokens joined_byte p in
@@ -172,9 +172,9 @@ part-without cs w s e b p F A h whole place end =
     ∙ without-tokens cs w s t s 0 e F [] ts A [] (record {
       cells_are = whole ∙ ap (λ z. F ++ (z ++ A)) (sym own);
       text_is = h.text_is ∙ ap (map joined_byte) (sym own);
-      done_is = place;
+      done_is = offset;
       seen_is = refl;
-      place_is = omega (arith, place);
+      offset_is = omega (arith, offset);
       end_is = omega (arith, end, ap length own);
     })
 

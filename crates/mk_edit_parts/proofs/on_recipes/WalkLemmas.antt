@@ -8,14 +8,14 @@ use Rattle.mk_lines.specs.Lists.{trim_end, trim_end_before}
 use Rattle.mk_lines.specs.Cells.{Cell, joined_byte}
 use Rattle.mk_class.specs.Classes.{Class, is_recipe, is_conditional, leaves_flag}
 use Rattle.mk_class.specs.Classes.Class.{Endef, Body, Recipe, Opaque, Blank, Comment, Assign, DefineHead, If, Else, Endif, Directive, TargetAssign, Rough, Header}
-use Rattle.mk_class.specs.ClassPlaces.{class_places}
+use Rattle.mk_class.specs.LocatedClasses.{located_class}
 use Rattle.mk_class.specs.ClassedLines.{ClassedLine, classed_lines}
 use Rattle.mk_tree.specs.Documents.{IsFaithful}
-use Rattle.mk_tree.specs.PlacedLines.{PlacedLine, placed_line, placed_lines, placed_text, is_conditional_places}
+use Rattle.mk_tree.specs.LocatedLines.{LocatedLine, located_line, located_lines, located_text, is_conditional_located}
 use Rattle.mk_tree.specs.RecipeLines.{stays_in_rule, rule_lines, recipe_lines, recipe_run}
 use Rattle.mk_tree.specs.LineTexts.{StandingLine}
 use Rattle.mk_edit_laws.specs.Spots.{spots, spot_if, under, nth_of}
-use Rattle.mk_edit_parts.specs.RecipeWalks.{lines_from, recipe_spots_in, is_recipe_places, stays_in_rule_places, recipe_from, recipe_place_from}
+use Rattle.mk_edit_parts.specs.RecipeWalks.{lines_from, recipe_spots_in, is_recipe_located, stays_in_rule_located, recipe_from, recipe_index_from}
 use Rattle.mk_edit_parts.specs.declared.recipe.Recipe as recipe
 use Rattle.mk_edit_parts.proofs.on_finding.LeanLemmas.{drop_at}
 
@@ -23,9 +23,9 @@ use Rattle.mk_edit_parts.proofs.on_finding.LeanLemmas.{drop_at}
 
 -- what a walk asks of a class
 record Asked (k : Class Cell) : Type 0 where
-  recipe_is : is_recipe_places (class_places joined_byte k) ≡ is_recipe k
-  stays_is : stays_in_rule_places (class_places joined_byte k) ≡ stays_in_rule k
-  conditional_is : is_conditional_places (class_places joined_byte k) ≡ is_conditional k
+  recipe_is : is_recipe_located (located_class joined_byte k) ≡ is_recipe k
+  stays_is : stays_in_rule_located (located_class joined_byte k) ≡ stays_in_rule k
+  conditional_is : is_conditional_located (located_class joined_byte k) ≡ is_conditional k
 
 asked : (k : Class Cell) → Asked k
 asked Endef = record { recipe_is = refl; stays_is = refl; conditional_is = refl }
@@ -99,18 +99,18 @@ recipe-no_conditional (TargetAssign t) h = refl
 recipe-no_conditional Rough h = refl
 recipe-no_conditional (Header x) h = refl
 
-run-told : (r : recipe.Recipe) (c : Bool) (at : ℕ) (ls : List ClassedLine) → recipe_from r c at (placed_lines ls) ≡ run_told r c at (recipe_run ls)
+run-told : (r : recipe.Recipe) (c : Bool) (at : ℕ) (ls : List ClassedLine) → recipe_from r c at (located_lines ls) ≡ run_told r c at (recipe_run ls)
 unfolding run_told
 run-told r c at [] = refl
 run-told r c at (l ∷ ls) =
     let A = asked l.class in
-    ap (λ b. if b then recipe_from (record { end = at + 1; is_split = c }) c (at + 1) (placed_lines ls) else if stays_in_rule_places (class_places joined_byte l.class) then recipe_from r (c || is_conditional_places (class_places joined_byte l.class)) (at + 1) (placed_lines ls) else r) A.recipe_is
-    ∙ (ap (λ b. if is_recipe l.class then recipe_from (record { end = at + 1; is_split = c }) c (at + 1) (placed_lines ls) else if b then recipe_from r (c || is_conditional_places (class_places joined_byte l.class)) (at + 1) (placed_lines ls) else r) A.stays_is
-    ∙ (ap (λ b. if is_recipe l.class then recipe_from (record { end = at + 1; is_split = c }) c (at + 1) (placed_lines ls) else if stays_in_rule l.class then recipe_from r (c || b) (at + 1) (placed_lines ls) else r) A.conditional_is
+    ap (λ b. if b then recipe_from (record { end = at + 1; is_split = c }) c (at + 1) (located_lines ls) else if stays_in_rule_located (located_class joined_byte l.class) then recipe_from r (c || is_conditional_located (located_class joined_byte l.class)) (at + 1) (located_lines ls) else r) A.recipe_is
+    ∙ (ap (λ b. if is_recipe l.class then recipe_from (record { end = at + 1; is_split = c }) c (at + 1) (located_lines ls) else if b then recipe_from r (c || is_conditional_located (located_class joined_byte l.class)) (at + 1) (located_lines ls) else r) A.stays_is
+    ∙ (ap (λ b. if is_recipe l.class then recipe_from (record { end = at + 1; is_split = c }) c (at + 1) (located_lines ls) else if stays_in_rule l.class then recipe_from r (c || b) (at + 1) (located_lines ls) else r) A.conditional_is
     ∙ go (is_recipe l.class) (leaves_flag l.class) refl (λ q d. run-told q d (at + 1) ls)))
   where
-    go : (b s : Bool) → is_recipe l.class ≡ b → ((q : recipe.Recipe) (d : Bool) → recipe_from q d (at + 1) (placed_lines ls) ≡ run_told q d (at + 1) (recipe_run ls))
-        → (if b then recipe_from (record { end = at + 1; is_split = c }) c (at + 1) (placed_lines ls) else if b || s then recipe_from r (c || is_conditional l.class) (at + 1) (placed_lines ls) else r)
+    go : (b s : Bool) → is_recipe l.class ≡ b → ((q : recipe.Recipe) (d : Bool) → recipe_from q d (at + 1) (located_lines ls) ≡ run_told q d (at + 1) (recipe_run ls))
+        → (if b then recipe_from (record { end = at + 1; is_split = c }) c (at + 1) (located_lines ls) else if b || s then recipe_from r (c || is_conditional l.class) (at + 1) (located_lines ls) else r)
         ≡ run_told r c at (trim_end (λ z. not (is_recipe z.class)) (if b || s then l ∷ rule_lines ls else []))
     go true s h ih =
         ih (record { end = at + 1; is_split = c }) c
@@ -122,51 +122,51 @@ run-told r c at (l ∷ ls) =
 -- ---- the recipe line of a number
 
 -- a walk that has passed at least this number of recipe lines finds none of this number
-place-passed : (n p at : ℕ) (ls : List PlacedLine) → n ≤ p → recipe_place_from n p at ls ≡ None
-place-passed n p at [] h = refl
-place-passed n p at (l ∷ ls) h = go (is_recipe_places l.class) (stays_in_rule_places l.class) (place-passed n (p + 1) (at + 1) ls (omega (arith, h))) (place-passed n p (at + 1) ls h)
+index-passed : (n p at : ℕ) (ls : List LocatedLine) → n ≤ p → recipe_index_from n p at ls ≡ None
+index-passed n p at [] h = refl
+index-passed n p at (l ∷ ls) h = go (is_recipe_located l.class) (stays_in_rule_located l.class) (index-passed n (p + 1) (at + 1) ls (omega (arith, h))) (index-passed n p (at + 1) ls h)
   where
-    go : (b s : Bool) → recipe_place_from n (p + 1) (at + 1) ls ≡ None → recipe_place_from n p (at + 1) ls ≡ None
-        → (if b then (if p + 1 == n then Some at else recipe_place_from n (p + 1) (at + 1) ls) else if s then recipe_place_from n p (at + 1) ls else None) ≡ None
-    go true s i j = ap (λ q. if q then Some at else recipe_place_from n (p + 1) (at + 1) ls) (ne_eqb (p + 1) n (λ e. absurd (omega (arith, e, h)))) ∙ i
+    go : (b s : Bool) → recipe_index_from n (p + 1) (at + 1) ls ≡ None → recipe_index_from n p (at + 1) ls ≡ None
+        → (if b then (if p + 1 == n then Some at else recipe_index_from n (p + 1) (at + 1) ls) else if s then recipe_index_from n p (at + 1) ls else None) ≡ None
+    go true s i j = ap (λ q. if q then Some at else recipe_index_from n (p + 1) (at + 1) ls) (ne_eqb (p + 1) n (λ e. absurd (omega (arith, e, h)))) ∙ i
     go false true i j = j
     go false false i j = refl
 
--- the place of a spot, counted from a place
-abbrev place_of_spot : ℕ → StandingLine → ℕ
-place_of_spot at s = at + length s.above
+-- the index of a spot, counted from an index
+abbrev index_of_spot : ℕ → StandingLine → ℕ
+index_of_spot at s = at + length s.above
 
-places-under : (at : ℕ) (l : ClassedLine) (n : ℕ) (ss : List StandingLine) → option_map (place_of_spot (at + 1)) (nth_of n ss) ≡ option_map (place_of_spot at) (nth_of n (map (under l) ss))
-places-under at l n [] = refl
-places-under at l zero (s ∷ ss) = refl
-places-under at l (suc zero) (s ∷ ss) = let e : at + 1 + length s.above ≡ at + suc (length s.above) = omega arith in ap (λ (n : ℕ). Some n) e
-places-under at l (suc (suc n)) (s ∷ ss) = places-under at l (suc n) ss
+indices-under : (at : ℕ) (l : ClassedLine) (n : ℕ) (ss : List StandingLine) → option_map (index_of_spot (at + 1)) (nth_of n ss) ≡ option_map (index_of_spot at) (nth_of n (map (under l) ss))
+indices-under at l n [] = refl
+indices-under at l zero (s ∷ ss) = refl
+indices-under at l (suc zero) (s ∷ ss) = let e : at + 1 + length s.above ≡ at + suc (length s.above) = omega arith in ap (λ (n : ℕ). Some n) e
+indices-under at l (suc (suc n)) (s ∷ ss) = indices-under at l (suc n) ss
 
 -- the same for the first spots
-taken-under : (at : ℕ) (l : ClassedLine) (n k : ℕ) (ss : List StandingLine) → option_map (place_of_spot (at + 1)) (nth_of n (take k ss)) ≡ option_map (place_of_spot at) (nth_of n (take k (map (under l) ss)))
-taken-under at l n k ss = places-under at l n (take k ss) ∙ ap (λ z. option_map (place_of_spot at) (nth_of n z)) (sym (take-map (under l) k ss))
+taken-under : (at : ℕ) (l : ClassedLine) (n k : ℕ) (ss : List StandingLine) → option_map (index_of_spot (at + 1)) (nth_of n (take k ss)) ≡ option_map (index_of_spot at) (nth_of n (take k (map (under l) ss)))
+taken-under at l n k ss = indices-under at l n (take k ss) ∙ ap (λ z. option_map (index_of_spot at) (nth_of n z)) (sym (take-map (under l) k ss))
 
 -- the spots of the recipe lines, by whether the first line is a recipe line and whether it stays in the rule
 abbrev spots_where : (recipe stays : Bool) → ClassedLine → List ClassedLine → List StandingLine
 spots_where b s l ls = take (length (if s then (if b then l ∷ recipe_lines ls else recipe_lines ls) else [])) (spot_if b (record { above = []; line = l; below = ls }) (map (under l) (spots (λ z. is_recipe z.class) ls)))
 
-place-told : (n p m at : ℕ) (ls : List ClassedLine) → n ≡ p + suc m → recipe_place_from n p at (placed_lines ls) ≡ option_map (place_of_spot at) (nth_of (suc m) (recipe_spots_in ls))
-place-told n p m at [] h = refl
-place-told n p m at (l ∷ ls) h =
+index-told : (n p m at : ℕ) (ls : List ClassedLine) → n ≡ p + suc m → recipe_index_from n p at (located_lines ls) ≡ option_map (index_of_spot at) (nth_of (suc m) (recipe_spots_in ls))
+index-told n p m at [] h = refl
+index-told n p m at (l ∷ ls) h =
     let A = asked l.class in
-    ap (λ b. if b then (if p + 1 == n then Some at else recipe_place_from n (p + 1) (at + 1) (placed_lines ls)) else if stays_in_rule_places (class_places joined_byte l.class) then recipe_place_from n p (at + 1) (placed_lines ls) else None) A.recipe_is
-    ∙ (ap (λ b. if is_recipe l.class then (if p + 1 == n then Some at else recipe_place_from n (p + 1) (at + 1) (placed_lines ls)) else if b then recipe_place_from n p (at + 1) (placed_lines ls) else None) A.stays_is
-    ∙ (go (is_recipe l.class) (leaves_flag l.class) m h (λ q j k. place-told n q j (at + 1) ls k)
-    ∙ ap (λ z. option_map (place_of_spot at) (nth_of (suc m) z)) (sorted (is_recipe l.class) (stays_in_rule l.class) refl)))
+    ap (λ b. if b then (if p + 1 == n then Some at else recipe_index_from n (p + 1) (at + 1) (located_lines ls)) else if stays_in_rule_located (located_class joined_byte l.class) then recipe_index_from n p (at + 1) (located_lines ls) else None) A.recipe_is
+    ∙ (ap (λ b. if is_recipe l.class then (if p + 1 == n then Some at else recipe_index_from n (p + 1) (at + 1) (located_lines ls)) else if b then recipe_index_from n p (at + 1) (located_lines ls) else None) A.stays_is
+    ∙ (go (is_recipe l.class) (leaves_flag l.class) m h (λ q j k. index-told n q j (at + 1) ls k)
+    ∙ ap (λ z. option_map (index_of_spot at) (nth_of (suc m) z)) (sorted (is_recipe l.class) (stays_in_rule l.class) refl)))
   where
-    go : (b s : Bool) (m : ℕ) → n ≡ p + suc m → ((q j : ℕ) → n ≡ q + suc j → recipe_place_from n q (at + 1) (placed_lines ls) ≡ option_map (place_of_spot (at + 1)) (nth_of (suc j) (recipe_spots_in ls)))
-        → (if b then (if p + 1 == n then Some at else recipe_place_from n (p + 1) (at + 1) (placed_lines ls)) else if b || s then recipe_place_from n p (at + 1) (placed_lines ls) else None)
-        ≡ option_map (place_of_spot at) (nth_of (suc m) (spots_where b (b || s) l ls))
+    go : (b s : Bool) (m : ℕ) → n ≡ p + suc m → ((q j : ℕ) → n ≡ q + suc j → recipe_index_from n q (at + 1) (located_lines ls) ≡ option_map (index_of_spot (at + 1)) (nth_of (suc j) (recipe_spots_in ls)))
+        → (if b then (if p + 1 == n then Some at else recipe_index_from n (p + 1) (at + 1) (located_lines ls)) else if b || s then recipe_index_from n p (at + 1) (located_lines ls) else None)
+        ≡ option_map (index_of_spot at) (nth_of (suc m) (spots_where b (b || s) l ls))
     go true s zero e ih =
         let k : at ≡ at + 0 = omega arith in
-        ap (λ q. if q then Some at else recipe_place_from n (p + 1) (at + 1) (placed_lines ls)) (eq-eqb (p + 1) n (omega (arith, e))) ∙ ap (λ (n : ℕ). Some n) k
+        ap (λ q. if q then Some at else recipe_index_from n (p + 1) (at + 1) (located_lines ls)) (eq-eqb (p + 1) n (omega (arith, e))) ∙ ap (λ (n : ℕ). Some n) k
     go true s (suc m) e ih =
-        ap (λ q. if q then Some at else recipe_place_from n (p + 1) (at + 1) (placed_lines ls)) (ne_eqb (p + 1) n (λ i. absurd (omega (arith, i, e))))
+        ap (λ q. if q then Some at else recipe_index_from n (p + 1) (at + 1) (located_lines ls)) (ne_eqb (p + 1) n (λ i. absurd (omega (arith, i, e))))
         ∙ (ih (p + 1) m (omega (arith, e)) ∙ taken-under at l (suc m) (length (recipe_lines ls)) (spots (λ z. is_recipe z.class) ls))
     go false true m e ih = ih p m e ∙ taken-under at l (suc m) (length (recipe_lines ls)) (spots (λ z. is_recipe z.class) ls)
     go false false m e ih = refl
@@ -180,12 +180,12 @@ place-told n p m at (l ∷ ls) h =
 
 -- ---- the lines of a faithful document
 
--- the lines from a place on
-faithful-from : (ls : List PlacedLine) (at : ℕ) → IsFaithful ls → drop at ls ≡ placed_lines (lines_from ls at)
-faithful-from ls at h = ap (drop at) h ∙ drop-map placed_line at (classed_lines (placed_text ls))
+-- the lines from an index on
+faithful-from : (ls : List LocatedLine) (at : ℕ) → IsFaithful ls → drop at ls ≡ located_lines (lines_from ls at)
+faithful-from ls at h = ap (drop at) h ∙ drop-map located_line at (classed_lines (located_text ls))
 
--- the recipe below a place
-pub recipe-found : (ls : List PlacedLine) (at : ℕ) (r : recipe.Recipe) → IsFaithful ls → r ≡ recipe_from (record { end = at; is_split = false }) false at (drop at ls)
+-- the recipe below an index
+pub recipe-found : (ls : List LocatedLine) (at : ℕ) (r : recipe.Recipe) → IsFaithful ls → r ≡ recipe_from (record { end = at; is_split = false }) false at (drop at ls)
     → (r.end ≡ at + length (recipe_run (lines_from ls at))) × (r.is_split ≡ list_any (λ l. is_conditional l.class) (recipe_run (lines_from ls at)))
 unfolding run_told
 recipe-found ls at r f h = go (recipe_run (lines_from ls at)) (h ∙ (ap (recipe_from (record { end = at; is_split = false }) false at) (faithful-from ls at f) ∙ run-told (record { end = at; is_split = false }) false at (lines_from ls at)))
@@ -195,16 +195,16 @@ recipe-found ls at r f h = go (recipe_run (lines_from ls at)) (h ∙ (ap (recipe
     go (x ∷ xs) e = (ap (λ (z : recipe.Recipe). z.end) e, ap (λ (z : recipe.Recipe). z.is_split) e)
 
 -- the recipe line of a number
-pub recipe-line : (ls : List PlacedLine) (at n : ℕ) → IsFaithful ls → recipe_place_from n 0 at (drop at ls) ≡ option_map (λ s. at + length s.above) (nth_of n (recipe_spots_in (lines_from ls at)))
-recipe-line ls at zero f = place-passed 0 0 at (drop at ls) (omega arith) ∙ none (recipe_spots_in (lines_from ls at))
+pub recipe-line : (ls : List LocatedLine) (at n : ℕ) → IsFaithful ls → recipe_index_from n 0 at (drop at ls) ≡ option_map (λ s. at + length s.above) (nth_of n (recipe_spots_in (lines_from ls at)))
+recipe-line ls at zero f = index-passed 0 0 at (drop at ls) (omega arith) ∙ none (recipe_spots_in (lines_from ls at))
   where
-    none : (ss : List StandingLine) → None ≡ option_map (place_of_spot at) (nth_of 0 ss)
+    none : (ss : List StandingLine) → None ≡ option_map (index_of_spot at) (nth_of 0 ss)
     none [] = refl
     none (s ∷ ss) = refl
-recipe-line ls at (suc n) f = ap (recipe_place_from (suc n) 0 at) (faithful-from ls at f) ∙ place-told (suc n) 0 n at (lines_from ls at) (omega arith)
+recipe-line ls at (suc n) f = ap (recipe_index_from (suc n) 0 at) (faithful-from ls at f) ∙ index-told (suc n) 0 n at (lines_from ls at) (omega arith)
 
 -- no line is from the end on
-past-end : (ls : List PlacedLine) (at : ℕ) → length ls ≤ at → drop at ls ≡ []
+past-end : (ls : List LocatedLine) (at : ℕ) → length ls ≤ at → drop at ls ≡ []
 past-end [] zero h = refl
 past-end [] (suc at) h = refl
 past-end (l ∷ ls) zero h = absurd (omega (arith, h))
@@ -212,73 +212,73 @@ past-end (l ∷ ls) (suc at) h = past-end ls at (omega (arith, h))
 
 -- ---- a step of the walk for the end of a recipe
 
-pub end-past : (r : recipe.Recipe) (c : Bool) (ls : List PlacedLine) (at : ℕ) → length ls ≤ at → recipe_from r c at (drop at ls) ≡ r
+pub end-past : (r : recipe.Recipe) (c : Bool) (ls : List LocatedLine) (at : ℕ) → length ls ≤ at → recipe_from r c at (drop at ls) ≡ r
 end-past r c ls at h = ap (recipe_from r c at) (past-end ls at h)
 
-pub end-recipe : (r q : recipe.Recipe) (c d : Bool) (ls : List PlacedLine) (at : ℕ) (l : PlacedLine) → Some l ≡ slice_get ls at → is_recipe_places l.class ≡ true → q ≡ record { end = at + 1; is_split = c } → d ≡ c
+pub end-recipe : (r q : recipe.Recipe) (c d : Bool) (ls : List LocatedLine) (at : ℕ) (l : LocatedLine) → Some l ≡ slice_get ls at → is_recipe_located l.class ≡ true → q ≡ record { end = at + 1; is_split = c } → d ≡ c
     → recipe_from r c at (drop at ls) ≡ recipe_from q d (at + 1) (drop (at + 1) ls)
 end-recipe r q c d ls at l h a e f =
     let below = drop (at + 1) ls in
     let next = recipe_from (record { end = at + 1; is_split = c }) c (at + 1) below in
     ap (recipe_from r c at) (drop_at ls at l h)
-    ∙ (ap (λ b. if b then next else if stays_in_rule_places l.class then recipe_from r (c || is_conditional_places l.class) (at + 1) below else r) a
+    ∙ (ap (λ b. if b then next else if stays_in_rule_located l.class then recipe_from r (c || is_conditional_located l.class) (at + 1) below else r) a
     ∙ (ap (λ (z : recipe.Recipe). recipe_from z c (at + 1) below) (sym e) ∙ ap (λ z. recipe_from q z (at + 1) below) (sym f)))
 
-pub end-other : (r q : recipe.Recipe) (c d : Bool) (ls : List PlacedLine) (at : ℕ) (l : PlacedLine) → Some l ≡ slice_get ls at → is_recipe_places l.class ≡ false → stays_in_rule_places l.class ≡ true
-    → q ≡ r → d ≡ (c || is_conditional_places l.class) → recipe_from r c at (drop at ls) ≡ recipe_from q d (at + 1) (drop (at + 1) ls)
+pub end-other : (r q : recipe.Recipe) (c d : Bool) (ls : List LocatedLine) (at : ℕ) (l : LocatedLine) → Some l ≡ slice_get ls at → is_recipe_located l.class ≡ false → stays_in_rule_located l.class ≡ true
+    → q ≡ r → d ≡ (c || is_conditional_located l.class) → recipe_from r c at (drop at ls) ≡ recipe_from q d (at + 1) (drop (at + 1) ls)
 end-other r q c d ls at l h a b e f =
     let below = drop (at + 1) ls in
     let next = recipe_from (record { end = at + 1; is_split = c }) c (at + 1) below in
-    let past = recipe_from r (c || is_conditional_places l.class) (at + 1) below in
+    let past = recipe_from r (c || is_conditional_located l.class) (at + 1) below in
     ap (recipe_from r c at) (drop_at ls at l h)
-    ∙ (ap (λ z. if z then next else if stays_in_rule_places l.class then past else r) a
+    ∙ (ap (λ z. if z then next else if stays_in_rule_located l.class then past else r) a
     ∙ (ap (λ z. if z then past else r) b
-    ∙ (ap (λ (z : recipe.Recipe). recipe_from z (c || is_conditional_places l.class) (at + 1) below) (sym e) ∙ ap (λ z. recipe_from q z (at + 1) below) (sym f))))
+    ∙ (ap (λ (z : recipe.Recipe). recipe_from z (c || is_conditional_located l.class) (at + 1) below) (sym e) ∙ ap (λ z. recipe_from q z (at + 1) below) (sym f))))
 
-pub end-ended : (r : recipe.Recipe) (c : Bool) (ls : List PlacedLine) (at : ℕ) (l : PlacedLine) → Some l ≡ slice_get ls at → is_recipe_places l.class ≡ false → stays_in_rule_places l.class ≡ false
+pub end-ended : (r : recipe.Recipe) (c : Bool) (ls : List LocatedLine) (at : ℕ) (l : LocatedLine) → Some l ≡ slice_get ls at → is_recipe_located l.class ≡ false → stays_in_rule_located l.class ≡ false
     → recipe_from r c at (drop at ls) ≡ r
 end-ended r c ls at l h a b =
     let below = drop (at + 1) ls in
     let next = recipe_from (record { end = at + 1; is_split = c }) c (at + 1) below in
-    let past = recipe_from r (c || is_conditional_places l.class) (at + 1) below in
-    ap (recipe_from r c at) (drop_at ls at l h) ∙ (ap (λ z. if z then next else if stays_in_rule_places l.class then past else r) a ∙ ap (λ z. if z then past else r) b)
+    let past = recipe_from r (c || is_conditional_located l.class) (at + 1) below in
+    ap (recipe_from r c at) (drop_at ls at l h) ∙ (ap (λ z. if z then next else if stays_in_rule_located l.class then past else r) a ∙ ap (λ z. if z then past else r) b)
 
 -- ---- a step of the walk for a recipe line
 
-pub place-past : (n p : ℕ) (ls : List PlacedLine) (at : ℕ) → length ls ≤ at → recipe_place_from n p at (drop at ls) ≡ None
-place-past n p ls at h = ap (recipe_place_from n p at) (past-end ls at h)
+pub index-past : (n p : ℕ) (ls : List LocatedLine) (at : ℕ) → length ls ≤ at → recipe_index_from n p at (drop at ls) ≡ None
+index-past n p ls at h = ap (recipe_index_from n p at) (past-end ls at h)
 
-pub place-recipe : (n p q : ℕ) (ls : List PlacedLine) (at : ℕ) (l : PlacedLine) → Some l ≡ slice_get ls at → is_recipe_places l.class ≡ true → (p + 1 == n) ≡ false → q ≡ p + 1
-    → recipe_place_from n p at (drop at ls) ≡ recipe_place_from n q (at + 1) (drop (at + 1) ls)
-place-recipe n p q ls at l h a b e =
+pub index-recipe : (n p q : ℕ) (ls : List LocatedLine) (at : ℕ) (l : LocatedLine) → Some l ≡ slice_get ls at → is_recipe_located l.class ≡ true → (p + 1 == n) ≡ false → q ≡ p + 1
+    → recipe_index_from n p at (drop at ls) ≡ recipe_index_from n q (at + 1) (drop (at + 1) ls)
+index-recipe n p q ls at l h a b e =
     let below = drop (at + 1) ls in
-    let next = recipe_place_from n (p + 1) (at + 1) below in
-    ap (recipe_place_from n p at) (drop_at ls at l h)
-    ∙ (ap (λ z. if z then (if p + 1 == n then Some at else next) else if stays_in_rule_places l.class then recipe_place_from n p (at + 1) below else None) a
-    ∙ (ap (λ z. if z then Some at else next) b ∙ ap (λ z. recipe_place_from n z (at + 1) below) (sym e)))
+    let next = recipe_index_from n (p + 1) (at + 1) below in
+    ap (recipe_index_from n p at) (drop_at ls at l h)
+    ∙ (ap (λ z. if z then (if p + 1 == n then Some at else next) else if stays_in_rule_located l.class then recipe_index_from n p (at + 1) below else None) a
+    ∙ (ap (λ z. if z then Some at else next) b ∙ ap (λ z. recipe_index_from n z (at + 1) below) (sym e)))
 
-pub place-other : (n p q : ℕ) (ls : List PlacedLine) (at : ℕ) (l : PlacedLine) → Some l ≡ slice_get ls at → is_recipe_places l.class ≡ false → stays_in_rule_places l.class ≡ true → q ≡ p
-    → recipe_place_from n p at (drop at ls) ≡ recipe_place_from n q (at + 1) (drop (at + 1) ls)
-place-other n p q ls at l h a b e =
+pub index-other : (n p q : ℕ) (ls : List LocatedLine) (at : ℕ) (l : LocatedLine) → Some l ≡ slice_get ls at → is_recipe_located l.class ≡ false → stays_in_rule_located l.class ≡ true → q ≡ p
+    → recipe_index_from n p at (drop at ls) ≡ recipe_index_from n q (at + 1) (drop (at + 1) ls)
+index-other n p q ls at l h a b e =
     let below = drop (at + 1) ls in
-    let here = if p + 1 == n then Some at else recipe_place_from n (p + 1) (at + 1) below in
-    let past = recipe_place_from n p (at + 1) below in
-    ap (recipe_place_from n p at) (drop_at ls at l h)
-    ∙ (ap (λ z. if z then here else if stays_in_rule_places l.class then past else None) a ∙ (ap (λ z. if z then past else None) b ∙ ap (λ z. recipe_place_from n z (at + 1) below) (sym e)))
+    let here = if p + 1 == n then Some at else recipe_index_from n (p + 1) (at + 1) below in
+    let past = recipe_index_from n p (at + 1) below in
+    ap (recipe_index_from n p at) (drop_at ls at l h)
+    ∙ (ap (λ z. if z then here else if stays_in_rule_located l.class then past else None) a ∙ (ap (λ z. if z then past else None) b ∙ ap (λ z. recipe_index_from n z (at + 1) below) (sym e)))
 
-pub place-ended : (n p : ℕ) (ls : List PlacedLine) (at : ℕ) (l : PlacedLine) → Some l ≡ slice_get ls at → is_recipe_places l.class ≡ false → stays_in_rule_places l.class ≡ false
-    → recipe_place_from n p at (drop at ls) ≡ None
-place-ended n p ls at l h a b =
+pub index-ended : (n p : ℕ) (ls : List LocatedLine) (at : ℕ) (l : LocatedLine) → Some l ≡ slice_get ls at → is_recipe_located l.class ≡ false → stays_in_rule_located l.class ≡ false
+    → recipe_index_from n p at (drop at ls) ≡ None
+index-ended n p ls at l h a b =
     let below = drop (at + 1) ls in
-    let here = if p + 1 == n then Some at else recipe_place_from n (p + 1) (at + 1) below in
-    let past = recipe_place_from n p (at + 1) below in
-    ap (recipe_place_from n p at) (drop_at ls at l h) ∙ (ap (λ z. if z then here else if stays_in_rule_places l.class then past else None) a ∙ ap (λ z. if z then past else None) b)
+    let here = if p + 1 == n then Some at else recipe_index_from n (p + 1) (at + 1) below in
+    let past = recipe_index_from n p (at + 1) below in
+    ap (recipe_index_from n p at) (drop_at ls at l h) ∙ (ap (λ z. if z then here else if stays_in_rule_located l.class then past else None) a ∙ ap (λ z. if z then past else None) b)
 
-pub place-here : (n p : ℕ) (ls : List PlacedLine) (at : ℕ) (l : PlacedLine) → Some l ≡ slice_get ls at → is_recipe_places l.class ≡ true → p + 1 ≡ n
-    → recipe_place_from n p at (drop at ls) ≡ Some at
-place-here n p ls at l h a b =
+pub index-here : (n p : ℕ) (ls : List LocatedLine) (at : ℕ) (l : LocatedLine) → Some l ≡ slice_get ls at → is_recipe_located l.class ≡ true → p + 1 ≡ n
+    → recipe_index_from n p at (drop at ls) ≡ Some at
+index-here n p ls at l h a b =
     let below = drop (at + 1) ls in
-    let next = recipe_place_from n (p + 1) (at + 1) below in
-    ap (recipe_place_from n p at) (drop_at ls at l h)
-    ∙ (ap (λ z. if z then (if p + 1 == n then Some at else next) else if stays_in_rule_places l.class then recipe_place_from n p (at + 1) below else None) a
+    let next = recipe_index_from n (p + 1) (at + 1) below in
+    ap (recipe_index_from n p at) (drop_at ls at l h)
+    ∙ (ap (λ z. if z then (if p + 1 == n then Some at else next) else if stays_in_rule_located l.class then recipe_index_from n p (at + 1) below else None) a
     ∙ ap (λ z. if z then Some at else next) (eq-eqb (p + 1) n b))

@@ -19,22 +19,22 @@ use Rattle.mk_class.specs.Headers
 use Rattle.mk_class.specs.Headers.{TargetAssignment, header_units}
 use Rattle.mk_class.specs.Classes.{Class}
 use Rattle.mk_class.specs.Classes.Class.{Endef, Body, Recipe, Opaque, Blank, Comment, Assign, DefineHead, If, Else, Endif, Directive, TargetAssign, Rough, Header}
-use Rattle.mk_class.specs.ClassPlaces.{class_places, header_places, width}
+use Rattle.mk_class.specs.LocatedClasses.{located_class, located_header, width}
 use Rattle.mk_class.specs.ClassTable.{class_of}
 use Rattle.mk_class.specs.ClassedLines.{ClassedLine}
 use Rattle.mk_class.specs.Contexts.{Context}
-use Rattle.mk_class.specs.PartPlaces.{IsPart, raw_width}
+use Rattle.mk_class.specs.PartOffsets.{IsPart, raw_width}
 use Rattle.mk_class.proofs.on_classes.ClassHolds.{holds-as}
-use Rattle.mk_class.proofs.on_classes.PartPlaceLemmas.{width-append}
-use Rattle.mk_class.proofs.on_classes.LinePartLemmas.{header-placed, target-placed}
+use Rattle.mk_class.proofs.on_classes.PartOffsetLemmas.{width-append}
+use Rattle.mk_class.proofs.on_classes.LinePartLemmas.{header-located, target-located}
 use Rattle.mk_class.proofs.on_headers.HeadersWhole.{header-whole, separated-whole}
-use Rattle.mk_tree.specs.PlacedLines.{placed_line}
+use Rattle.mk_tree.specs.LocatedLines.{located_line}
 use Rattle.mk_tree.proofs.on_changes.SpansInLines.{replacements-append}
 use Rattle.mk_edit_laws.specs.WordPieces.{kept, renamed_pieces, renamed_words}
 use Rattle.mk_edit_laws.proofs.on_lines.ClassParts.{raw_width-append}
-use Rattle.mk_edit_parts.specs.RenamedPlaces.{span, part_places, renamed_places}
-use Rattle.mk_edit_parts.proofs.on_renaming.PlaceLemmas.{text_at-length}
-use Rattle.mk_edit_parts.proofs.on_renaming.PiecePlaces.{replacing, replacing-append, part-pieces, words-old, kept-and_words}
+use Rattle.mk_edit_parts.specs.RenamedRanges.{span, part_ranges, renamed_ranges}
+use Rattle.mk_edit_parts.proofs.on_renaming.RangeLemmas.{text_at-length}
+use Rattle.mk_edit_parts.proofs.on_renaming.PieceRanges.{replacing, replacing-append, part-pieces, words-old, kept-and_words}
 
 -- ---- what is known of a line of a class
 
@@ -72,11 +72,11 @@ split : (cs : List Cell) (b p a : List (List Cell)) → units joined_byte cs ≡
 split cs b p a h = sym (concat-units joined_byte cs) ∙ (ap concat h ∙ (concat-append b (p ++ a) ∙ ap (λ z. concat b ++ z) (concat-append p a)))
 
 -- the replacements in a part
-part-replaced : (cs : List Cell) (b p a : List (List Cell)) (o n : List ℕ) (s e : ℕ) → units joined_byte cs ≡ b ++ (p ++ a) → IsPart cs s e b p → s ≡ width b → replacing n (part_places cs o (span s e)) ≡ replacements (raw_width b) (renamed_words o n p)
+part-replaced : (cs : List Cell) (b p a : List (List Cell)) (o n : List ℕ) (s e : ℕ) → units joined_byte cs ≡ b ++ (p ++ a) → IsPart cs s e b p → s ≡ width b → replacing n (part_ranges cs o (span s e)) ≡ replacements (raw_width b) (renamed_words o n p)
 part-replaced cs b p a o n s e h i k = part-pieces cs b p a o n s e (split cs b p a h) k i.units_are
 
 header-pieces : (c : Context) (l : List ℕ) (h : Headers.Header Cell) (o n : List ℕ) → class_of c l ≡ Header h
-    → replacing n (renamed_places o (record { bytes = l; class = class_places joined_byte (Header h) })) ≡ replacements 0 (renamed_pieces o n (Header h))
+    → replacing n (renamed_ranges o (record { bytes = l; class = located_class joined_byte (Header h) })) ≡ replacements 0 (renamed_pieces o n (Header h))
 header-pieces c l h o n e =
     let cs = line_cells l in
     let T = h.targets in
@@ -86,9 +86,9 @@ header-pieces c l h o n e =
     let N = h.normal in
     let B = h.bar in
     let O = h.order_only in
-    let at = header_places joined_byte h in
+    let at = located_header joined_byte h in
     let whole = header-line c l h e in
-    let I = header-placed c l h e in
+    let I = header-located c l h e in
     let start = at.normal_end + (if at.has_order_only then 1 else 0) in
     let bN = T ++ (C ++ (P ++ D)) in
     let bO = T ++ (C ++ (P ++ (D ++ (N ++ B)))) in
@@ -99,9 +99,9 @@ header-pieces c l h o n e =
     let rT = part-replaced cs [] T (C ++ (P ++ (D ++ (N ++ (B ++ (O ++ h.tail)))))) o n 0 at.targets_end whole I.targets refl in
     let rN = part-replaced cs bN N (B ++ (O ++ h.tail)) o n at.normal_start at.normal_end (whole ∙ simp append_assoc) I.normal (omega (arith, wN)) in
     let rO = part-replaced cs bO O h.tail o n start at.head_end (whole ∙ simp append_assoc) I.order_only sO in
-    let pT = part_places cs o (span 0 at.targets_end) in
-    let pN = part_places cs o (span at.normal_start at.normal_end) in
-    let pO = part_places cs o (span start at.head_end) in
+    let pT = part_ranges cs o (span 0 at.targets_end) in
+    let pN = part_ranges cs o (span at.normal_start at.normal_end) in
+    let pO = part_ranges cs o (span start at.head_end) in
     let K = C ++ (P ++ D) in
     let W = renamed_words o n in
     let kN : 0 + raw_width T + raw_width K ≡ raw_width bN = omega (arith, raw_width-append T K) in
@@ -118,19 +118,19 @@ header-pieces c l h o n e =
     left ∙ sym (a0 ∙ ap (λ z. replacements 0 (W T) ++ z) (a1 ∙ ap (λ z. replacements (raw_width bN) (W N) ++ z) a2))
 
 target-pieces : (c : Context) (l : List ℕ) (t : TargetAssignment Cell) (o n : List ℕ) → class_of c l ≡ TargetAssign t
-    → replacing n (renamed_places o (record { bytes = l; class = class_places joined_byte (TargetAssign t) })) ≡ replacements 0 (renamed_pieces o n (TargetAssign t))
+    → replacing n (renamed_ranges o (record { bytes = l; class = located_class joined_byte (TargetAssign t) })) ≡ replacements 0 (renamed_pieces o n (TargetAssign t))
 target-pieces c l t o n e =
     let cs = line_cells l in
-    let I = target-placed c l t e in
+    let I = target-located c l t e in
     let b = target-line c l t e in
-    let p = part_places cs o (span 0 (width t.targets)) in
+    let p = part_ranges cs o (span 0 (width t.targets)) in
     ap (replacing n) (append-nil p) ∙ part-replaced cs [] t.targets b.rest o n 0 (width t.targets) b.whole I.targets refl
 
 -- The ranges of a line's words that a rename replaces are the replacements of its pieces.
-pub line-pieces : (c : Context) (l : ClassedLine) (o n : List ℕ) → class_of c l.bytes ≡ l.class → replacing n (renamed_places o (placed_line l)) ≡ replacements 0 (renamed_pieces o n l.class)
+pub line-pieces : (c : Context) (l : ClassedLine) (o n : List ℕ) → class_of c l.bytes ≡ l.class → replacing n (renamed_ranges o (located_line l)) ≡ replacements 0 (renamed_pieces o n l.class)
 line-pieces c l o n h = go l.class h
   where
-    go : (k : Class Cell) → class_of c l.bytes ≡ k → replacing n (renamed_places o (record { bytes = l.bytes; class = class_places joined_byte k })) ≡ replacements 0 (renamed_pieces o n k)
+    go : (k : Class Cell) → class_of c l.bytes ≡ k → replacing n (renamed_ranges o (record { bytes = l.bytes; class = located_class joined_byte k })) ≡ replacements 0 (renamed_pieces o n k)
     go (Header x) e = header-pieces c l.bytes x o n e
     go (TargetAssign t) e = target-pieces c l.bytes t o n e
     go (Assign a p) e = refl

@@ -5,8 +5,8 @@ use Rattle.std.proofs.lemmas.List.{append-nil, reverse-append}
 use Rattle.std.proofs.lemmas.List.Sums.{fold-append}
 use Rattle.mk_lines.specs.Lists.{concat}
 use Rattle.mk_lines.proofs.on_lists.ListLemmas.{concat-append}
-use Rattle.mk_history.specs.Machine.{Command, Apply, Undo, Redo, Begin, End, Cancel, Refusal, NothingToUndo, Machine, answer, next, after_calls, text, text_of, replay, edited, accepted, closed}
-use Rattle.mk_history.specs.Steps.{Granted, IsRun}
+use Rattle.mk_history.specs.Machine.{Command, Apply, Undo, Redo, Begin, End, Cancel, Refusal, NothingToUndo, Machine, answer, next, after_calls, text, text_of_members, replay, edited, accepted, closed}
+use Rattle.mk_history.specs.CallSteps.{Granted, AreSteps}
 use Rattle.mk_history.specs.Claims.{UndoesAll, Cancels, Stands, IsFresh, IsWithin, StaysWithin}
 
 abbrev pub of_parts : {E T : Type 0} → T → List (List E) → List (List E) → ℕ → Option (List E) → Machine E T
@@ -29,7 +29,7 @@ module _ {E T R : Type 0} (act : E → T → Result T R) where
       go false e = absurd (cc)
 
   undoes-parts : (depth : ℕ) (t : T) (done undone : List (List E))
-      → (n : Machine E T) × (IsRun (answer act depth) (replicate (length done) (Undo, Granted)) (of_parts t done undone 0 None) n × (text act n ≡ t))
+      → (n : Machine E T) × (AreSteps (answer act depth) (replicate (length done) (Undo, Granted)) (of_parts t done undone 0 None) n × (text act n ≡ t))
   undoes-parts depth t [] undone = (of_parts t [] undone 0 None, (refl, refl))
   undoes-parts depth t (es ∷ done) undone =
       let rest = undoes-parts depth t done (es ∷ undone) in
@@ -39,7 +39,7 @@ module _ {E T R : Type 0} (act : E → T → Result T R) where
   undoes-all depth m f g = go m.floor m.group f g
     where
       go : (floor : ℕ) (group : Option (List E)) → floor ≡ 0 → group ≡ None
-          → (n : Machine E T) × (IsRun (answer act depth) (replicate (length m.done) (Undo, Granted)) (of_parts m.first m.done m.undone floor group) n × (text act n ≡ m.first))
+          → (n : Machine E T) × (AreSteps (answer act depth) (replicate (length m.done) (Undo, Granted)) (of_parts m.first m.done m.undone floor group) n × (text act n ≡ m.first))
       go floor group f g = rw (f, g) (undoes-parts depth m.first m.done m.undone)
 
   -- ---- the edits that stand
@@ -50,7 +50,7 @@ module _ {E T R : Type 0} (act : E → T → Result T R) where
       ∙ concat-append (reverse done) (es ∷ [])
       ∙ ap (λ l. concat (reverse done) ++ l) (append-nil es)
 
-  stands-parts : (t : T) (done : List (List E)) → text_of act t done ≡ replay act t (concat (reverse done))
+  stands-parts : (t : T) (done : List (List E)) → text_of_members act t done ≡ replay act t (concat (reverse done))
   stands-parts t [] = refl
   stands-parts t (es ∷ done) =
       ap (λ n. replay act n es) (stands-parts t done)
@@ -71,14 +71,14 @@ module _ {E T R : Type 0} (act : E → T → Result T R) where
   next-refused depth e m r h = rw (h, next, answer) refl
 
   cancelled : (depth : ℕ) (es : List E) (t : T) (done undone : List (List E)) (floor : ℕ) (group : List E)
-      → text act (after_calls act depth (map Apply es ++ Cancel ∷ []) (of_parts t done undone floor (Some group))) ≡ text_of act t done
+      → text act (after_calls act depth (map Apply es ++ Cancel ∷ []) (of_parts t done undone floor (Some group))) ≡ text_of_members act t done
   cancelled depth [] t done undone floor group = refl
   cancelled depth (e ∷ es) t done undone floor group =
       go (act e (text act (of_parts t done undone floor (Some group)))) refl (λ u g. cancelled depth es t done u floor g)
     where
       go : (r : Result T R) → act e (text act (of_parts t done undone floor (Some group))) ≡ r
-          → ((u : List (List E)) (g : List E) → text act (after_calls act depth (map Apply es ++ Cancel ∷ []) (of_parts t done u floor (Some g))) ≡ text_of act t done)
-          → text act (after_calls act depth (map Apply es ++ Cancel ∷ []) (next act depth (Apply e) (of_parts t done undone floor (Some group)))) ≡ text_of act t done
+          → ((u : List (List E)) (g : List E) → text act (after_calls act depth (map Apply es ++ Cancel ∷ []) (of_parts t done u floor (Some g))) ≡ text_of_members act t done)
+          → text act (after_calls act depth (map Apply es ++ Cancel ∷ []) (next act depth (Apply e) (of_parts t done undone floor (Some group)))) ≡ text_of_members act t done
       go (Ok n) h k =
           ap (λ m. text act (after_calls act depth (map Apply es ++ Cancel ∷ []) m)) (next-accepted depth e (of_parts t done undone floor (Some group)) n h)
           ∙ k [] (group ++ e ∷ [])

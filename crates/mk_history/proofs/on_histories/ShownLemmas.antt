@@ -5,9 +5,9 @@ use Rattle.std.proofs.lemmas.List.{take-take, length_push}
 use Rattle.std.proofs.lemmas.List.Sums.{fold-append}
 use Rattle.std.proofs.Math.Seq.{take-nil}
 use Rattle.std.proofs.lemmas.Bool.Decides.{leb_tells}
-use Rattle.mk_history.specs.Machine.{Command, Apply, Undo, Redo, Begin, End, Cancel, Refusal, EditRefused, NothingToUndo, Machine, opened, answer, next, text, text_of, replay, edited, accepted}
+use Rattle.mk_history.specs.Machine.{Command, Apply, Undo, Redo, Begin, End, Cancel, Refusal, EditRefused, NothingToUndo, Machine, opened, answer, next, text, text_of_members, replay, edited, accepted}
 use Rattle.mk_history.specs.Shown.{Shown, shown, shown_answer, shown_edited, shown_back, texts_before}
-use Rattle.mk_history.specs.Steps.{Reply, Granted, Refused, NoMemory, IsStep, IsRun}
+use Rattle.mk_history.specs.CallSteps.{Reply, Granted, Refused, NoMemory, IsStep, AreSteps}
 use Rattle.mk_history.specs.Claims.{IsWithin, IsSeen, Follows, FollowsOpened, shown_result}
 use Rattle.mk_history.proofs.on_histories.MachineLemmas.{of_parts, stays-within-call}
 
@@ -41,7 +41,7 @@ module _ {E T R : Type 0} (act : E → T → Result T R) where
   seen-end : (depth : ℕ) (t : T) (done undone : List (List E)) (floor : ℕ) (es : List E) (e : E)
       → floor ≤ length done → undone ≡ []
       → shown_result act depth (answer act depth End (of_parts t done undone floor (Some (e ∷ es)))) ≡ shown_answer act End (shown act depth (of_parts t done undone floor (Some (e ∷ es))))
-  seen-end depth t done undone floor es e h f = rw (f, new-member depth (length done) floor (text_of act t done) (texts_before act t done) h) refl
+  seen-end depth t done undone floor es e h f = rw (f, new-member depth (length done) floor (text_of_members act t done) (texts_before act t done) h) refl
 
   seen-undo : (depth : ℕ) (t : T) (es : List E) (done undone : List (List E)) (floor : ℕ) → floor ≤ length (es ∷ done)
       → shown_result act depth (answer act depth Undo (of_parts t (es ∷ done) undone floor None)) ≡ shown_answer act Undo (shown act depth (of_parts t (es ∷ done) undone floor None))
@@ -49,15 +49,15 @@ module _ {E T R : Type 0} (act : E → T → Result T R) where
     where
       go : (c : Bool) → nat_lt floor (suc (length done)) ≡ c
           → shown_result act depth (cond c (Ok (of_parts t done (es ∷ undone) floor None)) (Err NothingToUndo))
-          ≡ shown_back (shown act depth (of_parts t (es ∷ done) undone floor None)) (take (suc (length done) - floor) (text_of act t done ∷ texts_before act t done))
-      go true k = rw (one-more (length done) floor (text_of act t done) (texts_before act t done) (omega (arith, ltb-true floor (suc (length done)) k))) refl
+          ≡ shown_back (shown act depth (of_parts t (es ∷ done) undone floor None)) (take (suc (length done) - floor) (text_of_members act t done ∷ texts_before act t done))
+      go true k = rw (one-more (length done) floor (text_of_members act t done) (texts_before act t done) (omega (arith, ltb-true floor (suc (length done)) k))) refl
       go false k =
           let none : suc (length done) - floor ≡ 0 = omega (arith, h, ltb-false floor (suc (length done)) k) in
           rw none refl
 
   seen-redo : (depth : ℕ) (t : T) (es : List E) (done undone : List (List E)) (floor : ℕ) → floor ≤ length done
       → shown_result act depth (answer act depth Redo (of_parts t done (es ∷ undone) floor None)) ≡ shown_answer act Redo (shown act depth (of_parts t done (es ∷ undone) floor None))
-  seen-redo depth t es done undone floor h = rw (one-more (length done) floor (text_of act t done) (texts_before act t done) h) refl
+  seen-redo depth t es done undone floor h = rw (one-more (length done) floor (text_of_members act t done) (texts_before act t done) h) refl
 
   text-in-group : (t new : T) (es : List E) (e : E) → act e (replay act t es) ≡ Ok new → replay act t (es ++ e ∷ []) ≡ new
   text-in-group t new es e h = fold-append (edited act) t es (e ∷ []) ∙ (rw (h, edited) refl)
@@ -69,9 +69,9 @@ module _ {E T R : Type 0} (act : E → T → Result T R) where
       → act e (text act (of_parts t done undone floor group)) ≡ Ok new
       → shown act depth (accepted depth e (of_parts t done undone floor group)) ≡ shown_edited new (shown act depth (of_parts t done undone floor group))
   shown-accepted depth e new t done undone floor None f h =
-      rw (text-outside (text_of act t done) new e h, new-member depth (length done) floor (text_of act t done) (texts_before act t done) f) refl
+      rw (text-outside (text_of_members act t done) new e h, new-member depth (length done) floor (text_of_members act t done) (texts_before act t done) f) refl
   shown-accepted depth e new t done undone floor (Some es) f h =
-      rw (text-in-group (text_of act t done) new es e h, length_push es e) refl
+      rw (text-in-group (text_of_members act t done) new es e h, length_push es e) refl
 
   seen-apply : (depth : ℕ) (e : E) (m : Machine E T) → m.floor ≤ length m.done
       → shown_result act depth (answer act depth (Apply e) m) ≡ shown_answer act (Apply e) (shown act depth m)
@@ -135,7 +135,7 @@ module _ {E T R : Type 0} (act : E → T → Result T R) where
   follows depth [] m s w run = (m, (refl, run, w))
   follows depth (call ∷ calls) m s w run =
       let first = follows-call depth call.0 call.1 m run.0 w run.1.0 in
-      let from_there : IsRun (shown_answer act) calls (shown act depth first.0) s = subst (λ (y : Shown T). IsRun (shown_answer act) calls y s) first.1.1 run.1.1 in
+      let from_there : AreSteps (shown_answer act) calls (shown act depth first.0) s = subst (λ (y : Shown T). AreSteps (shown_answer act) calls y s) first.1.1 run.1.1 in
       let rest = follows depth calls first.0 s first.1.2 from_there in
       (rest.0, ((first.0, (first.1.0, rest.1.0)), rest.1.1, rest.1.2))
 

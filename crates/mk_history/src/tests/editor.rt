@@ -4,7 +4,7 @@ ghost use Rattle.mk_history.specs.Claims.{history_reply};
 ghost use Rattle.mk_history.specs.Machine.{Apply, Undo, Redo};
 ghost use Rattle.mk_history.specs.SetBytes.{set_answer};
 ghost use Rattle.mk_history.specs.Shown.{shown_opened};
-ghost use Rattle.mk_history.specs.Steps.{IsStep};
+ghost use Rattle.mk_history.specs.CallSteps.{IsStep};
 
 use crate::change::Change;
 use crate::history::{History, HistoryError, MAX_DEPTH};

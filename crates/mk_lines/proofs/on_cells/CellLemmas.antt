@@ -74,7 +74,7 @@ abbrev pub AreCells : List Cell → Type 0
 AreCells [] = Unit {0}
 AreCells (c ∷ cs) = IsCell c × FitsBefore c cs × AreCells cs
 
--- whether a cell is a byte that is no blank
+-- whether a cell is solid: a byte that is no blank
 abbrev pub is_solid : Cell → Bool
 is_solid (Byte b) = not (is_blank_kind (byte_kind b))
 is_solid (Fold r) = false

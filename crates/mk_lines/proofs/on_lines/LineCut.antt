@@ -241,18 +241,18 @@ grouped-line_feed b t e g = record { fresh = fresh; within = within }
     fresh : grouped (physical_lines (b ∷ t)) ≡ line_pieces AtStart (b ∷ t)
     fresh = rw (e, is_continued-state [] b e, g.fresh, line_continuation-start t) refl
 
-    by-place : (s : LineState) (m p : List ℕ) → is_at_start s ≡ false
+    by-offset : (s : LineState) (m p : List ℕ) → is_at_start s ≡ false
         → onto_first m (before_group (is_continued_state s) (p ++ b ∷ []) (grouped (physical_lines t))) ≡ (m ++ (p ++ line_continuation s (b ∷ t))) ∷ line_pieces s (b ∷ t)
-    by-place AtStart m p h = cc
-    by-place InLine m p h = rw (e, line_continuation-start t, g.fresh) refl
-    by-place AfterOddRun m p h = rw (e, onto_first-twice m (p ++ b ∷ []) (grouped (physical_lines t)), g.within (m ++ (p ++ b ∷ [])) [] tt) (simp append_assoc)
-    by-place AfterOddRunCr m p h = rw (e, onto_first-twice m (p ++ b ∷ []) (grouped (physical_lines t)), g.within (m ++ (p ++ b ∷ [])) [] tt) (simp append_assoc)
+    by-offset AtStart m p h = cc
+    by-offset InLine m p h = rw (e, line_continuation-start t, g.fresh) refl
+    by-offset AfterOddRun m p h = rw (e, onto_first-twice m (p ++ b ∷ []) (grouped (physical_lines t)), g.within (m ++ (p ++ b ∷ [])) [] tt) (simp append_assoc)
+    by-offset AfterOddRunCr m p h = rw (e, onto_first-twice m (p ++ b ∷ []) (grouped (physical_lines t)), g.within (m ++ (p ++ b ∷ [])) [] tt) (simp append_assoc)
 
     within : (m p : List ℕ) → NoLineFeed p → onto_first m (grouped (physical_lines (p ++ b ∷ t))) ≡ (m ++ (p ++ line_continuation (line_state_after InLine p) (b ∷ t))) ∷ line_pieces (line_state_after InLine p) (b ∷ t)
     within m p h =
         rw (physical_lines-append p (b ∷ t) h)
         (let l : before_first p (before_lines (byte_kind b) b (physical_lines t)) ≡ (p ++ b ∷ []) ∷ physical_lines t = rw e (before_first-line p (b ∷ []) (physical_lines t)) in
-        rw (l, is_continued-state p b e) (by-place (line_state_after InLine p) m p (line_state_after-not_start InLine p h refl)))
+        rw (l, is_continued-state p b e) (by-offset (line_state_after InLine p) m p (line_state_after-not_start InLine p h refl)))
 
 -- each byte leads from the start of a line to the state to which it leads from within a line
 pub next-start : (k : ByteKind) → next_line_state AtStart k ≡ next_line_state InLine k

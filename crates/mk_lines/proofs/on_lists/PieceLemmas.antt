@@ -7,7 +7,7 @@ use Rattle.mk_lines.specs.Cells.{Byte, raw_text}
 use Rattle.mk_lines.proofs.on_cells.CellLemmas.{raw_text-append, raw_text-bytes}
 use Rattle.mk_lines.specs.Pieces.{replaced, Piece, Keep, Replace, old_cells, new_cells, old_bytes, new_bytes, replacements}
 
--- ---- places
+-- ---- offsets
 
 minus_zero : (n : ℕ) → n - 0 ≡ n
 minus_zero n = omega arith

@@ -1,4 +1,4 @@
--- Laws of ranges: they cut out their pieces and words, and raw places cut the raw bytes of a line.
+-- Laws of ranges: they cut out their pieces and words, and raw offsets cut the raw bytes of a line.
 use Rattle.std.proofs.Common.{◌≡◌, refl, sym, ap, ◌∙◌, subst, ℕ, ◌+◌, List, [], ◌∷◌, ◌++◌, map, Bool, true, false, length, take, drop, append_assoc, length-append, arith, cond}
 use Rattle.std.specs.Prelude.{slice_range}
 use Rattle.std.proofs.lemmas.List.{append-nil, take-append-drop}
@@ -10,7 +10,7 @@ use Rattle.mk_lines.specs.LogicalLines.{logical_lines}
 use Rattle.mk_lines.specs.Cells.{Cell, raw_text}
 use Rattle.mk_lines.specs.Units.{units}
 use Rattle.mk_lines.specs.Words.{Token, Gap, Word, tokens, token_words, words}
-use Rattle.mk_lines.specs.Ranges.{text_at, piece_ranges, word_token_ranges, line_ranges, unit_ranges, word_ranges, raw_place}
+use Rattle.mk_lines.specs.Ranges.{text_at, piece_ranges, word_token_ranges, line_ranges, unit_ranges, word_ranges, raw_offset}
 use Rattle.mk_lines.proofs.on_cells.CellLemmas.{raw_text-append}
 use Rattle.mk_lines.proofs.on_lines.LineCut.{AtStart, line_step, line_begins, logical_lines-pieces}
 use Rattle.mk_lines.proofs.on_lines.LineLemmas.{concat-logical_lines}
@@ -68,21 +68,21 @@ word_ranges-text t =
     ap (λ z. map (text_at z) (word_ranges t)) (sym (append-nil (token_text ts) ∙ (token_text-tokens (λ b. b) (units (λ b. b) t) ∙ concat-units (λ b. b) t)))
     ∙ word_token_ranges-text [] ts []
 
--- ---- raw places
+-- ---- raw offsets
 
 pub raw_text-split : (cs : List Cell) (n : ℕ) → raw_text cs ≡ raw_text (take n cs) ++ raw_text (drop n cs)
 raw_text-split cs n = ap raw_text (sym (take-append-drop n cs)) ∙ raw_text-append (take n cs) (drop n cs)
 
--- a raw place cuts raw bytes in two: those of the cells before it, and those of the other cells
-pub take-raw_place : (cs : List Cell) (n : ℕ) → take (raw_place cs n) (raw_text cs) ≡ raw_text (take n cs)
-take-raw_place cs n = ap (take (raw_place cs n)) (raw_text-split cs n) ∙ take-append_seam (raw_text (take n cs)) (raw_text (drop n cs))
+-- a raw offset cuts raw bytes in two: those of the cells before it, and those of the other cells
+pub take-raw_offset : (cs : List Cell) (n : ℕ) → take (raw_offset cs n) (raw_text cs) ≡ raw_text (take n cs)
+take-raw_offset cs n = ap (take (raw_offset cs n)) (raw_text-split cs n) ∙ take-append_seam (raw_text (take n cs)) (raw_text (drop n cs))
 
-pub drop-raw_place : (cs : List Cell) (n : ℕ) → drop (raw_place cs n) (raw_text cs) ≡ raw_text (drop n cs)
-drop-raw_place cs n = ap (drop (raw_place cs n)) (raw_text-split cs n) ∙ drop-append_seam (raw_text (take n cs)) (raw_text (drop n cs))
+pub drop-raw_offset : (cs : List Cell) (n : ℕ) → drop (raw_offset cs n) (raw_text cs) ≡ raw_text (drop n cs)
+drop-raw_offset cs n = ap (drop (raw_offset cs n)) (raw_text-split cs n) ∙ drop-append_seam (raw_text (take n cs)) (raw_text (drop n cs))
 
--- the place after the first of two lists of cells is the length of its raw bytes
-pub raw_place-append : (a b : List Cell) → raw_place (a ++ b) (length a) ≡ length (raw_text a)
-raw_place-append a b = ap (λ z. length (raw_text z)) (take-append_seam a b)
+-- the offset after the first of two lists of cells is the length of its raw bytes
+pub raw_offset-append : (a b : List Cell) → raw_offset (a ++ b) (length a) ≡ length (raw_text a)
+raw_offset-append a b = ap (λ z. length (raw_text z)) (take-append_seam a b)
 
 -- ---- lines follow one another
 

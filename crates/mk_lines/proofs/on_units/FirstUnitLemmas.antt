@@ -224,7 +224,7 @@ module _ {A : Type 0} (byte : A → ℕ) (inside : ℕ → UnitState) (opens clo
       by_tests n h false e false f =
           inr (n, laws.at_other n (byte_mark (byte x)) e f, as_many _ _ n _ _ h (mark_count-one byte opens t x false e) (mark_count-one byte closes t x false f))
 
-  -- the rest of a reference goes up to the least place at which its brackets are level
+  -- the rest of a reference goes up to the least offset at which its brackets are level
   reference-rest : (n : ℕ) (seen r : List A) → HasOpen seen n
       → least_prefix_after level seen r ≡ seen ++ continuation (unit_step byte) (unit_begins byte) (inside n) r
   reference-rest n seen [] h = sym (append-nil seen)

@@ -10,7 +10,7 @@ ghost use Rattle.mk_lines.specs.Bytes.{LineFeed, CarriageReturn, Backslash, Blan
 ghost use Rattle.mk_lines.specs.Cells.{Cell, cells, prepend};
 ghost use Rattle.mk_lines.specs.CellStack.{stack_of};
 
-use super::kept::FoldEnd;
+use super::stored::FoldEnd;
 use crate::fault::Fault;
 use memchr::memrchr;
 use std::alloc::Allocator;
@@ -78,53 +78,53 @@ pub fn stack_of_text<A: Allocator + Copy>(
         top: Top::Byte,
         bad_fold: false,
     };
-    let mut place = text.len();
-    while place > 0 {
-        place = stack.prepend_some(text, place, feed)?;
+    let mut offset = text.len();
+    while offset > 0 {
+        offset = stack.prepend_some(text, offset, feed)?;
     }
     Ok(stack)
 }
 
-// Where the run of bytes before a place begins that has no line feed; the bytes before `feed` have
+// Where the run of bytes before an offset begins that has no line feed; the bytes before `feed` have
 // none.
-fn run_start(text: &[u8], place: usize, feed: usize) -> usize
-    requires some { 0 < place }
-    requires place { place ≤ length text.now }
-    requires last { slice_index text.now (place - 1) ≢ 10 }
+fn run_start(text: &[u8], offset: usize, feed: usize) -> usize
+    requires some { 0 < offset }
+    requires offset { offset ≤ length text.now }
+    requires last { slice_index text.now (offset - 1) ≢ 10 }
     requires before { (k : ℕ) → k < feed → slice_index text.now k ≢ 10 }
-    ensures some { result < place }
-    ensures run { (k : ℕ) → result ≤ k → k < place → slice_index text.now k ≢ 10 }
+    ensures some { result < offset }
+    ensures run { (k : ℕ) → result ≤ k → k < offset → slice_index text.now k ≢ 10 }
 {
-    if place <= feed {
+    if offset <= feed {
         return 0;
     }
-    match memrchr(b'\n', &text[..place]) {
+    match memrchr(b'\n', &text[..offset]) {
         Some(at) => at + 1,
         None => 0,
     }
 }
 
 impl<A: Allocator> Stack<A> {
-    // Reads one byte or more before a place, and says where they begin. If a byte stands for itself
+    // Reads one byte or more before an offset, and says where they begin. If a byte stands for itself
     // there, all bytes back to a line feed are read.
-    fn prepend_some(&mut self, text: &[u8], place: usize, feed: usize) -> Result<usize, Fault>
+    fn prepend_some(&mut self, text: &[u8], offset: usize, feed: usize) -> Result<usize, Fault>
         requires before { (k : ℕ) → k < feed → slice_index text.now k ≢ 10 }
-        requires some { 0 < place }
-        requires place { place ≤ length text.now }
-        requires stack { self.old.stack ≡ stack_of place (cells (drop place text.now)) }
-        requires room { place ≤ self.old.room }
-        ensures some { IfOk result (λ start. start < place) }
+        requires some { 0 < offset }
+        requires offset { offset ≤ length text.now }
+        requires stack { self.old.stack ≡ stack_of offset (cells (drop offset text.now)) }
+        requires room { offset ≤ self.old.room }
+        ensures some { IfOk result (λ start. start < offset) }
         ensures room { IfOk result (λ start. start ≤ self.new.room) }
         ensures stack { IfOk result (λ start. self.new.stack ≡ stack_of start (cells (drop start text.now))) }
         ensures fault { IsOkUnless result Fault.NoMemory }
     {
-        if self.top == Top::Byte && text[place - 1] != b'\n' {
-            let start = run_start(text, place, feed);
-            self.push_run(&text[start..place]);
+        if self.top == Top::Byte && text[offset - 1] != b'\n' {
+            let start = run_start(text, offset, feed);
+            self.push_run(&text[start..offset]);
             Ok(start)
         } else {
-            self.prepend(text, place - 1)?;
-            Ok(place - 1)
+            self.prepend(text, offset - 1)?;
+            Ok(offset - 1)
         }
     }
 
@@ -141,16 +141,16 @@ impl<A: Allocator> Stack<A> {
     }
 
     // Reads the byte before those that were read.
-    fn prepend(&mut self, text: &[u8], place: usize) -> Result<(), Fault>
-        requires place { place < length text.now }
-        requires room { place < self.old.room }
-        requires stack { self.old.stack ≡ stack_of (place + 1) (cells (drop (place + 1) text.now)) }
-        ensures room { OnOk result (place ≤ self.new.room) }
-        ensures stack { OnOk result (self.new.stack ≡ stack_of place (cells (drop place text.now))) }
+    fn prepend(&mut self, text: &[u8], offset: usize) -> Result<(), Fault>
+        requires offset { offset < length text.now }
+        requires room { offset < self.old.room }
+        requires stack { self.old.stack ≡ stack_of (offset + 1) (cells (drop (offset + 1) text.now)) }
+        ensures room { OnOk result (offset ≤ self.new.room) }
+        ensures stack { OnOk result (self.new.stack ≡ stack_of offset (cells (drop offset text.now))) }
         ensures fault { IsOkUnless result Fault.NoMemory }
     {
-        match text[place] {
-            b'\n' => return self.push_line_feed(text, place),
+        match text[offset] {
+            b'\n' => return self.push_line_feed(text, offset),
             b'\r' => self.push_carriage_return(),
             b'\\' => self.push_backslash(),
             b' ' => self.push_blank(b' '),
@@ -162,12 +162,12 @@ impl<A: Allocator> Stack<A> {
 
     // Reads a line feed, which takes the blanks and folds that follow it: a fold that is there, or
     // only blanks.
-    fn push_line_feed(&mut self, text: &[u8], place: usize) -> Result<(), Fault>
-        requires place { place < length text.now }
-        requires room { place < self.old.room }
-        requires stack { self.old.stack ≡ stack_of (place + 1) (cells (drop (place + 1) text.now)) }
-        ensures room { OnOk result (place ≤ self.new.room) }
-        ensures stack { OnOk result (self.new.stack ≡ stack_of place (prepend LineFeed 10 (cells (drop (place + 1) text.now)))) }
+    fn push_line_feed(&mut self, text: &[u8], offset: usize) -> Result<(), Fault>
+        requires offset { offset < length text.now }
+        requires room { offset < self.old.room }
+        requires stack { self.old.stack ≡ stack_of (offset + 1) (cells (drop (offset + 1) text.now)) }
+        ensures room { OnOk result (offset ≤ self.new.room) }
+        ensures stack { OnOk result (self.new.stack ≡ stack_of offset (prepend LineFeed 10 (cells (drop (offset + 1) text.now)))) }
         ensures fault { IsOkUnless result Fault.NoMemory }
     {
         match self.top {
@@ -175,25 +175,25 @@ impl<A: Allocator> Stack<A> {
                 self.replace_top(b'\n', Top::Lf);
                 Ok(())
             }
-            _ => self.push_line_end(text, place),
+            _ => self.push_line_end(text, offset),
         }
     }
 
     // Reads a line feed that has no fold directly after it: it takes only blanks.
-    fn push_line_end(&mut self, text: &[u8], place: usize) -> Result<(), Fault>
-        requires place { place < length text.now }
-        requires room { place < self.old.room }
-        requires stack { self.old.stack ≡ stack_of (place + 1) (cells (drop (place + 1) text.now)) }
+    fn push_line_end(&mut self, text: &[u8], offset: usize) -> Result<(), Fault>
+        requires offset { offset < length text.now }
+        requires room { offset < self.old.room }
+        requires stack { self.old.stack ≡ stack_of (offset + 1) (cells (drop (offset + 1) text.now)) }
         requires no_fold { self.old.stack.top ≢ Top.Fold }
-        ensures room { OnOk result (place ≤ self.new.room) }
-        ensures stack { OnOk result (self.new.stack ≡ stack_of place (prepend LineFeed 10 (cells (drop (place + 1) text.now)))) }
+        ensures room { OnOk result (offset ≤ self.new.room) }
+        ensures stack { OnOk result (self.new.stack ≡ stack_of offset (prepend LineFeed 10 (cells (drop (offset + 1) text.now)))) }
         ensures fault { IsOkUnless result Fault.NoMemory }
     {
-        let blanks = count_blanks(&text[place + 1..]);
+        let blanks = count_blanks(&text[offset + 1..]);
         self.first += blanks;
         self.ends.push(FoldEnd {
             after: self.joined.len() - self.first,
-            raw_end: place + 1 + blanks,
+            raw_end: offset + 1 + blanks,
         })?;
         self.push_byte(b'\n');
         self.top = Top::Lf;
@@ -203,7 +203,7 @@ impl<A: Allocator> Stack<A> {
     // Reads a carriage return, which joins a line feed directly after it.
     fn push_carriage_return(&mut self)
         requires { 0 < self.old.room }
-        ensures stack { (place : ℕ) (cs : List Cell) → self.old.stack ≡ stack_of (place + 1) cs → self.new.stack ≡ stack_of place (prepend CarriageReturn 13 cs) }
+        ensures stack { (offset : ℕ) (cs : List Cell) → self.old.stack ≡ stack_of (offset + 1) cs → self.new.stack ≡ stack_of offset (prepend CarriageReturn 13 cs) }
         ensures room { self.old.room ≤ self.new.room + 1 }
     {
         match self.top {
@@ -217,7 +217,7 @@ impl<A: Allocator> Stack<A> {
     fn push_backslash(&mut self)
         requires room { 0 < self.old.room }
         requires some { self.old.stack.top ≢ Top.Byte → 0 < length self.old.stack.joined }
-        ensures stack { (place : ℕ) (cs : List Cell) → self.old.stack ≡ stack_of (place + 1) cs → self.new.stack ≡ stack_of place (prepend Backslash 92 cs) }
+        ensures stack { (offset : ℕ) (cs : List Cell) → self.old.stack ≡ stack_of (offset + 1) cs → self.new.stack ≡ stack_of offset (prepend Backslash 92 cs) }
         ensures room { self.old.room ≤ self.new.room + 1 }
     {
         match self.top {
@@ -234,7 +234,7 @@ impl<A: Allocator> Stack<A> {
     fn push_blank(&mut self, blank: u8)
         requires blank { byte_kind blank ≡ Blank }
         requires room { 0 < self.old.room }
-        ensures stack { (place : ℕ) (cs : List Cell) → self.old.stack ≡ stack_of (place + 1) cs → self.new.stack ≡ stack_of place (prepend Blank blank cs) }
+        ensures stack { (offset : ℕ) (cs : List Cell) → self.old.stack ≡ stack_of (offset + 1) cs → self.new.stack ≡ stack_of offset (prepend Blank blank cs) }
         ensures room { self.old.room ≤ self.new.room + 1 }
     {
         match self.top {
@@ -254,7 +254,7 @@ impl<A: Allocator> Stack<A> {
         self.top = Top::Byte;
     }
 
-    // Puts another cell in the place of the first.
+    // Puts another cell on top, instead of the first.
     fn replace_top(&mut self, byte: u8, top: Top)
         requires { 0 < length self.old.stack.joined }
         ensures stack { (before : List ℕ) (last : ℕ) → self.old.stack.joined ≡ last ∷ before → self.new.stack ≡ record self.old.stack { joined = byte ∷ before; top = top } }

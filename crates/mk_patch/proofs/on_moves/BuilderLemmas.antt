@@ -3,7 +3,7 @@ use Rattle.std.proofs.Common.{◌≡◌, ap, ◌∙◌, arith, ℕ, ◌+◌, ◌
 use Rattle.std.proofs.lemmas.List.{map-append, length-map}
 use Rattle.circular_buffer.specs.Buffer.{Buffer, buffer, keep_last}
 use Rattle.mk_patch.specs.Moves.{held_by, held_by_move, taken_by, taken_by_move}
-use Rattle.mk_patch.specs.Steps.{move_of, moves_of}
+use Rattle.mk_patch.specs.StepMoves.{move_of, moves_of}
 use Rattle.mk_patch.specs.declared.step.Step.{Step}
 use Rattle.mk_patch.proofs.on_moves.MoveLemmas.{held_by-append, taken_by-append}
 

@@ -3,11 +3,11 @@ use Rattle.std.proofs.Common.{◌≡◌, ℕ, zero, suc, ◌+◌, ◌^◌, ◌<�
 use Rattle.std.specs.Prelude.{slice_get}
 use Rattle.std.proofs.lemmas.Grind.{common_steps}
 use Rattle.mk_lines.specs.PhysicalLines.{without_line_end}
-use Rattle.mk_tree.specs.PlacedLines.{PlacedLine, bytes_of_line, is_conditional_places, last_line, size_of, with_last_bytes}
+use Rattle.mk_tree.specs.LocatedLines.{LocatedLine, bytes_of_line, is_conditional_located, last_line, size_of, with_last_bytes}
 use Rattle.mk_tree.proofs.on_changes.Sizes.{size_of-removed}
 use Rattle.mk_patch.specs.Moves.{Move, PutIn, TakeOut, Exchange, SwapEnd, FitsMove, FitMoves, IsPlainAt, after_move, after_moves, held_by, held_by_move, taken_by, taken_by_move}
 
--- ---- one place of a list
+-- ---- one index of a list
 
 taken_out-put_in : {X : Type 0} (xs : List X) (at : ℕ) (x : X) → at ≤ length xs → take at (take at xs ++ x ∷ drop at xs) ++ drop (at + 1) (take at xs ++ x ∷ drop at xs) ≡ xs
 taken_out-put_in xs zero x h = refl
@@ -31,38 +31,38 @@ get-put (y ∷ xs) rest (suc at) x h = get-put xs rest at x (omega arith)
 
 -- ---- the last line with other bytes
 
-last-with_bytes : (b : List ℕ) (ls : List PlacedLine) → 0 < length ls → bytes_of_line (last_line (with_last_bytes b ls)) ≡ b
+last-with_bytes : (b : List ℕ) (ls : List LocatedLine) → 0 < length ls → bytes_of_line (last_line (with_last_bytes b ls)) ≡ b
 last-with_bytes b [] h = absurd (omega arith)
 last-with_bytes b (l ∷ []) h = refl
 last-with_bytes b (l ∷ k ∷ []) h = refl
 last-with_bytes b (l ∷ k ∷ m ∷ ls) h = last-with_bytes b (k ∷ m ∷ ls) (omega arith)
 
-swapped-back : (b : List ℕ) (ls : List PlacedLine) → with_last_bytes (bytes_of_line (last_line ls)) (with_last_bytes b ls) ≡ ls
+swapped-back : (b : List ℕ) (ls : List LocatedLine) → with_last_bytes (bytes_of_line (last_line ls)) (with_last_bytes b ls) ≡ ls
 swapped-back b [] = refl
 swapped-back b (l ∷ []) = refl
 swapped-back b (l ∷ k ∷ []) = refl
 swapped-back b (l ∷ k ∷ m ∷ ls) = ap (λ z. l ∷ z) (swapped-back b (k ∷ m ∷ ls))
 
-pub length-with_last : (b : List ℕ) (ls : List PlacedLine) → length (with_last_bytes b ls) ≡ length ls
+pub length-with_last : (b : List ℕ) (ls : List LocatedLine) → length (with_last_bytes b ls) ≡ length ls
 length-with_last b [] = refl
 length-with_last b (l ∷ []) = refl
 length-with_last b (l ∷ k ∷ ls) = ap suc (length-with_last b (k ∷ ls))
 
--- the last of some lines, by its place
-pub last_line-at : (ls : List PlacedLine) (at : ℕ) → length ls ≡ at + 1 → last_line ls ≡ slice_get ls at
+-- the last of some lines, by its index
+pub last_line-at : (ls : List LocatedLine) (at : ℕ) → length ls ≡ at + 1 → last_line ls ≡ slice_get ls at
 last_line-at [] at h = absurd (omega (arith, h))
 last_line-at (l ∷ []) zero h = refl
 last_line-at (l ∷ []) (suc at) h = absurd (omega (arith, h))
 last_line-at (l ∷ k ∷ ls) zero h = absurd (omega (arith, h))
 last_line-at (l ∷ k ∷ ls) (suc at) h = last_line-at (k ∷ ls) at (omega (arith, h))
 
-pub size_of-with_last : (b : List ℕ) (ls : List PlacedLine) → size_of (with_last_bytes b ls) + length (bytes_of_line (last_line ls)) ≤ size_of ls + length b
+pub size_of-with_last : (b : List ℕ) (ls : List LocatedLine) → size_of (with_last_bytes b ls) + length (bytes_of_line (last_line ls)) ≤ size_of ls + length b
 size_of-with_last b [] = omega arith
 size_of-with_last b (l ∷ []) = omega arith
 size_of-with_last b (l ∷ k ∷ ls) = omega (arith, size_of-with_last b (k ∷ ls))
 
--- what is asked of the last line's new bytes, where the last line is found by its place
-pub swap_end-fits : (b : List ℕ) (ls : List PlacedLine) (at : ℕ) (l : PlacedLine) → length ls ≡ at + 1 → Some l ≡ slice_get ls at → 0 < length b → without_line_end b ≡ without_line_end l.bytes
+-- what is asked of the last line's new bytes, where the last line is found by its index
+pub swap_end-fits : (b : List ℕ) (ls : List LocatedLine) (at : ℕ) (l : LocatedLine) → length ls ≡ at + 1 → Some l ≡ slice_get ls at → 0 < length b → without_line_end b ≡ without_line_end l.bytes
     → size_of ls + length b ≤ 2 ^ 24 → FitsMove (SwapEnd b) ls
 swap_end-fits b ls at l n e some same few =
     let x : last_line ls ≡ Some l = last_line-at ls at n ∙ sym e in
@@ -71,31 +71,31 @@ swap_end-fits b ls at l n e some same few =
 -- ---- a move and its inverse
 
 -- a move that fits the lines after another, and leads back to those before it
-pub record TakesBack (back : Move) (before after : List PlacedLine) : Type 0 where
+pub record TakesBack (back : Move) (before after : List LocatedLine) : Type 0 where
   pub fits : FitsMove back after
   pub leads : after_move back after ≡ before
 
-plain_line : (ls : List PlacedLine) (at : ℕ) (l : PlacedLine) → Some l ≡ slice_get ls at → IsPlainAt at ls → is_conditional_places l.class ≡ false
+plain_line : (ls : List LocatedLine) (at : ℕ) (l : LocatedLine) → Some l ≡ slice_get ls at → IsPlainAt at ls → is_conditional_located l.class ≡ false
 plain_line ls at l h p = rw (← h) at p
 
-pub put_in-taken_back : (before after : List PlacedLine) (at : ℕ) (l : PlacedLine) → FitsMove (PutIn at l) before → after ≡ after_move (PutIn at l) before → TakesBack (TakeOut at) before after
+pub put_in-taken_back : (before after : List LocatedLine) (at : ℕ) (l : LocatedLine) → FitsMove (PutIn at l) before → after ≡ after_move (PutIn at l) before → TakesBack (TakeOut at) before after
 put_in-taken_back before after at l f e =
     rw e (record { fits = (grind (arith, common_steps), rw (get-put before (drop at before) at l f.0) f.1); leads = taken_out-put_in before at l f.0 })
 
-pub take_out-taken_back : (before after : List PlacedLine) (at : ℕ) (l : PlacedLine) → FitsMove (TakeOut at) before → after ≡ after_move (TakeOut at) before → Some l ≡ slice_get before at → size_of before ≤ 2 ^ 24
+pub take_out-taken_back : (before after : List LocatedLine) (at : ℕ) (l : LocatedLine) → FitsMove (TakeOut at) before → after ≡ after_move (TakeOut at) before → Some l ≡ slice_get before at → size_of before ≤ 2 ^ 24
     → TakesBack (PutIn at l) before after
 take_out-taken_back before after at l f e h few =
     let z = size_of-removed before at l h in
     rw e (record { fits = (grind (arith, common_steps), plain_line before at l h f.1, omega (arith, z, few)); leads = put_in-taken_out before at l h })
 
-pub exchange-taken_back : (before after : List PlacedLine) (at : ℕ) (old new : PlacedLine) → FitsMove (Exchange at new) before → after ≡ after_move (Exchange at new) before → Some old ≡ slice_get before at
+pub exchange-taken_back : (before after : List LocatedLine) (at : ℕ) (old new : LocatedLine) → FitsMove (Exchange at new) before → after ≡ after_move (Exchange at new) before → Some old ≡ slice_get before at
     → size_of before ≤ 2 ^ 24 → TakesBack (Exchange at old) before after
 exchange-taken_back before after at old new f e h few =
     let r = exchanged-back before at old new h in
     let within : at ≤ length before = omega (arith, f.0) in
     rw e (record { fits = (grind (arith, common_steps), rw (get-put before (drop (at + 1) before) at new within) f.2, plain_line before at old h f.1, rw r few); leads = r })
 
-pub swap_end-taken_back : (before after : List PlacedLine) (old new : List ℕ) → FitsMove (SwapEnd new) before → after ≡ after_move (SwapEnd new) before → old ≡ bytes_of_line (last_line before) → 0 < length old
+pub swap_end-taken_back : (before after : List LocatedLine) (old new : List ℕ) → FitsMove (SwapEnd new) before → after ≡ after_move (SwapEnd new) before → old ≡ bytes_of_line (last_line before) → 0 < length old
     → size_of before ≤ 2 ^ 24 → TakesBack (SwapEnd old) before after
 swap_end-taken_back before after old new f e h some few =
     let r = swapped-back new before in
@@ -104,11 +104,11 @@ swap_end-taken_back before after old new f e h some few =
 
 -- ---- moves one after the other
 
-pub after_moves-append : (ms ns : List Move) (ls : List PlacedLine) → after_moves (ms ++ ns) ls ≡ after_moves ns (after_moves ms ls)
+pub after_moves-append : (ms ns : List Move) (ls : List LocatedLine) → after_moves (ms ++ ns) ls ≡ after_moves ns (after_moves ms ls)
 after_moves-append [] ns ls = refl
 after_moves-append (m ∷ ms) ns ls = after_moves-append ms ns (after_move m ls)
 
-pub fit-append : (ms ns : List Move) (ls : List PlacedLine) → FitMoves ms ls → FitMoves ns (after_moves ms ls) → FitMoves (ms ++ ns) ls
+pub fit-append : (ms ns : List Move) (ls : List LocatedLine) → FitMoves ms ls → FitMoves ns (after_moves ms ls) → FitMoves (ms ++ ns) ls
 fit-append [] ns ls f g = g
 fit-append (m ∷ ms) ns ls f g = (f.0, fit-append ms ns (after_move m ls) f.1 g)
 
@@ -143,13 +143,13 @@ taken_by-few (m ∷ ms) = omega (arith, taken_by_move-few m, taken_by-few ms)
 
 -- ---- how many lines there are after moves
 
-number-after : (m : Move) (ls : List PlacedLine) → FitsMove m ls → length (after_move m ls) + taken_by_move m ≡ length ls + held_by_move m
+number-after : (m : Move) (ls : List LocatedLine) → FitsMove m ls → length (after_move m ls) + taken_by_move m ≡ length ls + held_by_move m
 number-after (PutIn at l) ls f = grind (arith, common_steps)
 number-after (TakeOut at) ls f = grind (arith, common_steps)
 number-after (Exchange at l) ls f = grind (arith, common_steps)
 number-after (SwapEnd b) ls f = omega (arith, length-with_last b ls)
 
-pub number-after_moves : (ms : List Move) (ls : List PlacedLine) → FitMoves ms ls → length (after_moves ms ls) + taken_by ms ≡ length ls + held_by ms
+pub number-after_moves : (ms : List Move) (ls : List LocatedLine) → FitMoves ms ls → length (after_moves ms ls) + taken_by ms ≡ length ls + held_by ms
 number-after_moves [] ls f = refl
 number-after_moves (m ∷ ms) ls f = omega (arith, number-after m ls f.0, number-after_moves ms (after_move m ls) f.1)
 

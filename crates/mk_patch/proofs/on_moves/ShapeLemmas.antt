@@ -4,35 +4,35 @@ use Rattle.std.proofs.Common.{◌≡◌, refl, sym, ap, ◌∙◌, arith, ℕ, z
 use Rattle.std.specs.Prelude.{slice_get}
 use Rattle.std.proofs.Math.Seq.{take-append_seam, drop-append_seam, drop-append-add}
 use Rattle.mk_lines.specs.PhysicalLines.{without_line_end}
-use Rattle.mk_tree.specs.PlacedLines.{PlacedLine, bytes_of_line, last_line, size_of, with_last_bytes}
-use Rattle.mk_tree.proofs.Places.{size_of-append}
+use Rattle.mk_tree.specs.LocatedLines.{LocatedLine, bytes_of_line, last_line, size_of, with_last_bytes}
+use Rattle.mk_tree.proofs.Indices.{size_of-append}
 use Rattle.mk_patch.specs.Moves.{Move, PutIn, TakeOut, Exchange, SwapEnd, FitMoves, IsPlain, IsPlainAt, after_moves, exchanged, held_by, taken_by}
 
 -- moves fit some lines and lead to others
-pub record LeadTo (ms : List Move) (before after : List PlacedLine) : Type 0 where
+pub record LeadTo (ms : List Move) (before after : List LocatedLine) : Type 0 where
   pub fit : FitMoves ms before
   pub lead : after_moves ms before ≡ after
 
 -- equal moves fit equal lines and lead to equal lines
-pub same-lead : (ms ns : List Move) (a b c d : List PlacedLine) → ms ≡ ns → a ≡ b → c ≡ d → LeadTo ms a c → LeadTo ns b d
+pub same-lead : (ms ns : List Move) (a b c d : List LocatedLine) → ms ≡ ns → a ≡ b → c ≡ d → LeadTo ms a c → LeadTo ns b d
 same-lead ms ns a b c d m e f h = rw (← m, ← e, ← f) h
 
 -- lines of no conditional
-abbrev pub ArePlain : List PlacedLine → Type 0
+abbrev pub ArePlain : List LocatedLine → Type 0
 ArePlain [] = Unit {0}
 ArePlain (l ∷ ls) = IsPlain l × ArePlain ls
 
--- ---- a place between two runs of lines
+-- ---- an index between two runs of lines
 
-put-between : (above below : List PlacedLine) (l : PlacedLine) (at : ℕ) → at ≡ length above → take at (above ++ below) ++ l ∷ drop at (above ++ below) ≡ above ++ l ∷ below
+put-between : (above below : List LocatedLine) (l : LocatedLine) (at : ℕ) → at ≡ length above → take at (above ++ below) ++ l ∷ drop at (above ++ below) ≡ above ++ l ∷ below
 put-between above below l at e =
     rw e (ap (λ z. z ++ l ∷ drop (length above) (above ++ below)) (take-append_seam above below) ∙ ap (λ z. above ++ l ∷ z) (drop-append_seam above below))
 
-taken-between : (above below : List PlacedLine) (l : PlacedLine) (at : ℕ) → at ≡ length above → take at (above ++ l ∷ below) ++ drop (at + 1) (above ++ l ∷ below) ≡ above ++ below
+taken-between : (above below : List LocatedLine) (l : LocatedLine) (at : ℕ) → at ≡ length above → take at (above ++ l ∷ below) ++ drop (at + 1) (above ++ l ∷ below) ≡ above ++ below
 taken-between above below l at e =
     rw e (ap (λ z. z ++ drop (length above + 1) (above ++ l ∷ below)) (take-append_seam above (l ∷ below)) ∙ ap (λ z. above ++ z) (drop-append-add above (l ∷ below) 1))
 
-pub exchanged-between : (above below : List PlacedLine) (old new : PlacedLine) (at : ℕ) → at ≡ length above → exchanged at new (above ++ old ∷ below) ≡ above ++ new ∷ below
+pub exchanged-between : (above below : List LocatedLine) (old new : LocatedLine) (at : ℕ) → at ≡ length above → exchanged at new (above ++ old ∷ below) ≡ above ++ new ∷ below
 exchanged-between above below old new at e =
     rw e (ap (λ z. z ++ new ∷ drop (length above + 1) (above ++ old ∷ below)) (take-append_seam above (old ∷ below)) ∙ ap (λ z. above ++ new ∷ z) (drop-append-add above (old ∷ below) 1))
 
@@ -40,24 +40,24 @@ get-first : {X : Type 0} (xs ys : List X) (y : X) → slice_get (xs ++ y ∷ ys)
 get-first [] ys y = refl
 get-first (x ∷ xs) ys y = get-first xs ys y
 
-pub get-between : (above below : List PlacedLine) (l : PlacedLine) (at : ℕ) → at ≡ length above → slice_get (above ++ l ∷ below) at ≡ Some l
+pub get-between : (above below : List LocatedLine) (l : LocatedLine) (at : ℕ) → at ≡ length above → slice_get (above ++ l ∷ below) at ≡ Some l
 get-between above below l at e = rw e (get-first above below l)
 
-pub plain-between : (above below : List PlacedLine) (l : PlacedLine) (at : ℕ) → at ≡ length above → IsPlain l → IsPlainAt at (above ++ l ∷ below)
+pub plain-between : (above below : List LocatedLine) (l : LocatedLine) (at : ℕ) → at ≡ length above → IsPlain l → IsPlainAt at (above ++ l ∷ below)
 plain-between above below l at e p = rw (get-between above below l at e) p
 
-pub within-between : (above below : List PlacedLine) (l : PlacedLine) (at : ℕ) → at ≡ length above → at < length (above ++ l ∷ below)
+pub within-between : (above below : List LocatedLine) (l : LocatedLine) (at : ℕ) → at ≡ length above → at < length (above ++ l ∷ below)
 within-between above below l at e = omega (arith, length-append above (l ∷ below), e)
 
 -- ---- a line put in, and one exchanged
 
-pub put_in-leads : (above below : List PlacedLine) (l : PlacedLine) (at : ℕ) → at ≡ length above → IsPlain l → size_of (above ++ l ∷ below) ≤ 2 ^ 24 → LeadTo (PutIn at l ∷ []) (above ++ below) (above ++ l ∷ below)
+pub put_in-leads : (above below : List LocatedLine) (l : LocatedLine) (at : ℕ) → at ≡ length above → IsPlain l → size_of (above ++ l ∷ below) ≤ 2 ^ 24 → LeadTo (PutIn at l ∷ []) (above ++ below) (above ++ l ∷ below)
 put_in-leads above below l at e p few =
     let z = size_of-append above below in
     let w = size_of-append above (l ∷ below) in
     record { fit = ((omega (arith, length-append above below, e), p, omega (arith, z, w, few)), tt); lead = put-between above below l at e }
 
-pub exchange-leads : (above below : List PlacedLine) (old new : PlacedLine) (at : ℕ) → at ≡ length above → IsPlain old → IsPlain new → size_of (above ++ new ∷ below) ≤ 2 ^ 24
+pub exchange-leads : (above below : List LocatedLine) (old new : LocatedLine) (at : ℕ) → at ≡ length above → IsPlain old → IsPlain new → size_of (above ++ new ∷ below) ≤ 2 ^ 24
     → LeadTo (Exchange at new ∷ []) (above ++ old ∷ below) (above ++ new ∷ below)
 exchange-leads above below old new at e p q few =
     let x = exchanged-between above below old new at e in
@@ -65,27 +65,27 @@ exchange-leads above below old new at e p q few =
 
 -- ---- a last line with another line end
 
-last-ended : (above : List PlacedLine) (last : PlacedLine) (b : List ℕ) → with_last_bytes b (above ++ last ∷ []) ≡ above ++ record last { bytes = b } ∷ []
+last-ended : (above : List LocatedLine) (last : LocatedLine) (b : List ℕ) → with_last_bytes b (above ++ last ∷ []) ≡ above ++ record last { bytes = b } ∷ []
 last-ended [] last b = refl
 last-ended (x ∷ []) last b = refl
 last-ended (x ∷ y ∷ above) last b = ap (λ z. x ∷ z) (last-ended (y ∷ above) last b)
 
-last-of : (above : List PlacedLine) (last : PlacedLine) → last_line (above ++ last ∷ []) ≡ Some last
+last-of : (above : List LocatedLine) (last : LocatedLine) → last_line (above ++ last ∷ []) ≡ Some last
 last-of [] last = refl
 last-of (x ∷ []) last = refl
 last-of (x ∷ y ∷ above) last = last-of (y ∷ above) last
 
-swap_end-leads : (above : List PlacedLine) (last : PlacedLine) (b : List ℕ) → 0 < length b → without_line_end b ≡ without_line_end last.bytes → size_of (above ++ record last { bytes = b } ∷ []) ≤ 2 ^ 24
+swap_end-leads : (above : List LocatedLine) (last : LocatedLine) (b : List ℕ) → 0 < length b → without_line_end b ≡ without_line_end last.bytes → size_of (above ++ record last { bytes = b } ∷ []) ≤ 2 ^ 24
     → LeadTo (SwapEnd b ∷ []) (above ++ last ∷ []) (above ++ record last { bytes = b } ∷ [])
 swap_end-leads above last b some same few =
     let x = last-ended above last b in
     record { fit = ((omega (arith, length-append above (last ∷ [])), some, same ∙ ap (λ z. without_line_end (bytes_of_line z)) (sym (last-of above last)), rw x few), tt); lead = x }
 
 -- after a last line with another line end, a line is put in at the end
-pub ended-put_in-leads : (above : List PlacedLine) (last l : PlacedLine) (b : List ℕ) (at : ℕ) → at ≡ length above + 1 → 0 < length b → without_line_end b ≡ without_line_end last.bytes → IsPlain l
+pub ended-put_in-leads : (above : List LocatedLine) (last l : LocatedLine) (b : List ℕ) (at : ℕ) → at ≡ length above + 1 → 0 < length b → without_line_end b ≡ without_line_end last.bytes → IsPlain l
     → size_of (above ++ record last { bytes = b } ∷ l ∷ []) ≤ 2 ^ 24 → LeadTo (SwapEnd b ∷ PutIn at l ∷ []) (above ++ last ∷ []) (above ++ record last { bytes = b } ∷ l ∷ [])
 ended-put_in-leads above last l b at e some same p few =
-    let ended : PlacedLine = record last { bytes = b } in
+    let ended : LocatedLine = record last { bytes = b } in
     let z = size_of-append above (ended ∷ l ∷ []) in
     let w = size_of-append above (ended ∷ []) in
     let a = append-one above ended (l ∷ []) in
@@ -102,9 +102,9 @@ ended-put_in-leads above last l b at e some same p few =
     append-none [] = refl
     append-none (x ∷ xs) = ap (λ z. x ∷ z) (append-none xs)
 
--- ---- a run of lines taken out, one after the other at one place
+-- ---- a run of lines taken out, one after the other at one index
 
-pub run-leads : (above run below : List PlacedLine) (at : ℕ) → at ≡ length above → ArePlain run → LeadTo (replicate (length run) (TakeOut at)) (above ++ (run ++ below)) (above ++ below)
+pub run-leads : (above run below : List LocatedLine) (at : ℕ) → at ≡ length above → ArePlain run → LeadTo (replicate (length run) (TakeOut at)) (above ++ (run ++ below)) (above ++ below)
 run-leads above [] below at e p = record { fit = tt; lead = refl }
 run-leads above (l ∷ run) below at e p =
     let x = taken-between above (run ++ below) l at e in

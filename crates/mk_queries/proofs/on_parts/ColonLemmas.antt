@@ -1,6 +1,6 @@
 -- The separator before an assignment is as wide as a separator is.
 use Rattle.std.proofs.Common.{◌≡◌, refl, sym, ap, ◌∙◌, subst, ℕ, suc, List, [], ◌∷◌, map, Bool, true, false, ◌&&◌, ◌||◌, if◌then◌else◌, take, drop, Some}
-use Rattle.mk_class.specs.Lists.{from}
+use Rattle.mk_class.specs.ListTests.{from}
 use Rattle.mk_class.specs.Symbols.{Symbol, symbol, is_colon_symbol, is_ampersand_symbol}
 use Rattle.mk_class.specs.Symbols.Symbol.{Colon, Ampersand}
 use Rattle.mk_class.proofs.on_symbols.SymbolLemmas.{symbol-unit}
@@ -8,7 +8,7 @@ use Rattle.mk_class.specs.CutTexts.{cut_text}
 use Rattle.mk_class.specs.Assignments.{assignment}
 use Rattle.mk_class.specs.Separators.{separator_at, separator_length, begins_separator, takes_assignment}
 use Rattle.mk_class.specs.Headers.{TargetAssignment}
-use Rattle.mk_class.specs.ClassPlaces.{width}
+use Rattle.mk_class.specs.LocatedClasses.{width}
 use Rattle.mk_class.proofs.on_classes.ClassHolds.{IsTarget}
 
 -- a separator that begins with a `&` takes no assignment
@@ -45,7 +45,7 @@ module _ {A : Type 0} (byte : A → ℕ) where
   front-wide (u ∷ []) h t = one-wide u (symbol byte u) refl h
   front-wide (u ∷ v ∷ us) h t = two-wide u v us (symbol byte u) (symbol byte v) refl refl h t
 
-  -- what stands from a place on that passes a test passes it
+  -- what stands from an offset on that passes a test passes it
   from-passes : (p : List (List A) → Bool) (us : List (List A)) (x : List A) (xs : List (List A)) → from p us ≡ x ∷ xs → p (x ∷ xs) ≡ true
   from-passes p [] x xs h = absurd (cc)
   from-passes p (u ∷ us) x xs h = go (p (u ∷ us)) refl h (from-passes p us x xs)

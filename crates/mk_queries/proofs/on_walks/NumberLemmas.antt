@@ -9,7 +9,7 @@ use Rattle.mk_lines.specs.PhysicalLines.{physical_lines, before_lines}
 use Rattle.mk_lines.proofs.on_lists.ByteLemmas.{line_feed-byte}
 use Rattle.mk_lines.proofs.on_lines.LineCut.{LineState, AtStart, InLine, AfterOddRun, AfterOddRunCr, next_line_state, line_step, line_state_after}
 use Rattle.mk_lines.proofs.on_lines.LineLemmas.{Ends}
-use Rattle.mk_queries.specs.Walks.{line_feeds}
+use Rattle.mk_queries.specs.QueryWalks.{line_feeds}
 
 -- the line feeds of a text are counted
 pub line_feeds-counted : (t : List ℕ) → line_feeds t ≡ count_by (is_byte 10) t

@@ -8,26 +8,26 @@ use Rattle.mk_class.specs.Texts.{word_texts}
 use Rattle.mk_class.specs.Headers.{inline_recipe}
 use Rattle.mk_class.specs.Classes.{Class, is_recipe}
 use Rattle.mk_class.specs.Classes.Class.{Endef, Body, Recipe, Opaque, Blank, Comment, Assign, DefineHead, If, Else, Endif, Directive, TargetAssign, Rough, Header}
-use Rattle.mk_class.specs.ClassPlaces.{class_places, header_places}
+use Rattle.mk_class.specs.LocatedClasses.{located_class, located_header}
 use Rattle.mk_class.specs.ClassTable.{class_of}
 use Rattle.mk_class.specs.ClassedLines.{ClassedLine, classed_lines}
-use Rattle.mk_class.specs.Contexts.{Context, start, context_after_places}
+use Rattle.mk_class.specs.Contexts.{Context, start, context_after_located}
 use Rattle.mk_class.specs.declared.class.Class as class
 use Rattle.mk_class.specs.declared.class.Class.TheVariants as variants
 use Rattle.mk_tree.specs.Items.{Item, items_of_line, raw_units}
 use Rattle.mk_tree.specs.LineTexts.{context_of, StandingLine}
 use Rattle.mk_tree.specs.RecipeLines.{stays_in_rule, rule_lines, recipe_lines}
 use Rattle.mk_tree.specs.Documents.{IsFaithful}
-use Rattle.mk_tree.specs.PlacedLines.{PlacedLine, placed_line, placed_lines, placed_text, text_of_line}
-use Rattle.mk_tree.specs.Walks.{LinesInContext}
-use Rattle.mk_tree.proofs.on_documents.LinePlaces.{located, context_of-last}
+use Rattle.mk_tree.specs.LocatedLines.{LocatedLine, located_line, located_lines, located_text, text_of_line}
+use Rattle.mk_tree.specs.TreeWalks.{LinesInContext}
+use Rattle.mk_tree.proofs.on_documents.LinesInText.{line-in_text, context_of-last}
 use Rattle.mk_queries.specs.StandingLines.{standing_below, line_number, depth, recipe_count}
 use Rattle.mk_queries.specs.Spacing.{each_after_space}
 use Rattle.mk_queries.specs.PartTexts.{targets_text, pattern_text, order_only_text, count_text, inline_count}
-use Rattle.mk_queries.specs.ItemLines.{place_text, rule_line}
-use Rattle.mk_queries.specs.PlacedTexts.{header_placed, count_placed, rule_placed, counted_after, count_of, one_more}
+use Rattle.mk_queries.specs.ItemLines.{position_text, rule_line}
+use Rattle.mk_queries.specs.LocatedTexts.{header_located, count_located, rule_located, counted_after, count_of, one_more}
 use Rattle.mk_queries.specs.Queries.{said_of_lines, rules_text}
-use Rattle.mk_queries.specs.Walks.{line_feeds, rules_ahead}
+use Rattle.mk_queries.specs.QueryWalks.{line_feeds, rules_ahead}
 use Rattle.mk_queries.proofs.on_parts.HeaderPartLemmas.{header-seen, inline-counted}
 use Rattle.mk_queries.proofs.on_walks.SaidLemmas.{number_below, number-next}
 
@@ -38,7 +38,7 @@ abbrev closed : Option ℕ → ℕ → List ℕ
 closed None m = []
 closed (Some k) m = count_text (k + m)
 
-count-closed : (o : Option ℕ) → count_placed o ≡ closed o 0
+count-closed : (o : Option ℕ) → count_located o ≡ closed o 0
 count-closed None = refl
 count-closed (Some k) = let e : k ≡ k + 0 = omega arith in ap count_text e
 
@@ -91,10 +91,10 @@ length-recipe_lines l ls = go l.class refl
 -- what the walk says at a line and below it is the count that ends the line of a header above, what is said of the line's item, and
 -- what is said below
 line-said : (n d : ℕ) (c : Context) (l : List ℕ) (k : Class Cell) → class_of c l ≡ k → (o : Option ℕ) (m : ℕ) (rest : Option ℕ → List ℕ) (below : List ℕ) → ((o : Option ℕ) → rest o ≡ closed o m ++ below)
-    → rule_placed n d o (joined_text (line_cells l)) (class_places joined_byte k) ++ rest (counted_after o (class_places joined_byte k)) ≡ closed o (recipe_length k m) ++ (concat (map (rule_line n d m) (items_of_line k l)) ++ below)
+    → rule_located n d o (joined_text (line_cells l)) (located_class joined_byte k) ++ rest (counted_after o (located_class joined_byte k)) ≡ closed o (recipe_length k m) ++ (concat (map (rule_line n d m) (items_of_line k l)) ++ below)
 line-said n d c l (Header x) e o m rest below ih =
-    let at = header_places joined_byte x in
-    let P = place_text n d in
+    let at = located_header joined_byte x in
+    let P = position_text n d in
     let A = targets_text (word_texts joined_byte x.targets) x.separator in
     let B = pattern_text (word_texts joined_byte x.pattern) in
     let D = each_after_space (word_texts joined_byte x.normal) in
@@ -104,8 +104,8 @@ line-said n d c l (Header x) e o m rest below ih =
     let q : b + m ≡ m + i = omega (arith, inline-counted x) in
     let K = count_text (m + i) in
     let s : (closed o 0 ++ (P ++ (A ++ (B ++ (D ++ E))))) ++ (K ++ below) ≡ closed o 0 ++ ((P ++ (A ++ (B ++ (D ++ (E ++ K))))) ++ below) = simp append_assoc in
-    ap (λ z. (count_placed o ++ (P ++ header_placed (joined_text (line_cells l)) at)) ++ z) (ih (Some b) ∙ ap (λ z. count_text z ++ below) q)
-    ∙ (ap (λ z. (z ++ (P ++ header_placed (joined_text (line_cells l)) at)) ++ (K ++ below)) (count-closed o)
+    ap (λ z. (count_located o ++ (P ++ header_located (joined_text (line_cells l)) at)) ++ z) (ih (Some b) ∙ ap (λ z. count_text z ++ below) q)
+    ∙ (ap (λ z. (z ++ (P ++ header_located (joined_text (line_cells l)) at)) ++ (K ++ below)) (count-closed o)
     ∙ (ap (λ z. (closed o 0 ++ (P ++ z)) ++ (K ++ below)) (header-seen c l x e) ∙ (s ∙ ap (λ z. closed o 0 ++ (z ++ below)) (sym (append-nil (P ++ (A ++ (B ++ (D ++ (E ++ K))))))))))
 line-said n d c l Recipe e o m rest below ih = ih (one_more o) ∙ ap (λ z. z ++ below) (more-closed o m)
 line-said n d c l Blank e o m rest below ih = ih o
@@ -113,14 +113,14 @@ line-said n d c l Comment e o m rest below ih = ih o
 line-said n d c l If e o m rest below ih = ih o
 line-said n d c l Else e o m rest below ih = ih o
 line-said n d c l Endif e o m rest below ih = ih o
-line-said n d c l Endef e o m rest below ih = ap (λ z. count_placed o ++ z) (ih None) ∙ ap (λ z. z ++ below) (count-closed o)
-line-said n d c l (Body x) e o m rest below ih = ap (λ z. count_placed o ++ z) (ih None) ∙ ap (λ z. z ++ below) (count-closed o)
-line-said n d c l Opaque e o m rest below ih = ap (λ z. count_placed o ++ z) (ih None) ∙ ap (λ z. z ++ below) (count-closed o)
-line-said n d c l (Assign a p) e o m rest below ih = ap (λ z. count_placed o ++ z) (ih None) ∙ ap (λ z. z ++ below) (count-closed o)
-line-said n d c l (DefineHead q) e o m rest below ih = ap (λ z. count_placed o ++ z) (ih None) ∙ ap (λ z. z ++ below) (count-closed o)
-line-said n d c l Directive e o m rest below ih = ap (λ z. count_placed o ++ z) (ih None) ∙ ap (λ z. z ++ below) (count-closed o)
-line-said n d c l (TargetAssign t) e o m rest below ih = ap (λ z. count_placed o ++ z) (ih None) ∙ ap (λ z. z ++ below) (count-closed o)
-line-said n d c l Rough e o m rest below ih = ap (λ z. count_placed o ++ z) (ih None) ∙ ap (λ z. z ++ below) (count-closed o)
+line-said n d c l Endef e o m rest below ih = ap (λ z. count_located o ++ z) (ih None) ∙ ap (λ z. z ++ below) (count-closed o)
+line-said n d c l (Body x) e o m rest below ih = ap (λ z. count_located o ++ z) (ih None) ∙ ap (λ z. z ++ below) (count-closed o)
+line-said n d c l Opaque e o m rest below ih = ap (λ z. count_located o ++ z) (ih None) ∙ ap (λ z. z ++ below) (count-closed o)
+line-said n d c l (Assign a p) e o m rest below ih = ap (λ z. count_located o ++ z) (ih None) ∙ ap (λ z. z ++ below) (count-closed o)
+line-said n d c l (DefineHead q) e o m rest below ih = ap (λ z. count_located o ++ z) (ih None) ∙ ap (λ z. z ++ below) (count-closed o)
+line-said n d c l Directive e o m rest below ih = ap (λ z. count_located o ++ z) (ih None) ∙ ap (λ z. z ++ below) (count-closed o)
+line-said n d c l (TargetAssign t) e o m rest below ih = ap (λ z. count_located o ++ z) (ih None) ∙ ap (λ z. z ++ below) (count-closed o)
+line-said n d c l Rough e o m rest below ih = ap (λ z. count_located o ++ z) (ih None) ∙ ap (λ z. z ++ below) (count-closed o)
 
 -- ---- all lines
 
@@ -139,25 +139,25 @@ next-number t above l (m ∷ ms) n h k = ap (λ z. z + line_feeds l.bytes) k ∙
 
 module _ (t : List ℕ) where
   rules-below : (above ls : List ClassedLine) → classed_lines t ≡ above ++ ls → (n : ℕ) → IsNumberOfFirst n above ls → (o : Option ℕ)
-      → rules_ahead n (context_of above) o (placed_lines ls) ≡ closed o (length (recipe_lines ls)) ++ said_of_lines say_rule (standing_below above ls)
+      → rules_ahead n (context_of above) o (located_lines ls) ≡ closed o (length (recipe_lines ls)) ++ said_of_lines say_rule (standing_below above ls)
   rules-below above [] h n k o = count-closed o ∙ sym (append-nil (closed o 0))
   rules-below above (l ∷ ls) h n k o =
       let c = context_of above in
       let m = length (recipe_lines ls) in
       let s : StandingLine = record { above = above; line = l; below = ls } in
       let below = said_of_lines say_rule (standing_below (above ++ l ∷ []) ls) in
-      let rest : Option ℕ → List ℕ = λ o. rules_ahead (n + line_feeds l.bytes) (context_after_places c (placed_line l).class) o (placed_lines ls) in
+      let rest : Option ℕ → List ℕ = λ o. rules_ahead (n + line_feeds l.bytes) (context_after_located c (located_line l).class) o (located_lines ls) in
       let ih : (o : Option ℕ) → rest o ≡ closed o m ++ below =
-      λ o. ap (λ z. rules_ahead (n + line_feeds l.bytes) z o (placed_lines ls)) (sym (context_of-last above l))
+      λ o. ap (λ z. rules_ahead (n + line_feeds l.bytes) z o (located_lines ls)) (sym (context_of-last above l))
       ∙ rules-below (above ++ l ∷ []) ls (h ∙ sym (append_assoc above (l ∷ []) ls)) (n + line_feeds l.bytes) (next-number t above l ls n h k) o in
-      line-said n c.conditionals c l.bytes l.class (located t above l ls h).class o m rest below ih
+      line-said n c.conditionals c l.bytes l.class (line-in_text t above l ls h).class o m rest below ih
       ∙ (ap (λ z. closed o (recipe_length l.class m) ++ (concat (map (rule_line z c.conditionals m) (items_of_line l.class l.bytes)) ++ below)) k
       ∙ ap (λ z. closed o z ++ (concat (map (say_rule s) (items_of_line l.class l.bytes)) ++ below)) (sym (length-recipe_lines l ls)))
 
 -- the text of `rules` of a document
-pub rules-walk : (ls : List PlacedLine) → IsFaithful ls → rules_ahead 1 start None ls ≡ rules_text (placed_text ls)
+pub rules-walk : (ls : List LocatedLine) → IsFaithful ls → rules_ahead 1 start None ls ≡ rules_text (located_text ls)
 rules-walk ls h =
-    let t = placed_text ls in
+    let t = located_text ls in
     ap (rules_ahead 1 start None) h ∙ rules-below t [] (classed_lines t) refl 1 (first (classed_lines t)) None
   where
     first : (ls : List ClassedLine) → IsNumberOfFirst 1 [] ls
@@ -167,18 +167,18 @@ rules-walk ls h =
 -- ---- the walk, line by line, on the lines that are ahead in their context
 
 -- one line more; the code sees this context of it and this number of line feeds
-pub rules-next : (n m : ℕ) (c : Context) (o o' : Option ℕ) (bytes : List ℕ) (x : PlacedLine) (ahead left : LinesInContext) → c ≡ ahead.context → ahead.lines ≡ x ∷ left.lines → left.context ≡ context_after_places ahead.context x.class
+pub rules-next : (n m : ℕ) (c : Context) (o o' : Option ℕ) (bytes : List ℕ) (x : LocatedLine) (ahead left : LinesInContext) → c ≡ ahead.context → ahead.lines ≡ x ∷ left.lines → left.context ≡ context_after_located ahead.context x.class
     → bytes ≡ x.bytes → m ≡ line_feeds bytes → o' ≡ counted_after o x.class
-    → rule_placed n c.conditionals o (text_of_line x) x.class ++ rules_ahead (n + m) left.context o' left.lines ≡ rules_ahead n ahead.context o ahead.lines
+    → rule_located n c.conditionals o (text_of_line x) x.class ++ rules_ahead (n + m) left.context o' left.lines ≡ rules_ahead n ahead.context o ahead.lines
 rules-next n m c o o' bytes x ahead left i e f b h j =
-    let said = rule_placed n ahead.context.conditionals o (text_of_line x) x.class in
-    ap (λ (z : Context). rule_placed n z.conditionals o (text_of_line x) x.class ++ rules_ahead (n + m) left.context o' left.lines) i
+    let said = rule_located n ahead.context.conditionals o (text_of_line x) x.class in
+    ap (λ (z : Context). rule_located n z.conditionals o (text_of_line x) x.class ++ rules_ahead (n + m) left.context o' left.lines) i
     ∙ (ap (λ z. said ++ rules_ahead (n + m) left.context z left.lines) j
     ∙ (ap (λ k. said ++ rules_ahead (n + k) left.context (counted_after o x.class) left.lines) (h ∙ ap line_feeds b)
     ∙ (ap (λ c. said ++ rules_ahead (n + line_feeds x.bytes) c (counted_after o x.class) left.lines) f ∙ ap (rules_ahead n ahead.context o) (sym e))))
 
 -- no line is left: the count ends the line of the last header
-pub rules-end : (n : ℕ) (o : Option ℕ) (front whole : List ℕ) (ahead : LinesInContext) → ahead.lines ≡ [] → front ++ rules_ahead n ahead.context o ahead.lines ≡ whole → front ++ count_placed o ≡ whole
+pub rules-end : (n : ℕ) (o : Option ℕ) (front whole : List ℕ) (ahead : LinesInContext) → ahead.lines ≡ [] → front ++ rules_ahead n ahead.context o ahead.lines ≡ whole → front ++ count_located o ≡ whole
 rules-end n o front whole ahead e h = ap (λ z. front ++ rules_ahead n ahead.context o z) (sym e) ∙ h
 
 -- the count stays within the bytes of the lines

@@ -7,7 +7,7 @@ use Rattle.mk_history.specs.Shown.{Shown}
 use Rattle.mk_session.specs.Sessions.{answer, session_refusal}
 use Rattle.mk_script.specs.Scripts.{CommandAt}
 use Rattle.mk_run.specs.Report.{report_line}
-use Rattle.mk_run.specs.Commands.{Obeyed, at_rest, after_refusal, obeyed_next, obeyed}
+use Rattle.mk_run.specs.ObeyedCommands.{Obeyed, at_rest, after_refusal, obeyed_next, obeyed}
 use Rattle.mk_run.specs.RunEnds.{GoesOn}
 
 -- what the first commands come to, and the later ones from there

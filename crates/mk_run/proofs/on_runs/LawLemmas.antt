@@ -6,13 +6,13 @@ use Rattle.mk_edit_laws.specs.declared.refusal.Refusal.{Refusal}
 use Rattle.mk_history.specs.Machine as machine
 use Rattle.mk_history.specs.Machine.{Command, Apply, Undo, Redo, Begin, End, Cancel, replay}
 use Rattle.mk_history.specs.Shown.{Shown, shown_opened, shown_ended}
-use Rattle.mk_history.specs.Steps.{Granted, Refused, NoMemory}
+use Rattle.mk_history.specs.CallSteps.{Granted, Refused, NoMemory}
 use Rattle.mk_session.specs.Sessions.{Seen, seen_opened, answer, edited}
 use Rattle.mk_session.specs.Calls.{Reply, Call, IsCall, AreCalls, standing}
 use Rattle.mk_session.proofs.on_sessions.CallLemmas.{standing-replayed, all-undone, granted-made, others-kept}
 use Rattle.mk_script.specs.Scripts.{CommandAt, IsScript}
 use Rattle.mk_script.proofs.on_scripts.OneLemmas.{commands-one, not-both}
-use Rattle.mk_run.specs.Commands.{Obeyed, obeyed_next, obeyed}
+use Rattle.mk_run.specs.ObeyedCommands.{Obeyed, obeyed_next, obeyed}
 use Rattle.mk_run.specs.Runs.{RunResult, IsRunOf, IsRun, ended, shown_or, output_after, stopped}
 use Rattle.mk_run.specs.declared.outcome.Outcome as o
 use Rattle.mk_run.specs.declared.outcome.Outcome.TheVariants.{BadDepth, TooLong, TooDeep}

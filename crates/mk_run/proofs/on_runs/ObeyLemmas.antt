@@ -12,18 +12,18 @@ use Rattle.mk_edit_laws.specs.declared.refusal.Refusal.TheVariants as refusal
 use Rattle.mk_history.specs.Machine as machine
 use Rattle.mk_history.specs.Machine.{Command}
 use Rattle.mk_history.specs.Shown.{Shown}
-use Rattle.mk_history.specs.Steps.{Granted, Refused, NoMemory, IsStep}
+use Rattle.mk_history.specs.CallSteps.{Granted, Refused, NoMemory, IsStep}
 use Rattle.mk_session.specs.Sessions.{Seen, answer, session_refusal}
 use Rattle.mk_session.specs.Calls.{Reply, IsCall, IsTold, IsAnswered, takes_memory}
 use Rattle.mk_session.proofs.on_sessions.RefusalLemmas.{answer-other}
 use Rattle.mk_script.specs.Scripts.{CommandAt}
 use Rattle.mk_run.specs.Report.{report_line}
-use Rattle.mk_run.specs.Commands.{Obeyed, obeyed_next, obeyed}
+use Rattle.mk_run.specs.ObeyedCommands.{Obeyed, obeyed_next, obeyed}
 use Rattle.mk_run.specs.RunEnds.{GoesOn, written}
-use Rattle.mk_run.specs.Steps.{AreObeyed, AreEnded, AreShort}
+use Rattle.mk_run.specs.RunSteps.{AreObeyed, AreEnded, AreShort}
 use Rattle.mk_run.proofs.on_runs.CommandLemmas.{joined, obeyed-append}
 
--- ---- a list at one of its places
+-- ---- a list at one of its indices
 
 split-at : {Y : Type 0} (ys : List Y) (i : ℕ) (d : Y) → i < length ys → ys ≡ take i ys ++ get_or ys i d ∷ drop (suc i) ys
 split-at [] i d below = absurd (omega arith)
@@ -33,13 +33,13 @@ split-at (y ∷ ys) (suc i) d below = ap (λ l. y ∷ l) (split-at ys i d (omega
 mapped-is : {X Y : Type 0} (f : X → Y) (xs : List X) (i : ℕ) (x : X) → i < length xs → x ≡ get_or xs i x → get_or (map f xs) i (f x) ≡ f x
 mapped-is f xs i x below is = get_or-map f xs i x (f x) below ∙ ap f (sym is)
 
--- the values before a place, the one there, and the later ones
+-- the values before an index, the one there, and the later ones
 pub mapped-at : {X Y : Type 0} (f : X → Y) (xs : List X) (i : ℕ) (x : X) → i < length xs → x ≡ get_or xs i x
     → take i (map f xs) ++ f x ∷ drop (suc i) (map f xs) ≡ map f xs
 mapped-at f xs i x below is =
     sym (split-at (map f xs) i (f x) (omega (arith, below, length-map xs f)) ∙ ap (λ y. take i (map f xs) ++ y ∷ drop (suc i) (map f xs)) (mapped-is f xs i x below is))
 
--- the values up to a place, and the one there
+-- the values up to an index, and the one there
 pub mapped-more : {X Y : Type 0} (f : X → Y) (xs : List X) (i : ℕ) (x : X) → i < length xs → x ≡ get_or xs i x
     → take i (map f xs) ++ f x ∷ [] ≡ take (i + 1) (map f xs)
 mapped-more f xs i x below is =

@@ -2,11 +2,11 @@
 use Rattle.std.proofs.Common.{◌≡◌, refl, subst, arith, ℕ, suc, ◌<◌, ◌^◌, Bool, true, false, List, length, replicate, Option, Some, None, Err}
 use Rattle.std.specs.Prelude.{Result, IfSome, IfErr}
 use Rattle.std.proofs.lemmas.List.{length-replicate}
-use Rattle.mk_lines.specs.Device.{IsReadingFault}
+use Rattle.mk_lines.specs.Device.{IsSourceFault}
 use Rattle.mk_lines.specs.declared.fault.Fault as f
 use Rattle.mk_lines.specs.declared.fault.Fault.TheVariants as fault
 use Rattle.mk_run.specs.Outcome.{outcome_of}
-use Rattle.mk_run.specs.Steps.{GivesTooMuch, StopsScript, StopsMakefile}
+use Rattle.mk_run.specs.RunSteps.{GivesTooMuch, StopsScript, StopsMakefile}
 
 -- there is a text that is longer than `n` bytes
 longer : (n : ℕ) → (text : List ℕ) × (n < length text)
@@ -23,7 +23,7 @@ if_some (Some told) P Q p h = h p
 
 -- what reading a source to its end says of a fault
 pub record SaysFault {T : Type 0} (result : Result T f.Fault) (bytes : Option (List ℕ)) (failed : Bool) : Type 0 where
-  pub few : IfErr result IsReadingFault
+  pub few : IfErr result IsSourceFault
   pub long : IfSome bytes (λ told. result ≡ Err fault.TooLong → 2 ^ 24 < length told)
   pub read : result ≡ Err fault.Read → failed ≡ true
   pub works : (result ≡ Err fault.Read → ⊥) → failed ≡ false

@@ -7,7 +7,7 @@ use Rattle.mk_history.specs.Shown.{shown_opened}
 use Rattle.mk_session.specs.Sessions.{IsBadDepth}
 use Rattle.mk_script.specs.Scripts.{CommandAt, IsScript, HasNoCommand}
 use Rattle.mk_script.proofs.on_scripts.OneLemmas.{commands-one, not-both, fault-one, script-read}
-use Rattle.mk_run.specs.Commands.{obeyed}
+use Rattle.mk_run.specs.ObeyedCommands.{obeyed}
 use Rattle.mk_run.specs.Runs.{RunResult, IsTooLong, InCase, IsRunOf, IsRun, stopped, result_after}
 use Rattle.mk_run.specs.declared.outcome.Outcome.TheVariants.{NotACommand, BadDepth, TooLong, TooDeep}
 

@@ -10,7 +10,7 @@ use Rattle.mk_edit_laws.specs.NewLines.{colons_text}
 use Rattle.mk_history.specs.Machine.{Command, Apply, Undo, Redo, Begin, End, Cancel}
 use Rattle.mk_script.specs.Fields.{HasFields}
 use Rattle.mk_script.specs.Numbers.{IsNumber}
-use Rattle.mk_script.specs.Commands.{IsAfterNth, place_words, nth_of_place, IsCommand}
+use Rattle.mk_script.specs.CommandTable.{IsAfterNth, place_words, nth_of_place, IsCommand}
 use Rattle.mk_script.specs.FieldReading.{first_field, one_field, two_fields, three_fields}
 use Rattle.mk_script.specs.WordReading.{named, calls}
 use Rattle.mk_script.specs.CommandReading.{place_at_front, place_after, add_assign_after, add_assign_at, add_assign_of, add_rule_after, add_rule_at, add_rule_of, set_recipe_after, set_recipe_of, remove_recipe_after, remove_recipe_of, edit, edit_after_nth, edit_after_number, numbered_edit, call_or_edit, command_after, command}

@@ -11,7 +11,7 @@ use Rattle.mk_edit_laws.specs.NewLines.{colons_text}
 use Rattle.mk_edit_laws.specs.declared.edit.Colons.{Colons}
 use Rattle.mk_edit_laws.specs.declared.edit.Colons.TheVariants.{One, Two}
 use Rattle.mk_history.specs.Machine.{Command}
-use Rattle.mk_script.specs.Commands.{IsCommand}
+use Rattle.mk_script.specs.CommandTable.{IsCommand}
 use Rattle.mk_script.specs.WordReading.{named, calls, edit_words, places, operators, separators}
 use Rattle.mk_script.specs.declared.word.EditWord.{EditWord}
 use Rattle.mk_script.specs.declared.word.EditWord.TheVariants as word

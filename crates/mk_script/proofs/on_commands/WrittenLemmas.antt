@@ -10,7 +10,7 @@ use Rattle.mk_edit_laws.specs.Edits.{Place, Bottom, BeforeVar, AfterVar, BeforeR
 use Rattle.mk_edit_laws.specs.NewLines.{colons_text}
 use Rattle.mk_history.specs.Machine.{Command, Apply}
 use Rattle.mk_script.specs.Fields.{HasFields, BeginsWithField}
-use Rattle.mk_script.specs.Commands.{IsAfterNth, place_words, nth_of_place, IsCommand}
+use Rattle.mk_script.specs.CommandTable.{IsAfterNth, place_words, nth_of_place, IsCommand}
 use Rattle.mk_script.specs.Lines.{HasCommand}
 use Rattle.mk_script.specs.FieldReading.{is_blank, first_field, one_field, two_fields, three_fields}
 use Rattle.mk_script.specs.NumberReading.{number}

@@ -6,7 +6,7 @@ use Rattle.mk_history.specs.Machine.{Command}
 use Rattle.mk_script.specs.Lines.{IsComment, IsSkipped, HasCommand, IsReadable}
 use Rattle.mk_script.specs.FieldReading.{after_blanks, bare_len, is_blank, is_empty, field_at_front}
 use Rattle.mk_script.specs.CommandReading.{command_after, command}
-use Rattle.mk_script.specs.Readings.{begins_comment, is_skipped}
+use Rattle.mk_script.specs.ReaderAnswers.{begins_comment, is_skipped}
 use Rattle.mk_script.proofs.on_fields.BlankLemmas.{one_more, blank-is, is-blank}
 use Rattle.mk_script.proofs.on_commands.ReadLemmas.{has-command}
 use Rattle.mk_script.proofs.on_commands.WrittenLemmas.{command-written}

@@ -6,7 +6,7 @@ use Rattle.mk_history.specs.Machine.{Command}
 use Rattle.mk_script.specs.Lines.{script_lines, IsReadable}
 use Rattle.mk_script.specs.Scripts.{CommandAt, IsScript, HasNoCommand}
 use Rattle.mk_script.specs.CommandReading.{command}
-use Rattle.mk_script.specs.Readings.{is_skipped}
+use Rattle.mk_script.specs.ReaderAnswers.{is_skipped}
 use Rattle.mk_script.proofs.on_commands.WrittenLemmas.{command-written}
 use Rattle.mk_script.proofs.on_scripts.LineLemmas.{skipped-is, not_readable}
 use Rattle.mk_script.proofs.on_scripts.ScriptLemmas.{IsReadSoFar, none-read, skipped-read, command-read, reached}

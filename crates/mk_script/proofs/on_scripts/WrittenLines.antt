@@ -12,7 +12,7 @@ use Rattle.mk_edit_laws.specs.NewLines.{colons_text}
 use Rattle.mk_history.specs.Machine.{Command, Apply, Undo, Redo, Begin, End, Cancel}
 use Rattle.mk_script.specs.Fields.{quoted, HasFields}
 use Rattle.mk_script.specs.Numbers.{IsNumber}
-use Rattle.mk_script.specs.Commands.{IsAfterNth, place_words, nth_of_place, depend_word, IsCommand}
+use Rattle.mk_script.specs.CommandTable.{IsAfterNth, place_words, nth_of_place, depend_word, IsCommand}
 use Rattle.mk_script.specs.Lines.{HasCommand}
 use Rattle.mk_script.specs.ScriptLaws.{line_of, CanBeWritten, HasNumbersOfScripts, FieldsAreOne, WrittenFieldsAreRead, EachCommandHasALine}
 use Rattle.mk_script.specs.FieldReading.{first_field, field_at_front, after_blanks}

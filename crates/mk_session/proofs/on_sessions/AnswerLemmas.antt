@@ -7,7 +7,7 @@ use Rattle.mk_edit_laws.specs.declared.refusal.Refusal.{Refusal}
 use Rattle.mk_history.specs.Machine as machine
 use Rattle.mk_history.specs.Machine.{Command, Apply, Begin, EditRefused}
 use Rattle.mk_history.specs.Shown.{Shown}
-use Rattle.mk_history.specs.Steps.{Granted, Refused, NoMemory}
+use Rattle.mk_history.specs.CallSteps.{Granted, Refused, NoMemory}
 use Rattle.mk_session.specs.Sessions.{Seen, answer, IsEditRefusal, IsRefusedBy, IsBeginRefusal}
 use Rattle.mk_session.specs.Calls.{IsAnswered, cost_on}
 

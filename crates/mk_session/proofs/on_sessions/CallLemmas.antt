@@ -14,7 +14,7 @@ use Rattle.mk_edit_laws.proofs.on_edits.EditLemmas.{edits-read}
 use Rattle.mk_edit_laws.proofs.on_edits.SpansRise.{only_spans-replaced}
 use Rattle.mk_history.specs.Machine as machine
 use Rattle.mk_history.specs.Machine.{Command, Apply, Undo, Redo, Begin, End, Cancel, NothingToUndo, opened, next, accepted, text, replay}
-use Rattle.mk_history.specs.Steps.{Granted, Refused, NoMemory, IsStep, IsRun}
+use Rattle.mk_history.specs.CallSteps.{Granted, Refused, NoMemory, IsStep, AreSteps}
 use Rattle.mk_history.specs.Shown.{Shown, shown, shown_answer, shown_edited, shown_opened}
 use Rattle.mk_history.specs.Claims.{IsWithin, shown_result}
 use Rattle.mk_history.proofs.on_histories.MachineLemmas.{of_parts, undoes-all, stands, next-accepted, next-refused, stays-within-call}
@@ -84,11 +84,11 @@ replays m = go m.group
 
 -- ---- calls of a session are calls of the machine
 
-run-of : (calls : List Call) (x z : Seen) → AreCalls calls x z → IsRun answer calls x.shown z.shown
+run-of : (calls : List Call) (x z : Seen) → AreCalls calls x z → AreSteps answer calls x.shown z.shown
 run-of [] x z h = ap (λ (s : Seen). s.shown) h
 run-of (call ∷ calls) x z h = (h.0.shown, (h.1.0.step, run-of calls h.0 z h.1.1))
 
-machine-after : (depth : ℕ) (calls : List Call) (m n : EditMachine) → IsRun (machine.answer edited depth) calls m n → n ≡ after_calls depth calls m
+machine-after : (depth : ℕ) (calls : List Call) (m n : EditMachine) → AreSteps (machine.answer edited depth) calls m n → n ≡ after_calls depth calls m
 machine-after depth [] m n h = h
 machine-after depth ((c, Granted) ∷ calls) m n h =
     let there : next edited depth c m ≡ h.0 = rw (h.1.0, next) refl in
@@ -100,7 +100,7 @@ machine-after depth ((c, NoMemory) ∷ calls) m n h = machine-after depth calls 
 shows-on : (depth : ℕ) (calls : List Call) (m : EditMachine) (x z : Seen) → IsWithin depth m → x.shown ≡ shown edited depth m → AreCalls calls x z
     → (z.shown ≡ shown edited depth (after_calls depth calls m)) × IsWithin depth (after_calls depth calls m)
 shows-on depth calls m x z w seen h =
-    let run : IsRun answer calls (shown edited depth m) z.shown = subst (λ (s : Shown (List ℕ)). IsRun answer calls s z.shown) seen (run-of calls x z h) in
+    let run : AreSteps answer calls (shown edited depth m) z.shown = subst (λ (s : Shown (List ℕ)). AreSteps answer calls s z.shown) seen (run-of calls x z h) in
     let f = follows edited depth calls m z.shown w run in
     let same = machine-after depth calls m f.0 f.1.0 in
     (f.1.1 ∙ ap (shown edited depth) same, subst (λ (n : EditMachine). IsWithin depth n) same f.1.2)
@@ -147,7 +147,7 @@ one-undo depth m n x y r w seen h call = go r call.step call.memory
     go NoMemory step memory = let no = memory refl in absurd (cc)
 
 undos : (depth : ℕ) (replies : List Reply) (m n : EditMachine) (x z : Seen) → IsWithin depth m → x.shown ≡ shown edited depth m
-    → IsRun (machine.answer edited depth) (replicate (length replies) (Undo, Granted)) m n → AreCalls (map (λ reply. (Undo, reply)) replies) x z
+    → AreSteps (machine.answer edited depth) (replicate (length replies) (Undo, Granted)) m n → AreCalls (map (λ reply. (Undo, reply)) replies) x z
     → (replies ≡ replicate (length replies) Granted) × (z.shown ≡ shown edited depth n)
 undos depth [] m n x z w seen run h = (refl, ap (λ (s : Seen). s.shown) h ∙ (seen ∙ ap (shown edited depth) (sym run)))
 undos depth (r ∷ replies) m n x z w seen run h =
@@ -162,7 +162,7 @@ all-undone depth t calls s h floor group replies z number undone =
     let m = after_calls depth calls (opened t) in
     let there = shows-on depth calls (opened t) (seen_opened depth t) s (within-opened depth t) (opened-shown depth t) h in
     let all = undoes-all edited depth m floor group in
-    let run = subst (λ (k : ℕ). IsRun (machine.answer edited depth) (replicate k (Undo, Granted)) m all.0) (sym number) all.1.0 in
+    let run = subst (λ (k : ℕ). AreSteps (machine.answer edited depth) (replicate k (Undo, Granted)) m all.0) (sym number) all.1.0 in
     let back = undos depth replies m all.0 s z there.1 there.0 run undone in
     (back.0, ap (λ (x : Shown (List ℕ)). x.text) back.1 ∙ (all.1.1 ∙ first-calls depth calls (opened t)))
 

@@ -9,7 +9,7 @@ use Rattle.mk_history.specs.Shown.{Shown, shown_edited, shown_ended, shown_back,
 use Rattle.mk_session.specs.Sessions.{answer, edited, text_with, session_refusal}
 use Rattle.mk_edit_laws.specs.Edits.{Place, Bottom, Edit, AppendValue, AddAssign, AddRule, RemoveRule, AddPrereq, RemovePrereq, AddRecipe, SetRecipe, RemoveRecipe, RenameTarget}
 use Rattle.mk_edit_laws.specs.Addresses.{Address, address}
-use Rattle.mk_edit_laws.specs.Spans.{spans_of}
+use Rattle.mk_edit_laws.specs.EditSpans.{spans_of}
 use Rattle.mk_edit_laws.specs.Causes.{where_holds}
 use Rattle.mk_edit_laws.specs.ArgumentCauses.{FieldTest, Tested, first_failed, field_tests, bad_argument, reserved}
 use Rattle.mk_edit_laws.specs.AddressCauses.{unread_prefix, no_such, no_such_line, ambiguous, ambiguous_line, prefix_led}

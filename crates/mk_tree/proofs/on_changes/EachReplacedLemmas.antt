@@ -11,7 +11,7 @@ use Rattle.mk_class.specs.Classes.{Class}
 use Rattle.mk_class.specs.Contexts.{Context, start, context_after}
 use Rattle.mk_class.specs.ClassedLines.{ClassedLine, classed, classed_lines, context_after_lines}
 use Rattle.mk_tree.specs.LineTexts.{text_of, context_of, bytes_of}
-use Rattle.mk_tree.proofs.on_documents.LinePlaces.{bytes_of-classed, text_of-bytes, AreClassed, AreClassed-cons, AreClassed-class, AreClassed-tail, AreClassed-classed}
+use Rattle.mk_tree.proofs.on_documents.LinesInText.{bytes_of-classed, text_of-bytes, AreClassed, AreClassed-cons, AreClassed-class, AreClassed-tail, AreClassed-classed}
 use Rattle.mk_tree.proofs.on_changes.RunsReplaced.{Ends-append, Ends-nothing, run-replaced_same}
 use Rattle.mk_tree.proofs.on_changes.SpansInLines.{after_pieces, BeginWithPieces, line_replacements, replaced_text, text-all_lines_replaced}
 use Rattle.mk_tree.specs.EachReplaced.{ReplacesLine, ReplaceEach}

@@ -8,15 +8,15 @@ use Rattle.mk_class.specs.Classes.{Class, leaves_flag}
 use Rattle.mk_class.specs.Contexts.{Context, start, context_after, flag_after, defines_after, conditionals_after, prefix_after}
 use Rattle.mk_class.specs.ClassedLines.{ClassedLine, classed, classed_lines, context_after_lines, is_led_first}
 use Rattle.mk_class.proofs.on_contexts.FlagLemmas.{classed-flag, classed-append, flag_after-set}
-use Rattle.mk_class.specs.declared.context.Flag.{Flag}
-use Rattle.mk_class.specs.declared.context.Flag.TheVariants.{Off, Rule, Unknown}
+use Rattle.mk_class.specs.declared.context.RuleFlag.{RuleFlag}
+use Rattle.mk_class.specs.declared.context.RuleFlag.TheVariants.{Off, Rule, Unknown}
 use Rattle.mk_tree.specs.LineTexts.{context_of}
 use Rattle.mk_tree.specs.Leaning.{is_same_flag, leans, AgreeButForFlag}
 
 -- ---- flags
 
 -- flags that are the same
-same_flag-is : (f g : Flag) → is_same_flag f g ≡ true → f ≡ g
+same_flag-is : (f g : RuleFlag) → is_same_flag f g ≡ true → f ≡ g
 same_flag-is Off Off h = refl
 same_flag-is Off Rule h = cc
 same_flag-is Off Unknown h = cc
@@ -27,12 +27,12 @@ same_flag-is Unknown Off h = cc
 same_flag-is Unknown Rule h = cc
 same_flag-is Unknown Unknown h = refl
 
-same_flag-self : (f : Flag) → is_same_flag f f ≡ true
+same_flag-self : (f : RuleFlag) → is_same_flag f f ≡ true
 same_flag-self Off = refl
 same_flag-self Rule = refl
 same_flag-self Unknown = refl
 
-same_flag-back : (f g : Flag) → is_same_flag f g ≡ is_same_flag g f
+same_flag-back : (f g : RuleFlag) → is_same_flag f g ≡ is_same_flag g f
 same_flag-back Off Off = refl
 same_flag-back Off Rule = refl
 same_flag-back Off Unknown = refl
@@ -44,11 +44,11 @@ same_flag-back Unknown Rule = refl
 same_flag-back Unknown Unknown = refl
 
 -- which flag is before and which after makes no difference
-pub leans-back : (p : ℕ) (f g : Flag) (ls : List ClassedLine) → leans p f g ls ≡ false → leans p g f ls ≡ false
+pub leans-back : (p : ℕ) (f g : RuleFlag) (ls : List ClassedLine) → leans p f g ls ≡ false → leans p g f ls ≡ false
 leans-back p f g ls h = ap (λ z. not z && is_led_first p ls) (same_flag-back g f) ∙ h
 
 -- no lines lean on one flag
-pub leans-same : (p : ℕ) (f : Flag) (ls : List ClassedLine) → leans p f f ls ≡ false
+pub leans-same : (p : ℕ) (f : RuleFlag) (ls : List ClassedLine) → leans p f f ls ≡ false
 leans-same p f ls = ap (λ z. not z && is_led_first p ls) (same_flag-self f)
 
 -- ---- contexts that agree
@@ -69,7 +69,7 @@ agrees-back c d h = record { defines = sym h.defines; conditionals = sym h.condi
 pub agrees-then : (c d e : Context) → AgreeButForFlag c d → AgreeButForFlag d e → AgreeButForFlag c e
 agrees-then c d e h k = record { defines = h.defines ∙ k.defines; conditionals = h.conditionals ∙ k.conditionals; prefix = h.prefix ∙ k.prefix }
 
-context_with : Flag → ℕ → ℕ → ℕ → Context
+context_with : RuleFlag → ℕ → ℕ → ℕ → Context
 context_with f n k p = record { flag = f; defines = n; conditionals = k; prefix = p }
 
 -- contexts that agree and have the same flag are the same
@@ -77,7 +77,7 @@ agrees-is : (c d : Context) → AgreeButForFlag c d → c.flag ≡ d.flag → c 
 unfolding context_with
 agrees-is c d h e = parts c.flag d.flag c.defines d.defines c.conditionals d.conditionals c.prefix d.prefix e h.defines h.conditionals h.prefix
   where
-    parts : (f g : Flag) (n m k j p q : ℕ) → f ≡ g → n ≡ m → k ≡ j → p ≡ q → context_with f n k p ≡ context_with g m j q
+    parts : (f g : RuleFlag) (n m k j p q : ℕ) → f ≡ g → n ≡ m → k ≡ j → p ≡ q → context_with f n k p ≡ context_with g m j q
     parts f g n m k j p q a b c d = rw (a, b, c, d) refl
 
 -- contexts that agree do so after a line of one class

@@ -19,7 +19,7 @@ use Rattle.mk_lines.proofs.on_lines.LineEndAdded.{IsEnded, line_end-added, not_o
 use Rattle.mk_lines.specs.Pieces.{replaced}
 use Rattle.mk_lines.specs.declared.ends.End.{End}
 use Rattle.mk_lines.specs.declared.ends.End.TheVariants.{None, Lf, CrLf}
-use Rattle.mk_class.specs.Lists.{is_empty, last_passes}
+use Rattle.mk_class.specs.ListTests.{is_empty, last_passes}
 use Rattle.mk_class.specs.Arguments.{is_backslash_byte, is_barred_byte, is_clean, is_line_end_kind}
 use Rattle.mk_class.specs.Classes.{Class}
 use Rattle.mk_class.specs.RecipePrefix.{is_prefix_led}
@@ -30,8 +30,8 @@ use Rattle.mk_tree.specs.LineTexts.{text_of, context_of}
 use Rattle.mk_tree.specs.Items.{items, items_of_line}
 use Rattle.mk_tree.specs.Readings.{reading}
 use Rattle.mk_tree.specs.Leaning.{AgreeButForFlag, leans}
-use Rattle.mk_tree.proofs.on_documents.LinePlaces.{text_of-append, items-append, context_of-last, LinePlace, located, reading-line}
-use Rattle.mk_tree.specs.NewLines.{lacks_line_end, with_line_end, line_ended, last_ended, above_ended, missing_line_end}
+use Rattle.mk_tree.proofs.on_documents.LinesInText.{text_of-append, items-append, context_of-last, LineInText, line-in_text, reading-line}
+use Rattle.mk_tree.specs.NewLineEnds.{lacks_line_end, with_line_end, line_ended, last_ended, above_ended, missing_line_end}
 use Rattle.mk_tree.proofs.on_changes.RunsReplaced.{Ends-append, text-inserted, line-inserted, line-replaced}
 
 -- ---- the line end of a file
@@ -220,8 +220,8 @@ pub line-ended : (t : List ℕ) (above : List ClassedLine) (l : ClassedLine) (e 
     → LineEnded above l (line_ended e l) (if lacks_line_end l then line_end_bytes e else [])
 line-ended t above l e h o k = go (lacks_line_end l) refl
   where
-    place : LinePlace t above l []
-    place = located t above l [] h
+    place : LineInText t above l []
+    place = line-in_text t above l [] h
 
     filled : (b : ℕ) × (r : List ℕ) × (l.bytes ≡ b ∷ r)
     filled = one_line-not_empty l.bytes place.one
@@ -293,7 +293,7 @@ last-ended t (x ∷ xs) e h o k = apart (x ∷ xs) (last-apart x xs) h o
         let new = line_ended e l in
         let added = if lacks_line_end l then line_end_bytes e else [] in
         let E : LineEnded A l new added = line-ended t A l e h o k in
-        let place : LinePlace t A l [] = located t A l [] h in
+        let place : LineInText t A l [] = line-in_text t A l [] h in
         let whole : text_of (A ++ new ∷ []) ≡ text_of A ++ new.bytes = text_of-append A (new ∷ []) ∙ ap (λ z. text_of A ++ z) (append-nil new.bytes) in
         let old : text_of (A ++ l ∷ []) ≡ text_of A ++ l.bytes = text_of-append A (l ∷ []) ∙ ap (λ z. text_of A ++ z) (append-nil l.bytes) in
         record {

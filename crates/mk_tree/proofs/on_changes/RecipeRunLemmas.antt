@@ -13,7 +13,7 @@ use Rattle.mk_class.specs.ClassTable.{class_of}
 use Rattle.mk_class.specs.CountsOfClasses.{FitsCounts}
 use Rattle.mk_class.proofs.on_classes.ClassLemmas.{class_of-counts}
 use Rattle.mk_class.specs.ClassedLines.{ClassedLine, context_after_lines}
-use Rattle.mk_class.specs.declared.context.Flag.TheVariants.{Rule}
+use Rattle.mk_class.specs.declared.context.RuleFlag.TheVariants.{Rule}
 use Rattle.mk_lines.specs.Cells.{Cell}
 use Rattle.std.specs.Prelude.{None}
 use Rattle.mk_tree.specs.RecipeLines.{stays_in_rule, rule_lines, recipe_run, after_recipe}

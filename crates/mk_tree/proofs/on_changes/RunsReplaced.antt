@@ -15,7 +15,7 @@ use Rattle.mk_class.specs.ClassTable.{class_of}
 use Rattle.mk_class.specs.ClassedLines.{ClassedLine, classed, classed_lines, context_after_lines}
 use Rattle.mk_class.proofs.on_contexts.FlagLemmas.{classed-append}
 use Rattle.mk_tree.specs.LineTexts.{text_of, context_of, bytes_of}
-use Rattle.mk_tree.proofs.on_documents.LinePlaces.{bytes_of-append, text_of-bytes, context_of-append, RunPlace, located-run}
+use Rattle.mk_tree.proofs.on_documents.LinesInText.{bytes_of-append, text_of-bytes, context_of-append, RunInText, run-in_text}
 use Rattle.mk_tree.specs.Leaning.{AgreeButForFlag, leans}
 use Rattle.mk_tree.proofs.on_changes.LeaningLemmas.{agrees-back, agrees-same, leans-back, leans-same, classed-unless_leans}
 
@@ -25,14 +25,14 @@ use Rattle.mk_tree.proofs.on_changes.LeaningLemmas.{agrees-back, agrees-same, le
 pub text-run_replaced : (t : List ℕ) (above run below : List ClassedLine) (v : List ℕ) → classed_lines t ≡ above ++ (run ++ below)
     → replaced 0 t (record { start = length (text_of above); end = length (text_of above) + length (text_of run); new = v } ∷ []) ≡ text_of above ++ (v ++ text_of below)
 text-run_replaced t above run below v h =
-    replaced-one t (text_of above) (text_of run) (text_of below) v (length (text_of above)) (length (text_of above) + length (text_of run)) (located-run t above run below h).text refl refl
+    replaced-one t (text_of above) (text_of run) (text_of below) v (length (text_of above)) (length (text_of above) + length (text_of run)) (run-in_text t above run below h).text refl refl
 
 -- a text put between lines
 pub text-inserted : (t : List ℕ) (above below : List ClassedLine) (v : List ℕ) → classed_lines t ≡ above ++ below
     → replaced 0 t (record { start = length (text_of above); end = length (text_of above); new = v } ∷ []) ≡ text_of above ++ (v ++ text_of below)
 text-inserted t above below v h =
     let e : length (text_of above) ≡ length (text_of above) + 0 = omega arith in
-    replaced-one t (text_of above) [] (text_of below) v (length (text_of above)) (length (text_of above)) (located-run t above [] below h).text refl e
+    replaced-one t (text_of above) [] (text_of below) v (length (text_of above)) (length (text_of above)) (run-in_text t above [] below h).text refl e
 
 -- ---- a run of lines replaced by the lines of a text
 
@@ -47,7 +47,7 @@ run-replaced : (t : List ℕ) (above run below : List ClassedLine) (v : List ℕ
     → (run ++ below ≡ [] → EndsBefore (text_of above) (logical_lines v)) → EndsBefore v (bytes_of below)
     → classed_lines (text_of above ++ (v ++ text_of below)) ≡ above ++ (new ++ classed (context_after_lines (context_of above) new) (bytes_of below))
 run-replaced t above run below v new h k begins ends =
-    let R : RunPlace t above run below = located-run t above run below h in
+    let R : RunInText t above run below = run-in_text t above run below h in
     let X = bytes_of above in
     let Y = bytes_of below in
     let N = logical_lines v in
@@ -70,7 +70,7 @@ pub run-replaced_keeping : (t : List ℕ) (above run below : List ClassedLine) (
     → leans (context_after_lines (context_of above) run).prefix (context_after_lines (context_of above) run).flag (context_after_lines (context_of above) new).flag below ≡ false
     → classed_lines (text_of above ++ (v ++ text_of below)) ≡ above ++ (new ++ below)
 run-replaced_keeping t above run below v new h k begins ends agree free =
-    let R : RunPlace t above run below = located-run t above run below h in
+    let R : RunInText t above run below = run-in_text t above run below h in
     let c = context_after_lines (context_of above) run in
     let d = context_after_lines (context_of above) new in
     let free' : leans c.prefix c.flag d.flag (classed c (bytes_of below)) ≡ false = subst (λ (z : List ClassedLine). leans c.prefix c.flag d.flag z ≡ false) (sym R.below_classed) free in

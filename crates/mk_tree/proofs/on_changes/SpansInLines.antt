@@ -1,4 +1,4 @@
--- Bytes inside lines replaced by their places in the text: the lines in which they stand have them replaced, and the others
+-- Bytes inside lines replaced by their offsets in the text: the lines in which they stand have them replaced, and the others
 -- stay.
 use Rattle.std.proofs.Common.{◌≡◌, refl, sym, ap, ◌∙◌, arith, ℕ, List, [], ◌∷◌, ◌++◌, map, append_assoc, length, length-append, drop, ◌+◌}
 use Rattle.std.proofs.lemmas.List.{append-nil}
@@ -8,7 +8,7 @@ use Rattle.mk_lines.specs.Pieces.{Replacement, replaced, Piece, Keep, Replace, o
 use Rattle.mk_lines.proofs.on_lists.PieceLemmas.{replaced-one, replaced-pieces, old_bytes-append, new_bytes-append}
 use Rattle.mk_class.specs.ClassedLines.{ClassedLine, classed_lines}
 use Rattle.mk_tree.specs.LineTexts.{text_of}
-use Rattle.mk_tree.proofs.on_documents.LinePlaces.{located}
+use Rattle.mk_tree.proofs.on_documents.LinesInText.{line-in_text}
 
 -- ---- one span inside a line
 
@@ -19,7 +19,7 @@ pub text-span_replaced : (t : List ℕ) (above : List ClassedLine) (l : ClassedL
 text-span_replaced t above l below p w q v start end h k i j =
     let a = text_of above in
     let b = text_of below in
-    let whole : t ≡ (a ++ p) ++ (w ++ (q ++ b)) = (located t above l below h).text ∙ (ap (λ z. a ++ (z ++ b)) k ∙ simp append_assoc) in
+    let whole : t ≡ (a ++ p) ++ (w ++ (q ++ b)) = (line-in_text t above l below h).text ∙ (ap (λ z. a ++ (z ++ b)) k ∙ simp append_assoc) in
     replaced-one t (a ++ p) w (q ++ b) v start end whole (i ∙ sym (length-append a p)) j ∙ simp append_assoc
 
 -- The pieces of a line, which begin it, with their replacements made.
@@ -29,7 +29,7 @@ pub text-pieces_replaced : (t : List ℕ) (above : List ClassedLine) (l : Classe
 text-pieces_replaced t above l below ps rest h k =
     let a = text_of above in
     let b = text_of below in
-    let whole : t ≡ a ++ (old_bytes ps ++ (rest ++ b)) = (located t above l below h).text ∙ (ap (λ z. a ++ (z ++ b)) k ∙ simp append_assoc) in
+    let whole : t ≡ a ++ (old_bytes ps ++ (rest ++ b)) = (line-in_text t above l below h).text ∙ (ap (λ z. a ++ (z ++ b)) k ∙ simp append_assoc) in
     ap (λ z. replaced 0 z (replacements (length a) ps)) whole ∙ (replaced-pieces a ps (rest ++ b) ∙ simp append_assoc)
 
 -- ---- spans inside several lines
@@ -43,7 +43,7 @@ abbrev pub BeginWithPieces : (ClassedLine → List Piece) → List ClassedLine �
 BeginWithPieces f [] = Unit {0}
 BeginWithPieces f (l ∷ ls) = (l.bytes ≡ old_bytes (f l) ++ after_pieces f l) × BeginWithPieces f ls
 
--- the replacements in lines, the first of which begins at a place
+-- the replacements in lines, the first of which begins at an offset
 abbrev pub line_replacements : (ClassedLine → List Piece) → (at : ℕ) → List ClassedLine → List Replacement
 line_replacements f at [] = []
 line_replacements f at (l ∷ ls) = replacements at (f l) ++ line_replacements f (at + length l.bytes) ls

@@ -9,7 +9,7 @@ use Rattle.mk_class.specs.Classes.Class.{Endef, Body, Recipe, Opaque, Blank, Com
 use Rattle.mk_class.specs.Contexts.{Context, start, context_after}
 use Rattle.mk_class.specs.ClassTable.{class_of}
 use Rattle.mk_class.specs.ClassedLines.{ClassedLine, classed, classed_lines}
-use Rattle.mk_tree.specs.PlacedLines.{PlacedLine, placed_lines, placed_text}
+use Rattle.mk_tree.specs.LocatedLines.{LocatedLine, located_lines, located_text}
 use Rattle.mk_tree.specs.Documents.{text_of, document_lines, IsFaithful, IsFaithfulTo}
 use Rattle.mk_tree.specs.RecipeLines.{stays_in_rule, ends_rule, rule_lines}
 
@@ -23,16 +23,16 @@ pub text_of-classed_lines : (t : List ℕ) → text_of (classed_lines t) ≡ t
 text_of-classed_lines t = text_of-classed start (logical_lines t) ∙ concat-logical_lines t
 
 -- the text of lines as a document shows them is theirs
-placed_text-placed_lines : (ls : List ClassedLine) → placed_text (placed_lines ls) ≡ text_of ls
-placed_text-placed_lines [] = refl
-placed_text-placed_lines (l ∷ ls) = ap (λ z. l.bytes ++ z) (placed_text-placed_lines ls)
+located_text-located_lines : (ls : List ClassedLine) → located_text (located_lines ls) ≡ text_of ls
+located_text-located_lines [] = refl
+located_text-located_lines (l ∷ ls) = ap (λ z. l.bytes ++ z) (located_text-located_lines ls)
 
 -- the text of a document that is faithful to a text is that text
-pub faithful-text : (ls : List PlacedLine) (t : List ℕ) → IsFaithfulTo ls t → placed_text ls ≡ t
-faithful-text ls t h = ap placed_text h ∙ (placed_text-placed_lines (classed_lines t) ∙ text_of-classed_lines t)
+pub faithful-text : (ls : List LocatedLine) (t : List ℕ) → IsFaithfulTo ls t → located_text ls ≡ t
+faithful-text ls t h = ap located_text h ∙ (located_text-located_lines (classed_lines t) ∙ text_of-classed_lines t)
 
 -- such a document is faithful to its own text
-pub faithful-own : (ls : List PlacedLine) (t : List ℕ) → IsFaithfulTo ls t → IsFaithful ls
+pub faithful-own : (ls : List LocatedLine) (t : List ℕ) → IsFaithfulTo ls t → IsFaithful ls
 faithful-own ls t h = h ∙ ap document_lines (sym (faithful-text ls t h))
 
 -- a line stays in a rule exactly where it does not end it

@@ -1,7 +1,7 @@
 -- What follows the name of the text is what follows the name of the rest.
 use Rattle.std.proofs.Common.{◌≡◌, ◌≤◌, length}
 use Rattle.mk_lines.specs.Units.{units}
-use Rattle.mk_class.specs.Lists.{from}
+use Rattle.mk_class.specs.ListTests.{from}
 use Rattle.mk_class.specs.Assignments.{ends_name}
 use Rattle.mk_class.specs.TextClasses.{itself}
 use Rattle.mk_class.proofs.assignment.after_name.Given as goal

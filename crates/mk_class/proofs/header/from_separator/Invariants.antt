@@ -1,7 +1,7 @@
 -- The first separator of the text is the first separator of the rest.
 use Rattle.std.proofs.Common.{◌≡◌, ◌≤◌, length}
 use Rattle.mk_lines.specs.Units.{units}
-use Rattle.mk_class.specs.Lists.{from}
+use Rattle.mk_class.specs.ListTests.{from}
 use Rattle.mk_class.specs.Separators.{begins_separator}
 use Rattle.mk_class.specs.TextClasses.{itself}
 use Rattle.mk_class.proofs.header.from_separator.Given as goal

@@ -11,8 +11,8 @@ returns-clause-parts c tail =
     (units itself c.split_order_only-has_order_only.result.0.now) c.split_order_only-has_order_only.result.1 (units itself c.split_order_only-has_order_only.result.2.now) tail
     c.requires.parts c.before-2.ensures.units c.split_pattern-has_pattern.ensures c.split_order_only-has_order_only.ensures
 
-pub returns-clause-places : goal.returns-clause-places
-returns-clause-places c =
+pub returns-clause-offsets : goal.returns-clause-offsets
+returns-clause-offsets c =
     sums-same _ _ _ _ _ _ _ _ _ _ _ (width-units c.args.head.now) (width-units c.split_pattern-has_pattern.result.2.now) (
     head_parts-fit (units itself c.args.head.now) c.args.split.separator (units itself c.args.split.from.now) (units itself c.args.split.rest.now)
     (units itself c.before-2.result.now) c.split_pattern-has_pattern.result.0 (units itself c.split_pattern-has_pattern.result.1.now) (units itself c.split_pattern-has_pattern.result.2.now)

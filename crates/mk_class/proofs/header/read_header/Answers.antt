@@ -16,4 +16,4 @@ returns-then-is_rough c us h k =
 pub returns : goal.returns
 returns c us h k =
     header-read us c.args.head.now c.head_parts-parts.result (units itself c.args.tail.now) c.begins_recipe.result h k (sym c.has_unreadable.ensures ∙ c.if-has_unreadable.false)
-    (c.head_parts-parts.ensures.parts (units itself c.args.tail.now)) (sym c.is_rough.ensures ∙ c.if-is_rough.false) c.head_parts-parts.ensures.places c.begins_recipe.ensures
+    (c.head_parts-parts.ensures.parts (units itself c.args.tail.now)) (sym c.is_rough.ensures ∙ c.if-is_rough.false) c.head_parts-parts.ensures.offsets c.begins_recipe.ensures

@@ -2,7 +2,7 @@ use Rattle.std.proofs.Common.{sym, ◌∙◌, ap, refl, map, drop, true, false}
 use Rattle.mk_lines.specs.Lists.{trim_end}
 use Rattle.mk_lines.specs.Units.{units}
 use Rattle.mk_lines.specs.Words.{is_gap}
-use Rattle.mk_class.specs.Lists.{from, until}
+use Rattle.mk_class.specs.ListTests.{from, until}
 use Rattle.mk_class.specs.Texts.{unit_text}
 use Rattle.mk_class.specs.Symbols.{symbol}
 use Rattle.mk_class.specs.Assignments.{ends_name, operator_at, operator_length, after_blanks}

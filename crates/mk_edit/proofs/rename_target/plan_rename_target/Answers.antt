@@ -1,5 +1,5 @@
 use Rattle.std.proofs.Common.{◌≡◌, sym, subst, ◌∙◌, ℕ, List, Option, None}
-use Rattle.mk_tree.specs.PlacedLines.{placed_text}
+use Rattle.mk_tree.specs.LocatedLines.{located_text}
 use Rattle.mk_class.specs.ClassedLines.{classed_lines}
 use Rattle.mk_edit_laws.specs.Edits.{Edit, RenameTarget}
 use Rattle.mk_edit_laws.specs.Refusals.{causes, first_cause}
@@ -13,4 +13,4 @@ accepted-as t e f r same told none = subst (λ (x : Edit). first_cause (causes t
 
 pub rename_target_patch-requires-clause-accepted : goal.rename_target_patch-requires-clause-accepted
 rename_target_patch-requires-clause-accepted g c =
-    accepted-as (placed_text c.args.doc.now) (edit_of c.args.edit.now) (RenameTarget c.args.from.now c.args.to.now) c.rename_target_refusal.result c.requires.kind c.rename_target_refusal.ensures c.in-None.is
+    accepted-as (located_text c.args.doc.now) (edit_of c.args.edit.now) (RenameTarget c.args.from.now c.args.to.now) c.rename_target_refusal.result c.requires.kind c.rename_target_refusal.ensures c.in-None.is

@@ -2,7 +2,7 @@ use Rattle.std.proofs.Common.{◌≡◌, ◌∙◌, ap, subst, arith}
 use Rattle.mk_class.specs.Contexts.{Context}
 use Rattle.mk_class.specs.RecipePrefix.{is_prefix_led}
 use Rattle.mk_tree.specs.Trees.{line_view}
-use Rattle.mk_edit_parts.specs.PlacedParts.{AreEachClassed, IsClassed}
+use Rattle.mk_edit_parts.specs.LocatedParts.{AreEachClassed, IsClassed}
 use Rattle.mk_edit_parts.specs.declared.tally.Tally.{Tally}
 use Rattle.mk_edit.proofs.on_renaming.SizesOfEffects.{walk-from, room-ahead, walk-on, walk-over, effect-bytes}
 use Rattle.mk_edit.proofs.rename_target_causes.rename_target_effect.Goals as goal

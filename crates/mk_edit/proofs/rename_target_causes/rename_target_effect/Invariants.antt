@@ -1,7 +1,7 @@
 -- The effect on the lines passed, with that on the lines ahead, is the effect on the document. Each line ahead has its class.
 use Rattle.std.proofs.Common.{◌≡◌}
 use Rattle.mk_class.specs.Contexts.{start}
-use Rattle.mk_edit_parts.specs.PlacedParts.{AreEachClassed}
+use Rattle.mk_edit_parts.specs.LocatedParts.{AreEachClassed}
 use Rattle.mk_edit.specs.RenameTargetEffects.{effect_on, joined}
 use Rattle.mk_edit.proofs.rename_target_causes.rename_target_effect.Given as goal
 

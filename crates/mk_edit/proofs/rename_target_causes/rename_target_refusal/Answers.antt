@@ -1,6 +1,6 @@
 use Rattle.std.proofs.Common.{◌≡◌, ◌∙◌, sym, ap, refl, true, false, None}
 use Rattle.mk_class.specs.ClassedLines.{classed_lines}
-use Rattle.mk_tree.specs.PlacedLines.{placed_text}
+use Rattle.mk_tree.specs.LocatedLines.{located_text}
 use Rattle.mk_edit_laws.specs.ArgumentCauses.{bad_argument, reserved}
 use Rattle.mk_edit_laws.specs.Causes.{where_holds}
 use Rattle.mk_edit_laws.specs.declared.refusal.Refusal.TheVariants.{BadArgument, Reserved}
@@ -12,12 +12,12 @@ use Rattle.mk_edit.proofs.rename_target_causes.rename_target_refusal.Goals as go
 
 pub returns-in-Some : goal.returns-in-Some
 returns-in-Some g c =
-    let t = placed_text c.args.doc.now in
+    let t = located_text c.args.doc.now in
     bad-first t (classed_lines t) (edit_of c.args.edit.now) (BadArgument c.in-Some.field) (sym c.bad_field.ensures ∙ ap field_refusal c.in-Some.is)
 
 pub returns-then-is_reserved : goal.returns-then-is_reserved
 returns-then-is_reserved g c =
-    let t = placed_text c.args.doc.now in
+    let t = located_text c.args.doc.now in
     let e = edit_of c.args.edit.now in
     let fields : bad_argument e ≡ None = sym c.bad_field.ensures ∙ ap field_refusal c.in_default.is in
     reserved-first t (classed_lines t) e Reserved fields (reserved-holds e c.is_reserved.result c.is_reserved.ensures ∙ ap (λ b. where_holds b Reserved) c.if-is_reserved.true)

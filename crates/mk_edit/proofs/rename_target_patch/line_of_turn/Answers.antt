@@ -1,6 +1,6 @@
 use Rattle.std.proofs.Common.{◌≡◌, ◌∙◌, true, sym, ap, subst, arith, length}
 use Rattle.mk_tree.specs.LineTexts.{line_in}
-use Rattle.mk_tree.specs.PlacedLines.{placed_line}
+use Rattle.mk_tree.specs.LocatedLines.{located_line}
 use Rattle.mk_tree.specs.Trees.{line_view}
 use Rattle.mk_patch.specs.Moves.{IsPlain}
 use Rattle.mk_edit.specs.RenameTargetPatches.{is_exchanged}
@@ -25,14 +25,14 @@ read_line-requires-clause-plain g c =
     let W = words-counted _ _ _ _ _ c.requires.can c.count_words-tally.ensures in
     let e : is_exchanged c.args.turn c.args.from.now c.args.to.now l ≡ true = sym (W.turn c.args.turn) ∙ (sym c.is_of_turn.ensures ∙ c.if-not-is_of_turn.false) in
     let p = c.requires.can.plain (exchanged-holds c.args.turn c.args.from.now c.args.to.now l e) in
-    subst (λ b. IsPlain (placed_line (line_in c.args.context b))) (sym c.in-Ok.ensures) p.1
+    subst (λ b. IsPlain (located_line (line_in c.args.context b))) (sym c.in-Ok.ensures) p.1
 
 pub returns-clause-line : goal.returns-clause-line
 returns-clause-line g c =
     let l = line_view c.args.line.now in
     let W = words-counted _ _ _ _ _ c.requires.can c.count_words-tally.ensures in
     let e : is_exchanged c.args.turn c.args.from.now c.args.to.now l ≡ true = sym (W.turn c.args.turn) ∙ (sym c.is_of_turn.ensures ∙ c.if-not-is_of_turn.false) in
-    exchanged-some _ _ _ e (c.in_ok-renamed.ensures.line ∙ ap (λ b. placed_line (line_in c.args.context b)) c.in-Ok.ensures)
+    exchanged-some _ _ _ e (c.in_ok-renamed.ensures.line ∙ ap (λ b. located_line (line_in c.args.context b)) c.in-Ok.ensures)
 
 pub returns-clause-few_read : goal.returns-clause-few_read
 returns-clause-few_read g c =

@@ -5,7 +5,7 @@ use Rattle.mk_edit.specs.RecipeEdits.{command_range}
 use Rattle.mk_edit.proofs.on_plans.PlanLemmas.{planned-if_ok, planned-if_err}
 use Rattle.mk_edit.proofs.on_plans.LinePlans.{IsReplaced}
 use Rattle.mk_edit.proofs.on_plans.RangePlans.{line-short, range-long, range-accepted, range-replaced}
-use Rattle.mk_edit.proofs.on_recipes.RecipePlaces.{place_in_rule}
+use Rattle.mk_edit.proofs.on_recipes.RecipePlaces.{index_in_rule}
 use Rattle.mk_edit.proofs.on_recipes.SetRecipePlans.{set_recipe-of}
 use Rattle.mk_edit.proofs.set_recipe.plan_set_recipe.Goals as goal
 
@@ -35,7 +35,7 @@ line-line-requires g c =
     let e = edit_of c.args.edit.now in
     let ls = c.args.doc.now in
     let U = set_recipe-of c.args.number c.args.command.now e ls c.in_ok-header.header c.requires.faithful c.requires.kind c.in_ok-header.ensures.found in
-    let p : Some c.in-Some.at ≡ place_in_rule ls (c.in_ok-header.header.at + 1) c.args.number = sym c.in-Some.is ∙ c.recipe_line.ensures in
+    let p : Some c.in-Some.at ≡ index_in_rule ls (c.in_ok-header.header.at + 1) c.args.number = sym c.in-Some.is ∙ c.recipe_line.ensures in
     U.in_range c.in-Some.at p
 
 pub overflow_sub-range : goal.overflow_sub-range
@@ -43,7 +43,7 @@ overflow_sub-range g c =
     let e = edit_of c.args.edit.now in
     let ls = c.args.doc.now in
     let U = set_recipe-of c.args.number c.args.command.now e ls c.in_ok-header.header c.requires.faithful c.requires.kind c.in_ok-header.ensures.found in
-    let p : Some c.in-Some.at ≡ place_in_rule ls (c.in_ok-header.header.at + 1) c.args.number = sym c.in-Some.is ∙ c.recipe_line.ensures in
+    let p : Some c.in-Some.at ≡ index_in_rule ls (c.in_ok-header.header.at + 1) c.args.number = sym c.in-Some.is ∙ c.recipe_line.ensures in
     let l = line_view c.line-line.result.now in
     let r = c.command_range-range.result in
     let E = U.range c.in-Some.at l r p c.line-line.ensures (c.command_range-range.ensures ∙ ap command_range c.bytes.ensures.bytes) in
@@ -54,7 +54,7 @@ overflow_add-range g c =
     let e = edit_of c.args.edit.now in
     let ls = c.args.doc.now in
     let U = set_recipe-of c.args.number c.args.command.now e ls c.in_ok-header.header c.requires.faithful c.requires.kind c.in_ok-header.ensures.found in
-    let p : Some c.in-Some.at ≡ place_in_rule ls (c.in_ok-header.header.at + 1) c.args.number = sym c.in-Some.is ∙ c.recipe_line.ensures in
+    let p : Some c.in-Some.at ≡ index_in_rule ls (c.in_ok-header.header.at + 1) c.args.number = sym c.in-Some.is ∙ c.recipe_line.ensures in
     let l = line_view c.line-line.result.now in
     let r = c.command_range-range.result in
     let E = U.range c.in-Some.at l r p c.line-line.ensures (c.command_range-range.ensures ∙ ap command_range c.bytes.ensures.bytes) in
@@ -65,7 +65,7 @@ returns-then-size-command-clause-refused g c =
     let e = edit_of c.args.edit.now in
     let ls = c.args.doc.now in
     let U = set_recipe-of c.args.number c.args.command.now e ls c.in_ok-header.header c.requires.faithful c.requires.kind c.in_ok-header.ensures.found in
-    let p : Some c.in-Some.at ≡ place_in_rule ls (c.in_ok-header.header.at + 1) c.args.number = sym c.in-Some.is ∙ c.recipe_line.ensures in
+    let p : Some c.in-Some.at ≡ index_in_rule ls (c.in_ok-header.header.at + 1) c.args.number = sym c.in-Some.is ∙ c.recipe_line.ensures in
     let l = line_view c.line-line.result.now in
     let r = c.command_range-range.result in
     let E = U.range c.in-Some.at l r p c.line-line.ensures (c.command_range-range.ensures ∙ ap command_range c.bytes.ensures.bytes) in
@@ -76,7 +76,7 @@ with_replaced-requires-clause-rises g c =
     let e = edit_of c.args.edit.now in
     let ls = c.args.doc.now in
     let U = set_recipe-of c.args.number c.args.command.now e ls c.in_ok-header.header c.requires.faithful c.requires.kind c.in_ok-header.ensures.found in
-    let p : Some c.in-Some.at ≡ place_in_rule ls (c.in_ok-header.header.at + 1) c.args.number = sym c.in-Some.is ∙ c.recipe_line.ensures in
+    let p : Some c.in-Some.at ≡ index_in_rule ls (c.in_ok-header.header.at + 1) c.args.number = sym c.in-Some.is ∙ c.recipe_line.ensures in
     let l = line_view c.line-line.result.now in
     let r = c.command_range-range.result in
     let E = U.range c.in-Some.at l r p c.line-line.ensures (c.command_range-range.ensures ∙ ap command_range c.bytes.ensures.bytes) in
@@ -87,7 +87,7 @@ with_replaced-requires-clause-within g c =
     let e = edit_of c.args.edit.now in
     let ls = c.args.doc.now in
     let U = set_recipe-of c.args.number c.args.command.now e ls c.in_ok-header.header c.requires.faithful c.requires.kind c.in_ok-header.ensures.found in
-    let p : Some c.in-Some.at ≡ place_in_rule ls (c.in_ok-header.header.at + 1) c.args.number = sym c.in-Some.is ∙ c.recipe_line.ensures in
+    let p : Some c.in-Some.at ≡ index_in_rule ls (c.in_ok-header.header.at + 1) c.args.number = sym c.in-Some.is ∙ c.recipe_line.ensures in
     let l = line_view c.line-line.result.now in
     let r = c.command_range-range.result in
     let E = U.range c.in-Some.at l r p c.line-line.ensures (c.command_range-range.ensures ∙ ap command_range c.bytes.ensures.bytes) in
@@ -98,7 +98,7 @@ returns-in_default-with_replaced-clause-refused g c =
     let e = edit_of c.args.edit.now in
     let ls = c.args.doc.now in
     let U = set_recipe-of c.args.number c.args.command.now e ls c.in_ok-header.header c.requires.faithful c.requires.kind c.in_ok-header.ensures.found in
-    let p : Some c.in-Some.at ≡ place_in_rule ls (c.in_ok-header.header.at + 1) c.args.number = sym c.in-Some.is ∙ c.recipe_line.ensures in
+    let p : Some c.in-Some.at ≡ index_in_rule ls (c.in_ok-header.header.at + 1) c.args.number = sym c.in-Some.is ∙ c.recipe_line.ensures in
     let l = line_view c.line-line.result.now in
     let r = c.command_range-range.result in
     let E = U.range c.in-Some.at l r p c.line-line.ensures (c.command_range-range.ensures ∙ ap command_range c.bytes.ensures.bytes) in
@@ -116,7 +116,7 @@ after_lines-place-requires-clause-in_range g c =
     let e = edit_of c.args.edit.now in
     let ls = c.args.doc.now in
     let U = set_recipe-of c.args.number c.args.command.now e ls c.in_ok-header.header c.requires.faithful c.requires.kind c.in_ok-header.ensures.found in
-    let p : Some c.in-Some.at ≡ place_in_rule ls (c.in_ok-header.header.at + 1) c.args.number = sym c.in-Some.is ∙ c.recipe_line.ensures in
+    let p : Some c.in-Some.at ≡ index_in_rule ls (c.in_ok-header.header.at + 1) c.args.number = sym c.in-Some.is ∙ c.recipe_line.ensures in
     omega (arith, U.below c.in-Some.at p, U.in_range c.in-Some.at p)
 
 pub replace_line-requires-clause-can : goal.replace_line-requires-clause-can
@@ -124,7 +124,7 @@ replace_line-requires-clause-can g c =
     let e = edit_of c.args.edit.now in
     let ls = c.args.doc.now in
     let U = set_recipe-of c.args.number c.args.command.now e ls c.in_ok-header.header c.requires.faithful c.requires.kind c.in_ok-header.ensures.found in
-    let p : Some c.in-Some.at ≡ place_in_rule ls (c.in_ok-header.header.at + 1) c.args.number = sym c.in-Some.is ∙ c.recipe_line.ensures in
+    let p : Some c.in-Some.at ≡ index_in_rule ls (c.in_ok-header.header.at + 1) c.args.number = sym c.in-Some.is ∙ c.recipe_line.ensures in
     let l = line_view c.line-line.result.now in
     let r = c.command_range-range.result in
     let E = U.range c.in-Some.at l r p c.line-line.ensures (c.command_range-range.ensures ∙ ap command_range c.bytes.ensures.bytes) in
@@ -139,7 +139,7 @@ returns-clause-planned g c =
     let e = edit_of c.args.edit.now in
     let ls = c.args.doc.now in
     let U = set_recipe-of c.args.number c.args.command.now e ls c.in_ok-header.header c.requires.faithful c.requires.kind c.in_ok-header.ensures.found in
-    let p : Some c.in-Some.at ≡ place_in_rule ls (c.in_ok-header.header.at + 1) c.args.number = sym c.in-Some.is ∙ c.recipe_line.ensures in
+    let p : Some c.in-Some.at ≡ index_in_rule ls (c.in_ok-header.header.at + 1) c.args.number = sym c.in-Some.is ∙ c.recipe_line.ensures in
     let l = line_view c.line-line.result.now in
     let r = c.command_range-range.result in
     let E = U.range c.in-Some.at l r p c.line-line.ensures (c.command_range-range.ensures ∙ ap command_range c.bytes.ensures.bytes) in
@@ -154,7 +154,7 @@ returns-clause-refused g c =
     let e = edit_of c.args.edit.now in
     let ls = c.args.doc.now in
     let U = set_recipe-of c.args.number c.args.command.now e ls c.in_ok-header.header c.requires.faithful c.requires.kind c.in_ok-header.ensures.found in
-    let p : Some c.in-Some.at ≡ place_in_rule ls (c.in_ok-header.header.at + 1) c.args.number = sym c.in-Some.is ∙ c.recipe_line.ensures in
+    let p : Some c.in-Some.at ≡ index_in_rule ls (c.in_ok-header.header.at + 1) c.args.number = sym c.in-Some.is ∙ c.recipe_line.ensures in
     let l = line_view c.line-line.result.now in
     let r = c.command_range-range.result in
     let E = U.range c.in-Some.at l r p c.line-line.ensures (c.command_range-range.ensures ∙ ap command_range c.bytes.ensures.bytes) in

@@ -2,7 +2,7 @@ use Rattle.std.proofs.Common.{◌≡◌, ◌∙◌, ◌+◌, ◌++◌, ap, sym, 
 use Rattle.mk_tree.specs.Trees.{line_view}
 use Rattle.mk_edit_laws.specs.Addresses.{address}
 use Rattle.mk_edit_parts.specs.EditViews.{edit_of}
-use Rattle.mk_edit_parts.specs.LineRanges.{value_range_placed}
+use Rattle.mk_edit_parts.specs.LineRanges.{value_range_located}
 use Rattle.mk_edit.specs.ValuesGiven.{space_after}
 use Rattle.mk_edit_parts.proofs.on_finding.PlaceLemmas.{faithful-at}
 use Rattle.mk_edit.proofs.on_plans.PlanLemmas.{planned-if_ok, planned-if_err}
@@ -34,7 +34,7 @@ returns-then-size-space-gt-SIZE_LIMIT-clause-refused g c =
     let e = edit_of c.args.edit.now in
     let ls = c.args.doc.now in
     let l = line_view c.line-line.result.now in
-    let r = value_range_placed false l in
+    let r = value_range_located false l in
     let v = c.args.value.now in
     let text = c.value_text-old.result.now in
     let E = append_value-range e ls v c.in_ok-found.found l r text c.requires.faithful c.requires.edit c.in_ok-found.ensures.found c.line-line.ensures refl c.value_text-old.ensures (sym c.is_closed.ensures ∙ c.if-not-is_closed.false) in

@@ -1,6 +1,6 @@
 use Rattle.std.proofs.Common.{◌≡◌, ◌∙◌, ap, subst, sym, None}
 use Rattle.mk_class.specs.ClassedLines.{classed_lines}
-use Rattle.mk_tree.specs.PlacedLines.{placed_text}
+use Rattle.mk_tree.specs.LocatedLines.{located_text}
 use Rattle.mk_edit_laws.specs.ArgumentCauses.{bad_argument, reserved}
 use Rattle.mk_edit_laws.specs.AddressCauses.{unread_prefix}
 use Rattle.mk_edit_laws.specs.Causes.{where_holds}
@@ -13,7 +13,7 @@ use Rattle.mk_edit_parts.proofs.find.find.Goals as goal
 pub returns-in-Err-clause-refused : goal.returns-in-Err-clause-refused
 returns-in-Err-clause-refused g c =
     let e = edit_of c.args.edit.now in
-    let t = placed_text c.args.doc.now in
+    let t = located_text c.args.doc.now in
     let ls = classed_lines t in
     let fields : bad_argument e ≡ None = sym c.bad_field.ensures ∙ ap field_refusal c.in_default.is in
     let free : reserved e ≡ None = reserved-holds e c.is_reserved.result c.is_reserved.ensures ∙ ap (λ b. where_holds b Reserved) c.if-is_reserved.false in

@@ -1,7 +1,7 @@
 use Rattle.std.proofs.Common.{◌≡◌, ◌∙◌, ◌+◌, sym, ap, subst, arith, take}
-use Rattle.mk_class.specs.Contexts.{Context, start, context_after_places, Admits}
+use Rattle.mk_class.specs.Contexts.{Context, start, context_after_located, Admits}
 use Rattle.mk_class.specs.declared.class.Class.{Class}
-use Rattle.mk_tree.specs.PlacedLines.{context_after_placed}
+use Rattle.mk_tree.specs.LocatedLines.{context_after_located_lines}
 use Rattle.mk_tree.proofs.AdmissionLemmas.{context-faithful}
 use Rattle.mk_edit_parts.proofs.on_finding.PlacesBelow.{IsWalkedTo, place-walked, place-stepped}
 use Rattle.mk_edit_parts.proofs.place.after_lines.Goals as goal
@@ -17,10 +17,10 @@ step-context-requires g c =
 pub lines-preserved : goal.lines-preserved
 lines-preserved g c =
     let S = place-stepped c.args.doc.now c.lines.at c.lines.context _ c.lines.invariant.context_is c.lines.invariant.admitted c.line.ensures in
-    let next : context_after_places c.lines.context _ ≡ c.step-context.result = sym (c.step-context.ensures.places ∙ ap (λ (k : Class). context_after_places c.lines.context k) c.class.ensures) in
+    let next : context_after_located c.lines.context _ ≡ c.step-context.result = sym (c.step-context.ensures.located ∙ ap (λ (k : Class). context_after_located c.lines.context k) c.class.ensures) in
     subst (λ (k : Context). IsWalkedTo c.args.doc.now (c.lines.at + 1) k) next S.next
 
 pub returns-clause-place : goal.returns-clause-place
 returns-clause-place g c =
     let end : c.lines.at ≡ c.args.place.at + c.args.count = omega arith in
-    sym (c.lines.invariant.context_is ∙ (ap (λ n. context_after_placed start (take n c.args.doc.now)) end ∙ context-faithful c.args.doc.now (c.args.place.at + c.args.count) c.requires.faithful))
+    sym (c.lines.invariant.context_is ∙ (ap (λ n. context_after_located_lines start (take n c.args.doc.now)) end ∙ context-faithful c.args.doc.now (c.args.place.at + c.args.count) c.requires.faithful))

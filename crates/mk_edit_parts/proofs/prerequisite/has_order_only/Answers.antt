@@ -12,4 +12,4 @@ returns g c = λ h s.
     let w = c.args.word.now in
     c.has_word.ensures
     ∙ (ap (λ z. is_one_of w (words_in z)) (c.part.ensures ∙ (ap (λ t. text_at t c.order_only.result) c.text_of_line.ensures ∙ ap (text_at _) c.order_only.ensures))
-    ∙ ap (is_one_of w) (part-words (line_cells (line_view c.args.line.now).bytes) _ _ _ h.order_only s.placed.order_only))
+    ∙ ap (is_one_of w) (part-words (line_cells (line_view c.args.line.now).bytes) _ _ _ h.order_only s.located.order_only))

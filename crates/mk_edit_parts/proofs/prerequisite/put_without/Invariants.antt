@@ -3,7 +3,7 @@ use Rattle.std.proofs.Common.{◌≡◌, ◌+◌, ◌-◌, ◌≤◌, ◌++◌, 
 use Rattle.mk_lines.specs.Cells.{line_cells}
 use Rattle.mk_lines.specs.Ranges.{text_at, word_ranges}
 use Rattle.mk_tree.specs.Trees.{line_view}
-use Rattle.mk_tree.specs.PlacedLines.{text_of_line}
+use Rattle.mk_tree.specs.LocatedLines.{text_of_line}
 use Rattle.mk_edit_parts.specs.WordCuts.{without_words}
 use Rattle.mk_edit_parts.proofs.on_prerequisites.WordRangeLemmas.{AreRising}
 use Rattle.mk_edit_parts.proofs.prerequisite.put_without.Given as goal

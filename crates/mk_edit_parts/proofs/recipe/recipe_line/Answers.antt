@@ -1,8 +1,8 @@
 use Rattle.std.proofs.Common.{◌≡◌, ◌∙◌, ◌≤◌, ◌+◌, ap, sym, arith, true, false, length}
 use Rattle.std.proofs.lemmas.Bool.{ne_eqb}
 use Rattle.mk_tree.specs.Trees.{line_view}
-use Rattle.mk_edit_parts.specs.RecipeWalks.{is_recipe_places, stays_in_rule_places}
-use Rattle.mk_edit_parts.proofs.on_recipes.WalkLemmas.{recipe-line, place-past, place-recipe, place-other, place-ended, place-here}
+use Rattle.mk_edit_parts.specs.RecipeWalks.{is_recipe_located, stays_in_rule_located}
+use Rattle.mk_edit_parts.proofs.on_recipes.WalkLemmas.{recipe-line, index-past, index-recipe, index-other, index-ended, index-here}
 use Rattle.mk_edit_parts.proofs.recipe.recipe_line.Goals.{then-is_recipe+else-passed-number, else-is_recipe+else-not-stays_in_rule}
 use Rattle.mk_edit_parts.proofs.recipe.recipe_line.Goals as goal
 
@@ -10,32 +10,32 @@ pub returns-then-passed-number : goal.returns-then-passed-number
 returns-then-passed-number g c =
     let l = line_view c.line.result.now in
     let d = c.args.doc.now in
-    let k : is_recipe_places l.class ≡ true = ap is_recipe_places (sym c.class-class.ensures) ∙ (sym c.is_recipe.ensures ∙ c.if-is_recipe.true) in
-    sym (place-here c.args.number c.lines.passed d c.lines.at l c.line.ensures k c.if-passed-number.true) ∙ (c.lines.invariant.1 ∙ recipe-line d c.args.from c.args.number c.requires.faithful)
+    let k : is_recipe_located l.class ≡ true = ap is_recipe_located (sym c.class-class.ensures) ∙ (sym c.is_recipe.ensures ∙ c.if-is_recipe.true) in
+    sym (index-here c.args.number c.lines.passed d c.lines.at l c.line.ensures k c.if-passed-number.true) ∙ (c.lines.invariant.1 ∙ recipe-line d c.args.from c.args.number c.requires.faithful)
 
 pub returns-then-not-stays_in_rule : goal.returns-then-not-stays_in_rule
 returns-then-not-stays_in_rule g c =
     let l = line_view c.line.result.now in
     let d = c.args.doc.now in
-    let k : is_recipe_places l.class ≡ false = ap is_recipe_places (sym c.class-class.ensures) ∙ (sym c.is_recipe.ensures ∙ c.if-is_recipe.false) in
-    let s : stays_in_rule_places l.class ≡ false = ap stays_in_rule_places (sym c.class-class.ensures) ∙ (sym c.stays_in_rule.ensures ∙ c.if-not-stays_in_rule.true) in
-    sym (place-ended c.args.number c.lines.passed d c.lines.at l c.line.ensures k s) ∙ (c.lines.invariant.1 ∙ recipe-line d c.args.from c.args.number c.requires.faithful)
+    let k : is_recipe_located l.class ≡ false = ap is_recipe_located (sym c.class-class.ensures) ∙ (sym c.is_recipe.ensures ∙ c.if-is_recipe.false) in
+    let s : stays_in_rule_located l.class ≡ false = ap stays_in_rule_located (sym c.class-class.ensures) ∙ (sym c.stays_in_rule.ensures ∙ c.if-not-stays_in_rule.true) in
+    sym (index-ended c.args.number c.lines.passed d c.lines.at l c.line.ensures k s) ∙ (c.lines.invariant.1 ∙ recipe-line d c.args.from c.args.number c.requires.faithful)
 
 pub returns : goal.returns
 returns g c =
     let d = c.args.doc.now in
     let past : length d ≤ c.lines.at = omega arith in
-    sym (place-past c.args.number c.lines.passed d c.lines.at past) ∙ (c.lines.invariant.1 ∙ recipe-line d c.args.from c.args.number c.requires.faithful)
+    sym (index-past c.args.number c.lines.passed d c.lines.at past) ∙ (c.lines.invariant.1 ∙ recipe-line d c.args.from c.args.number c.requires.faithful)
 
 pub lines-preserved : goal.lines-preserved
 lines-preserved g c =
     let l = line_view c.line.result.now in
     let d = c.args.doc.now in
-    let k : c.is_recipe.result ≡ is_recipe_places l.class = c.is_recipe.ensures ∙ ap is_recipe_places c.class-class.ensures in
+    let k : c.is_recipe.result ≡ is_recipe_located l.class = c.is_recipe.ensures ∙ ap is_recipe_located c.class-class.ensures in
     elim c.if-is_recipe.branch [
       | then-is_recipe+else-passed-number w ↦
-          (omega (arith, w.passed-is), sym (place-recipe c.args.number c.lines.passed c.if-is_recipe.passed d c.lines.at l c.line.ensures (sym k ∙ w.if-is_recipe.true) (ne_eqb (c.lines.passed + 1) c.args.number w.if-passed-number.false) w.passed-is) ∙ c.lines.invariant.1)
+          (omega (arith, w.passed-is), sym (index-recipe c.args.number c.lines.passed c.if-is_recipe.passed d c.lines.at l c.line.ensures (sym k ∙ w.if-is_recipe.true) (ne_eqb (c.lines.passed + 1) c.args.number w.if-passed-number.false) w.passed-is) ∙ c.lines.invariant.1)
       | else-is_recipe+else-not-stays_in_rule w ↦
-          let s : stays_in_rule_places l.class ≡ true = ap stays_in_rule_places (sym c.class-class.ensures) ∙ (sym w.stays_in_rule.ensures ∙ w.if-not-stays_in_rule.false) in
-          (omega (arith, w.passed-is), sym (place-other c.args.number c.lines.passed c.if-is_recipe.passed d c.lines.at l c.line.ensures (sym k ∙ w.if-is_recipe.false) s w.passed-is) ∙ c.lines.invariant.1)
+          let s : stays_in_rule_located l.class ≡ true = ap stays_in_rule_located (sym c.class-class.ensures) ∙ (sym w.stays_in_rule.ensures ∙ w.if-not-stays_in_rule.false) in
+          (omega (arith, w.passed-is), sym (index-other c.args.number c.lines.passed c.if-is_recipe.passed d c.lines.at l c.line.ensures (sym k ∙ w.if-is_recipe.false) s w.passed-is) ∙ c.lines.invariant.1)
     ]

@@ -1,6 +1,6 @@
 use Rattle.std.proofs.Common.{◌≡◌, sym, subst, rules, []}
 use Rattle.mk_class.specs.ClassedLines.{classed_lines}
-use Rattle.mk_tree.specs.PlacedLines.{placed_text}
+use Rattle.mk_tree.specs.LocatedLines.{located_text}
 use Rattle.mk_edit_parts.specs.EditViews.{address_seen}
 use Rattle.mk_edit_parts.specs.Seeking.{IsSought, may_mean, nothing_seen, wanted}
 use Rattle.mk_edit_parts.proofs.on_finding.SeekLemmas.{lines-sought, seek-from, seek-over}
@@ -20,4 +20,4 @@ returns g c =
     let d = c.args.doc.now in
     let a = address_seen c.args.address in
     let e : c.lines.line-iterator ≡ [] = search rules in
-    subst (IsSought (classed_lines (placed_text d)) a) (sym (seek-over c.lines.sought c.lines.line-iterator d (may_mean a) c.wanted-wanted.result (wanted a) e c.wanted-wanted.ensures c.lines.invariant.6)) (lines-sought d a c.requires)
+    subst (IsSought (classed_lines (located_text d)) a) (sym (seek-over c.lines.sought c.lines.line-iterator d (may_mean a) c.wanted-wanted.result (wanted a) e c.wanted-wanted.ensures c.lines.invariant.6)) (lines-sought d a c.requires)

@@ -1,7 +1,7 @@
 use Rattle.std.proofs.Common.{◌+◌, ◌∙◌, sym, ap, arith, length, Bool, cond}
 use Rattle.mk_tree.specs.Trees.{line_view}
 use Rattle.mk_edit_parts.proofs.on_finding.PartLemmas.{seen-header, seen-target_assign, text-length}
-use Rattle.mk_edit_parts.proofs.on_renaming.PlaceLemmas.{part-within}
+use Rattle.mk_edit_parts.proofs.on_renaming.RangeLemmas.{part-within}
 use Rattle.mk_edit_parts.proofs.word_parts.parts_of.Goals.{then-header, else-header}
 use Rattle.mk_edit_parts.proofs.word_parts.parts_of.Goals as goal
 

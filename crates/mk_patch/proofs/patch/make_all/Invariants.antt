@@ -1,7 +1,7 @@
 -- What waits leads to the end, and what was taken back leads to the start.
 use Rattle.std.proofs.Common.{◌≡◌, ◌≤◌, ◌+◌, length}
 use Rattle.mk_patch.specs.Moves.{FitMoves, after_moves, held_by, taken_by}
-use Rattle.mk_patch.specs.Steps.{moves_of}
+use Rattle.mk_patch.specs.StepMoves.{moves_of}
 use Rattle.mk_patch.proofs.patch.make_all.Given as goal
 
 abbrev pub invariant-loop-step : goal.invariant-loop-step

@@ -2,7 +2,7 @@ use Rattle.std.proofs.Common.{◌≡◌, ◌+◌, ◌-◌, ◌^◌, ◌<◌, ◌
 use Rattle.std.proofs.lemmas.Bool.Decides.{Decides-eqb}
 use Rattle.std.proofs.lemmas.Slice.Eq.{slice_eq-Decides}
 use Rattle.mk_lines.specs.PhysicalLines.{without_line_end}
-use Rattle.mk_tree.specs.PlacedLines.{size_of}
+use Rattle.mk_tree.specs.LocatedLines.{size_of}
 use Rattle.mk_tree.specs.Trees.{line_view}
 use Rattle.mk_patch.proofs.on_moves.MoveLemmas.{swap_end-fits}
 use Rattle.mk_patch.proofs.tests.is_end.Goals as goal

@@ -2,7 +2,7 @@ use Rattle.std.proofs.Common.{◌++◌, refl, sym}
 use Rattle.mk_lines.specs.Ranges.{text_at}
 use Rattle.mk_lines.specs.Words.{words_in}
 use Rattle.mk_class.specs.LineParts.{normal_span, order_only_span}
-use Rattle.mk_queries.specs.PlacedTexts.{header_placed}
+use Rattle.mk_queries.specs.LocatedTexts.{header_located}
 use Rattle.mk_queries.specs.PartTexts.{targets_text, pattern_text, order_only_text}
 use Rattle.mk_queries.specs.Spacing.{each_after_space}
 use Rattle.mk_queries.proofs.on_gathering.PutLemmas.{put-second, put-second_failed, four-parts}
@@ -14,7 +14,7 @@ pub returns-in_err-put_pattern-clause-prefix : goal.returns-in_err-put_pattern-c
 returns-in_err-put_pattern-clause-prefix g c =
     let t = c.args.text.now in
     let at = c.args.at.now in
-    let w = header_placed t at in
+    let w = header_located t at in
     let m = targets_text (words_in c.part.result.now) at.separator in
     let p = pattern_text (words_in c.pattern.result.now) in
     let n = each_after_space (words_in (text_at t (normal_span at))) in
@@ -26,7 +26,7 @@ pub returns-in_err-put_each_after_space-clause-prefix : goal.returns-in_err-put_
 returns-in_err-put_each_after_space-clause-prefix g c =
     let t = c.args.text.now in
     let at = c.args.at.now in
-    let w = header_placed t at in
+    let w = header_located t at in
     let m = targets_text (words_in c.part.result.now) at.separator in
     let p = pattern_text (words_in c.pattern.result.now) in
     let n = each_after_space (words_in c.part-2.result.now) in
@@ -39,7 +39,7 @@ pub returns-clause-whole : goal.returns-clause-whole
 returns-clause-whole g c =
     let t = c.args.text.now in
     let at = c.args.at.now in
-    let w = header_placed t at in
+    let w = header_located t at in
     let m = targets_text (words_in c.part.result.now) at.separator in
     let p = pattern_text (words_in c.pattern.result.now) in
     let n = each_after_space (words_in c.part-2.result.now) in
@@ -53,7 +53,7 @@ pub returns-clause-prefix : goal.returns-clause-prefix
 returns-clause-prefix g c =
     let t = c.args.text.now in
     let at = c.args.at.now in
-    let w = header_placed t at in
+    let w = header_located t at in
     let m = targets_text (words_in c.part.result.now) at.separator in
     let p = pattern_text (words_in c.pattern.result.now) in
     let n = each_after_space (words_in c.part-2.result.now) in

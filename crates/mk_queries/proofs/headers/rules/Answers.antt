@@ -1,13 +1,13 @@
 use Rattle.std.proofs.Common.{◌≡◌, ◌∙◌, ◌+◌, ◌^◌, ◌≤◌, ◌++◌, [], None, length, arith, rules, ap, refl, sym, subst}
 use Rattle.mk_lines.specs.Device.{AppendsPrefix}
 use Rattle.mk_class.specs.Contexts.{start}
-use Rattle.mk_tree.specs.PlacedLines.{size_of, placed_text, text_of_line}
+use Rattle.mk_tree.specs.LocatedLines.{size_of, located_text, text_of_line}
 use Rattle.mk_tree.specs.Trees.{line_view}
-use Rattle.mk_tree.specs.Walks.{LinesInContext}
+use Rattle.mk_tree.specs.TreeWalks.{LinesInContext}
 use Rattle.mk_tree.proofs.Prefixes.{so_far-start, so_far-more, so_far-prefix}
-use Rattle.mk_queries.specs.PlacedTexts.{count_of, count_placed, counted_after, rule_placed}
+use Rattle.mk_queries.specs.LocatedTexts.{count_of, count_located, counted_after, rule_located}
 use Rattle.mk_queries.specs.Queries.{rules_text}
-use Rattle.mk_queries.specs.Walks.{line_feeds, rules_ahead}
+use Rattle.mk_queries.specs.QueryWalks.{line_feeds, rules_ahead}
 use Rattle.mk_queries.proofs.on_gathering.PutLemmas.{put-next, put-next_failed, put-last, put-last_failed}
 use Rattle.mk_queries.proofs.on_walks.RuleLemmas.{rules-next, rules-end, rules-walk, count-next}
 use Rattle.mk_queries.proofs.on_walks.VariableLemmas.{AreClassedIn, document-classed, first-classed, rest-classed}
@@ -43,7 +43,7 @@ returns-in_err-counted-clause-prefix g c =
     let o = c.lines.counted in
     let w = c.lines.context-iterator in
     let left = c.next.new.self in
-    let said = rule_placed n c.in-Some.context.conditionals o (text_of_line l) l.class in
+    let said = rule_located n c.in-Some.context.conditionals o (text_of_line l) l.class in
     let after = counted_after o l.class in
     let rest = rules_ahead (n + line_feeds l.bytes) left.context after left.lines in
     let e : said ++ rest ≡ rules_ahead n w.context o w.lines =
@@ -61,7 +61,7 @@ lines-preserved g c =
     let after = c.in_ok-counted.counted in
     let w = c.lines.context-iterator in
     let left = c.next.new.self in
-    let said = rule_placed n c.in-Some.context.conditionals o (text_of_line l) l.class in
+    let said = rule_located n c.in-Some.context.conditionals o (text_of_line l) l.class in
     let rest = rules_ahead (n + m) left.context after left.lines in
     let e : said ++ rest ≡ rules_ahead n w.context o w.lines =
     rules-next n m c.in-Some.context o after c.bytes.result.now l w left c.in-Some.ensures.steps.0 c.in-Some.ensures.steps.1 c.in-Some.ensures.steps.2 c.bytes.ensures.bytes c.line_feeds-number.ensures.number c.in_ok-counted.ensures.counted in
@@ -85,20 +85,20 @@ returns-in_err-put_count-clause-prefix g c =
     let doc = c.args.doc.now in
     let e = rules-end c.lines.number c.lines.counted front (rules_ahead 1 start None doc) c.lines.context-iterator c.in-None.ensures.steps.0 whole ∙ rules-walk doc c.requires.faithful in
     subst (AppendsPrefix (g.W.ByteSink.contents c.args.out.now) (g.W.ByteSink.contents c.put_count.new.out)) e
-    (so_far-prefix _ _ _ front c.lines.gathered.items (count_placed c.lines.counted) out c.in_err-put_count.ensures.prefix)
+    (so_far-prefix _ _ _ front c.lines.gathered.items (count_located c.lines.counted) out c.in_err-put_count.ensures.prefix)
 
 pub returns-clause-whole : goal.returns-clause-whole
 returns-clause-whole g c =
     let (goes, ends, working, unflushed, classed, few, counts, (front, whole, out)) = c.lines.invariant in
     let doc = c.args.doc.now in
     let e = rules-end c.lines.number c.lines.counted front (rules_ahead 1 start None doc) c.lines.context-iterator c.in-None.ensures.steps.0 whole ∙ rules-walk doc c.requires.faithful in
-    let so = so_far-more _ _ _ front c.lines.gathered.items (count_placed c.lines.counted) c.put_count.new.gathered.items out c.in_ok-put_count.ensures.whole in
-    put-last _ _ _ _ (front ++ count_placed c.lines.counted) c.put_count.new.gathered.items _ _ c.deref.ensures.0 e so c.write_all.ensures.whole
+    let so = so_far-more _ _ _ front c.lines.gathered.items (count_located c.lines.counted) c.put_count.new.gathered.items out c.in_ok-put_count.ensures.whole in
+    put-last _ _ _ _ (front ++ count_located c.lines.counted) c.put_count.new.gathered.items _ _ c.deref.ensures.0 e so c.write_all.ensures.whole
 
 pub returns-clause-prefix : goal.returns-clause-prefix
 returns-clause-prefix g c =
     let (goes, ends, working, unflushed, classed, few, counts, (front, whole, out)) = c.lines.invariant in
     let doc = c.args.doc.now in
     let e = rules-end c.lines.number c.lines.counted front (rules_ahead 1 start None doc) c.lines.context-iterator c.in-None.ensures.steps.0 whole ∙ rules-walk doc c.requires.faithful in
-    let so = so_far-more _ _ _ front c.lines.gathered.items (count_placed c.lines.counted) c.put_count.new.gathered.items out c.in_ok-put_count.ensures.whole in
-    put-last_failed _ _ _ (front ++ count_placed c.lines.counted) c.put_count.new.gathered.items c.deref.result.now (rules_text (placed_text doc)) c.deref.ensures.0 e so c.write_all.ensures.prefix
+    let so = so_far-more _ _ _ front c.lines.gathered.items (count_located c.lines.counted) c.put_count.new.gathered.items out c.in_ok-put_count.ensures.whole in
+    put-last_failed _ _ _ (front ++ count_located c.lines.counted) c.put_count.new.gathered.items c.deref.result.now (rules_text (located_text doc)) c.deref.ensures.0 e so c.write_all.ensures.prefix

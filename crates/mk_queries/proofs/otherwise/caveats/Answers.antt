@@ -1,12 +1,12 @@
 use Rattle.std.proofs.Common.{◌≡◌, ◌∙◌, ◌+◌, ◌++◌, [], length, arith, rules, ap, refl, sym, subst}
 use Rattle.mk_lines.specs.Device.{AppendsPrefix}
 use Rattle.mk_class.specs.Contexts.{start}
-use Rattle.mk_tree.specs.PlacedLines.{size_of, placed_text}
+use Rattle.mk_tree.specs.LocatedLines.{size_of, located_text}
 use Rattle.mk_tree.specs.Trees.{line_view}
-use Rattle.mk_tree.specs.Walks.{LinesInContext}
+use Rattle.mk_tree.specs.TreeWalks.{LinesInContext}
 use Rattle.mk_tree.proofs.Prefixes.{so_far-start, so_far-more}
 use Rattle.mk_queries.specs.Caveats.{caveat_text, caveats_text, seen_above}
-use Rattle.mk_queries.specs.Walks.{line_feeds, seen_after, caveats_ahead}
+use Rattle.mk_queries.specs.QueryWalks.{line_feeds, seen_after, caveats_ahead}
 use Rattle.mk_queries.proofs.on_gathering.PutLemmas.{put-next, put-next_failed, put-last, put-last_failed}
 use Rattle.mk_queries.proofs.on_walks.CaveatLemmas.{caveats-next, caveats-end, caveats-walk}
 use Rattle.mk_queries.proofs.on_walks.VariableLemmas.{AreClassedIn, document-classed, first-classed, rest-classed}
@@ -84,4 +84,4 @@ returns-clause-prefix g c =
     let (goes, ends, working, unflushed, classed, few, (front, whole, out)) = c.lines.invariant in
     let doc = c.args.doc.now in
     let e = caveats-end c.lines.number c.lines.seen front (caveats_ahead 1 start (seen_above []) doc) c.lines.context-iterator c.in-None.ensures.steps.0 whole ∙ caveats-walk doc c.requires.faithful in
-    put-last_failed _ _ _ front c.lines.gathered.items c.deref.result.now (caveats_text (placed_text doc)) c.deref.ensures.0 e out c.write_all.ensures.prefix
+    put-last_failed _ _ _ front c.lines.gathered.items c.deref.result.now (caveats_text (located_text doc)) c.deref.ensures.0 e out c.write_all.ensures.prefix

@@ -1,11 +1,11 @@
 use Rattle.std.proofs.Common.{◌≡◌, ◌∙◌, ◌+◌, ◌++◌, [], length, arith, rules, ap, refl, subst}
 use Rattle.mk_lines.specs.Device.{AppendsPrefix}
 use Rattle.mk_lines.proofs.PrefixLemmas.{AppendsPrefix-front}
-use Rattle.mk_tree.specs.PlacedLines.{size_of}
+use Rattle.mk_tree.specs.LocatedLines.{size_of}
 use Rattle.mk_tree.specs.Trees.{line_view}
 use Rattle.mk_tree.proofs.Prefixes.{so_far-start, so_far-more, so_far-prefix}
 use Rattle.mk_queries.specs.Queries.{end_lines}
-use Rattle.mk_queries.specs.Walks.{line_feeds, unread_placed, unread_ahead}
+use Rattle.mk_queries.specs.QueryWalks.{line_feeds, unread_located, unread_ahead}
 use Rattle.mk_queries.proofs.on_gathering.PutLemmas.{put-next, put-next_failed, put-last, put-last_failed}
 use Rattle.mk_queries.proofs.on_walks.UnreadLemmas.{unread-next, unread-end, check-walk, check-end}
 use Rattle.mk_queries.proofs.unread.check.Goals as goal
@@ -20,7 +20,7 @@ returns-in_err-put_unread-clause-prefix g c =
     let (goes, ends, working, unflushed, few, (front, whole, out)) = c.lines.invariant in
     let doc = c.args.doc.now in
     let l = line_view c.in-Some.line.now in
-    let said = unread_placed c.lines.number c.class.result in
+    let said = unread_located c.lines.number c.class.result in
     let rest = unread_ahead (c.lines.number + line_feeds l.bytes) c.next.new.self in
     let e : said ++ rest ≡ unread_ahead c.lines.number c.lines.line-iterator = unread-next c.lines.number (line_feeds l.bytes) c.class.result l.bytes l c.lines.line-iterator c.next.new.self c.in-Some.ensures.steps c.class.ensures refl refl in
     let w = put-next_failed _ _ _ front c.lines.gathered.items said rest (unread_ahead 1 doc) out c.in_err-put_unread.ensures.prefix (ap (λ z. front ++ z) e ∙ whole) in
@@ -30,7 +30,7 @@ pub lines-preserved : goal.lines-preserved
 lines-preserved g c =
     let (goes, ends, working, unflushed, few, (front, whole, out)) = c.lines.invariant in
     let l = line_view c.in-Some.line.now in
-    let said = unread_placed c.lines.number c.class.result in
+    let said = unread_located c.lines.number c.class.result in
     let rest = unread_ahead (c.lines.number + c.line_feeds-number.result) c.next.new.self in
     let e : said ++ rest ≡ unread_ahead c.lines.number c.lines.line-iterator =
     unread-next c.lines.number c.line_feeds-number.result c.class.result c.bytes.result.now l c.lines.line-iterator c.next.new.self c.in-Some.ensures.steps c.class.ensures c.bytes.ensures.bytes c.line_feeds-number.ensures.number in (

@@ -1,9 +1,9 @@
 -- What is said of the lines that were passed is out or held back, and what is said of those ahead is to come. The numbers of lines
 -- stay within the bytes of the text.
 use Rattle.std.proofs.Common.{◌≡◌, ◌+◌, ◌≤◌, ◌^◌, ◌++◌, false, List, ℕ}
-use Rattle.mk_tree.specs.PlacedLines.{size_of}
+use Rattle.mk_tree.specs.LocatedLines.{size_of}
 use Rattle.mk_tree.specs.Printing.{AppendsSoFar}
-use Rattle.mk_queries.specs.Walks.{unread_ahead}
+use Rattle.mk_queries.specs.QueryWalks.{unread_ahead}
 use Rattle.mk_queries.proofs.unread.check.Given as goal
 
 abbrev pub invariant-lines : goal.invariant-lines

@@ -3,7 +3,7 @@ use Rattle.std.specs.Prelude.{codes}
 use Rattle.mk_lines.specs.Ranges.{text_at}
 use Rattle.mk_lines.specs.Words.{words_in}
 use Rattle.mk_class.specs.OperatorTexts.{operator_text}
-use Rattle.mk_queries.specs.PlacedTexts.{assigned_placed}
+use Rattle.mk_queries.specs.LocatedTexts.{assigned_located}
 use Rattle.mk_queries.specs.Spacing.{each_before_space, after_space}
 use Rattle.mk_queries.proofs.on_gathering.PutLemmas.{put-first_failed, put-second, put-second_failed, four-parts}
 use Rattle.mk_queries.proofs.on_gathering.SpacingLemmas.{put-more, put-more_failed}
@@ -19,13 +19,13 @@ returns-in_err-put_each_before_space-clause-prefix g c =
     let o = operator_text at.flavor in
     let v = after_space (text_at t at.value) ++ codes "\n" in
     let p = assigned-parts t c.args.start at c.part.result.now (text_at t at.name) o (text_at t at.value) c.part.ensures refl refl refl in
-    put-first_failed _ _ c.args.gathered.now.items m (n ++ (o ++ v)) (assigned_placed t c.args.start at) p c.in_err-put_each_before_space.ensures.prefix
+    put-first_failed _ _ c.args.gathered.now.items m (n ++ (o ++ v)) (assigned_located t c.args.start at) p c.in_err-put_each_before_space.ensures.prefix
 
 pub returns-in_err-put_parts-clause-prefix : goal.returns-in_err-put_parts-clause-prefix
 returns-in_err-put_parts-clause-prefix g c =
     let t = c.args.text.now in
     let at = c.args.at.now in
-    let w = assigned_placed t c.args.start at in
+    let w = assigned_located t c.args.start at in
     let m = each_before_space (words_in c.part.result.now) in
     let n = c.part-2.result.now ++ (codes " " ++ []) in
     let o = operator_text at.flavor in
@@ -37,7 +37,7 @@ pub returns-in_err-put-clause-prefix : goal.returns-in_err-put-clause-prefix
 returns-in_err-put-clause-prefix g c =
     let t = c.args.text.now in
     let at = c.args.at.now in
-    let w = assigned_placed t c.args.start at in
+    let w = assigned_located t c.args.start at in
     let m = each_before_space (words_in c.part.result.now) in
     let n = c.part-2.result.now ++ (codes " " ++ []) in
     let o = c.as_bytes.result.now in
@@ -50,7 +50,7 @@ pub returns-clause-whole : goal.returns-clause-whole
 returns-clause-whole g c =
     let t = c.args.text.now in
     let at = c.args.at.now in
-    let w = assigned_placed t c.args.start at in
+    let w = assigned_located t c.args.start at in
     let m = each_before_space (words_in c.part.result.now) in
     let n = c.part-2.result.now ++ (codes " " ++ []) in
     let o = c.as_bytes.result.now in
@@ -64,7 +64,7 @@ pub returns-clause-prefix : goal.returns-clause-prefix
 returns-clause-prefix g c =
     let t = c.args.text.now in
     let at = c.args.at.now in
-    let w = assigned_placed t c.args.start at in
+    let w = assigned_located t c.args.start at in
     let m = each_before_space (words_in c.part.result.now) in
     let n = c.part-2.result.now ++ (codes " " ++ []) in
     let o = c.as_bytes.result.now in

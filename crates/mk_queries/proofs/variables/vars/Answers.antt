@@ -1,13 +1,13 @@
 use Rattle.std.proofs.Common.{◌≡◌, ◌∙◌, ◌+◌, ◌++◌, [], length, arith, rules, ap, refl, sym, subst}
 use Rattle.mk_lines.specs.Device.{AppendsPrefix}
 use Rattle.mk_class.specs.Contexts.{start}
-use Rattle.mk_tree.specs.PlacedLines.{size_of, placed_text, text_of_line}
+use Rattle.mk_tree.specs.LocatedLines.{size_of, located_text, text_of_line}
 use Rattle.mk_tree.specs.Trees.{line_view}
-use Rattle.mk_tree.specs.Walks.{LinesInContext}
+use Rattle.mk_tree.specs.TreeWalks.{LinesInContext}
 use Rattle.mk_tree.proofs.Prefixes.{so_far-start, so_far-more}
-use Rattle.mk_queries.specs.PlacedTexts.{variable_placed}
+use Rattle.mk_queries.specs.LocatedTexts.{variable_located}
 use Rattle.mk_queries.specs.Queries.{vars_text}
-use Rattle.mk_queries.specs.Walks.{line_feeds, variables_ahead}
+use Rattle.mk_queries.specs.QueryWalks.{line_feeds, variables_ahead}
 use Rattle.mk_queries.proofs.on_gathering.PutLemmas.{put-next, put-next_failed, put-last, put-last_failed}
 use Rattle.mk_queries.proofs.on_walks.VariableLemmas.{AreClassedIn, document-classed, first-classed, rest-classed, variables-next, variables-end, vars-walk}
 use Rattle.mk_queries.proofs.variables.vars.Goals as goal
@@ -37,7 +37,7 @@ returns-in_err-put_variable-clause-prefix g c =
     let n = c.lines.number in
     let w = c.lines.context-iterator in
     let left = c.next.new.self in
-    let said = variable_placed n c.in-Some.context.conditionals (text_of_line l) l.class in
+    let said = variable_located n c.in-Some.context.conditionals (text_of_line l) l.class in
     let rest = variables_ahead (n + line_feeds l.bytes) left.context left.lines in
     let e : said ++ rest ≡ variables_ahead n w.context w.lines = variables-next n (line_feeds l.bytes) c.in-Some.context l.bytes l w left c.in-Some.ensures.steps.0 c.in-Some.ensures.steps.1 c.in-Some.ensures.steps.2 refl refl in
     subst (AppendsPrefix (g.W.ByteSink.contents c.args.out.now) (g.W.ByteSink.contents c.put_variable.new.out)) (vars-walk doc c.requires.faithful)
@@ -51,7 +51,7 @@ lines-preserved g c =
     let m = c.line_feeds-number.result in
     let w = c.lines.context-iterator in
     let left = c.next.new.self in
-    let said = variable_placed n c.in-Some.context.conditionals (text_of_line l) l.class in
+    let said = variable_located n c.in-Some.context.conditionals (text_of_line l) l.class in
     let rest = variables_ahead (n + m) left.context left.lines in
     let e : said ++ rest ≡ variables_ahead n w.context w.lines =
     variables-next n m c.in-Some.context c.bytes.result.now l w left c.in-Some.ensures.steps.0 c.in-Some.ensures.steps.1 c.in-Some.ensures.steps.2 c.bytes.ensures.bytes c.line_feeds-number.ensures.number in (
@@ -76,4 +76,4 @@ returns-clause-prefix g c =
     let (goes, ends, working, unflushed, classed, few, (front, whole, out)) = c.lines.invariant in
     let doc = c.args.doc.now in
     let e = variables-end c.lines.number front (variables_ahead 1 start doc) c.lines.context-iterator c.in-None.ensures.steps.0 whole ∙ vars-walk doc c.requires.faithful in
-    put-last_failed _ _ _ front c.lines.gathered.items c.deref.result.now (vars_text (placed_text doc)) c.deref.ensures.0 e out c.write_all.ensures.prefix
+    put-last_failed _ _ _ front c.lines.gathered.items c.deref.result.now (vars_text (located_text doc)) c.deref.ensures.0 e out c.write_all.ensures.prefix

@@ -2,9 +2,9 @@
 -- its class in its context, and the numbers of lines stay within the bytes of the text.
 use Rattle.std.proofs.Common.{◌≡◌, ◌+◌, ◌≤◌, ◌^◌, ◌++◌, false, List, ℕ}
 use Rattle.mk_class.specs.Contexts.{start}
-use Rattle.mk_tree.specs.PlacedLines.{size_of}
+use Rattle.mk_tree.specs.LocatedLines.{size_of}
 use Rattle.mk_tree.specs.Printing.{AppendsSoFar}
-use Rattle.mk_queries.specs.Walks.{variables_ahead}
+use Rattle.mk_queries.specs.QueryWalks.{variables_ahead}
 use Rattle.mk_queries.proofs.on_walks.VariableLemmas.{AreClassedIn}
 use Rattle.mk_queries.proofs.variables.vars.Given as goal
 

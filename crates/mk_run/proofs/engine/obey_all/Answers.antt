@@ -3,9 +3,9 @@ use Rattle.mk_session.specs.CommandViews.{command_of}
 use Rattle.mk_script.specs.Scripts.{CommandAt, numbered}
 use Rattle.mk_run.specs.RunEnds.{written}
 use Rattle.mk_run.specs.Outcome.{outcome_of}
-use Rattle.mk_run.specs.Steps.{AreObeyed, AreEnded, AreShort, StopsCommands}
+use Rattle.mk_run.specs.RunSteps.{AreObeyed, AreEnded, AreShort, StopsCommands}
 use Rattle.mk_run.specs.declared.outcome.Outcome.{Outcome}
-use Rattle.mk_run.specs.Commands.{obeyed}
+use Rattle.mk_run.specs.ObeyedCommands.{obeyed}
 use Rattle.mk_lines.specs.Device.{AppendsPrefix}
 use Rattle.mk_run.proofs.on_runs.ObeyLemmas.{mapped-at, mapped-more, answered-ok, answered-err, answered-short, granted-next, short-next, refused-next, refused-last, refused-cut, none-obeyed}
 use Rattle.mk_run.proofs.engine.obey_all.Goals as goal

@@ -1,5 +1,5 @@
 use Rattle.std.proofs.Common.{sym, subst}
-use Rattle.mk_run.specs.Steps.{StopsMakefile}
+use Rattle.mk_run.specs.RunSteps.{StopsMakefile}
 use Rattle.mk_run.specs.declared.outcome.Outcome.{Outcome}
 use Rattle.mk_run.proofs.on_runs.ReadLemmas.{makefile-unread}
 use Rattle.mk_run.proofs.engine.open_makefile.Goals as goal

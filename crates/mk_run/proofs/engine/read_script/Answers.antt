@@ -1,5 +1,5 @@
 use Rattle.std.proofs.Common.{sym, subst}
-use Rattle.mk_run.specs.Steps.{StopsScript}
+use Rattle.mk_run.specs.RunSteps.{StopsScript}
 use Rattle.mk_run.specs.declared.outcome.Outcome.{Outcome}
 use Rattle.mk_run.proofs.on_runs.ReadLemmas.{script-unread}
 use Rattle.mk_run.proofs.engine.read_script.Goals as goal

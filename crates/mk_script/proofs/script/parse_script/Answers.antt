@@ -3,7 +3,7 @@ use Rattle.std.proofs.lemmas.List.{map-append}
 use Rattle.mk_session.specs.CommandViews.{command_of}
 use Rattle.mk_script.specs.Lines.{IsReadable}
 use Rattle.mk_script.specs.Scripts.{numbered}
-use Rattle.mk_script.specs.Readings.{is_short}
+use Rattle.mk_script.specs.ReaderAnswers.{is_short}
 use Rattle.mk_script.proofs.on_commands.WrittenLemmas.{command-written}
 use Rattle.mk_script.proofs.on_scripts.LineLemmas.{skipped-is, not_readable, stands-none, stands-command}
 use Rattle.mk_script.proofs.on_scripts.ScriptLemmas.{IsReadSoFar, none-read, skipped-read, command-read, all-read, reached}

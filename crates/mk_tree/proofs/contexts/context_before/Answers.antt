@@ -9,12 +9,12 @@ lines-init g c =
 
 pub unreachable-requires : goal.unreachable-requires
 unreachable-requires g c =
-    drop-none c.args.tree.now.0 c.lines.place (omega (arith, c.lines-test.true, c.requires.in_range)) (c.lines.invariant.0 ∙ c.in_default.ensures.steps.0)
+    drop-none c.args.tree.now.0 c.lines.at (omega (arith, c.lines-test.true, c.requires.in_range)) (c.lines.invariant.0 ∙ c.in_default.ensures.steps.0)
 
 pub lines-preserved : goal.lines-preserved
 lines-preserved g c =
     let (at, here, fits) = c.lines.invariant in
-    walk-step c.args.tree.now.0 _ _ _ _ _ _ c.class.result at c.in-Some.ensures.steps here fits c.class.ensures c.step-context.ensures.places
+    walk-step c.args.tree.now.0 _ _ _ _ _ _ c.class.result at c.in-Some.ensures.steps here fits c.class.ensures c.step-context.ensures.located
 
 pub returns-clause-few : goal.returns-clause-few
-returns-clause-few g c = rw c.lines.invariant.1 (conditionals-few_after start c.args.tree.now.0 c.lines.place (omega arith) c.requires.conditionals)
+returns-clause-few g c = rw c.lines.invariant.1 (conditionals-few_after start c.args.tree.now.0 c.lines.at (omega arith) c.requires.conditionals)

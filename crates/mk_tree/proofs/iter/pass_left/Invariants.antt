@@ -1,12 +1,12 @@
 -- The lines of the tree that is left, and then the lines ahead of those passed, are the lines that are to be ahead.
 use Rattle.std.proofs.Common.{◌≡◌, ◌+◌, ◌≤◌, ◌++◌}
 use Rattle.arrayvec.specs.ArrayVec.{array_vec_len}
-use Rattle.mk_tree.specs.Walks.{lines_ahead, AreWithin}
+use Rattle.mk_tree.specs.TreeWalks.{lines_ahead, HaveRoom}
 use Rattle.mk_tree.proofs.iter.pass_left.Given as goal
 
 abbrev pub invariant-down : goal.invariant-down
 invariant-down g l =
-    (array_vec_len l.passed + l.tree.1 ≤ 34) × AreWithin 0 l.passed.items
+    (array_vec_len l.passed + l.tree.1 ≤ 34) × HaveRoom 0 l.passed.items
     × (l.tree.0 ++ lines_ahead l.passed.items ≡ l.initial.tree.0 ++ lines_ahead l.initial.passed.items)
 
 abbrev pub decreases-down : goal.decreases-down

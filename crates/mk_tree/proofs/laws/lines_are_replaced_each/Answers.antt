@@ -1,6 +1,6 @@
 use Rattle.std.proofs.Common.{◌++◌}
 use Rattle.mk_tree.specs.LineTexts.{text_of}
-use Rattle.mk_tree.proofs.on_documents.LinePlaces.{reading-three}
+use Rattle.mk_tree.proofs.on_documents.LinesInText.{reading-three}
 use Rattle.mk_tree.proofs.on_changes.EachReplacedLemmas.{lines-replaced}
 use Rattle.mk_tree.proofs.laws.lines_are_replaced_each.Goals as goal
 

@@ -5,7 +5,7 @@ use Rattle.mk_class.specs.Contexts.{Context}
 use Rattle.mk_class.specs.ClassedLines.{classed, context_after_lines}
 use Rattle.mk_tree.specs.LineTexts.{text_of, context_of, bytes_of}
 use Rattle.mk_tree.specs.Leaning.{AgreeButForFlag, leans}
-use Rattle.mk_tree.proofs.on_documents.LinePlaces.{context_of-append, reading-three}
+use Rattle.mk_tree.proofs.on_documents.LinesInText.{context_of-append, reading-three}
 use Rattle.mk_tree.proofs.on_changes.RunsReplaced.{run-replaced_keeping}
 use Rattle.mk_tree.proofs.laws.runs_are_replaced.Goals as goal
 

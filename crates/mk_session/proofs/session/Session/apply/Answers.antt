@@ -1,7 +1,7 @@
 use Rattle.std.proofs.Common.{◌≡◌, ◌∷◌, sym, ap, ◌∙◌, subst, Option, arith}
 use Rattle.mk_edit_parts.specs.EditViews.{edit_of}
-use Rattle.mk_session.specs.KeptSessions.{Patches, IsKept, after_patches}
-use Rattle.mk_session.proofs.on_sessions.KeptLemmas.{FitPatches, kept-alone}
+use Rattle.mk_session.specs.StoredSessions.{Patches, IsStored, after_patches}
+use Rattle.mk_session.proofs.on_sessions.StoredLemmas.{FitPatches, stored-alone}
 use Rattle.mk_session.proofs.on_sessions.StepLemmas.{alone-step, grouped-step, edit-refused, memory-refused}
 use Rattle.mk_session.proofs.session.Session.apply.Goals as goal
 
@@ -21,10 +21,10 @@ pub invariant_of-self-in-None : goal.invariant_of-self-in-None
 invariant_of-self-in-None g c =
     let member = c.push_front-in-None.new.self in
     let planned = c.in-Ok.ensures.planned in
-    let k = subst (λ (o : Option Patches). IsKept c.self.inside.history o c.self.inside.doc) (sym c.in-None.ensures.value) c.self.invariant.0 in
+    let k = subst (λ (o : Option Patches). IsStored c.self.inside.history o c.self.inside.doc) (sym c.in-None.ensures.value) c.self.invariant.0 in
     let fits : FitPatches member c.make-in-None.new.doc = rw (c.push_front-in-None.ensures, c.in-Ok-with_capacity.ensures) (c.make-in-None.ensures.fits_back, tt) in
     let back : after_patches member c.make-in-None.new.doc ≡ c.self.inside.doc = rw (c.push_front-in-None.ensures, c.in-Ok-with_capacity.ensures) c.make-in-None.ensures.leads_back in
-    (rw (c.push.ensures, c.take.ensures.after) (kept-alone c.self.inside.history member c.self.inside.doc c.make-in-None.new.doc k (rw c.make-in-None.ensures.after planned.faithful) fits back), omega (arith, c.self.invariant.1, c.plan.ensures.forward))
+    (rw (c.push.ensures, c.take.ensures.after) (stored-alone c.self.inside.history member c.self.inside.doc c.make-in-None.new.doc k (rw c.make-in-None.ensures.after planned.faithful) fits back), omega (arith, c.self.invariant.1, c.plan.ensures.forward))
 
 pub returns-else-is_err-clause-done : goal.returns-else-is_err-clause-done
 returns-else-is_err-clause-done g c =

@@ -1,8 +1,8 @@
 use Rattle.std.proofs.Common.{◌≡◌, ◌<◌, ℕ, zero, suc, true, false, List, [], ◌∷◌, refl, length, sym, ap, arith, subst, Option}
 use Rattle.std.specs.Prelude.{◌==◌}
 use Rattle.std.proofs.lemmas.Bool.{eqb-true}
-use Rattle.mk_session.specs.KeptSessions.{Patches, IsKept}
-use Rattle.mk_session.proofs.on_sessions.KeptLemmas.{kept-ended, kept-ended_empty}
+use Rattle.mk_session.specs.StoredSessions.{Patches, IsStored}
+use Rattle.mk_session.proofs.on_sessions.StoredLemmas.{stored-ended, stored-ended_empty}
 use Rattle.mk_session.proofs.on_sessions.StepLemmas.{end-step}
 use Rattle.mk_session.proofs.session.Session.end.Goals as goal
 
@@ -19,13 +19,13 @@ none-if-empty (x ∷ xs) e = absurd (not-zero (length xs) (sym e))
 
 pub invariant_of-self-then-not-is_empty : goal.invariant_of-self-then-not-is_empty
 invariant_of-self-then-not-is_empty g c =
-    let k = subst (λ (o : Option Patches). IsKept c.self.inside.history o c.self.inside.doc) (sym c.in-Some.ensures.value) c.self.invariant.0 in
-    (rw (c.push.ensures, c.take.ensures.after) (kept-ended c.self.inside.history c.in-Some.group c.self.inside.doc k), c.self.invariant.1)
+    let k = subst (λ (o : Option Patches). IsStored c.self.inside.history o c.self.inside.doc) (sym c.in-Some.ensures.value) c.self.invariant.0 in
+    (rw (c.push.ensures, c.take.ensures.after) (stored-ended c.self.inside.history c.in-Some.group c.self.inside.doc k), c.self.invariant.1)
 
 pub invariant_of-self-else-not-is_empty : goal.invariant_of-self-else-not-is_empty
 invariant_of-self-else-not-is_empty g c =
-    let k = subst (λ (o : Option Patches). IsKept c.self.inside.history o c.self.inside.doc) (sym c.in-Some.ensures.value) c.self.invariant.0 in
-    (rw c.take.ensures.after (kept-ended_empty c.self.inside.history c.in-Some.group c.self.inside.doc k (none-if-empty c.in-Some.group.changes c.if-not-is_empty.ensures)), c.self.invariant.1)
+    let k = subst (λ (o : Option Patches). IsStored c.self.inside.history o c.self.inside.doc) (sym c.in-Some.ensures.value) c.self.invariant.0 in
+    (rw c.take.ensures.after (stored-ended_empty c.self.inside.history c.in-Some.group c.self.inside.doc k (none-if-empty c.in-Some.group.changes c.if-not-is_empty.ensures)), c.self.invariant.1)
 
 pub returns-then-not-is_empty-clause-done : goal.returns-then-not-is_empty-clause-done
 returns-then-not-is_empty-clause-done g c =

@@ -1,5 +1,5 @@
 use Rattle.std.proofs.Common.{subst, ap, length, arith}
-use Rattle.mk_tree.specs.PlacedLines.{AreConditionalsFit}
+use Rattle.mk_tree.specs.LocatedLines.{AreConditionalsFit}
 use Rattle.mk_tree.proofs.AdmissionLemmas.{admitted-faithful}
 use Rattle.mk_tree.proofs.document.Doc.iter.Goals as goal
 

@@ -1,14 +1,14 @@
 use Rattle.std.proofs.Common.{◌∙◌, ◌+◌, length, arith, ap}
 use Rattle.std.specs.Rc.{rc_slice_items}
-use Rattle.mk_tree.specs.PlacedLines.{size_of}
-use Rattle.mk_tree.specs.Unread.{UnreadLines, shown}
+use Rattle.mk_tree.specs.LocatedLines.{size_of}
+use Rattle.mk_tree.specs.Unread.{UnreadLines, shown_lines}
 use Rattle.mk_tree.proofs.on_documents.DocumentLemmas.{faithful-own}
 use Rattle.mk_tree.proofs.Reading.{read-all, all-counted, shallow, size_of-document}
 use Rattle.mk_tree.proofs.document.Doc.parse_vec.Goals as goal
 
 pub read_tree-requires-clause-fits : goal.read_tree-requires-clause-fits
 read_tree-requires-clause-fits g c =
-    omega (arith, c.if-len-gt-SIZE_LIMIT.false, c.len.ensures, ap (λ (u : UnreadLines). size_of (shown u)) c.new-lines.ensures.lines ∙ size_of-document (rc_slice_items c.in_ok-text.text), ap length c.in_ok-text.ensures)
+    omega (arith, c.if-len-gt-SIZE_LIMIT.false, c.len.ensures, ap (λ (u : UnreadLines). size_of (shown_lines u)) c.new-lines.ensures.lines ∙ size_of-document (rc_slice_items c.in_ok-text.text), ap length c.in_ok-text.ensures)
 
 pub returns-clause-shallow : goal.returns-clause-shallow
 returns-clause-shallow g c =

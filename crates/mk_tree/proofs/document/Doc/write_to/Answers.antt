@@ -1,7 +1,7 @@
 use Rattle.std.proofs.Common.{◌≡◌, [], ◌++◌, rules, ap, subst}
 use Rattle.mk_lines.specs.Device.{AppendsPrefix}
 use Rattle.mk_lines.proofs.PrefixLemmas.{AppendsPrefix-front}
-use Rattle.mk_tree.specs.PlacedLines.{placed_text}
+use Rattle.mk_tree.specs.LocatedLines.{located_text}
 use Rattle.mk_tree.proofs.Prefixes.{AppendsPrefix-whole, so_far-start, so_far-more, so_far-whole, so_far-prefix, so_far-end, line-step, line-end}
 use Rattle.std.specs.Io.KnownBytes.{Appends}
 use Rattle.mk_tree.proofs.document.Doc.write_to.Goals as goal
@@ -9,7 +9,7 @@ use Rattle.mk_tree.proofs.document.Doc.write_to.Goals as goal
 pub lines-init : goal.lines-init
 lines-init g c =
     let all : c.into_iter-line-iterator.result ≡ c.args.self.now = search rules in
-    (tt, tt, c.requires, search rules, ([], ap placed_text all, so_far-start _ _ c.new-gathered.ensures))
+    (tt, tt, c.requires, search rules, ([], ap located_text all, so_far-start _ _ c.new-gathered.ensures))
 
 pub lines-preserved : goal.lines-preserved
 lines-preserved g c =

@@ -1,5 +1,5 @@
 use Rattle.std.proofs.Common.{arith}
-use Rattle.mk_tree.proofs.Places.{insert_right_steps}
+use Rattle.mk_tree.proofs.Indices.{insert_right_steps}
 use Rattle.mk_tree.proofs.tree.Tree.+insert.Goals as goal
 
 pub returns-else-at-before-clause-lines : goal.returns-else-at-before-clause-lines

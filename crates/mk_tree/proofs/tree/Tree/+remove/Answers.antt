@@ -1,5 +1,5 @@
 use Rattle.std.proofs.Common.{arith}
-use Rattle.mk_tree.proofs.Places.{remove_right_steps}
+use Rattle.mk_tree.proofs.Indices.{remove_right_steps}
 use Rattle.mk_tree.proofs.tree.Tree.+remove.Goals as goal
 
 pub returns-then-at-before-2-clause-lines : goal.returns-then-at-before-2-clause-lines

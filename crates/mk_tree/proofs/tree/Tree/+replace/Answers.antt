@@ -1,5 +1,5 @@
 use Rattle.std.proofs.Common.{arith}
-use Rattle.mk_tree.proofs.Places.{replace_right_steps}
+use Rattle.mk_tree.proofs.Indices.{replace_right_steps}
 use Rattle.mk_tree.proofs.tree.Tree.+replace.Goals as goal
 
 pub returns-then-at-before-2-clause-lines : goal.returns-then-at-before-2-clause-lines

@@ -1,0 +1,61 @@
+-- What a document shows of a line by the offsets of its parts: the tests of a line that walks over a document make.
+use Rattle.std.specs.Prelude.{not, ◌&&◌, is_some, ◌≡◌, ℕ, Bool, false, List, [], ◌∷◌}
+use Rattle.std.specs.Str.{bytes_eq}
+use Rattle.mk_lines.specs.Cells.{joined_byte}
+use Rattle.mk_lines.specs.Ranges.{text_at}
+use Rattle.mk_lines.specs.Words.{words_in}
+use Rattle.mk_class.specs.Texts.{is_one_of}
+use Rattle.mk_class.specs.RecipePrefix.{is_prefix_name}
+use Rattle.mk_class.specs.Contexts.{Context}
+use Rattle.mk_class.specs.ClassTable.{class_of}
+use Rattle.mk_class.specs.LocatedClasses.{located_class}
+use Rattle.mk_class.specs.declared.class.Class as class
+use Rattle.mk_class.specs.declared.class.Class.TheVariants as variants
+use Rattle.mk_tree.specs.LocatedLines.{LocatedLine, text_of_line}
+
+-- a line with the class that it has in some context
+pub record IsClassed (l : LocatedLine) : Type 0 where
+  pub context : Context
+  pub class_is : l.class ≡ located_class joined_byte (class_of context l.bytes)
+
+abbrev pub AreEachClassed : List LocatedLine → Type 0
+AreEachClassed [] = Unit {0}
+AreEachClassed (l ∷ ls) = IsClassed l × AreEachClassed ls
+
+-- the words that stand before an offset in a text
+abbrev pub words_before : (end : ℕ) → List ℕ → List (List ℕ)
+words_before end t = words_in (text_at t (record { start = 0; end = end }))
+
+-- whether a line of this joined text and class assigns the variable of this name
+abbrev pub assigns_in : (text name : List ℕ) → class.Class → Bool
+assigns_in t n (variants.Assign a p) = bytes_eq (text_at t a.name) n
+assigns_in t n k = false
+
+abbrev pub assigns_located : (name : List ℕ) → LocatedLine → Bool
+assigns_located n l = assigns_in (text_of_line l) n l.class
+
+-- whether a line of this joined text and class is the header of a rule for this target
+abbrev pub is_rule_for_in : (text target : List ℕ) → class.Class → Bool
+is_rule_for_in t g (variants.Header h) = is_one_of g (words_before h.targets_end t)
+is_rule_for_in t g k = false
+
+abbrev pub is_rule_for_located : (target : List ℕ) → LocatedLine → Bool
+is_rule_for_located g l = is_rule_for_in (text_of_line l) g l.class
+
+-- whether this word is a target of a line of this joined text and class
+abbrev pub is_target_in : (text word : List ℕ) → class.Class → Bool
+is_target_in t w (variants.Header h) = is_one_of w (words_before h.targets_end t)
+is_target_in t w (variants.TargetAssign a) = is_one_of w (words_before a.targets_end t)
+is_target_in t w k = false
+
+abbrev pub is_target_located : (word : List ℕ) → LocatedLine → Bool
+is_target_located w l = is_target_in (text_of_line l) w l.class
+
+-- whether a line of this joined text and class sets the recipe prefix in a way that is not read
+abbrev pub is_unread_in : (text : List ℕ) → class.Class → Bool
+is_unread_in t (variants.Assign a p) = not (is_some p) && is_prefix_name (text_at t a.name)
+is_unread_in t (variants.DefineHead p) = p
+is_unread_in t k = false
+
+abbrev pub is_unread_located : LocatedLine → Bool
+is_unread_located l = is_unread_in (text_of_line l) l.class

@@ -1,0 +1,46 @@
+//! The numbers of lines, and where an item stands.
+ghost use Rattle.std.specs.Prelude.{◌≡◌, ◌≤◌, ◌++◌, false, true, IfErr, OnOk, length};
+ghost use Rattle.mk_lines.specs.Device.{AppendsPrefix};
+ghost use Rattle.mk_tree.specs.Printing.{AppendsSoFar};
+ghost use Rattle.mk_queries.specs.ItemLines.{position_text};
+ghost use Rattle.mk_queries.specs.QueryWalks.{line_feeds};
+
+use crate::gathering::put_parts;
+use memchr::memchr_iter;
+use mk_lines::Fault;
+use mk_lines::sink::ByteSink;
+use mk_tree::gathering::Gathered;
+
+/// How many line feeds there are in a text.
+pub(crate) fn line_feeds(text: &[u8]) -> usize
+    ensures number { result ≡ line_feeds text.now }
+    ensures few { result ≤ length text.now }
+{
+    memchr_iter(b'\n', text).count()
+}
+
+/// Puts behind the texts that are held back where an item stands: in the line of this number, with
+/// this number of open conditionals.
+///
+/// # Errors
+///
+/// The errors of [`put`](crate::gathering::put).
+pub(crate) fn put_position<W: ByteSink>(
+    gathered: &mut Gathered,
+    out: &mut W,
+    number: usize,
+    depth: u16,
+) -> Result<(), Fault>
+    requires { W.failed out.old ≡ false }
+    ensures whole { OnOk result (AppendsSoFar (W.contents out.old) (W.contents out.new) (gathered.old.items ++ position_text number depth) gathered.new.items) }
+    ensures prefix { AppendsPrefix (W.contents out.old) (W.contents out.new) (gathered.old.items ++ position_text number depth) }
+    ensures works { OnOk result (W.failed out.new ≡ false) }
+    ensures fault { IfErr result (λ e. (e ≡ Fault.Write) × (W.failed out.new ≡ true)) }
+    ensures unflushed { W.flushes out.new ≡ W.flushes out.old }
+{
+    let mut number_digits = itoa::Buffer::new();
+    let mut depth_digits = itoa::Buffer::new();
+    let number = number_digits.format(number).as_bytes();
+    let depth = depth_digits.format(depth).as_bytes();
+    put_parts(gathered, out, &[number, b":", depth, b": "])
+}

@@ -1,0 +1,95 @@
+-- What the steps of a run promise each other.
+use Rattle.std.specs.Prelude.{◌≡◌, ℕ, Bool, true, false, List, Option}
+use Rattle.mk_tree.specs.Documents.{IsTooDeep}
+use Rattle.mk_history.specs.Shown.{Shown}
+use Rattle.mk_session.specs.Sessions.{Seen, seen_opened}
+use Rattle.mk_script.specs.Scripts.{CommandAt, IsScript, HasNoCommand}
+use Rattle.mk_run.specs.ObeyedCommands.{obeyed}
+use Rattle.mk_run.specs.Runs.{IsTooLong}
+use Rattle.mk_run.specs.RunEnds.{HasText, Written, IsOut, IsPrefixOut, GoesOn, IsShort}
+use Rattle.mk_run.specs.declared.outcome.Outcome.{Outcome}
+use Rattle.mk_run.specs.declared.outcome.Outcome.TheVariants.{Refused, NotACommand, TooLong, TooDeep, NoMemory, Read, Write}
+
+-- ---- the script
+
+-- what a reader gave is a script of these commands
+pub record GivesCommands (bytes : Option (List ℕ)) (commands : List CommandAt) : Type 0 where
+  pub text : List ℕ
+  pub has_text : HasText bytes text
+  pub short : IsTooLong text → ⊥
+  pub is_script : IsScript text commands
+
+-- what a reader gave is too long
+pub record GivesTooMuch (bytes : Option (List ℕ)) : Type 0 where
+  pub text : List ℕ
+  pub has_text : HasText bytes text
+  pub long : IsTooLong text
+
+-- what a reader gave has a first line that is no command
+pub record GivesNoCommand (bytes : Option (List ℕ)) (line : ℕ) : Type 0 where
+  pub text : List ℕ
+  pub has_text : HasText bytes text
+  pub short : IsTooLong text → ⊥
+  pub is_line : HasNoCommand text line
+
+-- The reading of a script ended with this outcome; the reader of the script failed only if this is Read.
+abbrev pub StopsScript : (bytes : Option (List ℕ)) → (failed : Bool) → Outcome → Type 0
+StopsScript bytes failed TooLong = (failed ≡ false) × GivesTooMuch bytes
+StopsScript bytes failed (NotACommand line) = (failed ≡ false) × GivesNoCommand bytes line
+StopsScript bytes failed NoMemory = failed ≡ false
+StopsScript bytes failed Read = failed ≡ true
+StopsScript bytes failed outcome = ⊥
+
+-- ---- the makefile
+
+-- what a reader gave was opened as a session
+pub record GivesSession (bytes : Option (List ℕ)) (depth : ℕ) (seen : Seen) : Type 0 where
+  pub text : List ℕ
+  pub has_text : HasText bytes text
+  pub short : IsTooLong text → ⊥
+  pub shallow : IsTooDeep text → ⊥
+  pub opened : seen ≡ seen_opened depth text
+
+-- what a reader gave opens too many conditionals
+pub record GivesTooDeep (bytes : Option (List ℕ)) : Type 0 where
+  pub text : List ℕ
+  pub has_text : HasText bytes text
+  pub short : IsTooLong text → ⊥
+  pub deep : IsTooDeep text
+
+-- The opening of a makefile ended with this outcome; the reader of the makefile failed only if this is Read.
+abbrev pub StopsMakefile : (bytes : Option (List ℕ)) → (failed : Bool) → Outcome → Type 0
+StopsMakefile bytes failed TooLong = (failed ≡ false) × GivesTooMuch bytes
+StopsMakefile bytes failed TooDeep = (failed ≡ false) × GivesTooDeep bytes
+StopsMakefile bytes failed NoMemory = failed ≡ false
+StopsMakefile bytes failed Read = failed ≡ true
+StopsMakefile bytes failed outcome = ⊥
+
+-- ---- the commands
+
+-- All commands were obeyed, and `refused` of them were refused.
+pub record AreObeyed (keep_going : Bool) (commands : List CommandAt) (first last : Shown (List ℕ)) (refused : ℕ) (report : Written) : Type 0 where
+  pub goes_on : GoesOn keep_going refused
+  pub number : refused ≡ (obeyed keep_going commands first).refused
+  pub shown : last ≡ (obeyed keep_going commands first).shown
+  pub reported : IsOut report (obeyed keep_going commands first).report
+
+-- One of the commands was refused, and ended the run.
+pub record AreEnded (keep_going : Bool) (commands : List CommandAt) (first : Shown (List ℕ)) (refused : ℕ) (report : Written) : Type 0 where
+  pub ends : keep_going ≡ false
+  pub one : refused ≡ 1
+  pub number : refused ≡ (obeyed keep_going commands first).refused
+  pub reported : IsOut report (obeyed keep_going commands first).report
+
+-- One of the commands found no memory.
+pub record AreShort (keep_going : Bool) (commands : List CommandAt) (first : Shown (List ℕ)) (report : Written) : Type 0 where
+  pub lines : List ℕ
+  pub is_short : IsShort keep_going commands first lines
+  pub is_out : IsOut report lines
+
+-- The commands stopped with this outcome; the sink of the report failed only if this is Write.
+abbrev pub StopsCommands : (keep_going : Bool) → List CommandAt → (first : Shown (List ℕ)) → (failed : Bool) → (report : Written) → Outcome → Type 0
+StopsCommands k commands s failed report (Refused n) = (failed ≡ false) × AreEnded k commands s n report
+StopsCommands k commands s failed report NoMemory = (failed ≡ false) × AreShort k commands s report
+StopsCommands k commands s failed report Write = (failed ≡ true) × IsPrefixOut report (obeyed k commands s).report
+StopsCommands k commands s failed report outcome = ⊥
