@@ -18,8 +18,10 @@
 #   make uninstall  takes away what make install puts there
 #                   (PREFIX, BINDIR, MANDIR, BASHCOMPDIR, ZSHCOMPDIR and FISHCOMPDIR say where,
 #                   and DESTDIR stands before each)
-#   make bench      compares its time and memory with those of cat and sed, and measures
-#                   the reading of lines, and edits of a large makefile
+#   make bench      compares its time and memory with those of cat and sed and with what is aimed
+#                   at, draws into bench/data/speed.svg how its time grows, and measures the reading
+#                   of lines, and edits of a large makefile; some 25 minutes long, and half that where
+#                   EDITS=1000 leaves out the cases of 10,000 edits
 #   make clean      removes all that was made, and what rt keeps between two checks
 #
 # It is written for POSIX.1-2024 make, which GNU make 4 reads as well.
@@ -33,6 +35,7 @@ BASHCOMPDIR ?= $(PREFIX)/share/bash-completion/completions
 ZSHCOMPDIR ?= $(PREFIX)/share/zsh/site-functions
 FISHCOMPDIR ?= $(PREFIX)/share/fish/vendor_completions.d
 MINUTES ?= 15
+EDITS ?= 10000
 PROGRAM = crates/mkedit/out/mkedit
 LINE_BENCH = crates/line_bench/out/line_bench
 EDIT_BENCH = crates/edit_bench/out/edit_bench
@@ -92,6 +95,7 @@ $(EDIT_BENCH): crates.txt HANDLES $(SOURCES)
 
 bench: $(PROGRAM) $(LINE_BENCH) $(EDIT_BENCH)
 	@bench/run $(PROGRAM)
+	@bench/aims --edits $(EDITS) $(PROGRAM)
 	@bench/lines $(LINE_BENCH)
 	@bench/edits $(EDIT_BENCH)
 

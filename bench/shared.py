@@ -15,6 +15,11 @@ ENVIRONMENT = {**os.environ, "LC_ALL": "C"}
 SED = ["sed", "s/^CC = .*/CC = clang/"]
 
 
+def is_made(path, *sources):
+    """Whether a file is there, and none of what it is made from is younger."""
+    return path.exists() and all(it.stat().st_mtime <= path.stat().st_mtime for it in sources)
+
+
 def text_of(kind, size):
     """The file with the text, made where it is not there yet, or made by an older generator.
 
@@ -22,7 +27,7 @@ def text_of(kind, size):
     """
     path = DATA / f"{kind}-{size}"
     made_by = BENCH / "make_makefile.py"
-    if not path.exists() or path.stat().st_mtime < made_by.stat().st_mtime:
+    if not is_made(path, made_by):
         new = DATA / "new-text"
         with open(new, "wb") as out:
             subprocess.run([made_by, "--kind", kind, str(SEED), str(size)], stdout=out, check=True)
@@ -30,15 +35,16 @@ def text_of(kind, size):
     return path
 
 
-def cost(words):
+def cost(words, out=os.devnull):
     """Runs a command, and returns its processor time in seconds and its peak of memory in bytes.
 
-    The kernel counts into the peak what this process had resident when it started the command,
-    some 10 MB, so the peak is only told of the large texts.
+    What it puts out goes into the file `out`. The kernel counts into the peak what this process had
+    resident when it started the command, some 10 MB, so the peak is only told of the large texts.
     """
-    null = [(os.POSIX_SPAWN_OPEN, 1, os.devnull, os.O_WRONLY, 0)]
+    flags = os.O_WRONLY | os.O_CREAT | os.O_TRUNC
+    to_out = [(os.POSIX_SPAWN_OPEN, 1, str(out), flags, 0o666)]
     words = [str(it) for it in words]
-    pid = os.posix_spawnp(words[0], words, ENVIRONMENT, file_actions=null)
+    pid = os.posix_spawnp(words[0], words, ENVIRONMENT, file_actions=to_out)
     _, status, used = os.wait4(pid, 0)
     if status:
         raise SystemExit(f"{' '.join(words)} ended with the wait status {status}")

@@ -1,0 +1,99 @@
+"""The jobs that mkedit gets, each with what it has to put out."""
+
+import filecmp
+import subprocess
+from pathlib import Path
+from typing import NamedTuple
+
+from shared import BENCH, DATA, cost, is_made, text_of
+
+OUT_OF_MKEDIT, OUT_OF_SED = DATA / "out-of-mkedit", DATA / "out-of-sed"
+QUERIES = ("vars", "rules", "check", "caveats")
+READER = BENCH.parent / "tests/reading.py"
+
+
+class Job(NamedTuple):
+    """What mkedit does to the text of a kind and size."""
+
+    name: str
+    kind: str
+    size: int
+    words: list
+    # the words of a sed that has to put out the same, or a file that has it
+    wanted: list | Path
+
+    def text(self):
+        return text_of(self.kind, self.size)
+
+    def command(self, program):
+        return [program, *self.words, self.text()]
+
+
+def script(name, lines):
+    """A file of bench/data with these lines."""
+    path = DATA / name
+    path.write_bytes(b"".join(line + b"\n" for line in lines))
+    return path
+
+
+def edit(name, kind, size, commands, of_sed):
+    """A script of commands, and a script of sed that does the same."""
+    file = name.replace(" ", "-")
+    words = ["edit", script(file, commands)]
+    return Job(name, kind, size, words, ["sed", "-f", script(file + ".sed", of_sed)])
+
+
+def no_command(kind, size):
+    return edit("no command", kind, size, [], [b""])
+
+
+def one_set(kind, size):
+    """A `set` in the first line."""
+    return edit("one set", kind, size, [b"set CC clang"], [b"s/^CC = .*/CC = clang/"])
+
+
+def sets(count, size):
+    """A script that sets variables all over a makefile. sed would take minutes for as many `s`."""
+    commands, wanted = DATA / f"{count}-set-{size}", DATA / f"{count}-set-{size}-wanted"
+    making = [BENCH / "make_sets.py", str(count), text_of("makefile", size), commands, wanted]
+    subprocess.run(making, check=True)
+    return Job(f"{count:,} set", "makefile", size, ["edit", commands], wanted)
+
+
+def assigns(count, size):
+    """A script that puts in variables at the end of a makefile."""
+    lines = [b"NEW_%d = value" % it for it in range(count)]
+    commands = script(f"{count}-assign", [b"assign bottom " + it for it in lines])
+    added = script(f"{count}-assigned", lines)
+    words = ["edit", commands]
+    return Job(f"{count:,} assign bottom", "makefile", size, words, ["sed", f"$r {added}"])
+
+
+def rename(size):
+    """A rename of an order-only prerequisite of a third of the rules: some 13,500 lines of 16 MB."""
+    commands = [b'rule bottom build : ""', b"rename build output"]
+    of_sed = [b"s/ | build$/ | output/", b"$a\\", b"output:"]
+    return edit("rename", "makefile", size, commands, of_sed)
+
+
+def query(name, size):
+    """A query over a makefile. What it has to print takes a minute to make, and stays in bench/data."""
+    text, made_by = text_of("makefile", size), BENCH / "make_answers.py"
+    wanted = text.with_name(f"{text.name}.{name}")
+    if not is_made(wanted, text, made_by, READER):
+        subprocess.run([made_by, text], check=True)
+    return Job(name, "makefile", size, [name], wanted)
+
+
+def checked(program, job):
+    """What a job costs whose output is compared with the one that has to come, and goes into a file.
+
+    Ends the bench where it is another.
+    """
+    used, wanted = cost(job.command(program), OUT_OF_MKEDIT), job.wanted
+    if isinstance(wanted, list):
+        cost([*wanted, job.text()], OUT_OF_SED)
+        wanted = OUT_OF_SED
+    if not filecmp.cmp(OUT_OF_MKEDIT, wanted, shallow=False):
+        raise SystemExit(f"wrong output: {job.name}, {job.kind}, {job.size:,} bytes")
+    return used
