@@ -2,7 +2,7 @@
 
 from collections.abc import Callable
 from functools import partial
-from typing import NamedTuple
+from typing import NamedTuple, Optional
 
 from jobs import QUERIES, assigns, checked, no_command, query, rename, sets
 from shared import GREATEST_RATIO, LARGE, QUARTER, SED, best, text_of
@@ -17,7 +17,7 @@ class Case(NamedTuple):
 
     name: str
     job: Callable
-    aim: float | None
+    aim: Optional[float]
     sizes: tuple = (QUARTER, LARGE)
     edits: int = 0
     beside: str = "sed"
