@@ -20,7 +20,7 @@
 #                   and DESTDIR stands before each)
 #   make bench      compares its time and memory with those of cat and sed and with what is aimed
 #                   at, draws into bench/data/speed.svg how its time grows, and measures the reading
-#                   of lines, and edits of a large makefile; some 25 minutes long, and half that where
+#                   of lines, and edits of a large makefile; some 25 minutes long, or 18 where
 #                   EDITS=1000 leaves out the cases of 10,000 edits
 #   make clean      removes all that was made, and what rt keeps between two checks
 #

@@ -9,7 +9,7 @@ from shared import GREATEST_RATIO, LARGE, QUARTER, SED, best, text_of
 
 SIZES = (1_000_000, 2_000_000, QUARTER, 8_000_000, LARGE)
 # A case that takes longer, in seconds, is run once.
-LONG = 5
+LONG = 10
 
 
 class Case(NamedTuple):
