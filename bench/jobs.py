@@ -3,7 +3,7 @@
 import filecmp
 import subprocess
 from pathlib import Path
-from typing import NamedTuple
+from typing import NamedTuple, Union
 
 from shared import BENCH, DATA, cost, is_made, text_of
 
@@ -20,7 +20,7 @@ class Job(NamedTuple):
     size: int
     words: list
     # the words of a sed that has to put out the same, or a file that has it
-    wanted: list | Path
+    wanted: Union[list, Path]
 
     def text(self):
         return text_of(self.kind, self.size)
