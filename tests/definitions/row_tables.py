@@ -19,10 +19,15 @@ def unescape(column):
 def rows_of_table(path):
     """The rows of a table, each a dictionary from the names of the columns to their texts.
 
-    A ValueError says which line has another number of columns than the first.
+    A ValueError says which line has another number of columns than the first, or a name that stood
+    already.
     """
     head, *lines = [line.split("\t") for line in Path(path).read_text("ascii").rstrip("\n").split("\n")]
+    names = set()
     for number, line in enumerate(lines, 2):
         if len(line) != len(head):
             raise ValueError(f"{path}, line {number}: {len(line)} columns, not {len(head)}")
+        if line[0] in names:
+            raise ValueError(f"{path}, line {number}: the name {line[0]} stood already")
+        names.add(line[0])
     return [dict(zip(head, line)) for line in lines]

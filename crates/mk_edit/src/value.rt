@@ -19,11 +19,9 @@ use mk_edit_parts::part::{part, text_of_line};
 use mk_edit_parts::range::{value_range, with_replaced};
 use mk_lines::is_closed;
 use mk_patch::Patch;
+use mk_tree::parse::SIZE_LIMIT;
 use mk_tree::{Doc, Line};
 use std::alloc::{AllocError, Allocator};
-
-/// The most bytes that a text may have.
-const SIZE_LIMIT: usize = 16_777_216;
 
 /// Plans an edit that gives a variable this value.
 ///

@@ -14,7 +14,8 @@ use mk_class::Class;
 use mk_tree::Doc;
 use std::alloc::Allocator;
 
-/// Where the recipe of a rule ends.
+/// Where the recipe of a rule ends: after its last recipe line, which may stand above the line that
+/// ends the rule.
 #[derive(Clone, Copy)]
 pub struct Recipe {
     /// The index after the last recipe line of the rule, or after the header if the rule has no

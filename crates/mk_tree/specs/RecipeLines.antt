@@ -9,11 +9,13 @@ use Rattle.mk_class.specs.declared.context.RuleFlag.{RuleFlag}
 use Rattle.mk_class.specs.declared.context.RuleFlag.TheVariants.{Rule}
 use Rattle.mk_class.specs.ClassedLines.{ClassedLine}
 
--- whether a line of this class may stand among the recipe lines of a rule: a recipe line, or one that leaves the flag
+-- whether a line of this class may stand among the recipe lines of a rule: a recipe line, or one after which the flag is as
+-- before, which is a blank line, a comment or the line of a conditional
 abbrev pub stays_in_rule : Class Cell → Bool
 stays_in_rule k = is_recipe k || leaves_flag k
 
--- the lines after a header that belong to its rule: those up to the first that neither is a recipe line nor leaves the flag
+-- the lines after a header before the first that ends its rule. The last of them may be blank lines, comments and lines of
+-- conditionals, which are no part of its recipe.
 abbrev pub rule_lines : List ClassedLine → List ClassedLine
 rule_lines after = leading (λ l. stays_in_rule l.class) after
 
@@ -21,7 +23,7 @@ rule_lines after = leading (λ l. stays_in_rule l.class) after
 abbrev pub recipe_lines : List ClassedLine → List ClassedLine
 recipe_lines after = filter (λ l. is_recipe l.class) (rule_lines after)
 
--- the lines after a header up to its last recipe line
+-- the recipe of a header: the lines after it up to its last recipe line
 abbrev pub recipe_run : List ClassedLine → List ClassedLine
 recipe_run after = trim_end (λ l. not (is_recipe l.class)) (rule_lines after)
 
