@@ -1,4 +1,5 @@
 -- The tests of what an edit may write: values, words, targets, names and commands.
+-- Told in docs/LANGUAGE.md, chapter 7.
 use Rattle.std.specs.Prelude.{ℕ, ◌==◌, Bool, true, false, not, ◌&&◌, ◌||◌, nat_le, List}
 use Rattle.std.specs.List.{list_any}
 use Rattle.mk_lines.specs.Bytes.{ByteKind, LineFeed, CarriageReturn, byte_kind, is_backslash_kind, is_blank_byte}

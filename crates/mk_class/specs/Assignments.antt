@@ -1,4 +1,5 @@
 -- Assignments among the units of a cut text: modifiers, a name, an operator and a value.
+-- Told in docs/LANGUAGE.md, chapter 2.
 use Rattle.std.specs.Prelude.{ℕ, if◌then◌else◌, Bool, true, false, ◌||◌, List, [], ◌∷◌, ◌++◌, map, take, drop, Option, Some, None, codes}
 use Rattle.std.specs.Str.{bytes_eq}
 use Rattle.mk_lines.specs.Lists.{leading, after_leading, trim_end, trailing}

@@ -1,5 +1,6 @@
 -- Assignments once more, by their first unit `=`, which ends the operator: what stands before it tells the modifiers, the name
 -- and the flavor, and what stands after it tells the value. A law says that these are the assignments of `Assignments`.
+-- Told in docs/LANGUAGE.md, chapter 2.
 use Rattle.std.specs.Prelude.{ℕ, Bool, false, not, ◌||◌, List, [], ◌∷◌, ◌++◌, map, Option, Some, None}
 use Rattle.mk_lines.specs.Lists.{leading, after_leading, trim_end, trailing}
 use Rattle.mk_lines.specs.Words.{Token, Gap, Word, tokens, token_units, is_gap}

@@ -1,4 +1,5 @@
 -- What a class says of the numbers of open conditionals and open defines.
+-- Told in docs/LANGUAGE.md, chapter 6.
 use Rattle.std.specs.Prelude.{◌≡◌, ℕ, suc}
 use Rattle.mk_lines.specs.Cells.{Cell}
 use Rattle.mk_class.specs.Classes.{Class}

@@ -1,4 +1,5 @@
 -- The cut text of a line, and the head of a rule's line.
+-- Told in docs/LANGUAGE.md, chapters 2 and 3.
 use Rattle.std.specs.Prelude.{◌≡◌, ℕ, Bool, true, false, not, List, [], ◌∷◌}
 use Rattle.mk_lines.specs.Lists.{leading, after_leading}
 use Rattle.mk_class.specs.Symbols.{Symbol, Hash, Semicolon, symbol, is_hash, is_semicolon}

@@ -1,4 +1,5 @@
 -- The parts of a head as the code has them: as parts of the head's text.
+-- Told in docs/LANGUAGE.md, chapters 3 and 5.
 use Rattle.std.specs.Prelude.{◌≡◌, ℕ, ◌+◌, if◌then◌else◌, Bool, true, false, ◌||◌, List, [], ◌∷◌, length}
 use Rattle.mk_lines.specs.Lists.{after_leading}
 use Rattle.mk_lines.specs.Units.{units}

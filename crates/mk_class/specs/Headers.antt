@@ -1,4 +1,5 @@
 -- The parts of a header's line, and what makes such a line Rough.
+-- Told in docs/LANGUAGE.md, chapters 3 and 5.
 use Rattle.std.specs.Prelude.{ℕ, if◌then◌else◌, Bool, false, not, ◌&&◌, ◌||◌, List, [], ◌∷◌, take, drop, Option, Some, None, ◌++◌}
 use Rattle.std.specs.List.{list_any}
 use Rattle.mk_lines.specs.Lists.{leading, after_leading}

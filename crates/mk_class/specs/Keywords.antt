@@ -1,4 +1,5 @@
 -- First words that say what a line is.
+-- Told in docs/LANGUAGE.md, chapter 4, and docs/EDITS.md, "Refusals".
 use Rattle.std.specs.Prelude.{ℕ, if◌then◌else◌, Bool, List, [], ◌∷◌, codes}
 use Rattle.std.specs.Str.{bytes_eq}
 use Rattle.mk_lines.specs.Lists.{after_leading}

@@ -1,4 +1,4 @@
--- Words on lists that the definitions of assignments, rules and classes share.
+-- Functions on lists that the definitions of assignments, rules and classes share.
 use Rattle.std.specs.Prelude.{if◌then◌else◌, Bool, true, false, List, [], ◌∷◌}
 
 -- whether a list has no element

@@ -1,4 +1,5 @@
 -- How operators and separators are written.
+-- Told in docs/LANGUAGE.md, chapters 2 and 3.
 use Rattle.std.specs.Prelude.{ℕ, List, codes}
 use Rattle.mk_class.specs.declared.assignment.Flavor.{Flavor}
 use Rattle.mk_class.specs.declared.assignment.Flavor.TheVariants.{Recursive, Simple, PosixSimple, Immediate, Conditional, Append, Shell}

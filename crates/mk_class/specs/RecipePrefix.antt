@@ -1,4 +1,5 @@
 -- The recipe prefix: the byte that begins recipe lines, and the assignments that set it.
+-- Told in docs/LANGUAGE.md, chapter 4.
 use Rattle.std.specs.Prelude.{ℕ, ◌==◌, if◌then◌else◌, Bool, true, false, not, ◌&&◌, ◌||◌, nat_le, List, [], ◌∷◌, Option, Some, None, codes}
 use Rattle.std.specs.Str.{bytes_eq}
 use Rattle.mk_class.specs.ListTests.{is_empty}

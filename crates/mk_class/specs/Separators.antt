@@ -1,4 +1,5 @@
 -- The separator of a rule, and a text taken apart at its separator.
+-- Told in docs/LANGUAGE.md, chapter 3.
 use Rattle.std.specs.Prelude.{ℕ, Bool, true, false, ◌&&◌, ◌||◌, List, ◌∷◌, map, take, drop, ◌++◌}
 use Rattle.std.specs.List.{list_any}
 use Rattle.mk_class.specs.ListTests.{until, from, first_passes}

@@ -1,5 +1,6 @@
 -- What a unit is to assignments and rules: a symbol of one byte, or a unit that may stand in no word of a header. Blanks are told
 -- by `is_gap`.
+-- Told in docs/LANGUAGE.md, chapters 1 and 5.
 use Rattle.std.specs.Prelude.{ℕ, ◌==◌, if◌then◌else◌, Bool, true, false, ◌&&◌, ◌||◌, List, [], ◌∷◌}
 use Rattle.mk_lines.specs.Bytes.{byte_kind, is_blank_kind, is_backslash_kind}
 use Rattle.mk_lines.specs.Units.{Mark, byte_mark}

@@ -1,4 +1,5 @@
--- Whether a text is one of some texts, and the text of units and of words.
+-- The text of units, the words among units, and whether a text is one of some texts.
+-- Told in docs/LANGUAGE.md, chapter 1.
 use Rattle.std.specs.Prelude.{ℕ, Bool, List, map}
 use Rattle.std.specs.List.{list_any}
 use Rattle.std.specs.Str.{bytes_eq}

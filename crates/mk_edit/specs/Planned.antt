@@ -1,4 +1,5 @@
 -- What the planning of an edit answers.
+-- Told in docs/PROOFS.md, "An edit".
 use Rattle.std.specs.Prelude.{◌≡◌, ◌⊎◌, ◌+◌, if◌then◌else◌, ℕ, List, length, Option, Some, None, Ok, Err}
 use Rattle.mk_lines.specs.Pieces.{Replacement}
 use Rattle.mk_class.specs.ClassedLines.{classed_lines}

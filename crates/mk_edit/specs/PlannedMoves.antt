@@ -1,4 +1,5 @@
 -- The moves of an edit of one place, by the place and the bytes of its new line.
+-- Told in docs/ARCHITECTURE.md, "An edit's way, from Edit to moved lines".
 use Rattle.std.specs.Prelude.{◌≡◌, ℕ, ◌+◌, ◌^◌, ◌<◌, ◌≤◌, ◌==◌, ◌&&◌, Bool, true, false, List, [], ◌∷◌, ◌++◌, length, replicate, take, drop, Option, Some, None}
 use Rattle.mk_lines.specs.PhysicalLines.{line_end, line_end_bytes, file_line_end}
 use Rattle.mk_lines.specs.LogicalLines.{logical_lines, has_no_line_end}

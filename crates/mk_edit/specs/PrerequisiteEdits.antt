@@ -1,4 +1,5 @@
--- The edits of rules' prerequisites, by their words.
+-- The edits that put a word among the prerequisites of a rule, or take one out.
+-- Told in docs/EDITS.md, "Rules".
 use Rattle.std.specs.Prelude.{◌≡◌, ℕ, Bool, true, false, List, Option}
 use Rattle.mk_lines.specs.Cells.{Cell}
 use Rattle.mk_class.specs.Headers

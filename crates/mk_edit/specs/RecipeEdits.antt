@@ -1,4 +1,6 @@
--- The edits of rules' recipes, by their kinds.
+-- The edits that take out a rule, or put in, change or take out a recipe line, and where a recipe
+-- line has its command.
+-- Told in docs/EDITS.md, "Rules" and "Recipes".
 use Rattle.std.specs.Prelude.{◌≡◌, ℕ, List, length}
 use Rattle.mk_lines.specs.PhysicalLines.{without_line_end}
 use Rattle.mk_lines.specs.declared.split.Span.{Span}

@@ -1,5 +1,6 @@
 -- What a rename does to the lines of a document as a whole: how many words it replaces, and whether it would make a line begin
 -- with the recipe prefix.
+-- Told in docs/ARCHITECTURE.md, "An edit's way, from Edit to moved lines".
 use Rattle.std.specs.Prelude.{◌≡◌, ℕ, ◌+◌, ◌&&◌, ◌||◌, Bool, false, List, [], ◌∷◌, length}
 use Rattle.std.specs.List.{list_any}
 use Rattle.mk_class.specs.Contexts.{Context, context_after_located}

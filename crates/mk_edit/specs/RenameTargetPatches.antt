@@ -1,4 +1,5 @@
 -- The moves of a rename: each line that holds the word is exchanged for the line after the rename, in two turns.
+-- Told in docs/DECISIONS.md, "mk_edit_parts and mk_edit".
 use Rattle.std.specs.Prelude.{◌≡◌, ◌&&◌, not, nat_lt, ℕ, ◌+◌, ◌*◌, ◌^◌, ◌<◌, ◌≤◌, Bool, true, false, List, [], ◌∷◌, ◌++◌, length, filter}
 use Rattle.mk_lines.specs.LogicalLines.{logical_lines}
 use Rattle.mk_class.specs.Contexts.{Context, start, context_after_located}

@@ -1,4 +1,5 @@
--- The edits of a value, by the text that they give, and the value of a document's line.
+-- The edits that set a value or append to it, and the value of a document's line.
+-- Told in docs/EDITS.md, "Variables".
 use Rattle.std.specs.Prelude.{◌≡◌, ℕ, List, [], ◌∷◌, Option, if◌then◌else◌}
 use Rattle.mk_lines.specs.Ranges.{text_at}
 use Rattle.mk_class.specs.ListTests.{is_empty}

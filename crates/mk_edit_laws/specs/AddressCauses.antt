@@ -1,4 +1,5 @@
--- The causes that decide where an edit applies: RecipePrefix, NoSuch and Ambiguous.
+-- The causes of refusal by where an edit applies: RecipePrefix, NoSuch and Ambiguous.
+-- Told in docs/EDITS.md, "Refusals".
 use Rattle.std.specs.Prelude.{ℕ, Bool, true, false, not, ◌&&◌, ◌||◌, List, [], ◌∷◌, length, Option, Some, None, is_some}
 use Rattle.std.specs.List.{list_any}
 use Rattle.mk_lines.specs.Cells.{Cell, joined_byte}

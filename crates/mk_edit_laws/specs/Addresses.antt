@@ -1,4 +1,5 @@
 -- Which line an edit means.
+-- Told in docs/EDITS.md, "Addresses".
 use Rattle.std.specs.Prelude.{ℕ, Bool, false, List, [], Option, Some, None}
 use Rattle.std.specs.Str.{bytes_eq}
 use Rattle.std.specs.List.{list_any}

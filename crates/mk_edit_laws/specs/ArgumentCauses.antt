@@ -1,4 +1,5 @@
 -- The causes that the fields of an edit decide: BadArgument and Reserved.
+-- Told in docs/EDITS.md, "Refusals".
 use Rattle.std.specs.Prelude.{ℕ, Bool, true, false, not, ◌&&◌, ◌||◌, List, [], ◌∷◌, ◌++◌, Option, Some, None}
 use Rattle.std.specs.List.{list_any}
 use Rattle.mk_lines.specs.Words.{words_in}

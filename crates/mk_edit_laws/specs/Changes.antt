@@ -1,4 +1,5 @@
 -- What an accepted edit does to the reading.
+-- Told in docs/EDITS.md, "Variables", "Rules", "Recipes" and "Targets".
 use Rattle.std.specs.Prelude.{ℕ, ◌&&◌, ◌==◌, if◌then◌else◌, Bool, true, false, not, List, [], ◌∷◌, ◌++◌, map, take, drop, filter, length, None}
 use Rattle.std.specs.Str.{bytes_eq}
 use Rattle.mk_lines.specs.Lists.{concat}

@@ -1,4 +1,5 @@
 -- Laws of edits, each the contract of a public function.
+-- Told in docs/PROOFS.md, "Edits, as definitions (mk_edit_laws)".
 use Rattle.std.specs.Prelude.{◌≡◌, ℕ, List, ◌∷◌, ◌++◌, Some, Ok, Err}
 use Rattle.mk_lines.specs.Pieces.{Replacement}
 use Rattle.mk_lines.specs.Cells.{Cell}

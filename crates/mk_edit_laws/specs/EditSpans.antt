@@ -1,4 +1,5 @@
 -- The spans of each edit.
+-- Told in docs/EDITS.md, "Variables", "Rules", "Recipes" and "Targets".
 use Rattle.std.specs.Prelude.{ℕ, ◌+◌, List, [], ◌∷◌, ◌++◌, length, Option, Some, None}
 use Rattle.mk_lines.specs.PhysicalLines.{without_line_end}
 use Rattle.mk_lines.specs.Cells.{Cell}

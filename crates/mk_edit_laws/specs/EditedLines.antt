@@ -1,4 +1,5 @@
 -- The lines that an edit of one place leaves in the place of the lines that it touches.
+-- Told in docs/DECISIONS.md, "mk_edit_laws".
 use Rattle.std.specs.Prelude.{ℕ, List, [], ◌∷◌, ◌++◌, length}
 use Rattle.mk_lines.specs.Pieces.{Replacement, replaced}
 use Rattle.mk_class.specs.ClassedLines.{ClassedLine, classed}

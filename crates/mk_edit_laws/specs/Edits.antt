@@ -1,4 +1,5 @@
 -- The twelve edits, and the places of new lines, as data.
+-- Told in docs/EDITS.md, "The script" and "Addresses".
 use Rattle.std.specs.Prelude.{ℕ, Bool, List, Option}
 use Rattle.mk_class.specs.declared.assignment.Flavor.{Flavor}
 use Rattle.mk_edit_laws.specs.declared.edit.Colons.{Colons}

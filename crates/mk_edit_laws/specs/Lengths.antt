@@ -1,4 +1,5 @@
 -- How many bytes replacements take out of a text, and how many they put into it.
+-- Told in docs/PROOFS.md, "An edit".
 use Rattle.std.specs.Prelude.{ℕ, ◌+◌, ◌-◌, List, [], ◌∷◌, length}
 use Rattle.mk_lines.specs.Pieces.{Replacement}
 

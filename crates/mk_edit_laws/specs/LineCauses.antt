@@ -1,5 +1,6 @@
 -- The causes that the lines around a change decide, or the size of the result: OpenValue, OpenLine, OpenDefine, Leans and
 -- TooLong.
+-- Told in docs/EDITS.md, "Refusals".
 use Rattle.std.specs.Prelude.{ℕ, Bool, false, not, ◌&&◌, ◌||◌, nat_lt, List, ◌++◌, length, Option, Some, None}
 use Rattle.mk_lines.specs.Lists.{concat}
 use Rattle.mk_lines.specs.LogicalLines.{is_open}

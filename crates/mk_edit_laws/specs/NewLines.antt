@@ -1,4 +1,5 @@
 -- New lines: their text, and the span that puts a new line in.
+-- Told in docs/EDITS.md, "Addresses", "Variables", "Rules" and "Recipes".
 use Rattle.std.specs.Prelude.{ℕ, List, [], ◌∷◌, ◌++◌, map, drop, length}
 use Rattle.mk_lines.specs.Lists.{concat}
 use Rattle.mk_lines.specs.PhysicalLines.{line_end_bytes, file_line_end}

@@ -1,5 +1,6 @@
 -- Laws of what an edit leaves: the bytes outside its spans, and the lines that its spans do not touch. Each law is the contract
 -- of a public function.
+-- Told in docs/PROOFS.md, "Edits, as definitions (mk_edit_laws)".
 use Rattle.std.specs.Prelude.{◌≡◌, ℕ, ◌+◌, List, ◌++◌, length, Some, Ok}
 use Rattle.mk_lines.specs.Pieces.{Replacement}
 use Rattle.mk_edit_laws.specs.Edits.{Edit, RenameTarget}

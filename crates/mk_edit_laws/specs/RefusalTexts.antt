@@ -1,4 +1,5 @@
 -- What a report says of a refusal: its number, its name, and a count or a field, if it has one.
+-- Told in docs/EDITS.md, "Running a script" and "Refusals".
 use Rattle.std.specs.Prelude.{ℕ, List, codes}
 use Rattle.mk_edit_laws.specs.declared.refusal.Field.{Field}
 use Rattle.mk_edit_laws.specs.declared.refusal.Field.TheVariants as field

@@ -1,4 +1,5 @@
 -- The lines of a text after a rename, each in the place of one line.
+-- Told in docs/PROOFS.md, "An edit".
 use Rattle.std.specs.Prelude.{◌≡◌, ℕ, ◌+◌, ◌≤◌, if◌then◌else◌, Bool, true, false, List, [], ◌∷◌, ◌++◌, map, take, drop, length}
 use Rattle.std.specs.Str.{bytes_eq}
 use Rattle.mk_lines.specs.LogicalLines.{logical_lines}

@@ -1,4 +1,5 @@
 -- Spans that stand in order, apart and within a text, and the text cut at them: pieces that stay, and pieces that are replaced.
+-- Told in docs/PROOFS.md, "An edit".
 use Rattle.std.specs.Prelude.{◌≡◌, ℕ, List, [], ◌∷◌, length, ◌≤◌}
 use Rattle.mk_lines.specs.Pieces.{Replacement, Piece, old_bytes, new_bytes, replacements}
 

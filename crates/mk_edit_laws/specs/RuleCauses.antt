@@ -1,4 +1,5 @@
 -- The causes that rules and their words decide: Absent, Already, Taken, SharedRule and Straddles.
+-- Told in docs/EDITS.md, "Refusals".
 use Rattle.std.specs.Prelude.{ℕ, Bool, true, false, not, ◌||◌, nat_lt, List, [], length, Option, Some, None, is_some}
 use Rattle.std.specs.List.{list_any}
 use Rattle.mk_lines.specs.Cells.{Cell, joined_byte}

@@ -1,4 +1,5 @@
 -- Stretches of lines: those that an edit takes out, and those where it puts a new line.
+-- Told in docs/EDITS.md, "Addresses", "Variables", "Rules" and "Recipes".
 use Rattle.std.specs.Prelude.{ℕ, List, [], ◌∷◌, ◌++◌, map, take, length, Option, Some, None, option_map, option_and_then, ◌≡◌}
 use Rattle.mk_class.specs.Classes.{is_recipe}
 use Rattle.mk_class.specs.ClassedLines.{ClassedLine}

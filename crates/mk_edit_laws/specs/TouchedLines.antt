@@ -1,4 +1,5 @@
 -- How many lines of the text the spans of an edit touch.
+-- Told in docs/PROOFS.md, "Edits, as definitions (mk_edit_laws)".
 use Rattle.std.specs.Prelude.{ℕ, List, length, ◌+◌, ◌≤◌}
 use Rattle.mk_lines.specs.Pieces.{Replacement}
 use Rattle.mk_class.specs.ClassedLines.{classed_lines}

@@ -1,4 +1,5 @@
 -- The spans of edits of a value.
+-- Told in docs/EDITS.md, "Variables".
 use Rattle.std.specs.Prelude.{ℕ, ◌+◌, if◌then◌else◌, List, [], ◌∷◌, length}
 use Rattle.mk_lines.specs.Cells.{Cell}
 use Rattle.mk_lines.specs.Pieces.{Replacement}

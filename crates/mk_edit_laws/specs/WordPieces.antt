@@ -1,4 +1,5 @@
 -- Edits of the words of a rule's line, as pieces of the line: cells that stay, and cells that a text replaces.
+-- Told in docs/EDITS.md, "Rules" and "Targets".
 use Rattle.std.specs.Prelude.{ℕ, ◌&&◌, if◌then◌else◌, Bool, true, false, not, List, [], ◌∷◌, ◌++◌, codes}
 use Rattle.std.specs.Str.{bytes_eq}
 use Rattle.mk_lines.specs.Lists.{concat, trim_end, trailing}

@@ -1,4 +1,5 @@
 -- What contracts see of the program's edits: the edits of the definitions.
+-- Told in docs/ARCHITECTURE.md, "An edit's way, from Edit to moved lines".
 use Rattle.std.specs.Prelude.{Option, Some, None}
 use Rattle.mk_edit_laws.specs.Edits as edits
 use Rattle.mk_edit_laws.specs.Addresses as addresses

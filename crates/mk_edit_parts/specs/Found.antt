@@ -1,4 +1,6 @@
--- The line that an edit means, found, after the causes of refusal that come before the edit's own causes.
+-- Where an edit applies: the place of the line that it means, where no cause of refusal holds that
+-- comes before the edit's own causes.
+-- Told in docs/ARCHITECTURE.md, "An edit's way, from Edit to moved lines".
 use Rattle.std.specs.Prelude.{◌≡◌, List, [], ◌∷◌, length, take, Option, Some, None}
 use Rattle.mk_class.specs.ClassedLines.{ClassedLine, classed_lines}
 use Rattle.mk_tree.specs.Documents.{context_of}

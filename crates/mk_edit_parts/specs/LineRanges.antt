@@ -1,4 +1,6 @@
--- Ranges of the bytes of a document's line, and whether a document's lines lean on the flag before them.
+-- Where the value of a document's line stands, and whether a document's lines lean on the flag
+-- before them.
+-- Told in docs/ARCHITECTURE.md, "An edit's way, from Edit to moved lines".
 use Rattle.std.specs.Prelude.{ℕ, Bool, true, false, ◌||◌, ◌&&◌, if◌then◌else◌, List, [], ◌∷◌}
 use Rattle.mk_lines.specs.Cells.{Cell, line_cells}
 use Rattle.mk_lines.specs.Ranges.{raw_range}

@@ -1,4 +1,6 @@
--- What a document shows of a line by the offsets of its parts: the tests of a line that walks over a document make.
+-- What walks over a document ask of a line, by the offsets of its parts: what it assigns, which
+-- targets it has, and whether it sets the recipe prefix in a way that is not read.
+-- Told in docs/ARCHITECTURE.md, "An edit's way, from Edit to moved lines".
 use Rattle.std.specs.Prelude.{not, ◌&&◌, is_some, ◌≡◌, ℕ, Bool, false, List, [], ◌∷◌}
 use Rattle.std.specs.Str.{bytes_eq}
 use Rattle.mk_lines.specs.Cells.{joined_byte}

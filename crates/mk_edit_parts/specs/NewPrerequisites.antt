@@ -1,4 +1,5 @@
 -- Where a new prerequisite goes into the joined text of a rule's line, and what is written before and after it.
+-- Told in docs/EDITS.md, "depend TARGET WORD, depend-order TARGET WORD".
 use Rattle.std.specs.Prelude.{ℕ, ◌+◌, ◌==◌, ◌&&◌, if◌then◌else◌, Bool, not, List, [], ◌∷◌, ◌++◌, codes}
 use Rattle.mk_lines.specs.Ranges.{text_at, word_ranges}
 use Rattle.mk_lines.specs.declared.split.Span.{Span}

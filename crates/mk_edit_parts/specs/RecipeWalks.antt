@@ -1,4 +1,5 @@
 -- Walks down from the header of a rule, on lines as a document shows them.
+-- Told in docs/ARCHITECTURE.md, "An edit's way, from Edit to moved lines".
 use Rattle.std.specs.Prelude.{◌==◌, ◌||◌, if◌then◌else◌, ℕ, ◌+◌, Bool, true, false, List, [], ◌∷◌, length, drop, take, Option, Some, None}
 use Rattle.mk_class.specs.declared.class.Class.{Class}
 use Rattle.mk_class.specs.declared.class.Class.TheVariants.{Recipe, Blank, Comment, If, Else, Endif, Header}

@@ -1,4 +1,5 @@
 -- Where the words that a rename replaces stand in a line, as a document shows the line.
+-- Told in docs/ARCHITECTURE.md, "An edit's way, from Edit to moved lines".
 use Rattle.std.specs.Prelude.{ℕ, ◌+◌, ◌-◌, ◌≤◌, ◌==◌, ◌||◌, if◌then◌else◌, Bool, false, List, [], ◌∷◌, ◌++◌, length, Option, Some, None}
 use Rattle.std.specs.Str.{bytes_eq}
 use Rattle.std.specs.List.{list_any}

@@ -1,4 +1,5 @@
--- A line with the words in some ranges of it replaced.
+-- A line with the same new text in the place of each of some ranges, as a rename makes it.
+-- Told in docs/ARCHITECTURE.md, "An edit's way, from Edit to moved lines".
 use Rattle.std.specs.Prelude.{ℕ, ◌≤◌, List, [], ◌∷◌, ◌++◌, drop, slice_range}
 use Rattle.mk_lines.specs.declared.split.Span.{Span}
 use Rattle.mk_tree.specs.LocatedLines.{LocatedLine}

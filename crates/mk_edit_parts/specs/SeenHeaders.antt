@@ -1,4 +1,5 @@
 -- The line of a rule as a document shows it: the offsets of its parts, and the header whose parts they are.
+-- Told in docs/ARCHITECTURE.md, "A line's class".
 use Rattle.std.specs.Prelude.{◌≡◌, ◌++◌}
 use Rattle.mk_lines.specs.PhysicalLines.{line_end, line_end_bytes}
 use Rattle.mk_lines.specs.Cells.{Cell, joined_byte, line_cells, raw_text}

@@ -1,4 +1,5 @@
--- The bytes of a line cut at its words, by their ranges.
+-- The bytes of a part of a line without a word, by the ranges of the part's words.
+-- Told in docs/ARCHITECTURE.md, "An edit's way, from Edit to moved lines".
 use Rattle.std.specs.Prelude.{ℕ, ◌+◌, if◌then◌else◌, List, [], ◌∷◌, ◌++◌}
 use Rattle.std.specs.Str.{bytes_eq}
 use Rattle.mk_lines.specs.Cells.{Cell, raw_text}

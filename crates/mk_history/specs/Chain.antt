@@ -1,5 +1,6 @@
 -- Lists of changes, the first of which is made first. `fits` says which changes a state admits, and `after` is the state that a
 -- change leads to.
+-- Told in docs/ARCHITECTURE.md, "How a session stands on mk_history".
 use Rattle.std.specs.Prelude.{◌≡◌, List, [], ◌∷◌}
 
 -- each change fits the state that the changes before it lead to

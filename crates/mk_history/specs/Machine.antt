@@ -1,4 +1,5 @@
 -- The session machine: a text, the edits that stand, the edits that were undone, and what each call answers.
+-- Told in docs/EDITS.md, "Undo and groups".
 use Rattle.std.specs.Prelude.{ℕ, ◌+◌, ◌-◌, max, nat_lt, if◌then◌else◌, List, [], ◌∷◌, ◌++◌, length, fold, Option, Some, None, Result, Ok, Err}
 
 -- the calls of a session; E are its edits

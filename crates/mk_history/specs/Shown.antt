@@ -1,4 +1,5 @@
 -- What is seen of a session, and the session machine as it is seen.
+-- Told in docs/ARCHITECTURE.md, "How a session stands on mk_history".
 use Rattle.std.specs.Prelude.{◌≡◌, ◌<◌, ℕ, zero, suc, ◌+◌, ◌-◌, List, [], ◌∷◌, length, map, take, Option, Some, None, Result, Ok, Err, option_map}
 use Rattle.mk_history.specs.Chain.{IsChain, states}
 use Rattle.mk_history.specs.Stacks.{Stacks, Several, FitInTurn, after_in_turn}

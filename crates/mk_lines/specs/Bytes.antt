@@ -1,4 +1,5 @@
 -- What a byte is to lines and folds.
+-- Told in docs/LANGUAGE.md, chapter 1.
 use Rattle.std.specs.Prelude.{ℕ, ◌==◌, if◌then◌else◌, Bool, true, false}
 
 -- the kinds of bytes that make lines and folds; a blank is a space or a tab

@@ -1,4 +1,5 @@
 -- What keeps a line from being read as it stands: bad folds and stray bytes. Both are this project's profile.
+-- Told in docs/LANGUAGE.md, chapter 1.
 use Rattle.std.specs.Prelude.{◌==◌, Bool, true, false, ◌&&◌, ◌||◌, List, [], ◌∷◌}
 use Rattle.mk_lines.specs.Bytes.{ByteKind, LineFeed, CarriageReturn, byte_kind, is_backslash_kind}
 use Rattle.mk_lines.specs.Cells.{Cell, Fold, joined_byte}

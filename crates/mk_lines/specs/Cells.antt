@@ -1,4 +1,5 @@
 -- The cells of a logical line: its text with each fold made one space, and the raw bytes that each joined byte stands for.
+-- Told in docs/LANGUAGE.md, chapter 1.
 use Rattle.std.specs.Prelude.{ℕ, Bool, List, [], ◌∷◌, ◌++◌, map, true, false, not}
 use Rattle.mk_lines.specs.Lists.{leading, after_leading, Each}
 use Rattle.mk_lines.specs.Bytes.{ByteKind, LineFeed, CarriageReturn, Backslash, Blank, byte_kind, is_blank_kind}

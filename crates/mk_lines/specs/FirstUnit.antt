@@ -1,4 +1,5 @@
 -- What a unit is: the unit at the front of a text, and which units leave a text open.
+-- Told in docs/LANGUAGE.md, chapter 1.
 use Rattle.std.specs.Prelude.{ℕ, ◌+◌, ◌==◌, if◌then◌else◌, Bool, true, false, not, ◌||◌, List, [], ◌∷◌, ◌++◌, length, drop}
 use Rattle.mk_lines.specs.Units.{Mark, Dollar, Escape, OpenParen, CloseParen, OpenBrace, CloseBrace, byte_mark}
 

@@ -1,4 +1,5 @@
--- Words on lists that the definitions of lines, cells and units share. They are clauses, so that they compute.
+-- Functions on lists that the definitions of lines, cells and units share. They are clauses, so
+-- that they compute.
 use Rattle.std.specs.Prelude.{if◌then◌else◌, Bool, true, false, List, [], ◌∷◌, ◌++◌, ◌≡◌}
 
 -- the elements at the front that pass the test

@@ -1,4 +1,5 @@
 -- Logical lines: a physical line with all that continue it.
+-- Told in docs/LANGUAGE.md, chapter 1.
 use Rattle.std.specs.Prelude.{◌≡◌, ℕ, Bool, true, false, not, ◌&&◌, ◌||◌, List, [], ◌∷◌, reverse}
 use Rattle.mk_lines.specs.Lists.{onto_first}
 use Rattle.mk_lines.specs.Bytes.{ByteKind, Backslash, byte_kind}

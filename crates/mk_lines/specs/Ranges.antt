@@ -1,4 +1,5 @@
 -- Offsets by lengths: the ranges of pieces that follow one another, the ranges of words, and the raw range of some joined bytes.
+-- Told in docs/LANGUAGE.md, chapter 1.
 use Rattle.std.specs.Prelude.{ℕ, ◌+◌, List, [], ◌∷◌, length, take, slice_range}
 use Rattle.mk_lines.specs.Lists.{concat}
 use Rattle.mk_lines.specs.LogicalLines.{logical_lines}

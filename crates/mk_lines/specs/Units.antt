@@ -1,5 +1,6 @@
 -- Units, of any list whose elements stand for bytes: a text, or the cells of a line. Here a machine cuts them from the
 -- left; `specs/FirstUnit` says what a unit is without a machine, and a law says that the two agree.
+-- Told in docs/LANGUAGE.md, chapter 1.
 use Rattle.std.specs.Prelude.{ℕ, suc, zero, ◌==◌, if◌then◌else◌, Bool, true, false, List}
 use Rattle.mk_lines.specs.Cut.{state_after, pieces}
 

@@ -1,4 +1,5 @@
 -- Words: the maximal runs of units that are not single blanks.
+-- Told in docs/LANGUAGE.md, chapter 1.
 use Rattle.std.specs.Prelude.{ℕ, ◌≡◌, Bool, true, false, List, [], ◌∷◌, ◌++◌}
 use Rattle.mk_lines.specs.Lists.{concat}
 use Rattle.mk_lines.specs.Bytes.{byte_kind, is_blank_kind}

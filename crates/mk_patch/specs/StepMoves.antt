@@ -1,4 +1,5 @@
 -- What a step of a patch is seen as: a move.
+-- Told in docs/ARCHITECTURE.md, "A patch".
 use Rattle.std.specs.Prelude.{List, map}
 use Rattle.mk_tree.specs.Trees.{line_view}
 use Rattle.mk_patch.specs.Moves.{Move, PutIn, TakeOut, Exchange, SwapEnd}

@@ -1,4 +1,5 @@
 -- What the queries say of an item, by where it stands.
+-- Told in docs/EDITS.md, "Queries".
 use Rattle.std.specs.Prelude.{ℕ, ◌+◌, List, [], ◌++◌, codes, decimal}
 use Rattle.mk_tree.specs.Items.{Item}
 use Rattle.mk_tree.specs.Items.Item.{Assign, TargetAssign, Header, Opaque, Rough}

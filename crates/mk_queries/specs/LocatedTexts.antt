@@ -1,4 +1,5 @@
--- What the code says of a line, by the offsets of its parts in the joined text of the line.
+-- What `vars` and `rules` say of a line, by the offsets of its parts in its joined text.
+-- Told in docs/DECISIONS.md, "mk_queries".
 use Rattle.std.specs.Prelude.{◌≡◌, ℕ, ◌+◌, ◌-◌, ◌≤◌, if◌then◌else◌, List, [], ◌++◌, Option, Some, None, codes}
 use Rattle.mk_lines.specs.Cells.{joined_byte}
 use Rattle.mk_lines.specs.Ranges.{text_at}

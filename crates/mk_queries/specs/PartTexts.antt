@@ -1,4 +1,5 @@
 -- The texts of the parts of an assignment and of the header of a rule.
+-- Told in docs/EDITS.md, "Queries".
 use Rattle.std.specs.Prelude.{ℕ, List, [], ◌∷◌, ◌++◌, map, Option, Some, None, codes, decimal}
 use Rattle.mk_class.specs.declared.assignment.Modifier.{Modifier}
 use Rattle.mk_class.specs.declared.assignment.Modifier.TheVariants.{Override, Export, Private}

@@ -1,4 +1,5 @@
 -- The texts that the queries write for the text of a makefile.
+-- Told in docs/EDITS.md, "Queries".
 use Rattle.std.specs.Prelude.{ℕ, zero, suc, List, [], ◌∷◌, ◌++◌, map, codes, decimal}
 use Rattle.mk_lines.specs.Lists.{concat}
 use Rattle.mk_class.specs.Contexts.{Context}

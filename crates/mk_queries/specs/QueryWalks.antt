@@ -1,4 +1,5 @@
 -- Walks over the lines of a document: what they say of the lines ahead.
+-- Told in docs/ARCHITECTURE.md, "From a script to a text".
 use Rattle.std.specs.Prelude.{◌==◌, ℕ, ◌+◌, if◌then◌else◌, Option, List, [], ◌∷◌, ◌++◌, codes, decimal}
 use Rattle.mk_class.specs.Contexts.{Context, context_after_located, flag_after_located}
 use Rattle.mk_class.specs.declared.class.Class as class

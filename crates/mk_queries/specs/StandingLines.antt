@@ -1,4 +1,5 @@
 -- The lines of a text where they stand: each with the lines above and below it.
+-- Told in docs/EDITS.md, "Queries".
 use Rattle.std.specs.Prelude.{ℕ, ◌+◌, List, [], ◌∷◌, ◌++◌, length}
 use Rattle.mk_lines.specs.PhysicalLines.{physical_lines}
 use Rattle.mk_class.specs.ClassedLines.{ClassedLine, classed_lines}

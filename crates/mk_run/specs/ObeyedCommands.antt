@@ -1,4 +1,5 @@
 -- The commands of a script, which the session machine obeys one after the other.
+-- Told in docs/PROOFS.md, "A run".
 use Rattle.std.specs.Prelude.{ℕ, ◌+◌, Bool, true, false, List, [], ◌∷◌, ◌++◌, Result, Ok, Err}
 use Rattle.mk_edit_laws.specs.declared.refusal.Refusal.{Refusal}
 use Rattle.mk_history.specs.Machine as machine

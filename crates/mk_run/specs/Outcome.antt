@@ -1,4 +1,5 @@
 -- How a run ends: its status, its message, and whether its text is out.
+-- Told in docs/EDITS.md, "Running a script".
 use Rattle.std.specs.Prelude.{ℕ, Bool, true, false, List, [], ◌++◌, codes, decimal}
 use Rattle.mk_lines.specs.declared.fault.Fault as f
 use Rattle.mk_lines.specs.declared.fault.Fault.TheVariants as fault

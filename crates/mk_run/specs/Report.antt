@@ -1,4 +1,5 @@
--- The line on a refused command.
+-- The line that a report has for a refused command.
+-- Told in docs/EDITS.md, "Running a script".
 use Rattle.std.specs.Prelude.{ℕ, List, [], ◌++◌, codes, decimal}
 use Rattle.mk_edit_laws.specs.RefusalTexts.{number_of, name_of, detail_of, field_name}
 use Rattle.mk_edit_laws.specs.declared.refusal.Refusal.{Refusal}

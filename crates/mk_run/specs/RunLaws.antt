@@ -1,4 +1,5 @@
 -- Laws of runs. Each law is the contract of a public function.
+-- Told in docs/PROOFS.md, "Runs (mk_run)".
 use Rattle.std.specs.Prelude.{◌≡◌, ℕ, Bool, true, false, List, [], ◌∷◌, length, None, Result, Ok, Err, IfSome}
 use Rattle.mk_edit_laws.specs.Edits.{Edit}
 use Rattle.mk_edit_laws.specs.declared.refusal.Refusal.{Refusal}

@@ -1,4 +1,5 @@
 -- What the steps of a run promise each other.
+-- Told in docs/ARCHITECTURE.md, "From bytes to bytes".
 use Rattle.std.specs.Prelude.{◌≡◌, ℕ, Bool, true, false, List, Option}
 use Rattle.mk_tree.specs.Documents.{IsTooDeep}
 use Rattle.mk_history.specs.Shown.{Shown}

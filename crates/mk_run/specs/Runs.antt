@@ -1,4 +1,5 @@
 -- A run of a script over a makefile: how it ends, its report, and the text that goes out.
+-- Told in docs/PROOFS.md, "A run".
 use Rattle.std.specs.Prelude.{◌≡◌, ◌⊎◌, ℕ, suc, zero, ◌<◌, ◌^◌, Bool, true, false, List, [], length, Option, Some, None, Result, Ok, Err}
 use Rattle.mk_edit_laws.specs.declared.refusal.Refusal.{Refusal}
 use Rattle.mk_tree.specs.Documents.{IsTooDeep}

@@ -1,4 +1,5 @@
 -- How the fields of a line are read: one after the other, from the front.
+-- Told in docs/ARCHITECTURE.md, "From a script to a text".
 use Rattle.std.specs.Prelude.{◌≡◌, ℕ, Bool, true, false, not, ◌==◌, if◌then◌else◌, List, [], ◌∷◌, take, drop, Option, Some, None, option_map}
 use Rattle.std.specs.List.{prefix_len}
 use Rattle.mk_lines.specs.Bytes.{is_blank_byte}

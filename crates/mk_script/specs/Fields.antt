@@ -1,4 +1,5 @@
 -- The fields of a line of a script, and how they are written in it.
+-- Told in docs/EDITS.md, "The script".
 use Rattle.std.specs.Prelude.{◌≡◌, ◌⊎◌, ℕ, Bool, true, false, not, ◌==◌, ◌||◌, if◌then◌else◌, List, [], ◌∷◌, ◌++◌}
 use Rattle.mk_lines.specs.Lists.{Each}
 use Rattle.mk_lines.specs.Bytes.{is_blank_byte}

@@ -1,4 +1,5 @@
 -- The lines of a script, and what each of them is.
+-- Told in docs/EDITS.md, "The script".
 use Rattle.std.specs.Prelude.{◌≡◌, ◌⊎◌, ℕ, List, [], ◌∷◌, map}
 use Rattle.bstr.specs.Text.{lines_of, without_terminator}
 use Rattle.mk_lines.specs.Lists.{Each}

@@ -1,4 +1,5 @@
 -- How a number is read.
+-- Told in docs/ARCHITECTURE.md, "From a script to a text".
 use Rattle.std.specs.Prelude.{ℕ, Bool, not, ◌&&◌, nat_lt, if◌then◌else◌, List, length, Option, Some, None}
 use Rattle.std.specs.List.{list_all}
 use Rattle.std.specs.Char.{is_ascii_digit}

@@ -1,4 +1,5 @@
 -- The numbers of a script.
+-- Told in docs/EDITS.md, "The script".
 use Rattle.std.specs.Prelude.{◌≡◌, ◌≤◌, ℕ, List, length}
 use Rattle.std.specs.Str.Parse.{IsNumeral, digits_value}
 

@@ -1,4 +1,5 @@
 -- Laws of lines and of scripts. Each law is the contract of a public function.
+-- Told in docs/PROOFS.md, "Scripts (mk_script)".
 use Rattle.std.specs.Prelude.{◌≡◌, ◌⊎◌, ℕ, ◌≤◌, List, [], ◌∷◌, ◌++◌, Option, Some, None}
 use Rattle.mk_edit_laws.specs.Edits.{Edit, SetValue, AppendValue, AddAssign, RemoveAssign, AddRule, RemoveRule, AddPrereq, RemovePrereq, AddRecipe, SetRecipe, RemoveRecipe, RenameTarget}
 use Rattle.mk_history.specs.Machine.{Command, Apply}

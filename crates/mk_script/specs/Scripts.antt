@@ -1,4 +1,5 @@
 -- What a script says: its commands with the numbers of their lines, or its first line that is no command.
+-- Told in docs/EDITS.md, "Running a script" and "The script".
 use Rattle.std.specs.Prelude.{◌≡◌, ◌⊎◌, ℕ, ◌+◌, List, [], ◌∷◌, ◌++◌, length}
 use Rattle.std.specs.List.{AllByRecursion}
 use Rattle.mk_edit_laws.specs.Edits.{Edit}

@@ -1,4 +1,5 @@
--- The words of a script, in tables.
+-- The words of a script, in tables: those of calls, edits, places, operators and separators.
+-- Told in docs/ARCHITECTURE.md, "From a script to a text".
 use Rattle.std.specs.Prelude.{ℕ, if◌then◌else◌, List, [], ◌∷◌, Option, Some, None, codes}
 use Rattle.std.specs.Str.{bytes_eq}
 use Rattle.mk_class.specs.declared.assignment.Flavor.{Flavor}

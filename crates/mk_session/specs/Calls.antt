@@ -1,4 +1,5 @@
 -- Calls of a session in turn, each with its reply, as the contracts of the calls say; and the session machine after these calls.
+-- Told in docs/ARCHITECTURE.md, "How a session stands on mk_history".
 use Rattle.std.specs.Prelude.{◌≡◌, ℕ, ◌+◌, ◌≤◌, Bool, true, false, List, [], ◌∷◌, ◌++◌, reverse, Option, Some, None, Result, Ok, Err}
 use Rattle.mk_lines.specs.Lists.{concat}
 use Rattle.mk_edit_laws.specs.Edits.{Edit}

@@ -1,4 +1,5 @@
 -- What contracts see of a program's commands: the calls of the session machine.
+-- Told in docs/ARCHITECTURE.md, "How a session stands on mk_history".
 use Rattle.mk_edit_laws.specs.Edits.{Edit}
 use Rattle.mk_edit_parts.specs.EditViews.{edit_of}
 use Rattle.mk_history.specs.Machine as machine

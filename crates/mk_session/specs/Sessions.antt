@@ -1,4 +1,5 @@
 -- The session machine over texts of makefiles, as it is seen, and what each call of a session promises about it.
+-- Told in docs/ARCHITECTURE.md, "How a session stands on mk_history".
 use Rattle.std.specs.Prelude.{◌≡◌, ◌⊎◌, ℕ, ◌<◌, ◌^◌, List, length, Result, Ok, Err}
 use Rattle.mk_lines.specs.Pieces.{Replacement, replaced}
 use Rattle.mk_tree.specs.Documents.{IsTooDeep}

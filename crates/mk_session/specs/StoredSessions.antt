@@ -1,4 +1,5 @@
 -- What a session stores: a document, its history, and the open group.
+-- Told in docs/ARCHITECTURE.md, "How a session stands on mk_history".
 use Rattle.std.specs.Prelude.{ℕ, List, [], ◌∷◌, Option, Some, None}
 use Rattle.mk_tree.specs.Documents.{IsFaithful}
 use Rattle.mk_tree.specs.LocatedLines.{LocatedLine, located_text}

@@ -1,4 +1,5 @@
--- Laws of documents that change, each the contract of a public function.
+-- Laws of texts that change, each the contract of a public function.
+-- Told in docs/PROOFS.md, "Documents (mk_tree)".
 use Rattle.std.specs.Prelude.{◌≡◌, ℕ, ◌+◌, true, false, not, ◌&&◌, List, [], ◌∷◌, ◌++◌, length}
 use Rattle.std.specs.List.{list_any}
 use Rattle.mk_lines.specs.PhysicalLines.{line_end_bytes, file_line_end}

@@ -1,4 +1,5 @@
--- What always holds of what a document stores of a line.
+-- What always holds of a stored line: it is not empty, and the stored cells are its own.
+-- Told in docs/ARCHITECTURE.md, "The document".
 use Rattle.std.specs.Prelude.{ℕ, ◌<◌, List, length}
 use Rattle.mk_lines.specs.StoredCells.{StoredCells, AreCellsOf}
 

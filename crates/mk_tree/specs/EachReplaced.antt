@@ -1,4 +1,5 @@
--- Several lines of a text, of which each can be replaced by another.
+-- What some lines need to stand in the place of as many other lines of a text.
+-- Told in docs/PROOFS.md, "Documents (mk_tree)".
 use Rattle.std.specs.Prelude.{◌≡◌, List, [], ◌∷◌, ◌++◌}
 use Rattle.mk_lines.specs.LogicalLines.{logical_lines, EndsWhereFollowed}
 use Rattle.mk_class.specs.Contexts.{Context, context_after}

@@ -1,4 +1,5 @@
 -- Whether lines lean on the flag: whether another flag before them could change what they are.
+-- Told in docs/EDITS.md, "Refusals".
 use Rattle.std.specs.Prelude.{◌≡◌, ℕ, Bool, true, false, not, ◌&&◌, List}
 use Rattle.mk_class.specs.Contexts.{Context}
 use Rattle.mk_class.specs.ClassedLines.{ClassedLine, is_led_first}

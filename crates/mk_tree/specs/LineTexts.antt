@@ -1,4 +1,6 @@
--- The text of lines with their classes, and the context after them.
+-- The text of lines with their classes, the context after them, and a line with those above and
+-- below it.
+-- Told in docs/LANGUAGE.md, chapter 4.
 use Rattle.std.specs.Prelude.{ℕ, List, [], ◌∷◌, ◌++◌}
 use Rattle.mk_class.specs.Contexts.{Context, start}
 use Rattle.mk_class.specs.ClassedLines.{ClassedLine, context_after_lines}

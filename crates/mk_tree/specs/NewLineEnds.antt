@@ -1,4 +1,5 @@
 -- New lines: their line end, and the line end that a last line gets if a new line is put after it.
+-- Told in docs/EDITS.md, "Addresses".
 use Rattle.std.specs.Prelude.{ℕ, if◌then◌else◌, Bool, ◌&&◌, List, [], ◌∷◌, ◌++◌}
 use Rattle.mk_lines.specs.PhysicalLines.{line_end, line_end_bytes}
 use Rattle.mk_lines.specs.LogicalLines.{has_no_line_end}

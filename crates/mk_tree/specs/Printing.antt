@@ -1,4 +1,5 @@
 -- A text that goes out, except its end, which is held back.
+-- Told in docs/PROOFS.md, "Call by call: what is proved, what is tested, what is neither".
 use Rattle.std.specs.Prelude.{◌≡◌, ℕ, List, ◌++◌, Option}
 use Rattle.std.specs.Io.KnownBytes.{Appends}
 

@@ -1,4 +1,5 @@
 -- The recipe lines of a header, by the lines after it.
+-- Told in docs/LANGUAGE.md, chapter 4, and docs/EDITS.md, "Recipes".
 use Rattle.std.specs.Prelude.{Bool, true, false, not, ◌||◌, List, length, drop, filter}
 use Rattle.mk_lines.specs.Lists.{leading, trim_end}
 use Rattle.mk_lines.specs.Cells.{Cell}

@@ -1,4 +1,5 @@
--- The class that a document stores with smaller numbers, as the class that the other code has.
+-- The class that a stored class stands for, and which classes are stored in a box.
+-- Told in docs/DECISIONS.md, "mk_tree".
 use Rattle.std.specs.Prelude.{ℕ, max}
 use Rattle.mk_class.specs.declared.assignment.Assignment as assignment
 use Rattle.mk_class.specs.declared.assignment.Flavor as flavor

@@ -1,4 +1,5 @@
 -- A walk over the lines of a tree, from the first line on, and a walk that tells the context of each line too.
+-- Told in docs/ARCHITECTURE.md, "The document".
 use Rattle.std.specs.Prelude.{◌≡◌, ℕ, ◌+◌, ◌<◌, List, [], ◌∷◌, ◌++◌, Option, Some, None, MatchOption}
 use Rattle.std.specs.Borrow.{Bor}
 use Rattle.mk_class.specs.Contexts.{Context, context_after_located}

@@ -1,4 +1,5 @@
 -- What a tree of lines is seen as, and what holds of it.
+-- Told in docs/ARCHITECTURE.md, "The document".
 use Rattle.std.specs.Prelude.{◌≡◌, ℕ, suc, zero, ◌+◌, ◌*◌, ◌^◌, ◌<◌, ◌≤◌, max, List, [], ◌∷◌, ◌++◌, length}
 use Rattle.mk_tree.specs.LocatedLines.{LocatedLine, size_of}
 use Rattle.mk_tree.specs.declared.tree.Counts.{Counts}

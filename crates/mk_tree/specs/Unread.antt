@@ -1,4 +1,5 @@
 -- The lines of a text that are still to be read.
+-- Told in docs/ARCHITECTURE.md, "The document".
 use Rattle.std.specs.Prelude.{◌≡◌, ℕ, ◌+◌, ◌^◌, ◌<◌, ◌≤◌, List, [], ◌∷◌, ◌++◌, length, map}
 use Rattle.mk_lines.specs.LogicalLines.{logical_lines}
 use Rattle.mk_lines.specs.Ranges.{text_at}

@@ -1,4 +1,5 @@
--- How a refusal is called on the command line, and what stands above the text on it.
+-- Which words call a refusal in `mkedit explain`, and what is printed above the text on it.
+-- Told in docs/EDITS.md, "Refusals".
 use Rattle.std.specs.Prelude.{ℕ, Bool, List, ◌||◌, ◌++◌, codes, decimal}
 use Rattle.std.specs.Str.{bytes_eq}
 use Rattle.mk_edit_laws.specs.RefusalTexts.{name_of, number_of}

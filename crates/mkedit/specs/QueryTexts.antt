@@ -1,4 +1,5 @@
 -- What a query prints of the text of a makefile.
+-- Told in docs/EDITS.md, "Queries".
 use Rattle.std.specs.Prelude.{ℕ, List}
 use Rattle.mk_queries.specs.Queries.{vars_text, rules_text, check_text}
 use Rattle.mk_queries.specs.Caveats.{caveats_text}
