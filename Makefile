@@ -10,6 +10,8 @@
 #   make soak       tries the program on random makefiles and scripts for MINUTES minutes; prints
 #                   the seed, which SEED=N takes again
 #   make judge      has GNU make judge edits of random makefiles, for MINUTES minutes
+#   make fuzz       has afl++ look for inputs that take the program along new ways, for MINUTES
+#                   minutes, and judges each; prints the seed, which SEED=N takes again
 #   make rows       makes the stored files of rows anew, after a table of tests/cases has changed
 #   make hostile    tries the program with hostile texts of 16 MB, with memory that ends and under
 #                   valgrind, and measures it there; some minutes long
@@ -26,7 +28,7 @@
 #
 # It is written for POSIX.1-2024 make, which GNU make 4 reads as well.
 .POSIX:
-.PHONY: all demo check hostile judge soak rows install uninstall bench clean
+.PHONY: all demo check hostile judge soak fuzz rows install uninstall bench clean
 
 PREFIX ?= /usr/local
 BINDIR ?= $(PREFIX)/bin
@@ -62,6 +64,9 @@ hostile: $(PROGRAM)
 
 soak: $(PROGRAM)
 	@tests/soak --minutes $(MINUTES) $(SEED:%=--seed %) $(PROGRAM)
+
+fuzz: $(PROGRAM)
+	@tests/fuzz --minutes $(MINUTES) $(SEED:%=--seed %) $(PROGRAM)
 
 rows:
 	@tests/rows --write
