@@ -132,7 +132,13 @@ def toolchain_with_rounds():
         names = [Path(it).stem for it in edits]
         if found is None or not found.keys() >= set(names):
             return try_one_by_one(crate, edits, flags)
-        return [answer(crate, it, *found[it]) for it in names]
+        answers = [answer(crate, it, *found[it]) for it in names]
+        # (`rt ci` shows each answer at its end, so what fails is told here too)
+        for is_refused, text in answers:
+            if not is_refused:
+                script.say(text)
+        script.say(f"{crate.name}: {sum(it for it, _ in answers)} of {len(names)} wrong bodies are refused")
+        return answers
 
     script.must_fail_all = must_fail_all
     return script
