@@ -3,7 +3,7 @@
 import re
 
 import reading
-from soaking.cases import USUAL_DEPTH, Case, problems_of
+from soaking.cases import USUAL_DEPTH, Case, problems_of, wrong_query
 from soaking.rows import rows_of
 from soaking.shrinking import shrunk
 
@@ -33,6 +33,15 @@ def input_of(case):
     alone, both = case.makefile, script + b"%%" + depth + b"\n" + case.makefile
     wanted = (case.makefile, script, case.depth)
     return next((it for it in (alone, both) if it and case_of(it)[:3] == wanted), None)
+
+
+def problems_in(room, case):
+    """What is wrong with the program's runs of a case, and with each query of its makefile."""
+    problems = problems_of(room, case, case.verdict)
+    for query in QUERIES:
+        if query != case.query:
+            problems += wrong_query(room, query, "Makefile", case.makefile)
+    return problems
 
 
 def wrong(room, case):
