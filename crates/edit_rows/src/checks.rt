@@ -19,8 +19,8 @@ pub fn check_row(alloc: Global, row: &Row<'_>) -> Result<(), Stop> {
     check_only_plan(alloc, row)
 }
 
-/// Runs the commands of a row in a session. What is checked there has the session by a reference: where
-/// a function owns it, each way out of the function drops it, which makes its proof long.
+/// Runs the commands of a row in a session. What is checked there has the session by a reference:
+/// where a function owns it, each way out of the function drops it, which makes its proof long.
 fn check_by_session(alloc: Global, row: &Row<'_>) -> Result<(), Stop> {
     let mut session = opened(alloc, row)?;
     check_session(alloc, &mut session, row)
@@ -130,8 +130,8 @@ fn check_history(alloc: Global, session: &mut Session, row: &Row<'_>) -> Result<
     )
 }
 
-/// Undoes all that can be undone, which leads to the first text where the depth is enough, and does it
-/// again.
+/// Undoes all that can be undone, which leads to the first text where the depth is enough, and does
+/// it again.
 fn check_undos_and_redos(alloc: Global, session: &mut Session, row: &Row<'_>) -> Result<(), Stop> {
     let texts = undone(alloc, session, row.commands.len())?;
     if row.commands.len() <= row.depth as usize {

@@ -1,6 +1,6 @@
 //! Runs rows of edits through the library: `edit_rows` reads tables of rows, as
-//! tests/definitions/plan_rows.py makes them, runs each row by a session and, where it is one edit, by
-//! its plan, and prints which rows are answered in another way than they expect.
+//! tests/definitions/plan_rows.py makes them, runs each row by a session and, where it is one edit,
+//! by its plan, and prints which rows are answered in another way than they expect.
 //!
 //! - [`rows`]: rows, and their form.
 //! - [`edits`]: the commands of rows.

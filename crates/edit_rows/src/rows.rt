@@ -19,8 +19,8 @@ pub struct Row<'a> {
     pub expected: Option<Vec<u8>>,
     /// Of a row of one edit, how many lines the edit reads again at most, where the table says it.
     pub cost: Option<u64>,
-    /// Of an accepted edit, how many lines it takes out or puts others in place of at most, where the
-    /// table says it.
+    /// Of an accepted edit, how many lines it takes out or puts others in place of at most, where
+    /// the table says it.
     pub size: Option<u64>,
     /// The commands, in order, with their replies.
     pub commands: Vec<Expectation<'a>>,
@@ -45,7 +45,8 @@ pub fn read_row<'a>(alloc: Global, columns: &'a str) -> Result<Row<'a>> {
     let [name, depth, makefile, expected, cost, size, commands @ ..] = columns.as_slice() else {
         bail!("a row without its columns");
     };
-    // (the numbers first, and the texts in a function of their own: a way out drops what was read before)
+    // (the numbers first, and the texts in a function of their own: a way out drops what was read
+    // before)
     let depth = depth.parse::<u32>().context("no depth")?;
     let cost = read_limit(cost)?;
     let size = read_limit(size)?;

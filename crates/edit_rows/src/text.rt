@@ -5,8 +5,8 @@ use anyhow::{Result, bail};
 use std::alloc::{AllocError, Global};
 use std::fmt::Write as _;
 
-/// The bytes that a text with escapes stands for: `\\`, `\t`, `\n` and `\r` for a backslash, a tab, a
-/// line feed and a return, and `\xHH` for the byte with these two hexadecimal digits.
+/// The bytes that a text with escapes stands for: `\\`, `\t`, `\n` and `\r` for a backslash, a tab,
+/// a line feed and a return, and `\xHH` for the byte with these two hexadecimal digits.
 ///
 /// # Errors
 ///

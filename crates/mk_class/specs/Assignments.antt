@@ -47,8 +47,9 @@ ends_name_by Question e = e
 ends_name_by Exclamation e = e
 ends_name_by s e = false
 
--- An assignment. Its five lists of units follow one another and are the cut text: the units before the name, the name, the
--- operator with the blanks around it, the value, and the blanks after the value.
+-- An assignment. Its five lists of units follow one another and are the cut text: the units before
+-- the name, the name, the operator with the blanks around it, the value, and the blanks after the
+-- value.
 pub record Assignment (A : Type 0) : Type 0 where
   pub modifiers : List Modifier
   pub flavor : Flavor
@@ -59,10 +60,12 @@ pub record Assignment (A : Type 0) : Type 0 where
   pub after : List (List A)
 
 module _ {A : Type 0} (byte : A → ℕ) where
-  -- whether a name ends before these units: at a blank, `:`, `=` or `;`, or at `+`, `?` or `!` with a `=` after it
+  -- whether a name ends before these units: at a blank, `:`, `=` or `;`, or at `+`, `?` or `!` with
+  -- a `=` after it
   abbrev pub ends_name : List (List A) → Bool
   ends_name [] = false
-  ends_name (u ∷ us) = is_gap byte u || ends_name_by (symbol byte u) (first_passes (is_equals byte) us)
+  ends_name (u ∷ us) =
+      is_gap byte u || ends_name_by (symbol byte u) (first_passes (is_equals byte) us)
 
   -- what stands after the blanks at the front of some units
   abbrev pub after_blanks : List (List A) → List (List A)
@@ -72,8 +75,10 @@ module _ {A : Type 0} (byte : A → ℕ) where
   abbrev pub blanks : List (List A) → List (List A)
   blanks us = leading (is_gap byte) us
 
-  -- a definition without modifiers, from its blanks, its name, the blanks after the name, and an operator with what follows it
-  abbrev pub defined_by : Option Flavor → (before name gap rest : List (List A)) → Option (Assignment A)
+  -- a definition without modifiers, from its blanks, its name, the blanks after the name, and an
+  -- operator with what follows it
+  abbrev pub defined_by : Option Flavor → (before name gap rest : List (List A))
+      → Option (Assignment A)
   defined_by None b n g r = None
   defined_by (Some f) b [] g r = None
   defined_by (Some f) b (u ∷ n) g r = Some (record {
@@ -90,9 +95,11 @@ module _ {A : Type 0} (byte : A → ℕ) where
   abbrev pub definition_of : (before named : List (List A)) → Option (Assignment A)
   definition_of b us =
       let rest = from ends_name us in
-      defined_by (operator_at (map (symbol byte) (after_blanks rest))) b (until ends_name us) (blanks rest) (after_blanks rest)
+      defined_by (operator_at (map (symbol byte) (after_blanks rest))) b (until ends_name us)
+      (blanks rest) (after_blanks rest)
 
-  -- a definition: blanks, a name that is not empty, blanks, the longest operator that stands there, blanks, and a value
+  -- a definition: blanks, a name that is not empty, blanks, the longest operator that stands there,
+  -- blanks, and a value
   abbrev pub definition : List (List A) → Option (Assignment A)
   definition us = definition_of (blanks us) (after_blanks us)
 
@@ -112,12 +119,14 @@ module _ {A : Type 0} (byte : A → ℕ) where
   after_units us (Some a) = Some (record a { before = us ++ a.before })
 
   -- an assignment with a modifier put before it
-  abbrev pub after_modifier : Modifier → List (List A) → Option (Assignment A) → Option (Assignment A)
+  abbrev pub after_modifier : Modifier → List (List A) → Option (Assignment A)
+      → Option (Assignment A)
   after_modifier m w None = None
-  after_modifier m w (Some a) = Some (record a { modifiers = m ∷ a.modifiers; before = w ++ a.before })
+  after_modifier m w (Some a) =
+      Some (record a { modifiers = m ∷ a.modifiers; before = w ++ a.before })
 
-  -- the assignment that words and gaps are: they are a definition; or the first word is a modifier, and what follows it is an
-  -- assignment
+  -- the assignment that words and gaps are: they are a definition; or the first word is a modifier,
+  -- and what follows it is an assignment
   abbrev pub assignment_of : List (Token A) → Option (Assignment A)
   assignment_of [] = None
   assignment_of (Gap u ∷ ts) = after_units (u ∷ []) (assignment_of ts)

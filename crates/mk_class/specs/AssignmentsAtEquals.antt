@@ -1,5 +1,6 @@
--- Assignments once more, by their first unit `=`, which ends the operator: what stands before it tells the modifiers, the name
--- and the flavor, and what stands after it tells the value. A law says that these are the assignments of `Assignments`.
+-- Assignments once more, by their first unit `=`, which ends the operator: what stands before it
+-- tells the modifiers, the name and the flavor, and what stands after it tells the value. A law
+-- says that these are the assignments of `Assignments`.
 -- Told in docs/LANGUAGE.md, chapter 2.
 use Rattle.std.specs.Prelude.{ℕ, Bool, false, not, ◌||◌, List, [], ◌∷◌, ◌++◌, map, Option, Some, None}
 use Rattle.mk_lines.specs.Lists.{leading, after_leading, trim_end, trailing}
@@ -40,12 +41,15 @@ module _ {A : Type 0} (byte : A → ℕ) where
   abbrev pub front_by : Option Flavor → (before name operator : List (List A)) → Option (Front A)
   front_by None b n o = None
   front_by (Some f) b [] o = None
-  front_by (Some f) b (u ∷ n) o = Some (record { modifiers = []; flavor = f; before = b; name = u ∷ n; operator = o })
+  front_by (Some f) b (u ∷ n) o =
+      Some (record { modifiers = []; flavor = f; before = b; name = u ∷ n; operator = o })
 
   -- the front of blanks, a name, blanks, and the symbols of an operator without its `=`
   abbrev pub front_after_blanks : (before named : List (List A)) → Option (Front A)
   front_after_blanks b us =
-      let rest = from ends_name_before_equals us in front_by (flavor_before_equals (map (symbol byte) (after_blanks byte rest))) b (until ends_name_before_equals us) rest
+      let rest = from ends_name_before_equals us in
+      front_by (flavor_before_equals (map (symbol byte) (after_blanks byte rest))) b
+      (until ends_name_before_equals us) rest
 
   -- the front of a definition without modifiers
   abbrev pub definition_front : List (List A) → Option (Front A)
@@ -59,7 +63,8 @@ module _ {A : Type 0} (byte : A → ℕ) where
   -- a front with a modifier put before it
   abbrev pub front_after_modifier : Modifier → List (List A) → Option (Front A) → Option (Front A)
   front_after_modifier m w None = None
-  front_after_modifier m w (Some f) = Some (record f { modifiers = m ∷ f.modifiers; before = w ++ f.before })
+  front_after_modifier m w (Some f) =
+      Some (record f { modifiers = m ∷ f.modifiers; before = w ++ f.before })
 
   -- the front that the words and gaps before a `=` are
   abbrev pub front_of : List (Token A) → Option (Front A)
@@ -75,7 +80,8 @@ module _ {A : Type 0} (byte : A → ℕ) where
       ]
 
   -- an assignment from the front before its `=`, this unit, and what stands after it
-  abbrev pub with_value : Option (Front A) → (equals : List A) → (rest : List (List A)) → Option (Assignment A)
+  abbrev pub with_value : Option (Front A) → (equals : List A) → (rest : List (List A))
+      → Option (Assignment A)
   with_value None e r = None
   with_value (Some f) e r = Some (record {
     modifiers = f.modifiers;
@@ -98,4 +104,5 @@ module _ {A : Type 0} (byte : A → ℕ) where
 
   -- the assignment that a cut text is
   abbrev pub assignment_at_equals : List (List A) → Option (Assignment A)
-  assignment_at_equals us = assignment_from (leading is_no_equals us) (after_leading is_no_equals us)
+  assignment_at_equals us =
+      assignment_from (leading is_no_equals us) (after_leading is_no_equals us)

@@ -6,9 +6,9 @@ use Rattle.mk_class.specs.Classes.{Class}
 use Rattle.mk_class.specs.Classes.Class.{Endef, Body, Else, Endif}
 use Rattle.mk_class.specs.declared.context.Nesting.TheVariants.{Opens, Closes, Keeps}
 
--- what a class says of the numbers of open defines and conditionals: an Endef ends the only define; a Body that closes a define
--- stands in two or more, and any other Body in one or more; each other line stands in none, and an Else or Endif also in a
--- conditional
+-- what a class says of the numbers of open defines and conditionals: an Endef ends the only define;
+-- a Body that closes a define stands in two or more, and any other Body in one or more; each other
+-- line stands in none, and an Else or Endif also in a conditional
 abbrev pub FitsCounts : (defines conditionals : ℕ) → Class Cell → Type 0
 FitsCounts n c Endef = n ≡ 1
 FitsCounts n c (Body Opens) = (m : ℕ) × (n ≡ suc m)

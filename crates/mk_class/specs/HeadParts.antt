@@ -24,23 +24,33 @@ parts_header colons p tail = record {
   tail = tail;
 }
 
--- what follows a separator, split at a second `:` if there is one: the pattern before the second `:`, and what follows it
-abbrev pub IsPatternSplit : (us : List (List ℕ)) → (found : Bool) → (pattern rest : List (List ℕ)) → Type 0
+-- what follows a separator, split at a second `:` if there is one: the pattern before the second
+-- `:`, and what follows it
+abbrev pub IsPatternSplit : (us : List (List ℕ)) → (found : Bool) → (pattern rest : List (List ℕ))
+    → Type 0
 IsPatternSplit us true p r = IsSplitAt 58 us p r
 IsPatternSplit us false p r = (after_leading (is_other (58 ∷ [])) us ≡ []) × (p ≡ []) × (r ≡ us)
 
 -- prerequisites, split at a `|` if there is one: the normal prerequisites, and the order-only ones
-abbrev pub IsBarSplit : (us normal : List (List ℕ)) → (found : Bool) → (order_only : List (List ℕ)) → Type 0
+abbrev pub IsBarSplit : (us normal : List (List ℕ)) → (found : Bool) → (order_only : List (List ℕ))
+    → Type 0
 IsBarSplit us n true o = IsSplitAt 124 us n o
 IsBarSplit us n false o = (after_leading (is_other (124 ∷ [])) us ≡ []) × (n ≡ us) × (o ≡ [])
 
 -- whether the parts of a header's line make it Rough
 abbrev pub is_rough_apart : Header ℕ → Bool
-is_rough_apart h = has_colon_after_other itself h || (has_third_separator itself h || (has_bad_bar itself h || (has_second_bar itself h || has_bad_pattern itself h)))
+is_rough_apart h =
+    has_colon_after_other itself h
+    || (has_third_separator itself h
+    || (has_bad_bar itself h
+    || (has_second_bar itself h
+    || has_bad_pattern itself h)))
 
 -- the parts have the bytes of the head
 abbrev pub FitsHead : (head : List ℕ) → Parts → Type 0
 FitsHead head p =
     let h = parts_header (separated itself (units itself head)).colons p [] in
-    (length head ≡ (((width h.targets + width h.colons) + width h.pattern) + width h.second_colon) + length p.prerequisites.now)
+    (length head
+    ≡ (((width h.targets + width h.colons) + width h.pattern) + width h.second_colon)
+    + length p.prerequisites.now)
     × (length p.prerequisites.now ≡ (width h.normal + width h.bar) + width h.order_only)

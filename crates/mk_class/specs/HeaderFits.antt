@@ -29,7 +29,8 @@ abbrev pub head_units : {A : Type 0} → Header A → List (List A)
 head_units h = h.targets ++ (h.colons ++ after_separator h)
 
 module _ {A : Type 0} (byte : A → ℕ) where
-  -- a pattern has no `:`, and a `:` stands after it; without a pattern, there is no `:` among the prerequisites
+  -- a pattern has no `:`, and a `:` stands after it; without a pattern, there is no `:` among the
+  -- prerequisites
   abbrev pub FitsPattern : (pattern second_colon prerequisites : List (List A)) → Type 0
   FitsPattern p [] us = (p ≡ []) × Each (is_no_colon byte) us
   FitsPattern p (c ∷ []) us = (is_colon byte c ≡ true) × Each (is_no_colon byte) p
@@ -46,7 +47,8 @@ module _ {A : Type 0} (byte : A → ℕ) where
     pub in_head : Each (is_in_head byte) (head_units h)
     pub tail_ends : FirstFails (is_in_head byte) h.tail
     pub no_colon : Each (is_no_colon byte) h.targets
-    pub targets_apart : (last_passes (is_ampersand byte) h.targets && first_passes (is_colon byte) h.colons) ≡ false
+    pub targets_apart : (last_passes (is_ampersand byte) h.targets
+        && first_passes (is_colon byte) h.colons) ≡ false
     pub colons_are : map (symbol byte) h.colons ≡ separator_symbols h.separator
     pub rest_apart : first_passes (is_colon byte) (after_separator h) ≡ false
     pub pattern_fits : FitsPattern h.pattern h.second_colon (prerequisite_units h)

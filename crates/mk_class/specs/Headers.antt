@@ -12,9 +12,9 @@ use Rattle.mk_class.specs.Separators.{Separated, separated, has_colon, is_single
 use Rattle.mk_class.specs.Assignments.{Assignment}
 use Rattle.mk_class.specs.declared.rule.Separator.{Separator}
 
--- The parts of a header's line. The eight lists of units follow one another and are the line: the targets; the separator; the
--- pattern and the second `:`, if there is one; the normal prerequisites; the `|`, if there is one; the order-only prerequisites;
--- and what follows the head.
+-- The parts of a header's line. The eight lists of units follow one another and are the line: the
+-- targets; the separator; the pattern and the second `:`, if there is one; the normal
+-- prerequisites; the `|`, if there is one; the order-only prerequisites; and what follows the head.
 pub record Header (A : Type 0) : Type 0 where
   pub separator : Separator
   pub targets : List (List A)
@@ -26,8 +26,8 @@ pub record Header (A : Type 0) : Type 0 where
   pub order_only : List (List A)
   pub tail : List (List A)
 
--- An assignment after a separator. The targets, the separator and the units of the assignment follow one another and are the
--- cut text.
+-- An assignment after a separator. The targets, the separator and the units of the assignment
+-- follow one another and are the cut text.
 pub record TargetAssignment (A : Type 0) : Type 0 where
   pub separator : Separator
   pub targets : List (List A)
@@ -43,8 +43,10 @@ module _ {A : Type 0} (byte : A → ℕ) where
   abbrev pub is_no_bar : List A → Bool
   is_no_bar u = not (is_bar byte u)
 
-  -- the parts of a line, from what stands before its prerequisites, from the prerequisites, and from what follows the head
-  abbrev pub with_prerequisites : (s : Separated A) → (pattern second_colon prerequisites tail : List (List A)) → Header A
+  -- the parts of a line, from what stands before its prerequisites, from the prerequisites, and
+  -- from what follows the head
+  abbrev pub with_prerequisites : (s : Separated A)
+      → (pattern second_colon prerequisites tail : List (List A)) → Header A
   with_prerequisites s p c us t = record {
     separator = s.separator;
     targets = s.targets;
@@ -57,11 +59,13 @@ module _ {A : Type 0} (byte : A → ℕ) where
     tail = t;
   }
 
-  -- the parts of a line, from its head taken apart and from what follows the head: the pattern is what stands before a second `:`
+  -- the parts of a line, from its head taken apart and from what follows the head: the pattern is
+  -- what stands before a second `:`
   abbrev pub header_parts : Separated A → (tail : List (List A)) → Header A
   header_parts s t =
       if has_colon byte s.rest
-      then with_prerequisites s (leading is_no_colon s.rest) (take 1 (after_leading is_no_colon s.rest)) (drop 1 (after_leading is_no_colon s.rest)) t
+      then with_prerequisites s (leading is_no_colon s.rest)
+      (take 1 (after_leading is_no_colon s.rest)) (drop 1 (after_leading is_no_colon s.rest)) t
       else with_prerequisites s [] [] s.rest t
 
   -- the parts of a line whose head has a `:`
@@ -86,7 +90,9 @@ module _ {A : Type 0} (byte : A → ℕ) where
   abbrev pub has_bad_bar : Header A → Bool
   has_bad_bar h =
       list_any (is_bar byte) h.targets || list_any (is_bar byte) h.pattern
-      || (not (is_empty h.bar) && (last_passes (λ u. not (is_gap byte u)) h.normal || first_passes (λ u. not (is_gap byte u)) h.order_only))
+      || (not (is_empty h.bar)
+      && (last_passes (λ u. not (is_gap byte u)) h.normal
+      || first_passes (λ u. not (is_gap byte u)) h.order_only))
 
   -- whether there is a second `|` among the prerequisites
   abbrev pub has_second_bar : Header A → Bool
@@ -103,11 +109,18 @@ module _ {A : Type 0} (byte : A → ℕ) where
 
   -- whether a line with this head and these parts is Rough
   abbrev pub is_rough : (head : List (List A)) → Header A → Bool
-  is_rough us h = has_unreadable us || (has_colon_after_other h || (has_third_separator h || (has_bad_bar h || (has_second_bar h || has_bad_pattern h))))
+  is_rough us h =
+      has_unreadable us
+      || (has_colon_after_other h
+      || (has_third_separator h
+      || (has_bad_bar h
+      || (has_second_bar h
+      || has_bad_pattern h))))
 
   -- ---- the inline recipe
 
-  -- the inline recipe: all that follows a `;` that ends the head, where a `#` begins no comment; None if no `;` ends the head
+  -- the inline recipe: all that follows a `;` that ends the head, where a `#` begins no comment;
+  -- None if no `;` ends the head
   abbrev pub inline_recipe : Header A → Option (List (List A))
   inline_recipe h = elim h.tail [
     | [] ↦ None
@@ -116,4 +129,6 @@ module _ {A : Type 0} (byte : A → ℕ) where
 
 -- the units of a line's parts
 abbrev pub header_units : {A : Type 0} → Header A → List (List A)
-header_units h = h.targets ++ (h.colons ++ (h.pattern ++ (h.second_colon ++ (h.normal ++ (h.bar ++ (h.order_only ++ h.tail))))))
+header_units h =
+    h.targets ++ (h.colons ++ (h.pattern ++ (h.second_colon ++ (h.normal ++ (h.bar ++ (h.order_only
+    ++ h.tail))))))

@@ -23,7 +23,8 @@ if_words = codes "ifeq" ∷ codes "ifneq" ∷ codes "ifdef" ∷ codes "ifndef" �
 -- the words of the other directives, except `undefine`, before which modifiers may stand
 abbrev pub directive_words : List (List ℕ)
 directive_words =
-    codes "include" ∷ codes "-include" ∷ codes "sinclude" ∷ codes "export" ∷ codes "unexport" ∷ codes "vpath" ∷ codes "load" ∷ codes "-load" ∷ []
+    codes "include" ∷ codes "-include" ∷ codes "sinclude" ∷ codes "export" ∷ codes "unexport"
+    ∷ codes "vpath" ∷ codes "load" ∷ codes "-load" ∷ []
 
 -- the modifiers
 abbrev pub modifier_words : List (List ℕ)
@@ -53,9 +54,11 @@ after_modifiers ws = after_leading (λ w. is_one_of w modifier_words) ws
 -- the words that no target may be: the words of directives and of conditionals, and the modifiers
 abbrev pub reserved_words : List (List ℕ)
 reserved_words =
-    codes "ifeq" ∷ codes "ifneq" ∷ codes "ifdef" ∷ codes "ifndef" ∷ codes "else" ∷ codes "endif" ∷ codes "define"
-    ∷ codes "endef" ∷ codes "undefine" ∷ codes "include" ∷ codes "-include" ∷ codes "sinclude" ∷ codes "load"
-    ∷ codes "-load" ∷ codes "export" ∷ codes "unexport" ∷ codes "override" ∷ codes "private" ∷ codes "vpath" ∷ []
+    codes "ifeq" ∷ codes "ifneq" ∷ codes "ifdef" ∷ codes "ifndef" ∷ codes "else" ∷ codes "endif"
+    ∷ codes "define" ∷ codes "endef" ∷ codes "undefine"
+    ∷ codes "include" ∷ codes "-include" ∷ codes "sinclude" ∷ codes "load" ∷ codes "-load"
+    ∷ codes "export" ∷ codes "unexport" ∷ codes "override" ∷ codes "private"
+    ∷ codes "vpath" ∷ []
 
 -- whether a word is one of these reserved words
 abbrev pub is_reserved_word : List ℕ → Bool

@@ -36,7 +36,8 @@ located_assignment at a =
     }
 
 -- the offsets of an assignment for targets
-abbrev pub located_target_assignment : {A : Type 0} → TargetAssignment A → target_assignment.TargetAssignment
+abbrev pub located_target_assignment : {A : Type 0} → TargetAssignment A
+    → target_assignment.TargetAssignment
 located_target_assignment t = record {
   separator = t.separator;
   targets_end = width t.targets;

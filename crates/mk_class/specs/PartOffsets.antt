@@ -1,5 +1,6 @@
--- Where a part of a line stands: the code's class has offsets into the joined text, and the definition's class has the units of
--- the part. The range between the offsets has the text, the units and the words of the part; the raw range has its raw bytes.
+-- Where a part of a line stands: the code's class has offsets into the joined text, and the
+-- definition's class has the units of the part. The range between the offsets has the text, the
+-- units and the words of the part; the raw range has its raw bytes.
 -- Told in docs/DECISIONS.md, "mk_class".
 use Rattle.std.specs.Prelude.{◌≡◌, ℕ, ◌+◌, ◌≤◌, List, map, length}
 use Rattle.mk_lines.specs.Lists.{concat}
@@ -13,11 +14,17 @@ use Rattle.mk_class.specs.TextClasses.{itself}
 abbrev pub raw_width : List (List Cell) → ℕ
 raw_width us = length (raw_text (concat us))
 
--- a range of the joined text of a line's cells is that of a part of its units, before which the units `before` stand
-pub record IsPart (cells : List Cell) (start end : ℕ) (before part : List (List Cell)) : Type 0 where
-  pub text_is : text_at (joined_text cells) (record { start = start; end = end }) ≡ unit_text joined_byte part
-  pub units_are : units itself (text_at (joined_text cells) (record { start = start; end = end })) ≡ map (map joined_byte) part
-  pub words_are : word_texts itself (units itself (text_at (joined_text cells) (record { start = start; end = end }))) ≡ word_texts joined_byte part
+-- a range of the joined text of a line's cells is that of a part of its units, before which the
+-- units `before` stand
+pub record IsPart (cells : List Cell) (start end : ℕ) (before part : List (List Cell))
+    : Type 0 where
+  pub text_is : text_at (joined_text cells) (record { start = start; end = end })
+      ≡ unit_text joined_byte part
+  pub units_are : units itself (text_at (joined_text cells) (record { start = start; end = end }))
+      ≡ map (map joined_byte) part
+  pub words_are : word_texts itself
+      (units itself (text_at (joined_text cells) (record { start = start; end = end })))
+      ≡ word_texts joined_byte part
   pub rises : start ≤ end
   pub within : end ≤ length cells
   pub raw_start : raw_offset cells start ≡ raw_width before

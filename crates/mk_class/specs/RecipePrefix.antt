@@ -36,20 +36,26 @@ may_set_prefix f = false
 abbrev pub may_be_prefix : ℕ → Bool
 may_be_prefix b = (nat_le 33 b && nat_le b 126) && not ((b == 36) || (b == 92))
 
--- the prefix that a value says: a tab if the value is empty, and otherwise its first byte, if that byte may be a prefix
+-- the prefix that a value says: a tab if the value is empty, and otherwise its first byte, if that
+-- byte may be a prefix
 abbrev pub prefix_of_value : List ℕ → Option ℕ
 prefix_of_value [] = Some tab
 prefix_of_value (b ∷ v) = if may_be_prefix b then Some b else None
 
 module _ {A : Type 0} (byte : A → ℕ) where
-  -- whether an assignment sets the prefix in a way that is read: it has no modifiers, no conditional is open, and its flavor may
-  -- set the prefix
+  -- whether an assignment sets the prefix in a way that is read: it has no modifiers, no
+  -- conditional is open, and its flavor may set the prefix
   abbrev pub is_read_for_prefix : (in_conditional : Bool) → Assignment A → Bool
-  is_read_for_prefix c a = is_prefix_name (unit_text byte a.name) && (is_empty a.modifiers && (not c && may_set_prefix a.flavor))
+  is_read_for_prefix c a =
+      is_prefix_name (unit_text byte a.name)
+      && (is_empty a.modifiers
+      && (not c
+      && may_set_prefix a.flavor))
 
   -- the prefix that an assignment sets, if it sets one
   abbrev pub prefix_set_by : (in_conditional : Bool) → Assignment A → Option ℕ
-  prefix_set_by c a = if is_read_for_prefix c a then prefix_of_value (unit_text byte a.value) else None
+  prefix_set_by c a =
+      if is_read_for_prefix c a then prefix_of_value (unit_text byte a.value) else None
 
 -- whether a byte may be in force as the recipe prefix: a tab, or a byte that an assignment may set
 abbrev pub is_prefix_byte : ℕ → Bool

@@ -30,16 +30,22 @@ AreUnmarked (b ∷ bs) = (byte_mark b ≡ Unmarked) × AreUnmarked bs
 
 -- units split at the first unit that is this byte
 abbrev pub IsSplitAt : (byte : ℕ) → (us front rest : List (List ℕ)) → Type 0
-IsSplitAt byte us front rest = (leading (is_other (byte ∷ [])) us ≡ front) × (after_leading (is_other (byte ∷ [])) us ≡ (byte ∷ []) ∷ rest)
+IsSplitAt byte us front rest =
+    (leading (is_other (byte ∷ [])) us ≡ front)
+    × (after_leading (is_other (byte ∷ [])) us ≡ (byte ∷ []) ∷ rest)
 
 -- the operator of this flavor is the longest at the front of some units, and `rest` follows it
 abbrev pub IsOperatorAt : List (List ℕ) → Flavor → (rest : List (List ℕ)) → Type 0
-IsOperatorAt us f rest = (operator_at (map (symbol itself) us) ≡ Some f) × (rest ≡ drop (operator_length f) us)
+IsOperatorAt us f rest =
+    (operator_at (map (symbol itself) us) ≡ Some f) × (rest ≡ drop (operator_length f) us)
 
 -- this separator is the longest at the front of some units, and `rest` follows it
 abbrev pub IsSeparatorAt : List (List ℕ) → Separator → (rest : List (List ℕ)) → Type 0
-IsSeparatorAt us s rest = (separator_at (map (symbol itself) us) ≡ s) × (rest ≡ drop (separator_length s) us)
+IsSeparatorAt us s rest =
+    (separator_at (map (symbol itself) us) ≡ s) × (rest ≡ drop (separator_length s) us)
 
--- units at their first separator: the separator, the units from the separator on, and the units that follow it
+-- units at their first separator: the separator, the units from the separator on, and the units
+-- that follow it
 abbrev pub AreSeparated : List (List ℕ) → Separator → (start rest : List (List ℕ)) → Type 0
-AreSeparated us s start rest = (start ≡ from (begins_separator itself) us) × IsSeparatorAt start s rest
+AreSeparated us s start rest =
+    (start ≡ from (begins_separator itself) us) × IsSeparatorAt start s rest

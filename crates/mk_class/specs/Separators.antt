@@ -7,7 +7,8 @@ use Rattle.mk_class.specs.Symbols.{Symbol, Colon, Ampersand, symbol, is_colon, i
 use Rattle.mk_class.specs.declared.rule.Separator.{Separator}
 use Rattle.mk_class.specs.declared.rule.Separator.TheVariants.{SingleColon, DoubleColon, GroupedColon, GroupedDoubleColon}
 
--- the longest separator that stands at the front of some symbols; the symbols begin with a separator
+-- the longest separator that stands at the front of some symbols; the symbols begin with a
+-- separator
 abbrev pub separator_at : List Symbol → Separator
 separator_at (Ampersand ∷ Colon ∷ Colon ∷ s) = GroupedDoubleColon
 separator_at (Ampersand ∷ s) = GroupedColon
@@ -32,8 +33,8 @@ takes_assignment SingleColon = true
 takes_assignment DoubleColon = true
 takes_assignment s = false
 
--- A text taken apart at its first unit `:`. The three lists of units follow one another and are the text: the units before the
--- separator, the separator, and the units that follow it.
+-- A text taken apart at its first unit `:`. The three lists of units follow one another and are the
+-- text: the units before the separator, the separator, and the units that follow it.
 pub record Separated (A : Type 0) : Type 0 where
   pub separator : Separator
   pub targets : List (List A)
@@ -47,7 +48,9 @@ module _ {A : Type 0} (byte : A → ℕ) where
 
   -- whether a separator stands at the front of some units: a `:`, or a `&` with a `:` after it
   abbrev pub begins_separator : List (List A) → Bool
-  begins_separator us = first_passes (is_colon byte) us || (first_passes (is_ampersand byte) us && first_passes (is_colon byte) (drop 1 us))
+  begins_separator us =
+      first_passes (is_colon byte) us
+      || (first_passes (is_ampersand byte) us && first_passes (is_colon byte) (drop 1 us))
 
   -- a text taken apart at this separator, which stands before `from`
   abbrev pub separated_before : Separator → (targets from : List (List A)) → Separated A
@@ -60,7 +63,9 @@ module _ {A : Type 0} (byte : A → ℕ) where
 
   -- a text taken apart at its first separator
   abbrev pub separated : List (List A) → Separated A
-  separated us = let rest = from begins_separator us in separated_before (separator_at (map (symbol byte) rest)) (until begins_separator us) rest
+  separated us =
+      let rest = from begins_separator us in
+      separated_before (separator_at (map (symbol byte) rest)) (until begins_separator us) rest
 
 -- the units of a text taken apart at its separator
 abbrev pub separated_units : {A : Type 0} → Separated A → List (List A)

@@ -1,5 +1,5 @@
--- What a unit is to assignments and rules: a symbol of one byte, or a unit that may stand in no word of a header. Blanks are told
--- by `is_gap`.
+-- What a unit is to assignments and rules: a symbol of one byte, or a unit that may stand in no
+-- word of a header. Blanks are told by `is_gap`.
 -- Told in docs/LANGUAGE.md, chapters 1 and 5.
 use Rattle.std.specs.Prelude.{ℕ, ◌==◌, if◌then◌else◌, Bool, true, false, ◌&&◌, ◌||◌, List, [], ◌∷◌}
 use Rattle.mk_lines.specs.Bytes.{byte_kind, is_blank_kind, is_backslash_kind}
@@ -112,9 +112,10 @@ module _ {A : Type 0} (byte : A → ℕ) where
   abbrev pub is_dollar_before_blank : List A → Bool
   is_dollar_before_blank [] = false
   is_dollar_before_blank (x ∷ []) = false
-  is_dollar_before_blank (x ∷ y ∷ u) = is_dollar_mark (byte_mark (byte x)) && is_blank_or_backslash (byte y)
+  is_dollar_before_blank (x ∷ y ∷ u) =
+      is_dollar_mark (byte_mark (byte x)) && is_blank_or_backslash (byte y)
 
-  -- whether a unit may stand in no word of a header: it begins with a backslash, or is a dollar before a blank or a
-  -- backslash, a lone dollar or an unclosed reference
+  -- whether a unit may stand in no word of a header: it begins with a backslash, or is a dollar
+  -- before a blank or a backslash, a lone dollar or an unclosed reference
   abbrev pub is_unreadable_unit : List A → Bool
   is_unreadable_unit u = is_escape u || (is_dollar_before_blank u || is_unclosed_unit byte u)

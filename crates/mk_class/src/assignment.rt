@@ -76,8 +76,8 @@ pub enum Modifier {
 /// blanks, up to the end of the cut text, where a comment may begin. A name ends before a blank, a
 /// `:`, `=` or `;`, or before a `+`, `?` or `!` with a `=` after it. The operator is the longest
 /// that stands there. The modifiers are the words before the name.
-/// POSIX.1-2024 make, Macros; GNU make manual, "Setting Variables". That a `;` ends a name, and that
-/// the blanks before a comment do not belong to the value, is this project's profile.
+/// POSIX.1-2024 make, Macros; GNU make manual, "Setting Variables". That a `;` ends a name, and
+/// that the blanks before a comment do not belong to the value, is this project's profile.
 #[derive(Clone, Copy, Debug, PartialEq, Eq)]
 pub struct Assignment {
     /// The flavor, which the operator tells.
@@ -198,7 +198,9 @@ fn ends_name(text: &[u8]) -> bool
 
 /// The longest operator at the front of a text, and what follows it.
 pub(crate) fn read_operator(text: &[u8]) -> Option<(Flavor, &[u8])>
-    ensures found { MatchOption result (operator_at (map (symbol itself) (units itself text.now)) ≡ None) (λ found. IsOperatorAt (units itself text.now) found.0 (units itself found.1.now)) }
+    ensures found { MatchOption result
+        (operator_at (map (symbol itself) (units itself text.now)) ≡ None)
+        (λ found. IsOperatorAt (units itself text.now) found.0 (units itself found.1.now)) }
     ensures within { MatchOption result (0 ≤ 0) (λ found. length found.1.now ≤ length text.now) }
 {
     let [first, rest @ ..] = text else {
@@ -216,7 +218,9 @@ pub(crate) fn read_operator(text: &[u8]) -> Option<(Flavor, &[u8])>
 
 /// The longest operator that a `:` put before a text begins, and what follows the operator.
 fn read_colon_operator(text: &[u8]) -> Option<(Flavor, &[u8])>
-    ensures found { MatchOption result (operator_at (Colon ∷ map (symbol itself) (units itself text.now)) ≡ None) (λ found. IsOperatorAt ((58 ∷ []) ∷ units itself text.now) found.0 (units itself found.1.now)) }
+    ensures found { MatchOption result
+        (operator_at (Colon ∷ map (symbol itself) (units itself text.now)) ≡ None) (λ found.
+        IsOperatorAt ((58 ∷ []) ∷ units itself text.now) found.0 (units itself found.1.now)) }
     ensures within { MatchOption result (0 ≤ 0) (λ found. length found.1.now ≤ length text.now) }
 {
     if let Some(rest) = after_equals(text) {

@@ -34,9 +34,11 @@ pub(crate) struct Separated<'a> {
 /// The line of a rule, as a header or as Rough, from its head taken apart at the first separator
 /// and from what follows the head.
 pub(crate) fn read_header(head: &[u8], split: Separated<'_>, tail: &[u8]) -> Class
-    requires parts { AreSeparated (units itself head.now) split.separator (units itself split.from.now) (units itself split.rest.now) }
+    requires parts { AreSeparated (units itself head.now) split.separator
+        (units itself split.from.now) (units itself split.rest.now) }
     requires from { length split.from.now ≤ length head.now }
-    ensures { (us : List (List ℕ)) → units itself head.now ≡ head_of itself us → units itself tail.now ≡ after_head itself us → result ≡ header_text_class us }
+    ensures { (us : List (List ℕ)) → units itself head.now ≡ head_of itself us
+        → units itself tail.now ≡ after_head itself us → result ≡ header_text_class us }
 {
     if has_unreadable(head) {
         return Class::Rough;
@@ -113,9 +115,12 @@ impl<'a> Parts<'a> {
 
 /// The parts of a head that is taken apart at its first separator.
 fn head_parts<'a>(head: &'a [u8], split: Separated<'a>) -> Parts<'a>
-    requires parts { AreSeparated (units itself head.now) split.separator (units itself split.from.now) (units itself split.rest.now) }
+    requires parts { AreSeparated (units itself head.now) split.separator
+        (units itself split.from.now) (units itself split.rest.now) }
     requires from { length split.from.now ≤ length head.now }
-    ensures parts { (tail : List (List ℕ)) → header_parts itself (separated itself (units itself head.now)) tail ≡ parts_header (separated itself (units itself head.now)).colons result tail }
+    ensures parts { (tail : List (List ℕ))
+        → header_parts itself (separated itself (units itself head.now)) tail
+        ≡ parts_header (separated itself (units itself head.now)).colons result tail }
     ensures offsets { FitsHead head.now result }
 {
     let (has_pattern, pattern, prerequisites) = split_pattern(split.rest);
@@ -135,7 +140,8 @@ fn head_parts<'a>(head: &'a [u8], split: Separated<'a>) -> Parts<'a>
 /// What follows the separator of a head: whether a second `:` stands there, the pattern before it,
 /// and what follows it.
 fn split_pattern(text: &[u8]) -> (bool, &[u8], &[u8])
-    ensures { IsPatternSplit (units itself text.now) result.0 (units itself result.1.now) (units itself result.2.now) }
+    ensures { IsPatternSplit (units itself text.now) result.0 (units itself result.1.now)
+        (units itself result.2.now) }
 {
     match split_at_unit(text, b':') {
         Some((pattern, rest)) => (true, pattern, rest),
@@ -145,7 +151,8 @@ fn split_pattern(text: &[u8]) -> (bool, &[u8], &[u8])
 
 /// Prerequisites: the normal ones, whether a `|` follows them, and the order-only ones.
 fn split_order_only(text: &[u8]) -> (&[u8], bool, &[u8])
-    ensures { IsBarSplit (units itself text.now) (units itself result.0.now) result.1 (units itself result.2.now) }
+    ensures { IsBarSplit (units itself text.now) (units itself result.0.now) result.1
+        (units itself result.2.now) }
 {
     match split_at_unit(text, b'|') {
         Some((normal, order_only)) => (normal, true, order_only),
@@ -169,8 +176,10 @@ fn has_bar(text: &[u8]) -> bool
 
 /// A text from its first separator on.
 fn from_separator(text: &[u8]) -> &[u8]
-    ensures rest { units itself result.now ≡ from (begins_separator itself) (units itself text.now) }
-    ensures begins { (is_empty (units itself result.now) || begins_separator itself (units itself result.now)) ≡ true }
+    ensures rest { units itself result.now
+        ≡ from (begins_separator itself) (units itself text.now) }
+    ensures begins { (is_empty (units itself result.now)
+        || begins_separator itself (units itself result.now)) ≡ true }
     ensures within { length result.now ≤ length text.now }
 {
     let mut rest = text;
@@ -196,7 +205,8 @@ fn begins_separator(text: &[u8]) -> bool
 
 /// The longest separator at the front of a text, and what follows the separator.
 fn read_separator(text: &[u8]) -> Option<(Separator, &[u8])>
-    ensures found { MatchOption result (begins_separator itself (units itself text.now) ≡ false) (λ found. IsSeparatorAt (units itself text.now) found.0 (units itself found.1.now)) }
+    ensures found { MatchOption result (begins_separator itself (units itself text.now) ≡ false)
+        (λ found. IsSeparatorAt (units itself text.now) found.0 (units itself found.1.now)) }
     ensures within { IfSome result (λ found. length found.1.now ≤ length text.now) }
 {
     let [first, after @ ..] = text else {
@@ -214,7 +224,9 @@ fn read_separator(text: &[u8]) -> Option<(Separator, &[u8])>
 
 /// The longest separator that a `&` put before a text begins, and what follows the separator.
 fn read_grouped_separator(text: &[u8]) -> Option<(Separator, &[u8])>
-    ensures found { MatchOption result (first_passes (is_colon itself) (units itself text.now) ≡ false) (λ found. IsSeparatorAt ((38 ∷ []) ∷ units itself text.now) found.0 (units itself found.1.now)) }
+    ensures found { MatchOption result
+        (first_passes (is_colon itself) (units itself text.now) ≡ false) (λ found.
+        IsSeparatorAt ((38 ∷ []) ∷ units itself text.now) found.0 (units itself found.1.now)) }
     ensures within { IfSome result (λ found. length found.1.now ≤ length text.now) }
 {
     let after = after_colon(text)?;
@@ -226,7 +238,8 @@ fn read_grouped_separator(text: &[u8]) -> Option<(Separator, &[u8])>
 
 /// A text at its first separator. A text with a unit `:` has a separator.
 pub(crate) fn separate(text: &[u8]) -> Separated<'_>
-    ensures parts { AreSeparated (units itself text.now) result.separator (units itself result.from.now) (units itself result.rest.now) }
+    ensures parts { AreSeparated (units itself text.now) result.separator
+        (units itself result.from.now) (units itself result.rest.now) }
     ensures from { length result.from.now ≤ length text.now }
     ensures rest { length result.rest.now ≤ length result.from.now }
 {
@@ -253,10 +266,13 @@ fn has_unreadable(head: &[u8]) -> bool
     memchr3(b'=', b'\\', b'$', head).is_some() && (has_unreadable_front(head) || !is_closed(head))
 }
 
-/// Whether a text has a unit that is a `=`, begins with a backslash, or is a `$` before a blank or a
-/// backslash.
+/// Whether a text has a unit that is a `=`, begins with a backslash, or is a `$` before a blank or
+/// a backslash.
 fn has_unreadable_front(text: &[u8]) -> bool
-    ensures { result ≡ list_any (λ u. is_equals itself u || (is_escape itself u || is_dollar_before_blank itself u)) (units itself text.now) }
+    ensures { result
+        ≡ list_any
+        (λ u. is_equals itself u || (is_escape itself u || is_dollar_before_blank itself u))
+        (units itself text.now) }
 {
     let mut rest = text;
     while !rest.is_empty() {
@@ -271,7 +287,10 @@ fn has_unreadable_front(text: &[u8]) -> bool
 /// Whether the first unit of a text is a `=`, begins with a backslash, or is a `$` before a blank
 /// or a backslash.
 fn begins_unreadable(text: &[u8]) -> bool
-    ensures { result ≡ first_passes (λ u. is_equals itself u || (is_escape itself u || is_dollar_before_blank itself u)) (units itself text.now) }
+    ensures { result
+        ≡ first_passes
+        (λ u. is_equals itself u || (is_escape itself u || is_dollar_before_blank itself u))
+        (units itself text.now) }
 {
     let [first, rest @ ..] = text else {
         return false;

@@ -40,9 +40,9 @@ pub fn classes_are_of_joined_texts()
     ensures { ClassesAreOfJoinedTexts }
 {}
 
-/// If the class of a line has the offsets of the parts of an assignment or a rule, these parts stand
-/// there: each range of the joined text has the text, the units and the words of its part, and the
-/// raw range has the raw bytes of the part.
+/// If the class of a line has the offsets of the parts of an assignment or a rule, these parts
+/// stand there: each range of the joined text has the text, the units and the words of its part,
+/// and the raw range has the raw bytes of the part.
 pub fn offsets_are_parts()
     ensures { OffsetsAreParts }
 {}
@@ -53,8 +53,8 @@ pub fn prefixes_are_marks()
     ensures { PrefixesAreMarks }
 {}
 
-/// The parts of a header's line, in order, are the line: the targets, the separator, the pattern and
-/// the second `:`, the normal prerequisites, the `|`, the order-only ones, and what follows.
+/// The parts of a header's line, in order, are the line: the targets, the separator, the pattern
+/// and the second `:`, the normal prerequisites, the `|`, the order-only ones, and what follows.
 pub fn headers_are_whole()
     ensures { HeadersAreWhole }
 {}

@@ -4,9 +4,11 @@
 //! that: they tell of most lines that a class does not fit. The class of a line is the first that
 //! fits, in the order of the table in docs/LANGUAGE.md.
 ghost use Rattle.std.specs.Prelude.{◌≡◌, ◌⊎◌, ◌<◌, ◌≤◌, ◌≢◌, ◌+◌, ◌-◌, ◌^◌, ℕ, List, true, false, All, IfErr, IfOk, MatchOption, Some, min, nat_lt};
+ghost use Rattle.mk_lines.specs.Limits.{max_text};
 ghost use Rattle.mk_lines.specs.Units.{units};
 ghost use Rattle.mk_lines.specs.StoredCells.{AreCellsOf};
 ghost use Rattle.mk_lines.specs.PhysicalLines.{without_line_end};
+ghost use Rattle.mk_class.specs.Contexts.{max_conditionals};
 ghost use Rattle.mk_class.specs.Assignments.{Assignment, assignment};
 ghost use Rattle.mk_lines.specs.Cells.{line_cells};
 ghost use Rattle.mk_class.specs.ClassTable.{is_unreadable};
@@ -51,10 +53,12 @@ pub fn classify<A: Allocator + Copy>(
     context: Context,
     meter: &mut Meter,
 ) -> Result<(Class, Context), Fault>
-    requires { context.defines < 2 ^ 24 }
+    requires { context.defines < max_text }
     ensures class { IfOk result (λ read. IsLineRead context line.now read.0 read.1) }
-    ensures fault { IfErr result (λ fault. (fault ≡ Fault.NoMemory) ⊎ ((fault ≡ Fault.TooDeep) × OpensTooDeep context line.now)) }
-    ensures plain { All (λ b. b ≢ 10) (without_line_end line.now) → IfErr result (λ fault. fault ≡ Fault.TooDeep) }
+    ensures fault { IfErr result (λ fault.
+        (fault ≡ Fault.NoMemory) ⊎ ((fault ≡ Fault.TooDeep) × OpensTooDeep context line.now)) }
+    ensures plain { All (λ b. b ≢ 10) (without_line_end line.now)
+        → IfErr result (λ fault. fault ≡ Fault.TooDeep) }
     ensures meter { meter.new ≡ min (meter.old + 1) (2 ^ 64 - 1) }
     ensures forward { meter.old ≤ meter.new }
 {
@@ -81,9 +85,10 @@ pub fn class_with_cells<A: Allocator>(
     meter: &mut Meter,
 ) -> Result<(Class, Context), Fault>
     requires cells { AreCellsOf cells.now line.now }
-    requires defines { context.defines < 2 ^ 24 }
+    requires defines { context.defines < max_text }
     ensures class { IfOk result (λ read. IsLineRead context line.now read.0 read.1) }
-    ensures fault { IfErr result (λ fault. (fault ≡ Fault.TooDeep) × OpensTooDeep context line.now) }
+    ensures fault { IfErr result (λ fault.
+        (fault ≡ Fault.TooDeep) × OpensTooDeep context line.now) }
     ensures meter { meter.new ≡ min (meter.old + 1) (2 ^ 64 - 1) }
     ensures forward { meter.old ≤ meter.new }
 {
@@ -102,15 +107,16 @@ pub fn class_with_cells<A: Allocator>(
 
 /// Whether a line has a stray byte or a bad fold.
 fn is_unreadable<A: Allocator>(cells: &Cells<A>) -> bool
-    ensures { (line : List ℕ) → AreCellsOf cells.now line → result ≡ is_unreadable (line_cells line) }
+    ensures { (line : List ℕ) → AreCellsOf cells.now line
+        → result ≡ is_unreadable (line_cells line) }
 {
     cells.has_stray() || cells.has_bad_fold()
 }
 
 /// Whether a line of this class opens a conditional and [`MAX_CONDITIONALS`] are open.
 fn is_too_deep(class: &Class, context: Context) -> bool
-    ensures deep { result ≡ true → (class.now ≡ If) × (context.conditionals ≡ 256) }
-    ensures fits { result ≡ false → class.now ≡ If → context.conditionals < 256 }
+    ensures deep { result ≡ true → (class.now ≡ If) × (context.conditionals ≡ max_conditionals) }
+    ensures fits { result ≡ false → class.now ≡ If → context.conditionals < max_conditionals }
 {
     match class {
         Class::If => context.conds() == MAX_CONDITIONALS,
@@ -121,7 +127,9 @@ fn is_too_deep(class: &Class, context: Context) -> bool
 /// The class of a joined text in a context: `is_led` says whether the line begins with the recipe
 /// prefix, and `is_unreadable` whether it has a stray byte or a bad fold.
 fn text_class(text: &[u8], is_led: bool, context: Context, is_unreadable: bool) -> Class
-    ensures { result ≡ text_class is_led context.defines context.flag (nat_lt 0 context.conditionals) is_unreadable text.now }
+    ensures { result
+        ≡ text_class is_led context.defines context.flag (nat_lt 0 context.conditionals)
+        is_unreadable text.now }
 {
     let defines = context.defines();
     if defines > 0 {
@@ -136,7 +144,8 @@ fn text_class(text: &[u8], is_led: bool, context: Context, is_unreadable: bool) 
 
 /// The class of a joined text outside defines and recipes.
 fn plain_class(text: &[u8], is_led: bool, in_conditional: bool, is_unreadable: bool) -> Class
-    ensures { result ≡ plain_text_class is_led in_conditional is_unreadable (units itself text.now) }
+    ensures { result
+        ≡ plain_text_class is_led in_conditional is_unreadable (units itself text.now) }
 {
     let cut = cut_text(text);
     if after_blanks(cut).is_empty() {
@@ -171,7 +180,9 @@ fn plain_class(text: &[u8], is_led: bool, in_conditional: bool, is_unreadable: b
 
 /// The assignment for targets that a cut text is, if it is one. The line's head has a `:`.
 fn read_target_assignment(cut: &[u8]) -> Option<TargetAssignment>
-    ensures { (us : List (List ℕ)) → units itself cut.now ≡ cut_text itself us → MatchOption result (header_text_class us ≡ rule_text_class us) (λ t. TargetAssign t ≡ rule_text_class us) }
+    ensures { (us : List (List ℕ)) → units itself cut.now ≡ cut_text itself us
+        → MatchOption result (header_text_class us ≡ rule_text_class us) (λ t.
+        TargetAssign t ≡ rule_text_class us) }
 {
     if !has_equals(cut) {
         return None;
@@ -197,7 +208,8 @@ fn takes_assignment(separator: Separator) -> bool
 
 /// The recipe prefix that an assignment sets, from its cut text, if it sets one.
 fn prefix_set_by(cut: &[u8], in_conditional: bool) -> Option<u8>
-    ensures { (a : Assignment ℕ) → assignment itself (units itself cut.now) ≡ Some a → result ≡ prefix_set_by itself in_conditional a }
+    ensures { (a : Assignment ℕ) → assignment itself (units itself cut.now) ≡ Some a
+        → result ≡ prefix_set_by itself in_conditional a }
 {
     if in_conditional {
         return None;

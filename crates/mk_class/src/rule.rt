@@ -4,8 +4,8 @@ ghost use Rattle.mk_class.specs.OperatorTexts.{separator_text};
 
 /// What stands between the targets and the prerequisites of a rule.
 ///
-/// POSIX.1-2024 make has `:`; the others are the GNU make manual's (sections "Double-Colon Rules" and "Multiple
-/// Targets in a Rule").
+/// POSIX.1-2024 make has `:`; the others are the GNU make manual's (sections "Double-Colon Rules"
+/// and "Multiple Targets in a Rule").
 #[derive(Clone, Copy, Debug, PartialEq, Eq)]
 pub enum Separator {
     /// `:`.

@@ -46,7 +46,8 @@ pub(crate) fn is_blank(byte: u8) -> bool
 /// None of the bytes may be `$` or a backslash, with which longer units begin.
 pub(crate) fn from_any<'a>(text: &'a [u8], stops: &[u8]) -> &'a [u8]
     requires { AreUnmarked stops.now }
-    ensures rest { units itself result.now ≡ after_leading (is_other stops.now) (units itself text.now) }
+    ensures rest { units itself result.now
+        ≡ after_leading (is_other stops.now) (units itself text.now) }
     ensures within { length result.now ≤ length text.now }
 {
     let mut rest = text;
@@ -65,7 +66,8 @@ pub(crate) fn from_any<'a>(text: &'a [u8], stops: &[u8]) -> &'a [u8]
 /// is looked at.
 fn from_unit(text: &[u8], byte: u8) -> &[u8]
     requires { byte_mark byte ≡ Unmarked }
-    ensures rest { units itself result.now ≡ after_leading (is_other (byte ∷ [])) (units itself text.now) }
+    ensures rest { units itself result.now
+        ≡ after_leading (is_other (byte ∷ [])) (units itself text.now) }
     ensures within { length result.now ≤ length text.now }
 {
     match memchr(byte, text) {
@@ -78,7 +80,9 @@ fn from_unit(text: &[u8], byte: u8) -> &[u8]
 /// stands before the unit and what follows it. `None` if no unit is the byte.
 pub(crate) fn split_at_unit(text: &[u8], byte: u8) -> Option<(&[u8], &[u8])>
     requires { byte_mark byte ≡ Unmarked }
-    ensures { MatchOption result (after_leading (is_other (byte ∷ [])) (units itself text.now) ≡ []) (λ parts. IsSplitAt byte (units itself text.now) (units itself parts.0.now) (units itself parts.1.now)) }
+    ensures { MatchOption result (after_leading (is_other (byte ∷ [])) (units itself text.now) ≡ [])
+        (λ parts. IsSplitAt byte (units itself text.now) (units itself parts.0.now)
+        (units itself parts.1.now)) }
 {
     let rest = from_unit(text, byte);
     if rest.is_empty() {
@@ -98,7 +102,8 @@ pub(crate) fn has_unit(text: &[u8], byte: u8) -> bool
 /// What stands in a text before `rest`, the end of that text.
 pub(crate) fn before<'a>(text: &'a [u8], rest: &[u8]) -> &'a [u8]
     requires { length rest.now ≤ length text.now }
-    ensures units { (front : List (List ℕ)) → units itself text.now ≡ front ++ units itself rest.now → units itself result.now ≡ front }
+    ensures units { (front : List (List ℕ)) → units itself text.now ≡ front ++ units itself rest.now
+        → units itself result.now ≡ front }
     ensures length { length result.now + length rest.now ≡ length text.now }
 {
     &text[..text.len() - rest.len()]
@@ -161,7 +166,9 @@ fn ends_with_blank(text: &[u8]) -> bool
 
 /// What follows a `=` at the front of a text; `None` if no `=` stands there.
 pub(crate) fn after_equals(text: &[u8]) -> Option<&[u8]>
-    ensures found { MatchOption result (first_passes (is_equals itself) (units itself text.now) ≡ false) (λ rest. units itself text.now ≡ (61 ∷ []) ∷ units itself rest.now) }
+    ensures found { MatchOption result
+        (first_passes (is_equals itself) (units itself text.now) ≡ false)
+        (λ rest. units itself text.now ≡ (61 ∷ []) ∷ units itself rest.now) }
     ensures within { MatchOption result (0 ≤ 0) (λ rest. length rest.now ≤ length text.now) }
 {
     match text {
@@ -172,7 +179,9 @@ pub(crate) fn after_equals(text: &[u8]) -> Option<&[u8]>
 
 /// What follows a `:` at the front of a text; `None` if no `:` stands there.
 pub(crate) fn after_colon(text: &[u8]) -> Option<&[u8]>
-    ensures found { MatchOption result (first_passes (is_colon itself) (units itself text.now) ≡ false) (λ rest. units itself text.now ≡ (58 ∷ []) ∷ units itself rest.now) }
+    ensures found { MatchOption result
+        (first_passes (is_colon itself) (units itself text.now) ≡ false)
+        (λ rest. units itself text.now ≡ (58 ∷ []) ∷ units itself rest.now) }
     ensures within { MatchOption result (0 ≤ 0) (λ rest. length rest.now ≤ length text.now) }
 {
     match text {

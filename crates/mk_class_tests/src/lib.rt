@@ -1,5 +1,5 @@
-//! Tests of `mk_class` on the rows of its tables: what an edit may write, contexts, first words, and
-//! the classes of lines.
+//! Tests of `mk_class` on the rows of its tables: what an edit may write, contexts, first words,
+//! and the classes of lines.
 #![tactic(auto)]
 
 #[cfg(test)]

@@ -39,8 +39,10 @@ is_at_bottom (AddAssign p n f v) = is_bottom p
 is_at_bottom (AddRule p ts c ws) = is_bottom p
 is_at_bottom e = false
 
--- A new line goes between the lines of a document: there is a stretch for it, which begins at this place, with the context there.
-pub record IsInsertedAt (ls : List LocatedLine) (insertion : Option Stretch) (place : Found) : Type 0 where
+-- A new line goes between the lines of a document: there is a stretch for it, which begins at this
+-- place, with the context there.
+pub record IsInsertedAt (ls : List LocatedLine) (insertion : Option Stretch) (place : Found)
+    : Type 0 where
   pub stretch : Stretch
   pub stretch_is : insertion ≡ Some stretch
   pub whole : classed_lines (located_text ls) ≡ stretch.above ++ stretch.below
@@ -49,9 +51,12 @@ pub record IsInsertedAt (ls : List LocatedLine) (insertion : Option Stretch) (pl
 
 -- the causes that the place of a new line decides, in their order
 abbrev pub place_causes : (text : List ℕ) → Edit → List (Option Refusal)
-place_causes t e = let ls = classed_lines t in open_line ls e ∷ open_define ls e ∷ leaning ls e ∷ too_long t (spans_of t ls e) ∷ []
+place_causes t e =
+    let ls = classed_lines t in
+    open_line ls e ∷ open_define ls e ∷ leaning ls e ∷ too_long t (spans_of t ls e) ∷ []
 
--- The first cause of an edit that holds is one that the place of its new line decides, or no cause holds.
+-- The first cause of an edit that holds is one that the place of its new line decides, or no cause
+-- holds.
 abbrev pub IsDecidedByPlace : (text : List ℕ) → Edit → Type 0
 IsDecidedByPlace t e = first_cause (causes t (classed_lines t) e) ≡ first_cause (place_causes t e)
 
@@ -60,8 +65,8 @@ abbrev pub is_open_line : Option LocatedLine → Bool
 is_open_line None = false
 is_open_line (Some l) = is_open l.bytes
 
--- how many bytes the line ends have that come with a line put in at a place: its own, and the line end that a last line without
--- one gets
+-- how many bytes the line ends have that come with a line put in at a place: its own, and the line
+-- end that a last line without one gets
 abbrev pub ends_length : List LocatedLine → (at : ℕ) → ℕ
 ends_length ls at =
     let n = length (line_end_bytes (file_line_end (located_text ls))) in

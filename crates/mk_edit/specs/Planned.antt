@@ -16,8 +16,8 @@ use Rattle.mk_edit_laws.specs.declared.refusal.Refusal.TheVariants.{NoMemory}
 use Rattle.mk_patch.specs.Moves.{Move, FitMoves, after_moves, held_by, taken_by}
 use Rattle.mk_edit.specs.PlannedMoves.{follows_unended}
 
--- how many last lines get a line end if a new line goes into a stretch: one, if the new line goes after a last line without a
--- line end
+-- how many last lines get a line end if a new line goes into a stretch: one, if the new line goes
+-- after a last line without a line end
 abbrev pub ended_by : List LocatedLine → Option Stretch → ℕ
 ended_by ls None = 0
 ended_by ls (Some s) = if follows_unended ls (length s.above) then 1 else 0
@@ -26,10 +26,10 @@ ended_by ls (Some s) = if follows_unended ls (length s.above) then 1 else 0
 abbrev pub ended_lines : List LocatedLine → Edit → ℕ
 ended_lines ls e = ended_by ls (insertion (classed_lines (located_text ls)) e)
 
--- A patch planned for a document. The edit has spans. The patch fits the document, and leads to the document of the text with
--- these spans replaced, which is faithful and reads as the edit's stated change says. The patch holds exactly as many lines as
--- the edit reads again, and takes out exactly as many as the edit's size says; each number is one higher if a last line gets a
--- line end.
+-- A patch planned for a document. The edit has spans. The patch fits the document, and leads to the
+-- document of the text with these spans replaced, which is faithful and reads as the edit's stated
+-- change says. The patch holds exactly as many lines as the edit reads again, and takes out exactly
+-- as many as the edit's size says; each number is one higher if a last line gets a line end.
 pub record IsPlanned (e : Edit) (ls : List LocatedLine) (patch : List Move) : Type 0 where
   pub replacements : List Replacement
   pub spans_are : spans (located_text ls) e ≡ Ok replacements
@@ -40,6 +40,8 @@ pub record IsPlanned (e : Edit) (ls : List LocatedLine) (patch : List Move) : Ty
   pub held : held_by patch ≡ cost (located_text ls) e + ended_lines ls e
   pub taken : taken_by patch ≡ size (located_text ls) e + ended_lines ls e
 
--- A refusal of an edit of a text: the first refusal whose cause holds; or NoMemory, if no cause holds and a growth was refused.
+-- A refusal of an edit of a text: the first refusal whose cause holds; or NoMemory, if no cause
+-- holds and a growth was refused.
 abbrev pub IsRefusal : (text : List ℕ) → Edit → Refusal → Type 0
-IsRefusal t e r = (spans t e ≡ Err r) ⊎ ((r ≡ NoMemory) × (rs : List Replacement) × (spans t e ≡ Ok rs))
+IsRefusal t e r =
+    (spans t e ≡ Err r) ⊎ ((r ≡ NoMemory) × (rs : List Replacement) × (spans t e ≡ Ok rs))

@@ -26,6 +26,7 @@ abbrev pub IsRemoveRecipe : (number : ℕ) → Edit → Type 0
 IsRemoveRecipe n (RemoveRecipe nth t k) = k ≡ n
 IsRemoveRecipe n e = ⊥
 
--- where the command of a recipe line stands among the line's bytes: after the first byte, up to the line end
+-- where the command of a recipe line stands among the line's bytes: after the first byte, up to the
+-- line end
 abbrev pub command_range : (line : List ℕ) → Span
 command_range l = record { start = 1; end = length (without_line_end l) }

@@ -1,5 +1,5 @@
--- What a rename does to the lines of a document as a whole: how many words it replaces, and whether it would make a line begin
--- with the recipe prefix.
+-- What a rename does to the lines of a document as a whole: how many words it replaces, and whether
+-- it would make a line begin with the recipe prefix.
 -- Told in docs/ARCHITECTURE.md, "An edit's way, from Edit to moved lines".
 use Rattle.std.specs.Prelude.{◌≡◌, ℕ, ◌+◌, ◌&&◌, ◌||◌, Bool, false, List, [], ◌∷◌, length}
 use Rattle.std.specs.List.{list_any}
@@ -25,21 +25,34 @@ abbrev pub replaced_bytes : (old : List ℕ) → List LocatedLine → ℕ
 replaced_bytes o [] = 0
 replaced_bytes o (l ∷ ls) = bytes_in (renamed_ranges o l) + replaced_bytes o ls
 
--- whether a word at the very front of a line is replaced by a word that begins with the prefix in force there; the first line
--- stands in this context
+-- whether a word at the very front of a line is replaced by a word that begins with the prefix in
+-- force there; the first line stands in this context
 abbrev pub begins_some_line : (old new : List ℕ) → Context → List LocatedLine → Bool
 begins_some_line o n c [] = false
-begins_some_line o n c (l ∷ ls) = (list_any is_at_front (renamed_ranges o l) && is_prefix_led c.prefix n) || begins_some_line o n (context_after_located c l.class) ls
+begins_some_line o n c (l ∷ ls) =
+    (list_any is_at_front (renamed_ranges o l) && is_prefix_led c.prefix n)
+    || begins_some_line o n (context_after_located c l.class) ls
 
 -- the effect of a rename on lines, the first of which stands in this context
 abbrev pub effect_on : (old new : List ℕ) → Context → List LocatedLine → Effect
-effect_on o n c ls = record { words = replaced_words o ls; bytes = replaced_bytes o ls; begins_line = begins_some_line o n c ls }
+effect_on o n c ls =
+    record {
+      words = replaced_words o ls;
+      bytes = replaced_bytes o ls;
+      begins_line = begins_some_line o n c ls;
+    }
 
 -- the effect on some lines and on other lines together
 abbrev pub joined : Effect → Effect → Effect
-joined e f = record { words = e.words + f.words; bytes = e.bytes + f.bytes; begins_line = e.begins_line || f.begins_line }
+joined e f =
+    record {
+      words = e.words + f.words;
+      bytes = e.bytes + f.bytes;
+      begins_line = e.begins_line || f.begins_line;
+    }
 
--- the effect on a line with this count of words; `is_led` says whether the new word begins with the prefix in force there
+-- the effect on a line with this count of words; `is_led` says whether the new word begins with the
+-- prefix in force there
 abbrev pub effect_of_line : Tally → (is_led : Bool) → Effect
 effect_of_line t b = record { words = t.words; bytes = t.bytes; begins_line = t.at_front && b }
 

@@ -1,6 +1,8 @@
--- The moves of a rename: each line that holds the word is exchanged for the line after the rename, in two turns.
+-- The moves of a rename: each line that holds the word is exchanged for the line after the rename,
+-- in two turns.
 -- Told in docs/DECISIONS.md, "mk_edit_parts and mk_edit".
 use Rattle.std.specs.Prelude.{◌≡◌, ◌&&◌, not, nat_lt, ℕ, ◌+◌, ◌*◌, ◌^◌, ◌<◌, ◌≤◌, Bool, true, false, List, [], ◌∷◌, ◌++◌, length, filter}
+use Rattle.mk_lines.specs.Limits.{max_text}
 use Rattle.mk_lines.specs.LogicalLines.{logical_lines}
 use Rattle.mk_class.specs.Contexts.{Context, start, context_after_located}
 use Rattle.mk_tree.specs.LineTexts.{line_in}
@@ -18,15 +20,16 @@ use Rattle.mk_edit.specs.declared.rename_target_patch.Turn.TheVariants as turn
 abbrev pub holds_word : (old : List ℕ) → LocatedLine → Bool
 holds_word o l = nat_lt 0 (length (renamed_ranges o l))
 
--- Whether a line is exchanged in a turn, in which `words` words are replaced that have `bytes` bytes together. First come the
--- lines that get no longer, then the lines that get longer.
+-- Whether a line is exchanged in a turn, in which `words` words are replaced that have `bytes`
+-- bytes together. First come the lines that get no longer, then the lines that get longer.
 abbrev pub is_turn_of : Turn → (words bytes new_length : ℕ) → Bool
 is_turn_of turn.NoLonger w b n = nat_lt 0 w && not (nat_lt b (w * n))
 is_turn_of turn.Longer w b n = nat_lt b (w * n)
 
 -- whether this line is exchanged in a turn
 abbrev pub is_exchanged : Turn → (old new : List ℕ) → LocatedLine → Bool
-is_exchanged t o n l = is_turn_of t (length (renamed_ranges o l)) (bytes_in (renamed_ranges o l)) (length n)
+is_exchanged t o n l =
+    is_turn_of t (length (renamed_ranges o l)) (bytes_in (renamed_ranges o l)) (length n)
 
 -- how many of some lines are exchanged in a turn
 abbrev pub exchanged_count : Turn → (old new : List ℕ) → List LocatedLine → ℕ
@@ -44,9 +47,12 @@ before_moves true m ms = m ∷ ms
 before_moves false m ms = ms
 
 -- the moves of a turn for some lines; the first line stands at this index and in this context
-abbrev pub turn_moves_from : Turn → (old new : List ℕ) → (at : ℕ) → Context → List LocatedLine → List Move
+abbrev pub turn_moves_from : Turn → (old new : List ℕ) → (at : ℕ) → Context → List LocatedLine
+    → List Move
 turn_moves_from t o n at c [] = []
-turn_moves_from t o n at c (l ∷ ls) = before_moves (is_exchanged t o n l) (Exchange at (line_renamed o n c l)) (turn_moves_from t o n (at + 1) (context_after_located c l.class) ls)
+turn_moves_from t o n at c (l ∷ ls) =
+    before_moves (is_exchanged t o n l) (Exchange at (line_renamed o n c l))
+    (turn_moves_from t o n (at + 1) (context_after_located c l.class) ls)
 
 -- the moves of a turn for a document
 abbrev pub turn_moves : Turn → (old new : List ℕ) → List LocatedLine → List Move
@@ -69,17 +75,19 @@ abbrev pub HaveFewWords : (old : List ℕ) → List LocatedLine → Type 0
 HaveFewWords o [] = Unit {0}
 HaveFewWords o (l ∷ ls) = HasFewWords o l × HaveFewWords o ls
 
--- A line that stands in this context can be renamed: its words stand apart, and the line after the rename is one line, no longer
--- than a text may be. If the line holds a word to rename, neither line is of a conditional.
+-- A line that stands in this context can be renamed: its words stand apart, and the line after the
+-- rename is one line, no longer than a text may be. If the line holds a word to rename, neither
+-- line is of a conditional.
 pub record CanBeRenamed (old new : List ℕ) (context : Context) (l : LocatedLine) : Type 0 where
   pub words : HasFewWords old l
   pub apart : AreApart 0 (length l.bytes) (renamed_ranges old l)
-  pub fits : length (renamed_text old new l) ≤ 2 ^ 24
+  pub fits : length (renamed_text old new l) ≤ max_text
   pub one : logical_lines (renamed_text old new l) ≡ renamed_text old new l ∷ []
-  pub defines : context.defines < 2 ^ 24
+  pub defines : context.defines < max_text
   pub plain : holds_word old l ≡ true → IsPlain l × IsPlain (line_renamed old new context l)
 
 -- each of some lines can be renamed; the first line stands in this context
 abbrev pub CanEachBeRenamed : (old new : List ℕ) → Context → List LocatedLine → Type 0
 CanEachBeRenamed o n c [] = Unit {0}
-CanEachBeRenamed o n c (l ∷ ls) = CanBeRenamed o n c l × CanEachBeRenamed o n (context_after_located c l.class) ls
+CanEachBeRenamed o n c (l ∷ ls) =
+    CanBeRenamed o n c l × CanEachBeRenamed o n (context_after_located c l.class) ls

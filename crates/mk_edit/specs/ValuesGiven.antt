@@ -20,7 +20,8 @@ pub record IsAppendValue (e : Edit) (value : List ℕ) : Type 0 where
   pub name : List ℕ
   pub is : e ≡ AppendValue nth name value
 
--- the text of the value of an assignment's line of this joined text and class; the empty text for any other line
+-- the text of the value of an assignment's line of this joined text and class; the empty text for
+-- any other line
 abbrev value_text_in : (text : List ℕ) → class.Class → List ℕ
 value_text_in t (variants.Assign at p) = text_at t at.value
 value_text_in t k = []
@@ -28,6 +29,7 @@ value_text_in t k = []
 abbrev pub value_text_located : LocatedLine → List ℕ
 value_text_located l = value_text_in (text_of_line l) l.class
 
--- what stands between a value and a text that is appended to it: a space, or nothing if the value is empty
+-- what stands between a value and a text that is appended to it: a space, or nothing if the value
+-- is empty
 abbrev pub space_after : (value : List ℕ) → List ℕ
 space_after v = if is_empty v then [] else 32 ∷ []

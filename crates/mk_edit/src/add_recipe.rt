@@ -36,8 +36,10 @@ pub(crate) fn plan_add_recipe<A: Allocator + Copy>(
     requires faithful { IsFaithful doc.now }
     requires kind { IsAddRecipe (edit_of edit.now) }
     ensures planned { IfOk result (λ patch. IsPlanned (edit_of edit.now) doc.now patch) }
-    ensures refused { IfErr result (λ refusal. IsRefusal (located_text doc.now) (edit_of edit.now) refusal) }
-    ensures counted { OnOk result (AreCounted meter.old (cost (located_text doc.now) (edit_of edit.now)) meter.new) }
+    ensures refused { IfErr result (λ refusal.
+        IsRefusal (located_text doc.now) (edit_of edit.now) refusal) }
+    ensures counted { OnOk result (AreCounted meter.old
+        (cost (located_text doc.now) (edit_of edit.now)) meter.new) }
     ensures few_read { meter.new ≤ meter.old + cost (located_text doc.now) (edit_of edit.now) }
     ensures forward { meter.old ≤ meter.new }
 {

@@ -39,8 +39,10 @@ pub(crate) fn plan_addition<A: Allocator + Copy>(
     requires faithful { IsFaithful doc.now }
     requires kind { IsOfPlace (edit_of edit.now) }
     ensures planned { IfOk result (λ patch. IsPlanned (edit_of edit.now) doc.now patch) }
-    ensures refused { IfErr result (λ refusal. IsRefusal (located_text doc.now) (edit_of edit.now) refusal) }
-    ensures counted { OnOk result (AreCounted meter.old (cost (located_text doc.now) (edit_of edit.now)) meter.new) }
+    ensures refused { IfErr result (λ refusal.
+        IsRefusal (located_text doc.now) (edit_of edit.now) refusal) }
+    ensures counted { OnOk result (AreCounted meter.old
+        (cost (located_text doc.now) (edit_of edit.now)) meter.new) }
     ensures few_read { meter.new ≤ meter.old + cost (located_text doc.now) (edit_of edit.now) }
     ensures forward { meter.old ≤ meter.new }
 {
@@ -69,10 +71,13 @@ pub(crate) fn add_line<A: Allocator + Copy>(
     requires faithful { IsFaithful doc.now }
     requires kind { IsOfNewLine (edit_of edit.now) }
     requires decided { IsDecidedByPlace (located_text doc.now) (edit_of edit.now) }
-    requires inserted { IsInsertedAt doc.now (insertion (classed_lines (located_text doc.now)) (edit_of edit.now)) place }
+    requires inserted { IsInsertedAt doc.now
+        (insertion (classed_lines (located_text doc.now)) (edit_of edit.now)) place }
     ensures planned { IfOk result (λ patch. IsPlanned (edit_of edit.now) doc.now patch) }
-    ensures refused { IfErr result (λ refusal. IsRefusal (located_text doc.now) (edit_of edit.now) refusal) }
-    ensures counted { OnOk result (AreCounted meter.old (cost (located_text doc.now) (edit_of edit.now)) meter.new) }
+    ensures refused { IfErr result (λ refusal.
+        IsRefusal (located_text doc.now) (edit_of edit.now) refusal) }
+    ensures counted { OnOk result (AreCounted meter.old
+        (cost (located_text doc.now) (edit_of edit.now)) meter.new) }
     ensures few_read { meter.new ≤ meter.old + cost (located_text doc.now) (edit_of edit.now) }
     ensures forward { meter.old ≤ meter.new }
 {

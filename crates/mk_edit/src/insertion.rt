@@ -1,5 +1,6 @@
 //! Where new lines go, and the causes of refusal that their places decide.
 ghost use Rattle.std.specs.Prelude.{◌≡◌, ◌+◌, ◌<◌, ◌≤◌, ◌==◌, ◌&&◌, nat_lt, not, ℕ, drop, length, take, min};
+ghost use Rattle.mk_lines.specs.Limits.{max_text};
 ghost use Rattle.mk_class.specs.ClassedLines.{classed_lines};
 ghost use Rattle.mk_lines.specs.PhysicalLines.{line_end_bytes};
 ghost use Rattle.mk_edit_parts.specs.LineRanges.{is_led_first_located};
@@ -7,7 +8,7 @@ ghost use Rattle.mk_tree.specs.Documents.{IsFaithful, context_of};
 ghost use Rattle.mk_tree.specs.Leaning.{is_same_flag};
 ghost use Rattle.mk_tree.specs.LocatedLines.{last_line, located_text, size_of};
 ghost use Rattle.mk_edit_laws.specs.Addresses as addresses;
-ghost use Rattle.mk_edit_laws.specs.LineCauses.{flag_below_new, greatest_length};
+ghost use Rattle.mk_edit_laws.specs.LineCauses.{flag_below_new};
 ghost use Rattle.mk_edit_laws.specs.Refusals.{first_cause};
 ghost use Rattle.mk_edit_laws.specs.NewLines.{new_text};
 ghost use Rattle.mk_edit_laws.specs.Stretches.{insertion, place_found};
@@ -26,8 +27,8 @@ use mk_edit_parts::new_line::new_len;
 use mk_edit_parts::place::after_lines;
 use mk_edit_parts::seek::Found;
 use mk_lines::ends::{End, is_open};
+use mk_lines::source::MAX_TEXT;
 use mk_tree::Doc;
-use mk_tree::parse::SIZE_LIMIT;
 use std::alloc::Allocator;
 
 /// Where the new line of an edit goes. `found` is the line that the edit's place names, or the end
@@ -35,8 +36,10 @@ use std::alloc::Allocator;
 pub(crate) fn insertion_of<A: Allocator>(doc: &Doc<A>, edit: &Edit<A>, found: Found) -> Found
     requires faithful { IsFaithful doc.now }
     requires of_place { IsOfPlace (edit_of edit.now) }
-    requires meant { IsMeant (classed_lines (located_text doc.now)) (addresses.address (edit_of edit.now)) found }
-    ensures { IsInsertedAt doc.now (insertion (classed_lines (located_text doc.now)) (edit_of edit.now)) result }
+    requires meant { IsMeant (classed_lines (located_text doc.now))
+        (addresses.address (edit_of edit.now)) found }
+    ensures { IsInsertedAt doc.now
+        (insertion (classed_lines (located_text doc.now)) (edit_of edit.now)) result }
 {
     match edit {
         Edit::AddAssign { place, .. } | Edit::AddRule { place, .. } => place_of(doc, place, found),
@@ -47,8 +50,10 @@ pub(crate) fn insertion_of<A: Allocator>(doc: &Doc<A>, edit: &Edit<A>, found: Fo
 // Where a new line of this place goes.
 fn place_of<A: Allocator>(doc: &Doc<A>, place: &Place<A>, found: Found) -> Found
     requires faithful { IsFaithful doc.now }
-    requires meant { IsMeant (classed_lines (located_text doc.now)) (addresses.place_address (views.place_of place.now)) found }
-    ensures { IsInsertedAt doc.now (place_found (classed_lines (located_text doc.now)) (views.place_of place.now)) result }
+    requires meant { IsMeant (classed_lines (located_text doc.now))
+        (addresses.place_address (views.place_of place.now)) found }
+    ensures { IsInsertedAt doc.now
+        (place_found (classed_lines (located_text doc.now)) (views.place_of place.now)) result }
 {
     match place {
         Place::AfterVar { .. } => after_lines(doc, found, 1),
@@ -67,7 +72,8 @@ pub(crate) fn place_refusal<A: Allocator>(
 ) -> Option<Refusal>
     requires faithful { IsFaithful doc.now }
     requires of_new_line { IsOfNewLine (edit_of edit.now) }
-    requires inserted { IsInsertedAt doc.now (insertion (classed_lines (located_text doc.now)) (edit_of edit.now)) place.now }
+    requires inserted { IsInsertedAt doc.now
+        (insertion (classed_lines (located_text doc.now)) (edit_of edit.now)) place.now }
     ensures { result ≡ first_cause (place_causes (located_text doc.now) (edit_of edit.now)) }
 {
     if follows_open_line(doc, place.at) {
@@ -128,7 +134,9 @@ fn is_bottom<A: Allocator>(place: &Place<A>) -> bool
 // and the flag without it.
 fn is_leaned_on<A: Allocator>(doc: &Doc<A>, edit: &Edit<A>, place: &Found) -> bool
     requires { place.now.at ≤ length doc.now }
-    ensures { result ≡ (not (is_same_flag (flag_below_new (edit_of edit.now)) place.now.context.flag) && is_led_first_located place.now.context.prefix (drop place.now.at doc.now)) }
+    ensures { result
+        ≡ (not (is_same_flag (flag_below_new (edit_of edit.now)) place.now.context.flag)
+        && is_led_first_located place.now.context.prefix (drop place.now.at doc.now)) }
 {
     let context = place.context;
     let below = flag_below(edit);
@@ -149,10 +157,13 @@ fn flag_below<A: Allocator>(edit: &Edit<A>) -> RuleFlag
 // in at a place.
 fn is_too_long<A: Allocator>(doc: &Doc<A>, edit: &Edit<A>, at: usize) -> bool
     requires { IsFaithful doc.now }
-    ensures { (prefix : ℕ) → result ≡ nat_lt greatest_length (size_of doc.now + (length (new_text prefix (edit_of edit.now)) + ends_length doc.now at)) }
+    ensures { (prefix : ℕ)
+        → result
+        ≡ nat_lt max_text (size_of doc.now
+        + (length (new_text prefix (edit_of edit.now)) + ends_length doc.now at)) }
 {
     let others = doc.size() + ends_len(doc, at);
-    new_len(edit).saturating_add(others) > SIZE_LIMIT
+    new_len(edit).saturating_add(others) > MAX_TEXT
 }
 
 // How many bytes the line ends have that come with a line put in at this place: its own, and the

@@ -3,7 +3,8 @@
 //!
 //! An edit decides its causes, builds the bytes of its new line, and calls one of these functions.
 //! All memory that the edit takes in addition to those bytes is taken here.
-ghost use Rattle.std.specs.Prelude.{◌≡◌, ◌≤◌, ◌<◌, ◌+◌, ◌^◌, ◌∷◌, [], length, IfOk, OnOk, IsOkUnless};
+ghost use Rattle.std.specs.Prelude.{◌≡◌, ◌≤◌, ◌<◌, ◌+◌, ◌∷◌, [], length, IfOk, OnOk, IsOkUnless};
+ghost use Rattle.mk_lines.specs.Limits.{max_text};
 ghost use Rattle.mk_tree.specs.Counting.{AreCounted};
 ghost use Rattle.mk_tree.specs.Documents.{IsFaithful};
 ghost use Rattle.mk_tree.specs.LineTexts.{line_in};
@@ -171,8 +172,9 @@ pub(crate) fn read_line<A: Allocator + Copy>(
 ) -> Result<Line<A>, Refusal>
     requires one { logical_lines bytes.items ≡ bytes.items ∷ [] }
     requires plain { IsPlain (located_line (line_in context bytes.items)) }
-    requires defines { context.defines < 2 ^ 24 }
-    ensures line { IfOk result (λ line. line_view line ≡ located_line (line_in context bytes.items)) }
+    requires defines { context.defines < max_text }
+    ensures line { IfOk result (λ line.
+        line_view line ≡ located_line (line_in context bytes.items)) }
     ensures refused { IsOkUnless result Refusal.NoMemory }
     ensures counted { OnOk result (AreCounted meter.old 1 meter.new) }
     ensures few_read { meter.new ≤ meter.old + 1 }

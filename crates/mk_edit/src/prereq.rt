@@ -21,8 +21,8 @@ use mk_edit_parts::find::find;
 use mk_edit_parts::prerequisite::{
     has_normal, has_order_only, len_of_new, with_prerequisite, without_prerequisite,
 };
+use mk_lines::source::MAX_TEXT;
 use mk_patch::Patch;
-use mk_tree::parse::SIZE_LIMIT;
 use mk_tree::{Doc, Line};
 use std::alloc::Allocator;
 
@@ -45,8 +45,10 @@ pub(crate) fn plan_add_prereq<A: Allocator + Copy>(
     requires faithful { IsFaithful doc.now }
     requires kind { IsAddPrereq order word.now (edit_of edit.now) }
     ensures planned { IfOk result (λ patch. IsPlanned (edit_of edit.now) doc.now patch) }
-    ensures refused { IfErr result (λ refusal. IsRefusal (located_text doc.now) (edit_of edit.now) refusal) }
-    ensures counted { OnOk result (AreCounted meter.old (cost (located_text doc.now) (edit_of edit.now)) meter.new) }
+    ensures refused { IfErr result (λ refusal.
+        IsRefusal (located_text doc.now) (edit_of edit.now) refusal) }
+    ensures counted { OnOk result (AreCounted meter.old
+        (cost (located_text doc.now) (edit_of edit.now)) meter.new) }
     ensures few_read { meter.new ≤ meter.old + cost (located_text doc.now) (edit_of edit.now) }
     ensures forward { meter.old ≤ meter.new }
 {
@@ -57,7 +59,7 @@ pub(crate) fn plan_add_prereq<A: Allocator + Copy>(
     if is_in_list(line, header, order, word) {
         return Err(Refusal::Already);
     }
-    if size + len_of_new(line, header, order, word) > SIZE_LIMIT {
+    if size + len_of_new(line, header, order, word) > MAX_TEXT {
         return Err(Refusal::TooLong);
     }
     let Ok(bytes) = with_prerequisite(alloc, line, header, order, word) else {
@@ -83,8 +85,10 @@ pub(crate) fn plan_remove_prereq<A: Allocator + Copy>(
     requires faithful { IsFaithful doc.now }
     requires kind { IsRemovePrereq word.now (edit_of edit.now) }
     ensures planned { IfOk result (λ patch. IsPlanned (edit_of edit.now) doc.now patch) }
-    ensures refused { IfErr result (λ refusal. IsRefusal (located_text doc.now) (edit_of edit.now) refusal) }
-    ensures counted { OnOk result (AreCounted meter.old (cost (located_text doc.now) (edit_of edit.now)) meter.new) }
+    ensures refused { IfErr result (λ refusal.
+        IsRefusal (located_text doc.now) (edit_of edit.now) refusal) }
+    ensures counted { OnOk result (AreCounted meter.old
+        (cost (located_text doc.now) (edit_of edit.now)) meter.new) }
     ensures few_read { meter.new ≤ meter.old + cost (located_text doc.now) (edit_of edit.now) }
     ensures forward { meter.old ≤ meter.new }
 {
@@ -118,7 +122,8 @@ fn header_of<A: Allocator>(line: &Line<A>) -> Header
 // Whether a word is already in the list of prerequisites that it is put in.
 fn is_in_list<A: Allocator>(line: &Line<A>, header: Header, order: bool, word: &[u8]) -> bool
     requires { HasHeader (line_view line.now) header }
-    ensures { (h : Headers.Header Cell) → IsHeaderSeen (line_view line.now) header h → result ≡ is_in_list order word.now h }
+    ensures { (h : Headers.Header Cell) → IsHeaderSeen (line_view line.now) header h
+        → result ≡ is_in_list order word.now h }
 {
     if order {
         has_order_only(line, header, word)
@@ -130,7 +135,8 @@ fn is_in_list<A: Allocator>(line: &Line<A>, header: Header, order: bool, word: &
 // Whether a word is in either list of prerequisites.
 fn is_prerequisite<A: Allocator>(line: &Line<A>, header: Header, word: &[u8]) -> bool
     requires { HasHeader (line_view line.now) header }
-    ensures { (h : Headers.Header Cell) → IsHeaderSeen (line_view line.now) header h → result ≡ (is_normal word.now h || is_order_only word.now h) }
+    ensures { (h : Headers.Header Cell) → IsHeaderSeen (line_view line.now) header h
+        → result ≡ (is_normal word.now h || is_order_only word.now h) }
 {
     has_normal(line, header, word) || has_order_only(line, header, word)
 }

@@ -34,9 +34,11 @@ pub(crate) fn plan_remove_assign<A: Allocator + Copy>(
     requires faithful { IsFaithful doc.now }
     requires kind { IsRemoveAssign (edit_of edit.now) }
     ensures planned { IfOk result (λ patch. IsPlanned (edit_of edit.now) doc.now patch) }
-    ensures refused { IfErr result (λ refusal. IsRefusal (located_text doc.now) (edit_of edit.now) refusal) }
+    ensures refused { IfErr result (λ refusal.
+        IsRefusal (located_text doc.now) (edit_of edit.now) refusal) }
 {
-    // The contract of `size` says that the text is within the limit, so that no removal is too long.
+    // The contract of `size` says that the text is within the limit, so that no removal is too
+    // long.
     let _size = doc.size();
     let place = find(doc, edit)?;
     let Found { at, .. } = place;
@@ -52,7 +54,8 @@ pub(crate) fn removal_leans<A: Allocator>(doc: &Doc<A>, place: Found, count: usi
     requires faithful { IsFaithful doc.now }
     requires place { IsPlaceOf doc.now place }
     requires in_range { place.at + count ≤ length doc.now }
-    ensures { result ≡ removal_leans (Some (stretch_at (classed_lines (located_text doc.now)) place.at count)) }
+    ensures { result
+        ≡ removal_leans (Some (stretch_at (classed_lines (located_text doc.now)) place.at count)) }
 {
     let after = after_lines(doc, place, count);
     let prefix = place.context.prefix();

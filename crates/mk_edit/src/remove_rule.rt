@@ -40,7 +40,8 @@ pub(crate) fn plan_remove_rule<A: Allocator + Copy>(
     requires faithful { IsFaithful doc.now }
     requires kind { IsRemoveRule (edit_of edit.now) }
     ensures planned { IfOk result (λ patch. IsPlanned (edit_of edit.now) doc.now patch) }
-    ensures refused { IfErr result (λ refusal. IsRefusal (located_text doc.now) (edit_of edit.now) refusal) }
+    ensures refused { IfErr result (λ refusal.
+        IsRefusal (located_text doc.now) (edit_of edit.now) refusal) }
 {
     // The contract of `size` says that the text is within the limit, and so is the rest of it.
     let _size = doc.size();

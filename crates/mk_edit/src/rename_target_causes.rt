@@ -1,10 +1,10 @@
 //! The causes of refusal of a rename, in their order.
 ghost use Rattle.std.specs.Prelude.{◌≡◌, ◌+◌, ◌*◌, ◌<◌, ◌≤◌, ◌^◌, length, nat_lt};
+ghost use Rattle.mk_lines.specs.Limits.{max_text};
 ghost use Rattle.mk_class.specs.ClassedLines.{classed_lines};
 ghost use Rattle.mk_class.specs.Contexts.{start};
 ghost use Rattle.mk_tree.specs.Documents.{IsFaithful};
 ghost use Rattle.mk_tree.specs.LocatedLines.{located_text};
-ghost use Rattle.mk_edit_laws.specs.LineCauses.{greatest_length};
 ghost use Rattle.mk_edit_laws.specs.Refusals.{causes, first_cause};
 ghost use Rattle.mk_edit_parts.specs.EditViews.{edit_of};
 ghost use Rattle.mk_edit.specs.RenameTargetEffects.{IsRenameTarget, effect_of_line, effect_on, joined};
@@ -16,8 +16,8 @@ use mk_edit_parts::lean::begins_with;
 use mk_edit_parts::seek::seek;
 use mk_edit_parts::tally::{Tally, count_words};
 use mk_edit_parts::targets::is_a_target;
+use mk_lines::source::MAX_TEXT;
 use mk_tree::Doc;
-use mk_tree::parse::SIZE_LIMIT;
 use std::alloc::Allocator;
 
 /// What a rename does to some lines.
@@ -46,7 +46,9 @@ pub(crate) fn rename_target_refusal<A: Allocator>(
 ) -> Option<Refusal>
     requires faithful { IsFaithful doc.now }
     requires kind { IsRenameTarget from.now to.now (edit_of edit.now) }
-    ensures { result ≡ first_cause (causes (located_text doc.now) (classed_lines (located_text doc.now)) (edit_of edit.now)) }
+    ensures { result
+        ≡ first_cause (causes (located_text doc.now) (classed_lines (located_text doc.now))
+        (edit_of edit.now)) }
 {
     if let Some(field) = bad_field(edit) {
         return Some(Refusal::BadArgument(field));
@@ -77,7 +79,7 @@ pub(crate) fn rename_target_refusal<A: Allocator>(
 fn rename_target_effect<A: Allocator>(doc: &Doc<A>, from: &[u8], to: &[u8]) -> Effect
     requires { IsFaithful doc.now }
     ensures effect { result ≡ effect_on from.now to.now start doc.now }
-    ensures few_bytes { result.bytes ≤ 2 ^ 24 }
+    ensures few_bytes { result.bytes ≤ max_text }
 {
     // The contract of `size` says that the text is within the limit, and so are its words.
     let _size = doc.size();
@@ -110,10 +112,10 @@ fn joined(effect: Effect, tally: Tally, is_led: bool) -> Effect
 // Whether a text of this size is longer than a text may be, after a rename that has this effect and
 // whose new word has this length.
 fn is_too_long(size: usize, effect: Effect, new_length: usize) -> bool
-    requires within { size ≤ 2 ^ 24 }
-    requires few_bytes { effect.bytes ≤ 2 ^ 24 }
-    ensures { result ≡ nat_lt (greatest_length + effect.bytes) (size + effect.words * new_length) }
+    requires within { size ≤ max_text }
+    requires few_bytes { effect.bytes ≤ max_text }
+    ensures { result ≡ nat_lt (max_text + effect.bytes) (size + effect.words * new_length) }
 {
     // The new words alone may have more bytes than a number can say. Then the text is too long.
-    effect.words.saturating_mul(new_length) > SIZE_LIMIT - size + effect.bytes
+    effect.words.saturating_mul(new_length) > MAX_TEXT - size + effect.bytes
 }

@@ -35,8 +35,8 @@ enum Turn {
     Longer,
 }
 
-/// The patch that replaces a word in all targets and prerequisites. The caller knows that no cause of
-/// refusal holds. Each line that holds the word is read once.
+/// The patch that replaces a word in all targets and prerequisites. The caller knows that no cause
+/// of refusal holds. Each line that holds the word is read once.
 ///
 /// # Errors
 ///
@@ -49,11 +49,15 @@ pub(crate) fn rename_target_patch<A: Allocator + Copy>(
     meter: &mut Meter,
 ) -> Result<Patch<A>, Refusal>
     requires faithful { IsFaithful doc.now }
-    requires accepted { first_cause (causes (located_text doc.now) (classed_lines (located_text doc.now)) (RenameTarget from.now to.now)) ≡ None }
-    ensures planned { IfOk result (λ patch. IsPlanned (RenameTarget from.now to.now) doc.now patch) }
+    requires accepted { first_cause (causes (located_text doc.now)
+        (classed_lines (located_text doc.now)) (RenameTarget from.now to.now)) ≡ None }
+    ensures planned { IfOk result (λ patch.
+        IsPlanned (RenameTarget from.now to.now) doc.now patch) }
     ensures refused { IsOkUnless result Refusal.NoMemory }
-    ensures counted { OnOk result (AreCounted meter.old (cost (located_text doc.now) (RenameTarget from.now to.now)) meter.new) }
-    ensures few_read { meter.new ≤ meter.old + cost (located_text doc.now) (RenameTarget from.now to.now) }
+    ensures counted { OnOk result (AreCounted meter.old
+        (cost (located_text doc.now) (RenameTarget from.now to.now)) meter.new) }
+    ensures few_read { meter.new
+        ≤ meter.old + cost (located_text doc.now) (RenameTarget from.now to.now) }
     ensures forward { meter.old ≤ meter.new }
 {
     // The contract of `size` says that the text is within the limit, as the first turn asks.
@@ -100,10 +104,13 @@ fn exchange_lines<A: Allocator + Copy>(
 ) -> Result<(), Refusal>
     requires faithful { IsFaithful doc.now }
     requires can { CanEachBeRenamed from.now to.now start doc.now }
-    requires room { length patch.old.moves + exchanged_count turn from.now to.now doc.now ≤ patch.old.room }
-    ensures moves { IfOk result (λ _. patch.new ≡ record patch.old { moves = patch.old.moves ++ turn_moves turn from.now to.now doc.now }) }
+    requires room { length patch.old.moves + exchanged_count turn from.now to.now doc.now
+        ≤ patch.old.room }
+    ensures moves { IfOk result (λ _. patch.new
+        ≡ record patch.old { moves = patch.old.moves ++ turn_moves turn from.now to.now doc.now }) }
     ensures refused { IsOkUnless result Refusal.NoMemory }
-    ensures counted { OnOk result (AreCounted meter.old (exchanged_count turn from.now to.now doc.now) meter.new) }
+    ensures counted { OnOk result (AreCounted meter.old
+        (exchanged_count turn from.now to.now doc.now) meter.new) }
     ensures few_read { meter.new ≤ meter.old + exchanged_count turn from.now to.now doc.now }
     ensures forward { meter.old ≤ meter.new }
 {
@@ -128,10 +135,15 @@ fn line_of_turn<A: Allocator + Copy>(
     meter: &mut Meter,
 ) -> Result<Option<Line<A>>, Refusal>
     requires can { CanBeRenamed from.now to.now context (line_view line.now) }
-    ensures line { IfOk result (λ renamed. option_map line_view renamed ≡ (if is_exchanged turn from.now to.now (line_view line.now) then Some (line_renamed from.now to.now context (line_view line.now)) else None)) }
+    ensures line { IfOk result (λ renamed. option_map line_view renamed
+        ≡ (if is_exchanged turn from.now to.now (line_view line.now)
+        then Some (line_renamed from.now to.now context (line_view line.now))
+        else None)) }
     ensures refused { IsOkUnless result Refusal.NoMemory }
-    ensures counted { OnOk result (AreCounted meter.old (if is_exchanged turn from.now to.now (line_view line.now) then 1 else 0) meter.new) }
-    ensures few_read { meter.new ≤ meter.old + (if is_exchanged turn from.now to.now (line_view line.now) then 1 else 0) }
+    ensures counted { OnOk result (AreCounted meter.old
+        (if is_exchanged turn from.now to.now (line_view line.now) then 1 else 0) meter.new) }
+    ensures few_read { meter.new
+        ≤ meter.old + (if is_exchanged turn from.now to.now (line_view line.now) then 1 else 0) }
     ensures forward { meter.old ≤ meter.new }
 {
     let class = line.class();

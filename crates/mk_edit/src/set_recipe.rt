@@ -17,10 +17,10 @@ use mk_edit_parts::place::after_lines;
 use mk_edit_parts::range::with_replaced;
 use mk_edit_parts::recipe::recipe_line;
 use mk_lines::ends::without_line_end;
+use mk_lines::source::MAX_TEXT;
 use mk_lines::split::Span;
 use mk_patch::Patch;
 use mk_tree::Doc;
-use mk_tree::parse::SIZE_LIMIT;
 use std::alloc::Allocator;
 
 /// Plans another command for a rule's recipe line, by its number from 1. The recipe prefix and the
@@ -42,8 +42,10 @@ pub(crate) fn plan_set_recipe<A: Allocator + Copy>(
     requires faithful { IsFaithful doc.now }
     requires kind { IsSetRecipe number command.now (edit_of edit.now) }
     ensures planned { IfOk result (λ patch. IsPlanned (edit_of edit.now) doc.now patch) }
-    ensures refused { IfErr result (λ refusal. IsRefusal (located_text doc.now) (edit_of edit.now) refusal) }
-    ensures counted { OnOk result (AreCounted meter.old (cost (located_text doc.now) (edit_of edit.now)) meter.new) }
+    ensures refused { IfErr result (λ refusal.
+        IsRefusal (located_text doc.now) (edit_of edit.now) refusal) }
+    ensures counted { OnOk result (AreCounted meter.old
+        (cost (located_text doc.now) (edit_of edit.now)) meter.new) }
     ensures few_read { meter.new ≤ meter.old + cost (located_text doc.now) (edit_of edit.now) }
     ensures forward { meter.old ≤ meter.new }
 {
@@ -54,7 +56,7 @@ pub(crate) fn plan_set_recipe<A: Allocator + Copy>(
     };
     let line = doc.line(at);
     let range = command_range(line.bytes());
-    if size + command.len() > SIZE_LIMIT + (range.end - range.start) {
+    if size + command.len() > MAX_TEXT + (range.end - range.start) {
         return Err(Refusal::TooLong);
     }
     let Ok(bytes) = with_replaced(alloc, line.bytes(), range, command) else {

@@ -18,8 +18,8 @@ use mk_edit_parts::find::find;
 use mk_edit_parts::part::{part, text_of_line};
 use mk_edit_parts::range::{value_range, with_replaced};
 use mk_lines::is_closed;
+use mk_lines::source::MAX_TEXT;
 use mk_patch::Patch;
-use mk_tree::parse::SIZE_LIMIT;
 use mk_tree::{Doc, Line};
 use std::alloc::{AllocError, Allocator};
 
@@ -39,15 +39,17 @@ pub(crate) fn plan_set_value<A: Allocator + Copy>(
     requires faithful { IsFaithful doc.now }
     requires edit { IsSetValue (edit_of edit.now) value.now }
     ensures planned { IfOk result (λ patch. IsPlanned (edit_of edit.now) doc.now patch) }
-    ensures refused { IfErr result (λ refusal. IsRefusal (located_text doc.now) (edit_of edit.now) refusal) }
-    ensures counted { OnOk result (AreCounted meter.old (cost (located_text doc.now) (edit_of edit.now)) meter.new) }
+    ensures refused { IfErr result (λ refusal.
+        IsRefusal (located_text doc.now) (edit_of edit.now) refusal) }
+    ensures counted { OnOk result (AreCounted meter.old
+        (cost (located_text doc.now) (edit_of edit.now)) meter.new) }
     ensures few_read { meter.new ≤ meter.old + cost (located_text doc.now) (edit_of edit.now) }
     ensures forward { meter.old ≤ meter.new }
 {
     let found = find(doc, edit)?;
     let line = doc.line(found.at);
     let range = value_range(line, value.is_empty());
-    if doc.size() + value.len() > SIZE_LIMIT + (range.end - range.start) {
+    if doc.size() + value.len() > MAX_TEXT + (range.end - range.start) {
         return Err(Refusal::TooLong);
     }
     let Ok(bytes) = with_replaced(alloc, line.bytes(), range, value) else {
@@ -72,8 +74,10 @@ pub(crate) fn plan_append_value<A: Allocator + Copy>(
     requires faithful { IsFaithful doc.now }
     requires edit { IsAppendValue (edit_of edit.now) value.now }
     ensures planned { IfOk result (λ patch. IsPlanned (edit_of edit.now) doc.now patch) }
-    ensures refused { IfErr result (λ refusal. IsRefusal (located_text doc.now) (edit_of edit.now) refusal) }
-    ensures counted { OnOk result (AreCounted meter.old (cost (located_text doc.now) (edit_of edit.now)) meter.new) }
+    ensures refused { IfErr result (λ refusal.
+        IsRefusal (located_text doc.now) (edit_of edit.now) refusal) }
+    ensures counted { OnOk result (AreCounted meter.old
+        (cost (located_text doc.now) (edit_of edit.now)) meter.new) }
     ensures few_read { meter.new ≤ meter.old + cost (located_text doc.now) (edit_of edit.now) }
     ensures forward { meter.old ≤ meter.new }
 {
@@ -84,7 +88,7 @@ pub(crate) fn plan_append_value<A: Allocator + Copy>(
         return Err(Refusal::OpenValue);
     }
     let space = space_after(old);
-    if doc.size() + space.len() + value.len() > SIZE_LIMIT {
+    if doc.size() + space.len() + value.len() > MAX_TEXT {
         return Err(Refusal::TooLong);
     }
     let range = value_range(line, false);
@@ -124,7 +128,8 @@ fn with_put_in<A: Allocator>(
 ) -> Result<Vec<u8, A>, AllocError>
     requires within { at ≤ length bytes.now }
     requires short { length space.now ≤ 1 }
-    ensures { IfOk result (λ all. all.items ≡ take at bytes.now ++ (space.now ++ (text.now ++ drop at bytes.now))) }
+    ensures { IfOk result (λ all.
+        all.items ≡ take at bytes.now ++ (space.now ++ (text.now ++ drop at bytes.now))) }
 {
     let mut all = Vec::with_capacity(alloc, bytes.len() + space.len() + text.len())?;
     all.extend_from_slice(&bytes[..at])?;

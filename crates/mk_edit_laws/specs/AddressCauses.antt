@@ -58,17 +58,19 @@ is_several nth ss = false
 
 abbrev pub ambiguous_line : List ClassedLine → Option Address → Option Refusal
 ambiguous_line ls None = None
-ambiguous_line ls (Some a) = where_holds (is_several (nth_meant a) (candidates ls a)) (Ambiguous (length (candidates ls a)))
+ambiguous_line ls (Some a) =
+    where_holds (is_several (nth_meant a) (candidates ls a)) (Ambiguous (length (candidates ls a)))
 
 abbrev pub ambiguous : List ClassedLine → Edit → Option Refusal
 ambiguous ls e = ambiguous_line ls (address e)
 
--- ---- RecipePrefix: a line that is written, and is no recipe line, would begin with the prefix in force
+-- ---- RecipePrefix: a line that is written, no recipe line, would begin with the prefix in force
 
 -- whether a new line would begin with the prefix
 abbrev pub begins_new_line : Edit → Option Stretch → Bool
 begins_new_line e None = false
-begins_new_line e (Some s) = is_prefix_led (context_of s.above).prefix (new_text (context_of s.above).prefix e)
+begins_new_line e (Some s) =
+    is_prefix_led (context_of s.above).prefix (new_text (context_of s.above).prefix e)
 
 -- whether a rename changes a line and the new line would begin with the prefix
 abbrev pub begins_renamed_line : (prefix : ℕ) → List Piece → Bool
@@ -77,10 +79,16 @@ begins_renamed_line p ps = list_any is_replaced ps && is_prefix_led p (new_bytes
 -- whether some line that a rename changes would begin with the prefix
 abbrev pub begins_some_renamed_line : (old new : List ℕ) → Context → List ClassedLine → Bool
 begins_some_renamed_line o n c [] = false
-begins_some_renamed_line o n c (l ∷ ls) = begins_renamed_line c.prefix (renamed_pieces o n l.class) || begins_some_renamed_line o n (context_after c l.class) ls
+begins_some_renamed_line o n c (l ∷ ls) =
+    begins_renamed_line c.prefix (renamed_pieces o n l.class)
+    || begins_some_renamed_line o n (context_after c l.class) ls
 
 abbrev pub prefix_led : List ClassedLine → Edit → Option Refusal
-prefix_led ls (AddAssign p n f v) = where_holds (begins_new_line (AddAssign p n f v) (insertion ls (AddAssign p n f v))) RecipePrefix
-prefix_led ls (AddRule p ts c ws) = where_holds (begins_new_line (AddRule p ts c ws) (insertion ls (AddRule p ts c ws))) RecipePrefix
+prefix_led ls (AddAssign p n f v) =
+    where_holds (begins_new_line (AddAssign p n f v) (insertion ls (AddAssign p n f v)))
+    RecipePrefix
+prefix_led ls (AddRule p ts c ws) =
+    where_holds (begins_new_line (AddRule p ts c ws) (insertion ls (AddRule p ts c ws)))
+    RecipePrefix
 prefix_led ls (RenameTarget o n) = where_holds (begins_some_renamed_line o n start ls) RecipePrefix
 prefix_led ls e = None

@@ -42,18 +42,29 @@ are_words t = not (list_any (λ w. not (is_word w)) (words_in t))
 
 -- the fields of an edit in their order
 abbrev pub field_tests : Edit → List FieldTest
-field_tests (SetValue nth n v) = Tested field.Name (is_name n) ∷ Tested field.Value (is_value v) ∷ []
-field_tests (AppendValue nth n v) = Tested field.Name (is_name n) ∷ Tested field.Value (is_value v && not (is_empty v)) ∷ []
-field_tests (AddAssign p n f v) = Tested field.Place (is_place p) ∷ Tested field.Name (is_name n) ∷ Tested field.Value (is_value v) ∷ []
+field_tests (SetValue nth n v) =
+    Tested field.Name (is_name n) ∷ Tested field.Value (is_value v) ∷ []
+field_tests (AppendValue nth n v) =
+    Tested field.Name (is_name n) ∷ Tested field.Value (is_value v && not (is_empty v)) ∷ []
+field_tests (AddAssign p n f v) =
+    Tested field.Place (is_place p) ∷ Tested field.Name (is_name n)
+    ∷ Tested field.Value (is_value v) ∷ []
 field_tests (RemoveAssign nth n) = Tested field.Name (is_name n) ∷ []
-field_tests (AddRule p ts c ws) = Tested field.Place (is_place p) ∷ Tested field.Targets (are_targets ts) ∷ Tested field.Prereqs (are_words ws) ∷ []
+field_tests (AddRule p ts c ws) =
+    Tested field.Place (is_place p) ∷ Tested field.Targets (are_targets ts)
+    ∷ Tested field.Prereqs (are_words ws) ∷ []
 field_tests (RemoveRule nth t) = Tested field.Target (is_target t) ∷ []
-field_tests (AddPrereq order nth t w) = Tested field.Target (is_target t) ∷ Tested field.Word (is_word w) ∷ []
-field_tests (RemovePrereq nth t w) = Tested field.Target (is_target t) ∷ Tested field.Word (is_word w) ∷ []
-field_tests (AddRecipe nth t c) = Tested field.Target (is_target t) ∷ Tested field.Line (is_command c) ∷ []
-field_tests (SetRecipe nth t k c) = Tested field.Target (is_target t) ∷ Tested field.Line (is_command c) ∷ []
+field_tests (AddPrereq order nth t w) =
+    Tested field.Target (is_target t) ∷ Tested field.Word (is_word w) ∷ []
+field_tests (RemovePrereq nth t w) =
+    Tested field.Target (is_target t) ∷ Tested field.Word (is_word w) ∷ []
+field_tests (AddRecipe nth t c) =
+    Tested field.Target (is_target t) ∷ Tested field.Line (is_command c) ∷ []
+field_tests (SetRecipe nth t k c) =
+    Tested field.Target (is_target t) ∷ Tested field.Line (is_command c) ∷ []
 field_tests (RemoveRecipe nth t k) = Tested field.Target (is_target t) ∷ []
-field_tests (RenameTarget o n) = Tested field.Old (is_target o) ∷ Tested field.New (is_target n) ∷ []
+field_tests (RenameTarget o n) =
+    Tested field.Old (is_target o) ∷ Tested field.New (is_target n) ∷ []
 
 abbrev pub bad_argument : Edit → Option Refusal
 bad_argument e = first_failed (field_tests e)
@@ -94,4 +105,6 @@ targets (RenameTarget o n) = o ∷ n ∷ []
 targets e = []
 
 abbrev pub reserved : Edit → Option Refusal
-reserved e = where_holds (list_any is_prefix_name (names e) || list_any is_reserved_word (targets e)) Reserved
+reserved e =
+    where_holds (list_any is_prefix_name (names e) || list_any is_reserved_word (targets e))
+    Reserved

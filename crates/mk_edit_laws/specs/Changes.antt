@@ -59,16 +59,17 @@ with_value f s = with_items (value_item f (length (text_of s.above)) s.line.clas
 abbrev pub leaves_fold_last : (text : List ℕ) → Replacement → Bool
 leaves_fold_last t r = last_passes (λ b. b == 10) (take r.start t) && is_empty (drop r.end t)
 
--- The value that is set. If the new value is empty, and a part of a fold stays without its next line, the value is one lone
--- backslash.
+-- The value that is set. If the new value is empty, and a part of a fold stays without its next
+-- line, the value is one lone backslash.
 abbrev pub value_set : (text value : List ℕ) → (line_start : ℕ) → Assignment Cell → List ℕ
 value_set t v at a = if is_empty v && leaves_fold_last t (set_value_span v at a) then 92 ∷ [] else v
 
--- The value with a text appended: the old value, a space and the text. There is no space if the old value is empty, or if its
--- last cell is a fold, which is read as the space.
+-- The value with a text appended: the old value, a space and the text. There is no space if the old
+-- value is empty, or if its last cell is a fold, which is read as the space.
 abbrev pub value_appended : (value : List ℕ) → Assignment Cell → List ℕ
 value_appended v a =
-    unit_text joined_byte a.value ++ (if is_empty a.value then v else if last_passes is_fold (concat a.value) then v else 32 ∷ v)
+    unit_text joined_byte a.value
+    ++ (if is_empty a.value then v else if last_passes is_fold (concat a.value) then v else 32 ∷ v)
 
 -- ---- prerequisites and targets
 
@@ -101,7 +102,8 @@ rename_words o n ws = map (λ w. if bytes_eq w o then n else w) ws
 
 -- an item with the new word in the place of each target and each prerequisite that is the old word
 abbrev pub renamed_item : (old new : List ℕ) → Item → Item
-renamed_item o n (Header ts s p ns os i) = Header (rename_words o n ts) s p (rename_words o n ns) (rename_words o n os) i
+renamed_item o n (Header ts s p ns os i) =
+    Header (rename_words o n ts) s p (rename_words o n ns) (rename_words o n os) i
 renamed_item o n (TargetAssign ts s a) = TargetAssign (rename_words o n ts) s a
 renamed_item o n i = i
 
@@ -124,17 +126,26 @@ new_header ts c ws = Header (words_in ts) (separator_of c) [] (words_in ws) [] N
 
 -- the reading after an edit that no cause refuses
 abbrev change_of : (text : List ℕ) → List ClassedLine → Edit → List Item
-change_of t ls (SetValue nth n v) = where_found (with_value (value_set t v)) (found ls (Variable nth n))
-change_of t ls (AppendValue nth n v) = where_found (with_value (λ at. value_appended v)) (found ls (Variable nth n))
-change_of t ls (AddAssign p n f v) = where_found (with_item (new_assign n f v)) (insertion ls (AddAssign p n f v))
+change_of t ls (SetValue nth n v) =
+    where_found (with_value (value_set t v)) (found ls (Variable nth n))
+change_of t ls (AppendValue nth n v) =
+    where_found (with_value (λ at. value_appended v)) (found ls (Variable nth n))
+change_of t ls (AddAssign p n f v) =
+    where_found (with_item (new_assign n f v)) (insertion ls (AddAssign p n f v))
 change_of t ls (RemoveAssign nth n) = where_found without_items (removal ls (RemoveAssign nth n))
-change_of t ls (AddRule p ts c ws) = where_found (with_item (new_header ts c ws)) (insertion ls (AddRule p ts c ws))
+change_of t ls (AddRule p ts c ws) =
+    where_found (with_item (new_header ts c ws)) (insertion ls (AddRule p ts c ws))
 change_of t ls (RemoveRule nth g) = where_found without_items (removal ls (RemoveRule nth g))
-change_of t ls (AddPrereq order nth g w) = where_found (with_header (with_prerequisite order w)) (found ls (Rule nth g))
-change_of t ls (RemovePrereq nth g w) = where_found (with_header (without_prerequisite w)) (found ls (Rule nth g))
-change_of t ls (AddRecipe nth g c) = where_found (with_item (Recipe c)) (insertion ls (AddRecipe nth g c))
-change_of t ls (SetRecipe nth g k c) = where_found (with_items (Recipe c ∷ [])) (recipe_found ls nth g k)
-change_of t ls (RemoveRecipe nth g k) = where_found without_items (removal ls (RemoveRecipe nth g k))
+change_of t ls (AddPrereq order nth g w) =
+    where_found (with_header (with_prerequisite order w)) (found ls (Rule nth g))
+change_of t ls (RemovePrereq nth g w) =
+    where_found (with_header (without_prerequisite w)) (found ls (Rule nth g))
+change_of t ls (AddRecipe nth g c) =
+    where_found (with_item (Recipe c)) (insertion ls (AddRecipe nth g c))
+change_of t ls (SetRecipe nth g k c) =
+    where_found (with_items (Recipe c ∷ [])) (recipe_found ls nth g k)
+change_of t ls (RemoveRecipe nth g k) =
+    where_found without_items (removal ls (RemoveRecipe nth g k))
 change_of t ls (RenameTarget o n) = map (renamed_item o n) (items ls)
 
 abbrev pub change : (text : List ℕ) → Edit → List Item

@@ -24,17 +24,20 @@ removed_span s =
     record { start = at; end = at + length (text_of s.lines); new = [] } ∷ []
 
 -- the spans in the line of a header; the line begins at this offset
-abbrev pub header_spans : (Headers.Header Cell → List Piece) → (line_start : ℕ) → Class Cell → List Replacement
+abbrev pub header_spans : (Headers.Header Cell → List Piece) → (line_start : ℕ) → Class Cell
+    → List Replacement
 header_spans f at (Header h) = replacements at (f h)
 header_spans f at k = []
 
 abbrev pub word_spans : (Headers.Header Cell → List Piece) → StandingLine → List Replacement
 word_spans f s = header_spans f (length (text_of s.above)) s.line.class
 
--- the spans of each target and each prerequisite that is the old word, in lines; the first line begins at this offset
+-- the spans of each target and each prerequisite that is the old word, in lines; the first line
+-- begins at this offset
 abbrev pub renamed_spans : (old new : List ℕ) → (start : ℕ) → List ClassedLine → List Replacement
 renamed_spans o n at [] = []
-renamed_spans o n at (l ∷ ls) = replacements at (renamed_pieces o n l.class) ++ renamed_spans o n (at + length l.bytes) ls
+renamed_spans o n at (l ∷ ls) =
+    replacements at (renamed_pieces o n l.class) ++ renamed_spans o n (at + length l.bytes) ls
 
 -- the span of a recipe line's text: all after its first byte, up to its line end
 abbrev pub recipe_span : (command : List ℕ) → StandingLine → List Replacement
@@ -49,15 +52,22 @@ where_found f (Some x) = f x
 
 -- the spans of an edit that no cause refuses
 abbrev pub spans_of : (text : List ℕ) → List ClassedLine → Edit → List Replacement
-spans_of t ls (SetValue nth n v) = where_found (value_span (set_value_span v)) (found ls (Variable nth n))
-spans_of t ls (AppendValue nth n v) = where_found (value_span (append_value_span v)) (found ls (Variable nth n))
-spans_of t ls (AddAssign p n f v) = where_found (new_line_span t (AddAssign p n f v)) (insertion ls (AddAssign p n f v))
+spans_of t ls (SetValue nth n v) =
+    where_found (value_span (set_value_span v)) (found ls (Variable nth n))
+spans_of t ls (AppendValue nth n v) =
+    where_found (value_span (append_value_span v)) (found ls (Variable nth n))
+spans_of t ls (AddAssign p n f v) =
+    where_found (new_line_span t (AddAssign p n f v)) (insertion ls (AddAssign p n f v))
 spans_of t ls (RemoveAssign nth n) = where_found removed_span (removal ls (RemoveAssign nth n))
-spans_of t ls (AddRule p ts c ws) = where_found (new_line_span t (AddRule p ts c ws)) (insertion ls (AddRule p ts c ws))
+spans_of t ls (AddRule p ts c ws) =
+    where_found (new_line_span t (AddRule p ts c ws)) (insertion ls (AddRule p ts c ws))
 spans_of t ls (RemoveRule nth g) = where_found removed_span (removal ls (RemoveRule nth g))
-spans_of t ls (AddPrereq order nth g w) = where_found (word_spans (add_pieces order w)) (found ls (Rule nth g))
-spans_of t ls (RemovePrereq nth g w) = where_found (word_spans (remove_pieces w)) (found ls (Rule nth g))
-spans_of t ls (AddRecipe nth g c) = where_found (new_line_span t (AddRecipe nth g c)) (insertion ls (AddRecipe nth g c))
+spans_of t ls (AddPrereq order nth g w) =
+    where_found (word_spans (add_pieces order w)) (found ls (Rule nth g))
+spans_of t ls (RemovePrereq nth g w) =
+    where_found (word_spans (remove_pieces w)) (found ls (Rule nth g))
+spans_of t ls (AddRecipe nth g c) =
+    where_found (new_line_span t (AddRecipe nth g c)) (insertion ls (AddRecipe nth g c))
 spans_of t ls (SetRecipe nth g k c) = where_found (recipe_span c) (recipe_found ls nth g k)
 spans_of t ls (RemoveRecipe nth g k) = where_found removed_span (removal ls (RemoveRecipe nth g k))
 spans_of t ls (RenameTarget o n) = renamed_spans o n 0 ls

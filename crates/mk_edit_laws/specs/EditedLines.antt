@@ -16,9 +16,10 @@ new_line_bytes t e s = new_text (context_of s.above).prefix e ++ new_line_end t
 abbrev pub respanned_bytes : (touched : Stretch) → List Replacement → List ℕ
 respanned_bytes s rs = replaced (length (text_of s.above)) (text_of s.lines) rs
 
--- The bytes of each line that stands there after the edit: no line if the edit takes lines out; the new line if it puts one in;
--- and otherwise the touched line with the spans in it replaced.
-abbrev pub edited_bytes : (text : List ℕ) → Edit → (touched : Stretch) → List Replacement → List (List ℕ)
+-- The bytes of each line that stands there after the edit: no line if the edit takes lines out; the
+-- new line if it puts one in; and otherwise the touched line with the spans in it replaced.
+abbrev pub edited_bytes : (text : List ℕ) → Edit → (touched : Stretch) → List Replacement
+    → List (List ℕ)
 edited_bytes t (RemoveAssign nth n) s rs = []
 edited_bytes t (RemoveRule nth g) s rs = []
 edited_bytes t (RemoveRecipe nth g k) s rs = []
@@ -28,5 +29,6 @@ edited_bytes t (AddRecipe nth g c) s rs = new_line_bytes t (AddRecipe nth g c) s
 edited_bytes t e s rs = respanned_bytes s rs ∷ []
 
 -- the edited lines, with the classes that they have below the lines above
-abbrev pub edited_lines : (text : List ℕ) → Edit → (touched : Stretch) → List Replacement → List ClassedLine
+abbrev pub edited_lines : (text : List ℕ) → Edit → (touched : Stretch) → List Replacement
+    → List ClassedLine
 edited_lines t e s rs = classed (context_of s.above) (edited_bytes t e s rs)

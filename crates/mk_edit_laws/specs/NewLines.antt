@@ -1,10 +1,10 @@
 -- New lines: their text, and the span that puts a new line in.
 -- Told in docs/EDITS.md, "Addresses", "Variables", "Rules" and "Recipes".
-use Rattle.std.specs.Prelude.{ℕ, List, [], ◌∷◌, ◌++◌, map, drop, length}
-use Rattle.mk_lines.specs.Lists.{concat}
+use Rattle.std.specs.Prelude.{ℕ, List, [], ◌∷◌, ◌++◌, length}
 use Rattle.mk_lines.specs.PhysicalLines.{line_end_bytes, file_line_end}
 use Rattle.mk_lines.specs.Pieces.{Replacement}
 use Rattle.mk_lines.specs.Words.{words_in}
+use Rattle.mk_lines.specs.Spacing.{after_space, each_after_space, spaced_words}
 use Rattle.mk_class.specs.declared.assignment.Flavor.{Flavor}
 use Rattle.mk_class.specs.OperatorTexts.{operator_text}
 use Rattle.mk_tree.specs.Documents.{text_of, context_of}
@@ -14,35 +14,22 @@ use Rattle.mk_edit_laws.specs.Stretches.{Stretch}
 use Rattle.mk_edit_laws.specs.declared.edit.Colons.{Colons}
 use Rattle.mk_edit_laws.specs.declared.edit.Colons.TheVariants.{One, Two}
 
--- ---- words of an argument
-
--- a space before a text that is not empty
-abbrev pub spaced : List ℕ → List ℕ
-spaced [] = []
-spaced (b ∷ t) = 32 ∷ b ∷ t
-
--- a space before each of some words
-abbrev pub each_spaced : List (List ℕ) → List ℕ
-each_spaced ws = concat (map spaced ws)
-
--- words with one space between them
-abbrev pub joined_by_space : List (List ℕ) → List ℕ
-joined_by_space ws = drop 1 (each_spaced ws)
-
 -- ---- the text of a new line, without its line end
 
--- an assignment: its name, a space, its operator, and, if its value is not empty, a space and the value
+-- an assignment: its name, a space, its operator, and, if its value is not empty, a space and the
+-- value
 abbrev pub assign_text : (name : List ℕ) → Flavor → (value : List ℕ) → List ℕ
-assign_text n f v = n ++ (32 ∷ (operator_text f ++ spaced v))
+assign_text n f v = n ++ (32 ∷ (operator_text f ++ after_space v))
 
 -- a separator
 abbrev pub colons_text : Colons → List ℕ
 colons_text One = 58 ∷ []
 colons_text Two = 58 ∷ 58 ∷ []
 
--- a rule: its targets with one space between them, its separator, and a space before each prerequisite
+-- a rule: its targets with one space between them, its separator, and a space before each
+-- prerequisite
 abbrev pub rule_text : (targets : List ℕ) → Colons → (prereqs : List ℕ) → List ℕ
-rule_text ts c ws = joined_by_space (words_in ts) ++ (colons_text c ++ each_spaced (words_in ws))
+rule_text ts c ws = spaced_words (words_in ts) ++ (colons_text c ++ each_after_space (words_in ws))
 
 -- the new line of an edit, if this recipe prefix is in force
 abbrev pub new_text : (prefix : ℕ) → Edit → List ℕ
@@ -57,9 +44,14 @@ new_text p e = []
 abbrev pub new_line_end : (text : List ℕ) → List ℕ
 new_line_end t = line_end_bytes (file_line_end t)
 
--- the span of a new line: an empty range at its place; the new bytes are the line end that the last line lacks, if it lacks one,
--- and then the new line with the file's line end
+-- the span of a new line: an empty range at its place; the new bytes are the line end that the last
+-- line lacks, if it lacks one, and then the new line with the file's line end
 abbrev pub new_line_span : (text : List ℕ) → Edit → Stretch → List Replacement
 new_line_span t e s =
     let at = length (text_of s.above) in
-    record { start = at; end = at; new = missing_line_end (file_line_end t) s.above s.below ++ (new_text (context_of s.above).prefix e ++ new_line_end t) } ∷ []
+    record {
+      start = at;
+      end = at;
+      new = missing_line_end (file_line_end t) s.above s.below
+          ++ (new_text (context_of s.above).prefix e ++ new_line_end t);
+    } ∷ []

@@ -11,8 +11,8 @@ use Rattle.mk_edit_laws.specs.RuleCauses.{absent, already, taken, shared_rule, s
 use Rattle.mk_edit_laws.specs.LineCauses.{open_value, open_line, open_define, leaning, too_long}
 use Rattle.mk_edit_laws.specs.declared.refusal.Refusal.{Refusal}
 
--- The causes in their order. The cause that a written line would begin with the recipe prefix is tested once the line's place is
--- known.
+-- The causes in their order. The cause that a written line would begin with the recipe prefix is
+-- tested once the line's place is known.
 abbrev pub causes : (text : List ℕ) → List ClassedLine → Edit → List (Option Refusal)
 causes t ls e =
     bad_argument e
@@ -46,7 +46,8 @@ unless_refused (Some r) rs = Err r
 
 -- the spans of an edit, or the first refusal whose cause holds
 abbrev pub spans : (text : List ℕ) → Edit → Result (List Replacement) Refusal
-spans t e = let ls = classed_lines t in unless_refused (first_cause (causes t ls e)) (spans_of t ls e)
+spans t e =
+    let ls = classed_lines t in unless_refused (first_cause (causes t ls e)) (spans_of t ls e)
 
 -- the text with the spans replaced; if the edit is refused, the text as it is
 abbrev pub text_by : (text : List ℕ) → Result (List Replacement) Refusal → List ℕ

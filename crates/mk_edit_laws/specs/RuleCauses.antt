@@ -23,7 +23,8 @@ class_found None = None
 class_found (Some s) = Some s.line.class
 
 -- the class of the header of a rule
-abbrev rule_class_found : List ClassedLine → (nth : Option ℕ) → (target : List ℕ) → Option (Class Cell)
+abbrev rule_class_found : List ClassedLine → (nth : Option ℕ) → (target : List ℕ)
+    → Option (Class Cell)
 rule_class_found ls nth t = class_found (found ls (Rule nth t))
 
 -- whether a header is found and passes the test
@@ -41,7 +42,10 @@ abbrev pub is_order_only : List ℕ → Headers.Header Cell → Bool
 is_order_only w h = is_one_of w (word_texts joined_byte h.order_only)
 
 abbrev pub absent : List ClassedLine → Edit → Option Refusal
-absent ls (RemovePrereq nth t w) = where_holds (not (header_passes (λ h. is_normal w h || is_order_only w h) (rule_class_found ls nth t))) Absent
+absent ls (RemovePrereq nth t w) =
+    where_holds
+    (not (header_passes (λ h. is_normal w h || is_order_only w h) (rule_class_found ls nth t)))
+    Absent
 absent ls (SetRecipe nth t k c) = where_holds (not (is_some (recipe_found ls nth t k))) Absent
 absent ls (RemoveRecipe nth t k) = where_holds (not (is_some (recipe_found ls nth t k))) Absent
 absent ls e = None
@@ -49,8 +53,10 @@ absent ls e = None
 -- ---- Already: the word is in that list of prerequisites
 
 abbrev pub already : List ClassedLine → Edit → Option Refusal
-already ls (AddPrereq true nth t w) = where_holds (header_passes (is_order_only w) (rule_class_found ls nth t)) Already
-already ls (AddPrereq false nth t w) = where_holds (header_passes (is_normal w) (rule_class_found ls nth t)) Already
+already ls (AddPrereq true nth t w) =
+    where_holds (header_passes (is_order_only w) (rule_class_found ls nth t)) Already
+already ls (AddPrereq false nth t w) =
+    where_holds (header_passes (is_normal w) (rule_class_found ls nth t)) Already
 already ls e = None
 
 -- ---- Taken: the new name is a target

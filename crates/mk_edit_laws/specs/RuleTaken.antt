@@ -1,5 +1,5 @@
--- What the removal of a rule takes out: its line and its recipe, and nothing else. The lines and the reading say so here, without
--- the stretch that the definition of the edit takes out.
+-- What the removal of a rule takes out: its line and its recipe, and nothing else. The lines and
+-- the reading say so here, without the stretch that the definition of the edit takes out.
 -- Told in docs/PROOFS.md, "Edits, as definitions (mk_edit_laws)".
 use Rattle.std.specs.Prelude.{◌≡◌, ℕ, Bool, true, false, not, ◌&&◌, ◌||◌, List, [], ◌∷◌, ◌++◌, map, filter, drop, Option, Some, Ok}
 use Rattle.mk_lines.specs.PhysicalLines.{without_line_end}
@@ -40,7 +40,8 @@ abbrev pub recipe_goes_on : List ClassedLine → Bool
 recipe_goes_on [] = false
 recipe_goes_on (l ∷ ls) = is_recipe l.class || (not (ends_rule l.class) && recipe_goes_on ls)
 
--- the texts of the recipe lines among some lines: each without its first byte, the prefix, and without its line end
+-- the texts of the recipe lines among some lines: each without its first byte, the prefix, and
+-- without its line end
 abbrev pub commands : List ClassedLine → List (List ℕ)
 commands ls = map (λ l. drop 1 (without_line_end l.bytes)) (filter (λ l. is_recipe l.class) ls)
 
@@ -51,11 +52,12 @@ is_recipe_item i = false
 
 -- ---- the law
 
--- What the removal of a rule takes out. The rule is the one that the address means, and the target is its only target. Its line
--- goes, with some lines directly below it: each of these is a recipe line, a blank line or a comment, and the last is a recipe
--- line. The lines above and below stay, and no line below is a recipe line of the rule. The lines that go read as the item of the
--- header and, after it, the items of the recipe lines; these items go from the reading, and the next item is not that of a recipe
--- line.
+-- What the removal of a rule takes out. The rule is the one that the address means, and the target
+-- is its only target. Its line goes, with some lines directly below it: each of these is a recipe
+-- line, a blank line or a comment, and the last is a recipe line. The lines above and below stay,
+-- and no line below is a recipe line of the rule. The lines that go read as the item of the header
+-- and, after it, the items of the recipe lines; these items go from the reading, and the next item
+-- is not that of a recipe line.
 pub record TakesTheRuleAlone (nth : Option ℕ) (target text : List ℕ) : Type 0 where
   pub rule : StandingLine
   pub header : Header Cell
@@ -70,10 +72,14 @@ pub record TakesTheRuleAlone (nth : Option ℕ) (target text : List ℕ) : Type 
   pub last : ends_in_recipe recipe ≡ true
   pub no_more : recipe_goes_on rest ≡ false
   pub taken : items (rule.line ∷ recipe) ≡ header_item header ∷ map Recipe (commands recipe)
-  pub reading_before : reading text ≡ items rule.above ++ (header_item header ∷ (map Recipe (commands recipe) ++ items rest))
-  pub reading_after : reading (text_after text (RemoveRule nth target)) ≡ items rule.above ++ items rest
+  pub reading_before : reading text
+      ≡ items rule.above ++ (header_item header ∷ (map Recipe (commands recipe) ++ items rest))
+  pub reading_after : reading (text_after text (RemoveRule nth target))
+      ≡ items rule.above ++ items rest
   pub next_item : first_passes is_recipe_item (items rest) ≡ false
 
 -- an accepted removal of a rule takes out its line and its recipe, and nothing else
 abbrev pub RemoveRuleTakesTheRuleAlone : Type 0
-RemoveRuleTakesTheRuleAlone = (nth : Option ℕ) (target text : List ℕ) (replacements : List Replacement) → spans text (RemoveRule nth target) ≡ Ok replacements → TakesTheRuleAlone nth target text
+RemoveRuleTakesTheRuleAlone = (nth : Option ℕ) (target text : List ℕ)
+    (replacements : List Replacement) → spans text (RemoveRule nth target) ≡ Ok replacements
+    → TakesTheRuleAlone nth target text

@@ -17,7 +17,8 @@ spot_if false s ss = ss
 -- the spots of the lines that pass the test, in order
 abbrev pub spots : (ClassedLine → Bool) → List ClassedLine → List StandingLine
 spots test [] = []
-spots test (l ∷ ls) = spot_if (test l) (record { above = []; line = l; below = ls }) (map (under l) (spots test ls))
+spots test (l ∷ ls) =
+    spot_if (test l) (record { above = []; line = l; below = ls }) (map (under l) (spots test ls))
 
 -- the nth of a list, from 1
 abbrev pub nth_of : {A : Type 0} → ℕ → List A → Option A

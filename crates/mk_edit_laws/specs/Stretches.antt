@@ -33,11 +33,15 @@ bottom ls = record { above = ls; lines = []; below = [] }
 
 -- the stretch of a header, its recipe lines, and the lines between them
 abbrev pub whole_rule : StandingLine → Stretch
-whole_rule h = record { above = h.above; lines = h.line ∷ recipe_run h.below; below = after_recipe h.below }
+whole_rule h =
+    record { above = h.above; lines = h.line ∷ recipe_run h.below; below = after_recipe h.below }
 
--- the empty stretch directly after the last recipe line of a header, or after the header if it has no recipe line
+-- the empty stretch directly after the last recipe line of a header, or after the header if it has
+-- no recipe line
 abbrev pub after_rule : StandingLine → Stretch
-after_rule h = record { above = h.above ++ h.line ∷ recipe_run h.below; lines = []; below = after_recipe h.below }
+after_rule h =
+    record
+    { above = h.above ++ h.line ∷ recipe_run h.below; lines = []; below = after_recipe h.below }
 
 -- a spot below a header, as a spot of the whole text
 abbrev pub below_header : StandingLine → StandingLine → StandingLine
@@ -45,14 +49,17 @@ below_header h s = record { above = h.above ++ h.line ∷ s.above; line = s.line
 
 -- the recipe lines of a header
 abbrev pub recipe_spots : StandingLine → List StandingLine
-recipe_spots h = map (below_header h) (take (length (recipe_lines h.below)) (spots (λ l. is_recipe l.class) h.below))
+recipe_spots h =
+    map (below_header h)
+    (take (length (recipe_lines h.below)) (spots (λ l. is_recipe l.class) h.below))
 
 -- the recipe line of this number, from 1
 abbrev pub recipe_spot : ℕ → StandingLine → Option StandingLine
 recipe_spot k h = nth_of k (recipe_spots h)
 
 -- the recipe line of this number of a rule
-abbrev pub recipe_found : List ClassedLine → (nth : Option ℕ) → (target : List ℕ) → ℕ → Option StandingLine
+abbrev pub recipe_found : List ClassedLine → (nth : Option ℕ) → (target : List ℕ) → ℕ
+    → Option StandingLine
 recipe_found ls nth t k = option_and_then (recipe_spot k) (found ls (Rule nth t))
 
 -- the empty stretch where the new line of this place goes
@@ -84,8 +91,8 @@ IsStretchOf ls s = ls ≡ s.above ++ (s.lines ++ s.below)
 abbrev pub between : Stretch → Stretch
 between s = record { above = s.above; lines = []; below = s.below }
 
--- The lines that an edit of one place touches: the line that it changes, or the lines that it takes out; if it puts a line in,
--- the empty stretch at its place.
+-- The lines that an edit of one place touches: the line that it changes, or the lines that it takes
+-- out; if it puts a line in, the empty stretch at its place.
 abbrev pub touched_by : List ClassedLine → Edit → Option Stretch
 touched_by ls (SetValue nth n v) = option_map this_line (found ls (Variable nth n))
 touched_by ls (AppendValue nth n v) = option_map this_line (found ls (Variable nth n))

@@ -9,11 +9,13 @@ use Rattle.mk_edit_laws.specs.Stretches.{Stretch, IsStretchOf}
 use Rattle.mk_edit_laws.specs.Costs.{size}
 use Rattle.mk_edit_laws.specs.RisingSpans.{Rise}
 
--- Replacements that stand within a stretch of lines of the text; it has at most as many lines as the edit's size says.
+-- Replacements that stand within a stretch of lines of the text; it has at most as many lines as
+-- the edit's size says.
 pub record TouchFew (t : List ℕ) (e : Edit) (rs : List Replacement) : Type 0 where
   pub touched : Stretch
   pub stretch : IsStretchOf (classed_lines t) touched
-  pub within : Rise (length (text_of touched.above)) (length (text_of touched.above) + length (text_of touched.lines)) rs
+  pub within : Rise (length (text_of touched.above))
+      (length (text_of touched.above) + length (text_of touched.lines)) rs
   pub few : length touched.lines ≤ size t e
 
 -- an edit of one place: any edit except a rename, which may touch lines that stand apart

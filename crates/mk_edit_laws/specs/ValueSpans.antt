@@ -11,8 +11,8 @@ use Rattle.mk_class.specs.PartOffsets.{raw_width}
 use Rattle.mk_tree.specs.Documents.{text_of}
 use Rattle.mk_tree.specs.LineTexts.{StandingLine}
 
--- where the value of an assignment begins, if its line begins at this offset; where the value ends; and where the blanks and folds
--- after it end
+-- where the value of an assignment begins, if its line begins at this offset; where the value ends;
+-- and where the blanks and folds after it end
 abbrev pub value_start : (line_start : ℕ) → Assignment Cell → ℕ
 value_start at a = at + raw_width (before_value a)
 
@@ -30,8 +30,8 @@ set_value_span v at a = record {
   new = v;
 }
 
--- the span of a text appended: an empty range at the value's end; the new bytes are a space and the text, or only the text if the
--- value is empty
+-- the span of a text appended: an empty range at the value's end; the new bytes are a space and the
+-- text, or only the text if the value is empty
 abbrev pub append_value_span : (value : List ℕ) → (line_start : ℕ) → Assignment Cell → Replacement
 append_value_span v at a = record {
   start = value_end at a;
@@ -40,7 +40,8 @@ append_value_span v at a = record {
 }
 
 -- the span in a line of this class; the line begins at this offset
-abbrev pub assignment_span : (ℕ → Assignment Cell → Replacement) → (line_start : ℕ) → Class Cell → List Replacement
+abbrev pub assignment_span : (ℕ → Assignment Cell → Replacement) → (line_start : ℕ) → Class Cell
+    → List Replacement
 assignment_span f at (Assign a p) = f at a ∷ []
 assignment_span f at k = []
 

@@ -24,9 +24,11 @@ place_of (place.BeforeRule nth target) = edits.BeforeRule nth target.items
 abbrev pub edit_of : {A : _} → Edit A → edits.Edit
 edit_of (edit.SetValue nth name value) = edits.SetValue nth name.items value.items
 edit_of (edit.AppendValue nth name value) = edits.AppendValue nth name.items value.items
-edit_of (edit.AddAssign p name flavor value) = edits.AddAssign (place_of p) name.items flavor value.items
+edit_of (edit.AddAssign p name flavor value) =
+    edits.AddAssign (place_of p) name.items flavor value.items
 edit_of (edit.RemoveAssign nth name) = edits.RemoveAssign nth name.items
-edit_of (edit.AddRule p targets colons prereqs) = edits.AddRule (place_of p) targets.items colons prereqs.items
+edit_of (edit.AddRule p targets colons prereqs) =
+    edits.AddRule (place_of p) targets.items colons prereqs.items
 edit_of (edit.RemoveRule nth target) = edits.RemoveRule nth target.items
 edit_of (edit.AddPrereq order nth target word) = edits.AddPrereq order nth target.items word.items
 edit_of (edit.RemovePrereq nth target word) = edits.RemovePrereq nth target.items word.items

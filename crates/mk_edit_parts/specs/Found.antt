@@ -31,7 +31,8 @@ abbrev pub IsMeant : List ClassedLine → Option Address → Found → Type 0
 IsMeant ls None f = IsEnd ls f
 IsMeant ls (Some a) f = IsFoundAt ls a f
 
--- the line that an address means is found at this place, or the end of the lines if there is no address
+-- the line that an address means is found at this place, or the end of the lines if there is no
+-- address
 pub record IsPicked (ls : List ClassedLine) (a : Option Address) (f : Found) : Type 0 where
   pub is_there : no_such_line ls a ≡ None
   pub is_one : ambiguous_line ls a ≡ None
@@ -41,7 +42,8 @@ pub record IsPicked (ls : List ClassedLine) (a : Option Address) (f : Found) : T
 abbrev pub IsNotPicked : List ClassedLine → Option Address → Refusal → Type 0
 IsNotPicked ls a r = first_cause (no_such_line ls a ∷ ambiguous_line ls a ∷ []) ≡ Some r
 
--- No cause holds that comes before the edit's own causes, and the place where the edit applies is found.
+-- No cause holds that comes before the edit's own causes, and the place where the edit applies is
+-- found.
 pub record IsAddressed (e : Edit) (ls : List LocatedLine) (f : Found) : Type 0 where
   pub arguments : bad_argument e ≡ None
   pub not_reserved : reserved e ≡ None

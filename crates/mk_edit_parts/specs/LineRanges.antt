@@ -10,10 +10,11 @@ use Rattle.mk_class.specs.declared.class.Class as class
 use Rattle.mk_class.specs.declared.class.Class.TheVariants as variants
 use Rattle.mk_tree.specs.LocatedLines.{LocatedLine}
 
--- where the value of an assignment's line stands among its raw bytes, with the blanks and folds after it if `with_blanks` says
--- so; an empty range for any other line
+-- where the value of an assignment's line stands among its raw bytes, with the blanks and folds
+-- after it if `with_blanks` says so; an empty range for any other line
 abbrev value_range_in : (with_blanks : Bool) → List Cell → class.Class → Span
-value_range_in b cs (variants.Assign at p) = raw_range cs at.value.start (if b then at.end else at.value.end)
+value_range_in b cs (variants.Assign at p) =
+    raw_range cs at.value.start (if b then at.end else at.value.end)
 value_range_in b cs k = record { start = 0; end = 0 }
 
 abbrev pub value_range_located : (with_blanks : Bool) → LocatedLine → Span
@@ -28,7 +29,9 @@ leaves_flag_located variants.Else = true
 leaves_flag_located variants.Endif = true
 leaves_flag_located k = false
 
--- whether the first line that begins with the prefix, or has a class that sets the flag, begins with the prefix
+-- whether the first line that begins with the prefix, or has a class that sets the flag, begins
+-- with the prefix
 abbrev pub is_led_first_located : (prefix : ℕ) → List LocatedLine → Bool
 is_led_first_located p [] = false
-is_led_first_located p (l ∷ ls) = is_prefix_led p l.bytes || (leaves_flag_located l.class && is_led_first_located p ls)
+is_led_first_located p (l ∷ ls) =
+    is_prefix_led p l.bytes || (leaves_flag_located l.class && is_led_first_located p ls)

@@ -1,4 +1,5 @@
--- Where a new prerequisite goes into the joined text of a rule's line, and what is written before and after it.
+-- Where a new prerequisite goes into the joined text of a rule's line, and what is written before
+-- and after it.
 -- Told in docs/EDITS.md, "depend TARGET WORD, depend-order TARGET WORD".
 use Rattle.std.specs.Prelude.{ℕ, ◌+◌, ◌==◌, ◌&&◌, if◌then◌else◌, Bool, not, List, [], ◌∷◌, ◌++◌, codes}
 use Rattle.mk_lines.specs.Ranges.{text_at, word_ranges}
@@ -26,10 +27,11 @@ offset_of_new order t at = words_end t (part_of_new order at)
 abbrev pub before_new : (order : Bool) → header.Header → List ℕ
 before_new order at = if brings_bar order at then codes " | " else 32 ∷ []
 
--- what is written after a new prerequisite that goes to this offset: a space if a `|` follows a normal prerequisite directly, and
--- otherwise nothing
+-- what is written after a new prerequisite that goes to this offset: a space if a `|` follows a
+-- normal prerequisite directly, and otherwise nothing
 abbrev pub after_new : (order : Bool) → (offset : ℕ) → header.Header → List ℕ
-after_new order offset at = if not order && (at.has_order_only && (offset == at.normal_end)) then 32 ∷ [] else []
+after_new order offset at =
+    if not order && (at.has_order_only && (offset == at.normal_end)) then 32 ∷ [] else []
 
 -- the bytes that are written: the new prerequisite, with what stands before and after it
 abbrev pub new_word_text : (order : Bool) → (offset : ℕ) → (word : List ℕ) → header.Header → List ℕ

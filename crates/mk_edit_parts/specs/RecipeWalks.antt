@@ -18,7 +18,8 @@ lines_from ls at = drop at (classed_lines (located_text ls))
 
 -- the recipe lines of a header among the lines after it
 abbrev pub recipe_spots_in : List ClassedLine → List StandingLine
-recipe_spots_in after = take (length (recipe_lines after)) (spots (λ l. classes.is_recipe l.class) after)
+recipe_spots_in after =
+    take (length (recipe_lines after)) (spots (λ l. classes.is_recipe l.class) after)
 
 -- whether a line of this class is a recipe line
 abbrev pub is_recipe_located : Class → Bool
@@ -35,26 +36,32 @@ stays_in_rule_located Else = true
 stays_in_rule_located Endif = true
 stays_in_rule_located k = false
 
--- What a walk has found after some more lines; the first of these stands at this index. It has found where the recipe ends, and
--- whether a line of a conditional was passed before that end. `conditional` says whether such a line was passed so far.
-abbrev pub recipe_from : recipe.Recipe → (conditional : Bool) → (at : ℕ) → List LocatedLine → recipe.Recipe
+-- What a walk has found after some more lines; the first of these stands at this index. It has
+-- found where the recipe ends, and whether a line of a conditional was passed before that end.
+-- `conditional` says whether such a line was passed so far.
+abbrev pub recipe_from : recipe.Recipe → (conditional : Bool) → (at : ℕ) → List LocatedLine
+    → recipe.Recipe
 recipe_from r c at [] = r
 recipe_from r c at (l ∷ ls) =
-    if is_recipe_located l.class then recipe_from (record { end = at + 1; is_split = c }) c (at + 1) ls
-    else if stays_in_rule_located l.class then recipe_from r (c || is_conditional_located l.class) (at + 1) ls
+    if is_recipe_located l.class
+    then recipe_from (record { end = at + 1; is_split = c }) c (at + 1) ls
+    else if stays_in_rule_located l.class
+    then recipe_from r (c || is_conditional_located l.class) (at + 1) ls
     else r
 
 -- where the recipe line of this number stands; `passed` recipe lines were passed so far
 abbrev pub recipe_index_from : (number passed at : ℕ) → List LocatedLine → Option ℕ
 recipe_index_from n p at [] = None
 recipe_index_from n p at (l ∷ ls) =
-    if is_recipe_located l.class then (if p + 1 == n then Some at else recipe_index_from n (p + 1) (at + 1) ls)
+    if is_recipe_located l.class
+    then (if p + 1 == n then Some at else recipe_index_from n (p + 1) (at + 1) ls)
     else if stays_in_rule_located l.class then recipe_index_from n p (at + 1) ls
     else None
 
 -- ---- the targets of a header
 
--- the targets of a header, in a line of this joined text and class; none in a line that is no header
+-- the targets of a header, in a line of this joined text and class; none in a line that is no
+-- header
 abbrev pub header_targets_in : (text : List ℕ) → Class → List (List ℕ)
 header_targets_in t (Header h) = words_before h.targets_end t
 header_targets_in t k = []

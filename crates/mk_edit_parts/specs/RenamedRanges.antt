@@ -25,12 +25,14 @@ word_parts (variants.Header h) = record {
   normal = span h.normal_start h.normal_end;
   order_only = span (h.normal_end + (if h.has_order_only then 1 else 0)) h.head_end;
 }
-word_parts (variants.TargetAssign a) = record { targets = span 0 a.targets_end; normal = span 0 0; order_only = span 0 0 }
+word_parts (variants.TargetAssign a) =
+    record { targets = span 0 a.targets_end; normal = span 0 0; order_only = span 0 0 }
 word_parts k = record { targets = span 0 0; normal = span 0 0; order_only = span 0 0 }
 
 -- ---- the words
 
--- the raw range of a word, if it is the old word; the word's range counts from the start of its part
+-- the raw range of a word, if it is the old word; the word's range counts from the start of its
+-- part
 abbrev pub range_in : (cells : List Cell) → (part_start : ℕ) → (old : List ℕ) → Span → Option Span
 range_in cs at o w =
     if bytes_eq (text_at (joined_text cs) (span (at + w.start) (at + w.end))) o
@@ -43,7 +45,8 @@ before_ranges None ss = ss
 before_ranges (Some s) ss = s ∷ ss
 
 -- the raw ranges of the words of a part that are the old word
-abbrev pub ranges_in : (cells : List Cell) → (part_start : ℕ) → (old : List ℕ) → List Span → List Span
+abbrev pub ranges_in : (cells : List Cell) → (part_start : ℕ) → (old : List ℕ) → List Span
+    → List Span
 ranges_in cs at o [] = []
 ranges_in cs at o (w ∷ ws) = before_ranges (range_in cs at o w) (ranges_in cs at o ws)
 
@@ -53,7 +56,8 @@ part_ranges cs o p = ranges_in cs p.start o (word_ranges (text_at (joined_text c
 
 -- the raw ranges of the old words in all parts
 abbrev pub parts_ranges : (cells : List Cell) → (old : List ℕ) → WordParts → List Span
-parts_ranges cs o p = part_ranges cs o p.targets ++ (part_ranges cs o p.normal ++ part_ranges cs o p.order_only)
+parts_ranges cs o p =
+    part_ranges cs o p.targets ++ (part_ranges cs o p.normal ++ part_ranges cs o p.order_only)
 
 -- the raw ranges of the old words in a line
 abbrev pub renamed_ranges : (old : List ℕ) → LocatedLine → List Span
@@ -72,7 +76,12 @@ is_at_front s = s.start == 0
 
 -- a count with the words in these ranges added
 abbrev pub tallied : Tally → List Span → Tally
-tallied t ss = record { words = t.words + length ss; bytes = t.bytes + bytes_in ss; at_front = t.at_front || list_any is_at_front ss }
+tallied t ss =
+    record {
+      words = t.words + length ss;
+      bytes = t.bytes + bytes_in ss;
+      at_front = t.at_front || list_any is_at_front ss;
+    }
 
 -- nothing counted
 abbrev pub no_words : Tally

@@ -6,7 +6,8 @@ use Rattle.mk_tree.specs.LocatedLines.{LocatedLine}
 use Rattle.mk_edit_parts.specs.RenamedRanges.{renamed_ranges}
 use Rattle.mk_edit_parts.specs.WordCuts.{last_end}
 
--- what is written of a line from an offset up to the end of the last range: the line, with the new text in the place of each range
+-- what is written of a line from an offset up to the end of the last range: the line, with the new
+-- text in the place of each range
 abbrev pub written : (line : List ℕ) → (from : ℕ) → (new : List ℕ) → List Span → List ℕ
 written l at n [] = []
 written l at n (s ∷ ss) = slice_range l at s.start ++ (n ++ written l s.end n ss)

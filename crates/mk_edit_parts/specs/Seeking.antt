@@ -51,7 +51,13 @@ seek test w s (l ∷ ls) = seek test w (noted test w l s) ls
 
 -- what a walk has seen at its start
 abbrev pub nothing_seen : Sought
-nothing_seen = record { count = 0; found = None; has_unread_prefix = false; end = record { at = 0; context = start } }
+nothing_seen =
+    record {
+      count = 0;
+      found = None;
+      has_unread_prefix = false;
+      end = record { at = 0; context = start };
+    }
 
 -- ---- what it finds, on lines as they are defined
 
@@ -64,8 +70,8 @@ abbrev pub candidates_of : List ClassedLine → Option Address → List Standing
 candidates_of ls None = []
 candidates_of ls (Some a) = candidates ls a
 
--- What is sought in some lines: how many lines the address may mean, where the line of its number stands, whether the recipe
--- prefix is set in a way that is not read, and where the lines end.
+-- What is sought in some lines: how many lines the address may mean, where the line of its number
+-- stands, whether the recipe prefix is set in a way that is not read, and where the lines end.
 pub record IsSought (ls : List ClassedLine) (a : Option Address) (s : Sought) : Type 0 where
   pub count_is : s.count ≡ length (candidates_of ls a)
   pub found_is : s.found ≡ option_map standing_found (nth_of (wanted a) (candidates_of ls a))

@@ -1,4 +1,5 @@
--- The line of a rule as a document shows it: the offsets of its parts, and the header whose parts they are.
+-- The line of a rule as a document shows it: the offsets of its parts, and the header whose parts
+-- they are.
 -- Told in docs/ARCHITECTURE.md, "A line's class".
 use Rattle.std.specs.Prelude.{◌≡◌, ◌++◌}
 use Rattle.mk_lines.specs.PhysicalLines.{line_end, line_end_bytes}
@@ -14,7 +15,8 @@ use Rattle.mk_class.specs.declared.class.Class.TheVariants as variants
 use Rattle.mk_tree.specs.LocatedLines.{LocatedLine}
 
 -- the line is that of this header, and these are the offsets of its parts
-pub record IsHeaderSeen (l : LocatedLine) (at : header.Header) (h : Headers.Header Cell) : Type 0 where
+pub record IsHeaderSeen (l : LocatedLine) (at : header.Header) (h : Headers.Header Cell)
+    : Type 0 where
   pub cells_are : line_cells l.bytes ≡ concat (header_units h)
   pub whole : l.bytes ≡ raw_text (concat (header_units h)) ++ line_end_bytes (line_end l.bytes)
   pub offsets_are : at ≡ located_header joined_byte h

@@ -86,7 +86,8 @@ fn failed(field: Field, passes: bool) -> Option<Field>
 
 // The first of two fields that fails its test.
 fn first_failed(one: Field, one_passes: bool, other: Field, other_passes: bool) -> Option<Field>
-    ensures { field_refusal result ≡ first_failed (Tested one one_passes ∷ Tested other other_passes ∷ []) }
+    ensures { field_refusal result
+        ≡ first_failed (Tested one one_passes ∷ Tested other other_passes ∷ []) }
 {
     if one_passes {
         failed(other, other_passes)
@@ -144,7 +145,9 @@ fn are_words(text: &[u8]) -> bool
 /// Whether an edit names the recipe prefix as a variable, or a word of directives as a target: the
 /// cause `Reserved`.
 pub fn is_reserved<A: Allocator>(edit: &Edit<A>) -> bool
-    ensures { result ≡ (list_any is_prefix_name (names (edit_of edit.now)) || list_any is_reserved_word (targets (edit_of edit.now))) }
+    ensures { result
+        ≡ (list_any is_prefix_name (names (edit_of edit.now))
+        || list_any is_reserved_word (targets (edit_of edit.now))) }
 {
     match edit {
         Edit::SetValue { name, .. }
@@ -165,7 +168,9 @@ pub fn is_reserved<A: Allocator>(edit: &Edit<A>) -> bool
 
 // Whether a place names the recipe prefix, or a word of directives.
 fn is_reserved_place<A: Allocator>(place: &Place<A>) -> bool
-    ensures { result ≡ (list_any is_prefix_name (place_names (place_of place.now)) || list_any is_reserved_word (place_targets (place_of place.now))) }
+    ensures { result
+        ≡ (list_any is_prefix_name (place_names (place_of place.now))
+        || list_any is_reserved_word (place_targets (place_of place.now))) }
 {
     match place {
         Place::Bottom => false,

@@ -30,7 +30,8 @@ pub fn find<A: Allocator>(doc: &Doc<A>, edit: &Edit<A>) -> Result<Found, Refusal
     requires faithful { IsFaithful doc.now }
     requires one_place { IsOfOnePlace (edit_of edit.now) }
     ensures found { IfOk result (λ found. IsAddressed (edit_of edit.now) doc.now found) }
-    ensures refused { IfErr result (λ refusal. spans (located_text doc.now) (edit_of edit.now) ≡ Err refusal) }
+    ensures refused { IfErr result (λ refusal.
+        spans (located_text doc.now) (edit_of edit.now) ≡ Err refusal) }
 {
     if let Some(field) = bad_field(edit) {
         return Err(Refusal::BadArgument(field));
@@ -52,8 +53,11 @@ pub fn find<A: Allocator>(doc: &Doc<A>, edit: &Edit<A>) -> Result<Found, Refusal
 // The line that an address means, from what was sought for it; the end of the lines if there is no
 // address.
 fn pick(address: Option<Address>, sought: Sought) -> Result<Found, Refusal>
-    ensures found { (lines : List ClassedLine) → IsSought lines (address_seen address.entry) sought → IfOk result (λ found. IsPicked lines (address_seen address.entry) found) }
-    ensures refused { (lines : List ClassedLine) → IsSought lines (address_seen address.entry) sought → IfErr result (λ refusal. IsNotPicked lines (address_seen address.entry) refusal) }
+    ensures found { (lines : List ClassedLine) → IsSought lines (address_seen address.entry) sought
+        → IfOk result (λ found. IsPicked lines (address_seen address.entry) found) }
+    ensures refused { (lines : List ClassedLine)
+        → IsSought lines (address_seen address.entry) sought
+        → IfErr result (λ refusal. IsNotPicked lines (address_seen address.entry) refusal) }
 {
     let Some(address) = address else {
         return Ok(sought.end);

@@ -20,7 +20,8 @@ pub fn leans<A: Allocator>(
     after: RuleFlag,
 ) -> bool
     requires { from ≤ length doc.now }
-    ensures { result ≡ (not (is_same_flag before after) && is_led_first_located prefix (drop from doc.now)) }
+    ensures { result
+        ≡ (not (is_same_flag before after) && is_led_first_located prefix (drop from doc.now)) }
 {
     !is_same_flag(before, after) && is_led_first(doc, from, prefix)
 }

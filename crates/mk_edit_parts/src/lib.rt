@@ -1,4 +1,5 @@
-//! The parts of edits: what an edit is, which line it means, and the bytes of the lines that it writes.
+//! The parts of edits: what an edit is, which line it means, and the bytes of the lines that it
+//! writes.
 //!
 //! What an edit does is defined in `mk_edit_laws`, whose laws say what follows from it. The calls
 //! here answer what these definitions say; `mk_edit` plans edits with these calls.

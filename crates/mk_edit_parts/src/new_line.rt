@@ -3,7 +3,8 @@ ghost use Rattle.std.specs.Prelude.{◌≡◌, ◌==◌, ◌-◌, ◌*◌, ◌�
 ghost use Rattle.mk_class.specs.RecipePrefix.{is_prefix_led};
 ghost use Rattle.mk_lines.specs.PhysicalLines.{line_end_bytes};
 ghost use Rattle.mk_edit_laws.specs.declared.edit.Colons as colons;
-ghost use Rattle.mk_edit_laws.specs.NewLines.{assign_text, colons_text, each_spaced, joined_by_space, new_text, rule_text, spaced};
+ghost use Rattle.mk_lines.specs.Spacing.{each_after_space, spaced_words, after_space};
+ghost use Rattle.mk_edit_laws.specs.NewLines.{assign_text, colons_text, new_text, rule_text};
 ghost use Rattle.mk_lines.specs.Words.{words_in};
 ghost use Rattle.mk_edit_parts.specs.EditViews.{edit_of};
 
@@ -26,7 +27,7 @@ fn colons_text(colons: Colons) -> &'static [u8]
 
 // How many bytes a text has with a space before it; 0 if the text is empty.
 fn spaced_len(text: &[u8]) -> usize
-    ensures { result ≡ length (spaced text.now) }
+    ensures { result ≡ length (after_space text.now) }
 {
     match text {
         [] => 0,
@@ -36,13 +37,13 @@ fn spaced_len(text: &[u8]) -> usize
 
 // How many bytes the words of a text have, each with a space before it.
 fn each_spaced_len(text: &[u8]) -> usize
-    ensures number { result ≡ length (each_spaced (words_in text.now)) }
+    ensures number { result ≡ length (each_after_space (words_in text.now)) }
     ensures few { result ≤ 2 * length text.now }
 {
     let mut count = 0;
     let mut rest = text;
     'words: while let Some((word, after)) = split_first_word(rest) {
-        count += spaced_len(word);
+        count += word.len() + 1;
         rest = after;
     }
     count
@@ -50,7 +51,7 @@ fn each_spaced_len(text: &[u8]) -> usize
 
 // How many bytes the words of a text have with one space between them.
 fn joined_len(text: &[u8]) -> usize
-    ensures { result ≡ length (joined_by_space (words_in text.now)) }
+    ensures { result ≡ length (spaced_words (words_in text.now)) }
 {
     each_spaced_len(text).saturating_sub(1)
 }
@@ -58,7 +59,8 @@ fn joined_len(text: &[u8]) -> usize
 /// How many bytes the text of an edit's new line has, without its line end, or the greatest `usize`
 /// if it has more. Takes no memory.
 pub fn new_len<A: Allocator>(edit: &Edit<A>) -> usize
-    ensures { (prefix : ℕ) → result ≡ min (length (new_text prefix (edit_of edit.now))) (2 ^ 64 - 1) }
+    ensures { (prefix : ℕ)
+        → result ≡ min (length (new_text prefix (edit_of edit.now))) (2 ^ 64 - 1) }
 {
     match edit {
         Edit::AddAssign {
@@ -108,7 +110,8 @@ pub fn new_line<A: Allocator + Copy>(
     prefix: u8,
     end: End,
 ) -> Result<Vec<u8, A>, AllocError>
-    ensures { IfOk result (λ bytes. bytes.items ≡ new_text prefix (edit_of edit.now) ++ line_end_bytes end) }
+    ensures { IfOk result (λ bytes.
+        bytes.items ≡ new_text prefix (edit_of edit.now) ++ line_end_bytes end) }
 {
     let room = new_len(edit).saturating_add(2);
     let mut bytes = Vec::with_capacity(alloc, room)?;
@@ -139,7 +142,8 @@ fn push_assign<A: Allocator>(
     flavor: Flavor,
     value: &[u8],
 ) -> Result<(), AllocError>
-    ensures { OnOk result (bytes.new.items ≡ bytes.old.items ++ assign_text name.now flavor value.now) }
+    ensures { OnOk result
+        (bytes.new.items ≡ bytes.old.items ++ assign_text name.now flavor value.now) }
 {
     bytes.extend_from_slice(name)?;
     bytes.push(b' ')?;
@@ -154,7 +158,8 @@ fn push_rule<A: Allocator>(
     colons: Colons,
     prereqs: &[u8],
 ) -> Result<(), AllocError>
-    ensures { OnOk result (bytes.new.items ≡ bytes.old.items ++ rule_text targets.now colons prereqs.now) }
+    ensures { OnOk result
+        (bytes.new.items ≡ bytes.old.items ++ rule_text targets.now colons prereqs.now) }
 {
     push_joined(bytes, targets)?;
     bytes.extend_from_slice(colons_text(colons))?;
@@ -186,7 +191,7 @@ fn push_line_end<A: Allocator>(bytes: &mut Vec<u8, A>, end: End) -> Result<(), A
 
 // Puts a text after some bytes, with a space before it if it is not empty.
 fn push_spaced<A: Allocator>(bytes: &mut Vec<u8, A>, text: &[u8]) -> Result<(), AllocError>
-    ensures { OnOk result (bytes.new.items ≡ bytes.old.items ++ spaced text.now) }
+    ensures { OnOk result (bytes.new.items ≡ bytes.old.items ++ after_space text.now) }
 {
     match text {
         [] => Ok(()),
@@ -199,11 +204,13 @@ fn push_spaced<A: Allocator>(bytes: &mut Vec<u8, A>, text: &[u8]) -> Result<(), 
 
 // Puts the words of a text after some bytes, each with a space before it.
 fn push_each_spaced<A: Allocator>(bytes: &mut Vec<u8, A>, text: &[u8]) -> Result<(), AllocError>
-    ensures { OnOk result (bytes.new.items ≡ bytes.old.items ++ each_spaced (words_in text.now)) }
+    ensures { OnOk result
+        (bytes.new.items ≡ bytes.old.items ++ each_after_space (words_in text.now)) }
 {
     let mut rest = text;
     'words: while let Some((word, after)) = split_first_word(rest) {
-        push_spaced(bytes, word)?;
+        bytes.push(b' ')?;
+        bytes.extend_from_slice(word)?;
         rest = after;
     }
     Ok(())
@@ -211,7 +218,8 @@ fn push_each_spaced<A: Allocator>(bytes: &mut Vec<u8, A>, text: &[u8]) -> Result
 
 // Puts the words of a text after some bytes, with one space between them.
 fn push_joined<A: Allocator>(bytes: &mut Vec<u8, A>, text: &[u8]) -> Result<(), AllocError>
-    ensures { OnOk result (bytes.new.items ≡ bytes.old.items ++ joined_by_space (words_in text.now)) }
+    ensures { OnOk result
+        (bytes.new.items ≡ bytes.old.items ++ spaced_words (words_in text.now)) }
 {
     let Some((word, after)) = split_first_word(text) else {
         return Ok(());
@@ -235,7 +243,8 @@ pub fn begins_with_prefix<A: Allocator>(edit: &Edit<A>, prefix: u8) -> bool
 
 // The first byte of a text, or `other` if the text is empty.
 fn first_byte(text: &[u8], other: u8) -> u8
-    ensures { (prefix : ℕ) (after : List ℕ) → (result == prefix) ≡ is_prefix_led prefix (text.now ++ other ∷ after) }
+    ensures { (prefix : ℕ) (after : List ℕ)
+        → (result == prefix) ≡ is_prefix_led prefix (text.now ++ other ∷ after) }
 {
     match text {
         [first, ..] => *first,
@@ -245,7 +254,8 @@ fn first_byte(text: &[u8], other: u8) -> u8
 
 // The first byte of a rule with these targets.
 fn first_of_rule(targets: &[u8]) -> u8
-    ensures { (prefix : ℕ) (c : colons.Colons) (prereqs : List ℕ) → (result == prefix) ≡ is_prefix_led prefix (rule_text targets.now c prereqs) }
+    ensures { (prefix : ℕ) (c : colons.Colons) (prereqs : List ℕ)
+        → (result == prefix) ≡ is_prefix_led prefix (rule_text targets.now c prereqs) }
 {
     match split_first_word(targets) {
         Some((word, _)) => first_byte(word, b':'),

@@ -26,7 +26,8 @@ use std::alloc::{AllocError, Allocator};
 /// Whether a word is among the normal prerequisites.
 pub fn has_normal<A: Allocator>(line: &Line<A>, header: Header, word: &[u8]) -> bool
     requires { HasHeader (line_view line.now) header }
-    ensures { (h : Headers.Header Cell) → IsHeaderSeen (line_view line.now) header h → result ≡ is_normal word.now h }
+    ensures { (h : Headers.Header Cell) → IsHeaderSeen (line_view line.now) header h
+        → result ≡ is_normal word.now h }
 {
     has_word(part(text_of_line(line), normal(header)), word)
 }
@@ -34,7 +35,8 @@ pub fn has_normal<A: Allocator>(line: &Line<A>, header: Header, word: &[u8]) -> 
 /// Whether a word is among the order-only prerequisites.
 pub fn has_order_only<A: Allocator>(line: &Line<A>, header: Header, word: &[u8]) -> bool
     requires { HasHeader (line_view line.now) header }
-    ensures { (h : Headers.Header Cell) → IsHeaderSeen (line_view line.now) header h → result ≡ is_order_only word.now h }
+    ensures { (h : Headers.Header Cell) → IsHeaderSeen (line_view line.now) header h
+        → result ≡ is_order_only word.now h }
 {
     has_word(part(text_of_line(line), order_only(header)), word)
 }
@@ -78,7 +80,9 @@ fn raw_part<A: Allocator>(line: &Line<A>, span: Span) -> &[u8]
 // The raw bytes of a line from an offset in its joined text on, with its line end.
 fn raw_rest<A: Allocator>(line: &Line<A>, start: usize) -> &[u8]
     requires within { start ≤ length (line_cells (line_view line.now).bytes) }
-    ensures { result.now ≡ raw_text (drop start (line_cells (line_view line.now).bytes)) ++ line_end_bytes (line_end (line_view line.now).bytes) }
+    ensures { result.now
+        ≡ raw_text (drop start (line_cells (line_view line.now).bytes))
+        ++ line_end_bytes (line_end (line_view line.now).bytes) }
 {
     let bytes = line.bytes();
     let start = line.cells().raw_range(start, start).start;
@@ -135,8 +139,8 @@ pub fn before_new(header: Header, order: bool) -> &'static [u8]
     }
 }
 
-/// What is written after a new prerequisite at an offset: a space if a `|` would follow it directly,
-/// and otherwise nothing.
+/// What is written after a new prerequisite at an offset: a space if a `|` would follow it
+/// directly, and otherwise nothing.
 pub fn after_new(header: Header, order: bool, offset: usize) -> &'static [u8]
     ensures { result.now ≡ after_new order offset header }
 {
@@ -150,7 +154,9 @@ pub fn after_new(header: Header, order: bool, offset: usize) -> &'static [u8]
 /// How many bytes a new prerequisite adds to a line.
 pub fn len_of_new<A: Allocator>(line: &Line<A>, header: Header, order: bool, word: &[u8]) -> usize
     requires { HasHeader (line_view line.now) header }
-    ensures { result ≡ length (new_word_text order (offset_of_new order (text_of_line (line_view line.now)) header) word.now header) }
+    ensures { result
+        ≡ length (new_word_text order
+        (offset_of_new order (text_of_line (line_view line.now)) header) word.now header) }
 {
     let offset = offset_of_new(line, header, order);
     before_new(header, order).len() + word.len() + after_new(header, order, offset).len()
@@ -170,8 +176,11 @@ pub fn with_prerequisite<A: Allocator + Copy>(
 ) -> Result<Vec<u8, A>, AllocError>
     requires header { HasHeader (line_view line.now) header }
     requires short { length (line_view line.now).bytes + length word.now < 2 ^ 32 }
-    ensures { IfOk result (λ bytes. (h : Headers.Header Cell) → IsHeaderSeen (line_view line.now) header h
-        → bytes.items ≡ new_bytes (add_pieces order word.now h) ++ line_end_bytes (line_end (line_view line.now).bytes)) }
+    ensures { IfOk result (λ bytes.
+        (h : Headers.Header Cell) → IsHeaderSeen (line_view line.now) header h
+        → bytes.items
+        ≡ new_bytes (add_pieces order word.now h) ++ line_end_bytes
+        (line_end (line_view line.now).bytes)) }
 {
     let offset = offset_of_new(line, header, order);
     let mut bytes = Vec::with_capacity(alloc, line.bytes().len() + word.len() + 3)?;
@@ -204,8 +213,11 @@ pub fn without_prerequisite<A: Allocator + Copy>(
     word: &[u8],
 ) -> Result<Vec<u8, A>, AllocError>
     requires { HasHeader (line_view line.now) header }
-    ensures { IfOk result (λ bytes. (h : Headers.Header Cell) → IsHeaderSeen (line_view line.now) header h
-        → bytes.items ≡ new_bytes (remove_pieces word.now h) ++ line_end_bytes (line_end (line_view line.now).bytes)) }
+    ensures { IfOk result (λ bytes.
+        (h : Headers.Header Cell) → IsHeaderSeen (line_view line.now) header h
+        → bytes.items
+        ≡ new_bytes (remove_pieces word.now h) ++ line_end_bytes
+        (line_end (line_view line.now).bytes)) }
 {
     let normal = normal(header);
     let order_only = order_only(header);
@@ -240,7 +252,12 @@ fn put_without<A: Allocator>(
 ) -> Result<(), AllocError>
     requires rises { span.start ≤ span.end }
     requires within { span.end ≤ length (line_cells (line_view line.now).bytes) }
-    ensures { IsOk result → bytes.new.items ≡ bytes.old.items ++ without_words (line_cells (line_view line.now).bytes) span.start (text_at (text_of_line (line_view line.now)) span) word.now span.start (word_ranges (text_at (text_of_line (line_view line.now)) span)) span.end }
+    ensures { IsOk result
+        → bytes.new.items
+        ≡ bytes.old.items
+        ++ without_words (line_cells (line_view line.now).bytes) span.start
+        (text_at (text_of_line (line_view line.now)) span) word.now span.start
+        (word_ranges (text_at (text_of_line (line_view line.now)) span)) span.end }
 {
     let text = part(text_of_line(line), span);
     let mut done = span.start;

@@ -41,7 +41,8 @@ pub fn with_replaced<A: Allocator>(
 ) -> Result<Vec<u8, A>, AllocError>
     requires rises { range.start ≤ range.end }
     requires within { range.end ≤ length bytes.now }
-    ensures { IfOk result (λ all. all.items ≡ take range.start bytes.now ++ (new.now ++ drop range.end bytes.now)) }
+    ensures { IfOk result (λ all.
+        all.items ≡ take range.start bytes.now ++ (new.now ++ drop range.end bytes.now)) }
 {
     let length = bytes.len() - (range.end - range.start) + new.len();
     let mut all = Vec::with_capacity(alloc, length)?;

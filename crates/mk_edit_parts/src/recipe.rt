@@ -1,6 +1,7 @@
 //! The recipe of a rule, found by a walk down from its header.
 //!
-//! A walk looks at the classes of the lines that it passes. It reads no line anew and takes no memory.
+//! A walk looks at the classes of the lines that it passes. It reads no line anew and takes no
+//! memory.
 ghost use Rattle.std.specs.Prelude.{◌≡◌, ◌≤◌, ◌+◌, length, option_map};
 ghost use Rattle.std.specs.List.{list_any};
 ghost use Rattle.mk_class.specs.Classes.{is_conditional};
@@ -30,7 +31,8 @@ pub fn recipe_below<A: Allocator>(doc: &Doc<A>, from: usize) -> Recipe
     requires faithful { IsFaithful doc.now }
     requires in_range { from ≤ length doc.now }
     ensures end { result.end ≡ from + length (recipe_run (lines_from doc.now from)) }
-    ensures is_split { result.is_split ≡ list_any (λ line. is_conditional line.class) (recipe_run (lines_from doc.now from)) }
+    ensures is_split { result.is_split
+        ≡ list_any (λ line. is_conditional line.class) (recipe_run (lines_from doc.now from)) }
 {
     let mut recipe = Recipe {
         end: from,
@@ -59,7 +61,9 @@ pub fn recipe_below<A: Allocator>(doc: &Doc<A>, from: usize) -> Recipe
 pub fn recipe_line<A: Allocator>(doc: &Doc<A>, from: usize, number: u32) -> Option<usize>
     requires faithful { IsFaithful doc.now }
     requires in_range { from ≤ length doc.now }
-    ensures { result ≡ option_map (λ spot. from + length spot.above) (nth_of number (recipe_spots_in (lines_from doc.now from))) }
+    ensures { result
+        ≡ option_map (λ spot. from + length spot.above)
+        (nth_of number (recipe_spots_in (lines_from doc.now from))) }
 {
     let mut passed = 0;
     'lines: for at in from..doc.len() {

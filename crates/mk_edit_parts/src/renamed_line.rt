@@ -31,8 +31,10 @@ pub fn renamed_bytes<A: Allocator + Copy>(
 ) -> Result<Vec<u8, A>, AllocError>
     requires classed { IsClassed (line_view line.now) }
     requires class { class.now ≡ (line_view line.now).class }
-    requires apart { AreApart 0 (length (line_view line.now).bytes) (renamed_ranges from.now (line_view line.now)) }
-    ensures { IfOk result (λ bytes. bytes.items ≡ renamed_text from.now to.now (line_view line.now)) }
+    requires apart { AreApart 0 (length (line_view line.now).bytes)
+        (renamed_ranges from.now (line_view line.now)) }
+    ensures { IfOk result (λ bytes.
+        bytes.items ≡ renamed_text from.now to.now (line_view line.now)) }
 {
     let parts = parts_of(line, class);
     let mut bytes = Vec::with_capacity(alloc, room)?;
@@ -43,8 +45,8 @@ pub fn renamed_bytes<A: Allocator + Copy>(
     Ok(bytes)
 }
 
-// Writes a line from an offset up to the end of the last word of a part that is replaced, and answers
-// this end; if no word is replaced, it writes nothing and answers the offset.
+// Writes a line from an offset up to the end of the last word of a part that is replaced, and
+// answers this end; if no word is replaced, it writes nothing and answers the offset.
 fn write_part<A: Allocator + Copy>(
     bytes: &mut Vec<u8, A>,
     line: &Line<A>,
@@ -54,9 +56,14 @@ fn write_part<A: Allocator + Copy>(
     done: usize,
 ) -> Result<usize, AllocError>
     requires within { IsWithin (length (line_cells (line_view line.now).bytes)) span }
-    requires apart { AreApart done (length (line_view line.now).bytes) (part_ranges (line_cells (line_view line.now).bytes) from.now span) }
-    ensures end { IfOk result (λ end. end ≡ last_end done (part_ranges (line_cells (line_view line.now).bytes) from.now span)) }
-    ensures written { IfOk result (λ end. bytes.new.items ≡ bytes.old.items ++ written (line_view line.now).bytes done to.now (part_ranges (line_cells (line_view line.now).bytes) from.now span)) }
+    requires apart { AreApart done (length (line_view line.now).bytes)
+        (part_ranges (line_cells (line_view line.now).bytes) from.now span) }
+    ensures end { IfOk result (λ end.
+        end ≡ last_end done (part_ranges (line_cells (line_view line.now).bytes) from.now span)) }
+    ensures written { IfOk result (λ end. bytes.new.items
+        ≡ bytes.old.items
+        ++ written (line_view line.now).bytes done to.now
+        (part_ranges (line_cells (line_view line.now).bytes) from.now span)) }
 {
     let mut done = done;
     'words: for word in words(part(text_of_line(line), span)) {
@@ -78,7 +85,8 @@ fn write_word<A: Allocator>(
 ) -> Result<(), AllocError>
     requires after { done ≤ word.start }
     requires within { word.start ≤ length line.now }
-    ensures { IfOk result (λ _. bytes.new.items ≡ bytes.old.items ++ written line.now done to.now (word ∷ [])) }
+    ensures { IfOk result (λ _.
+        bytes.new.items ≡ bytes.old.items ++ written line.now done to.now (word ∷ [])) }
 {
     bytes.extend_from_slice(&line[done..word.start])?;
     bytes.extend_from_slice(to)?;

@@ -1,5 +1,6 @@
 //! The line of a document that an address means, found by one walk over the kept lines.
-ghost use Rattle.std.specs.Prelude.{◌≡◌, ◌<◌, ◌≤◌, ◌^◌};
+ghost use Rattle.std.specs.Prelude.{◌≡◌, ◌<◌, ◌≤◌};
+ghost use Rattle.mk_lines.specs.Limits.{max_text};
 ghost use Rattle.mk_class.specs.ClassedLines.{classed_lines};
 ghost use Rattle.mk_class.specs.Contexts.{Admits};
 ghost use Rattle.mk_tree.specs.Documents.{IsFaithful};
@@ -73,7 +74,7 @@ fn nothing_seen() -> Sought
 
 // What a walk has seen after one more line.
 fn noted(is_meant: bool, is_unread: bool, wanted: usize, class: &Class, sought: Sought) -> Sought
-    requires few { sought.end.at < 2 ^ 24 }
+    requires few { sought.end.at < max_text }
     requires no_more { sought.count ≤ sought.end.at }
     requires admitted { Admits sought.end.context class.now }
     ensures seen { result ≡ noted_by is_meant is_unread wanted class.now sought }

@@ -46,9 +46,13 @@ pub fn count_words<A: Allocator>(line: &Line<A>, class: &Class, from: &[u8]) -> 
 // The count with the words of a part added that are `from`.
 fn count_in_part<A: Allocator>(line: &Line<A>, span: Span, from: &[u8], tally: Tally) -> Tally
     requires within { IsWithin (length (line_cells (line_view line.now).bytes)) span }
-    requires few { tally.words + length (part_ranges (line_cells (line_view line.now).bytes) from.now span) < 2 ^ 32 }
-    requires few_bytes { tally.bytes + bytes_in (part_ranges (line_cells (line_view line.now).bytes) from.now span) ≤ 2 ^ 32 }
-    ensures { result ≡ tallied tally (part_ranges (line_cells (line_view line.now).bytes) from.now span) }
+    requires few { tally.words
+        + length (part_ranges (line_cells (line_view line.now).bytes) from.now span) < 2 ^ 32 }
+    requires few_bytes { tally.bytes
+        + bytes_in (part_ranges (line_cells (line_view line.now).bytes) from.now span)
+        ≤ 2 ^ 32 }
+    ensures { result
+        ≡ tallied tally (part_ranges (line_cells (line_view line.now).bytes) from.now span) }
 {
     let mut tally = tally;
     'words: for word in words(part(text_of_line(line), span)) {

@@ -79,7 +79,8 @@ pub fn range_of_word<A: Allocator>(
 ) -> Option<Span>
     requires rises { word.start ≤ word.end }
     requires within { part_start + word.end ≤ length (line_cells (line_view line.now).bytes) }
-    ensures range { result ≡ range_in (line_cells (line_view line.now).bytes) part_start wanted.now word }
+    ensures range { result
+        ≡ range_in (line_cells (line_view line.now).bytes) part_start wanted.now word }
     ensures within { IfSome result (λ range. IsWithin (length (line_view line.now).bytes) range) }
 {
     let text = text_of_line(line);

@@ -64,12 +64,12 @@ fn refusal_of<'a>(heap: Heap<'a>, doc: &Doc<Heap<'a>>, edit: &Edit<Heap<'a>>) ->
 
 /// Checks an edit of a makefile that is accepted.
 ///
-/// With each growth of its plan refused in turn the answer is `NoMemory`, and the document is the same.
-/// With ample memory the patch leads to the expected text and back, and takes no memory for it. Where
-/// all that holds, the allocator refuses no growth afterwards.
+/// With each growth of its plan refused in turn the answer is `NoMemory`, and the document is the
+/// same. With ample memory the patch leads to the expected text and back, and takes no memory for
+/// it. Where all that holds, the allocator refuses no growth afterwards.
 ///
-/// What is checked has the edit by a reference: where a function owns it, each way out of the function
-/// drops one of many kinds of edits, which makes its proof long.
+/// What is checked has the edit by a reference: where a function owns it, each way out of the
+/// function drops one of many kinds of edits, which makes its proof long.
 pub fn check_accepted<'a>(
     heap: Heap<'a>,
     makefile: &[u8],
@@ -118,8 +118,8 @@ fn check_growths<'a>(
     Ok(())
 }
 
-/// Checks that with ample memory an edit leads to the expected text and back, and that its patch takes
-/// no memory for it.
+/// Checks that with ample memory an edit leads to the expected text and back, and that its patch
+/// takes no memory for it.
 fn check_made<'a>(
     heap: Heap<'a>,
     makefile: &[u8],
@@ -157,9 +157,9 @@ fn check_both_ways<'a>(
     check(is_text(doc, makefile), "its inverse leads back")
 }
 
-/// Checks an edit of a makefile that is refused: it asks for no memory, so that the refusal is the same
-/// whichever growth would be refused, and the document is the same. Where all that holds, the allocator
-/// refuses no growth afterwards.
+/// Checks an edit of a makefile that is refused: it asks for no memory, so that the refusal is the
+/// same whichever growth would be refused, and the document is the same. Where all that holds, the
+/// allocator refuses no growth afterwards.
 pub fn check_refused<'a>(
     heap: Heap<'a>,
     makefile: &[u8],

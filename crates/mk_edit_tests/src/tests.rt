@@ -1,5 +1,5 @@
-//! One test for each edit that is accepted, for each refusal, and for what a plan takes. The texts and
-//! the refusals of edits are those of tests/cases.
+//! One test for each edit that is accepted, for each refusal, and for what a plan takes. The texts
+//! and the refusals of edits are those of tests/cases.
 ghost use Rattle.mk_patch.specs.Moves.{FitMoves};
 
 use crate::checks::{Heap, check_accepted, check_refused, document, growths_of_plan};
@@ -9,7 +9,7 @@ use crate::edits::{
 };
 use mk_class::{Flavor, Meter};
 use mk_edit::{Colons, Edit, Field, Refusal, plan};
-use mk_lines::source::TEXT_LIMIT;
+use mk_lines::source::MAX_TEXT;
 use mk_patch::Patch;
 use mk_tree::Doc;
 use std::alloc::AllocError;
@@ -223,7 +223,7 @@ fn lines_that_lean_refuse_a_removal(rt: HostRuntime) -> Result<(), Fail> {
 // A makefile of the greatest length: an assignment, and a comment.
 fn longest_makefile<'a>(heap: Heap<'a>) -> Result<Vec<u8, Heap<'a>>, AllocError> {
     let mut makefile = Vec::from_slice(heap, b"A=1\n#")?;
-    makefile.resize(TEXT_LIMIT, b'x')?;
+    makefile.resize(MAX_TEXT, b'x')?;
     Ok(makefile)
 }
 
@@ -259,8 +259,8 @@ fn growths_above_few_and_many<'a>(
     Ok((few, many))
 }
 
-// The same of an edit for which there may have been no memory. It does nothing else, since every way out
-// drops the edit.
+// The same of an edit for which there may have been no memory. It does nothing else, since every
+// way out drops the edit.
 fn few_and_many<'a>(
     heap: Heap<'a>,
     edit: Result<Edit<Heap<'a>>, AllocError>,

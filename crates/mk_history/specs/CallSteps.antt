@@ -10,7 +10,8 @@ pub data Reply (R : Type 0) : Type 0 where
 
 -- `answer` is what a call makes of a state, or why the call is refused.
 module _ {C X R : Type 0} (answer : C → X → Result X R) where
-  -- a call with its reply leads from one state to another; a call that is refused or finds no memory changes nothing
+  -- a call with its reply leads from one state to another; a call that is refused or finds no
+  -- memory changes nothing
   abbrev pub IsStep : C → Reply R → X → X → Type 0
   IsStep c Granted x y = answer c x ≡ Ok y
   IsStep c (Refused r) x y = (answer c x ≡ Err r) × (y ≡ x)

@@ -5,10 +5,11 @@ use Rattle.mk_history.specs.Chain.{IsChain, states}
 use Rattle.mk_history.specs.Stacks.{Stacks, Several, FitInTurn, after_in_turn}
 use Rattle.mk_history.specs.Machine.{Command, Apply, Undo, Redo, Begin, End, Cancel, Refusal, EditRefused, NothingToUndo, NothingToRedo, GroupOpen, NoGroup, Machine, text, settled, text_of_members, replay}
 
--- The depth; the text; the texts that undoing leads back through, and the texts that redoing leads through, with the nearest text
--- of each list first; and, if a group is open, the text at its beginning and the number of its edits. Without this number it
--- could not be told what `end` leads to: a group whose edits gave the text of its beginning again leaves a member, and a group
--- without edits leaves none.
+-- The depth; the text; the texts that undoing leads back through, and the texts that redoing leads
+-- through, with the nearest text of each list first; and, if a group is open, the text at its
+-- beginning and the number of its edits. Without this number it could not be told what `end` leads
+-- to: a group whose edits gave the text of its beginning again leaves a member, and a group without
+-- edits leaves none.
 pub record Shown (T : Type 0) : Type 0 where
   pub depth : ℕ
   pub text : T
@@ -19,7 +20,8 @@ pub record Shown (T : Type 0) : Type 0 where
 
 -- what is seen of a session that was opened on a text
 abbrev pub shown_opened : {T : Type 0} → (depth : ℕ) → T → Shown T
-shown_opened depth t = record { depth = depth; text = t; back = []; forward = []; begun = None; pending = 0 }
+shown_opened depth t =
+    record { depth = depth; text = t; back = []; forward = []; begun = None; pending = 0 }
 
 -- ---- what is seen of a machine
 
@@ -71,17 +73,29 @@ module _ {T R : Type 0} where
 module _ {E T R : Type 0} (act : E → T → Result T R) where
   -- what a call answers, and what is seen after it
   abbrev pub shown_answer : Command E → Shown T → Result (Shown T) (Refusal R)
-  shown_answer (Apply e) s = elim (act e s.text) [ Ok new ↦ Ok (shown_edited new s) | Err r ↦ Err (EditRefused r) ]
+  shown_answer (Apply e) s =
+      elim (act e s.text) [ Ok new ↦ Ok (shown_edited new s) | Err r ↦ Err (EditRefused r) ]
   shown_answer Undo s = elim s.begun [ Some b ↦ Err GroupOpen | None ↦ shown_back s s.back ]
   shown_answer Redo s = elim s.begun [ Some b ↦ Err GroupOpen | None ↦ shown_forward s s.forward ]
-  shown_answer Begin s = elim s.begun [ Some b ↦ Err GroupOpen | None ↦ Ok (record s { begun = Some s.text; pending = 0 }) ]
+  shown_answer Begin s =
+      elim s.begun [
+        | Some b ↦ Err GroupOpen
+        | None ↦ Ok
+            (record s { begun = Some s.text; pending = 0 })
+      ]
   shown_answer End s = elim s.begun [ Some b ↦ Ok (shown_ended b s.pending s) | None ↦ Err NoGroup ]
-  shown_answer Cancel s = elim s.begun [ Some b ↦ Ok (record s { text = b; begun = None; pending = 0 }) | None ↦ Err NoGroup ]
+  shown_answer Cancel s =
+      elim s.begun [
+        | Some b ↦ Ok (record s { text = b; begun = None; pending = 0 })
+        | None ↦ Err
+            NoGroup
+      ]
 
 -- ---- what is seen of a state with its history
 
 -- What is seen if no group is open. `text` is the text that a state shows.
-abbrev pub shown_history : {C S T : Type 0} → (after : C → S → S) → (text : S → T) → Stacks C → S → Shown T
+abbrev pub shown_history : {C S T : Type 0} → (after : C → S → S) → (text : S → T) → Stacks C → S
+    → Shown T
 shown_history after text h state = record {
   depth = h.depth;
   text = text state;
@@ -91,21 +105,27 @@ shown_history after text h state = record {
   pending = 0;
 }
 
--- What is seen if a group may be open. The group's changes take back what was done in it, the newest first, so they lead to the
--- state at its beginning. The history is the history of that state.
-abbrev pub shown_session : {C S T : Type 0} → (after : C → S → S) → (text : S → T) → Stacks (Several C)
+-- What is seen if a group may be open. The group's changes take back what was done in it, the
+-- newest first, so they lead to the state at its beginning. The history is the history of that
+-- state.
+abbrev pub shown_session : {C S T : Type 0} → (after : C → S → S) → (text : S → T)
+    → Stacks (Several C)
     → (group : Option (Several C)) → S → Shown T
 shown_session after text h None state = shown_history (after_in_turn after) text h state
 shown_session after text h (Some g) state =
     let begun = after_in_turn after g state in
-    record (shown_history (after_in_turn after) text h begun) { text = text state; begun = Some (text begun); pending = length g.changes }
+    record (shown_history (after_in_turn after) text h begun)
+    { text = text state; begun = Some (text begun); pending = length g.changes }
 
--- What a session keeps fits together. The history's lists are chains from the state, or, if a group is open, from the state at
--- its beginning, to which the group's changes are a chain. Once the group has a change, nothing can be redone.
-abbrev pub IsConsistent : {C S : Type 0} → (fits : C → S → Type 0) → (after : C → S → S) → Stacks (Several C)
+-- What a session keeps fits together. The history's lists are chains from the state, or, if a group
+-- is open, from the state at its beginning, to which the group's changes are a chain. Once the
+-- group has a change, nothing can be redone.
+abbrev pub IsConsistent : {C S : Type 0} → (fits : C → S → Type 0) → (after : C → S → S)
+    → Stacks (Several C)
     → (group : Option (Several C)) → S → Type 0
 IsConsistent fits after h None state =
-    IsChain (FitInTurn fits after) (after_in_turn after) h.done state × IsChain (FitInTurn fits after) (after_in_turn after) h.undone state
+    IsChain (FitInTurn fits after) (after_in_turn after) h.done state
+    × IsChain (FitInTurn fits after) (after_in_turn after) h.undone state
 IsConsistent fits after h (Some g) state =
     let begun = after_in_turn after g state in
     FitInTurn fits after g state

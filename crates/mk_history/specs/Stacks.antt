@@ -3,8 +3,8 @@
 use Rattle.std.specs.Prelude.{ℕ, List}
 use Rattle.mk_history.specs.Chain.{IsChain, after_all}
 
--- the depth: how many changes can be undone at most; the changes that can be undone, and those that can be redone, with the
--- nearest of each list first
+-- the depth: how many changes can be undone at most; the changes that can be undone, and those that
+-- can be redone, with the nearest of each list first
 pub record Stacks (C : Type 0) : Type 0 where
   pub depth : ℕ
   pub done : List C
@@ -16,7 +16,8 @@ pub record Several (C : Type 0) : Type 0 where
   pub room : ℕ
 
 -- the changes fit a state in turn
-abbrev pub FitInTurn : {C S : Type 0} → (fits : C → S → Type 0) → (after : C → S → S) → Several C → S → Type 0
+abbrev pub FitInTurn : {C S : Type 0} → (fits : C → S → Type 0) → (after : C → S → S) → Several C
+    → S → Type 0
 FitInTurn fits after s state = IsChain fits after s.changes state
 
 -- the state after all the changes

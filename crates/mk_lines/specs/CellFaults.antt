@@ -1,4 +1,5 @@
--- What keeps a line from being read as it stands: bad folds and stray bytes. Both are this project's profile.
+-- What keeps a line from being read as it stands: bad folds and stray bytes. Both are this
+-- project's profile.
 -- Told in docs/LANGUAGE.md, chapter 1.
 use Rattle.std.specs.Prelude.{◌==◌, Bool, true, false, ◌&&◌, ◌||◌, List, [], ◌∷◌}
 use Rattle.mk_lines.specs.Bytes.{ByteKind, LineFeed, CarriageReturn, byte_kind, is_backslash_kind}
@@ -29,8 +30,8 @@ is_stray_by LineFeed z = true
 is_stray_by CarriageReturn z = true
 is_stray_by k z = z
 
--- whether a cell is a stray byte: a NUL, a carriage return that is no part of a line end, or a line end by itself, of which
--- the text of one logical line has none
+-- whether a cell is a stray byte: a NUL, a carriage return that is no part of a line end, or a line
+-- end by itself, of which the text of one logical line has none
 abbrev pub is_stray : Cell → Bool
 is_stray c = is_stray_by (byte_kind (joined_byte c)) (joined_byte c == 0)
 

@@ -8,7 +8,8 @@ use Rattle.mk_lines.specs.declared.cells.stored.FoldEnd.{FoldEnd}
 use Rattle.mk_lines.specs.declared.cells.stack.Top.{Top}
 use Rattle.mk_lines.specs.declared.cells.stack.Top.TheVariants as top
 
--- the joined bytes; the ends of the folds, the last fold first; what the first cell is; and whether there is a bad fold
+-- the joined bytes; the ends of the folds, the last fold first; what the first cell is; and whether
+-- there is a bad fold
 pub record CellStack : Type 0 where
   pub joined : List ℕ
   pub ends : List FoldEnd
@@ -25,7 +26,13 @@ top_of (CrLfEnd r ∷ cs) = top.CrLf
 
 -- the stack of cells, the first of which begins at this raw offset
 abbrev pub stack_of : (offset : ℕ) → List Cell → CellStack
-stack_of offset cs = record { joined = joined_text cs; ends = fold_ends offset cs; top = top_of cs; bad_fold = has_bad_fold cs }
+stack_of offset cs =
+    record {
+      joined = joined_text cs;
+      ends = fold_ends offset cs;
+      top = top_of cs;
+      bad_fold = has_bad_fold cs;
+    }
 
 -- a stack with room for `room` joined bytes more
 pub record StackWithRoom : Type 0 where

@@ -1,4 +1,5 @@
--- The cells of a logical line: its text with each fold made one space, and the raw bytes that each joined byte stands for.
+-- The cells of a logical line: its text with each fold made one space, and the raw bytes that each
+-- joined byte stands for.
 -- Told in docs/LANGUAGE.md, chapter 1.
 use Rattle.std.specs.Prelude.{ℕ, Bool, List, [], ◌∷◌, ◌++◌, map, true, false, not}
 use Rattle.mk_lines.specs.Lists.{leading, after_leading, Each}
@@ -9,9 +10,11 @@ use Rattle.mk_lines.specs.PhysicalLines.{without_line_end}
 pub data Cell : Type 0 where
   -- a byte that stands for itself
   Byte : ℕ → Cell
-  -- a backslash with the line end that it escapes, the blanks before it, and the blanks and folds after it: one space
+  -- a backslash with the line end that it escapes, the blanks before it, and the blanks and folds
+  -- after it: one space
   Fold : List ℕ → Cell
-  -- a line end by itself, LF or CR LF, with the blanks and folds after it; the text of one logical line has none
+  -- a line end by itself, LF or CR LF, with the blanks and folds after it; the text of one logical
+  -- line has none
   LfEnd : List ℕ → Cell
   CrLfEnd : List ℕ → Cell
 
@@ -42,11 +45,13 @@ joined_text cs = map joined_byte cs
 abbrev pub is_blank_cell : Cell → Bool
 is_blank_cell c = is_blank_kind (byte_kind (joined_byte c))
 
--- A byte, by its kind, before the cells of the text after it. A line feed takes the blanks and folds that follow it. A carriage
--- return directly before a line feed joins it, and a backslash directly before that line end joins it too. A blank joins a fold
--- directly after it. Each other byte stands for itself.
+-- A byte, by its kind, before the cells of the text after it. A line feed takes the blanks and
+-- folds that follow it. A carriage return directly before a line feed joins it, and a backslash
+-- directly before that line end joins it too. A blank joins a fold directly after it. Each other
+-- byte stands for itself.
 abbrev pub prepend : ByteKind → ℕ → List Cell → List Cell
-prepend LineFeed b cs = LfEnd (b ∷ raw_text (leading is_blank_cell cs)) ∷ after_leading is_blank_cell cs
+prepend LineFeed b cs =
+    LfEnd (b ∷ raw_text (leading is_blank_cell cs)) ∷ after_leading is_blank_cell cs
 prepend CarriageReturn b (LfEnd r ∷ cs) = CrLfEnd (b ∷ r) ∷ cs
 prepend Backslash b (LfEnd r ∷ cs) = Fold (b ∷ r) ∷ cs
 prepend Backslash b (CrLfEnd r ∷ cs) = Fold (b ∷ r) ∷ cs

@@ -1,5 +1,6 @@
--- A list cut into pieces by a machine: in each state, an element begins a new piece or continues the piece before it. Logical
--- lines and units are both cut in this way, and share the laws of such a cut.
+-- A list cut into pieces by a machine: in each state, an element begins a new piece or continues
+-- the piece before it. Logical lines and units are both cut in this way, and share the laws of such
+-- a cut.
 -- Told in docs/DECISIONS.md, "mk_lines".
 use Rattle.std.specs.Prelude.{Bool, if◌then◌else◌, List, [], ◌∷◌}
 
@@ -18,4 +19,6 @@ module _ {A S : Type 0} (step : S → A → S) (begins : S → A → Bool) where
   abbrev pub pieces : S → List A → List (List A)
   pieces s [] = []
   pieces s (x ∷ t) =
-      if begins s x then (x ∷ continuation (step s x) t) ∷ pieces (step s x) t else pieces (step s x) t
+      if begins s x
+      then (x ∷ continuation (step s x) t) ∷ pieces (step s x) t
+      else pieces (step s x) t

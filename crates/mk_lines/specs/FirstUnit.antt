@@ -6,7 +6,8 @@ use Rattle.mk_lines.specs.Units.{Mark, Dollar, Escape, OpenParen, CloseParen, Op
 -- the least prefix longer than `seen` that passes the test, or the whole list if no prefix does
 abbrev pub least_prefix_after : {A : Type 0} → (List A → Bool) → (seen : List A) → List A → List A
 least_prefix_after p seen [] = seen
-least_prefix_after p seen (x ∷ t) = if p (seen ++ x ∷ []) then seen ++ x ∷ [] else least_prefix_after p (seen ++ x ∷ []) t
+least_prefix_after p seen (x ∷ t) =
+    if p (seen ++ x ∷ []) then seen ++ x ∷ [] else least_prefix_after p (seen ++ x ∷ []) t
 
 -- the least prefix that is not empty and passes the test, or the whole list if no prefix does
 abbrev pub least_prefix : {A : Type 0} → (List A → Bool) → List A → List A
@@ -46,9 +47,9 @@ module _ {A : Type 0} (byte : A → ℕ) where
   abbrev pub has_level_braces : List A → Bool
   has_level_braces t = mark_count is_open_brace t == mark_count is_close_brace t
 
-  -- A dollar with what it takes. Before `(` or `{` that is the reference: up to the least offset at which these brackets are
-  -- level, or up to the end of the text if there is no such offset. Otherwise it is the next byte, or nothing at the end of the
-  -- text.
+  -- A dollar with what it takes. Before `(` or `{` that is the reference: up to the least offset at
+  -- which these brackets are level, or up to the end of the text if there is no such offset.
+  -- Otherwise it is the next byte, or nothing at the end of the text.
   abbrev pub dollar_unit_at : Mark → (dollar next : A) → List A → List A
   dollar_unit_at OpenParen d x t = d ∷ least_prefix has_level_parens (x ∷ t)
   dollar_unit_at OpenBrace d x t = d ∷ least_prefix has_level_braces (x ∷ t)
@@ -86,7 +87,8 @@ module _ {A : Type 0} (byte : A → ℕ) where
 
   -- ---- units that leave a text open
 
-  -- whether the rest of a dollar unit, which begins with a byte of this mark, is a reference whose brackets are not level
+  -- whether the rest of a dollar unit, which begins with a byte of this mark, is a reference whose
+  -- brackets are not level
   abbrev pub is_unclosed_at : Mark → (rest : List A) → Bool
   is_unclosed_at OpenParen r = not (has_level_parens r)
   is_unclosed_at OpenBrace r = not (has_level_braces r)
@@ -114,7 +116,8 @@ module _ {A : Type 0} (byte : A → ℕ) where
   is_lone_backslash (x ∷ []) = is_backslash_mark (byte_mark (byte x))
   is_lone_backslash (x ∷ y ∷ t) = false
 
-  -- whether some unit is a lone dollar or an unclosed reference, or the last one is a lone backslash
+  -- whether some unit is a lone dollar or an unclosed reference, or the last one is a lone
+  -- backslash
   abbrev pub leaves_open : List (List A) → Bool
   leaves_open [] = false
   leaves_open (u ∷ []) = is_unclosed_unit u || is_lone_backslash u

@@ -13,7 +13,8 @@ abbrev pub after_leading : {A : Type 0} → (A → Bool) → List A → List A
 after_leading p [] = []
 after_leading p (x ∷ xs) = if p x then after_leading p xs else x ∷ xs
 
--- an element before what `trim_end` keeps of the rest: the element goes if it passes the test and nothing of the rest is kept
+-- an element before what `trim_end` keeps of the rest: the element goes if it passes the test and
+-- nothing of the rest is kept
 abbrev pub trim_end_before : {A : Type 0} → Bool → A → List A → List A
 trim_end_before true x [] = []
 trim_end_before true x (y ∷ ys) = x ∷ y ∷ ys
@@ -24,7 +25,8 @@ abbrev pub trim_end : {A : Type 0} → (A → Bool) → List A → List A
 trim_end p [] = []
 trim_end p (x ∷ xs) = trim_end_before (p x) x (trim_end p xs)
 
--- an element before the trailing ones of the rest: it is one of them if it passes the test and nothing of the rest is kept
+-- an element before the trailing ones of the rest: it is one of them if it passes the test and
+-- nothing of the rest is kept
 abbrev pub trailing_before : {A : Type 0} → Bool → A → (kept trailing : List A) → List A
 trailing_before true x [] t = x ∷ t
 trailing_before true x (y ∷ ys) t = t

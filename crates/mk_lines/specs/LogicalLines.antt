@@ -7,8 +7,8 @@ use Rattle.mk_lines.specs.PhysicalLines.{physical_lines, line_end, without_line_
 use Rattle.mk_lines.specs.declared.ends.End.{End}
 use Rattle.mk_lines.specs.declared.ends.End.TheVariants.{None, Lf, CrLf}
 
--- whether the run of backslashes at the front of a text that begins with a byte of this kind has odd length; `rest` says so of
--- what follows
+-- whether the run of backslashes at the front of a text that begins with a byte of this kind has
+-- odd length; `rest` says so of what follows
 abbrev pub starts_with_odd_run_at : ByteKind → (rest : Bool) → Bool
 starts_with_odd_run_at Backslash rest = not rest
 starts_with_odd_run_at k rest = false
@@ -22,8 +22,8 @@ starts_with_odd_run (b ∷ t) = starts_with_odd_run_at (byte_kind b) (starts_wit
 abbrev pub ends_with_odd_run : List ℕ → Bool
 ends_with_odd_run t = starts_with_odd_run (reverse t)
 
--- whether the next physical line, if there is one, continues this line: the text of this line before its line end closes with an
--- odd run of backslashes
+-- whether the next physical line, if there is one, continues this line: the text of this line
+-- before its line end closes with an odd run of backslashes
 abbrev pub is_continued : List ℕ → Bool
 is_continued l = ends_with_odd_run (without_line_end l)
 
@@ -32,7 +32,8 @@ abbrev pub before_group : (continued : Bool) → List ℕ → List (List ℕ) �
 before_group true l ls = onto_first l ls
 before_group false l ls = l ∷ ls
 
--- lines in groups, each joined: a line is in one group with the next line if the next line continues it
+-- lines in groups, each joined: a line is in one group with the next line if the next line
+-- continues it
 abbrev pub grouped : List (List ℕ) → List (List ℕ)
 grouped [] = []
 grouped (l ∷ ls) = before_group (is_continued l) l (grouped ls)
@@ -47,13 +48,13 @@ has_no_line_end None = true
 has_no_line_end Lf = false
 has_no_line_end CrLf = false
 
--- whether a text put after this line, the last of a text, could become a part of it: the line is continued, or it has no
--- line end and its last byte is a carriage return
+-- whether a text put after this line, the last of a text, could become a part of it: the line is
+-- continued, or it has no line end and its last byte is a carriage return
 abbrev pub is_open : List ℕ → Bool
 is_open l = is_continued l || (has_no_line_end (line_end l) && ends_with_carriage_return l)
 
--- whether a text ends a line, so that what follows the text begins a new one: the text is empty, or it has a line end and is not
--- continued
+-- whether a text ends a line, so that what follows the text begins a new one: the text is empty, or
+-- it has a line end and is not continued
 abbrev pub ends_line : List ℕ → Bool
 ends_line [] = true
 ends_line (b ∷ t) = not (has_no_line_end (line_end (b ∷ t))) && not (is_continued (b ∷ t))

@@ -6,13 +6,14 @@ use Rattle.mk_lines.specs.Bytes.{ByteKind, LineFeed, CarriageReturn, byte_kind, 
 use Rattle.mk_lines.specs.declared.ends.End.{End}
 use Rattle.mk_lines.specs.declared.ends.End.TheVariants.{None, Lf, CrLf}
 
--- a byte, by its kind, before the lines of the text after it: a line feed is a line by itself, any other byte goes to the first
--- line
+-- a byte, by its kind, before the lines of the text after it: a line feed is a line by itself, any
+-- other byte goes to the first line
 abbrev pub before_lines : ByteKind → ℕ → List (List ℕ) → List (List ℕ)
 before_lines LineFeed b ls = (b ∷ []) ∷ ls
 before_lines k b ls = onto_first (b ∷ []) ls
 
--- the physical lines of a text: the text is divided after each line feed, and the last line may have no line feed
+-- the physical lines of a text: the text is divided after each line feed, and the last line may
+-- have no line feed
 abbrev pub physical_lines : List ℕ → List (List ℕ)
 physical_lines [] = []
 physical_lines (b ∷ t) = before_lines (byte_kind b) b (physical_lines t)

@@ -1,4 +1,5 @@
--- A text with some parts replaced, and the pieces of a line: cells that stay, and cells that a text replaces.
+-- A text with some parts replaced, and the pieces of a line: cells that stay, and cells that a text
+-- replaces.
 -- Told in docs/DEVELOPING.md, "Words".
 use Rattle.std.specs.Prelude.{ℕ, ◌+◌, ◌-◌, List, [], ◌∷◌, ◌++◌, map, length, take, drop}
 use Rattle.mk_lines.specs.Cells.{Cell, Byte, raw_text}
@@ -9,8 +10,8 @@ pub record Replacement : Type 0 where
   pub end : ℕ
   pub new : List ℕ
 
--- A text with replacements made. The replacements rise and do not overlap; `at` is the offset in the whole text at which this text
--- begins.
+-- A text with replacements made. The replacements rise and do not overlap; `at` is the offset in
+-- the whole text at which this text begins.
 abbrev pub replaced : (at : ℕ) → List ℕ → List Replacement → List ℕ
 replaced at t [] = t
 replaced at t (r ∷ rs) = take (r.start - at) t ++ (r.new ++ replaced r.end (drop (r.end - at) t) rs)
@@ -46,4 +47,6 @@ new_bytes (Replace cs v ∷ ps) = v ++ new_bytes ps
 abbrev pub replacements : (at : ℕ) → List Piece → List Replacement
 replacements at [] = []
 replacements at (Keep cs ∷ ps) = replacements (at + length (raw_text cs)) ps
-replacements at (Replace cs v ∷ ps) = record { start = at; end = at + length (raw_text cs); new = v } ∷ replacements (at + length (raw_text cs)) ps
+replacements at (Replace cs v ∷ ps) =
+    record { start = at; end = at + length (raw_text cs); new = v }
+    ∷ replacements (at + length (raw_text cs)) ps

@@ -1,4 +1,5 @@
--- Offsets by lengths: the ranges of pieces that follow one another, the ranges of words, and the raw range of some joined bytes.
+-- Offsets by lengths: the ranges of pieces that follow one another, the ranges of words, and the
+-- raw range of some joined bytes.
 -- Told in docs/LANGUAGE.md, chapter 1.
 use Rattle.std.specs.Prelude.{ℕ, ◌+◌, List, [], ◌∷◌, length, take, slice_range}
 use Rattle.mk_lines.specs.Lists.{concat}
@@ -15,13 +16,16 @@ text_at t s = slice_range t s.start s.end
 -- the ranges of pieces that follow one another; the first piece begins at this offset
 abbrev pub piece_ranges : {A : Type 0} → ℕ → List (List A) → List Span
 piece_ranges at [] = []
-piece_ranges at (p ∷ ps) = record { start = at; end = at + length p } ∷ piece_ranges (at + length p) ps
+piece_ranges at (p ∷ ps) =
+    record { start = at; end = at + length p } ∷ piece_ranges (at + length p) ps
 
 -- the ranges of the words among tokens; the first token begins at this offset
 abbrev pub word_token_ranges : {A : Type 0} → ℕ → List (Token A) → List Span
 word_token_ranges at [] = []
 word_token_ranges at (Gap u ∷ ts) = word_token_ranges (at + length u) ts
-word_token_ranges at (Word w ∷ ts) = record { start = at; end = at + length (concat w) } ∷ word_token_ranges (at + length (concat w)) ts
+word_token_ranges at (Word w ∷ ts) =
+    record { start = at; end = at + length (concat w) }
+    ∷ word_token_ranges (at + length (concat w)) ts
 
 -- the ranges of a text's logical lines, in bytes
 abbrev pub line_ranges : List ℕ → List Span

@@ -1,5 +1,6 @@
--- Units, of any list whose elements stand for bytes: a text, or the cells of a line. Here a machine cuts them from the
--- left; `specs/FirstUnit` says what a unit is without a machine, and a law says that the two agree.
+-- Units, of any list whose elements stand for bytes: a text, or the cells of a line. Here a machine
+-- cuts them from the left; `specs/FirstUnit` says what a unit is without a machine, and a law says
+-- that the two agree.
 -- Told in docs/LANGUAGE.md, chapter 1.
 use Rattle.std.specs.Prelude.{ℕ, suc, zero, ◌==◌, if◌then◌else◌, Bool, true, false, List}
 use Rattle.mk_lines.specs.Cut.{state_after, pieces}
@@ -25,8 +26,8 @@ byte_mark b =
     if b == 125 then CloseBrace else
     Unmarked
 
--- Where a text ends: between two units, or after a part of one. In a reference the number says how many of its brackets are open
--- in addition to the first.
+-- Where a text ends: between two units, or after a part of one. In a reference the number says how
+-- many of its brackets are open in addition to the first.
 pub data UnitState : Type 0 where
   Between : UnitState
   AfterDollar : UnitState
@@ -53,8 +54,8 @@ next_unit_state (InBraces (suc n)) CloseBrace = InBraces n
 next_unit_state (InBraces n) OpenBrace = InBraces (suc n)
 next_unit_state (InBraces n) m = InBraces n
 
--- whether a byte begins a unit: the text before it ends between two units, or the byte is a dollar after a backslash, which does
--- not take a dollar
+-- whether a byte begins a unit: the text before it ends between two units, or the byte is a dollar
+-- after a backslash, which does not take a dollar
 abbrev pub begins_unit : UnitState → Mark → Bool
 begins_unit Between m = true
 begins_unit AfterBackslash Dollar = true
@@ -77,7 +78,8 @@ module _ {A : Type 0} (byte : A → ℕ) where
   abbrev pub units : List A → List (List A)
   units t = pieces unit_step unit_begins Between t
 
-  -- whether a text is closed: no unit is a lone dollar or an unclosed reference, and the last unit is not a lone backslash. Each
-  -- of these can only stand last, so it is enough that the text ends between two units.
+  -- whether a text is closed: no unit is a lone dollar or an unclosed reference, and the last unit
+  -- is not a lone backslash. Each of these can only stand last, so it is enough that the text ends
+  -- between two units.
   abbrev pub is_closed : List A → Bool
   is_closed t = is_between (state_after unit_step Between t)

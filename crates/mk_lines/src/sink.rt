@@ -144,8 +144,10 @@ pub fn write_all<W: ByteSink>(out: &mut W, text: &[u8]) -> Result<(), Fault>
 /// then.
 pub fn write_parts<W: ByteSink>(out: &mut W, parts: &[&[u8]]) -> Result<(), Fault>
     requires { W.failed out.old ≡ false }
-    ensures whole { OnOk result (Appends (W.contents out.old) (W.contents out.new) (text_of_parts parts.now)) }
-    ensures prefix { AppendsPrefix (W.contents out.old) (W.contents out.new) (text_of_parts parts.now) }
+    ensures whole { OnOk result (Appends (W.contents out.old) (W.contents out.new)
+        (text_of_parts parts.now)) }
+    ensures prefix { AppendsPrefix (W.contents out.old) (W.contents out.new)
+        (text_of_parts parts.now) }
     ensures works { OnOk result (W.failed out.new ≡ false) }
     ensures fault { IfErr result (λ e. (e ≡ Fault.Write) × (W.failed out.new ≡ true)) }
     ensures unflushed { W.flushes out.new ≡ W.flushes out.old }

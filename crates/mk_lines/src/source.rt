@@ -8,7 +8,7 @@ use std::alloc::Allocator;
 use std::io::{ErrorKind, Read};
 
 /// The most bytes of a text: 2^24. This project's profile.
-pub const TEXT_LIMIT: usize = 16_777_216;
+pub const MAX_TEXT: usize = 16_777_216;
 
 /// The most bytes that [`read_all`] asks of a source by one read.
 pub const BUFFER: usize = 8192;
@@ -87,27 +87,30 @@ impl<R: Read> ByteSource for StdSource<R> {
     }
 }
 
-/// Reads a source to its end. The text has at most [`TEXT_LIMIT`] bytes.
+/// Reads a source to its end. The text has at most [`MAX_TEXT`] bytes.
 ///
-/// The reading stops as soon as more than [`TEXT_LIMIT`] bytes have come, so at most [`BUFFER`]
+/// The reading stops as soon as more than [`MAX_TEXT`] bytes have come, so at most [`BUFFER`]
 /// bytes beyond the limit are taken. Once a read has answered 0 or a fault, no other read is made:
 /// so one end-of-file key ends a text that is typed at a terminal.
 ///
 /// # Errors
 ///
-/// - [`Fault::TooLong`] if the source has more than [`TEXT_LIMIT`] bytes.
+/// - [`Fault::TooLong`] if the source has more than [`MAX_TEXT`] bytes.
 /// - [`Fault::Read`] if a call of the source answered it.
 /// - [`Fault::NoMemory`] if the text could not grow. It is not known then whether the source has
 ///   more bytes than the limit, or would have failed.
 pub fn read_all<A: Allocator, R: ByteSource>(alloc: A, source: &mut R) -> Result<Vec<u8, A>, Fault>
     requires { R.failed source.old ≡ false }
-    ensures bytes { IfOk result (λ text. IfSome (R.remaining source.old) (λ bytes. text.items ≡ bytes)) }
-    ensures within { IfOk result (λ text. vec_len text ≤ TEXT_LIMIT) }
-    ensures too_long { IfSome (R.remaining source.old) (λ bytes. result ≡ Err Fault.TooLong → TEXT_LIMIT < length bytes) }
+    ensures bytes { IfOk result (λ text.
+        IfSome (R.remaining source.old) (λ bytes. text.items ≡ bytes)) }
+    ensures within { IfOk result (λ text. vec_len text ≤ MAX_TEXT) }
+    ensures too_long { IfSome (R.remaining source.old) (λ bytes.
+        result ≡ Err Fault.TooLong → MAX_TEXT < length bytes) }
     ensures read { result ≡ Err Fault.Read → R.failed source.new ≡ true }
     ensures works { result ≢ Err Fault.Read → R.failed source.new ≡ false }
     ensures few { IfErr result IsSourceFault }
-    ensures taken { TakesAtMost (R.remaining source.old) (R.remaining source.new) (TEXT_LIMIT + BUFFER) }
+    ensures taken { TakesAtMost (R.remaining source.old) (R.remaining source.new)
+        (MAX_TEXT + BUFFER) }
     ensures ends { R.ends source.new ≡ count_if (is_ok result) (R.ends source.old) }
 {
     let mut text = Vec::new(alloc);
@@ -117,7 +120,7 @@ pub fn read_all<A: Allocator, R: ByteSource>(alloc: A, source: &mut R) -> Result
         if count == 0 {
             return Ok(text);
         }
-        if count > TEXT_LIMIT - text.len() {
+        if count > MAX_TEXT - text.len() {
             return Err(Fault::TooLong);
         }
         text.extend_from_slice(&chunk[..count])?;

@@ -38,7 +38,8 @@ pub fn units(text: &[u8]) -> Units<'_>
 /// Called again on what follows, it gives the units one after the other, as [`units`] gives their
 /// ranges. Takes no memory.
 pub fn split_first_unit(text: &[u8]) -> Option<(&[u8], &[u8])>
-    ensures units { MatchOption result (text.now ≡ []) (λ parts. units (λ b. b) text.now ≡ parts.0.now ∷ units (λ b. b) parts.1.now) }
+    ensures units { MatchOption result (text.now ≡ []) (λ parts.
+        units (λ b. b) text.now ≡ parts.0.now ∷ units (λ b. b) parts.1.now) }
     ensures joined { IfSome result (λ parts. parts.0.now ++ parts.1.now ≡ text.now) }
     ensures shorter { IfSome result (λ parts. length parts.1.now < length text.now) }
 {
@@ -89,8 +90,10 @@ pub fn after_first_unit(text: &[u8]) -> &[u8]
 /// such a unit runs to the end of the text, and leaves the text open.
 pub(crate) fn after_unit(text: &[u8]) -> Option<&[u8]>
     requires { 0 < length text.now }
-    ensures after { MatchOption result (after_first_unit (λ b. b) text.now ≡ []) (λ rest. rest.now ≡ after_first_unit (λ b. b) text.now) }
-    ensures closed { MatchOption result (is_closed (λ b. b) text.now ≡ false) (λ rest. is_closed (λ b. b) text.now ≡ is_closed (λ b. b) rest.now) }
+    ensures after { MatchOption result (after_first_unit (λ b. b) text.now ≡ []) (λ rest.
+        rest.now ≡ after_first_unit (λ b. b) text.now) }
+    ensures closed { MatchOption result (is_closed (λ b. b) text.now ≡ false) (λ rest.
+        is_closed (λ b. b) text.now ≡ is_closed (λ b. b) rest.now) }
 {
     match text {
         [b'$', b'(', rest @ ..] => after_close(rest, b'(', b')'),
@@ -106,7 +109,8 @@ pub(crate) fn after_unit(text: &[u8]) -> Option<&[u8]>
 /// What follows the bracket that closes a reference whose opening bracket stands before the text;
 /// `None` if no bracket closes it.
 fn after_close(text: &[u8], opening: u8, closing: u8) -> Option<&[u8]>
-    ensures { MatchOption result (after_close opening closing 0 text.now ≡ None) (λ rest. after_close opening closing 0 text.now ≡ Some rest.now) }
+    ensures { MatchOption result (after_close opening closing 0 text.now ≡ None) (λ rest.
+        after_close opening closing 0 text.now ≡ Some rest.now) }
 {
     let mut rest = text;
     let mut depth = 0usize;

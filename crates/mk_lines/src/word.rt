@@ -32,8 +32,10 @@ pub fn words(text: &[u8]) -> Words<'_>
 /// Called again on what follows, it gives the words one after the other, as [`words`] gives their
 /// ranges. Takes no memory.
 pub fn split_first_word(text: &[u8]) -> Option<(&[u8], &[u8])>
-    ensures words { MatchOption result (words (λ b. b) text.now ≡ []) (λ parts. words (λ b. b) text.now ≡ parts.0.now ∷ words (λ b. b) parts.1.now) }
-    ensures joined { IfSome result (λ parts. parts.0.now ++ parts.1.now ≡ after_leading is_blank_byte text.now) }
+    ensures words { MatchOption result (words (λ b. b) text.now ≡ []) (λ parts.
+        words (λ b. b) text.now ≡ parts.0.now ∷ words (λ b. b) parts.1.now) }
+    ensures joined { IfSome result (λ parts.
+        parts.0.now ++ parts.1.now ≡ after_leading is_blank_byte text.now) }
     ensures shorter { IfSome result (λ parts. length parts.1.now < length text.now) }
 {
     let words = after_blanks(text);

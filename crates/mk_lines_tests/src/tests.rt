@@ -1,7 +1,7 @@
 use crate::std_devices::{CallEnd, ListReader, ListWriter};
 use mk_lines::ends::{file_line_end, is_open, line_end, without_line_end};
 use mk_lines::sink::{write_all, write_parts};
-use mk_lines::source::{TEXT_LIMIT, read_all};
+use mk_lines::source::{MAX_TEXT, read_all};
 use mk_lines::split::split;
 use mk_lines::{ByteSink, ByteSource, End, Fault, Span, StdSink, StdSource};
 use refusing::Refusing;
@@ -103,7 +103,7 @@ fn a_failed_write_or_flush_is_a_fault(rt: HostRuntime) {
 #[test]
 fn a_text_is_read_up_to_the_limit(rt: HostRuntime) -> Result<(), Fail> {
     let text = vec![in rt.alloc(); b'#'; 16_777_217]?;
-    assert_eq!(rt; text.len(), TEXT_LIMIT + 1);
+    assert_eq!(rt; text.len(), MAX_TEXT + 1);
     let mut source = MemorySource::new(&text[1..], 1_000_000);
     let whole = read_all(rt.alloc(), &mut source)?;
     assert_eq!(rt; whole.as_slice(), &text[1..]);

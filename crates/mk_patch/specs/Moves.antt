@@ -1,6 +1,7 @@
 -- Lines that are moved: what each move does to the lines of a document, and which lines it fits.
 -- Told in docs/ARCHITECTURE.md, "A patch".
-use Rattle.std.specs.Prelude.{◌≡◌, ℕ, ◌+◌, ◌^◌, ◌<◌, ◌≤◌, false, List, [], ◌∷◌, ◌++◌, length, take, drop, slice_get, IfSome}
+use Rattle.std.specs.Prelude.{◌≡◌, ℕ, ◌+◌, ◌<◌, ◌≤◌, false, List, [], ◌∷◌, ◌++◌, length, take, drop, slice_get, IfSome}
+use Rattle.mk_lines.specs.Limits.{max_text}
 use Rattle.mk_lines.specs.PhysicalLines.{without_line_end}
 use Rattle.mk_tree.specs.LocatedLines.{LocatedLine, bytes_of_line, is_conditional_located, last_line, size_of, with_last_bytes}
 
@@ -36,14 +37,19 @@ IsPlain l = is_conditional_located l.class ≡ false
 abbrev pub IsPlainAt : (at : ℕ) → List LocatedLine → Type 0
 IsPlainAt at ls = IfSome (slice_get ls at) IsPlain
 
--- The lines that a move fits: its index is one of theirs, no line of a conditional goes in or comes out, and the lines after it
--- have at most 16,777,216 bytes. The new bytes of a last line are not empty, and equal the old ones except for the line end.
+-- The lines that a move fits: its index is one of theirs, no line of a conditional goes in or comes
+-- out, and the lines after it have at most 16,777,216 bytes. The new bytes of a last line are not
+-- empty, and equal the old ones except for the line end.
 abbrev pub FitsMove : Move → List LocatedLine → Type 0
-FitsMove (PutIn at l) ls = (at ≤ length ls) × IsPlain l × (size_of ls + length l.bytes ≤ 2 ^ 24)
+FitsMove (PutIn at l) ls = (at ≤ length ls) × IsPlain l × (size_of ls + length l.bytes ≤ max_text)
 FitsMove (TakeOut at) ls = (at < length ls) × IsPlainAt at ls
-FitsMove (Exchange at l) ls = (at < length ls) × IsPlainAt at ls × IsPlain l × (size_of (exchanged at l ls) ≤ 2 ^ 24)
+FitsMove (Exchange at l) ls =
+    (at < length ls) × IsPlainAt at ls × IsPlain l × (size_of (exchanged at l ls) ≤ max_text)
 FitsMove (SwapEnd bytes) ls =
-    (0 < length ls) × (0 < length bytes) × (without_line_end bytes ≡ without_line_end (bytes_of_line (last_line ls))) × (size_of (with_last_bytes bytes ls) ≤ 2 ^ 24)
+    (0 < length ls)
+    × (0 < length bytes)
+    × (without_line_end bytes ≡ without_line_end (bytes_of_line (last_line ls)))
+    × (size_of (with_last_bytes bytes ls) ≤ max_text)
 
 -- how many lines a move holds: a line that goes in counts, and so do the last line's new bytes
 abbrev pub held_by_move : Move → ℕ
@@ -52,7 +58,8 @@ held_by_move (TakeOut at) = 0
 held_by_move (Exchange at l) = 1
 held_by_move (SwapEnd bytes) = 1
 
--- how many lines a move takes out: a line that comes out counts, and so do the last line's old bytes
+-- how many lines a move takes out: a line that comes out counts, and so do the last line's old
+-- bytes
 abbrev pub taken_by_move : Move → ℕ
 taken_by_move (PutIn at l) = 0
 taken_by_move (TakeOut at) = 1

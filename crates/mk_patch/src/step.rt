@@ -60,7 +60,7 @@ impl<A: Allocator> Step<A> {
         let _size = doc.size();
         match self {
             Step::PutIn(at, line) => {
-                let _ = doc.insert(at, line);
+                doc.insert(at, line);
                 Step::TakeOut(at)
             }
             Step::TakeOut(at) => {

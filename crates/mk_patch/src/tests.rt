@@ -1,5 +1,6 @@
 //! Patches of small documents, made and taken back.
-ghost use Rattle.std.specs.Prelude.{◌≡◌, ◌+◌, ◌^◌, ◌≤◌, ◌<◌, [], ◌∷◌, IsTrue, IfOk, IfSome, length};
+ghost use Rattle.std.specs.Prelude.{◌≡◌, ◌+◌, ◌≤◌, ◌<◌, [], ◌∷◌, IsTrue, IfOk, IfSome, length};
+ghost use Rattle.mk_lines.specs.Limits.{max_text};
 ghost use Rattle.mk_lines.specs.LogicalLines.{logical_lines};
 ghost use Rattle.mk_tree.specs.LocatedLines.{size_of};
 ghost use Rattle.mk_tree.specs.Trees.{line_view};
@@ -12,7 +13,7 @@ use crate::step::Step;
 use mk_class::{Class, Context, Meter};
 use mk_lines::Fault;
 use mk_lines::ends::without_line_end;
-use mk_tree::parse::SIZE_LIMIT;
+use mk_lines::source::MAX_TEXT;
 use mk_tree::{Doc, Line, LineBytes};
 use refusing::Refusing;
 use std::alloc::{AllocError, Allocator};
@@ -33,9 +34,9 @@ fn is_assignment<A: Allocator>(line: &Line<A>) -> bool
 // Whether a line is an assignment that has room in a document.
 fn is_admitted<A: Allocator>(line: &Line<A>, doc: &Doc<A>) -> bool
     ensures plain { IsTrue result → IsPlain (line_view line.now) }
-    ensures room { IsTrue result → size_of doc.now + length (line_view line.now).bytes ≤ 2 ^ 24 }
+    ensures room { IsTrue result → size_of doc.now + length (line_view line.now).bytes ≤ max_text }
 {
-    line.bytes().len() <= SIZE_LIMIT - doc.size() && is_assignment(line)
+    line.bytes().len() <= MAX_TEXT - doc.size() && is_assignment(line)
 }
 
 // Whether the line at an index is an assignment.
@@ -56,7 +57,7 @@ fn is_end<A: Allocator>(bytes: &LineBytes<A>, doc: &Doc<A>) -> bool
         return false;
     }
     let last = doc.line(count - 1);
-    own.len() <= SIZE_LIMIT - doc.size() && without_line_end(own) == without_line_end(last.bytes())
+    own.len() <= MAX_TEXT - doc.size() && without_line_end(own) == without_line_end(last.bytes())
 }
 
 // Whether a step fits a document, if its lines are assignments and none is too long.

@@ -59,7 +59,8 @@ is_opaque k = false
 abbrev pub is_empty_for_make : LocatedLine → Bool
 is_empty_for_make l = is_opaque l.class && is_no_word (make_word (text_of_line l))
 
--- whether a line of this class, which begins with the recipe prefix, is no recipe line, no line of a define, no blank and no comment
+-- whether a line of this class, which begins with the recipe prefix, is no recipe line, no line of
+-- a define, no blank and no comment
 abbrev pub is_other_class : Class → Bool
 is_other_class variants.Opaque = true
 is_other_class (variants.Assign a p) = true
@@ -81,9 +82,13 @@ abbrev pub tells_outside : Context → LocatedLine → Bool
 tells_outside c l = not (is_other_led c l) && (c.conditionals == 0)
 
 -- those of some lines that pass a test; the first of the lines stands in a context
-abbrev pub lines_passing : (Context → LocatedLine → Bool) → Context → List ClassedLine → List ClassedLine
+abbrev pub lines_passing : (Context → LocatedLine → Bool) → Context → List ClassedLine
+    → List ClassedLine
 lines_passing p c [] = []
-lines_passing p c (l ∷ ls) = if p c (located_line l) then l ∷ lines_passing p (context_after c l.class) ls else lines_passing p (context_after c l.class) ls
+lines_passing p c (l ∷ ls) =
+    if p c (located_line l)
+    then l ∷ lines_passing p (context_after c l.class) ls
+    else lines_passing p (context_after c l.class) ls
 
 -- the flag that those of the lines above leave that pass a test
 abbrev pub flag_by : (Context → LocatedLine → Bool) → (above : List ClassedLine) → RuleFlag
@@ -119,7 +124,9 @@ recipe_caveat c s l = if is_prefix_led c.prefix l.bytes then led_caveat c s l.cl
 
 -- the words of conditionals
 abbrev conditional_words : List (List ℕ)
-conditional_words = codes "ifeq" ∷ codes "ifneq" ∷ codes "ifdef" ∷ codes "ifndef" ∷ codes "else" ∷ codes "endif" ∷ []
+conditional_words =
+    codes "ifeq" ∷ codes "ifneq" ∷ codes "ifdef" ∷ codes "ifndef" ∷ codes "else" ∷ codes "endif"
+    ∷ []
 
 -- whether a recipe line may stand in a branch that make skips, together with its rule
 abbrev may_be_skipped : Context → Seen → Bool
@@ -167,8 +174,10 @@ named_caveat n v =
 
 -- the caveat of a line as an assignment
 abbrev pub assignment_caveat : (bytes text : List ℕ) → Class → Option Caveat
-assignment_caveat bytes t variants.Opaque = unread_caveat (located_class joined_byte (class_of start bytes))
-assignment_caveat bytes t (variants.Assign at p) = named_caveat (text_at t at.name) (text_at t at.value)
+assignment_caveat bytes t variants.Opaque =
+    unread_caveat (located_class joined_byte (class_of start bytes))
+assignment_caveat bytes t (variants.Assign at p) =
+    named_caveat (text_at t at.name) (text_at t at.value)
 assignment_caveat bytes t k = None
 
 -- ---- the text
@@ -176,12 +185,16 @@ assignment_caveat bytes t k = None
 -- the caveat of a line that stands in a context, below lines that leave these flags
 abbrev pub caveat_of : Context → Seen → LocatedLine → Option Caveat
 caveat_of c s l =
-    option_or (option_or (recipe_caveat c s l) (word_caveat c s l.class (make_word (text_of_line l)))) (assignment_caveat l.bytes (text_of_line l) l.class)
+    option_or
+    (option_or (recipe_caveat c s l) (word_caveat c s l.class (make_word (text_of_line l))))
+    (assignment_caveat l.bytes (text_of_line l) l.class)
 
 -- the sentence of a caveat
 abbrev pub sentence : Caveat → List ℕ
-sentence AfterEmpty = codes "make may take this for a recipe line: an opaque line above is empty for make"
-sentence AfterConditional = codes "make may take this for a recipe line: it may skip the conditional above"
+sentence AfterEmpty =
+    codes "make may take this for a recipe line: an opaque line above is empty for make"
+sentence AfterConditional =
+    codes "make may take this for a recipe line: it may skip the conditional above"
 sentence Conditional = codes "make may obey this as a line of a conditional"
 sentence Define = codes "make may begin a define here"
 sentence Assignment = codes "make may set a variable here that no edit finds"
@@ -194,7 +207,9 @@ caveat_text n (Some k) = decimal n ++ (codes ": " ++ (sentence k ++ codes "\n"))
 
 -- the same of a line where it stands
 abbrev pub caveat_line : StandingLine → List ℕ
-caveat_line s = caveat_text (line_number s) (caveat_of (context_of s.above) (seen_above s.above) (located_line s.line))
+caveat_line s =
+    caveat_text (line_number s)
+    (caveat_of (context_of s.above) (seen_above s.above) (located_line s.line))
 
 -- the text of `caveats`
 abbrev pub caveats_text : List ℕ → List ℕ

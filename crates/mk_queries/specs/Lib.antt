@@ -1,7 +1,6 @@
 -- The lines that the queries speak of
 pub mod StandingLines
 -- Texts
-pub mod Spacing
 pub mod PartTexts
 pub mod ItemLines
 -- What the code says of lines, and its walks

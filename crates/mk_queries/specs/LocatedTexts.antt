@@ -17,7 +17,7 @@ use Rattle.mk_class.specs.declared.class.Class.TheVariants as variants
 use Rattle.mk_class.specs.LineParts.{normal_span, order_only_span}
 use Rattle.mk_class.specs.OperatorTexts.{operator_text}
 use Rattle.mk_tree.specs.LocatedLines.{LocatedLine}
-use Rattle.mk_queries.specs.Spacing.{each_after_space, each_before_space, after_space}
+use Rattle.mk_lines.specs.Spacing.{each_after_space, each_before_space, after_space}
 use Rattle.mk_queries.specs.PartTexts.{targets_text, pattern_text, order_only_text, count_text}
 use Rattle.mk_queries.specs.ItemLines.{position_text}
 
@@ -42,7 +42,8 @@ pub record IsAssignmentWithin (length start : ℕ) (at : assignment.Assignment) 
 -- an assignment up to the end of its line; its modifiers begin at this offset
 abbrev pub assigned_located : (text : List ℕ) → (start : ℕ) → assignment.Assignment → List ℕ
 assigned_located t s at =
-    each_before_space (words_at t s at.name.start) ++ (text_at t at.name ++ (codes " " ++ (operator_text at.flavor ++ (after_space (text_at t at.value) ++ codes "\n"))))
+    each_before_space (words_at t s at.name.start) ++ (text_at t at.name ++ (codes " "
+    ++ (operator_text at.flavor ++ (after_space (text_at t at.value) ++ codes "\n"))))
 
 -- where the text after the separator of an assignment for targets begins
 abbrev pub assigned_start : target_assignment.TargetAssignment → ℕ
@@ -50,19 +51,26 @@ assigned_start at = at.targets_end + separator_length at.separator
 
 -- an assignment for targets, up to the end of its line
 abbrev pub target_assigned_located : (text : List ℕ) → target_assignment.TargetAssignment → List ℕ
-target_assigned_located t at = targets_text (words_at t 0 at.targets_end) at.separator ++ (codes " " ++ assigned_located t (assigned_start at) at.assignment)
+target_assigned_located t at =
+    targets_text (words_at t 0 at.targets_end) at.separator ++ (codes " "
+    ++ assigned_located t (assigned_start at) at.assignment)
 
 -- what `vars` says of a line of this joined text and class
 abbrev pub variable_located : (number depth : ℕ) → (text : List ℕ) → class.Class → List ℕ
 variable_located n d t (variants.Assign at p) = position_text n d ++ assigned_located t 0 at
-variable_located n d t (variants.TargetAssign at) = position_text n d ++ target_assigned_located t at
+variable_located n d t (variants.TargetAssign at) =
+    position_text n d ++ target_assigned_located t at
 variable_located n d t k = []
 
 -- ---- headers
 
 -- where the pattern stands, up to the second `:`; an empty range if there is no pattern
 abbrev pub pattern_span : header.Header → Span
-pattern_span at = record { start = at.targets_end + separator_length at.separator; end = at.normal_start - (if at.has_pattern then 1 else 0) }
+pattern_span at =
+    record {
+      start = at.targets_end + separator_length at.separator;
+      end = at.normal_start - (if at.has_pattern then 1 else 0);
+    }
 
 -- a range stands in a text of this length
 pub record IsSpanWithin (length : ℕ) (s : Span) : Type 0 where
@@ -80,17 +88,21 @@ pub record IsHeaderWithin (length : ℕ) (at : header.Header) : Type 0 where
 abbrev pub header_located : (text : List ℕ) → header.Header → List ℕ
 header_located t at =
     targets_text (words_at t 0 at.targets_end) at.separator
-    ++ (pattern_text (words_in (text_at t (pattern_span at))) ++ (each_after_space (words_in (text_at t (normal_span at))) ++ order_only_text (words_in (text_at t (order_only_span at)))))
+    ++ (pattern_text (words_in (text_at t (pattern_span at)))
+    ++ (each_after_space (words_in (text_at t (normal_span at)))
+    ++ order_only_text (words_in (text_at t (order_only_span at)))))
 
 -- the count of recipe lines that ends a header's line, if such a line is not yet ended
 abbrev pub count_located : Option ℕ → List ℕ
 count_located None = []
 count_located (Some n) = count_text n
 
--- what the walk of `rules` says at a line of this joined text and class; `counted` is the number of recipe lines so far of a
--- header whose line is not yet ended
-abbrev pub rule_located : (number depth : ℕ) → (counted : Option ℕ) → (text : List ℕ) → class.Class → List ℕ
-rule_located n d o t (variants.Header at) = count_located o ++ (position_text n d ++ header_located t at)
+-- what the walk of `rules` says at a line of this joined text and class; `counted` is the number of
+-- recipe lines so far of a header whose line is not yet ended
+abbrev pub rule_located : (number depth : ℕ) → (counted : Option ℕ) → (text : List ℕ) → class.Class
+    → List ℕ
+rule_located n d o t (variants.Header at) =
+    count_located o ++ (position_text n d ++ header_located t at)
 rule_located n d o t variants.Recipe = []
 rule_located n d o t variants.Blank = []
 rule_located n d o t variants.Comment = []
@@ -104,7 +116,8 @@ abbrev pub one_more : Option ℕ → Option ℕ
 one_more None = None
 one_more (Some n) = Some (n + 1)
 
--- the recipe lines counted so far after a line of this class, if the line of their header is not yet ended
+-- the recipe lines counted so far after a line of this class, if the line of their header is not
+-- yet ended
 abbrev pub counted_after : Option ℕ → class.Class → Option ℕ
 counted_after o (variants.Header at) = Some (if at.has_recipe then 1 else 0)
 counted_after o variants.Recipe = one_more o

@@ -6,7 +6,7 @@ use Rattle.mk_class.specs.declared.assignment.Modifier.TheVariants.{Override, Ex
 use Rattle.mk_class.specs.declared.rule.Separator.{Separator}
 use Rattle.mk_class.specs.OperatorTexts.{operator_text, separator_text}
 use Rattle.mk_tree.specs.Items.{Assigned, Sets}
-use Rattle.mk_queries.specs.Spacing.{spaced_words, each_after_space, each_before_space, after_space}
+use Rattle.mk_lines.specs.Spacing.{spaced_words, each_after_space, each_before_space, after_space}
 
 -- ---- assignments
 
@@ -15,10 +15,12 @@ modifier_text Override = codes "override"
 modifier_text Export = codes "export"
 modifier_text Private = codes "private"
 
--- an assignment up to the end of its line: each modifier with a space after it, the name, a space, the operator, and the value
--- with a space before it if it is not empty
+-- an assignment up to the end of its line: each modifier with a space after it, the name, a space,
+-- the operator, and the value with a space before it if it is not empty
 abbrev pub assigned_text : Assigned → List ℕ
-assigned_text (Sets ms n f v) = each_before_space (map modifier_text ms) ++ (n ++ (codes " " ++ (operator_text f ++ (after_space v ++ codes "\n"))))
+assigned_text (Sets ms n f v) =
+    each_before_space (map modifier_text ms) ++ (n ++ (codes " " ++ (operator_text f
+    ++ (after_space v ++ codes "\n"))))
 
 -- ---- headers
 
@@ -31,12 +33,14 @@ abbrev pub pattern_text : (pattern : List (List ℕ)) → List ℕ
 pattern_text [] = []
 pattern_text (w ∷ ws) = codes " " ++ (w ++ codes ":")
 
--- order-only prerequisites, if there are any: a `|` with a space before it, and each of them with a space before it
+-- order-only prerequisites, if there are any: a `|` with a space before it, and each of them with a
+-- space before it
 abbrev pub order_only_text : List (List ℕ) → List ℕ
 order_only_text [] = []
 order_only_text (w ∷ ws) = codes " |" ++ each_after_space (w ∷ ws)
 
--- the number of recipe lines that an inline recipe counts as: one, or none if there is no inline recipe
+-- the number of recipe lines that an inline recipe counts as: one, or none if there is no inline
+-- recipe
 abbrev pub inline_count : Option (List ℕ) → ℕ
 inline_count None = 0
 inline_count (Some r) = 1

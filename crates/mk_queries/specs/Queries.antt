@@ -12,7 +12,8 @@ use Rattle.mk_queries.specs.ItemLines.{variable_line, rule_line, unread_line}
 -- what is said of some lines in order: what is said of the item of each line that has an item
 abbrev pub said_of_lines : (StandingLine → Item → List ℕ) → List StandingLine → List ℕ
 said_of_lines say [] = []
-said_of_lines say (s ∷ ss) = concat (map (say s) (items_of_line s.line.class s.line.bytes)) ++ said_of_lines say ss
+said_of_lines say (s ∷ ss) =
+    concat (map (say s) (items_of_line s.line.class s.line.bytes)) ++ said_of_lines say ss
 
 -- the text of `vars`
 abbrev pub vars_text : List ℕ → List ℕ
@@ -20,7 +21,8 @@ vars_text t = said_of_lines (λ s. variable_line (line_number s) (depth s)) (sta
 
 -- the text of `rules`
 abbrev pub rules_text : List ℕ → List ℕ
-rules_text t = said_of_lines (λ s. rule_line (line_number s) (depth s) (recipe_count s)) (standing_lines t)
+rules_text t =
+    said_of_lines (λ s. rule_line (line_number s) (depth s) (recipe_count s)) (standing_lines t)
 
 -- a line on how many of this kind are open at the end of a text; nothing if none are
 abbrev pub open_count_line : (kind : List ℕ) → (count : ℕ) → List ℕ
@@ -29,8 +31,12 @@ open_count_line k (suc n) = codes "end: " ++ (k ++ (codes " " ++ (decimal (suc n
 
 -- the lines on what is open at the end of a text
 abbrev pub end_lines : Context → List ℕ
-end_lines c = open_count_line (codes "conditionals") c.conditionals ++ open_count_line (codes "defines") c.defines
+end_lines c =
+    open_count_line (codes "conditionals") c.conditionals
+    ++ open_count_line (codes "defines") c.defines
 
 -- the text of `check`
 abbrev pub check_text : List ℕ → List ℕ
-check_text t = said_of_lines (λ s. unread_line (line_number s)) (standing_lines t) ++ end_lines (context_of (classed_lines t))
+check_text t =
+    said_of_lines (λ s. unread_line (line_number s)) (standing_lines t)
+    ++ end_lines (context_of (classed_lines t))

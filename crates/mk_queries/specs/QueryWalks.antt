@@ -14,11 +14,13 @@ abbrev pub line_feeds : List ℕ → ℕ
 line_feeds [] = 0
 line_feeds (b ∷ t) = if b == 10 then 1 + line_feeds t else line_feeds t
 
--- what is said of some lines, the first of which has this number and stands in this context: of each line, with its own number
--- and context
-abbrev pub said_ahead : (say : ℕ → Context → LocatedLine → List ℕ) → (number : ℕ) → Context → List LocatedLine → List ℕ
+-- what is said of some lines, the first of which has this number and stands in this context: of
+-- each line, with its own number and context
+abbrev pub said_ahead : (say : ℕ → Context → LocatedLine → List ℕ) → (number : ℕ) → Context
+    → List LocatedLine → List ℕ
 said_ahead say n c [] = []
-said_ahead say n c (l ∷ ls) = say n c l ++ said_ahead say (n + line_feeds l.bytes) (context_after_located c l.class) ls
+said_ahead say n c (l ∷ ls) =
+    say n c l ++ said_ahead say (n + line_feeds l.bytes) (context_after_located c l.class) ls
 
 -- ---- lines that are not read inside
 
@@ -37,15 +39,19 @@ unread_ahead n (l ∷ ls) = unread_located n l.class ++ unread_ahead (n + line_f
 
 -- what is said of some lines, the first of which has this number and stands in this context
 abbrev pub variables_ahead : (number : ℕ) → Context → List LocatedLine → List ℕ
-variables_ahead n c ls = said_ahead (λ n c l. variable_located n c.conditionals (text_of_line l) l.class) n c ls
+variables_ahead n c ls =
+    said_ahead (λ n c l. variable_located n c.conditionals (text_of_line l) l.class) n c ls
 
 -- ---- headers
 
--- what is said of some lines, the first of which has this number and stands in this context; `counted` is the number of recipe
--- lines so far of a header above them whose line is not yet ended
+-- what is said of some lines, the first of which has this number and stands in this context;
+-- `counted` is the number of recipe lines so far of a header above them whose line is not yet ended
 abbrev pub rules_ahead : (number : ℕ) → Context → (counted : Option ℕ) → List LocatedLine → List ℕ
 rules_ahead n c o [] = count_located o
-rules_ahead n c o (l ∷ ls) = rule_located n c.conditionals o (text_of_line l) l.class ++ rules_ahead (n + line_feeds l.bytes) (context_after_located c l.class) (counted_after o l.class) ls
+rules_ahead n c o (l ∷ ls) =
+    rule_located n c.conditionals o (text_of_line l) l.class
+    ++ rules_ahead (n + line_feeds l.bytes) (context_after_located c l.class)
+    (counted_after o l.class) ls
 
 -- ---- caveats
 
@@ -56,7 +62,11 @@ seen_after c s l = record {
   outside = if tells_outside c l then flag_after_located s.outside l.class else s.outside;
 }
 
--- what is said of some lines, the first of which has this number and stands in this context, below lines that leave these flags
+-- what is said of some lines, the first of which has this number and stands in this context, below
+-- lines that leave these flags
 abbrev pub caveats_ahead : (number : ℕ) → Context → Seen → List LocatedLine → List ℕ
 caveats_ahead n c s [] = []
-caveats_ahead n c s (l ∷ ls) = caveat_text n (caveat_of c s l) ++ caveats_ahead (n + line_feeds l.bytes) (context_after_located c l.class) (seen_after c s l) ls
+caveats_ahead n c s (l ∷ ls) =
+    caveat_text n (caveat_of c s l)
+    ++ caveats_ahead (n + line_feeds l.bytes) (context_after_located c l.class) (seen_after c s l)
+    ls

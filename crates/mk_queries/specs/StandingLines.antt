@@ -9,7 +9,8 @@ use Rattle.mk_tree.specs.RecipeLines.{recipe_lines}
 -- some lines where they stand, below the lines `above`
 abbrev pub standing_below : (above : List ClassedLine) → List ClassedLine → List StandingLine
 standing_below above [] = []
-standing_below above (l ∷ ls) = record { above = above; line = l; below = ls } ∷ standing_below (above ++ l ∷ []) ls
+standing_below above (l ∷ ls) =
+    record { above = above; line = l; below = ls } ∷ standing_below (above ++ l ∷ []) ls
 
 -- the lines of a text where they stand
 abbrev pub standing_lines : List ℕ → List StandingLine

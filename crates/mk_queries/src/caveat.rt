@@ -118,7 +118,8 @@ fn named_caveat(name: &[u8], value: &[u8]) -> Option<Caveat>
 
 // Whether an opaque line would be an assignment as the first line of a text.
 fn is_unread_assignment<A: Allocator>(line: &Line<A>) -> bool
-    ensures { result ≡ is_assignment (located_class joined_byte (class_of start (line_view line.now).bytes)) }
+    ensures { result
+        ≡ is_assignment (located_class joined_byte (class_of start (line_view line.now).bytes)) }
 {
     let read = class_with_cells(
         line.bytes(),
@@ -132,7 +133,9 @@ fn is_unread_assignment<A: Allocator>(line: &Line<A>) -> bool
 // The caveat of a line as an assignment.
 fn assignment_caveat<A: Allocator>(context: Context, line: &Line<A>) -> Option<Caveat>
     requires { IsClassedIn context (line_view line.now) }
-    ensures { result ≡ assignment_caveat (line_view line.now).bytes (text_of_line (line_view line.now)) (line_view line.now).class }
+    ensures { result
+        ≡ assignment_caveat (line_view line.now).bytes (text_of_line (line_view line.now))
+        (line_view line.now).class }
 {
     let text = text_of_line(line);
     match line.class() {

@@ -18,8 +18,10 @@ pub(crate) fn put_parts<W: ByteSink>(
     parts: &[&[u8]],
 ) -> Result<(), Fault>
     requires { W.failed out.old ≡ false }
-    ensures whole { OnOk result (AppendsSoFar (W.contents out.old) (W.contents out.new) (gathered.old.items ++ text_of_parts parts.now) gathered.new.items) }
-    ensures prefix { AppendsPrefix (W.contents out.old) (W.contents out.new) (gathered.old.items ++ text_of_parts parts.now) }
+    ensures whole { OnOk result (AppendsSoFar (W.contents out.old) (W.contents out.new)
+        (gathered.old.items ++ text_of_parts parts.now) gathered.new.items) }
+    ensures prefix { AppendsPrefix (W.contents out.old) (W.contents out.new)
+        (gathered.old.items ++ text_of_parts parts.now) }
     ensures works { OnOk result (W.failed out.new ≡ false) }
     ensures fault { IfErr result (λ e. (e ≡ Fault.Write) × (W.failed out.new ≡ true)) }
     ensures unflushed { W.flushes out.new ≡ W.flushes out.old }

@@ -3,10 +3,11 @@
 //! - [`vars`]: a line of text on each assignment.
 //! - [`rules`]: a line of text on each rule.
 //! - [`check`]: a line of text on each line that is not read inside, and what is open at the end.
-//! - [`caveats`]: a line of text on each line that make may read otherwise, as far as the lines show it.
+//! - [`caveats`]: a line of text on each line that make may read otherwise, as far as the lines
+//!   show it.
 //!
-//! A query walks over the lines of a document and takes no memory. [`caveats`] reads each opaque line
-//! once more; no other query reads a line anew. The formats are this project's profile.
+//! A query walks over the lines of a document and takes no memory. [`caveats`] reads each opaque
+//! line once more; no other query reads a line anew. The formats are this project's profile.
 //!
 //! The modules, lowest first:
 //!

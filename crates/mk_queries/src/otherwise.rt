@@ -17,7 +17,8 @@ use mk_tree::Doc;
 use mk_tree::gathering::Gathered;
 use std::alloc::Allocator;
 
-// Puts what is said of a line of this number behind the texts that are held back, where it has a caveat.
+// Puts what is said of a line of this number behind the texts that are held back, where it has a
+// caveat.
 fn put_caveat<W: ByteSink>(
     gathered: &mut Gathered,
     out: &mut W,
@@ -25,8 +26,10 @@ fn put_caveat<W: ByteSink>(
     caveat: Option<Caveat>,
 ) -> Result<(), Fault>
     requires { W.failed out.old ≡ false }
-    ensures whole { OnOk result (AppendsSoFar (W.contents out.old) (W.contents out.new) (gathered.old.items ++ caveat_text number caveat) gathered.new.items) }
-    ensures prefix { AppendsPrefix (W.contents out.old) (W.contents out.new) (gathered.old.items ++ caveat_text number caveat) }
+    ensures whole { OnOk result (AppendsSoFar (W.contents out.old) (W.contents out.new)
+        (gathered.old.items ++ caveat_text number caveat) gathered.new.items) }
+    ensures prefix { AppendsPrefix (W.contents out.old) (W.contents out.new)
+        (gathered.old.items ++ caveat_text number caveat) }
     ensures works { OnOk result (W.failed out.new ≡ false) }
     ensures fault { IfErr result (λ e. (e ≡ Fault.Write) × (W.failed out.new ≡ true)) }
     ensures unflushed { W.flushes out.new ≡ W.flushes out.old }
@@ -39,8 +42,9 @@ fn put_caveat<W: ByteSink>(
     put_parts(gathered, out, &[number, b": ", caveat.sentence(), b"\n"])
 }
 
-/// Writes a line of text on each line of the makefile that make may read otherwise than it is read here,
-/// as far as its class, its first word and the lines above show it. Nothing is flushed. Takes no memory.
+/// Writes a line of text on each line of the makefile that make may read otherwise than it is read
+/// here, as far as its class, its first word and the lines above show it. Nothing is flushed. Takes
+/// no memory.
 ///
 /// The number that stands before the sentence is that of the line's first physical line, from 1:
 ///
@@ -49,9 +53,9 @@ fn put_caveat<W: ByteSink>(
 /// 9: make may begin a define here
 /// ```
 ///
-/// A makefile of which nothing is said may still mean something else to make: `docs/LANGUAGE.md` has what
-/// is known, in its chapter "Where make reads otherwise", and of which of it this query tells. An
-/// opaque line is read once more.
+/// A makefile of which nothing is said may still mean something else to make: `docs/LANGUAGE.md`
+/// has what is known, in its chapter "Where make reads otherwise", and of which of it this query
+/// tells. An opaque line is read once more.
 ///
 /// It asks for a faithful document.
 ///
@@ -61,8 +65,10 @@ fn put_caveat<W: ByteSink>(
 pub fn caveats<A: Allocator, W: ByteSink>(doc: &Doc<A>, out: &mut W) -> Result<(), Fault>
     requires faithful { IsFaithful doc.now }
     requires works { W.failed out.old ≡ false }
-    ensures whole { OnOk result (Appends (W.contents out.old) (W.contents out.new) (caveats_text (located_text doc.now))) }
-    ensures prefix { AppendsPrefix (W.contents out.old) (W.contents out.new) (caveats_text (located_text doc.now)) }
+    ensures whole { OnOk result (Appends (W.contents out.old) (W.contents out.new)
+        (caveats_text (located_text doc.now))) }
+    ensures prefix { AppendsPrefix (W.contents out.old) (W.contents out.new)
+        (caveats_text (located_text doc.now)) }
     ensures works { OnOk result (W.failed out.new ≡ false) }
     ensures fault { IfErr result (λ e. (e ≡ Fault.Write) × (W.failed out.new ≡ true)) }
     ensures unflushed { W.flushes out.new ≡ W.flushes out.old }

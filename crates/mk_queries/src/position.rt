@@ -32,8 +32,10 @@ pub(crate) fn put_position<W: ByteSink>(
     depth: u16,
 ) -> Result<(), Fault>
     requires { W.failed out.old ≡ false }
-    ensures whole { OnOk result (AppendsSoFar (W.contents out.old) (W.contents out.new) (gathered.old.items ++ position_text number depth) gathered.new.items) }
-    ensures prefix { AppendsPrefix (W.contents out.old) (W.contents out.new) (gathered.old.items ++ position_text number depth) }
+    ensures whole { OnOk result (AppendsSoFar (W.contents out.old) (W.contents out.new)
+        (gathered.old.items ++ position_text number depth) gathered.new.items) }
+    ensures prefix { AppendsPrefix (W.contents out.old) (W.contents out.new)
+        (gathered.old.items ++ position_text number depth) }
     ensures works { OnOk result (W.failed out.new ≡ false) }
     ensures fault { IfErr result (λ e. (e ≡ Fault.Write) × (W.failed out.new ≡ true)) }
     ensures unflushed { W.flushes out.new ≡ W.flushes out.old }

@@ -82,8 +82,8 @@ pub(crate) fn is_led<A: Allocator>(context: Context, line: &Line<A>) -> bool
     matches!(line.bytes(), [first, ..] if *first == prefix)
 }
 
-/// Whether a line of this class, which begins with the recipe prefix, is no recipe line, no line of a
-/// define, no blank and no comment.
+/// Whether a line of this class, which begins with the recipe prefix, is no recipe line, no line of
+/// a define, no blank and no comment.
 pub(crate) fn is_other_class(class: &Class) -> bool
     ensures { result ≡ is_other_class class.now }
 {

@@ -24,8 +24,10 @@ pub(crate) fn put_targets<W: ByteSink>(
     separator: Separator,
 ) -> Result<(), Fault>
     requires { W.failed out.old ≡ false }
-    ensures whole { OnOk result (AppendsSoFar (W.contents out.old) (W.contents out.new) (gathered.old.items ++ targets_text (words_in targets.now) separator) gathered.new.items) }
-    ensures prefix { AppendsPrefix (W.contents out.old) (W.contents out.new) (gathered.old.items ++ targets_text (words_in targets.now) separator) }
+    ensures whole { OnOk result (AppendsSoFar (W.contents out.old) (W.contents out.new)
+        (gathered.old.items ++ targets_text (words_in targets.now) separator) gathered.new.items) }
+    ensures prefix { AppendsPrefix (W.contents out.old) (W.contents out.new)
+        (gathered.old.items ++ targets_text (words_in targets.now) separator) }
     ensures works { OnOk result (W.failed out.new ≡ false) }
     ensures fault { IfErr result (λ e. (e ≡ Fault.Write) × (W.failed out.new ≡ true)) }
     ensures unflushed { W.flushes out.new ≡ W.flushes out.old }

@@ -86,8 +86,8 @@ fn numbered(rt: &HostRuntime, said: &str, count: usize) -> Result<String, AllocE
     Ok(text)
 }
 
-// Whether a query of 10,000 equal lines goes out in few writes; and where the second fails, the first
-// has brought out a front of the text.
+// Whether a query of 10,000 equal lines goes out in few writes; and where the second fails, the
+// first has brought out a front of the text.
 fn goes_out_in_few_writes(
     rt: &HostRuntime,
     query: Query,

@@ -18,13 +18,20 @@ pub record Obeyed : Type 0 where
 abbrev pub at_rest : Shown (List ℕ) → Obeyed
 at_rest s = record { report = []; refused = 0; shown = s }
 
--- what commands come to whose first was refused: one refusal more than the others, and its line in front of theirs
+-- what commands come to whose first was refused: one refusal more than the others, and its line in
+-- front of theirs
 abbrev pub after_refusal : CommandAt → machine.Refusal Refusal → Obeyed → Obeyed
-after_refusal c q others = record others { report = report_line c.line (session_refusal q) ++ others.report; refused = others.refused + 1 }
+after_refusal c q others =
+    record others {
+      report = report_line c.line (session_refusal q) ++ others.report;
+      refused = others.refused + 1;
+    }
 
--- What commands come to, by the answer to the first. If it is granted, the others follow from what is shown then. If it is
--- refused, nothing has changed, and the others follow if the run keeps going.
-abbrev pub obeyed_next : (keep_going : Bool) → CommandAt → (before : Shown (List ℕ)) → (others : Shown (List ℕ) → Obeyed)
+-- What commands come to, by the answer to the first. If it is granted, the others follow from what
+-- is shown then. If it is refused, nothing has changed, and the others follow if the run keeps
+-- going.
+abbrev pub obeyed_next : (keep_going : Bool) → CommandAt → (before : Shown (List ℕ))
+    → (others : Shown (List ℕ) → Obeyed)
     → Result (Shown (List ℕ)) (machine.Refusal Refusal) → Obeyed
 obeyed_next k c s others (Ok new) = others new
 obeyed_next true c s others (Err q) = after_refusal c q (others s)

@@ -15,7 +15,8 @@ outcome_of fault.BadDepth = outcome.BadDepth
 outcome_of fault.Read = outcome.Read
 outcome_of fault.Write = outcome.Write
 
--- 0 done; 1 a command was refused; 2 a bad depth or script; 3 a fault of reading, writing, a limit or memory
+-- 0 done; 1 a command was refused; 2 a bad depth or script; 3 a fault of reading, writing, a limit
+-- or memory
 abbrev pub status_of : o.Outcome → ℕ
 status_of outcome.Done = 0
 status_of (outcome.Refused count) = 1
@@ -29,7 +30,8 @@ status_of outcome.NoMemory = 3
 
 -- the message on a line that is no command
 abbrev pub not_a_command_message : ℕ → List ℕ
-not_a_command_message line = codes "mkedit: script line " ++ (decimal line ++ codes " is not a command\n")
+not_a_command_message line =
+    codes "mkedit: script line " ++ (decimal line ++ codes " is not a command\n")
 
 -- the message on an outcome, with its line feed; nothing if the outcome has no message
 abbrev pub message_of : o.Outcome → List ℕ
@@ -43,7 +45,8 @@ message_of outcome.Read = codes "mkedit: read fault\n"
 message_of outcome.Write = codes "mkedit: write fault\n"
 message_of outcome.NoMemory = codes "mkedit: no memory\n"
 
--- the text is out and flushed: every command was done, or commands were refused and the run kept going
+-- the text is out and flushed: every command was done, or commands were refused and the run kept
+-- going
 abbrev pub is_printed : o.Outcome → (keep_going : Bool) → Bool
 is_printed outcome.Done keep_going = true
 is_printed (outcome.Refused count) keep_going = keep_going

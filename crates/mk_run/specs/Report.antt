@@ -15,4 +15,5 @@ detail_text Nothing = []
 -- the line on the refusal of the command in the script's line of this number
 abbrev pub report_line : (line : ℕ) → Refusal → List ℕ
 report_line line r =
-    decimal line ++ (codes ": refused " ++ (decimal (number_of r) ++ (codes " " ++ (name_of r ++ (detail_text (detail_of r) ++ codes "\n")))))
+    decimal line ++ (codes ": refused " ++ (decimal (number_of r) ++ (codes " " ++ (name_of r
+    ++ (detail_text (detail_of r) ++ codes "\n")))))

@@ -1,4 +1,5 @@
--- How a run of the code may end: with the result that the definitions give it, or for want of memory, or because a device failed.
+-- How a run of the code may end: with the result that the definitions give it, or for want of
+-- memory, or because a device failed.
 -- Told in docs/PROOFS.md, "A run".
 use Rattle.std.specs.Prelude.{◌≡◌, ◌⊎◌, ℕ, Bool, true, false, List, ◌∷◌, ◌++◌, Option, Some, Ok, IfSome}
 use Rattle.std.specs.Io.KnownBytes.{Appends, Keeps}
@@ -42,9 +43,10 @@ IsPrefixOut w text = AppendsPrefix w.before w.after text
 abbrev pub GoesOn : (keep_going : Bool) → (refused : ℕ) → Type 0
 GoesOn k n = k ≡ false → n ≡ 0
 
--- One of the commands found no memory. The commands before it were obeyed, and this is their report. The command takes memory,
--- and the machine does not refuse it.
-pub record IsShort (keep_going : Bool) (commands : List CommandAt) (first : Shown (List ℕ)) (report : List ℕ) : Type 0 where
+-- One of the commands found no memory. The commands before it were obeyed, and this is their
+-- report. The command takes memory, and the machine does not refuse it.
+pub record IsShort (keep_going : Bool) (commands : List CommandAt) (first : Shown (List ℕ))
+    (report : List ℕ) : Type 0 where
   pub earlier : List CommandAt
   pub command : CommandAt
   pub later : List CommandAt
@@ -56,42 +58,53 @@ pub record IsShort (keep_going : Bool) (commands : List CommandAt) (first : Show
   pub granted : answer command.command (obeyed keep_going earlier first).shown ≡ Ok new
 
 -- One of the commands of a run that comes to this result found no memory.
-pub record IsShortRun (makefile script : List ℕ) (depth : ℕ) (keep_going : Bool) (result : RunResult) (report : Written) : Type 0 where
+pub record IsShortRun (makefile script : List ℕ) (depth : ℕ) (keep_going : Bool)
+    (result : RunResult) (report : Written) : Type 0 where
   pub commands : List CommandAt
   pub lines : List ℕ
   pub are_commands : IsScript script commands
-  pub result_is : result ≡ result_after keep_going (obeyed keep_going commands (shown_opened depth makefile))
+  pub result_is : result
+      ≡ result_after keep_going (obeyed keep_going commands (shown_opened depth makefile))
   pub is_short : IsShort keep_going commands (shown_opened depth makefile) lines
   pub is_out : IsOut report lines
 
 -- ---- the ends
 
--- The run ended as it comes to: with that outcome. The report is out, and so is the text, if one goes out.
+-- The run ended as it comes to: with that outcome. The report is out, and so is the text, if one
+-- goes out.
 pub record IsWhole (result : RunResult) (outcome : Outcome) (report out : Written) : Type 0 where
   pub outcome_is : outcome ≡ result.outcome
   pub reported : IsOut report result.report
   pub written : IfSome result.output (λ text. IsOut out text)
 
--- A write or the flush failed. Either a write of the report failed, and a prefix of the report is out; or a write or the flush of
--- the text failed, and a prefix of the text is out after the whole report.
+-- A write or the flush failed. Either a write of the report failed, and a prefix of the report is
+-- out; or a write or the flush of the text failed, and a prefix of the text is out after the whole
+-- report.
 abbrev pub IsCut : RunResult → (report_failed : Bool) → (report out : Written) → Type 0
 IsCut result true report out = IsPrefixOut report result.report
-IsCut result false report out = IsOut report result.report × ((text : List ℕ) × (result.output ≡ Some text) × IsPrefixOut out text)
+IsCut result false report out =
+    IsOut report result.report
+    × ((text : List ℕ)
+    × (result.output ≡ Some text)
+    × IsPrefixOut out text)
 
 -- The run over these texts, which comes to this result, ended with this outcome.
-abbrev pub EndsAs : (makefile script : List ℕ) → (depth : ℕ) → (keep_going : Bool) → RunResult → (report_failed : Bool) → (report out : Written) → Outcome → Type 0
+abbrev pub EndsAs : (makefile script : List ℕ) → (depth : ℕ) → (keep_going : Bool) → RunResult
+    → (report_failed : Bool) → (report out : Written) → Outcome → Type 0
 EndsAs m s d k result failed report out NoMemory = IsKept report ⊎ IsShortRun m s d k result report
 EndsAs m s d k result failed report out Read = IsKept report
 EndsAs m s d k result failed report out Write = IsCut result failed report out
 EndsAs m s d k result failed report out outcome = IsWhole result outcome report out
 
--- The run over a makefile and a script ended with this outcome. Each of the two is what its reader tells; if a reader tells
--- nothing, it is some text.
-pub record IsRunOver (makefile script : Option (List ℕ)) (depth : ℕ) (keep_going : Bool) (outcome : Outcome) (report_failed : Bool) (report out : Written) : Type 0 where
+-- The run over a makefile and a script ended with this outcome. Each of the two is what its reader
+-- tells; if a reader tells nothing, it is some text.
+pub record IsRunOver (makefile script : Option (List ℕ)) (depth : ℕ) (keep_going : Bool)
+    (outcome : Outcome) (report_failed : Bool) (report out : Written) : Type 0 where
   pub makefile_text : List ℕ
   pub script_text : List ℕ
   pub result : RunResult
   pub of_makefile : HasText makefile makefile_text
   pub of_script : HasText script script_text
   pub is_run : IsRun makefile_text script_text depth keep_going result
-  pub ends : EndsAs makefile_text script_text depth keep_going result report_failed report out outcome
+  pub ends : EndsAs makefile_text script_text depth keep_going result report_failed report out
+      outcome

@@ -17,16 +17,20 @@ use Rattle.mk_run.specs.Runs.{RunResult, IsRun}
 -- ---- a run has one result
 
 abbrev pub EachRunHasAResult : Type 0
-EachRunHasAResult = (makefile script : List ℕ) (depth : ℕ) (keep_going : Bool) → (result : RunResult) × IsRun makefile script depth keep_going result
+EachRunHasAResult = (makefile script : List ℕ) (depth : ℕ) (keep_going : Bool)
+    → (result : RunResult) × IsRun makefile script depth keep_going result
 
 abbrev pub ResultsAreOne : Type 0
-ResultsAreOne = (makefile script : List ℕ) (depth : ℕ) (keep_going : Bool) (result other : RunResult)
-    → IsRun makefile script depth keep_going result → IsRun makefile script depth keep_going other → result ≡ other
+ResultsAreOne =
+    (makefile script : List ℕ) (depth : ℕ) (keep_going : Bool) (result other : RunResult)
+    → IsRun makefile script depth keep_going result → IsRun makefile script depth keep_going other
+    → result ≡ other
 
 -- ---- what a run's commands do
 
 -- the commands that a run tries before it ends, each with its reply
-abbrev pub tried_next : (keep_going : Bool) → Command Edit → (before : Shown (List ℕ)) → (others : Shown (List ℕ) → List Call)
+abbrev pub tried_next : (keep_going : Bool) → Command Edit → (before : Shown (List ℕ))
+    → (others : Shown (List ℕ) → List Call)
     → Result (Shown (List ℕ)) (machine.Refusal Refusal) → List Call
 tried_next k c s others (Ok new) = (c, Granted) ∷ others new
 tried_next true c s others (Err q) = (c, Refused q) ∷ others s
@@ -36,8 +40,9 @@ abbrev pub tried : (keep_going : Bool) → List CommandAt → Shown (List ℕ) �
 tried k [] s = []
 tried k (c ∷ commands) s = tried_next k c.command s (λ t. tried k commands t) (answer c.command s)
 
--- A call does as stated: it is the machine's step. An edit that is granted changes the reading by exactly its stated change, and
--- changes no byte outside its spans. A call that is not granted changes nothing.
+-- A call does as stated: it is the machine's step. An edit that is granted changes the reading by
+-- exactly its stated change, and changes no byte outside its spans. A call that is not granted
+-- changes nothing.
 abbrev pub DoesAsStated : Call → (before after : Shown (List ℕ)) → Type 0
 DoesAsStated (Apply e, Granted) x y = (answer (Apply e) x ≡ Ok y) × IsMade e x.text y.text
 DoesAsStated (c, Granted) x y = answer c x ≡ Ok y
@@ -72,19 +77,25 @@ module _ (keep_going : Bool) (commands : List CommandAt) (makefile : List ℕ) (
   abbrev pub machine_after : EditMachine
   machine_after = after_calls depth calls (opened makefile)
 
-  -- The commands keep every byte that no edit concerns. Each does as stated. The text after them is the makefile with the edits
-  -- that stand replayed over it. If all of these edits are within the depth and no group is open, as many `undo` as members stand
-  -- are all granted, and give back the makefile.
+  -- The commands keep every byte that no edit concerns. Each does as stated. The text after them is
+  -- the makefile with the edits that stand replayed over it. If all of these edits are within the
+  -- depth and no group is open, as many `undo` as members stand are all granted, and give back the
+  -- makefile.
   pub record KeepEveryByte : Type 0 where
     pub each : DoAsStated calls first last
     pub replayed : last.text ≡ replay edited makefile (standing machine_after)
-    pub undone : machine_after.floor ≡ 0 → machine_after.group ≡ None → (undos : List CommandAt) → AreUndos undos → length undos ≡ length machine_after.done
-        → ((obeyed keep_going undos last).refused ≡ 0) × ((obeyed keep_going undos last).shown.text ≡ makefile)
+    pub undone : machine_after.floor ≡ 0 → machine_after.group ≡ None → (undos : List CommandAt)
+        → AreUndos undos → length undos ≡ length machine_after.done
+        → ((obeyed keep_going undos last).refused ≡ 0)
+        × ((obeyed keep_going undos last).shown.text ≡ makefile)
 
--- The commands of the script of any run keep every byte that no edit concerns. The output of the run, if it has one, is the
--- makefile with the edits that stand replayed over it.
+-- The commands of the script of any run keep every byte that no edit concerns. The output of the
+-- run, if it has one, is the makefile with the edits that stand replayed over it.
 abbrev pub RunsKeepEveryByte : Type 0
-RunsKeepEveryByte = (makefile script : List ℕ) (depth : ℕ) (keep_going : Bool) (commands : List CommandAt) (result : RunResult)
+RunsKeepEveryByte =
+    (makefile script : List ℕ) (depth : ℕ) (keep_going : Bool) (commands : List CommandAt)
+    (result : RunResult)
     → IsScript script commands → IsRun makefile script depth keep_going result
     → KeepEveryByte keep_going commands makefile depth
-    × IfSome result.output (λ text. text ≡ replay edited makefile (standing (machine_after keep_going commands makefile depth)))
+    × IfSome result.output (λ text.
+    text ≡ replay edited makefile (standing (machine_after keep_going commands makefile depth)))

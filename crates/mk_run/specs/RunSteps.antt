@@ -33,7 +33,8 @@ pub record GivesNoCommand (bytes : Option (List ℕ)) (line : ℕ) : Type 0 wher
   pub short : IsTooLong text → ⊥
   pub is_line : HasNoCommand text line
 
--- The reading of a script ended with this outcome; the reader of the script failed only if this is Read.
+-- The reading of a script ended with this outcome; the reader of the script failed only if this is
+-- Read.
 abbrev pub StopsScript : (bytes : Option (List ℕ)) → (failed : Bool) → Outcome → Type 0
 StopsScript bytes failed TooLong = (failed ≡ false) × GivesTooMuch bytes
 StopsScript bytes failed (NotACommand line) = (failed ≡ false) × GivesNoCommand bytes line
@@ -58,7 +59,8 @@ pub record GivesTooDeep (bytes : Option (List ℕ)) : Type 0 where
   pub short : IsTooLong text → ⊥
   pub deep : IsTooDeep text
 
--- The opening of a makefile ended with this outcome; the reader of the makefile failed only if this is Read.
+-- The opening of a makefile ended with this outcome; the reader of the makefile failed only if this
+-- is Read.
 abbrev pub StopsMakefile : (bytes : Option (List ℕ)) → (failed : Bool) → Outcome → Type 0
 StopsMakefile bytes failed TooLong = (failed ≡ false) × GivesTooMuch bytes
 StopsMakefile bytes failed TooDeep = (failed ≡ false) × GivesTooDeep bytes
@@ -69,28 +71,34 @@ StopsMakefile bytes failed outcome = ⊥
 -- ---- the commands
 
 -- All commands were obeyed, and `refused` of them were refused.
-pub record AreObeyed (keep_going : Bool) (commands : List CommandAt) (first last : Shown (List ℕ)) (refused : ℕ) (report : Written) : Type 0 where
+pub record AreObeyed (keep_going : Bool) (commands : List CommandAt) (first last : Shown (List ℕ))
+    (refused : ℕ) (report : Written) : Type 0 where
   pub goes_on : GoesOn keep_going refused
   pub number : refused ≡ (obeyed keep_going commands first).refused
   pub shown : last ≡ (obeyed keep_going commands first).shown
   pub reported : IsOut report (obeyed keep_going commands first).report
 
 -- One of the commands was refused, and ended the run.
-pub record AreEnded (keep_going : Bool) (commands : List CommandAt) (first : Shown (List ℕ)) (refused : ℕ) (report : Written) : Type 0 where
+pub record AreEnded (keep_going : Bool) (commands : List CommandAt) (first : Shown (List ℕ))
+    (refused : ℕ) (report : Written) : Type 0 where
   pub ends : keep_going ≡ false
   pub one : refused ≡ 1
   pub number : refused ≡ (obeyed keep_going commands first).refused
   pub reported : IsOut report (obeyed keep_going commands first).report
 
 -- One of the commands found no memory.
-pub record AreShort (keep_going : Bool) (commands : List CommandAt) (first : Shown (List ℕ)) (report : Written) : Type 0 where
+pub record AreShort (keep_going : Bool) (commands : List CommandAt) (first : Shown (List ℕ))
+    (report : Written) : Type 0 where
   pub lines : List ℕ
   pub is_short : IsShort keep_going commands first lines
   pub is_out : IsOut report lines
 
 -- The commands stopped with this outcome; the sink of the report failed only if this is Write.
-abbrev pub StopsCommands : (keep_going : Bool) → List CommandAt → (first : Shown (List ℕ)) → (failed : Bool) → (report : Written) → Outcome → Type 0
-StopsCommands k commands s failed report (Refused n) = (failed ≡ false) × AreEnded k commands s n report
+abbrev pub StopsCommands : (keep_going : Bool) → List CommandAt → (first : Shown (List ℕ))
+    → (failed : Bool) → (report : Written) → Outcome → Type 0
+StopsCommands k commands s failed report (Refused n) =
+    (failed ≡ false) × AreEnded k commands s n report
 StopsCommands k commands s failed report NoMemory = (failed ≡ false) × AreShort k commands s report
-StopsCommands k commands s failed report Write = (failed ≡ true) × IsPrefixOut report (obeyed k commands s).report
+StopsCommands k commands s failed report Write =
+    (failed ≡ true) × IsPrefixOut report (obeyed k commands s).report
 StopsCommands k commands s failed report outcome = ⊥

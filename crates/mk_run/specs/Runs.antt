@@ -1,6 +1,7 @@
 -- A run of a script over a makefile: how it ends, its report, and the text that goes out.
 -- Told in docs/PROOFS.md, "A run".
-use Rattle.std.specs.Prelude.{◌≡◌, ◌⊎◌, ℕ, suc, zero, ◌<◌, ◌^◌, Bool, true, false, List, [], length, Option, Some, None, Result, Ok, Err}
+use Rattle.std.specs.Prelude.{◌≡◌, ◌⊎◌, ℕ, suc, zero, ◌<◌, Bool, true, false, List, [], length, Option, Some, None, Result, Ok, Err}
+use Rattle.mk_lines.specs.Limits.{max_text}
 use Rattle.mk_edit_laws.specs.declared.refusal.Refusal.{Refusal}
 use Rattle.mk_tree.specs.Documents.{IsTooDeep}
 use Rattle.mk_history.specs.Machine as machine
@@ -21,7 +22,8 @@ pub record RunResult : Type 0 where
 -- ---- the end of the commands
 
 -- what an answer shows; if the answer is a refusal, what was shown before it
-abbrev pub shown_or : Shown (List ℕ) → Result (Shown (List ℕ)) (machine.Refusal Refusal) → Shown (List ℕ)
+abbrev pub shown_or : Shown (List ℕ) → Result (Shown (List ℕ)) (machine.Refusal Refusal)
+    → Shown (List ℕ)
 shown_or s (Ok new) = new
 shown_or s (Err q) = s
 
@@ -42,7 +44,12 @@ output_after false (suc n) text = None
 
 -- what a run comes to, by what its commands come to
 abbrev pub result_after : (keep_going : Bool) → Obeyed → RunResult
-result_after k did = record { outcome = outcome_after did.refused; report = did.report; output = output_after k did.refused (ended did.shown).text }
+result_after k did =
+    record {
+      outcome = outcome_after did.refused;
+      report = did.report;
+      output = output_after k did.refused (ended did.shown).text;
+    }
 
 -- ---- a whole run
 
@@ -52,25 +59,30 @@ stopped outcome = record { outcome = outcome; report = []; output = None }
 
 -- a text that is longer than a run reads
 abbrev pub IsTooLong : List ℕ → Type 0
-IsTooLong text = 2 ^ 24 < length text
+IsTooLong text = max_text < length text
 
 -- `Then` if the case holds, and `Else` if it does not
 abbrev pub InCase : (Case Then Else : Type 0) → Type 0
 InCase Case Then Else = (Case × Then) ⊎ ((Case → ⊥) × Else)
 
--- The run of commands over a makefile comes to this result, by the first case that holds: the makefile is too long, or it is too
--- deep; otherwise each command is obeyed in its turn.
-abbrev pub IsRunOf : List CommandAt → (makefile : List ℕ) → (depth : ℕ) → (keep_going : Bool) → RunResult → Type 0
+-- The run of commands over a makefile comes to this result, by the first case that holds: the
+-- makefile is too long, or it is too deep; otherwise each command is obeyed in its turn.
+abbrev pub IsRunOf : List CommandAt → (makefile : List ℕ) → (depth : ℕ) → (keep_going : Bool)
+    → RunResult → Type 0
 IsRunOf commands makefile depth k result =
     InCase (IsTooLong makefile) (result ≡ stopped TooLong)
     (InCase (IsTooDeep makefile) (result ≡ stopped TooDeep)
     (result ≡ result_after k (obeyed k commands (shown_opened depth makefile))))
 
--- The run of a script over a makefile comes to this result, by the first case that holds: the depth is bad, or the script is too
--- long, or a line of the script is no command; otherwise it is the run of the script's commands.
-abbrev pub IsRun : (makefile script : List ℕ) → (depth : ℕ) → (keep_going : Bool) → RunResult → Type 0
+-- The run of a script over a makefile comes to this result, by the first case that holds: the depth
+-- is bad, or the script is too long, or a line of the script is no command; otherwise it is the run
+-- of the script's commands.
+abbrev pub IsRun : (makefile script : List ℕ) → (depth : ℕ) → (keep_going : Bool) → RunResult
+    → Type 0
 IsRun makefile script depth k result =
     InCase (IsBadDepth depth) (result ≡ stopped BadDepth)
     (InCase (IsTooLong script) (result ≡ stopped TooLong)
     (((line : ℕ) × HasNoCommand script line × (result ≡ stopped (NotACommand line)))
-    ⊎ ((commands : List CommandAt) × IsScript script commands × IsRunOf commands makefile depth k result)))
+    ⊎ ((commands : List CommandAt)
+    × IsScript script commands
+    × IsRunOf commands makefile depth k result)))

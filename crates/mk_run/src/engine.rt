@@ -12,7 +12,7 @@ ghost use Rattle.mk_run.specs.RunSteps.{AreObeyed, GivesCommands, GivesSession, 
 use crate::outcome::Outcome;
 use crate::report::report_refusal;
 use mk_history::history::MAX_DEPTH;
-use mk_lines::source::{BUFFER, TEXT_LIMIT, read_all};
+use mk_lines::source::{BUFFER, MAX_TEXT, read_all};
 use mk_lines::{ByteSink, ByteSource, Fault};
 use mk_script::{NumberedCommand, ScriptFault, parse_script};
 use mk_session::{Refusal, Session};
@@ -24,10 +24,13 @@ fn read_script<A: Allocator + Copy, S: ByteSource>(
     script: &mut S,
 ) -> Result<Vec<NumberedCommand<A>, A>, Outcome>
     requires { S.failed script.old ≡ false }
-    ensures commands { IfOk result (λ commands. GivesCommands (S.remaining script.old) (map numbered commands.items)) }
+    ensures commands { IfOk result (λ commands.
+        GivesCommands (S.remaining script.old) (map numbered commands.items)) }
     ensures works { OnOk result (S.failed script.new ≡ false) }
-    ensures stops { IfErr result (λ outcome. StopsScript (S.remaining script.old) (S.failed script.new) outcome) }
-    ensures taken { TakesAtMost (S.remaining script.old) (S.remaining script.new) (TEXT_LIMIT + BUFFER) }
+    ensures stops { IfErr result (λ outcome.
+        StopsScript (S.remaining script.old) (S.failed script.new) outcome) }
+    ensures taken { TakesAtMost (S.remaining script.old) (S.remaining script.new)
+        (MAX_TEXT + BUFFER) }
 {
     let text = match read_all(alloc, script) {
         Ok(text) => text,
@@ -48,10 +51,13 @@ fn open_makefile<A: Allocator + Copy, R: ByteSource>(
 ) -> Result<Session<A>, Outcome>
     requires works { R.failed makefile.old ≡ false }
     requires depth { IsBadDepth depth → ⊥ }
-    ensures opened { IfOk result (λ session. GivesSession (R.remaining makefile.old) depth session) }
+    ensures opened { IfOk result (λ session.
+        GivesSession (R.remaining makefile.old) depth session) }
     ensures works { OnOk result (R.failed makefile.new ≡ false) }
-    ensures stops { IfErr result (λ outcome. StopsMakefile (R.remaining makefile.old) (R.failed makefile.new) outcome) }
-    ensures taken { TakesAtMost (R.remaining makefile.old) (R.remaining makefile.new) (TEXT_LIMIT + BUFFER) }
+    ensures stops { IfErr result (λ outcome.
+        StopsMakefile (R.remaining makefile.old) (R.failed makefile.new) outcome) }
+    ensures taken { TakesAtMost (R.remaining makefile.old) (R.remaining makefile.new)
+        (MAX_TEXT + BUFFER) }
 {
     let text = match read_all(alloc, makefile) {
         Ok(text) => text,
@@ -72,10 +78,12 @@ fn obey_all<A: Allocator + Copy, P: ByteSink>(
     report: &mut P,
 ) -> Result<u64, Outcome>
     requires { P.failed report.old ≡ false }
-    ensures obeyed { IfOk result (λ refused. AreObeyed keep_going (map numbered commands.now) session.old.shown session.new.shown refused
+    ensures obeyed { IfOk result (λ refused.
+        AreObeyed keep_going (map numbered commands.now) session.old.shown session.new.shown refused
         (written (P.contents report.old) (P.contents report.new))) }
     ensures works { OnOk result (P.failed report.new ≡ false) }
-    ensures stops { IfErr result (λ outcome. StopsCommands keep_going (map numbered commands.now) session.old.shown (P.failed report.new)
+    ensures stops { IfErr result (λ outcome.
+        StopsCommands keep_going (map numbered commands.now) session.old.shown (P.failed report.new)
         (written (P.contents report.old) (P.contents report.new)) outcome) }
     ensures unflushed { P.flushes report.new ≡ P.flushes report.old }
 {
@@ -104,8 +112,10 @@ fn put_out<A: Allocator + Copy, W: ByteSink>(
     out: &mut W,
 ) -> Result<(), Fault>
     requires { W.failed out.old ≡ false }
-    ensures whole { OnOk result (Appends (W.contents out.old) (W.contents out.new) (ended session.old.shown).text) }
-    ensures prefix { AppendsPrefix (W.contents out.old) (W.contents out.new) (ended session.old.shown).text }
+    ensures whole { OnOk result (Appends (W.contents out.old) (W.contents out.new)
+        (ended session.old.shown).text) }
+    ensures prefix { AppendsPrefix (W.contents out.old) (W.contents out.new)
+        (ended session.old.shown).text }
     ensures works { OnOk result (W.failed out.new ≡ false) }
     ensures fault { IfErr result (λ e. (e ≡ Fault.Write) × (W.failed out.new ≡ true)) }
     ensures flushed { W.flushes out.new ≡ count_if (is_ok result) (W.flushes out.old) }
@@ -156,18 +166,24 @@ where
 
     // The run ends as the definitions say for the bytes of makefile and script, or for want of
     // memory, or because a device failed; the clause says what is out in each case.
-    ensures law { IsRunOver (R.remaining makefile.old) (S.remaining script.old) depth keep_going result (P.failed report.new)
-        (written (P.contents report.old) (P.contents report.new)) (written (W.contents out.old) (W.contents out.new)) }
+    ensures law { IsRunOver (R.remaining makefile.old) (S.remaining script.old) depth keep_going
+        result (P.failed report.new) (written (P.contents report.old) (P.contents report.new))
+        (written (W.contents out.old) (W.contents out.new)) }
     // Unless the text was written, `out` is as it was.
-    ensures unwritten { is_printed result keep_going ≡ false → W.failed out.new ≡ false → out.new ≡ out.old }
+    ensures unwritten { is_printed result keep_going ≡ false → W.failed out.new ≡ false
+        → out.new ≡ out.old }
     // Unless a command was reached, `report` is as it was.
     ensures unreported { may_report result ≡ false → report.new ≡ report.old }
     // For a bad depth nothing is read; for a script with a line that is no command, no makefile is
     // read.
-    ensures unread { result ≡ Outcome.BadDepth → (script.new ≡ script.old) × (makefile.new ≡ makefile.old) }
-    ensures script_first { (line : ℕ) → result ≡ Outcome.NotACommand line → makefile.new ≡ makefile.old }
-    ensures makefile_taken { TakesAtMost (R.remaining makefile.old) (R.remaining makefile.new) (TEXT_LIMIT + BUFFER) }
-    ensures script_taken { TakesAtMost (S.remaining script.old) (S.remaining script.new) (TEXT_LIMIT + BUFFER) }
+    ensures unread { result ≡ Outcome.BadDepth
+        → (script.new ≡ script.old) × (makefile.new ≡ makefile.old) }
+    ensures script_first { (line : ℕ) → result ≡ Outcome.NotACommand line
+        → makefile.new ≡ makefile.old }
+    ensures makefile_taken { TakesAtMost (R.remaining makefile.old) (R.remaining makefile.new)
+        (MAX_TEXT + BUFFER) }
+    ensures script_taken { TakesAtMost (S.remaining script.old) (S.remaining script.new)
+        (MAX_TEXT + BUFFER) }
 
     // When these outcomes come, whatever the devices tell.
     ensures bad_depth { (result ≡ Outcome.BadDepth) ↔ IsBadDepth depth }
@@ -176,8 +192,10 @@ where
 
     // If the text is out, it is whole and flushed once; otherwise there is no flush. The report is
     // never flushed.
-    ensures flushed { W.flushes out.new ≡ count_if (is_printed result keep_going) (W.flushes out.old) }
-    ensures settled { is_printed result keep_going ≡ true → IfSome (W.pending out.new) (λ n. n ≡ 0) }
+    ensures flushed { W.flushes out.new
+        ≡ count_if (is_printed result keep_going) (W.flushes out.old) }
+    ensures settled { is_printed result keep_going ≡ true
+        → IfSome (W.pending out.new) (λ n. n ≡ 0) }
     ensures report { P.flushes report.new ≡ P.flushes report.old }
 {
     if depth < 1 || depth > MAX_DEPTH {

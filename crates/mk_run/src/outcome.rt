@@ -63,8 +63,10 @@ pub fn status(outcome: &Outcome) -> u8
 // The message on the script's line of this number, which is no command.
 fn write_not_a_command<W: ByteSink>(out: &mut W, line: u64) -> Result<(), Fault>
     requires { W.failed out.old ≡ false }
-    ensures whole { OnOk result (Appends (W.contents out.old) (W.contents out.new) (not_a_command_message line)) }
-    ensures prefix { AppendsPrefix (W.contents out.old) (W.contents out.new) (not_a_command_message line) }
+    ensures whole { OnOk result (Appends (W.contents out.old) (W.contents out.new)
+        (not_a_command_message line)) }
+    ensures prefix { AppendsPrefix (W.contents out.old) (W.contents out.new)
+        (not_a_command_message line) }
     ensures works { OnOk result (W.failed out.new ≡ false) }
     ensures fault { IfErr result (λ e. (e ≡ Fault.Write) × (W.failed out.new ≡ true)) }
     ensures unflushed { W.flushes out.new ≡ W.flushes out.old }
@@ -85,8 +87,10 @@ fn write_not_a_command<W: ByteSink>(out: &mut W, line: u64) -> Result<(), Fault>
 /// [`Fault::Write`] if the sink failed. A prefix of the message is out then.
 pub fn message<W: ByteSink>(outcome: &Outcome, out: &mut W) -> Result<(), Fault>
     requires { W.failed out.old ≡ false }
-    ensures whole { OnOk result (Appends (W.contents out.old) (W.contents out.new) (message_of outcome.now)) }
-    ensures prefix { AppendsPrefix (W.contents out.old) (W.contents out.new) (message_of outcome.now) }
+    ensures whole { OnOk result (Appends (W.contents out.old) (W.contents out.new)
+        (message_of outcome.now)) }
+    ensures prefix { AppendsPrefix (W.contents out.old) (W.contents out.new)
+        (message_of outcome.now) }
     ensures works { OnOk result (W.failed out.new ≡ false) }
     ensures fault { IfErr result (λ e. (e ≡ Fault.Write) × (W.failed out.new ≡ true)) }
     ensures unflushed { W.flushes out.new ≡ W.flushes out.old }

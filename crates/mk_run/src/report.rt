@@ -15,8 +15,10 @@ use mk_session::{Detail, Refusal};
 /// [`Fault::Write`] if the sink failed. A prefix of the line is out then.
 pub fn report_refusal<W: ByteSink>(out: &mut W, line: u64, refusal: Refusal) -> Result<(), Fault>
     requires { W.failed out.old ≡ false }
-    ensures whole { OnOk result (Appends (W.contents out.old) (W.contents out.new) (report_line line refusal)) }
-    ensures prefix { AppendsPrefix (W.contents out.old) (W.contents out.new) (report_line line refusal) }
+    ensures whole { OnOk result (Appends (W.contents out.old) (W.contents out.new)
+        (report_line line refusal)) }
+    ensures prefix { AppendsPrefix (W.contents out.old) (W.contents out.new)
+        (report_line line refusal) }
     ensures works { OnOk result (W.failed out.new ≡ false) }
     ensures fault { IfErr result (λ e. (e ≡ Fault.Write) × (W.failed out.new ≡ true)) }
     ensures unflushed { W.flushes out.new ≡ W.flushes out.old }

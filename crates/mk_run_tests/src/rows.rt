@@ -102,8 +102,8 @@ fn bad_depth(depth: u32) -> Row {
     }
 }
 
-/// Runs that are done; then runs that end at a refusal, of each number but those of want of memory and
-/// of a text at its limit; then runs that keep going, and runs without a good script or depth.
+/// Runs that are done; then runs that end at a refusal, of each number but those of want of memory
+/// and of a text at its limit; then runs that keep going, and runs without a good script or depth.
 pub fn rows() -> [Row; 42] {
     [
         done(b"", b"", b""),

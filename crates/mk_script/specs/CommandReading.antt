@@ -26,7 +26,8 @@ abbrev pub bottom : (nth : Option ℕ) → (rest : List ℕ) → Option (Place �
 bottom None rest = Some (Bottom, rest)
 bottom (Some n) rest = None
 
-abbrev pub place_by_word : (nth : Option ℕ) → Option PlaceWord → (rest : List ℕ) → Option (Place × List ℕ)
+abbrev pub place_by_word : (nth : Option ℕ) → Option PlaceWord → (rest : List ℕ)
+    → Option (Place × List ℕ)
 place_by_word nth None rest = None
 place_by_word nth (Some place.Bottom) rest = bottom nth rest
 place_by_word nth (Some place.BeforeVar) rest = placed_at (BeforeVar nth) (first_field rest)
@@ -73,7 +74,8 @@ abbrev pub add_rule_after : Option (Place × List ℕ) → Option Edit
 add_rule_after None = None
 add_rule_after (Some p) = add_rule_at p.0 (three_fields p.1)
 
-abbrev pub set_recipe_of : (nth : Option ℕ) → (target : List ℕ) → Option ℕ → (line : List ℕ) → Option Edit
+abbrev pub set_recipe_of : (nth : Option ℕ) → (target : List ℕ) → Option ℕ → (line : List ℕ)
+    → Option Edit
 set_recipe_of nth target None line = None
 set_recipe_of nth target (Some k) line = Some (SetRecipe nth target k line)
 
@@ -131,7 +133,8 @@ edit_after_nth (Some p) = edit_after_number (number p.0) p.1
 
 -- an edit, with or without `nth` and a number before it
 abbrev pub addressed_edit : (first rest : List ℕ) → Option Edit
-addressed_edit first rest = if bytes_eq first (codes "nth") then edit_after_nth (first_field rest) else edit None first rest
+addressed_edit first rest =
+    if bytes_eq first (codes "nth") then edit_after_nth (first_field rest) else edit None first rest
 
 -- the call that was named, if one was; otherwise an edit
 abbrev pub call_or_edit : Option (Command Edit) → (first rest : List ℕ) → Option (Command Edit)

@@ -12,7 +12,8 @@ use Rattle.mk_script.specs.Numbers.{IsNumber}
 -- some words, after `nth` and a number if there is one
 abbrev pub IsAfterNth : (nth : Option ℕ) → (fields words : List (List ℕ)) → Type 0
 IsAfterNth None fields words = fields ≡ words
-IsAfterNth (Some n) fields words = (digits : List ℕ) × IsNumber digits n × (fields ≡ codes "nth" ∷ digits ∷ words)
+IsAfterNth (Some n) fields words =
+    (digits : List ℕ) × IsNumber digits n × (fields ≡ codes "nth" ∷ digits ∷ words)
 
 -- the words of a place
 abbrev pub place_words : Place → List (List ℕ)
@@ -37,21 +38,31 @@ depend_word true = codes "depend-order"
 
 -- some fields are this command
 abbrev pub IsCommand : (fields : List (List ℕ)) → Command Edit → Type 0
-IsCommand fields (Apply (SetValue nth name value)) = IsAfterNth nth fields (codes "set" ∷ name ∷ value ∷ [])
-IsCommand fields (Apply (AppendValue nth name value)) = IsAfterNth nth fields (codes "append" ∷ name ∷ value ∷ [])
+IsCommand fields (Apply (SetValue nth name value)) =
+    IsAfterNth nth fields (codes "set" ∷ name ∷ value ∷ [])
+IsCommand fields (Apply (AppendValue nth name value)) =
+    IsAfterNth nth fields (codes "append" ∷ name ∷ value ∷ [])
 IsCommand fields (Apply (AddAssign place name flavor value)) =
-    IsAfterNth (nth_of_place place) fields (codes "assign" ∷ (place_words place ++ name ∷ operator_text flavor ∷ value ∷ []))
+    IsAfterNth (nth_of_place place) fields
+    (codes "assign" ∷ (place_words place ++ name ∷ operator_text flavor ∷ value ∷ []))
 IsCommand fields (Apply (RemoveAssign nth name)) = IsAfterNth nth fields (codes "unset" ∷ name ∷ [])
 IsCommand fields (Apply (AddRule place targets colons prereqs)) =
-    IsAfterNth (nth_of_place place) fields (codes "rule" ∷ (place_words place ++ targets ∷ colons_text colons ∷ prereqs ∷ []))
-IsCommand fields (Apply (RemoveRule nth target)) = IsAfterNth nth fields (codes "unrule" ∷ target ∷ [])
-IsCommand fields (Apply (AddPrereq order nth target word)) = IsAfterNth nth fields (depend_word order ∷ target ∷ word ∷ [])
-IsCommand fields (Apply (RemovePrereq nth target word)) = IsAfterNth nth fields (codes "undepend" ∷ target ∷ word ∷ [])
-IsCommand fields (Apply (AddRecipe nth target line)) = IsAfterNth nth fields (codes "recipe" ∷ target ∷ line ∷ [])
+    IsAfterNth (nth_of_place place) fields
+    (codes "rule" ∷ (place_words place ++ targets ∷ colons_text colons ∷ prereqs ∷ []))
+IsCommand fields (Apply (RemoveRule nth target)) =
+    IsAfterNth nth fields (codes "unrule" ∷ target ∷ [])
+IsCommand fields (Apply (AddPrereq order nth target word)) =
+    IsAfterNth nth fields (depend_word order ∷ target ∷ word ∷ [])
+IsCommand fields (Apply (RemovePrereq nth target word)) =
+    IsAfterNth nth fields (codes "undepend" ∷ target ∷ word ∷ [])
+IsCommand fields (Apply (AddRecipe nth target line)) =
+    IsAfterNth nth fields (codes "recipe" ∷ target ∷ line ∷ [])
 IsCommand fields (Apply (SetRecipe nth target number line)) =
-    (digits : List ℕ) × IsNumber digits number × IsAfterNth nth fields (codes "recipe-set" ∷ target ∷ digits ∷ line ∷ [])
+    (digits : List ℕ) × IsNumber digits number
+    × IsAfterNth nth fields (codes "recipe-set" ∷ target ∷ digits ∷ line ∷ [])
 IsCommand fields (Apply (RemoveRecipe nth target number)) =
-    (digits : List ℕ) × IsNumber digits number × IsAfterNth nth fields (codes "recipe-del" ∷ target ∷ digits ∷ [])
+    (digits : List ℕ) × IsNumber digits number
+    × IsAfterNth nth fields (codes "recipe-del" ∷ target ∷ digits ∷ [])
 IsCommand fields (Apply (RenameTarget old new)) = fields ≡ codes "rename" ∷ old ∷ new ∷ []
 IsCommand fields Undo = fields ≡ codes "undo" ∷ []
 IsCommand fields Redo = fields ≡ codes "redo" ∷ []

@@ -33,8 +33,8 @@ bare_len text = prefix_len (λ b. not (is_blank_byte b)) text
 
 -- ---- quotes
 
--- The bytes between quotes, without their escapes: a backslash goes, and the byte after it stays. `after_backslash` says whether
--- a backslash stands before the text.
+-- The bytes between quotes, without their escapes: a backslash goes, and the byte after it stays.
+-- `after_backslash` says whether a backslash stands before the text.
 abbrev pub unescaped : (after_backslash : Bool) → List ℕ → List ℕ
 unescaped s [] = []
 unescaped true (b ∷ text) = b ∷ unescaped false text
@@ -49,16 +49,18 @@ abbrev pub with_byte : ℕ → Option (List ℕ × List ℕ) → Option (List �
 with_byte b None = None
 with_byte b (Some p) = Some (b ∷ p.0, p.1)
 
--- a text up to the quote that ends a field, and what follows the quote; `after_backslash` says whether a backslash stands before
--- the text
+-- a text up to the quote that ends a field, and what follows the quote; `after_backslash` says
+-- whether a backslash stands before the text
 abbrev pub until_quote : (after_backslash : Bool) → List ℕ → Option (List ℕ × List ℕ)
 until_quote s [] = None
 until_quote true (b ∷ text) = if is_special b then with_byte b (until_quote false text) else None
-until_quote false (b ∷ text) = if b == 34 then Some ([], text) else with_byte b (until_quote (b == 92) text)
+until_quote false (b ∷ text) =
+    if b == 34 then Some ([], text) else with_byte b (until_quote (b == 92) text)
 
 -- ---- fields
 
--- a quoted field, from what stands between its quotes and what follows them, which has to end the field
+-- a quoted field, from what stands between its quotes and what follows them, which has to end the
+-- field
 abbrev pub quoted_field : Option (List ℕ × List ℕ) → Option (List ℕ × List ℕ)
 quoted_field None = None
 quoted_field (Some p) = if ends_field p.1 then Some (unescaped false p.0, p.1) else None
@@ -67,9 +69,12 @@ quoted_field (Some p) = if ends_field p.1 then Some (unescaped false p.0, p.1) e
 abbrev pub field_at_front : List ℕ → Option (List ℕ × List ℕ)
 field_at_front [] = None
 field_at_front (b ∷ text) =
-    if b == 34 then quoted_field (until_quote false text) else Some (take (bare_len (b ∷ text)) (b ∷ text), drop (bare_len (b ∷ text)) (b ∷ text))
+    if b == 34
+    then quoted_field (until_quote false text)
+    else Some (take (bare_len (b ∷ text)) (b ∷ text), drop (bare_len (b ∷ text)) (b ∷ text))
 
--- the first field of a line, and what follows it; None if the line has only blanks, or if a quote is bad
+-- the first field of a line, and what follows it; None if the line has only blanks, or if a quote
+-- is bad
 abbrev pub first_field : List ℕ → Option (List ℕ × List ℕ)
 first_field line = field_at_front (after_blanks line)
 

@@ -44,7 +44,9 @@ pub record BeginsWithField (line field rest : List ℕ) : Type 0 where
   pub ends : EndsField rest
   pub line_is : line ≡ blanks ++ (written ++ rest)
 
--- A line has these fields, in this order, with blanks between them, and perhaps before and after them.
+-- A line has these fields, in this order, with blanks between them, and perhaps before and after
+-- them.
 abbrev pub HasFields : (line : List ℕ) → (fields : List (List ℕ)) → Type 0
 HasFields line [] = Each is_blank_byte line
-HasFields line (field ∷ fields) = (rest : List ℕ) × BeginsWithField line field rest × HasFields rest fields
+HasFields line (field ∷ fields) =
+    (rest : List ℕ) × BeginsWithField line field rest × HasFields rest fields

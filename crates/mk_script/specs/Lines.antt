@@ -24,7 +24,8 @@ IsSkipped line = IsComment line ⊎ Each is_blank_byte line
 
 -- the fields of a line are a command
 abbrev pub HasCommand : (line : List ℕ) → Command Edit → Type 0
-HasCommand line command = (fields : List (List ℕ)) × HasFields line fields × IsCommand fields command
+HasCommand line command =
+    (fields : List (List ℕ)) × HasFields line fields × IsCommand fields command
 
 -- a line that is skipped, or is a command
 abbrev pub IsReadable : List ℕ → Type 0

@@ -8,7 +8,10 @@ use Rattle.std.specs.Str.Parse.{digits_value}
 -- whether a text is one to ten decimal digits of a value that is small enough
 abbrev pub is_number : List ℕ → Bool
 is_number digits =
-    not (nat_lt 10 (length digits)) && nat_lt 0 (length digits) && list_all is_ascii_digit digits && nat_lt (digits_value 10 digits) 4294967296
+    not (nat_lt 10 (length digits))
+    && nat_lt 0 (length digits)
+    && list_all is_ascii_digit digits
+    && nat_lt (digits_value 10 digits) 4294967296
 
 abbrev pub number : List ℕ → Option ℕ
 number digits = if is_number digits then Some (digits_value 10 digits) else None

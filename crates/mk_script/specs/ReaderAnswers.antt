@@ -10,7 +10,8 @@ use Rattle.mk_script.specs.declared.fault.LineFault.TheVariants.{NotACommand, No
 use Rattle.mk_script.specs.declared.edit.WrittenPlace.{WrittenPlace}
 use Rattle.mk_script.specs.declared.edit.WrittenPlace.TheVariants as written
 
--- A reader found in a text what stands there, as `seen` sees it; or it answered an error, and nothing stands there.
+-- A reader found in a text what stands there, as `seen` sees it; or it answered an error, and
+-- nothing stands there.
 abbrev pub IsFound : {V X E : Type 0} → (seen : V → X) → Option X → Result V E → Type 0
 IsFound seen stands (Ok v) = stands ≡ Some (seen v)
 IsFound seen stands (Err e) = stands ≡ None
@@ -19,7 +20,8 @@ abbrev pub is_short : LineFault → Bool
 is_short NotACommand = false
 is_short NoMemory = true
 
--- The same for a reader that copies texts: it answers that memory is short only if something stands there.
+-- The same for a reader that copies texts: it answers that memory is short only if something stands
+-- there.
 abbrev pub IsRead : {V X : Type 0} → (seen : V → X) → Option X → Result V LineFault → Type 0
 IsRead seen stands (Ok v) = stands ≡ Some (seen v)
 IsRead seen stands (Err fault) = is_some stands ≡ is_short fault

@@ -12,7 +12,8 @@ use Rattle.mk_script.specs.Scripts.{CommandAt, IsScript, HasNoCommand}
 
 -- A line has at most one list of fields.
 abbrev pub FieldsAreOne : Type 0
-FieldsAreOne = (line : List ℕ) (fields others : List (List ℕ)) → HasFields line fields → HasFields line others → fields ≡ others
+FieldsAreOne = (line : List ℕ) (fields others : List (List ℕ)) → HasFields line fields
+    → HasFields line others → fields ≡ others
 
 -- a line made of any fields, each between quotes and with a space after it
 abbrev pub line_of : List (List ℕ) → List ℕ
@@ -24,11 +25,13 @@ abbrev pub WrittenFieldsAreRead : Type 0
 WrittenFieldsAreRead = (fields : List (List ℕ)) → HasFields (line_of fields) fields
 
 -- A line is at most one command; a line that is skipped is none.
-abbrev pub CommandIsOne : Type 0
-CommandIsOne = (line : List ℕ) (command other : Command Edit) → HasCommand line command → HasCommand line other → command ≡ other
+abbrev pub LineIsOneCommand : Type 0
+LineIsOneCommand = (line : List ℕ) (command other : Command Edit) → HasCommand line command
+    → HasCommand line other → command ≡ other
 
-abbrev pub SkippedIsNoCommand : Type 0
-SkippedIsNoCommand = (line : List ℕ) (command : Command Edit) → IsSkipped line → HasCommand line command → ⊥
+abbrev pub SkippedLineIsNoCommand : Type 0
+SkippedLineIsNoCommand =
+    (line : List ℕ) (command : Command Edit) → IsSkipped line → HasCommand line command → ⊥
 
 -- a number that a script can write
 abbrev pub CanBeWritten : Option ℕ → Type 0
@@ -56,22 +59,29 @@ HasLine command = Unit {0}
 
 -- Each command has a line.
 abbrev pub EachCommandHasALine : Type 0
-EachCommandHasALine = (command : Command Edit) → HasLine command → (line : List ℕ) × HasCommand line command
+EachCommandHasALine =
+    (command : Command Edit) → HasLine command → (line : List ℕ) × HasCommand line command
 
 -- ---- scripts
 
 -- A script has at most one list of commands.
 abbrev pub CommandsAreOne : Type 0
-CommandsAreOne = (script : List ℕ) (commands others : List CommandAt) → IsScript script commands → IsScript script others → commands ≡ others
+CommandsAreOne = (script : List ℕ) (commands others : List CommandAt) → IsScript script commands
+    → IsScript script others → commands ≡ others
 
 -- No script has both commands and a line that is no command.
-abbrev pub NotBoth : Type 0
-NotBoth = (script : List ℕ) (commands : List CommandAt) (number : ℕ) → IsScript script commands → HasNoCommand script number → ⊥
+abbrev pub NoScriptIsBoth : Type 0
+NoScriptIsBoth =
+    (script : List ℕ) (commands : List CommandAt) (number : ℕ) → IsScript script commands
+    → HasNoCommand script number → ⊥
 
 -- At most one line is the first line that is no command.
-abbrev pub FaultIsOne : Type 0
-FaultIsOne = (script : List ℕ) (number other : ℕ) → HasNoCommand script number → HasNoCommand script other → number ≡ other
+abbrev pub FirstFaultIsOne : Type 0
+FirstFaultIsOne = (script : List ℕ) (number other : ℕ) → HasNoCommand script number
+    → HasNoCommand script other → number ≡ other
 
 -- Each script has commands, or a first line that is no command.
 abbrev pub EachScriptIsRead : Type 0
-EachScriptIsRead = (script : List ℕ) → ((commands : List CommandAt) × IsScript script commands) ⊎ ((number : ℕ) × HasNoCommand script number)
+EachScriptIsRead = (script : List ℕ)
+    → ((commands : List CommandAt) × IsScript script commands)
+    ⊎ ((number : ℕ) × HasNoCommand script number)

@@ -28,4 +28,5 @@ two_parts p = (p.0.now, p.1.now)
 
 -- a field stands in its line as it is, or both it and its written form have quotes or backslashes
 abbrev pub IsWrittenPlain : (field written : List ℕ) → Type 0
-IsWrittenPlain field written = (written ≡ field) ⊎ ((list_any is_special field ≡ true) × (list_any is_special written ≡ true))
+IsWrittenPlain field written =
+    (written ≡ field) ⊎ ((list_any is_special field ≡ true) × (list_any is_special written ≡ true))

@@ -22,27 +22,31 @@ named (entry ∷ table) text = if bytes_eq text entry.1 then Some entry.0 else n
 
 -- the calls of a session that have no edit
 abbrev pub calls : List (Command Edit × List ℕ)
-calls = (Undo, codes "undo") ∷ (Redo, codes "redo") ∷ (Begin, codes "begin") ∷ (End, codes "end") ∷ (Cancel, codes "cancel") ∷ []
+calls =
+    (Undo, codes "undo") ∷ (Redo, codes "redo") ∷ (Begin, codes "begin") ∷ (End, codes "end")
+    ∷ (Cancel, codes "cancel") ∷ []
 
 -- the words of edits
 abbrev pub edit_words : List (EditWord × List ℕ)
 edit_words =
-    (word.Set, codes "set") ∷ (word.Append, codes "append") ∷ (word.Unset, codes "unset") ∷ (word.Assign, codes "assign")
-    ∷ (word.Rule, codes "rule") ∷ (word.Unrule, codes "unrule")
-    ∷ (word.Depend, codes "depend") ∷ (word.DependOrder, codes "depend-order") ∷ (word.Undepend, codes "undepend")
-    ∷ (word.Recipe, codes "recipe") ∷ (word.RecipeSet, codes "recipe-set") ∷ (word.RecipeDel, codes "recipe-del")
+    (word.Set, codes "set") ∷ (word.Append, codes "append") ∷ (word.Unset, codes "unset")
+    ∷ (word.Assign, codes "assign") ∷ (word.Rule, codes "rule") ∷ (word.Unrule, codes "unrule")
+    ∷ (word.Depend, codes "depend") ∷ (word.DependOrder, codes "depend-order")
+    ∷ (word.Undepend, codes "undepend") ∷ (word.Recipe, codes "recipe")
+    ∷ (word.RecipeSet, codes "recipe-set") ∷ (word.RecipeDel, codes "recipe-del")
     ∷ (word.Rename, codes "rename") ∷ []
 
 -- the first words of places
 abbrev pub places : List (PlaceWord × List ℕ)
 places =
-    (place.Bottom, codes "bottom") ∷ (place.BeforeVar, codes "before-var") ∷ (place.AfterVar, codes "after-var")
-    ∷ (place.BeforeRule, codes "before-rule") ∷ []
+    (place.Bottom, codes "bottom") ∷ (place.BeforeVar, codes "before-var")
+    ∷ (place.AfterVar, codes "after-var") ∷ (place.BeforeRule, codes "before-rule") ∷ []
 
 abbrev pub operators : List (Flavor × List ℕ)
 operators =
-    (Recursive, operator_text Recursive) ∷ (Simple, operator_text Simple) ∷ (PosixSimple, operator_text PosixSimple)
-    ∷ (Immediate, operator_text Immediate) ∷ (Conditional, operator_text Conditional) ∷ (Append, operator_text Append)
+    (Recursive, operator_text Recursive) ∷ (Simple, operator_text Simple)
+    ∷ (PosixSimple, operator_text PosixSimple) ∷ (Immediate, operator_text Immediate)
+    ∷ (Conditional, operator_text Conditional) ∷ (Append, operator_text Append)
     ∷ (Shell, operator_text Shell) ∷ []
 
 abbrev pub separators : List (Colons × List ℕ)

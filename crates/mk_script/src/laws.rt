@@ -1,5 +1,5 @@
 //! Laws that hold for every script, each as the contract of a function that does nothing.
-ghost use Rattle.mk_script.specs.ScriptLaws.{CommandIsOne, CommandsAreOne, EachCommandHasALine, EachScriptIsRead, FaultIsOne, FieldsAreOne, NotBoth, SkippedIsNoCommand, WrittenFieldsAreRead};
+ghost use Rattle.mk_script.specs.ScriptLaws.{LineIsOneCommand, CommandsAreOne, EachCommandHasALine, EachScriptIsRead, FirstFaultIsOne, FieldsAreOne, NoScriptIsBoth, SkippedLineIsNoCommand, WrittenFieldsAreRead};
 
 /// A line has at most one list of fields, and any fields have a line.
 pub fn lines_and_fields()
@@ -10,8 +10,8 @@ pub fn lines_and_fields()
 /// A line is at most one command; a line that is skipped is none. Each command whose numbers a
 /// script can write has a line.
 pub fn lines_and_commands()
-    ensures one { CommandIsOne }
-    ensures skipped { SkippedIsNoCommand }
+    ensures one { LineIsOneCommand }
+    ensures skipped { SkippedLineIsNoCommand }
     ensures written { EachCommandHasALine }
 {}
 
@@ -19,7 +19,7 @@ pub fn lines_and_commands()
 /// most one of each.
 pub fn scripts_say_one_thing()
     ensures either { EachScriptIsRead }
-    ensures not_both { NotBoth }
+    ensures not_both { NoScriptIsBoth }
     ensures commands { CommandsAreOne }
-    ensures fault { FaultIsOne }
+    ensures fault { FirstFaultIsOne }
 {}

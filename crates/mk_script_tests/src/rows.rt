@@ -6,8 +6,8 @@ pub struct Script {
     pub text: &'static [u8],
     /// Its commands as [`crate::shown::shown`] shows them.
     pub commands: &'static [u8],
-    /// How many growths its commands take: one for each text that is not empty, and those of the list
-    /// of commands.
+    /// How many growths its commands take: one for each text that is not empty, and those of the
+    /// list of commands.
     pub growths: u64,
 }
 

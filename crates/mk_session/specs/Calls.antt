@@ -1,4 +1,5 @@
--- Calls of a session in turn, each with its reply, as the contracts of the calls say; and the session machine after these calls.
+-- Calls of a session in turn, each with its reply, as the contracts of the calls say; and the
+-- session machine after these calls.
 -- Told in docs/ARCHITECTURE.md, "How a session stands on mk_history".
 use Rattle.std.specs.Prelude.{◌≡◌, ℕ, ◌+◌, ◌≤◌, Bool, true, false, List, [], ◌∷◌, ◌++◌, reverse, Option, Some, None, Result, Ok, Err}
 use Rattle.mk_lines.specs.Lists.{concat}
@@ -34,12 +35,14 @@ abbrev pub cost_on : (text : List ℕ) → Command Edit → ℕ
 cost_on t (Apply e) = cost t e
 cost_on t c = 0
 
--- A call leads from what is seen to what is seen next. It is one step of the machine; it finds no memory only if it takes memory
--- and the machine grants it; and it reads at most as many lines as it costs.
+-- A call leads from what is seen to what is seen next. It is one step of the machine; it finds no
+-- memory only if it takes memory and the machine grants it; and it reads at most as many lines as
+-- it costs.
 pub record IsCall (call : Call) (before after : Seen) : Type 0 where
   pub step : IsStep answer call.0 call.1 before.shown after.shown
   pub memory : call.1 ≡ NoMemory → takes_memory call.0 ≡ true
-  pub granted_else : call.1 ≡ NoMemory → (new : Shown (List ℕ)) × (answer call.0 before.shown ≡ Ok new)
+  pub granted_else : call.1 ≡ NoMemory
+      → (new : Shown (List ℕ)) × (answer call.0 before.shown ≡ Ok new)
   pub few_read : after.rereads ≤ before.rereads + cost_on before.shown.text call.0
 
 -- what a call gave back tells its reply
@@ -50,7 +53,8 @@ IsTold (Err e) (Refused q) = e ≡ session_refusal q
 IsTold (Err e) NoMemory = e ≡ refusal.NoMemory
 
 -- A call gave this back, and led from what was seen before it to what is seen after it.
-pub record IsAnswered (c : Command Edit) (result : Result (Unit {0}) Refusal) (before after : Seen) : Type 0 where
+pub record IsAnswered (c : Command Edit) (result : Result (Unit {0}) Refusal) (before after : Seen)
+    : Type 0 where
   pub reply : Reply
   pub told : IsTold result reply
   pub call : IsCall (c, reply) before after
@@ -87,4 +91,5 @@ standing m = concat (reverse m.done) ++ edits_of_group m.group
 -- the greatest number of lines that calls read again
 abbrev pub costs_of : (depth : ℕ) → List Call → EditMachine → ℕ
 costs_of d [] m = 0
-costs_of d (call ∷ calls) m = cost_on (text edited m) call.0 + costs_of d calls (after_call d call m)
+costs_of d (call ∷ calls) m =
+    cost_on (text edited m) call.0 + costs_of d calls (after_call d call m)

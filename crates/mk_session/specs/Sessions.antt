@@ -1,6 +1,8 @@
--- The session machine over texts of makefiles, as it is seen, and what each call of a session promises about it.
+-- The session machine over texts of makefiles, as it is seen, and what each call of a session
+-- promises about it.
 -- Told in docs/ARCHITECTURE.md, "How a session stands on mk_history".
-use Rattle.std.specs.Prelude.{◌≡◌, ◌⊎◌, ℕ, ◌<◌, ◌^◌, List, length, Result, Ok, Err}
+use Rattle.std.specs.Prelude.{◌≡◌, ◌⊎◌, ℕ, ◌<◌, List, length, Result, Ok, Err}
+use Rattle.mk_lines.specs.Limits.{max_text}
 use Rattle.mk_lines.specs.Pieces.{Replacement, replaced}
 use Rattle.mk_tree.specs.Documents.{IsTooDeep}
 use Rattle.mk_edit_laws.specs.Edits.{Edit}
@@ -25,7 +27,8 @@ abbrev pub edited : Edit → (text : List ℕ) → Result (List ℕ) Refusal
 edited e t = text_with t (spans t e)
 
 -- what a call of a session answers, and what is seen after it
-abbrev pub answer : Command Edit → Shown (List ℕ) → Result (Shown (List ℕ)) (machine.Refusal Refusal)
+abbrev pub answer : Command Edit → Shown (List ℕ)
+    → Result (Shown (List ℕ)) (machine.Refusal Refusal)
 answer c s = shown_answer edited c s
 
 -- ---- what is seen of a session
@@ -41,7 +44,8 @@ seen_opened d t = record { shown = shown_opened d t; rereads = 0 }
 
 -- ---- refusals and faults
 
--- A refusal of an edit: that of the machine; or NoMemory, if the machine accepts the edit and a growth was refused.
+-- A refusal of an edit: that of the machine; or NoMemory, if the machine accepts the edit and a
+-- growth was refused.
 abbrev pub IsEditRefusal : Edit → Shown (List ℕ) → Refusal → Type 0
 IsEditRefusal e s r =
     (answer (Apply e) s ≡ Err (EditRefused r))
@@ -51,13 +55,14 @@ IsEditRefusal e s r =
 abbrev pub IsBadDepth : ℕ → Type 0
 IsBadDepth d = (d < 1) ⊎ (10000 < d)
 
--- A fault of opening a text: a bad depth first; then a text that is too long; then a text that is too deep; and otherwise that a
--- growth was refused. Memory is needed to see how deep a text is, so NoMemory can hide a text that is too deep.
+-- A fault of opening a text: a bad depth first; then a text that is too long; then a text that is
+-- too deep; and otherwise that a growth was refused. Memory is needed to see how deep a text is, so
+-- NoMemory can hide a text that is too deep.
 abbrev pub IsOpeningFault : (depth : ℕ) → (text : List ℕ) → fault.Fault → Type 0
 IsOpeningFault d t BadDepth = IsBadDepth d
-IsOpeningFault d t TooLong = (IsBadDepth d → ⊥) × (2 ^ 24 < length t)
-IsOpeningFault d t TooDeep = (IsBadDepth d → ⊥) × (2 ^ 24 < length t → ⊥) × IsTooDeep t
-IsOpeningFault d t fault.TheVariants.NoMemory = (IsBadDepth d → ⊥) × (2 ^ 24 < length t → ⊥)
+IsOpeningFault d t TooLong = (IsBadDepth d → ⊥) × (max_text < length t)
+IsOpeningFault d t TooDeep = (IsBadDepth d → ⊥) × (max_text < length t → ⊥) × IsTooDeep t
+IsOpeningFault d t fault.TheVariants.NoMemory = (IsBadDepth d → ⊥) × (max_text < length t → ⊥)
 IsOpeningFault d t f = ⊥
 
 -- why a call other than an edit is refused, as the machine says it

@@ -1,5 +1,6 @@
 //! A makefile that is edited.
-ghost use Rattle.std.specs.Prelude.{◌≡◌, ◌≤◌, ◌+◌, ◌<◌, ◌↔◌, ◌^◌, Ok, Err, IfOk, IfErr, IsOkUnless, OnOk, OnErr, length, is_some, Some, None};
+ghost use Rattle.std.specs.Prelude.{◌≡◌, ◌≤◌, ◌+◌, ◌<◌, ◌↔◌, Ok, Err, IfOk, IfErr, IsOkUnless, OnOk, OnErr, length, is_some, Some, None};
+ghost use Rattle.mk_lines.specs.Limits.{max_text};
 ghost use Rattle.mk_tree.specs.Documents.{IsFaithful, IsFaithfulTo, IsTooDeep};
 ghost use Rattle.mk_tree.specs.LocatedLines.{located_text};
 ghost use Rattle.mk_edit_laws.specs.Costs.{cost};
@@ -13,9 +14,9 @@ use mk_edit::{Edit, Refusal, plan};
 use mk_history::history::MAX_DEPTH;
 use mk_history::{Change, History, Sequence};
 use mk_lines::Fault;
+use mk_lines::source::MAX_TEXT;
 use mk_patch::Patch;
 use mk_tree::Doc;
-use mk_tree::parse::SIZE_LIMIT;
 use std::alloc::{Allocator, Global};
 use std::marker::Model;
 
@@ -79,12 +80,12 @@ impl<A: Allocator + Copy> Session<A> {
     pub fn open(alloc: A, text: &[u8], depth: u32) -> Result<Session<A>, Fault>
         ensures opened { IfOk result (λ s. s ≡ seen_opened depth text.now) }
         ensures bad_depth { (result ≡ Err Fault.BadDepth) ↔ IsBadDepth depth }
-        ensures short { IfOk result (λ _. length text.now ≤ 2 ^ 24) }
+        ensures short { IfOk result (λ _. length text.now ≤ max_text) }
         ensures shallow { IfOk result (λ _. IsTooDeep text.now → ⊥) }
         ensures fault { IfErr result (λ fault. IsOpeningFault depth text.now fault) }
     {
         test_depth(depth)?;
-        if text.len() > SIZE_LIMIT {
+        if text.len() > MAX_TEXT {
             return Err(Fault::TooLong);
         }
         Session::open_vec(alloc, Vec::from_slice(alloc, text)?, depth)
@@ -99,7 +100,7 @@ impl<A: Allocator + Copy> Session<A> {
     pub fn open_vec(alloc: A, text: Vec<u8, A>, depth: u32) -> Result<Session<A>, Fault>
         ensures opened { IfOk result (λ s. s ≡ seen_opened depth text.items) }
         ensures bad_depth { (result ≡ Err Fault.BadDepth) ↔ IsBadDepth depth }
-        ensures short { IfOk result (λ _. length text.items ≤ 2 ^ 24) }
+        ensures short { IfOk result (λ _. length text.items ≤ max_text) }
         ensures shallow { IfOk result (λ _. IsTooDeep text.items → ⊥) }
         ensures fault { IfErr result (λ fault. IsOpeningFault depth text.items fault) }
     {
@@ -137,10 +138,13 @@ impl<A: Allocator + Copy> Session<A> {
     /// The first [`Refusal`] of the edit whose cause holds (one of the first fifteen). If no cause
     /// holds, [`Refusal::NoMemory`] if a growth was refused. An open group stays open.
     pub fn apply(&mut self, edit: &Edit<A>) -> Result<(), Refusal>
-        ensures done { OnOk result (answer (Apply (edit_of edit.now)) self.old.shown ≡ Ok self.new.shown) }
-        ensures refused { IfErr result (λ refusal. IsEditRefusal (edit_of edit.now) self.old.shown refusal) }
+        ensures done { OnOk result
+            (answer (Apply (edit_of edit.now)) self.old.shown ≡ Ok self.new.shown) }
+        ensures refused { IfErr result (λ refusal.
+            IsEditRefusal (edit_of edit.now) self.old.shown refusal) }
         ensures same { OnErr result (self.new.shown ≡ self.old.shown) }
-        ensures few_read { self.new.rereads ≤ self.old.rereads + cost self.old.shown.text (edit_of edit.now) }
+        ensures few_read { self.new.rereads
+            ≤ self.old.rereads + cost self.old.shown.text (edit_of edit.now) }
         ensures forward { self.old.rereads ≤ self.new.rereads }
     {
         let patch = match plan(self.alloc, &self.doc, edit, &mut self.meter) {
@@ -168,8 +172,8 @@ impl<A: Allocator + Copy> Session<A> {
         Ok(())
     }
 
-    /// Takes back the last edit or group that stands. It can be redone next. It reads no line and takes
-    /// no memory.
+    /// Takes back the last edit or group that stands. It can be redone next. It reads no line and
+    /// takes no memory.
     ///
     /// # Errors
     ///
@@ -177,7 +181,8 @@ impl<A: Allocator + Copy> Session<A> {
     /// - [`Refusal::NothingToUndo`] if there is nothing to undo, or nothing within the depth.
     pub fn undo(&mut self) -> Result<(), Refusal>
         ensures done { OnOk result (answer Undo self.old.shown ≡ Ok self.new.shown) }
-        ensures refused { IfErr result (λ refusal. IsRefusedBy (answer Undo self.old.shown) refusal) }
+        ensures refused { IfErr result (λ refusal.
+            IsRefusedBy (answer Undo self.old.shown) refusal) }
         ensures same { OnErr result (self.new.shown ≡ self.old.shown) }
         ensures none_read { self.new.rereads ≡ self.old.rereads }
     {
@@ -199,7 +204,8 @@ impl<A: Allocator + Copy> Session<A> {
     /// - [`Refusal::NothingToRedo`] if there is nothing to redo.
     pub fn redo(&mut self) -> Result<(), Refusal>
         ensures done { OnOk result (answer Redo self.old.shown ≡ Ok self.new.shown) }
-        ensures refused { IfErr result (λ refusal. IsRefusedBy (answer Redo self.old.shown) refusal) }
+        ensures refused { IfErr result (λ refusal.
+            IsRefusedBy (answer Redo self.old.shown) refusal) }
         ensures same { OnErr result (self.new.shown ≡ self.old.shown) }
         ensures none_read { self.new.rereads ≡ self.old.rereads }
     {
@@ -220,7 +226,8 @@ impl<A: Allocator + Copy> Session<A> {
     /// - [`Refusal::NoMemory`] if a growth was refused.
     pub fn begin(&mut self) -> Result<(), Refusal>
         ensures done { OnOk result (answer Begin self.old.shown ≡ Ok self.new.shown) }
-        ensures refused { IfErr result (λ refusal. IsBeginRefusal (answer Begin self.old.shown) refusal) }
+        ensures refused { IfErr result (λ refusal.
+            IsBeginRefusal (answer Begin self.old.shown) refusal) }
         ensures same { OnErr result (self.new.shown ≡ self.old.shown) }
         ensures none_read { self.new.rereads ≡ self.old.rereads }
     {
@@ -242,7 +249,8 @@ impl<A: Allocator + Copy> Session<A> {
     /// [`Refusal::NoGroup`] if no group is open.
     pub fn end(&mut self) -> Result<(), Refusal>
         ensures done { OnOk result (answer End self.old.shown ≡ Ok self.new.shown) }
-        ensures refused { IfErr result (λ refusal. IsRefusedBy (answer End self.old.shown) refusal) }
+        ensures refused { IfErr result (λ refusal.
+            IsRefusedBy (answer End self.old.shown) refusal) }
         ensures same { OnErr result (self.new.shown ≡ self.old.shown) }
         ensures none_read { self.new.rereads ≡ self.old.rereads }
     {
@@ -263,7 +271,8 @@ impl<A: Allocator + Copy> Session<A> {
     /// [`Refusal::NoGroup`] if no group is open.
     pub fn cancel(&mut self) -> Result<(), Refusal>
         ensures done { OnOk result (answer Cancel self.old.shown ≡ Ok self.new.shown) }
-        ensures refused { IfErr result (λ refusal. IsRefusedBy (answer Cancel self.old.shown) refusal) }
+        ensures refused { IfErr result (λ refusal.
+            IsRefusedBy (answer Cancel self.old.shown) refusal) }
         ensures same { OnErr result (self.new.shown ≡ self.old.shown) }
         ensures none_read { self.new.rereads ≡ self.old.rereads }
     {

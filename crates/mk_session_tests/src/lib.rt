@@ -1,5 +1,5 @@
-//! Tests of `mk_session`: worked rows, the lines that calls read again, growths that are refused and
-//! growths that are counted, and many calls over hostile makefiles.
+//! Tests of `mk_session`: worked rows, the lines that calls read again, growths that are refused
+//! and growths that are counted, and many calls over hostile makefiles.
 #![tactic(auto)]
 
 #[cfg(test)]

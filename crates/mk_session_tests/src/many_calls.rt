@@ -55,7 +55,8 @@ fn answers_any_alike(
     answers_alike(rt, session, machine, &command)
 }
 
-// Makes 50 calls over a text, compares each answer and each document, and says how many edits were made.
+// Makes 50 calls over a text, compares each answer and each document, and says how many edits were
+// made.
 fn run_calls(
     rt: &HostRuntime,
     numbers: &mut Numbers,

@@ -1,4 +1,5 @@
-//! Growths that are refused: the call says so, the session is as it was, and the call can be made again.
+//! Growths that are refused: the call says so, the session is as it was, and the call can be made
+//! again.
 use crate::steps::{Answer, Step, answers};
 use crate::texts::is_as_parsed;
 use mk_lines::Fault;
@@ -27,8 +28,8 @@ fn fault_of_open(rt: &HostRuntime, heap: &Heap) -> Result<Option<Fault>, Fail> {
     }
 }
 
-// The growths of the opening of a session: the text and the count of its owners, the spans of the lines
-// twice, a node of each line, three for the fold, and a ring each for undo and redo.
+// The growths of the opening of a session: the text and the count of its owners, the spans of the
+// lines twice, a node of each line, three for the fold, and a ring each for undo and redo.
 const GROWTHS_OF_OPEN: u64 = 14;
 
 #[test]
@@ -140,8 +141,8 @@ fn session_at<'a>(
     Ok(session)
 }
 
-// Whether an edit that was made at a stage counts as it should: it is undone, with the edits before it in
-// its group, and redone, and nothing else can be redone.
+// Whether an edit that was made at a stage counts as it should: it is undone, with the edits before
+// it in its group, and redone, and nothing else can be redone.
 fn counts_at<'a>(
     rt: &HostRuntime,
     heap: &'a Heap,
@@ -211,8 +212,8 @@ fn is_step_refused<'a>(
     is_call_refused(rt, heap, session, stage, &command, admitted)
 }
 
-// Refuses a growth of an edit at a stage, and says whether the edit has so many. An edit that is refused
-// changes nothing, and can be made afterwards.
+// Refuses a growth of an edit at a stage, and says whether the edit has so many. An edit that is
+// refused changes nothing, and can be made afterwards.
 fn is_refused(
     rt: &HostRuntime,
     heap: &Heap,
@@ -254,8 +255,8 @@ fn each_refused_growth_of_an_edit_changes_nothing(rt: HostRuntime) -> Result<(),
     Ok(())
 }
 
-// Refuses a growth of the begin of a group, and says whether it has so many. A begin that is refused
-// changes nothing, and can be made afterwards.
+// Refuses a growth of the begin of a group, and says whether it has so many. A begin that is
+// refused changes nothing, and can be made afterwards.
 fn is_begin_refused(rt: &HostRuntime, heap: &Heap, admitted: u64) -> Result<bool, Fail> {
     let mut session = session_at(rt, heap, ALONE)?;
     let refused = is_call_refused(rt, heap, &mut session, ALONE, &Command::Begin, admitted)?;

@@ -1,5 +1,5 @@
-//! Worked rows where a growth is refused: the call that meets it changes nothing, and is answered as the
-//! row says when it is made again, as are all others.
+//! Worked rows where a growth is refused: the call that meets it changes nothing, and is answered
+//! as the row says when it is made again, as are all others.
 use crate::rows::{GROUP_ROWS, Row, UNDO_ROWS};
 use crate::steps::{Answer, Step};
 use crate::texts::is_as_parsed;
@@ -13,8 +13,8 @@ const MANY: u64 = 1_000;
 
 type Heap = Watched<Global>;
 
-// Makes a call on a text, again where it meets the growth that is refused, which changes nothing, and
-// fails where it is not answered as it should be.
+// Makes a call on a text, again where it meets the growth that is refused, which changes nothing,
+// and fails where it is not answered as it should be.
 fn check_call<'a>(
     rt: &HostRuntime,
     heap: &'a Heap,
@@ -68,8 +68,8 @@ fn check_calls<'a>(
     Ok(())
 }
 
-// Asks a session for the calls of a row, the growth after so many others refused, and says whether they
-// have one.
+// Asks a session for the calls of a row, the growth after so many others refused, and says whether
+// they have one.
 fn is_refused<'a>(
     rt: &HostRuntime,
     heap: &'a Heap,

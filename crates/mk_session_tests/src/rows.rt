@@ -1,4 +1,5 @@
-//! Worked rows: edits that are undone and redone, depths, groups, and the lines that are read again.
+//! Worked rows: edits that are undone and redone, depths, groups, and the lines that are read
+//! again.
 use crate::steps::{Answer, Step, answers};
 use mk_lines::Fault;
 use mk_session::{Refusal, Session};

@@ -69,8 +69,8 @@ pub fn obey_step<A: Allocator + Copy>(
     Ok(session.obey(&command))
 }
 
-/// Whether calls of a session, whose text is `text`, are answered so, each document being the parse of
-/// its text.
+/// Whether calls of a session, whose text is `text`, are answered so, each document being the parse
+/// of its text.
 pub fn answers<A: Allocator + Copy>(
     rt: &HostRuntime,
     alloc: A,

@@ -1,10 +1,11 @@
 -- The lines of a text are admitted where they stand.
-use Rattle.std.proofs.Common.{◌≡◌, ℕ, zero, suc, ◌+◌, ◌<◌, ◌≤◌, ◌^◌, refl, sym, ap, ◌∙◌, subst, arith, List, [], ◌∷◌, length, take, drop, suc-add}
+use Rattle.std.proofs.Common.{◌≡◌, ℕ, zero, suc, ◌+◌, ◌<◌, ◌≤◌, refl, sym, ap, ◌∙◌, subst, arith, List, [], ◌∷◌, length, take, drop, suc-add}
+use Rattle.mk_lines.specs.Limits.{max_text}
 use Rattle.mk_lines.specs.LogicalLines.{logical_lines}
 use Rattle.mk_lines.specs.Cells.{Cell, joined_byte}
 use Rattle.mk_class.specs.Classes.{Class}
 use Rattle.mk_class.specs.Classes.Class.{Endef, Body, Recipe, Opaque, Blank, Comment, Assign, DefineHead, If, Else, Endif, Directive, TargetAssign, Rough, Header}
-use Rattle.mk_class.specs.Contexts.{Context, start, context_after, defines_after, context_after_located, FitsDefines, conditionals_after_located, FitsConditionals}
+use Rattle.mk_class.specs.Contexts.{Context, FitsConditionals, FitsDefines, conditionals_after_located, context_after, context_after_located, defines_after, max_conditionals, start}
 use Rattle.mk_class.specs.LocatedClasses.{located_class}
 use Rattle.mk_class.specs.ClassTable.{class_of}
 use Rattle.mk_class.specs.CountsOfClasses.{FitsCounts}
@@ -38,7 +39,7 @@ defines_after-few n Rough = omega arith
 defines_after-few n (Header h) = omega arith
 
 -- the class of a line fits the open defines where it stands, where they are few
-defines-fit : (n c : ℕ) (k : Class Cell) → n < 2 ^ 24 → FitsCounts n c k → FitsDefines n (located_class joined_byte k)
+defines-fit : (n c : ℕ) (k : Class Cell) → n < max_text → FitsCounts n c k → FitsDefines n (located_class joined_byte k)
 defines-fit n c Endef few h = omega (arith, h)
 defines-fit n c (Body Opens) few h = few
 defines-fit n c (Body Closes) few (m, e) = omega (arith, e)
@@ -58,7 +59,7 @@ defines-fit n c Rough few h = tt
 defines-fit n c (Header x) few h = tt
 
 -- the lines of a text are admitted where their conditionals fit and they are few
-admitted-classed : (c : Context) (ls : List (List ℕ)) → AreConditionalsFit c.conditionals (located_lines (classed c ls)) → c.defines + length ls ≤ 2 ^ 24 → AreAdmitted c (located_lines (classed c ls))
+admitted-classed : (c : Context) (ls : List (List ℕ)) → AreConditionalsFit c.conditionals (located_lines (classed c ls)) → c.defines + length ls ≤ max_text → AreAdmitted c (located_lines (classed c ls))
 admitted-classed c [] h few = tt
 admitted-classed c (l ∷ ls) h few =
     let k = class_of c l in
@@ -74,16 +75,16 @@ length-classed c [] = refl
 length-classed c (l ∷ ls) = ap suc (length-classed (context_after c (class_of c l)) ls)
 
 -- the lines of a faithful document are admitted
-pub admitted-faithful : (ls : List LocatedLine) → IsFaithful ls → AreConditionalsFit 0 ls → length ls ≤ 2 ^ 24 → AreAdmitted start ls
+pub admitted-faithful : (ls : List LocatedLine) → IsFaithful ls → AreConditionalsFit 0 ls → length ls ≤ max_text → AreAdmitted start ls
 admitted-faithful ls e h few =
     let own = logical_lines (located_text ls) in
-    let n : 0 + length own ≤ 2 ^ 24 = omega (arith, few, ap length e, length-classed start own) in
+    let n : 0 + length own ≤ max_text = omega (arith, few, ap length e, length-classed start own) in
     subst (AreAdmitted start) (sym e) (admitted-classed start own (subst (AreConditionalsFit 0) e h) n)
 
 -- ---- open conditionals
 
 -- a line that fits leaves at most 256 open
-conditionals-within : (n : ℕ) (k : class.Class) → n ≤ 256 → FitsConditionals n k → conditionals_after_located n k ≤ 256
+conditionals-within : (n : ℕ) (k : class.Class) → n ≤ max_conditionals → FitsConditionals n k → conditionals_after_located n k ≤ max_conditionals
 conditionals-within n variants.Endef few h = few
 conditionals-within n (variants.Body b) few h = few
 conditionals-within n variants.Recipe few h = few
@@ -101,7 +102,7 @@ conditionals-within n variants.Rough few h = few
 conditionals-within n (variants.Header x) few h = few
 
 -- lines that all fit leave at most 256 open too, after any number of them
-pub conditionals-few_after : (c : Context) (ls : List LocatedLine) (n : ℕ) → c.conditionals ≤ 256 → AreConditionalsFit c.conditionals ls → (context_after_located_lines c (take n ls)).conditionals ≤ 256
+pub conditionals-few_after : (c : Context) (ls : List LocatedLine) (n : ℕ) → c.conditionals ≤ max_conditionals → AreConditionalsFit c.conditionals ls → (context_after_located_lines c (take n ls)).conditionals ≤ max_conditionals
 conditionals-few_after c ls zero few h = few
 conditionals-few_after c [] (suc n) few h = few
 conditionals-few_after c (l ∷ ls) (suc n) few h =

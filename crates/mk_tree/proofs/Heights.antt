@@ -1,7 +1,8 @@
 -- How many lines a tree of some height has at least.
-use Rattle.std.proofs.Common.{◌≡◌, ℕ, zero, suc, ◌+◌, ◌≤◌, ◌<◌, ◌^◌, ◌⊎◌, inl, inr, max, refl, ap, arith, lit<, Bool, true, false, ◌-◌, add-zero}
+use Rattle.std.proofs.Common.{◌≡◌, ℕ, zero, suc, ◌+◌, ◌≤◌, ◌<◌, ◌⊎◌, inl, inr, max, refl, ap, arith, lit<, Bool, true, false, ◌-◌, add-zero}
 use Rattle.std.proofs.Math.Dec.{ltb}
 use Rattle.std.proofs.lemmas.Bool.{ltb-true, ltb-false}
+use Rattle.mk_lines.specs.Limits.{max_text}
 use Rattle.mk_tree.specs.Trees.{fewest_lines, DifferByAtMost}
 
 -- a higher tree has no fewer lines
@@ -40,7 +41,7 @@ fewest_lines-join l r m n near a b = go (near_cases l r near.0 near.1)
         rw k (omega (arith, a, c))
 
 -- a tree of at least 35 levels has more lines than the limit has bytes
-fewest_lines-limit : 2 ^ 24 < fewest_lines 35
+fewest_lines-limit : max_text < fewest_lines 35
 fewest_lines-limit = lit< tt
 
 -- a tree that is `k` levels higher has no fewer lines
@@ -51,7 +52,7 @@ fewest_lines-add h (suc k) =
     rw e (omega (arith, fewest_lines-add h k, fewest_lines-step (h + k)))
 
 -- a tree within the limit of bytes is at most 34 high
-pub fewest_lines-low : (h n : ℕ) → fewest_lines h ≤ n → n ≤ 2 ^ 24 → h ≤ 34
+pub fewest_lines-low : (h n : ℕ) → fewest_lines h ≤ n → n ≤ max_text → h ≤ 34
 fewest_lines-low h n a b = go (ltb 34 h) refl
   where
     go : (t : Bool) → ltb 34 h ≡ t → h ≤ 34

@@ -1,5 +1,6 @@
 -- A line put between two trees: what its counts say.
-use Rattle.std.proofs.Common.{◌≡◌, ℕ, ◌+◌, ◌≤◌, ◌<◌, ◌^◌, max, arith, List, ◌∷◌, ◌++◌, length, length-append, refl, subst}
+use Rattle.std.proofs.Common.{◌≡◌, ℕ, ◌+◌, ◌≤◌, ◌<◌, max, arith, List, ◌∷◌, ◌++◌, length, length-append, refl, subst}
+use Rattle.mk_lines.specs.Limits.{max_text}
 use Rattle.mk_tree.specs.LocatedLines.{LocatedLine, size_of}
 use Rattle.mk_tree.specs.Trees.{DifferByAtMost, AreFew, IsNode, IsBalanced, IsTop, IsUnlinked, fewest_lines, lines_and_height}
 use Rattle.mk_tree.specs.declared.tree.Counts.{Counts}
@@ -11,7 +12,7 @@ use Rattle.mk_tree.proofs.Indices.{size_of-append, size_of-whole}
 
 -- what a line between two trees of almost the same height counts
 pub node-join : (l r : List LocatedLine × ℕ) (x : LocatedLine) (higher own lines_left lines_right bytes_left bytes_right : ℕ) → DifferByAtMost 1 l.1 r.1 → AreFew l.0 l.1 → AreFew r.0 r.1 → 0 < length x.bytes
-    → size_of l.0 + length x.bytes + size_of r.0 ≤ 2 ^ 24 → higher ≡ max l.1 r.1 → own ≡ length x.bytes → lines_left ≡ length l.0 → lines_right ≡ length r.0 → bytes_left ≡ size_of l.0 → bytes_right ≡ size_of r.0
+    → size_of l.0 + length x.bytes + size_of r.0 ≤ max_text → higher ≡ max l.1 r.1 → own ≡ length x.bytes → lines_left ≡ length l.0 → lines_right ≡ length r.0 → bytes_left ≡ size_of l.0 → bytes_right ≡ size_of r.0
     → IsNode l x r (record { height = higher + 1; lines = lines_left + 1 + lines_right; bytes = bytes_left + own + bytes_right })
 node-join l r x higher own lines_left lines_right bytes_left bytes_right near a b some fits h o m n p q =
     let count : length (l.0 ++ x ∷ r.0) ≡ length l.0 + 1 + length r.0 = grind (arith, length-append) in
@@ -19,7 +20,7 @@ node-join l r x higher own lines_left lines_right bytes_left bytes_right near a 
     let height : higher + 1 ≡ max l.1 r.1 + 1 = omega (arith, h) in
     let enough : fewest_lines (higher + 1) ≤ length (l.0 ++ x ∷ r.0) = rw (height, count) (fewest_lines-join l.1 r.1 (length l.0) (length r.0) near a.enough b.enough) in
     let some_bytes : length (l.0 ++ x ∷ r.0) ≤ size_of (l.0 ++ x ∷ r.0) = omega (arith, count, total, a.some_bytes, b.some_bytes, some) in
-    let few_bytes : size_of (l.0 ++ x ∷ r.0) ≤ 2 ^ 24 = omega (arith, total, fits) in
+    let few_bytes : size_of (l.0 ++ x ∷ r.0) ≤ max_text = omega (arith, total, fits) in
     record {
       height_is = height;
       balanced = near;

@@ -1,6 +1,7 @@
 -- The lines of a text, read one after the other.
-use Rattle.std.proofs.Common.{◌≡◌, ℕ, suc, ◌+◌, ◌<◌, ◌≤◌, ◌^◌, refl, sym, ap, ◌∙◌, subst, arith, List, [], ◌∷◌, ◌++◌, length, append_assoc, append-nil}
+use Rattle.std.proofs.Common.{◌≡◌, ℕ, suc, ◌+◌, ◌<◌, ◌≤◌, refl, sym, ap, ◌∙◌, subst, arith, List, [], ◌∷◌, ◌++◌, length, append_assoc, append-nil}
 use Rattle.std.specs.Prelude.{Result, Ok, Err, IsErr, IsErrAnd, IfErr}
+use Rattle.mk_lines.specs.Limits.{max_text}
 use Rattle.mk_lines.specs.Spans.{Tiles}
 use Rattle.mk_lines.specs.LogicalLines.{logical_lines}
 use Rattle.mk_lines.proofs.on_lines.LineLemmas.{among, OneLine-logical}
@@ -10,7 +11,7 @@ use Rattle.mk_lines.specs.declared.split.Span.{Span}
 use Rattle.mk_lines.specs.Cells.{Cell, joined_byte}
 use Rattle.mk_class.specs.Classes.{Class}
 use Rattle.mk_class.specs.Classes.Class.{Endef, Body, Recipe, Opaque, Blank, Comment, Assign, DefineHead, If, Else, Endif, Directive, TargetAssign, Rough, Header}
-use Rattle.mk_class.specs.Contexts.{Context, start, context_after, conditionals_after, context_after_located, FitsConditionals}
+use Rattle.mk_class.specs.Contexts.{Context, FitsConditionals, conditionals_after, context_after, context_after_located, max_conditionals, start}
 use Rattle.mk_class.specs.LocatedClasses.{located_class}
 use Rattle.mk_class.specs.ClassTable.{class_of}
 use Rattle.mk_class.specs.CountsOfClasses.{FitsCounts}
@@ -50,7 +51,7 @@ all-single t above (l ∷ ls) e =
     (OneLine-logical l ((among t above l ls e).one), all-single t (above ++ l ∷ []) ls (e ∙ sym (append_assoc above (l ∷ []) ls)))
 
 -- at first all lines of a text are unread
-pub all-unread : (t : List ℕ) (ss : List Span) (c : Context) → length t ≤ 2 ^ 24 → ss ≡ line_ranges t → c ≡ start → AreUnread t ss c
+pub all-unread : (t : List ℕ) (ss : List Span) (c : Context) → length t ≤ max_text → ss ≡ line_ranges t → c ≡ start → AreUnread t ss c
 all-unread t ss c few e s =
     let tiles : Tiles ss 0 (length t) = subst (λ z. Tiles z 0 (length t)) (sym e) (line_ranges-tiles t) in
     record {
@@ -62,7 +63,7 @@ all-unread t ss c few e s =
 
 -- the first of some unread lines
 pub first-unread : (t : List ℕ) (s : Span) (ss rest : List Span) (c : Context) → ss ≡ s ∷ rest → AreUnread t ss c
-    → (s.start ≤ s.end) × (s.end ≤ length t) × (logical_lines (text_at t s) ≡ text_at t s ∷ []) × (c.defines < 2 ^ 24)
+    → (s.start ≤ s.end) × (s.end ≤ length t) × (logical_lines (text_at t s) ≡ text_at t s ∷ []) × (c.defines < max_text)
 first-unread t s ss rest c e u =
     let here : AreUnread t (s ∷ rest) c = subst (λ z. AreUnread t z c) e u in
     let (order, end) = first-within s rest (length t) here.within in
@@ -87,7 +88,7 @@ most_conditionals-self n [] = omega arith
 most_conditionals-self n (l ∷ ls) = omega arith
 
 -- a line that does not open one too many fits
-conditionals-fit : (n m : ℕ) (k : Class Cell) → FitsCounts m n k → (k ≡ If → n < 256) → FitsConditionals n (located_class joined_byte k)
+conditionals-fit : (n m : ℕ) (k : Class Cell) → FitsCounts m n k → (k ≡ If → n < max_conditionals) → FitsConditionals n (located_class joined_byte k)
 conditionals-fit n m Endef h p = tt
 conditionals-fit n m (Body b) h p = tt
 conditionals-fit n m Recipe h p = tt
@@ -105,7 +106,7 @@ conditionals-fit n m Rough h p = tt
 conditionals-fit n m (Header x) h p = tt
 
 -- a line that opens one too many makes the lines too deep
-opens-deep : (n : ℕ) (k : Class Cell) (rest : List ClassedLine) → (k ≡ If) × (n ≡ 256) → 256 < most_conditionals (conditionals_after n k) rest
+opens-deep : (n : ℕ) (k : Class Cell) (rest : List ClassedLine) → (k ≡ If) × (n ≡ max_conditionals) → max_conditionals < most_conditionals (conditionals_after n k) rest
 opens-deep n k rest h = subst (λ z. 256 < most_conditionals (conditionals_after n z) rest) (sym h.0) (omega (arith, h.1, most_conditionals-self (suc n) rest))
 
 -- ---- one more line read
@@ -143,12 +144,12 @@ read-joined first second third last left right x a b d = record {
 }
 
 -- the lines that are left have at most as many bytes as all lines
-pub left-fits : (old left : UnreadLines) (read : List LocatedLine) → AreReadFrom old read left → size_of (shown_lines old) ≤ 2 ^ 24 → size_of (shown_lines left) ≤ 2 ^ 24
+pub left-fits : (old left : UnreadLines) (read : List LocatedLine) → AreReadFrom old read left → size_of (shown_lines old) ≤ max_text → size_of (shown_lines left) ≤ max_text
 left-fits old left read h few = omega (arith, ap size_of h.all, size_of-append read (shown_lines left), few)
 
 -- a line that is read and the lines on both sides of it have together at most as many bytes as all lines
-pub sides-fit : (old left : UnreadLines) (before after : List LocatedLine) (x : LocatedLine) → AreReadFrom old (before ++ x ∷ after) left → size_of (shown_lines old) ≤ 2 ^ 24
-    → size_of before + length x.bytes + size_of after ≤ 2 ^ 24
+pub sides-fit : (old left : UnreadLines) (before after : List LocatedLine) (x : LocatedLine) → AreReadFrom old (before ++ x ∷ after) left → size_of (shown_lines old) ≤ max_text
+    → size_of before + length x.bytes + size_of after ≤ max_text
 sides-fit old left before after x h few =
     omega (arith, ap size_of h.all, size_of-append (before ++ x ∷ after) (shown_lines left), size_of-whole before after x, few)
 
@@ -177,7 +178,7 @@ all-counted text old left read e h n =
 -- ---- the whole text
 
 -- a line that fits leaves no more than 256 open
-conditionals-few : (n : ℕ) (k : Class Cell) → n ≤ 256 → FitsConditionals n (located_class joined_byte k) → conditionals_after n k ≤ 256
+conditionals-few : (n : ℕ) (k : Class Cell) → n ≤ max_conditionals → FitsConditionals n (located_class joined_byte k) → conditionals_after n k ≤ max_conditionals
 conditionals-few n Endef h p = h
 conditionals-few n (Body b) h p = h
 conditionals-few n Recipe h p = h
@@ -195,12 +196,12 @@ conditionals-few n Rough h p = h
 conditionals-few n (Header x) h p = h
 
 -- lines whose conditionals fit are not too deep
-most_conditionals-fit : (c : Context) (ls : List (List ℕ)) → c.conditionals ≤ 256 → AreConditionalsFit c.conditionals (located_lines (classed c ls)) → most_conditionals c.conditionals (classed c ls) ≤ 256
+most_conditionals-fit : (c : Context) (ls : List (List ℕ)) → c.conditionals ≤ max_conditionals → AreConditionalsFit c.conditionals (located_lines (classed c ls)) → most_conditionals c.conditionals (classed c ls) ≤ 256
 most_conditionals-fit c [] h k = omega (arith, h)
 most_conditionals-fit c (l ∷ ls) h k =
     let kind = class_of c l in
     let next = context_after c kind in
-    let few : next.conditionals ≤ 256 = conditionals-few c.conditionals kind h k.0 in
+    let few : next.conditionals ≤ max_conditionals = conditionals-few c.conditionals kind h k.0 in
     let fits : AreConditionalsFit next.conditionals (located_lines (classed next ls)) = k.1 in
     omega (arith, h, most_conditionals-fit next ls few fits)
 

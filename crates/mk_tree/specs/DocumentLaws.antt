@@ -10,6 +10,8 @@ use Rattle.mk_tree.specs.RecipeLines.{rule_lines, ends_rule}
 abbrev pub LinesAreTheText : Type 0
 LinesAreTheText = (text : List ℕ) → text_of (classed_lines text) ≡ text
 
--- the lines of a header's rule are those before the next line that begins a rule or sets the flag to anything other than Rule
+-- the lines of a header's rule are those before the next line that begins a rule or sets the flag
+-- to anything other than Rule
 abbrev pub RulesEndByFlag : Type 0
-RulesEndByFlag = (after : List ClassedLine) → rule_lines after ≡ leading (λ l. not (ends_rule l.class)) after
+RulesEndByFlag =
+    (after : List ClassedLine) → rule_lines after ≡ leading (λ l. not (ends_rule l.class)) after

@@ -1,10 +1,11 @@
--- What a document is: a list of lines, each with its bytes and its class. A document is faithful to a text if its lines are those
--- of the text, each with its class in the context of the lines before it.
+-- What a document is: a list of lines, each with its bytes and its class. A document is faithful to
+-- a text if its lines are those of the text, each with its class in the context of the lines before
+-- it.
 -- Told in docs/DECISIONS.md, "mk_tree".
 use Rattle.std.specs.Prelude.{◌≡◌, ℕ, ◌<◌, max, not, List, [], ◌∷◌}
 use Rattle.mk_lines.specs.Lists.{Each}
 use Rattle.mk_class.specs.Classes.{is_conditional}
-use Rattle.mk_class.specs.Contexts.{conditionals_after}
+use Rattle.mk_class.specs.Contexts.{conditionals_after, max_conditionals}
 use Rattle.mk_class.specs.ClassedLines.{ClassedLine, classed_lines}
 pub use Rattle.mk_tree.specs.LineTexts.{text_of, context_of}
 use Rattle.mk_tree.specs.LocatedLines.{LocatedLine, located_lines, located_text}
@@ -21,18 +22,15 @@ IsFaithfulTo ls t = ls ≡ document_lines t
 abbrev pub IsFaithful : List LocatedLine → Type 0
 IsFaithful ls = IsFaithfulTo ls (located_text ls)
 
--- the most conditionals that are open before, between or after some lines; `open_before` are open before the first
+-- the most conditionals that are open before, between or after some lines; `open_before` are open
+-- before the first
 abbrev pub most_conditionals : (open_before : ℕ) → List ClassedLine → ℕ
 most_conditionals n [] = n
 most_conditionals n (l ∷ ls) = max n (most_conditionals (conditionals_after n l.class) ls)
 
--- the most conditionals that may be open at once: this project's profile
-abbrev pub conditional_limit : ℕ
-conditional_limit = 256
-
 -- a text opens more conditionals at once than a document may have
 abbrev pub IsTooDeep : List ℕ → Type 0
-IsTooDeep t = conditional_limit < most_conditionals 0 (classed_lines t)
+IsTooDeep t = max_conditionals < most_conditionals 0 (classed_lines t)
 
 -- lines that belong to no conditional
 abbrev pub AreUnconditional : List ClassedLine → Type 0

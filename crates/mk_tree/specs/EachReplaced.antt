@@ -7,9 +7,10 @@ use Rattle.mk_class.specs.ClassTable.{class_of}
 use Rattle.mk_class.specs.ClassedLines.{ClassedLine}
 use Rattle.mk_tree.specs.LineTexts.{bytes_of}
 
--- What a line needs to stand in the place of another, in its context: it is one line, it ends a line if lines follow, and the
--- context after it is the same.
-pub record ReplacesLine (c : Context) (old new : ClassedLine) (following : List ClassedLine) : Type 0 where
+-- What a line needs to stand in the place of another, in its context: it is one line, it ends a
+-- line if lines follow, and the context after it is the same.
+pub record ReplacesLine (c : Context) (old new : ClassedLine) (following : List ClassedLine)
+    : Type 0 where
   pub one : logical_lines new.bytes ≡ new.bytes ∷ []
   pub ends : EndsWhereFollowed new.bytes (bytes_of following)
   pub class : class_of c new.bytes ≡ new.class
@@ -20,4 +21,5 @@ abbrev pub ReplaceEach : Context → (old new below : List ClassedLine) → Type
 ReplaceEach c [] [] below = Unit {0}
 ReplaceEach c [] (m ∷ ms) below = ⊥
 ReplaceEach c (l ∷ ls) [] below = ⊥
-ReplaceEach c (l ∷ ls) (m ∷ ms) below = ReplacesLine c l m (ls ++ below) × ReplaceEach (context_after c l.class) ls ms below
+ReplaceEach c (l ∷ ls) (m ∷ ms) below =
+    ReplacesLine c l m (ls ++ below) × ReplaceEach (context_after c l.class) ls ms below

@@ -12,7 +12,8 @@ IsReadingFault deep BadDepth = ⊥
 IsReadingFault deep Read = ⊥
 IsReadingFault deep Write = ⊥
 
--- a fault that parsing a text can answer; it is TooLong only if the text is too long, and TooDeep only if it is too deep
+-- a fault that parsing a text can answer; it is TooLong only if the text is too long, and TooDeep
+-- only if it is too deep
 abbrev pub IsParsingFault : (too_long too_deep : Type 0) → Fault → Type 0
 IsParsingFault long deep TooLong = long
 IsParsingFault long deep fault = IsReadingFault deep fault

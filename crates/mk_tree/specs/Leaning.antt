@@ -13,8 +13,8 @@ is_same_flag Rule Rule = true
 is_same_flag Unknown Unknown = true
 is_same_flag f g = false
 
--- Whether lines lean on two flags: the flags differ, and the first of the lines that begins with the prefix, or has a class that
--- sets the flag, begins with the prefix.
+-- Whether lines lean on two flags: the flags differ, and the first of the lines that begins with
+-- the prefix, or has a class that sets the flag, begins with the prefix.
 abbrev pub leans : (prefix : ℕ) → (before after : RuleFlag) → (rest : List ClassedLine) → Bool
 leans p f g ls = not (is_same_flag f g) && is_led_first p ls
 

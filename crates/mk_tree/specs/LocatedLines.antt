@@ -1,4 +1,5 @@
--- A line as a document shows it: its bytes, and its class with the offsets of its parts in the joined text.
+-- A line as a document shows it: its bytes, and its class with the offsets of its parts in the
+-- joined text.
 -- Told in docs/DECISIONS.md, "mk_tree".
 use Rattle.std.specs.Prelude.{ℕ, ◌+◌, Bool, true, false, List, [], ◌∷◌, ◌++◌, length, map, Option, Some, None}
 use Rattle.mk_lines.specs.Cells.{joined_byte, joined_text, line_cells}
@@ -56,7 +57,8 @@ with_last_bytes bytes (l ∷ k ∷ ls) = l ∷ with_last_bytes bytes (k ∷ ls)
 -- the context after some lines, the first of which stands in this context
 abbrev pub context_after_located_lines : Context → List LocatedLine → Context
 context_after_located_lines c [] = c
-context_after_located_lines c (l ∷ ls) = context_after_located_lines (context_after_located c l.class) ls
+context_after_located_lines c (l ∷ ls) =
+    context_after_located_lines (context_after_located c l.class) ls
 
 -- whether a line of this class belongs to a conditional
 abbrev pub is_conditional_located : Class → Bool
@@ -65,11 +67,12 @@ is_conditional_located Else = true
 is_conditional_located Endif = true
 is_conditional_located k = false
 
--- Some lines, the first of which stands in this number of open conditionals: no more than 256 are open at once, and each line
--- that ends a conditional finds one open.
+-- Some lines, the first of which stands in this number of open conditionals: no more than 256 are
+-- open at once, and each line that ends a conditional finds one open.
 abbrev pub AreConditionalsFit : ℕ → List LocatedLine → Type 0
 AreConditionalsFit n [] = Unit {0}
-AreConditionalsFit n (l ∷ ls) = FitsConditionals n l.class × AreConditionalsFit (conditionals_after_located n l.class) ls
+AreConditionalsFit n (l ∷ ls) =
+    FitsConditionals n l.class × AreConditionalsFit (conditionals_after_located n l.class) ls
 
 -- the joined text of a line
 abbrev pub text_of_line : LocatedLine → List ℕ

@@ -25,11 +25,13 @@ last_ended e [] = []
 last_ended e (l ∷ []) = line_ended e l ∷ []
 last_ended e (l ∷ k ∷ ls) = l ∷ last_ended e (k ∷ ls)
 
--- The lines above a new line: if no line is below it, the last of them gets a line end if it has none.
+-- The lines above a new line: if no line is below it, the last of them gets a line end if it has
+-- none.
 abbrev pub above_ended : End → (above below : List ClassedLine) → List ClassedLine
 above_ended e above [] = last_ended e above
 above_ended e above (l ∷ below) = above
 
 -- the bytes of the line end that the last line gets; none if it gets no line end
 abbrev pub missing_line_end : End → (above below : List ClassedLine) → List ℕ
-missing_line_end e above below = if is_empty below && last_passes lacks_line_end above then line_end_bytes e else []
+missing_line_end e above below =
+    if is_empty below && last_passes lacks_line_end above then line_end_bytes e else []

@@ -5,4 +5,5 @@ use Rattle.std.specs.Io.KnownBytes.{Appends}
 
 -- the known bytes of a sink grow by the text, except for the bytes at its end that are held back
 abbrev pub AppendsSoFar : (old new : Option (List ℕ)) → (text held : List ℕ) → Type 0
-AppendsSoFar old new text held = (written : List ℕ) × (written ++ held ≡ text) × Appends old new written
+AppendsSoFar old new text held =
+    (written : List ℕ) × (written ++ held ≡ text) × Appends old new written

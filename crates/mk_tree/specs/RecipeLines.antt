@@ -10,13 +10,13 @@ use Rattle.mk_class.specs.declared.context.RuleFlag.{RuleFlag}
 use Rattle.mk_class.specs.declared.context.RuleFlag.TheVariants.{Rule}
 use Rattle.mk_class.specs.ClassedLines.{ClassedLine}
 
--- whether a line of this class may stand among the recipe lines of a rule: a recipe line, or one after which the flag is as
--- before, which is a blank line, a comment or the line of a conditional
+-- whether a line of this class may stand among the recipe lines of a rule: a recipe line, or one
+-- after which the flag is as before, which is a blank line, a comment or the line of a conditional
 abbrev pub stays_in_rule : Class Cell → Bool
 stays_in_rule k = is_recipe k || leaves_flag k
 
--- the lines after a header before the first that ends its rule. The last of them may be blank lines, comments and lines of
--- conditionals, which are no part of its recipe.
+-- the lines after a header before the first that ends its rule. The last of them may be blank
+-- lines, comments and lines of conditionals, which are no part of its recipe.
 abbrev pub rule_lines : List ClassedLine → List ClassedLine
 rule_lines after = leading (λ l. stays_in_rule l.class) after
 
@@ -45,6 +45,7 @@ abbrev is_rule_flag : RuleFlag → Bool
 is_rule_flag Rule = true
 is_rule_flag f = false
 
--- whether a line of this class ends the rule before it: it begins another rule, or sets the flag to anything other than Rule
+-- whether a line of this class ends the rule before it: it begins another rule, or sets the flag to
+-- anything other than Rule
 abbrev pub ends_rule : Class Cell → Bool
 ends_rule k = begins_rule k || not (is_rule_flag (flag_after Rule k))

@@ -44,7 +44,9 @@ whole_class If = variants.If
 whole_class Else = variants.Else
 whole_class Endif = variants.Endif
 whole_class Directive = variants.Directive
-whole_class (TargetAssign s f targets_end k) = variants.TargetAssign (record { separator = s; targets_end = targets_end; assignment = whole_assignment f k })
+whole_class (TargetAssign s f targets_end k) =
+    variants.TargetAssign
+    (record { separator = s; targets_end = targets_end; assignment = whole_assignment f k })
 whole_class Rough = variants.Rough
 whole_class (Header k) = variants.Header (whole_header k)
 whole_class (Long k) = k.value
@@ -53,7 +55,8 @@ whole_class (Long k) = k.value
 
 -- the largest offset of an assignment
 abbrev pub largest_offset_of_assignment : assignment.Assignment → ℕ
-largest_offset_of_assignment a = max a.name.start (max a.name.end (max a.value.start (max a.value.end a.end)))
+largest_offset_of_assignment a =
+    max a.name.start (max a.name.end (max a.value.start (max a.value.end a.end)))
 
 -- the largest offset of a header
 abbrev pub largest_offset_of_header : header.Header → ℕ
@@ -62,7 +65,8 @@ largest_offset_of_header h = max h.targets_end (max h.normal_start (max h.normal
 -- the largest offset of a class, or 0
 abbrev pub largest_offset : class.Class → ℕ
 largest_offset (variants.Assign a prefix) = largest_offset_of_assignment a
-largest_offset (variants.TargetAssign t) = max t.targets_end (largest_offset_of_assignment t.assignment)
+largest_offset (variants.TargetAssign t) =
+    max t.targets_end (largest_offset_of_assignment t.assignment)
 largest_offset (variants.Header h) = largest_offset_of_header h
 largest_offset k = 0
 

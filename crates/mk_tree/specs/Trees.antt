@@ -1,6 +1,7 @@
 -- What a tree of lines is seen as, and what holds of it.
 -- Told in docs/ARCHITECTURE.md, "The document".
 use Rattle.std.specs.Prelude.{◌≡◌, ℕ, suc, zero, ◌+◌, ◌*◌, ◌^◌, ◌<◌, ◌≤◌, max, List, [], ◌∷◌, ◌++◌, length}
+use Rattle.mk_lines.specs.Limits.{max_text}
 use Rattle.mk_tree.specs.LocatedLines.{LocatedLine, size_of}
 use Rattle.mk_tree.specs.declared.tree.Counts.{Counts}
 use Rattle.mk_tree.specs.declared.tree.Line.{Line}
@@ -14,7 +15,8 @@ line_view l = l.node.value.content
 -- the lines of a tree in order, and its height
 abbrev pub lines_and_height : {A : _} → Link A → List LocatedLine × ℕ
 lines_and_height Empty = ([], 0)
-lines_and_height (Full counts l) = (l.node.value.left.0 ++ l.node.value.content ∷ l.node.value.right.0, counts.height)
+lines_and_height (Full counts l) =
+    (l.node.value.left.0 ++ l.node.value.content ∷ l.node.value.right.0, counts.height)
 
 -- two numbers differ by at most `by`
 abbrev pub DifferByAtMost : ℕ → ℕ → ℕ → Type 0
@@ -26,15 +28,18 @@ fewest_lines zero = 0
 fewest_lines (suc zero) = 1
 fewest_lines (suc (suc h)) = fewest_lines (suc h) + fewest_lines h + 1
 
--- a tree of this height has enough lines for it, no line is empty, and the bytes are within the limit; so the tree is low
+-- a tree of this height has enough lines for it, no line is empty, and the bytes are within the
+-- limit; so the tree is low
 pub record AreFew (lines : List LocatedLine) (height : ℕ) : Type 0 where
   pub enough : fewest_lines height ≤ length lines
   pub some_bytes : length lines ≤ size_of lines
-  pub few_bytes : size_of lines ≤ 2 ^ 24
+  pub few_bytes : size_of lines ≤ max_text
   pub low : height ≤ 34
 
--- the counts of a link are those of the tree below it, and the sides of its line differ by at most one in height
-pub record IsNode (left : List LocatedLine × ℕ) (line : LocatedLine) (right : List LocatedLine × ℕ) (counts : Counts) : Type 0 where
+-- the counts of a link are those of the tree below it, and the sides of its line differ by at most
+-- one in height
+pub record IsNode (left : List LocatedLine × ℕ) (line : LocatedLine) (right : List LocatedLine × ℕ)
+    (counts : Counts) : Type 0 where
   pub height_is : counts.height ≡ max left.1 right.1 + 1
   pub balanced : DifferByAtMost 1 left.1 right.1
   pub lines_are : counts.lines ≡ length (left.0 ++ line ∷ right.0)
@@ -47,7 +52,8 @@ IsBalanced Empty = Unit {0}
 IsBalanced (Full counts l) = let n = l.node.value in IsNode n.left n.content n.right counts
 
 -- the parts of a tree: a line, and what stands left and right of it
-pub record IsUnlinked (whole left : List LocatedLine × ℕ) (line : LocatedLine) (right : List LocatedLine × ℕ) : Type 0 where
+pub record IsUnlinked (whole left : List LocatedLine × ℕ) (line : LocatedLine)
+    (right : List LocatedLine × ℕ) : Type 0 where
   pub lines : whole.0 ≡ left.0 ++ line ∷ right.0
   pub size : size_of whole.0 ≡ size_of left.0 + length line.bytes + size_of right.0
   pub height : whole.1 ≡ max left.1 right.1 + 1

@@ -1,6 +1,6 @@
 //! The context of a document's lines.
 ghost use Rattle.std.specs.Prelude.{◌≡◌, ◌≤◌, drop, length, take};
-ghost use Rattle.mk_class.specs.Contexts.{start};
+ghost use Rattle.mk_class.specs.Contexts.{max_conditionals, start};
 ghost use Rattle.mk_class.specs.ClassedLines.{classed_lines, context_after_lines};
 ghost use Rattle.mk_tree.specs.LocatedLines.{AreConditionalsFit, context_after_located_lines, located_text};
 ghost use Rattle.mk_tree.specs.Documents.{IsFaithful};
@@ -21,9 +21,10 @@ impl<A: Allocator> Doc<A> {
     pub fn context(&self, at: usize) -> Context
         requires in_range { at ≤ length self.now }
         requires faithful { IsFaithful self.now }
-        ensures context { result ≡ context_after_lines start (take at (classed_lines (located_text self.now))) }
+        ensures context { result
+            ≡ context_after_lines start (take at (classed_lines (located_text self.now))) }
         ensures located { result ≡ context_after_located_lines start (take at self.now) }
-        ensures few { result.conditionals ≤ 256 }
+        ensures few { result.conditionals ≤ max_conditionals }
         ensures admitted { AreAdmitted result (drop at self.now) }
     {
         context_before(&self.tree, at)
@@ -34,9 +35,10 @@ impl<A: Allocator> Doc<A> {
     /// It asks for a faithful document.
     pub fn end_context(&self) -> Context
         requires { IsFaithful self.now }
-        ensures context { result ≡ context_after_lines start (classed_lines (located_text self.now)) }
+        ensures context { result
+            ≡ context_after_lines start (classed_lines (located_text self.now)) }
         ensures located { result ≡ context_after_located_lines start self.now }
-        ensures few { result.conditionals ≤ 256 }
+        ensures few { result.conditionals ≤ max_conditionals }
         ensures conditionals { AreConditionalsFit 0 self.now }
     {
         context_before(&self.tree, self.tree.len())
@@ -49,7 +51,7 @@ fn context_before<A: Allocator>(tree: &Tree<A>, count: usize) -> Context
     requires faithful { IsFaithful tree.now.0 }
     requires conditionals { AreConditionalsFit 0 tree.now.0 }
     ensures context { result ≡ context_after_located_lines start (take count tree.now.0) }
-    ensures few { result.conditionals ≤ 256 }
+    ensures few { result.conditionals ≤ max_conditionals }
     ensures admitted { AreAdmitted result (drop count tree.now.0) }
 {
     let mut context = Context::start();

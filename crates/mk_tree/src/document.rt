@@ -1,5 +1,6 @@
 //! The document: the list of its lines.
-ghost use Rattle.std.specs.Prelude.{◌≡◌, ◌+◌, ◌^◌, ◌<◌, ◌≤◌, ◌↔◌, [], ◌∷◌, ◌++◌, IsTrue, IfSome, IsOk, false, length, slice_get, take, drop};
+ghost use Rattle.std.specs.Prelude.{◌≡◌, ◌+◌, ◌<◌, ◌≤◌, ◌↔◌, [], ◌∷◌, ◌++◌, IsTrue, IfSome, false, length, slice_get, take, drop};
+ghost use Rattle.mk_lines.specs.Limits.{max_text};
 ghost use Rattle.mk_lines.specs.PhysicalLines.{without_line_end};
 ghost use Rattle.mk_class.specs.Contexts.{start};
 ghost use Rattle.mk_tree.specs.LocatedLines.{AreConditionalsFit, bytes_of_line, is_conditional_located, last_line, size_of, size_of_line, with_last_bytes};
@@ -10,7 +11,6 @@ ghost use Rattle.mk_tree.specs.Trees.{line_view};
 use crate::iter::Lines;
 use crate::line_bytes::LineBytes;
 use crate::tree::{Line, Tree};
-use mk_lines::Fault;
 use std::alloc::{Allocator, Global};
 use std::marker::Model;
 use std::mem;
@@ -42,7 +42,7 @@ impl<A: Allocator> Doc<A> {
     /// How many lines there are. Takes no memory.
     pub fn len(&self) -> usize
         ensures number { result ≡ length self.now }
-        ensures few { length self.now ≤ 2 ^ 24 }
+        ensures few { length self.now ≤ max_text }
     {
         self.tree.len()
     }
@@ -57,7 +57,7 @@ impl<A: Allocator> Doc<A> {
     /// How many bytes the lines have together. Takes no memory.
     pub fn size(&self) -> usize
         ensures number { result ≡ size_of self.now }
-        ensures few { size_of self.now ≤ 2 ^ 24 }
+        ensures few { size_of self.now ≤ max_text }
         ensures some_bytes { length self.now ≤ size_of self.now }
     {
         self.tree.size()
@@ -71,8 +71,8 @@ impl<A: Allocator> Doc<A> {
         self.tree.line(at)
     }
 
-    /// The lines in order. It copies nothing and takes no memory; a walk over all of them takes time
-    /// linear in their number.
+    /// The lines in order. It copies nothing and takes no memory; a walk over all of them takes
+    /// time linear in their number.
     ///
     /// No more than 256 conditionals are open at once, and each `endif` ends an open one. Each line
     /// of a faithful document is one that [`Context::step`](mk_class::Context::step) asks for where
@@ -90,16 +90,14 @@ impl<A: Allocator> Doc<A> {
     ///
     /// It asks that the line belongs to no conditional, and that the document has at most
     /// 16,777,216 bytes with it.
-    pub fn insert(&mut self, at: usize, line: Line<A>) -> Result<(), (Line<A>, Fault)>
+    pub fn insert(&mut self, at: usize, line: Line<A>)
         requires in_range { at ≤ length self.old }
         requires plain { is_conditional_located (line_view line).class ≡ false }
-        requires fits { size_of self.old + length (line_view line).bytes ≤ 2 ^ 24 }
-        ensures done { IsOk result }
+        requires fits { size_of self.old + length (line_view line).bytes ≤ max_text }
         ensures lines { self.new ≡ take at self.old ++ line_view line ∷ drop at self.old }
     {
         let tree = mem::replace(&mut self.tree, Tree::new());
         self.tree = tree.insert(at, line);
-        Ok(())
     }
 
     /// Takes out the line at an index, from 0. Takes no memory.
@@ -107,7 +105,8 @@ impl<A: Allocator> Doc<A> {
     /// It asks that the line belongs to no conditional.
     pub fn remove(&mut self, at: usize) -> Line<A>
         requires in_range { at < length self.old }
-        requires plain { IfSome (slice_get self.old at) (λ line. is_conditional_located line.class ≡ false) }
+        requires plain { IfSome (slice_get self.old at) (λ line.
+            is_conditional_located line.class ≡ false) }
         ensures line { Some (line_view result) ≡ slice_get self.old at }
         ensures lines { self.new ≡ take at self.old ++ drop (at + 1) self.old }
     {
@@ -125,9 +124,11 @@ impl<A: Allocator> Doc<A> {
     #[tactic(auto, using(crate::proofs::Changes::sizes))]
     pub fn replace(&mut self, at: usize, line: Line<A>) -> Line<A>
         requires in_range { at < length self.old }
-        requires old_plain { IfSome (slice_get self.old at) (λ old. is_conditional_located old.class ≡ false) }
+        requires old_plain { IfSome (slice_get self.old at) (λ old.
+            is_conditional_located old.class ≡ false) }
         requires plain { is_conditional_located (line_view line).class ≡ false }
-        requires fits { size_of (take at self.old ++ line_view line ∷ drop (at + 1) self.old) ≤ 2 ^ 24 }
+        requires fits { size_of (take at self.old ++ line_view line ∷ drop (at + 1) self.old)
+            ≤ max_text }
         ensures line { Some (line_view result) ≡ slice_get self.old at }
         ensures lines { self.new ≡ take at self.old ++ line_view line ∷ drop (at + 1) self.old }
     {
@@ -147,8 +148,9 @@ impl<A: Allocator> Doc<A> {
     pub fn swap_end(&mut self, bytes: LineBytes<A>) -> LineBytes<A>
         requires some_lines { 0 < length self.old }
         requires some_bytes { 0 < length bytes }
-        requires same_text { without_line_end bytes ≡ without_line_end (bytes_of_line (last_line self.old)) }
-        requires fits { size_of (with_last_bytes bytes self.old) ≤ 2 ^ 24 }
+        requires same_text { without_line_end bytes
+            ≡ without_line_end (bytes_of_line (last_line self.old)) }
+        requires fits { size_of (with_last_bytes bytes self.old) ≤ max_text }
         ensures lines { self.new ≡ with_last_bytes bytes self.old }
         ensures old { result ≡ bytes_of_line (last_line self.old) }
         ensures some_bytes_back { 0 < length result }

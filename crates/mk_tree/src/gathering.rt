@@ -19,8 +19,10 @@ pub type Gathered = ArrayVec<u8, 16_384>;
 /// back, and of the text after them, is out then.
 pub fn put<W: ByteSink>(gathered: &mut Gathered, out: &mut W, text: &[u8]) -> Result<(), Fault>
     requires { W.failed out.old ≡ false }
-    ensures whole { OnOk result (AppendsSoFar (W.contents out.old) (W.contents out.new) (gathered.old.items ++ text.now) gathered.new.items) }
-    ensures prefix { AppendsPrefix (W.contents out.old) (W.contents out.new) (gathered.old.items ++ text.now) }
+    ensures whole { OnOk result (AppendsSoFar (W.contents out.old) (W.contents out.new)
+        (gathered.old.items ++ text.now) gathered.new.items) }
+    ensures prefix { AppendsPrefix (W.contents out.old) (W.contents out.new)
+        (gathered.old.items ++ text.now) }
     ensures works { OnOk result (W.failed out.new ≡ false) }
     ensures fault { IfErr result (λ e. (e ≡ Fault.Write) × (W.failed out.new ≡ true)) }
     ensures unflushed { W.flushes out.new ≡ W.flushes out.old }

@@ -1,6 +1,7 @@
 //! The lines of a tree in order.
-ghost use Rattle.std.specs.Prelude.{◌≡◌, ◌+◌, ◌^◌, ◌≤◌, ◌++◌, length};
+ghost use Rattle.std.specs.Prelude.{◌≡◌, ◌+◌, ◌≤◌, ◌++◌, length};
 ghost use Rattle.arrayvec.specs.ArrayVec.{array_vec_len};
+ghost use Rattle.mk_lines.specs.Limits.{max_text};
 ghost use Rattle.mk_tree.specs.TreeWalks.{lines_ahead, HaveRoom};
 
 use crate::tree::{HEIGHT_LIMIT, Line, Tree};
@@ -38,7 +39,7 @@ impl<'a, A: Allocator> Lines<'a, A> {
     /// The lines of a tree.
     pub(crate) fn new(tree: &'a Tree<A>) -> Lines<'a, A>
         ensures lines { result ≡ tree.now.0 }
-        ensures few { length result ≤ 2 ^ 24 }
+        ensures few { length result ≤ max_text }
     {
         let mut passed = ArrayVec::new();
         if tree.len() > 0 {

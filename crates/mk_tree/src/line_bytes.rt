@@ -29,7 +29,8 @@ impl<A: Allocator> Model for LineBytes<A> {
 
     ghost Value = { List ℕ };
 
-    ghost view = { λ b. slice_range (rc_slice_items b.text) b.before (length (rc_slice_items b.text) - b.after) };
+    ghost view = { λ b.
+        slice_range (rc_slice_items b.text) b.before (length (rc_slice_items b.text) - b.after) };
 
     ghost invariant = { λ b. b.before + b.after ≤ length (rc_slice_items b.text) };
 }

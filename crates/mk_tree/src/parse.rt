@@ -1,5 +1,6 @@
 //! A document made of a text.
-ghost use Rattle.std.specs.Prelude.{◌≡◌, ◌+◌, ◌^◌, ◌<◌, ◌≤◌, IfErr, IfOk, IsErrAnd, OnOk, length};
+ghost use Rattle.std.specs.Prelude.{◌≡◌, ◌+◌, ◌<◌, ◌≤◌, IfErr, IfOk, IsErrAnd, OnOk, length};
+ghost use Rattle.mk_lines.specs.Limits.{max_text};
 ghost use Rattle.mk_lines.specs.LogicalLines.{logical_lines};
 ghost use Rattle.mk_tree.specs.Counting.{AreCounted};
 ghost use Rattle.mk_tree.specs.Faults.{IsParsingFault, IsReadingFault};
@@ -13,12 +14,10 @@ use crate::tree::Tree;
 use crate::unread::Unread;
 use mk_class::Meter;
 use mk_lines::Fault;
+use mk_lines::source::MAX_TEXT;
 use mk_lines::split::split;
 use std::alloc::Allocator;
 use std::rc::RcSlice;
-
-/// The most bytes that a document may have: 2^24. This project's profile.
-pub const SIZE_LIMIT: usize = 16_777_216;
 
 impl<A: Allocator + Copy> Doc<A> {
     /// The document of a text: its lines, each with its class in the context of the lines before
@@ -33,18 +32,20 @@ impl<A: Allocator + Copy> Doc<A> {
     /// - [`Fault::TooDeep`] if more than 256 conditionals are open at once.
     /// - [`Fault::NoMemory`] if a growth was refused.
     pub fn parse(alloc: A, text: &[u8], meter: &mut Meter) -> Result<Doc<A>, Fault>
-        ensures long { 2 ^ 24 < length text.now → IsErrAnd result (λ fault. fault ≡ Fault.TooLong) }
+        ensures long { max_text < length text.now
+            → IsErrAnd result (λ fault. fault ≡ Fault.TooLong) }
         ensures faithful { IfOk result (λ doc. IsFaithfulTo doc text.now) }
         ensures own { IfOk result (λ doc. IsFaithful doc) }
-        ensures short { IfOk result (λ _. length text.now ≤ 2 ^ 24) }
+        ensures short { IfOk result (λ _. length text.now ≤ max_text) }
         ensures shallow { IfOk result (λ _. IsTooDeep text.now → ⊥) }
-        ensures fault { IfErr result (λ fault. IsParsingFault (2 ^ 24 < length text.now) (IsTooDeep text.now) fault) }
+        ensures fault { IfErr result (λ fault.
+            IsParsingFault (max_text < length text.now) (IsTooDeep text.now) fault) }
         ensures counted { IfOk result (λ doc. AreCounted meter.old (length doc) meter.new) }
         ensures forward { meter.old ≤ meter.new }
         ensures few_read { meter.new ≤ meter.old + length (logical_lines text.now) }
     {
-        if text.len() > SIZE_LIMIT {
-            return Err(Fault::TooLong);
+        if MAX_TEXT < text.len() {
+            return Err(Fault::TooLong); // before it is copied
         }
         Doc::parse_vec(alloc, Vec::from_slice(alloc, text)?, meter)
     }
@@ -56,17 +57,19 @@ impl<A: Allocator + Copy> Doc<A> {
     ///
     /// The errors of [`Doc::parse`].
     pub fn parse_vec(alloc: A, text: Vec<u8, A>, meter: &mut Meter) -> Result<Doc<A>, Fault>
-        ensures long { 2 ^ 24 < length text.items → IsErrAnd result (λ fault. fault ≡ Fault.TooLong) }
+        ensures long { max_text < length text.items
+            → IsErrAnd result (λ fault. fault ≡ Fault.TooLong) }
         ensures faithful { IfOk result (λ doc. IsFaithfulTo doc text.items) }
         ensures own { IfOk result (λ doc. IsFaithful doc) }
-        ensures short { IfOk result (λ _. length text.items ≤ 2 ^ 24) }
+        ensures short { IfOk result (λ _. length text.items ≤ max_text) }
         ensures shallow { IfOk result (λ _. IsTooDeep text.items → ⊥) }
-        ensures fault { IfErr result (λ fault. IsParsingFault (2 ^ 24 < length text.items) (IsTooDeep text.items) fault) }
+        ensures fault { IfErr result (λ fault.
+            IsParsingFault (max_text < length text.items) (IsTooDeep text.items) fault) }
         ensures counted { IfOk result (λ doc. AreCounted meter.old (length doc) meter.new) }
         ensures forward { meter.old ≤ meter.new }
         ensures few_read { meter.new ≤ meter.old + length (logical_lines text.items) }
     {
-        if text.len() > SIZE_LIMIT {
+        if text.len() > MAX_TEXT {
             return Err(Fault::TooLong);
         }
         let text = RcSlice::from_vec(text)?;
@@ -87,7 +90,7 @@ fn read_tree<A: Allocator + Copy>(
     meter: &mut Meter,
 ) -> Result<Tree<A>, Fault>
     requires in_range { count ≤ length lines.old.lines }
-    requires fits { size_of (shown_lines lines.old) ≤ 2 ^ 24 }
+    requires fits { size_of (shown_lines lines.old) ≤ max_text }
     ensures read { IfOk result (λ tree. AreReadFrom lines.old tree.0 lines.new) }
     ensures count { IfOk result (λ _. length lines.old.lines ≡ length lines.new.lines + count) }
     ensures low { IfOk result (λ tree. IsLowest count tree.1) }

@@ -20,8 +20,10 @@ impl<A: Allocator> Doc<A> {
     /// [`Fault::Write`] if a write answered it or took no byte. A prefix of the text is out then.
     pub fn write_to<W: ByteSink>(&self, out: &mut W) -> Result<(), Fault>
         requires { W.failed out.old ≡ false }
-        ensures whole { OnOk result (Appends (W.contents out.old) (W.contents out.new) (located_text self.now)) }
-        ensures prefix { AppendsPrefix (W.contents out.old) (W.contents out.new) (located_text self.now) }
+        ensures whole { OnOk result (Appends (W.contents out.old) (W.contents out.new)
+            (located_text self.now)) }
+        ensures prefix { AppendsPrefix (W.contents out.old) (W.contents out.new)
+            (located_text self.now) }
         ensures works { OnOk result (W.failed out.new ≡ false) }
         ensures fault { IfErr result (λ e. (e ≡ Fault.Write) × (W.failed out.new ≡ true)) }
         ensures unflushed { W.flushes out.new ≡ W.flushes out.old }

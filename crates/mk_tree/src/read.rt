@@ -1,7 +1,9 @@
 //! Lines as they are read: with their class and their cells.
 ghost use Rattle.std.specs.Prelude.{◌≡◌, ◌+◌, ◌-◌, ◌^◌, ◌<◌, ◌≤◌, [], ◌∷◌, IfErr, IfOk, OnOk, min};
+ghost use Rattle.mk_lines.specs.Limits.{max_text};
 ghost use Rattle.mk_lines.specs.LogicalLines.{logical_lines};
 ghost use Rattle.mk_lines.specs.Cells.{joined_byte};
+ghost use Rattle.mk_class.specs.Contexts.{max_conditionals};
 ghost use Rattle.mk_class.specs.Classes.Class.{If};
 ghost use Rattle.mk_class.specs.ClassTable.{class_of};
 ghost use Rattle.mk_class.specs.LocatedClasses.{located_class};
@@ -35,10 +37,16 @@ impl<A: Allocator + Copy> Line<A> {
         meter: &mut Meter,
     ) -> Result<Line<A>, Fault>
         requires line { logical_lines bytes.items ≡ bytes.items ∷ [] }
-        requires defines { context.defines < 2 ^ 24 }
-        ensures line { IfOk result (λ line. line_view line ≡ record { bytes = bytes.items; class = located_class joined_byte (class_of context bytes.items) }) }
-        ensures shallow { IfOk result (λ _. class_of context bytes.items ≡ If → context.conditionals < 256) }
-        ensures fault { IfErr result (λ fault. IsReadingFault (OpensTooDeep context bytes.items) fault) }
+        requires defines { context.defines < max_text }
+        ensures line { IfOk result (λ line. line_view line
+            ≡ record {
+              bytes = bytes.items;
+              class = located_class joined_byte (class_of context bytes.items);
+            }) }
+        ensures shallow { IfOk result (λ _.
+            class_of context bytes.items ≡ If → context.conditionals < max_conditionals) }
+        ensures fault { IfErr result (λ fault.
+            IsReadingFault (OpensTooDeep context bytes.items) fault) }
         ensures counted { OnOk result (meter.new ≡ min (meter.old + 1) (2 ^ 64 - 1)) }
         ensures forward { meter.old ≤ meter.new }
         ensures once { meter.new ≤ meter.old + 1 }
@@ -59,7 +67,7 @@ pub(crate) fn read_line<A: Allocator + Copy>(
     meter: &mut Meter,
 ) -> Result<(Line<A>, Context), Fault>
     requires line { logical_lines bytes ≡ bytes ∷ [] }
-    requires defines { context.defines < 2 ^ 24 }
+    requires defines { context.defines < max_text }
     ensures bytes { IfOk result (λ r. (line_view r.0).bytes ≡ bytes) }
     ensures read { IfOk result (λ r. IsLineRead context bytes (line_view r.0).class r.1) }
     ensures fault { IfErr result (λ fault. IsReadingFault (OpensTooDeep context bytes) fault) }

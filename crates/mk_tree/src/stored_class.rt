@@ -67,7 +67,8 @@ fn small(offset: usize) -> Option<u32>
 
 impl StoredAssignment {
     fn of(assignment: &Assignment) -> Option<StoredAssignment>
-        ensures { MatchOption result (2 ^ 32 ≤ largest_offset_of_assignment assignment.now) (λ stored. whole_assignment assignment.now.flavor stored ≡ assignment.now) }
+        ensures { MatchOption result (2 ^ 32 ≤ largest_offset_of_assignment assignment.now)
+            (λ stored. whole_assignment assignment.now.flavor stored ≡ assignment.now) }
     {
         Some(StoredAssignment {
             name_start: small(assignment.name.start)?,
@@ -98,7 +99,8 @@ impl StoredAssignment {
 
 impl StoredHeader {
     fn of(header: &Header) -> Option<StoredHeader>
-        ensures { MatchOption result (2 ^ 32 ≤ largest_offset_of_header header.now) (λ stored. whole_header stored ≡ header.now) }
+        ensures { MatchOption result (2 ^ 32 ≤ largest_offset_of_header header.now) (λ stored.
+            whole_header stored ≡ header.now) }
     {
         Some(StoredHeader {
             separator: header.separator,
@@ -129,8 +131,8 @@ impl StoredHeader {
 }
 
 impl<A: Allocator> StoredClass<A> {
-    /// A class as it is stored. It takes memory, and is stored in a box, only if an offset does not fit
-    /// in 32 bits.
+    /// A class as it is stored. It takes memory, and is stored in a box, only if an offset does not
+    /// fit in 32 bits.
     ///
     /// # Errors
     ///
@@ -148,7 +150,8 @@ impl<A: Allocator> StoredClass<A> {
 
     // A class with small offsets; `None` if one of its offsets does not fit.
     fn with_small_offsets(class: &Class) -> Option<StoredClass<A>>
-        ensures { MatchOption result (2 ^ 32 ≤ largest_offset class.now) (λ stored. (whole_class stored ≡ class.now) × IsUnboxed stored) }
+        ensures { MatchOption result (2 ^ 32 ≤ largest_offset class.now) (λ stored.
+            (whole_class stored ≡ class.now) × IsUnboxed stored) }
     {
         let stored = match class {
             Class::Endef => StoredClass::Endef,

@@ -4,7 +4,8 @@
 //! a node is the line itself, so that a line by itself can be put into a tree without memory. A
 //! tree is changed by value: [`Tree::unlink`] takes it apart at its top, and [`Tree::join`] puts
 //! two trees and a line between them together.
-ghost use Rattle.std.specs.Prelude.{◌≡◌, ◌+◌, ◌^◌, ◌<◌, ◌≤◌, max, [], ◌∷◌, ◌++◌, length, Some, IfOk, MatchOption, slice_get, take, drop};
+ghost use Rattle.std.specs.Prelude.{◌≡◌, ◌+◌, ◌<◌, ◌≤◌, max, [], ◌∷◌, ◌++◌, length, Some, IfOk, MatchOption, slice_get, take, drop};
+ghost use Rattle.mk_lines.specs.Limits.{max_text};
 ghost use Rattle.mk_lines.specs.StoredCells.{AreCellsOf};
 ghost use Rattle.mk_lines.specs.PhysicalLines.{without_line_end};
 ghost use Rattle.mk_tree.specs.LocatedLines.{bytes_of_line, last_line, size_of, size_of_line, with_last_bytes};
@@ -237,7 +238,7 @@ impl<A: Allocator> Tree<A> {
     #[tactic(auto, using(crate::proofs::Indices::indices))]
     pub(crate) fn insert(self, at: usize, line: Line<A>) -> Tree<A>
         requires in_range { at ≤ length self.0 }
-        requires fits { size_of self.0 + length (line_view line).bytes ≤ 2 ^ 24 }
+        requires fits { size_of self.0 + length (line_view line).bytes ≤ max_text }
         ensures lines { result.0 ≡ take at self.0 ++ line_view line ∷ drop at self.0 }
         ensures size { size_of result.0 ≡ size_of self.0 + length (line_view line).bytes }
         ensures height { (self.1 ≤ result.1) × (result.1 ≤ self.1 + 1) }
@@ -288,10 +289,12 @@ impl<A: Allocator> Tree<A> {
     #[tactic(auto, using(crate::proofs::Indices::indices))]
     pub(crate) fn replace(self, at: usize, line: Line<A>) -> (Tree<A>, Line<A>)
         requires in_range { at < length self.0 }
-        requires fits { size_of self.0 + length (line_view line).bytes ≤ 2 ^ 24 + size_of_line (slice_get self.0 at) }
+        requires fits { size_of self.0 + length (line_view line).bytes
+            ≤ max_text + size_of_line (slice_get self.0 at) }
         ensures line { Some (line_view result.1) ≡ slice_get self.0 at }
         ensures lines { result.0.0 ≡ take at self.0 ++ line_view line ∷ drop (at + 1) self.0 }
-        ensures size { size_of result.0.0 + size_of_line (slice_get self.0 at) ≡ size_of self.0 + length (line_view line).bytes }
+        ensures size { size_of result.0.0 + size_of_line (slice_get self.0 at)
+            ≡ size_of self.0 + length (line_view line).bytes }
         ensures height { result.0.1 ≡ self.1 }
     {
         match self.unlink() {
@@ -316,8 +319,9 @@ impl<A: Allocator> Tree<A> {
     pub(crate) fn swap_end(self, bytes: LineBytes<A>) -> (Tree<A>, LineBytes<A>)
         requires some_lines { 0 < length self.0 }
         requires some_bytes { 0 < length bytes }
-        requires same_text { without_line_end bytes ≡ without_line_end (bytes_of_line (last_line self.0)) }
-        requires fits { size_of self.0 + length bytes ≤ 2 ^ 24 + size_of_line (last_line self.0) }
+        requires same_text { without_line_end bytes
+            ≡ without_line_end (bytes_of_line (last_line self.0)) }
+        requires fits { size_of self.0 + length bytes ≤ max_text + size_of_line (last_line self.0) }
         ensures lines { result.0.0 ≡ with_last_bytes bytes self.0 }
         ensures old { result.1 ≡ bytes_of_line (last_line self.0) }
         ensures some_bytes_back { 0 < length result.1 }
@@ -332,7 +336,8 @@ impl<A: Allocator> Tree<A> {
     // it.
     #[tactic(auto, using(crate::proofs::Indices::sizes))]
     fn unlink(self) -> Option<(Tree<A>, Line<A>, Tree<A>)>
-        ensures { MatchOption result (self ≡ ([], 0)) (λ parts. IsUnlinked self parts.0 (line_view parts.1) parts.2) }
+        ensures { MatchOption result (self ≡ ([], 0)) (λ parts.
+            IsUnlinked self parts.0 (line_view parts.1) parts.2) }
     {
         match self.link {
             Link::Empty => None,
@@ -348,9 +353,11 @@ impl<A: Allocator> Tree<A> {
     #[tactic(auto, using(crate::proofs::Indices::sizes))]
     pub(crate) fn join(left: Tree<A>, mut line: Line<A>, right: Tree<A>) -> Tree<A>
         requires balanced { DifferByAtMost 1 left.1 right.1 }
-        requires fits { size_of left.0 + length (line_view line).bytes + size_of right.0 ≤ 2 ^ 24 }
+        requires fits { size_of left.0 + length (line_view line).bytes + size_of right.0
+            ≤ max_text }
         ensures lines { result.0 ≡ left.0 ++ line_view line ∷ right.0 }
-        ensures size { size_of result.0 ≡ size_of left.0 + length (line_view line).bytes + size_of right.0 }
+        ensures size { size_of result.0
+            ≡ size_of left.0 + length (line_view line).bytes + size_of right.0 }
         ensures height { result.1 ≡ max left.1 right.1 + 1 }
     {
         let node = &mut *line.node;
@@ -369,9 +376,11 @@ impl<A: Allocator> Tree<A> {
     // Joins two trees whose heights differ by at most two, with a line between them.
     fn balance(left: Tree<A>, line: Line<A>, right: Tree<A>) -> Tree<A>
         requires near { DifferByAtMost 2 left.1 right.1 }
-        requires fits { size_of left.0 + length (line_view line).bytes + size_of right.0 ≤ 2 ^ 24 }
+        requires fits { size_of left.0 + length (line_view line).bytes + size_of right.0
+            ≤ max_text }
         ensures lines { result.0 ≡ left.0 ++ line_view line ∷ right.0 }
-        ensures size { size_of result.0 ≡ size_of left.0 + length (line_view line).bytes + size_of right.0 }
+        ensures size { size_of result.0
+            ≡ size_of left.0 + length (line_view line).bytes + size_of right.0 }
         ensures height { IsHeightAfter left.1 right.1 result.1 }
     {
         if left.height() > right.height() + 1 {
@@ -386,9 +395,11 @@ impl<A: Allocator> Tree<A> {
     // Joins two trees with a line between them. The left tree is two higher.
     fn lean_left(left: Tree<A>, line: Line<A>, right: Tree<A>) -> Tree<A>
         requires two_higher { left.1 ≡ right.1 + 2 }
-        requires fits { size_of left.0 + length (line_view line).bytes + size_of right.0 ≤ 2 ^ 24 }
+        requires fits { size_of left.0 + length (line_view line).bytes + size_of right.0
+            ≤ max_text }
         ensures lines { result.0 ≡ left.0 ++ line_view line ∷ right.0 }
-        ensures size { size_of result.0 ≡ size_of left.0 + length (line_view line).bytes + size_of right.0 }
+        ensures size { size_of result.0
+            ≡ size_of left.0 + length (line_view line).bytes + size_of right.0 }
         ensures height { (left.1 ≤ result.1) × (result.1 ≤ left.1 + 1) }
     {
         let Some((outer, top, inner)) = left.unlink() else {
@@ -410,9 +421,11 @@ impl<A: Allocator> Tree<A> {
     // Joins two trees with a line between them. The right tree is two higher.
     fn lean_right(left: Tree<A>, line: Line<A>, right: Tree<A>) -> Tree<A>
         requires two_higher { right.1 ≡ left.1 + 2 }
-        requires fits { size_of left.0 + length (line_view line).bytes + size_of right.0 ≤ 2 ^ 24 }
+        requires fits { size_of left.0 + length (line_view line).bytes + size_of right.0
+            ≤ max_text }
         ensures lines { result.0 ≡ left.0 ++ line_view line ∷ right.0 }
-        ensures size { size_of result.0 ≡ size_of left.0 + length (line_view line).bytes + size_of right.0 }
+        ensures size { size_of result.0
+            ≡ size_of left.0 + length (line_view line).bytes + size_of right.0 }
         ensures height { (right.1 ≤ result.1) × (result.1 ≤ right.1 + 1) }
     {
         let Some((inner, top, outer)) = right.unlink() else {

@@ -1,6 +1,7 @@
 //! The lines of a text that are still to be read.
 ghost use Rattle.std.specs.Prelude.{◌≡◌, ◌+◌, ◌-◌, ◌^◌, ◌<◌, ◌≤◌, ◌∷◌, [], IfErr, IfOk, OnOk, length, min};
 ghost use Rattle.std.specs.Rc.{rc_slice_items};
+ghost use Rattle.mk_lines.specs.Limits.{max_text};
 ghost use Rattle.mk_lines.specs.LogicalLines.{logical_lines};
 ghost use Rattle.mk_lines.specs.Ranges.{line_ranges, text_at};
 ghost use Rattle.mk_class.specs.Contexts.{start};
@@ -34,7 +35,8 @@ impl<'a, A: Allocator> Model for Unread<'a, A> {
 
     ghost Value = { UnreadLines };
 
-    ghost view = { λ u. record { context = u.context; lines = texts_at (rc_slice_items u.text.now) u.spans.now } };
+    ghost view = { λ u.
+        record { context = u.context; lines = texts_at (rc_slice_items u.text.now) u.spans.now } };
 
     ghost invariant = { λ u. AreUnread (rc_slice_items u.text.now) u.spans.now u.context };
 }
@@ -42,9 +44,10 @@ impl<'a, A: Allocator> Model for Unread<'a, A> {
 impl<'a, A: Allocator + Copy> Unread<'a, A> {
     /// All lines of a text. The lines stand at these spans.
     pub(crate) fn new(alloc: A, text: &'a RcSlice<u8, A>, spans: &'a [Span]) -> Unread<'a, A>
-        requires few { length (rc_slice_items text.now) ≤ 2 ^ 24 }
+        requires few { length (rc_slice_items text.now) ≤ max_text }
         requires spans { spans.now ≡ line_ranges (rc_slice_items text.now) }
-        ensures lines { result ≡ record { context = start; lines = logical_lines (rc_slice_items text.now) } }
+        ensures lines { result
+            ≡ record { context = start; lines = logical_lines (rc_slice_items text.now) } }
     {
         Unread {
             alloc,

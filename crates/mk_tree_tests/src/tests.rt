@@ -5,7 +5,7 @@ ghost use Rattle.mk_tree.specs.Documents.{IsFaithful};
 
 use mk_class::{Class, Context, Meter};
 use mk_lines::Fault;
-use mk_tree::parse::SIZE_LIMIT;
+use mk_lines::source::MAX_TEXT;
 use mk_tree::{Doc, Line, LineBytes};
 use refusing::Refusing;
 use std::alloc::{AllocError, Allocator};
@@ -112,8 +112,8 @@ fn each_refused_growth_of_parse_is_no_memory(rt: HostRuntime) -> Result<(), Fail
         let heap = Refusing::after(rt.alloc(), admitted);
         let answer = Doc::parse(&heap, FOUR_LINES, &mut Meter::new());
         if !heap.has_refused() {
-            // the text and the count of its owners, the spans, a node of each line, and three for the
-            // fold
+            // the text and the count of its owners, the spans, a node of each line, and three for
+            // the fold
             assert!(rt; admitted == 10 && answer.is_ok());
             break;
         }
@@ -152,7 +152,7 @@ fn a_text_by_value_is_parsed_as_one_that_is_copied(rt: HostRuntime) -> Result<()
         assert_eq!(rt; line.bytes(), other.bytes());
         assert_eq!(rt; line.class(), other.class());
     }
-    let long = repeated(&rt, b"#", SIZE_LIMIT + 1)?;
+    let long = repeated(&rt, b"#", MAX_TEXT + 1)?;
     let answer = Doc::parse_vec(rt.alloc(), long, &mut Meter::new());
     assert!(rt; matches!(answer, Err(Fault::TooLong)));
     Ok(())
@@ -212,10 +212,11 @@ fn take_first(doc: &mut Doc) -> Option<Line> {
 fn put_last(doc: &mut Doc, line: Line) -> bool {
     match line.class() {
         Class::Assign(_, _) => {
-            if line.bytes().len() > SIZE_LIMIT - doc.size() {
+            if line.bytes().len() > MAX_TEXT - doc.size() {
                 return false;
             }
-            doc.insert(doc.len(), line).is_ok()
+            doc.insert(doc.len(), line);
+            true
         }
         _ => false,
     }
@@ -259,8 +260,8 @@ fn each_refused_growth_of_reading_a_line_is_no_memory(rt: HostRuntime) -> Result
         let heap = Refusing::after(rt.alloc(), admitted);
         let answer = read_with(&heap, b"B = a \\\n b\n");
         if !heap.has_refused() {
-            // the bytes and the count of their owners, the joined text, the folds' ends, what is kept
-            // of them, and the node
+            // the bytes and the count of their owners, the joined text, the folds' ends, what is
+            // kept of them, and the node
             assert!(rt; admitted == 6 && answer.is_ok());
             break;
         }
@@ -283,8 +284,8 @@ const MANY_CONTEXTS: &[u8] =
     b"foo: x\n\techo\n.RECIPEPREFIX = >\nbar: y\n>echo\nifdef A\nX = 1\nelse\n\
 ifdef B\nY = 2 \\\n 3\nendif\nendif\ndefine V\ndefine W\na\nendef\nendef\n>echo\n# c\n$(d)\nZ = 1";
 
-// Whether a walk over the lines of a text gives each of them with the context that the document tells
-// at its place, and then ends.
+// Whether a walk over the lines of a text gives each of them with the context that the document
+// tells at its place, and then ends.
 fn is_walked_with_contexts(rt: &HostRuntime, text: &[u8]) -> Result<bool, Fault> {
     let doc = Doc::parse(rt.alloc(), text, &mut Meter::new())?;
     let mut walk = doc.lines_with_contexts();

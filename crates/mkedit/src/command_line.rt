@@ -7,6 +7,7 @@ use crate::query::Query;
 use clap::builder::ValueParser;
 use clap::error::ErrorKind;
 use clap::{Arg, ArgAction, ArgMatches, Command};
+use mk_history::history::MAX_DEPTH;
 use mk_session::Refusal;
 use std::alloc::{AllocError, Global};
 
@@ -15,9 +16,6 @@ const VERSION: &str = "0.1.0";
 
 /// How many edits can be undone, where the command line does not say it.
 const DEFAULT_DEPTH: &str = "100";
-
-/// The greatest depth, as `mk_run::run` takes it.
-const MAX_DEPTH: u64 = 10_000;
 
 const BAD_DEPTH: &str = "invalid value for '--depth <DEPTH>': only decimal digits may stand there";
 
@@ -89,7 +87,7 @@ fn edit_command<'a>(alloc: Global) -> Result<Command<'a>, AllocError> {
         .short('d')
         .long("depth")
         .value_name("DEPTH")
-        .value_parser(ValueParser::unsigned(1, MAX_DEPTH))
+        .value_parser(ValueParser::unsigned(1, u64::from(MAX_DEPTH)))
         .default_value(DEFAULT_DEPTH)
         .help("How many edits can be undone, from 1 to 10000");
     let output = Arg::new(alloc, OUTPUT)
@@ -186,8 +184,8 @@ fn depth_of(matches: &ArgMatches<'_>) -> Option<u32> {
     }
 }
 
-// The script and the makefile; None where two files stand beside -e. After -e there is no word for a
-// script, so that the first word is the makefile.
+// The script and the makefile; None where two files stand beside -e. After -e there is no word for
+// a script, so that the first word is the makefile.
 fn script_and_file<'a>(
     alloc: Global,
     matches: &ArgMatches<'a>,
@@ -254,9 +252,9 @@ fn explained<'a>(
 ///
 /// # Errors
 ///
-/// What `clap` finds wrong with them, which has its text, and help or the version where one is asked
-/// for; a depth that is not written in decimal digits alone, or is not from 1 to 10,000; two files
-/// beside a command that `-e` gives; a word that calls no refusal; `-i` beside `-o` or
+/// What `clap` finds wrong with them, which has its text, and help or the version where one is
+/// asked for; a depth that is not written in decimal digits alone, or is not from 1 to 10,000; two
+/// files beside a command that `-e` gives; a word that calls no refusal; `-i` beside `-o` or
 /// without FILE.
 pub fn read_request<'a>(alloc: Global, words: &'a [String]) -> Result<Request<'a>, clap::Error> {
     let mut command = command_line(alloc)?;

@@ -16,7 +16,8 @@ pub const BAD_COMMAND_LINE: u8 = 2;
 /// The status of a file that cannot be opened.
 pub const CANNOT_OPEN: u8 = 3;
 
-/// Puts the message on an outcome out, and answers its status. A fault of the message changes no status.
+/// Puts the message on an outcome out, and answers its status. A fault of the message changes no
+/// status.
 pub fn ended(rt: &HostRuntime, outcome: &Outcome) -> ExitCode
     ensures { exit_status result ≡ status_of outcome.now }
 {
@@ -34,8 +35,9 @@ pub fn not_opened(rt: &HostRuntime, file: &CannotOpen<'_>) -> ExitCode
     ExitCode::from(CANNOT_OPEN)
 }
 
-/// Puts the text of what clap answered out, and answers its status. Help or the version, which was asked
-/// for, goes to standard output with status 0, and a fault of the command line to standard error.
+/// Puts the text of what clap answered out, and answers its status. Help or the version, which was
+/// asked for, goes to standard output with status 0, and a fault of the command line to standard
+/// error.
 pub fn answered(rt: &HostRuntime, error: &clap::Error) -> ExitCode
     ensures help { kind_of error.now ≡ DisplayHelp → exit_status result ≡ 0 }
     ensures version { kind_of error.now ≡ DisplayVersion → exit_status result ≡ 0 }

@@ -22,7 +22,8 @@ fn is_called(word: &str, refusal: &Refusal) -> bool
 // The first of some refusals that a word calls.
 fn first_called(word: &str, refusals: &[Refusal]) -> Option<Refusal>
     ensures found { IfSome result (λ refusal. is_called word.now refusal ≡ true) }
-    ensures none { IfNone result (All (λ refusal. is_called word.now refusal ≡ false) refusals.now) }
+    ensures none { IfNone result (All (λ refusal. is_called word.now refusal ≡ false)
+        refusals.now) }
 {
     for refusal in refusals {
         if is_called(word, refusal) {
@@ -66,12 +67,14 @@ pub fn refusal_of(word: &str) -> Option<Refusal>
 ///
 /// # Errors
 ///
-/// [`Fault::Write`] where a write or the flush answered it, or a write took nothing. A prefix is out
-/// then.
+/// [`Fault::Write`] where a write or the flush answered it, or a write took nothing. A prefix is
+/// out then.
 pub fn put_out<W: ByteSink>(refusal: &Refusal, text: &'static str, out: &mut W) -> Result<(), Fault>
     requires { W.failed out.old ≡ false }
-    ensures whole { OnOk result (Appends (W.contents out.old) (W.contents out.new) (title_of refusal.now ++ text.now)) }
-    ensures prefix { AppendsPrefix (W.contents out.old) (W.contents out.new) (title_of refusal.now ++ text.now) }
+    ensures whole { OnOk result (Appends (W.contents out.old) (W.contents out.new)
+        (title_of refusal.now ++ text.now)) }
+    ensures prefix { AppendsPrefix (W.contents out.old) (W.contents out.new)
+        (title_of refusal.now ++ text.now) }
     ensures works { OnOk result (W.failed out.new ≡ false) }
     ensures fault { IfErr result (λ e. (e ≡ Fault.Write) × (W.failed out.new ≡ true)) }
     ensures flushed { W.flushes out.new ≡ count_if (is_ok result) (W.flushes out.old) }

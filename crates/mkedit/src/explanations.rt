@@ -1,6 +1,7 @@
 //! What is said of each refusal: its cause, an example and what to do.
 //!
-//! docs/EDITS.md and docs/mkedit.1 have the same sentences and examples, and a test compares the three.
+//! docs/EDITS.md and docs/mkedit.1 have the same sentences and examples, and a test compares the
+//! three.
 
 use mk_session::Refusal;
 

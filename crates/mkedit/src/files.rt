@@ -7,8 +7,8 @@ use std::io;
 #[derive(Clone, Copy)]
 pub struct CannotOpen<'a>(pub &'a str);
 
-// A file that is opened takes the number of a standard stream where that one is closed, and would then
-// be read or written in its place. A clone has a number above theirs.
+// A file that is opened takes the number of a standard stream where that one is closed, and would
+// then be read or written in its place. A clone has a number above theirs.
 pub(crate) fn beside_standard_streams(file: File) -> io::Result<File> {
     file.try_clone()
 }

@@ -1,7 +1,8 @@
 //! A makefile that is edited in place.
 //!
-//! The text goes into a new file beside the makefile. This file takes the makefile's name when the text
-//! is whole and on the disk. So the name stands for the old file or for the new one at every moment.
+//! The text goes into a new file beside the makefile. This file takes the makefile's name when the
+//! text is whole and on the disk. So the name stands for the old file or for the new one at every
+//! moment.
 ghost use Rattle.std.specs.Prelude.{◌≡◌, ◌≤◌, false, length, IfOk, IfErr};
 
 use crate::files::beside_standard_streams;
@@ -46,8 +47,8 @@ fn new_file_beside(rt: &HostRuntime, makefile: &PathBuf) -> io::Result<(PathBuf,
     Err(io::Error::from(ErrorKind::AlreadyExists))
 }
 
-// Gives the file the mode of the old one, and the owner and the group where that is allowed. The mode
-// comes last, since another owner takes some of its bits away.
+// Gives the file the mode of the old one, and the owner and the group where that is allowed. The
+// mode comes last, since another owner takes some of its bits away.
 fn with_attributes(old: &Metadata, file: File) -> io::Result<File> {
     let group = Some(old.gid());
     if fchown(&file, Some(old.uid()), group).is_err() {
@@ -84,8 +85,8 @@ fn rename_to_makefile(rt: &HostRuntime, draft: &Draft) -> io::Result<()> {
     fs::rename(rt, &draft.path, &draft.makefile)
 }
 
-/// A sink to the makefile of this name. Its flush, which comes once and after the whole text, puts the
-/// new text into the old one's place.
+/// A sink to the makefile of this name. Its flush, which comes once and after the whole text, puts
+/// the new text into the old one's place.
 ///
 /// Without a write or a flush nothing is touched. A fault leaves the makefile as it was.
 #[derive(Drop)]

@@ -7,8 +7,8 @@ use std::fs::File;
 
 /// A sink to the file of this name, which is opened and emptied at the first write or flush.
 ///
-/// So a file to which nothing goes out stays as it was, and the file may be one that was read before.
-/// One that cannot be opened is a fault of that write or flush, as a full disk is.
+/// So a file to which nothing goes out stays as it was, and the file may be one that was read
+/// before. One that cannot be opened is a fault of that write or flush, as a full disk is.
 #[derive(Drop)]
 pub struct OutFile<'a> {
     rt: &'a HostRuntime,

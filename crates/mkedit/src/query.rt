@@ -1,7 +1,8 @@
-//! `mkedit vars`, `mkedit rules`, `mkedit check` and `mkedit caveats`: what a makefile has, a line for
-//! each thing.
-ghost use Rattle.std.specs.Prelude.{◌≡◌, ◌↔◌, ◌<◌, ◌||◌, ◌^◌, ℕ, List, IsTrue, IfOk, IfErr, IfSome, OnOk, OnErr, false, true, length, is_ok};
+//! `mkedit vars`, `mkedit rules`, `mkedit check` and `mkedit caveats`: what a makefile has, a line
+//! for each thing.
+ghost use Rattle.std.specs.Prelude.{◌≡◌, ◌↔◌, ◌<◌, ◌||◌, ℕ, List, IsTrue, IfOk, IfErr, IfSome, OnOk, OnErr, false, true, length, is_ok};
 ghost use Rattle.std.specs.Io.KnownBytes.{Appends};
+ghost use Rattle.mk_lines.specs.Limits.{max_text};
 ghost use Rattle.mk_lines.specs.Device.{AppendsPrefix, count_if};
 ghost use Rattle.mk_tree.specs.LocatedLines.{located_text};
 ghost use Rattle.mk_tree.specs.Documents.{IsFaithful, IsTooDeep};
@@ -36,8 +37,10 @@ pub enum Query {
 fn put_out<A: Allocator, W: ByteSink>(query: Query, doc: &Doc<A>, out: &mut W) -> Result<(), Fault>
     requires faithful { IsFaithful doc.now }
     requires works { W.failed out.old ≡ false }
-    ensures whole { OnOk result (Appends (W.contents out.old) (W.contents out.new) (query_text query (located_text doc.now))) }
-    ensures prefix { AppendsPrefix (W.contents out.old) (W.contents out.new) (query_text query (located_text doc.now)) }
+    ensures whole { OnOk result (Appends (W.contents out.old) (W.contents out.new)
+        (query_text query (located_text doc.now))) }
+    ensures prefix { AppendsPrefix (W.contents out.old) (W.contents out.new)
+        (query_text query (located_text doc.now)) }
     ensures works { OnOk result (W.failed out.new ≡ false) }
     ensures fault { IfErr result (λ e. (e ≡ Fault.Write) × (W.failed out.new ≡ true)) }
     ensures flushed { W.flushes out.new ≡ count_if (is_ok result) (W.flushes out.old) }
@@ -60,8 +63,8 @@ fn put_out<A: Allocator, W: ByteSink>(query: Query, doc: &Doc<A>, out: &mut W) -
 /// - [`Fault::TooLong`] where the makefile has more than 16,777,216 bytes.
 /// - [`Fault::TooDeep`] where a 257th conditional opens in it.
 /// - [`Fault::NoMemory`] where a growth was refused.
-/// - [`Fault::Write`] where a write or the flush answered it, or a write took nothing. A prefix of the
-///   answer is out then; after any other fault nothing was written or flushed.
+/// - [`Fault::Write`] where a write or the flush answered it, or a write took nothing. A prefix of
+///   the answer is out then; after any other fault nothing was written or flushed.
 pub fn answer<A, R, W>(alloc: A, query: Query, makefile: &mut R, out: &mut W) -> Result<(), Fault>
 where
     A: Allocator + Copy,
@@ -77,8 +80,10 @@ where
     ensures read { result ≡ Err Fault.Read ↔ R.failed makefile.new ≡ true }
     ensures write { result ≡ Err Fault.Write ↔ W.failed out.new ≡ true }
     ensures depth { result ≡ Err Fault.BadDepth → ⊥ }
-    ensures too_long { result ≡ Err Fault.TooLong → IfSome (R.remaining makefile.old) (λ text. 2 ^ 24 < length text) }
-    ensures too_deep { result ≡ Err Fault.TooDeep → IfSome (R.remaining makefile.old) (λ text. IsTooDeep text) }
+    ensures too_long { result ≡ Err Fault.TooLong
+        → IfSome (R.remaining makefile.old) (λ text. max_text < length text) }
+    ensures too_deep { result ≡ Err Fault.TooDeep
+        → IfSome (R.remaining makefile.old) (λ text. IsTooDeep text) }
     ensures shallow { OnOk result (IfSome (R.remaining makefile.old) (λ text. IsTooDeep text → ⊥)) }
     ensures flushed { W.flushes out.new ≡ count_if (is_ok result) (W.flushes out.old) }
     ensures settled { OnOk result (IfSome (W.pending out.new) (λ n. n ≡ 0)) }

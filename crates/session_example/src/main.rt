@@ -40,8 +40,8 @@ fn set(rt: &HostRuntime, name: &[u8], value: &[u8]) -> Result<Edit, AllocError> 
     })
 }
 
-// Prints the text of a session, its second and third line with the bytes of each, and how many lines
-// its calls have read.
+// Prints the text of a session, its second and third line with the bytes of each, and how many
+// lines its calls have read.
 fn show(rt: &HostRuntime, step: &str, session: &Session) -> anyhow::Result<()> {
     let doc = session.doc();
     println!(rt;

@@ -1,8 +1,9 @@
 -- Laws of the step over a line: each line of a text may be stepped over within the limits, and the recipe prefix in force is a
 -- tab or a byte that an assignment may set.
-use Rattle.std.proofs.Common.{◌≡◌, refl, sym, ◌∙◌, subst, ℕ, ◌<◌, ◌^◌, List, [], ◌∷◌, Bool, true, false, Option, Some, None, arith}
+use Rattle.std.proofs.Common.{◌≡◌, refl, sym, ◌∙◌, subst, ℕ, ◌<◌, List, [], ◌∷◌, Bool, true, false, Option, Some, None, arith}
 use Rattle.std.specs.Prelude.{◌==◌, nat_lt, if◌then◌else◌}
 use Rattle.std.proofs.lemmas.Bool.{or_right}
+use Rattle.mk_lines.specs.Limits.{max_text}
 use Rattle.mk_lines.specs.Cells.{Cell, joined_byte, line_cells}
 use Rattle.mk_lines.specs.Units.{units}
 use Rattle.mk_class.specs.Texts.{unit_text}
@@ -10,7 +11,7 @@ use Rattle.mk_class.specs.Assignments.{Assignment}
 use Rattle.mk_class.specs.Classes.{Class}
 use Rattle.mk_class.specs.LocatedClasses.{located_class}
 use Rattle.mk_class.specs.RecipePrefix.{tab, may_be_prefix, is_prefix_led, prefix_of_value, is_read_for_prefix, prefix_set_by, is_prefix_byte}
-use Rattle.mk_class.specs.Contexts.{Context, prefix_after, context_after, Admits}
+use Rattle.mk_class.specs.Contexts.{Admits, Context, context_after, max_conditionals, prefix_after}
 use Rattle.mk_class.specs.ClassTable.{class_of}
 use Rattle.mk_class.specs.ClassedLines.{classed, context_after_lines}
 use Rattle.mk_class.specs.CountsOfClasses.{FitsCounts}
@@ -19,9 +20,9 @@ use Rattle.mk_class.specs.declared.context.Nesting.TheVariants.{Opens, Closes, K
 
 -- ---- which lines may be stepped over
 
--- a class that fits the counts may be stepped over, if fewer than 2 ^ 24 defines are open, and if a line that opens a conditional
+-- a class that fits the counts may be stepped over, if fewer than max_text defines are open, and if a line that opens a conditional
 -- finds fewer than 256 open
-Admits-counts : (c : Context) (k : Class Cell) → FitsCounts c.defines c.conditionals k → (k ≡ Class.If → c.conditionals < 256) → c.defines < 2 ^ 24 → Admits c (located_class joined_byte k)
+Admits-counts : (c : Context) (k : Class Cell) → FitsCounts c.defines c.conditionals k → (k ≡ Class.If → c.conditionals < max_conditionals) → c.defines < max_text → Admits c (located_class joined_byte k)
 Admits-counts c Class.Endef f h d = (tt, omega arith)
 Admits-counts c (Class.Body Opens) f h d = (tt, d)
 Admits-counts c (Class.Body Closes) f h d = (tt, omega (arith, f.1))
@@ -41,7 +42,7 @@ Admits-counts c Class.Rough f h d = (tt, tt)
 Admits-counts c (Class.Header x) f h d = (tt, tt)
 
 -- each line may be stepped over in its context
-pub class_of-admits : (c : Context) (l : List ℕ) → (class_of c l ≡ Class.If → c.conditionals < 256) → c.defines < 2 ^ 24 → Admits c (located_class joined_byte (class_of c l))
+pub class_of-admits : (c : Context) (l : List ℕ) → (class_of c l ≡ Class.If → c.conditionals < max_conditionals) → c.defines < max_text → Admits c (located_class joined_byte (class_of c l))
 class_of-admits c l = Admits-counts c (class_of c l) (class_of-counts c l)
 
 some_same : (a b : ℕ) → Some a ≡ Some b → a ≡ b

@@ -3,6 +3,7 @@ use Rattle.std.proofs.Common.{◌≡◌, refl, sym, ap, ◌∙◌, arith, ℕ, �
 use Rattle.std.specs.Prelude.{nat_lt}
 use Rattle.std.proofs.lemmas.List.{take-append-drop}
 use Rattle.std.proofs.Math.Bool.{or-false}
+use Rattle.mk_lines.specs.Limits.{max_text}
 use Rattle.mk_lines.specs.LogicalLines.{is_open}
 use Rattle.mk_lines.specs.PhysicalLines.{line_end_bytes, file_line_end}
 use Rattle.mk_lines.specs.Pieces.{replaced}
@@ -16,7 +17,7 @@ use Rattle.mk_tree.specs.LocatedLines.{LocatedLine, located_text, size_of, last_
 use Rattle.mk_tree.proofs.on_changes.Sizes.{size_of-text}
 use Rattle.mk_edit_laws.specs.Causes.{where_holds}
 use Rattle.mk_edit_laws.specs.Edits.{Place, Bottom, BeforeVar, AfterVar, BeforeRule, Edit, SetValue, AppendValue, AddAssign, RemoveAssign, AddRule, RemoveRule, AddPrereq, RemovePrereq, AddRecipe, SetRecipe, RemoveRecipe, RenameTarget}
-use Rattle.mk_edit_laws.specs.LineCauses.{follows_open_line, open_line, open_define, open_define_at, flag_below_new, new_line_leans, removal_leans, leaning, greatest_length, too_long}
+use Rattle.mk_edit_laws.specs.LineCauses.{follows_open_line, open_line, open_define, open_define_at, flag_below_new, new_line_leans, removal_leans, leaning, too_long}
 use Rattle.mk_edit_laws.specs.NewLines.{new_text, new_line_span}
 use Rattle.mk_edit_laws.specs.EditSpans.{spans_of, where_found}
 use Rattle.mk_edit_laws.specs.Stretches.{Stretch, bottom, insertion, removal, place_found}
@@ -137,7 +138,7 @@ missing-length e above below b k =
     go false = omega arith
 
 pub too_long-at : (ls : List LocatedLine) (e : Edit) (f : Found) (b : Bool) → IsFaithful ls → IsOfNewLine e → IsInsertedAt ls (insertion (classed_lines (located_text ls)) e) f
-    → ((prefix : ℕ) → b ≡ nat_lt greatest_length (size_of ls + (length (new_text prefix e) + ends_length ls f.at)))
+    → ((prefix : ℕ) → b ≡ nat_lt max_text (size_of ls + (length (new_text prefix e) + ends_length ls f.at)))
     → too_long (located_text ls) (spans_of (located_text ls) (classed_lines (located_text ls)) e) ≡ where_holds b TooLong
 too_long-at ls e f b h u N k =
     let t = located_text ls in
@@ -153,4 +154,4 @@ too_long-at ls e f b h u N k =
     let put = put-length (length (text_of s.above)) t (missing_line_end end s.above s.below ++ (new_text p e ++ line_end_bytes end)) in
     let total : length (replaced 0 t (new_line_span t e s)) ≡ size_of ls + (length (new_text p e) + ends_length ls f.at) =
     omega (arith, put, length-append (missing_line_end end s.above s.below) (new_text p e ++ line_end_bytes end), length-append (new_text p e) (line_end_bytes end), ends, size_of-text ls) in
-    ap (λ z. too_long t z) spans ∙ (ap (λ n. where_holds (nat_lt greatest_length n) TooLong) total ∙ ap (λ z. where_holds z TooLong) (sym (k p)))
+    ap (λ z. too_long t z) spans ∙ (ap (λ n. where_holds (nat_lt max_text n) TooLong) total ∙ ap (λ z. where_holds z TooLong) (sym (k p)))

@@ -1,7 +1,8 @@
 -- The causes of an edit that come after those that find its line, and what decides them.
-use Rattle.std.proofs.Common.{◌≡◌, refl, sym, ap, ◌∙◌, arith, ℕ, ◌+◌, ◌^◌, ◌<◌, ◌≤◌, List, [], ◌∷◌, ◌||◌, Bool, true, false, length, Option, Some, None}
+use Rattle.std.proofs.Common.{◌≡◌, refl, sym, ap, ◌∙◌, arith, ℕ, ◌+◌, ◌<◌, ◌≤◌, List, [], ◌∷◌, ◌||◌, Bool, true, false, length, Option, Some, None}
 use Rattle.std.specs.Prelude.{nat_lt}
 use Rattle.std.proofs.lemmas.Bool.{lt-ltb, le-ltb, ltb-true, ltb-false}
+use Rattle.mk_lines.specs.Limits.{max_text}
 use Rattle.mk_lines.specs.Pieces.{replaced}
 use Rattle.mk_class.specs.ClassedLines.{ClassedLine, classed_lines}
 use Rattle.mk_tree.specs.LocatedLines.{LocatedLine, located_text}
@@ -12,7 +13,7 @@ use Rattle.mk_edit_laws.specs.Causes.{where_holds}
 use Rattle.mk_edit_laws.specs.ArgumentCauses.{bad_argument, reserved}
 use Rattle.mk_edit_laws.specs.AddressCauses.{unread_prefix, no_such, ambiguous, prefix_led}
 use Rattle.mk_edit_laws.specs.RuleCauses.{absent, already, taken, shared_rule, straddles}
-use Rattle.mk_edit_laws.specs.LineCauses.{open_value, open_line, open_define, leaning, new_line_leans, removal_leans, too_long, greatest_length}
+use Rattle.mk_edit_laws.specs.LineCauses.{open_value, open_line, open_define, leaning, new_line_leans, removal_leans, too_long}
 use Rattle.mk_edit_laws.specs.Lengths.{bytes_taken, bytes_put}
 use Rattle.mk_edit_laws.specs.Refusals.{first_cause, causes}
 use Rattle.mk_edit_laws.specs.declared.refusal.Refusal.{Refusal}
@@ -67,15 +68,15 @@ same_test a b c d h = go (nat_lt a b) refl
     go false k = let l : b ≤ a = ltb-false a b k in k ∙ sym (le-ltb (a + c) d (omega (arith, l, h)))
 
 pub long-said : (t : List ℕ) (e : Edit) (taken put : ℕ) → bytes_taken (spans_of t (classed_lines t) e) ≡ taken → bytes_put (spans_of t (classed_lines t) e) ≡ put
-    → too_long t (spans_of t (classed_lines t) e) ≡ where_holds (nat_lt (greatest_length + taken) (length t + put)) TooLong
+    → too_long t (spans_of t (classed_lines t) e) ≡ where_holds (nat_lt (max_text + taken) (length t + put)) TooLong
 long-said t e taken put h k =
     let rs = spans_of t (classed_lines t) e in
     let n = length-replaced 0 (length t) t rs (spans-rise t e) (omega arith) in
-    ap (λ b. where_holds b TooLong) (same_test greatest_length (length (replaced 0 t rs)) taken (length t + put) (omega (arith, n, h, k)))
+    ap (λ b. where_holds b TooLong) (same_test max_text (length (replaced 0 t rs)) taken (length t + put) (omega (arith, n, h, k)))
 
 -- an edit that puts no bytes in makes no text too long
-pub never-long : (t : List ℕ) (e : Edit) → bytes_put (spans_of t (classed_lines t) e) ≡ 0 → length t ≤ 2 ^ 24 → too_long t (spans_of t (classed_lines t) e) ≡ None
+pub never-long : (t : List ℕ) (e : Edit) → bytes_put (spans_of t (classed_lines t) e) ≡ 0 → length t ≤ max_text → too_long t (spans_of t (classed_lines t) e) ≡ None
 never-long t e k few =
     let rs = spans_of t (classed_lines t) e in
     let n = length-replaced 0 (length t) t rs (spans-rise t e) (omega arith) in
-    ap (λ b. where_holds b TooLong) (le-ltb greatest_length (length (replaced 0 t rs)) (omega (arith, n, k, few)))
+    ap (λ b. where_holds b TooLong) (le-ltb max_text (length (replaced 0 t rs)) (omega (arith, n, k, few)))

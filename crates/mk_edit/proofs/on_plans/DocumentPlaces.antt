@@ -1,6 +1,7 @@
 -- Places of a document, for code that reads a line there.
-use Rattle.std.proofs.Common.{◌≡◌, ap, subst, arith, ℕ, zero, suc, ◌+◌, ◌-◌, ◌^◌, ◌<◌, ◌≤◌, List, [], ◌∷◌, ◌++◌, length, take, Some}
+use Rattle.std.proofs.Common.{◌≡◌, ap, subst, arith, ℕ, zero, suc, ◌+◌, ◌-◌, ◌<◌, ◌≤◌, List, [], ◌∷◌, ◌++◌, length, take, Some}
 use Rattle.std.specs.Prelude.{slice_get}
+use Rattle.mk_lines.specs.Limits.{max_text}
 use Rattle.mk_lines.specs.LogicalLines.{logical_lines}
 use Rattle.mk_lines.specs.LogicalLines.{has_no_line_end}
 use Rattle.mk_lines.specs.PhysicalLines.{line_end, line_end_bytes, file_line_end}
@@ -27,10 +28,10 @@ take-few (suc n) [] = omega arith
 take-few (suc n) (x ∷ xs) = omega (arith, take-few n xs)
 
 -- few defines are open at a place whose number is low
-pub place-defines : (ls : List LocatedLine) (place : Found) → IsPlaceOf ls place → place.at < 2 ^ 24 → place.context.defines < 2 ^ 24
+pub place-defines : (ls : List LocatedLine) (place : Found) → IsPlaceOf ls place → place.at < max_text → place.context.defines < max_text
 place-defines ls place p low =
     let above = take place.at (classed_lines (located_text ls)) in
-    subst (λ (c : Context). c.defines < 2 ^ 24) p (omega (arith, defines-few start above, take-few place.at (classed_lines (located_text ls))))
+    subst (λ (c : Context). c.defines < max_text) p (omega (arith, defines-few start above, take-few place.at (classed_lines (located_text ls))))
 
 -- a line has some bytes
 some-line : (m : List ℕ) → logical_lines m ≡ m ∷ [] → 0 < length m
@@ -38,7 +39,7 @@ some-line [] h = absurd (let g : [] ≡ [] ∷ [] = h in cc)
 some-line (b ∷ m) h = omega arith
 
 -- the number of a place at which a line can be put in is low
-pub insert-low : (ls : List LocatedLine) (at : ℕ) (m : List ℕ) → CanInsert ls at m → length ls ≤ size_of ls → at < 2 ^ 24
+pub insert-low : (ls : List LocatedLine) (at : ℕ) (m : List ℕ) → CanInsert ls at m → length ls ≤ size_of ls → at < max_text
 insert-low ls at m C few = omega (arith, C.in_range, C.fits, some-line m C.line.one, few)
 
 -- ---- the last line

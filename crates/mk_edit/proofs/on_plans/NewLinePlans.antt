@@ -1,8 +1,9 @@
 -- Plans of edits that put a line in: between lines, after lines that end, and after a last line that gets its line end.
-use Rattle.std.proofs.Common.{◌≡◌, refl, sym, ap, ◌∙◌, subst, arith, ℕ, ◌+◌, ◌^◌, ◌<◌, ◌≤◌, ◌==◌, ◌&&◌, List, [], ◌∷◌, ◌++◌, Bool, true, false, cond, not, length, length-append, Option, Some, None, eq-eqb}
+use Rattle.std.proofs.Common.{◌≡◌, refl, sym, ap, ◌∙◌, subst, arith, ℕ, ◌+◌, ◌<◌, ◌≤◌, ◌==◌, ◌&&◌, List, [], ◌∷◌, ◌++◌, Bool, true, false, cond, not, length, length-append, Option, Some, None, eq-eqb}
 use Rattle.std.specs.Prelude.{Ok, if◌then◌else◌}
 use Rattle.std.proofs.lemmas.List.{append-nil}
 use Rattle.std.proofs.lemmas.Bool.{ne_eqb}
+use Rattle.mk_lines.specs.Limits.{max_text}
 use Rattle.mk_lines.specs.PhysicalLines.{line_end_bytes, file_line_end, without_line_end}
 use Rattle.mk_lines.specs.LogicalLines.{has_no_line_end, is_open}
 use Rattle.mk_lines.specs.declared.ends.End.{End}
@@ -94,7 +95,7 @@ record IsNewLine (e : Edit) (ls : List LocatedLine) (rs : List Replacement) (abo
 
 -- the moves are what is planned, and the line fits
 record IsFitting (e : Edit) (ls : List LocatedLine) (at : ℕ) (m : List ℕ) : Type 0 where
-  fits : size_of ls + length m ≤ 2 ^ 24
+  fits : size_of ls + length m ≤ max_text
   planned : IsPlanned e ls (inserting_moves ls at m)
 
 shown : (ls : List LocatedLine) (before : List ClassedLine) → IsFaithful ls → classed_lines (located_text ls) ≡ before → ls ≡ located_lines before

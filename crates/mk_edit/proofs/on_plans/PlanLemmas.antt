@@ -1,8 +1,9 @@
 -- What the planning of every edit has to show, if its moves lead from the lines before the edit to the lines after it.
-use Rattle.std.proofs.Common.{◌≡◌, refl, sym, ap, ◌∙◌, subst, arith, ℕ, ◌+◌, ◌^◌, ◌<◌, ◌≤◌, List, [], ◌∷◌, ◌++◌, length, take, Option, Some, None, option_map, inr}
+use Rattle.std.proofs.Common.{◌≡◌, refl, sym, ap, ◌∙◌, subst, arith, ℕ, ◌+◌, ◌<◌, ◌≤◌, List, [], ◌∷◌, ◌++◌, length, take, Option, Some, None, option_map, inr}
 use Rattle.std.specs.Prelude.{Ok, Err, Result, IfOk, IfErr, IsOkUnless}
 use Rattle.std.proofs.lemmas.List.{length-map}
 use Rattle.std.proofs.Math.Seq.{take-append_seam}
+use Rattle.mk_lines.specs.Limits.{max_text}
 use Rattle.mk_lines.specs.Pieces.{Replacement}
 use Rattle.mk_class.specs.ClassedLines.{ClassedLine, classed_lines}
 use Rattle.mk_tree.specs.Documents.{IsFaithful, document_lines, context_of}
@@ -43,8 +44,8 @@ lead-planned e ls rs patch before after f h b a l held taken =
     }
 
 -- the lines after an accepted edit are within the limit
-pub after-fits : (t : List ℕ) (e : Edit) (rs : List Replacement) (after : List ClassedLine) → spans t e ≡ Ok rs → classed_lines (text_after t e) ≡ after → size_of (located_lines after) ≤ 2 ^ 24
-after-fits t e rs after h a = subst (λ (z : List ClassedLine). size_of (located_lines z) ≤ 2 ^ 24) a (size-fits t e rs h)
+pub after-fits : (t : List ℕ) (e : Edit) (rs : List Replacement) (after : List ClassedLine) → spans t e ≡ Ok rs → classed_lines (text_after t e) ≡ after → size_of (located_lines after) ≤ max_text
+after-fits t e rs after h a = subst (λ (z : List ClassedLine). size_of (located_lines z) ≤ max_text) a (size-fits t e rs h)
 
 -- ---- a place of a faithful document
 

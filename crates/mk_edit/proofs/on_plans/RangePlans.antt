@@ -1,8 +1,9 @@
 -- Plans of edits that put a text in the place of one range of a line's bytes.
-use Rattle.std.proofs.Common.{◌≡◌, refl, sym, ap, ◌∙◌, subst, arith, ℕ, zero, suc, ◌+◌, ◌-◌, ◌^◌, ◌<◌, ◌≤◌, List, [], ◌∷◌, ◌++◌, true, false, length, take, drop, Some}
+use Rattle.std.proofs.Common.{◌≡◌, refl, sym, ap, ◌∙◌, subst, arith, ℕ, zero, suc, ◌+◌, ◌-◌, ◌<◌, ◌≤◌, List, [], ◌∷◌, ◌++◌, true, false, length, take, drop, Some}
 use Rattle.std.specs.Prelude.{Ok, Err, nat_lt, slice_get}
 use Rattle.std.proofs.lemmas.List.{append-nil}
 use Rattle.std.proofs.lemmas.Bool.{lt-ltb, le-ltb}
+use Rattle.mk_lines.specs.Limits.{max_text}
 use Rattle.mk_lines.specs.Pieces.{Replacement}
 use Rattle.mk_lines.specs.declared.split.Span.{Span}
 use Rattle.mk_class.specs.ClassedLines.{classed_lines}
@@ -14,7 +15,7 @@ use Rattle.mk_edit_laws.specs.Edits.{Edit}
 use Rattle.mk_edit_laws.specs.Stretches.{this_line, touched_by}
 use Rattle.mk_edit_laws.specs.Causes.{where_holds}
 use Rattle.mk_edit_laws.specs.EditedLines.{respanned_bytes, edited_bytes}
-use Rattle.mk_edit_laws.specs.LineCauses.{greatest_length, too_long}
+use Rattle.mk_edit_laws.specs.LineCauses.{too_long}
 use Rattle.mk_edit_laws.specs.Lengths.{bytes_taken, bytes_put}
 use Rattle.mk_edit_laws.specs.EditSpans.{spans_of}
 use Rattle.mk_edit_laws.specs.Refusals.{first_cause, causes, spans}
@@ -49,24 +50,24 @@ line_with l r new = take r.start l.bytes ++ (new ++ drop r.end l.bytes)
 
 -- how long the result is decides
 range-length : (e : Edit) (ls : List LocatedLine) (at : ℕ) (l : LocatedLine) (r : Span) (new : List ℕ) → (E : IsRangeEdit e ls at l r new)
-    → too_long (located_text ls) (spans_of (located_text ls) (classed_lines (located_text ls)) e) ≡ where_holds (nat_lt (greatest_length + (r.end - r.start)) (length (located_text ls) + length new)) TooLong
+    → too_long (located_text ls) (spans_of (located_text ls) (classed_lines (located_text ls)) e) ≡ where_holds (nat_lt (max_text + (r.end - r.start)) (length (located_text ls) + length new)) TooLong
 range-length e ls at l r new E =
     long-said (located_text ls) e (r.end - r.start) (length new) (ap bytes_taken E.spans_are ∙ omega arith) (ap bytes_put E.spans_are ∙ omega arith)
 
-pub range-long : (e : Edit) (ls : List LocatedLine) (at : ℕ) (l : LocatedLine) (r : Span) (new : List ℕ) → IsRangeEdit e ls at l r new → 2 ^ 24 + (r.end - r.start) < size_of ls + length new
+pub range-long : (e : Edit) (ls : List LocatedLine) (at : ℕ) (l : LocatedLine) (r : Span) (new : List ℕ) → IsRangeEdit e ls at l r new → max_text + (r.end - r.start) < size_of ls + length new
     → spans (located_text ls) e ≡ Err TooLong
 range-long e ls at l r new E h =
-    let long : nat_lt (greatest_length + (r.end - r.start)) (length (located_text ls) + length new) ≡ true = lt-ltb _ _ (omega (arith, h, size_of-text ls)) in
+    let long : nat_lt (max_text + (r.end - r.start)) (length (located_text ls) + length new) ≡ true = lt-ltb _ _ (omega (arith, h, size_of-text ls)) in
     refused (located_text ls) e TooLong (E.causes_are ∙ ap (λ o. first_cause (o ∷ [])) (range-length e ls at l r new E ∙ ap (λ b. where_holds b TooLong) long))
 
-pub range-accepted : (e : Edit) (ls : List LocatedLine) (at : ℕ) (l : LocatedLine) (r : Span) (new : List ℕ) → IsRangeEdit e ls at l r new → size_of ls + length new ≤ 2 ^ 24 + (r.end - r.start)
+pub range-accepted : (e : Edit) (ls : List LocatedLine) (at : ℕ) (l : LocatedLine) (r : Span) (new : List ℕ) → IsRangeEdit e ls at l r new → size_of ls + length new ≤ max_text + (r.end - r.start)
     → spans (located_text ls) e ≡ Ok (spans_of (located_text ls) (classed_lines (located_text ls)) e)
 range-accepted e ls at l r new E h =
-    let short : nat_lt (greatest_length + (r.end - r.start)) (length (located_text ls) + length new) ≡ false = le-ltb _ _ (omega (arith, h, size_of-text ls)) in
+    let short : nat_lt (max_text + (r.end - r.start)) (length (located_text ls) + length new) ≡ false = le-ltb _ _ (omega (arith, h, size_of-text ls)) in
     unrefused (located_text ls) e (E.causes_are ∙ ap (λ o. first_cause (o ∷ [])) (range-length e ls at l r new E ∙ ap (λ b. where_holds b TooLong) short))
 
 -- the line with the range replaced is what the edit leaves
-pub range-replaced : (e : Edit) (ls : List LocatedLine) (at : ℕ) (l : LocatedLine) (r : Span) (new m : List ℕ) → IsFaithful ls → IsRangeEdit e ls at l r new → size_of ls + length new ≤ 2 ^ 24 + (r.end - r.start)
+pub range-replaced : (e : Edit) (ls : List LocatedLine) (at : ℕ) (l : LocatedLine) (r : Span) (new m : List ℕ) → IsFaithful ls → IsRangeEdit e ls at l r new → size_of ls + length new ≤ max_text + (r.end - r.start)
     → m ≡ line_with l r new → IsReplaced e ls at m
 range-replaced e ls at l r new m f E h k =
     let s = E.spot in

@@ -1,8 +1,9 @@
 -- Plans of edits that take lines out: what decides them, and what is planned.
-use Rattle.std.proofs.Common.{◌≡◌, refl, sym, ap, ◌∙◌, arith, ℕ, zero, suc, ◌+◌, ◌^◌, ◌≤◌, ◌&&◌, List, [], ◌∷◌, ◌++◌, Bool, true, false, not, length, length-append, take, drop, Some, None, option_map, suc-add}
+use Rattle.std.proofs.Common.{◌≡◌, refl, sym, ap, ◌∙◌, arith, ℕ, zero, suc, ◌+◌, ◌≤◌, ◌&&◌, List, [], ◌∷◌, ◌++◌, Bool, true, false, not, length, length-append, take, drop, Some, None, option_map, suc-add}
 use Rattle.std.specs.Prelude.{Err}
 use Rattle.std.proofs.lemmas.Grind.{common_steps}
 use Rattle.std.proofs.Math.Seq.{take-append_seam, drop-append_seam, drop-append-add}
+use Rattle.mk_lines.specs.Limits.{max_text}
 use Rattle.mk_lines.specs.Pieces.{Replacement}
 use Rattle.mk_class.specs.Contexts.{Context}
 use Rattle.mk_class.specs.ClassedLines.{ClassedLine, classed_lines, is_led_first}
@@ -112,7 +113,7 @@ length-both : (ls : List ClassedLine) (at count : ℕ) → at + count ≤ length
 length-both ls at count h = (grind (arith, common_steps), grind (arith, common_steps))
 
 -- if the lines below do not lean, the moves are planned
-pub taking_out-planned : (e : Edit) (ls : List LocatedLine) (f : Found) (at count : ℕ) (b : Bool) → IsFaithful ls → size_of ls ≤ 2 ^ 24 → IsAddressed e ls f → TakesOut e ls at count
+pub taking_out-planned : (e : Edit) (ls : List LocatedLine) (f : Found) (at count : ℕ) (b : Bool) → IsFaithful ls → size_of ls ≤ max_text → IsAddressed e ls f → TakesOut e ls at count
     → b ≡ removal_leans (Some (stretch_at (classed_lines (located_text ls)) at count)) → b ≡ false → IsTakenOut e ls at count
 taking_out-planned e ls f at count b g few A T h k =
     let t = located_text ls in

@@ -1,8 +1,9 @@
 -- A new prerequisite: its causes by what the code asks, and its plan.
-use Rattle.std.proofs.Common.{◌≡◌, refl, sym, ap, ◌∙◌, subst, arith, ℕ, ◌+◌, ◌<◌, ◌≤◌, ◌^◌, List, [], ◌∷◌, ◌++◌, Bool, true, false, if◌then◌else◌, length, length-append, take, drop, Option, Some, None, option_map}
+use Rattle.std.proofs.Common.{◌≡◌, refl, sym, ap, ◌∙◌, subst, arith, ℕ, ◌+◌, ◌<◌, ◌≤◌, List, [], ◌∷◌, ◌++◌, Bool, true, false, if◌then◌else◌, length, length-append, take, drop, Option, Some, None, option_map}
 use Rattle.std.specs.Prelude.{Ok, Err, slice_get, nat_lt, codes}
 use Rattle.std.proofs.lemmas.Bool.{lt-ltb, le-ltb}
 use Rattle.std.proofs.lemmas.List.{take-append-drop, length-take-le}
+use Rattle.mk_lines.specs.Limits.{max_text}
 use Rattle.mk_lines.specs.PhysicalLines.{line_end, line_end_bytes}
 use Rattle.mk_lines.specs.Lists.{concat}
 use Rattle.mk_lines.specs.Cells.{Cell, line_cells, raw_text}
@@ -24,7 +25,7 @@ use Rattle.mk_edit_laws.specs.Lengths.{bytes_put, bytes_taken}
 use Rattle.mk_edit_laws.specs.Stretches.{this_line}
 use Rattle.mk_edit_laws.specs.EditSpans.{spans_of, word_spans, where_found}
 use Rattle.mk_edit_laws.specs.Causes.{where_holds}
-use Rattle.mk_edit_laws.specs.LineCauses.{too_long, greatest_length}
+use Rattle.mk_edit_laws.specs.LineCauses.{too_long}
 use Rattle.mk_edit_laws.specs.Refusals.{spans}
 use Rattle.mk_edit_laws.specs.RuleCauses.{already, class_found, header_passes, is_normal, is_order_only}
 use Rattle.mk_edit_laws.specs.WordPieces.{header_pieces, kept, put_last, prerequisite_text, add_pieces}
@@ -111,10 +112,10 @@ pub record IsAddPrereqOf (order : Bool) (w : List ℕ) (e : Edit) (ls : List Loc
   pub rule : (l : LocatedLine) → Some l ≡ slice_get ls f.at → IsRuleLine l
   pub seen : (l : LocatedLine) (at : header.Header) → Some l ≡ slice_get ls f.at → IsHeaderAt l at → IsHeaderSeen l at parts
   pub listed : true ≡ is_in_list order w parts → spans (located_text ls) e ≡ Err Already
-  pub long : (l : LocatedLine) (at : header.Header) → false ≡ is_in_list order w parts → Some l ≡ slice_get ls f.at → IsHeaderAt l at → 2 ^ 24 < size_of ls + length (line_text_new order w l at) → spans (located_text ls) e ≡ Err TooLong
-  pub accepted : (l : LocatedLine) (at : header.Header) → false ≡ is_in_list order w parts → Some l ≡ slice_get ls f.at → IsHeaderAt l at → size_of ls + length (line_text_new order w l at) ≤ 2 ^ 24
+  pub long : (l : LocatedLine) (at : header.Header) → false ≡ is_in_list order w parts → Some l ≡ slice_get ls f.at → IsHeaderAt l at → max_text < size_of ls + length (line_text_new order w l at) → spans (located_text ls) e ≡ Err TooLong
+  pub accepted : (l : LocatedLine) (at : header.Header) → false ≡ is_in_list order w parts → Some l ≡ slice_get ls f.at → IsHeaderAt l at → size_of ls + length (line_text_new order w l at) ≤ max_text
       → spans (located_text ls) e ≡ Ok (spans_of (located_text ls) (classed_lines (located_text ls)) e)
-  pub replaced : (l : LocatedLine) (at : header.Header) (m : List ℕ) → false ≡ is_in_list order w parts → Some l ≡ slice_get ls f.at → IsHeaderAt l at → size_of ls + length (line_text_new order w l at) ≤ 2 ^ 24
+  pub replaced : (l : LocatedLine) (at : header.Header) (m : List ℕ) → false ≡ is_in_list order w parts → Some l ≡ slice_get ls f.at → IsHeaderAt l at → size_of ls + length (line_text_new order w l at) ≤ max_text
       → m ≡ new_bytes (add_pieces order w parts) ++ line_end_bytes (line_end l.bytes) → IsReplaced e ls f.at m
 
 -- whether the word is in its list decides the cause
@@ -138,7 +139,7 @@ add_prereq order nth g w ls f h A = record {
   long = λ l at q k p z.
       own-refused e ls f TooLong A
       (passed (already lines e) _ (Some TooLong) (already-asked order nth g w ls f false R q)
-      (holds (too_long t (spans_of t lines e)) [] TooLong (decided ∙ ap (λ b. where_holds b TooLong) (lt-ltb (greatest_length + bytes_taken rs) (length t + bytes_put rs) (omega (arith, z, longer l at k p, size_of-text ls))))));
+      (holds (too_long t (spans_of t lines e)) [] TooLong (decided ∙ ap (λ b. where_holds b TooLong) (lt-ltb (max_text + bytes_taken rs) (length t + bytes_put rs) (omega (arith, z, longer l at k p, size_of-text ls))))));
   accepted = taken;
   replaced = λ l at m q k p z i. words-replaced e ls f.at l (add_pieces order w x) m h (edit l at k p) (taken l at q k p z) i;
 }
@@ -171,14 +172,14 @@ add_prereq order nth g w ls f h A = record {
     longer l at k p =
         ap bytes_put spans_are ∙ (add-longer order w l at x (length (text_of s.above)) (header-seen ls nth g f l at R k p) ∙ ap (λ z. bytes_taken z + length (line_text_new order w l at)) (sym spans_are))
 
-    decided : too_long t rs ≡ where_holds (nat_lt (greatest_length + bytes_taken rs) (length t + bytes_put rs)) TooLong
+    decided : too_long t rs ≡ where_holds (nat_lt (max_text + bytes_taken rs) (length t + bytes_put rs)) TooLong
     decided = long-said t e (bytes_taken rs) (bytes_put rs) refl refl
 
-    taken : (l : LocatedLine) (at : header.Header) → false ≡ is_in_list order w x → Some l ≡ slice_get ls f.at → IsHeaderAt l at → size_of ls + length (line_text_new order w l at) ≤ 2 ^ 24 → spans t e ≡ Ok rs
+    taken : (l : LocatedLine) (at : header.Header) → false ≡ is_in_list order w x → Some l ≡ slice_get ls f.at → IsHeaderAt l at → size_of ls + length (line_text_new order w l at) ≤ max_text → spans t e ≡ Ok rs
     taken l at q k p z =
         own-accepted e ls f A
         (passed (already lines e) _ None (already-asked order nth g w ls f false R q)
-        (passed (too_long t rs) [] None (decided ∙ ap (λ b. where_holds b TooLong) (le-ltb (greatest_length + bytes_taken rs) (length t + bytes_put rs) (omega (arith, z, longer l at k p, size_of-text ls)))) refl))
+        (passed (too_long t rs) [] None (decided ∙ ap (λ b. where_holds b TooLong) (le-ltb (max_text + bytes_taken rs) (length t + bytes_put rs) (omega (arith, z, longer l at k p, size_of-text ls)))) refl))
 
     edit : (l : LocatedLine) (at : header.Header) → Some l ≡ slice_get ls f.at → IsHeaderAt l at → IsWordEdit e ls f.at l (add_pieces order w x)
     edit l at k p = record {

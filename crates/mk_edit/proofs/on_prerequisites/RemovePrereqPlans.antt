@@ -1,6 +1,7 @@
 -- A prerequisite less: its causes by what the code asks, and its plan.
-use Rattle.std.proofs.Common.{◌≡◌, refl, sym, ap, ◌∙◌, subst, arith, ℕ, ◌<◌, ◌≤◌, ◌^◌, ◌||◌, not, List, [], ◌∷◌, ◌++◌, Bool, true, false, if◌then◌else◌, length, Option, Some, None, option_map}
+use Rattle.std.proofs.Common.{◌≡◌, refl, sym, ap, ◌∙◌, subst, arith, ℕ, ◌<◌, ◌≤◌, ◌||◌, not, List, [], ◌∷◌, ◌++◌, Bool, true, false, if◌then◌else◌, length, Option, Some, None, option_map}
 use Rattle.std.specs.Prelude.{Ok, Err, slice_get}
+use Rattle.mk_lines.specs.Limits.{max_text}
 use Rattle.mk_lines.specs.PhysicalLines.{line_end, line_end_bytes}
 use Rattle.mk_lines.specs.Lists.{concat}
 use Rattle.mk_lines.specs.Cells.{Cell, joined_byte}
@@ -66,8 +67,8 @@ pub record IsRemovePrereqOf (w : List ℕ) (e : Edit) (ls : List LocatedLine) (f
   pub rule : (l : LocatedLine) → Some l ≡ slice_get ls f.at → IsRuleLine l
   pub seen : (l : LocatedLine) (at : header.Header) → Some l ≡ slice_get ls f.at → IsHeaderAt l at → IsHeaderSeen l at parts
   pub missing : false ≡ (is_normal w parts || is_order_only w parts) → spans (located_text ls) e ≡ Err Absent
-  pub accepted : size_of ls ≤ 2 ^ 24 → true ≡ (is_normal w parts || is_order_only w parts) → spans (located_text ls) e ≡ Ok (spans_of (located_text ls) (classed_lines (located_text ls)) e)
-  pub replaced : (l : LocatedLine) (at : header.Header) (m : List ℕ) → size_of ls ≤ 2 ^ 24 → true ≡ (is_normal w parts || is_order_only w parts) → Some l ≡ slice_get ls f.at → IsHeaderAt l at
+  pub accepted : size_of ls ≤ max_text → true ≡ (is_normal w parts || is_order_only w parts) → spans (located_text ls) e ≡ Ok (spans_of (located_text ls) (classed_lines (located_text ls)) e)
+  pub replaced : (l : LocatedLine) (at : header.Header) (m : List ℕ) → size_of ls ≤ max_text → true ≡ (is_normal w parts || is_order_only w parts) → Some l ≡ slice_get ls f.at → IsHeaderAt l at
       → m ≡ new_bytes (remove_pieces w parts) ++ line_end_bytes (line_end l.bytes) → IsReplaced e ls f.at m
 
 remove_prereq : (nth : Option ℕ) (g w : List ℕ) (ls : List LocatedLine) (f : Found) → IsFaithful ls → IsAddressed (RemovePrereq nth g w) ls f → IsRemovePrereqOf w (RemovePrereq nth g w) ls f
@@ -111,10 +112,10 @@ remove_prereq nth g w ls f h A = record {
     spans_are : spans_of t lines e ≡ replacements (length (text_of s.above)) (remove_pieces w x)
     spans_are = ap (where_found (word_spans (remove_pieces w))) R.found_is ∙ word_spans-header (remove_pieces w) s x R.class_is
 
-    short : size_of ls ≤ 2 ^ 24 → too_long t (spans_of t lines e) ≡ None
+    short : size_of ls ≤ max_text → too_long t (spans_of t lines e) ≡ None
     short z = never-long t e (ap bytes_put spans_are ∙ nothing-put (length (text_of s.above)) (remove_pieces w x) (remove-nothing w x)) (omega (arith, size_of-text ls, z))
 
-    taken : size_of ls ≤ 2 ^ 24 → true ≡ (is_normal w x || is_order_only w x) → spans t e ≡ Ok (spans_of t lines e)
+    taken : size_of ls ≤ max_text → true ≡ (is_normal w x || is_order_only w x) → spans t e ≡ Ok (spans_of t lines e)
     taken z q = own-accepted e ls f A (passed (absent lines e) _ None (asked true q) (passed (too_long t (spans_of t lines e)) [] None (short z) refl))
 
     old : old_cells (remove_pieces w x) ≡ concat (header_units x)

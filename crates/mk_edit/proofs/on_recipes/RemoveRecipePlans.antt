@@ -1,6 +1,7 @@
 -- The removal of a recipe line: its causes by what the code asks, and its plan.
-use Rattle.std.proofs.Common.{◌≡◌, refl, ap, ◌∙◌, subst, arith, ℕ, ◌+◌, ◌^◌, ◌<◌, ◌≤◌, not, List, [], ◌∷◌, ◌++◌, length, Option, Some, None, is_some, option_map}
+use Rattle.std.proofs.Common.{◌≡◌, refl, ap, ◌∙◌, subst, arith, ℕ, ◌+◌, ◌<◌, ◌≤◌, not, List, [], ◌∷◌, ◌++◌, length, Option, Some, None, is_some, option_map}
 use Rattle.std.specs.Prelude.{Ok, Err}
+use Rattle.mk_lines.specs.Limits.{max_text}
 use Rattle.mk_lines.specs.Pieces.{Replacement}
 use Rattle.mk_class.specs.ClassedLines.{ClassedLine, classed_lines}
 use Rattle.mk_class.specs.declared.context.RuleFlag.{RuleFlag}
@@ -39,7 +40,7 @@ not_leaning ls nth g n at R =
     ∙ (ap (λ (z : RuleFlag). where_holds (leans C.prefix z E.flag s.below) Leans) R.flag_before ∙ ap (λ (z : RuleFlag). where_holds (leans C.prefix flag.Rule z s.below) Leans) R.flag_after)
 
 -- the rest of the text is no longer than the text
-within-limit : (ls : List LocatedLine) (nth : Option ℕ) (g : List ℕ) (n at : ℕ) → IsRecipeAt ls nth g n at → size_of ls ≤ 2 ^ 24
+within-limit : (ls : List LocatedLine) (nth : Option ℕ) (g : List ℕ) (n at : ℕ) → IsRecipeAt ls nth g n at → size_of ls ≤ max_text
     → too_long (located_text ls) (spans_of (located_text ls) (classed_lines (located_text ls)) (RemoveRecipe nth g n)) ≡ None
 within-limit ls nth g n at R z =
     never-long (located_text ls) (RemoveRecipe nth g n) (ap (λ (o : Option StandingLine). bytes_put (where_found removed_span (option_map this_line o))) R.found_is) (omega (arith, size_of-text ls, z))
@@ -48,7 +49,7 @@ within-limit ls nth g n at R z =
 pub record IsRemoveRecipeOf (n : ℕ) (e : Edit) (ls : List LocatedLine) (f : Found) : Type 0 where
   pub within : f.at < length ls
   pub missing : None ≡ index_in_rule ls (f.at + 1) n → spans (located_text ls) e ≡ Err Absent
-  pub accepted : (at : ℕ) → size_of ls ≤ 2 ^ 24 → Some at ≡ index_in_rule ls (f.at + 1) n → (rs : List Replacement) × (spans (located_text ls) e ≡ Ok rs) × IsTakenOut e ls at 1
+  pub accepted : (at : ℕ) → size_of ls ≤ max_text → Some at ≡ index_in_rule ls (f.at + 1) n → (rs : List Replacement) × (spans (located_text ls) e ≡ Ok rs) × IsTakenOut e ls at 1
 
 remove_recipe : (nth : Option ℕ) (g : List ℕ) (n : ℕ) (ls : List LocatedLine) (f : Found) → IsFaithful ls → IsAddressed (RemoveRecipe nth g n) ls f → IsRemoveRecipeOf n (RemoveRecipe nth g n) ls f
 remove_recipe nth g n ls f h A = record {

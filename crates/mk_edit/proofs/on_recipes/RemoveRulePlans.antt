@@ -1,8 +1,9 @@
 -- The removal of a rule: its causes by what the code asks, and its plan.
-use Rattle.std.proofs.Common.{◌≡◌, refl, sym, ap, ◌∙◌, arith, ℕ, ◌+◌, ◌-◌, ◌^◌, ◌<◌, ◌≤◌, ◌&&◌, not, true, false, Bool, List, [], ◌∷◌, ◌++◌, length, drop, Option, Some, None, option_map}
+use Rattle.std.proofs.Common.{◌≡◌, refl, sym, ap, ◌∙◌, arith, ℕ, ◌+◌, ◌-◌, ◌<◌, ◌≤◌, ◌&&◌, not, true, false, Bool, List, [], ◌∷◌, ◌++◌, length, drop, Option, Some, None, option_map}
 use Rattle.std.specs.List.{list_any}
 use Rattle.std.specs.Prelude.{Ok, Err, nat_lt, slice_get}
 use Rattle.std.proofs.lemmas.Bool.{lt-ltb, le-ltb}
+use Rattle.mk_lines.specs.Limits.{max_text}
 use Rattle.mk_lines.specs.Cells.{Cell, joined_byte, joined_text, line_cells}
 use Rattle.mk_lines.specs.Pieces.{Replacement}
 use Rattle.mk_class.specs.Headers
@@ -83,7 +84,7 @@ leaning-is ls nth g f end b R e h =
     ap (λ (o : Option StandingLine). where_holds (removal_leans (option_map whole_rule o)) Leans) R.found_is ∙ ap (λ z. where_holds z Leans) same
 
 -- the rest of the text is no longer than the text
-within-limit : (ls : List LocatedLine) (nth : Option ℕ) (g : List ℕ) (f : Found) → IsRuleAt ls nth g f → size_of ls ≤ 2 ^ 24
+within-limit : (ls : List LocatedLine) (nth : Option ℕ) (g : List ℕ) (f : Found) → IsRuleAt ls nth g f → size_of ls ≤ max_text
     → too_long (located_text ls) (spans_of (located_text ls) (classed_lines (located_text ls)) (RemoveRule nth g)) ≡ None
 within-limit ls nth g f R z =
     never-long (located_text ls) (RemoveRule nth g) (ap (λ (o : Option StandingLine). bytes_put (where_found removed_span (option_map whole_rule o))) R.found_is) (omega (arith, size_of-text ls, z))
@@ -110,7 +111,7 @@ pub record IsRemoveRuleOf (e : Edit) (ls : List LocatedLine) (f : Found) : Type 
       → false ≡ list_any (λ l. is_conditional l.class) (recipe_run (lines_from ls (f.at + 1))) → end ≡ f.at + 1 + length (recipe_run (lines_from ls (f.at + 1)))
       → true ≡ (not (is_same_flag f.context.flag flag.Rule) && is_led_first_located f.context.prefix (drop end ls)) → spans (located_text ls) e ≡ Err Leans
   -- none of these causes holds
-  pub accepted : (l : LocatedLine) (n end : ℕ) → size_of ls ≤ 2 ^ 24 → Some l ≡ slice_get ls f.at → n ≡ length (header_targets_located l) → n ≤ 1
+  pub accepted : (l : LocatedLine) (n end : ℕ) → size_of ls ≤ max_text → Some l ≡ slice_get ls f.at → n ≡ length (header_targets_located l) → n ≤ 1
       → false ≡ list_any (λ l. is_conditional l.class) (recipe_run (lines_from ls (f.at + 1))) → end ≡ f.at + 1 + length (recipe_run (lines_from ls (f.at + 1)))
       → false ≡ (not (is_same_flag f.context.flag flag.Rule) && is_led_first_located f.context.prefix (drop end ls))
       → (rs : List Replacement) × (spans (located_text ls) e ≡ Ok rs) × IsTakenOut e ls f.at (end - f.at)

@@ -3,6 +3,7 @@ use Rattle.std.proofs.Common.{◌≡◌, refl, sym, ap, ◌∙◌, arith, ℕ, �
 use Rattle.std.specs.List.{list_any}
 use Rattle.std.specs.Prelude.{nat_lt}
 use Rattle.std.proofs.lemmas.Bool.{and_parts, not-true}
+use Rattle.mk_lines.specs.Limits.{max_text}
 use Rattle.mk_lines.specs.Units.{is_closed, units}
 use Rattle.mk_class.specs.ListTests.{is_empty, last_passes}
 use Rattle.mk_class.specs.Arguments.{ends_word, is_ampersand_byte, is_clean, is_target, is_word}
@@ -17,7 +18,7 @@ use Rattle.mk_edit_laws.specs.ArgumentCauses.{bad_argument, reserved}
 use Rattle.mk_edit_laws.specs.AddressCauses.{ambiguous, begins_some_renamed_line, is_unread_prefix, no_such, prefix_led, unread_prefix}
 use Rattle.mk_edit_laws.specs.RuleCauses.{absent, already, shared_rule, straddles, taken}
 use Rattle.mk_edit_laws.specs.Causes.{where_holds}
-use Rattle.mk_edit_laws.specs.LineCauses.{greatest_length, leaning, open_define, open_line, open_value, too_long}
+use Rattle.mk_edit_laws.specs.LineCauses.{leaning, open_define, open_line, open_value, too_long}
 use Rattle.mk_edit_laws.specs.Refusals.{causes, first_cause}
 use Rattle.mk_edit_laws.specs.EditSpans.{spans_of}
 use Rattle.mk_edit_laws.specs.declared.refusal.Field.TheVariants as field
@@ -114,21 +115,21 @@ causes-are t ls o n l g b r i j =
 -- ---- the length
 
 long-is : (ls : List LocatedLine) (o n : List ℕ) → IsFaithful ls
-    → too_long (located_text ls) (spans_of (located_text ls) (classed_lines (located_text ls)) (RenameTarget o n)) ≡ where_holds (nat_lt (greatest_length + replaced_bytes o ls) (size_of ls + replaced_words o ls * length n)) TooLong
+    → too_long (located_text ls) (spans_of (located_text ls) (classed_lines (located_text ls)) (RenameTarget o n)) ≡ where_holds (nat_lt (max_text + replaced_bytes o ls) (size_of ls + replaced_words o ls * length n)) TooLong
 long-is ls o n h =
     long-said (located_text ls) (RenameTarget o n) (replaced_bytes o ls) (replaced_words o ls * length n) (rename_target-taken ls o n h) (rename_target-put ls o n h)
-    ∙ ap (λ z. where_holds (nat_lt (greatest_length + replaced_bytes o ls) (z + replaced_words o ls * length n)) TooLong) (sym (size_of-text ls))
+    ∙ ap (λ z. where_holds (nat_lt (max_text + replaced_bytes o ls) (z + replaced_words o ls * length n)) TooLong) (sym (size_of-text ls))
 
 -- whether the text is too long, as the effect of the rename tells
 pub long-told : (ls : List LocatedLine) (o n : List ℕ) (f : Effect) (size : ℕ) → f ≡ effect_on o n start ls → size ≡ size_of ls
-    → nat_lt (greatest_length + f.bytes) (size + f.words * length n) ≡ nat_lt (greatest_length + replaced_bytes o ls) (size_of ls + replaced_words o ls * length n)
+    → nat_lt (max_text + f.bytes) (size + f.words * length n) ≡ nat_lt (max_text + replaced_bytes o ls) (size_of ls + replaced_words o ls * length n)
 long-told ls o n f size h k =
-    ap (λ (z : Effect). nat_lt (greatest_length + z.bytes) (size + z.words * length n)) h ∙ ap (λ z. nat_lt (greatest_length + replaced_bytes o ls) (z + replaced_words o ls * length n)) k
+    ap (λ (z : Effect). nat_lt (max_text + z.bytes) (size + z.words * length n)) h ∙ ap (λ z. nat_lt (max_text + replaced_bytes o ls) (z + replaced_words o ls * length n)) k
 
 -- The first cause that holds of a rename of a document, as a walk over the document tells it, if no field of the rename is bad.
 pub rename_target-causes : (ls : List LocatedLine) (e : Edit) (o n : List ℕ) (u f l k g : Bool) → IsRenameTarget o n e → IsFaithful ls → bad_argument e ≡ None → reserved e ≡ None
     → u ≡ list_any (λ l. is_unread_prefix l.class) (classed_lines (located_text ls)) → f ≡ is_a_target (classed_lines (located_text ls)) o → l ≡ begins_some_line o n start ls → k ≡ is_a_target (classed_lines (located_text ls)) n
-    → g ≡ nat_lt (greatest_length + replaced_bytes o ls) (size_of ls + replaced_words o ls * length n)
+    → g ≡ nat_lt (max_text + replaced_bytes o ls) (size_of ls + replaced_words o ls * length n)
     → rename_target_refusal u f l k g ≡ first_cause (causes (located_text ls) (classed_lines (located_text ls)) e)
 rename_target-causes ls e o n u f l k g is h bad res iu if il ik ig =
     let t = located_text ls in

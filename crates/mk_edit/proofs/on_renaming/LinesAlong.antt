@@ -1,6 +1,7 @@
 -- The lines of a text, each with its line after a rename: each line can be renamed where it stands, and the lines that hold the
 -- word become the lines after the rename.
-use Rattle.std.proofs.Common.{◌≡◌, refl, sym, ap, ◌∙◌, subst, arith, ℕ, ◌+◌, ◌^◌, ◌<◌, ◌≤◌, Bool, true, false, not, List, [], ◌∷◌, length}
+use Rattle.std.proofs.Common.{◌≡◌, refl, sym, ap, ◌∙◌, subst, arith, ℕ, ◌+◌, ◌<◌, ◌≤◌, Bool, true, false, not, List, [], ◌∷◌, length}
+use Rattle.mk_lines.specs.Limits.{max_text}
 use Rattle.mk_lines.specs.LogicalLines.{logical_lines}
 use Rattle.mk_lines.specs.Cells.{Cell, joined_byte}
 use Rattle.mk_class.specs.Classes.{Class, is_conditional}
@@ -36,7 +37,7 @@ renamed_where p o n c (l ∷ ls) = line_where (p l) (line_renamed o n c l) l ∷
 -- ---- one line
 
 -- the words of a line are few, if the line is within the limit
-few-words : (c : Context) (l : ClassedLine) (o : List ℕ) → class_of c l.bytes ≡ l.class → length l.bytes ≤ 2 ^ 24 → HasFewWords o (located_line l)
+few-words : (c : Context) (l : ClassedLine) (o : List ℕ) → class_of c l.bytes ≡ l.class → length l.bytes ≤ max_text → HasFewWords o (located_line l)
 few-words c l o h few =
     let B = line-begins c l o o h in
     let a = line-apart c l o o B.rest h B.is in
@@ -50,7 +51,7 @@ not-conditional : (k : Class Cell) → is_conditional k ≡ false → not (is_co
 not-conditional k h = ap not h
 
 -- a line that is renamed as the law says can be renamed
-line-can : (o n : List ℕ) (c : Context) (l m : ClassedLine) → class_of c l.bytes ≡ l.class → IsLineRenamed o n c l m → length l.bytes ≤ 2 ^ 24 → length m.bytes ≤ 2 ^ 24 → c.defines < 2 ^ 24
+line-can : (o n : List ℕ) (c : Context) (l m : ClassedLine) → class_of c l.bytes ≡ l.class → IsLineRenamed o n c l m → length l.bytes ≤ max_text → length m.bytes ≤ max_text → c.defines < max_text
     → CanBeRenamed o n c (located_line l)
 line-can o n c l m h R few_old few_new low =
     let e : renamed_text o n (located_line l) ≡ m.bytes = line-rewritten c l o n R.rest m.bytes h R.old_line R.new_line in
@@ -59,7 +60,7 @@ line-can o n c l m h R few_old few_new low =
     record {
       words = few-words c l o h few_old;
       apart = line-apart c l o n R.rest h R.old_line;
-      fits = subst (λ z. length z ≤ 2 ^ 24) (sym e) few_new;
+      fits = subst (λ z. length z ≤ max_text) (sym e) few_new;
       one = subst (λ z. logical_lines z ≡ z ∷ []) (sym e) R.one_line;
       defines = low;
       plain = λ z.
@@ -82,13 +83,13 @@ line-becomes o n c l m h R =
 -- ---- all lines
 
 -- the lines of a text within the limit have few words
-pub lines-few_words : (o : List ℕ) (c : Context) (ls : List ClassedLine) → AreClassed c ls → size_of (located_lines ls) ≤ 2 ^ 24 → HaveFewWords o (located_lines ls)
+pub lines-few_words : (o : List ℕ) (c : Context) (ls : List ClassedLine) → AreClassed c ls → size_of (located_lines ls) ≤ max_text → HaveFewWords o (located_lines ls)
 lines-few_words o c [] h few = tt
 lines-few_words o c (l ∷ ls) h few =
     (few-words c l o (AreClassed-class c l ls h) (omega (arith, few)), lines-few_words o (context_after c l.class) ls (AreClassed-tail c l ls h) (omega (arith, few)))
 
-pub lines-can : (o n : List ℕ) (c : Context) (ls ms : List ClassedLine) → AreClassed c ls → AreLinesRenamedInPlace o n c ls ms → size_of (located_lines ls) ≤ 2 ^ 24 → size_of (located_lines ms) ≤ 2 ^ 24
-    → c.defines + length ls ≤ 2 ^ 24 → CanEachBeRenamed o n c (located_lines ls)
+pub lines-can : (o n : List ℕ) (c : Context) (ls ms : List ClassedLine) → AreClassed c ls → AreLinesRenamedInPlace o n c ls ms → size_of (located_lines ls) ≤ max_text → size_of (located_lines ms) ≤ max_text
+    → c.defines + length ls ≤ max_text → CanEachBeRenamed o n c (located_lines ls)
 lines-can o n c [] [] h R few_old few_new low = tt
 lines-can o n c [] (m ∷ ms) h R few_old few_new low = absurd R
 lines-can o n c (l ∷ ls) [] h R few_old few_new low = absurd R

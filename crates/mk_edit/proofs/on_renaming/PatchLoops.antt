@@ -2,6 +2,7 @@
 -- lines.
 use Rattle.std.proofs.Common.{◌≡◌, refl, sym, ap, ◌∙◌, subst, arith, ℕ, ◌+◌, ◌^◌, ◌≤◌, Bool, true, false, List, [], ◌∷◌, ◌++◌, length, length-append, append_assoc, Option, Some, None}
 use Rattle.std.specs.Prelude.{if◌then◌else◌, ◌-◌, min}
+use Rattle.mk_lines.specs.Limits.{max_text}
 use Rattle.mk_class.specs.Contexts.{Context, start, context_after_located}
 use Rattle.mk_tree.specs.Counting.{AreCounted}
 use Rattle.mk_tree.specs.LocatedLines.{LocatedLine}
@@ -17,7 +18,7 @@ use Rattle.mk_edit.proofs.on_renaming.PatchPlans.{filter-step}
 -- others.
 pub record IsTurnBuilt (t : Turn) (o n : List ℕ) (document : List LocatedLine) (before now : MovesWithRoom) (at : ℕ) (ahead : LinesInContext) (meter_before meter_now : ℕ) : Type 0 where
   pub can : CanEachBeRenamed o n ahead.context ahead.lines
-  pub few : at + length ahead.lines ≤ 2 ^ 24
+  pub few : at + length ahead.lines ≤ max_text
   pub room : now.room ≡ before.room
   pub fits : length now.moves + exchanged_count t o n ahead.lines ≤ now.room
   pub moves : now.moves ++ turn_moves_from t o n at ahead.context ahead.lines ≡ before.moves ++ turn_moves t o n document

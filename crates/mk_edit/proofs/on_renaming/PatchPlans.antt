@@ -1,6 +1,7 @@
 -- The patch of a rename: its two turns lead from the lines of a document to those after the rename, and hold few lines.
-use Rattle.std.proofs.Common.{◌≡◌, refl, sym, ap, ◌∙◌, subst, arith, ℕ, ◌+◌, ◌*◌, ◌^◌, ◌≤◌, Bool, true, false, not, ◌&&◌, List, [], ◌∷◌, map, length, filter, Option, None}
+use Rattle.std.proofs.Common.{◌≡◌, refl, sym, ap, ◌∙◌, subst, arith, ℕ, ◌+◌, ◌*◌, ◌≤◌, Bool, true, false, not, ◌&&◌, List, [], ◌∷◌, map, length, filter, Option, None}
 use Rattle.std.specs.Prelude.{Ok, nat_lt, if◌then◌else◌}
+use Rattle.mk_lines.specs.Limits.{max_text}
 use Rattle.mk_class.specs.Contexts.{Context, start, context_after, context_after_located}
 use Rattle.mk_class.specs.ClassedLines.{ClassedLine, classed_lines}
 use Rattle.mk_tree.specs.Documents.{IsFaithful}
@@ -169,7 +170,7 @@ module _ (o n : List ℕ) where
       )
 
   -- The moves of both turns lead to the lines after the rename.
-  turns-lead : (ls : List LocatedLine) → CanEachBeRenamed o n start ls → size_of ls ≤ 2 ^ 24 → size_of (renamed_where (holds_word o) o n start ls) ≤ 2 ^ 24 → LeadTo (renaming_moves o n ls) ls (renamed_where (holds_word o) o n start ls)
+  turns-lead : (ls : List LocatedLine) → CanEachBeRenamed o n start ls → size_of ls ≤ max_text → size_of (renamed_where (holds_word o) o n start ls) ≤ max_text → LeadTo (renaming_moves o n ls) ls (renamed_where (holds_word o) o n start ls)
   turns-lead ls C few_old few_new =
       let middle = renamed_where first o n start ls in
       let after = renamed_where (holds_word o) o n start ls in
@@ -242,14 +243,14 @@ module _ (o n : List ℕ) where
 -- ---- the whole rename
 
 -- The lines of a faithful document within the limit have few words.
-document-few_words : (o : List ℕ) (ls : List LocatedLine) → IsFaithful ls → size_of ls ≤ 2 ^ 24 → HaveFewWords o ls
+document-few_words : (o : List ℕ) (ls : List LocatedLine) → IsFaithful ls → size_of ls ≤ max_text → HaveFewWords o ls
 document-few_words o ls f few =
     let ds = classed_lines (located_text ls) in
-    subst (HaveFewWords o) (sym f) (lines-few_words o start ds (AreClassed-lines (located_text ls) ds refl) (subst (λ (z : List LocatedLine). size_of z ≤ 2 ^ 24) f few))
+    subst (HaveFewWords o) (sym f) (lines-few_words o start ds (AreClassed-lines (located_text ls) ds refl) (subst (λ (z : List LocatedLine). size_of z ≤ max_text) f few))
 
 -- A walk that counts the lines of a document which hold a word begins with all of them ahead.
-pub count-from : (o : List ℕ) (d ahead : List LocatedLine) → ahead ≡ d → IsFaithful d → size_of d ≤ 2 ^ 24 → length d ≤ size_of d
-    → Unit {0} × Unit {0} × HaveFewWords o ahead × (0 + length ahead ≤ 2 ^ 24) × (0 + length (filter (holds_word o) ahead) ≡ length (filter (holds_word o) d))
+pub count-from : (o : List ℕ) (d ahead : List LocatedLine) → ahead ≡ d → IsFaithful d → size_of d ≤ max_text → length d ≤ size_of d
+    → Unit {0} × Unit {0} × HaveFewWords o ahead × (0 + length ahead ≤ max_text) × (0 + length (filter (holds_word o) ahead) ≡ length (filter (holds_word o) d))
 count-from o d ahead e f few some = rw e (tt, tt, document-few_words o d f few, omega (arith, few, some), omega arith)
 
 -- What is known of a document and a rename that no cause refuses. Each line can be renamed where it stands. The number of lines
@@ -260,7 +261,7 @@ pub record IsRenameTargetPlanned (o n : List ℕ) (ls : List LocatedLine) : Type
   pub costs : length (filter (holds_word o) ls) ≡ cost (located_text ls) (RenameTarget o n)
   pub planned : IsPlanned (RenameTarget o n) ls (renaming_moves o n ls)
 
-pub rename_target-planned : (o n : List ℕ) (ls : List LocatedLine) → IsFaithful ls → size_of ls ≤ 2 ^ 24 → length ls ≤ size_of ls
+pub rename_target-planned : (o n : List ℕ) (ls : List LocatedLine) → IsFaithful ls → size_of ls ≤ max_text → length ls ≤ size_of ls
     → first_cause (causes (located_text ls) (classed_lines (located_text ls)) (RenameTarget o n)) ≡ None → IsRenameTargetPlanned o n ls
 rename_target-planned o n ls f few_bytes few h =
     let e = RenameTarget o n in
@@ -271,13 +272,13 @@ rename_target-planned o n ls f few_bytes few h =
     let spans_are : spans t e ≡ Ok rs = ap (λ (r : Option Refusal). unless_refused r rs) h in
     let K = rename_target-keeps o n t rs spans_are in
     let A = AreClassed-lines t before refl in
-    let old_bytes : size_of (located_lines before) ≤ 2 ^ 24 = subst (λ (z : List LocatedLine). size_of z ≤ 2 ^ 24) f few_bytes in
-    let new_bytes : size_of (located_lines after) ≤ 2 ^ 24 = after-fits t e rs after spans_are refl in
-    let low : start.defines + length before ≤ 2 ^ 24 = omega (arith, few, few_bytes, faithful-length ls before f refl) in
+    let old_bytes : size_of (located_lines before) ≤ max_text = subst (λ (z : List LocatedLine). size_of z ≤ max_text) f few_bytes in
+    let new_bytes : size_of (located_lines after) ≤ max_text = after-fits t e rs after spans_are refl in
+    let low : start.defines + length before ≤ max_text = omega (arith, few, few_bytes, faithful-length ls before f refl) in
     let C = lines-can o n start before after A K.in_place old_bytes new_bytes low in
     let become = lines-become o n start before after A K.in_place in
     let L : LeadTo (renaming_moves o n (located_lines before)) (located_lines before) (located_lines after) =
-    subst (LeadTo (renaming_moves o n (located_lines before)) (located_lines before)) become (turns-lead o n (located_lines before) C old_bytes (subst (λ (z : List LocatedLine). size_of z ≤ 2 ^ 24) (sym become) new_bytes)) in
+    subst (LeadTo (renaming_moves o n (located_lines before)) (located_lines before)) become (turns-lead o n (located_lines before) C old_bytes (subst (λ (z : List LocatedLine). size_of z ≤ max_text) (sym become) new_bytes)) in
     let can : CanEachBeRenamed o n start ls = subst (CanEachBeRenamed o n start) (sym f) C in
     let costs : length (filter (holds_word o) ls) ≡ cost t e = ap (λ (z : List LocatedLine). length (filter (holds_word o) z)) f ∙ holding-number o n start before A in
     record {

@@ -1,6 +1,7 @@
 -- The effect of a rename, gathered by a walk over the lines of a document: there is room for each sum, and it is that on all lines.
-use Rattle.std.proofs.Common.{◌≡◌, refl, sym, ap, ◌∙◌, arith, ℕ, ◌+◌, ◌*◌, ◌^◌, ◌≤◌, Bool, List, [], ◌∷◌, length}
+use Rattle.std.proofs.Common.{◌≡◌, refl, sym, ap, ◌∙◌, arith, ℕ, ◌+◌, ◌*◌, ◌≤◌, Bool, List, [], ◌∷◌, length}
 use Rattle.std.proofs.Math.Bool.{or-false, or_assoc}
+use Rattle.mk_lines.specs.Limits.{max_text}
 use Rattle.mk_class.specs.Contexts.{Context, start, context_after_located}
 use Rattle.mk_class.specs.RecipePrefix.{is_prefix_led}
 use Rattle.mk_tree.specs.Documents.{IsFaithful}
@@ -24,13 +25,13 @@ pub walk-from : (o n : List ℕ) (d : List LocatedLine) (w : LinesInContext) →
     → Unit {0} × Unit {0} × AreEachClassed w.lines × (joined no_effect (effect_on o n w.context w.lines) ≡ effect_on o n start d)
 walk-from o n d w e h = rw e (tt, tt, faithful-each d h, same-effect (joined no_effect (effect_on o n start d)) (effect_on o n start d) (omega arith) (omega arith) refl)
 
--- There is room for the count of one line more: the words stay within 3 * 2 ^ 24, and their bytes within 2 ^ 24.
+-- There is room for the count of one line more: the words stay within 3 * max_text, and their bytes within max_text.
 pub record HasRoom (o : List ℕ) (e : Effect) (l : LocatedLine) : Type 0 where
-  pub words : e.words + length (renamed_ranges o l) ≤ 3 * 2 ^ 24
-  pub bytes : e.bytes + bytes_in (renamed_ranges o l) ≤ 2 ^ 24
+  pub words : e.words + length (renamed_ranges o l) ≤ 3 * max_text
+  pub bytes : e.bytes + bytes_in (renamed_ranges o l) ≤ max_text
 
 pub room-ahead : (o n : List ℕ) (d : List LocatedLine) (e : Effect) (w : LinesInContext) (l : LocatedLine) (rest : List LocatedLine) → w.lines ≡ l ∷ rest
-    → joined e (effect_on o n w.context w.lines) ≡ effect_on o n start d → IsFaithful d → size_of d ≤ 2 ^ 24 → HasRoom o e l
+    → joined e (effect_on o n w.context w.lines) ≡ effect_on o n start d → IsFaithful d → size_of d ≤ max_text → HasRoom o e l
 room-ahead o n d e w l rest s i h k =
     let words : e.words + replaced_words o w.lines ≡ replaced_words o d = ap (λ (z : Effect). z.words) i in
     let bytes : e.bytes + replaced_bytes o w.lines ≡ replaced_bytes o d = ap (λ (z : Effect). z.bytes) i in
@@ -56,5 +57,5 @@ pub walk-over : (o n : List ℕ) (e whole : Effect) (w : LinesInContext) → w.l
 walk-over o n e whole w s inv =
     same-effect e (joined e (effect_on o n w.context [])) (omega arith) (omega arith) (sym (or-false e.begins_line)) ∙ (ap (λ z. joined e (effect_on o n w.context z)) (sym s) ∙ inv)
 
-pub effect-bytes : (o n : List ℕ) (e : Effect) (d : List LocatedLine) → e ≡ effect_on o n start d → IsFaithful d → size_of d ≤ 2 ^ 24 → e.bytes ≤ 2 ^ 24
+pub effect-bytes : (o n : List ℕ) (e : Effect) (d : List LocatedLine) → e ≡ effect_on o n start d → IsFaithful d → size_of d ≤ max_text → e.bytes ≤ max_text
 effect-bytes o n e d i h k = omega (arith, ap (λ (z : Effect). z.bytes) i, all-bytes o d (faithful-each d h), k)

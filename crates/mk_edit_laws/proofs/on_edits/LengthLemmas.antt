@@ -1,14 +1,15 @@
 -- The length of a text with replacements made.
-use Rattle.std.proofs.Common.{◌≡◌, refl, ap, ◌∙◌, subst, arith, ℕ, List, [], ◌∷◌, ◌++◌, length, length-append, take, drop, ◌+◌, ◌-◌, ◌^◌, ◌≤◌, None}
+use Rattle.std.proofs.Common.{◌≡◌, refl, ap, ◌∙◌, subst, arith, ℕ, List, [], ◌∷◌, ◌++◌, length, length-append, take, drop, ◌+◌, ◌-◌, ◌≤◌, None}
 use Rattle.std.proofs.lemmas.List.{length-take-le, length-drop}
 use Rattle.std.proofs.lemmas.Bool.{ltb-false}
 use Rattle.std.specs.Prelude.{Ok}
+use Rattle.mk_lines.specs.Limits.{max_text}
 use Rattle.mk_lines.specs.Pieces.{Replacement, replaced}
 use Rattle.mk_tree.specs.LocatedLines.{size_of}
 use Rattle.mk_tree.specs.Documents.{document_lines}
 use Rattle.mk_tree.proofs.Reading.{size_of-document}
 use Rattle.mk_edit_laws.specs.Edits.{Edit}
-use Rattle.mk_edit_laws.specs.LineCauses.{greatest_length, too_long}
+use Rattle.mk_edit_laws.specs.LineCauses.{too_long}
 use Rattle.mk_edit_laws.proofs.on_edits.Accepted.{accepted, where_holds-none}
 use Rattle.mk_edit_laws.specs.Lengths.{bytes_taken, bytes_put}
 use Rattle.mk_edit_laws.specs.Refusals.{spans, text_by, text_after}
@@ -41,9 +42,9 @@ length-after t e rs h =
 -- ---- documents
 
 -- the size of a document after an accepted edit is within the limit
-pub size-fits : (t : List ℕ) (e : Edit) (rs : List Replacement) → spans t e ≡ Ok rs → size_of (document_lines (text_after t e)) ≤ 2 ^ 24
+pub size-fits : (t : List ℕ) (e : Edit) (rs : List Replacement) → spans t e ≡ Ok rs → size_of (document_lines (text_after t e)) ≤ max_text
 size-fits t e rs h =
     let A = accepted t e rs h in
     let kept : too_long t rs ≡ None = subst (λ (q : List Replacement). too_long t q ≡ None) A.spans_are A.not_long in
-    let short : length (replaced 0 t rs) ≤ greatest_length = ltb-false greatest_length (length (replaced 0 t rs)) (where_holds-none _ TooLong kept) in
+    let short : length (replaced 0 t rs) ≤ max_text = ltb-false max_text (length (replaced 0 t rs)) (where_holds-none _ TooLong kept) in
     omega (arith, short, size_of-document (text_after t e), ap (λ q. length (text_by t q)) h)

@@ -47,7 +47,8 @@ use Rattle.mk_edit_laws.specs.Edits.{Place, AddAssign}
 use Rattle.mk_edit_laws.specs.Stretches.{Stretch, place_found}
 use Rattle.mk_edit_laws.specs.ArgumentCauses.{is_place, place_names}
 use Rattle.mk_edit_laws.specs.AddressCauses.{begins_new_line}
-use Rattle.mk_edit_laws.specs.NewLines.{spaced, assign_text, new_line_span}
+use Rattle.mk_lines.specs.Spacing.{after_space}
+use Rattle.mk_edit_laws.specs.NewLines.{assign_text, new_line_span}
 use Rattle.mk_edit_laws.specs.EditSpans.{where_found}
 use Rattle.mk_edit_laws.specs.LineCauses.{follows_open_line, new_line_leans}
 use Rattle.mk_edit_laws.specs.Refusals.{spans, text_by, text_after}
@@ -178,7 +179,7 @@ abbrev value_gap : List ℕ → List ℕ
 value_gap [] = []
 value_gap (b ∷ v) = 32 ∷ []
 
-spaced-split : (v : List ℕ) → spaced v ≡ value_gap v ++ v
+spaced-split : (v : List ℕ) → after_space v ≡ value_gap v ++ v
 spaced-split [] = refl
 spaced-split (b ∷ v) = refl
 
@@ -213,7 +214,7 @@ front_text n f v = n ++ (32 ∷ (operator_front f ++ (61 ∷ value_gap v)))
 
 assign_text-split : (n : List ℕ) (f : Flavor) (v : List ℕ) → assign_text n f v ≡ front_text n f v ++ v
 assign_text-split n f v =
-    let e : operator_text f ++ spaced v ≡ (operator_front f ++ 61 ∷ []) ++ (value_gap v ++ v) = ap (λ z. z ++ spaced v) (operator-split f) ∙ ap (λ z. (operator_front f ++ 61 ∷ []) ++ z) (spaced-split v) in
+    let e : operator_text f ++ after_space v ≡ (operator_front f ++ 61 ∷ []) ++ (value_gap v ++ v) = ap (λ z. z ++ after_space v) (operator-split f) ∙ ap (λ z. (operator_front f ++ 61 ∷ []) ++ z) (spaced-split v) in
     let s : n ++ (32 ∷ ((operator_front f ++ 61 ∷ []) ++ (value_gap v ++ v))) ≡ (n ++ (32 ∷ (operator_front f ++ (61 ∷ value_gap v)))) ++ v = simp append_assoc in
     ap (λ z. n ++ (32 ∷ z)) e ∙ s
 

@@ -1,5 +1,5 @@
 -- The line of a new rule: its words, joined by single spaces around its separator, are read again as they are.
-use Rattle.std.proofs.Common.{◌≡◌, refl, sym, ap, ◌∙◌, subst, ℕ, List, [], ◌∷◌, ◌++◌, map, Bool, true, false, not, ◌&&◌, ◌||◌, cond, append_assoc, None}
+use Rattle.std.proofs.Common.{◌≡◌, refl, sym, ap, ◌∙◌, ℕ, List, [], ◌∷◌, ◌++◌, map, Bool, true, false, not, ◌&&◌, ◌||◌, cond, append_assoc, None}
 use Rattle.std.specs.List.{list_any}
 use Rattle.std.specs.Prelude.{nat_lt}
 use Rattle.std.proofs.lemmas.Bool.{or_parts, not-true}
@@ -40,7 +40,8 @@ use Rattle.mk_class.proofs.on_assignments.ValueLemmas.{clean-no_stray}
 use Rattle.mk_tree.specs.Items.{header_item}
 use Rattle.mk_tree.specs.Items as item
 use Rattle.mk_tree.proofs.on_changes.NewLineLemmas.{clean-no_line_end, new_line-clean}
-use Rattle.mk_edit_laws.specs.NewLines.{each_spaced, joined_by_space, colons_text}
+use Rattle.mk_lines.specs.Spacing.{each_after_space, spaced_words}
+use Rattle.mk_edit_laws.specs.NewLines.{colons_text}
 use Rattle.mk_edit_laws.specs.Changes.{separator_of}
 use Rattle.mk_edit_laws.specs.declared.edit.Colons.{Colons}
 use Rattle.mk_edit_laws.specs.declared.edit.Colons.TheVariants.{One, Two}
@@ -124,17 +125,15 @@ spaced-no_colon_first (w ∷ ws) = refl
 
 -- ---- its units
 
-spaced-units : (ws : List (List ℕ)) → AreNewWords ws → (rest : List Cell) → units joined_byte (map Byte (each_spaced ws) ++ rest) ≡ token_units (spaced_tokens ws) ++ units joined_byte rest
+spaced-units : (ws : List (List ℕ)) → AreNewWords ws → (rest : List Cell) → units joined_byte (map Byte (each_after_space ws) ++ rest) ≡ token_units (spaced_tokens ws) ++ units joined_byte rest
 spaced-units [] h rest = refl
-spaced-units ([] ∷ ws) h rest = absurd (let k : true ≡ false = h.0.filled in cc)
-spaced-units ((b ∷ w) ∷ ws) h rest =
-    let v = b ∷ w in
-    let split : map Byte (v ++ each_spaced ws) ++ rest ≡ map Byte v ++ (map Byte (each_spaced ws) ++ rest) =
-    ap (λ z. z ++ rest) (map-append Byte v (each_spaced ws)) ∙ append_assoc (map Byte v) (map Byte (each_spaced ws)) rest in
-    units-append joined_byte (Byte 32 ∷ []) (map Byte (v ++ each_spaced ws) ++ rest) refl
+spaced-units (v ∷ ws) h rest =
+    let split : map Byte (v ++ each_after_space ws) ++ rest ≡ map Byte v ++ (map Byte (each_after_space ws) ++ rest) =
+    ap (λ z. z ++ rest) (map-append Byte v (each_after_space ws)) ∙ append_assoc (map Byte v) (map Byte (each_after_space ws)) rest in
+    units-append joined_byte (Byte 32 ∷ []) (map Byte (v ++ each_after_space ws) ++ rest) refl
     ∙ ap (λ z. (Byte 32 ∷ []) ∷ z) (
     ap (units joined_byte) split
-    ∙ (units-append joined_byte (map Byte v) (map Byte (each_spaced ws) ++ rest) h.0.closed
+    ∙ (units-append joined_byte (map Byte v) (map Byte (each_after_space ws) ++ rest) h.0.closed
     ∙ (ap (λ z. cell_units v ++ z) (spaced-units ws h.1 rest) ∙ sym (append_assoc (cell_units v) (token_units (spaced_tokens ws)) (units joined_byte rest))))
     )
 
@@ -144,12 +143,7 @@ colons-units Two rest = units-append joined_byte (Byte 58 ∷ Byte 58 ∷ []) re
 
 -- the text of a new rule, of the words of its arguments
 abbrev pub text_of_rule : (targets : List (List ℕ)) → Colons → (prereqs : List (List ℕ)) → List ℕ
-text_of_rule ts c ws = joined_by_space ts ++ (colons_text c ++ each_spaced ws)
-
--- the text of a new rule, with its first target apart
-first-target : (t : List ℕ) (ts : List (List ℕ)) → IsNewWord t → joined_by_space (t ∷ ts) ≡ t ++ each_spaced ts
-first-target [] ts h = absurd (let k : true ≡ false = h.filled in cc)
-first-target (b ∷ t) ts h = refl
+text_of_rule ts c ws = spaced_words ts ++ (colons_text c ++ each_after_space ws)
 
 -- the units of the line
 abbrev rule_units_of : List ℕ → List (List ℕ) → Colons → List (List ℕ) → List (List Cell)
@@ -158,16 +152,15 @@ rule_units_of t ts c ws = token_units (target_tokens t ts) ++ (colon_units c ++ 
 line-units : (t : List ℕ) (ts : List (List ℕ)) (c : Colons) (ws : List (List ℕ)) → IsNewWord t → AreNewWords ts → AreNewWords ws
     → units joined_byte (map Byte (text_of_rule (t ∷ ts) c ws)) ≡ rule_units_of t ts c ws
 line-units t ts c ws h k l =
-    let X = map Byte (each_spaced ts) in
+    let X = map Byte (each_after_space ts) in
     let C = map Byte (colons_text c) in
-    let N = map Byte (each_spaced ws) in
+    let N = map Byte (each_after_space ws) in
     let T = token_units (spaced_tokens ts) in
     let text : map Byte (text_of_rule (t ∷ ts) c ws) ≡ map Byte t ++ (X ++ (C ++ (N ++ []))) =
-    ap (λ z. map Byte (z ++ (colons_text c ++ each_spaced ws))) (first-target t ts h)
-    ∙ (map-append Byte (t ++ each_spaced ts) (colons_text c ++ each_spaced ws)
-    ∙ (ap (λ z. z ++ map Byte (colons_text c ++ each_spaced ws)) (map-append Byte t (each_spaced ts))
-    ∙ (ap (λ z. (map Byte t ++ X) ++ z) (map-append Byte (colons_text c) (each_spaced ws))
-    ∙ (append_assoc (map Byte t) X (C ++ N) ∙ ap (λ z. map Byte t ++ (X ++ (C ++ z))) (sym (append-nil N)))))) in
+    map-append Byte (t ++ each_after_space ts) (colons_text c ++ each_after_space ws)
+    ∙ (ap (λ z. z ++ map Byte (colons_text c ++ each_after_space ws)) (map-append Byte t (each_after_space ts))
+    ∙ (ap (λ z. (map Byte t ++ X) ++ z) (map-append Byte (colons_text c) (each_after_space ws))
+    ∙ (append_assoc (map Byte t) X (C ++ N) ∙ ap (λ z. map Byte t ++ (X ++ (C ++ z))) (sym (append-nil N))))) in
     ap (units joined_byte) text
     ∙ (units-append joined_byte (map Byte t) (X ++ (C ++ (N ++ []))) h.closed
     ∙ (ap (λ z. cell_units t ++ z) (spaced-units ts k (C ++ (N ++ [])) ∙ ap (λ z. T ++ z) (colons-units c (N ++ []) ∙ ap (λ z. colon_units c ++ z) (spaced-units ws l [])))
@@ -403,24 +396,24 @@ pub record IsNewRule (t : List ℕ) (ts : List (List ℕ)) (c : Colons) (ws : Li
       → class_of C (text_of_rule (t ∷ ts) c ws ++ line_end_bytes e) ≡ HeaderLine (new_rule t ts c ws)
   pub item : header_item (new_rule t ts c ws) ≡ item.Header (t ∷ ts) (separator_of c) [] ws [] None
 
-spaced-clean : (ws : List (List ℕ)) → AreNewWords ws → list_any is_barred_byte (each_spaced ws) ≡ false
+spaced-clean : (ws : List (List ℕ)) → AreNewWords ws → list_any is_barred_byte (each_after_space ws) ≡ false
 spaced-clean [] h = refl
-spaced-clean ([] ∷ ws) h = absurd (let k : true ≡ false = h.0.filled in cc)
-spaced-clean ((b ∷ w) ∷ ws) h = any-append is_barred_byte (b ∷ w) (each_spaced ws) h.0.clean (spaced-clean ws h.1)
+spaced-clean (w ∷ ws) h = any-append is_barred_byte w (each_after_space ws) h.0.clean (spaced-clean ws h.1)
 
-spaced-no_backslash : (ws : List (List ℕ)) → AreNewWords ws → last_passes is_backslash_byte (each_spaced ws) ≡ false
+spaced-no_backslash : (ws : List (List ℕ)) → AreNewWords ws → last_passes is_backslash_byte (each_after_space ws) ≡ false
 spaced-no_backslash [] h = refl
-spaced-no_backslash ([] ∷ ws) h = absurd (let k : true ≡ false = h.0.filled in cc)
-spaced-no_backslash ((b ∷ w) ∷ ws) h = last-neither is_backslash_byte (b ∷ w) (each_spaced ws) h.0.no_backslash (spaced-no_backslash ws h.1)
+spaced-no_backslash (w ∷ ws) h =
+    last-neither is_backslash_byte (32 ∷ []) (w ++ each_after_space ws) refl
+    (last-neither is_backslash_byte w (each_after_space ws) h.0.no_backslash (spaced-no_backslash ws h.1))
 
 rule-text : (t : List ℕ) (ts : List (List ℕ)) (c : Colons) (ws : List (List ℕ)) → AreRuleWords t ts ws → IsLineText (text_of_rule (t ∷ ts) c ws)
 rule-text t ts c ws W =
-    let F = each_spaced ts in
-    let N = each_spaced ws in
-    subst IsLineText (sym (ap (λ z. z ++ (colons_text c ++ N)) (first-target t ts W.first))) (record {
+    let F = each_after_space ts in
+    let N = each_after_space ws in
+    record {
       clean = ap not (any-append is_barred_byte (t ++ F) (colons_text c ++ N) (any-append is_barred_byte t F W.first.clean (spaced-clean ts W.others)) (any-append is_barred_byte (colons_text c) N (clean c) (spaced-clean ws W.prereqs)));
       no_backslash = last-neither is_backslash_byte (t ++ F) (colons_text c ++ N) (last-neither is_backslash_byte t F W.first.no_backslash (spaced-no_backslash ts W.others)) (last-neither is_backslash_byte (colons_text c) N (last c) (spaced-no_backslash ws W.prereqs));
-    })
+    }
   where
     clean : (c : Colons) → list_any is_barred_byte (colons_text c) ≡ false
     clean One = refl
@@ -451,7 +444,7 @@ new_rule-is t ts c ws W =
     let A : AreLineCells (map Byte s) = bytes-are_line_cells s n in
     let same : cells s ≡ map Byte s = ap cells (sym (raw_text-bytes s)) ∙ AreLineCells-cells (map Byte s) A in
     let readable : is_unreadable (map Byte s) ≡ false = rw (clean-no_stray s (not-true (list_any is_barred_byte s) L.clean)) A.clean.1 in
-    let split : s ≡ t ++ (each_spaced ts ++ (colons_text c ++ each_spaced ws)) = ap (λ z. z ++ (colons_text c ++ each_spaced ws)) (first-target t ts W.first) ∙ append_assoc t (each_spaced ts) (colons_text c ++ each_spaced ws) in
+    let split : s ≡ t ++ (each_after_space ts ++ (colons_text c ++ each_after_space ws)) = append_assoc t (each_after_space ts) (colons_text c ++ each_after_space ws) in
     record {
       text = L;
       class = λ C e k d p.
@@ -459,7 +452,7 @@ new_rule-is t ts c ws W =
           let text : line_cells l ≡ map Byte s = ap cells (new_line-clean s e L.clean L.no_backslash k).same_text ∙ same in
           let led : is_prefix_led C.prefix l ≡ false =
           ap (λ z. is_prefix_led C.prefix (z ++ line_end_bytes e)) split
-          ∙ (led-longer C.prefix t (each_spaced ts ++ (colons_text c ++ each_spaced ws)) (line_end_bytes e) W.first.filled
+          ∙ (led-longer C.prefix t (each_after_space ts ++ (colons_text c ++ each_after_space ws)) (line_end_bytes e) W.first.filled
           ∙ (ap (is_prefix_led C.prefix) (sym split) ∙ p)) in
           outside C l (HeaderLine (new_rule t ts c ws)) d led (
           ap (λ z. plain_class joined_byte false (nat_lt 0 C.conditionals) (is_unreadable z) (units joined_byte z)) text

@@ -11,7 +11,8 @@ use Rattle.mk_lines.proofs.on_lists.ListLemmas.{leading-after_leading}
 use Rattle.mk_lines.proofs.UnitWalkLemmas.{words_left-blanks}
 use Rattle.mk_lines.specs.Bytes.{is_blank_byte}
 use Rattle.mk_class.specs.RecipePrefix.{is_prefix_led}
-use Rattle.mk_edit_laws.specs.NewLines.{spaced, each_spaced, joined_by_space, colons_text, rule_text}
+use Rattle.mk_lines.specs.Spacing.{each_after_space, spaced_words}
+use Rattle.mk_edit_laws.specs.NewLines.{colons_text, rule_text}
 use Rattle.mk_edit_laws.specs.declared.edit.Colons.{Colons}
 use Rattle.mk_edit_laws.specs.declared.edit.Colons.TheVariants.{One, Two}
 
@@ -19,11 +20,6 @@ use Rattle.mk_edit_laws.specs.declared.edit.Colons.TheVariants.{One, Two}
 pub cut-lengths : (rest word after : List ℕ) → word ++ after ≡ after_leading is_blank_byte rest → length word + length after ≤ length rest
 cut-lengths rest word after h =
     omega (arith, ap length h, length-append word after, ap length (leading-after_leading is_blank_byte rest), length-append (leading is_blank_byte rest) (after_leading is_blank_byte rest))
-
--- a text is one byte longer with a space before it, or not at all
-pub spaced-length : (w : List ℕ) → length (spaced w) ≤ length w + 1
-spaced-length [] = omega arith
-spaced-length (b ∷ w) = omega arith
 
 -- ---- no word is empty
 
@@ -45,21 +41,15 @@ word-some : (rest word after : List ℕ) → words_in rest ≡ word ∷ words_in
 word-some rest [] after w j = absurd (omega (arith, blanks-count rest, ap (λ t. length (words_in t)) j, ap length w))
 word-some rest (b ∷ word) after w j = omega arith
 
--- words that are joined begin with the first of them
-joined-first : (word : List ℕ) (ws : List (List ℕ)) → 0 < length word → joined_by_space (word ∷ ws) ≡ word ++ each_spaced ws
-joined-first [] ws h = absurd (omega arith)
-joined-first (b ∷ word) ws h = refl
-
 -- ---- what is put after some bytes
 
 -- the words of a text, the first of which was put before
-pub joined-put : (r : Result (Unit {0}) AllocError) (text word after old mid new : List ℕ) → words_in text ≡ word ∷ words_in after → word ++ after ≡ after_leading is_blank_byte text
-    → mid ≡ old ++ word → OnOk r (new ≡ mid ++ each_spaced (words_in after)) → OnOk r (new ≡ old ++ joined_by_space (words_in text))
-joined-put (Err e) text word after old mid new w j m h = tt
-joined-put (Ok x) text word after old mid new w j m h =
-    let joined : joined_by_space (words_in text) ≡ word ++ each_spaced (words_in after) =
-    ap joined_by_space w ∙ joined-first word (words_in after) (word-some text word after w j) in
-    h ∙ (ap (λ z. z ++ each_spaced (words_in after)) m ∙ (append_assoc old word (each_spaced (words_in after)) ∙ ap (λ z. old ++ z) (sym joined)))
+pub joined-put : (r : Result (Unit {0}) AllocError) (text word after old mid new : List ℕ) → words_in text ≡ word ∷ words_in after
+    → mid ≡ old ++ word → OnOk r (new ≡ mid ++ each_after_space (words_in after)) → OnOk r (new ≡ old ++ spaced_words (words_in text))
+joined-put (Err e) text word after old mid new w m h = tt
+joined-put (Ok x) text word after old mid new w m h =
+    let joined : spaced_words (words_in text) ≡ word ++ each_after_space (words_in after) = ap spaced_words w in
+    h ∙ (ap (λ z. z ++ each_after_space (words_in after)) m ∙ (append_assoc old word (each_after_space (words_in after)) ∙ ap (λ z. old ++ z) (sym joined)))
 
 -- ---- how a rule begins
 
@@ -72,13 +62,13 @@ pub rule-begins : (p : ℕ) (text word after : List ℕ) (c : Colons) (prereqs :
     → is_prefix_led p (word ++ 58 ∷ []) ≡ is_prefix_led p (rule_text text c prereqs)
 rule-begins p text word after c prereqs w j =
     let some = word-some text word after w j in
-    let rest = colons_text c ++ each_spaced (words_in prereqs) in
-    let more = each_spaced (words_in after) in
+    let rest = colons_text c ++ each_after_space (words_in prereqs) in
+    let more = each_after_space (words_in after) in
     begins-some p word (58 ∷ []) (more ++ rest) some
     ∙ (ap (is_prefix_led p) (sym (append_assoc word more rest))
-    ∙ ap (λ z. is_prefix_led p (z ++ rest)) (sym (ap joined_by_space w ∙ joined-first word (words_in after) some)))
+    ∙ ap (λ z. is_prefix_led p (z ++ rest)) (sym (ap spaced_words w)))
 
 -- or, where it has none, with its separator
 pub rule-begins_bare : (p : ℕ) (text : List ℕ) (c : Colons) (prereqs : List ℕ) → words_in text ≡ [] → (58 == p) ≡ is_prefix_led p (rule_text text c prereqs)
-rule-begins_bare p text One prereqs w = ap (λ ws. is_prefix_led p (joined_by_space ws ++ (58 ∷ [] ++ each_spaced (words_in prereqs)))) (sym w)
-rule-begins_bare p text Two prereqs w = ap (λ ws. is_prefix_led p (joined_by_space ws ++ (58 ∷ 58 ∷ [] ++ each_spaced (words_in prereqs)))) (sym w)
+rule-begins_bare p text One prereqs w = ap (λ ws. is_prefix_led p (spaced_words ws ++ (58 ∷ [] ++ each_after_space (words_in prereqs)))) (sym w)
+rule-begins_bare p text Two prereqs w = ap (λ ws. is_prefix_led p (spaced_words ws ++ (58 ∷ 58 ∷ [] ++ each_after_space (words_in prereqs)))) (sym w)

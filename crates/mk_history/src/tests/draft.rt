@@ -117,8 +117,10 @@ impl<A: Allocator + Copy> Draft<A> {
 
     fn undo(&mut self) -> Result<(), DraftError>
         ensures done { OnOk result (set_answer Undo self.old ≡ Ok self.new) }
-        ensures open { result ≡ Err DraftError.GroupOpen → set_answer Undo self.old ≡ Err GroupOpen }
-        ensures nothing { result ≡ Err DraftError.NothingToUndo → set_answer Undo self.old ≡ Err NothingToUndo }
+        ensures open { result ≡ Err DraftError.GroupOpen
+            → set_answer Undo self.old ≡ Err GroupOpen }
+        ensures nothing { result ≡ Err DraftError.NothingToUndo
+            → set_answer Undo self.old ≡ Err NothingToUndo }
         ensures same { OnErr result (self.new ≡ self.old) }
     {
         if self.group.is_some() {
@@ -132,8 +134,10 @@ impl<A: Allocator + Copy> Draft<A> {
 
     fn redo(&mut self) -> Result<(), DraftError>
         ensures done { OnOk result (set_answer Redo self.old ≡ Ok self.new) }
-        ensures open { result ≡ Err DraftError.GroupOpen → set_answer Redo self.old ≡ Err GroupOpen }
-        ensures nothing { result ≡ Err DraftError.NothingToRedo → set_answer Redo self.old ≡ Err NothingToRedo }
+        ensures open { result ≡ Err DraftError.GroupOpen
+            → set_answer Redo self.old ≡ Err GroupOpen }
+        ensures nothing { result ≡ Err DraftError.NothingToRedo
+            → set_answer Redo self.old ≡ Err NothingToRedo }
         ensures same { OnErr result (self.new ≡ self.old) }
     {
         if self.group.is_some() {
@@ -147,7 +151,8 @@ impl<A: Allocator + Copy> Draft<A> {
 
     fn begin(&mut self) -> Result<(), DraftError>
         ensures done { OnOk result (set_answer Begin self.old ≡ Ok self.new) }
-        ensures open { result ≡ Err DraftError.GroupOpen → set_answer Begin self.old ≡ Err GroupOpen }
+        ensures open { result ≡ Err DraftError.GroupOpen
+            → set_answer Begin self.old ≡ Err GroupOpen }
         ensures same { OnErr result (self.new ≡ self.old) }
     {
         if self.group.is_some() {
@@ -163,7 +168,8 @@ impl<A: Allocator + Copy> Draft<A> {
     #[tactic(auto, using(crate::proofs::on_histories::ChainLemmas::chains))]
     fn end(&mut self) -> Result<(), DraftError>
         ensures done { OnOk result (set_answer End self.old ≡ Ok self.new) }
-        ensures none { OnErr result ((set_answer End self.old ≡ Err NoGroup) × (self.new ≡ self.old)) }
+        ensures none { OnErr result
+            ((set_answer End self.old ≡ Err NoGroup) × (self.new ≡ self.old)) }
     {
         let Some(group) = self.group.take() else {
             return Err(DraftError::NoGroup);
@@ -176,7 +182,8 @@ impl<A: Allocator + Copy> Draft<A> {
 
     fn cancel(&mut self) -> Result<(), DraftError>
         ensures done { OnOk result (set_answer Cancel self.old ≡ Ok self.new) }
-        ensures none { OnErr result ((set_answer Cancel self.old ≡ Err NoGroup) × (self.new ≡ self.old)) }
+        ensures none { OnErr result
+            ((set_answer Cancel self.old ≡ Err NoGroup) × (self.new ≡ self.old)) }
     {
         let Some(group) = self.group.take() else {
             return Err(DraftError::NoGroup);

@@ -282,8 +282,8 @@ fn what_fell_out_of_the_depth_stays_out(rt: HostRuntime) -> Result<(), Fail> {
     Ok(())
 }
 
-// Makes a call, again where a growth was refused, which leaves the text, and says whether it leads to a
-// text.
+// Makes a call, again where a growth was refused, which leaves the text, and says whether it leads
+// to a text.
 fn leads_to<A: Allocator + Copy>(
     alloc: A,
     editor: &mut Editor<A>,

@@ -44,7 +44,8 @@ impl SureChange for SetByte {
 // The first byte is set twice, and the second once.
 fn three_sets<A: Allocator + Copy>(alloc: A) -> Result<Sequence<SetByte, A>, AllocError>
     ensures { IfOk result (λ s. s.changes
-        ≡ record { at = 0; byte = 1 } ∷ record { at = 0; byte = 2 } ∷ record { at = 1; byte = 3 } ∷ []) }
+        ≡ record { at = 0; byte = 1 } ∷ record { at = 0; byte = 2 } ∷ record { at = 1; byte = 3 } ∷
+        []) }
 {
     let mut sets = Sequence::with_capacity(alloc, 1)?;
     sets.push_back(SetByte { at: 0, byte: 2 });

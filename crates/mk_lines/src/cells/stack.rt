@@ -51,7 +51,15 @@ impl<A: Allocator> Model for Stack<A> {
 
     ghost Value = { StackWithRoom };
 
-    ghost view = { λ s. record { stack = record { joined = drop s.first s.joined.items; ends = s.ends.items; top = s.top; bad_fold = s.bad_fold }; room = s.first } };
+    ghost view = { λ s. record {
+      stack = record {
+        joined = drop s.first s.joined.items;
+        ends = s.ends.items;
+        top = s.top;
+        bad_fold = s.bad_fold;
+      };
+      room = s.first;
+    } };
 
     ghost invariant = { λ s. s.first ≤ length s.joined.items };
 }
@@ -85,8 +93,8 @@ pub fn stack_of_text<A: Allocator + Copy>(
     Ok(stack)
 }
 
-// Where the run of bytes before an offset begins that has no line feed; the bytes before `feed` have
-// none.
+// Where the run of bytes before an offset begins that has no line feed; the bytes before `feed`
+// have none.
 fn run_start(text: &[u8], offset: usize, feed: usize) -> usize
     requires some { 0 < offset }
     requires offset { offset ≤ length text.now }
@@ -105,8 +113,8 @@ fn run_start(text: &[u8], offset: usize, feed: usize) -> usize
 }
 
 impl<A: Allocator> Stack<A> {
-    // Reads one byte or more before an offset, and says where they begin. If a byte stands for itself
-    // there, all bytes back to a line feed are read.
+    // Reads one byte or more before an offset, and says where they begin. If a byte stands for
+    // itself there, all bytes back to a line feed are read.
     fn prepend_some(&mut self, text: &[u8], offset: usize, feed: usize) -> Result<usize, Fault>
         requires before { (k : ℕ) → k < feed → slice_index text.now k ≢ 10 }
         requires some { 0 < offset }
@@ -115,7 +123,8 @@ impl<A: Allocator> Stack<A> {
         requires room { offset ≤ self.old.room }
         ensures some { IfOk result (λ start. start < offset) }
         ensures room { IfOk result (λ start. start ≤ self.new.room) }
-        ensures stack { IfOk result (λ start. self.new.stack ≡ stack_of start (cells (drop start text.now))) }
+        ensures stack { IfOk result (λ start.
+            self.new.stack ≡ stack_of start (cells (drop start text.now))) }
         ensures fault { IsOkUnless result Fault.NoMemory }
     {
         if self.top == Top::Byte && text[offset - 1] != b'\n' {
@@ -131,7 +140,8 @@ impl<A: Allocator> Stack<A> {
     // Reads bytes that stand for themselves.
     fn push_run(&mut self, run: &[u8])
         requires { length run.now ≤ self.old.room }
-        ensures stack { self.new.stack ≡ record self.old.stack { joined = run.now ++ self.old.stack.joined; top = Top.Byte } }
+        ensures stack { self.new.stack
+            ≡ record self.old.stack { joined = run.now ++ self.old.stack.joined; top = Top.Byte } }
         ensures room { self.new.room + length run.now ≡ self.old.room }
     {
         let first = self.first - run.len();
@@ -144,9 +154,11 @@ impl<A: Allocator> Stack<A> {
     fn prepend(&mut self, text: &[u8], offset: usize) -> Result<(), Fault>
         requires offset { offset < length text.now }
         requires room { offset < self.old.room }
-        requires stack { self.old.stack ≡ stack_of (offset + 1) (cells (drop (offset + 1) text.now)) }
+        requires stack { self.old.stack
+            ≡ stack_of (offset + 1) (cells (drop (offset + 1) text.now)) }
         ensures room { OnOk result (offset ≤ self.new.room) }
-        ensures stack { OnOk result (self.new.stack ≡ stack_of offset (cells (drop offset text.now))) }
+        ensures stack { OnOk result
+            (self.new.stack ≡ stack_of offset (cells (drop offset text.now))) }
         ensures fault { IsOkUnless result Fault.NoMemory }
     {
         match text[offset] {
@@ -165,9 +177,11 @@ impl<A: Allocator> Stack<A> {
     fn push_line_feed(&mut self, text: &[u8], offset: usize) -> Result<(), Fault>
         requires offset { offset < length text.now }
         requires room { offset < self.old.room }
-        requires stack { self.old.stack ≡ stack_of (offset + 1) (cells (drop (offset + 1) text.now)) }
+        requires stack { self.old.stack
+            ≡ stack_of (offset + 1) (cells (drop (offset + 1) text.now)) }
         ensures room { OnOk result (offset ≤ self.new.room) }
-        ensures stack { OnOk result (self.new.stack ≡ stack_of offset (prepend LineFeed 10 (cells (drop (offset + 1) text.now)))) }
+        ensures stack { OnOk result (self.new.stack
+            ≡ stack_of offset (prepend LineFeed 10 (cells (drop (offset + 1) text.now)))) }
         ensures fault { IsOkUnless result Fault.NoMemory }
     {
         match self.top {
@@ -183,10 +197,12 @@ impl<A: Allocator> Stack<A> {
     fn push_line_end(&mut self, text: &[u8], offset: usize) -> Result<(), Fault>
         requires offset { offset < length text.now }
         requires room { offset < self.old.room }
-        requires stack { self.old.stack ≡ stack_of (offset + 1) (cells (drop (offset + 1) text.now)) }
+        requires stack { self.old.stack
+            ≡ stack_of (offset + 1) (cells (drop (offset + 1) text.now)) }
         requires no_fold { self.old.stack.top ≢ Top.Fold }
         ensures room { OnOk result (offset ≤ self.new.room) }
-        ensures stack { OnOk result (self.new.stack ≡ stack_of offset (prepend LineFeed 10 (cells (drop (offset + 1) text.now)))) }
+        ensures stack { OnOk result (self.new.stack
+            ≡ stack_of offset (prepend LineFeed 10 (cells (drop (offset + 1) text.now)))) }
         ensures fault { IsOkUnless result Fault.NoMemory }
     {
         let blanks = count_blanks(&text[offset + 1..]);
@@ -203,7 +219,8 @@ impl<A: Allocator> Stack<A> {
     // Reads a carriage return, which joins a line feed directly after it.
     fn push_carriage_return(&mut self)
         requires { 0 < self.old.room }
-        ensures stack { (offset : ℕ) (cs : List Cell) → self.old.stack ≡ stack_of (offset + 1) cs → self.new.stack ≡ stack_of offset (prepend CarriageReturn 13 cs) }
+        ensures stack { (offset : ℕ) (cs : List Cell) → self.old.stack ≡ stack_of (offset + 1) cs
+            → self.new.stack ≡ stack_of offset (prepend CarriageReturn 13 cs) }
         ensures room { self.old.room ≤ self.new.room + 1 }
     {
         match self.top {
@@ -217,7 +234,8 @@ impl<A: Allocator> Stack<A> {
     fn push_backslash(&mut self)
         requires room { 0 < self.old.room }
         requires some { self.old.stack.top ≢ Top.Byte → 0 < length self.old.stack.joined }
-        ensures stack { (offset : ℕ) (cs : List Cell) → self.old.stack ≡ stack_of (offset + 1) cs → self.new.stack ≡ stack_of offset (prepend Backslash 92 cs) }
+        ensures stack { (offset : ℕ) (cs : List Cell) → self.old.stack ≡ stack_of (offset + 1) cs
+            → self.new.stack ≡ stack_of offset (prepend Backslash 92 cs) }
         ensures room { self.old.room ≤ self.new.room + 1 }
     {
         match self.top {
@@ -234,7 +252,8 @@ impl<A: Allocator> Stack<A> {
     fn push_blank(&mut self, blank: u8)
         requires blank { byte_kind blank ≡ Blank }
         requires room { 0 < self.old.room }
-        ensures stack { (offset : ℕ) (cs : List Cell) → self.old.stack ≡ stack_of (offset + 1) cs → self.new.stack ≡ stack_of offset (prepend Blank blank cs) }
+        ensures stack { (offset : ℕ) (cs : List Cell) → self.old.stack ≡ stack_of (offset + 1) cs
+            → self.new.stack ≡ stack_of offset (prepend Blank blank cs) }
         ensures room { self.old.room ≤ self.new.room + 1 }
     {
         match self.top {
@@ -246,7 +265,8 @@ impl<A: Allocator> Stack<A> {
     // Reads a byte that stands for itself.
     fn push_byte(&mut self, byte: u8)
         requires { 0 < self.old.room }
-        ensures stack { self.new.stack ≡ record self.old.stack { joined = byte ∷ self.old.stack.joined; top = Top.Byte } }
+        ensures stack { self.new.stack
+            ≡ record self.old.stack { joined = byte ∷ self.old.stack.joined; top = Top.Byte } }
         ensures room { self.new.room + 1 ≡ self.old.room }
     {
         self.first -= 1;
@@ -257,7 +277,8 @@ impl<A: Allocator> Stack<A> {
     // Puts another cell on top, instead of the first.
     fn replace_top(&mut self, byte: u8, top: Top)
         requires { 0 < length self.old.stack.joined }
-        ensures stack { (before : List ℕ) (last : ℕ) → self.old.stack.joined ≡ last ∷ before → self.new.stack ≡ record self.old.stack { joined = byte ∷ before; top = top } }
+        ensures stack { (before : List ℕ) (last : ℕ) → self.old.stack.joined ≡ last ∷ before
+            → self.new.stack ≡ record self.old.stack { joined = byte ∷ before; top = top } }
         ensures room { self.new.room ≡ self.old.room }
     {
         self.joined[self.first] = byte;

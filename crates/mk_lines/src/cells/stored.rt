@@ -1,8 +1,8 @@
 //! The cells of a line as they are stored beside it, and their readers.
 //!
 //! A line without folds is its own joined text, and each of its raw offsets is the joined one, so
-//! nothing is stored of it except flags. Of a line with folds the joined text is stored, and the end of
-//! each fold: the nearest fold before a joined offset tells the raw offset.
+//! nothing is stored of it except flags. Of a line with folds the joined text is stored, and the
+//! end of each fold: the nearest fold before a joined offset tells the raw offset.
 ghost use Rattle.std.specs.Prelude.{◌≡◌, ◌≢◌, ◌==◌, ◌≤◌, ℕ, List, drop, length, true, false, nat_lt, All, IfOk, IsOkUnless};
 ghost use Rattle.std.specs.List.{list_any};
 ghost use Rattle.std.specs.Option.{is_some};
@@ -35,8 +35,8 @@ pub struct FoldEnd {
 
 /// The cells of a logical line, as [`cells`](super::cells) gives them.
 ///
-/// They are stored beside their line and do not hold it: a second copy of each line would double the
-/// memory of a document. So [`text`](Cells::text) takes the line as an argument. None of the
+/// They are stored beside their line and do not hold it: a second copy of each line would double
+/// the memory of a document. So [`text`](Cells::text) takes the line as an argument. None of the
 /// readers takes memory.
 #[derive(Debug, Drop)]
 pub struct Cells<A: Allocator> {
@@ -74,7 +74,13 @@ impl<A: Allocator> Model for Cells<A> {
 
     ghost Value = { StoredCells };
 
-    ghost view = { λ c. record { count = c.count; joined = joined_stored c.rest; ends = ends_stored c.rest; bad_fold = has_bad_fold_stored c.rest; stray = has_stray_stored c.rest } };
+    ghost view = { λ c. record {
+      count = c.count;
+      joined = joined_stored c.rest;
+      ends = ends_stored c.rest;
+      bad_fold = has_bad_fold_stored c.rest;
+      stray = has_stray_stored c.rest;
+    } };
 
     ghost invariant = { λ c. AreInOrder (ends_stored c.rest) × HasFoldsStored c.rest };
 }
@@ -99,7 +105,9 @@ impl<A: Allocator> Cells<A> {
         requires joined { drop folded.first folded.joined.items ≡ joined_text (cells text.now) }
         requires ends { folded.ends.items ≡ fold_ends 0 (cells text.now) }
         requires bad_fold { folded.bad_fold ≡ has_bad_fold (cells text.now) }
-        requires stray { folded.stray ≡ list_any (λ b. is_stray_by (byte_kind b) (b == 0)) (drop folded.first folded.joined.items) }
+        requires stray { folded.stray
+            ≡ list_any (λ b. is_stray_by (byte_kind b) (b == 0))
+            (drop folded.first folded.joined.items) }
         ensures cells { IfOk result (λ stored. stored ≡ stored_cells (cells text.now)) }
         ensures fault { IsOkUnless result Fault.NoMemory }
     {
@@ -131,7 +139,8 @@ impl<A: Allocator> Cells<A> {
     pub fn raw_range(&self, start: usize, end: usize) -> Span
         requires order { start ≤ end }
         requires within { end ≤ self.now.count }
-        ensures { (line : List ℕ) → AreCellsOf self.now line → result ≡ raw_range (line_cells line) start end }
+        ensures { (line : List ℕ) → AreCellsOf self.now line
+            → result ≡ raw_range (line_cells line) start end }
     {
         Span {
             start: self.raw_offset(start),
@@ -139,8 +148,8 @@ impl<A: Allocator> Cells<A> {
         }
     }
 
-    // How many raw bytes stand before the joined byte at an offset, or before the end of the text if
-    // the offset is that end.
+    // How many raw bytes stand before the joined byte at an offset, or before the end of the text
+    // if the offset is that end.
     fn raw_offset(&self, offset: usize) -> usize
         requires { offset ≤ self.now.count }
         ensures { result ≡ stored_offset self.now offset }
@@ -154,7 +163,8 @@ impl<A: Allocator> Cells<A> {
     /// Whether some fold is bad: a backslash stands directly before its whole run. This project's
     /// profile.
     pub fn has_bad_fold(&self) -> bool
-        ensures { (line : List ℕ) → AreCellsOf self.now line → result ≡ has_bad_fold (line_cells line) }
+        ensures { (line : List ℕ) → AreCellsOf self.now line
+            → result ≡ has_bad_fold (line_cells line) }
     {
         match &self.rest {
             Rest::Plain(_) => false,
@@ -165,7 +175,8 @@ impl<A: Allocator> Cells<A> {
     /// Whether there is a stray byte: a NUL, or a CR that is no part of a line end. This project's
     /// profile.
     pub fn has_stray(&self) -> bool
-        ensures { (line : List ℕ) → AreCellsOf self.now line → result ≡ has_stray (line_cells line) }
+        ensures { (line : List ℕ) → AreCellsOf self.now line
+            → result ≡ has_stray (line_cells line) }
     {
         match &self.rest {
             Rest::Plain(stray) => *stray,
@@ -189,7 +200,8 @@ fn offset_by_ends(ends: &[FoldEnd], after: usize, offset: usize) -> usize
 // How many folds end behind the offset that `after` joined bytes follow.
 fn count_folds_behind(ends: &[FoldEnd], after: usize) -> usize
     requires { IsNonDecreasingBy (λ (e : FoldEnd). e.after) ends.now }
-    ensures { IsPartitionPoint (λ (e : FoldEnd). nat_lt e.after after ≡ true) (λ (e : FoldEnd). nat_lt e.after after ≡ false) ends.now result }
+    ensures { IsPartitionPoint (λ (e : FoldEnd). nat_lt e.after after ≡ true)
+        (λ (e : FoldEnd). nat_lt e.after after ≡ false) ends.now result }
 {
     ends.partition_point(|end| end.after < after)
 }

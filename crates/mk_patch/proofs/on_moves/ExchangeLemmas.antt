@@ -1,5 +1,6 @@
 -- Lines exchanged at rising indices.
-use Rattle.std.proofs.Common.{◌≡◌, refl, sym, ap, ◌∙◌, arith, ℕ, zero, suc, ◌+◌, ◌^◌, ◌≤◌, Bool, true, false, List, [], ◌∷◌, ◌++◌, length, length-append, take, drop}
+use Rattle.std.proofs.Common.{◌≡◌, refl, sym, ap, ◌∙◌, arith, ℕ, zero, suc, ◌+◌, ◌≤◌, Bool, true, false, List, [], ◌∷◌, ◌++◌, length, length-append, take, drop}
+use Rattle.mk_lines.specs.Limits.{max_text}
 use Rattle.mk_tree.specs.LocatedLines.{LocatedLine, size_of}
 use Rattle.mk_patch.specs.Moves.{Move, Exchange, IsPlain, after_moves, held_by, taken_by}
 use Rattle.mk_patch.proofs.on_moves.ShapeLemmas.{LeadTo, exchanged-between, plain-between, within-between}
@@ -21,7 +22,7 @@ DifferWhereChosen cs olds news = ⊥
 -- the first lines as they are after the exchanges, and then the others as they were before, have at most 16,777,216 bytes,
 -- wherever the lists are parted
 abbrev StayWithin : (above before after : List LocatedLine) → Type 0
-StayWithin above before after = (i : ℕ) → i ≤ length before → size_of (above ++ (take i after ++ drop i before)) ≤ 2 ^ 24
+StayWithin above before after = (i : ℕ) → i ≤ length before → size_of (above ++ (take i after ++ drop i before)) ≤ max_text
 
 append-one : {X : Type 0} (xs : List X) (y : X) (ys : List X) → (xs ++ y ∷ []) ++ ys ≡ xs ++ y ∷ ys
 append-one [] y ys = refl
@@ -44,7 +45,7 @@ exchanges-lead_below above (true ∷ cs) (old ∷ olds) (new ∷ news) at e d w 
     let x = exchanged-between above olds old new at e in
     let n : at + 1 ≡ length (above ++ new ∷ []) = omega (arith, length-append above (new ∷ []), e) in
     let r = exchanges-lead_below (above ++ new ∷ []) cs olds news (at + 1) n d.2 (within-next above old new olds news w) in
-    let few : size_of (above ++ new ∷ olds) ≤ 2 ^ 24 = w (suc zero) (omega arith) in
+    let few : size_of (above ++ new ∷ olds) ≤ max_text = w (suc zero) (omega arith) in
     record {
       fit = ((within-between above olds old at e, plain-between above olds old at e d.0, d.1, rw x few), rw x (rw (append-one above new olds) at r.fit));
       lead = ap (after_moves (exchanges (at + 1) cs news)) (x ∙ sym (append-one above new olds)) ∙ (r.lead ∙ append-one above new news);
@@ -126,9 +127,9 @@ shrunk (l ∷ ls) (k ∷ ks) zero n = omega arith
 shrunk (l ∷ ls) (k ∷ ks) (suc i) n = omega (arith, n.0, shrunk ls ks i n.1)
 
 -- if no line gets shorter, it is enough that the lines after the exchanges are within the limit
-pub within-grown : (before after : List LocatedLine) → AreNoLonger before after → size_of after ≤ 2 ^ 24 → StayWithin [] before after
+pub within-grown : (before after : List LocatedLine) → AreNoLonger before after → size_of after ≤ max_text → StayWithin [] before after
 within-grown before after n few i h = omega (arith, grown before after i n, few)
 
 -- if no line gets longer, it is enough that the lines before the exchanges are within the limit
-pub within-shrunk : (before after : List LocatedLine) → AreNoLonger after before → size_of before ≤ 2 ^ 24 → StayWithin [] before after
+pub within-shrunk : (before after : List LocatedLine) → AreNoLonger after before → size_of before ≤ max_text → StayWithin [] before after
 within-shrunk before after n few i h = omega (arith, shrunk before after i n, few)

@@ -1,7 +1,8 @@
 -- A move is taken back by its inverse; what moves hold and take out, and how many lines there are after them.
-use Rattle.std.proofs.Common.{◌≡◌, ℕ, zero, suc, ◌+◌, ◌^◌, ◌<◌, ◌≤◌, false, List, [], ◌∷◌, ◌++◌, length, take, drop, Some, refl, ap, arith, suc-add, sym, ◌∙◌}
+use Rattle.std.proofs.Common.{◌≡◌, ℕ, zero, suc, ◌+◌, ◌<◌, ◌≤◌, false, List, [], ◌∷◌, ◌++◌, length, take, drop, Some, refl, ap, arith, suc-add, sym, ◌∙◌}
 use Rattle.std.specs.Prelude.{slice_get}
 use Rattle.std.proofs.lemmas.Grind.{common_steps}
+use Rattle.mk_lines.specs.Limits.{max_text}
 use Rattle.mk_lines.specs.PhysicalLines.{without_line_end}
 use Rattle.mk_tree.specs.LocatedLines.{LocatedLine, bytes_of_line, is_conditional_located, last_line, size_of, with_last_bytes}
 use Rattle.mk_tree.proofs.on_changes.Sizes.{size_of-removed}
@@ -63,7 +64,7 @@ size_of-with_last b (l ∷ k ∷ ls) = omega (arith, size_of-with_last b (k ∷ 
 
 -- what is asked of the last line's new bytes, where the last line is found by its index
 pub swap_end-fits : (b : List ℕ) (ls : List LocatedLine) (at : ℕ) (l : LocatedLine) → length ls ≡ at + 1 → Some l ≡ slice_get ls at → 0 < length b → without_line_end b ≡ without_line_end l.bytes
-    → size_of ls + length b ≤ 2 ^ 24 → FitsMove (SwapEnd b) ls
+    → size_of ls + length b ≤ max_text → FitsMove (SwapEnd b) ls
 swap_end-fits b ls at l n e some same few =
     let x : last_line ls ≡ Some l = last_line-at ls at n ∙ sym e in
     (omega (arith, n), some, same ∙ ap (λ z. without_line_end (bytes_of_line z)) (sym x), omega (arith, size_of-with_last b ls, few))
@@ -82,21 +83,21 @@ pub put_in-taken_back : (before after : List LocatedLine) (at : ℕ) (l : Locate
 put_in-taken_back before after at l f e =
     rw e (record { fits = (grind (arith, common_steps), rw (get-put before (drop at before) at l f.0) f.1); leads = taken_out-put_in before at l f.0 })
 
-pub take_out-taken_back : (before after : List LocatedLine) (at : ℕ) (l : LocatedLine) → FitsMove (TakeOut at) before → after ≡ after_move (TakeOut at) before → Some l ≡ slice_get before at → size_of before ≤ 2 ^ 24
+pub take_out-taken_back : (before after : List LocatedLine) (at : ℕ) (l : LocatedLine) → FitsMove (TakeOut at) before → after ≡ after_move (TakeOut at) before → Some l ≡ slice_get before at → size_of before ≤ max_text
     → TakesBack (PutIn at l) before after
 take_out-taken_back before after at l f e h few =
     let z = size_of-removed before at l h in
     rw e (record { fits = (grind (arith, common_steps), plain_line before at l h f.1, omega (arith, z, few)); leads = put_in-taken_out before at l h })
 
 pub exchange-taken_back : (before after : List LocatedLine) (at : ℕ) (old new : LocatedLine) → FitsMove (Exchange at new) before → after ≡ after_move (Exchange at new) before → Some old ≡ slice_get before at
-    → size_of before ≤ 2 ^ 24 → TakesBack (Exchange at old) before after
+    → size_of before ≤ max_text → TakesBack (Exchange at old) before after
 exchange-taken_back before after at old new f e h few =
     let r = exchanged-back before at old new h in
     let within : at ≤ length before = omega (arith, f.0) in
     rw e (record { fits = (grind (arith, common_steps), rw (get-put before (drop (at + 1) before) at new within) f.2, plain_line before at old h f.1, rw r few); leads = r })
 
 pub swap_end-taken_back : (before after : List LocatedLine) (old new : List ℕ) → FitsMove (SwapEnd new) before → after ≡ after_move (SwapEnd new) before → old ≡ bytes_of_line (last_line before) → 0 < length old
-    → size_of before ≤ 2 ^ 24 → TakesBack (SwapEnd old) before after
+    → size_of before ≤ max_text → TakesBack (SwapEnd old) before after
 swap_end-taken_back before after old new f e h some few =
     let r = swapped-back new before in
     let l = last-with_bytes new before f.0 in

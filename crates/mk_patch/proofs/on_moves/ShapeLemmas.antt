@@ -1,8 +1,9 @@
 -- What the shapes of patches lead to: a line put in; a line put in after a last line that gets another line end; a line
 -- exchanged; and a run of lines taken out.
-use Rattle.std.proofs.Common.{◌≡◌, refl, sym, ap, ◌∙◌, arith, ℕ, zero, suc, ◌+◌, ◌^◌, ◌<◌, ◌≤◌, List, [], ◌∷◌, ◌++◌, length, length-append, take, drop, replicate, Some}
+use Rattle.std.proofs.Common.{◌≡◌, refl, sym, ap, ◌∙◌, arith, ℕ, zero, suc, ◌+◌, ◌<◌, ◌≤◌, List, [], ◌∷◌, ◌++◌, length, length-append, take, drop, replicate, Some}
 use Rattle.std.specs.Prelude.{slice_get}
 use Rattle.std.proofs.Math.Seq.{take-append_seam, drop-append_seam, drop-append-add}
+use Rattle.mk_lines.specs.Limits.{max_text}
 use Rattle.mk_lines.specs.PhysicalLines.{without_line_end}
 use Rattle.mk_tree.specs.LocatedLines.{LocatedLine, bytes_of_line, last_line, size_of, with_last_bytes}
 use Rattle.mk_tree.proofs.Indices.{size_of-append}
@@ -51,13 +52,13 @@ within-between above below l at e = omega (arith, length-append above (l ∷ bel
 
 -- ---- a line put in, and one exchanged
 
-pub put_in-leads : (above below : List LocatedLine) (l : LocatedLine) (at : ℕ) → at ≡ length above → IsPlain l → size_of (above ++ l ∷ below) ≤ 2 ^ 24 → LeadTo (PutIn at l ∷ []) (above ++ below) (above ++ l ∷ below)
+pub put_in-leads : (above below : List LocatedLine) (l : LocatedLine) (at : ℕ) → at ≡ length above → IsPlain l → size_of (above ++ l ∷ below) ≤ max_text → LeadTo (PutIn at l ∷ []) (above ++ below) (above ++ l ∷ below)
 put_in-leads above below l at e p few =
     let z = size_of-append above below in
     let w = size_of-append above (l ∷ below) in
     record { fit = ((omega (arith, length-append above below, e), p, omega (arith, z, w, few)), tt); lead = put-between above below l at e }
 
-pub exchange-leads : (above below : List LocatedLine) (old new : LocatedLine) (at : ℕ) → at ≡ length above → IsPlain old → IsPlain new → size_of (above ++ new ∷ below) ≤ 2 ^ 24
+pub exchange-leads : (above below : List LocatedLine) (old new : LocatedLine) (at : ℕ) → at ≡ length above → IsPlain old → IsPlain new → size_of (above ++ new ∷ below) ≤ max_text
     → LeadTo (Exchange at new ∷ []) (above ++ old ∷ below) (above ++ new ∷ below)
 exchange-leads above below old new at e p q few =
     let x = exchanged-between above below old new at e in
@@ -75,7 +76,7 @@ last-of [] last = refl
 last-of (x ∷ []) last = refl
 last-of (x ∷ y ∷ above) last = last-of (y ∷ above) last
 
-swap_end-leads : (above : List LocatedLine) (last : LocatedLine) (b : List ℕ) → 0 < length b → without_line_end b ≡ without_line_end last.bytes → size_of (above ++ record last { bytes = b } ∷ []) ≤ 2 ^ 24
+swap_end-leads : (above : List LocatedLine) (last : LocatedLine) (b : List ℕ) → 0 < length b → without_line_end b ≡ without_line_end last.bytes → size_of (above ++ record last { bytes = b } ∷ []) ≤ max_text
     → LeadTo (SwapEnd b ∷ []) (above ++ last ∷ []) (above ++ record last { bytes = b } ∷ [])
 swap_end-leads above last b some same few =
     let x = last-ended above last b in
@@ -83,7 +84,7 @@ swap_end-leads above last b some same few =
 
 -- after a last line with another line end, a line is put in at the end
 pub ended-put_in-leads : (above : List LocatedLine) (last l : LocatedLine) (b : List ℕ) (at : ℕ) → at ≡ length above + 1 → 0 < length b → without_line_end b ≡ without_line_end last.bytes → IsPlain l
-    → size_of (above ++ record last { bytes = b } ∷ l ∷ []) ≤ 2 ^ 24 → LeadTo (SwapEnd b ∷ PutIn at l ∷ []) (above ++ last ∷ []) (above ++ record last { bytes = b } ∷ l ∷ [])
+    → size_of (above ++ record last { bytes = b } ∷ l ∷ []) ≤ max_text → LeadTo (SwapEnd b ∷ PutIn at l ∷ []) (above ++ last ∷ []) (above ++ record last { bytes = b } ∷ l ∷ [])
 ended-put_in-leads above last l b at e some same p few =
     let ended : LocatedLine = record last { bytes = b } in
     let z = size_of-append above (ended ∷ l ∷ []) in

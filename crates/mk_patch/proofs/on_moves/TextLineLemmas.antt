@@ -1,7 +1,8 @@
 -- Lines of a text moved: the shapes of patches, if the lines of a document are those of a text.
-use Rattle.std.proofs.Common.{◌≡◌, refl, sym, ap, ◌∙◌, arith, ℕ, ◌+◌, ◌^◌, ◌<◌, ◌≤◌, List, [], ◌∷◌, ◌++◌, true, not, length, replicate}
+use Rattle.std.proofs.Common.{◌≡◌, refl, sym, ap, ◌∙◌, arith, ℕ, ◌+◌, ◌<◌, ◌≤◌, List, [], ◌∷◌, ◌++◌, true, not, length, replicate}
 use Rattle.std.proofs.lemmas.List.{map-append, length-map}
 use Rattle.std.proofs.lemmas.Bool.{not-true}
+use Rattle.mk_lines.specs.Limits.{max_text}
 use Rattle.mk_lines.specs.Cells.{Cell, joined_byte}
 use Rattle.mk_lines.specs.PhysicalLines.{without_line_end}
 use Rattle.mk_class.specs.Classes.{Class, is_conditional}
@@ -47,11 +48,11 @@ located-append a b = sym (map-append located_line a b)
 located-length : (a : List ClassedLine) → length (located_lines a) ≡ length a
 located-length a = length-map a located_line
 
-few-located : (a b : List ClassedLine) → size_of (located_lines (a ++ b)) ≤ 2 ^ 24 → size_of (located_lines a ++ located_lines b) ≤ 2 ^ 24
+few-located : (a b : List ClassedLine) → size_of (located_lines (a ++ b)) ≤ max_text → size_of (located_lines a ++ located_lines b) ≤ max_text
 few-located a b h = rw (located-append a b) h
 
 -- a line put in between lines, or after lines that end
-pub text_line-put_in : (above below : List ClassedLine) (l : ClassedLine) → not (is_conditional l.class) ≡ true → size_of (located_lines (above ++ l ∷ below)) ≤ 2 ^ 24
+pub text_line-put_in : (above below : List ClassedLine) (l : ClassedLine) → not (is_conditional l.class) ≡ true → size_of (located_lines (above ++ l ∷ below)) ≤ max_text
     → LeadTo (PutIn (length above) (located_line l) ∷ []) (located_lines (above ++ below)) (located_lines (above ++ l ∷ below))
 text_line-put_in above below l u few =
     let h = put_in-leads (located_lines above) (located_lines below) (located_line l) (length above) (sym (located-length above)) (plain-located l u) (few-located above (l ∷ below) few) in
@@ -59,7 +60,7 @@ text_line-put_in above below l u few =
 
 -- a line exchanged
 pub text_line-exchanged : (above below : List ClassedLine) (old new : ClassedLine) → not (is_conditional old.class) ≡ true → not (is_conditional new.class) ≡ true
-    → size_of (located_lines (above ++ new ∷ below)) ≤ 2 ^ 24 → LeadTo (Exchange (length above) (located_line new) ∷ []) (located_lines (above ++ old ∷ below)) (located_lines (above ++ new ∷ below))
+    → size_of (located_lines (above ++ new ∷ below)) ≤ max_text → LeadTo (Exchange (length above) (located_line new) ∷ []) (located_lines (above ++ old ∷ below)) (located_lines (above ++ new ∷ below))
 text_line-exchanged above below old new u v few =
     let h =
     exchange-leads (located_lines above) (located_lines below) (located_line old) (located_line new) (length above) (sym (located-length above)) (plain-located old u) (plain-located new v)
@@ -68,7 +69,7 @@ text_line-exchanged above below old new u v few =
 
 -- a last line that gets other bytes of the same text, and then a line put in at the end
 pub text_line-put_in_ended : (above : List ClassedLine) (last l : ClassedLine) (b : List ℕ) (at : ℕ) → at ≡ length above + 1 → 0 < length b → without_line_end b ≡ without_line_end last.bytes
-    → not (is_conditional l.class) ≡ true → size_of (located_lines (above ++ record last { bytes = b } ∷ l ∷ [])) ≤ 2 ^ 24
+    → not (is_conditional l.class) ≡ true → size_of (located_lines (above ++ record last { bytes = b } ∷ l ∷ [])) ≤ max_text
     → LeadTo (SwapEnd b ∷ PutIn at (located_line l) ∷ []) (located_lines (above ++ last ∷ [])) (located_lines (above ++ record last { bytes = b } ∷ l ∷ []))
 text_line-put_in_ended above last l b at e some same u few =
     let h =

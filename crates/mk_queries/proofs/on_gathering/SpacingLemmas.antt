@@ -4,7 +4,7 @@ use Rattle.std.specs.Prelude.{Option, codes}
 use Rattle.mk_lines.specs.Device.{AppendsPrefix}
 use Rattle.mk_lines.specs.Words.{words_in}
 use Rattle.mk_tree.specs.Printing.{AppendsSoFar}
-use Rattle.mk_queries.specs.Spacing.{each_after_space, each_before_space}
+use Rattle.mk_lines.specs.Spacing.{each_after_space, each_before_space}
 use Rattle.mk_queries.proofs.on_gathering.PutLemmas.{put-both, put-first_failed, put-second_failed, put-prefix}
 
 -- ---- what is put so far, `front` of the whole, stands behind what was held back at the start

@@ -36,7 +36,7 @@ use Rattle.mk_class.specs.declared.class.Class.TheVariants as variants
 use Rattle.mk_class.specs.OperatorTexts.{operator_text, separator_text}
 use Rattle.mk_tree.specs.Items.{assigned, items_of_line}
 use Rattle.mk_tree.specs.LocatedLines.{LocatedLine, text_of_line}
-use Rattle.mk_queries.specs.Spacing.{each_before_space, after_space}
+use Rattle.mk_lines.specs.Spacing.{each_before_space, after_space}
 use Rattle.mk_queries.specs.PartTexts.{modifier_text, assigned_text, targets_text}
 use Rattle.mk_queries.specs.ItemLines.{position_text, variable_line}
 use Rattle.mk_queries.specs.LocatedTexts.{IsClassedIn, IsAssignmentWithin, words_at, assigned_located, assigned_start, target_assigned_located, variable_located}

@@ -22,7 +22,7 @@ use Rattle.mk_class.specs.declared.class.Class as class
 use Rattle.mk_class.specs.declared.class.Class.TheVariants as variants
 use Rattle.mk_tree.specs.Items.{raw_units}
 use Rattle.mk_tree.specs.LocatedLines.{LocatedLine, text_of_line}
-use Rattle.mk_queries.specs.Spacing.{each_after_space}
+use Rattle.mk_lines.specs.Spacing.{each_after_space}
 use Rattle.mk_queries.specs.PartTexts.{targets_text, pattern_text, order_only_text, inline_count}
 use Rattle.mk_queries.specs.ItemLines.{position_text}
 use Rattle.mk_queries.specs.LocatedTexts.{IsClassedIn, IsSpanWithin, IsHeaderWithin, pattern_span, header_located, count_located, rule_located}

@@ -22,7 +22,7 @@ use Rattle.mk_tree.specs.LocatedLines.{LocatedLine, located_line, located_lines,
 use Rattle.mk_tree.specs.TreeWalks.{LinesInContext}
 use Rattle.mk_tree.proofs.on_documents.LinesInText.{line-in_text, context_of-last}
 use Rattle.mk_queries.specs.StandingLines.{standing_below, line_number, depth, recipe_count}
-use Rattle.mk_queries.specs.Spacing.{each_after_space}
+use Rattle.mk_lines.specs.Spacing.{each_after_space}
 use Rattle.mk_queries.specs.PartTexts.{targets_text, pattern_text, order_only_text, count_text, inline_count}
 use Rattle.mk_queries.specs.ItemLines.{position_text, rule_line}
 use Rattle.mk_queries.specs.LocatedTexts.{header_located, count_located, rule_located, counted_after, count_of, one_more}

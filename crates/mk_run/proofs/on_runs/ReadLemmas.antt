@@ -1,7 +1,8 @@
 -- What the readers of a run gave.
-use Rattle.std.proofs.Common.{◌≡◌, refl, subst, arith, ℕ, suc, ◌<◌, ◌^◌, Bool, true, false, List, length, replicate, Option, Some, None, Err}
+use Rattle.std.proofs.Common.{◌≡◌, refl, subst, arith, ℕ, suc, ◌<◌, Bool, true, false, List, length, replicate, Option, Some, None, Err}
 use Rattle.std.specs.Prelude.{Result, IfSome, IfErr}
 use Rattle.std.proofs.lemmas.List.{length-replicate}
+use Rattle.mk_lines.specs.Limits.{max_text}
 use Rattle.mk_lines.specs.Device.{IsSourceFault}
 use Rattle.mk_lines.specs.declared.fault.Fault as f
 use Rattle.mk_lines.specs.declared.fault.Fault.TheVariants as fault
@@ -13,8 +14,8 @@ longer : (n : ℕ) → (text : List ℕ) × (n < length text)
 longer n = let byte : ℕ = 0 in (replicate (suc n) byte, omega (arith, length-replicate (suc n) byte))
 
 -- a reader that had too many bytes for one text
-too-much : (bytes : Option (List ℕ)) → IfSome bytes (λ told. 2 ^ 24 < length told) → GivesTooMuch bytes
-too-much None long = let t = longer (2 ^ 24) in record { text = t.0; has_text = tt; long = t.1 }
+too-much : (bytes : Option (List ℕ)) → IfSome bytes (λ told. max_text < length told) → GivesTooMuch bytes
+too-much None long = let t = longer max_text in record { text = t.0; has_text = tt; long = t.1 }
 too-much (Some told) long = record { text = told; has_text = refl; long = long }
 
 if_some : (bytes : Option (List ℕ)) (P : Type 0) (Q : List ℕ → Type 0) → P → IfSome bytes (λ told. P → Q told) → IfSome bytes Q
@@ -24,13 +25,13 @@ if_some (Some told) P Q p h = h p
 -- what reading a source to its end says of a fault
 pub record SaysFault {T : Type 0} (result : Result T f.Fault) (bytes : Option (List ℕ)) (failed : Bool) : Type 0 where
   pub few : IfErr result IsSourceFault
-  pub long : IfSome bytes (λ told. result ≡ Err fault.TooLong → 2 ^ 24 < length told)
+  pub long : IfSome bytes (λ told. result ≡ Err fault.TooLong → max_text < length told)
   pub read : result ≡ Err fault.Read → failed ≡ true
   pub works : (result ≡ Err fault.Read → ⊥) → failed ≡ false
 
 script-fault : {T : Type 0} (bytes : Option (List ℕ)) (failed : Bool) (e : f.Fault) → SaysFault {T = T} (Err e) bytes failed → StopsScript bytes failed (outcome_of e)
 script-fault {T} bytes failed fault.NoMemory h = h.works (λ no. absurd (cc))
-script-fault {T} bytes failed fault.TooLong h = (h.works (λ no. absurd (cc)), too-much bytes (if_some bytes _ (λ told. 2 ^ 24 < length told) refl h.long))
+script-fault {T} bytes failed fault.TooLong h = (h.works (λ no. absurd (cc)), too-much bytes (if_some bytes _ (λ told. max_text < length told) refl h.long))
 script-fault {T} bytes failed fault.TooDeep h = absurd h.few
 script-fault {T} bytes failed fault.BadDepth h = absurd h.few
 script-fault {T} bytes failed fault.Read h = h.read refl
@@ -41,7 +42,7 @@ script-unread {T} result bytes failed e is h = script-fault {T = T} bytes failed
 
 makefile-fault : {T : Type 0} (bytes : Option (List ℕ)) (failed : Bool) (e : f.Fault) → SaysFault {T = T} (Err e) bytes failed → StopsMakefile bytes failed (outcome_of e)
 makefile-fault {T} bytes failed fault.NoMemory h = h.works (λ no. absurd (cc))
-makefile-fault {T} bytes failed fault.TooLong h = (h.works (λ no. absurd (cc)), too-much bytes (if_some bytes _ (λ told. 2 ^ 24 < length told) refl h.long))
+makefile-fault {T} bytes failed fault.TooLong h = (h.works (λ no. absurd (cc)), too-much bytes (if_some bytes _ (λ told. max_text < length told) refl h.long))
 makefile-fault {T} bytes failed fault.TooDeep h = absurd h.few
 makefile-fault {T} bytes failed fault.BadDepth h = absurd h.few
 makefile-fault {T} bytes failed fault.Read h = h.read refl

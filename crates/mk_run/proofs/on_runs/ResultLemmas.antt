@@ -1,7 +1,8 @@
 -- A run has a result, and no other.
-use Rattle.std.proofs.Common.{◌≡◌, refl, sym, ap, ◌∙◌, arith, ℕ, ◌<◌, ◌≤◌, ◌^◌, Bool, List, length, inl, inr}
+use Rattle.std.proofs.Common.{◌≡◌, refl, sym, ap, ◌∙◌, arith, ℕ, ◌<◌, ◌≤◌, Bool, List, length, inl, inr}
 use Rattle.std.specs.Prelude.{◌⊎◌}
 use Rattle.std.proofs.lemmas.Bool.{cases_lt}
+use Rattle.mk_lines.specs.Limits.{max_text}
 use Rattle.mk_tree.specs.Documents.{IsTooDeep}
 use Rattle.mk_history.specs.Shown.{shown_opened}
 use Rattle.mk_session.specs.Sessions.{IsBadDepth}
@@ -18,7 +19,7 @@ decided a b (inl less) = inl less
 decided a b (inr more) = inr (λ less. omega (arith, less, more))
 
 long-or_not : (text : List ℕ) → IsTooLong text ⊎ (IsTooLong text → ⊥)
-long-or_not text = decided (2 ^ 24) (length text) (cases_lt (2 ^ 24) (length text))
+long-or_not text = decided max_text (length text) (cases_lt max_text (length text))
 
 deep-or_not : (text : List ℕ) → IsTooDeep text ⊎ (IsTooDeep text → ⊥)
 deep-or_not text = decided 256 _ (cases_lt 256 _)

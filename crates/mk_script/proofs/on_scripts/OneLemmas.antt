@@ -6,7 +6,7 @@ use Rattle.mk_edit_laws.specs.Edits.{Edit}
 use Rattle.mk_history.specs.Machine.{Command}
 use Rattle.mk_script.specs.Lines.{script_lines, IsSkipped, HasCommand, IsReadable}
 use Rattle.mk_script.specs.Scripts.{CommandAt, AreCommands, IsScript, HasNoCommand}
-use Rattle.mk_script.specs.ScriptLaws.{CommandsAreOne, NotBoth, FaultIsOne, EachScriptIsRead}
+use Rattle.mk_script.specs.ScriptLaws.{CommandsAreOne, NoScriptIsBoth, FirstFaultIsOne, EachScriptIsRead}
 use Rattle.mk_script.proofs.on_scripts.LineLemmas.{skipped-no_command, one_command, readable-or_not}
 use Rattle.mk_script.proofs.on_scripts.ScriptLemmas.{IsReadSoFar, none-read, skipped-read, command-read, all-read, reached}
 
@@ -50,7 +50,7 @@ one-of : {X : Type 0} (P : X → Type 0) (before : List X) (x : X) (after : List
 one-of P [] x after h = h.0
 one-of P (y ∷ before) x after h = one-of P before x after h.1
 
-pub not-both : NotBoth
+pub not-both : NoScriptIsBoth
 not-both script cs n h k =
     k.property (one-of IsReadable k.before k.line k.after (subst (λ ls. AllByRecursion IsReadable ls) k.lines (each-readable 1 (script_lines script) cs h)))
 
@@ -65,7 +65,7 @@ same_length (x ∷ xs) (y ∷ ys) a b more others e h k p q =
     let tails : xs ++ a ∷ more ≡ ys ++ b ∷ others = cc in
     ap (λ n. suc n) (same_length xs ys a b more others tails h.1 k.1 p q)
 
-pub fault-one : FaultIsOne
+pub fault-one : FirstFaultIsOne
 fault-one script n m h k =
     let same = same_length h.before k.before h.line k.line h.after k.after (sym h.lines ∙ k.lines) h.read k.read h.property k.property in
     h.number_is ∙ (ap (λ l. l + 1) same ∙ sym k.number_is)

@@ -50,8 +50,8 @@ len_of_new-requires g c =
     let S = U.seen l at c.line-line.ensures c.header_of-header.ensures in
     record { header = U.parts; seen = S }
 
-pub returns-then-size-len_of_new-gt-SIZE_LIMIT-clause-refused : goal.returns-then-size-len_of_new-gt-SIZE_LIMIT-clause-refused
-returns-then-size-len_of_new-gt-SIZE_LIMIT-clause-refused g c =
+pub returns-then-size-len_of_new-gt-MAX_TEXT-clause-refused : goal.returns-then-size-len_of_new-gt-MAX_TEXT-clause-refused
+returns-then-size-len_of_new-gt-MAX_TEXT-clause-refused g c =
     let e = edit_of c.args.edit.now in
     let ls = c.args.doc.now in
     let U = add_prereq-of c.args.order c.args.word.now e ls c.in_ok-place.place c.requires.faithful c.requires.kind c.in_ok-place.ensures.found in
@@ -59,7 +59,7 @@ returns-then-size-len_of_new-gt-SIZE_LIMIT-clause-refused g c =
     let at = c.header_of-header.result in
     let S = U.seen l at c.line-line.ensures c.header_of-header.ensures in
     let q = sym c.if-is_in_list.false ∙ c.is_in_list.ensures U.parts S in
-    inl (U.long l at q c.line-line.ensures c.header_of-header.ensures (omega (arith, c.size-size.ensures.number, c.len_of_new.ensures, c.if-size-len_of_new-gt-SIZE_LIMIT.true)))
+    inl (U.long l at q c.line-line.ensures c.header_of-header.ensures (omega (arith, c.size-size.ensures.number, c.len_of_new.ensures, c.if-size-len_of_new-gt-MAX_TEXT.true)))
 
 pub with_prerequisite-requires-clause-header : goal.with_prerequisite-requires-clause-header
 with_prerequisite-requires-clause-header g c =
@@ -74,7 +74,7 @@ with_prerequisite-requires-clause-header g c =
 pub with_prerequisite-requires-clause-short : goal.with_prerequisite-requires-clause-short
 with_prerequisite-requires-clause-short g c =
     let l = line_view c.line-line.result.now in
-    omega (arith, c.size-size.ensures.number, c.len_of_new.ensures, c.if-size-len_of_new-gt-SIZE_LIMIT.false, line-short c.args.doc.now c.in_ok-place.place.at l c.line-line.ensures, word-short c.args.order c.args.word.now l c.header_of-header.result)
+    omega (arith, c.size-size.ensures.number, c.len_of_new.ensures, c.if-size-len_of_new-gt-MAX_TEXT.false, line-short c.args.doc.now c.in_ok-place.place.at l c.line-line.ensures, word-short c.args.order c.args.word.now l c.header_of-header.result)
 
 pub returns-in_default-clause-refused : goal.returns-in_default-clause-refused
 returns-in_default-clause-refused g c =
@@ -85,7 +85,7 @@ returns-in_default-clause-refused g c =
     let at = c.header_of-header.result in
     let S = U.seen l at c.line-line.ensures c.header_of-header.ensures in
     let q = sym c.if-is_in_list.false ∙ c.is_in_list.ensures U.parts S in
-    inr (refl, _, U.accepted l at q c.line-line.ensures c.header_of-header.ensures (omega (arith, c.size-size.ensures.number, c.len_of_new.ensures, c.if-size-len_of_new-gt-SIZE_LIMIT.false)))
+    inr (refl, _, U.accepted l at q c.line-line.ensures c.header_of-header.ensures (omega (arith, c.size-size.ensures.number, c.len_of_new.ensures, c.if-size-len_of_new-gt-MAX_TEXT.false)))
 
 pub replace_line-requires-clause-place : goal.replace_line-requires-clause-place
 replace_line-requires-clause-place g c =
@@ -104,7 +104,7 @@ replace_line-requires-clause-can g c =
     let S = U.seen l at c.line-line.ensures c.header_of-header.ensures in
     let q = sym c.if-is_in_list.false ∙ c.is_in_list.ensures U.parts S in
     let R = U.replaced l at c.in-Ok.bytes.items q c.line-line.ensures c.header_of-header.ensures
-    (omega (arith, c.size-size.ensures.number, c.len_of_new.ensures, c.if-size-len_of_new-gt-SIZE_LIMIT.false)) (c.in-Ok.ensures U.parts S) in
+    (omega (arith, c.size-size.ensures.number, c.len_of_new.ensures, c.if-size-len_of_new-gt-MAX_TEXT.false)) (c.in-Ok.ensures U.parts S) in
     R.can
 
 pub returns-clause-planned : goal.returns-clause-planned
@@ -117,7 +117,7 @@ returns-clause-planned g c =
     let S = U.seen l at c.line-line.ensures c.header_of-header.ensures in
     let q = sym c.if-is_in_list.false ∙ c.is_in_list.ensures U.parts S in
     let R = U.replaced l at c.in-Ok.bytes.items q c.line-line.ensures c.header_of-header.ensures
-    (omega (arith, c.size-size.ensures.number, c.len_of_new.ensures, c.if-size-len_of_new-gt-SIZE_LIMIT.false)) (c.in-Ok.ensures U.parts S) in
+    (omega (arith, c.size-size.ensures.number, c.len_of_new.ensures, c.if-size-len_of_new-gt-MAX_TEXT.false)) (c.in-Ok.ensures U.parts S) in
     planned-if_ok e ls _ c.replace_line.result R.planned c.replace_line.ensures.moves
 
 pub returns-clause-refused : goal.returns-clause-refused
@@ -130,5 +130,5 @@ returns-clause-refused g c =
     let S = U.seen l at c.line-line.ensures c.header_of-header.ensures in
     let q = sym c.if-is_in_list.false ∙ c.is_in_list.ensures U.parts S in
     let R = U.replaced l at c.in-Ok.bytes.items q c.line-line.ensures c.header_of-header.ensures
-    (omega (arith, c.size-size.ensures.number, c.len_of_new.ensures, c.if-size-len_of_new-gt-SIZE_LIMIT.false)) (c.in-Ok.ensures U.parts S) in
+    (omega (arith, c.size-size.ensures.number, c.len_of_new.ensures, c.if-size-len_of_new-gt-MAX_TEXT.false)) (c.in-Ok.ensures U.parts S) in
     planned-if_err e ls _ c.replace_line.result R.planned c.replace_line.ensures.refused

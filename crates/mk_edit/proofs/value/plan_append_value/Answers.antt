@@ -29,8 +29,8 @@ returns-then-not-is_closed-clause-refused g c =
 pub value_range-range-requires : goal.value_range-range-requires
 value_range-range-requires g c = faithful-at c.args.doc.now c.in_ok-found.found.at _ c.requires.faithful c.line-line.ensures
 
-pub returns-then-size-space-gt-SIZE_LIMIT-clause-refused : goal.returns-then-size-space-gt-SIZE_LIMIT-clause-refused
-returns-then-size-space-gt-SIZE_LIMIT-clause-refused g c =
+pub returns-then-size-space-gt-MAX_TEXT-clause-refused : goal.returns-then-size-space-gt-MAX_TEXT-clause-refused
+returns-then-size-space-gt-MAX_TEXT-clause-refused g c =
     let e = edit_of c.args.edit.now in
     let ls = c.args.doc.now in
     let l = line_view c.line-line.result.now in
@@ -39,7 +39,7 @@ returns-then-size-space-gt-SIZE_LIMIT-clause-refused g c =
     let text = c.value_text-old.result.now in
     let E = append_value-range e ls v c.in_ok-found.found l r text c.requires.faithful c.requires.edit c.in_ok-found.ensures.found c.line-line.ensures refl c.value_text-old.ensures (sym c.is_closed.ensures ∙ c.if-not-is_closed.false) in
     let long : length (space_after text ++ v) ≡ length c.space_after-space.result.now + length v = length-append (space_after text) v ∙ ap (λ z. length z + length v) (sym c.space_after-space.ensures.space) in
-    inl (range-long e ls c.in_ok-found.found.at l (end_of r) (space_after text ++ v) E (omega (arith, long, c.size.ensures.number, c.if-size-space-gt-SIZE_LIMIT.true)))
+    inl (range-long e ls c.in_ok-found.found.at l (end_of r) (space_after text ++ v) E (omega (arith, long, c.size.ensures.number, c.if-size-space-gt-MAX_TEXT.true)))
 
 pub with_put_in-requires-clause-within : goal.with_put_in-requires-clause-within
 with_put_in-requires-clause-within g c =
@@ -62,7 +62,7 @@ returns-in_default-clause-refused g c =
     let text = c.value_text-old.result.now in
     let E = append_value-range e ls v c.in_ok-found.found l r text c.requires.faithful c.requires.edit c.in_ok-found.ensures.found c.line-line.ensures c.value_range-range.ensures c.value_text-old.ensures (sym c.is_closed.ensures ∙ c.if-not-is_closed.false) in
     let long : length (space_after text ++ v) ≡ length c.space_after-space.result.now + length v = length-append (space_after text) v ∙ ap (λ z. length z + length v) (sym c.space_after-space.ensures.space) in
-    inr (refl, _, range-accepted e ls c.in_ok-found.found.at l (end_of r) (space_after text ++ v) E (omega (arith, long, c.size.ensures.number, c.if-size-space-gt-SIZE_LIMIT.false)))
+    inr (refl, _, range-accepted e ls c.in_ok-found.found.at l (end_of r) (space_after text ++ v) E (omega (arith, long, c.size.ensures.number, c.if-size-space-gt-MAX_TEXT.false)))
 
 pub replace_line-requires-clause-place : goal.replace_line-requires-clause-place
 replace_line-requires-clause-place g c =
@@ -79,7 +79,7 @@ replace_line-requires-clause-can g c =
     let text = c.value_text-old.result.now in
     let E = append_value-range e ls v c.in_ok-found.found l r text c.requires.faithful c.requires.edit c.in_ok-found.ensures.found c.line-line.ensures c.value_range-range.ensures c.value_text-old.ensures (sym c.is_closed.ensures ∙ c.if-not-is_closed.false) in
     let long : length (space_after text ++ v) ≡ length c.space_after-space.result.now + length v = length-append (space_after text) v ∙ ap (λ z. length z + length v) (sym c.space_after-space.ensures.space) in
-    let R = range-replaced e ls c.in_ok-found.found.at l (end_of r) (space_after text ++ v) c.in-Ok.bytes.items c.requires.faithful E (omega (arith, long, c.size.ensures.number, c.if-size-space-gt-SIZE_LIMIT.false))
+    let R = range-replaced e ls c.in_ok-found.found.at l (end_of r) (space_after text ++ v) c.in-Ok.bytes.items c.requires.faithful E (omega (arith, long, c.size.ensures.number, c.if-size-space-gt-MAX_TEXT.false))
     (appended-line c.in-Ok.bytes.items _ _ text v l r c.in-Ok.ensures c.bytes.ensures.bytes c.space_after-space.ensures.space) in
     R.can
 
@@ -93,7 +93,7 @@ returns-clause-planned g c =
     let text = c.value_text-old.result.now in
     let E = append_value-range e ls v c.in_ok-found.found l r text c.requires.faithful c.requires.edit c.in_ok-found.ensures.found c.line-line.ensures c.value_range-range.ensures c.value_text-old.ensures (sym c.is_closed.ensures ∙ c.if-not-is_closed.false) in
     let long : length (space_after text ++ v) ≡ length c.space_after-space.result.now + length v = length-append (space_after text) v ∙ ap (λ z. length z + length v) (sym c.space_after-space.ensures.space) in
-    let R = range-replaced e ls c.in_ok-found.found.at l (end_of r) (space_after text ++ v) c.in-Ok.bytes.items c.requires.faithful E (omega (arith, long, c.size.ensures.number, c.if-size-space-gt-SIZE_LIMIT.false))
+    let R = range-replaced e ls c.in_ok-found.found.at l (end_of r) (space_after text ++ v) c.in-Ok.bytes.items c.requires.faithful E (omega (arith, long, c.size.ensures.number, c.if-size-space-gt-MAX_TEXT.false))
     (appended-line c.in-Ok.bytes.items _ _ text v l r c.in-Ok.ensures c.bytes.ensures.bytes c.space_after-space.ensures.space) in
     planned-if_ok e ls _ c.replace_line.result R.planned c.replace_line.ensures.moves
 
@@ -107,6 +107,6 @@ returns-clause-refused g c =
     let text = c.value_text-old.result.now in
     let E = append_value-range e ls v c.in_ok-found.found l r text c.requires.faithful c.requires.edit c.in_ok-found.ensures.found c.line-line.ensures c.value_range-range.ensures c.value_text-old.ensures (sym c.is_closed.ensures ∙ c.if-not-is_closed.false) in
     let long : length (space_after text ++ v) ≡ length c.space_after-space.result.now + length v = length-append (space_after text) v ∙ ap (λ z. length z + length v) (sym c.space_after-space.ensures.space) in
-    let R = range-replaced e ls c.in_ok-found.found.at l (end_of r) (space_after text ++ v) c.in-Ok.bytes.items c.requires.faithful E (omega (arith, long, c.size.ensures.number, c.if-size-space-gt-SIZE_LIMIT.false))
+    let R = range-replaced e ls c.in_ok-found.found.at l (end_of r) (space_after text ++ v) c.in-Ok.bytes.items c.requires.faithful E (omega (arith, long, c.size.ensures.number, c.if-size-space-gt-MAX_TEXT.false))
     (appended-line c.in-Ok.bytes.items _ _ text v l r c.in-Ok.ensures c.bytes.ensures.bytes c.space_after-space.ensures.space) in
     planned-if_err e ls _ c.replace_line.result R.planned c.replace_line.ensures.refused

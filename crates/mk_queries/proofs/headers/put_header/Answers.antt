@@ -4,7 +4,7 @@ use Rattle.mk_lines.specs.Words.{words_in}
 use Rattle.mk_class.specs.LineParts.{normal_span, order_only_span}
 use Rattle.mk_queries.specs.LocatedTexts.{header_located}
 use Rattle.mk_queries.specs.PartTexts.{targets_text, pattern_text, order_only_text}
-use Rattle.mk_queries.specs.Spacing.{each_after_space}
+use Rattle.mk_lines.specs.Spacing.{each_after_space}
 use Rattle.mk_queries.proofs.on_gathering.PutLemmas.{put-second, put-second_failed, four-parts}
 use Rattle.mk_queries.proofs.on_gathering.SpacingLemmas.{put-more, put-more_failed}
 use Rattle.mk_queries.proofs.on_parts.HeaderPartLemmas.{header-parts}

@@ -2,7 +2,7 @@ use Rattle.std.proofs.Common.{◌++◌, []}
 use Rattle.std.specs.Prelude.{codes}
 use Rattle.mk_lines.specs.Words.{words_in}
 use Rattle.mk_queries.specs.PartTexts.{order_only_text}
-use Rattle.mk_queries.specs.Spacing.{each_after_space}
+use Rattle.mk_lines.specs.Spacing.{each_after_space}
 use Rattle.mk_queries.proofs.on_gathering.PutLemmas.{put-first_failed, put-second, put-second_failed}
 use Rattle.mk_queries.proofs.on_parts.HeaderPartLemmas.{order_only-parts}
 use Rattle.mk_queries.proofs.headers.put_order_only.Goals as goal

@@ -1,4 +1,5 @@
-use Rattle.std.proofs.Common.{◌≡◌, ◌∙◌, ◌+◌, ◌^◌, ◌≤◌, ◌++◌, [], None, length, arith, rules, ap, refl, sym, subst}
+use Rattle.std.proofs.Common.{◌≡◌, ◌∙◌, ◌+◌, ◌≤◌, ◌++◌, [], None, length, arith, rules, ap, refl, sym, subst}
+use Rattle.mk_lines.specs.Limits.{max_text}
 use Rattle.mk_lines.specs.Device.{AppendsPrefix}
 use Rattle.mk_class.specs.Contexts.{start}
 use Rattle.mk_tree.specs.LocatedLines.{size_of, located_text, text_of_line}
@@ -66,9 +67,9 @@ lines-preserved g c =
     let e : said ++ rest ≡ rules_ahead n w.context o w.lines =
     rules-next n m c.in-Some.context o after c.bytes.result.now l w left c.in-Some.ensures.steps.0 c.in-Some.ensures.steps.1 c.in-Some.ensures.steps.2 c.bytes.ensures.bytes c.line_feeds-number.ensures.number c.in_ok-counted.ensures.counted in
     let some : 1 ≤ length l.bytes = omega (arith, c.bytes.ensures.some_bytes, ap length c.bytes.ensures.bytes) in
-    let i : count_of o + (length l.bytes + size_of left.lines) ≤ 2 ^ 24 + 1 = omega (arith, ap size_of c.in-Some.ensures.steps.1, counts) in
-    let j : length l.bytes + size_of left.lines ≤ 2 ^ 24 + 1 = omega (arith, ap size_of c.in-Some.ensures.steps.1, few) in
-    let fits : count_of (counted_after o l.class) + size_of left.lines ≤ 2 ^ 24 + 1 = count-next o l.class (length l.bytes) (size_of left.lines) (2 ^ 24 + 1) some i j in (
+    let i : count_of o + (length l.bytes + size_of left.lines) ≤ max_text + 1 = omega (arith, ap size_of c.in-Some.ensures.steps.1, counts) in
+    let j : length l.bytes + size_of left.lines ≤ max_text + 1 = omega (arith, ap size_of c.in-Some.ensures.steps.1, few) in
+    let fits : count_of (counted_after o l.class) + size_of left.lines ≤ max_text + 1 = count-next o l.class (length l.bytes) (size_of left.lines) (max_text + 1) some i j in (
       tt,
       tt,
       c.in_ok-counted.ensures.works,

@@ -2,7 +2,7 @@
 use Rattle.std.proofs.Common.{◌≡◌, ◌++◌, false, length, List, ℕ}
 use Rattle.mk_lines.specs.Words.{words_in}
 use Rattle.mk_tree.specs.Printing.{AppendsSoFar}
-use Rattle.mk_queries.specs.Spacing.{each_after_space}
+use Rattle.mk_lines.specs.Spacing.{each_after_space}
 use Rattle.mk_queries.proofs.spacing.put_each_after_space.Given as goal
 
 abbrev pub invariant-words : goal.invariant-words

@@ -1,7 +1,7 @@
 use Rattle.std.proofs.Common.{◌≡◌, [], ◌++◌, rules}
 use Rattle.std.specs.Prelude.{codes}
 use Rattle.mk_lines.specs.Words.{words_in}
-use Rattle.mk_queries.specs.Spacing.{each_before_space}
+use Rattle.mk_lines.specs.Spacing.{each_before_space}
 use Rattle.mk_queries.proofs.on_gathering.SpacingLemmas.{put-more, put-more_failed, put-most, before-next, before-end}
 use Rattle.mk_queries.proofs.spacing.put_each_before_space.Goals as goal
 

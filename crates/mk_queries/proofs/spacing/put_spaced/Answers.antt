@@ -1,6 +1,6 @@
 use Rattle.std.proofs.Common.{ap}
 use Rattle.mk_lines.specs.Words.{words_in}
-use Rattle.mk_queries.specs.Spacing.{each_after_space, spaced_words}
+use Rattle.mk_lines.specs.Spacing.{each_after_space, spaced_words}
 use Rattle.mk_queries.proofs.on_gathering.PutLemmas.{put-second, put-second_failed}
 use Rattle.mk_queries.proofs.spacing.put_spaced.Goals as goal
 

@@ -1,6 +1,6 @@
 use Rattle.std.proofs.Common.{◌++◌, ◌∙◌, sym, ap}
 use Rattle.mk_lines.specs.Words.{words_in}
-use Rattle.mk_queries.specs.Spacing.{spaced_words}
+use Rattle.mk_lines.specs.Spacing.{spaced_words}
 use Rattle.mk_queries.specs.PartTexts.{targets_text}
 use Rattle.mk_queries.proofs.on_gathering.PutLemmas.{put-second, put-second_failed}
 use Rattle.mk_queries.proofs.targets.put_targets.Goals as goal

@@ -4,7 +4,7 @@ use Rattle.mk_lines.specs.Ranges.{text_at}
 use Rattle.mk_lines.specs.Words.{words_in}
 use Rattle.mk_class.specs.OperatorTexts.{operator_text}
 use Rattle.mk_queries.specs.LocatedTexts.{assigned_located}
-use Rattle.mk_queries.specs.Spacing.{each_before_space, after_space}
+use Rattle.mk_lines.specs.Spacing.{each_before_space, after_space}
 use Rattle.mk_queries.proofs.on_gathering.PutLemmas.{put-first_failed, put-second, put-second_failed, four-parts}
 use Rattle.mk_queries.proofs.on_gathering.SpacingLemmas.{put-more, put-more_failed}
 use Rattle.mk_queries.proofs.on_parts.AssignmentPartLemmas.{assigned-parts}

@@ -8,7 +8,7 @@ use Rattle.mk_tree.proofs.document.Doc.parse_vec.Goals as goal
 
 pub read_tree-requires-clause-fits : goal.read_tree-requires-clause-fits
 read_tree-requires-clause-fits g c =
-    omega (arith, c.if-len-gt-SIZE_LIMIT.false, c.len.ensures, ap (λ (u : UnreadLines). size_of (shown_lines u)) c.new-lines.ensures.lines ∙ size_of-document (rc_slice_items c.in_ok-text.text), ap length c.in_ok-text.ensures)
+    omega (arith, c.if-len-gt-MAX_TEXT.false, c.len.ensures, ap (λ (u : UnreadLines). size_of (shown_lines u)) c.new-lines.ensures.lines ∙ size_of-document (rc_slice_items c.in_ok-text.text), ap length c.in_ok-text.ensures)
 
 pub returns-clause-shallow : goal.returns-clause-shallow
 returns-clause-shallow g c =

@@ -1,5 +1,5 @@
 -- Words with spaces.
--- Told in docs/ARCHITECTURE.md, "From a script to a text".
+-- Told in docs/EDITS.md, "Rules", and docs/ARCHITECTURE.md, "From a script to a text".
 use Rattle.std.specs.Prelude.{ℕ, List, [], ◌∷◌, ◌++◌, codes}
 
 -- some words, each with a space before it
