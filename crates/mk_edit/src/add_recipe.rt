@@ -5,6 +5,7 @@ ghost use Rattle.mk_tree.specs.Documents.{IsFaithful};
 ghost use Rattle.mk_tree.specs.LocatedLines.{located_text};
 ghost use Rattle.mk_edit_laws.specs.Costs.{cost};
 ghost use Rattle.mk_edit_parts.specs.EditViews.{edit_of};
+ghost use Rattle.mk_edit_parts.specs.Seeking.{IsKnown};
 ghost use Rattle.mk_edit.specs.Planned.{IsPlanned, IsRefusal};
 ghost use Rattle.mk_edit.specs.RecipeEdits.{IsAddRecipe};
 
@@ -15,6 +16,7 @@ use mk_edit_parts::edit::Edit;
 use mk_edit_parts::find::find;
 use mk_edit_parts::place::after_lines;
 use mk_edit_parts::recipe::recipe_below;
+use mk_edit_parts::seek::Sought;
 use mk_patch::Patch;
 use mk_tree::Doc;
 use std::alloc::Allocator;
@@ -31,10 +33,12 @@ pub(crate) fn plan_add_recipe<A: Allocator + Copy>(
     alloc: A,
     doc: &Doc<A>,
     edit: &Edit<A>,
+    known: Option<Sought>,
     meter: &mut Meter,
 ) -> Result<Patch<A>, Refusal>
     requires faithful { IsFaithful doc.now }
     requires kind { IsAddRecipe (edit_of edit.now) }
+    requires known { IsKnown (edit_of edit.now) doc.now known }
     ensures planned { IfOk result (λ patch. IsPlanned (edit_of edit.now) doc.now patch) }
     ensures refused { IfErr result (λ refusal.
         IsRefusal (located_text doc.now) (edit_of edit.now) refusal) }
@@ -45,7 +49,7 @@ pub(crate) fn plan_add_recipe<A: Allocator + Copy>(
 {
     // The contract of `len` bounds the number of lines, so that indices can be added to.
     let _count = doc.len();
-    let header = find(doc, edit)?;
+    let header = find(doc, edit, known)?;
     let recipe = recipe_below(doc, header.at + 1);
     if recipe.is_split {
         return Err(Refusal::Straddles);

@@ -7,6 +7,7 @@ ghost use Rattle.mk_tree.specs.LocatedLines.{located_text};
 ghost use Rattle.mk_edit_laws.specs.Costs.{cost};
 ghost use Rattle.mk_edit_laws.specs.Stretches.{insertion};
 ghost use Rattle.mk_edit_parts.specs.EditViews.{edit_of};
+ghost use Rattle.mk_edit_parts.specs.Seeking.{IsKnown};
 ghost use Rattle.mk_edit.specs.Insertions.{IsDecidedByPlace, IsInsertedAt, IsOfNewLine, IsOfPlace};
 ghost use Rattle.mk_edit.specs.Planned.{IsPlanned, IsRefusal};
 
@@ -18,7 +19,7 @@ use mk_edit_parts::edit::Edit;
 use mk_edit_parts::find::find;
 use mk_edit_parts::line_end::file_line_end;
 use mk_edit_parts::new_line::{begins_with_prefix, new_line};
-use mk_edit_parts::seek::Found;
+use mk_edit_parts::seek::{Found, Sought};
 use mk_patch::Patch;
 use mk_tree::Doc;
 use std::alloc::Allocator;
@@ -34,10 +35,12 @@ pub(crate) fn plan_addition<A: Allocator + Copy>(
     alloc: A,
     doc: &Doc<A>,
     edit: &Edit<A>,
+    known: Option<Sought>,
     meter: &mut Meter,
 ) -> Result<Patch<A>, Refusal>
     requires faithful { IsFaithful doc.now }
     requires kind { IsOfPlace (edit_of edit.now) }
+    requires known { IsKnown (edit_of edit.now) doc.now known }
     ensures planned { IfOk result (λ patch. IsPlanned (edit_of edit.now) doc.now patch) }
     ensures refused { IfErr result (λ refusal.
         IsRefusal (located_text doc.now) (edit_of edit.now) refusal) }
@@ -46,7 +49,7 @@ pub(crate) fn plan_addition<A: Allocator + Copy>(
     ensures few_read { meter.new ≤ meter.old + cost (located_text doc.now) (edit_of edit.now) }
     ensures forward { meter.old ≤ meter.new }
 {
-    let found = find(doc, edit)?;
+    let found = find(doc, edit, known)?;
     let place = insertion_of(doc, edit, found);
     if begins_with_prefix(edit, place.context.prefix()) {
         return Err(Refusal::RecipePrefix);

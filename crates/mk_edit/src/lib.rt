@@ -4,7 +4,8 @@
 //! `mk_edit_parts` has the edits as Rust types, the line that each edit means, and the bytes of the
 //! lines that edits write.
 //!
-//! - [`planning`]: `plan`, one call for all twelve edits.
+//! - [`planning`]: `plan`, one call for all twelve edits, and `plan_with`, for a caller who knows
+//!   where the edit's line stands.
 //!
 //! The other modules are the crate's own, lowest first:
 //!
@@ -40,4 +41,4 @@ mod value;
 
 pub use mk_edit_laws::{Colons, Detail, Field, Refusal};
 pub use mk_edit_parts::{Edit, Place};
-pub use planning::plan;
+pub use planning::{plan, plan_with};

@@ -5,6 +5,7 @@ ghost use Rattle.mk_tree.specs.Documents.{IsFaithful};
 ghost use Rattle.mk_tree.specs.LocatedLines.{located_text};
 ghost use Rattle.mk_edit_laws.specs.Costs.{cost};
 ghost use Rattle.mk_edit_parts.specs.EditViews.{edit_of};
+ghost use Rattle.mk_edit_parts.specs.Seeking.{IsKnown};
 ghost use Rattle.mk_edit.specs.Planned.{IsPlanned, IsRefusal};
 
 use crate::add_recipe::plan_add_recipe;
@@ -19,6 +20,7 @@ use crate::value::{plan_append_value, plan_set_value};
 use mk_class::Meter;
 use mk_edit_laws::Refusal;
 use mk_edit_parts::edit::Edit;
+use mk_edit_parts::seek::Sought;
 use mk_patch::Patch;
 use mk_tree::Doc;
 use std::alloc::Allocator;
@@ -51,21 +53,47 @@ pub fn plan<A: Allocator + Copy>(
     ensures few_read { meter.new ≤ meter.old + cost (located_text doc.now) (edit_of edit.now) }
     ensures forward { meter.old ≤ meter.new }
 {
+    plan_with(alloc, doc, edit, None, meter)
+}
+
+/// Plans an edit as [`plan`] does, with what is known of its address. If nothing is known, the call
+/// walks over the document for the line that the edit means.
+///
+/// # Errors
+///
+/// Those of [`plan`].
+pub fn plan_with<A: Allocator + Copy>(
+    alloc: A,
+    doc: &Doc<A>,
+    edit: &Edit<A>,
+    known: Option<Sought>,
+    meter: &mut Meter,
+) -> Result<Patch<A>, Refusal>
+    requires faithful { IsFaithful doc.now }
+    requires known { IsKnown (edit_of edit.now) doc.now known }
+    ensures planned { IfOk result (λ patch. IsPlanned (edit_of edit.now) doc.now patch) }
+    ensures refused { IfErr result (λ refusal.
+        IsRefusal (located_text doc.now) (edit_of edit.now) refusal) }
+    ensures counted { OnOk result (AreCounted meter.old
+        (cost (located_text doc.now) (edit_of edit.now)) meter.new) }
+    ensures few_read { meter.new ≤ meter.old + cost (located_text doc.now) (edit_of edit.now) }
+    ensures forward { meter.old ≤ meter.new }
+{
     match edit {
-        Edit::SetValue { value, .. } => plan_set_value(alloc, doc, edit, value, meter),
-        Edit::AppendValue { value, .. } => plan_append_value(alloc, doc, edit, value, meter),
-        Edit::AddAssign { .. } | Edit::AddRule { .. } => plan_addition(alloc, doc, edit, meter),
-        Edit::RemoveAssign { .. } => plan_remove_assign(alloc, doc, edit),
-        Edit::RemoveRule { .. } => plan_remove_rule(alloc, doc, edit),
+        Edit::SetValue { value, .. } => plan_set_value(alloc, doc, edit, known, value, meter),
+        Edit::AppendValue { value, .. } => plan_append_value(alloc, doc, edit, known, value, meter),
+        Edit::AddAssign { .. } | Edit::AddRule { .. } => plan_addition(alloc, doc, edit, known, meter),
+        Edit::RemoveAssign { .. } => plan_remove_assign(alloc, doc, edit, known),
+        Edit::RemoveRule { .. } => plan_remove_rule(alloc, doc, edit, known),
         Edit::AddPrereq { order, word, .. } => {
-            plan_add_prereq(alloc, doc, edit, *order, word, meter)
+            plan_add_prereq(alloc, doc, edit, known, *order, word, meter)
         }
-        Edit::RemovePrereq { word, .. } => plan_remove_prereq(alloc, doc, edit, word, meter),
-        Edit::AddRecipe { .. } => plan_add_recipe(alloc, doc, edit, meter),
+        Edit::RemovePrereq { word, .. } => plan_remove_prereq(alloc, doc, edit, known, word, meter),
+        Edit::AddRecipe { .. } => plan_add_recipe(alloc, doc, edit, known, meter),
         Edit::SetRecipe { number, line, .. } => {
-            plan_set_recipe(alloc, doc, edit, *number, line, meter)
+            plan_set_recipe(alloc, doc, edit, known, *number, line, meter)
         }
-        Edit::RemoveRecipe { number, .. } => plan_remove_recipe(alloc, doc, edit, *number),
+        Edit::RemoveRecipe { number, .. } => plan_remove_recipe(alloc, doc, edit, known, *number),
         Edit::RenameTarget { from, to } => plan_rename_target(alloc, doc, edit, from, to, meter),
     }
 }

@@ -9,6 +9,7 @@ ghost use Rattle.mk_tree.specs.Trees.{line_view};
 ghost use Rattle.mk_edit_laws.specs.Costs.{cost};
 ghost use Rattle.mk_edit_laws.specs.RuleCauses.{is_normal, is_order_only};
 ghost use Rattle.mk_edit_parts.specs.EditViews.{edit_of};
+ghost use Rattle.mk_edit_parts.specs.Seeking.{IsKnown};
 ghost use Rattle.mk_edit.specs.Planned.{IsPlanned, IsRefusal};
 ghost use Rattle.mk_edit_parts.specs.SeenHeaders.{HasHeader, IsHeaderSeen, IsRuleLine, IsHeaderAt};
 ghost use Rattle.mk_edit.specs.PrerequisiteEdits.{IsAddPrereq, IsRemovePrereq, is_in_list};
@@ -21,6 +22,7 @@ use mk_edit_parts::find::find;
 use mk_edit_parts::prerequisite::{
     has_normal, has_order_only, len_of_new, with_prerequisite, without_prerequisite,
 };
+use mk_edit_parts::seek::Sought;
 use mk_lines::source::MAX_TEXT;
 use mk_patch::Patch;
 use mk_tree::{Doc, Line};
@@ -38,12 +40,14 @@ pub(crate) fn plan_add_prereq<A: Allocator + Copy>(
     alloc: A,
     doc: &Doc<A>,
     edit: &Edit<A>,
+    known: Option<Sought>,
     order: bool,
     word: &[u8],
     meter: &mut Meter,
 ) -> Result<Patch<A>, Refusal>
     requires faithful { IsFaithful doc.now }
     requires kind { IsAddPrereq order word.now (edit_of edit.now) }
+    requires known { IsKnown (edit_of edit.now) doc.now known }
     ensures planned { IfOk result (λ patch. IsPlanned (edit_of edit.now) doc.now patch) }
     ensures refused { IfErr result (λ refusal.
         IsRefusal (located_text doc.now) (edit_of edit.now) refusal) }
@@ -53,7 +57,7 @@ pub(crate) fn plan_add_prereq<A: Allocator + Copy>(
     ensures forward { meter.old ≤ meter.new }
 {
     let size = doc.size();
-    let place = find(doc, edit)?;
+    let place = find(doc, edit, known)?;
     let line = doc.line(place.at);
     let header = header_of(line);
     if is_in_list(line, header, order, word) {
@@ -79,11 +83,13 @@ pub(crate) fn plan_remove_prereq<A: Allocator + Copy>(
     alloc: A,
     doc: &Doc<A>,
     edit: &Edit<A>,
+    known: Option<Sought>,
     word: &[u8],
     meter: &mut Meter,
 ) -> Result<Patch<A>, Refusal>
     requires faithful { IsFaithful doc.now }
     requires kind { IsRemovePrereq word.now (edit_of edit.now) }
+    requires known { IsKnown (edit_of edit.now) doc.now known }
     ensures planned { IfOk result (λ patch. IsPlanned (edit_of edit.now) doc.now patch) }
     ensures refused { IfErr result (λ refusal.
         IsRefusal (located_text doc.now) (edit_of edit.now) refusal) }
@@ -95,7 +101,7 @@ pub(crate) fn plan_remove_prereq<A: Allocator + Copy>(
     // The contract of `size` says that the text is within the limit, and so is the text without a
     // word.
     let _size = doc.size();
-    let place = find(doc, edit)?;
+    let place = find(doc, edit, known)?;
     let line = doc.line(place.at);
     let header = header_of(line);
     if !is_prerequisite(line, header, word) {

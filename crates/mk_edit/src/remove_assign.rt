@@ -5,6 +5,7 @@ ghost use Rattle.mk_tree.specs.Documents.{IsFaithful};
 ghost use Rattle.mk_tree.specs.LocatedLines.{located_text};
 ghost use Rattle.mk_edit_laws.specs.LineCauses.{removal_leans};
 ghost use Rattle.mk_edit_parts.specs.EditViews.{IsRemoveAssign, edit_of};
+ghost use Rattle.mk_edit_parts.specs.Seeking.{IsKnown};
 ghost use Rattle.mk_edit.specs.Planned.{IsPlanned, IsRefusal};
 ghost use Rattle.mk_edit.specs.PlannedMoves.{stretch_at};
 ghost use Rattle.mk_edit_parts.specs.Found.{IsPlaceOf};
@@ -15,7 +16,7 @@ use mk_edit_parts::edit::Edit;
 use mk_edit_parts::find::find;
 use mk_edit_parts::lean::leans;
 use mk_edit_parts::place::after_lines;
-use mk_edit_parts::seek::Found;
+use mk_edit_parts::seek::{Found, Sought};
 use mk_patch::Patch;
 use mk_tree::Doc;
 use std::alloc::Allocator;
@@ -30,9 +31,11 @@ pub(crate) fn plan_remove_assign<A: Allocator + Copy>(
     alloc: A,
     doc: &Doc<A>,
     edit: &Edit<A>,
+    known: Option<Sought>,
 ) -> Result<Patch<A>, Refusal>
     requires faithful { IsFaithful doc.now }
     requires kind { IsRemoveAssign (edit_of edit.now) }
+    requires known { IsKnown (edit_of edit.now) doc.now known }
     ensures planned { IfOk result (λ patch. IsPlanned (edit_of edit.now) doc.now patch) }
     ensures refused { IfErr result (λ refusal.
         IsRefusal (located_text doc.now) (edit_of edit.now) refusal) }
@@ -40,7 +43,7 @@ pub(crate) fn plan_remove_assign<A: Allocator + Copy>(
     // The contract of `size` says that the text is within the limit, so that no removal is too
     // long.
     let _size = doc.size();
-    let place = find(doc, edit)?;
+    let place = find(doc, edit, known)?;
     let Found { at, .. } = place;
     if removal_leans(doc, place, 1) {
         return Err(Refusal::Leans);

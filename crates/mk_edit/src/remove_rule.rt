@@ -5,6 +5,7 @@ ghost use Rattle.mk_tree.specs.LocatedLines.{located_text};
 ghost use Rattle.mk_tree.specs.Trees.{line_view};
 ghost use Rattle.mk_lines.specs.Words.{words_in};
 ghost use Rattle.mk_edit_parts.specs.EditViews.{edit_of};
+ghost use Rattle.mk_edit_parts.specs.Seeking.{IsKnown};
 ghost use Rattle.mk_edit_parts.specs.LocatedParts.{IsClassed};
 ghost use Rattle.mk_edit.specs.Planned.{IsPlanned, IsRefusal};
 ghost use Rattle.mk_edit.specs.RecipeEdits.{IsRemoveRule};
@@ -18,6 +19,7 @@ use mk_edit_parts::find::find;
 use mk_edit_parts::lean::leans;
 use mk_edit_parts::part::{part, text_of_line};
 use mk_edit_parts::recipe::recipe_below;
+use mk_edit_parts::seek::Sought;
 use mk_lines::split::Span;
 use mk_lines::split_first_word;
 use mk_patch::Patch;
@@ -36,16 +38,18 @@ pub(crate) fn plan_remove_rule<A: Allocator + Copy>(
     alloc: A,
     doc: &Doc<A>,
     edit: &Edit<A>,
+    known: Option<Sought>,
 ) -> Result<Patch<A>, Refusal>
     requires faithful { IsFaithful doc.now }
     requires kind { IsRemoveRule (edit_of edit.now) }
+    requires known { IsKnown (edit_of edit.now) doc.now known }
     ensures planned { IfOk result (λ patch. IsPlanned (edit_of edit.now) doc.now patch) }
     ensures refused { IfErr result (λ refusal.
         IsRefusal (located_text doc.now) (edit_of edit.now) refusal) }
 {
     // The contract of `size` says that the text is within the limit, and so is the rest of it.
     let _size = doc.size();
-    let header = match find(doc, edit) {
+    let header = match find(doc, edit, known) {
         Ok(header) => header,
         Err(refusal) => return Err(refusal),
     };

@@ -5,6 +5,7 @@ ghost use Rattle.mk_tree.specs.Documents.{IsFaithful};
 ghost use Rattle.mk_tree.specs.LocatedLines.{located_text};
 ghost use Rattle.mk_edit_laws.specs.Costs.{cost};
 ghost use Rattle.mk_edit_parts.specs.EditViews.{edit_of};
+ghost use Rattle.mk_edit_parts.specs.Seeking.{IsKnown};
 ghost use Rattle.mk_edit.specs.Planned.{IsPlanned, IsRefusal};
 ghost use Rattle.mk_edit.specs.RecipeEdits.{IsSetRecipe, command_range};
 
@@ -16,6 +17,7 @@ use mk_edit_parts::find::find;
 use mk_edit_parts::place::after_lines;
 use mk_edit_parts::range::with_replaced;
 use mk_edit_parts::recipe::recipe_line;
+use mk_edit_parts::seek::Sought;
 use mk_lines::ends::without_line_end;
 use mk_lines::source::MAX_TEXT;
 use mk_lines::split::Span;
@@ -35,12 +37,14 @@ pub(crate) fn plan_set_recipe<A: Allocator + Copy>(
     alloc: A,
     doc: &Doc<A>,
     edit: &Edit<A>,
+    known: Option<Sought>,
     number: u32,
     command: &[u8],
     meter: &mut Meter,
 ) -> Result<Patch<A>, Refusal>
     requires faithful { IsFaithful doc.now }
     requires kind { IsSetRecipe number command.now (edit_of edit.now) }
+    requires known { IsKnown (edit_of edit.now) doc.now known }
     ensures planned { IfOk result (λ patch. IsPlanned (edit_of edit.now) doc.now patch) }
     ensures refused { IfErr result (λ refusal.
         IsRefusal (located_text doc.now) (edit_of edit.now) refusal) }
@@ -50,7 +54,7 @@ pub(crate) fn plan_set_recipe<A: Allocator + Copy>(
     ensures forward { meter.old ≤ meter.new }
 {
     let size = doc.size();
-    let header = find(doc, edit)?;
+    let header = find(doc, edit, known)?;
     let Some(at) = recipe_line(doc, header.at + 1, number) else {
         return Err(Refusal::Absent);
     };

@@ -5,6 +5,7 @@ ghost use Rattle.mk_tree.specs.Documents.{IsFaithful};
 ghost use Rattle.mk_tree.specs.LocatedLines.{located_text};
 ghost use Rattle.mk_edit_laws.specs.Costs.{cost};
 ghost use Rattle.mk_edit_parts.specs.EditViews.{edit_of};
+ghost use Rattle.mk_edit_parts.specs.Seeking.{IsKnown};
 ghost use Rattle.mk_edit.specs.Planned.{IsPlanned, IsRefusal};
 ghost use Rattle.mk_edit_parts.specs.LocatedParts.{IsClassed};
 ghost use Rattle.mk_edit.specs.ValuesGiven.{IsAppendValue, IsSetValue, space_after, value_text_located};
@@ -17,6 +18,7 @@ use mk_edit_parts::edit::Edit;
 use mk_edit_parts::find::find;
 use mk_edit_parts::part::{part, text_of_line};
 use mk_edit_parts::range::{value_range, with_replaced};
+use mk_edit_parts::seek::Sought;
 use mk_lines::is_closed;
 use mk_lines::source::MAX_TEXT;
 use mk_patch::Patch;
@@ -33,11 +35,13 @@ pub(crate) fn plan_set_value<A: Allocator + Copy>(
     alloc: A,
     doc: &Doc<A>,
     edit: &Edit<A>,
+    known: Option<Sought>,
     value: &[u8],
     meter: &mut Meter,
 ) -> Result<Patch<A>, Refusal>
     requires faithful { IsFaithful doc.now }
     requires edit { IsSetValue (edit_of edit.now) value.now }
+    requires known { IsKnown (edit_of edit.now) doc.now known }
     ensures planned { IfOk result (λ patch. IsPlanned (edit_of edit.now) doc.now patch) }
     ensures refused { IfErr result (λ refusal.
         IsRefusal (located_text doc.now) (edit_of edit.now) refusal) }
@@ -46,7 +50,7 @@ pub(crate) fn plan_set_value<A: Allocator + Copy>(
     ensures few_read { meter.new ≤ meter.old + cost (located_text doc.now) (edit_of edit.now) }
     ensures forward { meter.old ≤ meter.new }
 {
-    let found = find(doc, edit)?;
+    let found = find(doc, edit, known)?;
     let line = doc.line(found.at);
     let range = value_range(line, value.is_empty());
     if doc.size() + value.len() > MAX_TEXT + (range.end - range.start) {
@@ -68,11 +72,13 @@ pub(crate) fn plan_append_value<A: Allocator + Copy>(
     alloc: A,
     doc: &Doc<A>,
     edit: &Edit<A>,
+    known: Option<Sought>,
     value: &[u8],
     meter: &mut Meter,
 ) -> Result<Patch<A>, Refusal>
     requires faithful { IsFaithful doc.now }
     requires edit { IsAppendValue (edit_of edit.now) value.now }
+    requires known { IsKnown (edit_of edit.now) doc.now known }
     ensures planned { IfOk result (λ patch. IsPlanned (edit_of edit.now) doc.now patch) }
     ensures refused { IfErr result (λ refusal.
         IsRefusal (located_text doc.now) (edit_of edit.now) refusal) }
@@ -81,7 +87,7 @@ pub(crate) fn plan_append_value<A: Allocator + Copy>(
     ensures few_read { meter.new ≤ meter.old + cost (located_text doc.now) (edit_of edit.now) }
     ensures forward { meter.old ≤ meter.new }
 {
-    let found = find(doc, edit)?;
+    let found = find(doc, edit, known)?;
     let line = doc.line(found.at);
     let old = value_text(line);
     if !is_closed(old) {

@@ -1,15 +1,16 @@
 -- A walk over the lines of a document for the line that an address means.
 -- Told in docs/DECISIONS.md, "mk_edit_parts and mk_edit".
-use Rattle.std.specs.Prelude.{◌≡◌, ◌||◌, ◌&&◌, ◌==◌, if◌then◌else◌, ℕ, ◌+◌, Bool, false, List, [], ◌∷◌, length, Option, Some, None, option_map}
+use Rattle.std.specs.Prelude.{◌≡◌, ◌||◌, ◌&&◌, ◌==◌, if◌then◌else◌, ℕ, ◌+◌, Bool, false, List, [], ◌∷◌, length, Option, Some, None, option_map, ⊤}
 use Rattle.std.specs.List.{list_any}
 use Rattle.mk_class.specs.Contexts.{start, context_after_located}
-use Rattle.mk_class.specs.ClassedLines.{ClassedLine}
+use Rattle.mk_class.specs.ClassedLines.{ClassedLine, classed_lines}
 use Rattle.mk_class.specs.declared.class.Class as class
 use Rattle.mk_tree.specs.Documents.{context_of}
-use Rattle.mk_tree.specs.LocatedLines.{LocatedLine}
+use Rattle.mk_tree.specs.LocatedLines.{LocatedLine, located_text}
 use Rattle.mk_tree.specs.LineTexts.{StandingLine}
 use Rattle.mk_edit_laws.specs.Spots.{nth_of}
-use Rattle.mk_edit_laws.specs.Addresses.{Address, Variable, Rule, candidates, nth_meant}
+use Rattle.mk_edit_laws.specs.Edits.{Edit}
+use Rattle.mk_edit_laws.specs.Addresses.{Address, Variable, Rule, address, candidates, nth_meant}
 use Rattle.mk_edit_laws.specs.AddressCauses.{is_unread_prefix}
 use Rattle.mk_edit_parts.specs.LocatedParts.{assigns_located, is_rule_for_located, is_unread_located}
 use Rattle.mk_edit_parts.specs.declared.seek.Found.{Found}
@@ -77,3 +78,12 @@ pub record IsSought (ls : List ClassedLine) (a : Option Address) (s : Sought) : 
   pub found_is : s.found ≡ option_map standing_found (nth_of (wanted a) (candidates_of ls a))
   pub unread_is : s.has_unread_prefix ≡ list_any (λ l. is_unread_prefix l.class) ls
   pub end_is : s.end ≡ record { at = length ls; context = context_of ls }
+
+-- What is known of an address before a walk: nothing, or what the walk would find.
+abbrev pub IsKnownOf : Option Address → List LocatedLine → Option Sought → Type 0
+IsKnownOf a ls None = ⊤
+IsKnownOf a ls (Some s) = IsSought (classed_lines (located_text ls)) a s
+
+-- what is known of the address of an edit
+abbrev pub IsKnown : Edit → List LocatedLine → Option Sought → Type 0
+IsKnown e ls known = IsKnownOf (address e) ls known

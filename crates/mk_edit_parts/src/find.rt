@@ -9,7 +9,7 @@ ghost use Rattle.mk_edit_laws.specs.Refusals.{spans};
 ghost use Rattle.mk_edit_laws.specs.TouchedLines.{IsOfOnePlace};
 ghost use Rattle.mk_edit_parts.specs.EditViews.{address_seen, address_view, edit_of};
 ghost use Rattle.mk_edit_parts.specs.Found.{IsAddressed, IsNotPicked, IsPicked};
-ghost use Rattle.mk_edit_parts.specs.Seeking.{IsSought};
+ghost use Rattle.mk_edit_parts.specs.Seeking.{IsKnown, IsKnownOf, IsSought};
 
 use crate::address::{Address, address_of};
 use crate::argument::{bad_field, is_reserved};
@@ -20,14 +20,20 @@ use mk_tree::Doc;
 use std::alloc::Allocator;
 
 /// Where an edit applies: at the line that it means, or at the end of the document if its new line
-/// goes to the bottom. The call reads no line anew and takes no memory.
+/// goes to the bottom. `known` is what is known of the edit's address, for instance by an index;
+/// if nothing is known, the call walks over the lines. It reads no line anew and takes no memory.
 ///
 /// It decides, in this order, whether a field fails its test; whether a name is reserved; whether
 /// the recipe prefix is set in a way that is not read; whether there is no such line; and whether
 /// there are several such lines. It asks for a faithful document, and for an edit that is no
 /// rename: a rename does not mean one line.
-pub fn find<A: Allocator>(doc: &Doc<A>, edit: &Edit<A>) -> Result<Found, Refusal>
+pub fn find<A: Allocator>(
+    doc: &Doc<A>,
+    edit: &Edit<A>,
+    known: Option<Sought>,
+) -> Result<Found, Refusal>
     requires faithful { IsFaithful doc.now }
+    requires known { IsKnown (edit_of edit.now) doc.now known }
     requires one_place { IsOfOnePlace (edit_of edit.now) }
     ensures found { IfOk result (λ found. IsAddressed (edit_of edit.now) doc.now found) }
     ensures refused { IfErr result (λ refusal.
@@ -40,13 +46,29 @@ pub fn find<A: Allocator>(doc: &Doc<A>, edit: &Edit<A>) -> Result<Found, Refusal
         return Err(Refusal::Reserved);
     }
     let address = address_of(edit);
-    let sought = seek(doc, address);
+    let sought = sought_for(doc, address, known);
     if sought.has_unread_prefix {
         return Err(Refusal::RecipePrefix);
     }
     match pick(address, sought) {
         Ok(found) => Ok(found),
         Err(refusal) => Err(refusal),
+    }
+}
+
+// What a document has for an address: what is known of it, or what a walk finds.
+fn sought_for<A: Allocator>(
+    doc: &Doc<A>,
+    address: Option<Address>,
+    known: Option<Sought>,
+) -> Sought
+    requires faithful { IsFaithful doc.now }
+    requires known { IsKnownOf (address_seen address) doc.now known }
+    ensures { IsSought (classed_lines (located_text doc.now)) (address_seen address.entry) result }
+{
+    match known {
+        Some(sought) => sought,
+        None => seek(doc, address),
     }
 }
 

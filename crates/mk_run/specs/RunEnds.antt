@@ -5,7 +5,7 @@ use Rattle.std.specs.Prelude.{◌≡◌, ◌⊎◌, ℕ, Bool, true, false, List
 use Rattle.std.specs.Io.KnownBytes.{Appends, Keeps}
 use Rattle.mk_lines.specs.Device.{AppendsPrefix}
 use Rattle.mk_history.specs.Shown.{Shown, shown_opened}
-use Rattle.mk_session.specs.Sessions.{answer}
+use Rattle.mk_session.specs.Sessions.{Seen, answer}
 use Rattle.mk_session.specs.Calls.{takes_memory}
 use Rattle.mk_script.specs.Scripts.{CommandAt, IsScript}
 use Rattle.mk_run.specs.ObeyedCommands.{obeyed}
@@ -36,6 +36,11 @@ IsOut w text = Appends w.before w.after text
 -- a prefix of the text went out
 abbrev pub IsPrefixOut : Written → List ℕ → Type 0
 IsPrefixOut w text = AppendsPrefix w.before w.after text
+
+-- The session that is handed back shows the text that went out.
+abbrev pub HandsBack : Option Seen → Written → Type 0
+HandsBack None w = ⊥
+HandsBack (Some session) w = IsOut w session.shown.text
 
 -- ---- want of memory
 

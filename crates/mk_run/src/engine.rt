@@ -6,7 +6,7 @@ ghost use Rattle.mk_session.specs.Sessions.{IsBadDepth};
 ghost use Rattle.mk_script.specs.Scripts.{numbered};
 ghost use Rattle.mk_run.specs.Outcome.{is_printed, may_report};
 ghost use Rattle.mk_run.specs.Runs.{ended};
-ghost use Rattle.mk_run.specs.RunEnds.{IsRunOver, written};
+ghost use Rattle.mk_run.specs.RunEnds.{HandsBack, IsRunOver, written};
 ghost use Rattle.mk_run.specs.RunSteps.{AreObeyed, GivesCommands, GivesSession, StopsCommands, StopsMakefile, StopsScript};
 
 use crate::outcome::Outcome;
@@ -120,6 +120,7 @@ fn put_out<A: Allocator + Copy, W: ByteSink>(
     ensures fault { IfErr result (λ e. (e ≡ Fault.Write) × (W.failed out.new ≡ true)) }
     ensures flushed { W.flushes out.new ≡ count_if (is_ok result) (W.flushes out.old) }
     ensures settled { OnOk result (IfSome (W.pending out.new) (λ n. n ≡ 0)) }
+    ensures ended { session.new.shown ≡ ended session.old.shown }
 {
     let _ = session.end();
     match session.doc().write_to(out) {
@@ -198,6 +199,84 @@ where
         → IfSome (W.pending out.new) (λ n. n ≡ 0) }
     ensures report { P.flushes report.new ≡ P.flushes report.old }
 {
+    let mut kept = None;
+    run_keeping(
+        alloc,
+        makefile,
+        script,
+        depth,
+        keep_going,
+        out,
+        report,
+        &mut kept,
+    )
+}
+
+/// Runs a script over a makefile as [`run`] does, and leaves the session in `kept`.
+///
+/// A session owns a box for each line, so giving it up takes time. A program that ends after the
+/// run keeps it from being given up, by `mem::forget`; another one may go on with it. If the text
+/// was written, `kept` has the session that shows this text. If the run ended before the makefile
+/// was opened, `kept` is what it was.
+pub fn run_keeping<A, R, S, W, P>(
+    alloc: A,
+    makefile: &mut R,
+    script: &mut S,
+    depth: u32,
+    keep_going: bool,
+    out: &mut W,
+    report: &mut P,
+    kept: &mut Option<Session<A>>,
+) -> Outcome
+where
+    A: Allocator + Copy,
+    R: ByteSource,
+    S: ByteSource,
+    W: ByteSink,
+    P: ByteSink,
+    requires makefile_works { R.failed makefile.old ≡ false }
+    requires script_works { S.failed script.old ≡ false }
+    requires out_works { W.failed out.old ≡ false }
+    requires report_works { P.failed report.old ≡ false }
+
+    // The run ends as the definitions say for the bytes of makefile and script, or for want of
+    // memory, or because a device failed; the clause says what is out in each case.
+    ensures law { IsRunOver (R.remaining makefile.old) (S.remaining script.old) depth keep_going
+        result (P.failed report.new) (written (P.contents report.old) (P.contents report.new))
+        (written (W.contents out.old) (W.contents out.new)) }
+    // Unless the text was written, `out` is as it was.
+    ensures unwritten { is_printed result keep_going ≡ false → W.failed out.new ≡ false
+        → out.new ≡ out.old }
+    // Unless a command was reached, `report` is as it was.
+    ensures unreported { may_report result ≡ false → report.new ≡ report.old }
+    // For a bad depth nothing is read; for a script with a line that is no command, no makefile is
+    // read.
+    ensures unread { result ≡ Outcome.BadDepth
+        → (script.new ≡ script.old) × (makefile.new ≡ makefile.old) }
+    ensures script_first { (line : ℕ) → result ≡ Outcome.NotACommand line
+        → makefile.new ≡ makefile.old }
+    ensures makefile_taken { TakesAtMost (R.remaining makefile.old) (R.remaining makefile.new)
+        (MAX_TEXT + BUFFER) }
+    ensures script_taken { TakesAtMost (S.remaining script.old) (S.remaining script.new)
+        (MAX_TEXT + BUFFER) }
+
+    // When these outcomes come, whatever the devices tell.
+    ensures bad_depth { (result ≡ Outcome.BadDepth) ↔ IsBadDepth depth }
+    ensures read { result ≡ Outcome.Read ↔ IsTrue (R.failed makefile.new || S.failed script.new) }
+    ensures write { result ≡ Outcome.Write ↔ IsTrue (W.failed out.new || P.failed report.new) }
+
+    // If the text is out, it is whole and flushed once; otherwise there is no flush. The report is
+    // never flushed.
+    ensures flushed { W.flushes out.new
+        ≡ count_if (is_printed result keep_going) (W.flushes out.old) }
+    ensures settled { is_printed result keep_going ≡ true
+        → IfSome (W.pending out.new) (λ n. n ≡ 0) }
+    ensures report { P.flushes report.new ≡ P.flushes report.old }
+
+    // If the text is out, the session that shows it is handed back.
+    ensures kept { is_printed result keep_going ≡ true
+        → HandsBack kept.new (written (W.contents out.old) (W.contents out.new)) }
+{
     if depth < 1 || depth > MAX_DEPTH {
         return Outcome::BadDepth;
     }
@@ -205,15 +284,16 @@ where
         Ok(commands) => commands,
         Err(outcome) => return outcome,
     };
-    let mut session = match open_makefile(alloc, makefile, depth) {
+    let session = match open_makefile(alloc, makefile, depth) {
         Ok(session) => session,
         Err(outcome) => return outcome,
     };
-    let refused = match obey_all(&mut session, commands.as_slice(), keep_going, report) {
+    let session = kept.insert(session);
+    let refused = match obey_all(session, commands.as_slice(), keep_going, report) {
         Ok(refused) => refused,
         Err(outcome) => return outcome,
     };
-    match put_out(&mut session, out) {
+    match put_out(session, out) {
         Ok(()) if refused == 0 => Outcome::Done,
         Ok(()) => Outcome::Refused(refused),
         Err(fault) => Outcome::from(fault),

@@ -5,7 +5,8 @@ use crate::files::{CannotOpen, open};
 use crate::in_place::InPlaceFile;
 use crate::out_file::OutFile;
 use mk_lines::{ByteSink, ByteSource, StdSink, StdSource};
-use mk_run::{Outcome, run};
+use mk_run::{Outcome, run_keeping};
+use std::mem;
 
 /// Where the commands come from.
 #[derive(Drop)]
@@ -42,7 +43,8 @@ pub struct EditWords<'a> {
     pub file: Option<&'a str>,
 }
 
-// Runs the script over the makefile, with the text to a sink.
+// Runs the script over the makefile, with the text to a sink. The session is not given up: the
+// program ends soon, and a box for each line would be given up one by one.
 fn run_to<R: ByteSource, S: ByteSource, W: ByteSink>(
     rt: &HostRuntime,
     words: &EditWords<'_>,
@@ -55,7 +57,8 @@ fn run_to<R: ByteSource, S: ByteSource, W: ByteSink>(
     requires out_works { W.failed out.old ≡ false }
 {
     let mut report = StdSink::new(rt.stderr());
-    run(
+    let mut kept = None;
+    let outcome = run_keeping(
         rt.alloc(),
         makefile,
         script,
@@ -63,7 +66,10 @@ fn run_to<R: ByteSource, S: ByteSource, W: ByteSink>(
         words.keep_going,
         out,
         &mut report,
-    )
+        &mut kept,
+    );
+    mem::forget(kept);
+    outcome
 }
 
 // Runs the script over the makefile, with the text to where the words say.

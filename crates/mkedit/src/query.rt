@@ -16,6 +16,7 @@ use mk_run::Outcome;
 use mk_session::Session;
 use mk_tree::Doc;
 use std::alloc::Allocator;
+use std::mem;
 
 // A session that is only looked at: the least depth there is.
 const DEPTH: u32 = 1;
@@ -90,7 +91,10 @@ where
 {
     let text = read_all(alloc, makefile)?;
     let session = Session::open_vec(alloc, text, DEPTH)?;
-    put_out(query, session.doc(), out)
+    let answered = put_out(query, session.doc(), out);
+    // The program ends soon: it does not give up a box for each line.
+    mem::forget(session);
+    answered
 }
 
 // Answers on standard output.

@@ -17,6 +17,6 @@ returns-in-Err-clause-refused g c =
     let ls = classed_lines t in
     let fields : bad_argument e ≡ None = sym c.bad_field.ensures ∙ ap field_refusal c.in_default.is in
     let free : reserved e ≡ None = reserved-holds e c.is_reserved.result c.is_reserved.ensures ∙ ap (λ b. where_holds b Reserved) c.if-is_reserved.false in
-    let read : unread_prefix ls ≡ None = unread-holds ls c.seek-sought.result.has_unread_prefix c.seek-sought.ensures.unread_is ∙ ap (λ b. where_holds b RecipePrefix) c.if-sought.false in
+    let read : unread_prefix ls ≡ None = unread-holds ls c.sought_for-sought.result.has_unread_prefix c.sought_for-sought.ensures.unread_is ∙ ap (λ b. where_holds b RecipePrefix) c.if-sought.false in
     not_picked-refused t e c.in-Err.refusal c.requires.one_place fields free read
-    (subst (λ a. IsNotPicked ls a c.in-Err.refusal) c.address_of-address.ensures (c.in-Err.ensures.refused ls c.seek-sought.ensures))
+    (subst (λ a. IsNotPicked ls a c.in-Err.refusal) c.address_of-address.ensures (c.in-Err.ensures.refused ls c.sought_for-sought.ensures))

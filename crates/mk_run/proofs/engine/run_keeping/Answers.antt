@@ -4,8 +4,8 @@ use Rattle.mk_run.specs.Outcome.{outcome_of}
 use Rattle.mk_run.specs.RunEnds.{IsRunOver, written}
 use Rattle.mk_run.specs.declared.outcome.Outcome.{Outcome}
 use Rattle.mk_run.proofs.on_runs.RunLemmas.{good-depth, depth-stops, script-stops, makefile-stops, makefile-not_bad, commands-stop, commands-not_bad, run-done, run-refused, run-cut, printed-refused}
-use Rattle.mk_run.proofs.engine.run.Goals as goal
-use Rattle.mk_run.proofs.engine.run.Goals.{then-depth-lt1-via-then-depth-lt1, then-depth-lt1-via-else-depth-lt1+then-depth-gt-MAX_DEPTH}
+use Rattle.mk_run.proofs.engine.run_keeping.Goals as goal
+use Rattle.mk_run.proofs.engine.run_keeping.Goals.{then-depth-lt1-via-then-depth-lt1, then-depth-lt1-via-else-depth-lt1+then-depth-gt-MAX_DEPTH}
 
 pub returns-then-depth-lt1-clause-law : goal.returns-then-depth-lt1-clause-law
 returns-then-depth-lt1-clause-law g c =
@@ -34,13 +34,13 @@ pub returns-in-Err-obey_all-clause-law : goal.returns-in-Err-obey_all-clause-law
 returns-in-Err-obey_all-clause-law g c =
     commands-stop _ _ c.args.depth c.args.keep_going (map numbered c.in-Ok.commands.items) c.in-Ok-open_makefile.session
     (good-depth c.args.depth c.if-depth-lt1.false c.if-depth-gt-MAX_DEPTH.false) c.in-Ok.ensures.commands c.in-Ok-open_makefile.ensures.opened
-    _ c.in-Err-obey_all.outcome _ _ (rw c.as_slice.ensures.value at c.in-Err-obey_all.ensures.stops)
+    _ c.in-Err-obey_all.outcome _ _ (rw (c.as_slice.ensures.value, c.insert-session.ensures.value) at c.in-Err-obey_all.ensures.stops)
 
 pub returns-in-Err-obey_all-clause-bad_depth : goal.returns-in-Err-obey_all-clause-bad_depth
 returns-in-Err-obey_all-clause-bad_depth g c = (
   λ is. absurd (commands-not_bad _ _ c.args.depth c.args.keep_going (map numbered c.in-Ok.commands.items) c.in-Ok-open_makefile.session
       (good-depth c.args.depth c.if-depth-lt1.false c.if-depth-gt-MAX_DEPTH.false) c.in-Ok.ensures.commands c.in-Ok-open_makefile.ensures.opened
-      _ c.in-Err-obey_all.outcome _ (rw c.as_slice.ensures.value at c.in-Err-obey_all.ensures.stops) is),
+      _ c.in-Err-obey_all.outcome _ (rw (c.as_slice.ensures.value, c.insert-session.ensures.value) at c.in-Err-obey_all.ensures.stops) is),
   λ bad. absurd (good-depth c.args.depth c.if-depth-lt1.false c.if-depth-gt-MAX_DEPTH.false bad),
 )
 
@@ -48,7 +48,7 @@ pub returns-in-Ok-put_out-clause-law : goal.returns-in-Ok-put_out-clause-law
 returns-in-Ok-put_out-clause-law g c =
     run-done _ _ c.args.depth c.args.keep_going (map numbered c.in-Ok.commands.items) c.in-Ok-open_makefile.session
     (good-depth c.args.depth c.if-depth-lt1.false c.if-depth-gt-MAX_DEPTH.false) c.in-Ok.ensures.commands c.in-Ok-open_makefile.ensures.opened
-    c.obey_all.new.session.shown c.in-Ok-obey_all.refused _ _ _ (rw c.as_slice.ensures.value at c.in-Ok-obey_all.ensures.obeyed) c.if-refused-eq0.true c.in-Ok-put_out.ensures.whole
+    c.obey_all.new.session.shown c.in-Ok-obey_all.refused _ _ _ (rw (c.as_slice.ensures.value, c.insert-session.ensures.value) at c.in-Ok-obey_all.ensures.obeyed) c.if-refused-eq0.true c.in-Ok-put_out.ensures.whole
 
 pub returns-in-Ok-put_out-clause-bad_depth : goal.returns-in-Ok-put_out-clause-bad_depth
 returns-in-Ok-put_out-clause-bad_depth g c = (λ is. absurd (cc), λ bad. absurd (good-depth c.args.depth c.if-depth-lt1.false c.if-depth-gt-MAX_DEPTH.false bad))
@@ -57,7 +57,7 @@ pub returns-in-Ok-2-clause-law : goal.returns-in-Ok-2-clause-law
 returns-in-Ok-2-clause-law g c =
     run-refused _ _ c.args.depth c.args.keep_going (map numbered c.in-Ok.commands.items) c.in-Ok-open_makefile.session
     (good-depth c.args.depth c.if-depth-lt1.false c.if-depth-gt-MAX_DEPTH.false) c.in-Ok.ensures.commands c.in-Ok-open_makefile.ensures.opened
-    c.obey_all.new.session.shown c.in-Ok-obey_all.refused _ _ _ (rw c.as_slice.ensures.value at c.in-Ok-obey_all.ensures.obeyed) c.if-refused-eq0.false c.in-Ok-2.ensures.whole
+    c.obey_all.new.session.shown c.in-Ok-obey_all.refused _ _ _ (rw (c.as_slice.ensures.value, c.insert-session.ensures.value) at c.in-Ok-obey_all.ensures.obeyed) c.if-refused-eq0.false c.in-Ok-2.ensures.whole
 
 pub returns-in-Ok-2-clause-unwritten : goal.returns-in-Ok-2-clause-unwritten
 returns-in-Ok-2-clause-unwritten g c = λ off. absurd (let on = printed-refused c.args.keep_going c.in-Ok-obey_all.refused c.in-Ok-obey_all.ensures.obeyed.goes_on c.if-refused-eq0.false in cc)
@@ -76,7 +76,7 @@ returns-clause-law g c =
     (sym (c.from.ensures ∙ ap outcome_of fails.0))
     (run-cut _ _ c.args.depth c.args.keep_going (map numbered c.in-Ok.commands.items) c.in-Ok-open_makefile.session
     (good-depth c.args.depth c.if-depth-lt1.false c.if-depth-gt-MAX_DEPTH.false) c.in-Ok.ensures.commands c.in-Ok-open_makefile.ensures.opened
-    c.obey_all.new.session.shown c.in-Ok-obey_all.refused _ _ _ (rw c.as_slice.ensures.value at c.in-Ok-obey_all.ensures.obeyed) c.in-Ok-obey_all.ensures.works c.in-Err-put_out.ensures.prefix)
+    c.obey_all.new.session.shown c.in-Ok-obey_all.refused _ _ _ (rw (c.as_slice.ensures.value, c.insert-session.ensures.value) at c.in-Ok-obey_all.ensures.obeyed) c.in-Ok-obey_all.ensures.works c.in-Err-put_out.ensures.prefix)
 
 pub returns-clause-bad_depth : goal.returns-clause-bad_depth
 returns-clause-bad_depth g c =
