@@ -110,8 +110,8 @@ fn may_mean<A: Allocator>(address: Option<Address>, line: &Line<A>, class: &Clas
     }
 }
 
-// The number that is sought, from 1; 1 if the address has no number.
-fn wanted(address: Option<Address>) -> usize
+/// The number that is sought, from 1; 1 if the address has no number.
+pub fn wanted(address: Option<Address>) -> usize
     ensures { result ≡ wanted (address_seen address.entry) }
 {
     match address {

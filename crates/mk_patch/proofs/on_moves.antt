@@ -1,6 +1,7 @@
 -- Lemmas. Lines that are moved.
 pub mod MoveLemmas
 pub mod ShapeLemmas
+pub mod StepLemmas
 pub mod ExchangeLemmas
 pub mod TextLineLemmas
 pub mod BuilderLemmas

@@ -1,7 +1,7 @@
 //! Several lines that are moved, as one change.
-ghost use Rattle.std.specs.Prelude.{◌≡◌, ◌≤◌, ◌+◌, [], length};
+ghost use Rattle.std.specs.Prelude.{◌≡◌, ◌≤◌, ◌+◌, [], ◌∷◌, None, IfSome, length};
 ghost use Rattle.mk_patch.specs.Moves.{FitMoves, after_moves, held_by, taken_by};
-ghost use Rattle.mk_patch.specs.StepMoves.{moves_of};
+ghost use Rattle.mk_patch.specs.StepMoves.{move_of, moves_of};
 
 use crate::step::Step;
 use circular_buffer::HeapCircularBuffer;
@@ -81,6 +81,18 @@ impl<A: Allocator> Patch<A> {
         ensures { result ≡ taken_by self.now }
     {
         self.takes
+    }
+
+    /// The step that it makes, if it makes just one. Takes no memory.
+    pub fn only_step(&self) -> Option<&Step<A>>
+        ensures only { IfSome result (λ step. self.now ≡ move_of step.now ∷ []) }
+        ensures none { result ≡ None → length self.now ≡ 1 → ⊥ }
+    {
+        if self.waiting.len() == 1 {
+            self.waiting.front()
+        } else {
+            None
+        }
     }
 
     /// Makes the patch, and gives the patch that takes it back. Takes no memory and is never
