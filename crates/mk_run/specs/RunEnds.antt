@@ -1,7 +1,7 @@
 -- How a run of the code may end: with the result that the definitions give it, or for want of
 -- memory, or because a device failed.
 -- Told in docs/PROOFS.md, "A run".
-use Rattle.std.specs.Prelude.{◌≡◌, ◌⊎◌, ℕ, Bool, true, false, List, ◌∷◌, ◌++◌, Option, Some, Ok, IfSome}
+use Rattle.std.specs.Prelude.{◌≡◌, ◌⊎◌, ℕ, Bool, true, false, List, ◌∷◌, ◌++◌, Option, Some, None, Ok, IfSome}
 use Rattle.std.specs.Io.KnownBytes.{Appends, Keeps}
 use Rattle.mk_lines.specs.Device.{AppendsPrefix}
 use Rattle.mk_history.specs.Shown.{Shown, shown_opened}
