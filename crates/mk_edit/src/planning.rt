@@ -82,7 +82,9 @@ pub fn plan_with<A: Allocator + Copy>(
     match edit {
         Edit::SetValue { value, .. } => plan_set_value(alloc, doc, edit, known, value, meter),
         Edit::AppendValue { value, .. } => plan_append_value(alloc, doc, edit, known, value, meter),
-        Edit::AddAssign { .. } | Edit::AddRule { .. } => plan_addition(alloc, doc, edit, known, meter),
+        Edit::AddAssign { .. } | Edit::AddRule { .. } => plan_addition(
+            alloc, doc, edit, known, meter,
+        ),
         Edit::RemoveAssign { .. } => plan_remove_assign(alloc, doc, edit, known),
         Edit::RemoveRule { .. } => plan_remove_rule(alloc, doc, edit, known),
         Edit::AddPrereq { order, word, .. } => {

@@ -57,11 +57,7 @@ pub fn find<A: Allocator>(
 }
 
 // What a document has for an address: what is known of it, or what a walk finds.
-fn sought_for<A: Allocator>(
-    doc: &Doc<A>,
-    address: Option<Address>,
-    known: Option<Sought>,
-) -> Sought
+fn sought_for<A: Allocator>(doc: &Doc<A>, address: Option<Address>, known: Option<Sought>) -> Sought
     requires faithful { IsFaithful doc.now }
     requires known { IsKnownOf (address_seen address) doc.now known }
     ensures { IsSought (classed_lines (located_text doc.now)) (address_seen address.entry) result }

@@ -201,14 +201,7 @@ where
 {
     let mut kept = None;
     run_keeping(
-        alloc,
-        makefile,
-        script,
-        depth,
-        keep_going,
-        out,
-        report,
-        &mut kept,
+        alloc, makefile, script, depth, keep_going, out, report, &mut kept,
     )
 }
 

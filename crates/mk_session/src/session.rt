@@ -10,9 +10,10 @@ ghost use Rattle.mk_history.specs.Machine as machine;
 ghost use Rattle.mk_session.specs.Sessions.{IsBadDepth, IsBeginRefusal, IsEditRefusal, IsOpeningFault, IsRefusedBy, answer, seen_opened};
 
 use mk_class::Meter;
-use mk_edit::{Edit, Refusal, plan};
+use mk_edit::{Edit, Refusal, plan_with};
 use mk_history::history::MAX_DEPTH;
 use mk_history::{Change, History, Sequence};
+use mk_index::Finder;
 use mk_lines::Fault;
 use mk_lines::source::MAX_TEXT;
 use mk_patch::Patch;
@@ -34,6 +35,8 @@ use std::marker::Model;
 pub struct Session<A: Allocator = Global> {
     alloc: A,
     doc: Doc<A>,
+    // Where the lines of the document stand that edits mean.
+    finder: Finder<A>,
     history: History<Sequence<Patch<A>, A>, A>,
     group: Option<Sequence<Patch<A>, A>>,
     meter: Meter,
@@ -43,6 +46,7 @@ pub struct Session<A: Allocator = Global> {
 
 impl<A: Allocator> Model for Session<A> {
     ghost use Rattle.std.specs.Prelude.{◌≤◌, ◌-◌};
+    ghost use Rattle.mk_index.specs.Effects.{IsIndexIfAny};
     ghost use Rattle.mk_session.specs.Sessions.{Seen};
     ghost use Rattle.mk_session.specs.StoredSessions.{IsStored, shown_stored};
 
@@ -51,7 +55,10 @@ impl<A: Allocator> Model for Session<A> {
     ghost view = { λ s.
         record { shown = shown_stored s.history s.group s.doc; rereads = s.meter - s.opened_at } };
 
-    ghost invariant = { λ s. IsStored s.history s.group s.doc × (s.opened_at ≤ s.meter) };
+    ghost invariant = { λ s.
+        IsStored s.history s.group s.doc
+        × (s.opened_at ≤ s.meter)
+        × IsIndexIfAny s.doc s.finder };
 }
 
 // Refuses a depth that a session cannot have.
@@ -123,6 +130,7 @@ impl<A: Allocator + Copy> Session<A> {
         Ok(Session {
             alloc,
             doc,
+            finder: Finder::new(),
             history,
             group: None,
             meter,
@@ -147,7 +155,8 @@ impl<A: Allocator + Copy> Session<A> {
             ≤ self.old.rereads + cost self.old.shown.text (edit_of edit.now) }
         ensures forward { self.old.rereads ≤ self.new.rereads }
     {
-        let patch = match plan(self.alloc, &self.doc, edit, &mut self.meter) {
+        let known = self.finder.known(self.alloc, &self.doc, edit);
+        let patch = match plan_with(self.alloc, &self.doc, edit, known, &mut self.meter) {
             Ok(patch) => patch,
             Err(refusal) => return Err(refusal),
         };
@@ -157,7 +166,7 @@ impl<A: Allocator + Copy> Session<A> {
                     self.group = Some(group);
                     return Err(Refusal::NoMemory);
                 }
-                group.push_front(patch.make(&mut self.doc));
+                group.push_front(self.finder.make(patch, &mut self.doc));
                 self.group = Some(group);
                 self.history.forget();
             }
@@ -165,7 +174,7 @@ impl<A: Allocator + Copy> Session<A> {
                 let Ok(mut member) = Sequence::with_capacity(self.alloc, 1) else {
                     return Err(Refusal::NoMemory);
                 };
-                member.push_front(patch.make(&mut self.doc));
+                member.push_front(self.finder.make(patch, &mut self.doc));
                 self.history.push(member);
             }
         }
@@ -189,6 +198,7 @@ impl<A: Allocator + Copy> Session<A> {
         if self.has_open_group() {
             return Err(Refusal::GroupOpen);
         }
+        self.finder.forget();
         match self.history.undo(&mut self.doc) {
             Ok(()) => Ok(()),
             Err(_) => Err(Refusal::NothingToUndo),
@@ -212,6 +222,7 @@ impl<A: Allocator + Copy> Session<A> {
         if self.has_open_group() {
             return Err(Refusal::GroupOpen);
         }
+        self.finder.forget();
         match self.history.redo(&mut self.doc) {
             Ok(()) => Ok(()),
             Err(_) => Err(Refusal::NothingToRedo),
@@ -279,6 +290,7 @@ impl<A: Allocator + Copy> Session<A> {
         let Some(group) = self.group.take() else {
             return Err(Refusal::NoGroup);
         };
+        self.finder.forget();
         let Ok(_) = group.apply(&mut self.doc) else {
             unreachable!()
         };

@@ -59,7 +59,7 @@ line-at ls a f h F =
     }
 
 -- the line at a place of a document has a class of its bytes
-classed-at : (ls : List LocatedLine) (at : ℕ) (l : LocatedLine) → AreEachClassed ls → Some l ≡ slice_get ls at → IsClassed l
+pub classed-at : (ls : List LocatedLine) (at : ℕ) (l : LocatedLine) → AreEachClassed ls → Some l ≡ slice_get ls at → IsClassed l
 classed-at [] at l h k = absurd (cc)
 classed-at (x ∷ ls) zero l h k = let e : x ≡ l = cc in subst IsClassed e h.0
 classed-at (x ∷ ls) (suc at) l h k = classed-at ls at l h.1 k

@@ -1,0 +1,14 @@
+use Rattle.std.proofs.Common.{◌≡◌, ◌∷◌, sym, subst, rules}
+use Rattle.mk_tree.specs.Trees.{line_view}
+use Rattle.mk_index.proofs.on_indexes.IndexLemmas.{Filling, filling-from, filling-next}
+use Rattle.mk_index.proofs.index.Index.new.Goals as goal
+
+pub lines-init : goal.lines-init
+lines-init g c =
+    let e : c.into_iter-line-iterator.result ≡ c.args.doc.now = search rules in
+    (tt, tt, subst (Filling c.args.doc.now c.in_ok-index.index) (sym e) (filling-from c.args.doc.now c.in_ok-index.index c.in_ok-index.ensures c.requires (c.iter-line-items.ensures.admitted c.requires)))
+
+pub lines-preserved : goal.lines-preserved
+lines-preserved g c =
+    let e : c.lines.line-iterator ≡ line_view c.in-Some.line.now ∷ c.next.new.self = search rules in
+    (tt, tt, filling-next c.args.doc.now c.lines.index c.push.new.self (line_view c.in-Some.line.now) c.next.new.self (subst (Filling c.args.doc.now c.lines.index) e c.lines.invariant.2) c.in_ok-push.ensures)

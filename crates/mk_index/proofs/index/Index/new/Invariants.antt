@@ -1,0 +1,8 @@
+-- The index is one of the lines that the walk has passed.
+use Rattle.mk_index.proofs.on_indexes.IndexLemmas.{Filling}
+use Rattle.mk_index.proofs.index.Index.new.Given as goal
+
+abbrev pub invariant-lines : goal.invariant-lines
+invariant-lines g l =
+    (goal.iterator-lines g).can_next l.line-iterator × (goal.iterator-lines g).is_finite l.line-iterator
+    × Filling l.doc l.index l.line-iterator

@@ -1,0 +1,178 @@
+//! The index of a document that is edited.
+ghost use Rattle.std.specs.Prelude.{◌≡◌, ◌+◌, IsTrue, None, length};
+ghost use Rattle.mk_tree.specs.Documents.{IsFaithful};
+ghost use Rattle.mk_tree.specs.Trees.{line_view};
+ghost use Rattle.mk_edit_parts.specs.EditViews.{edit_of};
+ghost use Rattle.mk_edit_parts.specs.LocatedParts.{IsClassed};
+ghost use Rattle.mk_edit_parts.specs.Seeking.{IsKnown};
+ghost use Rattle.mk_patch.specs.Moves.{FitMoves, after_moves, held_by, taken_by};
+ghost use Rattle.mk_index.specs.Effects.{AssignSame, IsBehind, IsEffect, IsIndexIfAny};
+
+use crate::index::Index;
+use mk_class::Class;
+use mk_edit_parts::address::{Address, address_of};
+use mk_edit_parts::edit::Edit;
+use mk_edit_parts::part::{part, text_of_line};
+use mk_edit_parts::seek::Sought;
+use mk_edit_parts::text::is_same_text;
+use mk_patch::{Patch, Step};
+use mk_tree::{Doc, Line};
+use std::alloc::{Allocator, Global};
+use std::marker::Model;
+
+// After this many edits of variables without an index, an index is made. One that is not made
+// again and again costs less than so many walks.
+const MOST_WALKS: u32 = 8;
+
+/// What the making of a patch means for an index of the document.
+#[derive(Clone, Copy)]
+pub enum Effect {
+    /// The index stays one of the document.
+    Same,
+    /// One more line stands at the end.
+    Appends,
+    /// The index may be of no use any more.
+    Other,
+}
+
+/// The index of a document that is edited, once an index is worth its making. Contracts see the
+/// index, if there is one.
+#[derive(Drop)]
+pub struct Finder<A: Allocator = Global> {
+    index: Option<Index<A>>,
+    // How many edits there were without an index.
+    walks: u32,
+}
+
+impl<A: Allocator> Model for Finder<A> {
+    ghost use Rattle.std.specs.Prelude.{Option};
+    ghost use Rattle.mk_index.specs.Indexes.{Stored};
+
+    ghost Value = { Option Stored };
+
+    ghost view = { λ f. f.index };
+}
+
+impl<A: Allocator + Copy> Finder<A> {
+    /// A finder without an index.
+    pub fn new() -> Finder<A>
+        ensures { result ≡ None }
+    {
+        Finder {
+            index: None,
+            walks: 0,
+        }
+    }
+
+    /// What is known of the address of an edit, or `None` if a walk over the document has to find
+    /// its line. It makes an index after some edits of variables. A growth that is refused leaves
+    /// the finder without an index, and is no refusal of the edit.
+    pub fn known(&mut self, alloc: A, doc: &Doc<A>, edit: &Edit<A>) -> Option<Sought>
+        requires faithful { IsFaithful doc.now }
+        requires index { IsIndexIfAny doc.now self.old }
+        ensures known { IsKnown (edit_of edit.now) doc.now result }
+        ensures index { IsIndexIfAny doc.now self.new }
+    {
+        let address = address_of(edit);
+        if let Some(Address::Rule(..)) = address {
+            return None;
+        }
+        self.make_index(alloc, doc);
+        match &self.index {
+            Some(index) => index.sought(doc, address),
+            None => None,
+        }
+    }
+
+    // Makes an index, if there were enough edits without one.
+    fn make_index(&mut self, alloc: A, doc: &Doc<A>)
+        requires faithful { IsFaithful doc.now }
+        requires index { IsIndexIfAny doc.now self.old }
+        ensures { IsIndexIfAny doc.now self.new }
+    {
+        if self.index.is_some() {
+            return;
+        }
+        if self.walks < MOST_WALKS {
+            self.walks += 1;
+            return;
+        }
+        self.walks = 0;
+        self.index = Index::new(alloc, doc).ok();
+    }
+
+    /// Makes a patch of the document, as [`Patch::make`] does. The index is kept over another value
+    /// of the same variable and over a line at the end, and dropped over any other change.
+    pub fn make(&mut self, patch: Patch<A>, doc: &mut Doc<A>) -> Patch<A>
+        requires faithful { IsFaithful doc.old }
+        requires faithful_after { IsFaithful (after_moves patch doc.old) }
+        requires fit { FitMoves patch doc.old }
+        requires index { IsIndexIfAny doc.old self.old }
+        ensures after { doc.new ≡ after_moves patch doc.old }
+        ensures fits_back { FitMoves result doc.new }
+        ensures leads_back { after_moves result doc.new ≡ doc.old }
+        ensures held { held_by result ≡ taken_by patch }
+        ensures takes { taken_by result ≡ held_by patch }
+        ensures index { IsIndexIfAny doc.new self.new }
+    {
+        let effect = effect_of(doc, &patch);
+        let inverse = patch.make(doc);
+        match effect {
+            Effect::Same => {}
+            Effect::Appends => self.add_last(doc),
+            Effect::Other => self.forget(),
+        }
+        inverse
+    }
+
+    // Adds the last line of the document to the index.
+    fn add_last(&mut self, doc: &Doc<A>)
+        requires faithful { IsFaithful doc.now }
+        requires behind { IsBehind doc.now self.old }
+        ensures { IsIndexIfAny doc.now self.new }
+    {
+        let Some(mut index) = self.index.take() else {
+            return;
+        };
+        if index.add_last(doc).is_ok() {
+            self.index = Some(index);
+        }
+    }
+
+    /// Drops the index. It asks nothing of the document.
+    pub fn forget(&mut self)
+        ensures { self.new ≡ None }
+    {
+        self.index = None;
+        self.walks = 0;
+    }
+}
+
+// What the making of a patch means for an index.
+fn effect_of<A: Allocator>(doc: &Doc<A>, patch: &Patch<A>) -> Effect
+    requires faithful { IsFaithful doc.now }
+    requires faithful_after { IsFaithful (after_moves patch.now doc.now) }
+    requires fit { FitMoves patch.now doc.now }
+    ensures { IsEffect doc.now patch.now result }
+{
+    match patch.only_step() {
+        Some(Step::PutIn(at, _)) if *at == doc.len() => Effect::Appends,
+        Some(Step::Exchange(at, line)) if assign_same(doc.line(*at), line) => Effect::Same,
+        _ => Effect::Other,
+    }
+}
+
+// Whether two lines assign the same variable, and neither sets the recipe prefix.
+fn assign_same<A: Allocator>(old: &Line<A>, new: &Line<A>) -> bool
+    requires old { IsClassed (line_view old.now) }
+    requires new { IsClassed (line_view new.now) }
+    ensures { IsTrue result → AssignSame (line_view old.now) (line_view new.now) }
+{
+    match (old.class(), new.class()) {
+        (Class::Assign(was, None), Class::Assign(is, None)) => is_same_text(
+            part(text_of_line(old), was.name),
+            part(text_of_line(new), is.name),
+        ),
+        _ => false,
+    }
+}
