@@ -20,10 +20,6 @@ use mk_tree::{Doc, Line};
 use std::alloc::{Allocator, Global};
 use std::marker::Model;
 
-// After this many edits of variables without an index, an index is made. One that is not made
-// again and again costs less than so many walks.
-const MOST_WALKS: u32 = 8;
-
 /// What the making of a patch means for an index of the document.
 #[derive(Clone, Copy)]
 pub enum Effect {
@@ -40,8 +36,8 @@ pub enum Effect {
 #[derive(Drop)]
 pub struct Finder<A: Allocator = Global> {
     index: Option<Index<A>>,
-    // How many edits there were without an index.
-    walks: u32,
+    // Whether an edit's line was sought by a walk since there was an index.
+    has_walked: bool,
 }
 
 impl<A: Allocator> Model for Finder<A> {
@@ -60,13 +56,14 @@ impl<A: Allocator + Copy> Finder<A> {
     {
         Finder {
             index: None,
-            walks: 0,
+            has_walked: false,
         }
     }
 
     /// What is known of the address of an edit, or `None` if a walk over the document has to find
-    /// its line. It makes an index after some edits of variables. A growth that is refused leaves
-    /// the finder without an index, and is no refusal of the edit.
+    /// its line. The first edit of a variable makes do with a walk. The second one makes an index,
+    /// which costs little more. A growth that is refused leaves the finder without an index, and is
+    /// no refusal of the edit.
     pub fn known(&mut self, alloc: A, doc: &Doc<A>, edit: &Edit<A>) -> Option<Sought>
         requires faithful { IsFaithful doc.now }
         requires index { IsIndexIfAny doc.now self.old }
@@ -84,7 +81,7 @@ impl<A: Allocator + Copy> Finder<A> {
         }
     }
 
-    // Makes an index, if there were enough edits without one.
+    // Makes an index, if a walk was made already.
     fn make_index(&mut self, alloc: A, doc: &Doc<A>)
         requires faithful { IsFaithful doc.now }
         requires index { IsIndexIfAny doc.now self.old }
@@ -93,12 +90,10 @@ impl<A: Allocator + Copy> Finder<A> {
         if self.index.is_some() {
             return;
         }
-        if self.walks < MOST_WALKS {
-            self.walks += 1;
-            return;
+        if self.has_walked {
+            self.index = Index::new(alloc, doc).ok();
         }
-        self.walks = 0;
-        self.index = Index::new(alloc, doc).ok();
+        self.has_walked = !self.has_walked;
     }
 
     /// Makes a patch of the document, as [`Patch::make`] does. The index is kept over another value
@@ -144,7 +139,7 @@ impl<A: Allocator + Copy> Finder<A> {
         ensures { self.new ≡ None }
     {
         self.index = None;
-        self.walks = 0;
+        self.has_walked = false;
     }
 }
 

@@ -1,5 +1,5 @@
 -- The recipe line of a number of a rule, as it stands in a document.
-use Rattle.std.proofs.Common.{◌≡◌, refl, sym, ap, ◌∙◌, arith, ℕ, zero, suc, ◌+◌, ◌<◌, true, List, [], ◌∷◌, ◌++◌, map, length, length-append, Option, Some, None, option_map}
+use Rattle.std.proofs.Common.{◌≡◌, refl, sym, ap, ◌∙◌, arith, ℕ, ◌+◌, ◌<◌, true, List, [], ◌∷◌, ◌++◌, length, length-append, Option, Some, None, option_map}
 use Rattle.std.specs.Prelude.{option_and_then}
 use Rattle.std.proofs.lemmas.List.{length-map}
 use Rattle.mk_class.specs.Classes.{Class, is_recipe}
@@ -17,13 +17,8 @@ use Rattle.mk_edit_laws.proofs.on_lines.SpotLemmas.{recipe-class}
 use Rattle.mk_edit_laws.proofs.on_recipes.RecipeClassLemmas.{recipe-stands}
 use Rattle.mk_edit_parts.specs.RecipeWalks.{lines_from, recipe_spots_in}
 use Rattle.mk_edit_parts.specs.declared.seek.Found.{Found}
+use Rattle.mk_edit_parts.proofs.on_finding.SeekLemmas.{nth-map}
 use Rattle.mk_edit.proofs.on_recipes.RulePlaces.{IsRuleAt}
-
-nth-map : {A B : Type 0} (f : A → B) (n : ℕ) (xs : List A) → nth_of n (map f xs) ≡ option_map f (nth_of n xs)
-nth-map f n [] = refl
-nth-map f zero (x ∷ xs) = refl
-nth-map f (suc zero) (x ∷ xs) = refl
-nth-map f (suc (suc n)) (x ∷ xs) = nth-map f (suc n) xs
 
 -- where the code finds a rule's recipe line, by its number
 abbrev pub index_in_rule : List LocatedLine → (from number : ℕ) → Option ℕ

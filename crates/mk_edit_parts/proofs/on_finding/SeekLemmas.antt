@@ -71,6 +71,13 @@ seek-count p q w s (l ∷ ls) A =
 
 -- ---- which
 
+-- the nth of what each thing leads to
+pub nth-map : {A B : Type 0} (f : A → B) (n : ℕ) (xs : List A) → nth_of n (map f xs) ≡ option_map f (nth_of n xs)
+nth-map f n [] = refl
+nth-map f zero (x ∷ xs) = refl
+nth-map f (suc zero) (x ∷ xs) = refl
+nth-map f (suc (suc n)) (x ∷ xs) = nth-map f (suc n) xs
+
 places-under : (f : Found) (l : ClassedLine) (ss : List StandingLine) (n : ℕ) → option_map (place_from (next f l)) (nth_of n ss) ≡ option_map (place_from f) (nth_of n (map (under l) ss))
 places-under f l [] n = refl
 places-under f l (s ∷ ss) zero = refl

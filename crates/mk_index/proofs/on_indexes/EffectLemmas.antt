@@ -16,7 +16,7 @@ use Rattle.mk_index.specs.Indexes.{IsIndexOf, Stored, last_first}
 
 -- ---- one more line
 
-pub below-at : (f : Found) (ls : List LocatedLine) → (below_all f ls).at ≡ f.at + length ls
+below-at : (f : Found) (ls : List LocatedLine) → (below_all f ls).at ≡ f.at + length ls
 below-at f [] = omega arith
 below-at f (l ∷ ls) = let e = below-at (below f l) ls in omega (arith, e)
 

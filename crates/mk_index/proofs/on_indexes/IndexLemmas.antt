@@ -88,6 +88,3 @@ filling-next doc i j l ahead f more = record {
 
     end : j.end ≡ below i.end l
     end = made.end_is ∙ (below_all-more first_place f.lines l ∙ ap (λ g. below g l) (sym f.index_is.end_is))
-
-pub filling-over : (doc : List LocatedLine) (i : Stored) (ahead : List LocatedLine) → Filling doc i ahead → ahead ≡ [] → IsIndexOf doc i
-filling-over doc i ahead f e = subst (λ ls. IsIndexOf ls i) (sym (append-nil f.lines) ∙ (ap (λ xs. f.lines ++ xs) (sym e) ∙ f.doc_is)) f.index_is

@@ -23,7 +23,7 @@ use Rattle.mk_edit_parts.specs.Seeking.{IsSought, candidates_of, nothing_seen, s
 use Rattle.mk_edit_parts.specs.declared.seek.Found.{Found}
 use Rattle.mk_edit_parts.specs.declared.seek.Sought.{Sought}
 use Rattle.mk_edit_parts.proofs.on_finding.PartLemmas.{unread-located}
-use Rattle.mk_edit_parts.proofs.on_finding.SeekLemmas.{AgreeAlong, agree-along, candidates-spots, means, means-located, next, place_from, places-first}
+use Rattle.mk_edit_parts.proofs.on_finding.SeekLemmas.{AgreeAlong, agree-along, candidates-spots, means, means-located, next, nth-map, place_from, places-first}
 use Rattle.mk_index.specs.Assignments.{Assignment, assignments, assignments_from, below, below_all, first_place, name_assigned, name_in, with_assigned}
 use Rattle.mk_index.specs.Indexes.{IsIndexOf, Stored, last_first}
 use Rattle.mk_index.specs.Passings.{named, passed_over}
@@ -42,12 +42,6 @@ below-end f (l ∷ ds) =
     below-end (below f (located_line l)) ds ∙ ap (λ (n : ℕ). record { at = n; context = context_after_lines (below f (located_line l)).context ds }) n
 
 -- ---- the assignments of a name
-
-place : Assignment → Found
-place a = a.place
-
-places : (name : List ℕ) → List Assignment → List Found
-places n xs = map (λ (a : Assignment). a.place) (named n xs)
 
 places-cond : (t : Bool) (a : Assignment) (xs : List Assignment) → map (λ (b : Assignment). b.place) (cond t (a ∷ xs) xs) ≡ cond t (a.place ∷ map (λ (b : Assignment). b.place) xs) (map (λ (b : Assignment). b.place) xs)
 places-cond true a xs = refl
@@ -100,10 +94,6 @@ named-spots n q f (l ∷ ds) A =
 
 -- ---- the nth of some things, from their end
 
-filter-one : {X : Type 0} (p : X → Bool) (x : X) (t : Bool) → p x ≡ t → filter p (x ∷ []) ≡ reverse (cond t (x ∷ []) [])
-filter-one p x true e = ap (λ t. cond t (x ∷ []) []) e
-filter-one p x false e = ap (λ t. cond t (x ∷ []) []) e
-
 reverse-cond : {X : Type 0} (t : Bool) (x : X) (xs : List X) → reverse (cond t (x ∷ xs) xs) ≡ reverse xs ++ cond t (x ∷ []) []
 reverse-cond true x xs = reverse_onto xs x []
 reverse-cond false x xs = sym (append-none (reverse xs))
@@ -136,17 +126,11 @@ nth-back (x ∷ xs) i h =
     nth-get i (x ∷ xs) ∙ (slice_get-get_or (x ∷ xs) i x h
     ∙ sym (slice_get-get_or (reverse (x ∷ xs)) (suc (length xs) - suc i) x (omega (arith, n, k)) ∙ ap Some (get_or-reverse (x ∷ xs) (suc (length xs) - suc i) x k ∙ ap (λ j. get_or (x ∷ xs) j x) e)))
 
-nth-map : {X Y : Type 0} (f : X → Y) (n : ℕ) (xs : List X) → nth_of n (map f xs) ≡ option_map f (nth_of n xs)
-nth-map f zero [] = refl
-nth-map f (suc n) [] = refl
-nth-map f zero (x ∷ xs) = refl
-nth-map f (suc zero) (x ∷ xs) = refl
-nth-map f (suc (suc n)) (x ∷ xs) = nth-map f (suc n) xs
 
 -- ---- what an index knows
 
 -- what an index knows of some lines, with these candidates
-abbrev pub told : (count : ℕ) → Option Found → Stored → Sought
+abbrev told : (count : ℕ) → Option Found → Stored → Sought
 told count found i = record { count = count; found = found; has_unread_prefix = i.has_unread_prefix; end = i.end }
 
 ends : (ls : List LocatedLine) (i : Stored) → IsFaithful ls → IsIndexOf ls i → i.end ≡ record { at = length (classed_lines (located_text ls)); context = context_of (classed_lines (located_text ls)) }
@@ -166,10 +150,6 @@ none-known ls i h k = record {
   unread_is = unread ls i h k;
   end_is = ends ls i h k;
 }
-
--- the assignments of a name, in order
-in_order : (name : List ℕ) → List LocatedLine → List Assignment
-in_order n ls = named n (assignments ls)
 
 named-back : (n : List ℕ) (ls : List LocatedLine) → named n (last_first ls) ≡ reverse (named n (assignments ls))
 named-back n ls = filter-reverse (λ a. bytes_eq a.name n) (assignments ls)

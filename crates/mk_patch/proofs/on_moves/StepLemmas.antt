@@ -2,7 +2,6 @@
 use Rattle.std.proofs.Common.{◌≡◌, ap, sym, List, [], ◌∷◌, length, Option, Some, None, Bor, IfSome, unwrap_or}
 use Rattle.std.specs.Prelude.{slice_get}
 use Rattle.std.specs.Option.{option_copied}
-use Rattle.mk_patch.specs.Moves.{Move}
 use Rattle.mk_patch.specs.StepMoves.{move_of, moves_of}
 use Rattle.mk_patch.specs.declared.step.Step.{Step}
 

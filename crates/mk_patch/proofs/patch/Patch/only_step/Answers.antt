@@ -1,5 +1,4 @@
-use Rattle.std.proofs.Common.{◌≡◌, ◌∙◌, ap, sym, subst, List, length, ◌∷◌, [], IfSome}
-use Rattle.std.proofs.lemmas.List.{length-map}
+use Rattle.std.proofs.Common.{◌≡◌, ◌∙◌, sym, subst, List, ◌∷◌, [], IfSome}
 use Rattle.mk_patch.specs.Moves.{Move}
 use Rattle.mk_patch.specs.StepMoves.{move_of}
 use Rattle.mk_patch.proofs.on_moves.StepLemmas.{first-only, first-some}
