@@ -20,6 +20,10 @@ use mk_tree::{Doc, Line};
 use std::alloc::{Allocator, Global};
 use std::marker::Model;
 
+// A document of fewer lines gets no index: a walk over them takes no longer than the rest of an
+// edit.
+const FEWEST_LINES: usize = 1_024;
+
 /// What the making of a patch means for an index of the document.
 #[derive(Clone, Copy)]
 pub enum Effect {
@@ -62,8 +66,8 @@ impl<A: Allocator + Copy> Finder<A> {
 
     /// What is known of the address of an edit, or `None` if a walk over the document has to find
     /// its line. The first edit of a variable makes do with a walk. The second one makes an index,
-    /// which costs little more. A growth that is refused leaves the finder without an index, and is
-    /// no refusal of the edit.
+    /// which costs little more, unless the document has fewer than 1,024 lines. A growth that is
+    /// refused leaves the finder without an index, and is no refusal of the edit.
     pub fn known(&mut self, alloc: A, doc: &Doc<A>, edit: &Edit<A>) -> Option<Sought>
         requires faithful { IsFaithful doc.now }
         requires index { IsIndexIfAny doc.now self.old }
@@ -87,7 +91,7 @@ impl<A: Allocator + Copy> Finder<A> {
         requires index { IsIndexIfAny doc.now self.old }
         ensures { IsIndexIfAny doc.now self.new }
     {
-        if self.index.is_some() {
+        if self.index.is_some() || doc.len() < FEWEST_LINES {
             return;
         }
         if self.has_walked {

@@ -1,5 +1,6 @@
 //! Tests of `mk_session`: worked rows, the lines that calls read again, growths that are refused
-//! and growths that are counted, and many calls over hostile makefiles.
+//! and growths that are counted, many calls over hostile makefiles, and documents that are long
+//! enough for an index.
 #![tactic(auto)]
 
 #[cfg(test)]
@@ -8,6 +9,8 @@ mod any_command;
 mod counted_growths;
 #[cfg(test)]
 mod edits;
+#[cfg(test)]
+mod long_documents;
 #[cfg(test)]
 mod many_calls;
 #[cfg(test)]

@@ -126,7 +126,6 @@ nth-back (x ∷ xs) i h =
     nth-get i (x ∷ xs) ∙ (slice_get-get_or (x ∷ xs) i x h
     ∙ sym (slice_get-get_or (reverse (x ∷ xs)) (suc (length xs) - suc i) x (omega (arith, n, k)) ∙ ap Some (get_or-reverse (x ∷ xs) (suc (length xs) - suc i) x k ∙ ap (λ j. get_or (x ∷ xs) j x) e)))
 
-
 -- ---- what an index knows
 
 -- what an index knows of some lines, with these candidates
