@@ -182,12 +182,12 @@ fn goes_on(rt: &HostRuntime, heap: &Heap, admitted: u64) -> Result<Growth, Fail>
 
 // How many growths of the index, and of the edit, were refused in turn.
 fn refused_in_turn(rt: &HostRuntime, heap: &Heap) -> Result<(u64, u64), Fail> {
-    let (mut of_index, mut of_edit) = (0, 0);
+    let (mut of_index, mut of_edit) = (0u64, 0u64);
     for admitted in 0..100 {
         match goes_on(rt, heap, admitted)? {
             Growth::NotThere => return Ok((of_index, of_edit)),
-            Growth::OfTheIndex => of_index += 1,
-            Growth::OfTheEdit => of_edit += 1,
+            Growth::OfTheIndex => of_index = of_index.saturating_add(1),
+            Growth::OfTheEdit => of_edit = of_edit.saturating_add(1),
         }
     }
     Err(Fail::from("each growth was refused"))
