@@ -31,41 +31,41 @@ const STEPS: &[(Step, Result<Ends, Refusal>)] = &[
     (Step::AppendValue(b"A", b"4"), Ok((b"A=2 4\n", b"C=3\n"))),
     (
         Step::AddAssign(b"D", b"5"),
-        Ok((b"A=2 4\n", b"C=3\nD = 5\n")),
+        Ok((b"A=2 4\n", b"C=3\nD := 5\n")),
     ),
     (
         Step::AddAssign(b"E", b"6"),
-        Ok((b"A=2 4\n", b"C=3\nD = 5\nE = 6\n")),
+        Ok((b"A=2 4\n", b"C=3\nD := 5\nE := 6\n")),
     ),
     (
         Step::SetValue(b"E", b"7"),
-        Ok((b"A=2 4\n", b"C=3\nD = 5\nE = 7\n")),
+        Ok((b"A=2 4\n", b"C=3\nD := 5\nE := 7\n")),
     ),
     (
         Step::SetValue(b"D", b"8"),
-        Ok((b"A=2 4\n", b"C=3\nD = 8\nE = 7\n")),
+        Ok((b"A=2 4\n", b"C=3\nD := 8\nE := 7\n")),
     ),
     (
         Step::AddAssign(b"A", b"9"),
-        Ok((b"A=2 4\n", b"C=3\nD = 8\nE = 7\nA = 9\n")),
+        Ok((b"A=2 4\n", b"C=3\nD := 8\nE := 7\nA := 9\n")),
     ),
     (Step::SetValue(b"A", b"0"), Err(Refusal::Ambiguous(2))),
-    (Step::Undo, Ok((b"A=2 4\n", b"C=3\nD = 8\nE = 7\n"))),
+    (Step::Undo, Ok((b"A=2 4\n", b"C=3\nD := 8\nE := 7\n"))),
     (
         Step::SetValue(b"A", b"0"),
-        Ok((b"A=0\n", b"C=3\nD = 8\nE = 7\n")),
+        Ok((b"A=0\n", b"C=3\nD := 8\nE := 7\n")),
     ),
     (
         Step::SetValue(b"E", b"1"),
-        Ok((b"A=0\n", b"C=3\nD = 8\nE = 1\n")),
+        Ok((b"A=0\n", b"C=3\nD := 8\nE := 1\n")),
     ),
-    (Step::RemoveAssign(b"D"), Ok((b"A=0\n", b"C=3\nE = 1\n"))),
+    (Step::RemoveAssign(b"D"), Ok((b"A=0\n", b"C=3\nE := 1\n"))),
     (Step::SetValue(b"D", b"2"), Err(Refusal::NoSuch)),
-    (Step::SetValue(b"E", b"2"), Ok((b"A=0\n", b"C=3\nE = 2\n"))),
+    (Step::SetValue(b"E", b"2"), Ok((b"A=0\n", b"C=3\nE := 2\n"))),
     (Step::SetValue(b"D", b"3"), Err(Refusal::NoSuch)),
-    (Step::RemoveAssign(b"A"), Ok((b"", b"C=3\nE = 2\n"))),
-    (Step::SetValue(b"C", b"4"), Ok((b"", b"C=4\nE = 2\n"))),
-    (Step::SetValue(b"E", b"3"), Ok((b"", b"C=4\nE = 3\n"))),
+    (Step::RemoveAssign(b"A"), Ok((b"", b"C=3\nE := 2\n"))),
+    (Step::SetValue(b"C", b"4"), Ok((b"", b"C=4\nE := 2\n"))),
+    (Step::SetValue(b"E", b"3"), Ok((b"", b"C=4\nE := 3\n"))),
 ];
 
 // The text with these ends.
