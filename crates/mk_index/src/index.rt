@@ -135,7 +135,12 @@ impl<A: Allocator + Copy> Index<A> {
 
     // What is sought, with this many lines that may be meant, and the one that is meant.
     fn with_found(&self, count: usize, found: Option<Found>) -> Sought
-        ensures { result ≡ record { count = count; found = found; has_unread_prefix = self.now.has_unread_prefix; end = self.now.end } }
+        ensures { result ≡ record {
+          count = count;
+          found = found;
+          has_unread_prefix = self.now.has_unread_prefix;
+          end = self.now.end;
+        } }
     {
         Sought {
             count,
