@@ -1,5 +1,5 @@
 -- Lines put in, taken out or replaced: the bytes, and the open conditionals.
-use Rattle.std.proofs.Common.{◌≡◌, ℕ, zero, suc, ◌+◌, ◌<◌, false, refl, arith, List, [], ◌∷◌, ◌++◌, length, take, drop, suc-add}
+use Rattle.std.proofs.Common.{◌≡◌, ℕ, zero, suc, ◌+◌, ◌-◌, ◌<◌, ◌≤◌, ◌∙◌, ap, sym, Some, false, refl, arith, List, [], ◌∷◌, ◌++◌, length, take, drop, suc-add}
 use Rattle.std.specs.Prelude.{slice_get, IfSome}
 use Rattle.mk_class.specs.Contexts.{conditionals_after_located, FitsConditionals}
 use Rattle.mk_class.specs.declared.class.Class.{Class}
@@ -90,6 +90,14 @@ fit-remove_steps inside taken self new at e v p h r = rw (r, e) (fit-remove 0 in
 pub fit-replace_steps : (x : LocatedLine) (inside taken self new : List LocatedLine) (at : ℕ) → taken ≡ inside → inside ≡ self → IfSome (slice_get self at) (λ l. is_conditional_located l.class ≡ false)
     → is_conditional_located x.class ≡ false → AreConditionalsFit 0 inside → new ≡ take at taken ++ x ∷ drop (at + 1) taken → AreConditionalsFit 0 new
 fit-replace_steps x inside taken self new at e v p q h r = rw (r, e) (fit-replace 0 x inside at (rw v p) q h)
+
+-- the size of a document with one line for another
+pub size-replace_steps : (size : ℕ) (x old : LocatedLine) (inside taken new : List LocatedLine) (at : ℕ) → taken ≡ inside → size ≡ size_of inside → Some old ≡ slice_get taken at
+    → size_of new + size_of_line (slice_get taken at) ≡ size_of taken + length x.bytes → (length old.bytes ≤ size + length x.bytes) × (size + length x.bytes - length old.bytes ≡ size_of new)
+size-replace_steps size x old inside taken new at e h here r =
+    let own : length old.bytes ≡ size_of_line (slice_get taken at) = ap size_of_line here in
+    let total : size ≡ size_of taken = h ∙ ap size_of (sym e) in
+    (omega (arith, own, total, r), omega (arith, own, total, r))
 
 -- the bytes of a document with one line for another
 pub ruleset sizes = (size_of-replace)

@@ -1,8 +1,8 @@
 -- The last of some lines, with other bytes.
-use Rattle.std.proofs.Common.{◌≡◌, ℕ, ◌+◌, ◌-◌, ◌<◌, refl, sym, ap, ◌∙◌, arith, List, [], ◌∷◌, ◌++◌, length, length-append, append-nil, take, drop, Some}
+use Rattle.std.proofs.Common.{◌≡◌, ℕ, ◌+◌, ◌-◌, ◌<◌, ◌≤◌, refl, sym, ap, ◌∙◌, arith, List, [], ◌∷◌, ◌++◌, length, length-append, append-nil, take, drop, Option, Some, None}
 use Rattle.std.specs.Prelude.{slice_get}
 use Rattle.mk_class.specs.Contexts.{conditionals_after_located}
-use Rattle.mk_tree.specs.LocatedLines.{LocatedLine, size_of, size_of_line, last_line, with_last_bytes, AreConditionalsFit}
+use Rattle.mk_tree.specs.LocatedLines.{LocatedLine, size_of, size_of_line, bytes_of_line, last_line, with_last_bytes, AreConditionalsFit}
 use Rattle.mk_tree.proofs.Indices.{get_middle, take_middle, drop_middle}
 
 -- the last of lines that end in some lines is the last of those
@@ -72,5 +72,19 @@ fit-with_last n bytes (l ∷ k ∷ ls) h = (h.0, fit-with_last (conditionals_aft
 
 pub fit-with_last_steps : (bytes : List ℕ) (inside taken new : List LocatedLine) → taken ≡ inside → AreConditionalsFit 0 inside → new ≡ with_last_bytes bytes taken → AreConditionalsFit 0 new
 fit-with_last_steps bytes inside taken new e h r = rw (r, e) (fit-with_last 0 bytes inside h)
+
+-- the bytes of a line, counted
+size_of_line-bytes : (o : Option LocatedLine) → size_of_line o ≡ length (bytes_of_line o)
+size_of_line-bytes None = refl
+size_of_line-bytes (Some l) = refl
+
+-- the size of a document with other bytes for the last line
+pub size-with_last_steps : (size : ℕ) (bytes old : List ℕ) (inside taken new : List LocatedLine) → 0 < length taken → taken ≡ inside → size ≡ size_of inside → new ≡ with_last_bytes bytes taken
+    → old ≡ bytes_of_line (last_line taken) → (length old ≤ size + length bytes) × (size + length bytes - length old ≡ size_of new)
+size-with_last_steps size bytes old inside taken new some e h r o =
+    let own : length old ≡ size_of_line (last_line taken) = ap length o ∙ sym (size_of_line-bytes (last_line taken)) in
+    let total : size ≡ size_of taken = h ∙ ap size_of (sym e) in
+    let whole : size_of new + size_of_line (last_line taken) ≡ size_of taken + length bytes = rw r (size_of-with_last bytes taken some) in
+    (omega (arith, own, total, whole), omega (arith, own, total, whole))
 
 pub ruleset sizes = (size_of-with_last)

@@ -3,7 +3,6 @@ use Rattle.std.proofs.Common.{◌≡◌, ℕ, ◌+◌, ◌≤◌, ◌<◌, max, 
 use Rattle.mk_lines.specs.Limits.{max_text}
 use Rattle.mk_tree.specs.LocatedLines.{LocatedLine, size_of}
 use Rattle.mk_tree.specs.Trees.{DifferByAtMost, AreFew, IsNode, IsBalanced, IsTop, IsUnlinked, fewest_lines, lines_and_height}
-use Rattle.mk_tree.specs.declared.tree.Counts.{Counts}
 use Rattle.mk_tree.specs.declared.tree.Line.{Line}
 use Rattle.mk_tree.specs.declared.tree.Link.{Link}
 use Rattle.mk_tree.specs.declared.tree.Link.TheVariants.{Empty, Full}
@@ -11,10 +10,10 @@ use Rattle.mk_tree.proofs.Heights.{fewest_lines-join, fewest_lines-low}
 use Rattle.mk_tree.proofs.Indices.{size_of-append, size_of-whole}
 
 -- what a line between two trees of almost the same height counts
-pub node-join : (l r : List LocatedLine × ℕ) (x : LocatedLine) (higher own lines_left lines_right bytes_left bytes_right : ℕ) → DifferByAtMost 1 l.1 r.1 → AreFew l.0 l.1 → AreFew r.0 r.1 → 0 < length x.bytes
-    → size_of l.0 + length x.bytes + size_of r.0 ≤ max_text → higher ≡ max l.1 r.1 → own ≡ length x.bytes → lines_left ≡ length l.0 → lines_right ≡ length r.0 → bytes_left ≡ size_of l.0 → bytes_right ≡ size_of r.0
-    → IsNode l x r (record { height = higher + 1; lines = lines_left + 1 + lines_right; bytes = bytes_left + own + bytes_right })
-node-join l r x higher own lines_left lines_right bytes_left bytes_right near a b some fits h o m n p q =
+pub node-join : (l r : List LocatedLine × ℕ) (x : LocatedLine) (higher lines_left lines_right : ℕ) → DifferByAtMost 1 l.1 r.1 → AreFew l.0 l.1 → AreFew r.0 r.1 → 0 < length x.bytes
+    → size_of l.0 + length x.bytes + size_of r.0 ≤ max_text → higher ≡ max l.1 r.1 → lines_left ≡ length l.0 → lines_right ≡ length r.0
+    → IsNode l x r (higher + 1) (lines_left + 1 + lines_right)
+node-join l r x higher lines_left lines_right near a b some fits h m n =
     let count : length (l.0 ++ x ∷ r.0) ≡ length l.0 + 1 + length r.0 = grind (arith, length-append) in
     let total : size_of (l.0 ++ x ∷ r.0) ≡ size_of l.0 + (length x.bytes + size_of r.0) = size_of-append l.0 (x ∷ r.0) in
     let height : higher + 1 ≡ max l.1 r.1 + 1 = omega (arith, h) in
@@ -25,7 +24,6 @@ node-join l r x higher own lines_left lines_right bytes_left bytes_right near a 
       height_is = height;
       balanced = near;
       lines_are = omega (arith, count, m, n);
-      bytes_are = omega (arith, total, o, p, q);
       few = record {
         enough = enough;
         some_bytes = some_bytes;
@@ -35,13 +33,13 @@ node-join l r x higher own lines_left lines_right bytes_left bytes_right near a 
     }
 
 -- what a node of a tree says of the tree
-unlinked-of_node : (l r : List LocatedLine × ℕ) (x : LocatedLine) (counts : Counts) → IsNode l x r counts → IsUnlinked (l.0 ++ x ∷ r.0, counts.height) l x r
-unlinked-of_node l r x counts h = record { lines = refl; size = size_of-whole l.0 r.0 x; height = h.height_is; balanced = h.balanced; few = h.few }
+unlinked-of_node : (l r : List LocatedLine × ℕ) (x : LocatedLine) (height lines : ℕ) → IsNode l x r height lines → IsUnlinked (l.0 ++ x ∷ r.0, height) l x r
+unlinked-of_node l r x height lines h = record { lines = refl; size = size_of-whole l.0 r.0 x; height = h.height_is; balanced = h.balanced; few = h.few }
 
 -- the top of a tree, with what stands before and after it
-pub top-of_link : {A : _} (link : Link A) (counts : Counts) (l : Line A) (whole : List LocatedLine × ℕ) → link ≡ Full counts l → IsBalanced link → lines_and_height link ≡ whole → IsTop whole l
-top-of_link Empty counts l whole e h v = cc
-top-of_link (Full c x) counts l whole e h v =
+pub top-of_link : {A : _} (link : Link A) (height lines : ℕ) (l : Line A) (whole : List LocatedLine × ℕ) → link ≡ Full height lines l → IsBalanced link → lines_and_height link ≡ whole → IsTop whole l
+top-of_link Empty height lines l whole e h v = cc
+top-of_link (Full k n x) height lines l whole e h v =
     let same : x ≡ l = cc in
-    let here : IsTop (lines_and_height (Full c x)) x = unlinked-of_node x.node.value.left x.node.value.right x.node.value.content c h in
+    let here : IsTop (lines_and_height (Full k n x)) x = unlinked-of_node x.node.value.left x.node.value.right x.node.value.content k n h in
     subst (λ z. IsTop whole z) same (subst (λ w. IsTop w x) v here)

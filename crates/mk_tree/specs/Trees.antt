@@ -3,7 +3,6 @@
 use Rattle.std.specs.Prelude.{◌≡◌, ℕ, suc, zero, ◌+◌, ◌*◌, ◌^◌, ◌<◌, ◌≤◌, max, List, [], ◌∷◌, ◌++◌, length}
 use Rattle.mk_lines.specs.Limits.{max_text}
 use Rattle.mk_tree.specs.LocatedLines.{LocatedLine, size_of}
-use Rattle.mk_tree.specs.declared.tree.Counts.{Counts}
 use Rattle.mk_tree.specs.declared.tree.Line.{Line}
 use Rattle.mk_tree.specs.declared.tree.Link.{Link}
 use Rattle.mk_tree.specs.declared.tree.Link.TheVariants.{Empty, Full}
@@ -15,8 +14,8 @@ line_view l = l.node.value.content
 -- the lines of a tree in order, and its height
 abbrev pub lines_and_height : {A : _} → Link A → List LocatedLine × ℕ
 lines_and_height Empty = ([], 0)
-lines_and_height (Full counts l) =
-    (l.node.value.left.0 ++ l.node.value.content ∷ l.node.value.right.0, counts.height)
+lines_and_height (Full height lines l) =
+    (l.node.value.left.0 ++ l.node.value.content ∷ l.node.value.right.0, height)
 
 -- two numbers differ by at most `by`
 abbrev pub DifferByAtMost : ℕ → ℕ → ℕ → Type 0
@@ -39,17 +38,16 @@ pub record AreFew (lines : List LocatedLine) (height : ℕ) : Type 0 where
 -- the counts of a link are those of the tree below it, and the sides of its line differ by at most
 -- one in height
 pub record IsNode (left : List LocatedLine × ℕ) (line : LocatedLine) (right : List LocatedLine × ℕ)
-    (counts : Counts) : Type 0 where
-  pub height_is : counts.height ≡ max left.1 right.1 + 1
+    (height lines : ℕ) : Type 0 where
+  pub height_is : height ≡ max left.1 right.1 + 1
   pub balanced : DifferByAtMost 1 left.1 right.1
-  pub lines_are : counts.lines ≡ length (left.0 ++ line ∷ right.0)
-  pub bytes_are : counts.bytes ≡ size_of (left.0 ++ line ∷ right.0)
-  pub few : AreFew (left.0 ++ line ∷ right.0) counts.height
+  pub lines_are : lines ≡ length (left.0 ++ line ∷ right.0)
+  pub few : AreFew (left.0 ++ line ∷ right.0) height
 
 -- what holds of a tree, at one level
 abbrev pub IsBalanced : {A : _} → Link A → Type 0
 IsBalanced Empty = Unit {0}
-IsBalanced (Full counts l) = let n = l.node.value in IsNode n.left n.content n.right counts
+IsBalanced (Full height lines l) = let n = l.node.value in IsNode n.left n.content n.right height lines
 
 -- the parts of a tree: a line, and what stands left and right of it
 pub record IsUnlinked (whole left : List LocatedLine × ℕ) (line : LocatedLine)

@@ -25,17 +25,19 @@ use std::mem;
 #[derive(Drop)]
 pub struct Doc<A: Allocator = Global> {
     pub(crate) tree: Tree<A>,
+    // How many bytes the lines have together.
+    pub(crate) size: usize,
 }
 
 impl<A: Allocator> Model for Doc<A> {
-    ghost use Rattle.std.specs.Prelude.{List};
-    ghost use Rattle.mk_tree.specs.LocatedLines.{LocatedLine, AreConditionalsFit};
+    ghost use Rattle.std.specs.Prelude.{◌≡◌, List};
+    ghost use Rattle.mk_tree.specs.LocatedLines.{LocatedLine, AreConditionalsFit, size_of};
 
     ghost Value = { List LocatedLine };
 
     ghost view = { λ d. d.tree.0 };
 
-    ghost invariant = { λ d. AreConditionalsFit 0 d.tree.0 };
+    ghost invariant = { λ d. AreConditionalsFit 0 d.tree.0 × (d.size ≡ size_of d.tree.0) };
 }
 
 impl<A: Allocator> Doc<A> {
@@ -60,7 +62,9 @@ impl<A: Allocator> Doc<A> {
         ensures few { size_of self.now ≤ max_text }
         ensures some_bytes { length self.now ≤ size_of self.now }
     {
-        self.tree.size()
+        let lines = self.tree.len();
+        prove!(lines <= self.size);
+        self.size
     }
 
     /// The line at an index, from 0. Takes no memory.
@@ -97,6 +101,7 @@ impl<A: Allocator> Doc<A> {
         ensures lines { self.new ≡ take at self.old ++ line_view line ∷ drop at self.old }
     {
         let tree = mem::replace(&mut self.tree, Tree::new());
+        self.size += line.bytes().len();
         self.tree = tree.insert(at, line);
     }
 
@@ -113,6 +118,7 @@ impl<A: Allocator> Doc<A> {
         let tree = mem::replace(&mut self.tree, Tree::new());
         let (tree, line) = tree.remove(at);
         self.tree = tree;
+        self.size -= line.bytes().len();
         line
     }
 
@@ -133,8 +139,10 @@ impl<A: Allocator> Doc<A> {
         ensures lines { self.new ≡ take at self.old ++ line_view line ∷ drop (at + 1) self.old }
     {
         let tree = mem::replace(&mut self.tree, Tree::new());
+        let size = self.size + line.bytes().len();
         let (tree, old) = tree.replace(at, line);
         self.tree = tree;
+        self.size = size - old.bytes().len();
         old
     }
 
@@ -156,8 +164,10 @@ impl<A: Allocator> Doc<A> {
         ensures some_bytes_back { 0 < length result }
     {
         let tree = mem::replace(&mut self.tree, Tree::new());
+        let size = self.size + bytes.as_slice().len();
         let (tree, old) = tree.swap_end(bytes);
         self.tree = tree;
+        self.size = size - old.as_slice().len();
         old
     }
 }

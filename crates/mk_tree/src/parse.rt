@@ -72,12 +72,13 @@ impl<A: Allocator + Copy> Doc<A> {
         if text.len() > MAX_TEXT {
             return Err(Fault::TooLong);
         }
+        let size = text.len();
         let text = RcSlice::from_vec(text)?;
         let spans = split(alloc, text.as_slice())?;
         let mut lines = Unread::new(alloc, &text, &spans);
         let count = lines.len();
         let tree = read_tree(&mut lines, count, meter)?;
-        Ok(Doc { tree })
+        Ok(Doc { tree, size })
     }
 }
 

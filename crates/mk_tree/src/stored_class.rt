@@ -11,7 +11,7 @@ use mk_lines::split::Span;
 use std::alloc::{Allocator, Global};
 use std::mem::size_of;
 
-/// A [`Class`], with offsets of 32 bits if they fit.
+/// A [`Class`], with offsets of 16 bits if they fit.
 #[derive(Drop)]
 pub(crate) enum StoredClass<A: Allocator> {
     Endef,
@@ -26,48 +26,48 @@ pub(crate) enum StoredClass<A: Allocator> {
     Else,
     Endif,
     Directive,
-    TargetAssign(Separator, Flavor, u32, StoredAssignment),
+    TargetAssign(Separator, Flavor, u16, StoredAssignment),
     Rough,
     Header(StoredHeader),
-    /// A class with an offset that does not fit: its line is too long for a document.
+    /// A class with an offset that does not fit: its line is longer than 65,535 bytes.
     Long(Box<Class, A>),
 }
 
-const _: () = prove!(size_of::<StoredClass<Global>>() == 32);
+const _: () = prove!(size_of::<StoredClass<Global>>() == 16);
 
-/// The offsets of an [`Assignment`], with 32 bits each.
+/// The offsets of an [`Assignment`], with 16 bits each.
 #[derive(Clone, Copy, Debug, PartialEq, Eq)]
 pub(crate) struct StoredAssignment {
-    name_start: u32,
-    name_end: u32,
-    value_start: u32,
-    value_end: u32,
-    end: u32,
+    name_start: u16,
+    name_end: u16,
+    value_start: u16,
+    value_end: u16,
+    end: u16,
 }
 
-/// A [`Header`] with offsets of 32 bits.
+/// A [`Header`] with offsets of 16 bits.
 #[derive(Clone, Copy, Debug, PartialEq, Eq)]
 pub(crate) struct StoredHeader {
     separator: Separator,
     has_pattern: bool,
     has_order_only: bool,
     has_recipe: bool,
-    targets_end: u32,
-    normal_start: u32,
-    normal_end: u32,
-    head_end: u32,
+    targets_end: u16,
+    normal_start: u16,
+    normal_end: u16,
+    head_end: u16,
 }
 
 // An offset as a smaller number; `None` if it does not fit.
-fn small(offset: usize) -> Option<u32>
-    ensures { MatchOption result (2 ^ 32 ≤ offset) (λ p. p ≡ offset) }
+fn small(offset: usize) -> Option<u16>
+    ensures { MatchOption result (2 ^ 16 ≤ offset) (λ p. p ≡ offset) }
 {
-    u32::try_from(offset).ok()
+    u16::try_from(offset).ok()
 }
 
 impl StoredAssignment {
     fn of(assignment: &Assignment) -> Option<StoredAssignment>
-        ensures { MatchOption result (2 ^ 32 ≤ largest_offset_of_assignment assignment.now)
+        ensures { MatchOption result (2 ^ 16 ≤ largest_offset_of_assignment assignment.now)
             (λ stored. whole_assignment assignment.now.flavor stored ≡ assignment.now) }
     {
         Some(StoredAssignment {
@@ -99,7 +99,7 @@ impl StoredAssignment {
 
 impl StoredHeader {
     fn of(header: &Header) -> Option<StoredHeader>
-        ensures { MatchOption result (2 ^ 32 ≤ largest_offset_of_header header.now) (λ stored.
+        ensures { MatchOption result (2 ^ 16 ≤ largest_offset_of_header header.now) (λ stored.
             whole_header stored ≡ header.now) }
     {
         Some(StoredHeader {
@@ -132,14 +132,14 @@ impl StoredHeader {
 
 impl<A: Allocator> StoredClass<A> {
     /// A class as it is stored. It takes memory, and is stored in a box, only if an offset does not
-    /// fit in 32 bits.
+    /// fit in 16 bits.
     ///
     /// # Errors
     ///
     /// [`Fault::NoMemory`] if a growth was refused.
     pub(crate) fn new(alloc: A, class: Class) -> Result<StoredClass<A>, Fault>
         ensures ok { IfOk result (λ stored. whole_class stored ≡ class) }
-        ensures small { largest_offset class < 2 ^ 32 → IsOkAnd result IsUnboxed }
+        ensures small { largest_offset class < 2 ^ 16 → IsOkAnd result IsUnboxed }
         ensures fault { IsOkUnless result Fault.NoMemory }
     {
         match StoredClass::with_small_offsets(&class) {
@@ -150,7 +150,7 @@ impl<A: Allocator> StoredClass<A> {
 
     // A class with small offsets; `None` if one of its offsets does not fit.
     fn with_small_offsets(class: &Class) -> Option<StoredClass<A>>
-        ensures { MatchOption result (2 ^ 32 ≤ largest_offset class.now) (λ stored.
+        ensures { MatchOption result (2 ^ 16 ≤ largest_offset class.now) (λ stored.
             (whole_class stored ≡ class.now) × IsUnboxed stored) }
     {
         let stored = match class {

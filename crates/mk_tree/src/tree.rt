@@ -33,16 +33,13 @@ pub(crate) struct Tree<A: Allocator = Global> {
 #[derive(Drop)]
 enum Link<A: Allocator> {
     Empty,
-    Full(Counts, Line<A>),
-}
-
-/// What is counted of a tree that is not empty. The counts stand beside the pointer to the top, so
-/// that a way down reads only the nodes on it.
-#[derive(Clone, Copy, Debug, PartialEq, Eq)]
-struct Counts {
-    height: u32,
-    lines: u32,
-    bytes: u32,
+    // The two counts stand beside the pointer to the top, so that a way down reads only the nodes on
+    // it. They come first, since a variant begins with what fits beside its tag.
+    Full {
+        height: u8,
+        lines: u32,
+        top: Line<A>,
+    },
 }
 
 /// A line of a makefile, in a box of its own. In a document the box also holds what stands before
@@ -63,7 +60,7 @@ struct Node<A: Allocator> {
 
 // A document has one node for each line. To print or drop the document takes the time that it takes
 // to go through the memory of all nodes.
-const _: () = prove!(size_of::<Node<Global>>() == 120);
+const _: () = prove!(size_of::<Node<Global>>() == 88);
 
 impl<A: Allocator> Model for Tree<A> {
     ghost use Rattle.std.specs.Prelude.{ℕ, List, length};
@@ -156,13 +153,13 @@ impl<A: Allocator> Tree<A> {
     }
 
     // How many lines stand on the longest way down from the top.
-    fn height(&self) -> u32
+    fn height(&self) -> u8
         ensures height { result ≡ self.now.1 }
         ensures few { AreFew self.now.0 self.now.1 }
     {
         match &self.link {
             Link::Empty => 0,
-            Link::Full(counts, _) => counts.height,
+            Link::Full { height, .. } => *height,
         }
     }
 
@@ -173,18 +170,7 @@ impl<A: Allocator> Tree<A> {
     {
         match &self.link {
             Link::Empty => 0,
-            Link::Full(counts, _) => counts.lines,
-        }
-    }
-
-    // How many bytes the lines have.
-    fn bytes(&self) -> u32
-        ensures bytes { result ≡ size_of self.now.0 }
-        ensures few { AreFew self.now.0 self.now.1 }
-    {
-        match &self.link {
-            Link::Empty => 0,
-            Link::Full(counts, _) => counts.bytes,
+            Link::Full { lines, .. } => *lines,
         }
     }
 
@@ -196,21 +182,13 @@ impl<A: Allocator> Tree<A> {
         self.lines() as usize
     }
 
-    /// How many bytes the lines have.
-    pub(crate) fn size(&self) -> usize
-        ensures size { result ≡ size_of self.now.0 }
-        ensures few { AreFew self.now.0 self.now.1 }
-    {
-        self.bytes() as usize
-    }
-
     /// The line at the top.
     pub(crate) fn top(&self) -> Option<&Line<A>>
         ensures top { MatchOption result (self.now ≡ ([], 0)) (λ line. IsTop self.now line.now) }
     {
         match &self.link {
             Link::Empty => None,
-            Link::Full(_, line) => Some(line),
+            Link::Full { top, .. } => Some(top),
         }
     }
 
@@ -221,14 +199,14 @@ impl<A: Allocator> Tree<A> {
     {
         match &self.link {
             Link::Empty => unreachable!(),
-            Link::Full(_, line) => {
-                let before = line.node.left.len();
+            Link::Full { top, .. } => {
+                let before = top.node.left.len();
                 if at < before {
-                    line.node.left.line(at)
+                    top.node.left.line(at)
                 } else if at == before {
-                    line
+                    top
                 } else {
-                    line.node.right.line(at - before - 1)
+                    top.node.right.line(at - before - 1)
                 }
             }
         }
@@ -341,10 +319,10 @@ impl<A: Allocator> Tree<A> {
     {
         match self.link {
             Link::Empty => None,
-            Link::Full(_, mut line) => {
-                let left = mem::replace(&mut line.node.left, Tree::new());
-                let right = mem::replace(&mut line.node.right, Tree::new());
-                Some((left, line, right))
+            Link::Full { mut top, .. } => {
+                let left = mem::replace(&mut top.node.left, Tree::new());
+                let right = mem::replace(&mut top.node.right, Tree::new());
+                Some((left, top, right))
             }
         }
     }
@@ -360,16 +338,19 @@ impl<A: Allocator> Tree<A> {
             ≡ size_of left.0 + length (line_view line).bytes + size_of right.0 }
         ensures height { result.1 ≡ max left.1 right.1 + 1 }
     {
+        let height = left.height().max(right.height()) + 1;
+        let lines = left.lines() + 1 + right.lines();
         let node = &mut *line.node;
-        let counts = Counts {
-            height: left.height().max(right.height()) + 1,
-            lines: left.lines() + 1 + right.lines(),
-            bytes: left.bytes() + node.content.bytes().len() as u32 + right.bytes(),
-        };
+        let has_bytes = !node.content.bytes().is_empty();
+        prove!(has_bytes);
         node.left = left;
         node.right = right;
         Tree {
-            link: Link::Full(counts, line),
+            link: Link::Full {
+                height,
+                lines,
+                top: line,
+            },
         }
     }
 

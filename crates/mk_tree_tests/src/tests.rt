@@ -142,6 +142,34 @@ fn each_refused_growth_of_parsing_a_text_by_value_is_no_memory(
     Ok(())
 }
 
+// Whether the first line is an assignment whose value ends at this offset.
+fn has_value_to<A: Allocator>(doc: &Doc<A>, end: usize) -> bool {
+    match doc.iter().next().map(|line| line.class()) {
+        Some(Class::Assign(assignment, None)) => assignment.value.end == end,
+        _ => false,
+    }
+}
+
+#[test]
+fn only_the_class_of_a_long_line_takes_memory(rt: HostRuntime) -> Result<(), Fail> {
+    for (count, growths) in [(65_531, 4), (65_532, 5)] {
+        let mut text = Vec::from_slice(rt.alloc(), b"A = ")?;
+        text.extend_from_slice(&repeated(&rt, b"x", count)?)?;
+        for admitted in 0..20 {
+            let heap = Refusing::after(rt.alloc(), admitted);
+            let answer = Doc::parse(&heap, &text, &mut Meter::new());
+            if !heap.has_refused() {
+                // the text and the count of its owners, the spans, the node, and the class if one of
+                // its offsets is greater than 65,535
+                assert!(rt; admitted == growths && has_value_to(&answer?, text.len()));
+                break;
+            }
+            assert!(rt; matches!(answer, Err(Fault::NoMemory)));
+        }
+    }
+    Ok(())
+}
+
 #[test]
 fn a_text_by_value_is_parsed_as_one_that_is_copied(rt: HostRuntime) -> Result<(), Fail> {
     let text = Vec::from_slice(rt.alloc(), FOUR_LINES)?;

@@ -1,6 +1,9 @@
-use Rattle.std.proofs.Common.{ap}
+use Rattle.std.proofs.Common.{arith, ap, length}
+use Rattle.mk_tree.specs.LocatedLines.{size_of}
 use Rattle.mk_tree.proofs.Changes.{fit-insert_steps}
 use Rattle.mk_tree.proofs.document.Doc.insert.Goals as goal
 
 pub invariant_of-self : goal.invariant_of-self
-invariant_of-self g c = fit-insert_steps _ c.self.inside.tree.0 c.replace-tree.result.0 _ c.args.at (ap (λ t. t.0) c.replace-tree.ensures.value) c.requires.plain c.self.invariant c.insert.ensures.lines
+invariant_of-self g c =
+    let fit = fit-insert_steps _ c.self.inside.tree.0 c.replace-tree.result.0 _ c.args.at (ap (λ t. t.0) c.replace-tree.ensures.value) c.requires.plain c.self.invariant.0 c.insert.ensures.lines in
+    (fit, omega (arith, c.insert.ensures.size, c.self.invariant.1, ap (λ t. size_of t.0) c.replace-tree.ensures.value, ap length c.bytes.ensures.bytes))

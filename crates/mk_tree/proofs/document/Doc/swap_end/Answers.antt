@@ -1,6 +1,14 @@
-use Rattle.std.proofs.Common.{ap}
-use Rattle.mk_tree.proofs.Ends.{fit-with_last_steps}
+use Rattle.std.proofs.Common.{ap, length, arith}
+use Rattle.mk_tree.proofs.Ends.{fit-with_last_steps, size-with_last_steps}
 use Rattle.mk_tree.proofs.document.Doc.swap_end.Goals as goal
 
 pub invariant_of-self : goal.invariant_of-self
-invariant_of-self g c = fit-with_last_steps _ c.self.inside.tree.0 c.replace-tree.result.0 _ (ap (λ t. t.0) c.replace-tree.ensures.value) c.self.invariant c.swap_end-tree.ensures.lines
+invariant_of-self g c =
+    let fit = fit-with_last_steps _ c.self.inside.tree.0 c.replace-tree.result.0 _ (ap (λ t. t.0) c.replace-tree.ensures.value) c.self.invariant.0 c.swap_end-tree.ensures.lines in
+    let size = size-with_last_steps c.self.inside.size c.args.bytes c.swap_end-tree.result.1 c.self.inside.tree.0 c.replace-tree.result.0 c.swap_end-tree.result.0.0 (omega (arith, c.requires.some_lines, ap (λ t. length t.0) c.replace-tree.ensures.value, ap length c.self.view_is)) (ap (λ t. t.0) c.replace-tree.ensures.value) c.self.invariant.1 c.swap_end-tree.ensures.lines c.swap_end-tree.ensures.old in
+    (fit, omega (arith, size.1, ap length c.as_slice.ensures, ap length c.as_slice-2.ensures))
+
+pub overflow_sub-self : goal.overflow_sub-self
+overflow_sub-self g c =
+    let size = size-with_last_steps c.self.inside.size c.args.bytes c.swap_end-tree.result.1 c.self.inside.tree.0 c.replace-tree.result.0 c.swap_end-tree.result.0.0 (omega (arith, c.requires.some_lines, ap (λ t. length t.0) c.replace-tree.ensures.value, ap length c.self.view_is)) (ap (λ t. t.0) c.replace-tree.ensures.value) c.self.invariant.1 c.swap_end-tree.ensures.lines c.swap_end-tree.ensures.old in
+    omega (arith, size.0, ap length c.as_slice.ensures, ap length c.as_slice-2.ensures)
