@@ -71,7 +71,8 @@ def plain(source):
             macro, _, line = line.partition(" ")
             line = {".Nm": "mkedit", ".Fl": "-" + line}.get(macro, line).replace(" Ns ", "")
         words.append(line)
-    return re.sub(r" ([.,:;](?: |$))", r"\1", " ".join(words).replace(" ,", ","))
+    joined = " ".join(words).replace(" ,", ",").replace("\\e", "\\")
+    return re.sub(r" ([.,:;](?: |$))", r"\1", joined)
 
 
 @check

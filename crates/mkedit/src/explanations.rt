@@ -6,15 +6,15 @@
 use mk_session::Refusal;
 
 const BAD_ARGUMENT: &str = "\
-A field is not what it has to be, such as a value with a `#` outside a reference. The report names the
-first such field.
+A field is not what it has to be, such as a value with a `#` that would begin a comment. The report
+names the first such field.
 
 Example: the script
     set CC \"gcc #1\"
 is reported as
     1: refused 1 BadArgument value
 
-Correct the script. A `#` in a value has to stand inside a reference.
+Correct the script. In a value write `\\#`, or put the `#` inside a reference.
 ";
 
 const RESERVED: &str = "\
@@ -31,10 +31,11 @@ Edit by hand.
 ";
 
 const RECIPE_PREFIX: &str = "\
-The file sets `.RECIPEPREFIX` in a way that is not read: in a conditional, with a modifier, by
-`define`, with `+=`, `?=`, `!=` or `:::=`, or to a byte that is no prefix, such as the `$` of a
-reference. Then it is not known which lines are recipe lines. It also comes where a line that is
-written, other than a recipe line, would begin with the recipe prefix. That is tested after 4 and 5.
+The file sets `.RECIPEPREFIX` in a way that is not read: in a conditional, with a modifier such as
+`export`, by `define`, with `+=`, `?=`, `!=` or `:::=`, or to a byte that cannot be a prefix, such
+as the `$` of a reference. Then mkedit does not know which lines are recipe lines. There is a second
+cause: the edit would write a line that begins with the recipe prefix and is no recipe line. This
+cause is tested after 4 and 5.
 
 Example: over
     ifdef POSIX
@@ -65,7 +66,8 @@ Look with `mkedit vars` or `mkedit rules`. Where the line stands in the file all
 ";
 
 const AMBIGUOUS: &str = "\
-There are several such lines that are read, and no `nth` says which one. The report has their number.
+Several assignments or several rules that are read have this name, and no `nth` says which one is
+meant. The report says how many there are.
 
 Example: over
     ifdef DEBUG
@@ -95,7 +97,7 @@ Look with `mkedit rules`.
 ";
 
 const ALREADY: &str = "\
-The word is in this list of prerequisites already.
+The list of prerequisites to which the command adds the word has it already.
 
 Example: over
     hello: main.o
@@ -122,8 +124,8 @@ Decide by hand.
 ";
 
 const SHARED_RULE: &str = "\
-The rule to take away has several targets. The report has their number, where each counts as often as
-it stands.
+The rule to take away has several targets. The report says how many. A target that stands twice
+counts twice.
 
 Example: over
     build cache: config
@@ -153,8 +155,9 @@ Edit by hand, or use `recipe-set` and `recipe-del`, which are not refused.
 ";
 
 const OPEN_VALUE: &str = "\
-The value to append to has a reference that is not closed, or ends in half a unit, such as a lone `$`.
-What is appended would become a part of it.
+The value to append to has a reference that is not closed, or ends in a lone `$` or a lone
+backslash. The new text would become a part of that reference, or would be read together with that
+byte.
 
 Example: over
     SOURCES = $(wildcard *.c
@@ -195,9 +198,10 @@ Mend the file, or choose another place.
 ";
 
 const LEANS: &str = "\
-The change would begin or end a rule before a line that begins with the recipe prefix. Such a line
-could become a recipe line, or cease to be one. Blank lines, comments and the lines of conditionals may
-stand between. The edit is refused even where the line would read the same.
+Below the change stands a line that begins with the recipe prefix, and between the two are only
+blank lines, comments and lines of conditionals. The change has a part in how such a line is read:
+it could become a recipe line, or cease to be one. The edit is refused even where the line would
+read the same.
 
 Example: over
     all:
@@ -231,7 +235,7 @@ Correct the script, or give a greater depth by `-d`.
 ";
 
 const NOTHING_TO_REDO: &str = "\
-Nothing was taken back, or an edit came after it.
+Nothing was taken back, or a new edit was made after the `undo`.
 
 Example: the script
     redo

@@ -3,7 +3,8 @@
 //! The text goes into a new file beside the makefile. This file takes the makefile's name when the
 //! text is whole and on the disk. So the name stands for the old file or for the new one at every
 //! moment.
-ghost use Rattle.std.specs.Prelude.{◌≡◌, ◌≤◌, false, length, IfOk, IfErr};
+ghost use Rattle.std.specs.Prelude.{◌≡◌, ◌||◌, ◌≤◌, None, Some, true, false, is_err, is_some, length, IfOk, IfErr, IfSome, OnErr, OnOk};
+ghost use Rattle.mk_lines.specs.Device.{is_refused};
 
 use crate::files::beside_standard_streams;
 use mk_lines::{ByteSink, Fault, StdSink};
@@ -100,7 +101,9 @@ pub struct InPlaceFile<'a> {
 impl<'a> InPlaceFile<'a> {
     /// A sink to the makefile of this name, which has not failed. It makes no file yet.
     pub fn new(rt: &'a HostRuntime, name: &'a str) -> InPlaceFile<'a>
-        ensures { result.is_failed ≡ false }
+        ensures name { result.name.now ≡ name.now }
+        ensures closed { result.draft ≡ None }
+        ensures works { result.is_failed ≡ false }
     {
         InPlaceFile {
             rt,
@@ -117,48 +120,37 @@ impl<'a> InPlaceFile<'a> {
         }
     }
 
-    // The new file; it is made where it has not been yet.
+    // The new file; it is made where it has not been yet, and that alone can fail.
     fn take_draft(&mut self) -> Result<Draft, Fault>
+        ensures open { IfSome self.old.draft (λ draft. result ≡ Ok draft) }
         ensures fault { IfErr result (λ fault. fault ≡ Fault.Write) }
-        ensures same { self.new.is_failed ≡ self.old.is_failed }
+        ensures failed { self.new.is_failed ≡ (self.old.is_failed || is_err result) }
+        ensures taken { self.new.draft ≡ None }
+        ensures name { self.new.name ≡ self.old.name }
     {
         if let Some(draft) = self.draft.take() {
             return Ok(draft);
         }
-        begin(self.rt, self.name).map_err(|_| Fault::Write)
-    }
-
-    fn write_to_draft(&mut self, text: &[u8]) -> Result<usize, Fault>
-        ensures bound { IfOk result (λ count. count ≤ length text.now) }
-        ensures fault { IfErr result (λ fault. fault ≡ Fault.Write) }
-        ensures same { self.new.is_failed ≡ self.old.is_failed }
-    {
-        let draft = self.take_draft()?;
-        let answer = StdSink::new(&draft.file).write(text);
-        self.draft = Some(draft);
-        answer
-    }
-
-    fn finish(&mut self) -> Result<(), Fault>
-        ensures fault { IfErr result (λ fault. fault ≡ Fault.Write) }
-        ensures same { self.new.is_failed ≡ self.old.is_failed }
-    {
-        let draft = self.take_draft()?;
-        match rename_to_makefile(self.rt, &draft) {
-            Ok(()) => Ok(()),
+        match begin(self.rt, self.name) {
+            Ok(draft) => Ok(draft),
             Err(_) => {
-                self.draft = Some(draft);
+                self.is_failed = true;
                 Err(Fault::Write)
             }
         }
     }
-}
 
-impl ByteSink for InPlaceFile<'_> {
-    ghost failed = { λ out. out.is_failed };
-
-    fn write(&mut self, text: &[u8]) -> Result<usize, Fault> {
-        let answer = self.write_to_draft(text);
+    fn write_to_draft(&mut self, text: &[u8]) -> Result<usize, Fault>
+        ensures bound { IfOk result (λ count. count ≤ length text.now) }
+        ensures open { IfOk result (λ _. is_some self.new.draft ≡ true) }
+        ensures draft { IfSome self.old.draft (λ draft. self.new.draft ≡ Some draft) }
+        ensures fault { IfErr result (λ fault. fault ≡ Fault.Write) }
+        ensures failed { self.new.is_failed ≡ (self.old.is_failed || is_refused result text.now) }
+        ensures name { self.new.name ≡ self.old.name }
+    {
+        let draft = self.take_draft()?;
+        let answer = StdSink::new(&draft.file).write(text);
+        self.draft = Some(draft);
         let is_refused = match answer {
             Ok(count) => count == 0 && !text.is_empty(),
             Err(_) => true,
@@ -167,10 +159,33 @@ impl ByteSink for InPlaceFile<'_> {
         answer
     }
 
+    // Where it fails, a draft that was there stays, for `close`.
+    fn finish(&mut self) -> Result<(), Fault>
+        ensures closed { OnOk result (self.new.draft ≡ None) }
+        ensures draft { OnErr result (IfSome self.old.draft (λ draft. self.new.draft ≡ Some draft)) }
+        ensures fault { IfErr result (λ fault. fault ≡ Fault.Write) }
+        ensures failed { self.new.is_failed ≡ (self.old.is_failed || is_err result) }
+        ensures name { self.new.name ≡ self.old.name }
+    {
+        let draft = self.take_draft()?;
+        let answer = rename_to_makefile(self.rt, &draft);
+        if answer.is_err() {
+            self.draft = Some(draft);
+            self.is_failed = true;
+        }
+        answer.map_err(|_| Fault::Write)
+    }
+}
+
+impl ByteSink for InPlaceFile<'_> {
+    ghost failed = { λ out. out.is_failed };
+
+    fn write(&mut self, text: &[u8]) -> Result<usize, Fault> {
+        self.write_to_draft(text)
+    }
+
     fn flush(&mut self) -> Result<(), Fault> {
-        let answer = self.finish();
-        self.is_failed = self.is_failed || answer.is_err();
-        answer
+        self.finish()
     }
 
     fn failed(&self) -> bool {

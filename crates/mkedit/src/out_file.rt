@@ -1,5 +1,6 @@
 //! The file that a text goes to.
-ghost use Rattle.std.specs.Prelude.{◌≡◌, ◌≤◌, false, length, IfOk, IfErr};
+ghost use Rattle.std.specs.Prelude.{◌≡◌, ◌||◌, ◌≤◌, None, true, false, is_err, is_some, length, IfOk, IfErr, IfSome, OnOk};
+ghost use Rattle.mk_lines.specs.Device.{is_refused};
 
 use crate::files::create;
 use mk_lines::{ByteSink, Fault, StdSink};
@@ -20,7 +21,9 @@ pub struct OutFile<'a> {
 impl<'a> OutFile<'a> {
     /// A sink to the file of this name, which has not failed. It opens nothing yet.
     pub fn new(rt: &'a HostRuntime, name: &'a str) -> OutFile<'a>
-        ensures { result.is_failed ≡ false }
+        ensures name { result.name.now ≡ name.now }
+        ensures closed { result.file ≡ None }
+        ensures works { result.is_failed ≡ false }
     {
         OutFile {
             rt,
@@ -30,47 +33,35 @@ impl<'a> OutFile<'a> {
         }
     }
 
-    // The file; it is opened and emptied where it has not been yet.
+    // The file; it is opened and emptied where it has not been yet, and that alone can fail.
     fn take_file(&mut self) -> Result<StdSink<File>, Fault>
+        ensures open { IfSome self.old.file (λ file. result ≡ Ok file) }
         ensures fault { IfErr result (λ fault. fault ≡ Fault.Write) }
-        ensures same { self.new.is_failed ≡ self.old.is_failed }
+        ensures failed { self.new.is_failed ≡ (self.old.is_failed || is_err result) }
+        ensures name { self.new.name ≡ self.old.name }
     {
         if let Some(file) = self.file.take() {
             return Ok(file);
         }
         match create(self.rt, self.name) {
             Ok(file) => Ok(StdSink::new(file)),
-            Err(_) => Err(Fault::Write),
+            Err(_) => {
+                self.is_failed = true;
+                Err(Fault::Write)
+            }
         }
     }
 
     fn write_to_file(&mut self, text: &[u8]) -> Result<usize, Fault>
         ensures bound { IfOk result (λ count. count ≤ length text.now) }
+        ensures open { IfOk result (λ _. is_some self.new.file ≡ true) }
         ensures fault { IfErr result (λ fault. fault ≡ Fault.Write) }
-        ensures same { self.new.is_failed ≡ self.old.is_failed }
+        ensures failed { self.new.is_failed ≡ (self.old.is_failed || is_refused result text.now) }
+        ensures name { self.new.name ≡ self.old.name }
     {
         let mut file = self.take_file()?;
         let answer = file.write(text);
         self.file = Some(file);
-        answer
-    }
-
-    fn flush_file(&mut self) -> Result<(), Fault>
-        ensures fault { IfErr result (λ fault. fault ≡ Fault.Write) }
-        ensures same { self.new.is_failed ≡ self.old.is_failed }
-    {
-        let mut file = self.take_file()?;
-        let answer = file.flush();
-        self.file = Some(file);
-        answer
-    }
-}
-
-impl ByteSink for OutFile<'_> {
-    ghost failed = { λ out. out.is_failed };
-
-    fn write(&mut self, text: &[u8]) -> Result<usize, Fault> {
-        let answer = self.write_to_file(text);
         let is_refused = match answer {
             Ok(count) => count == 0 && !text.is_empty(),
             Err(_) => true,
@@ -79,10 +70,29 @@ impl ByteSink for OutFile<'_> {
         answer
     }
 
-    fn flush(&mut self) -> Result<(), Fault> {
-        let answer = self.flush_file();
+    fn flush_file(&mut self) -> Result<(), Fault>
+        ensures open { OnOk result (is_some self.new.file ≡ true) }
+        ensures fault { IfErr result (λ fault. fault ≡ Fault.Write) }
+        ensures failed { self.new.is_failed ≡ (self.old.is_failed || is_err result) }
+        ensures name { self.new.name ≡ self.old.name }
+    {
+        let mut file = self.take_file()?;
+        let answer = file.flush();
+        self.file = Some(file);
         self.is_failed = self.is_failed || answer.is_err();
         answer
+    }
+}
+
+impl ByteSink for OutFile<'_> {
+    ghost failed = { λ out. out.is_failed };
+
+    fn write(&mut self, text: &[u8]) -> Result<usize, Fault> {
+        self.write_to_file(text)
+    }
+
+    fn flush(&mut self) -> Result<(), Fault> {
+        self.flush_file()
     }
 
     fn failed(&self) -> bool {
