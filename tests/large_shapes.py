@@ -192,15 +192,17 @@ def run_scenes(program, tally, rounds, pairs, show):
     print(flush=True)
 
 
-def pairs_of(scenes, word):
-    """Scenes at both sizes, those in whose names the word is."""
-    return [it for it in zip(scenes(QUARTER), scenes(LARGE)) if word in it[0].name]
+def pairs_of(scenes, word, share):
+    """Scenes at both sizes, those in whose names the word is, of which a share is every N-th."""
+    number, count = share
+    pairs = [it for it in zip(scenes(QUARTER), scenes(LARGE)) if word in it[0].name]
+    return pairs[number - 1 :: count]
 
 
-def run(program, tally, rounds, word):
-    """Runs every job of the shapes in whose names a word is, and prints tables of them."""
-    makefiles = pairs_of(makefile_scenes, word)
-    scripts = pairs_of(script_shapes.scenes, word)
+def run(program, tally, rounds, word, share):
+    """Runs every job of a share of the shapes in whose names a word is, and prints tables of them."""
+    makefiles = pairs_of(makefile_scenes, word, share)
+    scripts = pairs_of(script_shapes.scenes, word, share)
     if makefiles:
         row(*MAKEFILE_COLUMNS)
         row("---", *["---:"] * 5)

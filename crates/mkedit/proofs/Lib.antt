@@ -1,2 +1,3 @@
 -- Lemmas on refusals
 mod RefusalLemmas
+mod UntoldLemmas

@@ -139,8 +139,12 @@ impl<'a> InPlaceFile<'a> {
             }
         }
     }
+}
 
-    fn write_to_draft(&mut self, text: &[u8]) -> Result<usize, Fault>
+impl ByteSink for InPlaceFile<'_> {
+    ghost failed = { λ out. out.is_failed };
+
+    fn write(&mut self, text: &[u8]) -> Result<usize, Fault>
         ensures bound { IfOk result (λ count. count ≤ length text.now) }
         ensures open { IfOk result (λ _. is_some self.new.draft ≡ true) }
         ensures draft { IfSome self.old.draft (λ draft. self.new.draft ≡ Some draft) }
@@ -160,7 +164,7 @@ impl<'a> InPlaceFile<'a> {
     }
 
     // Where it fails, a draft that was there stays, for `close`.
-    fn finish(&mut self) -> Result<(), Fault>
+    fn flush(&mut self) -> Result<(), Fault>
         ensures closed { OnOk result (self.new.draft ≡ None) }
         ensures draft { OnErr result (IfSome self.old.draft (λ draft. self.new.draft ≡ Some draft)) }
         ensures fault { IfErr result (λ fault. fault ≡ Fault.Write) }
@@ -174,18 +178,6 @@ impl<'a> InPlaceFile<'a> {
             self.is_failed = true;
         }
         answer.map_err(|_| Fault::Write)
-    }
-}
-
-impl ByteSink for InPlaceFile<'_> {
-    ghost failed = { λ out. out.is_failed };
-
-    fn write(&mut self, text: &[u8]) -> Result<usize, Fault> {
-        self.write_to_draft(text)
-    }
-
-    fn flush(&mut self) -> Result<(), Fault> {
-        self.finish()
     }
 
     fn failed(&self) -> bool {

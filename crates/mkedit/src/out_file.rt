@@ -51,8 +51,12 @@ impl<'a> OutFile<'a> {
             }
         }
     }
+}
 
-    fn write_to_file(&mut self, text: &[u8]) -> Result<usize, Fault>
+impl ByteSink for OutFile<'_> {
+    ghost failed = { λ out. out.is_failed };
+
+    fn write(&mut self, text: &[u8]) -> Result<usize, Fault>
         ensures bound { IfOk result (λ count. count ≤ length text.now) }
         ensures open { IfOk result (λ _. is_some self.new.file ≡ true) }
         ensures fault { IfErr result (λ fault. fault ≡ Fault.Write) }
@@ -70,7 +74,7 @@ impl<'a> OutFile<'a> {
         answer
     }
 
-    fn flush_file(&mut self) -> Result<(), Fault>
+    fn flush(&mut self) -> Result<(), Fault>
         ensures open { OnOk result (is_some self.new.file ≡ true) }
         ensures fault { IfErr result (λ fault. fault ≡ Fault.Write) }
         ensures failed { self.new.is_failed ≡ (self.old.is_failed || is_err result) }
@@ -81,18 +85,6 @@ impl<'a> OutFile<'a> {
         self.file = Some(file);
         self.is_failed = self.is_failed || answer.is_err();
         answer
-    }
-}
-
-impl ByteSink for OutFile<'_> {
-    ghost failed = { λ out. out.is_failed };
-
-    fn write(&mut self, text: &[u8]) -> Result<usize, Fault> {
-        self.write_to_file(text)
-    }
-
-    fn flush(&mut self) -> Result<(), Fault> {
-        self.flush_file()
     }
 
     fn failed(&self) -> bool {

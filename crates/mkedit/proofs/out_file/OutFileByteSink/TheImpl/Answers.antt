@@ -1,0 +1,8 @@
+use Rattle.mkedit.proofs.UntoldLemmas.{untold-write, untold-count, untold-reset}
+use Rattle.mkedit.proofs.out_file.OutFileByteSink.TheImpl.Goals as goal
+
+pub write-tells : goal.write-tells
+write-tells g c = search (untold-write)
+
+pub flush-tells : goal.flush-tells
+flush-tells g c = search (untold-count, untold-reset)
