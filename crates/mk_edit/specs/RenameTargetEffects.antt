@@ -1,14 +1,21 @@
--- What a rename does to the lines of a document as a whole: how many words it replaces, and whether
--- it would make a line begin with the recipe prefix.
+-- What a rename finds among the lines of a document, what it does to them as a whole, and the first
+-- cause of refusal that this decides.
 -- Told in docs/ARCHITECTURE.md, "An edit's way, from Edit to moved lines".
-use Rattle.std.specs.Prelude.{◌≡◌, ℕ, ◌+◌, ◌&&◌, ◌||◌, Bool, false, List, [], ◌∷◌, length}
+use Rattle.std.specs.Prelude.{◌≡◌, ℕ, ◌+◌, ◌*◌, ◌&&◌, ◌||◌, not, nat_lt, if◌then◌else◌, Bool, false, List, [], ◌∷◌, length, Option}
 use Rattle.std.specs.List.{list_any}
+use Rattle.mk_lines.specs.Limits.{max_text}
 use Rattle.mk_class.specs.Contexts.{Context, context_after_located}
 use Rattle.mk_class.specs.RecipePrefix.{is_prefix_led}
 use Rattle.mk_tree.specs.LocatedLines.{LocatedLine}
+use Rattle.mk_edit_laws.specs.Causes.{where_holds}
 use Rattle.mk_edit_laws.specs.Edits.{Edit, RenameTarget}
-use Rattle.mk_edit.specs.declared.rename_target_causes.Effect.{Effect}
-use Rattle.mk_edit_parts.specs.declared.tally.Tally.{Tally}
+use Rattle.mk_edit_laws.specs.Refusals.{first_cause}
+use Rattle.mk_edit_laws.specs.declared.refusal.Refusal.{Refusal}
+use Rattle.mk_edit_laws.specs.declared.refusal.Refusal.TheVariants.{NoSuch, RecipePrefix, Taken, TooLong}
+use Rattle.mk_edit.specs.declared.rename_target_effect.Effect.{Effect}
+use Rattle.mk_edit.specs.declared.rename_target_effect.Turn.TheVariants as turn
+use Rattle.mk_edit.specs.RenameTargetPatches.{exchanged_count, is_exchanged}
+use Rattle.mk_edit_parts.specs.LocatedParts.{is_target_located, is_unread_located}
 use Rattle.mk_edit_parts.specs.RenamedRanges.{bytes_in, is_at_front, renamed_ranges}
 
 -- an edit renames this word to that one
@@ -37,25 +44,73 @@ begins_some_line o n c (l ∷ ls) =
 abbrev pub effect_on : (old new : List ℕ) → Context → List LocatedLine → Effect
 effect_on o n c ls =
     record {
+      has_unread_prefix = list_any is_unread_located ls;
+      is_there = list_any (is_target_located o) ls;
+      begins_line = begins_some_line o n c ls;
+      is_taken = list_any (is_target_located n) ls;
       words = replaced_words o ls;
       bytes = replaced_bytes o ls;
-      begins_line = begins_some_line o n c ls;
+      no_longer = exchanged_count turn.NoLonger o n ls;
+      longer = exchanged_count turn.Longer o n ls;
+    }
+
+-- the effect on one line, which stands in this context
+abbrev pub effect_of_line : (old new : List ℕ) → Context → LocatedLine → Effect
+effect_of_line o n c l =
+    record {
+      has_unread_prefix = is_unread_located l;
+      is_there = is_target_located o l;
+      begins_line = list_any is_at_front (renamed_ranges o l) && is_prefix_led c.prefix n;
+      is_taken = is_target_located n l;
+      words = length (renamed_ranges o l);
+      bytes = bytes_in (renamed_ranges o l);
+      no_longer = if is_exchanged turn.NoLonger o n l then 1 else 0;
+      longer = if is_exchanged turn.Longer o n l then 1 else 0;
     }
 
 -- the effect on some lines and on other lines together
 abbrev pub joined : Effect → Effect → Effect
 joined e f =
     record {
+      has_unread_prefix = e.has_unread_prefix || f.has_unread_prefix;
+      is_there = e.is_there || f.is_there;
+      begins_line = e.begins_line || f.begins_line;
+      is_taken = e.is_taken || f.is_taken;
       words = e.words + f.words;
       bytes = e.bytes + f.bytes;
-      begins_line = e.begins_line || f.begins_line;
+      no_longer = e.no_longer + f.no_longer;
+      longer = e.longer + f.longer;
     }
-
--- the effect on a line with this count of words; `is_led` says whether the new word begins with the
--- prefix in force there
-abbrev pub effect_of_line : Tally → (is_led : Bool) → Effect
-effect_of_line t b = record { words = t.words; bytes = t.bytes; begins_line = t.at_front && b }
 
 -- the effect on no lines
 abbrev pub no_effect : Effect
-no_effect = record { words = 0; bytes = 0; begins_line = false }
+no_effect =
+    record {
+      has_unread_prefix = false;
+      is_there = false;
+      begins_line = false;
+      is_taken = false;
+      words = 0;
+      bytes = 0;
+      no_longer = 0;
+      longer = 0;
+    }
+
+-- the first cause of refusal that holds, by what lines tell: whether the recipe prefix is set
+-- unread, whether the old word is there, whether the new word begins a line with the prefix, whether
+-- it is taken, and whether the text would be too long
+abbrev pub first_told : (is_unread is_there is_led is_taken is_long : Bool) → Option Refusal
+first_told u f l k g =
+    first_cause (
+    where_holds u RecipePrefix
+    ∷ where_holds (not f) NoSuch
+    ∷ where_holds l RecipePrefix
+    ∷ where_holds k Taken
+    ∷ where_holds g TooLong
+    ∷ [])
+
+-- the first cause of refusal that lies in the lines of a text of this size, by the effect on them
+abbrev pub first_of_lines : Effect → (size new_length : ℕ) → Option Refusal
+first_of_lines e s n =
+    first_told e.has_unread_prefix e.is_there e.begins_line e.is_taken
+    (nat_lt (max_text + e.bytes) (s + e.words * n))

@@ -11,8 +11,8 @@ use Rattle.mk_patch.specs.Moves.{Move, Exchange, IsPlain}
 use Rattle.mk_edit_parts.specs.LocatedParts.{IsClassed}
 use Rattle.mk_edit_parts.specs.RenamedRanges.{renamed_ranges, bytes_in}
 use Rattle.mk_edit_parts.specs.RenamedTexts.{renamed_text, AreApart}
-use Rattle.mk_edit.specs.declared.rename_target_patch.Turn.{Turn}
-use Rattle.mk_edit.specs.declared.rename_target_patch.Turn.TheVariants as turn
+use Rattle.mk_edit.specs.declared.rename_target_effect.Turn.{Turn}
+use Rattle.mk_edit.specs.declared.rename_target_effect.Turn.TheVariants as turn
 
 -- ---- which lines
 

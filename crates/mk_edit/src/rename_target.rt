@@ -8,8 +8,9 @@ ghost use Rattle.mk_edit_parts.specs.EditViews.{edit_of};
 ghost use Rattle.mk_edit.specs.Planned.{IsPlanned, IsRefusal};
 ghost use Rattle.mk_edit.specs.RenameTargetEffects.{IsRenameTarget};
 
-use crate::rename_target_causes::rename_target_refusal;
+use crate::rename_target_causes::accepted_rename;
 use crate::rename_target_patch::rename_target_patch;
+use memchr::memmem::Finder;
 use mk_class::Meter;
 use mk_edit_laws::Refusal;
 use mk_edit_parts::edit::Edit;
@@ -21,8 +22,8 @@ use std::alloc::Allocator;
 ///
 /// # Errors
 ///
-/// The first cause of the edit that holds, as [`rename_target_refusal`] answers it. If no cause
-/// holds, [`Refusal::NoMemory`] if a growth was refused.
+/// The first cause of the edit that holds, as [`accepted_rename`] answers it. If no cause holds,
+/// [`Refusal::NoMemory`] if a growth was refused.
 pub(crate) fn plan_rename_target<A: Allocator + Copy>(
     alloc: A,
     doc: &Doc<A>,
@@ -41,8 +42,7 @@ pub(crate) fn plan_rename_target<A: Allocator + Copy>(
     ensures few_read { meter.new ≤ meter.old + cost (located_text doc.now) (edit_of edit.now) }
     ensures forward { meter.old ≤ meter.new }
 {
-    match rename_target_refusal(doc, edit, from, to) {
-        Some(refusal) => Err(refusal),
-        None => rename_target_patch(alloc, doc, from, to, meter),
-    }
+    let finder = Finder::new(from);
+    let effect = accepted_rename(doc, edit, &finder, to)?;
+    rename_target_patch(alloc, doc, &finder, to, effect, meter)
 }

@@ -4,7 +4,8 @@
 //! shorter and another longer, and the text has to stay within its limit after each step. So the
 //! lines are exchanged in two turns: first the lines that get no longer, then the lines that get
 //! longer.
-ghost use Rattle.std.specs.Prelude.{◌≡◌, ◌≤◌, ◌<◌, ◌+◌, ◌*◌, ◌^◌, ◌++◌, IfOk, OnOk, IsOkUnless, filter, if◌then◌else◌, length, option_map};
+ghost use Rattle.std.specs.Prelude.{◌≡◌, ◌≤◌, ◌+◌, ◌++◌, IfOk, OnOk, IsOkUnless, if◌then◌else◌, length, option_map};
+ghost use Rattle.mk_lines.specs.Limits.{max_text};
 ghost use Rattle.mk_class.specs.ClassedLines.{classed_lines};
 ghost use Rattle.mk_class.specs.Contexts.{start};
 ghost use Rattle.mk_tree.specs.Counting.{AreCounted};
@@ -15,28 +16,31 @@ ghost use Rattle.mk_edit_laws.specs.Costs.{cost};
 ghost use Rattle.mk_edit_laws.specs.Edits.{RenameTarget};
 ghost use Rattle.mk_edit_laws.specs.Refusals.{causes, first_cause};
 ghost use Rattle.mk_edit.specs.Planned.{IsPlanned};
-ghost use Rattle.mk_edit.specs.RenameTargetPatches.{CanBeRenamed, CanEachBeRenamed, HasFewWords, exchanged_count, holds_word, is_exchanged, is_turn_of, line_renamed, turn_moves};
+ghost use Rattle.mk_edit.specs.RenameTargetEffects.{effect_on};
+ghost use Rattle.mk_edit.specs.RenameTargetPatches.{CanBeRenamed, CanEachBeRenamed, exchanged_count, is_exchanged, line_renamed, turn_moves};
 
 use crate::moves::{builder, read_line};
+use crate::rename_target_effect::{Effect, Turn, is_of_turn};
+use memchr::memmem::Finder;
 use mk_class::{Context, Meter};
 use mk_edit_laws::Refusal;
 use mk_edit_parts::renamed_line::renamed_bytes;
-use mk_edit_parts::tally::{Tally, count_words};
+use mk_edit_parts::tally::count_words;
 use mk_patch::{Patch, PatchBuilder, Step};
 use mk_tree::{Doc, Line};
 use std::alloc::Allocator;
 
-/// The turns in which the lines of a rename are exchanged.
+// The lines of a turn.
 #[derive(Clone, Copy)]
-enum Turn {
-    /// The lines that get no longer.
-    NoLonger,
-    /// The lines that get longer.
-    Longer,
+struct Batch {
+    turn: Turn,
+    // How many they are.
+    lines: usize,
 }
 
 /// The patch that replaces a word in all targets and prerequisites. The caller knows that no cause
-/// of refusal holds. Each line that holds the word is read once.
+/// of refusal holds, and what the rename does to the lines. `from` searches for the old word. Each
+/// line that holds it is read once.
 ///
 /// # Errors
 ///
@@ -44,11 +48,13 @@ enum Turn {
 pub(crate) fn rename_target_patch<A: Allocator + Copy>(
     alloc: A,
     doc: &Doc<A>,
-    from: &[u8],
+    from: &Finder<'_>,
     to: &[u8],
+    effect: Effect,
     meter: &mut Meter,
 ) -> Result<Patch<A>, Refusal>
     requires faithful { IsFaithful doc.now }
+    requires effect { effect ≡ effect_on from.now to.now start doc.now }
     requires accepted { first_cause (causes (located_text doc.now)
         (classed_lines (located_text doc.now)) (RenameTarget from.now to.now)) ≡ None }
     ensures planned { IfOk result (λ patch.
@@ -60,64 +66,53 @@ pub(crate) fn rename_target_patch<A: Allocator + Copy>(
         ≤ meter.old + cost (located_text doc.now) (RenameTarget from.now to.now) }
     ensures forward { meter.old ≤ meter.new }
 {
-    // The contract of `size` says that the text is within the limit, as the first turn asks.
+    // The contract of `size` says that the text is within its limit.
     let _size = doc.size();
-    let mut patch = builder(alloc, renamed_line_count(doc, from))?;
-    exchange_lines(alloc, doc, &mut patch, from, to, Turn::NoLonger, meter)?;
-    exchange_lines(alloc, doc, &mut patch, from, to, Turn::Longer, meter)?;
+    let mut patch = builder(alloc, effect.no_longer + effect.longer)?;
+    let shrinking = Batch {
+        turn: Turn::NoLonger,
+        lines: effect.no_longer,
+    };
+    let growing = Batch {
+        turn: Turn::Longer,
+        lines: effect.longer,
+    };
+    exchange_lines(alloc, doc, &mut patch, from, to, shrinking, meter)?;
+    exchange_lines(alloc, doc, &mut patch, from, to, growing, meter)?;
     Ok(patch.finish())
 }
 
-// How many lines hold a word where a rename replaces it. Takes no memory.
-fn renamed_line_count<A: Allocator>(doc: &Doc<A>, from: &[u8]) -> usize
-    requires { IsFaithful doc.now }
-    ensures { result ≡ length (filter (holds_word from.now) doc.now) }
-{
-    // The contract of `size` bounds the length of each line, as counting asks.
-    let _size = doc.size();
-    let mut count = 0;
-    'lines: for line in doc.iter() {
-        if holds_word(line, from) {
-            count += 1;
-        }
-    }
-    count
-}
-
-// Whether a line holds a word where a rename replaces it.
-fn holds_word<A: Allocator>(line: &Line<A>, from: &[u8]) -> bool
-    requires { HasFewWords from.now (line_view line.now) }
-    ensures { result ≡ holds_word from.now (line_view line.now) }
-{
-    count_words(line, &line.class(), from).words > 0
-}
-
-// Adds the steps of a turn to a patch: the lines that are exchanged in it.
+// Adds the steps of a turn to a patch: the lines that are exchanged in it. It walks over no line if
+// the turn has none.
 fn exchange_lines<A: Allocator + Copy>(
     alloc: A,
     doc: &Doc<A>,
     patch: &mut PatchBuilder<A>,
-    from: &[u8],
+    from: &Finder<'_>,
     to: &[u8],
-    turn: Turn,
+    batch: Batch,
     meter: &mut Meter,
 ) -> Result<(), Refusal>
     requires faithful { IsFaithful doc.now }
     requires can { CanEachBeRenamed from.now to.now start doc.now }
-    requires room { length patch.old.moves + exchanged_count turn from.now to.now doc.now
+    requires lines { batch.lines ≡ exchanged_count batch.turn from.now to.now doc.now }
+    requires room { length patch.old.moves + exchanged_count batch.turn from.now to.now doc.now
         ≤ patch.old.room }
     ensures moves { IfOk result (λ _. patch.new
-        ≡ record patch.old { moves = patch.old.moves ++ turn_moves turn from.now to.now doc.now }) }
+        ≡ record patch.old { moves = patch.old.moves ++ turn_moves batch.turn from.now to.now doc.now }) }
     ensures refused { IsOkUnless result Refusal.NoMemory }
     ensures counted { OnOk result (AreCounted meter.old
-        (exchanged_count turn from.now to.now doc.now) meter.new) }
-    ensures few_read { meter.new ≤ meter.old + exchanged_count turn from.now to.now doc.now }
+        (exchanged_count batch.turn from.now to.now doc.now) meter.new) }
+    ensures few_read { meter.new ≤ meter.old + exchanged_count batch.turn from.now to.now doc.now }
     ensures forward { meter.old ≤ meter.new }
 {
+    if batch.lines == 0 {
+        return Ok(());
+    }
     // The contract of `len` bounds the number of lines, as counting them asks.
     let _count = doc.len();
     'lines: for (at, (context, line)) in doc.lines_with_contexts().enumerate() {
-        if let Some(renamed) = line_of_turn(alloc, line, context, from, to, turn, meter)? {
+        if let Some(renamed) = line_of_turn(alloc, line, context, from, to, batch.turn, meter)? {
             patch.push(Step::Exchange(at, renamed));
         }
     }
@@ -129,7 +124,7 @@ fn line_of_turn<A: Allocator + Copy>(
     alloc: A,
     line: &Line<A>,
     context: Context,
-    from: &[u8],
+    from: &Finder<'_>,
     to: &[u8],
     turn: Turn,
     meter: &mut Meter,
@@ -152,22 +147,9 @@ fn line_of_turn<A: Allocator + Copy>(
         return Ok(None);
     }
     let room = line.bytes().len() - tally.bytes + tally.words * to.len();
-    let Ok(bytes) = renamed_bytes(alloc, line, &class, from, to, room) else {
+    let Ok(bytes) = renamed_bytes(alloc, line, &class, from.needle(), to, room) else {
         return Err(Refusal::NoMemory);
     };
     let renamed = read_line(alloc, bytes, context, meter)?;
     Ok(Some(renamed))
-}
-
-// Whether a line is exchanged in a turn, by the count of its words that are replaced. Each new word
-// has `new_len` bytes.
-fn is_of_turn(tally: Tally, new_len: usize, turn: Turn) -> bool
-    requires { tally.words * new_len < 2 ^ 64 }
-    ensures { result ≡ is_turn_of turn tally.words tally.bytes new_len }
-{
-    let is_longer = tally.bytes < tally.words * new_len;
-    match turn {
-        Turn::NoLonger => tally.words > 0 && !is_longer,
-        Turn::Longer => is_longer,
-    }
 }

@@ -3,3 +3,4 @@ pub mod RangeLemmas
 pub mod WrittenLemmas
 pub mod PieceRanges
 pub mod LinePieces
+pub mod AbsentWords

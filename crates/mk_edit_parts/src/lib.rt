@@ -12,7 +12,6 @@
 //! - [`line_test`]: which variable a line assigns, and which targets it has.
 //! - [`seek`]: the line that an address means, found by one walk.
 //! - [`find`]: where an edit applies, after the causes that come before its own.
-//! - [`targets`]: whether a word is a target of any rule.
 //! - [`lean`]: whether lines lean on the flag before them.
 //! - [`place`]: places further down in a document.
 //! - [`range`]: where the value of a line stands, and bytes with a range replaced.
@@ -41,7 +40,6 @@ pub mod recipe;
 pub mod renamed_line;
 pub mod seek;
 pub mod tally;
-pub mod targets;
 pub mod text;
 pub mod word_parts;
 

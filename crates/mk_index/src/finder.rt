@@ -67,13 +67,17 @@ impl<A: Allocator + Copy> Finder<A> {
     /// What is known of the address of an edit, or `None` if a walk over the document has to find
     /// its line. The first edit of a variable makes do with a walk. The second one makes an index,
     /// which costs little more, unless the document has fewer than 1,024 lines. A growth that is
-    /// refused leaves the finder without an index, and is no refusal of the edit.
+    /// refused leaves the finder without an index, and is no refusal of the edit. Nothing is known of
+    /// where rules stand, nor for a rename, which looks at every line.
     pub fn known(&mut self, alloc: A, doc: &Doc<A>, edit: &Edit<A>) -> Option<Sought>
         requires faithful { IsFaithful doc.now }
         requires index { IsIndexIfAny doc.now self.old }
         ensures known { IsKnown (edit_of edit.now) doc.now result }
         ensures index { IsIndexIfAny doc.now self.new }
     {
+        if let Edit::RenameTarget { .. } = edit {
+            return None;
+        }
         let address = address_of(edit);
         if let Some(Address::Rule(..)) = address {
             return None;

@@ -1,5 +1,5 @@
 -- The causes of a rename in their order, and what decides each.
-use Rattle.std.proofs.Common.{◌≡◌, refl, sym, ap, ◌∙◌, arith, ℕ, ◌+◌, ◌*◌, ◌<◌, ◌&&◌, Bool, false, not, List, [], ◌∷◌, length, Option, Some, None}
+use Rattle.std.proofs.Common.{◌≡◌, refl, sym, ap, ◌∙◌, arith, ℕ, ◌+◌, ◌*◌, ◌<◌, ◌&&◌, ◌||◌, Bool, false, not, List, [], ◌∷◌, length, Option, Some, None}
 use Rattle.std.specs.List.{list_any}
 use Rattle.std.specs.Prelude.{nat_lt}
 use Rattle.std.proofs.lemmas.Bool.{and_parts, not-true}
@@ -8,12 +8,14 @@ use Rattle.mk_lines.specs.Units.{is_closed, units}
 use Rattle.mk_class.specs.ListTests.{is_empty, last_passes}
 use Rattle.mk_class.specs.Arguments.{ends_word, is_ampersand_byte, is_clean, is_target, is_word}
 use Rattle.mk_class.specs.ClassedLines.{ClassedLine, classed_lines}
-use Rattle.mk_class.specs.Contexts.{start}
+use Rattle.mk_class.specs.Contexts.{Context, start, context_after}
+use Rattle.mk_class.specs.Texts.{is_one_of}
 use Rattle.mk_tree.specs.Documents.{IsFaithful}
-use Rattle.mk_tree.specs.LocatedLines.{LocatedLine, located_text, size_of}
+use Rattle.mk_tree.specs.LocatedLines.{LocatedLine, located_lines, located_text, size_of}
+use Rattle.mk_tree.proofs.on_documents.LinesInText.{AreClassed, AreClassed-class, AreClassed-tail, AreClassed-lines}
 use Rattle.mk_tree.proofs.on_changes.Sizes.{size_of-text}
 use Rattle.mk_edit_laws.specs.Edits.{Edit, RenameTarget}
-use Rattle.mk_edit_laws.specs.Addresses.{is_a_target}
+use Rattle.mk_edit_laws.specs.Addresses.{is_a_target, targets_of}
 use Rattle.mk_edit_laws.specs.ArgumentCauses.{bad_argument, reserved}
 use Rattle.mk_edit_laws.specs.AddressCauses.{ambiguous, begins_some_renamed_line, is_unread_prefix, no_such, prefix_led, unread_prefix}
 use Rattle.mk_edit_laws.specs.RuleCauses.{absent, already, shared_rule, straddles, taken}
@@ -23,10 +25,12 @@ use Rattle.mk_edit_laws.specs.Refusals.{causes, first_cause}
 use Rattle.mk_edit_laws.specs.EditSpans.{spans_of}
 use Rattle.mk_edit_laws.specs.declared.refusal.Field.TheVariants as field
 use Rattle.mk_edit_laws.specs.declared.refusal.Refusal.{Refusal}
-use Rattle.mk_edit_laws.specs.declared.refusal.Refusal.TheVariants.{NoSuch, RecipePrefix, Taken, TooLong}
+use Rattle.mk_edit_laws.specs.declared.refusal.Refusal.TheVariants.{RecipePrefix, TooLong}
 use Rattle.mk_edit_laws.proofs.on_edits.Accepted.{two-passed}
-use Rattle.mk_edit.specs.declared.rename_target_causes.Effect.{Effect}
-use Rattle.mk_edit.specs.RenameTargetEffects.{IsRenameTarget, begins_some_line, effect_on, replaced_bytes, replaced_words}
+use Rattle.mk_edit.specs.declared.rename_target_effect.Effect.{Effect}
+use Rattle.mk_edit.specs.RenameTargetEffects.{IsRenameTarget, effect_on, first_of_lines, first_told, replaced_bytes, replaced_words}
+use Rattle.mk_edit_parts.specs.LocatedParts.{is_target_located, is_unread_located}
+use Rattle.mk_edit_parts.proofs.on_finding.PartLemmas.{target-located, unread-located}
 use Rattle.mk_edit_parts.proofs.CauseLemmas.{holds, passed}
 use Rattle.mk_edit.proofs.on_plans.CausePlans.{long-said}
 use Rattle.mk_edit.proofs.on_renaming.CausesOfPrefix.{rename_target-led}
@@ -80,10 +84,6 @@ reserved-first t ls e r b h =
 
 -- ---- the causes after those of the fields
 
--- the first of them, by what each asks
-abbrev rename_target_refusal : (is_unread is_there is_led is_taken is_long : Bool) → Option Refusal
-rename_target_refusal u f l k g = first_cause (where_holds u RecipePrefix ∷ where_holds (not f) NoSuch ∷ where_holds l RecipePrefix ∷ where_holds k Taken ∷ where_holds g TooLong ∷ [])
-
 -- two lists of causes that say the same do so after one more cause
 after-cause : (o : Option Refusal) (cs ds : List (Option Refusal)) → first_cause cs ≡ first_cause ds → first_cause (o ∷ cs) ≡ first_cause (o ∷ ds)
 after-cause None cs ds h = h
@@ -104,7 +104,7 @@ only-these t ls o n long =
 -- if the fields of a rename are not bad, the first cause is one of five
 causes-are : (t : List ℕ) (ls : List ClassedLine) (o n : List ℕ) (l g : Bool) → bad_argument (RenameTarget o n) ≡ None → reserved (RenameTarget o n) ≡ None
     → begins_some_renamed_line o n start ls ≡ l → too_long t (spans_of t ls (RenameTarget o n)) ≡ where_holds g TooLong
-    → first_cause (causes t ls (RenameTarget o n)) ≡ rename_target_refusal (list_any (λ l. is_unread_prefix l.class) ls) (is_a_target ls o) l (is_a_target ls n) g
+    → first_cause (causes t ls (RenameTarget o n)) ≡ first_told (list_any (λ l. is_unread_prefix l.class) ls) (is_a_target ls o) l (is_a_target ls n) g
 causes-are t ls o n l g b r i j =
     let e = RenameTarget o n in
     let long = too_long t (spans_of t ls e) in
@@ -121,24 +121,47 @@ long-is ls o n h =
     ∙ ap (λ z. where_holds (nat_lt (max_text + replaced_bytes o ls) (z + replaced_words o ls * length n)) TooLong) (sym (size_of-text ls))
 
 -- whether the text is too long, as the effect of the rename tells
-pub long-told : (ls : List LocatedLine) (o n : List ℕ) (f : Effect) (size : ℕ) → f ≡ effect_on o n start ls → size ≡ size_of ls
+long-told : (ls : List LocatedLine) (o n : List ℕ) (f : Effect) (size : ℕ) → f ≡ effect_on o n start ls → size ≡ size_of ls
     → nat_lt (max_text + f.bytes) (size + f.words * length n) ≡ nat_lt (max_text + replaced_bytes o ls) (size_of ls + replaced_words o ls * length n)
 long-told ls o n f size h k =
     ap (λ (z : Effect). nat_lt (max_text + z.bytes) (size + z.words * length n)) h ∙ ap (λ z. nat_lt (max_text + replaced_bytes o ls) (z + replaced_words o ls * length n)) k
 
--- The first cause that holds of a rename of a document, as a walk over the document tells it, if no field of the rename is bad.
-pub rename_target-causes : (ls : List LocatedLine) (e : Edit) (o n : List ℕ) (u f l k g : Bool) → IsRenameTarget o n e → IsFaithful ls → bad_argument e ≡ None → reserved e ≡ None
-    → u ≡ list_any (λ l. is_unread_prefix l.class) (classed_lines (located_text ls)) → f ≡ is_a_target (classed_lines (located_text ls)) o → l ≡ begins_some_line o n start ls → k ≡ is_a_target (classed_lines (located_text ls)) n
-    → g ≡ nat_lt (max_text + replaced_bytes o ls) (size_of ls + replaced_words o ls * length n)
-    → rename_target_refusal u f l k g ≡ first_cause (causes (located_text ls) (classed_lines (located_text ls)) e)
-rename_target-causes ls e o n u f l k g is h bad res iu if il ik ig =
+-- ---- the lines of a document
+
+unread-along : (c : Context) (ls : List ClassedLine) → AreClassed c ls → list_any is_unread_located (located_lines ls) ≡ list_any (λ l. is_unread_prefix l.class) ls
+unread-along c [] h = refl
+unread-along c (l ∷ ls) h =
+    ap (λ b. b || list_any is_unread_located (located_lines ls)) (unread-located c l (AreClassed-class c l ls h))
+    ∙ ap (λ b. is_unread_prefix l.class || b) (unread-along (context_after c l.class) ls (AreClassed-tail c l ls h))
+
+targets-along : (w : List ℕ) (c : Context) (ls : List ClassedLine) → AreClassed c ls → list_any (is_target_located w) (located_lines ls) ≡ is_a_target ls w
+targets-along w c [] h = refl
+targets-along w c (l ∷ ls) h =
+    ap (λ b. b || list_any (is_target_located w) (located_lines ls)) (target-located w c l (AreClassed-class c l ls h))
+    ∙ ap (λ b. is_one_of w (targets_of l.class) || b) (targets-along w (context_after c l.class) ls (AreClassed-tail c l ls h))
+
+unread-told : (ls : List LocatedLine) → IsFaithful ls → list_any is_unread_located ls ≡ list_any (λ l. is_unread_prefix l.class) (classed_lines (located_text ls))
+unread-told ls h = let ds = classed_lines (located_text ls) in ap (list_any is_unread_located) h ∙ unread-along start ds (AreClassed-lines (located_text ls) ds refl)
+
+targets-told : (w : List ℕ) (ls : List LocatedLine) → IsFaithful ls → list_any (is_target_located w) ls ≡ is_a_target (classed_lines (located_text ls)) w
+targets-told w ls h = let ds = classed_lines (located_text ls) in ap (list_any (is_target_located w)) h ∙ targets-along w start ds (AreClassed-lines (located_text ls) ds refl)
+
+-- The first cause that holds of a rename of a document, as the effect on its lines tells it, if no field of the rename is bad.
+pub causes-told : (ls : List LocatedLine) (e : Edit) (o n : List ℕ) (f : Effect) (size : ℕ) → IsRenameTarget o n e → IsFaithful ls → bad_argument e ≡ None → reserved e ≡ None → f ≡ effect_on o n start ls → size ≡ size_of ls
+    → first_of_lines f size (length n) ≡ first_cause (causes (located_text ls) (classed_lines (located_text ls)) e)
+causes-told ls e o n f size is h bad res i k =
     let t = located_text ls in
     let ds = classed_lines t in
     let b : bad_argument (RenameTarget o n) ≡ None = ap bad_argument (sym is) ∙ bad in
     let r : reserved (RenameTarget o n) ≡ None = ap reserved (sym is) ∙ res in
-    let led : begins_some_renamed_line o n start ds ≡ l = rename_target-led ls o n h (new-some o n b) ∙ sym il in
-    let long : too_long t (spans_of t ds (RenameTarget o n)) ≡ where_holds g TooLong = long-is ls o n h ∙ ap (λ z. where_holds z TooLong) (sym ig) in
-    ap (λ z. rename_target_refusal z f l k g) iu
-    ∙ (ap (λ z. rename_target_refusal (list_any (λ l. is_unread_prefix l.class) ds) z l k g) if
-    ∙ (ap (λ z. rename_target_refusal (list_any (λ l. is_unread_prefix l.class) ds) (is_a_target ds o) l z g) ik
-    ∙ (sym (causes-are t ds o n l g b r led long) ∙ ap (λ z. first_cause (causes t ds z)) (sym is))))
+    let g = nat_lt (max_text + f.bytes) (size + f.words * length n) in
+    let unread = list_any (λ l. is_unread_prefix l.class) ds in
+    let iu : f.has_unread_prefix ≡ unread = ap (λ (z : Effect). z.has_unread_prefix) i ∙ unread-told ls h in
+    let if : f.is_there ≡ is_a_target ds o = ap (λ (z : Effect). z.is_there) i ∙ targets-told o ls h in
+    let ik : f.is_taken ≡ is_a_target ds n = ap (λ (z : Effect). z.is_taken) i ∙ targets-told n ls h in
+    let led : begins_some_renamed_line o n start ds ≡ f.begins_line = rename_target-led ls o n h (new-some o n b) ∙ sym (ap (λ (z : Effect). z.begins_line) i) in
+    let long : too_long t (spans_of t ds (RenameTarget o n)) ≡ where_holds g TooLong = long-is ls o n h ∙ ap (λ z. where_holds z TooLong) (sym (long-told ls o n f size i k)) in
+    ap (λ z. first_told z f.is_there f.begins_line f.is_taken g) iu
+    ∙ (ap (λ z. first_told unread z f.begins_line f.is_taken g) if
+    ∙ (ap (λ z. first_told unread (is_a_target ds o) f.begins_line z g) ik
+    ∙ (sym (causes-are t ds o n f.begins_line g b r led long) ∙ ap (λ z. first_cause (causes t ds z)) (sym is))))

@@ -1,7 +1,8 @@
 -- The walk of one turn of a rename: the steps that were added so far, and then those of the lines ahead, are the steps of all
 -- lines.
-use Rattle.std.proofs.Common.{◌≡◌, refl, sym, ap, ◌∙◌, subst, arith, ℕ, ◌+◌, ◌^◌, ◌≤◌, Bool, true, false, List, [], ◌∷◌, ◌++◌, length, length-append, append_assoc, Option, Some, None}
+use Rattle.std.proofs.Common.{◌≡◌, refl, sym, ap, ◌∙◌, subst, arith, ℕ, ◌+◌, ◌^◌, ◌≤◌, Bool, true, false, List, [], ◌∷◌, ◌++◌, length, length-append, append-nil, append_assoc, Option, Some, None}
 use Rattle.std.specs.Prelude.{if◌then◌else◌, ◌-◌, min}
+use Rattle.std.proofs.lemmas.List.{nil_from_length}
 use Rattle.mk_lines.specs.Limits.{max_text}
 use Rattle.mk_class.specs.Contexts.{Context, start, context_after_located}
 use Rattle.mk_tree.specs.Counting.{AreCounted}
@@ -9,8 +10,8 @@ use Rattle.mk_tree.specs.LocatedLines.{LocatedLine}
 use Rattle.mk_tree.specs.TreeWalks.{LinesInContext}
 use Rattle.mk_patch.specs.Moves.{Move, Exchange, MovesWithRoom}
 use Rattle.mk_edit.specs.RenameTargetPatches.{is_exchanged, exchanged_count, line_renamed, before_moves, turn_moves_from, turn_moves, renaming_moves, CanEachBeRenamed}
-use Rattle.mk_edit.specs.declared.rename_target_patch.Turn.{Turn}
-use Rattle.mk_edit.specs.declared.rename_target_patch.Turn.TheVariants as turn
+use Rattle.mk_edit.specs.declared.rename_target_effect.Turn.{Turn}
+use Rattle.mk_edit.specs.declared.rename_target_effect.Turn.TheVariants as turn
 use Rattle.mk_edit.proofs.on_renaming.PatchPlans.{filter-step}
 
 -- Some lines ahead in a turn of the rename of a document; the first stands at this index. Each of them can be renamed. The patch
@@ -112,6 +113,12 @@ turn_moves-number t o n at c (l ∷ ls) =
     go : (b : Bool) (m : Move) (ms : List Move) → length ms ≡ exchanged_count t o n ls → length (before_moves b m ms) ≡ (if b then 1 else 0) + exchanged_count t o n ls
     go true m ms h = omega (arith, h)
     go false m ms h = omega (arith, h)
+
+-- a turn in which no line is exchanged has no step
+pub no-steps : (t : Turn) (o n : List ℕ) (d : List LocatedLine) (before : MovesWithRoom) (lines : ℕ) → lines ≡ exchanged_count t o n d → lines ≡ 0 → before ≡ record before { moves = before.moves ++ turn_moves t o n d }
+no-steps t o n d before lines h none =
+    let e : turn_moves t o n d ≡ [] = nil_from_length (turn_moves t o n d) (turn_moves-number t o n 0 start d ∙ (sym h ∙ none)) in
+    ap (λ z. record before { moves = z }) (sym (append-nil before.moves) ∙ ap (λ z. before.moves ++ z) (sym e))
 
 -- A patch with room for the lines that hold the word has room for each turn after the other, and their steps are those of the rename.
 module _ (o n : List ℕ) (d : List LocatedLine) (before : MovesWithRoom) (lines : ℕ) where

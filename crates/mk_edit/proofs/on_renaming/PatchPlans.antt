@@ -19,12 +19,12 @@ use Rattle.mk_patch.proofs.on_moves.ShapeLemmas.{LeadTo}
 use Rattle.mk_patch.proofs.on_moves.ExchangeLemmas.{exchanges, DifferWhereChosen, AreNoLonger, how_many, exchanges-lead, exchanges-held_chosen, exchanges-taken_chosen, within-shrunk, within-grown}
 use Rattle.mk_edit.specs.Planned.{IsPlanned}
 use Rattle.mk_edit_parts.specs.RenamedRanges.{renamed_ranges, bytes_in}
-use Rattle.mk_edit.specs.RenameTargetPatches.{holds_word, is_turn_of, is_exchanged, exchanged_count, line_renamed, before_moves, turn_moves_from, turn_moves, renaming_moves, HaveFewWords, CanEachBeRenamed}
-use Rattle.mk_edit.specs.declared.rename_target_patch.Turn.{Turn}
-use Rattle.mk_edit.specs.declared.rename_target_patch.Turn.TheVariants as turn
+use Rattle.mk_edit.specs.RenameTargetPatches.{holds_word, is_turn_of, is_exchanged, exchanged_count, line_renamed, before_moves, turn_moves_from, turn_moves, renaming_moves, CanEachBeRenamed}
+use Rattle.mk_edit.specs.declared.rename_target_effect.Turn.{Turn}
+use Rattle.mk_edit.specs.declared.rename_target_effect.Turn.TheVariants as turn
 use Rattle.mk_edit.proofs.on_plans.PlanLemmas.{lead-planned, after-fits, faithful-length}
 use Rattle.mk_edit.proofs.on_renaming.LinesRenamed.{holds-renamed}
-use Rattle.mk_edit.proofs.on_renaming.LinesAlong.{line_where, renamed_where, lines-few_words, lines-can, lines-become}
+use Rattle.mk_edit.proofs.on_renaming.LinesAlong.{line_where, renamed_where, lines-can, lines-become}
 use Rattle.mk_edit.proofs.on_renaming.PatchTurns.{exchanged-holds, exchanged-no_longer, exchanged-longer}
 
 -- ---- how many pass a test
@@ -241,17 +241,6 @@ module _ (o n : List ℕ) where
       )
 
 -- ---- the whole rename
-
--- The lines of a faithful document within the limit have few words.
-document-few_words : (o : List ℕ) (ls : List LocatedLine) → IsFaithful ls → size_of ls ≤ max_text → HaveFewWords o ls
-document-few_words o ls f few =
-    let ds = classed_lines (located_text ls) in
-    subst (HaveFewWords o) (sym f) (lines-few_words o start ds (AreClassed-lines (located_text ls) ds refl) (subst (λ (z : List LocatedLine). size_of z ≤ max_text) f few))
-
--- A walk that counts the lines of a document which hold a word begins with all of them ahead.
-pub count-from : (o : List ℕ) (d ahead : List LocatedLine) → ahead ≡ d → IsFaithful d → size_of d ≤ max_text → length d ≤ size_of d
-    → Unit {0} × Unit {0} × HaveFewWords o ahead × (0 + length ahead ≤ max_text) × (0 + length (filter (holds_word o) ahead) ≡ length (filter (holds_word o) d))
-count-from o d ahead e f few some = rw e (tt, tt, document-few_words o d f few, omega (arith, few, some), omega arith)
 
 -- What is known of a document and a rename that no cause refuses. Each line can be renamed where it stands. The number of lines
 -- that are exchanged in the two turns is the rename's cost, and the moves of the two turns are what is planned.

@@ -8,8 +8,8 @@ use Rattle.mk_tree.specs.LocatedLines.{LocatedLine}
 use Rattle.mk_edit_parts.specs.RenamedRanges.{bytes_in, no_words, renamed_ranges, tallied}
 use Rattle.mk_edit_parts.specs.RenamedTexts.{renamed_text}
 use Rattle.mk_edit.specs.RenameTargetPatches.{holds_word, is_turn_of, is_exchanged, CanBeRenamed}
-use Rattle.mk_edit.specs.declared.rename_target_patch.Turn.{Turn}
-use Rattle.mk_edit.specs.declared.rename_target_patch.Turn.TheVariants as turn
+use Rattle.mk_edit.specs.declared.rename_target_effect.Turn.{Turn}
+use Rattle.mk_edit.specs.declared.rename_target_effect.Turn.TheVariants as turn
 use Rattle.mk_edit_parts.specs.declared.tally.Tally.{Tally}
 use Rattle.mk_edit.proofs.on_renaming.LinesRenamed.{apart-bytes, renamed-length}
 
@@ -49,6 +49,7 @@ exchanged-longer o n c l C h =
 pub record IsCounted (o n : List ℕ) (l : LocatedLine) (t : Tally) : Type 0 where
   pub product : t.words * length n < 2 ^ 64
   pub taken : t.bytes ≤ length l.bytes
+  pub few_bytes : t.bytes ≤ 2 ^ 32
   pub room : length l.bytes - t.bytes + t.words * length n < 2 ^ 64
   pub turn : (r : Turn) → is_turn_of r t.words t.bytes (length n) ≡ is_exchanged r o n l
 
@@ -62,6 +63,7 @@ words-counted o n c l t C e =
     record {
       product = omega (arith, k, r, C.fits, C.words.few_bytes);
       taken = omega (arith, b, apart-bytes 0 (length l.bytes) ss C.apart);
+      few_bytes = omega (arith, b, C.words.few_bytes);
       room = omega (arith, k, b, r, C.fits, apart-bytes 0 (length l.bytes) ss C.apart);
       turn = λ q. ap (λ z. is_turn_of q z t.bytes (length n)) w ∙ ap (λ z. is_turn_of q (length ss) z (length n)) b;
     }

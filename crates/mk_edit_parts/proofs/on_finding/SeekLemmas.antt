@@ -1,5 +1,4 @@
 -- What a walk over the lines of a document has seen is what an address means.
-use Rattle.mk_class.specs.Texts.{is_one_of}
 use Rattle.std.proofs.Common.{◌≡◌, refl, sym, ap, ◌∙◌, subst, arith, ℕ, zero, suc, ◌+◌, ◌==◌, ◌≤◌, ◌&&◌, ◌||◌, List, [], ◌∷◌, map, Bool, true, false, if◌then◌else◌, length, zero-add, Option, Some, None, option_map}
 use Rattle.std.specs.List.{list_any}
 use Rattle.std.proofs.lemmas.Bool.{ne_eqb, eq-eqb}
@@ -16,13 +15,13 @@ use Rattle.mk_tree.specs.Admissions.{AreAdmitted}
 use Rattle.mk_tree.proofs.on_documents.LinesInText.{AreClassed, AreClassed-class, AreClassed-tail, AreClassed-lines}
 use Rattle.mk_tree.specs.LineTexts.{StandingLine}
 use Rattle.mk_edit_laws.specs.Spots.{spots, spot_if, under, nth_of}
-use Rattle.mk_edit_laws.specs.Addresses.{Address, Variable, Rule, assigns, is_rule_for, is_a_target, targets_of}
+use Rattle.mk_edit_laws.specs.Addresses.{Address, Variable, Rule, assigns, is_rule_for}
 use Rattle.mk_edit_laws.specs.AddressCauses.{is_unread_prefix}
-use Rattle.mk_edit_parts.specs.LocatedParts.{AreEachClassed, is_unread_located, is_target_located}
+use Rattle.mk_edit_parts.specs.LocatedParts.{AreEachClassed, is_unread_located}
 use Rattle.mk_edit_parts.specs.Seeking.{may_mean, wanted, noted_by, noted, seek, nothing_seen, standing_found, candidates_of, IsSought}
 use Rattle.mk_edit_parts.specs.declared.seek.Found.{Found}
 use Rattle.mk_edit_parts.specs.declared.seek.Sought.{Sought}
-use Rattle.mk_edit_parts.proofs.on_finding.PartLemmas.{assigns-located, rule_for-located, unread-located, target-located}
+use Rattle.mk_edit_parts.proofs.on_finding.PartLemmas.{assigns-located, rule_for-located, unread-located}
 
 -- a test of lines as a document shows them is one of lines as they are defined
 abbrev pub AgreeAlong : (LocatedLine → Bool) → (ClassedLine → Bool) → List ClassedLine → Type 0
@@ -203,17 +202,3 @@ seek-from d ahead s p w e i h k = rw (e, i) (tt, tt, faithful-each d h, k, omega
 -- the walk at its end
 pub seek-over : (s : Sought) (ahead d : List LocatedLine) (p : LocatedLine → Bool) (w v : ℕ) → ahead ≡ [] → w ≡ v → seek p w s ahead ≡ seek p w nothing_seen d → s ≡ seek p v nothing_seen d
 seek-over s ahead d p w v e f h = sym (ap (seek p w s) e) ∙ (h ∙ ap (λ n. seek p n nothing_seen d) f)
-
--- ---- targets
-
-targets-along : (w : List ℕ) (c : Context) (ls : List ClassedLine) → AreClassed c ls → list_any (is_target_located w) (located_lines ls) ≡ is_a_target ls w
-targets-along w c [] h = refl
-targets-along w c (l ∷ ls) h =
-    ap (λ b. b || list_any (is_target_located w) (located_lines ls)) (target-located w c l (AreClassed-class c l ls h))
-    ∙ ap (λ b. is_one_of w (targets_of l.class) || b) (targets-along w (context_after c l.class) ls (AreClassed-tail c l ls h))
-
-pub targets-from : (d ahead : List LocatedLine) (w : List ℕ) → ahead ≡ d → IsFaithful d
-    → Unit {0} × Unit {0} × AreEachClassed ahead × (list_any (is_target_located w) ahead ≡ is_a_target (classed_lines (located_text d)) w)
-targets-from d ahead w e h =
-    let ls = classed_lines (located_text d) in
-    rw e (tt, tt, faithful-each d h, ap (list_any (is_target_located w)) h ∙ targets-along w start ls (AreClassed-lines (located_text d) ls refl))

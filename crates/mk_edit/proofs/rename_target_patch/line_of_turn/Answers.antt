@@ -3,12 +3,13 @@ use Rattle.mk_tree.specs.LineTexts.{line_in}
 use Rattle.mk_tree.specs.LocatedLines.{located_line}
 use Rattle.mk_tree.specs.Trees.{line_view}
 use Rattle.mk_patch.specs.Moves.{IsPlain}
+use Rattle.mk_edit_parts.specs.RenamedTexts.{renamed_text}
 use Rattle.mk_edit.specs.RenameTargetPatches.{is_exchanged}
 use Rattle.mk_edit.proofs.on_renaming.PatchTurns.{words-counted, exchanged-holds, exchanged-one, exchanged-some, exchanged-counted, left-counted}
 use Rattle.mk_edit.proofs.rename_target_patch.line_of_turn.Goals as goal
 
 pub is_of_turn-requires : goal.is_of_turn-requires
-is_of_turn-requires g c = (words-counted _ _ _ _ _ c.requires.can c.count_words-tally.ensures).product
+is_of_turn-requires g c = (words-counted _ _ _ _ _ c.requires.can c.count_words-tally.ensures).few_bytes
 
 pub overflow_sub-room : goal.overflow_sub-room
 overflow_sub-room g c = omega (arith, (words-counted _ _ _ _ _ c.requires.can c.count_words-tally.ensures).taken, ap length c.bytes.ensures.bytes)
@@ -25,14 +26,16 @@ read_line-requires-clause-plain g c =
     let W = words-counted _ _ _ _ _ c.requires.can c.count_words-tally.ensures in
     let e : is_exchanged c.args.turn c.args.from.now c.args.to.now l ≡ true = sym (W.turn c.args.turn) ∙ (sym c.is_of_turn.ensures ∙ c.if-not-is_of_turn.false) in
     let p = c.requires.can.plain (exchanged-holds c.args.turn c.args.from.now c.args.to.now l e) in
-    subst (λ b. IsPlain (located_line (line_in c.args.context b))) (sym c.in-Ok.ensures) p.1
+    let bytes = c.in-Ok.ensures ∙ ap (λ o. renamed_text o c.args.to.now l) c.needle.ensures in
+    subst (λ b. IsPlain (located_line (line_in c.args.context b))) (sym bytes) p.1
 
 pub returns-clause-line : goal.returns-clause-line
 returns-clause-line g c =
     let l = line_view c.args.line.now in
     let W = words-counted _ _ _ _ _ c.requires.can c.count_words-tally.ensures in
     let e : is_exchanged c.args.turn c.args.from.now c.args.to.now l ≡ true = sym (W.turn c.args.turn) ∙ (sym c.is_of_turn.ensures ∙ c.if-not-is_of_turn.false) in
-    exchanged-some _ _ _ e (c.in_ok-renamed.ensures.line ∙ ap (λ b. located_line (line_in c.args.context b)) c.in-Ok.ensures)
+    let bytes = c.in-Ok.ensures ∙ ap (λ o. renamed_text o c.args.to.now l) c.needle.ensures in
+    exchanged-some _ _ _ e (c.in_ok-renamed.ensures.line ∙ ap (λ b. located_line (line_in c.args.context b)) bytes)
 
 pub returns-clause-few_read : goal.returns-clause-few_read
 returns-clause-few_read g c =

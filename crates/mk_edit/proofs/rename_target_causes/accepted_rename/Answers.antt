@@ -1,0 +1,38 @@
+use Rattle.std.proofs.Common.{◌≡◌, ◌∙◌, sym, ap, None}
+use Rattle.mk_class.specs.ClassedLines.{classed_lines}
+use Rattle.mk_tree.specs.LocatedLines.{located_text}
+use Rattle.mk_edit_laws.specs.ArgumentCauses.{bad_argument, reserved}
+use Rattle.mk_edit_laws.specs.Causes.{where_holds}
+use Rattle.mk_edit_laws.specs.declared.refusal.Refusal.TheVariants.{BadArgument, Reserved}
+use Rattle.mk_edit_parts.specs.EditViews.{edit_of, field_refusal}
+use Rattle.mk_edit_parts.proofs.on_finding.FindLemmas.{reserved-holds}
+use Rattle.mk_edit.proofs.on_renaming.CausesOfRenameTarget.{bad-first, causes-told, reserved-first}
+use Rattle.mk_edit.proofs.rename_target_causes.accepted_rename.Goals as goal
+
+pub returns-in-Some-clause-refused : goal.returns-in-Some-clause-refused
+returns-in-Some-clause-refused g c =
+    let t = located_text c.args.doc.now in
+    sym (bad-first t (classed_lines t) (edit_of c.args.edit.now) (BadArgument c.in-Some.field) (sym c.bad_field.ensures ∙ ap field_refusal c.in-Some.is))
+
+pub returns-then-is_reserved-clause-refused : goal.returns-then-is_reserved-clause-refused
+returns-then-is_reserved-clause-refused g c =
+    let t = located_text c.args.doc.now in
+    let e = edit_of c.args.edit.now in
+    let fields : bad_argument e ≡ None = sym c.bad_field.ensures ∙ ap field_refusal c.in_default.is in
+    sym (reserved-first t (classed_lines t) e Reserved fields (reserved-holds e c.is_reserved.result c.is_reserved.ensures ∙ ap (λ b. where_holds b Reserved) c.if-is_reserved.true))
+
+pub returns-in-Some-first_of_lines-clause-refused : goal.returns-in-Some-first_of_lines-clause-refused
+returns-in-Some-first_of_lines-clause-refused g c =
+    let e = edit_of c.args.edit.now in
+    let fields : bad_argument e ≡ None = sym c.bad_field.ensures ∙ ap field_refusal c.in_default.is in
+    let free : reserved e ≡ None = reserved-holds e c.is_reserved.result c.is_reserved.ensures ∙ ap (λ b. where_holds b Reserved) c.if-is_reserved.false in
+    sym (causes-told c.args.doc.now e c.args.from.now c.args.to.now c.rename_target_effect-effect.result c.size.result c.requires.kind c.requires.faithful fields free c.rename_target_effect-effect.ensures.effect c.size.ensures.number)
+    ∙ (sym c.first_of_lines.ensures ∙ c.in-Some-first_of_lines.is)
+
+pub returns-in-None-clause-accepted : goal.returns-in-None-clause-accepted
+returns-in-None-clause-accepted g c =
+    let e = edit_of c.args.edit.now in
+    let fields : bad_argument e ≡ None = sym c.bad_field.ensures ∙ ap field_refusal c.in_default.is in
+    let free : reserved e ≡ None = reserved-holds e c.is_reserved.result c.is_reserved.ensures ∙ ap (λ b. where_holds b Reserved) c.if-is_reserved.false in
+    sym (causes-told c.args.doc.now e c.args.from.now c.args.to.now c.rename_target_effect-effect.result c.size.result c.requires.kind c.requires.faithful fields free c.rename_target_effect-effect.ensures.effect c.size.ensures.number)
+    ∙ (sym c.first_of_lines.ensures ∙ c.in-None.is)

@@ -1,0 +1,134 @@
+//! What a rename finds among the lines of a document and does to them, seen by one walk.
+ghost use Rattle.std.specs.Prelude.{◌≡◌, ◌+◌, ◌<◌, ◌≤◌, ◌^◌};
+ghost use Rattle.mk_lines.specs.Limits.{max_text};
+ghost use Rattle.mk_class.specs.Contexts.{start};
+ghost use Rattle.mk_tree.specs.Documents.{IsFaithful};
+ghost use Rattle.mk_tree.specs.Trees.{line_view};
+ghost use Rattle.mk_edit.specs.RenameTargetEffects.{effect_of_line, effect_on, joined};
+ghost use Rattle.mk_edit.specs.RenameTargetPatches.{HasFewWords, is_turn_of};
+
+use memchr::memmem::Finder;
+use mk_class::Context;
+use mk_edit_parts::lean::begins_with;
+use mk_edit_parts::line_test::{has_target, is_unread};
+use mk_edit_parts::tally::{Tally, count_words};
+use mk_tree::{Doc, Line};
+use std::alloc::Allocator;
+
+/// The turns in which the lines of a rename are exchanged.
+#[derive(Clone, Copy)]
+pub(crate) enum Turn {
+    /// The lines that get no longer.
+    NoLonger,
+    /// The lines that get longer.
+    Longer,
+}
+
+/// What a rename finds among some lines, and what it does to them.
+#[derive(Clone, Copy)]
+pub(crate) struct Effect {
+    /// Whether a line sets the recipe prefix in a way that is not read.
+    pub has_unread_prefix: bool,
+    /// Whether the old word is a target.
+    pub is_there: bool,
+    /// Whether a line would begin with the recipe prefix in force there: a word at its very front
+    /// is replaced, and the new word begins with this prefix.
+    pub begins_line: bool,
+    /// Whether the new word is a target.
+    pub is_taken: bool,
+    /// How many words it replaces.
+    pub words: usize,
+    /// How many bytes these words have in the lines as they stand.
+    pub bytes: usize,
+    /// How many lines it exchanges that get no longer.
+    pub no_longer: usize,
+    /// How many lines it exchanges that get longer.
+    pub longer: usize,
+}
+
+/// What a rename finds among the lines of a document, and what it does to them. `from` searches for
+/// the old word. The call walks once over the kept lines, reads no line anew and takes no memory.
+pub(crate) fn rename_target_effect<A: Allocator>(
+    doc: &Doc<A>,
+    from: &Finder<'_>,
+    to: &[u8],
+) -> Effect
+    requires { IsFaithful doc.now }
+    ensures effect { result ≡ effect_on from.now to.now start doc.now }
+    ensures few_bytes { result.bytes ≤ max_text }
+{
+    // The contract of `size` says that the text is within the limit, and so are its words.
+    let _size = doc.size();
+    let mut effect = Effect {
+        has_unread_prefix: false,
+        is_there: false,
+        begins_line: false,
+        is_taken: false,
+        words: 0,
+        bytes: 0,
+        no_longer: 0,
+        longer: 0,
+    };
+    'lines: for (context, line) in doc.lines_with_contexts() {
+        effect = joined(effect, effect_of_line(line, context, from, to));
+    }
+    effect
+}
+
+// The effect on a line that stands in this context.
+fn effect_of_line<A: Allocator>(
+    line: &Line<A>,
+    context: Context,
+    from: &Finder<'_>,
+    to: &[u8],
+) -> Effect
+    requires { HasFewWords from.now (line_view line.now) }
+    ensures { result ≡ effect_of_line from.now to.now context (line_view line.now) }
+{
+    let class = line.class();
+    let tally = count_words(line, &class, from);
+    Effect {
+        has_unread_prefix: is_unread(line, &class),
+        is_there: has_target(line, &class, from.needle()),
+        begins_line: tally.at_front && begins_with(to, context.prefix()),
+        is_taken: has_target(line, &class, to),
+        words: tally.words,
+        bytes: tally.bytes,
+        no_longer: usize::from(is_of_turn(tally, to.len(), Turn::NoLonger)),
+        longer: usize::from(is_of_turn(tally, to.len(), Turn::Longer)),
+    }
+}
+
+// The effect on some lines and on other lines together.
+fn joined(effect: Effect, other: Effect) -> Effect
+    requires few_words { effect.words + other.words < 2 ^ 32 }
+    requires few_bytes { effect.bytes + other.bytes < 2 ^ 32 }
+    requires few_no_longer { effect.no_longer + other.no_longer < 2 ^ 32 }
+    requires few_longer { effect.longer + other.longer < 2 ^ 32 }
+    ensures { result ≡ joined effect other }
+{
+    Effect {
+        has_unread_prefix: effect.has_unread_prefix || other.has_unread_prefix,
+        is_there: effect.is_there || other.is_there,
+        begins_line: effect.begins_line || other.begins_line,
+        is_taken: effect.is_taken || other.is_taken,
+        words: effect.words + other.words,
+        bytes: effect.bytes + other.bytes,
+        no_longer: effect.no_longer + other.no_longer,
+        longer: effect.longer + other.longer,
+    }
+}
+
+/// Whether a line is exchanged in a turn, by the count of its words that are replaced. Each new
+/// word has `new_length` bytes.
+pub(crate) fn is_of_turn(tally: Tally, new_length: usize, turn: Turn) -> bool
+    requires { tally.bytes ≤ 2 ^ 32 }
+    ensures { result ≡ is_turn_of turn tally.words tally.bytes new_length }
+{
+    // The new words alone may have more bytes than a number can say. Then the line gets longer.
+    let is_longer = tally.bytes < tally.words.saturating_mul(new_length);
+    match turn {
+        Turn::NoLonger => tally.words > 0 && !is_longer,
+        Turn::Longer => is_longer,
+    }
+}
