@@ -28,7 +28,7 @@ _mkedit_edit() {
         '(-d --depth)'{-d+,--depth=}'[how many edits can be undone, from 1 to 10000]:depth: ' \
         '(-o --output -i --in-place)'{-o+,--output=}'[where the text goes; it may be FILE]:output:_files' \
         '(-i --in-place -o --output)'{-i,--in-place}'[the makefile gets the text]' \
-        '*'{-e+,--expression=}'[a command, in place of the script]:command: ' \
+        '*'{-e+,--expression=}'[a line of a script, in place of the script]:command: ' \
         '(-h --help)'{-h,--help}'[print help]' \
         $files
 }

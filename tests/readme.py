@@ -20,7 +20,7 @@ EXAMPLE = re.compile(
 )
 NAMED = re.compile(r"\b(?:docs|crates|tests|tools|examples)/(?:[\w./-]|\*(?=[\w/]))*\w")
 # What a build makes.
-BUILT = re.compile(r"crates/\w+/out/")
+BUILT = re.compile(r"crates/\w+/out\b")
 EXAMPLES = 2
 
 check = Checks()

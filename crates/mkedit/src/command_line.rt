@@ -106,7 +106,7 @@ fn edit_command<'a>(alloc: Global) -> Result<Command<'a>, AllocError> {
         .long("expression")
         .value_name("COMMAND")
         .action(ArgAction::Append)
-        .help("A command, in place of SCRIPT; several -e are the lines of a script");
+        .help("A line of a script, in place of SCRIPT; several -e are its lines");
     let script = Arg::new(alloc, SCRIPT)
         .required_unless_present(EXPRESSION)?
         .help("The script: a command a line");

@@ -6,15 +6,23 @@
 use mk_session::Refusal;
 
 const BAD_ARGUMENT: &str = "\
-A field is not what it has to be, such as a value with a `#` that would begin a comment. The report
-names the first such field.
+A field is not what it has to be. The report names the first such field.
+`name` has ASCII letters, digits, underscores, dots and hyphens alone, so no `$(X)`.
+`value` has no blank at either end, no `#` that would begin a comment, no backslash and no lone `$` at
+its end, and no reference that is not closed, such as `$(X`. With `append` it is not empty either.
+`target`, `word`, `old` and `new` are one word each, without a blank outside a reference. `targets`
+and `prereqs` are such words, and `targets` is not empty. Outside a reference no word has a `#`,
+colon, semicolon, equals sign, vertical bar, backslash or lone `$`. No target ends in `&`.
+`place` has such a name or such a target in it.
+`line` does not end in a backslash. No field has a CR or a NUL.
 
 Example: the script
     set CC \"gcc #1\"
 is reported as
     1: refused 1 BadArgument value
 
-Correct the script. In a value write `\\#`, or put the `#` inside a reference.
+Correct the script. In a value write `\\#`, and between double quotes `\\\\#`:
+`set CC \"gcc \\\\#1\"`. Or put the `#` inside a reference.
 ";
 
 const RESERVED: &str = "\
@@ -61,8 +69,12 @@ the script
 is reported as
     1: refused 4 NoSuch
 
-Look with `mkedit vars` or `mkedit rules`. Where the line stands in the file all the same, look with
-`mkedit check`: it is not read inside.
+Look with `mkedit vars` or `mkedit rules`. If both print nothing, the makefile may be empty:
+`> FILE` empties it, and without FILE it is standard input. In `set` the name comes before the
+value. Where the line stands in the file all the same, `mkedit check` lists it if it is not read
+inside. `set`, `append` and `unset` find no `define`, no directive such as `export NAME` and no
+assignment for targets such as `t: X = 1`, and `mkedit check` lists none of these. Edit such a line
+by hand. For a word that is only a prerequisite, use `undepend` and `depend` in place of `rename`.
 ";
 
 const AMBIGUOUS: &str = "\
@@ -80,7 +92,8 @@ the script
 is reported as
     1: refused 5 Ambiguous 2
 
-Say which one, by `nth`.
+Say which one: `nth 2 set CC clang`. `mkedit vars` and `mkedit rules` list them in order, and
+assignments for targets do not count. There is no `nth all`: write one line for each.
 ";
 
 const ABSENT: &str = "\
@@ -93,7 +106,8 @@ the script
 is reported as
     1: refused 6 Absent
 
-Look with `mkedit rules`.
+Look with `mkedit rules`. A recipe after a semicolon has no number: `mkedit rules` counts it,
+and no edit reaches it. Edit it by hand.
 ";
 
 const ALREADY: &str = "\
@@ -170,7 +184,7 @@ Give the whole value by `set`.
 ";
 
 const OPEN_LINE: &str = "\
-The new line would follow a last line that could take it in. Such a line ends in an odd run of
+The new line would follow a last line that would swallow it. Such a line ends in an odd run of
 backslashes, with or without a line end after it, or it has no line end and ends in a CR.
 
 Example: over
@@ -212,7 +226,8 @@ the script
 is reported as
     1: refused 14 Leans
 
-Edit by hand, or choose another place.
+In the example the line with the tab would become a recipe line of `all`. Edit by hand, or choose
+another place.
 ";
 
 const TOO_LONG: &str = "\

@@ -35,7 +35,7 @@ Example: with `CC = gcc # c` in config.mk, and `set CC clang` in use-clang,
 prints `CC = clang # c`, and
     mkedit edit -i use-clang config.mk
 changes the file. Without a script,
-    mkedit edit -e 'set CC clang' -e 'unset LDFLAGS' config.mk
+    mkedit edit -e 'set CC clang' -e 'append CC -flto' config.mk
 runs these two commands, as lines 1 and 2.
 
 Status: 0 done, 1 a command was refused, 2 a bad command line or script, 3 a fault of reading,
@@ -113,6 +113,7 @@ pub const EXPLAIN: &str = "\
 A command that is refused has a line on standard error, such as
     3: refused 4 NoSuch
 for line 3 of the script. The number or the name of the refusal is what `explain` takes.
+The number is not the exit status. Status 2 comes with a message in place of a refusal.
 
 Example:
     mkedit explain 4
