@@ -2,7 +2,7 @@ use crate::std_devices::{CallEnd, ListReader, ListWriter};
 use mk_lines::ends::{file_line_end, is_open, line_end, without_line_end};
 use mk_lines::sink::{write_all, write_parts};
 use mk_lines::source::{MAX_TEXT, read_all};
-use mk_lines::split::split;
+use mk_lines::split::{split, split_first_line};
 use mk_lines::{ByteSink, ByteSource, End, Fault, Span, StdSink, StdSource};
 use refusing::Refusing;
 use std::test::Fail;
@@ -211,6 +211,21 @@ fn lines_are_physical_lines_with_those_that_continue_them(rt: HostRuntime) -> Re
         }
     }
     Ok(())
+}
+
+#[test]
+fn the_first_line_is_cut_off(rt: HostRuntime) {
+    for (text, line, after) in [
+        (b"a\nb".as_slice(), b"a\n".as_slice(), b"b".as_slice()),
+        (b"\n", b"\n", b""),
+        (b"a", b"a", b""),
+        (b"A \\\nB\nC", b"A \\\nB\n", b"C"),
+        (b"A \\\\\nB", b"A \\\\\n", b"B"),
+        (b"A \\\r\nB\\\n\\", b"A \\\r\nB\\\n\\", b""),
+    ] {
+        assert_eq!(rt; split_first_line(text), Some((line, after)));
+    }
+    assert!(rt; split_first_line(b"").is_none());
 }
 
 #[test]

@@ -1,16 +1,13 @@
--- A tree built by halves.
-use Rattle.std.proofs.Common.{◌≡◌, ℕ, ◌+◌, ◌-◌, ◌/◌, ◌≤◌, max, sym, arith, subst}
-use Rattle.mk_tree.specs.Trees.{DifferByAtMost, IsLowest}
-use Rattle.mk_tree.proofs.Lowness.{lowest-join}
+-- A tree that is built of two full ones.
+use Rattle.std.proofs.Common.{◌≡◌, ◌∙◌, ℕ, ◌+◌, ◌-◌, ◌*◌, ◌≤◌, ◌^◌, List, ◌∷◌, ◌++◌, length, length-append, ap, arith}
+use Rattle.std.proofs.lemmas.Grind.{pow_more}
+use Rattle.mk_tree.specs.LocatedLines.{LocatedLine}
+use Rattle.mk_tree.specs.Trees.{IsHeightAfter}
 
--- the halves of a number less one
-halves : (n half : ℕ) → half ≡ (n - 1) / 2 → (n ≡ 0 → ⊥) → (half ≤ n - 1 - half) × (n - 1 - half ≤ half + 1) × (n ≡ n - 1 - half + 1 + half)
-halves n half e h = (omega (arith, e), omega (arith, e), omega (arith, e, h))
-
--- the height of the halves and a line between them
-pub built-low : (n half h k top : ℕ) → half ≡ (n - 1) / 2 → (n ≡ 0 → ⊥) → IsLowest (n - 1 - half) h → IsLowest half k → top ≡ max h k + 1 → DifferByAtMost 1 h k × IsLowest n top
-built-low n half h k top e some a b t =
-    let (fewer, near, whole) = halves n half e some in
-    let (balanced, low) = lowest-join (n - 1 - half) half h k fewer near a b in
-    let same : IsLowest n (max h k + 1) = subst (λ z. IsLowest z (max h k + 1)) (sym whole) low in
-    (balanced, subst (IsLowest n) (sym t) same)
+-- a full tree of one level more
+pub full-joined : (height : ℕ) (l r : List LocatedLine × ℕ) (x : LocatedLine) (whole : List LocatedLine × ℕ) → (height ≡ 0 → ⊥) → (l.1 ≡ height - 1) × (2 ^ (height - 1) ≤ length l.0 + 1)
+    → (r.1 ≡ height - 1) × (2 ^ (height - 1) ≤ length r.0 + 1) → whole.0 ≡ l.0 ++ x ∷ r.0 → IsHeightAfter l.1 r.1 whole.1 → (whole.1 ≡ height) × (2 ^ height ≤ length whole.0 + 1)
+full-joined height l r x whole some (a, m) (b, n) e (low, high, near) =
+    let top : whole.1 ≡ height = omega (arith, a, b, some, near (omega (arith, a, b), omega (arith, a, b))) in
+    let double : 2 ^ height ≡ 2 ^ (height - 1) * 2 = ap (λ h. 2 ^ h) (omega (arith, some)) ∙ pow_more 2 (height - 1) in
+    (top, omega (arith, double, m, n, ap length e, length-append l.0 (x ∷ r.0)))

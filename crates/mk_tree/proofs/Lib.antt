@@ -7,7 +7,6 @@ pub mod Building
 pub mod Changes
 pub mod Ends
 pub mod Heights
-pub mod Lowness
 pub mod Nodes
 pub mod Indices
 pub mod Prefixes

@@ -1,6 +1,9 @@
 -- The lines of a text, read one after the other.
-use Rattle.std.proofs.Common.{◌≡◌, ℕ, suc, ◌+◌, ◌<◌, ◌≤◌, refl, sym, ap, ◌∙◌, subst, arith, List, [], ◌∷◌, ◌++◌, length, append_assoc, append-nil}
-use Rattle.std.specs.Prelude.{Result, Ok, Err, IsErr, IsErrAnd, IfErr}
+use Rattle.std.proofs.Common.{◌≡◌, ◌≢◌, ℕ, suc, ◌+◌, ◌-◌, ◌^◌, ◌<◌, ◌≤◌, refl, sym, ap, ◌∙◌, subst, arith, List, [], ◌∷◌, ◌++◌, length, take, drop, length-append, append_assoc, append-nil}
+use Rattle.std.specs.Prelude.{Result, Ok, Err, IsErr, IsErrAnd, IfErr, slice_range}
+use Rattle.std.proofs.Math.Seq.{take-append_seam, take-length, drop-append_seam}
+use Rattle.std.proofs.Math.Nat.{add-sub_cancel_left}
+use Rattle.std.proofs.lemmas.List.{drop-drop, length-drop, length-map}
 use Rattle.mk_lines.specs.Limits.{max_text}
 use Rattle.mk_lines.specs.Spans.{Tiles}
 use Rattle.mk_lines.specs.LogicalLines.{logical_lines}
@@ -25,60 +28,44 @@ use Rattle.mk_tree.specs.Documents.{document_lines, most_conditionals, IsTooDeep
 use Rattle.mk_lines.specs.declared.fault.Fault.{Fault}
 use Rattle.mk_lines.specs.declared.fault.Fault.TheVariants.{NoMemory, TooLong, TooDeep, BadDepth, Read, Write}
 use Rattle.mk_tree.specs.Faults.{IsReadingFault}
-use Rattle.mk_tree.specs.Unread.{UnreadLines, shown_lines, AreTooDeep, AreReadFrom, AreUnread, AreSingle, texts_at}
+use Rattle.mk_tree.specs.Unread.{UnreadLines, shown_lines, AreTooDeep, AreReadFrom}
 use Rattle.mk_tree.proofs.AdmissionLemmas.{length-classed}
 use Rattle.mk_tree.proofs.Indices.{size_of-append, size_of-whole}
 use Rattle.mk_tree.proofs.on_changes.Sizes.{size_of-text}
 
--- ---- spans
+-- ---- the next line
 
-tiles-order : (ss : List Span) (from to : ℕ) → Tiles ss from to → from + length ss ≤ to
-tiles-order [] from to h = omega (arith, h)
-tiles-order (s ∷ ss) from to h = omega (arith, h.1, tiles-order ss s.end to h.2)
+spans-order : (ss : List Span) (from to : ℕ) → Tiles ss from to → from + length ss ≤ to
+spans-order [] from to h = omega (arith, h)
+spans-order (s ∷ ss) from to h = omega (arith, h.1, spans-order ss s.end to h.2)
 
--- the first of some spans that follow one another lies between the ends
-first-within : (s : Span) (ss : List Span) (to : ℕ) → ((from : ℕ) × Tiles (s ∷ ss) from to) → (s.start ≤ s.end) × (s.end ≤ to)
-first-within s ss to (from, (e, some, rest)) = (omega (arith, e, some), omega (arith, tiles-order ss s.end to rest))
+-- a text has at most as many lines as bytes
+few-lines : (t : List ℕ) → length (logical_lines t) ≤ length t
+few-lines t = omega (arith, ap length (line_ranges-text t), length-map (line_ranges t) (text_at t), spans-order (line_ranges t) 0 (length t) (line_ranges-tiles t))
 
--- there are at most as many spans as bytes
-tiles-few : (ss : List Span) (to : ℕ) → Tiles ss 0 to → length ss ≤ to
-tiles-few ss to h = omega (arith, tiles-order ss 0 to h)
+-- The text is read up to `at`, and this is its next line.
+pub record IsNext (text : List ℕ) (at : ℕ) (line : List ℕ) : Type 0 where
+  pub lines : logical_lines (drop at text) ≡ line ∷ logical_lines (drop (at + length line) text)
+  pub bytes : slice_range text at (at + length line) ≡ line
+  pub single : logical_lines line ≡ line ∷ []
+  pub within : at + length line ≤ length text
 
--- the lines of a text, among all of them, are single
-all-single : (t : List ℕ) (above ls : List (List ℕ)) → logical_lines t ≡ above ++ ls → AreSingle ls
-all-single t above [] e = tt
-all-single t above (l ∷ ls) e =
-    (OneLine-logical l ((among t above l ls e).one), all-single t (above ++ l ∷ []) ls (e ∙ sym (append_assoc above (l ∷ []) ls)))
-
--- at first all lines of a text are unread
-pub all-unread : (t : List ℕ) (ss : List Span) (c : Context) → length t ≤ max_text → ss ≡ line_ranges t → c ≡ start → AreUnread t ss c
-all-unread t ss c few e s =
-    let tiles : Tiles ss 0 (length t) = subst (λ z. Tiles z 0 (length t)) (sym e) (line_ranges-tiles t) in
+-- the line that was cut off the front of what is left
+pub next-line : (t rest line after : List ℕ) (at : ℕ) → at ≤ length t → rest ≡ take (length t - at) (drop at t) → logical_lines rest ≡ line ∷ logical_lines after → line ++ after ≡ rest → IsNext t at line
+next-line t rest line after at within e lines joined =
+    let left : line ++ after ≡ drop at t = joined ∙ (e ∙ (ap (λ n. take n (drop at t)) (sym (length-drop at t)) ∙ take-length (drop at t))) in
+    let below : drop (at + length line) t ≡ after = ap (λ n. drop n t) (omega arith) ∙ (sym (drop-drop (length line) at t) ∙ (ap (drop (length line)) (sym left) ∙ drop-append_seam line after)) in
     record {
-      short = few;
-      within = (0, tiles);
-      single = all-single t [] (texts_at t ss) (sym (line_ranges-text t) ∙ ap (texts_at t) (sym e));
-      few = omega (arith, few, tiles-few ss (length t) tiles, ap (λ (z : Context). z.defines) s);
+      lines = ap logical_lines (sym left ∙ joined) ∙ (lines ∙ ap (λ z. line ∷ logical_lines z) (sym below));
+      bytes = ap (λ n. take n (drop at t)) (add-sub_cancel_left at (length line)) ∙ (ap (take (length line)) (sym left) ∙ take-append_seam line after);
+      single = OneLine-logical line ((among rest [] line (logical_lines after) lines).one);
+      within = omega (arith, ap length left, length-append line after, length-drop at t, within);
     }
 
--- the first of some unread lines
-pub first-unread : (t : List ℕ) (s : Span) (ss rest : List Span) (c : Context) → ss ≡ s ∷ rest → AreUnread t ss c
-    → (s.start ≤ s.end) × (s.end ≤ length t) × (logical_lines (text_at t s) ≡ text_at t s ∷ []) × (c.defines < max_text)
-first-unread t s ss rest c e u =
-    let here : AreUnread t (s ∷ rest) c = subst (λ z. AreUnread t z c) e u in
-    let (order, end) = first-within s rest (length t) here.within in
-    (order, end, here.single.0, omega (arith, here.few))
-
--- the others are unread, also where a define is opened
-pub rest-unread : (t : List ℕ) (s : Span) (ss rest : List Span) (c after : Context) → ss ≡ s ∷ rest → AreUnread t ss c → after.defines ≤ c.defines + 1 → AreUnread t rest after
-rest-unread t s ss rest c after e u one =
-    let here : AreUnread t (s ∷ rest) c = subst (λ z. AreUnread t z c) e u in
-    record {
-      short = here.short;
-      within = (s.end, here.within.1.2);
-      single = here.single.1;
-      few = omega (arith, here.few, one);
-    }
+-- the unread lines before a line is read, seen by that line
+pub next-seen : (t line : List ℕ) (at : ℕ) (c : Context) (old : UnreadLines) → IsNext t at line → record { context = c; lines = logical_lines (drop at t) } ≡ old
+    → record { context = c; lines = line ∷ logical_lines (drop (at + length line) t) } ≡ old
+next-seen t line at c old n seen = ap (λ ls. record { context = c; lines = ls }) (sym n.lines) ∙ seen
 
 -- ---- conditionals
 
@@ -153,27 +140,32 @@ pub sides-fit : (old left : UnreadLines) (before after : List LocatedLine) (x : 
 sides-fit old left before after x h few =
     omega (arith, ap size_of h.all, size_of-append (before ++ x ∷ after) (shown_lines left), size_of-whole before after x, few)
 
--- all lines are read
-pub read-all : (text : List ℕ) (old left : UnreadLines) (read : List LocatedLine) → old ≡ record { context = start; lines = logical_lines text } → AreReadFrom old read left
-    → length old.lines ≡ length left.lines + length old.lines → (read ≡ document_lines text) × AreConditionalsFit 0 (document_lines text)
-read-all text old left read e h n = go left.lines refl
+-- where a line is read, lines were left
+pub read-some : (old left : UnreadLines) (x : LocatedLine) → AreReadFrom old (x ∷ []) left → old.lines ≡ [] → ⊥
+read-some old left x h e = omega (arith, ap length (h.all ∙ ap (λ ls. located_lines (classed old.context ls)) e))
+
+-- a text within the limit has fewer lines than a full tree of 25 levels
+none-left : (text : List ℕ) (left : UnreadLines) (read : List LocatedLine) (height : ℕ) → length text ≤ max_text → AreReadFrom (record { context = start; lines = logical_lines text }) read left
+    → (left.lines ≢ [] → (height ≡ 25) × (2 ^ 25 ≤ length read + 1)) → left.lines ≡ []
+none-left text left read height short h full = go left.lines refl
   where
-    whole : AreReadFrom (record { context = start; lines = logical_lines text }) read left
-    whole = subst (λ z. AreReadFrom z read left) e h
+    few : length read ≤ max_text
+    few = omega (arith, ap length h.all, length-append read (shown_lines left), length-classed start (logical_lines text), few-lines text, short)
 
-    go : (ls : List (List ℕ)) → left.lines ≡ ls → (read ≡ document_lines text) × AreConditionalsFit 0 (document_lines text)
-    go [] none =
-        let empty : shown_lines left ≡ [] = ap (λ z. located_lines (classed left.context z)) none in (
-          sym (append-nil read) ∙ (ap (λ z. read ++ z) (sym empty) ∙ whole.all),
-          whole.fit (subst (AreConditionalsFit left.context.conditionals) (sym empty) tt),
-        )
-    go (l ∷ ls) some = absurd (omega (arith, n, ap length some))
+    go : (ls : List (List ℕ)) → left.lines ≡ ls → left.lines ≡ []
+    go [] none = none
+    go (l ∷ ls) some = absurd (omega (arith, few, (full (λ none. omega (arith, ap length (sym some ∙ none)))).1))
 
--- as many lines were counted as there are
-pub all-counted : (text : List ℕ) (old left : UnreadLines) (read : List LocatedLine) → old ≡ record { context = start; lines = logical_lines text } → AreReadFrom old read left
-    → length old.lines ≡ length left.lines + length old.lines → length read ≡ length old.lines
-all-counted text old left read e h n =
-    ap length (read-all text old left read e h n).0 ∙ (length-classed start (logical_lines text) ∙ ap (λ (u : UnreadLines). length u.lines) (sym e))
+-- a tree that is read up to 25 levels has all lines of a text within the limit
+pub read-all : (text : List ℕ) (old left : UnreadLines) (read : List LocatedLine) (height : ℕ) → length text ≤ max_text → old ≡ record { context = start; lines = logical_lines text } → AreReadFrom old read left
+    → (left.lines ≢ [] → (height ≡ 25) × (2 ^ 25 ≤ length read + 1)) → (read ≡ document_lines text) × AreConditionalsFit 0 (document_lines text)
+read-all text old left read height short e h full =
+    let whole : AreReadFrom (record { context = start; lines = logical_lines text }) read left = subst (λ z. AreReadFrom z read left) e h in
+    let none = none-left text left read height short whole full in
+    let empty : shown_lines left ≡ [] = ap (λ z. located_lines (classed left.context z)) none in (
+      sym (append-nil read) ∙ (ap (λ z. read ++ z) (sym empty) ∙ whole.all),
+      whole.fit (subst (AreConditionalsFit left.context.conditionals) (sym empty) tt),
+    )
 
 -- ---- the whole text
 

@@ -1,6 +1,6 @@
 -- What a tree of lines is seen as, and what holds of it.
 -- Told in docs/ARCHITECTURE.md, "The document".
-use Rattle.std.specs.Prelude.{◌≡◌, ℕ, suc, zero, ◌+◌, ◌*◌, ◌^◌, ◌<◌, ◌≤◌, max, List, [], ◌∷◌, ◌++◌, length}
+use Rattle.std.specs.Prelude.{◌≡◌, ℕ, suc, zero, ◌+◌, ◌≤◌, max, List, [], ◌∷◌, ◌++◌, length}
 use Rattle.mk_lines.specs.Limits.{max_text}
 use Rattle.mk_tree.specs.LocatedLines.{LocatedLine, size_of}
 use Rattle.mk_tree.specs.declared.tree.Line.{Line}
@@ -61,10 +61,6 @@ pub record IsUnlinked (whole left : List LocatedLine × ℕ) (line : LocatedLine
 -- the top of a tree is this line, with what stands before it and what stands after it below it
 abbrev pub IsTop : {A : _} → List LocatedLine × ℕ → Line A → Type 0
 IsTop whole l = IsUnlinked whole l.node.value.left (line_view l) l.node.value.right
-
--- a tree of `lines` lines is as low as a tree of this number of lines can be
-abbrev pub IsLowest : (lines height : ℕ) → Type 0
-IsLowest n h = (n < 2 ^ h) × (2 ^ h ≤ max (2 * n) 1)
 
 -- the height of the tree that joins two sides and a line between them
 abbrev pub IsHeightAfter : ℕ → ℕ → ℕ → Type 0

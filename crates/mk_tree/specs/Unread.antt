@@ -1,11 +1,7 @@
 -- The lines of a text that are still to be read.
 -- Told in docs/ARCHITECTURE.md, "The document".
-use Rattle.std.specs.Prelude.{◌≡◌, ℕ, ◌+◌, ◌<◌, ◌≤◌, List, [], ◌∷◌, ◌++◌, length, map}
+use Rattle.std.specs.Prelude.{◌≡◌, ℕ, ◌<◌, ◌≤◌, List, ◌++◌, length}
 use Rattle.mk_lines.specs.Limits.{max_text}
-use Rattle.mk_lines.specs.LogicalLines.{logical_lines}
-use Rattle.mk_lines.specs.Ranges.{text_at}
-use Rattle.mk_lines.specs.Spans.{Tiles}
-use Rattle.mk_lines.specs.declared.split.Span.{Span}
 use Rattle.mk_class.specs.Contexts.{Context, max_conditionals}
 use Rattle.mk_class.specs.ClassedLines.{classed}
 use Rattle.mk_tree.specs.Documents.{most_conditionals}
@@ -35,19 +31,9 @@ pub record AreReadFrom (old : UnreadLines) (read : List LocatedLine) (left : Unr
       → AreConditionalsFit old.context.conditionals (shown_lines old)
   pub deep : AreTooDeep left → AreTooDeep old
 
--- the lines of a text that some spans stand for
-abbrev pub texts_at : List ℕ → List Span → List (List ℕ)
-texts_at t ss = map (text_at t) ss
-
--- each of these texts is one logical line by itself
-abbrev pub AreSingle : List (List ℕ) → Type 0
-AreSingle [] = Unit {0}
-AreSingle (l ∷ ls) = (logical_lines l ≡ l ∷ []) × AreSingle ls
-
--- The text is within the limit of a document. The spans follow one another up to its end, and each
--- is one logical line. There are so few spans that no count of open defines becomes too large.
-pub record AreUnread (text : List ℕ) (spans : List Span) (context : Context) : Type 0 where
+-- The text is within the limit of a document, and this many of its bytes are read. Each line that
+-- was read has a byte, and opens one define at most.
+pub record AreUnread (text : List ℕ) (at : ℕ) (context : Context) : Type 0 where
   pub short : length text ≤ max_text
-  pub within : (from : ℕ) × Tiles spans from (length text)
-  pub single : AreSingle (texts_at text spans)
-  pub few : context.defines + length spans ≤ max_text
+  pub within : at ≤ length text
+  pub few : context.defines ≤ at

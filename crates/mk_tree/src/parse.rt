@@ -1,12 +1,11 @@
 //! A document made of a text.
-ghost use Rattle.std.specs.Prelude.{◌≡◌, ◌+◌, ◌<◌, ◌≤◌, IfErr, IfOk, IsErrAnd, OnOk, length};
+ghost use Rattle.std.specs.Prelude.{◌≡◌, ◌≢◌, ◌+◌, ◌^◌, ◌<◌, ◌≤◌, [], IfErr, IfOk, IsErrAnd, OnOk, length};
 ghost use Rattle.mk_lines.specs.Limits.{max_text};
 ghost use Rattle.mk_lines.specs.LogicalLines.{logical_lines};
 ghost use Rattle.mk_tree.specs.Counting.{AreCounted};
 ghost use Rattle.mk_tree.specs.Faults.{IsParsingFault, IsReadingFault};
 ghost use Rattle.mk_tree.specs.Documents.{IsFaithful, IsFaithfulTo, IsTooDeep};
 ghost use Rattle.mk_tree.specs.LocatedLines.{size_of};
-ghost use Rattle.mk_tree.specs.Trees.{IsLowest};
 ghost use Rattle.mk_tree.specs.Unread.{AreReadFrom, AreTooDeep, shown_lines};
 
 use crate::document::Doc;
@@ -15,7 +14,6 @@ use crate::unread::Unread;
 use mk_class::Meter;
 use mk_lines::Fault;
 use mk_lines::source::MAX_TEXT;
-use mk_lines::split::split;
 use std::alloc::Allocator;
 use std::rc::RcSlice;
 
@@ -74,38 +72,40 @@ impl<A: Allocator + Copy> Doc<A> {
         }
         let size = text.len();
         let text = RcSlice::from_vec(text)?;
-        let spans = split(alloc, text.as_slice())?;
-        let mut lines = Unread::new(alloc, &text, &spans);
-        let count = lines.len();
-        let tree = read_tree(&mut lines, count, meter)?;
+        let mut lines = Unread::new(alloc, &text);
+        let tree = read_tree(&mut lines, BOUND_OF_HEIGHT, meter)?;
         Ok(Doc { tree, size })
     }
 }
 
-/// Reads the first `count` lines into a tree that is as low as it can be: first the lines of its
-/// left side, then its top, then the lines of its right side. Each line is put into its place as
-/// soon as it is read.
+/// A full tree of this height has more lines than a text within the limit has bytes.
+const BOUND_OF_HEIGHT: u8 = 25;
+
+/// Reads lines into a tree that is no higher than `height`: as many as fill it, or all that are
+/// left. First the lines of its left side are read, then its top, then the lines of its right side.
+/// Each line is put into its place as soon as it is read.
 fn read_tree<A: Allocator + Copy>(
     lines: &mut Unread<'_, A>,
-    count: usize,
+    height: u8,
     meter: &mut Meter,
 ) -> Result<Tree<A>, Fault>
-    requires in_range { count ≤ length lines.old.lines }
     requires fits { size_of (shown_lines lines.old) ≤ max_text }
     ensures read { IfOk result (λ tree. AreReadFrom lines.old tree.0 lines.new) }
-    ensures count { IfOk result (λ _. length lines.old.lines ≡ length lines.new.lines + count) }
-    ensures low { IfOk result (λ tree. IsLowest count tree.1) }
+    ensures low { IfOk result (λ tree. tree.1 ≤ height) }
+    ensures full { IfOk result (λ tree.
+        lines.new.lines ≢ [] → (tree.1 ≡ height) × (2 ^ height ≤ length tree.0 + 1)) }
     ensures fault { IfErr result (λ fault. IsReadingFault (AreTooDeep lines.old) fault) }
-    ensures counted { OnOk result (AreCounted meter.old count meter.new) }
+    ensures counted { IfOk result (λ tree. AreCounted meter.old (length tree.0) meter.new) }
     ensures forward { meter.old ≤ meter.new }
-    ensures few_read { meter.new ≤ meter.old + count }
+    ensures few_read { meter.new + length lines.new.lines ≤ meter.old + length lines.old.lines }
 {
-    if count == 0 {
+    if height == 0 {
         return Ok(Tree::new());
     }
-    let after = (count - 1) / 2;
-    let left = read_tree(lines, count - 1 - after, meter)?;
-    let line = lines.read_first(meter)?;
-    let right = read_tree(lines, after, meter)?;
-    Ok(Tree::join(left, line, right))
+    let left = read_tree(lines, height - 1, meter)?;
+    let Some(line) = lines.read_next(meter)? else {
+        return Ok(left);
+    };
+    let right = read_tree(lines, height - 1, meter)?;
+    Ok(Tree::append(left, line, right))
 }

@@ -354,6 +354,26 @@ impl<A: Allocator> Tree<A> {
         }
     }
 
+    /// Joins two trees with a line between them. The right tree is no higher than the left one. The
+    /// call takes time by the difference of the two heights.
+    pub(crate) fn append(left: Tree<A>, line: Line<A>, right: Tree<A>) -> Tree<A>
+        requires no_higher { right.1 ≤ left.1 }
+        requires fits { size_of left.0 + length (line_view line).bytes + size_of right.0
+            ≤ max_text }
+        ensures lines { result.0 ≡ left.0 ++ line_view line ∷ right.0 }
+        ensures size { size_of result.0
+            ≡ size_of left.0 + length (line_view line).bytes + size_of right.0 }
+        ensures height { IsHeightAfter left.1 right.1 result.1 }
+    {
+        if left.height() <= right.height() + 2 {
+            return Tree::balance(left, line, right);
+        }
+        let Some((before, top, after)) = left.unlink() else {
+            unreachable!()
+        };
+        Tree::balance(before, top, Tree::append(after, line, right))
+    }
+
     // Joins two trees whose heights differ by at most two, with a line between them.
     fn balance(left: Tree<A>, line: Line<A>, right: Tree<A>) -> Tree<A>
         requires near { DifferByAtMost 2 left.1 right.1 }

@@ -1,9 +1,8 @@
 //! The lines of a text that are still to be read.
-ghost use Rattle.std.specs.Prelude.{◌≡◌, ◌+◌, ◌-◌, ◌^◌, ◌<◌, ◌≤◌, ◌∷◌, [], IfErr, IfOk, OnOk, length, min};
+ghost use Rattle.std.specs.Prelude.{◌≡◌, ◌+◌, ◌-◌, ◌^◌, ◌<◌, ◌≤◌, ◌∷◌, [], IfErr, IfOk, MatchOption, OnOk, length, min};
 ghost use Rattle.std.specs.Rc.{rc_slice_items};
 ghost use Rattle.mk_lines.specs.Limits.{max_text};
 ghost use Rattle.mk_lines.specs.LogicalLines.{logical_lines};
-ghost use Rattle.mk_lines.specs.Ranges.{line_ranges, text_at};
 ghost use Rattle.mk_class.specs.Contexts.{start};
 ghost use Rattle.mk_tree.specs.Faults.{IsReadingFault};
 ghost use Rattle.mk_tree.specs.Trees.{line_view};
@@ -14,74 +13,78 @@ use crate::read::read_line;
 use crate::tree::Line;
 use mk_class::{Context, Meter};
 use mk_lines::Fault;
-use mk_lines::split::Span;
+use mk_lines::split::{Span, split_first_line};
 use std::alloc::Allocator;
 use std::marker::Model;
 use std::rc::RcSlice;
 
 /// The lines of a text from some line on, each read in the context of the lines before it.
 /// Contracts see the lines, and the context of the first line.
+///
+/// A line is cut from the text when it is read. A list of all lines would take 16 bytes for each
+/// line, beside the text and the lines that were read.
 #[derive(Drop)]
 pub(crate) struct Unread<'a, A: Allocator> {
     alloc: A,
     text: &'a RcSlice<u8, A>,
-    spans: &'a [Span],
+    // how many bytes of the text are read
+    at: usize,
     context: Context,
 }
 
 impl<'a, A: Allocator> Model for Unread<'a, A> {
+    ghost use Rattle.std.specs.Prelude.{drop};
     ghost use Rattle.std.specs.Rc.{rc_slice_items};
-    ghost use Rattle.mk_tree.specs.Unread.{AreUnread, UnreadLines, texts_at};
+    ghost use Rattle.mk_lines.specs.LogicalLines.{logical_lines};
+    ghost use Rattle.mk_tree.specs.Unread.{AreUnread, UnreadLines};
 
     ghost Value = { UnreadLines };
 
-    ghost view = { λ u.
-        record { context = u.context; lines = texts_at (rc_slice_items u.text.now) u.spans.now } };
+    ghost view = { λ u. record {
+      context = u.context;
+      lines = logical_lines (drop u.at (rc_slice_items u.text.now));
+    } };
 
-    ghost invariant = { λ u. AreUnread (rc_slice_items u.text.now) u.spans.now u.context };
+    ghost invariant = { λ u. AreUnread (rc_slice_items u.text.now) u.at u.context };
 }
 
 impl<'a, A: Allocator + Copy> Unread<'a, A> {
-    /// All lines of a text. The lines stand at these spans.
-    pub(crate) fn new(alloc: A, text: &'a RcSlice<u8, A>, spans: &'a [Span]) -> Unread<'a, A>
-        requires few { length (rc_slice_items text.now) ≤ max_text }
-        requires spans { spans.now ≡ line_ranges (rc_slice_items text.now) }
-        ensures lines { result
+    /// All lines of a text.
+    pub(crate) fn new(alloc: A, text: &'a RcSlice<u8, A>) -> Unread<'a, A>
+        requires { length (rc_slice_items text.now) ≤ max_text }
+        ensures { result
             ≡ record { context = start; lines = logical_lines (rc_slice_items text.now) } }
     {
         Unread {
             alloc,
             text,
-            spans,
+            at: 0,
             context: Context::start(),
         }
     }
 
-    /// How many lines are still to be read.
-    pub(crate) fn len(&self) -> usize
-        ensures { result ≡ length self.now.lines }
-    {
-        self.spans.len()
-    }
-
-    /// Reads the first line. The call adds one to the meter; if it answers a fault before the line
-    /// has its class, it adds nothing.
-    pub(crate) fn read_first(&mut self, meter: &mut Meter) -> Result<Line<A>, Fault>
-        requires some { 0 < length self.old.lines }
-        ensures read { IfOk result (λ line. AreReadFrom self.old (line_view line ∷ []) self.new) }
-        ensures count { length self.old.lines ≡ length self.new.lines + 1 }
+    /// Reads the first line, or answers `None` if no line is left. The call adds one to the meter
+    /// for a line; if it answers a fault before the line has its class, it adds nothing.
+    pub(crate) fn read_next(&mut self, meter: &mut Meter) -> Result<Option<Line<A>>, Fault>
+        ensures read { IfOk result (λ found.
+            MatchOption found ((self.new ≡ self.old) × (self.old.lines ≡ [])) (λ line.
+            AreReadFrom self.old (line_view line ∷ []) self.new)) }
         ensures fault { IfErr result (λ fault. IsReadingFault (AreTooDeep self.old) fault) }
-        ensures counted { OnOk result (meter.new ≡ min (meter.old + 1) (2 ^ 64 - 1)) }
+        ensures counted { IfOk result (λ found.
+            MatchOption found (meter.new ≡ meter.old) (λ _.
+            meter.new ≡ min (meter.old + 1) (2 ^ 64 - 1))) }
         ensures forward { meter.old ≤ meter.new }
-        ensures once { meter.new ≤ meter.old + 1 }
+        ensures few_read { meter.new + length self.new.lines ≤ meter.old + length self.old.lines }
     {
-        let Some((span, rest)) = self.spans.split_first() else {
-            unreachable!()
+        let Some((line, _)) = split_first_line(&self.text.as_slice()[self.at..]) else {
+            return Ok(None);
         };
-        self.spans = rest;
-        let bytes = LineBytes::of_text(self.text, *span)?;
+        let start = self.at;
+        let end = start + line.len();
+        self.at = end;
+        let bytes = LineBytes::of_text(self.text, Span { start, end })?;
         let (line, after) = read_line(self.alloc, bytes, self.context, meter)?;
         self.context = after;
-        Ok(line)
+        Ok(Some(line))
     }
 }

@@ -112,9 +112,8 @@ fn each_refused_growth_of_parse_is_no_memory(rt: HostRuntime) -> Result<(), Fail
         let heap = Refusing::after(rt.alloc(), admitted);
         let answer = Doc::parse(&heap, FOUR_LINES, &mut Meter::new());
         if !heap.has_refused() {
-            // the text and the count of its owners, the spans, a node of each line, and three for
-            // the fold
-            assert!(rt; admitted == 10 && answer.is_ok());
+            // the text and the count of its owners, a node of each line, and three for the fold
+            assert!(rt; admitted == 9 && answer.is_ok());
             break;
         }
         assert!(rt; matches!(answer, Err(Fault::NoMemory)));
@@ -134,7 +133,7 @@ fn each_refused_growth_of_parsing_a_text_by_value_is_no_memory(
         let answer = Doc::parse_vec(&heap, text, &mut Meter::new());
         if !heap.has_refused() {
             // as many as `parse` takes, since the text is copied here
-            assert!(rt; admitted == 10 && answer.is_ok());
+            assert!(rt; admitted == 9 && answer.is_ok());
             break;
         }
         assert!(rt; matches!(answer, Err(Fault::NoMemory)));
@@ -152,15 +151,15 @@ fn has_value_to<A: Allocator>(doc: &Doc<A>, end: usize) -> bool {
 
 #[test]
 fn only_the_class_of_a_long_line_takes_memory(rt: HostRuntime) -> Result<(), Fail> {
-    for (count, growths) in [(65_531, 4), (65_532, 5)] {
+    for (count, growths) in [(65_531, 3), (65_532, 4)] {
         let mut text = Vec::from_slice(rt.alloc(), b"A = ")?;
         text.extend_from_slice(&repeated(&rt, b"x", count)?)?;
         for admitted in 0..20 {
             let heap = Refusing::after(rt.alloc(), admitted);
             let answer = Doc::parse(&heap, &text, &mut Meter::new());
             if !heap.has_refused() {
-                // the text and the count of its owners, the spans, the node, and the class if one of
-                // its offsets is greater than 65,535
+                // the text and the count of its owners, the node, and the class if one of its offsets
+                // is greater than 65,535
                 assert!(rt; admitted == growths && has_value_to(&answer?, text.len()));
                 break;
             }

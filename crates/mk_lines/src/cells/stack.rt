@@ -12,9 +12,8 @@ ghost use Rattle.mk_lines.specs.CellStack.{stack_of};
 
 use super::stored::FoldEnd;
 use crate::fault::Fault;
-use memchr::memrchr;
+use memchr::{memchr_iter, memrchr};
 use std::alloc::Allocator;
-use std::cmp::min;
 use std::marker::Model;
 
 /// What the first of some cells is.
@@ -79,10 +78,12 @@ pub fn stack_of_text<A: Allocator + Copy>(
     ensures stack { IfOk result (λ stack. stack.stack ≡ stack_of 0 (cells text.now)) }
     ensures fault { IsOkUnless result Fault.NoMemory }
 {
+    // Each fold has a line feed, and few lines have more than these.
+    let folds = memchr_iter(b'\n', text).take(16).count();
     let mut stack = Stack {
         joined: vec![in alloc; 0; text.len()]?,
         first: text.len(),
-        ends: Vec::with_capacity(alloc, min(text.len() / 32 + 1, 16))?,
+        ends: Vec::with_capacity(alloc, folds)?,
         top: Top::Byte,
         bad_fold: false,
     };

@@ -1,20 +1,21 @@
-use Rattle.std.proofs.Common.{refl, rules}
+use Rattle.std.proofs.Common.{rules}
 use Rattle.mk_tree.specs.Trees.{line_view}
-use Rattle.mk_tree.proofs.Building.{built-low}
-use Rattle.mk_tree.proofs.Reading.{read-joined, left-fits, sides-fit}
+use Rattle.mk_tree.proofs.Building.{full-joined}
+use Rattle.mk_tree.proofs.Reading.{read-joined, read-some, left-fits, sides-fit}
 use Rattle.mk_tree.proofs.parse.+read_tree.Goals as goal
 
 pub read_tree-requires-2 : goal.read_tree-requires-2
 read_tree-requires-2 g t c κs within =
-    (search rules, (search rules, (search rules, left-fits _ _ _ c.in_ok-line.ensures.read (left-fits _ _ _ c.in_ok-left.ensures.read c.requires.fits))))
+    let line = rw c.in-Some.is at c.in_ok-line.ensures.read in
+    (search rules, (search rules, left-fits _ _ _ line (left-fits _ _ _ c.in_ok-left.ensures.read c.requires.fits)))
 
-pub join-requires-clause-balanced : goal.join-requires-clause-balanced
-join-requires-clause-balanced g t c = (built-low c.args.count _ _ _ _ refl c.if-count-eq0.false c.in_ok-left.ensures.low c.in_ok-right.ensures.low refl).0
+pub append-requires-clause-fits : goal.append-requires-clause-fits
+append-requires-clause-fits g t c =
+    let line = rw c.in-Some.is at c.in_ok-line.ensures.read in
+    sides-fit _ _ c.in_ok-left.left.0 c.in_ok-right.right.0 (line_view c.in-Some.line) (read-joined _ _ _ _ c.in_ok-left.left.0 c.in_ok-right.right.0 (line_view c.in-Some.line) c.in_ok-left.ensures.read line c.in_ok-right.ensures.read) c.requires.fits
 
-pub join-requires-clause-fits : goal.join-requires-clause-fits
-join-requires-clause-fits g t c =
-    sides-fit _ _ c.in_ok-left.left.0 c.in_ok-right.right.0 (line_view c.in_ok-line.line)
-    (read-joined _ _ _ _ c.in_ok-left.left.0 c.in_ok-right.right.0 (line_view c.in_ok-line.line) c.in_ok-left.ensures.read c.in_ok-line.ensures.read c.in_ok-right.ensures.read) c.requires.fits
-
-pub returns-clause-low : goal.returns-clause-low
-returns-clause-low g t c = (built-low c.args.count _ _ _ _ refl c.if-count-eq0.false c.in_ok-left.ensures.low c.in_ok-right.ensures.low c.join.ensures.height).1
+pub returns-clause-full : goal.returns-clause-full
+returns-clause-full g t c some =
+    let line = rw c.in-Some.is at c.in_ok-line.ensures.read in
+    let left = c.in_ok-left.ensures.full (λ none. read-some _ _ (line_view c.in-Some.line) line none) in
+    full-joined c.args.height c.in_ok-left.left c.in_ok-right.right (line_view c.in-Some.line) c.append.result c.if-height-eq0.false left (c.in_ok-right.ensures.full some) c.append.ensures.lines c.append.ensures.height
