@@ -26,7 +26,7 @@ _mkedit_edit() {
     _arguments -s \
         '(-k --keep-going)'{-k,--keep-going}'[go on after a refused command]' \
         '(-d --depth)'{-d+,--depth=}'[how many edits can be undone, from 1 to 10000]:depth: ' \
-        '(-o --output -i --in-place)'{-o+,--output=}'[where the text goes; it may be FILE]:output:_files' \
+        '(-o --output -i --in-place)'{-o+,--output=}'[where the text goes; it may be FILE, which is then named twice]:output:_files' \
         '(-i --in-place -o --output)'{-i,--in-place}'[the makefile gets the text]' \
         '*'{-e+,--expression=}'[a line of a script, in place of the script]:command: ' \
         '(-h --help)'{-h,--help}'[print help]' \

@@ -51,7 +51,7 @@ def help_of_each_command_has_an_example(room):
 def help_of_edit_names_its_options(room):
     wrong, shown = helps(room, "edit", "--help")
     options = ("-k, --keep-going", "-d, --depth <DEPTH>", "-o, --output <OUT>")
-    options += ("-e, --expression <COMMAND>", "mkedit edit [OPTIONS] -e COMMAND... [FILE]")
+    options += ("-e, --expression <COMMAND>", "mkedit edit [OPTIONS] -e COMMAND [-e COMMAND ...] [FILE]")
     options += ("-i, --in-place", "mkedit explain 4")
     return wrong + [f"the help does not name {it!r}" for it in options if it not in shown]
 

@@ -15,7 +15,7 @@ DOCS = Path(__file__).resolve().parent.parent / "docs"
 TASK = re.compile(r"^## (.*)\n((?:(?!## ).*\n)*)", re.M)
 BLOCK = re.compile(r"^```(.*)\n((?:(?!```).*\n)*)```\n", re.M)
 REFUSAL = re.compile(r"`(\d+) (\w+)[^`]*`")
-TASKS = 14
+TASKS = 17
 
 
 def write_file(room, name, text):

@@ -60,7 +60,7 @@ const REFUSAL: &str = "REFUSAL";
 
 // How `edit` is called.
 const EDIT_USAGE: &str = "mkedit edit [OPTIONS] SCRIPT [FILE]
-       mkedit edit [OPTIONS] -e COMMAND... [FILE]";
+       mkedit edit [OPTIONS] -e COMMAND [-e COMMAND ...] [FILE]";
 
 /// What the command line asks for.
 #[derive(Drop)]
@@ -94,7 +94,7 @@ fn edit_command<'a>(alloc: Global) -> Result<Command<'a>, AllocError> {
         .short('o')
         .long("output")
         .value_name("OUT")
-        .help("Where the text goes; it may be FILE");
+        .help("Where the text goes; it may be FILE, which is then named twice");
     let in_place = Arg::new(alloc, IN_PLACE)
         .short('i')
         .long("in-place")

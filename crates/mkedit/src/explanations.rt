@@ -26,9 +26,10 @@ Correct the script. In a value write `\\#`, and between double quotes `\\\\#`:
 ";
 
 const RESERVED: &str = "\
-The variable is `.RECIPEPREFIX`, or a target is the word of a directive: `ifeq`, `ifneq`, `ifdef`,
-`ifndef`, `else`, `endif`, `define`, `endef`, `undefine`, `include`, `-include`, `sinclude`, `load`,
-`-load`, `export`, `unexport`, `override`, `private` or `vpath`. A prerequisite may be such a word.
+The variable is `.RECIPEPREFIX`, also where PLACE names it, or a target is the word of a directive:
+`ifeq`, `ifneq`, `ifdef`, `ifndef`, `else`, `endif`, `define`, `endef`, `undefine`, `include`,
+`-include`, `sinclude`, `load`, `-load`, `export`, `unexport`, `override`, `private` or `vpath`. A
+prerequisite may be such a word.
 
 Example: the script
     rename all include
@@ -70,8 +71,9 @@ is reported as
     1: refused 4 NoSuch
 
 Look with `mkedit vars` or `mkedit rules`. If both print nothing, the makefile may be empty:
-`> FILE` empties it, and without FILE it is standard input. In `set` the name comes before the
-value. Where the line stands in the file all the same, `mkedit check` lists it if it is not read
+`> FILE` empties it, and without FILE it is standard input. A byte order mark at the start of the
+file is a part of its first name and does not show: `head -c 3 FILE | od -c` shows it. In `set` the
+name comes before the value. Where the line stands in the file all the same, `mkedit check` lists it if it is not read
 inside. `set`, `append` and `unset` find no `define`, no directive such as `export NAME` and no
 assignment for targets such as `t: X = 1`, and `mkedit check` lists none of these. Edit such a line
 by hand. For a word that is only a prerequisite, use `undepend` and `depend` in place of `rename`.
@@ -124,7 +126,8 @@ Nothing has to be done.
 ";
 
 const TAKEN: &str = "\
-The new name is a target already, so that two rules would become one.
+The new name is a target already, so that two rules would become one. Targets on lines that are not
+read inside do not count: `mkedit check` lists these lines.
 
 Example: over
     all: hello
