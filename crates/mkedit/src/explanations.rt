@@ -73,10 +73,11 @@ is reported as
 Look with `mkedit vars` or `mkedit rules`. If both print nothing, the makefile may be empty:
 `> FILE` empties it, and without FILE it is standard input. A byte order mark at the start of the
 file is a part of its first name and does not show: `head -c 3 FILE | od -c` shows it. In `set` the
-name comes before the value. Where the line stands in the file all the same, `mkedit check` lists it if it is not read
-inside. `set`, `append` and `unset` find no `define`, no directive such as `export NAME` and no
-assignment for targets such as `t: X = 1`, and `mkedit check` lists none of these. Edit such a line
-by hand. For a word that is only a prerequisite, use `undepend` and `depend` in place of `rename`.
+name comes before the value. Where the line stands in the file all the same, `mkedit check` lists it
+if it is not read inside. `set`, `append` and `unset` find no `define`, no directive such as
+`export NAME` and no assignment for targets such as `t: X = 1`, and `mkedit check` lists none of
+these. Edit such a line by hand. For a word that is only a prerequisite, use `undepend` and `depend`
+in place of `rename`.
 ";
 
 const AMBIGUOUS: &str = "\
@@ -126,8 +127,8 @@ Nothing has to be done.
 ";
 
 const TAKEN: &str = "\
-The new name is a target already, so that two rules would become one. Targets on lines that are not
-read inside do not count: `mkedit check` lists these lines.
+The new name is already a target of a rule or of an assignment for targets. Targets on lines that
+are not read inside do not count: `mkedit check` lists these lines.
 
 Example: over
     all: hello
