@@ -1,0 +1,1 @@
+set CFLAGS "-O2 -g"
