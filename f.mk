@@ -1,1 +1,0 @@
-CFLAGS :::= -O2 -Werror -g

@@ -1,1 +1,0 @@
-set CFLAGS "-O2 -g"
