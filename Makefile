@@ -4,9 +4,9 @@
 #   make            proves and builds the program, where a source has changed, with one line a crate;
 #                   what the prover says is in crates/mkedit/out/build.log
 #   make demo       shows scripts at work, one that is refused, and the queries
-#   make check      the whole test: tests/house, tests/rows, the proofs with the wrong bodies
-#                   (tests/crates, which is rt ci made quicker), and tests/program over what was built
-#                   there; the last line is 'N passed, M failed', the sum
+#   make check      the whole test: tests/house, tests/rows, the proofs with the wrong bodies and the
+#                   tests of the crates (rt ci), and tests/program over what was built there; the last
+#                   line is 'N passed, M failed', the sum
 #   make soak       tries the program on random makefiles and scripts for MINUTES minutes; prints
 #                   the seed, which SEED=N takes again
 #   make judge      has GNU make judge edits of random makefiles, for MINUTES minutes
@@ -55,7 +55,7 @@ $(PROGRAM): crates.txt HANDLES $(SOURCES)
 demo: $(PROGRAM)
 	@MKEDIT=$(PROGRAM) examples/demo
 
-# Needs no program: the gate proves and builds its own, from nothing.
+# Needs no program: the gate proves and builds its own, and takes nothing from what make has proved.
 check:
 	@tests/check
 

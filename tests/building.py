@@ -123,9 +123,10 @@ def a_prover_that_is_killed_is_told_so(room):
 @check
 def what_keeps_a_build_waiting_is_told(room):
     waiting = "waiting for another rt to finish in crates/mk_lines"
+    sharing = "mk_lines: another copy of the repository is building this library; waiting for it"
     killed = "the check was killed, most likely for memory: once more with --jobs 1"
-    said = f"rt: {waiting}\n{LOW}rt: {killed}\n{LOW_PROVED}{NEXT}{NEXT_PROVED}{LAST}"
-    wanted = LINES.replace(LOW_LINE, f"{waiting}\n{killed}\n{LOW_LINE}")
+    said = f"rt: {waiting}\nrt: {sharing}\n{LOW}rt: {killed}\n{LOW_PROVED}{NEXT}{NEXT_PROVED}{LAST}"
+    wanted = LINES.replace(LOW_LINE, f"{waiting}\n{sharing}\n{killed}\n{LOW_LINE}")
     tree = Tree(room, said)
     return tree.differs((wanted, "", 0), tree.build())
 

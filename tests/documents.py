@@ -1,6 +1,6 @@
 """The examples of docs/EDITS.md and of the last chapter of docs/LANGUAGE.md, run through the program.
 
-In an example `⏎` is a line feed, `⇥` a tab and `␌` a form feed. Two forms are run:
+In an example `⏎` is a line feed, `⇥` a tab, `␌` a form feed and `␀` a NUL. Two forms are run:
 
     MAKEFILE          COMMAND          TEXT       a line, its columns at least two blanks apart
     MAKEFILE          OUTPUT                      the lines below the title of a query, which has them
@@ -38,7 +38,7 @@ CODE = re.compile(r"^```rust\n((?:(?!```).*\n)*)```\n", re.M)
 
 def text_of(shown):
     """The bytes that an example shows."""
-    return shown.replace("⏎", "\n").replace("⇥", "\t").replace("␌", "\f").encode()
+    return shown.translate(str.maketrans("⏎⇥␌␀", "\n\t\f\0")).encode()
 
 
 def edit(room, makefile, command):

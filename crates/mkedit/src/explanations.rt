@@ -12,8 +12,8 @@ A field is not what it has to be. The report names the first such field.
 its end, and no reference that is not closed, such as `$(X`. With `append` it is not empty either.
 `target`, `word`, `old` and `new` are one word each, without a blank outside a reference. `targets`
 and `prereqs` are such words, and `targets` is not empty. Outside a reference no word has a `#`,
-colon, semicolon, equals sign, vertical bar, backslash or lone `$`. No target ends in `&`.
-`place` has such a name or such a target in it.
+colon, semicolon, equals sign, vertical bar, backslash or lone `$`, and each reference is closed. No
+target ends in `&`. `place` has such a name or such a target in it.
 `line` does not end in a backslash. No field has a CR or a NUL.
 
 Example: the script
@@ -26,7 +26,7 @@ Correct the script. In a value write `\\#`, and between double quotes `\\\\#`:
 ";
 
 const RESERVED: &str = "\
-The variable is `.RECIPEPREFIX`, also where PLACE names it, or a target is the word of a directive:
+The variable is `.RECIPEPREFIX`, also where PLACE names it, or a target is one of these words:
 `ifeq`, `ifneq`, `ifdef`, `ifndef`, `else`, `endif`, `define`, `endef`, `undefine`, `include`,
 `-include`, `sinclude`, `load`, `-load`, `export`, `unexport`, `override`, `private` or `vpath`. A
 prerequisite may be such a word.
@@ -73,11 +73,11 @@ is reported as
 Look with `mkedit vars` or `mkedit rules`. If both print nothing, the makefile may be empty:
 `> FILE` empties it, and without FILE it is standard input. A byte order mark at the start of the
 file is a part of its first name and does not show: `head -c 3 FILE | od -c` shows it. In `set` the
-name comes before the value. Where the line stands in the file all the same, `mkedit check` lists it
-if it is not read inside. `set`, `append` and `unset` find no `define`, no directive such as
-`export NAME` and no assignment for targets such as `t: X = 1`, and `mkedit check` lists none of
-these. Edit such a line by hand. For a word that is only a prerequisite, use `undepend` and `depend`
-in place of `rename`.
+name comes before the value. If the file does have the line, it may be one that is not read inside:
+`mkedit check` lists these. `set`, `append` and `unset` find no `define`, no directive such as
+`export NAME`, no assignment for targets such as `t: X = 1` and no name with a reference such as
+`obj-$(X)`, and `mkedit check` lists none of these. Edit such a line by hand. For a word that is
+only a prerequisite, use `undepend` and `depend` in place of `rename`.
 ";
 
 const AMBIGUOUS: &str = "\
@@ -95,7 +95,8 @@ the script
 is reported as
     1: refused 5 Ambiguous 2
 
-Say which one: `nth 2 set CC clang`. `mkedit vars` and `mkedit rules` list them in order, and
+Say which one: `nth 2 set CC clang`. The name may be that of PLACE:
+`nth 2 assign after-var CC X = 1`. `mkedit vars` and `mkedit rules` list them in order, and
 assignments for targets do not count. There is no `nth all`: write one line for each.
 ";
 
@@ -114,7 +115,7 @@ and no edit reaches it. Edit it by hand.
 ";
 
 const ALREADY: &str = "\
-The list of prerequisites to which the command adds the word has it already.
+The word stands already in the list of prerequisites to which the command adds it.
 
 Example: over
     hello: main.o
@@ -217,9 +218,8 @@ Mend the file, or choose another place.
 
 const LEANS: &str = "\
 Below the change stands a line that begins with the recipe prefix, and between the two are only
-blank lines, comments and lines of conditionals. The change has a part in how such a line is read:
-it could become a recipe line, or cease to be one. The edit is refused even where the line would
-read the same.
+blank lines, comments and lines of conditionals. After the change such a line could become a recipe
+line, or cease to be one. The edit is refused even where the line would read the same.
 
 Example: over
     all:
