@@ -6,7 +6,7 @@ ghost use Rattle.mk_queries.specs.ItemLines.{position_text};
 ghost use Rattle.mk_queries.specs.QueryWalks.{line_feeds};
 
 use crate::gathering::put_parts;
-use memchr::memchr_iter;
+use memchr::{memchr, memchr_iter};
 use mk_lines::Fault;
 use mk_lines::sink::ByteSink;
 use mk_tree::gathering::Gathered;
@@ -16,7 +16,11 @@ pub(crate) fn line_feeds(text: &[u8]) -> usize
     ensures number { result ≡ line_feeds text.now }
     ensures few { result ≤ length text.now }
 {
-    memchr_iter(b'\n', text).count()
+    match memchr(b'\n', text) {
+        None => 0,
+        Some(feed) if feed + 1 == text.len() => 1,
+        Some(_) => memchr_iter(b'\n', text).count(),
+    }
 }
 
 /// Puts behind the texts that are held back where an item stands: in the line of this number, with

@@ -1,6 +1,7 @@
 //! A makefile that is edited.
-ghost use Rattle.std.specs.Prelude.{◌≡◌, ◌≤◌, ◌+◌, ◌<◌, ◌↔◌, Ok, Err, IfOk, IfErr, IsOkUnless, OnOk, OnErr, length, is_some, Some, None};
+ghost use Rattle.std.specs.Prelude.{◌≡◌, ◌≤◌, ◌+◌, ◌^◌, ◌<◌, ◌↔◌, Ok, Err, IfOk, IfErr, IsOkUnless, OnOk, OnErr, length, is_some, Some, None};
 ghost use Rattle.mk_lines.specs.Limits.{max_text};
+ghost use Rattle.mk_tree.specs.Counting.{AreCounted};
 ghost use Rattle.mk_tree.specs.Documents.{IsFaithful, IsFaithfulTo, IsTooDeep};
 ghost use Rattle.mk_tree.specs.LocatedLines.{located_text};
 ghost use Rattle.mk_edit_laws.specs.Costs.{cost};
@@ -46,6 +47,7 @@ pub struct Session<A: Allocator = Global> {
 
 impl<A: Allocator> Model for Session<A> {
     ghost use Rattle.std.specs.Prelude.{◌≤◌, ◌-◌};
+    ghost use Rattle.mk_lines.specs.Limits.{max_text};
     ghost use Rattle.mk_index.specs.Effects.{IsIndexIfAny};
     ghost use Rattle.mk_session.specs.Sessions.{Seen};
     ghost use Rattle.mk_session.specs.StoredSessions.{IsStored, shown_stored};
@@ -58,7 +60,8 @@ impl<A: Allocator> Model for Session<A> {
     ghost invariant = { λ s.
         IsStored s.history s.group s.doc
         × (s.opened_at ≤ s.meter)
-        × IsIndexIfAny s.doc s.finder };
+        × IsIndexIfAny s.doc s.finder
+        × (s.opened_at ≤ max_text) };
 }
 
 // Refuses a depth that a session cannot have.
@@ -122,10 +125,12 @@ impl<A: Allocator + Copy> Session<A> {
     fn over(alloc: A, doc: Doc<A>, depth: u32, meter: Meter) -> Result<Session<A>, Fault>
         requires good { IsBadDepth depth → ⊥ }
         requires faithful { IsFaithful doc }
+        requires counted { AreCounted 0 (length doc) meter }
         ensures opened { IfOk result (λ s. s ≡ seen_opened depth (located_text doc)) }
         ensures fault { IsOkUnless result Fault.NoMemory }
     {
         let history = History::new(alloc, depth)?;
+        let _few = doc.len();
         let opened_at = meter.count();
         Ok(Session {
             alloc,
@@ -139,7 +144,8 @@ impl<A: Allocator + Copy> Session<A> {
     }
 
     /// Makes an edit. It can be undone next: alone, or, if a group is open, together with the
-    /// group's other edits. Nothing can be redone any more.
+    /// group's other edits. Nothing can be redone any more. The edit reads exactly as many lines as
+    /// it costs.
     ///
     /// # Errors
     ///
@@ -151,6 +157,8 @@ impl<A: Allocator + Copy> Session<A> {
         ensures refused { IfErr result (λ refusal.
             IsEditRefusal (edit_of edit.now) self.old.shown refusal) }
         ensures same { OnErr result (self.new.shown ≡ self.old.shown) }
+        ensures counted { OnOk result (self.new.rereads < 2 ^ 63
+            → self.new.rereads ≡ self.old.rereads + cost self.old.shown.text (edit_of edit.now)) }
         ensures few_read { self.new.rereads
             ≤ self.old.rereads + cost self.old.shown.text (edit_of edit.now) }
         ensures forward { self.old.rereads ≤ self.new.rereads }
@@ -316,8 +324,8 @@ impl<A: Allocator> Session<A> {
     }
 
     /// How many lines were read since the session was opened. An undo or a redo reads none, and an
-    /// edit at most as many as it costs. The count stays once it is the greatest `u64` less the
-    /// lines of the text that was opened. Takes no memory.
+    /// edit as many as it costs, or at most as many if it is refused. The count stays once it is the
+    /// greatest `u64` less the lines of the text that was opened. Takes no memory.
     pub fn rereads(&self) -> u64
         ensures { result ≡ self.now.rereads }
     {

@@ -1,8 +1,8 @@
 -- The numbers of lines: the physical lines of a text that ends a line are as many as its line feeds.
-use Rattle.std.proofs.Common.{◌≡◌, refl, sym, ap, ◌∙◌, arith, ℕ, suc, ◌+◌, ◌==◌, ◌≤◌, if◌then◌else◌, List, [], ◌∷◌, ◌++◌, length, Bool, true, false, ne_eqb}
+use Rattle.std.proofs.Common.{◌≡◌, refl, sym, ap, ◌∙◌, arith, ℕ, zero, suc, ◌+◌, ◌==◌, ◌<◌, ◌≤◌, if◌then◌else◌, List, [], ◌∷◌, ◌++◌, length, get_or, Bool, true, false, Some, None, eq-eqb, eqb-true, ne_eqb}
 use Rattle.std.specs.Prelude.{count_by}
 use Rattle.std.proofs.lemmas.List.Recursion.{is_count_by}
-use Rattle.memchr.specs.Find.{is_byte}
+use Rattle.memchr.specs.Find.{IsFirstByte, is_byte}
 use Rattle.mk_lines.specs.Lists.{onto_first}
 use Rattle.mk_lines.specs.Bytes.{ByteKind, byte_kind, LineFeed, CarriageReturn, Backslash, Blank, Ordinary}
 use Rattle.mk_lines.specs.PhysicalLines.{physical_lines, before_lines}
@@ -22,6 +22,28 @@ line_feeds-append (b ∷ x) y = go (b == 10) (line_feeds-append x y)
     go : (q : Bool) → line_feeds (x ++ y) ≡ line_feeds x + line_feeds y → (if q then 1 + line_feeds (x ++ y) else line_feeds (x ++ y)) ≡ (if q then 1 + line_feeds x else line_feeds x) + line_feeds y
     go true h = omega (arith, h)
     go false h = h
+
+line_feeds-none : (t : List ℕ) → ((j : ℕ) → j < length t → get_or t j 0 ≡ 10 → ⊥) → line_feeds t ≡ 0
+line_feeds-none [] none = refl
+line_feeds-none (b ∷ t) none =
+    ap (λ q. if q then 1 + line_feeds t else line_feeds t) (ne_eqb b 10 (none 0 (omega arith)))
+    ∙ line_feeds-none t (λ j below. none (suc j) (omega arith))
+
+-- a search that finds no line feed
+pub line_feeds-absent : (t : List ℕ) → IsFirstByte (is_byte 10) t None → line_feeds t ≡ 0
+line_feeds-absent t h = line_feeds-none t (λ j below is. h j (omega arith) below (eq-eqb (get_or t j 0) 10 is))
+
+line_feeds-only : (t : List ℕ) (k : ℕ) → k + 1 ≡ length t → ((j : ℕ) → j < k → get_or t j 0 ≡ 10 → ⊥) → get_or t k 0 ≡ 10 → line_feeds t ≡ 1
+line_feeds-only [] k e none is = absurd (omega (arith, e))
+line_feeds-only (b ∷ []) zero e none is = ap (λ q. if q then 1 else 0) (eq-eqb b 10 is)
+line_feeds-only (b ∷ c ∷ t) zero e none is = absurd (omega (arith, e))
+line_feeds-only (b ∷ t) (suc k) e none is =
+    ap (λ q. if q then 1 + line_feeds t else line_feeds t) (ne_eqb b 10 (none 0 (omega arith)))
+    ∙ line_feeds-only t k (omega (arith, e)) (λ j below. none (suc j) (omega arith)) is
+
+-- a search that finds the first line feed at the end
+pub line_feeds-at_end : (t : List ℕ) (k : ℕ) → IsFirstByte (is_byte 10) t (Some k) → k + 1 ≡ length t → line_feeds t ≡ 1
+line_feeds-at_end t k h e = line_feeds-only t k e (λ j below is. h.0.before j (omega arith) below (eq-eqb (get_or t j 0) 10 is)) (eqb-true (get_or t k 0) 10 h.1)
 
 -- the last byte, where there is one, is a line feed
 abbrev LastIsLineFeed : List ℕ → Type 0

@@ -10,4 +10,5 @@ invariant_of-self g c = (
       c.redo.ensures.step c.redo.ensures.done c.redo.ensures.undone c.redo.ensures.same,
   c.self.invariant.1,
   subst (IsIndexIfAny c.redo.new.state) (sym c.forget.ensures) tt,
+  c.self.invariant.3,
 )

@@ -10,4 +10,5 @@ invariant_of-self g c = (
       c.undo.ensures.step c.undo.ensures.done c.undo.ensures.undone c.undo.ensures.same,
   c.self.invariant.1,
   subst (IsIndexIfAny c.undo.new.state) (sym c.forget.ensures) tt,
+  c.self.invariant.3,
 )
