@@ -5,8 +5,8 @@ ghost use Rattle.mk_lines.specs.Device.{AppendsPrefix, TakesAtMost, count_if};
 ghost use Rattle.mk_session.specs.Sessions.{IsBadDepth};
 ghost use Rattle.mk_script.specs.Scripts.{numbered};
 ghost use Rattle.mk_run.specs.Outcome.{is_printed, may_report};
-ghost use Rattle.mk_run.specs.Runs.{ended};
-ghost use Rattle.mk_run.specs.RunEnds.{HandsBack, IsRunOver, written};
+ghost use Rattle.mk_run.specs.Runs.{IsTooLong, ended};
+ghost use Rattle.mk_run.specs.RunEnds.{HandsBack, IsRunOver, TellsEndOnce, written};
 ghost use Rattle.mk_run.specs.RunSteps.{AreObeyed, GivesCommands, GivesSession, StopsCommands, StopsMakefile, StopsScript};
 
 use crate::outcome::Outcome;
@@ -31,6 +31,7 @@ fn read_script<A: Allocator + Copy, S: ByteSource>(
         StopsScript (S.remaining script.old) (S.failed script.new) outcome) }
     ensures taken { TakesAtMost (S.remaining script.old) (S.remaining script.new)
         (MAX_TEXT + BUFFER) }
+    ensures end { TellsEndOnce (S.ends script.old) (S.ends script.new) }
 {
     let text = match read_all(alloc, script) {
         Ok(text) => text,
@@ -58,6 +59,7 @@ fn open_makefile<A: Allocator + Copy, R: ByteSource>(
         StopsMakefile (R.remaining makefile.old) (R.failed makefile.new) outcome) }
     ensures taken { TakesAtMost (R.remaining makefile.old) (R.remaining makefile.new)
         (MAX_TEXT + BUFFER) }
+    ensures end { TellsEndOnce (R.ends makefile.old) (R.ends makefile.new) }
 {
     let text = match read_all(alloc, makefile) {
         Ok(text) => text,
@@ -175,16 +177,22 @@ where
         → out.new ≡ out.old }
     // Unless a command was reached, `report` is as it was.
     ensures unreported { may_report result ≡ false → report.new ≡ report.old }
-    // For a bad depth nothing is read; for a script with a line that is no command, no makefile is
-    // read.
+    // For a bad depth nothing is read. No makefile is read if the script has a line that is no
+    // command, is too long, or could not be read.
     ensures unread { result ≡ Outcome.BadDepth
         → (script.new ≡ script.old) × (makefile.new ≡ makefile.old) }
     ensures script_first { (line : ℕ) → result ≡ Outcome.NotACommand line
         → makefile.new ≡ makefile.old }
+    ensures script_long { IfSome (S.remaining script.old) (λ bytes.
+        IsTooLong bytes → makefile.new ≡ makefile.old) }
+    ensures script_read { S.failed script.new ≡ true → makefile.new ≡ makefile.old }
     ensures makefile_taken { TakesAtMost (R.remaining makefile.old) (R.remaining makefile.new)
         (MAX_TEXT + BUFFER) }
     ensures script_taken { TakesAtMost (S.remaining script.old) (S.remaining script.new)
         (MAX_TEXT + BUFFER) }
+    // Each reader is asked for its end once at most.
+    ensures makefile_end { TellsEndOnce (R.ends makefile.old) (R.ends makefile.new) }
+    ensures script_end { TellsEndOnce (S.ends script.old) (S.ends script.new) }
 
     // When these outcomes come, whatever the devices tell.
     ensures bad_depth { (result ≡ Outcome.BadDepth) ↔ IsBadDepth depth }
@@ -242,16 +250,22 @@ where
         → out.new ≡ out.old }
     // Unless a command was reached, `report` is as it was.
     ensures unreported { may_report result ≡ false → report.new ≡ report.old }
-    // For a bad depth nothing is read; for a script with a line that is no command, no makefile is
-    // read.
+    // For a bad depth nothing is read. No makefile is read if the script has a line that is no
+    // command, is too long, or could not be read.
     ensures unread { result ≡ Outcome.BadDepth
         → (script.new ≡ script.old) × (makefile.new ≡ makefile.old) }
     ensures script_first { (line : ℕ) → result ≡ Outcome.NotACommand line
         → makefile.new ≡ makefile.old }
+    ensures script_long { IfSome (S.remaining script.old) (λ bytes.
+        IsTooLong bytes → makefile.new ≡ makefile.old) }
+    ensures script_read { S.failed script.new ≡ true → makefile.new ≡ makefile.old }
     ensures makefile_taken { TakesAtMost (R.remaining makefile.old) (R.remaining makefile.new)
         (MAX_TEXT + BUFFER) }
     ensures script_taken { TakesAtMost (S.remaining script.old) (S.remaining script.new)
         (MAX_TEXT + BUFFER) }
+    // Each reader is asked for its end once at most.
+    ensures makefile_end { TellsEndOnce (R.ends makefile.old) (R.ends makefile.new) }
+    ensures script_end { TellsEndOnce (S.ends script.old) (S.ends script.new) }
 
     // When these outcomes come, whatever the devices tell.
     ensures bad_depth { (result ≡ Outcome.BadDepth) ↔ IsBadDepth depth }

@@ -1,5 +1,5 @@
 -- What the readers of a run gave.
-use Rattle.std.proofs.Common.{◌≡◌, refl, subst, arith, ℕ, suc, ◌<◌, Bool, true, false, List, length, replicate, Option, Some, None, Err}
+use Rattle.std.proofs.Common.{◌≡◌, refl, sym, subst, arith, ℕ, suc, ◌<◌, Bool, true, false, List, length, replicate, Option, Some, None, Err}
 use Rattle.std.specs.Prelude.{Result, IfSome, IfErr}
 use Rattle.std.proofs.lemmas.List.{length-replicate}
 use Rattle.mk_lines.specs.Limits.{max_text}
@@ -7,7 +7,9 @@ use Rattle.mk_lines.specs.Device.{IsSourceFault}
 use Rattle.mk_lines.specs.declared.fault.Fault as f
 use Rattle.mk_lines.specs.declared.fault.Fault.TheVariants as fault
 use Rattle.mk_run.specs.Outcome.{outcome_of}
-use Rattle.mk_run.specs.RunSteps.{GivesTooMuch, StopsScript, StopsMakefile}
+use Rattle.mk_script.specs.Scripts.{CommandAt}
+use Rattle.mk_run.specs.Runs.{IsTooLong}
+use Rattle.mk_run.specs.RunSteps.{GivesCommands, GivesTooMuch, StopsScript, StopsMakefile}
 
 -- there is a text that is longer than `n` bytes
 longer : (n : ℕ) → (text : List ℕ) × (n < length text)
@@ -21,6 +23,11 @@ too-much (Some told) long = record { text = told; has_text = refl; long = long }
 if_some : (bytes : Option (List ℕ)) (P : Type 0) (Q : List ℕ → Type 0) → P → IfSome bytes (λ told. P → Q told) → IfSome bytes Q
 if_some None P Q p h = tt
 if_some (Some told) P Q p h = h p
+
+-- a script whose commands are known is not too long
+pub short-script : (bytes : Option (List ℕ)) (commands : List CommandAt) (P : Type 0) → GivesCommands bytes commands → IfSome bytes (λ told. IsTooLong told → P)
+short-script None commands P h = tt
+short-script (Some told) commands P h = λ long. absurd (h.short (subst IsTooLong (sym h.has_text) long))
 
 -- what reading a source to its end says of a fault
 pub record SaysFault {T : Type 0} (result : Result T f.Fault) (bytes : Option (List ℕ)) (failed : Bool) : Type 0 where

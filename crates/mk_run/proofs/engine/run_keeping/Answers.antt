@@ -3,6 +3,7 @@ use Rattle.mk_script.specs.Scripts.{numbered}
 use Rattle.mk_run.specs.Outcome.{outcome_of}
 use Rattle.mk_run.specs.RunEnds.{IsRunOver, written}
 use Rattle.mk_run.specs.declared.outcome.Outcome.{Outcome}
+use Rattle.mk_run.proofs.on_runs.ReadLemmas.{short-script}
 use Rattle.mk_run.proofs.on_runs.RunLemmas.{good-depth, depth-stops, script-stops, makefile-stops, makefile-not_bad, commands-stop, commands-not_bad, run-done, run-refused, run-cut, printed-refused}
 use Rattle.mk_run.proofs.engine.run_keeping.Goals as goal
 use Rattle.mk_run.proofs.engine.run_keeping.Goals.{then-depth-lt1-via-then-depth-lt1, then-depth-lt1-via-else-depth-lt1+then-depth-gt-MAX_DEPTH}
@@ -82,3 +83,12 @@ pub returns-clause-bad_depth : goal.returns-clause-bad_depth
 returns-clause-bad_depth g c =
     let is_write = c.from.ensures ∙ ap outcome_of c.in-Err-put_out.ensures.fault.0 in
     (λ is. absurd (let clash = sym is_write ∙ is in cc), λ bad. absurd (good-depth c.args.depth c.if-depth-lt1.false c.if-depth-gt-MAX_DEPTH.false bad))
+
+pub returns-in-Ok-put_out-clause-script_long : goal.returns-in-Ok-put_out-clause-script_long
+returns-in-Ok-put_out-clause-script_long g c = short-script (g.S.ByteSource.remaining c.args.script.now) (map numbered c.in-Ok.commands.items) _ c.in-Ok.ensures.commands
+
+pub returns-in-Ok-2-clause-script_long : goal.returns-in-Ok-2-clause-script_long
+returns-in-Ok-2-clause-script_long g c = short-script (g.S.ByteSource.remaining c.args.script.now) (map numbered c.in-Ok.commands.items) _ c.in-Ok.ensures.commands
+
+pub returns-clause-script_long : goal.returns-clause-script_long
+returns-clause-script_long g c = short-script (g.S.ByteSource.remaining c.args.script.now) (map numbered c.in-Ok.commands.items) _ c.in-Ok.ensures.commands
