@@ -9,7 +9,7 @@ use Rattle.mk_session.specs.Sessions.{Seen, answer}
 use Rattle.mk_session.specs.Calls.{takes_memory}
 use Rattle.mk_script.specs.Scripts.{CommandAt, IsScript}
 use Rattle.mk_run.specs.ObeyedCommands.{obeyed}
-use Rattle.mk_run.specs.Runs.{RunResult, IsRun, result_after}
+use Rattle.mk_run.specs.Runs.{RunResult, IsRun, ended, result_after}
 use Rattle.mk_run.specs.declared.outcome.Outcome.{Outcome}
 use Rattle.mk_run.specs.declared.outcome.Outcome.TheVariants.{NoMemory, Read, Write}
 
@@ -41,10 +41,25 @@ IsOut w text = Appends w.before w.after text
 abbrev pub IsPrefixOut : Written → List ℕ → Type 0
 IsPrefixOut w text = AppendsPrefix w.before w.after text
 
--- The session that is handed back shows the text that went out.
-abbrev pub HandsBack : Option Seen → Written → Type 0
-HandsBack None w = ⊥
-HandsBack (Some session) w = IsOut w session.shown.text
+-- The session is what the commands of the script lead to from the makefile, with a group that was
+-- open ended, and it shows the text that went out. Makefile and script are what their readers tell.
+pub record IsAfterRun (makefile script : Option (List ℕ)) (depth : ℕ) (keep_going : Bool)
+    (out : Written) (session : Seen) : Type 0 where
+  pub makefile_text : List ℕ
+  pub script_text : List ℕ
+  pub commands : List CommandAt
+  pub of_makefile : HasText makefile makefile_text
+  pub of_script : HasText script script_text
+  pub are_commands : IsScript script_text commands
+  pub shown : session.shown
+      ≡ ended (obeyed keep_going commands (shown_opened depth makefile_text)).shown
+  pub is_out : IsOut out session.shown.text
+
+-- The session that a run leads to is handed back.
+abbrev pub HandsBack : (makefile script : Option (List ℕ)) → (depth : ℕ) → (keep_going : Bool)
+    → (out : Written) → Option Seen → Type 0
+HandsBack m s d k out None = ⊥
+HandsBack m s d k out (Some session) = IsAfterRun m s d k out session
 
 -- ---- want of memory
 

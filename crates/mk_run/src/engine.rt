@@ -217,8 +217,8 @@ where
 ///
 /// A session owns a box for each line, so giving it up takes time. A program that ends after the
 /// run keeps it from being given up, by `mem::forget`; another one may go on with it. If the text
-/// was written, `kept` has the session that shows this text. If the run ended before the makefile
-/// was opened, `kept` is what it was.
+/// was written, `kept` has the session after the commands, with all that can be undone and redone.
+/// If the run ended before the makefile was opened, `kept` is what it was.
 pub fn run_keeping<A, R, S, W, P>(
     alloc: A,
     makefile: &mut R,
@@ -280,9 +280,10 @@ where
         → IfSome (W.pending out.new) (λ n. n ≡ 0) }
     ensures report { P.flushes report.new ≡ P.flushes report.old }
 
-    // If the text is out, the session that shows it is handed back.
+    // If the text is out, the session that the commands lead to is handed back.
     ensures kept { is_printed result keep_going ≡ true
-        → HandsBack kept.new (written (W.contents out.old) (W.contents out.new)) }
+        → HandsBack (R.remaining makefile.old) (S.remaining script.old) depth keep_going
+        (written (W.contents out.old) (W.contents out.new)) kept.new }
 {
     if depth < 1 || depth > MAX_DEPTH {
         return Outcome::BadDepth;

@@ -8,7 +8,7 @@ use Rattle.mk_session.specs.Sessions.{Seen, IsBadDepth}
 use Rattle.mk_script.specs.Scripts.{CommandAt}
 use Rattle.mk_run.specs.ObeyedCommands.{obeyed}
 use Rattle.mk_run.specs.Runs.{RunResult, stopped, ended, outcome_after, output_after, result_after}
-use Rattle.mk_run.specs.RunEnds.{HasText, GoesOn, Written, written, IsOut, IsPrefixOut, IsWhole, IsCut, EndsAs, IsRunOver}
+use Rattle.mk_run.specs.RunEnds.{HasText, GoesOn, Written, written, IsOut, IsPrefixOut, IsWhole, IsCut, EndsAs, HandsBack, IsRunOver}
 use Rattle.mk_run.specs.RunSteps.{GivesCommands, GivesSession, AreObeyed, AreEnded, StopsScript, StopsMakefile, StopsCommands}
 use Rattle.mk_run.specs.declared.outcome.Outcome as o
 use Rattle.mk_run.specs.declared.outcome.Outcome.TheVariants.{Done, Refused, NotACommand, BadDepth, TooLong, TooDeep, Read, Write, NoMemory}
@@ -214,6 +214,20 @@ module _ (makefile script : Option (List ℕ)) (depth : ℕ) (k : Bool) (command
       → IsRunOver makefile script depth k Done failed report out
   run-done last n failed report out are none whole =
       of-commands Done failed report out (wholly last n report (obeyed-first last n report are) Done out (ap outcome_after (sym none)) whole)
+
+  -- the session after the commands is handed back
+  pub run-hands_back : (last : Shown (List ℕ)) (n : ℕ) (report out : Written) (session : Seen) → AreObeyed k commands seen.shown last n report
+      → session.shown ≡ ended last → IsOut out (ended last).text → HandsBack makefile script depth k out (Some session)
+  run-hands_back last n report out session are is whole = record {
+    makefile_text = opens.text;
+    script_text = says.text;
+    commands = commands;
+    of_makefile = opens.has_text;
+    of_script = says.has_text;
+    are_commands = says.is_script;
+    shown = is ∙ ap ended (obeyed-first last n report are).shown;
+    is_out = subst (λ (s : Shown (List ℕ)). IsOut out s.text) (sym is) whole;
+  }
 
   -- some commands were refused, and the text is out
   pub run-refused : (last : Shown (List ℕ)) (n : ℕ) (failed : Bool) (report out : Written) → AreObeyed k commands seen.shown last n report → (n ≡ 0 → ⊥) → IsOut out (ended last).text

@@ -4,7 +4,7 @@ use Rattle.mk_run.specs.Outcome.{outcome_of}
 use Rattle.mk_run.specs.RunEnds.{IsRunOver, written}
 use Rattle.mk_run.specs.declared.outcome.Outcome.{Outcome}
 use Rattle.mk_run.proofs.on_runs.ReadLemmas.{short-script}
-use Rattle.mk_run.proofs.on_runs.RunLemmas.{good-depth, depth-stops, script-stops, makefile-stops, makefile-not_bad, commands-stop, commands-not_bad, run-done, run-refused, run-cut, printed-refused}
+use Rattle.mk_run.proofs.on_runs.RunLemmas.{good-depth, depth-stops, script-stops, makefile-stops, makefile-not_bad, commands-stop, commands-not_bad, run-done, run-refused, run-cut, run-hands_back, printed-refused}
 use Rattle.mk_run.proofs.engine.run_keeping.Goals as goal
 use Rattle.mk_run.proofs.engine.run_keeping.Goals.{then-depth-lt1-via-then-depth-lt1, then-depth-lt1-via-else-depth-lt1+then-depth-gt-MAX_DEPTH}
 
@@ -92,3 +92,15 @@ returns-in-Ok-2-clause-script_long g c = short-script (g.S.ByteSource.remaining 
 
 pub returns-clause-script_long : goal.returns-clause-script_long
 returns-clause-script_long g c = short-script (g.S.ByteSource.remaining c.args.script.now) (map numbered c.in-Ok.commands.items) _ c.in-Ok.ensures.commands
+
+pub returns-in-Ok-put_out-clause-kept : goal.returns-in-Ok-put_out-clause-kept
+returns-in-Ok-put_out-clause-kept g c = λ on.
+    run-hands_back _ _ c.args.depth c.args.keep_going (map numbered c.in-Ok.commands.items) c.in-Ok-open_makefile.session
+    (good-depth c.args.depth c.if-depth-lt1.false c.if-depth-gt-MAX_DEPTH.false) c.in-Ok.ensures.commands c.in-Ok-open_makefile.ensures.opened
+    c.obey_all.new.session.shown c.in-Ok-obey_all.refused _ _ c.put_out.new.session (rw (c.as_slice.ensures.value, c.insert-session.ensures.value) at c.in-Ok-obey_all.ensures.obeyed) c.in-Ok-put_out.ensures.ended c.in-Ok-put_out.ensures.whole
+
+pub returns-in-Ok-2-clause-kept : goal.returns-in-Ok-2-clause-kept
+returns-in-Ok-2-clause-kept g c = λ on.
+    run-hands_back _ _ c.args.depth c.args.keep_going (map numbered c.in-Ok.commands.items) c.in-Ok-open_makefile.session
+    (good-depth c.args.depth c.if-depth-lt1.false c.if-depth-gt-MAX_DEPTH.false) c.in-Ok.ensures.commands c.in-Ok-open_makefile.ensures.opened
+    c.obey_all.new.session.shown c.in-Ok-obey_all.refused _ _ c.put_out.new.session (rw (c.as_slice.ensures.value, c.insert-session.ensures.value) at c.in-Ok-obey_all.ensures.obeyed) c.in-Ok-2.ensures.ended c.in-Ok-2.ensures.whole
