@@ -5,8 +5,8 @@
 #                   what the prover says is in crates/mkedit/out/build.log
 #   make demo       shows scripts at work, one that is refused, and the queries
 #   make check      the whole test: tests/house, tests/rows, the proofs with the wrong bodies and the
-#                   tests of the crates (rt ci), and tests/program over what was built there; the last
-#                   line is 'N passed, M failed', the sum
+#                   tests of the crates (tests/crates, which is rt ci made quicker), and tests/program
+#                   over what was built there; the last line is 'N passed, M failed', the sum
 #   make soak       tries the program on random makefiles and scripts for MINUTES minutes; prints
 #                   the seed, which SEED=N takes again
 #   make judge      has GNU make judge edits of random makefiles, for MINUTES minutes

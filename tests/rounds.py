@@ -1,0 +1,183 @@
+"""Has the prover refuse the wrong bodies of a crate, crates/*/must-fail/*.edit, many in one check.
+
+`rt ci` makes a check for each edit, and most of a check is the same for all of them. The prover says
+of each function by itself whether it is proved. So this makes one check, a round, for as many edits as
+turn different functions. An edit is refused where a goal of its own function was tried
+in vain, or where an answer of that function's proof does not fit any more; that a callee is not
+proved refuses nothing. What no round can judge is tried by itself, as `rt ci` does it. What is
+refused only because a proof names what the edit took away shows nothing, and fails.
+
+At last one in five of the functions that were turned is checked as it is, over what the rounds kept.
+Where one of them is not proved, nothing that was found counts, and each edit is tried by itself. (All of
+them have just been proved in the check of the whole crate; this shows that the rounds can prove.)
+"""
+
+import inspect
+import tempfile
+from pathlib import Path
+
+from proving import Said
+from turned import wrong_bodies
+
+FLAGS = ("--jobs", "1")
+
+
+class Trial:
+    """The wrong bodies of one crate, tried over what the checks before kept."""
+
+    def __init__(self, script, crate, kept):
+        self.script = script
+        self.crate = crate
+        self.kept = kept
+        self.folder = Path(crate.folder)
+        # of each body, what was found: whether it is refused, and words on it
+        self.found = {}
+        # of each body, the functions that must stay as they are where it is tried
+        self.apart = {}
+
+    def said(self, texts, functions):
+        """Checks these functions with these texts in place of the crate's own."""
+        only = [word for it in sorted(functions) for word in ("--only", it)]
+        ran = self.script.checked(self.crate, texts, [*FLAGS, *only], self.kept)
+        return Said(self.crate.name, ran.stdout)
+
+    def round_of(self, bodies):
+        """The first bodies that fit into one check, and the texts of all of them."""
+        chosen, texts, turned, apart = [], {}, set(), set()
+        for body in bodies:
+            after = body.applied(texts, self.folder)
+            waits = self.apart.get(body, set())
+            if after is None or body.functions & (turned | apart) or waits & turned:
+                continue
+            chosen, texts = [*chosen, body], after
+            turned, apart = turned | body.functions, apart | waits
+        return chosen, texts
+
+    def try_round(self, bodies, texts):
+        """Tries bodies in one check, and returns those that have to be tried again."""
+        turned = set().union(*(it.functions for it in bodies))
+        said = self.said(texts, turned)
+        if not said.is_judged() or any(self.script.unread(it, texts) for it in said.lines):
+            return self.try_halves(bodies)
+        again = []
+        for body in bodies:
+            fault = next(filter(None, map(said.fault_of, body.functions)), None)
+            waits = set().union(*map(said.waits_for, body.functions)) & turned - body.functions
+            if fault:
+                self.found[body] = True, fault
+            elif waits:
+                self.apart[body] = waits
+                again.append(body)
+            else:
+                self.try_alone(body)
+        return again
+
+    def try_halves(self, bodies):
+        """Tries bodies whose texts could not be read together, each half by itself."""
+        if len(bodies) == 1:
+            self.try_alone(bodies[0])
+            return []
+        halves = bodies[: len(bodies) // 2], bodies[len(bodies) // 2 :]
+        return [again for half in halves for again in self.try_round(*self.round_of(half))]
+
+    def try_alone(self, body):
+        """Tries a body in a check of the whole crate, which has to refuse more than a missing name."""
+        edit = f"{self.crate.folder}/must-fail/{body.name}.edit"
+        kind, text = self.script.must_fail(self.crate, edit, list(FLAGS), self.kept)
+        shows_something = "only because a proof file names what the edit took away" not in text
+        refused = kind in (self.script.REFUSED, self.script.AT_LIMIT)
+        self.found[body] = refused and shows_something, text.partition(".edit: ")[2]
+
+    def is_sound(self):
+        """Whether functions that were turned are proved where they are left as they are."""
+        functions = sorted(set().union(*(it.functions for it in self.found)))[::5]
+        if not functions:
+            return True
+        said = self.said({}, functions)
+        return said.is_judged() and all(map(said.is_proved, functions))
+
+
+def found_in_rounds(script, crate, names):
+    """What was found of some wrong bodies of a crate, by their names: whether each is refused, and words on it.
+
+    None where the checks cannot be trusted. ValueError where an edit does not fit.
+    """
+    bodies = [it for it in wrong_bodies(Path(crate.folder)) if it.name in names]
+    with tempfile.TemporaryDirectory(prefix="wrong-bodies-") as kept:
+        trial = Trial(script, crate, kept)
+        for body in bodies:
+            if not body.functions:
+                trial.try_alone(body)
+        left = [it for it in bodies if it.functions]
+        while left:
+            chosen, texts = trial.round_of(left)
+            again = trial.try_round(chosen, texts)
+            left = again + [it for it in left if it not in chosen]
+        if not trial.is_sound():
+            return None
+        return {body.name: found for body, found in trial.found.items()}
+
+
+def tried(script, crate, edits):
+    """What a try of each edit comes to, and what to say of it, as the toolchain answers both."""
+    names = [Path(it).stem for it in edits]
+    try:
+        found = found_in_rounds(script, crate, {*names})
+    except ValueError:
+        found = None
+    if found is None or not found.keys() >= {*names}:
+        return [script.must_fail(crate, it, list(FLAGS)) for it in edits]
+    return [answer(script, crate, it, *found[it]) for it in names]
+
+
+def answer(script, crate, name, is_refused, words):
+    """What a wrong body comes to, and what to say of it."""
+    kind = script.REFUSED if is_refused else script.MISSED
+    verdict = "refused, as it must be" if is_refused else "NOT REFUSED"
+    return kind, f"must-fail {crate.name}/{name}.edit: {verdict}: {words[:160]}"
+
+
+def known(script, kept, crate, edits):
+    """What the toolchain keeps of earlier tries of edits on this machine, by their places in the list."""
+    try:
+        sum = kept.key(crate)
+        told = {at: kept.tried(kept.of_edit(it, sum)) for at, it in enumerate(edits)}
+    except OSError:
+        return {}
+    return {at: it for at, it in told.items() if it}
+
+
+def take_rounds(script):
+    """Has the toolchain's script try wrong bodies in rounds, those that it does not know from earlier runs.
+
+    ValueError where its inner parts are not those that this was written for.
+    """
+    parts = [getattr(script, it, None) for it in ("add_edits", "must_fail", "checked", "unread", "need")]
+    asked = "tasks, crate, edits, first, waits, is_well, kept, start=None, in_ci=True"
+    if not all(parts) or str(inspect.signature(parts[0])) != f"({asked})":
+        raise ValueError("the toolchain has other inner parts")
+
+    def add_edits(tasks, crate, edits, first, waits, is_well, kept, start=None, in_ci=True):
+        begun = {}
+
+        def old():
+            return begun.get("known", {})
+
+        def trial(given, jobs):
+            begun["known"] = known(script, kept, crate, edits)
+            new = [it for at, it in enumerate(edits) if at not in old()]
+            if not is_well(given, len(new)):
+                return None
+            found = iter(tried(script, crate, new) if new else [])
+            told = [old().get(at) or next(found) for at in range(len(edits))]
+            for kind, text in told:
+                if kind not in (script.REFUSED, script.AT_LIMIT):
+                    script.say(text)
+            return told
+
+        if edits:
+            lines = crate.count(rb"\n")
+            tasks[crate.name, "edits", 0] = (first, lines, script.need(crate), trial)
+        return lambda given: given[crate.name, "edits", 0] if edits else [], old
+
+    script.add_edits = add_edits
