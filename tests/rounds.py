@@ -177,7 +177,7 @@ def take_rounds(script):
 
         if edits:
             lines = crate.count(rb"\n")
-            tasks[crate.name, "edits", 0] = (first, lines, script.need(crate), trial)
+            tasks[crate.name, "edits", 0] = (waits, lines, script.need(crate), trial)
         return lambda given: given[crate.name, "edits", 0] if edits else [], old
 
     script.add_edits = add_edits
