@@ -86,7 +86,8 @@ class Trial:
         kind, text = self.script.must_fail(self.crate, edit, list(FLAGS), self.kept)
         shows_something = "only because a proof file names what the edit took away" not in text
         refused = kind in (self.script.REFUSED, self.script.AT_LIMIT)
-        self.found[body] = refused and shows_something, text.partition(".edit: ")[2]
+        words = text.partition(".edit: ")[2].partition(": ")[2]
+        self.found[body] = refused and shows_something, words
 
     def is_sound(self):
         """Whether functions that were turned are proved where they are left as they are."""
