@@ -4,7 +4,7 @@
 //! The words are the GNU make manual's; POSIX.1-2024 make has `include` and `-include` of them.
 //! That a line goes by its first word, or by the first word after the modifiers, as the text stands
 //! and not as it expands, is this project's profile.
-ghost use Rattle.std.specs.Prelude.{◌≡◌};
+ghost use Rattle.std.specs.Prelude.{◌≡◌, ◌&&◌, length, nat_le};
 ghost use Rattle.std.specs.Str.{bytes_eq};
 ghost use Rattle.mk_lines.specs.Units.{units};
 ghost use Rattle.mk_class.specs.ClassTable.{defines_prefix, directive};
@@ -41,7 +41,9 @@ pub(crate) enum Keyword {
 pub(crate) fn keyword_of(word: &[u8]) -> Option<Keyword>
     ensures { meant_keyword result ≡ keyword word.now }
 {
-    if is_text(word, b"define") {
+    if !has_length_of_keyword(word) {
+        None
+    } else if is_text(word, b"define") {
         Some(Keyword::Define)
     } else if is_text(word, b"endef") {
         Some(Keyword::Endef)
@@ -60,11 +62,21 @@ pub(crate) fn keyword_of(word: &[u8]) -> Option<Keyword>
     }
 }
 
+/// Whether a word is as long as a keyword or a modifier may be. Most first words are longer, and are
+/// compared with none of them.
+fn has_length_of_keyword(word: &[u8]) -> bool
+    ensures { result ≡ (nat_le 4 (length word.now) && nat_le (length word.now) 8) }
+{
+    matches!(word.len(), 4..=8)
+}
+
 /// The modifier that a word is.
 pub(crate) fn modifier_of(word: &[u8]) -> Option<Modifier>
     ensures { result ≡ modifier word.now }
 {
-    if is_text(word, b"override") {
+    if !has_length_of_keyword(word) {
+        None
+    } else if is_text(word, b"override") {
         Some(Modifier::Override)
     } else if is_text(word, b"export") {
         Some(Modifier::Export)

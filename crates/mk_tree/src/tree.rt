@@ -365,7 +365,11 @@ impl<A: Allocator> Tree<A> {
             ≡ size_of left.0 + length (line_view line).bytes + size_of right.0 }
         ensures height { IsHeightAfter left.1 right.1 result.1 }
     {
-        if left.height() <= right.height() + 2 {
+        // Most trees that are read have about the same height.
+        if left.height() <= right.height() + 1 {
+            return Tree::join(left, line, right);
+        }
+        if left.height() == right.height() + 2 {
             return Tree::balance(left, line, right);
         }
         let Some((before, top, after)) = left.unlink() else {
