@@ -91,10 +91,10 @@ def run(program, tally):
     """Runs every example, and counts them, so that none drops out by its form."""
     edits = EDITS.read_text(encoding="utf-8")
     checks = (
-        (EDITS, check_edits, edits, 13),
+        (EDITS, check_edits, edits, 14),
         (EDITS, check_queries, edits, 3),
-        (LANGUAGE, check_edits, last_chapter(), 13),
-        (LANGUAGE, check_unread, last_chapter(), 10),
+        (LANGUAGE, check_edits, last_chapter(), 31),
+        (LANGUAGE, check_unread, last_chapter(), 34),
         (LIBRARY, check_code, LIBRARY.read_text(encoding="utf-8"), 4),
     )
     with Room(program) as room:

@@ -43,8 +43,8 @@ const RECIPE_PREFIX: &str = "\
 The file sets `.RECIPEPREFIX` in a way that is not read: in a conditional, with a modifier such as
 `export`, by `define`, with `+=`, `?=`, `!=` or `:::=`, or to a byte that cannot be a prefix, such
 as the `$` of a reference. Then mkedit does not know which lines are recipe lines. There is a second
-cause: the edit would write a line that begins with the recipe prefix and is no recipe line. This
-cause is tested after 4 and 5.
+cause: the edit would write a line that begins with the recipe prefix and is no recipe line. The
+second cause is tested directly after 5.
 
 Example: over
     ifdef POSIX
@@ -254,7 +254,8 @@ Correct the script, or give a greater depth by `-d`.
 ";
 
 const NOTHING_TO_REDO: &str = "\
-Nothing was taken back, or a new edit was made after the `undo`.
+No edit that `undo` took back is there to make again: there was no `undo`, `redo` has made all again,
+or an edit was accepted since. What `cancel` took back cannot be made again.
 
 Example: the script
     redo
