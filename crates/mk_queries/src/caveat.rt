@@ -6,11 +6,11 @@ ghost use Rattle.mk_class.specs.ClassTable.{class_of};
 ghost use Rattle.mk_class.specs.Contexts.{start};
 ghost use Rattle.mk_tree.specs.LocatedLines.{text_of_line};
 ghost use Rattle.mk_tree.specs.Trees.{line_view};
-ghost use Rattle.mk_queries.specs.Caveats.{assignment_caveat, caveat_of, is_assignment, named_caveat, opaque_caveat, recipe_caveat, sentence, skipped_caveat, word_caveat};
+ghost use Rattle.mk_queries.specs.Caveats.{assignment_caveat, caveat_of, is_assignment, make_word, named_caveat, opaque_caveat, recipe_caveat, sentence, skipped_caveat, word_caveat};
 ghost use Rattle.mk_queries.specs.LocatedTexts.{IsClassedIn};
 
 use crate::line_part::{part, text_of_line};
-use crate::make_word::{is_text, make_word};
+use crate::make_word::{is_text, word_of};
 use crate::seen::{Seen, is_led, is_other_class, is_rule};
 use mk_class::{Class, Context, Meter, class_with_cells};
 use mk_lines::after_first_unit;
@@ -54,16 +54,21 @@ impl Caveat {
     }
 }
 
-// The caveat of a line as a recipe line.
-fn recipe_caveat<A: Allocator>(context: Context, seen: Seen, line: &Line<A>) -> Option<Caveat>
+// The caveat of a line of this class as a recipe line.
+fn recipe_caveat<A: Allocator>(
+    context: Context,
+    seen: Seen,
+    class: &Class,
+    line: &Line<A>,
+) -> Option<Caveat>
+    requires { class.now ≡ (line_view line.now).class }
     ensures { result ≡ recipe_caveat context seen (line_view line.now) }
 {
-    let class = line.class();
     if !is_led(context, line) {
         None
     } else if matches!(class, Class::Opaque) && is_rule(seen.for_make) {
         Some(Caveat::AfterEmpty)
-    } else if is_other_class(&class) && context.conds() == 0 && is_rule(seen.outside) {
+    } else if is_other_class(class) && context.conds() == 0 && is_rule(seen.outside) {
         Some(Caveat::AfterConditional)
     } else {
         None
@@ -94,13 +99,21 @@ fn opaque_caveat(word: &[u8]) -> Option<Caveat>
     }
 }
 
-// The caveat of a line of this class by its first word.
-fn word_caveat(context: Context, seen: Seen, class: &Class, word: &[u8]) -> Option<Caveat>
-    ensures { result ≡ word_caveat context seen class.now word.now }
+// The caveat of a line of this class by its first word. In most lines no word is read.
+fn word_caveat<A: Allocator>(
+    context: Context,
+    seen: Seen,
+    class: &Class,
+    line: &Line<A>,
+) -> Option<Caveat>
+    ensures { result
+        ≡ word_caveat context seen class.now (make_word (text_of_line (line_view line.now))) }
 {
     match class {
-        Class::Opaque => opaque_caveat(word),
-        Class::Recipe if 0 < context.conds() && !is_rule(seen.outside) => skipped_caveat(word),
+        Class::Opaque => opaque_caveat(word_of(line)),
+        Class::Recipe if 0 < context.conds() && !is_rule(seen.outside) => {
+            skipped_caveat(word_of(line))
+        }
         _ => None,
     }
 }
@@ -130,32 +143,40 @@ fn is_unread_assignment<A: Allocator>(line: &Line<A>) -> bool
     matches!(read, Ok((Class::Assign(..), _)))
 }
 
-// The caveat of a line as an assignment.
-fn assignment_caveat<A: Allocator>(context: Context, line: &Line<A>) -> Option<Caveat>
-    requires { IsClassedIn context (line_view line.now) }
+// The caveat of a line of this class as an assignment.
+fn assignment_caveat<A: Allocator>(
+    context: Context,
+    class: &Class,
+    line: &Line<A>,
+) -> Option<Caveat>
+    requires class { class.now ≡ (line_view line.now).class }
+    requires classed { IsClassedIn context (line_view line.now) }
     ensures { result
         ≡ assignment_caveat (line_view line.now).bytes (text_of_line (line_view line.now))
         (line_view line.now).class }
 {
-    let text = text_of_line(line);
-    match line.class() {
+    match class {
         Class::Opaque => is_unread_assignment(line).then_some(Caveat::Assignment),
-        Class::Assign(at, _) => named_caveat(part(text, at.name), part(text, at.value)),
+        Class::Assign(at, _) => {
+            let text = text_of_line(line);
+            named_caveat(part(text, at.name), part(text, at.value))
+        }
         _ => None,
     }
 }
 
-/// The caveat of a line that stands in a context, below lines that leave these flags.
+/// The caveat of a line of this class that stands in a context, below lines that leave these flags.
 pub(crate) fn caveat_of<A: Allocator>(
     context: Context,
     seen: Seen,
+    class: &Class,
     line: &Line<A>,
 ) -> Option<Caveat>
-    requires { IsClassedIn context (line_view line.now) }
+    requires class { class.now ≡ (line_view line.now).class }
+    requires classed { IsClassedIn context (line_view line.now) }
     ensures { result ≡ caveat_of context seen (line_view line.now) }
 {
-    let word = make_word(text_of_line(line));
-    recipe_caveat(context, seen, line)
-        .or(word_caveat(context, seen, &line.class(), word))
-        .or(assignment_caveat(context, line))
+    recipe_caveat(context, seen, class, line)
+        .or(word_caveat(context, seen, class, line))
+        .or(assignment_caveat(context, class, line))
 }

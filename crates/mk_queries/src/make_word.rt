@@ -2,7 +2,13 @@
 ghost use Rattle.std.specs.Prelude.{◌≡◌, ◌≤◌, length};
 ghost use Rattle.std.specs.Str.{bytes_eq};
 ghost use Rattle.mk_lines.specs.Lists.{after_leading};
+ghost use Rattle.mk_tree.specs.LocatedLines.{text_of_line};
+ghost use Rattle.mk_tree.specs.Trees.{line_view};
 ghost use Rattle.mk_queries.specs.Caveats.{is_in_make_word, is_make_blank, is_passed, make_word};
+
+use crate::line_part::text_of_line;
+use mk_tree::Line;
+use std::alloc::Allocator;
 
 // Whether a byte is a blank for make.
 fn is_make_blank(byte: u8) -> bool
@@ -47,13 +53,20 @@ fn after_make_word(text: &[u8]) -> &[u8]
     rest
 }
 
-/// The first word that make finds in a text.
-pub(crate) fn make_word(text: &[u8]) -> &[u8]
+// The first word that make finds in a text.
+fn make_word(text: &[u8]) -> &[u8]
     ensures { result.now ≡ make_word text.now }
 {
     let words = after_passed(text);
     let rest = after_make_word(words);
     &words[..words.len() - rest.len()]
+}
+
+/// The first word that make finds in a line.
+pub(crate) fn word_of<A: Allocator>(line: &Line<A>) -> &[u8]
+    ensures { result.now ≡ make_word (text_of_line (line_view line.now)) }
+{
+    make_word(text_of_line(line))
 }
 
 /// Whether two texts are the same.

@@ -79,8 +79,10 @@ pub fn caveats<A: Allocator, W: ByteSink>(doc: &Doc<A>, out: &mut W) -> Result<(
     let mut number = 1;
     let mut seen = Seen::start();
     'lines: for (context, line) in doc.lines_with_contexts() {
-        put_caveat(&mut gathered, out, number, caveat_of(context, seen, line))?;
-        seen = seen.below(context, line);
+        let class = line.class();
+        let caveat = caveat_of(context, seen, &class, line);
+        put_caveat(&mut gathered, out, number, caveat)?;
+        seen = seen.below(context, &class, line);
         number += line_feeds(line.bytes());
     }
     write_all(out, &gathered)

@@ -3,11 +3,10 @@ ghost use Rattle.std.specs.Prelude.{◌≡◌, []};
 ghost use Rattle.mk_class.specs.Contexts.{flag_after_located};
 ghost use Rattle.mk_class.specs.RecipePrefix.{is_prefix_led};
 ghost use Rattle.mk_tree.specs.Trees.{line_view};
-ghost use Rattle.mk_queries.specs.Caveats.{is_empty_for_make, is_other_class, is_other_led, is_rule, seen_above};
+ghost use Rattle.mk_queries.specs.Caveats.{is_empty_for_make, is_other_class, is_rule, seen_above};
 ghost use Rattle.mk_queries.specs.QueryWalks.{seen_after};
 
-use crate::line_part::text_of_line;
-use crate::make_word::make_word;
+use crate::make_word::word_of;
 use mk_class::{Class, Context, RuleFlag};
 use mk_tree::Line;
 use std::alloc::Allocator;
@@ -32,22 +31,22 @@ impl Seen {
         }
     }
 
-    /// The flags below a line, which stands in a context.
-    pub(crate) fn below<A: Allocator>(self, context: Context, line: &Line<A>) -> Seen
+    /// The flags below a line of this class, which stands in a context.
+    pub(crate) fn below<A: Allocator>(self, context: Context, class: &Class, line: &Line<A>) -> Seen
+        requires { class.now ≡ (line_view line.now).class }
         ensures { result ≡ seen_after context self (line_view line.now) }
     {
-        let class = line.class();
-        let is_other = is_other_led(context, line);
-        let tells_make = !(is_other || is_empty_for_make(line));
+        let is_other = is_other_class(class) && is_led(context, line);
+        let tells_make = !(is_other || is_empty_for_make(class, line));
         let tells_outside = !is_other && context.conds() == 0;
         Seen {
             for_make: if tells_make {
-                flag_after(self.for_make, &class)
+                flag_after(self.for_make, class)
             } else {
                 self.for_make
             },
             outside: if tells_outside {
-                flag_after(self.outside, &class)
+                flag_after(self.outside, class)
             } else {
                 self.outside
             },
@@ -93,17 +92,11 @@ pub(crate) fn is_other_class(class: &Class) -> bool
     )
 }
 
-// Whether a line is such a line, and begins with the recipe prefix.
-fn is_other_led<A: Allocator>(context: Context, line: &Line<A>) -> bool
-    ensures { result ≡ is_other_led context (line_view line.now) }
-{
-    is_led(context, line) && is_other_class(&line.class())
-}
-
-// Whether make takes a line, which is opaque, for empty: it finds no word but that of a comment.
-fn is_empty_for_make<A: Allocator>(line: &Line<A>) -> bool
+// Whether make takes a line of this class, which is opaque, for empty: it finds no word, or one that
+// begins a comment.
+fn is_empty_for_make<A: Allocator>(class: &Class, line: &Line<A>) -> bool
+    requires { class.now ≡ (line_view line.now).class }
     ensures { result ≡ is_empty_for_make (line_view line.now) }
 {
-    matches!(line.class(), Class::Opaque)
-        && matches!(make_word(text_of_line(line)), [] | [b'#', ..])
+    matches!(class, Class::Opaque) && matches!(word_of(line), [] | [b'#', ..])
 }

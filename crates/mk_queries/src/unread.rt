@@ -1,5 +1,5 @@
 //! The query `check`: the lines that are kept and not read inside, and what is open at the end.
-ghost use Rattle.std.specs.Prelude.{◌≡◌, ◌++◌, false, true, IfErr, OnOk};
+ghost use Rattle.std.specs.Prelude.{◌≡◌, ◌++◌, decimal, false, true, IfErr, OnOk};
 ghost use Rattle.std.specs.Io.KnownBytes.{Appends};
 ghost use Rattle.mk_lines.specs.Device.{AppendsPrefix};
 ghost use Rattle.mk_tree.specs.Documents.{IsFaithful};
@@ -75,13 +75,32 @@ fn put_unread<W: ByteSink>(
     ensures fault { IfErr result (λ e. (e ≡ Fault.Write) × (W.failed out.new ≡ true)) }
     ensures unflushed { W.flushes out.new ≡ W.flushes out.old }
 {
-    let mut digits = itoa::Buffer::new();
-    let number = digits.format(number).as_bytes();
     match class {
-        Class::Rough => put_parts(gathered, out, &[number, b": rough\n"]),
-        Class::Opaque => put_parts(gathered, out, &[number, b": opaque\n"]),
+        Class::Rough => put_numbered(gathered, out, number, b": rough\n"),
+        Class::Opaque => put_numbered(gathered, out, number, b": opaque\n"),
         _ => Ok(()),
     }
+}
+
+// Puts a number and what follows it behind the texts that are held back.
+fn put_numbered<W: ByteSink>(
+    gathered: &mut Gathered,
+    out: &mut W,
+    number: usize,
+    text: &[u8],
+) -> Result<(), Fault>
+    requires { W.failed out.old ≡ false }
+    ensures whole { OnOk result (AppendsSoFar (W.contents out.old) (W.contents out.new)
+        (gathered.old.items ++ (decimal number ++ text.now)) gathered.new.items) }
+    ensures prefix { AppendsPrefix (W.contents out.old) (W.contents out.new)
+        (gathered.old.items ++ (decimal number ++ text.now)) }
+    ensures works { OnOk result (W.failed out.new ≡ false) }
+    ensures fault { IfErr result (λ e. (e ≡ Fault.Write) × (W.failed out.new ≡ true)) }
+    ensures unflushed { W.flushes out.new ≡ W.flushes out.old }
+{
+    let mut digits = itoa::Buffer::new();
+    let number = digits.format(number).as_bytes();
+    put_parts(gathered, out, &[number, text])
 }
 
 // Puts what is open in the context after all lines behind the texts that are held back.

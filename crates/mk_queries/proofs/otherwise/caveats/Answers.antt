@@ -29,8 +29,8 @@ lines-init g c =
       ),
     )
 
-pub caveat_of-requires : goal.caveat_of-requires
-caveat_of-requires g c =
+pub caveat_of-caveat-requires-clause-classed : goal.caveat_of-caveat-requires-clause-classed
+caveat_of-caveat-requires-clause-classed g c =
     first-classed c.lines.context-iterator c.next.new.self c.in-Some.context (line_view c.in-Some.line.now) c.in-Some.ensures.steps.0 c.in-Some.ensures.steps.1 c.lines.invariant.4
 
 pub returns-in_err-put_caveat-clause-prefix : goal.returns-in_err-put_caveat-clause-prefix
@@ -42,10 +42,10 @@ returns-in_err-put_caveat-clause-prefix g c =
     let s = c.lines.seen in
     let w = c.lines.context-iterator in
     let left = c.next.new.self in
-    let said = caveat_text n c.caveat_of.result in
+    let said = caveat_text n c.caveat_of-caveat.result in
     let after = seen_after c.in-Some.context s l in
     let rest = caveats_ahead (n + line_feeds l.bytes) left.context after left.lines in
-    let e : said ++ rest ≡ caveats_ahead n w.context s w.lines = caveats-next n (line_feeds l.bytes) c.in-Some.context c.caveat_of.result s after l.bytes l w left c.in-Some.ensures.steps.0 c.in-Some.ensures.steps.1 c.in-Some.ensures.steps.2 refl refl c.caveat_of.ensures refl in
+    let e : said ++ rest ≡ caveats_ahead n w.context s w.lines = caveats-next n (line_feeds l.bytes) c.in-Some.context c.caveat_of-caveat.result s after l.bytes l w left c.in-Some.ensures.steps.0 c.in-Some.ensures.steps.1 c.in-Some.ensures.steps.2 refl refl c.caveat_of-caveat.ensures refl in
     subst (AppendsPrefix (g.W.ByteSink.contents c.args.out.now) (g.W.ByteSink.contents c.put_caveat.new.out)) (caveats-walk doc c.requires.faithful)
     (put-next_failed _ _ _ front c.lines.gathered.items said rest (caveats_ahead 1 start (seen_above []) doc) out c.in_err-put_caveat.ensures.prefix (ap (λ z. front ++ z) e ∙ whole))
 
@@ -59,10 +59,10 @@ lines-preserved g c =
     let after = c.below-seen.result in
     let w = c.lines.context-iterator in
     let left = c.next.new.self in
-    let said = caveat_text n c.caveat_of.result in
+    let said = caveat_text n c.caveat_of-caveat.result in
     let rest = caveats_ahead (n + m) left.context after left.lines in
     let e : said ++ rest ≡ caveats_ahead n w.context s w.lines =
-    caveats-next n m c.in-Some.context c.caveat_of.result s after c.bytes.result.now l w left c.in-Some.ensures.steps.0 c.in-Some.ensures.steps.1 c.in-Some.ensures.steps.2 c.bytes.ensures.bytes c.line_feeds-number.ensures.number c.caveat_of.ensures c.below-seen.ensures in (
+    caveats-next n m c.in-Some.context c.caveat_of-caveat.result s after c.bytes.result.now l w left c.in-Some.ensures.steps.0 c.in-Some.ensures.steps.1 c.in-Some.ensures.steps.2 c.bytes.ensures.bytes c.line_feeds-number.ensures.number c.caveat_of-caveat.ensures c.below-seen.ensures in (
       tt,
       tt,
       c.in_ok-put_caveat.ensures.works,
