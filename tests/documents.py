@@ -24,7 +24,8 @@ LIBRARY = TOP / "docs/LIBRARY.md"
 QUOTED = ("crates/session_example/src/main.rt", "crates/mk_session/src/session.rt")
 LAST_CHAPTER = "## 8. Where make reads otherwise\n"
 COMMANDS = (
-    "set append unset assign rule unrule depend depend-order undepend recipe recipe-set recipe-del rename"
+    "nth set append unset assign rule unrule depend depend-order undepend recipe recipe-set recipe-del "
+    "rename"
 )
 EXAMPLE = re.compile(
     rf"^    (\S.*?⏎|X=1) {{2,}}((?:{COMMANDS.replace(' ', '|')}) .*?) {{2,}}(\S.*⏎)$", re.M
