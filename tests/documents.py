@@ -24,7 +24,8 @@ LIBRARY = TOP / "docs/LIBRARY.md"
 QUOTED = ("crates/session_example/src/main.rt", "crates/mk_session/src/session.rt")
 LAST_CHAPTER = "## 8. Where make reads otherwise\n"
 COMMANDS = (
-    "set append unset assign rule unrule depend depend-order undepend recipe recipe-set recipe-del rename"
+    "nth set append unset assign rule unrule depend depend-order undepend recipe recipe-set recipe-del "
+    "rename"
 )
 EXAMPLE = re.compile(
     rf"^    (\S.*?⏎|X=1) {{2,}}((?:{COMMANDS.replace(' ', '|')}) .*?) {{2,}}(\S.*⏎)$", re.M
@@ -93,7 +94,7 @@ def run(program, tally):
     checks = (
         (EDITS, check_edits, edits, 14),
         (EDITS, check_queries, edits, 3),
-        (LANGUAGE, check_edits, last_chapter(), 31),
+        (LANGUAGE, check_edits, last_chapter(), 32),
         (LANGUAGE, check_unread, last_chapter(), 34),
         (LIBRARY, check_code, LIBRARY.read_text(encoding="utf-8"), 4),
     )

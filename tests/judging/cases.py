@@ -131,7 +131,40 @@ PLANTED = (
     (b"t: a\n\tx\n\ty\n", ("recipe-del", None, b"t", b"1"), b"t: a\n\tx\n"),
     (b"t: a\nu: t\n", ("rename", None, b"t", b"v"), b"v: a\nu: t\n"),
 )
+# Edits of special targets, in which the judge has to find nothing: a makefile and an edit of it.
+# `.SUFFIXES:` clears the suffixes above it, `.DEFAULT:` the recipe; the words of .PHONY are targets.
+SPECIAL = (
+    (
+        b".SUFFIXES: a.o  \\\nlib.a(x.o)\n.SUFFIXES:\n",
+        ("depend-order", 2, b".SUFFIXES", b"lib.a(y.o)"),
+    ),
+    (b".SUFFIXES: .a | .b\n.SUFFIXES:\n", ("depend", 2, b".SUFFIXES", b".c")),
+    (b".SUFFIXES: .a | .b\n.SUFFIXES: .c\n", ("undepend", 2, b".SUFFIXES", b".c")),
+    (b".SUFFIXES: .a\n.SUFFIXES:\n.SUFFIXES: .b\n", ("unrule", 2, b".SUFFIXES")),
+    (b".DEFAULT:\n\tx\n.DEFAULT:\n", ("depend", 2, b".DEFAULT", b"a")),
+    (b".DEFAULT:\n\tx\n.DEFAULT: a\n", ("undepend", 2, b".DEFAULT", b"a")),
+    (b".DEFAULT:\n\tx\n.DEFAULT:\n", ("recipe", 2, b".DEFAULT", b"y")),
+    (b".PHONY: a\nd::\n\tx\n", ("depend", None, b".PHONY", b"d")),
+    (b".PHONY: a | b\n", ("undepend", None, b".PHONY", b"b")),
+    (b".SECONDARY: a\na:\n", ("undepend", None, b".SECONDARY", b"a")),
+    (b".DEFAULT_GOAL = a\na: b\nb:\n", ("set", None, b".DEFAULT_GOAL", b"b")),
+)
 SEED, MAKEFILES = 1, 100
+
+
+def check_fixed(judge):
+    """The fixed edits are judged: what is wrong with the verdicts on them."""
+    return [*check_planted(judge), *check_special(judge)]
+
+
+def check_special(judge):
+    """In none of the edits of special targets is anything found; all are judged, without an excuse."""
+    for text, edit in SPECIAL:
+        verdict, before = judge.of_makefile(text)
+        if verdict.kind == EQUAL:
+            verdict = judge.of_edit(text, before, edit)
+        if verdict.kind not in (EQUAL, FOLLOWS, NOT_FOLLOWED):
+            yield f"{edit} in {text} is judged {verdict}"
 
 
 def check_planted(judge):
@@ -150,7 +183,7 @@ def run(program, tally):
             tally.add("judge", ["GNU make 4 is not there"])
             return
         counts = Counts(Judge(room, make))
-        tally.add("judge: planted faults", list(check_planted(counts.judge)))
+        tally.add("judge: fixed edits", check_fixed(counts.judge))
         drawn = itertools.islice(random_cases(SEED), MAKEFILES)
         for case in itertools.chain(examples(SEED), drawn):
             tally.add(f"judge: {case[0]}", counts.take(*case))

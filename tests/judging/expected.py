@@ -11,7 +11,7 @@ import re
 from typing import NamedTuple
 
 import reading
-from judging.database import SECTIONS, Rule, Variable
+from judging.database import OF_MAKE, SECTIONS, Rule, Variable
 from judging.values import UNKNOWN, Unknown, Variables, cut_units, shown, value_of
 
 CONDITION = re.compile(
@@ -55,7 +55,7 @@ class Expected:
         self.values = Variables()
         self.targets, self.patterns, self.target_variables = {}, {}, {}
         self.rules_known = True
-        self.has_suffixes, self.conditions_known = False, True
+        self.conditions_known = True
         self.branches = []
         self.header, self.recipe = None, []
         self.define, self.body = None, []
@@ -64,10 +64,24 @@ class Expected:
             self.live.append(self.is_live() and (not self.branches or self.conditions_known))
             self.take(item)
         self.record()
+        # In the end make takes the prerequisites of .PHONY for targets.
+        for word in self.all_needs(".PHONY"):
+            self.targets.setdefault(word, [Rule(":", (), (), None)])
 
     @property
     def variables(self):
         return self.values.by_name
+
+    def all_needs(self, target):
+        """The known prerequisites of a target, of all its rules and in both lists."""
+        rules = self.targets.get(target, [])
+        known = [] if rules == UNKNOWN else rules
+        return [it for rule in known for it in rule.prerequisites + rule.order_only]
+
+    @property
+    def has_suffixes(self):
+        """Whether .SUFFIXES may have words at the end: make has patterns for them, not followed here."""
+        return self.targets.get(".SUFFIXES") == UNKNOWN or bool(self.all_needs(".SUFFIXES"))
 
     def is_live(self):
         """Whether make reads the line: it stands in branches that are taken."""
@@ -76,10 +90,11 @@ class Expected:
     def content(self, key):
         """What is expected of a key of the data base: None where it is not there, or UNKNOWN."""
         section, name = key
-        is_known = self.values.is_known if section == "variables" else self.rules_known
-        if not is_known or section == "patterns" and self.has_suffixes:
-            return UNKNOWN
-        return getattr(self, section).get(name)
+        if section == "variables":
+            is_known = self.values.is_known and name not in OF_MAKE  # a data base has none of these
+        else:
+            is_known = self.rules_known and not (section == "patterns" and self.has_suffixes)
+        return getattr(self, section).get(name) if is_known else UNKNOWN
 
     def take(self, item):
         """Follows one more line."""
@@ -217,8 +232,6 @@ class Expected:
         for target in targets:
             lists = [needed(words, pattern, target) for words in (normal, order)]
             self.record_target(target, Rule(separator, *lists, recipe))
-            for word in sum(lists, ()) if target == ".PHONY" else ():
-                self.targets.setdefault(word, [Rule(":", (), (), None)])
 
     def record_unknown(self, targets):
         """Adds a rule whose prerequisites are not known."""
@@ -234,16 +247,13 @@ class Expected:
 
     def record_target(self, target, rule):
         """Adds a rule of a target: its prerequisites come before those known where it has a recipe."""
-        self.has_suffixes |= target == ".SUFFIXES" and bool(rule.prerequisites + rule.order_only)
         kept = self.targets.setdefault(target, [])
         if kept == UNKNOWN:
             return
         if rule.separator == "::" or not kept:
             kept.append(rule)
             return
-        old = kept.pop()
-        if target == ".SUFFIXES" and not rule.prerequisites:
-            old = old._replace(prerequisites=())
+        old = cleared(target, kept.pop(), rule)
         first, second = (rule, old) if rule.recipe is not None else (old, rule)
         kept.append(
             Rule(
@@ -253,6 +263,21 @@ class Expected:
                 old.recipe if rule.recipe is None else rule.recipe,
             )
         )
+
+
+def cleared(target, old, rule):
+    """What make keeps of a target's rule when a further one comes: two special targets lose something.
+
+    A `.SUFFIXES` without words takes away all that stood in those above, before a `|` and after it. A
+    `.DEFAULT` without words and without a recipe takes away the recipe.
+    """
+    if rule.prerequisites or rule.order_only:
+        return old
+    if target == ".SUFFIXES":
+        return old._replace(prerequisites=(), order_only=())
+    if target == ".DEFAULT" and rule.recipe is None:
+        return old._replace(recipe=None)
+    return old
 
 
 def needed(words, pattern, target):

@@ -12,6 +12,10 @@ import reading
 VARIABLES = b"A B CC CFLAGS X.y n-1 _d R Z".split()
 TARGETS = b"all t u a.o b.o lib.a(x.o) sub/d $(R)x v-1 t2".split()
 DOUBLE = [b"d", b"e"]
+# Targets with a meaning of their own. Some have another meaning where they have no prerequisites.
+SPECIAL = b".PHONY .SUFFIXES .DEFAULT".split() * 3
+SPECIAL += b".SECONDARY .INTERMEDIATE .PRECIOUS .SILENT .IGNORE .ONESHELL .POSIX .NOTPARALLEL".split()
+SPECIAL += b".DELETE_ON_ERROR .EXPORT_ALL_VARIABLES .SECONDEXPANSION".split()
 PATTERNS = [b"%.o", b"%.q", b"x%"]
 WORDS = b"a.c b.h t u c lib.a(y.o) $(R) ${Z} sub/x w % $(NONE) $$v".split()
 PIECES = b"gcc -O2 a x=1 y:z $$ $$(b) a,b p;q { | & \\n %.c".split() + [b"'q q'"]
@@ -51,6 +55,7 @@ VALUES = [b"\\\\ a", b"%", b"a:", b"= b", b":= b", b"'\"'", b"$(NONE)", b"a\\ b"
 VALUES += [b"$(subst #,-,a)"]
 NEW_WORDS = b"export override private define endef else endif ifdef vpath undefine".split()
 NEW_WORDS += b"a, & * [a] 'x' a(b) %x% -x @x a$(NONE) $(NONE) .PHONY .DEFAULT .x $(R)$(Z) {} ! ^".split()
+NEW_WORDS += b".SUFFIXES .SECONDARY".split()
 LINES = [b" ", b"\t", b"define x", b"endif", b"else", b"a  ", b": ;", b"\\ ", b"a # b", b"$(NONE)", b"a$"]
 
 
@@ -197,14 +202,27 @@ class Writer:
         """A rule of any kind, perhaps with a recipe."""
         kind = self.one(["plain"] * 6 + ["double", "pattern", "static", "grouped", "special"])
         if kind == "special":
-            special = self.one([b".PHONY:", b".PHONY :", b".SECONDARY:", b".SUFFIXES:"])
-            return special + self.words(TARGETS, 0, 2) + b"\n"
+            return self.special()
         line = self.targets(kind) + self.needs(kind in ("pattern", "static"))
         if self.chance(0.1) or kind == "grouped":
             line += self.one([b";", b" ; echo # b", b";x \\\n\ty", b"; "])
         elif self.chance(0.08):
             line += b" # c"
         has_recipe = self.chance(0.7) or kind == "grouped"
+        return line + b"\n" + (self.recipe() if has_recipe else b"")
+
+    def special(self):
+        """One or two rules of a special target, or the variable that names the goal."""
+        if self.chance(0.05):
+            return b".DEFAULT_GOAL" + self.one([b" = ", b" := "]) + self.one(TARGETS) + b"\n"
+        target = self.one(SPECIAL)
+        return b"".join(self.special_rule(target) for _ in range(self.one([1, 1, 2])))
+
+    def special_rule(self, target):
+        """A rule of a special target, often without prerequisites, seldom with a recipe."""
+        line = target + self.one([b":", b":", b" :"])
+        line += self.words([*TARGETS, *DOUBLE], 0, 2) if self.chance(0.7) else self.needs(False)
+        has_recipe = self.chance(0.5 if target == b".DEFAULT" else 0.1)
         return line + b"\n" + (self.recipe() if has_recipe else b"")
 
     def targets(self, kind):

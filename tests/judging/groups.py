@@ -15,6 +15,9 @@ from judging.values import cut_units
 SPACES = b" \t\f\v\r"
 CONDITIONAL_WORDS = (*reading.CONDITIONALS, b"else", b"endif")
 KEEPING = ("Recipe", "Blank", "Comment", "If", "Else", "Endif")
+SET_BY_POSIX = re.compile(
+    rb"(?<![\w.-])(?:CC|CFLAGS|FC|FFLAGS|ARFLAGS|SCCSGETFLAGS|\.SHELLFLAGS)(?![\w.-])"
+)
 
 
 class Row(NamedTuple):
@@ -192,10 +195,30 @@ def the_last_line_ends_in_a_backslash(rows):
     return bool(rows) and len(re.search(rb"\\*\Z", rows[-1].raw).group()) % 2 == 1
 
 
+def has_target(rows, name):
+    """Whether a name is a target of a rule."""
+    return any(row.kind == "Header" and name in row.parts[0] for row in rows)
+
+
 def posix_keeps_blanks_at_a_fold(rows):
-    """Where `.POSIX` is a target, make keeps the blanks before a fold."""
-    is_posix = any(row.kind == "Header" and b".POSIX" in row.parts[0] for row in rows)
-    return is_posix and any(row.kind in ("Assign", "TargetAssign") and b"\n" in row.raw for row in rows)
+    """Where `.POSIX` is a target, make keeps the blanks before a fold: in values and conditions."""
+    kinds = ("Assign", "TargetAssign", "Body", "If", "Else")
+    return has_target(rows, b".POSIX") and any(it.kind in kinds and b"\n" in it.raw for it in rows)
+
+
+def posix_sets_a_variable(rows):
+    """Where `.POSIX` is a target, make sets CC and others, which a line refers to or adds to."""
+    for row in rows if has_target(rows, b".POSIX") else ():
+        is_plain = row.kind == "Assign" and row.parts[2] in (b"=", b":=", b"::=")
+        if row.kind != "Recipe" and SET_BY_POSIX.search(row.parts[3] if is_plain else row.raw):
+            return True
+    return False
+
+
+def prerequisites_are_expanded_twice(rows):
+    """Where `.SECONDEXPANSION` is a target, make expands a `$$` of prerequisites once more."""
+    is_twice = has_target(rows, b".SECONDEXPANSION")
+    return is_twice and any(row.kind != "Recipe" and b"$$" in row.raw for row in rows)
 
 
 def a_byte_order_mark_stands_first(rows):
@@ -223,6 +246,8 @@ GROUPS = (
     a_line_with_a_stray_byte_is_not_read,
     the_last_line_ends_in_a_backslash,
     posix_keeps_blanks_at_a_fold,
+    posix_sets_a_variable,
+    prerequisites_are_expanded_twice,
     a_byte_order_mark_stands_first,
 )
 
