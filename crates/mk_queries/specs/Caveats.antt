@@ -70,7 +70,7 @@ is_other_class variants.Directive = true
 is_other_class k = false
 
 -- whether a line is such a line, which make takes for a recipe line where it has a rule open
-abbrev pub is_other_led : Context → LocatedLine → Bool
+abbrev is_other_led : Context → LocatedLine → Bool
 is_other_led c l = is_prefix_led c.prefix l.bytes && is_other_class l.class
 
 -- whether a line tells of a rule where make passes the opaque lines that are empty for it
