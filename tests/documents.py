@@ -94,8 +94,8 @@ def run(program, tally):
     checks = (
         (EDITS, check_edits, edits, 14),
         (EDITS, check_queries, edits, 3),
-        (LANGUAGE, check_edits, last_chapter(), 32),
-        (LANGUAGE, check_unread, last_chapter(), 34),
+        (LANGUAGE, check_edits, last_chapter(), 34),
+        (LANGUAGE, check_unread, last_chapter(), 36),
         (LIBRARY, check_code, LIBRARY.read_text(encoding="utf-8"), 4),
     )
     with Room(program) as room:
