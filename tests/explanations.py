@@ -102,8 +102,10 @@ def each_example_of_an_explanation_is_so(room):
 
 @check
 def the_page_on_edits_explains_the_same(room):
-    rows = ROW.findall((TOP / "docs/EDITS.md").read_text(encoding="utf-8"))
-    if [it[:2] for it in rows] != refusals():
+    page = (TOP / "docs/EDITS.md").read_text(encoding="utf-8")
+    # (in a cell of a table a bar has a backslash before it)
+    rows = [[cell.replace("\\|", "|") for cell in row] for row in ROW.findall(page)]
+    if [tuple(it[:2]) for it in rows] != refusals():
         yield f"it has {[it[:2] for it in rows]}"
     for number, name, cause, example, advice in rows:
         said = explained(room, number)
