@@ -6,8 +6,11 @@
 //!                         lines from there
 //!     floor folds FILE    and keeps of each line with folds its joined text and the ends of its folds,
 //!                         with 8 bytes for an end, in one piece of memory
+//!     floor classes FILE  and reads what each line is, with the places of its parts, byte by byte
 //!
-//! Nothing else inside a line is read, and no memory is given up.
+//! The last step reads the makefiles of the bench as mkedit does, and not every makefile: it knows no
+//! stray bytes, no lines that are not read inside, and no recipe prefix but the tab. No memory is given
+//! up.
 
 use std::ffi::{c_int, c_void};
 use std::io::{self, Write};
@@ -22,8 +25,9 @@ struct Node {
     start: u32,
     end: u32,
     _folded: Option<Box<[u8]>>,
+    _class: Class,
     // What else mkedit knows of a line beside its place.
-    _rest: [u64; 4],
+    _rest: [u64; 2],
     left: Tree,
     right: Tree,
 }
@@ -108,10 +112,140 @@ fn folded(line: &[u8], joined: &mut Vec<u8>, ends: &mut Vec<u8>) -> Option<Box<[
     Some(Box::from(&ends[..]))
 }
 
+/// What a line is, and the ends of its parts.
+#[derive(Clone, Copy)]
+struct Class {
+    _kind: Kind,
+    _parts: [u16; 6],
+}
+
+#[derive(Clone, Copy, PartialEq)]
+enum Kind {
+    Blank,
+    Comment,
+    Recipe,
+    Assign,
+    DefineHead,
+    Body,
+    Endef,
+    Conditional,
+    Directive,
+    TargetAssign,
+    Header,
+    Opaque,
+}
+
+const NO_CLASS: Class = Class { _kind: Kind::Opaque, _parts: [0; 6] };
+
+/// What the lines above leave.
+#[derive(Default)]
+struct Context {
+    in_rule: bool,
+    defines: u32,
+}
+
+fn is_blank(byte: u8) -> bool {
+    byte == b' ' || byte == b'\t'
+}
+
+/// The offset behind a reference, which begins at the `$` at this offset.
+fn after_reference(text: &[u8], at: usize) -> usize {
+    let (open, close) = match text.get(at + 1) {
+        Some(b'(') => (b'(', b')'),
+        Some(b'{') => (b'{', b'}'),
+        _ => return at + 2,
+    };
+    let mut depth = 1;
+    let mut at = at + 2;
+    while at < text.len() && depth > 0 {
+        depth += (text[at] == open) as usize;
+        depth -= (text[at] == close) as usize;
+        at += 1;
+    }
+    at
+}
+
+/// The first word, with what it says.
+fn keyword(word: &[u8]) -> Option<Kind> {
+    Some(match word {
+        b"define" => Kind::DefineHead,
+        b"endef" => Kind::Endef,
+        b"ifeq" | b"ifneq" | b"ifdef" | b"ifndef" | b"else" | b"endif" => Kind::Conditional,
+        b"include" | b"-include" | b"sinclude" | b"export" | b"unexport" | b"undefine" => Kind::Directive,
+        b"vpath" | b"load" | b"-load" => Kind::Directive,
+        _ => return None,
+    })
+}
+
+/// What a line outside of defines and recipes is: the first `=`, `:`, `|`, `;` and `#` outside of
+/// references tell it, and its first word.
+fn plain_class(text: &[u8]) -> Class {
+    let start = text.iter().take_while(|it| is_blank(**it)).count();
+    let (mut equals, mut colon, mut bar, mut word, mut end) = (0, 0, 0, 0, text.len());
+    let mut at = start;
+    while at < text.len() {
+        match text[at] {
+            b'$' => {
+                at = after_reference(text, at);
+                continue;
+            }
+            b'\\' => at += 1,
+            b'#' => {
+                end = at;
+                break;
+            }
+            b'=' if equals == 0 => equals = at,
+            b':' if colon == 0 => colon = at,
+            b'|' if bar == 0 => bar = at,
+            b' ' | b'\t' if word == 0 => word = at,
+            _ => {}
+        }
+        at += 1;
+    }
+    let first = &text[start..if word == 0 { end.max(start) } else { word.min(end) }];
+    let kind = match first {
+        [] if start == text.len() => Kind::Blank,
+        [] => Kind::Comment,
+        _ if equals > 0 && (colon == 0 || colon + 2 > equals) => Kind::Assign,
+        _ => match keyword(first) {
+            Some(kind) => kind,
+            None if colon == 0 => Kind::Opaque,
+            None if equals > 0 => Kind::TargetAssign,
+            None => Kind::Header,
+        },
+    };
+    let parts = [start, equals, colon, bar, word, end].map(|it| it as u16);
+    Class { _kind: kind, _parts: parts }
+}
+
+/// What a line is in its context, and what it leaves.
+fn read_class(text: &[u8], context: &mut Context) -> Class {
+    let is_led = text.first() == Some(&b'\t');
+    if context.defines > 0 {
+        let class = if is_led { NO_CLASS } else { plain_class(text) };
+        context.defines += (class._kind == Kind::DefineHead) as u32;
+        context.defines -= (class._kind == Kind::Endef) as u32;
+        return Class { _kind: Kind::Body, ..class };
+    }
+    if is_led && context.in_rule {
+        return Class { _kind: Kind::Recipe, ..NO_CLASS };
+    }
+    let class = plain_class(text);
+    match class._kind {
+        Kind::Header => context.in_rule = true,
+        Kind::Blank | Kind::Comment | Kind::Conditional => {}
+        Kind::DefineHead => (context.in_rule, context.defines) = (false, 1),
+        _ => context.in_rule = false,
+    }
+    class
+}
+
 /// What builds the tree.
 struct Reader<'a> {
     lines: Lines<'a>,
     has_folds: bool,
+    has_classes: bool,
+    context: Context,
     joined: Vec<u8>,
     ends: Vec<u8>,
 }
@@ -127,12 +261,16 @@ impl Reader<'_> {
             return left;
         };
         let line = &self.lines.text[start..end];
-        let folded = self.has_folds.then(|| folded(line, &mut self.joined, &mut self.ends));
+        let folded = self.has_folds.then(|| folded(line, &mut self.joined, &mut self.ends)).flatten();
+        let text = if folded.is_some() { &self.joined[..] } else { line };
+        let text = text.strip_suffix(b"\n").unwrap_or(text);
+        let class = if self.has_classes { read_class(text, &mut self.context) } else { NO_CLASS };
         let mut node = Box::new(Node {
             start: start as u32,
             end: end as u32,
-            _folded: folded.flatten(),
-            _rest: [0; 4],
+            _folded: folded,
+            _class: class,
+            _rest: [0; 2],
             left,
             right: Tree { lines: 0, top: None },
         });
@@ -154,7 +292,7 @@ fn print(text: &[u8], tree: &Tree, out: &mut impl Write) -> io::Result<()> {
 fn main() -> io::Result<()> {
     let words: Vec<String> = env::args().collect();
     let [_, step, name] = &words[..] else {
-        panic!("usage: floor text|lines|boxes|folds FILE");
+        panic!("usage: floor text|lines|boxes|folds|classes FILE");
     };
     let text = fs::read(name)?;
     let mut out = io::BufWriter::with_capacity(16 * 1024, io::stdout());
@@ -169,7 +307,9 @@ fn main() -> io::Result<()> {
         return out.flush();
     }
     let (joined, ends) = (Vec::new(), Vec::new());
-    let lines = Reader { lines, has_folds: step == "folds", joined, ends }.tree(25);
+    let (has_classes, context) = (step == "classes", Context::default());
+    let has_folds = has_classes || step == "folds";
+    let lines = Reader { lines, has_folds, has_classes, context, joined, ends }.tree(25);
     print(&text, &lines, &mut out)?;
     out.flush()?;
     mem::forget(lines);
