@@ -12,6 +12,7 @@ Where one of them is not proved, nothing that was found counts, and each edit is
 them have just been proved in the check of the whole crate; this shows that the rounds can prove.)
 """
 
+import hashlib
 import inspect
 import tempfile
 from pathlib import Path
@@ -138,14 +139,41 @@ def answer(script, crate, name, is_refused, words):
     return kind, f"must-fail {crate.name}/{name}.edit: {verdict}: {words[:160]}"
 
 
-def known(script, kept, crate, edits):
-    """What the toolchain keeps of earlier tries of edits on this machine, by their places in the list."""
-    try:
-        sum = kept.key(crate)
-        told = {at: kept.tried(kept.of_edit(it, sum)) for at, it in enumerate(edits)}
-    except OSError:
-        return {}
-    return {at: it for at, it in told.items() if it}
+class Earlier:
+    """What earlier runs on this machine found of the edits of a crate, by their places in the list.
+
+    The toolchain keeps what `rt ci` found under names made of all that a try stands on: the crate, the
+    libraries below, the prover, the edit. What rounds found is kept beside it, under names of their own,
+    in which the files of the rounds count too. So `rt ci` takes nothing from rounds.
+    """
+
+    def __init__(self, kept, crate, edits):
+        self.kept = kept
+        self.crate = crate
+        self.edits = edits
+        self.names = self.names_now()
+        told = {at: kept.tried(name) or kept.tried(own_name(name)) for at, name in enumerate(self.names)}
+        self.found = {at: it for at, it in told.items() if it}
+
+    def names_now(self):
+        """The toolchain's names of the tries; none where a file cannot be read."""
+        try:
+            made_of = self.kept.key(self.crate)
+            return [self.kept.of_edit(it, made_of) for it in self.edits]
+        except OSError:
+            return []
+
+    def keep(self, found):
+        """Keeps what was found of edits, by their places, if no file that it stands on has changed meanwhile."""
+        if self.names and self.names == self.names_now() and self.kept.is_untouched(self.crate):
+            for at, it in found.items():
+                self.kept.keep_tried(own_name(self.names[at]), *it)
+
+
+def own_name(name):
+    """The name under which it is kept what rounds found, where the toolchain has this name for the try."""
+    files = (Path(__file__).parent / it for it in ("proving.py", "rounds.py", "turned.py"))
+    return hashlib.sha256(b"\0".join([name.encode(), *(it.read_bytes() for it in files)])).hexdigest()
 
 
 def take_rounds(script):
@@ -162,19 +190,21 @@ def take_rounds(script):
         begun = {}
 
         def old():
-            return begun.get("known", {})
+            return begun["earlier"].found if begun else {}
 
         def trial(given, jobs):
-            begun["known"] = known(script, kept, crate, edits)
-            new = [it for at, it in enumerate(edits) if at not in old()]
+            earlier = begun["earlier"] = Earlier(kept, crate, edits)
+            new = [at for at in range(len(edits)) if at not in earlier.found]
             if not is_well(given, len(new)):
                 return None
-            found = iter(tried(script, crate, new) if new else [])
-            told = [old().get(at) or next(found) for at in range(len(edits))]
+            told = tried(script, crate, [edits[at] for at in new]) if new else []
+            refused = (script.REFUSED, script.AT_LIMIT)
+            found = dict(zip(new, told))
+            earlier.keep({at: it for at, it in found.items() if it[0] in refused})
             for kind, text in told:
-                if kind not in (script.REFUSED, script.AT_LIMIT):
+                if kind not in refused:
                     script.say(text)
-            return told
+            return [earlier.found.get(at) or found[at] for at in range(len(edits))]
 
         if edits:
             lines = crate.count(rb"\n")
