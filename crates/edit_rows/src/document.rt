@@ -70,8 +70,8 @@ fn check_line(alloc: Global, expected: &Line, found: &Line) -> Result<(), Stop> 
         expected.bytes(),
         found.bytes(),
     )?;
-    let expected_text = expected.cells().text(expected.bytes());
-    let found_text = found.cells().text(found.bytes());
+    let expected_text = expected.text();
+    let found_text = found.text();
     same_text(
         alloc,
         "the joined text of a line",

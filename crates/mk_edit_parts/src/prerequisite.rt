@@ -74,7 +74,7 @@ fn raw_part<A: Allocator>(line: &Line<A>, span: Span) -> &[u8]
     requires within { span.end ≤ length (line_cells (line_view line.now).bytes) }
     ensures { result.now ≡ raw_between (line_cells (line_view line.now).bytes) span.start span.end }
 {
-    part(line.bytes(), line.cells().raw_range(span.start, span.end))
+    part(line.bytes(), line.raw_range(span.start, span.end))
 }
 
 // The raw bytes of a line from an offset in its joined text on, with its line end.
@@ -85,7 +85,7 @@ fn raw_rest<A: Allocator>(line: &Line<A>, start: usize) -> &[u8]
         ++ line_end_bytes (line_end (line_view line.now).bytes) }
 {
     let bytes = line.bytes();
-    let start = line.cells().raw_range(start, start).start;
+    let start = line.raw_range(start, start).start;
     let end = bytes.len();
     part(bytes, Span { start, end })
 }

@@ -22,7 +22,7 @@ pub fn value_range<A: Allocator>(line: &Line<A>, with_blanks: bool) -> Span
             } else {
                 assignment.value.end
             };
-            line.cells().raw_range(assignment.value.start, end)
+            line.raw_range(assignment.value.start, end)
         }
         _ => Span { start: 0, end: 0 },
     }

@@ -87,7 +87,7 @@ pub fn range_of_word<A: Allocator>(
     let start = part_start + word.start;
     let end = part_start + word.end;
     if is_same_text(part(text, Span { start, end }), wanted) {
-        Some(line.cells().raw_range(start, end))
+        Some(line.raw_range(start, end))
     } else {
         None
     }

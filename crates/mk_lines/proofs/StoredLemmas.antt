@@ -266,6 +266,24 @@ plain_stored t h j e s p q r =
 pub fold_ends-some : (t : List ℕ) → (All (λ b. b ≡ 10 → ⊥) t → ⊥) → fold_ends 0 (cells t) ≡ [] → ⊥
 fold_ends-some t h none = h (subst (All (λ b. b ≡ 10 → ⊥)) (raw_text-cells t) (no_ends-no_line_feed 0 (cells t) (cells-are_cells t) none))
 
+-- a line has folds where there is a line feed in it, and only there
+pub no_ends-plain : (stored : StoredCells) (line : List ℕ) → AreCellsOf stored line → [] ≡ stored.ends → All (λ b. b ≡ 10 → ⊥) (without_line_end line)
+no_ends-plain stored line h e =
+    let t = without_line_end line in
+    let none : fold_ends 0 (cells t) ≡ [] = sym (e ∙ ap (λ k. k.ends) h.same) in
+    subst (All (λ b. b ≡ 10 → ⊥)) (raw_text-cells t) (no_ends-no_line_feed 0 (cells t) (cells-are_cells t) none)
+
+pub plain-no_ends : (stored : StoredCells) (line : List ℕ) → AreCellsOf stored line → All (λ b. b ≡ 10 → ⊥) (without_line_end line) → stored.ends ≡ []
+plain-no_ends stored line h all =
+    let t = without_line_end line in
+    ap (λ k. k.ends) h.same ∙ (ap (fold_ends 0) (cells-no_line_feed t all) ∙ fold_ends-bytes 0 t)
+
+-- whether a text without a line feed has a stray byte, by its cells
+pub plain-stray : (t : List ℕ) → All (λ b. b ≡ 10 → ⊥) t → has_stray (cells t) ≡ list_any (λ b. is_stray_by (byte_kind b) (b == 0)) t
+plain-stray t h =
+    ap has_stray (cells-no_line_feed t h)
+    ∙ (has_stray-joined_text (map Byte t) ∙ ap (list_any (λ b. is_stray_by (byte_kind b) (b == 0))) (joined_text-bytes t))
+
 -- what is stored of a text with a line feed
 pub folded_stored : (t : List ℕ) → (All (λ b. b ≡ 10 → ⊥) t → ⊥) → (n : ℕ) (j : List ℕ) (e : List FoldEnd) (b s : Bool)
     → n ≡ length j → j ≡ joined_text (cells t) → e ≡ fold_ends 0 (cells t) → b ≡ has_bad_fold (cells t) → s ≡ list_any (λ b. is_stray_by (byte_kind b) (b == 0)) j

@@ -43,29 +43,29 @@ pub record StoredCells : Type 0 where
 -- the joined text of a line with folds
 abbrev pub joined_stored : {A : Type 0} → Rest A → List ℕ
 joined_stored (Plain stray) = []
-joined_stored (Folded f) = drop f.value.first f.value.joined.items
+joined_stored (Folded f) = drop f.first f.joined.items
 
 -- the ends of the folds
 abbrev pub ends_stored : {A : Type 0} → Rest A → List FoldEnd
 ends_stored (Plain stray) = []
-ends_stored (Folded f) = f.value.ends.items
+ends_stored (Folded f) = f.ends.items
 
 -- whether there is a bad fold
 abbrev pub has_bad_fold_stored : {A : Type 0} → Rest A → Bool
 has_bad_fold_stored (Plain stray) = false
-has_bad_fold_stored (Folded f) = f.value.bad_fold
+has_bad_fold_stored (Folded f) = f.bad_fold
 
 -- whether there is a stray byte
 abbrev pub has_stray_stored : {A : Type 0} → Rest A → Bool
 has_stray_stored (Plain stray) = stray
-has_stray_stored (Folded f) = f.value.stray
+has_stray_stored (Folded f) = f.stray
 
 -- a line that is held as a line with folds has at least one fold, and its joined text begins within
 -- the bytes that are stored
 abbrev pub HasFoldsStored : {A : Type 0} → Rest A → Type 0
 HasFoldsStored (Plain stray) = ⊤
 HasFoldsStored (Folded f) =
-    (f.value.ends.items ≢ []) × (f.value.first ≤ length f.value.joined.items)
+    (f.ends.items ≢ []) × (f.first ≤ length f.joined.items)
 
 -- ---- what is stored, of cells
 

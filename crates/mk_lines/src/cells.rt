@@ -38,8 +38,8 @@ use stored::{Folded, first_stray_byte, has_stray_byte};
 ///
 /// # Errors
 ///
-/// [`Fault::NoMemory`] if the line has folds and there is no memory for its joined text, for the
-/// list of its folds, or for the two together.
+/// [`Fault::NoMemory`] if the line has folds and there is no memory for its joined text or for the
+/// list of its folds.
 pub fn cells<A: Allocator + Copy>(alloc: A, line: &[u8]) -> Result<Cells<A>, Fault>
     ensures cells { IfOk result (λ stored. AreCellsOf stored line.now) }
     ensures plain { All (λ b. b ≢ 10) (without_line_end line.now) → IsOk result }
@@ -86,5 +86,5 @@ fn folded_cells<A: Allocator + Copy>(alloc: A, text: &[u8], feed: usize) -> Resu
         ends: stack.ends,
         bad_fold: stack.bad_fold,
     };
-    Cells::folded(alloc, text, folded)
+    Ok(Cells::folded(text, folded))
 }

@@ -12,7 +12,7 @@ ghost use Rattle.mk_queries.specs.LocatedTexts.{IsClassedIn};
 use crate::line_part::{part, text_of_line};
 use crate::make_word::{is_text, word_of};
 use crate::seen::{Seen, is_led, is_other_class, is_rule};
-use mk_class::{Class, Context, Meter, class_with_cells};
+use mk_class::{Class, Context};
 use mk_lines::after_first_unit;
 use mk_tree::Line;
 use std::alloc::Allocator;
@@ -134,13 +134,7 @@ fn is_unread_assignment<A: Allocator>(line: &Line<A>) -> bool
     ensures { result
         ≡ is_assignment (located_class joined_byte (class_of start (line_view line.now).bytes)) }
 {
-    let read = class_with_cells(
-        line.bytes(),
-        line.cells(),
-        Context::start(),
-        &mut Meter::new(),
-    );
-    matches!(read, Ok((Class::Assign(..), _)))
+    matches!(line.class_as_first(), Class::Assign(..))
 }
 
 // The caveat of a line of this class as an assignment.

@@ -12,7 +12,7 @@ use std::alloc::Allocator;
 pub(crate) fn text_of_line<A: Allocator>(line: &Line<A>) -> &[u8]
     ensures { result.now ≡ text_of_line (line_view line.now) }
 {
-    line.cells().text(line.bytes())
+    line.text()
 }
 
 /// A part of a text.

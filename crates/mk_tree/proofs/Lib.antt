@@ -9,6 +9,7 @@ pub mod Ends
 pub mod Heights
 pub mod Nodes
 pub mod Indices
+pub mod PlainLemmas
 pub mod Prefixes
 pub mod Reading
 pub mod WalkLemmas

@@ -1,49 +1,86 @@
 //! What a document stores of a line.
-ghost use Rattle.std.specs.Prelude.{◌≡◌, ◌<◌, length};
-ghost use Rattle.mk_lines.specs.StoredCells.{AreCellsOf};
+ghost use Rattle.std.specs.Prelude.{◌≡◌, ◌<◌, ◌≤◌, IfOk, IsOkUnless, length};
+ghost use Rattle.mk_lines.specs.Cells.{joined_byte, line_cells};
 ghost use Rattle.mk_lines.specs.PhysicalLines.{without_line_end};
+ghost use Rattle.mk_lines.specs.Ranges.{raw_range};
+ghost use Rattle.mk_lines.specs.StoredCells.{AreCellsOf};
+ghost use Rattle.mk_class.specs.ClassTable.{class_of};
+ghost use Rattle.mk_class.specs.Contexts.{start};
+ghost use Rattle.mk_class.specs.LocatedClasses.{located_class};
+ghost use Rattle.mk_tree.specs.LocatedLines.{text_of_line};
 ghost use Rattle.mk_tree.specs.StoredClasses.{whole_class};
 
 use crate::line_bytes::LineBytes;
 use crate::stored_class::StoredClass;
-use mk_class::Class;
-use mk_lines::Cells;
+use mk_class::{Class, Context, Meter, class_with_cells};
+use mk_lines::ends::without_line_end;
+use mk_lines::split::Span;
+use mk_lines::{Cells, Fault};
 use std::alloc::{Allocator, Global};
 use std::marker::Model;
-use std::mem;
+use std::mem::{self, size_of};
 
-/// The bytes of a line (at least one), its cells and its class.
+/// The bytes of a line (at least one), and what was read of them.
 #[derive(Drop)]
 pub(crate) struct Content<A: Allocator = Global> {
     bytes: LineBytes<A>,
+    reading: Reading<A>,
+}
+
+/// The class of a line and its cells.
+#[derive(Drop)]
+pub(crate) enum Reading<A: Allocator> {
+    /// A line without folds: whether it has a stray byte. Nothing else is stored of its cells.
+    Plain(bool, StoredClass<A>),
+    /// A line with folds. Few lines have them, so what is stored of one has a box of its own.
+    Folded(Box<Folded<A>, A>),
+}
+
+/// What is stored of a line with folds.
+#[derive(Drop)]
+pub(crate) struct Folded<A: Allocator> {
     cells: Cells<A>,
     class: StoredClass<A>,
 }
 
+// A document has one of these for each line.
+const _: () = prove!(size_of::<Reading<Global>>() == 24);
+
 impl<A: Allocator> Model for Content<A> {
     ghost use Rattle.mk_tree.specs.LocatedLines.{LocatedLine};
-    ghost use Rattle.mk_tree.specs.Contents.{IsContent};
-    ghost use Rattle.mk_tree.specs.StoredClasses.{whole_class};
+    ghost use Rattle.mk_tree.specs.Contents.{IsContent, class_of_reading};
 
     ghost Value = { LocatedLine };
 
-    ghost view = { λ c. record { bytes = c.bytes; class = whole_class c.class } };
+    ghost view = { λ c. record { bytes = c.bytes; class = class_of_reading c.reading } };
 
-    ghost invariant = { λ c. IsContent c.bytes c.cells };
+    ghost invariant = { λ c. IsContent c.bytes c.reading };
 }
 
 impl<A: Allocator> Content<A> {
-    pub(crate) fn new(bytes: LineBytes<A>, cells: Cells<A>, class: StoredClass<A>) -> Content<A>
+    /// What is stored of a line with these cells and this class.
+    ///
+    /// # Errors
+    ///
+    /// [`Fault::NoMemory`] if the line has folds and there is no memory for a box.
+    pub(crate) fn new(
+        alloc: A,
+        bytes: LineBytes<A>,
+        cells: Cells<A>,
+        class: StoredClass<A>,
+    ) -> Result<Content<A>, Fault>
         requires some_bytes { 0 < length bytes }
         requires cells { AreCellsOf cells bytes }
-        ensures bytes { result.bytes ≡ bytes }
-        ensures class { result.class ≡ whole_class class }
+        ensures content { IfOk result (λ content. content
+            ≡ record { bytes = bytes; class = whole_class class }) }
+        ensures fault { IsOkUnless result Fault.NoMemory }
     {
-        Content {
-            bytes,
-            cells,
-            class,
-        }
+        let reading = if cells.has_folds() {
+            Reading::Folded(Box::new(alloc, Folded { cells, class })?)
+        } else {
+            Reading::Plain(cells.has_stray(), class)
+        };
+        Ok(Content { bytes, reading })
     }
 
     pub(crate) fn bytes(&self) -> &[u8]
@@ -56,13 +93,46 @@ impl<A: Allocator> Content<A> {
     pub(crate) fn class(&self) -> Class
         ensures { result ≡ self.now.class }
     {
-        self.class.whole()
+        match &self.reading {
+            Reading::Plain(_, class) => class.whole(),
+            Reading::Folded(folded) => folded.class.whole(),
+        }
     }
 
-    pub(crate) fn cells(&self) -> &Cells<A>
-        ensures { AreCellsOf result.now self.now.bytes }
+    /// The joined text.
+    pub(crate) fn text(&self) -> &[u8]
+        ensures { result.now ≡ text_of_line self.now }
     {
-        &self.cells
+        match &self.reading {
+            Reading::Plain(..) => without_line_end(self.bytes.as_slice()),
+            Reading::Folded(folded) => folded.cells.text(self.bytes.as_slice()),
+        }
+    }
+
+    /// The raw bytes of the joined bytes from `start` up to `end`, as a range of the line's bytes.
+    pub(crate) fn raw_range(&self, start: usize, end: usize) -> Span
+        requires order { start ≤ end }
+        requires within { end ≤ length (line_cells self.now.bytes) }
+        ensures { result ≡ raw_range (line_cells self.now.bytes) start end }
+    {
+        match &self.reading {
+            Reading::Plain(..) => Span { start, end },
+            Reading::Folded(folded) => folded.cells.raw_range(start, end),
+        }
+    }
+
+    /// The class that the line would have as the first of a text.
+    pub(crate) fn class_as_first(&self) -> Class
+        ensures { result ≡ located_class joined_byte (class_of start self.now.bytes) }
+    {
+        let bytes = self.bytes.as_slice();
+        match &self.reading {
+            Reading::Plain(stray, _) => first_class(
+                bytes,
+                &Cells::<A>::without_folds(bytes, *stray),
+            ),
+            Reading::Folded(folded) => first_class(bytes, &folded.cells),
+        }
     }
 
     /// Puts other bytes of the same joined text in the place of the line's bytes, and hands these
@@ -76,5 +146,17 @@ impl<A: Allocator> Content<A> {
         ensures class { self.new.class ≡ self.old.class }
     {
         mem::replace(&mut self.bytes, bytes)
+    }
+}
+
+// The class of the first line of a text.
+fn first_class<A: Allocator>(bytes: &[u8], cells: &Cells<A>) -> Class
+    requires { AreCellsOf cells.now bytes.now }
+    ensures { result ≡ located_class joined_byte (class_of start bytes.now) }
+{
+    match class_with_cells(bytes, cells, Context::start(), &mut Meter::new()) {
+        Ok((class, _)) => class,
+        // It opens too many conditionals only below others.
+        Err(_) => unreachable!(),
     }
 }

@@ -55,7 +55,7 @@ impl<A: Allocator + Copy> Line<A> {
         let (class, _) = class_with_cells(&bytes, &cells, context, meter)?;
         let class = StoredClass::new(alloc, class)?;
         let bytes = LineBytes::new(bytes)?;
-        Ok(Line::new(alloc, Content::new(bytes, cells, class))?)
+        Ok(Line::new(alloc, Content::new(alloc, bytes, cells, class)?)?)
     }
 }
 
@@ -78,6 +78,6 @@ pub(crate) fn read_line<A: Allocator + Copy>(
     let cells = cells(alloc, bytes.as_slice())?;
     let (class, after) = class_with_cells(bytes.as_slice(), &cells, context, meter)?;
     let class = StoredClass::new(alloc, class)?;
-    let line = Line::new(alloc, Content::new(bytes, cells, class))?;
+    let line = Line::new(alloc, Content::new(alloc, bytes, cells, class)?)?;
     Ok((line, after))
 }

@@ -6,15 +6,19 @@
 //! two trees and a line between them together.
 ghost use Rattle.std.specs.Prelude.{◌≡◌, ◌+◌, ◌<◌, ◌≤◌, max, [], ◌∷◌, ◌++◌, length, Some, IfOk, MatchOption, slice_get, take, drop};
 ghost use Rattle.mk_lines.specs.Limits.{max_text};
-ghost use Rattle.mk_lines.specs.StoredCells.{AreCellsOf};
+ghost use Rattle.mk_lines.specs.Cells.{joined_byte, line_cells};
 ghost use Rattle.mk_lines.specs.PhysicalLines.{without_line_end};
-ghost use Rattle.mk_tree.specs.LocatedLines.{bytes_of_line, last_line, size_of, size_of_line, with_last_bytes};
+ghost use Rattle.mk_lines.specs.Ranges.{raw_range};
+ghost use Rattle.mk_class.specs.ClassTable.{class_of};
+ghost use Rattle.mk_class.specs.Contexts.{start};
+ghost use Rattle.mk_class.specs.LocatedClasses.{located_class};
+ghost use Rattle.mk_tree.specs.LocatedLines.{bytes_of_line, last_line, size_of, size_of_line, text_of_line, with_last_bytes};
 ghost use Rattle.mk_tree.specs.Trees.{line_view, lines_and_height, DifferByAtMost, AreFew, IsUnlinked, IsTop, IsHeightAfter};
 
 use crate::content::Content;
 use crate::line_bytes::LineBytes;
 use mk_class::Class;
-use mk_lines::Cells;
+use mk_lines::split::Span;
 use std::alloc::{AllocFailed, Allocator, Global};
 use std::marker::Model;
 use std::mem::{self, size_of};
@@ -60,7 +64,7 @@ struct Node<A: Allocator> {
 
 // A document has one node for each line. To print or drop the document takes the time that it takes
 // to go through the memory of all nodes.
-const _: () = prove!(size_of::<Node<Global>>() == 88);
+const _: () = prove!(size_of::<Node<Global>>() == 72);
 
 impl<A: Allocator> Model for Tree<A> {
     ghost use Rattle.std.specs.Prelude.{ℕ, List, length};
@@ -122,11 +126,33 @@ impl<A: Allocator> Line<A> {
         self.node.content.class()
     }
 
-    /// The cells of the bytes. Takes no memory.
-    pub fn cells(&self) -> &Cells<A>
-        ensures { AreCellsOf result.now (line_view self.now).bytes }
+    /// The joined text: the line without its line end, with each fold made one space. Takes no
+    /// memory.
+    pub fn text(&self) -> &[u8]
+        ensures { result.now ≡ text_of_line (line_view self.now) }
     {
-        self.node.content.cells()
+        self.node.content.text()
+    }
+
+    /// The raw bytes of the joined bytes from `start` up to `end`, as a range of bytes of the line.
+    ///
+    /// Each fold in the range counts with its whole run. Takes time logarithmic in the number of
+    /// folds, and no memory.
+    pub fn raw_range(&self, start: usize, end: usize) -> Span
+        requires order { start ≤ end }
+        requires within { end ≤ length (line_cells (line_view self.now).bytes) }
+        ensures { result ≡ raw_range (line_cells (line_view self.now).bytes) start end }
+    {
+        self.node.content.raw_range(start, end)
+    }
+
+    /// What the line would be as the first line of a text. Takes no memory; the time is linear in
+    /// the line's bytes.
+    pub fn class_as_first(&self) -> Class
+        ensures { result
+            ≡ located_class joined_byte (class_of start (line_view self.now).bytes) }
+    {
+        self.node.content.class_as_first()
     }
 
     /// What stands before the line in its tree, below it.

@@ -3,7 +3,7 @@
 //! A line without folds is its own joined text, and each of its raw offsets is the joined one, so
 //! nothing is stored of it except flags. Of a line with folds the joined text is stored, and the
 //! end of each fold: the nearest fold before a joined offset tells the raw offset.
-ghost use Rattle.std.specs.Prelude.{◌≡◌, ◌≢◌, ◌==◌, ◌≤◌, ℕ, List, drop, length, true, false, nat_lt, All, IfOk, IsOkUnless};
+ghost use Rattle.std.specs.Prelude.{◌≡◌, ◌≢◌, ◌==◌, ◌≤◌, ℕ, List, drop, length, true, false, nat_lt, All};
 ghost use Rattle.std.specs.List.{list_any};
 ghost use Rattle.std.specs.Option.{is_some};
 ghost use Rattle.std.specs.List.Sorted.{IsNonDecreasingBy, IsPartitionPoint};
@@ -12,11 +12,11 @@ ghost use Rattle.mk_lines.specs.Bytes.{byte_kind};
 ghost use Rattle.mk_lines.specs.Cells.{cells, joined_text, line_cells};
 ghost use Rattle.mk_lines.specs.CellFaults.{has_bad_fold, has_stray, is_stray_by};
 ghost use Rattle.mk_lines.specs.StoredCells.{AreCellsOf, AreInOrder, fold_ends, stored_cells, stored_offset, offset_by_ends};
+ghost use Rattle.mk_lines.specs.PhysicalLines.{without_line_end};
 ghost use Rattle.mk_lines.specs.Ranges.{raw_range};
 ghost use Rattle.mk_lines.specs.declared.cells.stored.FoldEnd.{FoldEnd};
 
 use crate::ends::without_line_end;
-use crate::fault::Fault;
 use crate::split::Span;
 use memchr::memchr3;
 use std::alloc::{Allocator, Global};
@@ -45,15 +45,15 @@ pub struct Cells<A: Allocator> {
     rest: Rest<A>,
 }
 
-// A document stores one of these for each of its lines.
-const _: () = prove!(size_of::<Cells<Global>>() == 24);
+// A document stores one of these for each of its lines that has folds, in a box.
+const _: () = prove!(size_of::<Cells<Global>>() == 80);
 
-/// What is stored in addition to the count: a few bytes for most lines.
+/// What is stored in addition to the count.
 #[derive(Debug, Drop)]
 pub(super) enum Rest<A: Allocator> {
     /// A line without folds: whether it has a stray byte.
     Plain(bool),
-    Folded(Box<Folded<A>, A>),
+    Folded(Folded<A>),
 }
 
 /// What is stored of a line with folds.
@@ -99,7 +99,7 @@ impl<A: Allocator> Cells<A> {
     }
 
     // The cells of a text with a line feed.
-    pub(super) fn folded(alloc: A, text: &[u8], folded: Folded<A>) -> Result<Cells<A>, Fault>
+    pub(super) fn folded(text: &[u8], folded: Folded<A>) -> Cells<A>
         requires some { All (λ b. b ≢ 10) text.now → ⊥ }
         requires first { folded.first ≤ length folded.joined.items }
         requires joined { drop folded.first folded.joined.items ≡ joined_text (cells text.now) }
@@ -108,13 +108,35 @@ impl<A: Allocator> Cells<A> {
         requires stray { folded.stray
             ≡ list_any (λ b. is_stray_by (byte_kind b) (b == 0))
             (drop folded.first folded.joined.items) }
-        ensures cells { IfOk result (λ stored. stored ≡ stored_cells (cells text.now)) }
-        ensures fault { IsOkUnless result Fault.NoMemory }
+        ensures { result ≡ stored_cells (cells text.now) }
     {
-        Ok(Cells {
+        Cells {
             count: folded.joined.len() - folded.first,
-            rest: Rest::Folded(Box::new(alloc, folded)?),
-        })
+            rest: Rest::Folded(folded),
+        }
+    }
+
+    /// The cells of a line without folds, if it is known whether the line has a stray byte. Takes
+    /// no memory.
+    pub fn without_folds(line: &[u8], stray: bool) -> Cells<A>
+        requires no_line_feed { All (λ b. b ≢ 10) (without_line_end line.now) }
+        requires stray { stray ≡ has_stray (line_cells line.now) }
+        ensures { AreCellsOf result line.now }
+    {
+        Cells::plain(without_line_end(line), stray)
+    }
+
+    /// Whether the line has folds.
+    pub fn has_folds(&self) -> bool
+        ensures folded { (line : List ℕ) → AreCellsOf self.now line
+            → result ≡ true → All (λ b. b ≢ 10) (without_line_end line) → ⊥ }
+        ensures plain { (line : List ℕ) → AreCellsOf self.now line
+            → result ≡ false → All (λ b. b ≢ 10) (without_line_end line) }
+    {
+        match &self.rest {
+            Rest::Plain(_) => false,
+            Rest::Folded(_) => true,
+        }
     }
 
     /// The joined text: the line without its line end, with each fold made one space.

@@ -8,17 +8,17 @@ use Rattle.mk_edit_parts.proofs.prerequisite.raw_part.Goals as goal
 pub part-requires-clause-rises : goal.part-requires-clause-rises
 part-requires-clause-rises g c =
     let l = (line_view c.args.line.now).bytes in
-    let r = c.raw_range.ensures l c.cells.ensures in
+    let r = c.raw_range.ensures in
     rw r (raw-rises (line_cells l) c.args.span.start c.args.span.end c.requires.rises)
 
 pub part-requires-clause-within : goal.part-requires-clause-within
 part-requires-clause-within g c =
     let l = (line_view c.args.line.now).bytes in
-    let r = c.raw_range.ensures l c.cells.ensures in
+    let r = c.raw_range.ensures in
     rw (r, c.bytes.ensures.bytes) (raw-within l c.args.span.end)
 
 pub returns : goal.returns
 returns g c =
     let l = (line_view c.args.line.now).bytes in
-    let r = c.raw_range.ensures l c.cells.ensures in
+    let r = c.raw_range.ensures in
     c.part.ensures ∙ (ap (λ z. text_at z c.raw_range.result) c.bytes.ensures.bytes ∙ (ap (text_at l) r ∙ raw-part l c.args.span.start c.args.span.end c.requires.rises))

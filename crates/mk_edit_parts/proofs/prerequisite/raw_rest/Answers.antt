@@ -8,12 +8,12 @@ use Rattle.mk_edit_parts.proofs.prerequisite.raw_rest.Goals as goal
 pub part-requires-clause-rises : goal.part-requires-clause-rises
 part-requires-clause-rises g c =
     let l = (line_view c.args.line.now).bytes in
-    let r = ap (λ (s : Span). s.start) (c.raw_range-start.ensures l c.cells.ensures) in
+    let r = ap (λ (s : Span). s.start) c.raw_range-start.ensures in
     rw (r, c.bytes-bytes.ensures.bytes) (raw-within l c.args.start)
 
 pub returns : goal.returns
 returns g c =
     let l = (line_view c.args.line.now).bytes in
-    let r = ap (λ (s : Span). s.start) (c.raw_range-start.ensures l c.cells.ensures) in
+    let r = ap (λ (s : Span). s.start) c.raw_range-start.ensures in
     c.part.ensures
     ∙ (ap (λ z. slice_range z c.raw_range-start.result.start (length z)) c.bytes-bytes.ensures.bytes ∙ (ap (λ n. slice_range l n (length l)) r ∙ raw-rest l c.args.start))

@@ -1,6 +1,4 @@
-use Rattle.std.proofs.Common.{◌≡◌, ◌∙◌, ap, sym, arith, length}
-use Rattle.mk_lines.specs.Cells.{line_cells}
-use Rattle.mk_lines.specs.StoredCells.{StoredCells}
+use Rattle.std.proofs.Common.{◌∙◌, sym, arith}
 use Rattle.mk_tree.specs.Trees.{line_view}
 use Rattle.mk_edit_parts.proofs.on_finding.PartLemmas.{seen-assign}
 use Rattle.mk_edit_parts.proofs.range.value_range.Goals.{then-with_blanks, else-with_blanks}
@@ -8,10 +6,8 @@ use Rattle.mk_edit_parts.proofs.range.value_range.Goals as goal
 
 pub raw_range-requires : goal.raw_range-requires
 raw_range-requires g c =
-    let l = line_view c.args.line.now in
-    let S = seen-assign l c.requires _ _ (sym c.class.ensures ∙ c.in-Assign.is) in
-    let n : c.cells.result.now.count ≡ length (line_cells l.bytes) = ap (λ (k : StoredCells). k.count) c.cells.ensures.same in
+    let S = seen-assign (line_view c.args.line.now) c.requires _ _ (sym c.class.ensures ∙ c.in-Assign.is) in
     elim c.if-with_blanks.branch [
-      | then-with_blanks w ↦ record { order = omega (arith, w.end-is, S.2.value.rises, S.2.after.rises); within = omega (arith, w.end-is, n, S.2.after.within) }
-      | else-with_blanks w ↦ record { order = omega (arith, w.end-is, S.2.value.rises); within = omega (arith, w.end-is, n, S.2.value.within) }
+      | then-with_blanks w ↦ record { order = omega (arith, w.end-is, S.2.value.rises, S.2.after.rises); within = omega (arith, w.end-is, S.2.after.within) }
+      | else-with_blanks w ↦ record { order = omega (arith, w.end-is, S.2.value.rises); within = omega (arith, w.end-is, S.2.value.within) }
     ]

@@ -21,26 +21,21 @@ whole n xs = ap (λ m. take m (drop n xs)) (sym (length-drop n xs)) ∙ take-len
 
 pub returns-in-Folded-clause-text : goal.returns-in-Folded-clause-text
 returns-in-Folded-clause-text g c =
-    let f = c.in-Folded.folded.value in
-    let items = c.deref-in-Folded.result.now in
+    let f = c.in-Folded.folded in
+    let items = c.deref.result.now in
     let ends : f.ends.items ≡ c.args.self.now.ends = ap ends_stored (sym c.in-Folded.is) ∙ ap (λ k. k.ends) c.self.view_is in
     let joined : drop f.first f.joined.items ≡ c.args.self.now.joined = ap joined_stored (sym c.in-Folded.is) ∙ ap (λ k. k.joined) c.self.view_is in
     let some : (f.ends.items ≢ []) × (f.first ≤ length f.joined.items) = subst HasFoldsStored c.in-Folded.is c.self.invariant.1 in
-    whole c.deref-in-Folded-2.result.now.first items
-    ∙ (ap (λ z. drop z.first items) c.deref-in-Folded-2.ensures
-    ∙ (ap (drop f.first) (c.deref-in-Folded.ensures.value ∙ ap (λ z. z.joined.items) c.deref.ensures)
-    ∙ (joined ∙ folded-text c.args.self.now c.args.line.now c.requires (λ none. some.0 (ends ∙ none)))))
+    whole f.first items
+    ∙ (ap (drop f.first) c.deref.ensures.value
+    ∙ (joined ∙ folded-text c.args.self.now c.args.line.now c.requires (λ none. some.0 (ends ∙ none))))
 
 pub returns-in-Folded-clause-length : goal.returns-in-Folded-clause-length
 returns-in-Folded-clause-length g c =
-    let f = c.in-Folded.folded.value in
-    let items = c.deref-in-Folded.result.now in
+    let f = c.in-Folded.folded in
+    let items = c.deref.result.now in
     let ends : f.ends.items ≡ c.args.self.now.ends = ap ends_stored (sym c.in-Folded.is) ∙ ap (λ k. k.ends) c.self.view_is in
     let joined : drop f.first f.joined.items ≡ c.args.self.now.joined = ap joined_stored (sym c.in-Folded.is) ∙ ap (λ k. k.joined) c.self.view_is in
     let some : (f.ends.items ≢ []) × (f.first ≤ length f.joined.items) = subst HasFoldsStored c.in-Folded.is c.self.invariant.1 in
-    ap length
-    (whole c.deref-in-Folded-2.result.now.first items
-    ∙ (ap (λ z. drop z.first items) c.deref-in-Folded-2.ensures
-    ∙ (ap (drop f.first) (c.deref-in-Folded.ensures.value ∙ ap (λ z. z.joined.items) c.deref.ensures)
-    ∙ joined)))
+    ap length (whole f.first items ∙ (ap (drop f.first) c.deref.ensures.value ∙ joined))
     ∙ folded-count c.args.self.now c.args.line.now c.requires (λ none. some.0 (ends ∙ none))
