@@ -20,14 +20,12 @@ unsafe extern "C" {
     fn memchr(text: *const c_void, byte: c_int, count: usize) -> *const c_void;
 }
 
-/// As large as a node of `mk_tree`: 88 bytes.
+/// As large as a node of `mk_tree`: 72 bytes.
 struct Node {
     start: u32,
     end: u32,
     _folded: Option<Box<[u8]>>,
     _class: Class,
-    // What else mkedit knows of a line beside its place.
-    _rest: [u64; 2],
     left: Tree,
     right: Tree,
 }
@@ -38,7 +36,7 @@ struct Tree {
     top: Option<Box<Node>>,
 }
 
-const _: () = assert!(mem::size_of::<Node>() == 88);
+const _: () = assert!(mem::size_of::<Node>() == 72);
 
 /// The offset behind the line feed of a physical line, or the length of the text.
 fn line_end(text: &[u8], start: usize) -> usize {
@@ -270,7 +268,6 @@ impl Reader<'_> {
             end: end as u32,
             _folded: folded,
             _class: class,
-            _rest: [0; 2],
             left,
             right: Tree { lines: 0, top: None },
         });
