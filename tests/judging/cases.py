@@ -145,6 +145,7 @@ SPECIAL = (
     (b".DEFAULT:\n\tx\n.DEFAULT: a\n", ("undepend", 2, b".DEFAULT", b"a")),
     (b".DEFAULT:\n\tx\n.DEFAULT:\n", ("recipe", 2, b".DEFAULT", b"y")),
     (b".PHONY: a\nd::\n\tx\n", ("depend", None, b".PHONY", b"d")),
+    (b".PHONY: a\n", ("depend", None, b".PHONY", b".SUFFIXES")),
     (b".PHONY: a | b\n", ("undepend", None, b".PHONY", b"b")),
     (b".SECONDARY: a\na:\n", ("undepend", None, b".SECONDARY", b"a")),
     (b".DEFAULT_GOAL = a\na: b\nb:\n", ("set", None, b".DEFAULT_GOAL", b"b")),

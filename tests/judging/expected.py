@@ -64,9 +64,11 @@ class Expected:
             self.live.append(self.is_live() and (not self.branches or self.conditions_known))
             self.take(item)
         self.record()
-        # In the end make takes the prerequisites of .PHONY for targets.
+        # In the end make takes the prerequisites of .PHONY for targets. With -r its data base leaves out
+        # the .SUFFIXES of make's own, to which no line gives a rule.
         for word in self.all_needs(".PHONY"):
-            self.targets.setdefault(word, [Rule(":", (), (), None)])
+            if word != ".SUFFIXES":
+                self.targets.setdefault(word, [Rule(":", (), (), None)])
 
     @property
     def variables(self):
