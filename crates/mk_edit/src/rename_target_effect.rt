@@ -8,7 +8,7 @@ ghost use Rattle.mk_edit.specs.RenameTargetEffects.{effect_of_line, effect_on, j
 ghost use Rattle.mk_edit.specs.RenameTargetPatches.{HasFewWords, is_turn_of};
 
 use memchr::memmem::Finder;
-use mk_class::Context;
+use mk_class::{Class, Context};
 use mk_edit_parts::lean::begins_with;
 use mk_edit_parts::line_test::{has_target, is_unread};
 use mk_edit_parts::tally::{Tally, count_words};
@@ -69,29 +69,33 @@ pub(crate) fn rename_target_effect<A: Allocator>(
         no_longer: 0,
         longer: 0,
     };
-    'lines: for (context, line) in doc.lines_with_contexts() {
-        effect = joined(effect, effect_of_line(line, context, from, to));
+    let mut context = Context::start();
+    'lines: for line in doc.iter() {
+        let class = line.class();
+        effect = joined(effect, effect_of_line(line, &class, context, from, to));
+        context = context.step(&class);
     }
     effect
 }
 
-// The effect on a line that stands in this context.
+// The effect on a line of this class that stands in this context.
 fn effect_of_line<A: Allocator>(
     line: &Line<A>,
+    class: &Class,
     context: Context,
     from: &Finder<'_>,
     to: &[u8],
 ) -> Effect
-    requires { HasFewWords from.now (line_view line.now) }
+    requires few_words { HasFewWords from.now (line_view line.now) }
+    requires class { class.now ≡ (line_view line.now).class }
     ensures { result ≡ effect_of_line from.now to.now context (line_view line.now) }
 {
-    let class = line.class();
-    let tally = count_words(line, &class, from);
+    let tally = count_words(line, class, from);
     Effect {
-        has_unread_prefix: is_unread(line, &class),
-        is_there: has_target(line, &class, from.needle()),
+        has_unread_prefix: is_unread(line, class),
+        is_there: has_target(line, class, from.needle()),
         begins_line: tally.at_front && begins_with(to, context.prefix()),
-        is_taken: has_target(line, &class, to),
+        is_taken: has_target(line, class, to),
         words: tally.words,
         bytes: tally.bytes,
         no_longer: usize::from(is_of_turn(tally, to.len(), Turn::NoLonger)),

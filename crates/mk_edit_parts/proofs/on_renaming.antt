@@ -4,3 +4,4 @@ pub mod WrittenLemmas
 pub mod PieceRanges
 pub mod LinePieces
 pub mod AbsentWords
+pub mod WordEnds

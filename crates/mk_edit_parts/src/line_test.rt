@@ -10,7 +10,7 @@ ghost use Rattle.mk_lines.specs.Cells.{line_cells};
 ghost use Rattle.mk_tree.specs.Trees.{line_view};
 
 use crate::part::{part, text_of_line};
-use crate::text::{has_word, is_prefix_name, is_same_text};
+use crate::text::{has_word, is_prefix_name, is_same_text, may_have_word};
 use mk_class::Class;
 use mk_lines::split::Span;
 use mk_tree::Line;
@@ -75,5 +75,6 @@ fn has_word_before<A: Allocator>(line: &Line<A>, end: usize, word: &[u8]) -> boo
     requires within { end ≤ length (line_cells (line_view line.now).bytes) }
     ensures { result ≡ is_one_of word.now (words_before end (text_of_line (line_view line.now))) }
 {
-    has_word(part(text_of_line(line), Span { start: 0, end }), word)
+    let before = part(text_of_line(line), Span { start: 0, end });
+    may_have_word(before, word) && has_word(before, word)
 }

@@ -6,6 +6,7 @@ ghost use Rattle.mk_edit_parts.specs.LocatedParts.{IsClassed};
 ghost use Rattle.mk_edit_parts.specs.RenamedRanges.{IsWithin, before_ranges, bytes_in, no_words, part_ranges, renamed_ranges, tallied};
 
 use crate::part::{part, text_of_line};
+use crate::text::may_have_word;
 use crate::word_parts::{parts_of, range_of_word};
 use memchr::memmem::Finder;
 use mk_class::Class;
@@ -76,8 +77,26 @@ fn count_in_parts<A: Allocator>(line: &Line<A>, class: &Class, from: &[u8]) -> T
     count_in_part(line, parts.order_only, from, normal)
 }
 
-// The count with the words of a part added that are `from`.
+// The count with the words of a part added that are `from`. Most parts do not have the word, and are
+// not cut into words.
 fn count_in_part<A: Allocator>(line: &Line<A>, span: Span, from: &[u8], tally: Tally) -> Tally
+    requires within { IsWithin (length (line_cells (line_view line.now).bytes)) span }
+    requires few { tally.words
+        + length (part_ranges (line_cells (line_view line.now).bytes) from.now span) < 2 ^ 32 }
+    requires few_bytes { tally.bytes
+        + bytes_in (part_ranges (line_cells (line_view line.now).bytes) from.now span)
+        ≤ 2 ^ 32 }
+    ensures { result
+        ≡ tallied tally (part_ranges (line_cells (line_view line.now).bytes) from.now span) }
+{
+    if may_have_word(part(text_of_line(line), span), from) {
+        return count_each_word(line, span, from, tally);
+    }
+    tally
+}
+
+// The same, where the part is cut into words.
+fn count_each_word<A: Allocator>(line: &Line<A>, span: Span, from: &[u8], tally: Tally) -> Tally
     requires within { IsWithin (length (line_cells (line_view line.now).bytes)) span }
     requires few { tally.words
         + length (part_ranges (line_cells (line_view line.now).bytes) from.now span) < 2 ^ 32 }

@@ -40,8 +40,9 @@ pub enum Effect {
 #[derive(Drop)]
 pub struct Finder<A: Allocator = Global> {
     index: Option<Index<A>>,
-    // Whether an edit's line was sought by a walk since there was an index.
-    has_walked: bool,
+    // Whether the next edit of a variable makes the index: the last one made do with a walk, or
+    // more edits are expected.
+    is_due: bool,
 }
 
 impl<A: Allocator> Model for Finder<A> {
@@ -60,15 +61,15 @@ impl<A: Allocator + Copy> Finder<A> {
     {
         Finder {
             index: None,
-            has_walked: false,
+            is_due: false,
         }
     }
 
     /// What is known of the address of an edit, or `None` if a walk over the document has to find
-    /// its line. The first edit of a variable makes do with a walk. The second one makes an index,
-    /// which costs little more, unless the document has fewer than 1,024 lines. A growth that is
-    /// refused leaves the finder without an index, and is no refusal of the edit. Nothing is known of
-    /// where rules stand, nor for a rename, which looks at every line.
+    /// its line. The first edit of a variable makes do with a walk, unless more edits are expected. The
+    /// second one makes an index, which costs little more, unless the document has fewer than 1,024
+    /// lines. A growth that is refused leaves the finder without an index, and is no refusal of the
+    /// edit. Nothing is known of where rules stand, nor for a rename, which looks at every line.
     pub fn known(&mut self, alloc: A, doc: &Doc<A>, edit: &Edit<A>) -> Option<Sought>
         requires faithful { IsFaithful doc.now }
         requires index { IsIndexIfAny doc.now self.old }
@@ -89,7 +90,15 @@ impl<A: Allocator + Copy> Finder<A> {
         }
     }
 
-    // Makes an index, if a walk was made already.
+    /// Lets the next edit of a variable make an index, since more edits are to come. This call
+    /// itself walks over nothing and takes no memory.
+    pub fn expect_edits(&mut self)
+        ensures { self.new ≡ self.old }
+    {
+        self.is_due = true;
+    }
+
+    // Makes an index if it is due, and otherwise lets the next edit make it.
     fn make_index(&mut self, alloc: A, doc: &Doc<A>)
         requires faithful { IsFaithful doc.now }
         requires index { IsIndexIfAny doc.now self.old }
@@ -98,10 +107,10 @@ impl<A: Allocator + Copy> Finder<A> {
         if self.index.is_some() || doc.len() < FEWEST_LINES {
             return;
         }
-        if self.has_walked {
+        if self.is_due {
             self.index = Index::new(alloc, doc).ok();
         }
-        self.has_walked = !self.has_walked;
+        self.is_due = !self.is_due;
     }
 
     /// Makes a patch of the document, as [`Patch::make`] does. The index is kept over another value
@@ -147,7 +156,7 @@ impl<A: Allocator + Copy> Finder<A> {
         ensures { self.new ≡ None }
     {
         self.index = None;
-        self.has_walked = false;
+        self.is_due = false;
     }
 }
 

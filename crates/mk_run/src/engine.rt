@@ -71,9 +71,36 @@ fn open_makefile<A: Allocator + Copy, R: ByteSource>(
     }
 }
 
+// From this number of commands on, a script is likely to have the second edit of a variable for
+// which a session makes an index.
+const MANY_COMMANDS: usize = 10;
+
 // Obeys the commands in order, and answers how many of them were refused. The line on each refusal
 // is written at once.
 fn obey_all<A: Allocator + Copy, P: ByteSink>(
+    session: &mut Session<A>,
+    commands: &[NumberedCommand<A>],
+    keep_going: bool,
+    report: &mut P,
+) -> Result<u64, Outcome>
+    requires { P.failed report.old ≡ false }
+    ensures obeyed { IfOk result (λ refused.
+        AreObeyed keep_going (map numbered commands.now) session.old.shown session.new.shown refused
+        (written (P.contents report.old) (P.contents report.new))) }
+    ensures works { OnOk result (P.failed report.new ≡ false) }
+    ensures stops { IfErr result (λ outcome.
+        StopsCommands keep_going (map numbered commands.now) session.old.shown (P.failed report.new)
+        (written (P.contents report.old) (P.contents report.new)) outcome) }
+    ensures unflushed { P.flushes report.new ≡ P.flushes report.old }
+{
+    if commands.len() >= MANY_COMMANDS {
+        session.expect_edits();
+    }
+    obey_each(session, commands, keep_going, report)
+}
+
+// The same, where the session knows whether many edits are to come.
+fn obey_each<A: Allocator + Copy, P: ByteSink>(
     session: &mut Session<A>,
     commands: &[NumberedCommand<A>],
     keep_going: bool,

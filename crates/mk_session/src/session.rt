@@ -143,6 +143,16 @@ impl<A: Allocator + Copy> Session<A> {
         })
     }
 
+    /// Tells the session that many edits are to come. Nothing that is shown changes. In a document
+    /// of 1,024 lines or more the next edit of a variable then makes an index of all variables, which
+    /// otherwise the second one would make. The call reads no line and takes no memory.
+    pub fn expect_edits(&mut self)
+        ensures same { self.new.shown ≡ self.old.shown }
+        ensures none_read { self.new.rereads ≡ self.old.rereads }
+    {
+        self.finder.expect_edits();
+    }
+
     /// Makes an edit. It can be undone next: alone, or, if a group is open, together with the
     /// group's other edits. Nothing can be redone any more. The edit reads exactly as many lines as
     /// it costs.

@@ -201,3 +201,33 @@ fn a_refused_growth_of_an_index_refuses_no_edit(rt: HostRuntime) -> Result<(), F
     assert!(rt; of_edit > 1);
     Ok(())
 }
+
+// How many growths the first edit of a session passes on, where more edits are expected or not.
+fn growths_of_first_edit(rt: &HostRuntime, is_told: bool) -> Result<u64, Fail> {
+    let heap = Watched::new(rt.alloc());
+    let heap = &heap;
+    let mut session = opened(rt, heap)?;
+    if is_told {
+        session.expect_edits();
+    }
+    let command = Step::SetValue(b"A", b"2").command(heap)?;
+    heap.refuse_none();
+    session.obey(&command)?;
+    Ok(heap.passed().count)
+}
+
+#[test]
+fn a_session_that_expects_edits_makes_its_index_at_the_first(rt: HostRuntime) -> Result<(), Fail> {
+    let told = growths_of_first_edit(&rt, true)?;
+    let not_told = growths_of_first_edit(&rt, false)?;
+    assert!(rt; not_told + 1 < told);
+    Ok(())
+}
+
+#[test]
+fn a_session_that_expects_edits_answers_as_any_other(rt: HostRuntime) -> Result<(), Fail> {
+    let mut session = opened(&rt, rt.alloc())?;
+    session.expect_edits();
+    assert!(rt; answers(&rt, rt.alloc(), &mut session, FIRST, STEPS)?);
+    Ok(())
+}

@@ -1,12 +1,15 @@
--- The effect on the lines passed, with that on the lines ahead, is the effect on the document. The words of each line ahead are few.
+-- The effect on the lines passed, with that on the lines ahead, is the effect on the document. The words of each
+-- line ahead are few, and the context may be stepped over it.
 use Rattle.std.proofs.Common.{◌≡◌}
 use Rattle.mk_class.specs.Contexts.{start}
+use Rattle.mk_tree.specs.Admissions.{AreAdmitted}
 use Rattle.mk_edit.specs.RenameTargetEffects.{effect_on, joined}
 use Rattle.mk_edit.specs.RenameTargetPatches.{HaveFewWords}
 use Rattle.mk_edit.proofs.rename_target_effect.rename_target_effect.Given as goal
 
 abbrev pub invariant-lines : goal.invariant-lines
 invariant-lines g l =
-    (goal.iterator-lines g).can_next l.context-iterator × (goal.iterator-lines g).is_finite l.context-iterator
-    × HaveFewWords l.from l.context-iterator.lines
-    × (joined l.effect (effect_on l.from l.to l.context-iterator.context l.context-iterator.lines) ≡ effect_on l.from l.to start l.doc)
+    (goal.iterator-lines g).can_next l.line-iterator × (goal.iterator-lines g).is_finite l.line-iterator
+    × HaveFewWords l.from l.line-iterator
+    × AreAdmitted l.context l.line-iterator
+    × (joined l.effect (effect_on l.from l.to l.context l.line-iterator) ≡ effect_on l.from l.to start l.doc)

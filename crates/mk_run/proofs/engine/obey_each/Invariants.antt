@@ -3,7 +3,7 @@ use Rattle.std.proofs.Common.{◌≡◌, ◌≤◌, false, take, map}
 use Rattle.mk_script.specs.Scripts.{numbered}
 use Rattle.mk_run.specs.RunEnds.{written}
 use Rattle.mk_run.specs.RunSteps.{AreObeyed}
-use Rattle.mk_run.proofs.engine.obey_all.Given as goal
+use Rattle.mk_run.proofs.engine.obey_each.Given as goal
 
 abbrev pub invariant-loop-numbered : goal.invariant-loop-numbered
 invariant-loop-numbered g l = record {
