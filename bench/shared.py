@@ -57,6 +57,12 @@ def best(commands, rounds):
     return [(min(time for time, _ in each), max(peak for _, peak in each)) for each in zip(*runs)]
 
 
+def in_a_row(commands, starts, rounds):
+    """The time of many runs of each command in a row, the least over rounds in which each has its turn."""
+    sums = [[sum(cost(it)[0] for _ in range(starts)) for it in commands] for _ in range(rounds)]
+    return [min(it) for it in zip(*sums)]
+
+
 def milliseconds(seconds):
     return f"{seconds * 1000:.1f}"
 
