@@ -21,6 +21,10 @@ from proving import Said
 from turned import wrong_bodies
 
 FLAGS = ("--jobs", "1")
+# What the toolchain's function asks for that has the wrong bodies of a crate tried: of one that keeps what
+# it found from run to run, and of one that does not.
+ADDS = "tasks, crate, edits, first, waits, is_well, kept, start=None, in_ci=True"
+TRIES = "crate, edits, flags"
 
 
 class Trial:
@@ -86,9 +90,8 @@ class Trial:
         edit = f"{self.crate.folder}/must-fail/{body.name}.edit"
         kind, text = self.script.must_fail(self.crate, edit, list(FLAGS), self.kept)
         shows_something = "only because a proof file names what the edit took away" not in text
-        refused = kind in (self.script.REFUSED, self.script.AT_LIMIT)
         words = text.partition(".edit: ")[2].partition(": ")[2]
-        self.found[body] = refused and shows_something, words
+        self.found[body] = kind in refusals(self.script) and shows_something, words
 
     def is_sound(self):
         """Whether functions that were turned are proved where they are left as they are."""
@@ -132,9 +135,14 @@ def tried(script, crate, edits):
     return [answer(script, crate, it, *found[it]) for it in names]
 
 
+def refusals(script):
+    """The toolchain's answers of a try that say that the prover refuses it."""
+    return (script.REFUSED, script.AT_LIMIT) if hasattr(script, "REFUSED") else (True,)
+
+
 def answer(script, crate, name, is_refused, words):
     """What a wrong body comes to, and what to say of it."""
-    kind = script.REFUSED if is_refused else script.MISSED
+    kind = refusals(script)[0] if is_refused else getattr(script, "MISSED", False)
     verdict = "refused, as it must be" if is_refused else "NOT REFUSED"
     return kind, f"must-fail {crate.name}/{name}.edit: {verdict}: {words[:160]}"
 
@@ -176,15 +184,41 @@ def own_name(name):
     return hashlib.sha256(b"\0".join([name.encode(), *(it.read_bytes() for it in files)])).hexdigest()
 
 
+def is_function(script, name, asked):
+    """Whether the toolchain's script has a function of this name that asks for this."""
+    function = getattr(script, name, None)
+    return function is not None and str(inspect.signature(function)) == f"({asked})"
+
+
 def take_rounds(script):
-    """Has the toolchain's script try wrong bodies in rounds, those that it does not know from earlier runs.
+    """Has the toolchain's script try wrong bodies in rounds.
 
     ValueError where its inner parts are not those that this was written for.
     """
-    parts = [getattr(script, it, None) for it in ("add_edits", "must_fail", "checked", "unread", "need")]
-    asked = "tasks, crate, edits, first, waits, is_well, kept, start=None, in_ci=True"
-    if not all(parts) or str(inspect.signature(parts[0])) != f"({asked})":
+    has_parts = all(getattr(script, it, None) for it in ("must_fail", "checked", "unread", "need"))
+    if has_parts and is_function(script, "add_edits", ADDS):
+        take_kept_rounds(script)
+    elif has_parts and is_function(script, "must_fail_all", TRIES):
+        take_plain_rounds(script)
+    else:
         raise ValueError("the toolchain has other inner parts")
+
+
+def told_at_once(script, told):
+    """The answers of tries. Those of bodies that are not refused are printed now, since `rt ci` prints them at its end."""
+    for kind, text in told:
+        if kind not in refusals(script):
+            script.say(text)
+    return told
+
+
+def take_plain_rounds(script):
+    """The same of a toolchain that keeps nothing of earlier runs."""
+    script.must_fail_all = lambda crate, edits, _: told_at_once(script, tried(script, crate, edits)) if edits else []
+
+
+def take_kept_rounds(script):
+    """The same of a toolchain that keeps what earlier runs found: a wrong body that it knows is not tried again."""
 
     def add_edits(tasks, crate, edits, first, waits, is_well, kept, start=None, in_ci=True):
         begun = {}
@@ -198,12 +232,8 @@ def take_rounds(script):
             if not is_well(given, len(new)):
                 return None
             told = tried(script, crate, [edits[at] for at in new]) if new else []
-            refused = (script.REFUSED, script.AT_LIMIT)
-            found = dict(zip(new, told))
-            earlier.keep({at: it for at, it in found.items() if it[0] in refused})
-            for kind, text in told:
-                if kind not in refused:
-                    script.say(text)
+            found = dict(zip(new, told_at_once(script, told)))
+            earlier.keep({at: it for at, it in found.items() if it[0] in refusals(script)})
             return [earlier.found.get(at) or found[at] for at in range(len(edits))]
 
         if edits:
