@@ -90,6 +90,7 @@ impl<A: Allocator> Content<A> {
         self.bytes.as_slice()
     }
 
+    #[inline(always)]
     pub(crate) fn class(&self) -> Class
         ensures { result ≡ self.now.class }
     {

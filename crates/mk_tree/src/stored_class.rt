@@ -79,6 +79,7 @@ impl StoredAssignment {
         })
     }
 
+    #[inline(always)]
     fn whole(&self, flavor: Flavor) -> Assignment
         ensures { result ≡ whole_assignment flavor self.now }
     {
@@ -114,6 +115,7 @@ impl StoredHeader {
         })
     }
 
+    #[inline(always)]
     fn whole(&self) -> Header
         ensures { result ≡ whole_header self.now }
     {
@@ -183,6 +185,7 @@ impl<A: Allocator> StoredClass<A> {
     }
 
     /// The class, with its whole offsets.
+    #[inline(always)]
     pub(crate) fn whole(&self) -> Class
         ensures { result ≡ whole_class self.now }
     {

@@ -120,6 +120,7 @@ impl<A: Allocator> Line<A> {
     }
 
     /// What the line is, with the offsets of its parts in the joined text. Takes no memory.
+    #[inline(always)]
     pub fn class(&self) -> Class
         ensures { result ≡ (line_view self.now).class }
     {
