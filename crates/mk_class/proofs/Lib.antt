@@ -8,7 +8,6 @@ pub mod on_classes
 mod ScanLemmas
 mod SearchLemmas
 pub mod WordLemmas
-mod KeywordLengths
 mod AssignmentLemmas
 mod HeaderLemmas
 mod HeaderPartLemmas

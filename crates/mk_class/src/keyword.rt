@@ -4,7 +4,7 @@
 //! The words are the GNU make manual's; POSIX.1-2024 make has `include` and `-include` of them.
 //! That a line goes by its first word, or by the first word after the modifiers, as the text stands
 //! and not as it expands, is this project's profile.
-ghost use Rattle.std.specs.Prelude.{◌≡◌, ◌&&◌, length, nat_le};
+ghost use Rattle.std.specs.Prelude.{◌≡◌};
 ghost use Rattle.std.specs.Str.{bytes_eq};
 ghost use Rattle.mk_lines.specs.Units.{units};
 ghost use Rattle.mk_class.specs.ClassTable.{defines_prefix, directive};
@@ -37,53 +37,40 @@ pub(crate) enum Keyword {
     Undefine,
 }
 
-/// What a word says as the first of a line.
+/// What a word says as the first of a line. Its first byte says with which keywords it is compared:
+/// with none for most words.
 pub(crate) fn keyword_of(word: &[u8]) -> Option<Keyword>
     ensures { meant_keyword result ≡ keyword word.now }
 {
-    if !has_length_of_keyword(word) {
-        None
-    } else if is_text(word, b"define") {
-        Some(Keyword::Define)
-    } else if is_text(word, b"endef") {
-        Some(Keyword::Endef)
-    } else if is_if_word(word) {
-        Some(Keyword::If)
-    } else if is_text(word, b"else") {
-        Some(Keyword::Else)
-    } else if is_text(word, b"endif") {
-        Some(Keyword::Endif)
-    } else if is_directive_word(word) {
-        Some(Keyword::Directive)
-    } else if is_text(word, b"undefine") {
-        Some(Keyword::Undefine)
-    } else {
-        None
+    let [first, ..] = word else {
+        return None;
+    };
+    match first {
+        b'd' if is_text(word, b"define") => Some(Keyword::Define),
+        b'e' if is_text(word, b"endef") => Some(Keyword::Endef),
+        b'e' if is_text(word, b"else") => Some(Keyword::Else),
+        b'e' if is_text(word, b"endif") => Some(Keyword::Endif),
+        b'i' if is_if_word(word) => Some(Keyword::If),
+        b'u' if is_text(word, b"undefine") => Some(Keyword::Undefine),
+        b'-' | b'e' | b'i' | b'l' | b's' | b'u' | b'v' if is_directive_word(word) => {
+            Some(Keyword::Directive)
+        }
+        _ => None,
     }
 }
 
-/// Whether a word is as long as a keyword or a modifier may be. Most first words are longer, and are
-/// compared with none of them.
-fn has_length_of_keyword(word: &[u8]) -> bool
-    ensures { result ≡ (nat_le 4 (length word.now) && nat_le (length word.now) 8) }
-{
-    matches!(word.len(), 4..=8)
-}
-
-/// The modifier that a word is.
+/// The modifier that a word is. Its first byte says with which one it is compared.
 pub(crate) fn modifier_of(word: &[u8]) -> Option<Modifier>
     ensures { result ≡ modifier word.now }
 {
-    if !has_length_of_keyword(word) {
-        None
-    } else if is_text(word, b"override") {
-        Some(Modifier::Override)
-    } else if is_text(word, b"export") {
-        Some(Modifier::Export)
-    } else if is_text(word, b"private") {
-        Some(Modifier::Private)
-    } else {
-        None
+    let [first, ..] = word else {
+        return None;
+    };
+    match first {
+        b'o' if is_text(word, b"override") => Some(Modifier::Override),
+        b'e' if is_text(word, b"export") => Some(Modifier::Export),
+        b'p' if is_text(word, b"private") => Some(Modifier::Private),
+        _ => None,
     }
 }
 
