@@ -10,6 +10,7 @@ pub mod Heights
 pub mod Nodes
 pub mod Indices
 pub mod PlainLemmas
+pub mod PlainLines
 pub mod Prefixes
 pub mod Reading
 pub mod WalkLemmas

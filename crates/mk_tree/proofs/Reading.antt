@@ -1,7 +1,7 @@
 -- The lines of a text, read one after the other.
 use Rattle.std.proofs.Common.{◌≡◌, ◌≢◌, ℕ, suc, ◌+◌, ◌-◌, ◌^◌, ◌<◌, ◌≤◌, refl, sym, ap, ◌∙◌, subst, arith, List, [], ◌∷◌, ◌++◌, length, take, drop, length-append, append_assoc, append-nil}
 use Rattle.std.specs.Prelude.{Result, Ok, Err, IsErr, IsErrAnd, IfErr, slice_range}
-use Rattle.std.proofs.Math.Seq.{take-append_seam, take-length, drop-append_seam}
+use Rattle.std.proofs.Math.Seq.{take-length}
 use Rattle.std.proofs.Math.Nat.{add-sub_cancel_left}
 use Rattle.std.proofs.lemmas.List.{drop-drop, length-drop, length-map}
 use Rattle.mk_lines.specs.Limits.{max_text}
@@ -29,6 +29,9 @@ use Rattle.mk_lines.specs.declared.fault.Fault.{Fault}
 use Rattle.mk_lines.specs.declared.fault.Fault.TheVariants.{NoMemory, TooLong, TooDeep, BadDepth, Read, Write}
 use Rattle.mk_tree.specs.Faults.{IsReadingFault}
 use Rattle.mk_tree.specs.Unread.{UnreadLines, shown_lines, AreTooDeep, AreReadFrom}
+use Rattle.mk_tree.specs.Contents.{IsPlain}
+use Rattle.mk_tree.specs.Plain.{IsClean, IsFirstLine, IsOneLine}
+use Rattle.mk_tree.proofs.PlainLines.{plain-line}
 use Rattle.mk_tree.proofs.AdmissionLemmas.{length-classed}
 use Rattle.mk_tree.proofs.Indices.{size_of-append, size_of-whole}
 use Rattle.mk_tree.proofs.on_changes.Sizes.{size_of-text}
@@ -43,29 +46,46 @@ spans-order (s ∷ ss) from to h = omega (arith, h.1, spans-order ss s.end to h.
 few-lines : (t : List ℕ) → length (logical_lines t) ≤ length t
 few-lines t = omega (arith, ap length (line_ranges-text t), length-map (line_ranges t) (text_at t), spans-order (line_ranges t) 0 (length t) (line_ranges-tiles t))
 
--- The text is read up to `at`, and this is its next line.
-pub record IsNext (text : List ℕ) (at : ℕ) (line : List ℕ) : Type 0 where
-  pub lines : logical_lines (drop at text) ≡ line ∷ logical_lines (drop (at + length line) text)
-  pub bytes : slice_range text at (at + length line) ≡ line
-  pub single : logical_lines line ≡ line ∷ []
-  pub within : at + length line ≤ length text
+-- The text is read up to `at`, and its next line has `n` bytes.
+pub record IsNext (text : List ℕ) (at n : ℕ) : Type 0 where
+  pub lines : logical_lines (drop at text) ≡ slice_range text at (at + n) ∷ logical_lines (drop (at + n) text)
+  pub single : logical_lines (slice_range text at (at + n)) ≡ slice_range text at (at + n) ∷ []
+  pub within : at + n ≤ length text
 
--- the line that was cut off the front of what is left
-pub next-line : (t rest line after : List ℕ) (at : ℕ) → at ≤ length t → rest ≡ take (length t - at) (drop at t) → logical_lines rest ≡ line ∷ logical_lines after → line ++ after ≡ rest → IsNext t at line
-next-line t rest line after at within e lines joined =
-    let left : line ++ after ≡ drop at t = joined ∙ (e ∙ (ap (λ n. take n (drop at t)) (sym (length-drop at t)) ∙ take-length (drop at t))) in
-    let below : drop (at + length line) t ≡ after = ap (λ n. drop n t) (omega arith) ∙ (sym (drop-drop (length line) at t) ∙ (ap (drop (length line)) (sym left) ∙ drop-append_seam line after)) in
+-- what is left of the text from `at` on
+rest-left : (t rest : List ℕ) (at : ℕ) → rest ≡ take (length t - at) (drop at t) → rest ≡ drop at t
+rest-left t rest at e = e ∙ (ap (λ n. take n (drop at t)) (sym (length-drop at t)) ∙ take-length (drop at t))
+
+line-left : (t rest : List ℕ) (at n : ℕ) → rest ≡ drop at t → take n rest ≡ slice_range t at (at + n)
+line-left t rest at n left = ap (take n) left ∙ ap (λ m. take m (drop at t)) (sym (add-sub_cancel_left at n))
+
+-- the first line of what is left
+pub next-line : (t rest : List ℕ) (n at : ℕ) → at ≤ length t → rest ≡ take (length t - at) (drop at t) → IsFirstLine rest n → IsNext t at n
+next-line t rest n at within e first =
+    let left = rest-left t rest at e in
+    let line = line-left t rest at n left in
+    let below : drop n rest ≡ drop (at + n) t = ap (drop n) left ∙ (drop-drop n at t ∙ ap (λ m. drop m t) (omega arith)) in
     record {
-      lines = ap logical_lines (sym left ∙ joined) ∙ (lines ∙ ap (λ z. line ∷ logical_lines z) (sym below));
-      bytes = ap (λ n. take n (drop at t)) (add-sub_cancel_left at (length line)) ∙ (ap (take (length line)) (sym left) ∙ take-append_seam line after);
-      single = OneLine-logical line ((among rest [] line (logical_lines after) lines).one);
-      within = omega (arith, ap length left, length-append line after, length-drop at t, within);
+      lines = ap logical_lines (sym left) ∙ (first.lines ∙ (ap (λ z. take n rest ∷ logical_lines z) below ∙ ap (λ z. z ∷ logical_lines (drop (at + n) t)) line));
+      single = subst (λ z. logical_lines z ≡ z ∷ []) line (OneLine-logical (take n rest) ((among rest [] (take n rest) (logical_lines (drop n rest)) first.lines).one));
+      within = omega (arith, first.within, ap length left, length-drop at t, within);
     }
 
+-- a line that is one physical line of a clean stretch
+pub next-plain : (t rest : List ℕ) (n at clean : ℕ) → rest ≡ take (length t - at) (drop at t) → IsFirstLine rest n → IsClean t at clean → at + n ≤ clean → IsOneLine rest n → IsPlain (slice_range t at (at + n))
+next-plain t rest n at clean e first is_clean within one =
+    let left = rest-left t rest at e in
+    subst IsPlain (ap (take n) (sym left) ∙ line-left t rest at n left)
+    (plain-line t at clean n is_clean within first.some (omega (arith, first.within, ap length left)) (subst (λ z. IsOneLine z n) left one))
+
+-- a stretch is clean from a later offset on too
+pub clean-further : (t : List ℕ) (at later clean : ℕ) → at ≤ later → IsClean t at clean → IsClean t later clean
+clean-further t at later clean order h k above below = h k (omega arith) below
+
 -- the unread lines before a line is read, seen by that line
-pub next-seen : (t line : List ℕ) (at : ℕ) (c : Context) (old : UnreadLines) → IsNext t at line → record { context = c; lines = logical_lines (drop at t) } ≡ old
-    → record { context = c; lines = line ∷ logical_lines (drop (at + length line) t) } ≡ old
-next-seen t line at c old n seen = ap (λ ls. record { context = c; lines = ls }) (sym n.lines) ∙ seen
+pub next-seen : (t : List ℕ) (n at : ℕ) (c : Context) (old : UnreadLines) → IsNext t at n → record { context = c; lines = logical_lines (drop at t) } ≡ old
+    → record { context = c; lines = slice_range t at (at + n) ∷ logical_lines (drop (at + n) t) } ≡ old
+next-seen t n at c old next seen = ap (λ ls. record { context = c; lines = ls }) (sym next.lines) ∙ seen
 
 -- ---- conditionals
 

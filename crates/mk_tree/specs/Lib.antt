@@ -18,6 +18,7 @@ pub mod Contents
 pub mod Trees
 pub mod TreeWalks
 pub mod Admissions
+pub mod Plain
 pub mod Unread
 pub mod Printing
 -- Statements of laws

@@ -5,6 +5,7 @@ use Rattle.mk_lines.specs.Limits.{max_text}
 use Rattle.mk_class.specs.Contexts.{Context, max_conditionals}
 use Rattle.mk_class.specs.ClassedLines.{classed}
 use Rattle.mk_tree.specs.Documents.{most_conditionals}
+use Rattle.mk_tree.specs.Plain.{IsClean}
 use Rattle.mk_tree.specs.LocatedLines.{LocatedLine, located_lines, AreConditionalsFit}
 
 -- some logical lines; the first of them stands in this context
@@ -32,8 +33,11 @@ pub record AreReadFrom (old : UnreadLines) (read : List LocatedLine) (left : Unr
   pub deep : AreTooDeep left → AreTooDeep old
 
 -- The text is within the limit of a document, and this many of its bytes are read. Each line that
--- was read has a byte, and opens one define at most.
-pub record AreUnread (text : List ℕ) (at : ℕ) (context : Context) : Type 0 where
+-- was read has a byte, and opens one define at most. From there up to `clean` the text has no NUL
+-- and no carriage return.
+pub record AreUnread (text : List ℕ) (at clean : ℕ) (context : Context) : Type 0 where
   pub short : length text ≤ max_text
   pub within : at ≤ length text
   pub few : context.defines ≤ at
+  pub clean_within : clean ≤ length text
+  pub is_clean : IsClean text at clean

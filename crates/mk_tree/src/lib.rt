@@ -17,6 +17,7 @@ pub mod iter;
 pub mod laws;
 pub mod line_bytes;
 pub mod parse;
+mod plain;
 mod print;
 mod read;
 mod stored_class;

@@ -1,5 +1,5 @@
 //! Lines as they are read: with their class and their cells.
-ghost use Rattle.std.specs.Prelude.{◌≡◌, ◌+◌, ◌-◌, ◌^◌, ◌<◌, ◌≤◌, [], ◌∷◌, IfErr, IfOk, OnOk, min};
+ghost use Rattle.std.specs.Prelude.{◌≡◌, ◌+◌, ◌-◌, ◌^◌, ◌<◌, ◌≤◌, [], ◌∷◌, true, IfErr, IfOk, OnOk, min};
 ghost use Rattle.mk_lines.specs.Limits.{max_text};
 ghost use Rattle.mk_lines.specs.LogicalLines.{logical_lines};
 ghost use Rattle.mk_lines.specs.Cells.{joined_byte};
@@ -9,6 +9,7 @@ ghost use Rattle.mk_class.specs.ClassTable.{class_of};
 ghost use Rattle.mk_class.specs.LocatedClasses.{located_class};
 ghost use Rattle.mk_class.specs.LineReads.{IsLineRead, OpensTooDeep};
 ghost use Rattle.mk_tree.specs.Faults.{IsReadingFault};
+ghost use Rattle.mk_tree.specs.Contents.{IsPlain};
 ghost use Rattle.mk_tree.specs.Trees.{line_view};
 
 use crate::content::Content;
@@ -16,8 +17,8 @@ use crate::line_bytes::LineBytes;
 use crate::stored_class::StoredClass;
 use crate::tree::Line;
 use mk_class::{Context, Meter, class_with_cells};
-use mk_lines::Fault;
 use mk_lines::cells::cells;
+use mk_lines::{Cells, Fault};
 use std::alloc::Allocator;
 
 impl<A: Allocator + Copy> Line<A> {
@@ -59,15 +60,18 @@ impl<A: Allocator + Copy> Line<A> {
     }
 }
 
-/// One logical line, as [`Line::read`] gives it, and the context after it.
+/// One logical line, as [`Line::read`] gives it, and the context after it. A line that is known to
+/// be plain, with neither folds nor a stray byte, is not searched for them.
 pub(crate) fn read_line<A: Allocator + Copy>(
     alloc: A,
     bytes: LineBytes<A>,
+    is_plain: bool,
     context: Context,
     meter: &mut Meter,
 ) -> Result<(Line<A>, Context), Fault>
     requires line { logical_lines bytes ≡ bytes ∷ [] }
     requires defines { context.defines < max_text }
+    requires plain { is_plain ≡ true → IsPlain bytes }
     ensures bytes { IfOk result (λ r. (line_view r.0).bytes ≡ bytes) }
     ensures read { IfOk result (λ r. IsLineRead context bytes (line_view r.0).class r.1) }
     ensures fault { IfErr result (λ fault. IsReadingFault (OpensTooDeep context bytes) fault) }
@@ -75,7 +79,11 @@ pub(crate) fn read_line<A: Allocator + Copy>(
     ensures forward { meter.old ≤ meter.new }
     ensures once { meter.new ≤ meter.old + 1 }
 {
-    let cells = cells(alloc, bytes.as_slice())?;
+    let cells = if is_plain {
+        Cells::without_folds(bytes.as_slice(), false)
+    } else {
+        cells(alloc, bytes.as_slice())?
+    };
     let (class, after) = class_with_cells(bytes.as_slice(), &cells, context, meter)?;
     let class = StoredClass::new(alloc, class)?;
     let line = Line::new(alloc, Content::new(alloc, bytes, cells, class)?)?;

@@ -9,11 +9,12 @@ ghost use Rattle.mk_tree.specs.Trees.{line_view};
 ghost use Rattle.mk_tree.specs.Unread.{AreReadFrom, AreTooDeep};
 
 use crate::line_bytes::LineBytes;
+use crate::plain::{clean_up_to, first_line};
 use crate::read::read_line;
 use crate::tree::Line;
 use mk_class::{Context, Meter};
 use mk_lines::Fault;
-use mk_lines::split::{Span, split_first_line};
+use mk_lines::split::Span;
 use std::alloc::Allocator;
 use std::marker::Model;
 use std::rc::RcSlice;
@@ -29,6 +30,8 @@ pub(crate) struct Unread<'a, A: Allocator> {
     text: &'a RcSlice<u8, A>,
     // how many bytes of the text are read
     at: usize,
+    // from there up to this offset the text has no NUL and no carriage return
+    clean: usize,
     context: Context,
 }
 
@@ -45,7 +48,7 @@ impl<'a, A: Allocator> Model for Unread<'a, A> {
       lines = logical_lines (drop u.at (rc_slice_items u.text.now));
     } };
 
-    ghost invariant = { λ u. AreUnread (rc_slice_items u.text.now) u.at u.context };
+    ghost invariant = { λ u. AreUnread (rc_slice_items u.text.now) u.at u.clean u.context };
 }
 
 impl<'a, A: Allocator + Copy> Unread<'a, A> {
@@ -59,6 +62,7 @@ impl<'a, A: Allocator + Copy> Unread<'a, A> {
             alloc,
             text,
             at: 0,
+            clean: 0,
             context: Context::start(),
         }
     }
@@ -76,14 +80,18 @@ impl<'a, A: Allocator + Copy> Unread<'a, A> {
         ensures forward { meter.old ≤ meter.new }
         ensures few_read { meter.new + length self.new.lines ≤ meter.old + length self.old.lines }
     {
-        let Some((line, _)) = split_first_line(&self.text.as_slice()[self.at..]) else {
+        let text = self.text.as_slice();
+        let Some(first) = first_line(&text[self.at..]) else {
             return Ok(None);
         };
         let start = self.at;
-        let end = start + line.len();
+        let end = start + first.length;
+        let clean = clean_up_to(text, self.clean, start, end);
+        self.clean = clean;
         self.at = end;
+        let is_plain = first.is_physical && end <= clean;
         let bytes = LineBytes::of_text(self.text, Span { start, end })?;
-        let (line, after) = read_line(self.alloc, bytes, self.context, meter)?;
+        let (line, after) = read_line(self.alloc, bytes, is_plain, self.context, meter)?;
         self.context = after;
         Ok(Some(line))
     }
