@@ -4,4 +4,5 @@ pub mod ClassHolds
 pub mod ClassMaps
 pub mod FirstWordLemmas
 pub mod PartOffsetLemmas
+pub mod PlainLineLemmas
 pub mod LinePartLemmas

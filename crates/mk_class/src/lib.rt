@@ -29,5 +29,5 @@ pub use class::Class;
 pub use context::{Context, Nesting, RuleFlag};
 pub use keyword::is_reserved_word;
 pub use meter::Meter;
-pub use reading::{class_with_cells, classify};
+pub use reading::{class_of_plain_line, class_with_cells, classify};
 pub use rule::{Header, Separator};

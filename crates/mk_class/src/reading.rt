@@ -10,10 +10,10 @@ ghost use Rattle.mk_lines.specs.StoredCells.{AreCellsOf};
 ghost use Rattle.mk_lines.specs.PhysicalLines.{without_line_end};
 ghost use Rattle.mk_class.specs.Contexts.{max_conditionals};
 ghost use Rattle.mk_class.specs.Assignments.{Assignment, assignment};
-ghost use Rattle.mk_lines.specs.Cells.{line_cells};
+ghost use Rattle.mk_lines.specs.Cells.{joined_text, line_cells};
 ghost use Rattle.mk_class.specs.ClassTable.{is_unreadable};
 ghost use Rattle.mk_class.specs.declared.class.Class.TheVariants.{If, TargetAssign};
-ghost use Rattle.mk_class.specs.LineReads.{IsLineRead, OpensTooDeep};
+ghost use Rattle.mk_class.specs.LineReads.{IsLineRead, IsPlain, OpensTooDeep};
 ghost use Rattle.mk_class.specs.CutTexts.{cut_text};
 ghost use Rattle.mk_class.specs.ListTests.{first_passes};
 ghost use Rattle.mk_class.specs.RecipePrefix.{is_dot, may_be_prefix, may_set_prefix, prefix_of_value, prefix_set_by};
@@ -32,6 +32,7 @@ use crate::meter::Meter;
 use crate::rule::Separator;
 use crate::scan::{after_blanks, before, blanks_at_end, cut_text, has_hash, split_head};
 use mk_lines::cells::cells;
+use mk_lines::ends::without_line_end;
 use mk_lines::{Cells, Fault};
 use std::alloc::Allocator;
 
@@ -93,12 +94,53 @@ pub fn class_with_cells<A: Allocator>(
     ensures forward { meter.old ≤ meter.new }
 {
     meter.add();
-    let class = text_class(
-        cells.text(line),
-        context.leads(line),
-        context,
-        is_unreadable(cells),
-    );
+    class_of_text(line, cells.text(line), is_unreadable(cells), context)
+}
+
+/// The class of a plain line in its context, and the context of the next line. A line is plain if it
+/// has neither folds nor a stray byte, so it is its own joined text and its cells tell nothing more.
+/// Takes no memory; otherwise as [`classify`].
+///
+/// # Errors
+///
+/// [`Fault::TooDeep`] if the line opens a conditional and [`MAX_CONDITIONALS`] are open: this
+/// project's profile.
+pub fn class_of_plain_line(
+    line: &[u8],
+    context: Context,
+    meter: &mut Meter,
+) -> Result<(Class, Context), Fault>
+    requires plain { IsPlain line.now }
+    requires defines { context.defines < max_text }
+    ensures class { IfOk result (λ read. IsLineRead context line.now read.0 read.1) }
+    ensures fault { IfErr result (λ fault.
+        (fault ≡ Fault.TooDeep) × OpensTooDeep context line.now) }
+    ensures meter { meter.new ≡ min (meter.old + 1) (2 ^ 64 - 1) }
+    ensures forward { meter.old ≤ meter.new }
+{
+    meter.add();
+    class_of_text(line, without_line_end(line), false, context)
+}
+
+/// The class of a line in its context, and the context of the next line, from the joined text of the
+/// line and from whether it has a stray byte or a bad fold.
+///
+/// It is inlined, so that a class is not moved once more on its way to the document.
+#[inline(always)]
+fn class_of_text(
+    line: &[u8],
+    text: &[u8],
+    unreadable: bool,
+    context: Context,
+) -> Result<(Class, Context), Fault>
+    requires text { text.now ≡ joined_text (line_cells line.now) }
+    requires unreadable { unreadable ≡ is_unreadable (line_cells line.now) }
+    requires defines { context.defines < max_text }
+    ensures class { IfOk result (λ read. IsLineRead context line.now read.0 read.1) }
+    ensures fault { IfErr result (λ fault.
+        (fault ≡ Fault.TooDeep) × OpensTooDeep context line.now) }
+{
+    let class = text_class(text, context.leads(line), context, unreadable);
     if is_too_deep(&class, context) {
         return Err(Fault::TooDeep);
     }

@@ -1,16 +1,11 @@
 -- Lines without folds: the joined text is the line's own, and so are the offsets in it.
 use Rattle.std.proofs.Common.{◌≡◌, ◌∙◌, ℕ, ◌-◌, ◌≤◌, List, [], All, ap, sym, refl, arith, length}
-use Rattle.mk_lines.specs.Cells.{joined_text, line_cells}
+use Rattle.mk_lines.specs.Cells.{line_cells}
 use Rattle.mk_lines.specs.PhysicalLines.{without_line_end}
 use Rattle.mk_lines.specs.Ranges.{raw_offset, raw_range}
 use Rattle.mk_lines.specs.StoredCells.{offset_by_ends, stored_cells}
 use Rattle.mk_lines.specs.declared.split.Span.{Span}
-use Rattle.mk_lines.proofs.StoredLemmas.{plain-no_ends, plain-text, stored_offset-raw_offset}
-
-pub plain-own_text : (line : List ℕ) → All (λ b. b ≡ 10 → ⊥) (without_line_end line) → without_line_end line ≡ joined_text (line_cells line)
-plain-own_text line plain =
-    let stored = stored_cells (line_cells line) in
-    plain-text stored line (record { same = refl }) (sym (plain-no_ends stored line (record { same = refl }) plain))
+use Rattle.mk_lines.proofs.StoredLemmas.{plain-no_ends, stored_offset-raw_offset}
 
 plain-own_offset : (line : List ℕ) (n : ℕ) → All (λ b. b ≡ 10 → ⊥) (without_line_end line) → n ≤ length (line_cells line) → n ≡ raw_offset (line_cells line) n
 plain-own_offset line n plain within =

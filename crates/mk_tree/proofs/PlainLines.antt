@@ -15,7 +15,7 @@ use Rattle.mk_lines.specs.LogicalLines.{logical_lines, is_continued}
 use Rattle.mk_lines.proofs.on_lists.ByteLemmas.{line_feed-byte, carriage_return-byte}
 use Rattle.mk_lines.proofs.SplitLemmas.{IsBegun-none, first-ends}
 use Rattle.mk_lines.proofs.StoredLemmas.{plain-stray}
-use Rattle.mk_tree.specs.Contents.{IsPlain}
+use Rattle.mk_class.specs.LineReads.{IsPlain}
 use Rattle.mk_tree.specs.Plain.{IsFirstLine, IsOneLine, IsClean}
 
 -- ---- the first physical line

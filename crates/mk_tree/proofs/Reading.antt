@@ -20,7 +20,7 @@ use Rattle.mk_class.specs.ClassTable.{class_of}
 use Rattle.mk_class.specs.CountsOfClasses.{FitsCounts}
 use Rattle.mk_class.proofs.on_classes.ClassLemmas.{class_of-counts}
 use Rattle.mk_class.specs.ClassedLines.{ClassedLine, classed}
-use Rattle.mk_class.specs.LineReads.{IsLineRead}
+use Rattle.mk_class.specs.LineReads.{IsLineRead, IsPlain}
 use Rattle.mk_class.specs.LineReads as line_reads
 use Rattle.mk_tree.specs.LocatedLines.{LocatedLine, located_lines, size_of, AreConditionalsFit}
 use Rattle.mk_tree.proofs.on_documents.DocumentLemmas.{faithful-text}
@@ -29,7 +29,6 @@ use Rattle.mk_lines.specs.declared.fault.Fault.{Fault}
 use Rattle.mk_lines.specs.declared.fault.Fault.TheVariants.{NoMemory, TooLong, TooDeep, BadDepth, Read, Write}
 use Rattle.mk_tree.specs.Faults.{IsReadingFault}
 use Rattle.mk_tree.specs.Unread.{UnreadLines, shown_lines, AreTooDeep, AreReadFrom}
-use Rattle.mk_tree.specs.Contents.{IsPlain}
 use Rattle.mk_tree.specs.Plain.{IsClean, IsFirstLine, IsOneLine}
 use Rattle.mk_tree.proofs.PlainLines.{plain-line}
 use Rattle.mk_tree.proofs.AdmissionLemmas.{length-classed}

@@ -1,6 +1,6 @@
 -- What always holds of a stored line: it is not empty, and what is stored of its cells is its own.
 -- Told in docs/ARCHITECTURE.md, "The document".
-use Rattle.std.specs.Prelude.{◌≡◌, ◌≢◌, ℕ, ◌<◌, List, false, All, length}
+use Rattle.std.specs.Prelude.{◌≡◌, ◌≢◌, ℕ, ◌<◌, List, All, length}
 use Rattle.mk_lines.specs.Cells.{line_cells}
 use Rattle.mk_lines.specs.CellFaults.{has_stray}
 use Rattle.mk_lines.specs.PhysicalLines.{without_line_end}
@@ -24,7 +24,3 @@ IsReadingOf (Folded f) line = AreCellsOf f.value.cells line
 pub record IsContent {A : _} (bytes : List ℕ) (reading : Reading A) : Type 0 where
   pub some_bytes : 0 < length bytes
   pub cells : IsReadingOf reading bytes
-
--- a line that has neither folds nor a stray byte
-abbrev pub IsPlain : List ℕ → Type 0
-IsPlain line = All (λ b. b ≢ 10) (without_line_end line) × (has_stray (line_cells line) ≡ false)

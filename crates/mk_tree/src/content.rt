@@ -6,6 +6,7 @@ ghost use Rattle.mk_lines.specs.Ranges.{raw_range};
 ghost use Rattle.mk_lines.specs.StoredCells.{AreCellsOf};
 ghost use Rattle.mk_class.specs.ClassTable.{class_of};
 ghost use Rattle.mk_class.specs.Contexts.{start};
+ghost use Rattle.mk_class.specs.LineReads.{IsPlain};
 ghost use Rattle.mk_class.specs.LocatedClasses.{located_class};
 ghost use Rattle.mk_tree.specs.LocatedLines.{text_of_line};
 ghost use Rattle.mk_tree.specs.StoredClasses.{whole_class};
@@ -81,6 +82,18 @@ impl<A: Allocator> Content<A> {
             Reading::Plain(cells.has_stray(), class)
         };
         Ok(Content { bytes, reading })
+    }
+
+    /// What is stored of a plain line with this class. Takes no memory.
+    pub(crate) fn plain(bytes: LineBytes<A>, class: StoredClass<A>) -> Content<A>
+        requires some_bytes { 0 < length bytes }
+        requires plain { IsPlain bytes }
+        ensures { result ≡ record { bytes = bytes; class = whole_class class } }
+    {
+        Content {
+            bytes,
+            reading: Reading::Plain(false, class),
+        }
     }
 
     pub(crate) fn bytes(&self) -> &[u8]

@@ -102,10 +102,35 @@ fn read_tree<A: Allocator + Copy>(
     if height == 0 {
         return Ok(Tree::new());
     }
+    if height == 1 {
+        return read_leaf(lines, meter);
+    }
     let left = read_tree(lines, height - 1, meter)?;
     let Some(line) = lines.read_next(meter)? else {
         return Ok(left);
     };
     let right = read_tree(lines, height - 1, meter)?;
     Ok(Tree::append(left, line, right))
+}
+
+/// Reads the first line, if one is left, into a tree of its own. Half of all lines stand at the
+/// lowest level of a full tree; nothing is read for their sides.
+fn read_leaf<A: Allocator + Copy>(
+    lines: &mut Unread<'_, A>,
+    meter: &mut Meter,
+) -> Result<Tree<A>, Fault>
+    requires fits { size_of (shown_lines lines.old) ≤ max_text }
+    ensures read { IfOk result (λ tree. AreReadFrom lines.old tree.0 lines.new) }
+    ensures low { IfOk result (λ tree. tree.1 ≤ 1) }
+    ensures full { IfOk result (λ tree.
+        lines.new.lines ≢ [] → (tree.1 ≡ 1) × (length tree.0 ≡ 1)) }
+    ensures fault { IfErr result (λ fault. IsReadingFault (AreTooDeep lines.old) fault) }
+    ensures counted { IfOk result (λ tree. AreCounted meter.old (length tree.0) meter.new) }
+    ensures forward { meter.old ≤ meter.new }
+    ensures few_read { meter.new + length lines.new.lines ≤ meter.old + length lines.old.lines }
+{
+    let Some(line) = lines.read_next(meter)? else {
+        return Ok(Tree::new());
+    };
+    Ok(Tree::join(Tree::new(), line, Tree::new()))
 }

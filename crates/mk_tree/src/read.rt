@@ -7,18 +7,17 @@ ghost use Rattle.mk_class.specs.Contexts.{max_conditionals};
 ghost use Rattle.mk_class.specs.Classes.Class.{If};
 ghost use Rattle.mk_class.specs.ClassTable.{class_of};
 ghost use Rattle.mk_class.specs.LocatedClasses.{located_class};
-ghost use Rattle.mk_class.specs.LineReads.{IsLineRead, OpensTooDeep};
+ghost use Rattle.mk_class.specs.LineReads.{IsLineRead, IsPlain, OpensTooDeep};
 ghost use Rattle.mk_tree.specs.Faults.{IsReadingFault};
-ghost use Rattle.mk_tree.specs.Contents.{IsPlain};
 ghost use Rattle.mk_tree.specs.Trees.{line_view};
 
 use crate::content::Content;
 use crate::line_bytes::LineBytes;
 use crate::stored_class::StoredClass;
 use crate::tree::Line;
-use mk_class::{Context, Meter, class_with_cells};
+use mk_class::{Context, Meter, class_of_plain_line, class_with_cells};
+use mk_lines::Fault;
 use mk_lines::cells::cells;
-use mk_lines::{Cells, Fault};
 use std::alloc::Allocator;
 
 impl<A: Allocator + Copy> Line<A> {
@@ -79,13 +78,35 @@ pub(crate) fn read_line<A: Allocator + Copy>(
     ensures forward { meter.old ≤ meter.new }
     ensures once { meter.new ≤ meter.old + 1 }
 {
-    let cells = if is_plain {
-        Cells::without_folds(bytes.as_slice(), false)
-    } else {
-        cells(alloc, bytes.as_slice())?
-    };
+    if is_plain {
+        return read_plain_line(alloc, bytes, context, meter);
+    }
+    let cells = cells(alloc, bytes.as_slice())?;
     let (class, after) = class_with_cells(bytes.as_slice(), &cells, context, meter)?;
     let class = StoredClass::new(alloc, class)?;
     let line = Line::new(alloc, Content::new(alloc, bytes, cells, class)?)?;
+    Ok((line, after))
+}
+
+// One plain line, as [`read_line`] gives it. No cells are made for it.
+fn read_plain_line<A: Allocator + Copy>(
+    alloc: A,
+    bytes: LineBytes<A>,
+    context: Context,
+    meter: &mut Meter,
+) -> Result<(Line<A>, Context), Fault>
+    requires line { logical_lines bytes ≡ bytes ∷ [] }
+    requires defines { context.defines < max_text }
+    requires plain { IsPlain bytes }
+    ensures bytes { IfOk result (λ r. (line_view r.0).bytes ≡ bytes) }
+    ensures read { IfOk result (λ r. IsLineRead context bytes (line_view r.0).class r.1) }
+    ensures fault { IfErr result (λ fault. IsReadingFault (OpensTooDeep context bytes) fault) }
+    ensures counted { OnOk result (meter.new ≡ min (meter.old + 1) (2 ^ 64 - 1)) }
+    ensures forward { meter.old ≤ meter.new }
+    ensures once { meter.new ≤ meter.old + 1 }
+{
+    let (class, after) = class_of_plain_line(bytes.as_slice(), context, meter)?;
+    let class = StoredClass::new(alloc, class)?;
+    let line = Line::new(alloc, Content::plain(bytes, class))?;
     Ok((line, after))
 }

@@ -2,7 +2,7 @@ use Rattle.std.proofs.Common.{◌∙◌, ap, subst}
 use Rattle.mk_lines.specs.PhysicalLines.{without_line_end}
 use Rattle.mk_tree.specs.Contents.{IsReadingOf}
 use Rattle.mk_tree.specs.LocatedLines.{text_of_line}
-use Rattle.mk_tree.proofs.PlainLemmas.{plain-own_text}
+use Rattle.mk_class.proofs.on_classes.PlainLineLemmas.{plain-own_text}
 use Rattle.mk_tree.proofs.content.Content.text.Goals as goal
 
 pub returns-in-Plain : goal.returns-in-Plain

@@ -4,7 +4,7 @@ use Rattle.mk_lines.specs.LogicalLines.{logical_lines}
 use Rattle.mk_class.specs.Contexts.{Context}
 use Rattle.mk_class.specs.ClassTable.{class_of}
 use Rattle.std.proofs.lemmas.Bool.{leb-true, false≢true}
-use Rattle.mk_tree.specs.Contents.{IsPlain}
+use Rattle.mk_class.specs.LineReads.{IsPlain}
 use Rattle.mk_tree.specs.Plain.{IsClean}
 use Rattle.mk_tree.specs.Faults.{IsReadingFault}
 use Rattle.mk_tree.specs.Trees.{line_view}
