@@ -166,7 +166,7 @@ is_in_head-byte [] = refl
 is_in_head-byte (x ∷ []) = ap not (ap (λ z. z || ((35 == x) || false)) (semicolon-test x) ∙ (ap (λ z. is_semicolon_symbol (byte_symbol x) || (z || false)) (hash-test x) ∙ head_end-symbol (byte_symbol x)))
 is_in_head-byte (x ∷ y ∷ u) = refl
 
-pub any-same : (p q : List ℕ → Bool) → ((u : List ℕ) → p u ≡ q u) → (us : List (List ℕ)) → list_any p us ≡ list_any q us
+pub any-same : {A : Type 0} (p q : A → Bool) → ((u : A) → p u ≡ q u) → (us : List A) → list_any p us ≡ list_any q us
 any-same p q h [] = refl
 any-same p q h (u ∷ us) = rw (h u, any-same p q h us) refl
 

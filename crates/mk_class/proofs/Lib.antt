@@ -7,6 +7,8 @@ pub mod on_classes
 -- Lemmas of the readers
 mod ScanLemmas
 mod SearchLemmas
+mod MarkLemmas
+mod CoverLemmas
 pub mod WordLemmas
 mod AssignmentLemmas
 mod HeaderLemmas

@@ -3,6 +3,8 @@
 use Rattle.std.specs.Prelude.{◌≡◌, ℕ, ◌+◌, if◌then◌else◌, Bool, true, false, ◌||◌, List, [], ◌∷◌, length}
 use Rattle.mk_lines.specs.Lists.{after_leading}
 use Rattle.mk_lines.specs.Units.{units}
+use Rattle.mk_class.specs.Marks.{Cover}
+use Rattle.mk_class.specs.declared.marks.Marks.{Marks}
 use Rattle.mk_class.specs.Scans.{IsSplitAt, is_other}
 use Rattle.mk_class.specs.Separators.{separated}
 use Rattle.mk_class.specs.Headers.{Header, has_colon_after_other, has_third_separator, has_bad_bar, has_second_bar, has_bad_pattern}
@@ -45,6 +47,16 @@ is_rough_apart h =
     || (has_bad_bar itself h
     || (has_second_bar itself h
     || has_bad_pattern itself h)))
+
+-- the marks cover the parts of which it is asked whether they have a `|`
+abbrev pub CoverParts : Marks → Parts → Type 0
+CoverParts m p = Cover m p.targets.now × Cover m p.pattern.now × Cover m p.order_only.now
+
+-- the parts are split at each `:` of the head up to the second: where there is no second, no third
+-- follows
+abbrev pub IsSplitAtColons : Parts → Type 0
+IsSplitAtColons p =
+    p.has_pattern ≡ false → has_third_separator itself (parts_header [] p []) ≡ false
 
 -- the parts have the bytes of the head
 abbrev pub FitsHead : (head : List ℕ) → Parts → Type 0

@@ -1,8 +1,6 @@
 //! Assignments: their flavors, their modifiers, and where their parts stand.
 
 ghost use Rattle.std.specs.Prelude.{◌≡◌, ◌≤◌, ◌-◌, ◌∷◌, [], length, map, None, MatchOption};
-ghost use Rattle.std.specs.List.{list_any};
-ghost use Rattle.memchr.specs.Find.{is_byte};
 ghost use Rattle.mk_lines.specs.Units.{units};
 ghost use Rattle.mk_class.specs.ListTests.{from};
 ghost use Rattle.mk_class.specs.Symbols.{Colon, symbol};
@@ -10,12 +8,13 @@ ghost use Rattle.mk_class.specs.Assignments.{assignment, definition, ends_name, 
 ghost use Rattle.mk_class.specs.TextClasses.{itself};
 ghost use Rattle.mk_class.specs.Scans.{IsOperatorAt};
 ghost use Rattle.mk_class.specs.LocatedAssignments.{located};
+ghost use Rattle.mk_class.specs.Marks.{Cover};
 ghost use Rattle.mk_class.specs.OperatorTexts.{operator_text};
 
 use crate::keyword::modifier_of;
+use crate::marks::Marks;
 use crate::rule::Separator;
 use crate::scan::{after_blanks, after_colon, after_equals, before, blanks_at_end, from_any};
-use memchr::memchr;
 use mk_lines::after_first_unit;
 use mk_lines::split::Span;
 
@@ -104,24 +103,18 @@ pub struct TargetAssignment {
     pub assignment: Assignment,
 }
 
-/// The assignment that a cut text is; the cut text is a line's joined text before its comment.
+/// The assignment that a cut text is; the cut text is the joined text before its comment of a line
+/// with these marks. Each operator has a `=`, so a text without it is no assignment.
 ///
 /// The time is linear in the bytes of the text, and no memory is taken.
-pub(crate) fn read_assignment(cut: &[u8]) -> Option<Assignment>
+pub(crate) fn read_assignment(cut: &[u8], marks: Marks) -> Option<Assignment>
+    requires { Cover marks cut.now }
     ensures { result ≡ located 0 (assignment itself (units itself cut.now)) }
 {
-    if !has_equals(cut) {
+    if !marks.has_equals() {
         return None;
     }
     assignment_at_end(cut, cut.len())
-}
-
-/// Whether a text has a byte `=`. Each operator has one, so a text without it is no assignment.
-/// Most lines have none.
-pub(crate) fn has_equals(text: &[u8]) -> bool
-    ensures { result ≡ list_any (is_byte 61) text.now }
-{
-    memchr(b'=', text).is_some()
 }
 
 /// The assignment that `text`, the end of a cut text of `len` bytes, is. Its offsets are those in

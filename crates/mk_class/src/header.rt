@@ -10,13 +10,14 @@ ghost use Rattle.mk_class.specs.Texts.{words_of};
 ghost use Rattle.mk_class.specs.Separators.{begins_separator, separated};
 ghost use Rattle.mk_class.specs.Scans.{AreSeparated, IsSeparatorAt};
 ghost use Rattle.mk_class.specs.Headers.{has_bad_bar, has_unreadable, header_parts, is_single};
-ghost use Rattle.mk_class.specs.HeadParts.{FitsHead, IsBarSplit, IsPatternSplit, is_rough_apart, parts_header};
+ghost use Rattle.mk_class.specs.HeadParts.{CoverParts, FitsHead, IsBarSplit, IsPatternSplit, IsSplitAtColons, is_rough_apart, parts_header};
+ghost use Rattle.mk_class.specs.Marks.{Cover};
 ghost use Rattle.mk_class.specs.TextClasses.{header_text_class, itself};
 
 use crate::class::Class;
+use crate::marks::Marks;
 use crate::rule::{Header, Separator};
 use crate::scan::{after_colon, before, blanks_at_end, has_unit, is_blank, split_at_unit};
-use memchr::memchr3;
 use mk_lines::{after_first_unit, is_closed, split_first_word};
 
 /// A text at its first separator.
@@ -32,19 +33,20 @@ pub(crate) struct Separated<'a> {
 }
 
 /// The line of a rule, as a header or as Rough, from its head taken apart at the first separator
-/// and from what follows the head.
-pub(crate) fn read_header(head: &[u8], split: Separated<'_>, tail: &[u8]) -> Class
+/// and from what follows the head. `marks` are those of the line.
+pub(crate) fn read_header(head: &[u8], split: Separated<'_>, tail: &[u8], marks: Marks) -> Class
     requires parts { AreSeparated (units itself head.now) split.separator
         (units itself split.from.now) (units itself split.rest.now) }
     requires from { length split.from.now ≤ length head.now }
+    requires marks { Cover marks head.now }
     ensures { (us : List (List ℕ)) → units itself head.now ≡ head_of itself us
         → units itself tail.now ≡ after_head itself us → result ≡ header_text_class us }
 {
-    if has_unreadable(head) {
+    if has_unreadable(head, marks) {
         return Class::Rough;
     }
-    let parts = head_parts(head, split);
-    if parts.is_rough() {
+    let parts = head_parts(head, split, marks);
+    if parts.is_rough(marks) {
         return Class::Rough;
     }
     let normal_start = head.len() - parts.prerequisites.len();
@@ -91,40 +93,46 @@ struct Parts<'a> {
 }
 
 impl<'a> Parts<'a> {
-    /// Whether the parts do not make a header.
-    fn is_rough(&self) -> bool
+    /// Whether the parts do not make a header. `marks` are those of the line.
+    fn is_rough(&self, marks: Marks) -> bool
+        requires marks { CoverParts marks self.now }
+        requires colons { IsSplitAtColons self.now }
         ensures { result ≡ is_rough_apart (parts_header [] self.now []) }
     {
         (self.has_pattern && self.separator != Separator::SingleColon)
-            || (has_colon(self.normal) || has_colon(self.order_only))
-            || self.has_bad_bar()
-            || has_bar(self.order_only)
+            || (self.has_pattern && (has_colon(self.normal) || has_colon(self.order_only)))
+            || self.has_bad_bar(marks)
+            || has_bar(self.order_only, marks)
             || (self.has_pattern && !is_one_word(self.pattern))
     }
 
     /// Whether there is a `|` among the prerequisites that is no word by itself.
-    fn has_bad_bar(&self) -> bool
+    fn has_bad_bar(&self, marks: Marks) -> bool
+        requires { CoverParts marks self.now }
         ensures { result ≡ has_bad_bar itself (parts_header [] self.now []) }
     {
-        has_bar(self.targets)
-            || has_bar(self.pattern)
+        has_bar(self.targets, marks)
+            || has_bar(self.pattern, marks)
             || (self.has_order_only
                 && (ends_in_word(self.normal) || begins_with_word(self.order_only)))
     }
 }
 
-/// The parts of a head that is taken apart at its first separator.
-fn head_parts<'a>(head: &'a [u8], split: Separated<'a>) -> Parts<'a>
+/// The parts of a head that is taken apart at its first separator. `marks` are those of the line.
+fn head_parts<'a>(head: &'a [u8], split: Separated<'a>, marks: Marks) -> Parts<'a>
     requires parts { AreSeparated (units itself head.now) split.separator
         (units itself split.from.now) (units itself split.rest.now) }
     requires from { length split.from.now ≤ length head.now }
+    requires marks { Cover marks head.now }
     ensures parts { (tail : List (List ℕ))
         → header_parts itself (separated itself (units itself head.now)) tail
         ≡ parts_header (separated itself (units itself head.now)).colons result tail }
     ensures offsets { FitsHead head.now result }
+    ensures marks { CoverParts marks result }
+    ensures colons { IsSplitAtColons result }
 {
     let (has_pattern, pattern, prerequisites) = split_pattern(split.rest);
-    let (normal, has_order_only, order_only) = split_order_only(prerequisites);
+    let (normal, has_order_only, order_only) = split_order_only(prerequisites, marks);
     Parts {
         separator: split.separator,
         targets: before(head, split.from),
@@ -149,11 +157,16 @@ fn split_pattern(text: &[u8]) -> (bool, &[u8], &[u8])
     }
 }
 
-/// Prerequisites: the normal ones, whether a `|` follows them, and the order-only ones.
-fn split_order_only(text: &[u8]) -> (&[u8], bool, &[u8])
+/// Prerequisites: the normal ones, whether a `|` follows them, and the order-only ones. `marks` are
+/// those of the line.
+fn split_order_only(text: &[u8], marks: Marks) -> (&[u8], bool, &[u8])
+    requires { Cover marks text.now }
     ensures { IsBarSplit (units itself text.now) (units itself result.0.now) result.1
         (units itself result.2.now) }
 {
+    if !marks.has_bar() {
+        return (text, false, &[]);
+    }
     match split_at_unit(text, b'|') {
         Some((normal, order_only)) => (normal, true, order_only),
         None => (text, false, &[]),
@@ -167,11 +180,12 @@ fn has_colon(text: &[u8]) -> bool
     has_unit(text, b':')
 }
 
-/// Whether a text has a unit `|`.
-fn has_bar(text: &[u8]) -> bool
+/// Whether a text, a part of a line with these marks, has a unit `|`.
+fn has_bar(text: &[u8], marks: Marks) -> bool
+    requires { Cover marks text.now }
     ensures { result ≡ list_any (is_bar itself) (units itself text.now) }
 {
-    has_unit(text, b'|')
+    marks.has_bar() && has_unit(text, b'|')
 }
 
 /// A text from its first separator on.
@@ -258,12 +272,13 @@ pub(crate) fn separate(text: &[u8]) -> Separated<'_>
     }
 }
 
-/// Whether a head has a `=`, or a unit that may stand in no word of a header. Each such unit begins
-/// with a `=`, a backslash or a `$`; most heads have none of these bytes.
-fn has_unreadable(head: &[u8]) -> bool
+/// Whether the head of a line with these marks has a `=`, or a unit that may stand in no word of a
+/// header.
+fn has_unreadable(head: &[u8], marks: Marks) -> bool
+    requires { Cover marks head.now }
     ensures { result ≡ has_unreadable itself (units itself head.now) }
 {
-    memchr3(b'=', b'\\', b'$', head).is_some() && (has_unreadable_front(head) || !is_closed(head))
+    marks.has_unreadable() && (has_unreadable_front(head) || !is_closed(head))
 }
 
 /// Whether a text has a unit that is a `=`, begins with a backslash, or is a `$` before a blank or

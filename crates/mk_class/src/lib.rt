@@ -18,6 +18,7 @@ pub mod context;
 mod header;
 mod keyword;
 pub mod laws;
+mod marks;
 pub mod meter;
 pub mod reading;
 pub mod rule;

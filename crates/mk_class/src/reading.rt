@@ -1,8 +1,8 @@
 //! The class of a line in its context.
 //!
-//! A line is read from its front, by the units of its joined text. Searches for a byte come before
-//! that: they tell of most lines that a class does not fit. The class of a line is the first that
-//! fits, in the order of the table in docs/LANGUAGE.md.
+//! A line is read from its front, by the units of its joined text. One pass over its bytes comes
+//! before that (`Marks`): it tells of most lines that a class does not fit. The class of a line is
+//! the first that fits, in the order of the table in docs/LANGUAGE.md.
 ghost use Rattle.std.specs.Prelude.{◌≡◌, ◌⊎◌, ◌<◌, ◌≤◌, ◌≢◌, ◌+◌, ◌-◌, ◌^◌, ℕ, List, true, false, All, IfErr, IfOk, MatchOption, Some, min, nat_lt};
 ghost use Rattle.mk_lines.specs.Limits.{max_text};
 ghost use Rattle.mk_lines.specs.Units.{units};
@@ -16,18 +16,19 @@ ghost use Rattle.mk_class.specs.declared.class.Class.TheVariants.{If, TargetAssi
 ghost use Rattle.mk_class.specs.LineReads.{IsLineRead, IsPlain, OpensTooDeep};
 ghost use Rattle.mk_class.specs.CutTexts.{cut_text};
 ghost use Rattle.mk_class.specs.ListTests.{first_passes};
+ghost use Rattle.mk_class.specs.Marks.{Cover};
 ghost use Rattle.mk_class.specs.RecipePrefix.{is_dot, may_be_prefix, may_set_prefix, prefix_of_value, prefix_set_by};
 ghost use Rattle.mk_class.specs.Separators.{takes_assignment};
 ghost use Rattle.mk_class.specs.TextClasses.{header_text_class, itself, plain_text_class, rule_text_class, text_class};
 
 use crate::assignment::{
-    Flavor, TargetAssignment, after_name, assignment_at_end, has_equals, read_assignment,
-    read_operator,
+    Flavor, TargetAssignment, after_name, assignment_at_end, read_assignment, read_operator,
 };
 use crate::class::Class;
 use crate::context::{Context, MAX_CONDITIONALS, RuleFlag};
 use crate::header::{read_header, separate};
 use crate::keyword::{body_class, directive_class, is_text};
+use crate::marks::Marks;
 use crate::meter::Meter;
 use crate::rule::Separator;
 use crate::scan::{after_blanks, before, blanks_at_end, cut_text, has_hash, split_head};
@@ -189,9 +190,10 @@ fn plain_class(text: &[u8], is_led: bool, in_conditional: bool, is_unreadable: b
     ensures { result
         ≡ plain_text_class is_led in_conditional is_unreadable (units itself text.now) }
 {
-    let cut = cut_text(text);
+    let marks = Marks::of(text);
+    let cut = cut_text(text, marks);
     if after_blanks(cut).is_empty() {
-        return if has_hash(text) {
+        return if has_hash(text, marks) {
             Class::Comment
         } else {
             Class::Blank
@@ -200,7 +202,7 @@ fn plain_class(text: &[u8], is_led: bool, in_conditional: bool, is_unreadable: b
     if is_unreadable {
         return Class::Opaque;
     }
-    if let Some(assignment) = read_assignment(cut) {
+    if let Some(assignment) = read_assignment(cut, marks) {
         return Class::Assign(assignment, prefix_set_by(cut, in_conditional));
     }
     if let Some(class) = directive_class(cut, in_conditional) {
@@ -209,24 +211,29 @@ fn plain_class(text: &[u8], is_led: bool, in_conditional: bool, is_unreadable: b
     if is_led {
         return Class::Opaque;
     }
-    let (head, tail) = split_head(text);
+    if !marks.has_colon() {
+        return Class::Opaque;
+    }
+    let (head, tail) = split_head(text, marks);
     let split = separate(head);
     if split.from.is_empty() {
         return Class::Opaque;
     }
-    match read_target_assignment(cut) {
+    match read_target_assignment(cut, marks) {
         Some(assignment) => Class::TargetAssign(assignment),
-        None => read_header(head, split, tail),
+        None => read_header(head, split, tail, marks),
     }
 }
 
-/// The assignment for targets that a cut text is, if it is one. The line's head has a `:`.
-fn read_target_assignment(cut: &[u8]) -> Option<TargetAssignment>
+/// The assignment for targets that a cut text of a line with these marks is, if it is one. The
+/// line's head has a `:`.
+fn read_target_assignment(cut: &[u8], marks: Marks) -> Option<TargetAssignment>
+    requires { Cover marks cut.now }
     ensures { (us : List (List ℕ)) → units itself cut.now ≡ cut_text itself us
         → MatchOption result (header_text_class us ≡ rule_text_class us) (λ t.
         TargetAssign t ≡ rule_text_class us) }
 {
-    if !has_equals(cut) {
+    if !marks.has_equals() {
         return None;
     }
     let split = separate(cut);

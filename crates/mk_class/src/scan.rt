@@ -1,9 +1,9 @@
 //! A text read from its front, one unit at a time.
 //!
 //! Each call answers the rest of the text, as a part of it; the units of the rest are the last
-//! units of the text. If a byte does not stand in a text, none of its units is that byte. So a text
-//! is first searched for the byte, and most texts are not read by units at all. All calls take time
-//! linear in the bytes that they pass over or search, and no memory.
+//! units of the text. If a byte does not stand in a text, none of its units is that byte. So the
+//! marks of a line or a search for the byte come first, and most texts are not read by units at all.
+//! All calls take time linear in the bytes that they pass over or search, and no memory.
 ghost use Rattle.std.specs.Prelude.{◌≡◌, ◌≤◌, ◌+◌, ◌++◌, List, [], ◌∷◌, ℕ, false, length, MatchOption};
 ghost use Rattle.std.specs.List.{list_any};
 ghost use Rattle.mk_lines.specs.Lists.{after_leading, trailing};
@@ -12,11 +12,13 @@ ghost use Rattle.mk_lines.specs.Words.{is_gap};
 ghost use Rattle.mk_lines.specs.Bytes.{is_blank_byte};
 ghost use Rattle.mk_class.specs.CutTexts.{after_head, cut_text, head};
 ghost use Rattle.mk_class.specs.TextClasses.{itself};
+ghost use Rattle.mk_class.specs.Marks.{Cover};
 ghost use Rattle.mk_class.specs.Scans.{AreUnmarked, IsSplitAt, is_one_byte_of, is_other};
 ghost use Rattle.mk_class.specs.ListTests.{first_passes, last_passes};
 ghost use Rattle.mk_class.specs.Symbols.{is_colon, is_equals, is_hash};
 
-use memchr::{memchr, memchr2};
+use crate::marks::Marks;
+use memchr::memchr;
 use mk_lines::after_first_unit;
 
 /// What follows the blanks at the front of a text.
@@ -109,27 +111,33 @@ pub(crate) fn before<'a>(text: &'a [u8], rest: &[u8]) -> &'a [u8]
     &text[..text.len() - rest.len()]
 }
 
-/// Whether a text has a unit `#`.
-pub(crate) fn has_hash(text: &[u8]) -> bool
+/// Whether a text with these marks has a unit `#`.
+pub(crate) fn has_hash(text: &[u8], marks: Marks) -> bool
+    requires { Cover marks text.now }
     ensures { result ≡ list_any (is_hash itself) (units itself text.now) }
 {
-    has_unit(text, b'#')
+    marks.has_hash() && has_unit(text, b'#')
 }
 
-/// The cut text of a line: its joined text before a comment.
-pub(crate) fn cut_text(text: &[u8]) -> &[u8]
+/// The cut text of a line with these marks: its joined text before a comment.
+pub(crate) fn cut_text(text: &[u8], marks: Marks) -> &[u8]
+    requires { Cover marks text.now }
     ensures { units itself result.now ≡ cut_text itself (units itself text.now) }
 {
+    if !marks.has_hash() {
+        return text;
+    }
     before(text, from_unit(text, b'#'))
 }
 
-/// The head of a rule's line, which is its joined text before a `;` or a comment, and what follows
-/// the head.
-pub(crate) fn split_head(text: &[u8]) -> (&[u8], &[u8])
+/// The head of a rule's line with these marks, which is its joined text before a `;` or a comment,
+/// and what follows the head.
+pub(crate) fn split_head(text: &[u8], marks: Marks) -> (&[u8], &[u8])
+    requires { Cover marks text.now }
     ensures head { units itself result.0.now ≡ head itself (units itself text.now) }
     ensures tail { units itself result.1.now ≡ after_head itself (units itself text.now) }
 {
-    if memchr2(b';', b'#', text).is_none() {
+    if !marks.has_end_of_head() {
         return (text, &[]);
     }
     let tail = from_any(text, b";#");

@@ -5,10 +5,11 @@ use Rattle.mk_class.specs.declared.assignment.TargetAssignment.{TargetAssignment
 use Rattle.mk_class.specs.declared.class.Class.TheVariants as variants
 use Rattle.mk_class.proofs.ReadingLemmas.{rule-no_target, rule-no_assignment, target-read}
 use Rattle.mk_class.proofs.SearchLemmas.{rule-no_equals}
+use Rattle.mk_class.proofs.CoverLemmas.{no_equals}
 use Rattle.mk_class.proofs.reading.read_target_assignment.Goals as goal
 
 pub returns-then-not-has_equals : goal.returns-then-not-has_equals
-returns-then-not-has_equals c us h = rule-no_equals us c.args.cut.now h (sym c.has_equals.ensures ∙ c.if-not-has_equals.true)
+returns-then-not-has_equals c us h = rule-no_equals us c.args.cut.now h (no_equals c.args.marks c.args.cut.now c.requires (sym c.has_equals.ensures ∙ c.if-not-has_equals.true))
 
 pub returns-then-not-takes_assignment : goal.returns-then-not-takes_assignment
 returns-then-not-takes_assignment c us h =
