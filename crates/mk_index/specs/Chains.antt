@@ -1,5 +1,5 @@
--- The chains of an index. Each name has a bucket. The entries of one bucket are a chain: each entry
--- says which entry before it is the last of the same bucket.
+-- The chains of an index. Each name has a hash, and each hash a bucket. The entries of one bucket are
+-- a chain: each entry says which entry before it is the last of the same bucket.
 -- Told in docs/ARCHITECTURE.md, "The index of a session".
 use Rattle.std.specs.Prelude.{◌≡◌, ◌<◌, ℕ, suc, ◌+◌, ◌*◌, ◌%◌, ◌==◌, if◌then◌else◌, List, [], ◌∷◌, length, map, reverse, get_or}
 use Rattle.mk_index.specs.Assignments.{Assignment}
@@ -10,9 +10,13 @@ abbrev pub hash_from : ℕ → List ℕ → ℕ
 hash_from h [] = h
 hash_from h (b ∷ bs) = hash_from ((h * 16777619 + b) % 4294967296) bs
 
+-- the hash of a name
+abbrev pub hash_of : (name : List ℕ) → ℕ
+hash_of name = hash_from 0 name
+
 -- the bucket of a name, among this number of buckets
 abbrev pub bucket_of : (count : ℕ) → (name : List ℕ) → ℕ
-bucket_of count name = hash_from 0 name % count
+bucket_of count name = hash_of name % count
 
 -- the buckets of some assignments
 abbrev pub buckets_of : (count : ℕ) → List Assignment → List ℕ
@@ -28,6 +32,7 @@ last_in b (k ∷ ks) = if k == b then suc (length ks) else last_in b ks
 abbrev pub entry_after : (count : ℕ) → Assignment → (last_first : List Assignment) → Entry
 entry_after count a rest = record {
   place = a.place;
+  hash = hash_of a.name;
   before = last_in (bucket_of count a.name) (buckets_of count rest);
 }
 

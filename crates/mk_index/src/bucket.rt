@@ -1,17 +1,24 @@
-//! The bucket of a name.
-ghost use Rattle.std.specs.Prelude.{◌≡◌, ◌<◌};
-ghost use Rattle.mk_index.specs.Chains.{bucket_of};
+//! The hash of a name, and the bucket of a hash.
+ghost use Rattle.std.specs.Prelude.{◌≡◌, ◌<◌, ◌%◌};
+ghost use Rattle.mk_index.specs.Chains.{hash_of};
 
-/// The bucket of a name, from 0, among this number of buckets. The name's hash is that of Fowler,
-/// Noll and Vo, with a sum in place of the exclusive or, and 0 at its start.
-pub fn bucket_of(name: &[u8], count: usize) -> usize
-    requires some { 0 < count }
-    ensures bucket { result ≡ bucket_of count name.now }
-    ensures within { result < count }
+/// The hash of a name: that of Fowler, Noll and Vo in 32 bits, with a sum in place of the exclusive
+/// or, and 0 at its start.
+pub fn hash_of(name: &[u8]) -> u32
+    ensures { result ≡ hash_of name.now }
 {
     let mut hash = 0usize;
     'bytes: for byte in name {
         hash = (hash * 16_777_619 + *byte as usize) % 4_294_967_296;
     }
-    hash % count
+    hash as u32
+}
+
+/// The bucket of a hash, from 0, among this number of buckets.
+pub fn bucket_of(hash: u32, count: usize) -> usize
+    requires some { 0 < count }
+    ensures bucket { result ≡ hash % count }
+    ensures within { result < count }
+{
+    hash as usize % count
 }

@@ -1,5 +1,5 @@
 //! The entries of an index, in chains: those of one bucket lead from the last to the first.
-ghost use Rattle.std.specs.Prelude.{◌≡◌, ◌<◌, [], ◌∷◌, List, IfOk, IfSome, OnOk};
+ghost use Rattle.std.specs.Prelude.{◌≡◌, ◌<◌, [], ◌∷◌, List, length, IfOk, IfSome, OnOk};
 ghost use Rattle.std.specs.Option.{option_copied};
 ghost use Rattle.mk_lines.specs.Limits.{max_text};
 ghost use Rattle.mk_tree.specs.Documents.{IsFaithful};
@@ -8,12 +8,13 @@ ghost use Rattle.mk_index.specs.Chains.{AreChainsOf};
 ghost use Rattle.mk_index.specs.Indexes.{last_first};
 ghost use Rattle.mk_index.specs.Passings.{named, passed_over, passed_with};
 
-use crate::bucket::bucket_of;
+use crate::bucket::{bucket_of, hash_of};
 use mk_edit_parts::line_test::assigns;
 use mk_edit_parts::seek::Found;
 use mk_tree::Doc;
 use std::alloc::{AllocError, Allocator, Global};
 use std::marker::Model;
+use std::mem::size_of;
 
 // The most entries that a walk looks at.
 const MOST_STEPS: usize = 64;
@@ -23,9 +24,15 @@ const MOST_STEPS: usize = 64;
 pub struct Entry {
     /// Where the line of the assignment stands.
     pub place: Found,
+    /// The hash of the name that is assigned.
+    pub hash: u32,
     /// The number, from 1, of the last entry before this one in its bucket; 0 if there is none.
-    pub before: usize,
+    pub before: u32,
 }
+
+// The walks of many edits read entries here and there: the smaller they are, the fewer of these reads
+// wait for memory.
+const _: () = prove!(size_of::<Entry>() == 24);
 
 /// What a walk back over the assignments of a name has passed.
 #[derive(Clone, Copy)]
@@ -41,7 +48,7 @@ pub struct Passed {
 #[derive(Drop)]
 pub struct Chains<A: Allocator = Global> {
     // The number, from 1, of the last entry of each bucket; 0 if it has none.
-    heads: Vec<usize, A>,
+    heads: Vec<u32, A>,
     entries: Vec<Entry, A>,
 }
 
@@ -73,19 +80,26 @@ impl<A: Allocator + Copy> Chains<A> {
     /// Adds the entry of an assignment whose line stands below those of the others. [`AllocError`]
     /// if a growth was refused.
     pub fn push(&mut self, name: &[u8], place: Found) -> Result<(), AllocError>
+        requires few { length self.old.entries < max_text }
         ensures { (earlier : List Assignment) → AreChainsOf earlier self.old → OnOk result
             (AreChainsOf (record { name = name.now; place = place } ∷ earlier) self.new) }
     {
-        let bucket = bucket_of(name, self.heads.len());
+        let hash = hash_of(name);
+        let bucket = bucket_of(hash, self.heads.len());
         let before = self.heads[bucket];
-        self.entries.push(Entry { place, before })?;
-        self.heads[bucket] = self.entries.len();
+        self.entries.push(Entry {
+            place,
+            hash,
+            before,
+        })?;
+        self.heads[bucket] = self.entries.len() as u32;
         Ok(())
     }
 
     /// Adds the entry of a line's assignment, as [`push`](Chains::push) does, if the line is an
     /// assignment.
     pub fn push_if(&mut self, name: Option<&[u8]>, place: Found) -> Result<(), AllocError>
+        requires few { length self.old.entries < max_text }
         ensures { (earlier : List Assignment) → AreChainsOf earlier self.old → OnOk result
             (AreChainsOf (with_assigned (option_copied name.entry) place earlier) self.new) }
     {
@@ -104,7 +118,8 @@ impl<A: Allocator + Copy> Chains<A> {
             passed ≡ passed_over later (named name.now (last_first doc.now))) }
     {
         let _few = doc.len();
-        let mut number = self.heads[bucket_of(name, self.heads.len())];
+        let hash = hash_of(name);
+        let mut number = self.heads[bucket_of(hash, self.heads.len())];
         let mut passed = Passed {
             count: 0,
             found: None,
@@ -113,12 +128,14 @@ impl<A: Allocator + Copy> Chains<A> {
             if number == 0 {
                 return Some(passed);
             }
-            let entry = self.entries[number - 1];
-            let line = doc.line(entry.place.at);
-            let class = line.class();
-            let is_named = assigns(line, &class, name);
-            passed = passed_with(is_named, later, entry.place, passed);
+            let entry = self.entries[number as usize - 1];
             number = entry.before;
+            if entry.hash == hash {
+                let line = doc.line(entry.place.at);
+                let class = line.class();
+                let is_named = assigns(line, &class, name);
+                passed = passed_with(is_named, later, entry.place, passed);
+            }
         }
         None
     }

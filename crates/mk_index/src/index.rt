@@ -1,5 +1,5 @@
 //! An index of a document: where its assignments stand, by their names.
-ghost use Rattle.std.specs.Prelude.{◌≡◌, ◌<◌, [], ◌∷◌, ◌++◌, List, Some, IfOk, OnOk};
+ghost use Rattle.std.specs.Prelude.{◌≡◌, ◌<◌, ◌≤◌, [], ◌∷◌, ◌++◌, List, length, Some, IfOk, OnOk};
 ghost use Rattle.std.specs.Option.{option_copied};
 ghost use Rattle.mk_lines.specs.Limits.{max_text};
 ghost use Rattle.mk_class.specs.Contexts.{Admits};
@@ -78,6 +78,7 @@ impl<A: Allocator + Copy> Index<A> {
         requires classed { IsClassed (line_view line.now) }
         requires admitted { Admits self.old.end.context (line_view line.now).class }
         requires few { self.old.end.at < max_text }
+        requires few_entries { length self.old.chains.entries ≤ self.old.end.at }
         ensures { (lines : List LocatedLine) → IsIndexOf lines self.old → OnOk result
             (IsIndexOf (lines ++ line_view line.now ∷ []) self.new) }
     {
@@ -129,7 +130,11 @@ impl<A: Allocator + Copy> Index<A> {
         if wanted == 0 || wanted > last.count {
             return Some(self.with_found(last.count, None));
         }
-        let sought = self.chains.passed(doc, name, last.count - wanted)?;
+        let later = last.count - wanted;
+        if later == 0 {
+            return Some(self.with_found(last.count, last.found));
+        }
+        let sought = self.chains.passed(doc, name, later)?;
         Some(self.with_found(sought.count, sought.found))
     }
 

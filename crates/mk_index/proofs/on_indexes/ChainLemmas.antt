@@ -6,7 +6,7 @@ use Rattle.std.proofs.lemmas.List.{length-map, length-reverse, length-set, get_o
 use Rattle.std.proofs.lemmas.Grind.{reverse_onto}
 use Rattle.std.proofs.lemmas.Slice.Eq.{bytes_eq-Decides}
 use Rattle.mk_index.specs.Assignments.{Assignment}
-use Rattle.mk_index.specs.Chains.{AreChainsOf, Stored, bucket_of, buckets_of, entries_of, entry_after, last_in}
+use Rattle.mk_index.specs.Chains.{AreChainsOf, Stored, bucket_of, buckets_of, entries_of, entry_after, hash_of, last_in}
 use Rattle.mk_index.specs.Passings.{named}
 use Rattle.mk_index.specs.declared.chains.Entry.{Entry}
 
@@ -30,18 +30,18 @@ head-pushed heads ks b n j e h same = go (b == j) refl
     go false is =
         get_or-set_other heads b j n 0 (λ at. absurd (let clash = eq-eqb b j (sym at) in cc)) ∙ (same ∙ ap (λ t. if t then suc (length ks) else last_in j ks) (sym is))
 
-pub chains-pushed : (earlier : List Assignment) (c : Stored) (a : Assignment) (bucket before number : ℕ) → AreChainsOf earlier c
-    → bucket ≡ bucket_of (length c.heads) a.name → bucket < length c.heads → before ≡ get_or c.heads bucket 0 → number ≡ length c.entries + 1
-    → AreChainsOf (a ∷ earlier) (record { heads = set c.heads bucket number; entries = c.entries ++ record { place = a.place; before = before } ∷ [] })
-chains-pushed earlier c a bucket before number h at within is_before is_number = record {
+pub chains-pushed : (earlier : List Assignment) (c : Stored) (a : Assignment) (hash bucket before number : ℕ) → AreChainsOf earlier c
+    → hash ≡ hash_of a.name → bucket ≡ bucket_of (length c.heads) a.name → bucket < length c.heads → before ≡ get_or c.heads bucket 0 → number ≡ length c.entries + 1
+    → AreChainsOf (a ∷ earlier) (record { heads = set c.heads bucket number; entries = c.entries ++ record { place = a.place; hash = hash; before = before } ∷ [] })
+chains-pushed earlier c a hash bucket before number h is_hash at within is_before is_number = record {
   heads_are = λ j inside.
       subst (λ n. get_or (set c.heads bucket number) j 0 ≡ last_in j (buckets_of n (a ∷ earlier))) (sym (length-set c.heads bucket number))
       (ap (λ b. get_or (set c.heads b number) j 0) at
       ∙ head-pushed c.heads (buckets_of count earlier) (bucket_of count a.name) number j counted (subst (λ b. b < count) at within) (h.heads_are j (subst (λ n. j < n) (length-set c.heads bucket number) inside)));
   entries_are =
-      subst (λ n. c.entries ++ record { place = a.place; before = before } ∷ [] ≡ reverse (entries_of n (a ∷ earlier))) (sym (length-set c.heads bucket number))
-      (ap (λ (es : List Entry). es ++ record { place = a.place; before = before } ∷ []) h.entries_are
-      ∙ (ap (λ (n : ℕ). reverse (entries_of count earlier) ++ record { place = a.place; before = n } ∷ []) is_last ∙ sym (reverse-first (entry_after count a earlier) (entries_of count earlier))));
+      subst (λ n. c.entries ++ record { place = a.place; hash = hash; before = before } ∷ [] ≡ reverse (entries_of n (a ∷ earlier))) (sym (length-set c.heads bucket number))
+      (ap (λ (es : List Entry). es ++ record { place = a.place; hash = hash; before = before } ∷ []) h.entries_are
+      ∙ (ap (λ (e : Entry). reverse (entries_of count earlier) ++ e ∷ []) is_entry ∙ sym (reverse-first (entry_after count a earlier) (entries_of count earlier))));
 }
   where
     count : ℕ
@@ -55,6 +55,9 @@ chains-pushed earlier c a bucket before number h at within is_before is_number =
 
     is_last : before ≡ last_in (bucket_of count a.name) (buckets_of count earlier)
     is_last = is_before ∙ (h.heads_are bucket within ∙ ap (λ b. last_in b (buckets_of count earlier)) at)
+
+    is_entry : record { place = a.place; hash = hash; before = before } ≡ entry_after count a earlier
+    is_entry = ap (λ (n : ℕ). record { place = a.place; hash = n; before = before }) is_hash ∙ ap (λ (n : ℕ). record { place = a.place; hash = hash_of a.name; before = n }) is_last
 
 -- ---- one step back
 
@@ -71,13 +74,17 @@ pub record StepBack (count : ℕ) (name : List ℕ) (ahead : List Assignment) (k
   pub named_are : named name ahead ≡ named name (last ∷ rest)
   pub bucket_is : bucket_of count last.name ≡ bucket_of count name
 
+-- a name for which this function gives something else is another name
+pub other-name : (f : List ℕ → ℕ) (m n : List ℕ) → (f m ≡ f n → ⊥) → bytes_eq m n ≡ false
+other-name f m n h = go (bytes_eq m n) refl
+  where
+    go : (t : Bool) → bytes_eq m n ≡ t → bytes_eq m n ≡ false
+    go true is = absurd (h (ap f ((bytes_eq-Decides m n).0 is)))
+    go false is = is
+
 -- an assignment of another bucket has another name
 other-bucket : (count : ℕ) (name : List ℕ) (a : Assignment) → (bucket_of count a.name == bucket_of count name) ≡ false → bytes_eq a.name name ≡ false
-other-bucket count name a h = go (bytes_eq a.name name) refl
-  where
-    go : (t : Bool) → bytes_eq a.name name ≡ t → bytes_eq a.name name ≡ false
-    go true is = absurd (let same = eq-eqb (bucket_of count a.name) (bucket_of count name) (ap (bucket_of count) ((bytes_eq-Decides a.name name).0 is)) in cc)
-    go false is = is
+other-bucket count name a h = other-name (bucket_of count) a.name name (λ e. absurd (let same = eq-eqb (bucket_of count a.name) (bucket_of count name) e in cc))
 
 pub step-back : (count : ℕ) (name : List ℕ) (ahead : List Assignment) (k : ℕ) → last_in (bucket_of count name) (buckets_of count ahead) ≡ suc k → StepBack count name ahead k
 step-back count name [] k h = absurd (cc)

@@ -13,12 +13,9 @@ use Rattle.mk_index.specs.Assignments.{assignments_from, below, below_all, first
 use Rattle.mk_index.specs.Chains.{AreChainsOf}
 use Rattle.mk_index.specs.Effects.{AssignSame, IsBehind}
 use Rattle.mk_index.specs.Indexes.{IsIndexOf, Stored, last_first}
+use Rattle.mk_index.proofs.on_indexes.IndexLemmas.{below-at}
 
 -- ---- one more line
-
-below-at : (f : Found) (ls : List LocatedLine) → (below_all f ls).at ≡ f.at + length ls
-below-at f [] = omega arith
-below-at f (l ∷ ls) = let e = below-at (below f l) ls in omega (arith, e)
 
 admitted-after : (f : Found) (ls rest : List LocatedLine) → AreAdmitted f.context (ls ++ rest) → AreAdmitted (below_all f ls).context rest
 admitted-after f [] rest h = h

@@ -1,7 +1,7 @@
 -- An index of one line more, and the walk that makes an index.
-use Rattle.std.proofs.Common.{◌≡◌, refl, sym, ap, ◌∙◌, subst, arith, ℕ, ◌+◌, ◌||◌, List, [], ◌∷◌, ◌++◌, reverse, Bool, true, false, length, append_assoc, append-nil, Option, Some, None}
+use Rattle.std.proofs.Common.{◌≡◌, refl, sym, ap, ◌∙◌, subst, arith, ℕ, ◌+◌, ◌≤◌, ◌||◌, List, [], ◌∷◌, ◌++◌, reverse, Bool, true, false, length, append_assoc, append-nil, Option, Some, None}
 use Rattle.std.specs.List.{list_any}
-use Rattle.std.proofs.lemmas.List.{reverse-append}
+use Rattle.std.proofs.lemmas.List.{length-reverse, reverse-append}
 use Rattle.std.proofs.lemmas.List.Folds.{list_any-append}
 use Rattle.mk_class.specs.Contexts.{Context, start, context_after_located}
 use Rattle.mk_tree.specs.Admissions.{AreAdmitted}
@@ -12,8 +12,10 @@ use Rattle.mk_edit_parts.specs.declared.seek.Found.{Found}
 use Rattle.mk_edit_parts.proofs.on_finding.SeekLemmas.{faithful-each}
 use Rattle.mk_index.specs.Assignments.{Assignment, assignments, assignments_from, below, below_all, first_place, name_assigned, with_assigned}
 use Rattle.mk_index.specs.Chains as chains
-use Rattle.mk_index.specs.Chains.{AreChainsOf}
+use Rattle.mk_index.specs.Chains.{AreChainsOf, entries_of}
 use Rattle.mk_index.specs.Indexes.{IsIndexOf, Stored, last_first}
+use Rattle.mk_index.proofs.on_indexes.ChainLemmas.{length-entries}
+use Rattle.mk_index.proofs.on_indexes.StandLemmas.{few-assignments}
 
 -- ---- one line more
 
@@ -51,6 +53,24 @@ index-pushed lines l i c is_unread context h made u k = record {
       ∙ sym (list_any-append is_unread_located lines (l ∷ []) ∙ ap (λ b. list_any is_unread_located lines || b) (or-false (is_unread_located l))));
   end_is = ap (λ (x : Context). record { at = i.end.at + 1; context = x }) k ∙ (ap (λ f. below f l) h.end_is ∙ sym (below_all-more first_place lines l));
 }
+
+-- ---- an index has no more entries than lines
+
+pub below-at : (f : Found) (ls : List LocatedLine) → (below_all f ls).at ≡ f.at + length ls
+below-at f [] = omega arith
+below-at f (l ∷ ls) = let e = below-at (below f l) ls in omega (arith, e)
+
+pub few-entries : (lines : List LocatedLine) (i : Stored) → IsIndexOf lines i → length i.chains.entries ≤ i.end.at
+few-entries lines i h =
+    let count = length i.chains.heads in
+    let n = ap length h.chains_are.entries_are in
+    let r = length-reverse (entries_of count (last_first lines)) in
+    let m = length-entries count (last_first lines) in
+    let s = length-reverse (assignments lines) in
+    let few = few-assignments first_place lines in
+    let e = ap (λ (f : Found). f.at) h.end_is in
+    let at = below-at first_place lines in
+    omega (arith, n, r, m, s, few, e, at)
 
 -- ---- the walk that makes an index
 

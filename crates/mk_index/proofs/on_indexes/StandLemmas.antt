@@ -1,5 +1,5 @@
 -- Where assignments stand: the line at the place of an assignment assigns its name.
-use Rattle.std.proofs.Common.{◌≡◌, refl, sym, ap, subst, arith, ℕ, suc, ◌+◌, List, [], ◌∷◌, ◌++◌, reverse, Some}
+use Rattle.std.proofs.Common.{◌≡◌, refl, sym, ap, subst, arith, ℕ, suc, ◌+◌, ◌≤◌, List, [], ◌∷◌, ◌++◌, reverse, length, Option, Some, None}
 use Rattle.std.specs.Prelude.{slice_get}
 use Rattle.std.specs.Str.{bytes_eq}
 use Rattle.std.proofs.lemmas.Grind.{reverse_onto}
@@ -80,3 +80,12 @@ each-from f (l ∷ ls) = each-with l ls f (assignments_from (below f l) ls) (eac
 -- each assignment of a document stands in it
 pub each-stands : (ls : List LocatedLine) → EachStands ls 0 (reverse (assignments ls))
 each-stands ls = each-reverse ls 0 (assignments ls) (each-from first_place ls)
+
+-- there are no more assignments than lines
+few-with : (o : Option (List ℕ)) (f : Found) (xs : List Assignment) (n : ℕ) → length xs ≤ n → length (with_assigned o f xs) ≤ suc n
+few-with None f xs n h = omega (arith, h)
+few-with (Some m) f xs n h = omega (arith, h)
+
+pub few-assignments : (f : Found) (ls : List LocatedLine) → length (assignments_from f ls) ≤ length ls
+few-assignments f [] = omega arith
+few-assignments f (l ∷ ls) = few-with (name_assigned l) f (assignments_from (below f l) ls) (length ls) (few-assignments (below f l) ls)

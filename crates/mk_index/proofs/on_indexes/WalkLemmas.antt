@@ -9,15 +9,14 @@ use Rattle.std.proofs.lemmas.List.{length-reverse}
 use Rattle.std.proofs.lemmas.Option.{slice_get_within}
 use Rattle.mk_tree.specs.LocatedLines.{LocatedLine}
 use Rattle.mk_edit_parts.specs.LocatedParts.{assigns_located}
-use Rattle.mk_edit_parts.specs.declared.seek.Found.{Found}
-use Rattle.mk_index.specs.Assignments.{Assignment, assignments, assignments_from, below, first_place, name_assigned, with_assigned}
-use Rattle.mk_index.specs.Chains.{AreChainsOf, Stored, bucket_of, buckets_of, entries_of, entry_after, last_in}
+use Rattle.mk_index.specs.Assignments.{Assignment, assignments, first_place}
+use Rattle.mk_index.specs.Chains.{AreChainsOf, Stored, bucket_of, buckets_of, entries_of, entry_after, hash_of, last_in}
 use Rattle.mk_index.specs.Indexes.{last_first}
 use Rattle.mk_index.specs.Passings.{named, passed_over, passed_with}
 use Rattle.mk_index.specs.declared.chains.Entry.{Entry}
 use Rattle.mk_index.specs.declared.chains.Passed.{Passed}
-use Rattle.mk_index.proofs.on_indexes.ChainLemmas.{StepBack, length-entries, none-named, step-back}
-use Rattle.mk_index.proofs.on_indexes.StandLemmas.{EachStands, Stands, each-after, each-stands}
+use Rattle.mk_index.proofs.on_indexes.ChainLemmas.{StepBack, length-entries, none-named, other-name, step-back}
+use Rattle.mk_index.proofs.on_indexes.StandLemmas.{EachStands, Stands, each-after, each-stands, few-assignments}
 
 -- ---- what is passed
 
@@ -61,15 +60,6 @@ pub record Walk (doc : List LocatedLine) (name : List ℕ) (later : ℕ) (c : St
   pub passed_is : passed ≡ passed_over later over
   pub stand : EachStands doc 0 ahead
   pub few : length over + length ahead ≤ length doc
-
--- there are no more assignments than lines
-few-with : (o : Option (List ℕ)) (f : Found) (xs : List Assignment) (n : ℕ) → length xs ≤ n → length (with_assigned o f xs) ≤ suc n
-few-with None f xs n h = omega (arith, h)
-few-with (Some m) f xs n h = omega (arith, h)
-
-few-assignments : (f : Found) (ls : List LocatedLine) → length (assignments_from f ls) ≤ length ls
-few-assignments f [] = omega arith
-few-assignments f (l ∷ ls) = few-with (name_assigned l) f (assignments_from (below f l) ls) (length ls) (few-assignments (below f l) ls)
 
 -- the walk at its start
 pub walk-from : (doc : List LocatedLine) (name : List ℕ) (later : ℕ) (c : Stored) (number : ℕ) → AreChainsOf (last_first doc) c → bucket_of (length c.heads) name < length c.heads
@@ -162,11 +152,13 @@ walk-step doc name later c (suc k) passed w h = record {
     before : length (reverse (entries_of count s.rest)) ≡ k
     before = length-reverse (entries_of count s.rest) ∙ (length-entries count s.rest ∙ s.number_is)
 
--- the entry that a step comes to stands in the document, and the walk goes on behind it
+-- The entry that a step comes to stands in the document, and the walk goes on behind it. An entry of
+-- another hash is passed unseen.
 pub record Reached (doc : List LocatedLine) (name : List ℕ) (later : ℕ) (c : Stored) (e : Entry) (passed : Passed) : Type 0 where
   pub in_doc : e.place.at < length doc
   pub few : passed.count < length doc
   pub next : (l : LocatedLine) → Some l ≡ slice_get doc e.place.at → Walk doc name later c e.before (passed_with (assigns_located name l) later e.place passed)
+  pub other : (e.hash ≡ hash_of name → ⊥) → Walk doc name later c e.before passed
 
 pub entry-reached : (doc : List LocatedLine) (name : List ℕ) (later : ℕ) (c : Stored) (number : ℕ) (passed : Passed) (e : Entry) → Walk doc name later c number passed → (number ≡ 0 → ⊥)
     → e ≡ get_or c.entries (number - 1) e → Reached doc name later c e passed
@@ -177,6 +169,8 @@ entry-reached doc name later c number passed e w h is = subst (λ (x : Entry). R
       let same : l ≡ s.there.line = ap (line_or l) (f ∙ (ap (slice_get doc) at ∙ s.there.is_there)) in
       let named_is : assigns_located name l ≡ bytes_eq s.last.name name = ap (assigns_located name) same ∙ s.there.assigns name in
       subst (λ t. Walk doc name later c (last_in (bucket_of (length c.heads) s.last.name) (buckets_of (length c.heads) s.rest)) (passed_with t later s.last.place passed)) (sym named_is) s.next;
+  other = λ differ.
+      subst (λ t. Walk doc name later c (last_in (bucket_of (length c.heads) s.last.name) (buckets_of (length c.heads) s.rest)) (passed_with t later s.last.place passed)) (other-name hash_of s.last.name name differ) s.next;
 })
   where
     s : WalkStep doc name later c number passed

@@ -1,12 +1,15 @@
 use Rattle.std.proofs.Common.{◌≡◌, ◌∷◌, sym, subst, rules}
 use Rattle.mk_tree.specs.Trees.{line_view}
-use Rattle.mk_index.proofs.on_indexes.IndexLemmas.{Filling, filling-from, filling-next}
+use Rattle.mk_index.proofs.on_indexes.IndexLemmas.{Filling, few-entries, filling-from, filling-next}
 use Rattle.mk_index.proofs.index.Index.new.Goals as goal
 
 pub lines-init : goal.lines-init
 lines-init g c =
     let e : c.into_iter-line-iterator.result ≡ c.args.doc.now = search rules in
     (tt, tt, subst (Filling c.args.doc.now c.in_ok-index.index) (sym e) (filling-from c.args.doc.now c.in_ok-index.index c.in_ok-index.ensures c.requires (c.iter-line-items.ensures.admitted c.requires)))
+
+pub push-requires-clause-few_entries : goal.push-requires-clause-few_entries
+push-requires-clause-few_entries g c = few-entries c.lines.invariant.2.lines c.lines.index c.lines.invariant.2.index_is
 
 pub lines-preserved : goal.lines-preserved
 lines-preserved g c =

@@ -1,7 +1,7 @@
 -- The hash of the bytes passed, with the bytes ahead, is that of the name.
 use Rattle.std.proofs.Common.{◌≡◌, ◌<◌, ◌≤◌, drop, length}
 use Rattle.mk_index.specs.Chains.{hash_from}
-use Rattle.mk_index.proofs.bucket.bucket_of.Given as goal
+use Rattle.mk_index.proofs.bucket.hash_of.Given as goal
 
 abbrev pub invariant-bytes : goal.invariant-bytes
 invariant-bytes l =
