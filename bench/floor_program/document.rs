@@ -1,0 +1,133 @@
+//! A makefile as a text, its lines, and what undo needs.
+
+use crate::class::{Context, read_class};
+use crate::folds::{self, Folding};
+use crate::index::Index;
+use crate::lines::{Lines, line_end};
+use crate::reading::{Kept, Reader};
+use crate::tree::{Line, Node, Tree, boxed, joined, without_last};
+use std::collections::VecDeque;
+use std::io::{self, Write};
+use std::mem;
+
+/// How many edits can be undone.
+const DEPTH: usize = 100;
+pub const MAX_TEXT: usize = 16_777_216;
+
+/// What takes an edit back.
+pub enum Inverse {
+    Exchange(u32, Box<Node>),
+    ExchangeEach(Vec<(u32, Box<Node>)>),
+    /// Takes out the last line, and leaves this context at the end.
+    TakeOut(Context),
+}
+
+pub struct Document {
+    pub text: Vec<u8>,
+    pub lines: Tree,
+    /// How many bytes the lines have together.
+    pub size: usize,
+    /// What the lines leave at the end. The reading of the last line tells it.
+    pub end: Context,
+    /// Where the assignments stand, if many edits ask for it.
+    pub index: Option<Index>,
+    inverses: VecDeque<Inverse>,
+    pub folding: Folding,
+}
+
+impl Document {
+    pub fn open(text: Vec<u8>, kept: Kept) -> Document {
+        let lines = Lines { text: &text, at: 0 };
+        let mut reader = Reader { lines, kept, context: Context::default(), folding: Folding::default() };
+        let lines = reader.tree(25);
+        let (end, folding) = (reader.context, reader.folding);
+        let inverses = VecDeque::with_capacity(DEPTH);
+        Document { size: text.len(), text, lines, end, index: None, inverses, folding }
+    }
+
+    /// Whether a line can follow the last one.
+    pub fn is_closed(&self) -> bool {
+        self.last().is_none_or(|it| it.raw(&self.text).ends_with(b"\n"))
+    }
+
+    fn last(&self) -> Option<&Line> {
+        let last = self.lines.lines.checked_sub(1)?;
+        Some(self.lines.line(last))
+    }
+
+    /// Exchanges the line at this index by one of these bytes.
+    pub fn exchange(&mut self, at: u32, raw: &[u8]) {
+        let new = node_of(raw, &mut Context::default(), &mut self.folding);
+        self.size += raw.len();
+        let old = self.lines.exchange(at, new);
+        self.size -= old.line.raw(&self.text).len();
+        self.keep(Inverse::Exchange(at, old));
+    }
+
+    /// Puts a line in at the end.
+    pub fn put_in(&mut self, raw: &[u8]) {
+        let before = self.end;
+        let new = node_of(raw, &mut self.end, &mut self.folding);
+        if let Some(index) = &mut self.index {
+            index.put_in(&new.line, self.lines.lines, &self.text);
+        }
+        self.lines = joined(mem::take(&mut self.lines), new, Tree::default());
+        self.size += raw.len();
+        self.keep(Inverse::TakeOut(before));
+    }
+
+    /// Keeps what takes the last edit back.
+    pub fn keep(&mut self, inverse: Inverse) {
+        if self.inverses.len() == DEPTH {
+            self.inverses.pop_front();
+        }
+        self.inverses.push_back(inverse);
+    }
+
+    /// Takes back the last edit, if there is one.
+    pub fn undo(&mut self) -> bool {
+        let Some(inverse) = self.inverses.pop_back() else {
+            return false;
+        };
+        match inverse {
+            Inverse::Exchange(at, node) => self.put_back(at, node),
+            Inverse::ExchangeEach(all) => all.into_iter().for_each(|(at, node)| self.put_back(at, node)),
+            Inverse::TakeOut(end) => {
+                self.size -= self.last().map_or(0, |it| it.raw(&self.text).len());
+                self.lines = without_last(mem::take(&mut self.lines));
+                (self.end, self.index) = (end, None);
+            }
+        }
+        true
+    }
+
+    fn put_back(&mut self, at: u32, node: Box<Node>) {
+        self.size += node.line.raw(&self.text).len();
+        let new = self.lines.exchange(at, node);
+        self.size -= new.line.raw(&self.text).len();
+    }
+
+    /// Writes the lines from the tree.
+    pub fn write_to(&self, out: &mut impl Write) -> io::Result<()> {
+        let mut written = Ok(());
+        self.lines.walk(&mut |it| {
+            if written.is_ok() {
+                written = out.write_all(it.raw(&self.text));
+            }
+        });
+        written
+    }
+}
+
+/// A box for a line of these bytes, which is read below lines that leave this context.
+pub fn node_of(raw: &[u8], context: &mut Context, folding: &mut Folding) -> Box<Node> {
+    let is_led = raw.first() == Some(&b'\t');
+    if line_end(raw, 0) == raw.len() {
+        let class = read_class(raw.strip_suffix(b"\n").unwrap_or(raw), context);
+        return boxed(Line::of_edit(raw.len(), Box::from(raw), class, is_led));
+    }
+    folding.read(raw);
+    let class = read_class(folds::joined(&folding.piece), context);
+    folding.piece.extend_from_slice(raw);
+    boxed(Line::of_edit(raw.len(), Box::from(&folding.piece[..]), class, is_led))
+}

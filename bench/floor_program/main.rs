@@ -1,0 +1,108 @@
+//! What cannot be left out. bench/floor builds this program and measures it.
+//!
+//! First what an empty script cannot leave out, step by step:
+//!
+//!     floor text FILE     reads the text, and writes it
+//!     floor lines FILE    and cuts it into logical lines before
+//!     floor boxes FILE    and puts each line into a box of its own, in a balanced tree, and writes the
+//!                         lines from there
+//!     floor folds FILE    and keeps of each line with folds its joined text and the ends of its folds,
+//!                         with 8 bytes for an end, in one piece of memory
+//!     floor classes FILE  and reads what each line is, with the places of its parts
+//!
+//! Then what a script and a query cannot leave out on top of that:
+//!
+//!     floor edit SCRIPT FILE    does the commands of the script, one after the other, keeps what
+//!                               undoes the last 100, and writes the lines
+//!     floor vars FILE           prints what the query of this name prints; likewise rules, check and
+//!                               caveats
+//!
+//! It does only what the bench asks for: the head of each file says what it leaves out. No memory is
+//! given up but that of lines that no undo can bring back.
+
+mod bytes;
+mod caveats;
+mod class;
+mod document;
+mod edits;
+mod folds;
+mod index;
+mod lines;
+mod queries;
+mod reading;
+mod rename;
+mod script;
+mod tree;
+
+use document::Document;
+use lines::Lines;
+use reading::Kept;
+use std::fs::File;
+use std::io::{self, BufWriter, Write};
+use std::os::fd::AsFd;
+use std::{env, fs, mem, process};
+
+type Out = BufWriter<File>;
+
+/// The text of a file, cut into lines and written again.
+fn cut(name: &str, out: &mut Out) -> io::Result<()> {
+    let text = fs::read(name)?;
+    for it in (Lines { text: &text, at: 0 }) {
+        out.write_all(&text[it.start..it.end])?;
+    }
+    out.flush()
+}
+
+/// Does something with the document of a file, of whose lines this is kept.
+fn over(name: &str, kept: Kept, then: impl FnOnce(&mut Document) -> io::Result<()>) -> io::Result<()> {
+    let mut document = Document::open(fs::read(name)?, kept);
+    let done = then(&mut document);
+    mem::forget(document);
+    done
+}
+
+fn print(document: &mut Document, out: &mut Out) -> io::Result<()> {
+    document.write_to(out)?;
+    out.flush()
+}
+
+fn edit(script: &str, name: &str, out: &mut Out) -> io::Result<()> {
+    let script = fs::read(script)?;
+    let commands = script::commands(&script).unwrap_or_else(|it| {
+        eprintln!("floor: script line {it} is not a command");
+        process::exit(2)
+    });
+    over(name, Kept::Classes, |document| {
+        if commands.len() >= edits::MANY && matches!(commands[0].1, script::Command::Set { .. }) {
+            document.make_index();
+        }
+        let mut line = Vec::new();
+        for (number, command) in &commands {
+            if let Err(refusal) = document.obey(command, &mut line) {
+                eprintln!("{number}: refused {refusal:?}");
+                process::exit(1);
+            }
+        }
+        print(document, out)
+    })
+}
+
+fn main() -> io::Result<()> {
+    let words: Vec<String> = env::args().skip(1).collect();
+    let words: Vec<&str> = words.iter().map(|it| &it[..]).collect();
+    // a line-buffered standard output would look for line feeds
+    let mut out = BufWriter::with_capacity(16 * 1024, File::from(io::stdout().as_fd().try_clone_to_owned()?));
+    match words[..] {
+        ["text", name] => out.get_mut().write_all(&fs::read(name)?),
+        ["lines", name] => cut(name, &mut out),
+        ["boxes", name] => over(name, Kept::Bounds, |it| print(it, &mut out)),
+        ["folds", name] => over(name, Kept::Folds, |it| print(it, &mut out)),
+        ["classes", name] => over(name, Kept::Classes, |it| print(it, &mut out)),
+        ["edit", script, name] => edit(script, name, &mut out),
+        ["vars", name] => over(name, Kept::Classes, |it| queries::vars(it, &mut out)),
+        ["rules", name] => over(name, Kept::Classes, |it| queries::rules(it, &mut out)),
+        ["check", name] => over(name, Kept::Classes, |it| queries::check(it, &mut out)),
+        ["caveats", name] => over(name, Kept::Classes, |it| caveats::caveats(it, &mut out)),
+        _ => panic!("usage: floor STEP|QUERY FILE, or floor edit SCRIPT FILE"),
+    }
+}

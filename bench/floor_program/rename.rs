@@ -1,0 +1,96 @@
+//! `rename`. One walk decides all causes of refusal, and keeps the indices of the lines that have the
+//! word: it looks at the targets and prerequisites of each rule and at the targets of each
+//! assignment for targets, once, for the old word and for the new one. Then one way down from the
+//! top, which goes only where such lines stand, exchanges them.
+
+use crate::bytes::words;
+use crate::class::{Class, Context};
+use crate::document::{Document, Inverse, MAX_TEXT, node_of};
+use crate::edits::{Refusal, test};
+use crate::script::{is_reserved, is_word};
+use crate::tree::Line;
+
+/// The parts of a line that may hold targets, normal and order-only prerequisites.
+fn parts(class: Class) -> [(usize, usize); 3] {
+    let parts = match class {
+        Class::TargetAssign(targets_end, _) => [(0, targets_end), (0, 0), (0, 0)],
+        Class::Header(it) if it.bar > 0 => [(0, it.targets_end), (it.words, it.bar), (it.bar + 1, it.end)],
+        Class::Header(it) => [(0, it.targets_end), (it.words, it.end), (0, 0)],
+        _ => [(0, 0); 3],
+    };
+    parts.map(|(start, end)| (start as usize, end as usize))
+}
+
+/// What a walk finds.
+#[derive(Default)]
+struct Effect {
+    is_there: bool,
+    is_taken: bool,
+    words: usize,
+    indices: Vec<u32>,
+}
+
+impl Effect {
+    fn see(&mut self, line: &Line, at: u32, text: &[u8], old: &[u8], new: &[u8]) {
+        if !matches!(line.class, Class::Header(_) | Class::TargetAssign(..)) {
+            return;
+        }
+        let joined = line.joined(text);
+        let before = self.words;
+        let [(start, end), rest @ ..] = parts(line.class);
+        for (_, word) in words(joined, start, end) {
+            self.is_taken |= word == new;
+            self.words += (word == old) as usize;
+        }
+        self.is_there |= self.words > before;
+        for (start, end) in rest {
+            self.words += words(joined, start, end).filter(|(_, it)| *it == old).count();
+        }
+        if self.words > before {
+            self.indices.push(at);
+        }
+    }
+}
+
+/// The bytes of a line with the new word for each old one.
+fn renamed(line: &Line, text: &[u8], old: &[u8], new: &[u8], bytes: &mut Vec<u8>) {
+    let (raw, joined) = (line.raw(text), line.joined(text));
+    let mut done = 0;
+    bytes.clear();
+    for (start, end) in parts(line.class) {
+        for (offset, _) in words(joined, start, end).filter(|(_, it)| *it == old) {
+            let at = line.raw_offset(offset);
+            bytes.extend_from_slice(&raw[done..at]);
+            bytes.extend_from_slice(new);
+            done = at + old.len();
+        }
+    }
+    bytes.extend_from_slice(&raw[done..]);
+}
+
+pub fn rename(document: &mut Document, old: &[u8], new: &[u8], bytes: &mut Vec<u8>) -> Result<(), Refusal> {
+    test([old, new].iter().all(|it| is_word(it) && !it.ends_with(b"&")), Refusal::BadArgument)?;
+    test(!is_reserved(old) && !is_reserved(new), Refusal::Reserved)?;
+    // a word over folds has other bytes in the line
+    test(!old.contains(&b' ') && old != new, Refusal::NotHere)?;
+    test(!document.end.sets_prefix, Refusal::RecipePrefix)?;
+    let (mut effect, mut at) = (Effect::default(), 0);
+    document.lines.walk(&mut |line| {
+        effect.see(line, at, &document.text, old, new);
+        at += 1;
+    });
+    test(effect.is_there, Refusal::NoSuch)?;
+    test(!effect.is_taken, Refusal::Taken)?;
+    let size = document.size + effect.words * new.len() - effect.words * old.len();
+    test(size <= MAX_TEXT, Refusal::TooLong)?;
+    let mut kept = Vec::with_capacity(effect.indices.len());
+    let (text, folding) = (&document.text, &mut document.folding);
+    let mut make = |line: &Line| {
+        renamed(line, text, old, new, bytes);
+        node_of(bytes, &mut Context::default(), folding)
+    };
+    document.lines.exchange_each(0, &effect.indices, &mut make, &mut kept);
+    document.size = size;
+    document.keep(Inverse::ExchangeEach(kept));
+    Ok(())
+}
