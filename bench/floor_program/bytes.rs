@@ -1,5 +1,7 @@
 //! Blanks, references, words and numbers.
 
+use crate::lines::find;
+
 pub fn is_blank(byte: u8) -> bool {
     byte == b' ' || byte == b'\t'
 }
@@ -31,14 +33,20 @@ pub fn after_reference(text: &[u8], at: usize) -> usize {
     at
 }
 
-/// The words of a part of a text, each with its offset. A blank in a reference ends none.
+/// The words of a part of a text, each with its offset. A blank in a reference ends none. In a tidy
+/// part no reference stands and no blank but the space, so the next space ends a word.
 pub struct Words<'a> {
     text: &'a [u8],
     at: usize,
+    is_tidy: bool,
 }
 
 pub fn words(text: &[u8], start: usize, end: usize) -> Words<'_> {
-    Words { text: &text[..end], at: start }
+    Words { text: &text[..end], at: start, is_tidy: false }
+}
+
+pub fn words_of_part(text: &[u8], start: usize, end: usize, is_tidy: bool) -> Words<'_> {
+    Words { text: &text[..end], at: start, is_tidy }
 }
 
 impl<'a> Iterator for Words<'a> {
@@ -47,6 +55,9 @@ impl<'a> Iterator for Words<'a> {
     fn next(&mut self) -> Option<(usize, &'a [u8])> {
         let start = after_blanks(self.text, self.at);
         let mut at = start;
+        if self.is_tidy {
+            at = find(&self.text[start..], b' ').map_or(self.text.len(), |it| start + it);
+        }
         while at < self.text.len() && !is_blank(self.text[at]) {
             at = if self.text[at] == b'$' { after_reference(self.text, at) } else { at + 1 };
         }

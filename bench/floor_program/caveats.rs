@@ -50,7 +50,7 @@ impl Seen {
             Class::Opaque => opaque_caveat(line, text),
             Class::Recipe if is_inside && !is_open => is_conditional(word_of(line, text)).then_some(CONDITIONAL),
             Class::Assign(it) if it.value_end - it.value == 1 => {
-                let name = &line.joined(text)[it.name as usize..it.name_end as usize];
+                let name = line.part(text, it.name, it.name_end);
                 let is_reference = matches!(name, [b'$', b'(' | b'{', ..] | [b'$', _]);
                 is_reference.then_some(PREFIX)
             }

@@ -23,6 +23,8 @@ pub struct Header {
     pub bar: u16,
     pub end: u16,
     pub has_recipe: bool,
+    /// Whether its words have one space between them, and no reference, backslash or other blank.
+    pub is_tidy: bool,
 }
 
 #[derive(Clone, Copy)]
@@ -161,8 +163,13 @@ fn assignment(text: &[u8], start: usize, first_end: usize, at: usize) -> Option<
     (name < name_end).then_some(Assignment { name, name_end, operator_end, value, value_end })
 }
 
-/// What a line is whose targets end at this `:`.
-fn rule(text: &[u8], colon: usize) -> Class {
+/// Whether words stay tidy over the blank at this offset.
+fn is_one_space(text: &[u8], at: usize) -> bool {
+    text[at] == b' ' && !text.get(at + 1).is_some_and(|it| is_blank(*it))
+}
+
+/// What a line is whose targets end at this `:`, and are tidy or not.
+fn rule(text: &[u8], colon: usize, mut is_tidy: bool) -> Class {
     let words = colon + 1 + (text.get(colon + 1) == Some(&b':')) as usize;
     let start = after_blanks(text, words);
     let (mut at, mut bar, mut first_end) = (start, 0, 0);
@@ -177,20 +184,23 @@ fn rule(text: &[u8], colon: usize) -> Class {
                 };
             }
             b'$' => {
-                at = after_reference(text, at);
+                (at, is_tidy) = (after_reference(text, at), false);
                 continue;
             }
-            b'\\' => at += 1,
+            b'\\' => (at, is_tidy) = (at + 1, false),
             b';' | b'#' => break,
             b'|' if bar == 0 => bar = at,
-            b' ' | b'\t' if first_end == 0 => first_end = at,
+            b' ' | b'\t' => {
+                is_tidy &= is_one_space(text, at);
+                first_end = if first_end > 0 { first_end } else { at };
+            }
             _ => {}
         }
         at += 1;
     }
     let has_recipe = text.get(at) == Some(&b';');
     let [targets_end, words, bar, end] = [colon, words, bar, at.min(text.len())].map(|it| it as u16);
-    Class::Header(Header { targets_end, words, bar, end, has_recipe })
+    Class::Header(Header { targets_end, words, bar, end, has_recipe, is_tidy })
 }
 
 /// What a line outside of defines and recipes is. The first `=`, `:` or `#` outside of references
@@ -203,17 +213,20 @@ fn plain_class(text: &[u8], conditionals: u32) -> Class {
         _ if text.len() > u16::MAX as usize => return Class::Opaque,
         _ => {}
     }
-    let (mut at, mut first_end) = (start, 0);
+    let (mut at, mut first_end, mut is_tidy) = (start, 0, true);
     while at < text.len() {
         match text[at] {
             it if !TELLING[it as usize] => {}
             b'=' | b':' | b'#' => break,
             b'$' => {
-                at = after_reference(text, at);
+                (at, is_tidy) = (after_reference(text, at), false);
                 continue;
             }
-            b'\\' => at += 1,
-            b' ' | b'\t' if first_end == 0 => first_end = at,
+            b'\\' => (at, is_tidy) = (at + 1, false),
+            b' ' | b'\t' => {
+                is_tidy &= is_one_space(text, at);
+                first_end = if first_end > 0 { first_end } else { at };
+            }
             _ => {}
         }
         at += 1;
@@ -227,7 +240,7 @@ fn plain_class(text: &[u8], conditionals: u32) -> Class {
     }
     match keyword(&text[start..first_end], conditionals) {
         Some(class) => class,
-        None if stop == Some(&b':') => rule(text, at),
+        None if stop == Some(&b':') => rule(text, at, is_tidy),
         None => Class::Opaque,
     }
 }

@@ -34,7 +34,7 @@ fn mixed(hash: u64, part: u64) -> u64 {
 /// The name of the variable that a line assigns.
 pub fn name_of<'a>(line: &'a Line, text: &'a [u8]) -> Option<&'a [u8]> {
     match line.class {
-        Class::Assign(it) => Some(&line.joined(text)[it.name as usize..it.name_end as usize]),
+        Class::Assign(it) => Some(line.part(text, it.name, it.name_end)),
         _ => None,
     }
 }

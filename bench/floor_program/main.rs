@@ -42,6 +42,7 @@ use std::io::{self, BufWriter, Write};
 use std::os::fd::AsFd;
 use std::{env, fs, mem, process};
 
+/// What the program puts out. A line-buffered standard output would look for line feeds.
 type Out = BufWriter<File>;
 
 /// The text of a file, cut into lines and written again.
@@ -55,7 +56,10 @@ fn cut(name: &str, out: &mut Out) -> io::Result<()> {
 
 /// Does something with the document of a file, of whose lines this is kept.
 fn over(name: &str, kept: Kept, then: impl FnOnce(&mut Document) -> io::Result<()>) -> io::Result<()> {
-    let mut document = Document::open(fs::read(name)?, kept);
+    let text = fs::read(name)?;
+    let is_stray = kept == Kept::Classes && [b'\r', 0].iter().any(|it| lines::find(&text, *it).is_some());
+    assert!(!is_stray, "a CR or a NUL is not read here");
+    let mut document = Document::open(text, kept);
     let done = then(&mut document);
     mem::forget(document);
     done
@@ -90,7 +94,6 @@ fn edit(script: &str, name: &str, out: &mut Out) -> io::Result<()> {
 fn main() -> io::Result<()> {
     let words: Vec<String> = env::args().skip(1).collect();
     let words: Vec<&str> = words.iter().map(|it| &it[..]).collect();
-    // a line-buffered standard output would look for line feeds
     let mut out = BufWriter::with_capacity(16 * 1024, File::from(io::stdout().as_fd().try_clone_to_owned()?));
     match words[..] {
         ["text", name] => out.get_mut().write_all(&fs::read(name)?),

@@ -1,6 +1,7 @@
 //! The queries: one walk over the lines each.
 
-use crate::bytes::{Digits, after_blanks, words};
+use crate::Out;
+use crate::bytes::{Digits, after_blanks, trimmed, words};
 use crate::class::{Assignment, Class, conditionals_below};
 use crate::document::Document;
 use crate::tree::Line;
@@ -23,7 +24,7 @@ impl Place {
         self.conditionals = conditionals_below(self.conditionals, line.class);
     }
 
-    fn put(&self, out: &mut impl Write) -> io::Result<()> {
+    fn put(&self, out: &mut Out) -> io::Result<()> {
         out.write_all(Digits::of(self.number).as_bytes())?;
         out.write_all(b":")?;
         out.write_all(Digits::of(self.conditionals as usize).as_bytes())?;
@@ -47,15 +48,26 @@ fn each_line<'a>(
 }
 
 /// Puts a space before each word of a part.
-fn put_words(text: &[u8], start: u16, end: u16, out: &mut impl Write) -> io::Result<()> {
+fn put_words(text: &[u8], start: u16, end: u16, out: &mut Out) -> io::Result<()> {
     words(text, start.into(), end.into()).try_for_each(|(_, word)| {
         out.write_all(b" ")?;
         out.write_all(word)
     })
 }
 
+/// Likewise of a part that is tidy, so that it can stay as it is.
+fn put_tidy(text: &[u8], start: u16, end: u16, out: &mut Out) -> io::Result<()> {
+    let start = after_blanks(text, start.into()).min(end.into());
+    let part = &text[start..end.into()];
+    if part.is_empty() {
+        return Ok(());
+    }
+    out.write_all(b" ")?;
+    out.write_all(&part[..trimmed(part)])
+}
+
 /// Puts an assignment, whose modifiers begin at this offset.
-fn put_assignment(text: &[u8], start: u16, it: Assignment, out: &mut impl Write) -> io::Result<()> {
+fn put_assignment(text: &[u8], start: u16, it: Assignment, out: &mut Out) -> io::Result<()> {
     let [name, name_end, value, value_end] = [it.name, it.name_end, it.value, it.value_end].map(usize::from);
     put_words(text, start, it.name, out)?;
     out.write_all(b" ")?;
@@ -69,7 +81,7 @@ fn put_assignment(text: &[u8], start: u16, it: Assignment, out: &mut impl Write)
     out.write_all(b"\n")
 }
 
-pub fn vars(document: &Document, out: &mut impl Write) -> io::Result<()> {
+pub fn vars(document: &Document, out: &mut Out) -> io::Result<()> {
     each_line(document, |place, line| match line.class {
         Class::Assign(it) => {
             place.put(out)?;
@@ -88,7 +100,7 @@ pub fn vars(document: &Document, out: &mut impl Write) -> io::Result<()> {
 }
 
 /// Puts the number of recipe lines of the rule above, if one is open.
-fn put_recipes(recipes: &mut Option<usize>, out: &mut impl Write) -> io::Result<()> {
+fn put_recipes(recipes: &mut Option<usize>, out: &mut Out) -> io::Result<()> {
     let Some(count) = recipes.take() else {
         return Ok(());
     };
@@ -98,21 +110,23 @@ fn put_recipes(recipes: &mut Option<usize>, out: &mut impl Write) -> io::Result<
 }
 
 /// Puts the targets, the separator and the prerequisites of a rule.
-fn put_rule(text: &[u8], class: Class, out: &mut impl Write) -> io::Result<()> {
+fn put_rule(text: &[u8], class: Class, out: &mut Out) -> io::Result<()> {
     let Class::Header(it) = class else {
         return Ok(());
     };
-    put_words(text, 0, it.targets_end, out)?;
+    let put = if it.is_tidy { put_tidy } else { put_words };
+    put(text, 0, it.targets_end, out)?;
     out.write_all(&text[it.targets_end.into()..it.words.into()])?;
+    let bar = if it.bar > 0 { it.bar } else { it.end };
+    put(text, it.words, bar, out)?;
     if it.bar == 0 {
-        return put_words(text, it.words, it.end, out);
+        return Ok(());
     }
-    put_words(text, it.words, it.bar, out)?;
     out.write_all(b" |")?;
-    put_words(text, it.bar + 1, it.end, out)
+    put(text, it.bar + 1, it.end, out)
 }
 
-pub fn rules(document: &Document, out: &mut impl Write) -> io::Result<()> {
+pub fn rules(document: &Document, out: &mut Out) -> io::Result<()> {
     let mut recipes = None;
     each_line(document, |place, line| match line.class {
         Class::Recipe => {
@@ -135,7 +149,7 @@ pub fn rules(document: &Document, out: &mut impl Write) -> io::Result<()> {
 }
 
 /// Puts what is open at the end.
-fn put_open(what: &[u8], count: u32, out: &mut impl Write) -> io::Result<()> {
+fn put_open(what: &[u8], count: u32, out: &mut Out) -> io::Result<()> {
     if count == 0 {
         return Ok(());
     }
@@ -146,7 +160,7 @@ fn put_open(what: &[u8], count: u32, out: &mut impl Write) -> io::Result<()> {
 }
 
 /// Without the lines that are rough, of which `read_class` knows none.
-pub fn check(document: &Document, out: &mut impl Write) -> io::Result<()> {
+pub fn check(document: &Document, out: &mut Out) -> io::Result<()> {
     each_line(document, |place, line| match line.class {
         Class::Opaque => {
             out.write_all(Digits::of(place.number).as_bytes())?;

@@ -3,22 +3,24 @@
 //! assignment for targets, once, for the old word and for the new one. Then one way down from the
 //! top, which goes only where such lines stand, exchanges them.
 
-use crate::bytes::words;
+use crate::bytes::words_of_part;
 use crate::class::{Class, Context};
 use crate::document::{Document, Inverse, MAX_TEXT, node_of};
 use crate::edits::{Refusal, test};
 use crate::script::{is_reserved, is_word};
 use crate::tree::Line;
 
-/// The parts of a line that may hold targets, normal and order-only prerequisites.
-fn parts(class: Class) -> [(usize, usize); 3] {
+/// The parts of a line that may hold targets, normal and order-only prerequisites, and whether they
+/// are tidy.
+fn parts(class: Class) -> ([(usize, usize); 3], bool) {
+    let is_tidy = matches!(class, Class::Header(it) if it.is_tidy);
     let parts = match class {
         Class::TargetAssign(targets_end, _) => [(0, targets_end), (0, 0), (0, 0)],
         Class::Header(it) if it.bar > 0 => [(0, it.targets_end), (it.words, it.bar), (it.bar + 1, it.end)],
         Class::Header(it) => [(0, it.targets_end), (it.words, it.end), (0, 0)],
         _ => [(0, 0); 3],
     };
-    parts.map(|(start, end)| (start as usize, end as usize))
+    (parts.map(|(start, end)| (start as usize, end as usize)), is_tidy)
 }
 
 /// What a walk finds.
@@ -37,14 +39,14 @@ impl Effect {
         }
         let joined = line.joined(text);
         let before = self.words;
-        let [(start, end), rest @ ..] = parts(line.class);
-        for (_, word) in words(joined, start, end) {
+        let ([(start, end), rest @ ..], is_tidy) = parts(line.class);
+        for (_, word) in words_of_part(joined, start, end, is_tidy) {
             self.is_taken |= word == new;
             self.words += (word == old) as usize;
         }
         self.is_there |= self.words > before;
         for (start, end) in rest {
-            self.words += words(joined, start, end).filter(|(_, it)| *it == old).count();
+            self.words += words_of_part(joined, start, end, is_tidy).filter(|(_, it)| *it == old).count();
         }
         if self.words > before {
             self.indices.push(at);
@@ -57,8 +59,9 @@ fn renamed(line: &Line, text: &[u8], old: &[u8], new: &[u8], bytes: &mut Vec<u8>
     let (raw, joined) = (line.raw(text), line.joined(text));
     let mut done = 0;
     bytes.clear();
-    for (start, end) in parts(line.class) {
-        for (offset, _) in words(joined, start, end).filter(|(_, it)| *it == old) {
+    let (parts, is_tidy) = parts(line.class);
+    for (start, end) in parts {
+        for (offset, _) in words_of_part(joined, start, end, is_tidy).filter(|(_, it)| *it == old) {
             let at = line.raw_offset(offset);
             bytes.extend_from_slice(&raw[done..at]);
             bytes.extend_from_slice(new);

@@ -32,6 +32,7 @@ impl Line {
     }
 
     /// Its bytes, with its line end. `text` is that of the document.
+    #[inline]
     pub fn raw<'a>(&'a self, text: &'a [u8]) -> &'a [u8] {
         match &self.kept {
             Some(kept) if self.start == OWN => &kept[kept.len() - self.end as usize..],
@@ -40,6 +41,7 @@ impl Line {
     }
 
     /// The piece of its folds.
+    #[inline]
     fn piece(&self) -> Option<&[u8]> {
         let kept = self.kept.as_deref()?;
         let own = if self.start == OWN { self.end as usize } else { 0 };
@@ -55,6 +57,13 @@ impl Line {
                 raw.strip_suffix(b"\n").unwrap_or(raw)
             }
         }
+    }
+
+    /// A part of its joined text. Of a line without folds no other byte is looked at.
+    #[inline]
+    pub fn part<'a>(&'a self, text: &'a [u8], start: u16, end: u16) -> &'a [u8] {
+        let joined = self.piece().map_or_else(|| self.raw(text), folds::joined);
+        &joined[start.into()..end.into()]
     }
 
     pub fn physical_lines(&self) -> usize {
