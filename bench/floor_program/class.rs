@@ -1,6 +1,7 @@
 //! What a line is, and where its parts stand in its joined text. It reads the makefiles of the bench
-//! as mkedit does, and not every makefile. It knows no stray bytes, no bad folds, no line that is
-//! rough, no static pattern, no recipe prefix but the tab, and no line of more than 65,535 bytes.
+//! as mkedit does, and not every makefile. It knows no stray bytes (the program ends where a CR or a
+//! NUL stands in the text), no bad folds, no line that is rough, no static pattern, no modifiers
+//! before `define` and `undefine`, no recipe prefix but the tab, and no line of more than 65,535 bytes.
 
 use crate::bytes::{after_blanks, after_reference, is_blank, trimmed};
 use crate::lines::find;

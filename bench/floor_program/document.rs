@@ -5,7 +5,7 @@ use crate::folds::{self, Folding};
 use crate::index::Index;
 use crate::lines::{Lines, line_end};
 use crate::reading::{Kept, Reader};
-use crate::tree::{Line, Node, Tree, boxed, joined, without_last};
+use crate::tree::{Line, Node, Tree, boxed, tree_of, without_last};
 use std::collections::VecDeque;
 use std::io::{self, Write};
 use std::mem;
@@ -71,7 +71,7 @@ impl Document {
         if let Some(index) = &mut self.index {
             index.put_in(&new.line, self.lines.lines, &self.text);
         }
-        self.lines = joined(mem::take(&mut self.lines), new, Tree::default());
+        self.lines = tree_of(mem::take(&mut self.lines), new, Tree::default());
         self.size += raw.len();
         self.keep(Inverse::TakeOut(before));
     }

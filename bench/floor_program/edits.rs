@@ -25,7 +25,7 @@ pub enum Refusal {
     NotHere,
 }
 
-/// A script of as many commands makes an index at its first `set`.
+/// A script of as many `set` makes an index.
 pub const MANY: usize = 10;
 
 impl Document {
@@ -76,7 +76,8 @@ impl Document {
             return Err(Refusal::NoSuch);
         };
         let start = old.raw_offset(parts.value as usize);
-        let end = if parts.value < parts.value_end { old.raw_offset(parts.value_end as usize - 1) + 1 } else { start };
+        let is_empty = parts.value == parts.value_end;
+        let end = if is_empty { start } else { old.raw_offset(parts.value_end as usize - 1) + 1 };
         test(self.size + value.len() - (end - start) <= MAX_TEXT, Refusal::TooLong)?;
         line.extend_from_slice(&raw[..start]);
         line.extend_from_slice(value);

@@ -37,6 +37,7 @@ mod tree;
 use document::Document;
 use lines::Lines;
 use reading::Kept;
+use script::Command;
 use std::fs::File;
 use std::io::{self, BufWriter, Write};
 use std::os::fd::AsFd;
@@ -77,7 +78,8 @@ fn edit(script: &str, name: &str, out: &mut Out) -> io::Result<()> {
         process::exit(2)
     });
     over(name, Kept::Classes, |document| {
-        if commands.len() >= edits::MANY && matches!(commands[0].1, script::Command::Set { .. }) {
+        let sets = commands.iter().filter(|(_, it)| matches!(it, Command::Set { .. })).count();
+        if sets >= edits::MANY {
             document.make_index();
         }
         let mut line = Vec::new();

@@ -3,7 +3,7 @@
 use crate::class::{Class, Context, read_class};
 use crate::folds::{self, Folding};
 use crate::lines::Lines;
-use crate::tree::{Line, Tree, boxed, joined};
+use crate::tree::{Line, Tree, boxed, tree_of};
 
 /// What is kept of a line.
 #[derive(Clone, Copy, PartialEq, PartialOrd)]
@@ -45,6 +45,6 @@ impl Reader<'_> {
         let line = Line::of_text(found.start, found.end, kept, class, raw[0] == b'\t');
         let node = boxed(line);
         let right = self.tree(height - 1);
-        joined(left, node, right)
+        tree_of(left, node, right)
     }
 }

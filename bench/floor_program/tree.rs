@@ -98,6 +98,7 @@ pub fn boxed(line: Line) -> Box<Node> {
 
 /// The tree of a node whose two sides are in balance.
 fn linked(top: Box<Node>) -> Tree {
+    debug_assert!(top.left.height.abs_diff(top.right.height) <= 1);
     let lines = top.left.lines + 1 + top.right.lines;
     let height = top.left.height.max(top.right.height) + 1;
     Tree { lines, height, top: Some(top) }
@@ -130,10 +131,10 @@ fn balanced(mut top: Box<Node>) -> Tree {
 }
 
 /// The lines of a tree, then a node's, then those of a tree that is at most one higher than the first.
-pub fn joined(mut left: Tree, mut node: Box<Node>, right: Tree) -> Tree {
+pub fn tree_of(mut left: Tree, mut node: Box<Node>, right: Tree) -> Tree {
     match left.top.take() {
         Some(mut top) if left.height > right.height + 1 => {
-            top.right = joined(mem::take(&mut top.right), node, right);
+            top.right = tree_of(mem::take(&mut top.right), node, right);
             balanced(top)
         }
         top => {
@@ -154,7 +155,7 @@ pub fn without_last(tree: Tree) -> Tree {
         return left;
     }
     let right = without_last(mem::take(&mut top.right));
-    joined(left, top, right)
+    tree_of(left, top, right)
 }
 
 impl Tree {
