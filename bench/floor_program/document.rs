@@ -1,5 +1,6 @@
 //! A makefile as a text, its lines, and what undo needs.
 
+use crate::Out;
 use crate::class::{Context, read_class};
 use crate::folds::{self, Folding};
 use crate::index::Index;
@@ -107,15 +108,31 @@ impl Document {
         self.size -= new.line.raw(&self.text).len();
     }
 
-    /// Writes the lines from the tree.
-    pub fn write_to(&self, out: &mut impl Write) -> io::Result<()> {
-        let mut written = Ok(());
-        self.lines.walk(&mut |it| {
+    /// Writes the lines from the tree: lines that follow each other in the text at once, so that they
+    /// need not be copied.
+    pub fn write_to(&self, out: &mut Out) -> io::Result<()> {
+        let (mut first, mut last, mut written) = (0, 0, Ok(()));
+        let mut put = |bytes: &[u8]| {
             if written.is_ok() {
-                written = out.write_all(it.raw(&self.text));
+                written = out.write_all(bytes);
+            }
+        };
+        self.lines.walk(&mut |line| match line.place() {
+            Some((start, end)) => {
+                if start != last {
+                    put(&self.text[first..last]);
+                    first = start;
+                }
+                last = end;
+            }
+            None => {
+                put(&self.text[first..last]);
+                put(line.raw(&self.text));
+                (first, last) = (0, 0);
             }
         });
-        written
+        put(&self.text[first..last]);
+        written.and_then(|()| out.flush())
     }
 }
 

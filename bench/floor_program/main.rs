@@ -66,11 +66,6 @@ fn over(name: &str, kept: Kept, then: impl FnOnce(&mut Document) -> io::Result<(
     done
 }
 
-fn print(document: &mut Document, out: &mut Out) -> io::Result<()> {
-    document.write_to(out)?;
-    out.flush()
-}
-
 fn edit(script: &str, name: &str, out: &mut Out) -> io::Result<()> {
     let script = fs::read(script)?;
     let commands = script::commands(&script).unwrap_or_else(|it| {
@@ -89,7 +84,7 @@ fn edit(script: &str, name: &str, out: &mut Out) -> io::Result<()> {
                 process::exit(1);
             }
         }
-        print(document, out)
+        document.write_to(out)
     })
 }
 
@@ -100,9 +95,9 @@ fn main() -> io::Result<()> {
     match words[..] {
         ["text", name] => out.get_mut().write_all(&fs::read(name)?),
         ["lines", name] => cut(name, &mut out),
-        ["boxes", name] => over(name, Kept::Bounds, |it| print(it, &mut out)),
-        ["folds", name] => over(name, Kept::Folds, |it| print(it, &mut out)),
-        ["classes", name] => over(name, Kept::Classes, |it| print(it, &mut out)),
+        ["boxes", name] => over(name, Kept::Bounds, |it| it.write_to(&mut out)),
+        ["folds", name] => over(name, Kept::Folds, |it| it.write_to(&mut out)),
+        ["classes", name] => over(name, Kept::Classes, |it| it.write_to(&mut out)),
         ["edit", script, name] => edit(script, name, &mut out),
         ["vars", name] => over(name, Kept::Classes, |it| queries::vars(it, &mut out)),
         ["rules", name] => over(name, Kept::Classes, |it| queries::rules(it, &mut out)),

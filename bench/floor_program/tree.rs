@@ -40,6 +40,11 @@ impl Line {
         }
     }
 
+    /// Where it stands in the text, if no edit wrote it.
+    pub fn place(&self) -> Option<(usize, usize)> {
+        (self.start != OWN).then_some((self.start as usize, self.end as usize))
+    }
+
     /// The piece of its folds.
     #[inline]
     fn piece(&self) -> Option<&[u8]> {
