@@ -48,7 +48,9 @@ impl Seen {
             Class::Opaque if line.is_led && self.for_make == Flag::Rule => Some(AFTER_EMPTY),
             _ if is_other(line) && !is_inside && is_open => Some(AFTER_CONDITIONAL),
             Class::Opaque => opaque_caveat(line, text),
-            Class::Recipe if is_inside && !is_open => is_conditional(word_of(line, text)).then_some(CONDITIONAL),
+            Class::Recipe if is_inside && !is_open => {
+                is_conditional(word_of(line, text)).then_some(CONDITIONAL)
+            }
             Class::Assign(it) if it.value_end - it.value == 1 => {
                 let name = line.part(text, it.name, it.name_end);
                 let is_reference = matches!(name, [b'$', b'(' | b'{', ..] | [b'$', _]);

@@ -83,7 +83,8 @@ pub fn sought_by_walk(name: &[u8], lines: &Tree, text: &[u8]) -> (u32, u32) {
     let (mut count, mut first, mut at) = (0, 0, 0);
     lines.walk(&mut |line| {
         // the offsets alone tell most other names
-        let is_as_long = matches!(line.class, Class::Assign(it) if (it.name_end - it.name) as usize == name.len());
+        let is_as_long =
+            matches!(line.class, Class::Assign(it) if (it.name_end - it.name) as usize == name.len());
         if is_as_long && name_of(line, text) == Some(name) {
             first = if count == 0 { at } else { first };
             count += 1;
