@@ -16,19 +16,27 @@ pub struct Line {
     pub class: Class,
     /// Whether it begins with the recipe prefix.
     pub is_led: bool,
+    /// The number of its folds, so that a walk which counts lines does not look at their piece; or
+    /// `MANY`, and then the piece tells it.
+    folds: u8,
 }
+
+const MANY: u8 = u8::MAX;
 
 const OWN: u32 = u32::MAX;
 
 impl Line {
     /// A line of the text, of which this is kept.
     pub fn of_text(start: usize, end: usize, kept: Option<Box<[u8]>>, class: Class, is_led: bool) -> Line {
-        Line { start: start as u32, end: end as u32, kept, class, is_led }
+        let folds = kept.as_deref().map_or(0, folds::count).min(MANY.into()) as u8;
+        Line { start: start as u32, end: end as u32, kept, class, is_led, folds }
     }
 
     /// A line of so many bytes, which end what is kept.
     pub fn of_edit(length: usize, kept: Box<[u8]>, class: Class, is_led: bool) -> Line {
-        Line { start: OWN, end: length as u32, kept: Some(kept), class, is_led }
+        let mut line = Line { start: OWN, end: length as u32, kept: Some(kept), class, is_led, folds: 0 };
+        line.folds = line.piece().map_or(0, folds::count).min(MANY.into()) as u8;
+        line
     }
 
     /// Its bytes, with its line end. `text` is that of the document.
@@ -72,7 +80,10 @@ impl Line {
     }
 
     pub fn physical_lines(&self) -> usize {
-        self.piece().map_or(1, |it| folds::count(it) + 1)
+        match self.folds {
+            MANY => self.piece().map_or(1, |it| folds::count(it) + 1),
+            folds => folds as usize + 1,
+        }
     }
 
     /// How many raw bytes stand before an offset of the joined text.
