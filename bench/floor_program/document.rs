@@ -4,7 +4,7 @@ use crate::Out;
 use crate::class::{Context, read_class};
 use crate::folds::{self, Folding};
 use crate::index::Index;
-use crate::lines::{Lines, line_end};
+use crate::lines::{Lines, is_continued, line_end};
 use crate::reading::{Kept, Reader};
 use crate::tree::{Line, Node, Tree, boxed, tree_of, without_last};
 use std::collections::VecDeque;
@@ -48,7 +48,8 @@ impl Document {
 
     /// Whether a line can follow the last one.
     pub fn is_closed(&self) -> bool {
-        self.last().is_none_or(|it| it.raw(&self.text).ends_with(b"\n"))
+        let last = self.last().map(|it| it.raw(&self.text));
+        last.is_none_or(|it| it.ends_with(b"\n") && !is_continued(it))
     }
 
     fn last(&self) -> Option<&Line> {

@@ -21,11 +21,11 @@ pub enum Refusal {
     OpenDefine,
     TooLong,
     NothingToUndo,
-    /// What this program does not do, and mkedit does.
+    /// This program does not do it, and mkedit does.
     NotHere,
 }
 
-/// A script of as many `set` makes an index.
+/// A script with this number of `set`, or more, makes an index.
 pub const MANY: usize = 10;
 
 impl Document {

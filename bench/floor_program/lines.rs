@@ -18,7 +18,8 @@ pub fn line_end(text: &[u8], start: usize) -> usize {
     find(&text[start..], b'\n').map_or(text.len(), |it| start + it + 1)
 }
 
-fn is_continued(line: &[u8]) -> bool {
+/// Whether a physical line goes on below.
+pub fn is_continued(line: &[u8]) -> bool {
     let Some(line) = line.strip_suffix(b"\n") else {
         return false;
     };

@@ -17,8 +17,8 @@
 //!     floor vars FILE           prints what the query of this name prints; likewise rules, check and
 //!                               caveats
 //!
-//! It does only what the bench asks for: the head of each file says what it leaves out. No memory is
-//! given up but that of lines that no undo can bring back.
+//! It does only what the bench asks for; docs/SPEED.md says what it leaves out. It gives up the memory
+//! of lines that no undo can bring back, and no other memory.
 
 mod bytes;
 mod caveats;

@@ -21,9 +21,8 @@ pub struct Line {
     folds: u8,
 }
 
-const MANY: u8 = u8::MAX;
-
 const OWN: u32 = u32::MAX;
+const MANY: u8 = u8::MAX;
 
 impl Line {
     /// A line of the text, of which this is kept.
@@ -32,7 +31,7 @@ impl Line {
         Line { start: start as u32, end: end as u32, kept, class, is_led, folds }
     }
 
-    /// A line of so many bytes, which end what is kept.
+    /// A line of this number of bytes, which stand at the end of what is kept.
     pub fn of_edit(length: usize, kept: Box<[u8]>, class: Class, is_led: bool) -> Line {
         let mut line = Line { start: OWN, end: length as u32, kept: Some(kept), class, is_led, folds: 0 };
         line.folds = line.piece().map_or(0, folds::count).min(MANY.into()) as u8;
@@ -161,7 +160,7 @@ pub fn tree_of(mut left: Tree, mut node: Box<Node>, right: Tree) -> Tree {
     }
 }
 
-/// The lines of a tree but the last one.
+/// The lines of a tree without the last one.
 pub fn without_last(tree: Tree) -> Tree {
     let Some(mut top) = tree.top else {
         return tree;
