@@ -9,6 +9,7 @@ mod ScanLemmas
 mod SearchLemmas
 mod MarkLemmas
 mod CoverLemmas
+mod PassedLemmas
 pub mod WordLemmas
 mod AssignmentLemmas
 mod HeaderLemmas

@@ -169,8 +169,12 @@ pub(crate) fn after_name(text: &[u8]) -> &[u8]
     ensures within { length result.now ≤ length text.now }
 {
     let mut rest = text;
-    while !rest.is_empty() && !ends_name(rest) {
-        rest = after_first_unit(rest);
+    while let [first, after @ ..] = rest {
+        rest = match first {
+            b'$' | b'\\' => after_first_unit(rest),
+            _ if ends_name(rest) => break,
+            _ => after,
+        };
     }
     rest
 }

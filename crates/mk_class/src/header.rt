@@ -189,6 +189,9 @@ fn has_bar(text: &[u8], marks: Marks) -> bool
 }
 
 /// A text from its first separator on.
+///
+/// Each byte before the first `:`, `$` or backslash is a unit by itself, and no `:`. So a search
+/// passes over all of these bytes but the last, which may be the `&` of a separator.
 fn from_separator(text: &[u8]) -> &[u8]
     ensures rest { units itself result.now
         ≡ from (begins_separator itself) (units itself text.now) }
@@ -196,7 +199,8 @@ fn from_separator(text: &[u8]) -> &[u8]
         || begins_separator itself (units itself result.now)) ≡ true }
     ensures within { length result.now ≤ length text.now }
 {
-    let mut rest = text;
+    let passed = memchr3(b'$', b'\\', b':', text).unwrap_or(text.len());
+    let mut rest = &text[passed.saturating_sub(1)..];
     while !rest.is_empty() && !begins_separator(rest) {
         rest = after_first_unit(rest);
     }

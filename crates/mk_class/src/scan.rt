@@ -2,8 +2,9 @@
 //!
 //! Each call answers the rest of the text, as a part of it; the units of the rest are the last
 //! units of the text. If a byte does not stand in a text, none of its units is that byte. So the
-//! marks of a line or a search for the byte come first, and most texts are not read by units at all.
-//! All calls take time linear in the bytes that they pass over or search, and no memory.
+//! marks of a line or a search for the byte come first, and most texts are not read by units at all;
+//! in the others the bytes before the first `$` or backslash are units by themselves. All calls take
+//! time linear in the bytes that they pass over or search, and no memory.
 ghost use Rattle.std.specs.Prelude.{◌≡◌, ◌≤◌, ◌+◌, ◌++◌, List, [], ◌∷◌, ℕ, false, length, MatchOption};
 ghost use Rattle.std.specs.List.{list_any};
 ghost use Rattle.mk_lines.specs.Lists.{after_leading, trailing};
@@ -18,7 +19,7 @@ ghost use Rattle.mk_class.specs.ListTests.{first_passes, last_passes};
 ghost use Rattle.mk_class.specs.Symbols.{is_colon, is_equals, is_hash};
 
 use crate::marks::Marks;
-use memchr::memchr;
+use memchr::{memchr, memchr2, memchr3};
 use mk_lines::after_first_unit;
 
 /// What follows the blanks at the front of a text.
@@ -66,6 +67,7 @@ pub(crate) fn from_any<'a>(text: &'a [u8], stops: &[u8]) -> &'a [u8]
 ///
 /// The byte may be neither `$` nor a backslash. Most texts do not have the byte, and then no unit
 /// is looked at.
+#[inline]
 fn from_unit(text: &[u8], byte: u8) -> &[u8]
     requires { byte_mark byte ≡ Unmarked }
     ensures rest { units itself result.now
@@ -73,9 +75,25 @@ fn from_unit(text: &[u8], byte: u8) -> &[u8]
     ensures within { length result.now ≤ length text.now }
 {
     match memchr(byte, text) {
-        Some(_) => from_any(text, &[byte]),
+        Some(_) => from_unit_by_marks(text, byte),
         None => &[],
     }
+}
+
+/// As [`from_unit`], for a text that has the byte, if maybe only within longer units.
+///
+/// A longer unit begins with `$` or a backslash. So each byte before the first of these is a unit
+/// by itself, and is passed over by a search.
+// This stays a call of its own, so that the search before it is inlined where texts are read.
+#[inline(never)]
+fn from_unit_by_marks(text: &[u8], byte: u8) -> &[u8]
+    requires { byte_mark byte ≡ Unmarked }
+    ensures rest { units itself result.now
+        ≡ after_leading (is_other (byte ∷ [])) (units itself text.now) }
+    ensures within { length result.now ≤ length text.now }
+{
+    let passed = memchr3(b'$', b'\\', byte, text).unwrap_or(text.len());
+    from_any(&text[passed..], &[byte])
 }
 
 /// A text split at its first unit that is this byte, which is neither `$` nor a backslash: what
@@ -145,12 +163,18 @@ pub(crate) fn split_head(text: &[u8], marks: Marks) -> (&[u8], &[u8])
 }
 
 /// The blanks at the end of a text.
+///
+/// In a text without `$` and backslash each byte is a unit by itself, and the bytes are looked at
+/// from the end. Other texts are read by units, from the front.
 pub(crate) fn blanks_at_end(text: &[u8]) -> &[u8]
     ensures rest { units itself result.now ≡ trailing (is_gap itself) (units itself text.now) }
     ensures within { length result.now ≤ length text.now }
 {
     if !ends_with_blank(text) {
         return &[];
+    }
+    if memchr2(b'$', b'\\', text).is_none() {
+        return blank_bytes_at_end(text);
     }
     let mut rest = text;
     loop {
@@ -160,6 +184,17 @@ pub(crate) fn blanks_at_end(text: &[u8]) -> &[u8]
         }
         rest = from_any(after_first_unit(word), b" \t");
     }
+}
+
+/// The bytes at the end of a text that are blanks, be they units or not.
+fn blank_bytes_at_end(text: &[u8]) -> &[u8]
+    ensures { result.now ≡ trailing is_blank_byte text.now }
+{
+    let mut end = text.len();
+    while ends_with_blank(&text[..end]) {
+        end -= 1;
+    }
+    &text[end..]
 }
 
 /// Whether the last byte of a text is a blank.

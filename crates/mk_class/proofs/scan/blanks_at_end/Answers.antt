@@ -1,4 +1,5 @@
-use Rattle.std.proofs.Common.{◌∙◌, sym, arith}
+use Rattle.std.proofs.Common.{◌∙◌, ap, not, sym, arith}
+use Rattle.mk_class.proofs.PassedLemmas.{blanks-bytes, blanks-shorter}
 use Rattle.mk_class.proofs.ScanLemmas.{blanks_at_end-step, blanks_at_end-whole}
 use Rattle.mk_class.proofs.SearchLemmas.{no_blanks_at_end}
 use Rattle.mk_class.proofs.scan.blanks_at_end.Goals as goal
@@ -14,3 +15,10 @@ returns-then-is_empty-clause-rest c = blanks_at_end-whole c.loop-word.rest.now c
 
 pub returns-then-not-ends_with_blank-clause-rest : goal.returns-then-not-ends_with_blank-clause-rest
 returns-then-not-ends_with_blank-clause-rest c = no_blanks_at_end c.args.text.now (sym c.ends_with_blank.ensures ∙ c.if-not-ends_with_blank.true)
+
+pub returns-then-is_none-clause-rest : goal.returns-then-is_none-clause-rest
+returns-then-is_none-clause-rest c =
+    blanks-bytes c.args.text.now c.blank_bytes_at_end.result.now c.memchr2.result c.memchr2.ensures (c.is_none.ensures ∙ ap not c.if-is_none.true) c.blank_bytes_at_end.ensures
+
+pub returns-then-is_none-clause-within : goal.returns-then-is_none-clause-within
+returns-then-is_none-clause-within c = blanks-shorter c.args.text.now c.blank_bytes_at_end.result.now c.blank_bytes_at_end.ensures
