@@ -83,11 +83,21 @@ def call(words, folder, **environment):
         raise NotBuilt(f"{words[0]} ended with {status}: {said[-2000:]}")
 
 
-def compile_program(folder, flags):
-    """Compiles the program with these flags too, into the object file module.o of an empty folder."""
+def module_of(folder):
+    """Makes the module of the program in an empty folder, and hands out its path."""
     module = folder / "module.bc"
     other_kit(folder / "kit", module)
     _, said = called([folder / "kit/bin/rt", "try"], TOP / "crates/mkedit")
     if not module.is_file():
         raise NotBuilt(f"rt try compiled no module: {said[-2000:]}")
+    return module
+
+
+def compile_module(folder, module, flags):
+    """Compiles a module with these flags too, into the object file module.o of the folder."""
     call([kit() / CLANG, *COMPILES, *flags, module, "-o", "module.o"], folder)
+
+
+def compile_program(folder, flags):
+    """Compiles the program with these flags too, into the object file module.o of an empty folder."""
+    compile_module(folder, module_of(folder), flags)
