@@ -118,7 +118,7 @@ context_after-step c (l ∷ ls) left x zero e = let same : l ≡ x = cc in ap (�
 context_after-step c (l ∷ ls) left x (suc n) e = rw (suc-add n 1) (context_after-step (context_after_located c l.class) ls left x n e)
 
 -- the lines that are left after one more line
-drop-step : (ls left : List LocatedLine) (x : LocatedLine) (n : ℕ) → drop n ls ≡ x ∷ left → drop (n + 1) ls ≡ left
+pub drop-step : (ls left : List LocatedLine) (x : LocatedLine) (n : ℕ) → drop n ls ≡ x ∷ left → drop (n + 1) ls ≡ left
 drop-step [] left x zero e = cc
 drop-step [] left x (suc n) e = cc
 drop-step (l ∷ ls) left x zero e = cc

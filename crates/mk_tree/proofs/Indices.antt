@@ -28,7 +28,7 @@ take_right l r x at h =
     let e : at ≡ length l + suc (at - length l - 1) = omega arith in
     ap (λ i. take i (l ++ x ∷ r)) e ∙ take-append-add l (x ∷ r) (suc (at - length l - 1))
 
-drop_right : {X : Type 0} (l r : List X) (x : X) (at : ℕ) → length l < at → drop at (l ++ x ∷ r) ≡ drop (at - length l - 1) r
+pub drop_right : {X : Type 0} (l r : List X) (x : X) (at : ℕ) → length l < at → drop at (l ++ x ∷ r) ≡ drop (at - length l - 1) r
 drop_right l r x at h =
     let e : at ≡ length l + suc (at - length l - 1) = omega arith in
     ap (λ i. drop i (l ++ x ∷ r)) e ∙ drop-append-add l (x ∷ r) (suc (at - length l - 1))

@@ -8,6 +8,7 @@ pub mod Changes
 pub mod Ends
 pub mod Heights
 pub mod Nodes
+pub mod OriginLemmas
 pub mod Indices
 pub mod PlainLemmas
 pub mod PlainLines

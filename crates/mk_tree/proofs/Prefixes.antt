@@ -1,13 +1,15 @@
 -- A text that goes out in parts, the end of what there is of it so far being held back.
-use Rattle.std.proofs.Common.{◌≡◌, ℕ, List, [], ◌∷◌, ◌++◌, length, take, sym, ap, ◌∙◌, subst, arith, append_assoc, append-nil}
+use Rattle.std.proofs.Common.{◌≡◌, ℕ, List, [], ◌∷◌, ◌++◌, ◌+◌, ◌<◌, length, take, drop, sym, ap, ◌∙◌, subst, arith, append_assoc, append-nil}
 use Rattle.std.specs.Prelude.{Option}
 use Rattle.std.specs.Io.KnownBytes.{Appends}
 use Rattle.std.proofs.KnownBytes.{Appends-nil, Appends-trans}
 use Rattle.std.proofs.Math.Seq.{take-append_seam}
 use Rattle.mk_lines.specs.Device.{AppendsPrefix}
-use Rattle.mk_lines.proofs.PrefixLemmas.{AppendsPrefix-more}
+use Rattle.std.proofs.lemmas.List.{take-take}
+use Rattle.mk_lines.proofs.PrefixLemmas.{AppendsPrefix-front, AppendsPrefix-more}
 use Rattle.mk_tree.specs.LocatedLines.{LocatedLine, located_text}
 use Rattle.mk_tree.specs.Printing.{AppendsSoFar}
+use Rattle.mk_tree.proofs.OriginLemmas.{located_text-cut, text-step}
 
 -- the whole is a prefix
 pub AppendsPrefix-whole : (a b : Option (List ℕ)) (x : List ℕ) → Appends a b x → AppendsPrefix a b x
@@ -59,3 +61,36 @@ line-step front bytes whole x ahead left e f h =
 -- no line is left, so everything is out or held back
 pub line-end : (front whole : List ℕ) (ahead : List LocatedLine) → ahead ≡ [] → front ++ located_text ahead ≡ whole → front ≡ whole
 line-end front whole ahead e h = sym (append-nil front) ∙ (ap (λ z. front ++ located_text z) (sym e) ∙ h)
+
+-- nothing more goes out, and the same bytes are held back
+pub so_far-held : (a : Option (List ℕ)) (held : List ℕ) → AppendsSoFar a a (held ++ []) held
+so_far-held a held = ([], sym (append-nil held), Appends-nil a)
+
+-- what is out is a prefix
+pub so_far-out : (a b : Option (List ℕ)) (text held : List ℕ) → AppendsSoFar a b text held → AppendsPrefix a b text
+so_far-out a b text held (w, e, out) =
+    subst (AppendsPrefix a b) e (AppendsPrefix-front a b w held (AppendsPrefix-whole a b w out))
+
+line-joined : (start bytes : List ℕ) (ls ahead left : List LocatedLine) (x : LocatedLine) (n : ℕ) → drop n ls ≡ ahead → ahead ≡ x ∷ left → bytes ≡ x.bytes
+    → (start ++ located_text (take n ls)) ++ bytes ≡ start ++ located_text (take (n + 1) ls)
+line-joined start bytes ls ahead left x n at e f =
+    append_assoc start (located_text (take n ls)) bytes ∙ ap (λ z. start ++ z) (ap (λ z. located_text (take n ls) ++ z) f ∙ sym (text-step ls ahead left x n at e))
+
+-- one line more behind others, all of which are out or held back
+pub so_far-line : (a b c : Option (List ℕ)) (start held bytes held' : List ℕ) (ls ahead left : List LocatedLine) (x : LocatedLine) (n : ℕ) → drop n ls ≡ ahead → ahead ≡ x ∷ left → bytes ≡ x.bytes
+    → AppendsSoFar a b (start ++ located_text (take n ls)) held → AppendsSoFar b c (held ++ bytes) held' → AppendsSoFar a c (start ++ located_text (take (n + 1) ls)) held'
+so_far-line a b c start held bytes held' ls ahead left x n at e f before more =
+    subst (λ z. AppendsSoFar a c z held') (line-joined start bytes ls ahead left x n at e f)
+    (so_far-more a b c (start ++ located_text (take n ls)) held bytes held' before more)
+
+-- a prefix of one line more behind others goes out; further lines follow
+pub so_far-line_prefix : (a b c : Option (List ℕ)) (start held bytes : List ℕ) (ls ahead left : List LocatedLine) (x : LocatedLine) (n count : ℕ) → drop n ls ≡ ahead → ahead ≡ x ∷ left → bytes ≡ x.bytes → n < count
+    → AppendsSoFar a b (start ++ located_text (take n ls)) held → AppendsPrefix b c (held ++ bytes) → AppendsPrefix a c (start ++ located_text (take count ls))
+so_far-line_prefix a b c start held bytes ls ahead left x n count at e f few before more =
+    let here : AppendsPrefix a c (start ++ located_text (take (n + 1) ls)) =
+      subst (AppendsPrefix a c) (line-joined start bytes ls ahead left x n at e f) (so_far-prefix a b c (start ++ located_text (take n ls)) held bytes before more) in
+    let rest = located_text (drop (n + 1) (take count ls)) in
+    let whole : (start ++ located_text (take (n + 1) ls)) ++ rest ≡ start ++ located_text (take count ls) =
+      append_assoc start (located_text (take (n + 1) ls)) rest
+      ∙ ap (λ z. start ++ z) (ap (λ z. located_text z ++ rest) (sym (take-take (n + 1) count ls (omega arith))) ∙ sym (located_text-cut (n + 1) (take count ls))) in
+    subst (AppendsPrefix a c) whole (AppendsPrefix-front a c (start ++ located_text (take (n + 1) ls)) rest here)

@@ -1,7 +1,9 @@
 -- A walk over the lines of a tree: one more line passed on its left side.
-use Rattle.std.proofs.Common.{◌≡◌, ℕ, ◌+◌, ◌<◌, ◌≤◌, sym, ap, ◌∙◌, arith, List, [], ◌∷◌, ◌++◌, length, Option, Some, None, append_assoc, append-nil}
+use Rattle.std.proofs.Common.{◌≡◌, ℕ, ◌+◌, ◌<◌, ◌≤◌, sym, ap, ◌∙◌, arith, ◌-◌, List, [], ◌∷◌, ◌++◌, length, length-append, drop, Option, Some, None, append_assoc, append-nil}
 use Rattle.std.specs.Borrow.{Bor}
+use Rattle.std.proofs.lemmas.List.{drop-append-le}
 use Rattle.mk_tree.specs.LocatedLines.{LocatedLine}
+use Rattle.mk_tree.proofs.Indices.{drop_right}
 use Rattle.mk_tree.specs.Trees.{line_view, IsTop}
 use Rattle.mk_tree.specs.TreeWalks.{lines_ahead, HaveRoom}
 use Rattle.mk_tree.specs.declared.tree.Line.{Line}
@@ -17,17 +19,39 @@ HaveRoom-push depth [] l h k = (omega (arith, k), tt)
 HaveRoom-push depth (None ∷ passed) l h k = elim h [ ]
 HaveRoom-push depth (Some x ∷ passed) l h k = (h.0, HaveRoom-push (depth + 1) passed l h.1 (omega (arith, k)))
 
--- one step down: the line is passed, and what stands before it is still to be passed
-pub down-step : {A : _} (passed new : List (Option (Bor (Line A)))) (l : Bor (Line A)) (tree before : List LocatedLine × ℕ) (whole : List LocatedLine) (n m : ℕ)
-    → n ≡ length passed → m ≡ n + 1 → new ≡ passed ++ Some l ∷ [] → before ≡ l.now.node.value.left → IsTop tree l.now
-    → n + tree.1 ≤ 34 → HaveRoom 0 passed → tree.0 ++ lines_ahead passed ≡ whole
-    → (m + before.1 ≤ 34) × HaveRoom 0 new × (before.0 ++ lines_ahead new ≡ whole)
-down-step passed new l tree before whole n m count more e b top room within ahead =
+-- One step down to the left, on the way to an index: the line is passed, and what stands before it is still to be passed.
+pub down-step : {A : _} (passed new : List (Option (Bor (Line A)))) (l : Bor (Line A)) (tree before : List LocatedLine × ℕ) (whole : List LocatedLine) (n m at : ℕ)
+    → n ≡ length passed → m ≡ n + 1 → new ≡ passed ++ Some l ∷ [] → before ≡ l.now.node.value.left → IsTop tree l.now → at ≤ length before.0
+    → n + tree.1 ≤ 34 → HaveRoom 0 passed → drop at tree.0 ++ lines_ahead passed ≡ whole
+    → (m + before.1 ≤ 34) × HaveRoom 0 new × (drop at before.0 ++ lines_ahead new ≡ whole)
+down-step passed new l tree before whole n m at count more e b top short room within ahead =
     let left = l.now.node.value.left in
-    let right = l.now.node.value.right in (
+    let right = l.now.node.value.right in
+    let cut : drop at (left.0 ++ line_view l.now ∷ right.0) ≡ drop at left.0 ++ line_view l.now ∷ right.0 = drop-append-le at left.0 (line_view l.now ∷ right.0) (rw b at short) in (
       rw b (omega (arith, more, top.height, room)),
       rw e (HaveRoom-push 0 passed l within (omega (arith, count, top.height, room))),
-      rw (e, b) (ap (λ z. left.0 ++ z) (lines_ahead-push passed l) ∙ (sym (append_assoc left.0 (line_view l.now ∷ right.0) (lines_ahead passed)) ∙ (ap (λ z. z ++ lines_ahead passed) (sym top.lines) ∙ ahead))),
+      rw (e, b)
+      (ap (λ z. drop at left.0 ++ z) (lines_ahead-push passed l)
+      ∙ (sym (append_assoc (drop at left.0) (line_view l.now ∷ right.0) (lines_ahead passed))
+      ∙ (ap (λ z. z ++ lines_ahead passed) (sym cut ∙ ap (drop at) (sym top.lines)) ∙ ahead))),
+    )
+
+-- One step down to the right: the line stands before the index, and so does what stands before the line.
+pub down-right : {A : _} (passed : List (Option (Bor (Line A)))) (l : Bor (Line A)) (tree before after : List LocatedLine × ℕ) (whole : List LocatedLine) (n at k to : ℕ)
+    → before ≡ l.now.node.value.left → after ≡ l.now.node.value.right → IsTop tree l.now → k ≡ length before.0 → k < at → at ≤ length tree.0 → to ≡ at - k - 1
+    → n + tree.1 ≤ 34 → drop at tree.0 ++ lines_ahead passed ≡ whole
+    → (n + after.1 ≤ 34) × (drop to after.0 ++ lines_ahead passed ≡ whole) × (to ≤ length after.0)
+down-right passed l tree before after whole n at k to b a top count behind within new room ahead =
+    let left = l.now.node.value.left in
+    let right = l.now.node.value.right in
+    let long : length left.0 ≡ k = ap (λ z. length z.0) (sym b) ∙ sym count in
+    let cut : drop at (left.0 ++ line_view l.now ∷ right.0) ≡ drop to right.0 =
+      drop_right left.0 right.0 (line_view l.now) at (omega arith) ∙ ap (λ i. drop i right.0) (let i : at - length left.0 - 1 ≡ to = omega arith in i) in
+    let all : length tree.0 ≡ length left.0 + length (line_view l.now ∷ right.0) = ap length top.lines ∙ length-append left.0 (line_view l.now ∷ right.0) in
+    (
+      rw a (omega (arith, top.height, room)),
+      rw a (ap (λ z. z ++ lines_ahead passed) (sym cut ∙ ap (drop at) (sym top.lines)) ∙ ahead),
+      rw a (omega arith),
     )
 
 -- the last line that was passed, if there is one, and the room below it

@@ -17,6 +17,7 @@ pub mod StoredClasses
 pub mod Contents
 pub mod Trees
 pub mod TreeWalks
+pub mod Origins
 pub mod Admissions
 pub mod Plain
 pub mod Unread

@@ -10,6 +10,7 @@ ghost use Rattle.mk_tree.specs.Trees.{line_view};
 
 use crate::iter::Lines;
 use crate::line_bytes::LineBytes;
+use crate::origin::Origin;
 use crate::tree::{Line, Tree};
 use std::alloc::{Allocator, Global};
 use std::marker::Model;
@@ -27,17 +28,23 @@ pub struct Doc<A: Allocator = Global> {
     pub(crate) tree: Tree<A>,
     // How many bytes the lines have together.
     pub(crate) size: usize,
+    // The text that it was read from.
+    pub(crate) origin: Origin<A>,
 }
 
 impl<A: Allocator> Model for Doc<A> {
     ghost use Rattle.std.specs.Prelude.{◌≡◌, List};
+    ghost use Rattle.std.specs.Rc.{rc_slice_items};
     ghost use Rattle.mk_tree.specs.LocatedLines.{LocatedLine, AreConditionalsFit, size_of};
+    ghost use Rattle.mk_tree.specs.Origins.{AreUntouched};
 
     ghost Value = { List LocatedLine };
 
     ghost view = { λ d. d.tree.0 };
 
-    ghost invariant = { λ d. AreConditionalsFit 0 d.tree.0 × (d.size ≡ size_of d.tree.0) };
+    ghost invariant = { λ d. AreConditionalsFit 0 d.tree.0
+        × (d.size ≡ size_of d.tree.0)
+        × AreUntouched (rc_slice_items d.origin.text) d.origin.first d.origin.last d.tree.0 };
 }
 
 impl<A: Allocator> Doc<A> {
@@ -89,6 +96,14 @@ impl<A: Allocator> Doc<A> {
         Lines::new(&self.tree)
     }
 
+    /// The lines from the one at an index on, in order. It copies nothing and takes no memory.
+    pub(crate) fn lines_from(&self, at: usize) -> Lines<'_, A>
+        requires { at ≤ length self.now }
+        ensures { result ≡ drop at self.now }
+    {
+        Lines::from_index(&self.tree, at)
+    }
+
     /// Puts a line before the line at an index from 0, or at the end of the document. Takes no
     /// memory and is never refused.
     ///
@@ -100,6 +115,7 @@ impl<A: Allocator> Doc<A> {
         requires fits { size_of self.old + length (line_view line).bytes ≤ max_text }
         ensures lines { self.new ≡ take at self.old ++ line_view line ∷ drop at self.old }
     {
+        self.origin.keep(at, self.tree.len() - at);
         let tree = mem::replace(&mut self.tree, Tree::new());
         self.size += line.bytes().len();
         self.tree = tree.insert(at, line);
@@ -115,6 +131,7 @@ impl<A: Allocator> Doc<A> {
         ensures line { Some (line_view result) ≡ slice_get self.old at }
         ensures lines { self.new ≡ take at self.old ++ drop (at + 1) self.old }
     {
+        self.origin.keep(at, self.tree.len() - at - 1);
         let tree = mem::replace(&mut self.tree, Tree::new());
         let (tree, line) = tree.remove(at);
         self.tree = tree;
@@ -138,6 +155,7 @@ impl<A: Allocator> Doc<A> {
         ensures line { Some (line_view result) ≡ slice_get self.old at }
         ensures lines { self.new ≡ take at self.old ++ line_view line ∷ drop (at + 1) self.old }
     {
+        self.origin.keep(at, self.tree.len() - at - 1);
         let tree = mem::replace(&mut self.tree, Tree::new());
         let size = self.size + line.bytes().len();
         let (tree, old) = tree.replace(at, line);
@@ -163,6 +181,7 @@ impl<A: Allocator> Doc<A> {
         ensures old { result ≡ bytes_of_line (last_line self.old) }
         ensures some_bytes_back { 0 < length result }
     {
+        self.origin.keep(self.tree.len() - 1, 0);
         let tree = mem::replace(&mut self.tree, Tree::new());
         let size = self.size + bytes.as_slice().len();
         let (tree, old) = tree.swap_end(bytes);

@@ -1,5 +1,5 @@
 //! The lines of a tree in order.
-ghost use Rattle.std.specs.Prelude.{◌≡◌, ◌+◌, ◌≤◌, ◌++◌, length};
+ghost use Rattle.std.specs.Prelude.{◌≡◌, ◌+◌, ◌≤◌, ◌++◌, drop, length};
 ghost use Rattle.arrayvec.specs.ArrayVec.{array_vec_len};
 ghost use Rattle.mk_lines.specs.Limits.{max_text};
 ghost use Rattle.mk_tree.specs.TreeWalks.{lines_ahead, HaveRoom};
@@ -46,6 +46,41 @@ impl<'a, A: Allocator> Lines<'a, A> {
             pass_left(&mut passed, tree);
         }
         Lines { passed }
+    }
+
+    /// The lines of a tree from the one at an index on.
+    pub(crate) fn from_index(tree: &'a Tree<A>, at: usize) -> Lines<'a, A>
+        requires { at ≤ length tree.now.0 }
+        ensures { result ≡ drop at tree.now.0 }
+    {
+        let mut passed = ArrayVec::new();
+        if at < tree.len() {
+            pass_to(&mut passed, tree, at);
+        }
+        Lines { passed }
+    }
+}
+
+// Goes down to the line of a tree at an index, past the lines on the way that come after it.
+fn pass_to<'a, A: Allocator>(passed: &mut Passed<'a, A>, whole: &'a Tree<A>, index: usize)
+    requires in_range { index ≤ length whole.now.0 }
+    requires room { array_vec_len passed.old + whole.now.1 ≤ 34 }
+    requires within { HaveRoom 0 passed.old.items }
+    ensures ahead { lines_ahead passed.new.items
+        ≡ drop index whole.now.0 ++ lines_ahead passed.old.items }
+    ensures within { HaveRoom 0 passed.new.items }
+{
+    let mut tree = whole;
+    let mut at = index;
+    'down: while let Some(line) = tree.top() {
+        let before = line.before().len();
+        if at <= before {
+            passed.push(Some(line));
+            tree = line.before();
+        } else {
+            at = at - before - 1;
+            tree = line.after();
+        }
     }
 }
 

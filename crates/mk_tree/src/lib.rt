@@ -16,6 +16,7 @@ pub mod gathering;
 pub mod iter;
 pub mod laws;
 pub mod line_bytes;
+mod origin;
 pub mod parse;
 mod plain;
 mod print;

@@ -9,6 +9,7 @@ ghost use Rattle.mk_tree.specs.LocatedLines.{size_of};
 ghost use Rattle.mk_tree.specs.Unread.{AreReadFrom, AreTooDeep, shown_lines};
 
 use crate::document::Doc;
+use crate::origin::Origin;
 use crate::tree::Tree;
 use crate::unread::Unread;
 use mk_class::Meter;
@@ -74,7 +75,8 @@ impl<A: Allocator + Copy> Doc<A> {
         let text = RcSlice::from_vec(text)?;
         let mut lines = Unread::new(alloc, &text);
         let tree = read_tree(&mut lines, BOUND_OF_HEIGHT, meter)?;
-        Ok(Doc { tree, size })
+        let origin = Origin::new(text, tree.len());
+        Ok(Doc { tree, size, origin })
     }
 }
 

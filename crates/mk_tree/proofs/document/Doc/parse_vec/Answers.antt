@@ -6,6 +6,7 @@ use Rattle.mk_tree.specs.Unread.{UnreadLines, shown_lines}
 use Rattle.mk_tree.proofs.on_changes.Sizes.{size_of-text}
 use Rattle.mk_tree.proofs.on_documents.DocumentLemmas.{faithful-own, faithful-text}
 use Rattle.mk_tree.proofs.Reading.{read-all, shallow, size_of-document}
+use Rattle.mk_tree.proofs.OriginLemmas.{untouched-read}
 use Rattle.mk_tree.proofs.document.Doc.parse_vec.Goals as goal
 
 pub read_tree-requires : goal.read_tree-requires
@@ -37,4 +38,5 @@ invariant_of-result g c =
     let short : length text ≤ max_text = omega (arith, c.if-len-gt-MAX_TEXT.false, c.len.ensures, ap length c.in_ok-text.ensures) in
     let read = read-all text _ _ c.in_ok-tree.tree.0 c.in_ok-tree.tree.1 short c.new-lines.ensures c.in_ok-tree.ensures.read c.in_ok-tree.ensures.full in
     let size : size_of c.in_ok-tree.tree.0 ≡ length text = size_of-text c.in_ok-tree.tree.0 ∙ ap length (faithful-text c.in_ok-tree.tree.0 text read.0) in
-    (rw read.0 read.1, omega (arith, c.len-size.ensures, size, ap length c.in_ok-text.ensures))
+    let untouched = untouched-read text _ c.len-2.result _ _ c.in_ok-tree.tree.0 c.len-2.ensures.len c.new-origin.ensures.first c.new-origin.ensures.last c.new-origin.ensures.text (faithful-text c.in_ok-tree.tree.0 text read.0) in
+    (rw read.0 read.1, omega (arith, c.len-size.ensures, size, ap length c.in_ok-text.ensures), untouched)
