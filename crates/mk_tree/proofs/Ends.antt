@@ -1,5 +1,5 @@
 -- The last of some lines, with other bytes.
-use Rattle.std.proofs.Common.{◌≡◌, ℕ, ◌+◌, ◌-◌, ◌<◌, ◌≤◌, refl, sym, ap, ◌∙◌, arith, List, [], ◌∷◌, ◌++◌, length, length-append, append-nil, take, drop, Option, Some, None}
+use Rattle.std.proofs.Common.{◌≡◌, ℕ, zero, suc, ◌+◌, ◌-◌, ◌<◌, ◌≤◌, refl, sym, ap, ◌∙◌, arith, List, [], ◌∷◌, ◌++◌, length, length-append, append-nil, take, drop, Option, Some, None}
 use Rattle.std.specs.Prelude.{slice_get}
 use Rattle.mk_class.specs.Contexts.{conditionals_after_located}
 use Rattle.mk_tree.specs.LocatedLines.{LocatedLine, size_of, size_of_line, bytes_of_line, last_line, with_last_bytes, AreConditionalsFit}
@@ -15,6 +15,17 @@ with_last-append : (bytes : List ℕ) (l r : List LocatedLine) (x : LocatedLine)
 with_last-append bytes [] r x = refl
 with_last-append bytes (y ∷ []) r x = refl
 with_last-append bytes (y ∷ z ∷ l) r x = ap (λ q. y ∷ q) (with_last-append bytes (z ∷ l) r x)
+
+pub take-with_last : (bytes : List ℕ) (n : ℕ) (ls : List LocatedLine) → n < length ls → take n (with_last_bytes bytes ls) ≡ take n ls
+take-with_last bytes zero ls h = refl
+take-with_last bytes (suc n) [] h = absurd (omega (arith, h))
+take-with_last bytes (suc n) (l ∷ []) h = absurd (omega (arith, h))
+take-with_last bytes (suc n) (l ∷ k ∷ ls) h = ap (λ z. l ∷ z) (take-with_last bytes n (k ∷ ls) (omega (arith, h)))
+
+pub length-with_last : (bytes : List ℕ) (ls : List LocatedLine) → length (with_last_bytes bytes ls) ≡ length ls
+length-with_last bytes [] = refl
+length-with_last bytes (l ∷ []) = refl
+length-with_last bytes (l ∷ k ∷ ls) = ap suc (length-with_last bytes (k ∷ ls))
 
 drop-all : (ls : List LocatedLine) → drop (length ls) ls ≡ []
 drop-all [] = refl

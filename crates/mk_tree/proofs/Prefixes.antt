@@ -51,16 +51,7 @@ gather-whole a b c held out more held' f e first then =
 pub gather-prefix : (a b c : Option (List ℕ)) (held out more : List ℕ) → out ≡ held → Appends a b out → AppendsPrefix b c more → AppendsPrefix a c (held ++ more)
 gather-prefix a b c held out more f first then = AppendsPrefix-more a b c held more (subst (Appends a b) f first) then
 
--- ---- a line of a document
-
--- one line more is out or held back
-pub line-step : (front bytes whole : List ℕ) (x : LocatedLine) (ahead left : List LocatedLine) → ahead ≡ x ∷ left → bytes ≡ x.bytes → front ++ located_text ahead ≡ whole → (front ++ bytes) ++ located_text left ≡ whole
-line-step front bytes whole x ahead left e f h =
-    append_assoc front bytes (located_text left) ∙ (ap (λ z. front ++ (z ++ located_text left)) f ∙ (ap (λ z. front ++ located_text z) (sym e) ∙ h))
-
--- no line is left, so everything is out or held back
-pub line-end : (front whole : List ℕ) (ahead : List LocatedLine) → ahead ≡ [] → front ++ located_text ahead ≡ whole → front ≡ whole
-line-end front whole ahead e h = sym (append-nil front) ∙ (ap (λ z. front ++ located_text z) (sym e) ∙ h)
+-- ---- lines of a document, put one by one
 
 -- nothing more goes out, and the same bytes are held back
 pub so_far-held : (a : Option (List ℕ)) (held : List ℕ) → AppendsSoFar a a (held ++ []) held
@@ -88,9 +79,9 @@ pub so_far-line_prefix : (a b c : Option (List ℕ)) (start held bytes : List �
     → AppendsSoFar a b (start ++ located_text (take n ls)) held → AppendsPrefix b c (held ++ bytes) → AppendsPrefix a c (start ++ located_text (take count ls))
 so_far-line_prefix a b c start held bytes ls ahead left x n count at e f few before more =
     let here : AppendsPrefix a c (start ++ located_text (take (n + 1) ls)) =
-      subst (AppendsPrefix a c) (line-joined start bytes ls ahead left x n at e f) (so_far-prefix a b c (start ++ located_text (take n ls)) held bytes before more) in
+    subst (AppendsPrefix a c) (line-joined start bytes ls ahead left x n at e f) (so_far-prefix a b c (start ++ located_text (take n ls)) held bytes before more) in
     let rest = located_text (drop (n + 1) (take count ls)) in
     let whole : (start ++ located_text (take (n + 1) ls)) ++ rest ≡ start ++ located_text (take count ls) =
-      append_assoc start (located_text (take (n + 1) ls)) rest
-      ∙ ap (λ z. start ++ z) (ap (λ z. located_text z ++ rest) (sym (take-take (n + 1) count ls (omega arith))) ∙ sym (located_text-cut (n + 1) (take count ls))) in
+    append_assoc start (located_text (take (n + 1) ls)) rest
+    ∙ ap (λ z. start ++ z) (ap (λ z. located_text z ++ rest) (sym (take-take (n + 1) count ls (omega arith))) ∙ sym (located_text-cut (n + 1) (take count ls))) in
     subst (AppendsPrefix a c) whole (AppendsPrefix-front a c (start ++ located_text (take (n + 1) ls)) rest here)

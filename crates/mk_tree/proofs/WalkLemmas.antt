@@ -31,9 +31,9 @@ down-step passed new l tree before whole n m at count more e b top short room wi
       rw b (omega (arith, more, top.height, room)),
       rw e (HaveRoom-push 0 passed l within (omega (arith, count, top.height, room))),
       rw (e, b)
-      (ap (λ z. drop at left.0 ++ z) (lines_ahead-push passed l)
-      ∙ (sym (append_assoc (drop at left.0) (line_view l.now ∷ right.0) (lines_ahead passed))
-      ∙ (ap (λ z. z ++ lines_ahead passed) (sym cut ∙ ap (drop at) (sym top.lines)) ∙ ahead))),
+          (ap (λ z. drop at left.0 ++ z) (lines_ahead-push passed l)
+          ∙ (sym (append_assoc (drop at left.0) (line_view l.now ∷ right.0) (lines_ahead passed))
+          ∙ (ap (λ z. z ++ lines_ahead passed) (sym cut ∙ ap (drop at) (sym top.lines)) ∙ ahead))),
     )
 
 -- One step down to the right: the line stands before the index, and so does what stands before the line.
@@ -46,9 +46,8 @@ down-right passed l tree before after whole n at k to b a top count behind withi
     let right = l.now.node.value.right in
     let long : length left.0 ≡ k = ap (λ z. length z.0) (sym b) ∙ sym count in
     let cut : drop at (left.0 ++ line_view l.now ∷ right.0) ≡ drop to right.0 =
-      drop_right left.0 right.0 (line_view l.now) at (omega arith) ∙ ap (λ i. drop i right.0) (let i : at - length left.0 - 1 ≡ to = omega arith in i) in
-    let all : length tree.0 ≡ length left.0 + length (line_view l.now ∷ right.0) = ap length top.lines ∙ length-append left.0 (line_view l.now ∷ right.0) in
-    (
+    drop_right left.0 right.0 (line_view l.now) at (omega arith) ∙ ap (λ i. drop i right.0) (let i : at - length left.0 - 1 ≡ to = omega arith in i) in
+    let all : length tree.0 ≡ length left.0 + length (line_view l.now ∷ right.0) = ap length top.lines ∙ length-append left.0 (line_view l.now ∷ right.0) in (
       rw a (omega (arith, top.height, room)),
       rw a (ap (λ z. z ++ lines_ahead passed) (sym cut ∙ ap (drop at) (sym top.lines)) ∙ ahead),
       rw a (omega arith),

@@ -5,6 +5,7 @@ use Rattle.std.proofs.lemmas.Grind.{common_steps}
 use Rattle.mk_lines.specs.Limits.{max_text}
 use Rattle.mk_lines.specs.PhysicalLines.{without_line_end}
 use Rattle.mk_tree.specs.LocatedLines.{LocatedLine, bytes_of_line, is_conditional_located, last_line, size_of, with_last_bytes}
+use Rattle.mk_tree.proofs.Ends.{length-with_last}
 use Rattle.mk_tree.proofs.on_changes.Sizes.{size_of-removed}
 use Rattle.mk_patch.specs.Moves.{Move, PutIn, TakeOut, Exchange, SwapEnd, FitsMove, FitMoves, IsPlainAt, after_move, after_moves, held_by, held_by_move, taken_by, taken_by_move}
 
@@ -43,11 +44,6 @@ swapped-back b [] = refl
 swapped-back b (l ∷ []) = refl
 swapped-back b (l ∷ k ∷ []) = refl
 swapped-back b (l ∷ k ∷ m ∷ ls) = ap (λ z. l ∷ z) (swapped-back b (k ∷ m ∷ ls))
-
-pub length-with_last : (b : List ℕ) (ls : List LocatedLine) → length (with_last_bytes b ls) ≡ length ls
-length-with_last b [] = refl
-length-with_last b (l ∷ []) = refl
-length-with_last b (l ∷ k ∷ ls) = ap suc (length-with_last b (k ∷ ls))
 
 -- the last of some lines, by its index
 pub last_line-at : (ls : List LocatedLine) (at : ℕ) → length ls ≡ at + 1 → last_line ls ≡ slice_get ls at

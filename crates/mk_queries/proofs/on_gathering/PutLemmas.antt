@@ -6,15 +6,11 @@ use Rattle.std.proofs.KnownBytes.{Appends-nil}
 use Rattle.mk_lines.specs.Device.{AppendsPrefix}
 use Rattle.mk_lines.proofs.PrefixLemmas.{AppendsPrefix-front}
 use Rattle.mk_tree.specs.Printing.{AppendsSoFar}
-use Rattle.mk_tree.proofs.Prefixes.{AppendsPrefix-whole, so_far-more, so_far-prefix, so_far-whole, so_far-end}
+use Rattle.mk_tree.proofs.Prefixes.{so_far-more, so_far-prefix, so_far-whole, so_far-end}
 
 -- nothing was put
 pub put-nothing : (a : Option (List ℕ)) (held text : List ℕ) → text ≡ [] → AppendsSoFar a a (held ++ text) held
 put-nothing a held text e = ([], sym (ap (λ z. held ++ z) e ∙ append-nil held), Appends-nil a)
-
--- what is out is a prefix of what was put
-pub put-prefix : (a b : Option (List ℕ)) (text held : List ℕ) → AppendsSoFar a b text held → AppendsPrefix a b text
-put-prefix a b text held (w, e, out) = subst (AppendsPrefix a b) e (AppendsPrefix-front a b w held (AppendsPrefix-whole a b w out))
 
 -- ---- a text of two parts: the first was put, or not all of it is out
 

@@ -5,7 +5,8 @@ use Rattle.mk_lines.specs.Device.{AppendsPrefix}
 use Rattle.mk_lines.specs.Words.{words_in}
 use Rattle.mk_tree.specs.Printing.{AppendsSoFar}
 use Rattle.mk_lines.specs.Spacing.{each_after_space, each_before_space}
-use Rattle.mk_queries.proofs.on_gathering.PutLemmas.{put-both, put-first_failed, put-second_failed, put-prefix}
+use Rattle.mk_tree.proofs.Prefixes.{so_far-out}
+use Rattle.mk_queries.proofs.on_gathering.PutLemmas.{put-both, put-first_failed, put-second_failed}
 
 -- ---- what is put so far, `front` of the whole, stands behind what was held back at the start
 
@@ -20,7 +21,7 @@ put-more_failed a b c start front held said rest whole e h k =
 
 -- all of the text was put
 pub put-most : (a b : Option (List ℕ)) (start front held whole : List ℕ) → front ≡ whole → AppendsSoFar a b (start ++ front) held → AppendsPrefix a b (start ++ whole)
-put-most a b start front held whole e h = subst (λ z. AppendsPrefix a b (start ++ z)) e (put-prefix a b (start ++ front) held h)
+put-most a b start front held whole e h = subst (λ z. AppendsPrefix a b (start ++ z)) e (so_far-out a b (start ++ front) held h)
 
 -- ---- the words
 

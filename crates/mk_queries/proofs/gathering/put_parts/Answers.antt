@@ -1,7 +1,8 @@
 use Rattle.std.proofs.Common.{◌≡◌, ◌++◌, [], List, ℕ, Bor, refl, rules, subst, take, drop, take_all, get_or, suc}
 use Rattle.mk_lines.specs.Device.{AppendsPrefix, text_of_parts}
 use Rattle.mk_lines.proofs.PartLemmas.{text_of_parts-more, text_of_parts-at}
-use Rattle.mk_queries.proofs.on_gathering.PutLemmas.{put-both, put-first_failed, put-second_failed, put-prefix}
+use Rattle.mk_tree.proofs.Prefixes.{so_far-out}
+use Rattle.mk_queries.proofs.on_gathering.PutLemmas.{put-both, put-first_failed, put-second_failed}
 use Rattle.mk_queries.proofs.gathering.put_parts.Goals as goal
 
 pub returns-in_err-put-clause-prefix : goal.returns-in_err-put-clause-prefix
@@ -26,4 +27,4 @@ returns-clause-prefix g c =
     let parts = c.args.parts.now in
     let h = c.args.gathered.now.items in
     let e : take c.loop-part.part-index parts ≡ parts = take_all _ _ c.loop-part-test.false in
-    subst (λ (z : List (Bor (List ℕ))). AppendsPrefix (g.W.ByteSink.contents c.args.out.now) (g.W.ByteSink.contents c.loop-part.out) (h ++ text_of_parts z)) e (put-prefix _ _ (h ++ text_of_parts (take c.loop-part.part-index parts)) c.loop-part.gathered.items c.loop-part.invariant.1)
+    subst (λ (z : List (Bor (List ℕ))). AppendsPrefix (g.W.ByteSink.contents c.args.out.now) (g.W.ByteSink.contents c.loop-part.out) (h ++ text_of_parts z)) e (so_far-out _ _ (h ++ text_of_parts (take c.loop-part.part-index parts)) c.loop-part.gathered.items c.loop-part.invariant.1)

@@ -3,7 +3,8 @@ use Rattle.mk_tree.specs.Trees.{line_view}
 use Rattle.mk_tree.specs.LocatedLines.{text_of_line}
 use Rattle.mk_queries.specs.ItemLines.{position_text}
 use Rattle.mk_queries.specs.LocatedTexts.{IsHeaderWithin, header_located, count_located, rule_located}
-use Rattle.mk_queries.proofs.on_gathering.PutLemmas.{put-nothing, put-first_failed, put-second_failed, put-both, put-prefix, three-parts}
+use Rattle.mk_tree.proofs.Prefixes.{so_far-out}
+use Rattle.mk_queries.proofs.on_gathering.PutLemmas.{put-nothing, put-first_failed, put-second_failed, put-both, three-parts}
 use Rattle.mk_queries.proofs.on_gathering.SpacingLemmas.{put-more, put-more_failed}
 use Rattle.mk_queries.proofs.on_parts.HeaderPartLemmas.{header-within, header-said, rule-none}
 use Rattle.mk_queries.proofs.headers.put_rule.Goals as goal
@@ -69,7 +70,7 @@ returns-in_ok-put_header-in-Header-clause-prefix g c =
     let z = header_located c.text_of_line.result.now c.in-Header.header in
     let e = three-parts w x y z (header-said n _ _ c.args.counted _ _ _ _ c.in-Header.header c.conds.ensures.number c.text_of_line.ensures c.class.ensures c.in-Header.is) in
     let so = put-more _ _ _ c.args.gathered.now.items x c.put_count.new.gathered.items y c.put_position.new.gathered.items c.in_ok-put_count-in-Header.ensures.whole c.in_ok-put_position-in-Header.ensures.whole in
-    put-prefix _ _ (c.args.gathered.now.items ++ w) c.put_header.new.gathered.items (put-both _ _ _ c.args.gathered.now.items (x ++ y) c.put_position.new.gathered.items z c.put_header.new.gathered.items w (sym e.second) so c.in_ok-put_header-in-Header.ensures.whole)
+    so_far-out _ _ (c.args.gathered.now.items ++ w) c.put_header.new.gathered.items (put-both _ _ _ c.args.gathered.now.items (x ++ y) c.put_position.new.gathered.items z c.put_header.new.gathered.items w (sym e.second) so c.in_ok-put_header-in-Header.ensures.whole)
 
 pub returns-in-Blank-clause-whole : goal.returns-in-Blank-clause-whole
 returns-in-Blank-clause-whole g c =

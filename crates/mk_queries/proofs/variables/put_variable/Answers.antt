@@ -3,7 +3,8 @@ use Rattle.mk_tree.specs.Trees.{line_view}
 use Rattle.mk_tree.specs.LocatedLines.{text_of_line}
 use Rattle.mk_queries.specs.ItemLines.{position_text}
 use Rattle.mk_queries.specs.LocatedTexts.{IsAssignmentWithin, assigned_located, assigned_start, target_assigned_located, variable_located}
-use Rattle.mk_queries.proofs.on_gathering.PutLemmas.{put-nothing, put-prefix, put-first_failed, put-second, put-second_failed}
+use Rattle.mk_tree.proofs.Prefixes.{so_far-out}
+use Rattle.mk_queries.proofs.on_gathering.PutLemmas.{put-nothing, put-first_failed, put-second, put-second_failed}
 use Rattle.mk_queries.proofs.on_parts.AssignmentPartLemmas.{assign-within, target-within, assign-said, target-said, variable-none}
 use Rattle.mk_queries.proofs.variables.put_variable.Goals as goal
 
@@ -75,4 +76,4 @@ returns-in_default g c =
     let l = line_view c.args.line.now in
     let none = variable-none c.args.number c.args.context.conditionals (text_of_line l) l.class c.class.result c.class.ensures c.in_default.not-Assign c.in_default.not-TargetAssign in
     let whole = put-nothing (g.W.ByteSink.contents c.args.out.now) c.args.gathered.now.items _ none in
-    record { whole = whole; prefix = put-prefix _ _ _ c.args.gathered.now.items whole; works = c.requires.works; fault = tt; unflushed = refl }
+    record { whole = whole; prefix = so_far-out _ _ _ c.args.gathered.now.items whole; works = c.requires.works; fault = tt; unflushed = refl }

@@ -1,7 +1,6 @@
-use Rattle.std.proofs.Common.{◌≡◌, ◌-◌, ◌≤◌, ◌++◌, ◌∙◌, sym, arith, ap, subst, length, take, drop}
+use Rattle.std.proofs.Common.{◌≡◌, ◌-◌, sym, arith, length, take, drop}
 use Rattle.std.proofs.lemmas.List.{length-take-le, length-drop, take_all}
-use Rattle.mk_tree.specs.LocatedLines.{located_text}
-use Rattle.mk_tree.specs.Origins.{AreUntouched, lines_between}
+use Rattle.mk_tree.specs.Origins.{AreUntouched}
 use Rattle.mk_tree.proofs.OriginLemmas as origin
 use Rattle.mk_tree.proofs.document.Doc.parts.Goals as goal
 
@@ -27,5 +26,5 @@ returns-clause-whole g c =
     let text = c.as_slice-text.result.now in
     let behind : length text - (length text - c.sizes_around-front.result.1) ≡ c.sizes_around-front.result.1 = omega (arith, end) in
     let all : take (length text - (length text - c.sizes_around-front.result.1)) (drop (length text - c.sizes_around-front.result.1) text) ≡ drop (length text - c.sizes_around-front.result.1) text =
-      take_all (length text - (length text - c.sizes_around-front.result.1)) (drop (length text - c.sizes_around-front.result.1) text) (omega (arith, length-drop (length text - c.sizes_around-front.result.1) text)) in
+    take_all (length text - (length text - c.sizes_around-front.result.1)) (drop (length text - c.sizes_around-front.result.1) text) (omega (arith, length-drop (length text - c.sizes_around-front.result.1) text)) in
     rw all whole

@@ -1,4 +1,4 @@
-use Rattle.std.proofs.Common.{arith, drop, ◌++◌, refl, sym, ◌∙◌, ◌≡◌, ap, subst}
+use Rattle.std.proofs.Common.{arith, drop, ◌++◌, refl, sym, ◌∙◌, ◌≡◌, subst}
 use Rattle.std.proofs.lemmas.List.{length-drop}
 use Rattle.mk_lines.specs.Device.{AppendsPrefix}
 use Rattle.mk_tree.specs.Origins.{lines_between}
