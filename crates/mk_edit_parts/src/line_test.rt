@@ -9,8 +9,8 @@ ghost use Rattle.mk_tree.specs.LocatedLines.{text_of_line};
 ghost use Rattle.mk_lines.specs.Cells.{line_cells};
 ghost use Rattle.mk_tree.specs.Trees.{line_view};
 
-use crate::part::{part, text_of_line};
-use crate::text::{has_word, is_prefix_name, is_same_text, may_have_word};
+use crate::part::{is_part, part, text_of_line};
+use crate::text::{has_word, may_have_word};
 use mk_class::Class;
 use mk_lines::split::Span;
 use mk_tree::Line;
@@ -23,9 +23,7 @@ pub fn assigns<A: Allocator>(line: &Line<A>, class: &Class, name: &[u8]) -> bool
     ensures { result ≡ assigns_located name.now (line_view line.now) }
 {
     match class {
-        Class::Assign(assignment, _) => {
-            is_same_text(part(text_of_line(line), assignment.name), name)
-        }
+        Class::Assign(assignment, _) => is_part(line, assignment.name, name),
         _ => false,
     }
 }
@@ -62,9 +60,7 @@ pub fn is_unread<A: Allocator>(line: &Line<A>, class: &Class) -> bool
     ensures { result ≡ is_unread_located (line_view line.now) }
 {
     match class {
-        Class::Assign(assignment, None) => {
-            is_prefix_name(part(text_of_line(line), assignment.name))
-        }
+        Class::Assign(assignment, None) => is_part(line, assignment.name, b".RECIPEPREFIX"),
         Class::DefineHead(prefix) => *prefix,
         _ => false,
     }
