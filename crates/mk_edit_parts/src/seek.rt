@@ -72,7 +72,8 @@ fn nothing_seen() -> Sought
     }
 }
 
-// What a walk has seen after one more line.
+// What a walk has seen after one more line. Inlined, so that nothing is copied from line to line.
+#[inline(always)]
 fn noted(is_meant: bool, is_unread: bool, wanted: usize, class: &Class, sought: Sought) -> Sought
     requires few { sought.end.at < max_text }
     requires no_more { sought.count ≤ sought.end.at }

@@ -69,7 +69,9 @@ impl<A: Allocator + Copy> Finder<A> {
     /// its line. The first edit of a variable makes do with a walk, unless more edits are expected. The
     /// second one makes an index, which costs little more, unless the document has fewer than 1,024
     /// lines. A growth that is refused leaves the finder without an index, and is no refusal of the
-    /// edit. Nothing is known of where rules stand, nor for a rename, which looks at every line.
+    /// edit. An edit without an address, which goes to the end, makes an index that tells where the
+    /// end is: this takes one walk, and no memory. Nothing is known of where rules stand, nor for a
+    /// rename, which looks at every line.
     pub fn known(&mut self, alloc: A, doc: &Doc<A>, edit: &Edit<A>) -> Option<Sought>
         requires faithful { IsFaithful doc.now }
         requires index { IsIndexIfAny doc.now self.old }
@@ -80,10 +82,11 @@ impl<A: Allocator + Copy> Finder<A> {
             return None;
         }
         let address = address_of(edit);
-        if let Some(Address::Rule(..)) = address {
-            return None;
+        match address {
+            Some(Address::Rule(..)) => return None,
+            Some(Address::Variable(..)) => self.find_variables(alloc, doc),
+            None => self.find_end(doc),
         }
-        self.make_index(alloc, doc);
         match &self.index {
             Some(index) => index.sought(doc, address),
             None => None,
@@ -98,19 +101,39 @@ impl<A: Allocator + Copy> Finder<A> {
         self.is_due = true;
     }
 
-    // Makes an index if it is due, and otherwise lets the next edit make it.
-    fn make_index(&mut self, alloc: A, doc: &Doc<A>)
+    // Makes an index that tells where variables stand if it is due, and otherwise lets the next edit
+    // make it.
+    fn find_variables(&mut self, alloc: A, doc: &Doc<A>)
         requires faithful { IsFaithful doc.now }
         requires index { IsIndexIfAny doc.now self.old }
         ensures { IsIndexIfAny doc.now self.new }
     {
-        if self.index.is_some() || doc.len() < FEWEST_LINES {
+        if self.has_variables() || doc.len() < FEWEST_LINES {
             return;
         }
         if self.is_due {
             self.index = Index::new(alloc, doc).ok();
         }
         self.is_due = !self.is_due;
+    }
+
+    // Makes an index that tells where the document ends, if there is no index.
+    fn find_end(&mut self, doc: &Doc<A>)
+        requires faithful { IsFaithful doc.now }
+        requires index { IsIndexIfAny doc.now self.old }
+        ensures { IsIndexIfAny doc.now self.new }
+    {
+        if self.index.is_none() {
+            self.index = Some(Index::of_end(doc));
+        }
+    }
+
+    // Whether there is an index that tells where variables stand.
+    fn has_variables(&self) -> bool {
+        match &self.index {
+            Some(index) => index.has_variables(),
+            None => false,
+        }
     }
 
     /// Makes a patch of the document, as [`Patch::make`] does. The index is kept over another value

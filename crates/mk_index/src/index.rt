@@ -1,5 +1,5 @@
 //! An index of a document: where its assignments stand, by their names.
-ghost use Rattle.std.specs.Prelude.{◌≡◌, ◌<◌, ◌≤◌, [], ◌∷◌, ◌++◌, List, length, Some, IfOk, OnOk};
+ghost use Rattle.std.specs.Prelude.{◌≡◌, ◌<◌, ◌≤◌, [], ◌∷◌, ◌++◌, List, length, Some, IfOk, IfSome, OnOk, is_some};
 ghost use Rattle.std.specs.Option.{option_copied};
 ghost use Rattle.mk_lines.specs.Limits.{max_text};
 ghost use Rattle.mk_class.specs.Contexts.{Admits};
@@ -12,22 +12,24 @@ ghost use Rattle.mk_edit_parts.specs.LocatedParts.{IsClassed};
 ghost use Rattle.mk_edit_parts.specs.Seeking.{IsKnownOf};
 ghost use Rattle.mk_index.specs.Assignments.{name_assigned};
 ghost use Rattle.mk_index.specs.Effects.{IsBehind};
-ghost use Rattle.mk_index.specs.Indexes.{IsIndexOf};
+ghost use Rattle.mk_index.specs.Indexes.{AreChainsIfAny, IsIndexOf};
 
 use crate::chains::Chains;
 use mk_class::{Class, Context};
 use mk_edit_parts::address::Address;
 use mk_edit_parts::line_test::is_unread;
 use mk_edit_parts::part::{part, text_of_line};
-use mk_edit_parts::seek::{Found, Sought, wanted};
+use mk_edit_parts::seek::{Found, Sought, seek, wanted};
 use mk_tree::{Doc, Line};
 use std::alloc::{AllocError, Allocator, Global};
 use std::marker::Model;
 
-/// What is known of a document's lines, so that a variable is found without a walk over them.
+/// What is known of a document's lines, so that their end, and a variable, are found without a walk
+/// over them.
 #[derive(Drop)]
 pub struct Index<A: Allocator = Global> {
-    chains: Chains<A>,
+    // `None` if only the end was asked for.
+    chains: Option<Chains<A>>,
     has_unread_prefix: bool,
     end: Found,
 }
@@ -45,32 +47,53 @@ impl<A: Allocator> Model for Index<A> {
 }
 
 impl<A: Allocator + Copy> Index<A> {
-    /// An index of a document, by one walk over its lines. [`AllocError`] if a growth was refused.
+    /// An index of a document, by one walk over its lines. It tells where the document ends, and
+    /// where variables stand. [`AllocError`] if a growth was refused.
     pub fn new(alloc: A, doc: &Doc<A>) -> Result<Index<A>, AllocError>
         requires { IsFaithful doc.now }
         ensures { IfOk result (λ index. IsIndexOf doc.now index) }
     {
-        let mut index = Index::without_lines(alloc, doc.len() / 4 + 1)?;
+        let mut index = Index::without_lines(Some(Chains::new(alloc, doc.len() / 4 + 1)?));
         'lines: for line in doc.iter() {
             index.push(line)?;
         }
         Ok(index)
     }
 
-    // An index of no line, with this number of buckets.
-    fn without_lines(alloc: A, buckets: usize) -> Result<Index<A>, AllocError>
-        requires { 0 < buckets }
-        ensures { IfOk result (λ index. IsIndexOf [] index) }
+    /// An index of a document that tells only where the document ends, by one walk over its lines.
+    /// Takes no memory.
+    pub fn of_end(doc: &Doc<A>) -> Index<A>
+        requires { IsFaithful doc.now }
+        ensures { IsIndexOf doc.now result }
     {
-        let chains = Chains::new(alloc, buckets)?;
-        Ok(Index {
+        let sought = seek(doc, None);
+        Index {
+            chains: None,
+            has_unread_prefix: sought.has_unread_prefix,
+            end: sought.end,
+        }
+    }
+
+    // An index of no line, with these chains.
+    fn without_lines(chains: Option<Chains<A>>) -> Index<A>
+        requires { AreChainsIfAny [] chains }
+        ensures { IsIndexOf [] result }
+    {
+        Index {
             chains,
             has_unread_prefix: false,
             end: Found {
                 at: 0,
                 context: Context::start(),
             },
-        })
+        }
+    }
+
+    /// Whether the index tells where variables stand.
+    pub fn has_variables(&self) -> bool
+        ensures { result ≡ is_some self.now.chains }
+    {
+        self.chains.is_some()
     }
 
     // Adds a line below those of the index.
@@ -78,12 +101,14 @@ impl<A: Allocator + Copy> Index<A> {
         requires classed { IsClassed (line_view line.now) }
         requires admitted { Admits self.old.end.context (line_view line.now).class }
         requires few { self.old.end.at < max_text }
-        requires few_entries { length self.old.chains.entries ≤ self.old.end.at }
+        requires few_entries { IfSome self.old.chains (λ c. length c.entries ≤ self.old.end.at) }
         ensures { (lines : List LocatedLine) → IsIndexOf lines self.old → OnOk result
             (IsIndexOf (lines ++ line_view line.now ∷ []) self.new) }
     {
         let class = line.class();
-        self.chains.push_if(name_assigned(line, &class), self.end)?;
+        if let Some(chains) = &mut self.chains {
+            chains.push_if(name_assigned(line, &class), self.end)?;
+        }
         self.has_unread_prefix |= is_unread(line, &class);
         self.end = Found {
             at: self.end.at + 1,
@@ -104,9 +129,9 @@ impl<A: Allocator + Copy> Index<A> {
         self.push(doc.line(doc.len() - 1))
     }
 
-    /// What the document has for an address, or `None` if the index does not tell. It tells what a
-    /// variable's address means unless many names share a bucket, and where the document ends; it
-    /// does not tell where rules stand. Takes no memory.
+    /// What the document has for an address, or `None` if the index does not tell. It tells where
+    /// the document ends and, if it has variables, what a variable's address means unless many names
+    /// share a bucket; it does not tell where rules stand. Takes no memory.
     pub fn sought(&self, doc: &Doc<A>, address: Option<Address>) -> Option<Sought>
         requires faithful { IsFaithful doc.now }
         requires index { IsIndexOf doc.now self.now }
@@ -125,8 +150,11 @@ impl<A: Allocator + Copy> Index<A> {
         requires index { IsIndexOf doc.now self.now }
         ensures { IsKnownOf (Some (Variable nth name.now)) doc.now result }
     {
+        let Some(chains) = &self.chains else {
+            return None;
+        };
         let wanted = wanted(Some(Address::Variable(nth, name)));
-        let last = self.chains.passed(doc, name, 0)?;
+        let last = chains.passed(doc, name, 0)?;
         if wanted == 0 || wanted > last.count {
             return Some(self.with_found(last.count, None));
         }
@@ -134,7 +162,7 @@ impl<A: Allocator + Copy> Index<A> {
         if later == 0 {
             return Some(self.with_found(last.count, last.found));
         }
-        let sought = self.chains.passed(doc, name, later)?;
+        let sought = chains.passed(doc, name, later)?;
         Some(self.with_found(sought.count, sought.found))
     }
 

@@ -10,9 +10,8 @@ use Rattle.mk_edit_parts.specs.LocatedParts.{AreEachClassed, IsClassed, is_unrea
 use Rattle.mk_edit_parts.specs.declared.seek.Found.{Found}
 use Rattle.mk_patch.specs.Moves.{Move, Exchange, after_moves}
 use Rattle.mk_index.specs.Assignments.{assignments_from, below, below_all, first_place, name_assigned, name_in, with_assigned}
-use Rattle.mk_index.specs.Chains.{AreChainsOf}
 use Rattle.mk_index.specs.Effects.{AssignSame, IsBehind}
-use Rattle.mk_index.specs.Indexes.{IsIndexOf, Stored, last_first}
+use Rattle.mk_index.specs.Indexes.{AreChainsIfAny, IsIndexOf, Stored, last_first}
 use Rattle.mk_index.proofs.on_indexes.IndexLemmas.{below-at}
 
 -- ---- one more line
@@ -94,7 +93,7 @@ split-at (x ∷ ls) (suc at) k e =
 pub exchanged-same : (doc : List LocatedLine) (ms : List Move) (at : ℕ) (k l : LocatedLine) → ms ≡ Exchange at l ∷ [] → Some k ≡ slice_get doc at → AssignSame k l
     → (i : Stored) → IsIndexOf doc i → IsIndexOf (after_moves ms doc) i
 exchanged-same doc ms at k l is there same i h = subst (λ (ns : List Move). IsIndexOf (after_moves ns doc) i) (sym is) (record {
-  chains_are = subst (λ xs. AreChainsOf xs i.chains) (ap last_first split ∙ ap reverse (assignments-same first_place (take at doc) k l (drop (at + 1) doc) role)) h.chains_are;
+  chains_are = subst (λ xs. AreChainsIfAny xs i.chains) (ap last_first split ∙ ap reverse (assignments-same first_place (take at doc) k l (drop (at + 1) doc) role)) h.chains_are;
   unread_is = h.unread_is ∙ (ap (list_any is_unread_located) split ∙ unread-same (take at doc) k l (drop (at + 1) doc) role);
   end_is = h.end_is ∙ (ap (below_all first_place) split ∙ below-same first_place (take at doc) k l (drop (at + 1) doc) role);
 })

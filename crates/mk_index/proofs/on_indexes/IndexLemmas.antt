@@ -1,5 +1,6 @@
 -- An index of one line more, and the walk that makes an index.
 use Rattle.std.proofs.Common.{◌≡◌, refl, sym, ap, ◌∙◌, subst, arith, ℕ, ◌+◌, ◌≤◌, ◌||◌, List, [], ◌∷◌, ◌++◌, reverse, Bool, true, false, length, append_assoc, append-nil, Option, Some, None}
+use Rattle.std.specs.Prelude.{IfSome}
 use Rattle.std.specs.List.{list_any}
 use Rattle.std.proofs.lemmas.List.{length-reverse, reverse-append}
 use Rattle.std.proofs.lemmas.List.Folds.{list_any-append}
@@ -13,7 +14,7 @@ use Rattle.mk_edit_parts.proofs.on_finding.SeekLemmas.{faithful-each}
 use Rattle.mk_index.specs.Assignments.{Assignment, assignments, assignments_from, below, below_all, first_place, name_assigned, with_assigned}
 use Rattle.mk_index.specs.Chains as chains
 use Rattle.mk_index.specs.Chains.{AreChainsOf, entries_of}
-use Rattle.mk_index.specs.Indexes.{IsIndexOf, Stored, last_first}
+use Rattle.mk_index.specs.Indexes.{AreChainsIfAny, IsIndexOf, Stored, last_first}
 use Rattle.mk_index.proofs.on_indexes.ChainLemmas.{length-entries}
 use Rattle.mk_index.proofs.on_indexes.StandLemmas.{few-assignments}
 
@@ -44,11 +45,11 @@ or-false : (a : Bool) → (a || false) ≡ a
 or-false true = refl
 or-false false = refl
 
-pub index-pushed : (lines : List LocatedLine) (l : LocatedLine) (i : Stored) (c : chains.Stored) (is_unread : Bool) (context : Context) → IsIndexOf lines i → AreChainsOf (with_assigned (name_assigned l) i.end (last_first lines)) c
+pub index-pushed : (lines : List LocatedLine) (l : LocatedLine) (i : Stored) (c : Option chains.Stored) (is_unread : Bool) (context : Context) → IsIndexOf lines i → AreChainsIfAny (with_assigned (name_assigned l) i.end (last_first lines)) c
     → is_unread ≡ is_unread_located l → context ≡ context_after_located i.end.context l.class
     → IsIndexOf (lines ++ l ∷ []) (record { chains = c; has_unread_prefix = i.has_unread_prefix || is_unread; end = record { at = i.end.at + 1; context = context } })
 index-pushed lines l i c is_unread context h made u k = record {
-  chains_are = subst (λ xs. AreChainsOf xs c) (sym (last_first-more lines l ∙ ap (λ f. with_assigned (name_assigned l) f (last_first lines)) (sym h.end_is))) made;
+  chains_are = subst (λ xs. AreChainsIfAny xs c) (sym (last_first-more lines l ∙ ap (λ f. with_assigned (name_assigned l) f (last_first lines)) (sym h.end_is))) made;
   unread_is = ap (λ b. i.has_unread_prefix || b) u ∙ (ap (λ b. b || is_unread_located l) h.unread_is
       ∙ sym (list_any-append is_unread_located lines (l ∷ []) ∙ ap (λ b. list_any is_unread_located lines || b) (or-false (is_unread_located l))));
   end_is = ap (λ (x : Context). record { at = i.end.at + 1; context = x }) k ∙ (ap (λ f. below f l) h.end_is ∙ sym (below_all-more first_place lines l));
@@ -60,10 +61,10 @@ pub below-at : (f : Found) (ls : List LocatedLine) → (below_all f ls).at ≡ f
 below-at f [] = omega arith
 below-at f (l ∷ ls) = let e = below-at (below f l) ls in omega (arith, e)
 
-pub few-entries : (lines : List LocatedLine) (i : Stored) → IsIndexOf lines i → length i.chains.entries ≤ i.end.at
-few-entries lines i h =
-    let count = length i.chains.heads in
-    let n = ap length h.chains_are.entries_are in
+few-entries_of : (lines : List LocatedLine) (i : Stored) (c : chains.Stored) → IsIndexOf lines i → AreChainsOf (last_first lines) c → length c.entries ≤ i.end.at
+few-entries_of lines i c h chains_are =
+    let count = length c.heads in
+    let n = ap length chains_are.entries_are in
     let r = length-reverse (entries_of count (last_first lines)) in
     let m = length-entries count (last_first lines) in
     let s = length-reverse (assignments lines) in
@@ -71,6 +72,13 @@ few-entries lines i h =
     let e = ap (λ (f : Found). f.at) h.end_is in
     let at = below-at first_place lines in
     omega (arith, n, r, m, s, few, e, at)
+
+pub few-entries : (lines : List LocatedLine) (i : Stored) → IsIndexOf lines i → IfSome i.chains (λ c. length c.entries ≤ i.end.at)
+few-entries lines i h = go i.chains h.chains_are
+  where
+    go : (o : Option chains.Stored) → AreChainsIfAny (last_first lines) o → IfSome o (λ c. length c.entries ≤ i.end.at)
+    go None k = tt
+    go (Some c) k = few-entries_of lines i c h k
 
 -- ---- the walk that makes an index
 
