@@ -1,5 +1,5 @@
 -- The causes of a rename in their order, and what decides each.
-use Rattle.std.proofs.Common.{◌≡◌, refl, sym, ap, ◌∙◌, arith, ℕ, ◌+◌, ◌*◌, ◌<◌, ◌&&◌, ◌||◌, Bool, false, not, List, [], ◌∷◌, length, Option, Some, None}
+use Rattle.std.proofs.Common.{◌≡◌, refl, sym, ap, ◌∙◌, arith, ℕ, ◌+◌, ◌*◌, ◌<◌, ◌&&◌, Bool, false, not, List, [], ◌∷◌, length, Option, Some, None}
 use Rattle.std.specs.List.{list_any}
 use Rattle.std.specs.Prelude.{nat_lt}
 use Rattle.std.proofs.lemmas.Bool.{and_parts, not-true}
@@ -8,11 +8,10 @@ use Rattle.mk_lines.specs.Units.{is_closed, units}
 use Rattle.mk_class.specs.ListTests.{is_empty, last_passes}
 use Rattle.mk_class.specs.Arguments.{ends_word, is_ampersand_byte, is_clean, is_target, is_word}
 use Rattle.mk_class.specs.ClassedLines.{ClassedLine, classed_lines}
-use Rattle.mk_class.specs.Contexts.{Context, start, context_after}
+use Rattle.mk_class.specs.Contexts.{start}
 use Rattle.mk_class.specs.Texts.{is_one_of}
 use Rattle.mk_tree.specs.Documents.{IsFaithful}
-use Rattle.mk_tree.specs.LocatedLines.{LocatedLine, located_lines, located_text, size_of}
-use Rattle.mk_tree.proofs.on_documents.LinesInText.{AreClassed, AreClassed-class, AreClassed-tail, AreClassed-lines}
+use Rattle.mk_tree.specs.LocatedLines.{LocatedLine, located_text, size_of}
 use Rattle.mk_tree.proofs.on_changes.Sizes.{size_of-text}
 use Rattle.mk_edit_laws.specs.Edits.{Edit, RenameTarget}
 use Rattle.mk_edit_laws.specs.Addresses.{is_a_target, targets_of}
@@ -29,8 +28,9 @@ use Rattle.mk_edit_laws.specs.declared.refusal.Refusal.TheVariants.{RecipePrefix
 use Rattle.mk_edit_laws.proofs.on_edits.Accepted.{two-passed}
 use Rattle.mk_edit.specs.declared.rename_target_effect.Effect.{Effect}
 use Rattle.mk_edit.specs.RenameTargetEffects.{IsRenameTarget, effect_on, first_of_lines, first_told, replaced_bytes, replaced_words}
-use Rattle.mk_edit_parts.specs.LocatedParts.{is_target_located, is_unread_located}
-use Rattle.mk_edit_parts.proofs.on_finding.PartLemmas.{target-located, unread-located}
+use Rattle.mk_edit_parts.specs.LocatedParts.{is_target_located}
+use Rattle.mk_edit_parts.proofs.on_finding.PartLemmas.{target-located}
+use Rattle.mk_edit_parts.proofs.on_finding.SeekLemmas.{any-told, unread-told}
 use Rattle.mk_edit_parts.proofs.CauseLemmas.{holds, passed}
 use Rattle.mk_edit.proofs.on_plans.CausePlans.{long-said}
 use Rattle.mk_edit.proofs.on_renaming.CausesOfPrefix.{rename_target-led}
@@ -128,23 +128,8 @@ long-told ls o n f size h k =
 
 -- ---- the lines of a document
 
-unread-along : (c : Context) (ls : List ClassedLine) → AreClassed c ls → list_any is_unread_located (located_lines ls) ≡ list_any (λ l. is_unread_prefix l.class) ls
-unread-along c [] h = refl
-unread-along c (l ∷ ls) h =
-    ap (λ b. b || list_any is_unread_located (located_lines ls)) (unread-located c l (AreClassed-class c l ls h))
-    ∙ ap (λ b. is_unread_prefix l.class || b) (unread-along (context_after c l.class) ls (AreClassed-tail c l ls h))
-
-targets-along : (w : List ℕ) (c : Context) (ls : List ClassedLine) → AreClassed c ls → list_any (is_target_located w) (located_lines ls) ≡ is_a_target ls w
-targets-along w c [] h = refl
-targets-along w c (l ∷ ls) h =
-    ap (λ b. b || list_any (is_target_located w) (located_lines ls)) (target-located w c l (AreClassed-class c l ls h))
-    ∙ ap (λ b. is_one_of w (targets_of l.class) || b) (targets-along w (context_after c l.class) ls (AreClassed-tail c l ls h))
-
-unread-told : (ls : List LocatedLine) → IsFaithful ls → list_any is_unread_located ls ≡ list_any (λ l. is_unread_prefix l.class) (classed_lines (located_text ls))
-unread-told ls h = let ds = classed_lines (located_text ls) in ap (list_any is_unread_located) h ∙ unread-along start ds (AreClassed-lines (located_text ls) ds refl)
-
 targets-told : (w : List ℕ) (ls : List LocatedLine) → IsFaithful ls → list_any (is_target_located w) ls ≡ is_a_target (classed_lines (located_text ls)) w
-targets-told w ls h = let ds = classed_lines (located_text ls) in ap (list_any (is_target_located w)) h ∙ targets-along w start ds (AreClassed-lines (located_text ls) ds refl)
+targets-told w ls h = any-told (is_target_located w) (λ l. is_one_of w (targets_of l.class)) (target-located w) ls h
 
 -- The first cause that holds of a rename of a document, as the effect on its lines tells it, if no field of the rename is bad.
 pub causes-told : (ls : List LocatedLine) (e : Edit) (o n : List ℕ) (f : Effect) (size : ℕ) → IsRenameTarget o n e → IsFaithful ls → bad_argument e ≡ None → reserved e ≡ None → f ≡ effect_on o n start ls → size ≡ size_of ls

@@ -134,6 +134,21 @@ pub agree-along : (p : LocatedLine → Bool) (q : ClassedLine → Bool) → ((c 
 agree-along p q f c [] h = tt
 agree-along p q f c (l ∷ ls) h = (f c l (AreClassed-class c l ls h), agree-along p q f (context_after c l.class) ls (AreClassed-tail c l ls h))
 
+any-along : (p : LocatedLine → Bool) (q : ClassedLine → Bool) (ds : List ClassedLine) → AgreeAlong p q ds → list_any p (located_lines ds) ≡ list_any q ds
+any-along p q [] A = refl
+any-along p q (l ∷ ds) A = ap (λ b. b || list_any p (located_lines ds)) A.0 ∙ ap (λ b. q l || b) (any-along p q ds A.1)
+
+-- whether one of the lines passes a test, by the lines and by their text
+pub any-told : (p : LocatedLine → Bool) (q : ClassedLine → Bool) → ((c : Context) (l : ClassedLine) → class_of c l.bytes ≡ l.class → p (located_line l) ≡ q l) → (ls : List LocatedLine) → IsFaithful ls
+    → list_any p ls ≡ list_any q (classed_lines (located_text ls))
+any-told p q f ls h =
+    let ds = classed_lines (located_text ls) in
+    ap (list_any p) h ∙ any-along p q ds (agree-along p q f start ds (AreClassed-lines (located_text ls) ds refl))
+
+-- whether a line sets the recipe prefix in a way that is not read
+pub unread-told : (ls : List LocatedLine) → IsFaithful ls → list_any is_unread_located ls ≡ list_any (λ l. is_unread_prefix l.class) (classed_lines (located_text ls))
+unread-told ls h = any-told is_unread_located (λ l. is_unread_prefix l.class) unread-located ls h
+
 -- each line has its class
 pub faithful-each : (ls : List LocatedLine) → IsFaithful ls → AreEachClassed ls
 faithful-each ls h = subst AreEachClassed (sym h) (each-classed start (classed_lines (located_text ls)) (AreClassed-lines (located_text ls) (classed_lines (located_text ls)) refl))

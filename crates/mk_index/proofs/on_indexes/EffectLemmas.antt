@@ -10,7 +10,9 @@ use Rattle.mk_edit_parts.specs.LocatedParts.{AreEachClassed, IsClassed, is_unrea
 use Rattle.mk_edit_parts.specs.declared.seek.Found.{Found}
 use Rattle.mk_patch.specs.Moves.{Move, Exchange, after_moves}
 use Rattle.mk_index.specs.Assignments.{assignments_from, below, below_all, first_place, name_assigned, name_in, with_assigned}
-use Rattle.mk_index.specs.Effects.{AssignSame, IsBehind}
+use Rattle.mk_index.specs.Effects.{AssignSame, IsBehind, IsEffect, IsIndexIfAny}
+use Rattle.mk_index.specs.declared.finder.Effect.{Effect}
+use Rattle.mk_index.specs.declared.finder.Effect.TheVariants.{Same}
 use Rattle.mk_index.specs.Indexes.{AreChainsIfAny, IsIndexOf, Stored, last_first}
 use Rattle.mk_index.proofs.on_indexes.IndexLemmas.{below-at}
 
@@ -111,3 +113,8 @@ each-middle (x ∷ xs) l ys h = each-middle xs l ys h.1
 
 pub exchanged-classed : (doc : List LocatedLine) (ms : List Move) (at : ℕ) (l : LocatedLine) → ms ≡ Exchange at l ∷ [] → AreEachClassed (after_moves ms doc) → IsClassed l
 exchanged-classed doc ms at l is h = each-middle (take at doc) l (drop (at + 1) doc) (subst (λ (ns : List Move). AreEachClassed (after_moves ns doc)) is h)
+
+-- what stays an index of the lines, where any index would
+pub kept-same : (ls : List LocatedLine) (ms : List Move) (effect : Effect) (index : Option Stored) → effect ≡ Same → IsEffect ls ms effect → IsIndexIfAny ls index → IsIndexIfAny (after_moves ms ls) index
+kept-same ls ms effect None is e h = tt
+kept-same ls ms effect (Some i) is e h = subst (IsEffect ls ms) is e i h

@@ -1,5 +1,5 @@
 -- What an index knows of an address is what a walk over the lines would find.
-use Rattle.std.proofs.Common.{◌≡◌, refl, sym, ap, ◌∙◌, arith, ℕ, zero, suc, ◌+◌, ◌-◌, ◌<◌, ◌≤◌, ◌||◌, List, [], ◌∷◌, ◌++◌, map, reverse, Bool, true, false, cond, length, get_or, Option, Some, None, option_map}
+use Rattle.std.proofs.Common.{◌≡◌, refl, sym, ap, ◌∙◌, arith, ℕ, zero, suc, ◌+◌, ◌-◌, ◌<◌, ◌≤◌, List, [], ◌∷◌, ◌++◌, map, reverse, Bool, true, false, cond, length, get_or, Option, Some, None, option_map}
 use Rattle.std.specs.Prelude.{slice_get}
 use Rattle.std.specs.List.{filter, list_any}
 use Rattle.std.specs.Str.{bytes_eq}
@@ -18,22 +18,17 @@ use Rattle.mk_tree.proofs.on_documents.LinesInText.{AreClassed-lines}
 use Rattle.mk_edit_laws.specs.Addresses.{Variable}
 use Rattle.mk_edit_laws.specs.AddressCauses.{is_unread_prefix}
 use Rattle.mk_edit_laws.specs.Spots.{nth_of, spot_if, spots, under}
-use Rattle.mk_edit_parts.specs.LocatedParts.{assigns_in, assigns_located, is_unread_located}
+use Rattle.mk_edit_parts.specs.LocatedParts.{assigns_in, assigns_located}
 use Rattle.mk_edit_parts.specs.Seeking.{IsSought, candidates_of, nothing_seen, standing_found, wanted}
 use Rattle.mk_edit_parts.specs.declared.seek.Found.{Found}
 use Rattle.mk_edit_parts.specs.declared.seek.Sought.{Sought}
-use Rattle.mk_edit_parts.proofs.on_finding.PartLemmas.{unread-located}
-use Rattle.mk_edit_parts.proofs.on_finding.SeekLemmas.{AgreeAlong, agree-along, candidates-spots, means, means-located, next, nth-map, place_from, places-first}
+use Rattle.mk_edit_parts.proofs.on_finding.SeekLemmas.{AgreeAlong, agree-along, candidates-spots, means, means-located, next, nth-map, place_from, places-first, unread-told}
 use Rattle.mk_index.specs.Assignments.{Assignment, assignments, assignments_from, below, below_all, first_place, name_assigned, name_in, with_assigned}
 use Rattle.mk_index.specs.Indexes.{IsIndexOf, Stored, last_first}
 use Rattle.mk_index.specs.Passings.{named, passed_over}
 use Rattle.mk_index.specs.declared.chains.Passed.{Passed}
 
 -- ---- the end, and the prefix
-
-any-agree : (p : LocatedLine → Bool) (q : ClassedLine → Bool) (ds : List ClassedLine) → AgreeAlong p q ds → list_any p (located_lines ds) ≡ list_any q ds
-any-agree p q [] A = refl
-any-agree p q (l ∷ ds) A = ap (λ b. b || list_any p (located_lines ds)) A.0 ∙ ap (λ b. q l || b) (any-agree p q ds A.1)
 
 below-end : (f : Found) (ds : List ClassedLine) → below_all f (located_lines ds) ≡ record { at = f.at + length ds; context = context_after_lines f.context ds }
 below-end f [] = let n : f.at ≡ f.at + 0 = omega arith in ap (λ (n : ℕ). record { at = n; context = f.context }) n
@@ -132,15 +127,17 @@ nth-back (x ∷ xs) i h =
 abbrev told : (count : ℕ) → Option Found → Stored → Sought
 told count found i = record { count = count; found = found; has_unread_prefix = i.has_unread_prefix; end = i.end }
 
-ends : (ls : List LocatedLine) (i : Stored) → IsFaithful ls → IsIndexOf ls i → i.end ≡ record { at = length (classed_lines (located_text ls)); context = context_of (classed_lines (located_text ls)) }
-ends ls i h k =
+-- where a document ends, by its lines and by its text
+pub ends-here : (ls : List LocatedLine) → IsFaithful ls → below_all first_place ls ≡ record { at = length (classed_lines (located_text ls)); context = context_of (classed_lines (located_text ls)) }
+ends-here ls h =
     let ds = classed_lines (located_text ls) in
-    k.end_is ∙ (ap (below_all first_place) h ∙ (below-end first_place ds ∙ (let n : 0 + length ds ≡ length ds = omega arith in ap (λ (n : ℕ). record { at = n; context = context_of ds }) n)))
+    ap (below_all first_place) h ∙ (below-end first_place ds ∙ (let n : 0 + length ds ≡ length ds = omega arith in ap (λ (n : ℕ). record { at = n; context = context_of ds }) n))
+
+ends : (ls : List LocatedLine) (i : Stored) → IsFaithful ls → IsIndexOf ls i → i.end ≡ record { at = length (classed_lines (located_text ls)); context = context_of (classed_lines (located_text ls)) }
+ends ls i h k = k.end_is ∙ ends-here ls h
 
 unread : (ls : List LocatedLine) (i : Stored) → IsFaithful ls → IsIndexOf ls i → i.has_unread_prefix ≡ list_any (λ l. is_unread_prefix l.class) (classed_lines (located_text ls))
-unread ls i h k =
-    let ds = classed_lines (located_text ls) in
-    k.unread_is ∙ (ap (list_any is_unread_located) h ∙ any-agree is_unread_located (λ l. is_unread_prefix l.class) ds (agree-along is_unread_located (λ l. is_unread_prefix l.class) unread-located start ds (AreClassed-lines (located_text ls) ds refl)))
+unread ls i h k = k.unread_is ∙ unread-told ls h
 
 pub none-known : (ls : List LocatedLine) (i : Stored) → IsFaithful ls → IsIndexOf ls i → IsSought (classed_lines (located_text ls)) None (told 0 None i)
 none-known ls i h k = record {

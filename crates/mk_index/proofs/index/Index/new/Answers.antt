@@ -6,7 +6,7 @@ use Rattle.mk_index.proofs.index.Index.new.Goals as goal
 pub lines-init : goal.lines-init
 lines-init g c =
     let e : c.into_iter-line-iterator.result ≡ c.args.doc.now = search rules in
-    (tt, tt, subst (Filling c.args.doc.now c.in_ok-index.index) (sym e) (filling-from c.args.doc.now c.in_ok-index.index c.in_ok-index.ensures c.requires (c.iter-line-items.ensures.admitted c.requires)))
+    (tt, tt, subst (Filling c.args.doc.now c.without_lines-index.result) (sym e) (filling-from c.args.doc.now c.without_lines-index.result c.without_lines-index.ensures c.requires (c.iter-line-items.ensures.admitted c.requires)))
 
 pub push-requires-clause-few_entries : goal.push-requires-clause-few_entries
 push-requires-clause-few_entries g c = few-entries c.lines.invariant.2.lines c.lines.index c.lines.invariant.2.index_is
