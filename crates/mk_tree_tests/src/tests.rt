@@ -188,7 +188,7 @@ fn a_text_by_value_is_parsed_as_one_that_is_copied(rt: HostRuntime) -> Result<()
 #[test]
 fn a_line_outlives_its_document(rt: HostRuntime) -> Result<(), Fail> {
     let mut doc = Doc::parse(rt.alloc(), b"X=1\nY=2\n", &mut Meter::new())?;
-    let Some(line) = take_first(&mut doc) else {
+    let Some(line) = take_out(&mut doc, 0) else {
         return Err(Fail::from("no line is taken out"));
     };
     drop(doc);
@@ -224,13 +224,13 @@ fn a_line_is_classified_once(rt: HostRuntime) -> Result<(), Fail> {
     Ok(())
 }
 
-// The first line of a document taken out, where it is an assignment.
-fn take_first(doc: &mut Doc) -> Option<Line> {
-    if doc.is_empty() {
+// The line at an index taken out of a document, where it is an assignment.
+fn take_out(doc: &mut Doc, at: usize) -> Option<Line> {
+    if at >= doc.len() {
         return None;
     }
-    match doc.line(0).class() {
-        Class::Assign(_, _) => Some(doc.remove(0)),
+    match doc.line(at).class() {
+        Class::Assign(_, _) => Some(doc.remove(at)),
         _ => None,
     }
 }
@@ -253,7 +253,7 @@ fn put_last(doc: &mut Doc, line: Line) -> bool {
 fn a_line_is_put_in_and_another_taken_out(rt: HostRuntime) -> Result<(), Fail> {
     let mut doc = Doc::parse(rt.alloc(), b"X=1\n", &mut Meter::new())?;
     let mut other = Doc::parse(rt.alloc(), b"Y := 2\n", &mut Meter::new())?;
-    let Some(line) = take_first(&mut other) else {
+    let Some(line) = take_out(&mut other, 0) else {
         return Err(Fail::from("no line is taken out"));
     };
     assert!(rt; other.is_empty());
@@ -261,11 +261,46 @@ fn a_line_is_put_in_and_another_taken_out(rt: HostRuntime) -> Result<(), Fail> {
     let mut sink = MemorySink::new(Vec::new(rt.alloc()), 3);
     doc.write_to(&mut sink)?;
     assert_eq!(rt; sink.bytes(), b"X=1\nY := 2\n".as_slice());
-    let Some(first) = take_first(&mut doc) else {
+    let Some(first) = take_out(&mut doc, 0) else {
         return Err(Fail::from("no line is taken out"));
     };
     assert_eq!(rt; first.bytes(), b"X=1\n".as_slice());
     assert_eq!(rt; (doc.len(), doc.size()), (1, 7));
+    Ok(())
+}
+
+// In how many writes a document goes out to a sink that takes all of a write; `None` if other bytes
+// than these go out.
+fn writes_of(rt: &HostRuntime, doc: &Doc, text: &[u8]) -> Result<Option<u64>, Fault> {
+    let mut sink = MemorySink::new(Vec::new(rt.alloc()), MAX_TEXT);
+    doc.write_to(&mut sink)?;
+    if sink.bytes() != text {
+        return Ok(None);
+    }
+    Ok(Some(sink.writes()))
+}
+
+// What no contract says: lines that no call has touched are not gathered line by line.
+#[test]
+fn untouched_lines_go_out_in_one_write(rt: HostRuntime) -> Result<(), Fail> {
+    let text = repeated(&rt, b"A = 1\n", 20_000)?;
+    let mut doc = Doc::parse(rt.alloc(), &text, &mut Meter::new())?;
+    assert_eq!(rt; writes_of(&rt, &doc, &text)?, Some(1));
+
+    // A line in the middle is taken out: the lines above go out, and then those below.
+    let Some(line) = take_out(&mut doc, 10_000) else {
+        return Err(Fail::from("no line is taken out"));
+    };
+    assert_eq!(rt; writes_of(&rt, &doc, &text[6..])?, Some(2));
+
+    // With a new one at the end, half of the lines lie between the two changes. To tell how many
+    // bytes they have would take longer than it spares, so all lines are gathered, into 16 KB each.
+    assert!(rt; put_last(&mut doc, line));
+    assert_eq!(rt; writes_of(&rt, &doc, &text)?, Some(8));
+
+    // So it is if the first line changes too.
+    assert!(rt; take_out(&mut doc, 0).is_some());
+    assert_eq!(rt; writes_of(&rt, &doc, &text[6..])?, Some(8));
     Ok(())
 }
 
