@@ -1,5 +1,5 @@
 //! An index of a document: where its assignments stand, by their names.
-ghost use Rattle.std.specs.Prelude.{◌≡◌, ◌<◌, ◌≤◌, [], ◌∷◌, ◌++◌, List, length, Some, IfOk, IfSome, OnOk, is_some};
+ghost use Rattle.std.specs.Prelude.{◌≡◌, ◌<◌, ◌≤◌, [], ◌∷◌, ◌++◌, List, length, Some, IfOk, IfSome, OnOk, is_some, true};
 ghost use Rattle.std.specs.Option.{option_copied};
 ghost use Rattle.mk_lines.specs.Limits.{max_text};
 ghost use Rattle.mk_class.specs.Contexts.{Admits};
@@ -51,7 +51,8 @@ impl<A: Allocator + Copy> Index<A> {
     /// where variables stand. [`AllocError`] if a growth was refused.
     pub fn new(alloc: A, doc: &Doc<A>) -> Result<Index<A>, AllocError>
         requires { IsFaithful doc.now }
-        ensures { IfOk result (λ index. IsIndexOf doc.now index) }
+        ensures index { IfOk result (λ index. IsIndexOf doc.now index) }
+        ensures chains { IfOk result (λ index. is_some index.chains ≡ true) }
     {
         let mut index = Index::without_lines(Some(Chains::new(alloc, doc.len() / 4 + 1)?));
         'lines: for line in doc.iter() {
@@ -77,7 +78,8 @@ impl<A: Allocator + Copy> Index<A> {
     // An index of no line, with these chains.
     fn without_lines(chains: Option<Chains<A>>) -> Index<A>
         requires { AreChainsIfAny [] chains }
-        ensures { IsIndexOf [] result }
+        ensures index { IsIndexOf [] result }
+        ensures chains { result.chains ≡ chains }
     {
         Index {
             chains,
@@ -102,8 +104,9 @@ impl<A: Allocator + Copy> Index<A> {
         requires admitted { Admits self.old.end.context (line_view line.now).class }
         requires few { self.old.end.at < max_text }
         requires few_entries { IfSome self.old.chains (λ c. length c.entries ≤ self.old.end.at) }
-        ensures { (lines : List LocatedLine) → IsIndexOf lines self.old → OnOk result
+        ensures index { (lines : List LocatedLine) → IsIndexOf lines self.old → OnOk result
             (IsIndexOf (lines ++ line_view line.now ∷ []) self.new) }
+        ensures chains { is_some self.new.chains ≡ is_some self.old.chains }
     {
         let class = line.class();
         if let Some(chains) = &mut self.chains {

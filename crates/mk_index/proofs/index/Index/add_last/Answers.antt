@@ -32,4 +32,4 @@ pub returns : goal.returns
 returns g c =
     let l = line_view c.line.result.now in
     let added : Added c.args.doc.now c.args.self.now l = last-added c.args.doc.now c.args.self.now l c.requires.behind (c.iter-lines.ensures.admitted c.requires.faithful) (c.line.ensures ∙ ap (λ n. slice_get c.args.doc.now (n - 1)) c.len.ensures.number) in
-    subst (λ ls. OnOk c.push.result (IsIndexOf ls c.push.new.self)) (sym added.doc_is) (c.push.ensures added.earlier added.index_is)
+    subst (λ ls. OnOk c.push.result (IsIndexOf ls c.push.new.self)) (sym added.doc_is) (c.push.ensures.index added.earlier added.index_is)

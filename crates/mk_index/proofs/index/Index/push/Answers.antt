@@ -1,4 +1,4 @@
-use Rattle.std.proofs.Common.{◌≡◌, ◌∙◌, ◌+◌, ◌||◌, ◌∷◌, ◌++◌, [], ap, sym, subst, List, ℕ, Option, Some}
+use Rattle.std.proofs.Common.{◌≡◌, ◌∙◌, ◌+◌, ◌||◌, ◌∷◌, ◌++◌, [], ap, sym, subst, is_some, List, ℕ, Option, Some}
 use Rattle.mk_class.specs.Contexts.{context_after_located}
 use Rattle.mk_tree.specs.Trees.{line_view}
 use Rattle.mk_edit_parts.specs.declared.seek.Found.{Found}
@@ -10,8 +10,8 @@ use Rattle.mk_index.proofs.on_indexes.IndexLemmas.{index-pushed}
 use Rattle.mk_index.proofs.index.Index.push.Goals as goal
 use Rattle.mk_index.proofs.index.Index.push.Goals.{in-Some+in_ok-push_if, in_default}
 
-pub returns : goal.returns
-returns g c = λ lines h.
+pub returns-clause-index : goal.returns-clause-index
+returns-clause-index g c = λ lines h.
     let l = line_view c.args.line.now in
     let old : Stored = record { chains = c.self.inside.chains; has_unread_prefix = c.self.inside.has_unread_prefix; end = c.self.inside.end } in
     let before : IsIndexOf lines old = subst (IsIndexOf lines) (sym c.self.view_is) h in
@@ -26,4 +26,12 @@ returns g c = λ lines h.
           (pushed (Some w.push_if.new.self) (ap (λ s. s.end) w.self-inside-is)
           (subst (λ (o : Option (List ℕ)). AreChainsOf (with_assigned o c.self.inside.end (last_first lines)) w.push_if.new.self) w.name_assigned.ensures (w.in_ok-push_if.ensures (last_first lines) there)))
       | in_default w ↦ rw w.self-inside-is (pushed c.self.inside.chains (ap (λ s. s.end) w.self-inside-is) (subst (AreChainsIfAny (with_assigned (name_assigned l) old.end (last_first lines))) (sym w.in_default.is) tt))
+    ]
+
+pub returns-clause-chains : goal.returns-clause-chains
+returns-clause-chains g c =
+    let old = ap (λ (s : Stored). is_some s.chains) c.self.view_is in
+    elim c.match-self.branch [
+      | in-Some+in_ok-push_if w ↦ rw w.self-inside-is (ap is_some (sym w.in-Some.is) ∙ old)
+      | in_default w ↦ rw w.self-inside-is old
     ]
