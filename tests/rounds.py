@@ -10,11 +10,18 @@ refused only because a proof names what the edit took away shows nothing, and fa
 At last one in five of the functions that were turned is checked as it is, over what the rounds kept.
 Where one of them is not proved, nothing that was found counts, and each edit is tried by itself. (All of
 them have just been proved in the check of the whole crate; this shows that the rounds can prove.)
+
+Where the toolchain can, the edits of a crate are tried in up to four shares side by side, each in rounds
+of its own. All of them begin with what one check of the crate as it stands has proved, the seed.
 """
 
 import hashlib
 import inspect
+import os
+import shutil
 import tempfile
+import threading
+from functools import partial
 from pathlib import Path
 
 from proving import Said
@@ -25,6 +32,8 @@ FLAGS = ("--jobs", "1")
 # it found from run to run, and of one that does not.
 ADDS = "tasks, crate, edits, first, waits, is_well, kept, start=None, in_ci=True"
 TRIES = "crate, edits, flags"
+# At most so many shares of a crate's edits go side by side, and each has at least so many edits.
+MOST_SHARES, FEWEST_EDITS = 4, 6
 
 
 class Trial:
@@ -102,13 +111,19 @@ class Trial:
         return said.is_judged() and all(map(said.is_proved, functions))
 
 
-def found_in_rounds(script, crate, names):
+def found_in_rounds(script, crate, names, seed=None):
     """What was found of some wrong bodies of a crate, by their names: whether each is refused, and words on it.
 
-    None where the checks cannot be trusted. ValueError where an edit does not fit.
+    The checks begin with what a seed holds, a folder, if there is one. None where the checks cannot be
+    trusted. ValueError where an edit does not fit.
     """
     bodies = [it for it in wrong_bodies(Path(crate.folder)) if it.name in names]
-    with tempfile.TemporaryDirectory(prefix="wrong-bodies-") as kept:
+    with tempfile.TemporaryDirectory(prefix="wrong-bodies-") as room:
+        kept = f"{room}/kept"
+        if seed:
+            script.linked(seed, kept)
+        else:
+            os.mkdir(kept)
         trial = Trial(script, crate, kept)
         for body in bodies:
             if not body.functions:
@@ -123,12 +138,12 @@ def found_in_rounds(script, crate, names):
         return {body.name: found for body, found in trial.found.items()}
 
 
-def tried(script, crate, edits):
+def tried(script, crate, edits, seed=None):
     """What a try of each edit comes to, and what to say of it, as the toolchain answers both."""
     names = [Path(it).stem for it in edits]
     try:
-        found = found_in_rounds(script, crate, {*names})
-    except ValueError:
+        found = found_in_rounds(script, crate, {*names}, seed)
+    except (OSError, ValueError):
         found = None
     if found is None or not found.keys() >= {*names}:
         return [script.must_fail(crate, it, list(FLAGS)) for it in edits]
@@ -196,7 +211,8 @@ def take_rounds(script):
     ValueError where its inner parts are not those that this was written for.
     """
     has_parts = all(getattr(script, it, None) for it in ("must_fail", "checked", "unread", "need"))
-    if has_parts and is_function(script, "add_edits", ADDS):
+    has_seeds = all(getattr(script, it, None) for it in ("seeded", "linked", "OVER"))
+    if has_parts and has_seeds and is_function(script, "add_edits", ADDS):
         take_kept_rounds(script)
     elif has_parts and is_function(script, "must_fail_all", TRIES):
         take_plain_rounds(script)
@@ -217,28 +233,92 @@ def take_plain_rounds(script):
     script.must_fail_all = lambda crate, edits, _: told_at_once(script, tried(script, crate, edits)) if edits else []
 
 
+def shares_of(crate, edits):
+    """The places of a crate's edits in the list, in shares that are tried side by side.
+
+    Edits that turn one function cannot be tried in one round, so they stand in different shares.
+    """
+    try:
+        functions = {it.name: sorted(it.functions) for it in wrong_bodies(Path(crate.folder))}
+    except ValueError:
+        return [[*range(len(edits))]]
+    places = sorted(range(len(edits)), key=lambda at: functions.get(Path(edits[at]).stem, []))
+    count = max(1, min(MOST_SHARES, len(edits) // FEWEST_EDITS))
+    return [places[it::count] for it in range(count)]
+
+
+class Shares:
+    """The edits of a crate as tasks of the toolchain's: the seed, and each share, which waits for it."""
+
+    def __init__(self, script, crate, edits, kept, is_well):
+        self.script = script
+        self.crate = crate
+        self.edits = edits
+        self.kept = kept
+        self.is_well = is_well
+        self.shares = shares_of(crate, edits)
+        self.alone = threading.Lock()
+        self.earlier = None
+        self.left = len(self.shares)
+
+    def known(self):
+        """What earlier runs found of the edits, by their places."""
+        with self.alone:
+            if self.earlier is None:
+                self.earlier = Earlier(self.kept, self.crate, self.edits)
+        return self.earlier.found
+
+    def add_to(self, tasks, first, waits):
+        name, lines, needs = self.crate.name, self.crate.count(rb"\n"), self.script.need(self.crate)
+        tasks[name, "seed"] = first, 0, needs, partial(self.sow, first)
+        for number, places in enumerate(self.shares):
+            after = [*waits, (name, "seed")]
+            tasks[name, "edits", number] = after, lines, self.script.OVER * needs, partial(self.try_share, places)
+
+    def sow(self, first, given, jobs):
+        """A room with the seed; None where all edits are known, or the crate is not proved."""
+        if len(self.known()) == len(self.edits) or not all(given[it] for it in first):
+            return None
+        return self.script.seeded(self.crate, ["--jobs", str(jobs)])
+
+    def try_share(self, places, given, jobs):
+        """What the edits of a share come to, by their places; None where the crate is not proved."""
+        known, room = self.known(), given[self.crate.name, "seed"]
+        try:
+            if not self.is_well(given, len(self.edits) - len(known)):
+                return None
+            new = [at for at in places if at not in known]
+            seed = room and f"{room}/seed"
+            told = tried(self.script, self.crate, [self.edits[at] for at in new], seed) if new else []
+            found = dict(zip(new, told_at_once(self.script, told)))
+            self.earlier.keep({at: it for at, it in found.items() if it[0] in refusals(self.script)})
+            return {at: known.get(at) or found[at] for at in places}
+        finally:
+            self.end_share(room)
+
+    def end_share(self, room):
+        """Removes the seed after the last share."""
+        with self.alone:
+            self.left -= 1
+            if room and not self.left:
+                shutil.rmtree(room, ignore_errors=True)
+
+    def results(self, given):
+        """What the edits came to, in their order."""
+        found = {}
+        for number in range(len(self.shares)):
+            found.update(given[self.crate.name, "edits", number])
+        return [found[at] for at in range(len(self.edits))]
+
+
 def take_kept_rounds(script):
     """The same of a toolchain that keeps what earlier runs found: a wrong body that it knows is not tried again."""
 
     def add_edits(tasks, crate, edits, first, waits, is_well, kept, start=None, in_ci=True):
-        begun = {}
-
-        def old():
-            return begun["earlier"].found if begun else {}
-
-        def trial(given, jobs):
-            earlier = begun["earlier"] = Earlier(kept, crate, edits)
-            new = [at for at in range(len(edits)) if at not in earlier.found]
-            if not is_well(given, len(new)):
-                return None
-            told = tried(script, crate, [edits[at] for at in new]) if new else []
-            found = dict(zip(new, told_at_once(script, told)))
-            earlier.keep({at: it for at, it in found.items() if it[0] in refusals(script)})
-            return [earlier.found.get(at) or found[at] for at in range(len(edits))]
-
-        if edits:
-            lines = crate.count(rb"\n")
-            tasks[crate.name, "edits", 0] = (waits, lines, script.need(crate), trial)
-        return lambda given: given[crate.name, "edits", 0] if edits else [], old
+        if not edits:
+            return lambda given: [], dict
+        shares = Shares(script, crate, edits, kept, is_well)
+        shares.add_to(tasks, first, waits)
+        return shares.results, shares.known
 
     script.add_edits = add_edits
