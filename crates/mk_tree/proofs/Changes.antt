@@ -1,5 +1,5 @@
 -- Lines put in, taken out or replaced: the bytes, and the open conditionals.
-use Rattle.std.proofs.Common.{◌≡◌, ℕ, zero, suc, ◌+◌, ◌-◌, ◌<◌, ◌≤◌, ◌∙◌, ap, sym, Some, false, refl, arith, List, [], ◌∷◌, ◌++◌, length, take, drop, suc-add}
+use Rattle.std.proofs.Common.{◌≡◌, ℕ, zero, suc, ◌+◌, ◌-◌, ◌<◌, ◌≤◌, ap, Some, false, refl, arith, List, [], ◌∷◌, ◌++◌, length, take, drop, suc-add}
 use Rattle.std.specs.Prelude.{slice_get, IfSome}
 use Rattle.mk_class.specs.Contexts.{conditionals_after_located, FitsConditionals}
 use Rattle.mk_class.specs.declared.class.Class.{Class}
@@ -87,16 +87,15 @@ pub fit-remove_steps : (inside taken self new : List LocatedLine) (at : ℕ) →
     → new ≡ take at taken ++ drop (at + 1) taken → AreConditionalsFit 0 new
 fit-remove_steps inside taken self new at e v p h r = rw (r, e) (fit-remove 0 inside at (rw v p) h)
 
-pub fit-replace_steps : (x : LocatedLine) (inside taken self new : List LocatedLine) (at : ℕ) → taken ≡ inside → inside ≡ self → IfSome (slice_get self at) (λ l. is_conditional_located l.class ≡ false)
-    → is_conditional_located x.class ≡ false → AreConditionalsFit 0 inside → new ≡ take at taken ++ x ∷ drop (at + 1) taken → AreConditionalsFit 0 new
-fit-replace_steps x inside taken self new at e v p q h r = rw (r, e) (fit-replace 0 x inside at (rw v p) q h)
+pub fit-replace_steps : (x : LocatedLine) (inside self new : List LocatedLine) (at : ℕ) → inside ≡ self → IfSome (slice_get self at) (λ l. is_conditional_located l.class ≡ false)
+    → is_conditional_located x.class ≡ false → AreConditionalsFit 0 inside → new ≡ take at inside ++ x ∷ drop (at + 1) inside → AreConditionalsFit 0 new
+fit-replace_steps x inside self new at v p q h r = rw r (fit-replace 0 x inside at (rw v p) q h)
 
 -- the size of a document with one line for another
-pub size-replace_steps : (size : ℕ) (x old : LocatedLine) (inside taken new : List LocatedLine) (at : ℕ) → taken ≡ inside → size ≡ size_of inside → Some old ≡ slice_get taken at
-    → size_of new + size_of_line (slice_get taken at) ≡ size_of taken + length x.bytes → (length old.bytes ≤ size + length x.bytes) × (size + length x.bytes - length old.bytes ≡ size_of new)
-size-replace_steps size x old inside taken new at e h here r =
-    let own : length old.bytes ≡ size_of_line (slice_get taken at) = ap size_of_line here in
-    let total : size ≡ size_of taken = h ∙ ap size_of (sym e) in
+pub size-replace_steps : (size : ℕ) (x old : LocatedLine) (inside new : List LocatedLine) (at : ℕ) → size ≡ size_of inside → Some old ≡ slice_get inside at
+    → size_of new + size_of_line (slice_get inside at) ≡ size_of inside + length x.bytes → (length old.bytes ≤ size + length x.bytes) × (size + length x.bytes - length old.bytes ≡ size_of new)
+size-replace_steps size x old inside new at total here r =
+    let own : length old.bytes ≡ size_of_line (slice_get inside at) = ap size_of_line here in
     (omega (arith, own, total, r), omega (arith, own, total, r))
 
 -- the bytes of a document with one line for another

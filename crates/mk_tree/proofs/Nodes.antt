@@ -1,5 +1,5 @@
 -- A line put between two trees: what its counts say.
-use Rattle.std.proofs.Common.{◌≡◌, ℕ, ◌+◌, ◌≤◌, ◌<◌, max, arith, List, ◌∷◌, ◌++◌, length, length-append, refl, subst}
+use Rattle.std.proofs.Common.{◌≡◌, ℕ, ◌+◌, ◌≤◌, ◌<◌, max, arith, List, ◌∷◌, ◌++◌, length, length-append, refl, subst, sym}
 use Rattle.mk_lines.specs.Limits.{max_text}
 use Rattle.mk_tree.specs.LocatedLines.{LocatedLine, size_of}
 use Rattle.mk_tree.specs.Trees.{DifferByAtMost, AreFew, IsNode, IsBalanced, IsTop, IsUnlinked, fewest_lines, lines_and_height}
@@ -31,6 +31,20 @@ node-join l r x higher lines_left lines_right near a b some fits h m n =
         low = fewest_lines-low (higher + 1) (length (l.0 ++ x ∷ r.0)) enough (omega (arith, some_bytes, few_bytes));
       };
     }
+
+-- the same counts hold with another line, and with other sides that are as high and as long
+pub node-exchanged : (l r l' r' : List LocatedLine × ℕ) (x x' : LocatedLine) (height lines : ℕ) → IsNode l x r height lines → l'.1 ≡ l.1 → r'.1 ≡ r.1 → length l'.0 ≡ length l.0 → length r'.0 ≡ length r.0
+    → AreFew l'.0 l'.1 → AreFew r'.0 r'.1 → 0 < length x'.bytes → size_of l'.0 + length x'.bytes + size_of r'.0 ≤ max_text → IsNode l' x' r' height lines
+node-exchanged l r l' r' x x' height lines n hl hr nl nr a b some fits =
+    let near : DifferByAtMost 1 l'.1 r'.1 = rw (hl, hr) n.balanced in
+    let joined : IsNode l' x' r' (max l.1 r.1 + 1) (length l.0 + 1 + length r.0) = node-join l' r' x' (max l.1 r.1) (length l.0) (length r.0) near a b some fits (rw (hl, hr) refl) (sym nl) (sym nr) in
+    let count : length l.0 + 1 + length r.0 ≡ lines = grind (arith, length-append, n.lines_are) in
+    subst (λ h. IsNode l' x' r' h lines) (sym n.height_is) (subst (λ k. IsNode l' x' r' (max l.1 r.1 + 1) k) count joined)
+
+-- every tree is low, and has a byte for each line
+pub few-of_link : {A : _} (link : Link A) → IsBalanced link → AreFew (lines_and_height link).0 (lines_and_height link).1
+few-of_link Empty h = record { enough = omega arith; some_bytes = omega arith; few_bytes = omega arith; low = omega arith }
+few-of_link (Full height lines l) h = h.few
 
 -- what a node of a tree says of the tree
 unlinked-of_node : (l r : List LocatedLine × ℕ) (x : LocatedLine) (height lines : ℕ) → IsNode l x r height lines → IsUnlinked (l.0 ++ x ∷ r.0, height) l x r

@@ -156,10 +156,8 @@ impl<A: Allocator> Doc<A> {
         ensures lines { self.new ≡ take at self.old ++ line_view line ∷ drop (at + 1) self.old }
     {
         self.origin.keep(at, self.tree.len() - at - 1);
-        let tree = mem::replace(&mut self.tree, Tree::new());
         let size = self.size + line.bytes().len();
-        let (tree, old) = tree.replace(at, line);
-        self.tree = tree;
+        let old = self.tree.replace(at, line);
         self.size = size - old.bytes().len();
         old
     }

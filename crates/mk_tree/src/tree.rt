@@ -1,9 +1,10 @@
 //! A balanced tree of lines: one boxed node for each line, in the order of the lines.
 //!
 //! The heights of two siblings differ by at most one (Adelson-Velsky and Landis, 1962). The box of
-//! a node is the line itself, so that a line by itself can be put into a tree without memory. A
-//! tree is changed by value: [`Tree::unlink`] takes it apart at its top, and [`Tree::join`] puts
-//! two trees and a line between them together.
+//! a node is the line itself, so that a line by itself can be put into a tree without memory. Where
+//! a line is put in or taken out, a tree is changed by value: [`Tree::unlink`] takes it apart at
+//! its top, and [`Tree::join`] puts two trees and a line between them together. Where a line takes
+//! the place of another, the nodes stay, and two boxes exchange what they hold ([`Tree::replace`]).
 ghost use Rattle.std.specs.Prelude.{◌≡◌, ◌+◌, ◌<◌, ◌≤◌, max, [], ◌∷◌, ◌++◌, length, Some, IfOk, MatchOption, slice_get, take, drop};
 ghost use Rattle.mk_lines.specs.Limits.{max_text};
 ghost use Rattle.mk_lines.specs.Cells.{joined_byte, line_cells};
@@ -290,30 +291,36 @@ impl<A: Allocator> Tree<A> {
         }
     }
 
-    /// Puts a line in the place of another, which it hands out.
+    /// Puts a line in the place of another, which it hands out. The nodes stay where they are, and
+    /// the boxes of the two lines exchange what they hold.
     #[tactic(auto, using(crate::proofs::Indices::indices))]
-    pub(crate) fn replace(self, at: usize, line: Line<A>) -> (Tree<A>, Line<A>)
-        requires in_range { at < length self.0 }
-        requires fits { size_of self.0 + length (line_view line).bytes
-            ≤ max_text + size_of_line (slice_get self.0 at) }
-        ensures line { Some (line_view result.1) ≡ slice_get self.0 at }
-        ensures lines { result.0.0 ≡ take at self.0 ++ line_view line ∷ drop (at + 1) self.0 }
-        ensures size { size_of result.0.0 + size_of_line (slice_get self.0 at)
-            ≡ size_of self.0 + length (line_view line).bytes }
-        ensures height { result.0.1 ≡ self.1 }
+    pub(crate) fn replace(&mut self, at: usize, mut line: Line<A>) -> Line<A>
+        requires in_range { at < length self.old.0 }
+        requires fits { size_of self.old.0 + length (line_view line).bytes
+            ≤ max_text + size_of_line (slice_get self.old.0 at) }
+        ensures line { Some (line_view result) ≡ slice_get self.old.0 at }
+        ensures lines { self.new.0
+            ≡ take at self.old.0 ++ line_view line ∷ drop (at + 1) self.old.0 }
+        ensures size { size_of self.new.0 + size_of_line (slice_get self.old.0 at)
+            ≡ size_of self.old.0 + length (line_view line).bytes }
+        ensures height { self.new.1 ≡ self.old.1 }
+        ensures few { AreFew self.new.0 self.new.1 }
     {
-        match self.unlink() {
-            None => unreachable!(),
-            Some((left, top, right)) => {
-                let before = left.len();
+        match &mut self.link {
+            Link::Empty => unreachable!(),
+            Link::Full { top, .. } => {
+                let before = top.node.left.len();
+                // The contracts of `len` and `bytes` say that no line is empty.
+                let _after = top.node.right.len();
+                let _top_bytes = top.bytes();
+                let _line_bytes = line.bytes();
                 if at < before {
-                    let (left, old) = left.replace(at, line);
-                    (Tree::join(left, top, right), old)
+                    top.node.left.replace(at, line)
                 } else if at > before {
-                    let (right, old) = right.replace(at - before - 1, line);
-                    (Tree::join(left, top, right), old)
+                    top.node.right.replace(at - before - 1, line)
                 } else {
-                    (Tree::join(left, line, right), top)
+                    mem::swap(&mut top.node.content, &mut line.node.content);
+                    line
                 }
             }
         }

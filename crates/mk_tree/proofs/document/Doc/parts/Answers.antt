@@ -24,7 +24,6 @@ returns-clause-whole g c =
     let u : AreUntouched c.as_slice-text.result.now o.first o.last c.args.self.now = rw (c.as_slice-text.ensures.value, ← c.self.view_is) c.self.invariant.2 in
     let (front, end, whole) = origin.parts c.as_slice-text.result.now o.first o.last c.min-last.result _ _ _ c.args.self.now u (omega (arith, c.min-last.ensures, c.len-lines.ensures.number)) (omega (arith, c.len-lines.ensures.number)) c.sizes_around-front.ensures.before c.sizes_around-front.ensures.after in
     let text = c.as_slice-text.result.now in
-    let behind : length text - (length text - c.sizes_around-front.result.1) ≡ c.sizes_around-front.result.1 = omega (arith, end) in
     let all : take (length text - (length text - c.sizes_around-front.result.1)) (drop (length text - c.sizes_around-front.result.1) text) ≡ drop (length text - c.sizes_around-front.result.1) text =
     take_all (length text - (length text - c.sizes_around-front.result.1)) (drop (length text - c.sizes_around-front.result.1) text) (omega (arith, length-drop (length text - c.sizes_around-front.result.1) text)) in
     rw all whole
