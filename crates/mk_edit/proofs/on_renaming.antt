@@ -9,3 +9,5 @@ pub mod LinesAlong
 pub mod PatchPlans
 pub mod SizesOfEffects
 pub mod PatchLoops
+pub mod PlacesNoted
+pub mod PlacesLeft

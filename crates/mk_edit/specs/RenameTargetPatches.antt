@@ -1,7 +1,7 @@
 -- The moves of a rename: each line that holds the word is exchanged for the line after the rename,
 -- in two turns.
 -- Told in docs/DECISIONS.md, "mk_edit_parts and mk_edit".
-use Rattle.std.specs.Prelude.{◌≡◌, ◌&&◌, not, nat_lt, ℕ, ◌+◌, ◌*◌, ◌^◌, ◌<◌, ◌≤◌, Bool, true, false, List, [], ◌∷◌, ◌++◌, length, filter}
+use Rattle.std.specs.Prelude.{◌≡◌, ◌&&◌, not, nat_lt, if◌then◌else◌, ℕ, ◌+◌, ◌*◌, ◌^◌, ◌<◌, ◌≤◌, Bool, true, false, List, [], ◌∷◌, ◌++◌, length, filter}
 use Rattle.mk_lines.specs.Limits.{max_text}
 use Rattle.mk_lines.specs.LogicalLines.{logical_lines}
 use Rattle.mk_class.specs.Contexts.{Context, start, context_after_located}
@@ -9,6 +9,7 @@ use Rattle.mk_tree.specs.LineTexts.{line_in}
 use Rattle.mk_tree.specs.LocatedLines.{LocatedLine, located_line}
 use Rattle.mk_patch.specs.Moves.{Move, Exchange, IsPlain}
 use Rattle.mk_edit_parts.specs.LocatedParts.{IsClassed}
+use Rattle.mk_edit_parts.specs.declared.seek.Found.{Found}
 use Rattle.mk_edit_parts.specs.RenamedRanges.{renamed_ranges, bytes_in}
 use Rattle.mk_edit_parts.specs.RenamedTexts.{renamed_text, AreApart}
 use Rattle.mk_edit.specs.declared.rename_target_effect.Turn.{Turn}
@@ -25,6 +26,18 @@ holds_word o l = nat_lt 0 (length (renamed_ranges o l))
 abbrev pub is_turn_of : Turn → (words bytes new_length : ℕ) → Bool
 is_turn_of turn.NoLonger w b n = nat_lt 0 w && not (nat_lt b (w * n))
 is_turn_of turn.Longer w b n = nat_lt b (w * n)
+
+-- The places of the lines that hold the word, in their order; the first line stands at this index
+-- and in this context.
+abbrev pub held_places_from : (old : List ℕ) → (at : ℕ) → Context → List LocatedLine → List Found
+held_places_from o at c [] = []
+held_places_from o at c (l ∷ ls) =
+    let below = held_places_from o (at + 1) (context_after_located c l.class) ls in
+    if holds_word o l then record { at = at; context = c } ∷ below else below
+
+-- the places of the lines of a document that hold the word
+abbrev pub held_places : (old : List ℕ) → List LocatedLine → List Found
+held_places o ls = held_places_from o 0 start ls
 
 -- whether this line is exchanged in a turn
 abbrev pub is_exchanged : Turn → (old new : List ℕ) → LocatedLine → Bool

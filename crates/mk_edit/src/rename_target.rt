@@ -9,6 +9,7 @@ ghost use Rattle.mk_edit.specs.Planned.{IsPlanned, IsRefusal};
 ghost use Rattle.mk_edit.specs.RenameTargetEffects.{IsRenameTarget};
 
 use crate::rename_target_causes::accepted_rename;
+use crate::rename_target_effect::Survey;
 use crate::rename_target_patch::rename_target_patch;
 use memchr::memmem::Finder;
 use mk_class::Meter;
@@ -43,6 +44,9 @@ pub(crate) fn plan_rename_target<A: Allocator + Copy>(
     ensures forward { meter.old ≤ meter.new }
 {
     let finder = Finder::new(from);
-    let effect = accepted_rename(doc, edit, &finder, to)?;
-    rename_target_patch(alloc, doc, &finder, to, effect, meter)
+    let Survey { effect, places } = accepted_rename(alloc, doc, edit, &finder, to)?;
+    let Some(places) = places else {
+        return Err(Refusal::NoMemory);
+    };
+    rename_target_patch(alloc, doc, &places, &finder, to, effect, meter)
 }

@@ -1,5 +1,5 @@
 //! The causes of refusal of a rename, in their order.
-ghost use Rattle.std.specs.Prelude.{◌≡◌, ◌+◌, ◌*◌, ◌≤◌, IfOk, IfErr, None, Some, nat_lt};
+ghost use Rattle.std.specs.Prelude.{◌≡◌, ◌+◌, ◌*◌, ◌≤◌, IfOk, IfErr, IfSome, None, Some, nat_lt};
 ghost use Rattle.mk_lines.specs.Limits.{max_text};
 ghost use Rattle.mk_class.specs.ClassedLines.{classed_lines};
 ghost use Rattle.mk_class.specs.Contexts.{start};
@@ -8,8 +8,9 @@ ghost use Rattle.mk_tree.specs.LocatedLines.{located_text};
 ghost use Rattle.mk_edit_laws.specs.Refusals.{causes, first_cause};
 ghost use Rattle.mk_edit_parts.specs.EditViews.{edit_of};
 ghost use Rattle.mk_edit.specs.RenameTargetEffects.{IsRenameTarget, effect_on, first_of_lines};
+ghost use Rattle.mk_edit.specs.RenameTargetPatches.{held_places};
 
-use crate::rename_target_effect::{Effect, rename_target_effect};
+use crate::rename_target_effect::{Effect, Survey, rename_target_effect};
 use memchr::memmem::Finder;
 use mk_edit_laws::Refusal;
 use mk_edit_parts::argument::{bad_field, is_reserved};
@@ -18,25 +19,29 @@ use mk_lines::source::MAX_TEXT;
 use mk_tree::Doc;
 use std::alloc::Allocator;
 
-/// What a rename does to the lines of a document, if no cause of refusal holds. `from` searches for
-/// the old word. The call decides, in this
-/// order, whether a word may not be a target, or is reserved; whether the recipe prefix is set in a
-/// way that is not read; whether the old word is no target; whether a line would begin with the
-/// recipe prefix; whether the new word is a target; and whether the text would be too long. It
-/// walks once over the kept lines, reads no line anew and takes no memory.
+/// What a rename does to the lines of a document and where those lines stand, if no cause of refusal
+/// holds. `from` searches for the old word. The call decides, in this order, whether a word may not
+/// be a target, or is reserved; whether the recipe prefix is set in a way that is not read; whether
+/// the old word is no target; whether a line would begin with the recipe prefix; whether the new
+/// word is a target; and whether the text would be too long. It walks once over the kept lines and
+/// reads no line anew. It takes memory for the places alone, and decides the same without it.
 ///
 /// # Errors
 ///
 /// The first refusal whose cause holds.
-pub(crate) fn accepted_rename<A: Allocator>(
+pub(crate) fn accepted_rename<A: Allocator + Copy>(
+    alloc: A,
     doc: &Doc<A>,
     edit: &Edit<A>,
     from: &Finder<'_>,
     to: &[u8],
-) -> Result<Effect, Refusal>
+) -> Result<Survey<A>, Refusal>
     requires faithful { IsFaithful doc.now }
     requires kind { IsRenameTarget from.now to.now (edit_of edit.now) }
-    ensures effect { IfOk result (λ effect. effect ≡ effect_on from.now to.now start doc.now) }
+    ensures effect { IfOk result (λ survey.
+        survey.effect ≡ effect_on from.now to.now start doc.now) }
+    ensures places { IfOk result (λ survey. IfSome survey.places (λ places.
+        places.items ≡ held_places from.now doc.now)) }
     ensures accepted { IfOk result (λ _. first_cause (causes (located_text doc.now)
         (classed_lines (located_text doc.now)) (edit_of edit.now)) ≡ None) }
     ensures refused { IfErr result (λ refusal. first_cause (causes (located_text doc.now)
@@ -48,10 +53,10 @@ pub(crate) fn accepted_rename<A: Allocator>(
     if is_reserved(edit) {
         return Err(Refusal::Reserved);
     }
-    let effect = rename_target_effect(doc, from, to);
-    match first_of_lines(effect, doc.size(), to.len()) {
+    let survey = rename_target_effect(alloc, doc, from, to);
+    match first_of_lines(survey.effect, doc.size(), to.len()) {
         Some(refusal) => Err(refusal),
-        None => Ok(effect),
+        None => Ok(survey),
     }
 }
 

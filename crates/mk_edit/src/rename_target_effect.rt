@@ -1,16 +1,18 @@
 //! What a rename finds among the lines of a document and does to them, seen by one walk.
-ghost use Rattle.std.specs.Prelude.{◌≡◌, ◌+◌, ◌<◌, ◌≤◌, ◌^◌};
+ghost use Rattle.std.specs.Prelude.{◌≡◌, ◌+◌, ◌<◌, ◌≤◌, ◌^◌, IfSome};
 ghost use Rattle.mk_lines.specs.Limits.{max_text};
 ghost use Rattle.mk_class.specs.Contexts.{start};
 ghost use Rattle.mk_tree.specs.Documents.{IsFaithful};
 ghost use Rattle.mk_tree.specs.Trees.{line_view};
-ghost use Rattle.mk_edit.specs.RenameTargetEffects.{effect_of_line, effect_on, joined};
-ghost use Rattle.mk_edit.specs.RenameTargetPatches.{HasFewWords, is_turn_of};
+ghost use Rattle.mk_edit.specs.RenameTargetEffects.{effect_of_line, effect_on, joined, may_tell, no_effect};
+ghost use Rattle.mk_edit.specs.RenameTargetPatches.{HasFewWords, held_places, is_turn_of};
 
+use crate::rename_target_places::noted;
 use memchr::memmem::Finder;
 use mk_class::{Class, Context};
 use mk_edit_parts::lean::begins_with;
 use mk_edit_parts::line_test::{has_target, is_unread};
+use mk_edit_parts::seek::Found;
 use mk_edit_parts::tally::{Tally, count_words};
 use mk_tree::{Doc, Line};
 use std::alloc::Allocator;
@@ -46,20 +48,62 @@ pub(crate) struct Effect {
     pub longer: usize,
 }
 
-/// What a rename finds among the lines of a document, and what it does to them. `from` searches for
-/// the old word. The call walks once over the kept lines, reads no line anew and takes no memory.
-pub(crate) fn rename_target_effect<A: Allocator>(
+/// What the walk that decides a rename has seen.
+#[derive(Drop)]
+pub(crate) struct Survey<A: Allocator> {
+    /// What the rename finds among the lines, and what it does to them.
+    pub effect: Effect,
+    /// The places of the lines that hold the old word, in their order. `None` if a growth was
+    /// refused.
+    pub places: Option<Vec<Found, A>>,
+}
+
+/// What a rename finds among the lines of a document, what it does to them, and where the lines
+/// stand that it exchanges. `from` searches for the old word. The call walks once over the kept
+/// lines and reads no line anew. It takes memory for the places alone, and goes on without it.
+pub(crate) fn rename_target_effect<A: Allocator + Copy>(
+    alloc: A,
     doc: &Doc<A>,
     from: &Finder<'_>,
     to: &[u8],
-) -> Effect
+) -> Survey<A>
     requires { IsFaithful doc.now }
-    ensures effect { result ≡ effect_on from.now to.now start doc.now }
-    ensures few_bytes { result.bytes ≤ max_text }
+    ensures effect { result.effect ≡ effect_on from.now to.now start doc.now }
+    ensures few_bytes { result.effect.bytes ≤ max_text }
+    ensures places { IfSome result.places (λ places.
+        places.items ≡ held_places from.now doc.now) }
 {
     // The contract of `size` says that the text is within the limit, and so are its words.
     let _size = doc.size();
-    let mut effect = Effect {
+    let mut effect = no_effect();
+    let mut places = Some(Vec::new(alloc));
+    let mut next = Found {
+        at: 0,
+        context: Context::start(),
+    };
+    'lines: for line in doc.iter() {
+        let class = line.class();
+        let place = next;
+        next = Found {
+            at: place.at + 1,
+            context: place.context.step(&class),
+        };
+        if may_tell(&class) {
+            let of_line = effect_of_line(line, &class, place.context, from, to);
+            effect = joined(effect, of_line);
+            if of_line.words > 0 {
+                places = noted(places, place);
+            }
+        }
+    }
+    Survey { effect, places }
+}
+
+// The effect on no lines.
+fn no_effect() -> Effect
+    ensures { result ≡ no_effect }
+{
+    Effect {
         has_unread_prefix: false,
         is_there: false,
         begins_line: false,
@@ -68,14 +112,19 @@ pub(crate) fn rename_target_effect<A: Allocator>(
         bytes: 0,
         no_longer: 0,
         longer: 0,
-    };
-    let mut context = Context::start();
-    'lines: for line in doc.iter() {
-        let class = line.class();
-        effect = joined(effect, effect_of_line(line, &class, context, from, to));
-        context = context.step(&class);
     }
-    effect
+}
+
+// Whether a line of this class may have an effect. Most lines are of other classes, and the walk
+// passes over them.
+fn may_tell(class: &Class) -> bool
+    ensures { result ≡ may_tell class.now }
+{
+    match class {
+        Class::Header(_) | Class::TargetAssign(_) | Class::Assign(_, None) => true,
+        Class::DefineHead(is_unread) => *is_unread,
+        _ => false,
+    }
 }
 
 // The effect on a line of this class that stands in this context.

@@ -17,7 +17,7 @@ ghost use Rattle.mk_edit_laws.specs.Edits.{RenameTarget};
 ghost use Rattle.mk_edit_laws.specs.Refusals.{causes, first_cause};
 ghost use Rattle.mk_edit.specs.Planned.{IsPlanned};
 ghost use Rattle.mk_edit.specs.RenameTargetEffects.{effect_on};
-ghost use Rattle.mk_edit.specs.RenameTargetPatches.{CanBeRenamed, CanEachBeRenamed, exchanged_count, is_exchanged, line_renamed, turn_moves};
+ghost use Rattle.mk_edit.specs.RenameTargetPatches.{CanBeRenamed, CanEachBeRenamed, exchanged_count, held_places, is_exchanged, line_renamed, turn_moves};
 
 use crate::moves::{builder, read_line};
 use crate::rename_target_effect::{Effect, Turn, is_of_turn};
@@ -25,6 +25,7 @@ use memchr::memmem::Finder;
 use mk_class::{Context, Meter};
 use mk_edit_laws::Refusal;
 use mk_edit_parts::renamed_line::renamed_bytes;
+use mk_edit_parts::seek::Found;
 use mk_edit_parts::tally::count_words;
 use mk_patch::{Patch, PatchBuilder, Step};
 use mk_tree::{Doc, Line};
@@ -39,8 +40,8 @@ struct Batch {
 }
 
 /// The patch that replaces a word in all targets and prerequisites. The caller knows that no cause
-/// of refusal holds, and what the rename does to the lines. `from` searches for the old word. Each
-/// line that holds it is read once.
+/// of refusal holds, what the rename does to the lines, and the places of those that hold the old
+/// word. `from` searches for this word. Each line that holds it is read once.
 ///
 /// # Errors
 ///
@@ -48,12 +49,14 @@ struct Batch {
 pub(crate) fn rename_target_patch<A: Allocator + Copy>(
     alloc: A,
     doc: &Doc<A>,
+    places: &[Found],
     from: &Finder<'_>,
     to: &[u8],
     effect: Effect,
     meter: &mut Meter,
 ) -> Result<Patch<A>, Refusal>
     requires faithful { IsFaithful doc.now }
+    requires places { places.now ≡ held_places from.now doc.now }
     requires effect { effect ≡ effect_on from.now to.now start doc.now }
     requires accepted { first_cause (causes (located_text doc.now)
         (classed_lines (located_text doc.now)) (RenameTarget from.now to.now)) ≡ None }
@@ -77,16 +80,17 @@ pub(crate) fn rename_target_patch<A: Allocator + Copy>(
         turn: Turn::Longer,
         lines: effect.longer,
     };
-    exchange_lines(alloc, doc, &mut patch, from, to, shrinking, meter)?;
-    exchange_lines(alloc, doc, &mut patch, from, to, growing, meter)?;
+    exchange_lines(alloc, doc, places, &mut patch, from, to, shrinking, meter)?;
+    exchange_lines(alloc, doc, places, &mut patch, from, to, growing, meter)?;
     Ok(patch.finish())
 }
 
-// Adds the steps of a turn to a patch: the lines that are exchanged in it. It walks over no line if
-// the turn has none.
+// Adds the steps of a turn to a patch: the lines that are exchanged in it. They are sought among the
+// lines that hold the word, and not sought at all if the turn has none.
 fn exchange_lines<A: Allocator + Copy>(
     alloc: A,
     doc: &Doc<A>,
+    places: &[Found],
     patch: &mut PatchBuilder<A>,
     from: &Finder<'_>,
     to: &[u8],
@@ -95,6 +99,7 @@ fn exchange_lines<A: Allocator + Copy>(
 ) -> Result<(), Refusal>
     requires faithful { IsFaithful doc.now }
     requires can { CanEachBeRenamed from.now to.now start doc.now }
+    requires places { places.now ≡ held_places from.now doc.now }
     requires lines { batch.lines ≡ exchanged_count batch.turn from.now to.now doc.now }
     requires room { length patch.old.moves + exchanged_count batch.turn from.now to.now doc.now
         ≤ patch.old.room }
@@ -111,9 +116,11 @@ fn exchange_lines<A: Allocator + Copy>(
     }
     // The contract of `len` bounds the number of lines, as counting them asks.
     let _count = doc.len();
-    'lines: for (at, (context, line)) in doc.lines_with_contexts().enumerate() {
-        if let Some(renamed) = line_of_turn(alloc, line, context, from, to, batch.turn, meter)? {
-            patch.push(Step::Exchange(at, renamed));
+    'places: for place in places {
+        let line = doc.line(place.at);
+        let renamed = line_of_turn(alloc, line, place.context, from, to, batch.turn, meter)?;
+        if let Some(renamed) = renamed {
+            patch.push(Step::Exchange(place.at, renamed));
         }
     }
     Ok(())

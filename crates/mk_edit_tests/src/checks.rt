@@ -166,40 +166,66 @@ pub fn check_refused<'a>(
     edit: Result<Edit<Heap<'a>>, AllocError>,
     refusal: Refusal,
 ) -> Result<(), Fail> {
+    let asks = asks_in_vain(heap, makefile, edit, refusal)?;
+    check(!asks, "a refused edit asks for no memory")
+}
+
+/// Checks a rename of a makefile that is refused after its walk has come to a line that holds the
+/// old word. It asks for memory to note this line. That is refused, and so is all that it might ask
+/// for then; but the refusal is the one with ample memory, and the document is the same. Where all
+/// that holds, the allocator refuses no growth afterwards.
+pub fn check_refused_rename<'a>(
+    heap: Heap<'a>,
+    makefile: &[u8],
+    edit: Result<Edit<Heap<'a>>, AllocError>,
+    refusal: Refusal,
+) -> Result<(), Fail> {
+    let asks = asks_in_vain(heap, makefile, edit, refusal)?;
+    check(asks, "the rename asks for memory")
+}
+
+/// Whether an edit that is refused asks for memory before, where each growth is refused.
+fn asks_in_vain<'a>(
+    heap: Heap<'a>,
+    makefile: &[u8],
+    edit: Result<Edit<Heap<'a>>, AllocError>,
+    refusal: Refusal,
+) -> Result<bool, Fail> {
     match &edit {
-        Ok(edit) => check_refused_edit(heap, makefile, edit, refusal),
+        Ok(edit) => edit_asks_in_vain(heap, makefile, edit, refusal),
         Err(_) => Err(Fail::from("no memory for the edit")),
     }
 }
 
-/// Checks an edit of a makefile that is refused.
-fn check_refused_edit<'a>(
+/// The same of an edit that another function owns.
+fn edit_asks_in_vain<'a>(
     heap: Heap<'a>,
     makefile: &[u8],
     edit: &Edit<Heap<'a>>,
     refusal: Refusal,
-) -> Result<(), Fail> {
+) -> Result<bool, Fail> {
     let doc = document(heap, makefile)?;
-    check_refusal(heap, makefile, &doc, edit, refusal)
+    check_refusal(heap, &doc, edit, refusal)?;
+    heap.refuse_all();
+    check_refusal(heap, &doc, edit, refusal)?;
+    let asks = heap.has_refused();
+    heap.refuse_none();
+    check(is_text(&doc, makefile), "the document is the same")?;
+    Ok(asks)
 }
 
-/// Checks that an edit is refused without memory, and leaves the document.
+/// Checks that an edit is refused so.
 fn check_refusal<'a>(
     heap: Heap<'a>,
-    makefile: &[u8],
     doc: &Doc<Heap<'a>>,
     edit: &Edit<Heap<'a>>,
     refusal: Refusal,
 ) -> Result<(), Fail>
     requires { IsFaithful doc.now }
 {
-    heap.refuse_all();
     match refusal_of(heap, doc, edit) {
-        None => return Err(Fail::from("the edit is accepted")),
-        Some(found) if found == refusal => (),
-        Some(found) => return Err(Fail::from(found)),
+        None => Err(Fail::from("the edit is accepted")),
+        Some(found) if found == refusal => Ok(()),
+        Some(found) => Err(Fail::from(found)),
     }
-    check(!heap.has_refused(), "a refused edit asks for no memory")?;
-    heap.refuse_none();
-    check(is_text(doc, makefile), "the document is the same")
 }

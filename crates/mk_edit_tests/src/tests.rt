@@ -2,7 +2,9 @@
 //! and the refusals of edits are those of tests/cases.
 ghost use Rattle.mk_patch.specs.Moves.{FitMoves};
 
-use crate::checks::{Heap, check_accepted, check_refused, document, growths_of_plan};
+use crate::checks::{
+    Heap, check_accepted, check_refused, check_refused_rename, document, growths_of_plan,
+};
 use crate::edits::{
     add_assign, add_prereq, add_recipe, add_rule, append_value, remove_assign, remove_prereq,
     remove_recipe, remove_rule, rename_target, set_recipe, set_value,
@@ -135,6 +137,18 @@ fn a_target_is_renamed(rt: HostRuntime) -> Result<(), Fail> {
     )
 }
 
+#[test]
+fn a_target_is_renamed_in_more_lines_than_one_growth_notes(rt: HostRuntime) -> Result<(), Fail> {
+    let heap = Watched::new(rt.alloc());
+    let edit = rename_target(&heap, b"a", b"bc");
+    check_accepted(
+        &heap,
+        b"a:\nb: a\nc: a\nX = a\nd: a\ne: a\nf: a\ng: a\nh: a a\ni: a\n",
+        edit,
+        b"bc:\nb: bc\nc: bc\nX = a\nd: bc\ne: bc\nf: bc\ng: bc\nh: bc bc\ni: bc\n",
+    )
+}
+
 // ---- edits that are refused
 
 #[test]
@@ -157,7 +171,7 @@ fn a_recipe_prefix_refuses_edits(rt: HostRuntime) -> Result<(), Fail> {
     check_refused(&heap, makefile, edit, Refusal::RecipePrefix)?;
     let edit = rename_target(&heap, b"all", b"tidy");
     let makefile = b".RECIPEPREFIX = t\nall: a\n".as_slice();
-    check_refused(&heap, makefile, edit, Refusal::RecipePrefix)
+    check_refused_rename(&heap, makefile, edit, Refusal::RecipePrefix)
 }
 
 #[test]
@@ -165,6 +179,9 @@ fn a_line_has_to_be_there_once(rt: HostRuntime) -> Result<(), Fail> {
     let heap = Watched::new(rt.alloc());
     let edit = rename_target(&heap, b"c", b"d");
     check_refused(&heap, b"a: b\nb:\n", edit, Refusal::NoSuch)?;
+    // its word is only a prerequisite
+    let edit = rename_target(&heap, b"c", b"d");
+    check_refused_rename(&heap, b"a: c\n", edit, Refusal::NoSuch)?;
     let edit = set_value(&heap, b"CC", b"z");
     let makefile = b"ifdef A\nCC=x\nelse\nCC=y\nendif\n".as_slice();
     check_refused(&heap, makefile, edit, Refusal::Ambiguous(2))
@@ -185,7 +202,7 @@ fn prerequisites_and_recipe_lines_are_absent_or_there_already(rt: HostRuntime) -
 fn a_taken_name_is_refused(rt: HostRuntime) -> Result<(), Fail> {
     let heap = Watched::new(rt.alloc());
     let edit = rename_target(&heap, b"a", b"b");
-    check_refused(&heap, b"a: b\nb:\n", edit, Refusal::Taken)
+    check_refused_rename(&heap, b"a: b\nb:\n", edit, Refusal::Taken)
 }
 
 #[test]

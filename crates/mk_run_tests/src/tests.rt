@@ -27,6 +27,12 @@ fn rows_at_any_step(rt: HostRuntime) {
     }
 }
 
+// Whether a cause refuses the rename of a row after its walk. Where the walk finds no memory for its
+// notes, the rename is refused for this cause all the same.
+fn is_refused_rename(row: &Row) -> bool {
+    row.script.starts_with(b"rename a b")
+}
+
 #[test]
 fn each_growth_refused_in_turn(rt: HostRuntime) {
     for row in &rows() {
@@ -39,10 +45,14 @@ fn each_growth_refused_in_turn(rt: HostRuntime) {
                 assert_eq!(rt; admitted == 0, row.outcome == Outcome::BadDepth);
                 break;
             }
-            assert_eq!(rt; answer.outcome, Outcome::NoMemory);
-            assert_eq!(rt; status(&answer.outcome), 3);
-            assert!(rt; answer.out_is_untouched());
-            assert!(rt; row.report.starts_with(answer.report.bytes()));
+            if is_refused_rename(row) && answer.outcome == row.outcome {
+                assert_is(&rt, row, &answer);
+            } else {
+                assert_eq!(rt; answer.outcome, Outcome::NoMemory);
+                assert_eq!(rt; status(&answer.outcome), 3);
+                assert!(rt; answer.out_is_untouched());
+                assert!(rt; row.report.starts_with(answer.report.bytes()));
+            }
         }
     }
 }

@@ -275,8 +275,10 @@ fn each_refused_growth_of_a_begin_changes_nothing(rt: HostRuntime) -> Result<(),
     Ok(())
 }
 
-// Edits that are refused, each with the text that it finds and the cause.
-const REFUSED_EDITS: [(&[u8], Step, Refusal); 6] = [
+// An edit that is refused, with the text that it finds and the cause.
+type Refused = (&'static [u8], Step, Refusal);
+
+const REFUSED_EDITS: [Refused; 5] = [
     (
         b"foo:\nX = 1\n\tY = 2\n",
         Step::RemoveAssign(b"X"),
@@ -302,26 +304,32 @@ const REFUSED_EDITS: [(&[u8], Step, Refusal); 6] = [
         Step::RemovePrereq(b"foo", b"a"),
         Refusal::Absent,
     ),
-    (
-        b"a: b\nb:\n",
-        Step::RenameTarget(b"a", b"b"),
-        Refusal::Taken,
-    ),
 ];
 
-// Whether an edit is refused for its cause where every growth is refused, and meets none.
-fn keeps_its_cause(
+// A rename that is refused, but not before the walk has come to a line that holds the old word.
+const REFUSED_RENAME: Refused = (
+    b"a: b\nb:\n",
+    Step::RenameTarget(b"a", b"b"),
+    Refusal::Taken,
+);
+
+// Makes an edit while every growth is refused, and says whether it met one. Fails where the edit is
+// not refused for its cause, or changes something.
+fn meets_growths(
     rt: &HostRuntime,
     heap: &Heap,
     in_group: bool,
-    (text, edit, cause): (&'static [u8], Step, Refusal),
+    (text, edit, cause): Refused,
 ) -> Result<bool, Fail> {
     let mut session = Session::open(heap, text, 10)?;
     if in_group {
         session.begin()?;
     }
     let (answer, refused) = obey_without_memory(heap, &mut session, edit)?;
-    Ok(answer == Err(cause) && !refused && is_as_parsed(rt, session.doc(), text)?)
+    if answer == Err(cause) && is_as_parsed(rt, session.doc(), text)? {
+        return Ok(refused);
+    }
+    Err(Fail::from("an edit is not refused for its cause"))
 }
 
 // Makes a call while every growth is refused. Gives its answer, and whether it met one.
@@ -343,10 +351,12 @@ fn a_refused_edit_keeps_its_cause_where_all_growths_are_refused(
     rt: HostRuntime,
 ) -> Result<(), Fail> {
     let heap = Watched::new(rt.alloc());
-    for edit in REFUSED_EDITS {
-        for in_group in [false, true] {
-            assert!(rt; keeps_its_cause(&rt, &heap, in_group, edit)?);
+    for in_group in [false, true] {
+        for edit in REFUSED_EDITS {
+            assert!(rt; !meets_growths(&rt, &heap, in_group, edit)?);
         }
+        // the notes of the rename
+        assert!(rt; meets_growths(&rt, &heap, in_group, REFUSED_RENAME)?);
     }
     Ok(())
 }

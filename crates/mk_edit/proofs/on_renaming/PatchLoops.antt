@@ -28,7 +28,7 @@ pub record IsTurnBuilt (t : Turn) (o n : List ℕ) (document : List LocatedLine)
   pub forward : meter_before ≤ meter_now
 
 -- a patch with the step of a line at a place added, if the line is exchanged
-abbrev with_step : MovesWithRoom → (at : ℕ) → Option LocatedLine → MovesWithRoom
+abbrev pub with_step : MovesWithRoom → (at : ℕ) → Option LocatedLine → MovesWithRoom
 with_step p at None = p
 with_step p at (Some x) = record p { moves = p.moves ++ Exchange at x ∷ [] }
 

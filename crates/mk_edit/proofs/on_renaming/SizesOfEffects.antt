@@ -33,7 +33,7 @@ same-effect e f u t l k w b s g =
     ∙ (ap (λ z. mk f.has_unread_prefix f.is_there f.begins_line f.is_taken f.words f.bytes z e.longer) s
     ∙ ap (mk f.has_unread_prefix f.is_there f.begins_line f.is_taken f.words f.bytes f.no_longer) g))))))
 
-joined-none : (e : Effect) → joined e no_effect ≡ e
+pub joined-none : (e : Effect) → joined e no_effect ≡ e
 joined-none e =
     same-effect (joined e no_effect) e (or-false e.has_unread_prefix) (or-false e.is_there) (or-false e.begins_line) (or-false e.is_taken) (omega arith) (omega arith) (omega arith) (omega arith)
 

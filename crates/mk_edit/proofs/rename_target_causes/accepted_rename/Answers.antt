@@ -26,7 +26,7 @@ returns-in-Some-first_of_lines-clause-refused g c =
     let e = edit_of c.args.edit.now in
     let fields : bad_argument e ≡ None = sym c.bad_field.ensures ∙ ap field_refusal c.in_default.is in
     let free : reserved e ≡ None = reserved-holds e c.is_reserved.result c.is_reserved.ensures ∙ ap (λ b. where_holds b Reserved) c.if-is_reserved.false in
-    sym (causes-told c.args.doc.now e c.args.from.now c.args.to.now c.rename_target_effect-effect.result c.size.result c.requires.kind c.requires.faithful fields free c.rename_target_effect-effect.ensures.effect c.size.ensures.number)
+    sym (causes-told c.args.doc.now e c.args.from.now c.args.to.now c.rename_target_effect-survey.result.effect c.size.result c.requires.kind c.requires.faithful fields free c.rename_target_effect-survey.ensures.effect c.size.ensures.number)
     ∙ (sym c.first_of_lines.ensures ∙ c.in-Some-first_of_lines.is)
 
 pub returns-in-None-clause-accepted : goal.returns-in-None-clause-accepted
@@ -34,5 +34,5 @@ returns-in-None-clause-accepted g c =
     let e = edit_of c.args.edit.now in
     let fields : bad_argument e ≡ None = sym c.bad_field.ensures ∙ ap field_refusal c.in_default.is in
     let free : reserved e ≡ None = reserved-holds e c.is_reserved.result c.is_reserved.ensures ∙ ap (λ b. where_holds b Reserved) c.if-is_reserved.false in
-    sym (causes-told c.args.doc.now e c.args.from.now c.args.to.now c.rename_target_effect-effect.result c.size.result c.requires.kind c.requires.faithful fields free c.rename_target_effect-effect.ensures.effect c.size.ensures.number)
+    sym (causes-told c.args.doc.now e c.args.from.now c.args.to.now c.rename_target_effect-survey.result.effect c.size.result c.requires.kind c.requires.faithful fields free c.rename_target_effect-survey.ensures.effect c.size.ensures.number)
     ∙ (sym c.first_of_lines.ensures ∙ c.in-None.is)

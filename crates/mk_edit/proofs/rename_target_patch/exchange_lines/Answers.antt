@@ -1,29 +1,49 @@
-use Rattle.std.proofs.Common.{◌∙◌, arith, refl, sym, ap, inl, option_map}
+use Rattle.std.proofs.Common.{◌∙◌, arith, ap, sym, Some, None, option_map}
+use Rattle.std.proofs.lemmas.Option.{slice_get_within}
 use Rattle.mk_tree.specs.Trees.{line_view}
-use Rattle.mk_edit.proofs.on_renaming.PatchLoops.{handed-out, no-steps, turn-stepped, turn-refused}
+use Rattle.mk_edit.proofs.on_renaming.PatchLoops.{no-steps}
+use Rattle.mk_edit.proofs.on_renaming.PlacesLeft.{place-at, there-can, there-fits, turn-begun, turn-broken, turn-on, turn-over}
 use Rattle.mk_edit.proofs.rename_target_patch.exchange_lines.Goals as goal
-
-pub returns-in_err-renamed-clause-few_read : goal.returns-in_err-renamed-clause-few_read
-returns-in_err-renamed-clause-few_read g c =
-    let s = c.in-Some.ensures.steps in
-    let H = handed-out _ _ _ _ _ _ _ s.0.0 s.0.1 s.0.2 s.1 s.2 in
-    turn-refused _ _ _ _ _ _ _ _ _ _ _ _ _ _ _ _ c.lines.invariant.2 H c.line_of_turn.ensures.few_read
-
-pub lines-preserved-in-Some-2 : goal.lines-preserved-in-Some-2
-lines-preserved-in-Some-2 g c =
-    let s = c.in-Some.ensures.steps in
-    let H = handed-out _ _ _ _ _ _ _ s.0.0 s.0.1 s.0.2 s.1 s.2 in
-    let e = ap (option_map line_view) (sym c.in-Some-2.is) ∙ c.in_ok-renamed.ensures.line in
-    let B = turn-stepped _ _ _ _ _ _ _ _ _ _ _ _ _ _ _ _ _ _ c.lines.invariant.2 H e c.in_ok-renamed.ensures.counted c.in_ok-renamed.ensures.few_read c.in_ok-renamed.ensures.forward c.push.ensures in
-    ((tt, tt, inl (omega (arith, B.few))), tt, B)
-
-pub lines-preserved : goal.lines-preserved
-lines-preserved g c =
-    let s = c.in-Some.ensures.steps in
-    let H = handed-out _ _ _ _ _ _ _ s.0.0 s.0.1 s.0.2 s.1 s.2 in
-    let e = ap (option_map line_view) (sym c.in_default.is) ∙ c.in_ok-renamed.ensures.line in
-    let B = turn-stepped _ _ _ _ _ _ _ _ _ _ _ _ _ _ _ _ _ _ c.lines.invariant.2 H e c.in_ok-renamed.ensures.counted c.in_ok-renamed.ensures.few_read c.in_ok-renamed.ensures.forward refl in
-    ((tt, tt, inl (omega (arith, B.few))), tt, B)
+use Rattle.mk_edit.proofs.rename_target_patch.exchange_lines.Goals.{in-Some, in_default}
 
 pub returns-then-batch-eq0-clause-moves : goal.returns-then-batch-eq0-clause-moves
 returns-then-batch-eq0-clause-moves g c = no-steps c.args.batch.turn c.args.from.now c.args.to.now c.args.doc.now c.args.patch.now c.args.batch.lines c.requires.lines (omega (arith, c.if-batch-eq0.true))
+
+pub places-init : goal.places-init
+places-init g c = turn-begun c.args.batch.turn c.args.from.now c.args.to.now c.args.doc.now c.args.patch.now c.args.meter.now c.args.places.now c.requires.can c.len-count.ensures.few c.requires.room c.requires.places
+
+pub line-line-requires : goal.line-line-requires
+line-line-requires g c =
+    let T = place-at _ _ _ _ _ _ _ c.args.places.now c.places.place-index c.place-item.result _ c.places-test.true c.place-item.is c.places.invariant in
+    slice_get_within c.args.doc.now c.place-item.result.at T.line T.line_is
+
+pub line_of_turn-requires : goal.line_of_turn-requires
+line_of_turn-requires g c =
+    let T = place-at _ _ _ _ _ _ _ c.args.places.now c.places.place-index c.place-item.result _ c.places-test.true c.place-item.is c.places.invariant in
+    record { can = there-can _ _ _ _ _ _ _ _ _ _ _ T c.line-line.ensures }
+
+pub returns-in_err-renamed-clause-few_read : goal.returns-in_err-renamed-clause-few_read
+returns-in_err-renamed-clause-few_read g c =
+    let T = place-at _ _ _ _ _ _ _ c.args.places.now c.places.place-index c.place-item.result _ c.places-test.true c.place-item.is c.places.invariant in
+    turn-broken _ _ _ _ _ _ _ _ _ _ _ T c.line-line.ensures _ c.line_of_turn.ensures.few_read
+
+pub push-requires : goal.push-requires
+push-requires g c =
+    let T = place-at _ _ _ _ _ _ _ c.args.places.now c.places.place-index c.place-item.result _ c.places-test.true c.place-item.is c.places.invariant in
+    there-fits _ _ _ _ _ _ _ _ _ _ _ T c.line-line.ensures (line_view c.in-Some.renamed) _ (ap (option_map line_view) (sym c.in-Some.is) ∙ c.in_ok-renamed.ensures.line)
+
+pub places-preserved : goal.places-preserved
+places-preserved g c =
+    let T = place-at _ _ _ _ _ _ _ c.args.places.now c.places.place-index c.place-item.result _ c.places-test.true c.place-item.is c.places.invariant in
+    let on = turn-on _ _ _ _ _ _ _ _ _ _ _ T c.line-line.ensures in
+    let made = c.in_ok-renamed.ensures in
+    elim c.match-renamed.branch [
+      | in-Some w ↦ on _ _ (Some (line_view w.in-Some.renamed)) (ap (option_map line_view) (sym w.in-Some.is) ∙ made.line) made.counted made.few_read made.forward (w.patch-is ∙ w.push.ensures)
+      | in_default w ↦ on _ _ None (ap (option_map line_view) (sym w.in_default.is) ∙ made.line) made.counted made.few_read made.forward w.patch-is
+    ]
+
+pub returns-clause-moves : goal.returns-clause-moves
+returns-clause-moves g c = (turn-over _ _ _ _ _ _ _ c.args.places.now c.places.place-index _ c.places-test.false c.places.invariant).moves
+
+pub returns-clause-counted : goal.returns-clause-counted
+returns-clause-counted g c = (turn-over _ _ _ _ _ _ _ c.args.places.now c.places.place-index _ c.places-test.false c.places.invariant).counted

@@ -1,0 +1,99 @@
+-- The walk that decides a rename notes the places of the lines that hold the word: the notes so far, and then the places among the
+-- lines ahead, are those of the document. A line whose class tells nothing has no effect.
+use Rattle.std.proofs.Common.{◌≡◌, refl, sym, ap, ◌∙◌, ℕ, ◌+◌, ◌*◌, ◌<◌, ◌≤◌, Bool, true, false, List, [], ◌∷◌, ◌++◌, length, append-nil, append_assoc, Option, Some, None, option_map, arith}
+use Rattle.std.specs.Prelude.{IfSome, nat_lt, if◌then◌else◌}
+use Rattle.std.proofs.lemmas.Bool.{lt-ltb, le-ltb}
+use Rattle.mk_class.specs.Contexts.{Context, context_after_located}
+use Rattle.mk_class.specs.declared.class.Class as class
+use Rattle.mk_class.specs.declared.class.Class.TheVariants as variants
+use Rattle.mk_tree.specs.LocatedLines.{LocatedLine}
+use Rattle.mk_edit.specs.RenameTargetEffects.{effect_of_line, may_tell, no_effect}
+use Rattle.mk_edit.specs.RenameTargetPatches.{held_places_from, holds_word}
+use Rattle.mk_edit.specs.declared.rename_target_effect.Effect.{Effect}
+use Rattle.mk_edit_parts.specs.RenamedRanges.{renamed_ranges}
+use Rattle.mk_edit_parts.specs.declared.seek.Found.{Found}
+
+-- ---- a line whose class tells nothing
+
+-- What is known of a line that a walk passes over.
+pub record IsPassedOver (o n : List ℕ) (c : Context) (l : LocatedLine) : Type 0 where
+  pub effect : effect_of_line o n c l ≡ no_effect
+  pub free : holds_word o l ≡ false
+
+pub passed-over : (o n : List ℕ) (c : Context) (l : LocatedLine) → may_tell l.class ≡ false → IsPassedOver o n c l
+passed-over o n c l h = go l.class h
+  where
+    -- an effect with no word, by whether the prefix is set unread
+    with_unread : (is_unread : Bool) (new_bytes : ℕ) → Effect
+    with_unread u w = record no_effect { has_unread_prefix = u; longer = if nat_lt 0 w then 1 else 0 }
+
+    none : with_unread false (0 * length n) ≡ no_effect
+    none = let no_bytes : 0 * length n ≡ 0 = omega arith in ap (with_unread false) no_bytes
+
+    go : (k : class.Class) → may_tell k ≡ false → IsPassedOver o n c (record { bytes = l.bytes; class = k })
+    go (variants.Header x) e = absurd (cc)
+    go (variants.TargetAssign t) e = absurd (cc)
+    go (variants.Assign a None) e = absurd (cc)
+    go (variants.Assign a (Some p)) e = record { effect = none; free = refl }
+    go (variants.DefineHead u) e = record { effect = ap (λ z. with_unread z (0 * length n)) e ∙ none; free = refl }
+    go variants.Endef e = record { effect = none; free = refl }
+    go (variants.Body d) e = record { effect = none; free = refl }
+    go variants.Recipe e = record { effect = none; free = refl }
+    go variants.Opaque e = record { effect = none; free = refl }
+    go variants.Blank e = record { effect = none; free = refl }
+    go variants.Comment e = record { effect = none; free = refl }
+    go variants.If e = record { effect = none; free = refl }
+    go variants.Else e = record { effect = none; free = refl }
+    go variants.Endif e = record { effect = none; free = refl }
+    go variants.Directive e = record { effect = none; free = refl }
+    go variants.Rough e = record { effect = none; free = refl }
+
+-- ---- whether a line holds the word, by how many words of it are replaced
+
+pub holds-some : (o n : List ℕ) (c : Context) (l : LocatedLine) (e : Effect) → e ≡ effect_of_line o n c l → 0 < e.words → holds_word o l ≡ true
+holds-some o n c l e i h = lt-ltb 0 (length (renamed_ranges o l)) (omega (arith, h, ap (λ (z : Effect). z.words) i))
+
+pub holds-none : (o n : List ℕ) (c : Context) (l : LocatedLine) (e : Effect) → e ≡ effect_of_line o n c l → e.words ≤ 0 → holds_word o l ≡ false
+holds-none o n c l e i h = le-ltb 0 (length (renamed_ranges o l)) (omega (arith, h, ap (λ (z : Effect). z.words) i))
+
+-- ---- the notes
+
+-- with the places among the lines ahead, notes are all places; the notes may have been dropped
+abbrev pub AreNoted : {X : Type 0} (items : X → List Found) → (notes : Option X) → (ahead all : List Found) → Type 0
+AreNoted items notes ahead all = IfSome notes (λ p. items p ++ ahead ≡ all)
+
+module _ {X : Type 0} (items : X → List Found) (o : List ℕ) (all : List Found) (at : ℕ) (c a : Context) (l : LocatedLine) (ahead left : List LocatedLine) (first_is : ahead ≡ l ∷ left) (then_in : a ≡ context_after_located c l.class) where
+  -- the places among the lines ahead, by whether the first of them holds the word
+  abbrev with_first : Bool → List Found
+  with_first b =
+      let below = held_places_from o (at + 1) a left in
+      if b then record { at = at; context = c } ∷ below else below
+
+  places-first : (b : Bool) → holds_word o l ≡ b → held_places_from o at c ahead ≡ with_first b
+  places-first b h =
+      ap (held_places_from o at c) first_is
+      ∙ (ap (λ z. if holds_word o l then record { at = at; context = c } ∷ held_places_from o (at + 1) z left else held_places_from o (at + 1) z left) (sym then_in)
+      ∙ ap with_first h)
+
+  -- one line on, which does not hold the word
+  pub notes-kept : (notes : Option X) → holds_word o l ≡ false → AreNoted items notes (held_places_from o at c ahead) all → AreNoted items notes (held_places_from o (at + 1) a left) all
+  notes-kept None h k = tt
+  notes-kept (Some p) h k = ap (λ z. items p ++ z) (sym (places-first false h)) ∙ k
+
+  -- one line on, which holds the word: its place is noted, or the notes are dropped
+  pub notes-more : (before after : Option X) (place : Found) → place ≡ record { at = at; context = c } → holds_word o l ≡ true → IfSome after (λ q. Some (items q) ≡ option_map (λ p. items p ++ place ∷ []) before)
+      → AreNoted items before (held_places_from o at c ahead) all → AreNoted items after (held_places_from o (at + 1) a left) all
+  notes-more before None place e h w k = tt
+  notes-more None (Some q) place e h w k = absurd (cc)
+  notes-more (Some p) (Some q) place e h w k =
+      let below = held_places_from o (at + 1) a left in
+      let i : items q ≡ items p ++ place ∷ [] = cc in
+      ap (λ z. z ++ below) (i ∙ ap (λ (z : Found). items p ++ z ∷ []) e)
+      ∙ (append_assoc (items p) (record { at = at; context = c } ∷ []) below
+      ∙ (ap (λ z. items p ++ z) (sym (places-first true h)) ∙ k))
+
+-- at the end of the walk
+pub notes-all : {X : Type 0} (items : X → List Found) (o : List ℕ) (all : List Found) (at : ℕ) (c : Context) (ahead : List LocatedLine) (notes : Option X) → ahead ≡ [] → AreNoted items notes (held_places_from o at c ahead) all
+    → IfSome notes (λ p. items p ≡ all)
+notes-all items o all at c ahead None s k = tt
+notes-all items o all at c ahead (Some p) s k = sym (append-nil (items p)) ∙ (ap (λ z. items p ++ held_places_from o at c z) (sym s) ∙ k)
