@@ -11,7 +11,6 @@ ghost use Rattle.mk_edit.specs.RenameTargetEffects.{IsRenameTarget};
 use crate::rename_target_causes::accepted_rename;
 use crate::rename_target_effect::Survey;
 use crate::rename_target_patch::rename_target_patch;
-use memchr::memmem::Finder;
 use mk_class::Meter;
 use mk_edit_laws::Refusal;
 use mk_edit_parts::edit::Edit;
@@ -43,10 +42,9 @@ pub(crate) fn plan_rename_target<A: Allocator + Copy>(
     ensures few_read { meter.new ≤ meter.old + cost (located_text doc.now) (edit_of edit.now) }
     ensures forward { meter.old ≤ meter.new }
 {
-    let finder = Finder::new(from);
-    let Survey { effect, places } = accepted_rename(alloc, doc, edit, &finder, to)?;
+    let Survey { effect, places } = accepted_rename(alloc, doc, edit, from, to)?;
     let Some(places) = places else {
         return Err(Refusal::NoMemory);
     };
-    rename_target_patch(alloc, doc, &places, &finder, to, effect, meter)
+    rename_target_patch(alloc, doc, &places, from, to, effect, meter)
 }

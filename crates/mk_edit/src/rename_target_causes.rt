@@ -11,7 +11,6 @@ ghost use Rattle.mk_edit.specs.RenameTargetEffects.{IsRenameTarget, effect_on, f
 ghost use Rattle.mk_edit.specs.RenameTargetPatches.{held_places};
 
 use crate::rename_target_effect::{Effect, Survey, rename_target_effect};
-use memchr::memmem::Finder;
 use mk_edit_laws::Refusal;
 use mk_edit_parts::argument::{bad_field, is_reserved};
 use mk_edit_parts::edit::Edit;
@@ -19,12 +18,12 @@ use mk_lines::source::MAX_TEXT;
 use mk_tree::Doc;
 use std::alloc::Allocator;
 
-/// What a rename does to the lines of a document and where those lines stand, if no cause of refusal
-/// holds. `from` searches for the old word. The call decides, in this order, whether a word may not
-/// be a target, or is reserved; whether the recipe prefix is set in a way that is not read; whether
-/// the old word is no target; whether a line would begin with the recipe prefix; whether the new
-/// word is a target; and whether the text would be too long. It walks once over the kept lines and
-/// reads no line anew. It takes memory for the places alone, and decides the same without it.
+/// What the rename of a word does to the lines of a document and where those lines stand, if no
+/// cause of refusal holds. The call decides, in this order, whether a word may not be a target, or is
+/// reserved; whether the recipe prefix is set in a way that is not read; whether the old word is no
+/// target; whether a line would begin with the recipe prefix; whether the new word is a target; and
+/// whether the text would be too long. It walks once over the kept lines and reads no line anew. It
+/// takes memory for the places alone, and decides the same without it.
 ///
 /// # Errors
 ///
@@ -33,7 +32,7 @@ pub(crate) fn accepted_rename<A: Allocator + Copy>(
     alloc: A,
     doc: &Doc<A>,
     edit: &Edit<A>,
-    from: &Finder<'_>,
+    from: &[u8],
     to: &[u8],
 ) -> Result<Survey<A>, Refusal>
     requires faithful { IsFaithful doc.now }

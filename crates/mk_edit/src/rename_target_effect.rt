@@ -8,7 +8,6 @@ ghost use Rattle.mk_edit.specs.RenameTargetEffects.{effect_of_line, effect_on, j
 ghost use Rattle.mk_edit.specs.RenameTargetPatches.{HasFewWords, held_places, is_turn_of};
 
 use crate::rename_target_places::noted;
-use memchr::memmem::Finder;
 use mk_class::{Class, Context};
 use mk_edit_parts::lean::begins_with;
 use mk_edit_parts::line_test::{has_target, is_unread};
@@ -59,12 +58,12 @@ pub(crate) struct Survey<A: Allocator> {
 }
 
 /// What a rename finds among the lines of a document, what it does to them, and where the lines
-/// stand that it exchanges. `from` searches for the old word. The call walks once over the kept
-/// lines and reads no line anew. It takes memory for the places alone, and goes on without it.
+/// stand that it exchanges. The call walks once over the kept lines and reads no line anew. It takes
+/// memory for the places alone, and goes on without it.
 pub(crate) fn rename_target_effect<A: Allocator + Copy>(
     alloc: A,
     doc: &Doc<A>,
-    from: &Finder<'_>,
+    from: &[u8],
     to: &[u8],
 ) -> Survey<A>
     requires { IsFaithful doc.now }
@@ -132,7 +131,7 @@ fn effect_of_line<A: Allocator>(
     line: &Line<A>,
     class: &Class,
     context: Context,
-    from: &Finder<'_>,
+    from: &[u8],
     to: &[u8],
 ) -> Effect
     requires few_words { HasFewWords from.now (line_view line.now) }
@@ -142,7 +141,7 @@ fn effect_of_line<A: Allocator>(
     let tally = count_words(line, class, from);
     Effect {
         has_unread_prefix: is_unread(line, class),
-        is_there: has_target(line, class, from.needle()),
+        is_there: has_target(line, class, from),
         begins_line: tally.at_front && begins_with(to, context.prefix()),
         is_taken: has_target(line, class, to),
         words: tally.words,

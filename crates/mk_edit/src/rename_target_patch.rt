@@ -21,7 +21,6 @@ ghost use Rattle.mk_edit.specs.RenameTargetPatches.{CanBeRenamed, CanEachBeRenam
 
 use crate::moves::{builder, read_line};
 use crate::rename_target_effect::{Effect, Turn, is_of_turn};
-use memchr::memmem::Finder;
 use mk_class::{Context, Meter};
 use mk_edit_laws::Refusal;
 use mk_edit_parts::renamed_line::renamed_bytes;
@@ -41,7 +40,7 @@ struct Batch {
 
 /// The patch that replaces a word in all targets and prerequisites. The caller knows that no cause
 /// of refusal holds, what the rename does to the lines, and the places of those that hold the old
-/// word. `from` searches for this word. Each line that holds it is read once.
+/// word. Each of these lines is read once.
 ///
 /// # Errors
 ///
@@ -50,7 +49,7 @@ pub(crate) fn rename_target_patch<A: Allocator + Copy>(
     alloc: A,
     doc: &Doc<A>,
     places: &[Found],
-    from: &Finder<'_>,
+    from: &[u8],
     to: &[u8],
     effect: Effect,
     meter: &mut Meter,
@@ -92,7 +91,7 @@ fn exchange_lines<A: Allocator + Copy>(
     doc: &Doc<A>,
     places: &[Found],
     patch: &mut PatchBuilder<A>,
-    from: &Finder<'_>,
+    from: &[u8],
     to: &[u8],
     batch: Batch,
     meter: &mut Meter,
@@ -131,7 +130,7 @@ fn line_of_turn<A: Allocator + Copy>(
     alloc: A,
     line: &Line<A>,
     context: Context,
-    from: &Finder<'_>,
+    from: &[u8],
     to: &[u8],
     turn: Turn,
     meter: &mut Meter,
@@ -154,7 +153,7 @@ fn line_of_turn<A: Allocator + Copy>(
         return Ok(None);
     }
     let room = line.bytes().len() - tally.bytes + tally.words * to.len();
-    let Ok(bytes) = renamed_bytes(alloc, line, &class, from.needle(), to, room) else {
+    let Ok(bytes) = renamed_bytes(alloc, line, &class, from, to, room) else {
         return Err(Refusal::NoMemory);
     };
     let renamed = read_line(alloc, bytes, context, meter)?;

@@ -8,7 +8,6 @@ ghost use Rattle.mk_edit_parts.specs.RenamedRanges.{IsWithin, before_ranges, byt
 use crate::part::{part, text_of_line};
 use crate::text::may_have_word;
 use crate::word_parts::{parts_of, range_of_word};
-use memchr::memmem::Finder;
 use mk_class::Class;
 use mk_lines::split::Span;
 use mk_lines::words;
@@ -27,39 +26,7 @@ pub struct Tally {
 }
 
 /// Counts the words of a line that are `from`, where a rename replaces words. Takes no memory.
-///
-/// The caller has a search for the word at hand, since most lines do not have its bytes, and a
-/// search is quicker than cutting a line into words.
-pub fn count_words<A: Allocator>(line: &Line<A>, class: &Class, from: &Finder<'_>) -> Tally
-    requires classed { IsClassed (line_view line.now) }
-    requires class { class.now ≡ (line_view line.now).class }
-    requires few { length (renamed_ranges from.now (line_view line.now)) < 2 ^ 32 }
-    requires few_bytes { bytes_in (renamed_ranges from.now (line_view line.now)) ≤ 2 ^ 32 }
-    ensures { result ≡ tallied no_words (renamed_ranges from.now (line_view line.now)) }
-{
-    if may_hold(line, class, from) {
-        return count_in_parts(line, class, from.needle());
-    }
-    Tally {
-        words: 0,
-        bytes: 0,
-        at_front: false,
-    }
-}
-
-// Whether a rename replaces words in lines of this class, and the line has the bytes of the word.
-fn may_hold<A: Allocator>(line: &Line<A>, class: &Class, from: &Finder<'_>) -> bool
-    requires class { class.now ≡ (line_view line.now).class }
-    ensures { result ≡ false → renamed_ranges from.now (line_view line.now) ≡ [] }
-{
-    match class {
-        Class::Header(_) | Class::TargetAssign(_) => from.find(text_of_line(line)).is_some(),
-        _ => false,
-    }
-}
-
-// Counts the words of the parts of a line that are `from`.
-fn count_in_parts<A: Allocator>(line: &Line<A>, class: &Class, from: &[u8]) -> Tally
+pub fn count_words<A: Allocator>(line: &Line<A>, class: &Class, from: &[u8]) -> Tally
     requires classed { IsClassed (line_view line.now) }
     requires class { class.now ≡ (line_view line.now).class }
     requires few { length (renamed_ranges from.now (line_view line.now)) < 2 ^ 32 }
@@ -78,7 +45,7 @@ fn count_in_parts<A: Allocator>(line: &Line<A>, class: &Class, from: &[u8]) -> T
 }
 
 // The count with the words of a part added that are `from`. Most parts do not have the word, and are
-// not cut into words.
+// not cut into words: a look from blank to blank is quicker.
 fn count_in_part<A: Allocator>(line: &Line<A>, span: Span, from: &[u8], tally: Tally) -> Tally
     requires within { IsWithin (length (line_cells (line_view line.now).bytes)) span }
     requires few { tally.words

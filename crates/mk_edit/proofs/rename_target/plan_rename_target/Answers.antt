@@ -1,12 +1,11 @@
-use Rattle.std.proofs.Common.{◌≡◌, ◌∙◌, sym, ap, subst, None}
+use Rattle.std.proofs.Common.{◌≡◌, subst, None}
 use Rattle.mk_tree.specs.LocatedLines.{located_text}
 use Rattle.mk_class.specs.ClassedLines.{classed_lines}
-use Rattle.mk_edit_laws.specs.Edits.{Edit, RenameTarget}
+use Rattle.mk_edit_laws.specs.Edits.{Edit}
 use Rattle.mk_edit_laws.specs.Refusals.{causes, first_cause}
 use Rattle.mk_edit.proofs.rename_target.plan_rename_target.Goals as goal
 
 pub rename_target_patch-requires-clause-accepted : goal.rename_target_patch-requires-clause-accepted
 rename_target_patch-requires-clause-accepted g c =
     let t = located_text c.args.doc.now in
-    let same = c.requires.kind ∙ ap (λ o. RenameTarget o c.args.to.now) (sym c.new-finder.ensures) in
-    subst (λ (e : Edit). first_cause (causes t (classed_lines t) e) ≡ None) same c.in_ok-effect.ensures.accepted
+    subst (λ (e : Edit). first_cause (causes t (classed_lines t) e) ≡ None) c.requires.kind c.in_ok-effect.ensures.accepted

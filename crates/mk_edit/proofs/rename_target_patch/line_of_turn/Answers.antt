@@ -3,7 +3,6 @@ use Rattle.mk_tree.specs.LineTexts.{line_in}
 use Rattle.mk_tree.specs.LocatedLines.{located_line}
 use Rattle.mk_tree.specs.Trees.{line_view}
 use Rattle.mk_patch.specs.Moves.{IsPlain}
-use Rattle.mk_edit_parts.specs.RenamedTexts.{renamed_text}
 use Rattle.mk_edit.specs.RenameTargetPatches.{is_exchanged}
 use Rattle.mk_edit.proofs.on_renaming.PatchTurns.{words-counted, exchanged-holds, exchanged-one, exchanged-some, exchanged-counted, left-counted}
 use Rattle.mk_edit.proofs.rename_target_patch.line_of_turn.Goals as goal
@@ -26,7 +25,7 @@ read_line-requires-clause-plain g c =
     let W = words-counted _ _ _ _ _ c.requires.can c.count_words-tally.ensures in
     let e : is_exchanged c.args.turn c.args.from.now c.args.to.now l ≡ true = sym (W.turn c.args.turn) ∙ (sym c.is_of_turn.ensures ∙ c.if-not-is_of_turn.false) in
     let p = c.requires.can.plain (exchanged-holds c.args.turn c.args.from.now c.args.to.now l e) in
-    let bytes = c.in-Ok.ensures ∙ ap (λ o. renamed_text o c.args.to.now l) c.needle.ensures in
+    let bytes = c.in-Ok.ensures in
     subst (λ b. IsPlain (located_line (line_in c.args.context b))) (sym bytes) p.1
 
 pub returns-clause-line : goal.returns-clause-line
@@ -34,7 +33,7 @@ returns-clause-line g c =
     let l = line_view c.args.line.now in
     let W = words-counted _ _ _ _ _ c.requires.can c.count_words-tally.ensures in
     let e : is_exchanged c.args.turn c.args.from.now c.args.to.now l ≡ true = sym (W.turn c.args.turn) ∙ (sym c.is_of_turn.ensures ∙ c.if-not-is_of_turn.false) in
-    let bytes = c.in-Ok.ensures ∙ ap (λ o. renamed_text o c.args.to.now l) c.needle.ensures in
+    let bytes = c.in-Ok.ensures in
     exchanged-some _ _ _ e (c.in_ok-renamed.ensures.line ∙ ap (λ b. located_line (line_in c.args.context b)) bytes)
 
 pub returns-clause-few_read : goal.returns-clause-few_read

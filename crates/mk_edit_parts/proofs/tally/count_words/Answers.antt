@@ -1,7 +1,40 @@
-use Rattle.std.proofs.Common.{◌∙◌, sym, ap}
-use Rattle.mk_edit_parts.specs.RenamedRanges.{no_words, tallied}
-use Rattle.mk_edit_parts.proofs.on_renaming.RangeLemmas.{tallied-none}
+use Rattle.std.proofs.Common.{◌≡◌, ◌∙◌, ap, arith, ℕ, ◌+◌, ◌^◌, ◌≤◌, ◌++◌, List}
+use Rattle.mk_lines.specs.Cells.{Cell, line_cells}
+use Rattle.mk_class.specs.declared.class.Class as class
+use Rattle.mk_tree.specs.Trees.{line_view}
+use Rattle.mk_edit_parts.specs.declared.tally.Tally.{Tally}
+use Rattle.mk_edit_parts.specs.declared.word_parts.WordParts.{WordParts}
+use Rattle.mk_edit_parts.specs.RenamedRanges.{bytes_in, no_words, part_ranges, parts_ranges, tallied, word_parts}
+use Rattle.mk_edit_parts.proofs.on_renaming.RangeLemmas.{bytes_in-three, ranges-are, tallied-append}
 use Rattle.mk_edit_parts.proofs.tally.count_words.Goals as goal
 
+few : (cs : List Cell) (o : List ℕ) (p : WordParts) (k j : class.Class) → p ≡ word_parts k → k ≡ j → bytes_in (parts_ranges cs o (word_parts j)) ≤ 2 ^ 32
+    → bytes_in (part_ranges cs o p.targets) + (bytes_in (part_ranges cs o p.normal) + bytes_in (part_ranges cs o p.order_only)) ≤ 2 ^ 32
+few cs o p k j h e b = omega (arith, bytes_in-three (part_ranges cs o p.targets) (part_ranges cs o p.normal) (part_ranges cs o p.order_only), ap bytes_in (ranges-are cs o p k j h e), b)
+
+pub count_in_part-targets-requires-clause-few_bytes : goal.count_in_part-targets-requires-clause-few_bytes
+count_in_part-targets-requires-clause-few_bytes g c =
+    let f = few (line_cells (line_view c.args.line.now).bytes) c.args.from.now c.parts_of-parts.result _ _ c.parts_of-parts.ensures.parts c.requires.class c.requires.few_bytes in
+    omega (arith, f)
+
+pub count_in_part-normal-requires-clause-few_bytes : goal.count_in_part-normal-requires-clause-few_bytes
+count_in_part-normal-requires-clause-few_bytes g c =
+    let f = few (line_cells (line_view c.args.line.now).bytes) c.args.from.now c.parts_of-parts.result _ _ c.parts_of-parts.ensures.parts c.requires.class c.requires.few_bytes in
+    omega (arith, f, ap (λ (t : Tally). t.bytes) c.count_in_part-targets.ensures)
+
+pub count_in_part-requires-clause-few_bytes : goal.count_in_part-requires-clause-few_bytes
+count_in_part-requires-clause-few_bytes g c =
+    let f = few (line_cells (line_view c.args.line.now).bytes) c.args.from.now c.parts_of-parts.result _ _ c.parts_of-parts.ensures.parts c.requires.class c.requires.few_bytes in
+    omega (arith, f, ap (λ (t : Tally). t.bytes) c.count_in_part-targets.ensures, ap (λ (t : Tally). t.bytes) c.count_in_part-normal.ensures)
+
 pub returns : goal.returns
-returns g c = sym (tallied-none no_words) ∙ ap (tallied no_words) (sym (c.may_hold.ensures c.if-may_hold.false))
+returns g c =
+    let cs = line_cells (line_view c.args.line.now).bytes in
+    let o = c.args.from.now in
+    let p = c.parts_of-parts.result in
+    let T = part_ranges cs o p.targets in
+    let N = part_ranges cs o p.normal in
+    let O = part_ranges cs o p.order_only in
+    c.count_in_part.ensures
+    ∙ (ap (λ (t : Tally). tallied t O) (c.count_in_part-normal.ensures ∙ ap (λ (t : Tally). tallied t N) c.count_in_part-targets.ensures)
+    ∙ (tallied-append (tallied no_words T) N O ∙ (tallied-append no_words T (N ++ O) ∙ ap (tallied no_words) (ranges-are cs o p _ _ c.parts_of-parts.ensures.parts c.requires.class))))
