@@ -2,7 +2,7 @@
 //! out, a new line.
 //!
 //! An edit decides its causes, builds the bytes of its new line, and calls one of these functions.
-//! All memory that the edit takes in addition to those bytes is taken here.
+//! All memory that the edit takes beside those bytes is taken here, except the notes of a rename.
 ghost use Rattle.std.specs.Prelude.{◌≡◌, ◌≤◌, ◌<◌, ◌+◌, ◌∷◌, [], length, IfOk, OnOk, IsOkUnless};
 ghost use Rattle.mk_lines.specs.Limits.{max_text};
 ghost use Rattle.mk_tree.specs.Counting.{AreCounted};
