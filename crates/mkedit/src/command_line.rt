@@ -42,6 +42,9 @@ const CAVEATS: &str = "caveats";
 
 const EXPLAIN: &str = "explain";
 
+// All commands, in the order in which the help lists them.
+const COMMANDS: [&str; 6] = [EDIT, VARS, RULES, CHECK, CAVEATS, EXPLAIN];
+
 const SCRIPT: &str = "SCRIPT";
 
 const FILE: &str = "FILE";
@@ -145,18 +148,45 @@ fn explain_command<'a>(alloc: Global) -> Result<Command<'a>, AllocError> {
         .arg(refusal)
 }
 
-fn command_line<'a>(alloc: Global) -> Result<Command<'a>, AllocError> {
-    Command::new(alloc, "mkedit")
+// The command of this name, if there is one.
+fn command_named<'a>(alloc: Global, name: &str) -> Result<Option<Command<'a>>, AllocError> {
+    let command = if name == EDIT {
+        edit_command(alloc)?
+    } else if name == VARS {
+        query_command(alloc, VARS, help::ABOUT_VARS, help::VARS)?
+    } else if name == RULES {
+        query_command(alloc, RULES, help::ABOUT_RULES, help::RULES)?
+    } else if name == CHECK {
+        query_command(alloc, CHECK, help::ABOUT_CHECK, help::CHECK)?
+    } else if name == CAVEATS {
+        query_command(alloc, CAVEATS, help::ABOUT_CAVEATS, help::CAVEATS)?
+    } else if name == EXPLAIN {
+        explain_command(alloc)?
+    } else {
+        return Ok(None);
+    };
+    Ok(Some(command))
+}
+
+// The command line as clap has to read these words. Where the first word is the name of a command,
+// clap asks for no other command, and none is built.
+fn command_line<'a>(alloc: Global, words: &[String]) -> Result<Command<'a>, AllocError> {
+    let mut program = Command::new(alloc, "mkedit")
         .version(VERSION)
         .about("Edits a makefile by a script, and keeps every byte that no edit concerns")
         .after_help(help::PROGRAM)
-        .subcommand_required(true)
-        .subcommand(edit_command(alloc)?)?
-        .subcommand(query_command(alloc, VARS, help::ABOUT_VARS, help::VARS)?)?
-        .subcommand(query_command(alloc, RULES, help::ABOUT_RULES, help::RULES)?)?
-        .subcommand(query_command(alloc, CHECK, help::ABOUT_CHECK, help::CHECK)?)?
-        .subcommand(query_command(alloc, CAVEATS, help::ABOUT_CAVEATS, help::CAVEATS)?)?
-        .subcommand(explain_command(alloc)?)
+        .subcommand_required(true);
+    if let Some(first) = words.get(1) {
+        if let Some(command) = command_named(alloc, first.as_str())? {
+            return program.subcommand(command);
+        }
+    }
+    for name in COMMANDS {
+        if let Some(command) = command_named(alloc, name)? {
+            program = program.subcommand(command)?;
+        }
+    }
+    Ok(program)
 }
 
 // The query of a command's name.
@@ -257,7 +287,7 @@ fn explained<'a>(
 /// files beside a command that `-e` gives; a word that calls no refusal; `-i` beside `-o` or
 /// without FILE.
 pub fn read_request<'a>(alloc: Global, words: &'a [String]) -> Result<Request<'a>, clap::Error> {
-    let mut command = command_line(alloc)?;
+    let mut command = command_line(alloc, words)?;
     let matches = command.try_get_matches_from_mut(words)?;
     let Some((name, matches)) = matches.subcommand() else {
         return Err(command.error(ErrorKind::MissingSubcommand, NO_COMMAND)?);
