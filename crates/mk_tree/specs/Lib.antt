@@ -13,7 +13,7 @@ pub mod Leaning
 pub mod NewLineEnds
 pub mod EachReplaced
 -- What the code stores
-pub mod StoredClasses
+pub mod ShortClasses
 pub mod Contents
 pub mod Trees
 pub mod TreeWalks

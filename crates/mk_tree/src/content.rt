@@ -1,6 +1,6 @@
 //! What a document stores of a line.
-ghost use Rattle.std.specs.Prelude.{◌≡◌, ◌<◌, ◌≤◌, IfOk, IsOkUnless, length};
-ghost use Rattle.mk_lines.specs.Cells.{joined_byte, line_cells};
+ghost use Rattle.std.specs.Prelude.{◌≡◌, ◌≢◌, ◌<◌, ◌≤◌, All, IfOk, IsOk, IsOkUnless, length};
+ghost use Rattle.mk_lines.specs.Cells.{joined_byte, joined_text, line_cells};
 ghost use Rattle.mk_lines.specs.PhysicalLines.{without_line_end};
 ghost use Rattle.mk_lines.specs.Ranges.{raw_range};
 ghost use Rattle.mk_lines.specs.StoredCells.{AreCellsOf};
@@ -9,10 +9,10 @@ ghost use Rattle.mk_class.specs.Contexts.{start};
 ghost use Rattle.mk_class.specs.LineReads.{IsPlain};
 ghost use Rattle.mk_class.specs.LocatedClasses.{located_class};
 ghost use Rattle.mk_tree.specs.LocatedLines.{text_of_line};
-ghost use Rattle.mk_tree.specs.StoredClasses.{whole_class};
+ghost use Rattle.mk_tree.specs.ShortClasses.{IsLong};
 
 use crate::line_bytes::LineBytes;
-use crate::stored_class::StoredClass;
+use crate::short_class::ShortClass;
 use mk_class::{Class, Context, Meter, class_with_cells};
 use mk_lines::ends::without_line_end;
 use mk_lines::split::Span;
@@ -24,92 +24,133 @@ use std::mem::{self, size_of};
 /// The bytes of a line (at least one), and what was read of them.
 #[derive(Drop)]
 pub(crate) struct Content<A: Allocator = Global> {
-    bytes: LineBytes<A>,
-    reading: Reading<A>,
-}
-
-/// The class of a line and its cells.
-#[derive(Drop)]
-pub(crate) enum Reading<A: Allocator> {
-    /// A line without folds: whether it has a stray byte. Nothing else is stored of its cells.
-    Plain(bool, StoredClass<A>),
-    /// A line with folds. Few lines have them, so what is stored of one has a box of its own.
-    Folded(Box<Folded<A>, A>),
-}
-
-/// What is stored of a line with folds.
-#[derive(Drop)]
-pub(crate) struct Folded<A: Allocator> {
-    cells: Cells<A>,
-    class: StoredClass<A>,
+    stored: Stored<A>,
 }
 
 // A document has one of these for each line.
-const _: () = prove!(size_of::<Reading<Global>>() == 24);
+const _: () = prove!(size_of::<Content<Global>>() == 24);
+
+/// What is stored of a line: its bytes, its class and its cells. A line with folds, or with a class
+/// that is not short, has a box of its own for them; few lines have.
+#[derive(Drop)]
+pub(crate) enum Stored<A: Allocator> {
+    /// A line without folds. Nothing is stored of its cells.
+    Plain(ShortClass, LineBytes<A>),
+    /// A line with folds.
+    Folded(ShortClass, Box<Celled<A>, A>),
+    /// A line whose class is not short.
+    Long(Box<Long<A>, A>),
+}
+
+/// The bytes of a line, and its cells.
+#[derive(Drop)]
+pub(crate) struct Celled<A: Allocator> {
+    bytes: LineBytes<A>,
+    cells: Cells<A>,
+}
+
+/// A line with its whole class.
+#[derive(Drop)]
+pub(crate) struct Long<A: Allocator> {
+    class: Class,
+    line: Celled<A>,
+}
 
 impl<A: Allocator> Model for Content<A> {
     ghost use Rattle.mk_tree.specs.LocatedLines.{LocatedLine};
-    ghost use Rattle.mk_tree.specs.Contents.{IsContent, class_of_reading};
+    ghost use Rattle.mk_tree.specs.Contents.{IsContent, stored_bytes, stored_class};
 
     ghost Value = { LocatedLine };
 
-    ghost view = { λ c. record { bytes = c.bytes; class = class_of_reading c.reading } };
+    ghost view = { λ c. record { bytes = stored_bytes c.stored; class = stored_class c.stored } };
 
-    ghost invariant = { λ c. IsContent c.bytes c.reading };
+    ghost invariant = { λ c. IsContent c.stored };
+}
+
+impl<A: Allocator> Celled<A> {
+    // The joined text.
+    fn text(&self) -> &[u8]
+        requires { AreCellsOf self.now.cells self.now.bytes }
+        ensures { result.now ≡ joined_text (line_cells self.now.bytes) }
+    {
+        self.cells.text(self.bytes.as_slice())
+    }
 }
 
 impl<A: Allocator> Content<A> {
-    /// What is stored of a line with these cells and this class.
+    /// What is stored of a line with these cells and this class. It takes memory only for a line
+    /// with folds, and for a class that is not short.
     ///
     /// # Errors
     ///
-    /// [`Fault::NoMemory`] if the line has folds and there is no memory for a box.
+    /// [`Fault::NoMemory`] if a growth was refused.
     pub(crate) fn new(
         alloc: A,
         bytes: LineBytes<A>,
         cells: Cells<A>,
-        class: StoredClass<A>,
+        class: Class,
     ) -> Result<Content<A>, Fault>
         requires some_bytes { 0 < length bytes }
         requires cells { AreCellsOf cells bytes }
         ensures content { IfOk result (λ content. content
-            ≡ record { bytes = bytes; class = whole_class class }) }
+            ≡ record { bytes = bytes; class = class }) }
+        ensures small { All (λ b. b ≢ 10) (without_line_end bytes) → (IsLong class → ⊥)
+            → IsOk result }
         ensures fault { IsOkUnless result Fault.NoMemory }
     {
-        let reading = if cells.has_folds() {
-            Reading::Folded(Box::new(alloc, Folded { cells, class })?)
-        } else {
-            Reading::Plain(cells.has_stray(), class)
+        let stored = match ShortClass::of(&class) {
+            Some(short) if cells.has_folds() => {
+                Stored::Folded(short, Box::new(alloc, Celled { bytes, cells })?)
+            }
+            Some(short) => Stored::Plain(short, bytes),
+            None => {
+                let line = Celled { bytes, cells };
+                Stored::Long(Box::new(alloc, Long { class, line })?)
+            }
         };
-        Ok(Content { bytes, reading })
+        Ok(Content { stored })
     }
 
-    /// What is stored of a plain line with this class. Takes no memory.
-    pub(crate) fn plain(bytes: LineBytes<A>, class: StoredClass<A>) -> Content<A>
+    /// What is stored of a plain line with this class. It takes memory only for a class that is not
+    /// short.
+    ///
+    /// # Errors
+    ///
+    /// [`Fault::NoMemory`] if a growth was refused.
+    pub(crate) fn plain(alloc: A, bytes: LineBytes<A>, class: Class) -> Result<Content<A>, Fault>
         requires some_bytes { 0 < length bytes }
         requires plain { IsPlain bytes }
-        ensures { result ≡ record { bytes = bytes; class = whole_class class } }
+        ensures content { IfOk result (λ content. content
+            ≡ record { bytes = bytes; class = class }) }
+        ensures small { (IsLong class → ⊥) → IsOk result }
+        ensures fault { IsOkUnless result Fault.NoMemory }
     {
-        Content {
-            bytes,
-            reading: Reading::Plain(false, class),
+        if let Some(short) = ShortClass::of(&class) {
+            let stored = Stored::Plain(short, bytes);
+            return Ok(Content { stored });
         }
+        let cells = Cells::without_folds(bytes.as_slice());
+        Content::new(alloc, bytes, cells, class)
     }
 
     pub(crate) fn bytes(&self) -> &[u8]
         ensures bytes { result.now ≡ self.now.bytes }
         ensures some_bytes { 0 < length self.now.bytes }
     {
-        self.bytes.as_slice()
+        match &self.stored {
+            Stored::Plain(_, bytes) => bytes.as_slice(),
+            Stored::Folded(_, line) => line.bytes.as_slice(),
+            Stored::Long(long) => long.line.bytes.as_slice(),
+        }
     }
 
     #[inline(always)]
     pub(crate) fn class(&self) -> Class
         ensures { result ≡ self.now.class }
     {
-        match &self.reading {
-            Reading::Plain(_, class) => class.whole(),
-            Reading::Folded(folded) => folded.class.whole(),
+        match &self.stored {
+            Stored::Plain(class, _) | Stored::Folded(class, _) => class.whole(),
+            Stored::Long(long) => long.class,
         }
     }
 
@@ -117,9 +158,10 @@ impl<A: Allocator> Content<A> {
     pub(crate) fn text(&self) -> &[u8]
         ensures { result.now ≡ text_of_line self.now }
     {
-        match &self.reading {
-            Reading::Plain(..) => without_line_end(self.bytes.as_slice()),
-            Reading::Folded(folded) => folded.cells.text(self.bytes.as_slice()),
+        match &self.stored {
+            Stored::Plain(_, bytes) => without_line_end(bytes.as_slice()),
+            Stored::Folded(_, line) => line.text(),
+            Stored::Long(long) => long.line.text(),
         }
     }
 
@@ -129,9 +171,10 @@ impl<A: Allocator> Content<A> {
         requires within { end ≤ length (line_cells self.now.bytes) }
         ensures { result ≡ raw_range (line_cells self.now.bytes) start end }
     {
-        match &self.reading {
-            Reading::Plain(..) => Span { start, end },
-            Reading::Folded(folded) => folded.cells.raw_range(start, end),
+        match &self.stored {
+            Stored::Plain(..) => Span { start, end },
+            Stored::Folded(_, line) => line.cells.raw_range(start, end),
+            Stored::Long(long) => long.line.cells.raw_range(start, end),
         }
     }
 
@@ -139,13 +182,13 @@ impl<A: Allocator> Content<A> {
     pub(crate) fn class_as_first(&self) -> Class
         ensures { result ≡ located_class joined_byte (class_of start self.now.bytes) }
     {
-        let bytes = self.bytes.as_slice();
-        match &self.reading {
-            Reading::Plain(stray, _) => first_class(
-                bytes,
-                &Cells::<A>::without_folds(bytes, *stray),
-            ),
-            Reading::Folded(folded) => first_class(bytes, &folded.cells),
+        match &self.stored {
+            Stored::Plain(_, bytes) => {
+                let bytes = bytes.as_slice();
+                first_class(bytes, &Cells::<A>::without_folds(bytes))
+            }
+            Stored::Folded(_, line) => first_class(line.bytes.as_slice(), &line.cells),
+            Stored::Long(long) => first_class(long.line.bytes.as_slice(), &long.line.cells),
         }
     }
 
@@ -159,7 +202,11 @@ impl<A: Allocator> Content<A> {
         ensures bytes { self.new.bytes ≡ bytes }
         ensures class { self.new.class ≡ self.old.class }
     {
-        mem::replace(&mut self.bytes, bytes)
+        match &mut self.stored {
+            Stored::Plain(_, old) => mem::replace(old, bytes),
+            Stored::Folded(_, line) => mem::replace(&mut line.bytes, bytes),
+            Stored::Long(long) => mem::replace(&mut long.line.bytes, bytes),
+        }
     }
 }
 

@@ -21,7 +21,7 @@ pub mod parse;
 mod plain;
 mod print;
 mod read;
-mod stored_class;
+mod short_class;
 pub mod tree;
 mod unread;
 pub mod walk;

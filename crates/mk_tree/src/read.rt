@@ -13,7 +13,6 @@ ghost use Rattle.mk_tree.specs.Trees.{line_view};
 
 use crate::content::Content;
 use crate::line_bytes::LineBytes;
-use crate::stored_class::StoredClass;
 use crate::tree::Line;
 use mk_class::{Context, Meter, class_of_plain_line, class_with_cells};
 use mk_lines::Fault;
@@ -53,7 +52,6 @@ impl<A: Allocator + Copy> Line<A> {
     {
         let cells = cells(alloc, &bytes)?;
         let (class, _) = class_with_cells(&bytes, &cells, context, meter)?;
-        let class = StoredClass::new(alloc, class)?;
         let bytes = LineBytes::new(bytes)?;
         Ok(Line::new(alloc, Content::new(alloc, bytes, cells, class)?)?)
     }
@@ -83,7 +81,6 @@ pub(crate) fn read_line<A: Allocator + Copy>(
     }
     let cells = cells(alloc, bytes.as_slice())?;
     let (class, after) = class_with_cells(bytes.as_slice(), &cells, context, meter)?;
-    let class = StoredClass::new(alloc, class)?;
     let line = Line::new(alloc, Content::new(alloc, bytes, cells, class)?)?;
     Ok((line, after))
 }
@@ -106,7 +103,6 @@ fn read_plain_line<A: Allocator + Copy>(
     ensures once { meter.new ≤ meter.old + 1 }
 {
     let (class, after) = class_of_plain_line(bytes.as_slice(), context, meter)?;
-    let class = StoredClass::new(alloc, class)?;
-    let line = Line::new(alloc, Content::plain(bytes, class))?;
+    let line = Line::new(alloc, Content::plain(alloc, bytes, class)?)?;
     Ok((line, after))
 }

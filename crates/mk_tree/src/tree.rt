@@ -65,7 +65,7 @@ struct Node<A: Allocator> {
 
 // A document has one node for each line. To print or drop the document takes the time that it takes
 // to go through the memory of all nodes.
-const _: () = prove!(size_of::<Node<Global>>() == 72);
+const _: () = prove!(size_of::<Node<Global>>() == 56);
 
 impl<A: Allocator> Model for Tree<A> {
     ghost use Rattle.std.specs.Prelude.{ℕ, List, length};

@@ -116,14 +116,13 @@ impl<A: Allocator> Cells<A> {
         }
     }
 
-    /// The cells of a line without folds, if it is known whether the line has a stray byte. Takes
-    /// no memory.
-    pub fn without_folds(line: &[u8], stray: bool) -> Cells<A>
+    /// The cells of a line without folds. Takes no memory; the time is linear in the line's bytes.
+    pub fn without_folds(line: &[u8]) -> Cells<A>
         requires no_line_feed { All (λ b. b ≢ 10) (without_line_end line.now) }
-        requires stray { stray ≡ has_stray (line_cells line.now) }
         ensures { AreCellsOf result line.now }
     {
-        Cells::plain(without_line_end(line), stray)
+        let text = without_line_end(line);
+        Cells::plain(text, has_stray_byte(text))
     }
 
     /// Whether the line has folds.
