@@ -1,12 +1,12 @@
 -- What is stored of the cells of a line, in addition to the line itself.
 -- Told in docs/DECISIONS.md, "mk_lines".
-use Rattle.std.specs.Prelude.{◌≡◌, ◌≢◌, ℕ, ◌+◌, ◌-◌, ◌^◌, ◌<◌, nat_lt, if◌then◌else◌, Bool, List, [], ◌∷◌, ◌++◌, drop, length, ◌≤◌, All, false, ⊤}
+use Rattle.std.specs.Prelude.{◌≡◌, ◌≢◌, ℕ, ◌+◌, ◌-◌, ◌^◌, ◌<◌, nat_lt, if◌then◌else◌, Bool, List, [], ◌∷◌, ◌++◌, length, All, false, ⊤}
 use Rattle.std.specs.List.Sorted.{IsNonDecreasingBy}
 use Rattle.mk_lines.specs.Cells.{Cell, Byte, Fold, LfEnd, CrLfEnd, joined_text, line_cells}
 use Rattle.mk_lines.specs.CellFaults.{has_bad_fold, has_stray}
 use Rattle.mk_lines.specs.declared.cells.stored.FoldEnd.{FoldEnd}
-use Rattle.mk_lines.specs.declared.cells.stored.Rest.{Rest}
-use Rattle.mk_lines.specs.declared.cells.stored.Rest.TheVariants.{Plain, Folded}
+use Rattle.mk_lines.specs.declared.cells.stored.Stored.{Stored}
+use Rattle.mk_lines.specs.declared.cells.stored.Stored.TheVariants.{Plain, Folded}
 
 -- The ends of the folds among cells, the first of which begins at this raw offset; the last fold
 -- comes first. A line end by itself counts as a fold.
@@ -40,32 +40,35 @@ pub record StoredCells : Type 0 where
 
 -- ---- what is stored, as the program holds it
 
+-- how many cells there are: with folds, as many as joined bytes
+abbrev pub count_stored : {A : Type 0} → Stored A → ℕ
+count_stored (Plain stray count) = count
+count_stored (Folded bad_fold stray joined ends) = length joined.items
+
 -- the joined text of a line with folds
-abbrev pub joined_stored : {A : Type 0} → Rest A → List ℕ
-joined_stored (Plain stray) = []
-joined_stored (Folded f) = drop f.first f.joined.items
+abbrev pub joined_stored : {A : Type 0} → Stored A → List ℕ
+joined_stored (Plain stray count) = []
+joined_stored (Folded bad_fold stray joined ends) = joined.items
 
 -- the ends of the folds
-abbrev pub ends_stored : {A : Type 0} → Rest A → List FoldEnd
-ends_stored (Plain stray) = []
-ends_stored (Folded f) = f.ends.items
+abbrev pub ends_stored : {A : Type 0} → Stored A → List FoldEnd
+ends_stored (Plain stray count) = []
+ends_stored (Folded bad_fold stray joined ends) = ends.items
 
 -- whether there is a bad fold
-abbrev pub has_bad_fold_stored : {A : Type 0} → Rest A → Bool
-has_bad_fold_stored (Plain stray) = false
-has_bad_fold_stored (Folded f) = f.bad_fold
+abbrev pub has_bad_fold_stored : {A : Type 0} → Stored A → Bool
+has_bad_fold_stored (Plain stray count) = false
+has_bad_fold_stored (Folded bad_fold stray joined ends) = bad_fold
 
 -- whether there is a stray byte
-abbrev pub has_stray_stored : {A : Type 0} → Rest A → Bool
-has_stray_stored (Plain stray) = stray
-has_stray_stored (Folded f) = f.stray
+abbrev pub has_stray_stored : {A : Type 0} → Stored A → Bool
+has_stray_stored (Plain stray count) = stray
+has_stray_stored (Folded bad_fold stray joined ends) = stray
 
--- a line that is held as a line with folds has at least one fold, and its joined text begins within
--- the bytes that are stored
-abbrev pub HasFoldsStored : {A : Type 0} → Rest A → Type 0
-HasFoldsStored (Plain stray) = ⊤
-HasFoldsStored (Folded f) =
-    (f.ends.items ≢ []) × (f.first ≤ length f.joined.items)
+-- a line that is held as a line with folds has at least one fold
+abbrev pub HasFoldsStored : {A : Type 0} → Stored A → Type 0
+HasFoldsStored (Plain stray count) = ⊤
+HasFoldsStored (Folded bad_fold stray joined ends) = ends.items ≢ []
 
 -- ---- what is stored, of cells
 

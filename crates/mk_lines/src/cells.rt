@@ -26,7 +26,7 @@ use memchr::memchr;
 use stack::stack_of_text;
 use std::alloc::Allocator;
 pub use stored::Cells;
-use stored::{Folded, first_stray_byte, has_stray_byte};
+use stored::first_stray_byte;
 
 /// The cells of a logical line, without its line end.
 ///
@@ -39,7 +39,8 @@ use stored::{Folded, first_stray_byte, has_stray_byte};
 /// # Errors
 ///
 /// [`Fault::NoMemory`] if the line has folds and there is no memory for its joined text or for the
-/// list of its folds.
+/// list of its folds. A line with folds of 4 GiB or more is refused so too, where an offset of a
+/// fold does not fit in 32 bits.
 pub fn cells<A: Allocator + Copy>(alloc: A, line: &[u8]) -> Result<Cells<A>, Fault>
     ensures cells { IfOk result (λ stored. AreCellsOf stored line.now) }
     ensures plain { All (λ b. b ≢ 10) (without_line_end line.now) → IsOk result }
@@ -72,6 +73,9 @@ fn stray_cells<A: Allocator + Copy>(alloc: A, text: &[u8], first: usize) -> Resu
 }
 
 // The cells of a text whose first line feed is at `feed`.
+//
+// The stack has room for as many joined bytes as the text has, and folds make them fewer. So the
+// joined text is copied out of it, and the room is given back.
 fn folded_cells<A: Allocator + Copy>(alloc: A, text: &[u8], feed: usize) -> Result<Cells<A>, Fault>
     requires some { All (λ b. b ≢ 10) text.now → ⊥ }
     requires before { (k : ℕ) → k < feed → slice_index text.now k ≢ 10 }
@@ -79,12 +83,6 @@ fn folded_cells<A: Allocator + Copy>(alloc: A, text: &[u8], feed: usize) -> Resu
     ensures fault { IsOkUnless result Fault.NoMemory }
 {
     let stack = stack_of_text(alloc, text, feed)?;
-    let folded = Folded {
-        stray: has_stray_byte(&stack.joined[stack.first..]),
-        joined: stack.joined,
-        first: stack.first,
-        ends: stack.ends,
-        bad_fold: stack.bad_fold,
-    };
-    Ok(Cells::folded(text, folded))
+    let joined = Vec::from_slice(alloc, &stack.joined[stack.first..])?;
+    Ok(Cells::folded(text, joined, stack.ends, stack.bad_fold))
 }

@@ -76,19 +76,20 @@ fn a_nul_and_a_lone_carriage_return_are_stray(rt: HostRuntime) -> Result<(), Fai
 
 #[test]
 fn cells_meet_each_refused_growth(rt: HostRuntime) -> Result<(), Fail> {
-    let mut line = Vec::new(rt.alloc());
-    for _ in 0..20 {
-        line.extend_from_slice(b"a \\\n b".as_slice())?;
-    }
-    for admitted in 0..100 {
-        let heap = Refusing::after(rt.alloc(), admitted);
-        let answer = cells(&heap, &line);
-        if !heap.has_refused() {
-            // the joined text, the folds' ends at least once, and the box of the two
-            assert!(rt; admitted > 2 && answer.is_ok());
-            break;
+    // the bytes of the stack, the folds' ends at once for up to 16 folds, and the joined text
+    for (folds, growths) in [(1, 3), (16, 3), (20, 4)] {
+        let mut line = Vec::new(rt.alloc());
+        for _ in 0..folds {
+            line.extend_from_slice(b"a \\\n b".as_slice())?;
         }
-        assert!(rt; matches!(answer, Err(Fault::NoMemory)));
+        for admitted in 0..growths {
+            let heap = Refusing::after(rt.alloc(), admitted);
+            assert!(rt; matches!(cells(&heap, &line), Err(Fault::NoMemory)));
+            assert!(rt; heap.has_refused());
+        }
+        let heap = Refusing::after(rt.alloc(), growths);
+        assert!(rt; cells(&heap, &line).is_ok());
+        assert!(rt; !heap.has_refused());
     }
     Ok(())
 }

@@ -68,7 +68,7 @@ impl<A: Allocator> Model for Stack<A> {
 ///
 /// # Errors
 ///
-/// [`Fault::NoMemory`] if a list could not grow.
+/// [`Fault::NoMemory`] if a list could not grow, or if an offset of a fold does not fit in 32 bits.
 pub fn stack_of_text<A: Allocator + Copy>(
     alloc: A,
     text: &[u8],
@@ -207,11 +207,10 @@ impl<A: Allocator> Stack<A> {
         ensures fault { IsOkUnless result Fault.NoMemory }
     {
         let blanks = count_blanks(&text[offset + 1..]);
-        self.first += blanks;
-        self.ends.push(FoldEnd {
-            after: self.joined.len() - self.first,
-            raw_end: offset + 1 + blanks,
-        })?;
+        let first = self.first + blanks;
+        let end = FoldEnd::new(self.joined.len() - first, offset + 1 + blanks)?;
+        self.first = first;
+        self.ends.push(end)?;
         self.push_byte(b'\n');
         self.top = Top::Lf;
         Ok(())

@@ -1,9 +1,9 @@
 //! The cells of a line as they are stored beside it, and their readers.
 //!
 //! A line without folds is its own joined text, and each of its raw offsets is the joined one, so
-//! nothing is stored of it except flags. Of a line with folds the joined text is stored, and the
-//! end of each fold: the nearest fold before a joined offset tells the raw offset.
-ghost use Rattle.std.specs.Prelude.{◌≡◌, ◌≢◌, ◌==◌, ◌≤◌, ℕ, List, drop, length, true, false, nat_lt, All};
+//! nothing is stored of it except a count and a flag. Of a line with folds the joined text is
+//! stored, and the end of each fold: the nearest fold before a joined offset tells the raw offset.
+ghost use Rattle.std.specs.Prelude.{◌≡◌, ◌≢◌, ◌==◌, ◌≤◌, ℕ, List, length, true, false, nat_lt, All, IfOk, IsOkUnless};
 ghost use Rattle.std.specs.List.{list_any};
 ghost use Rattle.std.specs.Option.{is_some};
 ghost use Rattle.std.specs.List.Sorted.{IsNonDecreasingBy, IsPartitionPoint};
@@ -17,6 +17,7 @@ ghost use Rattle.mk_lines.specs.Ranges.{raw_range};
 ghost use Rattle.mk_lines.specs.declared.cells.stored.FoldEnd.{FoldEnd};
 
 use crate::ends::without_line_end;
+use crate::fault::Fault;
 use crate::split::Span;
 use memchr::memchr3;
 use std::alloc::{Allocator, Global};
@@ -25,12 +26,39 @@ use std::mem::size_of;
 
 /// Where a fold ends. A line end that no backslash escapes counts as a fold; one logical line has
 /// no such line end.
+///
+/// A document stores many of these, and its text has at most 16 MB. So the numbers have 32 bits.
 #[derive(Clone, Copy, Debug, PartialEq, Eq)]
 pub struct FoldEnd {
     /// How many joined bytes stand after the fold.
-    pub after: usize,
+    after: u32,
     /// The raw offset of the fold's end: how many raw bytes stand before it.
-    pub raw_end: usize,
+    raw_end: u32,
+}
+
+impl FoldEnd {
+    /// The end of a fold.
+    ///
+    /// # Errors
+    ///
+    /// [`Fault::NoMemory`] if one of the numbers does not fit in 32 bits.
+    pub fn new(after: usize, raw_end: usize) -> Result<FoldEnd, Fault>
+        ensures end { IfOk result (λ end. end ≡ record { after = after; raw_end = raw_end }) }
+        ensures fault { IsOkUnless result Fault.NoMemory }
+    {
+        Ok(FoldEnd {
+            after: short(after)?,
+            raw_end: short(raw_end)?,
+        })
+    }
+}
+
+// An offset in 32 bits. One that does not fit is refused as if there were no memory for its line.
+fn short(offset: usize) -> Result<u32, Fault>
+    ensures same { IfOk result (λ short. short ≡ offset) }
+    ensures fault { IsOkUnless result Fault.NoMemory }
+{
+    u32::try_from(offset).map_err(|_| Fault::NoMemory)
 }
 
 /// The cells of a logical line, as [`cells`](super::cells) gives them.
@@ -40,49 +68,50 @@ pub struct FoldEnd {
 /// readers takes memory.
 #[derive(Debug, Drop)]
 pub struct Cells<A: Allocator> {
-    /// How many cells there are, which is how many bytes the joined text has.
-    count: usize,
-    rest: Rest<A>,
+    stored: Stored<A>,
 }
 
-// A document stores one of these for each of its lines that has folds, in a box.
-const _: () = prove!(size_of::<Cells<Global>>() == 80);
+// A document stores one of these for each of its lines that has folds, in a box. In `Stored` the
+// flags stand first, beside the enum's tag: after the lists they would take 8 bytes more.
+const _: () = prove!(size_of::<Cells<Global>>() == 56);
 
-/// What is stored in addition to the count.
+/// What is stored of a line.
 #[derive(Debug, Drop)]
-pub(super) enum Rest<A: Allocator> {
-    /// A line without folds: whether it has a stray byte.
-    Plain(bool),
-    Folded(Folded<A>),
-}
-
-/// What is stored of a line with folds.
-#[derive(Debug, Drop)]
-pub(super) struct Folded<A: Allocator> {
-    /// The joined text stands at the end of these bytes; the bytes before it mean nothing.
-    pub(super) joined: Vec<u8, A>,
-    /// Where the joined text begins.
-    pub(super) first: usize,
-    /// The ends of the folds, the last fold first.
-    pub(super) ends: Vec<FoldEnd, A>,
-    pub(super) bad_fold: bool,
-    pub(super) stray: bool,
+enum Stored<A: Allocator> {
+    /// Of a line without folds.
+    Plain {
+        /// Whether there is a stray byte.
+        stray: bool,
+        /// How many cells there are, which is how many bytes the joined text has.
+        count: usize,
+    },
+    /// Of a line with folds. There are as many cells as joined bytes.
+    Folded {
+        /// Whether a backslash stands directly before a fold.
+        bad_fold: bool,
+        /// Whether there is a stray byte.
+        stray: bool,
+        /// The joined text.
+        joined: Vec<u8, A>,
+        /// The ends of the folds, the last fold first.
+        ends: Vec<FoldEnd, A>,
+    },
 }
 
 impl<A: Allocator> Model for Cells<A> {
-    ghost use Rattle.mk_lines.specs.StoredCells.{StoredCells, AreInOrder, ends_stored, joined_stored, has_bad_fold_stored, has_stray_stored, HasFoldsStored};
+    ghost use Rattle.mk_lines.specs.StoredCells.{StoredCells, AreInOrder, count_stored, ends_stored, joined_stored, has_bad_fold_stored, has_stray_stored, HasFoldsStored};
 
     ghost Value = { StoredCells };
 
     ghost view = { λ c. record {
-      count = c.count;
-      joined = joined_stored c.rest;
-      ends = ends_stored c.rest;
-      bad_fold = has_bad_fold_stored c.rest;
-      stray = has_stray_stored c.rest;
+      count = count_stored c.stored;
+      joined = joined_stored c.stored;
+      ends = ends_stored c.stored;
+      bad_fold = has_bad_fold_stored c.stored;
+      stray = has_stray_stored c.stored;
     } };
 
-    ghost invariant = { λ c. AreInOrder (ends_stored c.rest) × HasFoldsStored c.rest };
+    ghost invariant = { λ c. AreInOrder (ends_stored c.stored) × HasFoldsStored c.stored };
 }
 
 impl<A: Allocator> Cells<A> {
@@ -93,26 +122,34 @@ impl<A: Allocator> Cells<A> {
         ensures { result ≡ stored_cells (cells text.now) }
     {
         Cells {
-            count: text.len(),
-            rest: Rest::Plain(stray),
+            stored: Stored::Plain {
+                stray,
+                count: text.len(),
+            },
         }
     }
 
-    // The cells of a text with a line feed.
-    pub(super) fn folded(text: &[u8], folded: Folded<A>) -> Cells<A>
+    // The cells of a text with a line feed, by its joined text and its folds.
+    pub(super) fn folded(
+        text: &[u8],
+        joined: Vec<u8, A>,
+        ends: Vec<FoldEnd, A>,
+        bad_fold: bool,
+    ) -> Cells<A>
         requires some { All (λ b. b ≢ 10) text.now → ⊥ }
-        requires first { folded.first ≤ length folded.joined.items }
-        requires joined { drop folded.first folded.joined.items ≡ joined_text (cells text.now) }
-        requires ends { folded.ends.items ≡ fold_ends 0 (cells text.now) }
-        requires bad_fold { folded.bad_fold ≡ has_bad_fold (cells text.now) }
-        requires stray { folded.stray
-            ≡ list_any (λ b. is_stray_by (byte_kind b) (b == 0))
-            (drop folded.first folded.joined.items) }
+        requires joined { joined.items ≡ joined_text (cells text.now) }
+        requires ends { ends.items ≡ fold_ends 0 (cells text.now) }
+        requires bad_fold { bad_fold ≡ has_bad_fold (cells text.now) }
         ensures { result ≡ stored_cells (cells text.now) }
     {
+        let stray = has_stray_byte(&joined);
         Cells {
-            count: folded.joined.len() - folded.first,
-            rest: Rest::Folded(folded),
+            stored: Stored::Folded {
+                bad_fold,
+                stray,
+                joined,
+                ends,
+            },
         }
     }
 
@@ -132,9 +169,9 @@ impl<A: Allocator> Cells<A> {
         ensures plain { (line : List ℕ) → AreCellsOf self.now line
             → result ≡ false → All (λ b. b ≢ 10) (without_line_end line) }
     {
-        match &self.rest {
-            Rest::Plain(_) => false,
-            Rest::Folded(_) => true,
+        match &self.stored {
+            Stored::Plain { .. } => false,
+            Stored::Folded { .. } => true,
         }
     }
 
@@ -147,9 +184,9 @@ impl<A: Allocator> Cells<A> {
         ensures text { result.now ≡ joined_text (line_cells line.now) }
         ensures length { length result.now ≡ self.now.count }
     {
-        match &self.rest {
-            Rest::Plain(_) => without_line_end(line),
-            Rest::Folded(folded) => &folded.joined[folded.first..],
+        match &self.stored {
+            Stored::Plain { .. } => without_line_end(line),
+            Stored::Folded { joined, .. } => joined,
         }
     }
 
@@ -175,9 +212,11 @@ impl<A: Allocator> Cells<A> {
         requires { offset ≤ self.now.count }
         ensures { result ≡ stored_offset self.now offset }
     {
-        match &self.rest {
-            Rest::Plain(_) => offset,
-            Rest::Folded(folded) => offset_by_ends(&folded.ends, self.count - offset, offset),
+        match &self.stored {
+            Stored::Plain { .. } => offset,
+            Stored::Folded { joined, ends, .. } => {
+                offset_by_ends(ends, joined.len() - offset, offset)
+            }
         }
     }
 
@@ -187,9 +226,9 @@ impl<A: Allocator> Cells<A> {
         ensures { (line : List ℕ) → AreCellsOf self.now line
             → result ≡ has_bad_fold (line_cells line) }
     {
-        match &self.rest {
-            Rest::Plain(_) => false,
-            Rest::Folded(folded) => folded.bad_fold,
+        match &self.stored {
+            Stored::Plain { .. } => false,
+            Stored::Folded { bad_fold, .. } => *bad_fold,
         }
     }
 
@@ -199,9 +238,8 @@ impl<A: Allocator> Cells<A> {
         ensures { (line : List ℕ) → AreCellsOf self.now line
             → result ≡ has_stray (line_cells line) }
     {
-        match &self.rest {
-            Rest::Plain(stray) => *stray,
-            Rest::Folded(folded) => folded.stray,
+        match &self.stored {
+            Stored::Plain { stray, .. } | Stored::Folded { stray, .. } => *stray,
         }
     }
 }
@@ -213,7 +251,7 @@ fn offset_by_ends(ends: &[FoldEnd], after: usize, offset: usize) -> usize
     ensures { result ≡ offset_by_ends ends.now after offset }
 {
     match ends.get(count_folds_behind(ends, after)) {
-        Some(end) => end.raw_end + (end.after - after),
+        Some(end) => end.raw_end as usize + (end.after as usize - after),
         None => offset,
     }
 }
@@ -224,11 +262,11 @@ fn count_folds_behind(ends: &[FoldEnd], after: usize) -> usize
     ensures { IsPartitionPoint (λ (e : FoldEnd). nat_lt e.after after ≡ true)
         (λ (e : FoldEnd). nat_lt e.after after ≡ false) ends.now result }
 {
-    ends.partition_point(|end| end.after < after)
+    ends.partition_point(|end| (end.after as usize) < after)
 }
 
 // Whether a joined text has a stray byte.
-pub(super) fn has_stray_byte(joined: &[u8]) -> bool
+fn has_stray_byte(joined: &[u8]) -> bool
     ensures { result ≡ list_any (λ b. is_stray_by (byte_kind b) (b == 0)) joined.now }
 {
     first_stray_byte(joined).is_some()

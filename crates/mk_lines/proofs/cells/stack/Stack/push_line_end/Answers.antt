@@ -14,8 +14,17 @@ taken : (t items : List ℕ) (first blanks : ℕ) → (top_of (cells t) ≡ top.
     → blanks ≡ length (leading (λ b. is_blank_kind (byte_kind b)) t) → first + blanks ≤ length items
 taken t items first blanks no_fold j within n = omega (arith, n, blanks-stacked t no_fold, ap length j, length-drop first items)
 
-pub overflow_add-self : goal.overflow_add-self
-overflow_add-self g c =
+pub overflow_add-first : goal.overflow_add-first
+overflow_add-first g c =
+    let t = drop (c.args.offset + 1) c.args.text.now in
+    let n : c.count_blanks-blanks.result ≡ length (leading (λ b. is_blank_kind (byte_kind b)) t) = counted-blanks c.args.text.now (c.args.offset + 1) c.count_blanks-blanks.result c.count_blanks-blanks.ensures in
+    let was = ap (λ s. s.stack) c.self.view_is ∙ c.requires.stack in
+    let fits : c.self.inside.first + c.count_blanks-blanks.result ≤ length c.self.inside.joined.items =
+    taken t c.self.inside.joined.items c.self.inside.first c.count_blanks-blanks.result (λ e. c.requires.no_fold (ap (λ s. s.top) c.requires.stack ∙ e)) (ap (λ s. s.joined) was) c.self.invariant n in
+    search rules
+
+pub overflow_add-offset-3 : goal.overflow_add-offset-3
+overflow_add-offset-3 g c =
     let t = drop (c.args.offset + 1) c.args.text.now in
     let n : c.count_blanks-blanks.result ≡ length (leading (λ b. is_blank_kind (byte_kind b)) t) = counted-blanks c.args.text.now (c.args.offset + 1) c.count_blanks-blanks.result c.count_blanks-blanks.ensures in
     let was = ap (λ s. s.stack) c.self.view_is ∙ c.requires.stack in
@@ -64,7 +73,8 @@ returns-clause-stack g c =
     let ends : c.self-2.inside.ends.items ≡ fold_ends (offset + 1) (cells t) ++ record { after = length cut; raw_end = offset + 1 + blanks } ∷ [] =
     ap (λ s. s.ends) v
     ∙ (c.in_ok-push.ensures.items
+    ∙ (ap (λ e. c.self.inside.ends.items ++ e ∷ []) c.in_ok-end.ensures.end
     ∙ (ap (λ s. s.ends ++ record { after = c.len.result - (first + blanks); raw_end = offset + 1 + blanks } ∷ []) was
-    ∙ ap (λ z. fold_ends (offset + 1) (cells t) ++ record { after = z; raw_end = offset + 1 + blanks } ∷ []) k)) in
+    ∙ ap (λ z. fold_ends (offset + 1) (cells t) ++ record { after = z; raw_end = offset + 1 + blanks } ∷ []) k))) in
     line_feed-pushed offset t (λ f. c.requires.no_fold (ap (λ s. s.top) c.requires.stack ∙ f)) blanks cut (drop c.self-2.inside.first c.self-2.inside.joined.items) c.self-2.inside.ends.items c.self-2.inside.bad_fold
     n left (ap (λ s. s.joined) v) ends (ap (λ s. s.bad_fold) v ∙ ap (λ s. s.bad_fold) was)

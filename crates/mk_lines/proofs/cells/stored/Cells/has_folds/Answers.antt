@@ -1,4 +1,4 @@
-use Rattle.std.proofs.Common.{◌≡◌, ◌∙◌, ◌≤◌, [], ap, sym, subst, length}
+use Rattle.std.proofs.Common.{◌≡◌, ◌∙◌, [], ap, sym, subst}
 use Rattle.std.specs.Prelude.{◌≢◌}
 use Rattle.mk_lines.specs.StoredCells.{ends_stored, HasFoldsStored}
 use Rattle.mk_lines.proofs.StoredLemmas.{no_ends-plain, plain-no_ends}
@@ -11,7 +11,6 @@ returns-in-Plain-clause-plain g c = λ line h no.
 
 pub returns-in-Folded-clause-folded : goal.returns-in-Folded-clause-folded
 returns-in-Folded-clause-folded g c = λ line h yes all.
-    let f = c.in-Folded.field-0 in
-    let ends : f.ends.items ≡ c.args.self.now.ends = ap ends_stored (sym c.in-Folded.is) ∙ ap (λ k. k.ends) c.self.view_is in
-    let some : (f.ends.items ≢ []) × (f.first ≤ length f.joined.items) = subst HasFoldsStored c.in-Folded.is c.self.invariant.1 in
-    some.0 (ends ∙ plain-no_ends c.args.self.now line h all)
+    let ends : c.in-Folded.ends.items ≡ c.args.self.now.ends = ap ends_stored (sym c.in-Folded.is) ∙ ap (λ k. k.ends) c.self.view_is in
+    let some : c.in-Folded.ends.items ≢ [] = subst HasFoldsStored c.in-Folded.is c.self.invariant.1 in
+    some (ends ∙ plain-no_ends c.args.self.now line h all)

@@ -1,5 +1,4 @@
-use Rattle.std.proofs.Common.{◌≡◌, ◌∙◌, ℕ, ◌-◌, ◌≤◌, List, ap, sym, subst, [], take, drop, length, length-drop}
-use Rattle.std.proofs.Math.Seq.{take-length}
+use Rattle.std.proofs.Common.{◌≡◌, ◌∙◌, ap, sym, subst, [], length}
 use Rattle.std.specs.Prelude.{◌≢◌}
 use Rattle.mk_lines.specs.StoredCells.{joined_stored, ends_stored, HasFoldsStored}
 use Rattle.mk_lines.proofs.StoredLemmas.{plain-text, plain-count, folded-text, folded-count}
@@ -15,27 +14,18 @@ returns-in-Plain-clause-length g c =
     let none : [] ≡ c.args.self.now.ends = ap ends_stored (sym c.in-Plain.is) ∙ ap (λ k. k.ends) c.self.view_is in
     ap length c.without_line_end.ensures ∙ plain-count c.args.self.now c.args.line.now c.requires none
 
--- the slice from an offset on to the end
-whole : (n : ℕ) (xs : List ℕ) → take (length xs - n) (drop n xs) ≡ drop n xs
-whole n xs = ap (λ m. take m (drop n xs)) (sym (length-drop n xs)) ∙ take-length (drop n xs)
-
 pub returns-in-Folded-clause-text : goal.returns-in-Folded-clause-text
 returns-in-Folded-clause-text g c =
-    let f = c.in-Folded.folded in
-    let items = c.deref.result.now in
-    let ends : f.ends.items ≡ c.args.self.now.ends = ap ends_stored (sym c.in-Folded.is) ∙ ap (λ k. k.ends) c.self.view_is in
-    let joined : drop f.first f.joined.items ≡ c.args.self.now.joined = ap joined_stored (sym c.in-Folded.is) ∙ ap (λ k. k.joined) c.self.view_is in
-    let some : (f.ends.items ≢ []) × (f.first ≤ length f.joined.items) = subst HasFoldsStored c.in-Folded.is c.self.invariant.1 in
-    whole f.first items
-    ∙ (ap (drop f.first) c.deref.ensures.value
-    ∙ (joined ∙ folded-text c.args.self.now c.args.line.now c.requires (λ none. some.0 (ends ∙ none))))
+    let f = c.in-Folded in
+    let ends : f.ends.items ≡ c.args.self.now.ends = ap ends_stored (sym f.is) ∙ ap (λ k. k.ends) c.self.view_is in
+    let joined : f.joined.items ≡ c.args.self.now.joined = ap joined_stored (sym f.is) ∙ ap (λ k. k.joined) c.self.view_is in
+    let some : f.ends.items ≢ [] = subst HasFoldsStored f.is c.self.invariant.1 in
+    c.deref.ensures.value ∙ (joined ∙ folded-text c.args.self.now c.args.line.now c.requires (λ none. some (ends ∙ none)))
 
 pub returns-in-Folded-clause-length : goal.returns-in-Folded-clause-length
 returns-in-Folded-clause-length g c =
-    let f = c.in-Folded.folded in
-    let items = c.deref.result.now in
-    let ends : f.ends.items ≡ c.args.self.now.ends = ap ends_stored (sym c.in-Folded.is) ∙ ap (λ k. k.ends) c.self.view_is in
-    let joined : drop f.first f.joined.items ≡ c.args.self.now.joined = ap joined_stored (sym c.in-Folded.is) ∙ ap (λ k. k.joined) c.self.view_is in
-    let some : (f.ends.items ≢ []) × (f.first ≤ length f.joined.items) = subst HasFoldsStored c.in-Folded.is c.self.invariant.1 in
-    ap length (whole f.first items ∙ (ap (drop f.first) c.deref.ensures.value ∙ joined))
-    ∙ folded-count c.args.self.now c.args.line.now c.requires (λ none. some.0 (ends ∙ none))
+    let f = c.in-Folded in
+    let ends : f.ends.items ≡ c.args.self.now.ends = ap ends_stored (sym f.is) ∙ ap (λ k. k.ends) c.self.view_is in
+    let joined : f.joined.items ≡ c.args.self.now.joined = ap joined_stored (sym f.is) ∙ ap (λ k. k.joined) c.self.view_is in
+    let some : f.ends.items ≢ [] = subst HasFoldsStored f.is c.self.invariant.1 in
+    ap length (c.deref.ensures.value ∙ joined) ∙ folded-count c.args.self.now c.args.line.now c.requires (λ none. some (ends ∙ none))
