@@ -2,7 +2,9 @@
 # builds the crates; this file says what is made from what.
 #
 #   make            proves and builds the program, where a source has changed, with one line a crate;
-#                   what the prover says is in crates/mkedit/out/build.log
+#                   what the prover says is in crates/mkedit/out/build.log. The program,
+#                   crates/mkedit/out/bin/mkedit, has the C library in it where the machine has a
+#                   static one, so that it starts sooner (tools/link)
 #   make demo       shows scripts at work, one that is refused, and the queries
 #   make check      the whole test: tests/house, tests/rows, the proofs with the wrong bodies and the
 #                   tests of the crates (tests/crates, which is rt ci made quicker), and tests/program
@@ -13,8 +15,8 @@
 #   make fuzz       has afl++ look for inputs that take the program along new ways, for MINUTES
 #                   minutes, and judges each; prints the seed, which SEED=N takes again
 #   make rows       makes the stored files of rows anew, after a table of tests/cases has changed
-#   make hostile    tries the program with hostile texts of 16 MB, with memory that ends and under
-#                   valgrind, and measures it there; some minutes long
+#   make hostile    tries the program, as rt links it, with hostile texts of 16 MB, with memory that
+#                   ends and under valgrind, and measures it there; some minutes long
 #   make install    puts the program into $(DESTDIR)$(PREFIX)/bin, and the manual page and the
 #                   completions of bash, zsh and fish where each belongs
 #   make uninstall  takes away what make install puts there
@@ -38,7 +40,9 @@ ZSHCOMPDIR ?= $(PREFIX)/share/zsh/site-functions
 FISHCOMPDIR ?= $(PREFIX)/share/fish/vendor_completions.d
 MINUTES ?= 15
 EDITS ?= 10000
-PROGRAM = crates/mkedit/out/mkedit
+PROGRAM = crates/mkedit/out/bin/mkedit
+# The same program as rt links it: it loads the C library when it starts.
+BUILT = crates/mkedit/out/mkedit
 LINE_BENCH = crates/line_bench/out/line_bench
 EDIT_BENCH = crates/edit_bench/out/edit_bench
 SMALL = examples/config.mk
@@ -47,10 +51,10 @@ SOURCES != find crates -name out -prune -o '(' -name '*.rt' -o -name '*.antt' ')
 all: $(PROGRAM)
 
 # rt run is the one command of rt that leaves a linked program, and it always runs it too; tools/build
-# shows its steps. Where only another crate has changed it leaves the program as it was, hence the touch.
-$(PROGRAM): crates.txt HANDLES $(SOURCES)
+# shows its steps. The program is linked anew each time, so that it is newer than each source.
+$(PROGRAM): crates.txt HANDLES tools/link $(SOURCES)
 	@tools/build mkedit --help
-	@touch $@
+	@tools/link $(BUILT) $@
 
 demo: $(PROGRAM)
 	@MKEDIT=$(PROGRAM) examples/demo
@@ -60,7 +64,7 @@ check:
 	@tests/check
 
 hostile: $(PROGRAM)
-	@tests/hostile $(PROGRAM)
+	@tests/hostile $(BUILT)
 
 soak: $(PROGRAM)
 	@tests/soak --minutes $(MINUTES) $(SEED:%=--seed %) $(PROGRAM)

@@ -1,4 +1,5 @@
-"""What `make` prints of a build: tools/build, where another program stands for rt and says its words."""
+"""What `make` prints of a build: tools/build, where another program stands for rt and says its words;
+and the program that it leaves: tools/link."""
 
 import os
 import re
@@ -31,6 +32,13 @@ LINES = (
     "proved mkedit: 1 function, crate 3 of 3\nbuilt crates/mkedit/out/mkedit in 0 min 0 s\n"
 )
 WHOLE_LOG = f"build: the whole of it is in {LOG}\n"
+BUILT, PROGRAM = "crates/mkedit/out/mkedit", "crates/mkedit/out/bin/mkedit"
+COPIED = f"{PROGRAM} is copied from {BUILT}, since there is no mkedit.o beside it: it starts later\n"
+LINKED = f"{PROGRAM} is linked with the C library in it\n"
+# A program in C, and an archive without members, which stands for the toolchain's.
+SOURCE = '#include <stdio.h>\nint main(void) { return puts("mkedit 1") < 0; }\n'
+NO_MEMBERS = "!<arch>\n"
+LOADER = b"/ld-linux"
 
 check = Checks()
 
@@ -42,7 +50,7 @@ class Tree:
         self.top, self.names = room.folder / "tree", room.folder / "names"
         for folder in (self.top / "tools", self.top / "crates/mkedit", self.names):
             folder.mkdir(parents=True)
-        for name in ("Makefile", "tools/build"):
+        for name in ("Makefile", "tools/build", "tools/link"):
             shutil.copy(TOP / name, self.top / name)
         (self.top / "crates.txt").write_text(CRATES)
         (self.top / "HANDLES").touch()
@@ -143,7 +151,9 @@ def a_build_without_rt_says_what_is_missing(room):
 @check
 def make_builds_once_and_says_no_more_than_the_steps(room):
     tree = Tree(room, WHOLE)
-    yield from tree.differs((LINES, "", 0), tree.run("make"))
+    yield from tree.differs((LINES + COPIED, "", 0), tree.run("make"))
+    if not (tree.top / PROGRAM).exists():
+        yield "the program is not there"
     again = tree.run("make")
     if again.status or b"building" in again.stdout:
         yield f"the second make gives {again}"
@@ -155,5 +165,41 @@ def make_fails_where_a_crate_is_refused(room):
     got = tree.run("make")
     if got.status != 2 or b"proving mk_lines failed" not in got.stderr:
         yield f"make gives {got}"
-    if (tree.top / "crates/mkedit/out/mkedit").exists():
+    if (tree.top / PROGRAM).exists():
         yield "the program is there"
+
+
+@check
+def a_program_is_linked_with_the_c_library_in_it(room):
+    tree = Tree(room, WHOLE)
+    built = tree.top / BUILT
+    built.parent.mkdir()
+    (tree.names.parent / "c").mkdir()
+    for name in ("libos_c.a", "liblibc_c.a"):
+        (tree.names.parent / "c" / name).write_text(NO_MEMBERS)
+    (tree.top / "main.c").write_text(SOURCE)
+    if not shutil.which("cc") or tree.run("cc", "-static-pie", "-o", "main", "main.c").status:
+        return
+    yield from tree.differs(("", "", 0), tree.run("cc", "-fPIE", "-c", "-o", f"{BUILT}.o", "main.c"))
+    yield from tree.differs(("", "", 0), tree.run("cc", "-o", BUILT, f"{BUILT}.o"))
+    yield from tree.differs((LINKED, "", 0), tree.run("tools/link", BUILT, PROGRAM))
+    yield from tree.differs(("mkedit 1\n", "", 0), tree.run(PROGRAM))
+    if LOADER not in built.read_bytes() or LOADER in (tree.top / PROGRAM).read_bytes():
+        yield "the loader is asked for by another program"
+
+
+@check
+def a_program_is_copied_where_it_cannot_be_linked(room):
+    tree = Tree(room, WHOLE)
+    built = tree.top / BUILT
+    built.parent.mkdir()
+    built.write_text("#!/bin/sh\necho mkedit 1\n")
+    built.chmod(0o755)
+    yield from tree.differs((COPIED, "", 0), tree.run("tools/link", BUILT, PROGRAM))
+    yield from tree.differs(("mkedit 1\n", "", 0), tree.run(PROGRAM))
+    (built.parent / "mkedit.o").write_text("no object file")
+    (tree.top / PROGRAM).unlink()
+    got = tree.run("tools/link", BUILT, PROGRAM)
+    if got.status or got.stderr or b": it starts later\n" not in got.stdout:
+        yield f"tools/link gives {got}"
+    yield from tree.differs(("mkedit 1\n", "", 0), tree.run(PROGRAM))
