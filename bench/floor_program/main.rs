@@ -4,6 +4,8 @@
 //!
 //!     floor text FILE     reads the text, and writes it
 //!     floor lines FILE    and cuts it into logical lines before
+//!     floor small FILE    and puts each line into a box of 56 bytes, in a balanced tree, and writes the
+//!                         lines from there
 //!     floor boxes FILE    and puts each line into a box of its own, in a balanced tree, and writes the
 //!                         lines from there
 //!     floor folds FILE    and keeps of each line with folds its joined text and the ends of its folds,
@@ -32,6 +34,7 @@ mod queries;
 mod reading;
 mod rename;
 mod script;
+mod small;
 mod tree;
 
 use document::Document;
@@ -53,6 +56,15 @@ fn cut(name: &str, out: &mut Out) -> io::Result<()> {
         out.write_all(&text[it.start..it.end])?;
     }
     out.flush()
+}
+
+/// The same, from a tree of small boxes.
+fn boxed(name: &str, out: &mut Out) -> io::Result<()> {
+    let text = fs::read(name)?;
+    let lines = small::tree(&mut Lines { text: &text, at: 0 }, 25);
+    let done = lines.write_to(&text, out);
+    mem::forget(lines);
+    done
 }
 
 /// Does something with the document of a file, of whose lines this is kept.
@@ -95,6 +107,7 @@ fn main() -> io::Result<()> {
     match words[..] {
         ["text", name] => out.get_mut().write_all(&fs::read(name)?),
         ["lines", name] => cut(name, &mut out),
+        ["small", name] => boxed(name, &mut out),
         ["boxes", name] => over(name, Kept::Bounds, |it| it.write_to(&mut out)),
         ["folds", name] => over(name, Kept::Folds, |it| it.write_to(&mut out)),
         ["classes", name] => over(name, Kept::Classes, |it| it.write_to(&mut out)),
