@@ -29,8 +29,8 @@ fn fault_of_open(rt: &HostRuntime, heap: &Heap) -> Result<Option<Fault>, Fail> {
 }
 
 // The growths of the opening of a session: the text and the count of its owners, a node of each line,
-// three for the fold, and a ring each for undo and redo.
-const GROWTHS_OF_OPEN: u64 = 12;
+// four for the fold, and a ring each for undo and redo.
+const GROWTHS_OF_OPEN: u64 = 13;
 
 #[test]
 fn each_refused_growth_of_open_is_no_memory(rt: HostRuntime) -> Result<(), Fail> {

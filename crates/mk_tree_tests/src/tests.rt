@@ -112,8 +112,8 @@ fn each_refused_growth_of_parse_is_no_memory(rt: HostRuntime) -> Result<(), Fail
         let heap = Refusing::after(rt.alloc(), admitted);
         let answer = Doc::parse(&heap, FOUR_LINES, &mut Meter::new());
         if !heap.has_refused() {
-            // the text and the count of its owners, a node of each line, and three for the fold
-            assert!(rt; admitted == 9 && answer.is_ok());
+            // the text and the count of its owners, a node of each line, and four for the fold
+            assert!(rt; admitted == 10 && answer.is_ok());
             break;
         }
         assert!(rt; matches!(answer, Err(Fault::NoMemory)));
@@ -133,7 +133,7 @@ fn each_refused_growth_of_parsing_a_text_by_value_is_no_memory(
         let answer = Doc::parse_vec(&heap, text, &mut Meter::new());
         if !heap.has_refused() {
             // as many as `parse` takes, since the text is copied here
-            assert!(rt; admitted == 9 && answer.is_ok());
+            assert!(rt; admitted == 10 && answer.is_ok());
             break;
         }
         assert!(rt; matches!(answer, Err(Fault::NoMemory)));
@@ -151,7 +151,7 @@ fn has_value_to<A: Allocator>(doc: &Doc<A>, end: usize) -> bool {
 
 #[test]
 fn only_the_class_of_a_long_line_takes_memory(rt: HostRuntime) -> Result<(), Fail> {
-    for (count, growths) in [(65_531, 3), (65_532, 4)] {
+    for (count, growths) in [(251, 3), (252, 4)] {
         let mut text = Vec::from_slice(rt.alloc(), b"A = ")?;
         text.extend_from_slice(&repeated(&rt, b"x", count)?)?;
         for admitted in 0..20 {
@@ -159,8 +159,35 @@ fn only_the_class_of_a_long_line_takes_memory(rt: HostRuntime) -> Result<(), Fai
             let answer = Doc::parse(&heap, &text, &mut Meter::new());
             if !heap.has_refused() {
                 // the text and the count of its owners, the node, and the class if one of its offsets
-                // is greater than 65,535
+                // is greater than 255
                 assert!(rt; admitted == growths && has_value_to(&answer?, text.len()));
+                break;
+            }
+            assert!(rt; matches!(answer, Err(Fault::NoMemory)));
+        }
+    }
+    Ok(())
+}
+
+// Lines without folds, and how many growths it takes to parse each: the text and the count of its
+// owners, the node, and a box for a class that is never short.
+const GROWTHS_OF_LINES: &[(&[u8], u64)] = &[
+    (b"X = 1\n", 3),
+    (b".RECIPEPREFIX = >\n", 4),
+    (b"all: X = 1\n", 4),
+    (b"all: a | b\n", 3),
+    (b"all: a ; b\n", 4),
+    (b"a.o: %.o: %.c\n", 4),
+];
+
+#[test]
+fn only_a_class_that_is_not_short_takes_memory(rt: HostRuntime) -> Result<(), Fail> {
+    for (text, growths) in GROWTHS_OF_LINES {
+        for admitted in 0..20 {
+            let heap = Refusing::after(rt.alloc(), admitted);
+            let answer = Doc::parse(&heap, text, &mut Meter::new());
+            if !heap.has_refused() {
+                assert!(rt; admitted == *growths && answer.is_ok());
                 break;
             }
             assert!(rt; matches!(answer, Err(Fault::NoMemory)));
@@ -323,9 +350,9 @@ fn each_refused_growth_of_reading_a_line_is_no_memory(rt: HostRuntime) -> Result
         let heap = Refusing::after(rt.alloc(), admitted);
         let answer = read_with(&heap, b"B = a \\\n b\n");
         if !heap.has_refused() {
-            // the bytes and the count of their owners, the joined text, the folds' ends, what is
-            // kept of them, and the node
-            assert!(rt; admitted == 6 && answer.is_ok());
+            // the bytes and the count of their owners, the stack that joins them, the folds' ends, the
+            // joined text, what is kept of them, and the node
+            assert!(rt; admitted == 7 && answer.is_ok());
             break;
         }
         assert!(rt; matches!(answer, Err(Fault::NoMemory)));
