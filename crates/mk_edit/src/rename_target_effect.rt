@@ -4,6 +4,7 @@ ghost use Rattle.mk_lines.specs.Limits.{max_text};
 ghost use Rattle.mk_class.specs.Contexts.{start};
 ghost use Rattle.mk_tree.specs.Documents.{IsFaithful};
 ghost use Rattle.mk_tree.specs.Trees.{line_view};
+ghost use Rattle.mk_edit_parts.specs.LocatedParts.{IsClassed, is_target_located};
 ghost use Rattle.mk_edit.specs.RenameTargetEffects.{effect_of_line, effect_on, joined, may_tell, no_effect};
 ghost use Rattle.mk_edit.specs.RenameTargetPatches.{HasFewWords, held_places, is_turn_of, tally_of};
 
@@ -144,7 +145,7 @@ fn effect_of_line<A: Allocator>(
 {
     Effect {
         has_unread_prefix: is_unread(line, class),
-        is_there: has_target(line, class, from),
+        is_there: is_there(line, class, tally, from),
         begins_line: tally.at_front && begins_with(to, context.prefix()),
         is_taken: has_target(line, class, to),
         words: tally.words,
@@ -152,6 +153,17 @@ fn effect_of_line<A: Allocator>(
         no_longer: usize::from(is_of_turn(tally, to.len(), Turn::NoLonger)),
         longer: usize::from(is_of_turn(tally, to.len(), Turn::Longer)),
     }
+}
+
+// Whether the old word is a target of a line of this class, by the count of the words that are
+// replaced. A line without the word is not searched for it again.
+fn is_there<A: Allocator>(line: &Line<A>, class: &Class, tally: Tally, from: &[u8]) -> bool
+    requires classed { IsClassed (line_view line.now) }
+    requires class { class.now ≡ (line_view line.now).class }
+    requires tally { tally ≡ tally_of from.now (line_view line.now) }
+    ensures { result ≡ is_target_located from.now (line_view line.now) }
+{
+    tally.words > 0 && has_target(line, class, from)
 }
 
 // The effect on some lines and on other lines together.
