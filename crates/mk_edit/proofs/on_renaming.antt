@@ -4,6 +4,7 @@ pub mod SizesOfTexts
 pub mod CausesOfPrefix
 pub mod CausesOfRenameTarget
 pub mod LinesRenamed
+pub mod TargetsHeld
 pub mod PatchTurns
 pub mod LinesAlong
 pub mod PatchPlans

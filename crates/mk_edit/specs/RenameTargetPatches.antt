@@ -9,11 +9,12 @@ use Rattle.mk_tree.specs.LineTexts.{line_in}
 use Rattle.mk_tree.specs.LocatedLines.{LocatedLine, located_line}
 use Rattle.mk_patch.specs.Moves.{Move, Exchange, IsPlain}
 use Rattle.mk_edit_parts.specs.LocatedParts.{IsClassed}
-use Rattle.mk_edit_parts.specs.declared.seek.Found.{Found}
-use Rattle.mk_edit_parts.specs.RenamedRanges.{renamed_ranges, bytes_in}
+use Rattle.mk_edit_parts.specs.declared.tally.Tally.{Tally}
+use Rattle.mk_edit_parts.specs.RenamedRanges.{renamed_ranges, bytes_in, no_words, tallied}
 use Rattle.mk_edit_parts.specs.RenamedTexts.{renamed_text, AreApart}
 use Rattle.mk_edit.specs.declared.rename_target_effect.Turn.{Turn}
 use Rattle.mk_edit.specs.declared.rename_target_effect.Turn.TheVariants as turn
+use Rattle.mk_edit.specs.declared.rename_target_places.Held.{Held}
 
 -- ---- which lines
 
@@ -27,16 +28,24 @@ abbrev pub is_turn_of : Turn → (words bytes new_length : ℕ) → Bool
 is_turn_of turn.NoLonger w b n = nat_lt 0 w && not (nat_lt b (w * n))
 is_turn_of turn.Longer w b n = nat_lt b (w * n)
 
--- The places of the lines that hold the word, in their order; the first line stands at this index
--- and in this context.
-abbrev pub held_places_from : (old : List ℕ) → (at : ℕ) → Context → List LocatedLine → List Found
+-- the count of the words of a line that a rename replaces
+abbrev pub tally_of : (old : List ℕ) → LocatedLine → Tally
+tally_of o l = tallied no_words (renamed_ranges o l)
+
+-- what is noted of a line that stands at this index and in this context
+abbrev pub held_line : (old : List ℕ) → (at : ℕ) → Context → LocatedLine → Held
+held_line o at c l = record { place = record { at = at; context = c }; tally = tally_of o l }
+
+-- The places of the lines that hold the word, in their order, each with the count of its words; the
+-- first line stands at this index and in this context.
+abbrev pub held_places_from : (old : List ℕ) → (at : ℕ) → Context → List LocatedLine → List Held
 held_places_from o at c [] = []
 held_places_from o at c (l ∷ ls) =
     let below = held_places_from o (at + 1) (context_after_located c l.class) ls in
-    if holds_word o l then record { at = at; context = c } ∷ below else below
+    if holds_word o l then held_line o at c l ∷ below else below
 
--- the places of the lines of a document that hold the word
-abbrev pub held_places : (old : List ℕ) → List LocatedLine → List Found
+-- the places of the lines of a document that hold the word, each with the count of its words
+abbrev pub held_places : (old : List ℕ) → List LocatedLine → List Held
 held_places o ls = held_places_from o 0 start ls
 
 -- whether this line is exchanged in a turn

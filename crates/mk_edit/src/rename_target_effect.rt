@@ -4,10 +4,11 @@ ghost use Rattle.mk_lines.specs.Limits.{max_text};
 ghost use Rattle.mk_class.specs.Contexts.{start};
 ghost use Rattle.mk_tree.specs.Documents.{IsFaithful};
 ghost use Rattle.mk_tree.specs.Trees.{line_view};
+ghost use Rattle.mk_edit_parts.specs.LocatedParts.{IsClassed, is_target_located};
 ghost use Rattle.mk_edit.specs.RenameTargetEffects.{effect_of_line, effect_on, joined, may_tell, no_effect};
-ghost use Rattle.mk_edit.specs.RenameTargetPatches.{HasFewWords, held_places, is_turn_of};
+ghost use Rattle.mk_edit.specs.RenameTargetPatches.{HasFewWords, held_places, is_turn_of, tally_of};
 
-use crate::rename_target_places::noted;
+use crate::rename_target_places::{Held, noted};
 use mk_class::{Class, Context};
 use mk_edit_parts::lean::begins_with;
 use mk_edit_parts::line_test::{has_target, is_unread};
@@ -52,9 +53,9 @@ pub(crate) struct Effect {
 pub(crate) struct Survey<A: Allocator> {
     /// What the rename finds among the lines, and what it does to them.
     pub effect: Effect,
-    /// The places of the lines that hold the old word, in their order. `None` if a growth was
-    /// refused.
-    pub places: Option<Vec<Found, A>>,
+    /// The places of the lines that hold the old word, in their order, each with the count of its
+    /// words. `None` if a growth was refused.
+    pub places: Option<Vec<Held, A>>,
 }
 
 /// What a rename finds among the lines of a document, what it does to them, and where the lines
@@ -88,10 +89,11 @@ pub(crate) fn rename_target_effect<A: Allocator + Copy>(
             context: place.context.step(&class),
         };
         if may_tell(&class) {
-            let of_line = effect_of_line(line, &class, place.context, from, to);
+            let tally = count_words(line, &class, from);
+            let of_line = effect_of_line(line, &class, tally, place.context, from, to);
             effect = joined(effect, of_line);
             if of_line.words > 0 {
-                places = noted(places, place);
+                places = noted(places, Held { place, tally });
             }
         }
     }
@@ -126,22 +128,24 @@ fn may_tell(class: &Class) -> bool
     }
 }
 
-// The effect on a line of this class that stands in this context.
+// The effect on a line of this class that stands in this context. The tally counts its words that
+// are replaced.
 fn effect_of_line<A: Allocator>(
     line: &Line<A>,
     class: &Class,
+    tally: Tally,
     context: Context,
     from: &[u8],
     to: &[u8],
 ) -> Effect
     requires few_words { HasFewWords from.now (line_view line.now) }
     requires class { class.now ≡ (line_view line.now).class }
+    requires tally { tally ≡ tally_of from.now (line_view line.now) }
     ensures { result ≡ effect_of_line from.now to.now context (line_view line.now) }
 {
-    let tally = count_words(line, class, from);
     Effect {
         has_unread_prefix: is_unread(line, class),
-        is_there: has_target(line, class, from),
+        is_there: is_there(line, class, tally, from),
         begins_line: tally.at_front && begins_with(to, context.prefix()),
         is_taken: has_target(line, class, to),
         words: tally.words,
@@ -149,6 +153,17 @@ fn effect_of_line<A: Allocator>(
         no_longer: usize::from(is_of_turn(tally, to.len(), Turn::NoLonger)),
         longer: usize::from(is_of_turn(tally, to.len(), Turn::Longer)),
     }
+}
+
+// Whether the old word is a target of a line of this class, by the count of the words that are
+// replaced. A line without the word is not searched for it again.
+fn is_there<A: Allocator>(line: &Line<A>, class: &Class, tally: Tally, from: &[u8]) -> bool
+    requires classed { IsClassed (line_view line.now) }
+    requires class { class.now ≡ (line_view line.now).class }
+    requires tally { tally ≡ tally_of from.now (line_view line.now) }
+    ensures { result ≡ is_target_located from.now (line_view line.now) }
+{
+    tally.words > 0 && has_target(line, class, from)
 }
 
 // The effect on some lines and on other lines together.

@@ -17,15 +17,14 @@ ghost use Rattle.mk_edit_laws.specs.Edits.{RenameTarget};
 ghost use Rattle.mk_edit_laws.specs.Refusals.{causes, first_cause};
 ghost use Rattle.mk_edit.specs.Planned.{IsPlanned};
 ghost use Rattle.mk_edit.specs.RenameTargetEffects.{effect_on};
-ghost use Rattle.mk_edit.specs.RenameTargetPatches.{CanBeRenamed, CanEachBeRenamed, exchanged_count, held_places, is_exchanged, line_renamed, turn_moves};
+ghost use Rattle.mk_edit.specs.RenameTargetPatches.{CanBeRenamed, CanEachBeRenamed, exchanged_count, held_places, is_exchanged, line_renamed, tally_of, turn_moves};
 
 use crate::moves::{builder, read_line};
 use crate::rename_target_effect::{Effect, Turn, is_of_turn};
-use mk_class::{Context, Meter};
+use crate::rename_target_places::Held;
+use mk_class::Meter;
 use mk_edit_laws::Refusal;
 use mk_edit_parts::renamed_line::renamed_bytes;
-use mk_edit_parts::seek::Found;
-use mk_edit_parts::tally::count_words;
 use mk_patch::{Patch, PatchBuilder, Step};
 use mk_tree::{Doc, Line};
 use std::alloc::Allocator;
@@ -48,7 +47,7 @@ struct Batch {
 pub(crate) fn rename_target_patch<A: Allocator + Copy>(
     alloc: A,
     doc: &Doc<A>,
-    places: &[Found],
+    places: &[Held],
     from: &[u8],
     to: &[u8],
     effect: Effect,
@@ -89,7 +88,7 @@ pub(crate) fn rename_target_patch<A: Allocator + Copy>(
 fn exchange_lines<A: Allocator + Copy>(
     alloc: A,
     doc: &Doc<A>,
-    places: &[Found],
+    places: &[Held],
     patch: &mut PatchBuilder<A>,
     from: &[u8],
     to: &[u8],
@@ -115,11 +114,11 @@ fn exchange_lines<A: Allocator + Copy>(
     }
     // The contract of `len` bounds the number of lines, as counting them asks.
     let _count = doc.len();
-    'places: for place in places {
-        let line = doc.line(place.at);
-        let renamed = line_of_turn(alloc, line, place.context, from, to, batch.turn, meter)?;
+    'places: for held in places {
+        let line = doc.line(held.place.at);
+        let renamed = line_of_turn(alloc, line, held, from, to, batch.turn, meter)?;
         if let Some(renamed) = renamed {
-            patch.push(Step::Exchange(place.at, renamed));
+            patch.push(Step::Exchange(held.place.at, renamed));
         }
     }
     Ok(())
@@ -129,16 +128,17 @@ fn exchange_lines<A: Allocator + Copy>(
 fn line_of_turn<A: Allocator + Copy>(
     alloc: A,
     line: &Line<A>,
-    context: Context,
+    held: &Held,
     from: &[u8],
     to: &[u8],
     turn: Turn,
     meter: &mut Meter,
 ) -> Result<Option<Line<A>>, Refusal>
-    requires can { CanBeRenamed from.now to.now context (line_view line.now) }
+    requires can { CanBeRenamed from.now to.now held.now.place.context (line_view line.now) }
+    requires tally { held.now.tally ≡ tally_of from.now (line_view line.now) }
     ensures line { IfOk result (λ renamed. option_map line_view renamed
         ≡ (if is_exchanged turn from.now to.now (line_view line.now)
-        then Some (line_renamed from.now to.now context (line_view line.now))
+        then Some (line_renamed from.now to.now held.now.place.context (line_view line.now))
         else None)) }
     ensures refused { IsOkUnless result Refusal.NoMemory }
     ensures counted { OnOk result (AreCounted meter.old
@@ -147,15 +147,15 @@ fn line_of_turn<A: Allocator + Copy>(
         ≤ meter.old + (if is_exchanged turn from.now to.now (line_view line.now) then 1 else 0) }
     ensures forward { meter.old ≤ meter.new }
 {
-    let class = line.class();
-    let tally = count_words(line, &class, from);
+    let tally = held.tally;
     if !is_of_turn(tally, to.len(), turn) {
         return Ok(None);
     }
+    let class = line.class();
     let room = line.bytes().len() - tally.bytes + tally.words * to.len();
     let Ok(bytes) = renamed_bytes(alloc, line, &class, from, to, room) else {
         return Err(Refusal::NoMemory);
     };
-    let renamed = read_line(alloc, bytes, context, meter)?;
+    let renamed = read_line(alloc, bytes, held.place.context, meter)?;
     Ok(Some(renamed))
 }

@@ -10,9 +10,9 @@ use Rattle.mk_tree.specs.LocatedLines.{LocatedLine}
 use Rattle.mk_tree.specs.TreeWalks.{LinesInContext}
 use Rattle.mk_tree.proofs.Indices.{drop_get}
 use Rattle.mk_patch.specs.Moves.{Move, MovesWithRoom}
-use Rattle.mk_edit_parts.specs.declared.seek.Found.{Found}
-use Rattle.mk_edit.specs.RenameTargetPatches.{CanBeRenamed, CanEachBeRenamed, exchanged_count, held_places, held_places_from, holds_word, is_exchanged, line_renamed, turn_moves}
+use Rattle.mk_edit.specs.RenameTargetPatches.{CanBeRenamed, CanEachBeRenamed, exchanged_count, held_line, held_places, held_places_from, holds_word, is_exchanged, line_renamed, tally_of, turn_moves}
 use Rattle.mk_edit.specs.declared.rename_target_effect.Turn.{Turn}
+use Rattle.mk_edit.specs.declared.rename_target_places.Held.{Held}
 use Rattle.mk_edit.proofs.on_renaming.PatchLoops.{IsHandedOut, IsTurnBuilt, handed-out, turn-refused, turn-stepped, with_step}
 use Rattle.mk_edit.proofs.on_renaming.PatchPlans.{filter-step}
 use Rattle.mk_edit.proofs.on_renaming.PatchTurns.{exchanged-holds}
@@ -32,7 +32,7 @@ lines-below d at l ls h = sym (drop-drop 1 at d) ∙ ap (drop 1) h
 
 module _ (t : Turn) (o n : List ℕ) (d : List LocatedLine) (before : MovesWithRoom) (meter : ℕ) where
   -- A turn that has these places left.
-  pub record IsTurnLeft (now : MovesWithRoom) (places : List Found) (meter_now : ℕ) : Type 0 where
+  pub record IsTurnLeft (now : MovesWithRoom) (places : List Held) (meter_now : ℕ) : Type 0 where
     pub at : ℕ
     pub ahead : LinesInContext
     pub built : IsTurnBuilt t o n d before now at ahead meter meter_now
@@ -40,14 +40,15 @@ module _ (t : Turn) (o n : List ℕ) (d : List LocatedLine) (before : MovesWithR
     pub places_are : places ≡ held_places_from o at ahead.context ahead.lines
 
   -- A turn that has come to the line of a place, and has the places below it left.
-  pub record IsTurnThere (now : MovesWithRoom) (place : Found) (below : List Found) (meter_now : ℕ) : Type 0 where
+  pub record IsTurnThere (now : MovesWithRoom) (held : Held) (below : List Held) (meter_now : ℕ) : Type 0 where
     pub line : LocatedLine
     pub left : LinesInContext
-    pub built : IsTurnBuilt t o n d before now place.at (record { context = place.context; lines = line ∷ left.lines }) meter meter_now
-    pub line_is : slice_get d place.at ≡ Some line
-    pub lines_are : drop (place.at + 1) d ≡ left.lines
-    pub then_in : left.context ≡ context_after_located place.context line.class
-    pub places_are : below ≡ held_places_from o (place.at + 1) left.context left.lines
+    pub built : IsTurnBuilt t o n d before now held.place.at (record { context = held.place.context; lines = line ∷ left.lines }) meter meter_now
+    pub line_is : slice_get d held.place.at ≡ Some line
+    pub tally_is : held.tally ≡ tally_of o line
+    pub lines_are : drop (held.place.at + 1) d ≡ left.lines
+    pub then_in : left.context ≡ context_after_located held.place.context line.class
+    pub places_are : below ≡ held_places_from o (held.place.at + 1) left.context left.lines
 
   -- a line without the word is not exchanged
   not-exchanged : (l : LocatedLine) → holds_word o l ≡ false → is_exchanged t o n l ≡ false
@@ -69,31 +70,32 @@ module _ (t : Turn) (o n : List ℕ) (d : List LocatedLine) (before : MovesWithR
       (subst (λ z. AreCounted m (if z then 1 else 0) m) (sym e) (omega arith)) (omega arith) (omega arith) refl
 
   -- to the next place
-  next-place : (now : MovesWithRoom) (p : Found) (ps : List Found) (m : ℕ) → IsTurnLeft now (p ∷ ps) m → IsTurnThere now p ps m
+  next-place : (now : MovesWithRoom) (p : Held) (ps : List Held) (m : ℕ) → IsTurnLeft now (p ∷ ps) m → IsTurnThere now p ps m
   next-place now p ps m L = go L.ahead.lines L.at L.ahead.context L.places_are L.lines_are L.built
     where
       go : (ls : List LocatedLine) (at : ℕ) (c : Context) → p ∷ ps ≡ held_places_from o at c ls → drop at d ≡ ls → IsTurnBuilt t o n d before now at (record { context = c; lines = ls }) meter m → IsTurnThere now p ps m
       go [] at c e h B = absurd (cc)
       go (l ∷ ls) at c e h B = at-line (holds_word o l) refl e (λ i. go ls (at + 1) (context_after_located c l.class) i (lines-below d at l ls h))
         where
-          here : Found
-          here = record { at = at; context = c }
+          here : Held
+          here = held_line o at c l
 
           inside : Context
           inside = context_after_located c l.class
 
-          below : List Found
+          below : List Held
           below = held_places_from o (at + 1) inside ls
 
           at-line : (b : Bool) → holds_word o l ≡ b → p ∷ ps ≡ (if b then here ∷ below else below) → (p ∷ ps ≡ below → IsTurnBuilt t o n d before now (at + 1) (record { context = inside; lines = ls }) meter m → IsTurnThere now p ps m)
               → IsTurnThere now p ps m
           at-line true s i f =
               let first : here ≡ p = cc in
-              subst (λ (z : Found). IsTurnThere now z ps m) first (record {
+              subst (λ (z : Held). IsTurnThere now z ps m) first (record {
                 line = l;
                 left = record { context = inside; lines = ls };
                 built = B;
                 line_is = line-there d at l ls h;
+                tally_is = refl;
                 lines_are = lines-below d at l ls h;
                 then_in = refl;
                 places_are = cc;
@@ -102,7 +104,7 @@ module _ (t : Turn) (o n : List ℕ) (d : List LocatedLine) (before : MovesWithR
 
   -- ---- the start, one line on, and the end
 
-  pub turn-begun : (places : List Found) → CanEachBeRenamed o n start d → length d ≤ max_text → length before.moves + exchanged_count t o n d ≤ before.room → places ≡ held_places o d → IsTurnLeft before places meter
+  pub turn-begun : (places : List Held) → CanEachBeRenamed o n start d → length d ≤ max_text → length before.moves + exchanged_count t o n d ≤ before.room → places ≡ held_places o d → IsTurnLeft before places meter
   turn-begun places can few fits h = record {
     at = 0;
     ahead = record { context = start; lines = d };
@@ -121,24 +123,28 @@ module _ (t : Turn) (o n : List ℕ) (d : List LocatedLine) (before : MovesWithR
   }
 
   -- the place at an index
-  pub place-at : (now : MovesWithRoom) (places : List Found) (i : ℕ) (p : Found) (m : ℕ) → i < length places → p ≡ get_or places i p → IsTurnLeft now (drop i places) m → IsTurnThere now p (drop (i + 1) places) m
+  pub place-at : (now : MovesWithRoom) (places : List Held) (i : ℕ) (p : Held) (m : ℕ) → i < length places → p ≡ get_or places i p → IsTurnLeft now (drop i places) m → IsTurnThere now p (drop (i + 1) places) m
   place-at now places i p m h e L =
       let first : drop i places ≡ p ∷ drop (i + 1) places = drop_get places i p (sym (slice_get_read places (length places) i p refl h e)) in
-      next-place now p (drop (i + 1) places) m (subst (λ (ps : List Found). IsTurnLeft now ps m) first L)
+      next-place now p (drop (i + 1) places) m (subst (λ (ps : List Held). IsTurnLeft now ps m) first L)
 
   -- A turn at the line that a document has at a place.
-  module _ (now : MovesWithRoom) (p : Found) (ps : List Found) (m : ℕ) (l : LocatedLine) (T : IsTurnThere now p ps m) (l_is : Some l ≡ slice_get d p.at) where
+  module _ (now : MovesWithRoom) (p : Held) (ps : List Held) (m : ℕ) (l : LocatedLine) (T : IsTurnThere now p ps m) (l_is : Some l ≡ slice_get d p.place.at) where
     line-same : l ≡ T.line
     line-same = let e : Some l ≡ Some T.line = l_is ∙ T.line_is in cc
 
-    line-handed : IsHandedOut (record { context = p.context; lines = T.line ∷ T.left.lines }) T.left p.at (p.at + 1) p.context p.at l
+    line-handed : IsHandedOut (record { context = p.place.context; lines = T.line ∷ T.left.lines }) T.left p.place.at (p.place.at + 1) p.place.context p.place.at l
     line-handed =
-        handed-out (record { context = p.context; lines = T.line ∷ T.left.lines }) T.left p.at (p.at + 1) p.context p.at l refl (ap (λ (z : LocatedLine). z ∷ T.left.lines) (sym line-same))
-        (T.then_in ∙ ap (λ (z : LocatedLine). context_after_located p.context z.class) (sym line-same)) refl refl
+        handed-out (record { context = p.place.context; lines = T.line ∷ T.left.lines }) T.left p.place.at (p.place.at + 1) p.place.context p.place.at l refl (ap (λ (z : LocatedLine). z ∷ T.left.lines) (sym line-same))
+        (T.then_in ∙ ap (λ (z : LocatedLine). context_after_located p.place.context z.class) (sym line-same)) refl refl
 
     -- the line can be renamed
-    pub there-can : CanBeRenamed o n p.context l
-    there-can = subst (CanBeRenamed o n p.context) (sym line-same) T.built.can.0
+    pub there-can : CanBeRenamed o n p.place.context l
+    there-can = subst (CanBeRenamed o n p.place.context) (sym line-same) T.built.can.0
+
+    -- the count that is noted is that of its words
+    pub there-tally : p.tally ≡ tally_of o l
+    there-tally = T.tally_is ∙ ap (tally_of o) (sym line-same)
 
     -- there is room for its step
     pub there-fits : (x y : LocatedLine) → Some x ≡ (if is_exchanged t o n l then Some y else None) → length now.moves < now.room
@@ -155,19 +161,19 @@ module _ (t : Turn) (o n : List ℕ) (d : List LocatedLine) (before : MovesWithR
         go false i k = absurd (cc)
 
     -- one line on
-    pub turn-on : (after : MovesWithRoom) (k : ℕ) (r : Option LocatedLine) → r ≡ (if is_exchanged t o n l then Some (line_renamed o n p.context l) else None) → AreCounted m (if is_exchanged t o n l then 1 else 0) k
-        → k ≤ m + (if is_exchanged t o n l then 1 else 0) → m ≤ k → after ≡ with_step now p.at r → IsTurnLeft after ps k
+    pub turn-on : (after : MovesWithRoom) (k : ℕ) (r : Option LocatedLine) → r ≡ (if is_exchanged t o n l then Some (line_renamed o n p.place.context l) else None) → AreCounted m (if is_exchanged t o n l then 1 else 0) k
+        → k ≤ m + (if is_exchanged t o n l then 1 else 0) → m ≤ k → after ≡ with_step now p.place.at r → IsTurnLeft after ps k
     turn-on after k r e counted few forward w = record {
-      at = p.at + 1;
+      at = p.place.at + 1;
       ahead = T.left;
-      built = turn-stepped t o n d before meter now after p.at (p.at + 1) (record { context = p.context; lines = T.line ∷ T.left.lines }) T.left m k p.context p.at l r T.built line-handed e counted few forward w;
+      built = turn-stepped t o n d before meter now after p.place.at (p.place.at + 1) (record { context = p.place.context; lines = T.line ∷ T.left.lines }) T.left m k p.place.context p.place.at l r T.built line-handed e counted few forward w;
       lines_are = T.lines_are;
       places_are = T.places_are;
     }
 
     -- a line that could not be read is one of those ahead
     pub turn-broken : (k : ℕ) → k ≤ m + (if is_exchanged t o n l then 1 else 0) → k ≤ meter + exchanged_count t o n d
-    turn-broken k few = turn-refused t o n d before meter now p.at (p.at + 1) (record { context = p.context; lines = T.line ∷ T.left.lines }) T.left m k p.context p.at l T.built line-handed few
+    turn-broken k few = turn-refused t o n d before meter now p.place.at (p.place.at + 1) (record { context = p.place.context; lines = T.line ∷ T.left.lines }) T.left m k p.place.context p.place.at l T.built line-handed few
 
   -- A turn that is done: its steps are in the patch, and its lines are counted.
   pub record IsTurnDone (now : MovesWithRoom) (meter_now : ℕ) : Type 0 where
@@ -197,14 +203,14 @@ module _ (t : Turn) (o n : List ℕ) (d : List LocatedLine) (before : MovesWithR
           inside : Context
           inside = context_after_located c l.class
 
-          below : List Found
+          below : List Held
           below = held_places_from o (at + 1) inside ls
 
-          at-line : (b : Bool) → holds_word o l ≡ b → [] ≡ (if b then record { at = at; context = c } ∷ below else below)
+          at-line : (b : Bool) → holds_word o l ≡ b → [] ≡ (if b then held_line o at c l ∷ below else below)
               → ([] ≡ below → IsTurnBuilt t o n d before now (at + 1) (record { context = inside; lines = ls }) meter m → IsTurnDone now m) → IsTurnDone now m
           at-line true s i f = absurd (cc)
           at-line false s i f = f i (passed-by now at c l ls m s B)
 
   -- an index past all places
-  pub turn-over : (now : MovesWithRoom) (places : List Found) (i m : ℕ) → length places ≤ i → IsTurnLeft now (drop i places) m → IsTurnDone now m
-  turn-over now places i m h L = turn-done now m (subst (λ (ps : List Found). IsTurnLeft now ps m) (drop_all i places h) L)
+  pub turn-over : (now : MovesWithRoom) (places : List Held) (i m : ℕ) → length places ≤ i → IsTurnLeft now (drop i places) m → IsTurnDone now m
+  turn-over now places i m h L = turn-done now m (subst (λ (ps : List Held). IsTurnLeft now ps m) (drop_all i places h) L)

@@ -8,10 +8,10 @@ use Rattle.mk_class.specs.declared.class.Class as class
 use Rattle.mk_class.specs.declared.class.Class.TheVariants as variants
 use Rattle.mk_tree.specs.LocatedLines.{LocatedLine}
 use Rattle.mk_edit.specs.RenameTargetEffects.{effect_of_line, may_tell, no_effect}
-use Rattle.mk_edit.specs.RenameTargetPatches.{held_places_from, holds_word}
+use Rattle.mk_edit.specs.RenameTargetPatches.{held_line, held_places_from, holds_word}
 use Rattle.mk_edit.specs.declared.rename_target_effect.Effect.{Effect}
+use Rattle.mk_edit.specs.declared.rename_target_places.Held.{Held}
 use Rattle.mk_edit_parts.specs.RenamedRanges.{renamed_ranges}
-use Rattle.mk_edit_parts.specs.declared.seek.Found.{Found}
 
 -- ---- a line whose class tells nothing
 
@@ -59,20 +59,20 @@ holds-none o n c l e i h = le-ltb 0 (length (renamed_ranges o l)) (omega (arith,
 -- ---- the notes
 
 -- with the places among the lines ahead, notes are all places; the notes may have been dropped
-abbrev pub AreNoted : {X : Type 0} (items : X → List Found) → (notes : Option X) → (ahead all : List Found) → Type 0
+abbrev pub AreNoted : {X : Type 0} (items : X → List Held) → (notes : Option X) → (ahead all : List Held) → Type 0
 AreNoted items notes ahead all = IfSome notes (λ p. items p ++ ahead ≡ all)
 
-module _ {X : Type 0} (items : X → List Found) (o : List ℕ) (all : List Found) (at : ℕ) (c a : Context) (l : LocatedLine) (ahead left : List LocatedLine) (first_is : ahead ≡ l ∷ left) (then_in : a ≡ context_after_located c l.class) where
+module _ {X : Type 0} (items : X → List Held) (o : List ℕ) (all : List Held) (at : ℕ) (c a : Context) (l : LocatedLine) (ahead left : List LocatedLine) (first_is : ahead ≡ l ∷ left) (then_in : a ≡ context_after_located c l.class) where
   -- the places among the lines ahead, by whether the first of them holds the word
-  abbrev with_first : Bool → List Found
+  abbrev with_first : Bool → List Held
   with_first b =
       let below = held_places_from o (at + 1) a left in
-      if b then record { at = at; context = c } ∷ below else below
+      if b then held_line o at c l ∷ below else below
 
   places-first : (b : Bool) → holds_word o l ≡ b → held_places_from o at c ahead ≡ with_first b
   places-first b h =
       ap (held_places_from o at c) first_is
-      ∙ (ap (λ z. if holds_word o l then record { at = at; context = c } ∷ held_places_from o (at + 1) z left else held_places_from o (at + 1) z left) (sym then_in)
+      ∙ (ap (λ z. if holds_word o l then held_line o at c l ∷ held_places_from o (at + 1) z left else held_places_from o (at + 1) z left) (sym then_in)
       ∙ ap with_first h)
 
   -- one line on, which does not hold the word
@@ -80,20 +80,20 @@ module _ {X : Type 0} (items : X → List Found) (o : List ℕ) (all : List Foun
   notes-kept None h k = tt
   notes-kept (Some p) h k = ap (λ z. items p ++ z) (sym (places-first false h)) ∙ k
 
-  -- one line on, which holds the word: its place is noted, or the notes are dropped
-  pub notes-more : (before after : Option X) (place : Found) → place ≡ record { at = at; context = c } → holds_word o l ≡ true → IfSome after (λ q. Some (items q) ≡ option_map (λ p. items p ++ place ∷ []) before)
+  -- one line on, which holds the word: its place and its count are noted, or the notes are dropped
+  pub notes-more : (before after : Option X) (held : Held) → held ≡ held_line o at c l → holds_word o l ≡ true → IfSome after (λ q. Some (items q) ≡ option_map (λ p. items p ++ held ∷ []) before)
       → AreNoted items before (held_places_from o at c ahead) all → AreNoted items after (held_places_from o (at + 1) a left) all
-  notes-more before None place e h w k = tt
-  notes-more None (Some q) place e h w k = absurd (cc)
-  notes-more (Some p) (Some q) place e h w k =
+  notes-more before None held e h w k = tt
+  notes-more None (Some q) held e h w k = absurd (cc)
+  notes-more (Some p) (Some q) held e h w k =
       let below = held_places_from o (at + 1) a left in
-      let i : items q ≡ items p ++ place ∷ [] = cc in
-      ap (λ z. z ++ below) (i ∙ ap (λ (z : Found). items p ++ z ∷ []) e)
-      ∙ (append_assoc (items p) (record { at = at; context = c } ∷ []) below
+      let i : items q ≡ items p ++ held ∷ [] = cc in
+      ap (λ z. z ++ below) (i ∙ ap (λ (z : Held). items p ++ z ∷ []) e)
+      ∙ (append_assoc (items p) (held_line o at c l ∷ []) below
       ∙ (ap (λ z. items p ++ z) (sym (places-first true h)) ∙ k))
 
 -- at the end of the walk
-pub notes-all : {X : Type 0} (items : X → List Found) (o : List ℕ) (all : List Found) (at : ℕ) (c : Context) (ahead : List LocatedLine) (notes : Option X) → ahead ≡ [] → AreNoted items notes (held_places_from o at c ahead) all
+pub notes-all : {X : Type 0} (items : X → List Held) (o : List ℕ) (all : List Held) (at : ℕ) (c : Context) (ahead : List LocatedLine) (notes : Option X) → ahead ≡ [] → AreNoted items notes (held_places_from o at c ahead) all
     → IfSome notes (λ p. items p ≡ all)
 notes-all items o all at c ahead None s k = tt
 notes-all items o all at c ahead (Some p) s k = sym (append-nil (items p)) ∙ (ap (λ z. items p ++ held_places_from o at c z) (sym s) ∙ k)

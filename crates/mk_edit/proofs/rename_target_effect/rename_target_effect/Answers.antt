@@ -6,6 +6,7 @@ use Rattle.mk_tree.specs.TreeWalks.{LinesInContext}
 use Rattle.mk_tree.specs.Trees.{line_view}
 use Rattle.mk_edit.specs.RenameTargetEffects.{effect_on, may_tell, no_effect}
 use Rattle.mk_edit.specs.RenameTargetPatches.{HasFewWords, HaveFewWords, held_places}
+use Rattle.mk_edit_parts.specs.declared.tally.Tally.{Tally}
 use Rattle.mk_edit.proofs.on_renaming.PlacesNoted.{holds-none, holds-some, notes-all, notes-kept, notes-more, passed-over}
 use Rattle.mk_edit.proofs.on_renaming.SizesOfEffects.{joined-none, walk-from, room-ahead, walk-on, walk-over, effect-bytes}
 use Rattle.mk_edit.proofs.rename_target_effect.rename_target_effect.Goals as goal
@@ -26,6 +27,21 @@ lines-init g c =
       omega arith,
       ap (λ z. z ++ held_places c.args.from.now c.args.doc.now) c.new.ensures.items,
     )
+
+pub count_words-tally-requires-clause-classed : goal.count_words-tally-requires-clause-classed
+count_words-tally-requires-clause-classed g c =
+    let few : HasFewWords c.args.from.now (line_view c.in-Some.line.now) × HaveFewWords c.args.from.now c.next.new.self = subst (HaveFewWords c.args.from.now) c.in-Some.ensures.steps c.lines.invariant.2 in
+    few.0.classed
+
+pub count_words-tally-requires-clause-few : goal.count_words-tally-requires-clause-few
+count_words-tally-requires-clause-few g c =
+    let few : HasFewWords c.args.from.now (line_view c.in-Some.line.now) × HaveFewWords c.args.from.now c.next.new.self = subst (HaveFewWords c.args.from.now) c.in-Some.ensures.steps c.lines.invariant.2 in
+    few.0.few
+
+pub count_words-tally-requires-clause-few_bytes : goal.count_words-tally-requires-clause-few_bytes
+count_words-tally-requires-clause-few_bytes g c =
+    let few : HasFewWords c.args.from.now (line_view c.in-Some.line.now) × HaveFewWords c.args.from.now c.next.new.self = subst (HaveFewWords c.args.from.now) c.in-Some.ensures.steps c.lines.invariant.2 in
+    few.0.few_bytes
 
 pub effect_of_line-of_line-requires-clause-few_words : goal.effect_of_line-of_line-requires-clause-few_words
 effect_of_line-of_line-requires-clause-few_words g c =
@@ -78,7 +94,7 @@ lines-preserved-then-of_line-gt0 g c =
       subst (λ (z : Context). AreAdmitted z rest) (sym k) admitted.1,
       walk-on o n c.lines.effect c.effect_of_line-of_line.result c.joined-effect.result (effect_on o n start c.args.doc.now) x x c.step.result l c.lines.line-iterator rest c.joined-effect.ensures c.effect_of_line-of_line.ensures refl s k c.lines.invariant.4,
       omega (arith, c.lines.invariant.5, ap length s),
-      notes-more (λ p. p.items) o (held_places o c.args.doc.now) c.lines.next.at x c.step.result l c.lines.line-iterator rest s k c.lines.places c.noted-places.result c.lines.next refl (holds-some o n x l c.effect_of_line-of_line.result c.effect_of_line-of_line.ensures c.if-of_line-gt0.true) c.noted-places.ensures c.lines.invariant.6,
+      notes-more (λ p. p.items) o (held_places o c.args.doc.now) c.lines.next.at x c.step.result l c.lines.line-iterator rest s k c.lines.places c.noted-places.result (record { place = c.lines.next; tally = c.count_words-tally.result }) (ap (λ (t : Tally). record { place = c.lines.next; tally = t }) c.count_words-tally.ensures) (holds-some o n x l c.effect_of_line-of_line.result c.effect_of_line-of_line.ensures c.if-of_line-gt0.true) c.noted-places.ensures c.lines.invariant.6,
     )
 
 pub lines-preserved-else-of_line-gt0 : goal.lines-preserved-else-of_line-gt0

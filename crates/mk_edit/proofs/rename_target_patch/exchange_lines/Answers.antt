@@ -2,7 +2,7 @@ use Rattle.std.proofs.Common.{◌∙◌, arith, ap, sym, Some, None, option_map}
 use Rattle.std.proofs.lemmas.Option.{slice_get_within}
 use Rattle.mk_tree.specs.Trees.{line_view}
 use Rattle.mk_edit.proofs.on_renaming.PatchLoops.{no-steps}
-use Rattle.mk_edit.proofs.on_renaming.PlacesLeft.{place-at, there-can, there-fits, turn-begun, turn-broken, turn-on, turn-over}
+use Rattle.mk_edit.proofs.on_renaming.PlacesLeft.{place-at, there-can, there-fits, there-tally, turn-begun, turn-broken, turn-on, turn-over}
 use Rattle.mk_edit.proofs.rename_target_patch.exchange_lines.Goals as goal
 use Rattle.mk_edit.proofs.rename_target_patch.exchange_lines.Goals.{in-Some, in_default}
 
@@ -14,27 +14,27 @@ places-init g c = turn-begun c.args.batch.turn c.args.from.now c.args.to.now c.a
 
 pub line-line-requires : goal.line-line-requires
 line-line-requires g c =
-    let T = place-at _ _ _ _ _ _ _ c.args.places.now c.places.place-index c.place-item.result _ c.places-test.true c.place-item.is c.places.invariant in
-    slice_get_within c.args.doc.now c.place-item.result.at T.line T.line_is
+    let T = place-at _ _ _ _ _ _ _ c.args.places.now c.places.held-index c.held-item.result _ c.places-test.true c.held-item.is c.places.invariant in
+    slice_get_within c.args.doc.now c.held-item.result.place.at T.line T.line_is
 
 pub line_of_turn-requires : goal.line_of_turn-requires
 line_of_turn-requires g c =
-    let T = place-at _ _ _ _ _ _ _ c.args.places.now c.places.place-index c.place-item.result _ c.places-test.true c.place-item.is c.places.invariant in
-    record { can = there-can _ _ _ _ _ _ _ _ _ _ _ T c.line-line.ensures }
+    let T = place-at _ _ _ _ _ _ _ c.args.places.now c.places.held-index c.held-item.result _ c.places-test.true c.held-item.is c.places.invariant in
+    record { can = there-can _ _ _ _ _ _ _ _ _ _ _ T c.line-line.ensures; tally = there-tally _ _ _ _ _ _ _ _ _ _ _ T c.line-line.ensures }
 
 pub returns-in_err-renamed-clause-few_read : goal.returns-in_err-renamed-clause-few_read
 returns-in_err-renamed-clause-few_read g c =
-    let T = place-at _ _ _ _ _ _ _ c.args.places.now c.places.place-index c.place-item.result _ c.places-test.true c.place-item.is c.places.invariant in
+    let T = place-at _ _ _ _ _ _ _ c.args.places.now c.places.held-index c.held-item.result _ c.places-test.true c.held-item.is c.places.invariant in
     turn-broken _ _ _ _ _ _ _ _ _ _ _ T c.line-line.ensures _ c.line_of_turn.ensures.few_read
 
 pub push-requires : goal.push-requires
 push-requires g c =
-    let T = place-at _ _ _ _ _ _ _ c.args.places.now c.places.place-index c.place-item.result _ c.places-test.true c.place-item.is c.places.invariant in
+    let T = place-at _ _ _ _ _ _ _ c.args.places.now c.places.held-index c.held-item.result _ c.places-test.true c.held-item.is c.places.invariant in
     there-fits _ _ _ _ _ _ _ _ _ _ _ T c.line-line.ensures (line_view c.in-Some.renamed) _ (ap (option_map line_view) (sym c.in-Some.is) ∙ c.in_ok-renamed.ensures.line)
 
 pub places-preserved : goal.places-preserved
 places-preserved g c =
-    let T = place-at _ _ _ _ _ _ _ c.args.places.now c.places.place-index c.place-item.result _ c.places-test.true c.place-item.is c.places.invariant in
+    let T = place-at _ _ _ _ _ _ _ c.args.places.now c.places.held-index c.held-item.result _ c.places-test.true c.held-item.is c.places.invariant in
     let on = turn-on _ _ _ _ _ _ _ _ _ _ _ T c.line-line.ensures in
     let made = c.in_ok-renamed.ensures in
     elim c.match-renamed.branch [
@@ -43,7 +43,7 @@ places-preserved g c =
     ]
 
 pub returns-clause-moves : goal.returns-clause-moves
-returns-clause-moves g c = (turn-over _ _ _ _ _ _ _ c.args.places.now c.places.place-index _ c.places-test.false c.places.invariant).moves
+returns-clause-moves g c = (turn-over _ _ _ _ _ _ _ c.args.places.now c.places.held-index _ c.places-test.false c.places.invariant).moves
 
 pub returns-clause-counted : goal.returns-clause-counted
-returns-clause-counted g c = (turn-over _ _ _ _ _ _ _ c.args.places.now c.places.place-index _ c.places-test.false c.places.invariant).counted
+returns-clause-counted g c = (turn-over _ _ _ _ _ _ _ c.args.places.now c.places.held-index _ c.places-test.false c.places.invariant).counted

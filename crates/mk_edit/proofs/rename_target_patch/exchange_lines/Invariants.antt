@@ -4,4 +4,4 @@ use Rattle.mk_edit.proofs.on_renaming.PlacesLeft.{IsTurnLeft}
 use Rattle.mk_edit.proofs.rename_target_patch.exchange_lines.Given as goal
 
 abbrev pub invariant-places : goal.invariant-places
-invariant-places g l = IsTurnLeft l.batch.turn l.from l.to l.doc l.initial.patch l.initial.meter l.patch (drop l.place-index l.places) l.meter
+invariant-places g l = IsTurnLeft l.batch.turn l.from l.to l.doc l.initial.patch l.initial.meter l.patch (drop l.held-index l.places) l.meter
