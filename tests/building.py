@@ -169,11 +169,23 @@ def make_fails_where_a_crate_is_refused(room):
         yield "the program is there"
 
 
-@check
-def a_program_is_linked_with_the_c_library_in_it(room):
+def tree_to_link(room):
+    """A copy of what builds, and where a program goes in it that is linked again."""
     tree = Tree(room, WHOLE)
     built = tree.top / BUILT
     built.parent.mkdir()
+    return tree, built
+
+
+def links(tree, said):
+    """Links the program again, and says how this differs from what is said, and what the program prints."""
+    yield from tree.differs((said, "", 0), tree.run("tools/link", BUILT, PROGRAM))
+    yield from tree.differs(("mkedit 1\n", "", 0), tree.run(PROGRAM))
+
+
+@check
+def a_program_is_linked_with_the_c_library_in_it(room):
+    tree, built = tree_to_link(room)
     (tree.names.parent / "c").mkdir()
     for name in ("libos_c.a", "liblibc_c.a"):
         (tree.names.parent / "c" / name).write_text(NO_MEMBERS)
@@ -182,21 +194,17 @@ def a_program_is_linked_with_the_c_library_in_it(room):
         return
     yield from tree.differs(("", "", 0), tree.run("cc", "-fPIE", "-c", "-o", f"{BUILT}.o", "main.c"))
     yield from tree.differs(("", "", 0), tree.run("cc", "-o", BUILT, f"{BUILT}.o"))
-    yield from tree.differs((LINKED, "", 0), tree.run("tools/link", BUILT, PROGRAM))
-    yield from tree.differs(("mkedit 1\n", "", 0), tree.run(PROGRAM))
+    yield from links(tree, LINKED)
     if LOADER not in built.read_bytes() or LOADER in (tree.top / PROGRAM).read_bytes():
         yield "the loader is asked for by another program"
 
 
 @check
 def a_program_is_copied_where_it_cannot_be_linked(room):
-    tree = Tree(room, WHOLE)
-    built = tree.top / BUILT
-    built.parent.mkdir()
+    tree, built = tree_to_link(room)
     built.write_text("#!/bin/sh\necho mkedit 1\n")
     built.chmod(0o755)
-    yield from tree.differs((COPIED, "", 0), tree.run("tools/link", BUILT, PROGRAM))
-    yield from tree.differs(("mkedit 1\n", "", 0), tree.run(PROGRAM))
+    yield from links(tree, COPIED)
     (built.parent / "mkedit.o").write_text("no object file")
     (tree.top / PROGRAM).unlink()
     got = tree.run("tools/link", BUILT, PROGRAM)
