@@ -1,9 +1,12 @@
 -- The lines of a text, read one after the other.
-use Rattle.std.proofs.Common.{◌≡◌, ◌≢◌, ℕ, suc, ◌+◌, ◌-◌, ◌^◌, ◌<◌, ◌≤◌, refl, sym, ap, ◌∙◌, subst, arith, List, [], ◌∷◌, ◌++◌, length, take, drop, length-append, append_assoc, append-nil}
+use Rattle.std.proofs.Common.{◌≡◌, ◌≢◌, ℕ, suc, ◌+◌, ◌-◌, ◌^◌, ◌<◌, ◌≤◌, ◌||◌, Bool, false, refl, sym, ap, ◌∙◌, subst, arith, List, [], ◌∷◌, ◌++◌, length, take, drop, length-append, append_assoc, append-nil}
 use Rattle.std.specs.Prelude.{Result, Ok, Err, IsErr, IsErrAnd, IfErr, slice_range}
 use Rattle.std.proofs.Math.Seq.{take-length}
 use Rattle.std.proofs.Math.Nat.{add-sub_cancel_left}
+use Rattle.std.specs.List.{list_any}
+use Rattle.std.proofs.Math.Bool.{or-false, or_assoc}
 use Rattle.std.proofs.lemmas.List.{drop-drop, length-drop, length-map}
+use Rattle.std.proofs.lemmas.List.Folds.{list_any-append}
 use Rattle.mk_lines.specs.Limits.{max_text}
 use Rattle.mk_lines.specs.Spans.{Tiles}
 use Rattle.mk_lines.specs.LogicalLines.{logical_lines}
@@ -22,13 +25,15 @@ use Rattle.mk_class.proofs.on_classes.ClassLemmas.{class_of-counts}
 use Rattle.mk_class.specs.ClassedLines.{ClassedLine, classed}
 use Rattle.mk_class.specs.LineReads.{IsLineRead, IsPlain}
 use Rattle.mk_class.specs.LineReads as line_reads
-use Rattle.mk_tree.specs.LocatedLines.{LocatedLine, located_lines, size_of, AreConditionalsFit}
+use Rattle.mk_tree.specs.LocatedLines.{LocatedLine, located_lines, context_after_located_lines, size_of, AreConditionalsFit}
 use Rattle.mk_tree.proofs.on_documents.DocumentLemmas.{faithful-text}
 use Rattle.mk_tree.specs.Documents.{document_lines, most_conditionals, IsTooDeep}
 use Rattle.mk_lines.specs.declared.fault.Fault.{Fault}
 use Rattle.mk_lines.specs.declared.fault.Fault.TheVariants.{NoMemory, TooLong, TooDeep, BadDepth, Read, Write}
 use Rattle.mk_tree.specs.Faults.{IsReadingFault}
 use Rattle.mk_tree.specs.Unread.{UnreadLines, shown_lines, AreTooDeep, AreReadFrom}
+use Rattle.mk_tree.specs.UnreadPrefixes.{IsEndOf, is_unread_located}
+use Rattle.mk_tree.specs.declared.end.End.{End}
 use Rattle.mk_tree.specs.Plain.{IsClean, IsFirstLine, IsOneLine}
 use Rattle.mk_tree.proofs.PlainLines.{plain-line}
 use Rattle.mk_tree.proofs.AdmissionLemmas.{length-classed}
@@ -82,9 +87,9 @@ pub clean-further : (t : List ℕ) (at later clean : ℕ) → at ≤ later → I
 clean-further t at later clean order h k above below = h k (omega arith) below
 
 -- the unread lines before a line is read, seen by that line
-pub next-seen : (t : List ℕ) (n at : ℕ) (c : Context) (old : UnreadLines) → IsNext t at n → record { context = c; lines = logical_lines (drop at t) } ≡ old
-    → record { context = c; lines = slice_range t at (at + n) ∷ logical_lines (drop (at + n) t) } ≡ old
-next-seen t n at c old next seen = ap (λ ls. record { context = c; lines = ls }) (sym next.lines) ∙ seen
+pub next-seen : (t : List ℕ) (n at : ℕ) (c : Context) (u : Bool) (old : UnreadLines) → IsNext t at n → record { context = c; has_unread_prefix = u; lines = logical_lines (drop at t) } ≡ old
+    → record { context = c; has_unread_prefix = u; lines = slice_range t at (at + n) ∷ logical_lines (drop (at + n) t) } ≡ old
+next-seen t n at c u old next seen = ap (λ ls. record { context = c; has_unread_prefix = u; lines = ls }) (sym next.lines) ∙ seen
 
 -- ---- conditionals
 
@@ -121,33 +126,49 @@ opens-deep n k rest h = subst (λ z. 256 < most_conditionals (conditionals_after
 located-same : (l k : LocatedLine) → l.bytes ≡ k.bytes → l.class ≡ k.class → l ≡ k
 located-same l k b c = ap (λ z. record { bytes = z; class = l.class }) b ∙ ap (λ z. record { bytes = k.bytes; class = z }) c
 
-pub read-first : (c after : Context) (l : List ℕ) (rest : List (List ℕ)) (x : LocatedLine) → x.bytes ≡ l → IsLineRead c l x.class after
-    → AreReadFrom (record { context = c; lines = l ∷ rest }) (x ∷ []) (record { context = after; lines = rest })
-read-first c after l rest x b (v, e, few) =
+pub read-first : (c after : Context) (u v : Bool) (l : List ℕ) (rest : List (List ℕ)) (x : LocatedLine) → x.bytes ≡ l → IsLineRead c l x.class after → v ≡ (u || is_unread_located x)
+    → AreReadFrom (record { context = c; has_unread_prefix = u; lines = l ∷ rest }) (x ∷ []) (record { context = after; has_unread_prefix = v; lines = rest })
+read-first c after u v l rest x b (k_is, e, few) told =
     let k = class_of c l in
     let here : LocatedLine = record { bytes = l; class = located_class joined_byte k } in
     let next = context_after c k in
     let located : context_after_located c (located_class joined_byte k) ≡ next = refl in
-    let read : AreReadFrom (record { context = c; lines = l ∷ rest }) (x ∷ []) (record { context = next; lines = rest }) = record {
-      all = ap (λ z. z ∷ located_lines (classed next rest)) (located-same x here b v);
+    let old : UnreadLines = record { context = c; has_unread_prefix = u; lines = l ∷ rest } in
+    let read : AreReadFrom old (x ∷ []) (record { context = next; has_unread_prefix = v; lines = rest }) = record {
+      all = ap (λ z. z ∷ located_lines (classed next rest)) (located-same x here b k_is);
       fit = λ h. (conditionals-fit c.conditionals c.defines k (class_of-counts c l) few, subst (λ (z : Context). AreConditionalsFit z.conditionals (located_lines (classed next rest))) (sym located) h);
       deep = λ h. omega (arith, h);
+      context_is = sym located ∙ ap (context_after_located c) (sym k_is);
+      unread_is = told ∙ ap (λ z. u || z) (sym (or-false (is_unread_located x)));
     } in
-    subst (λ z. AreReadFrom (record { context = c; lines = l ∷ rest }) (x ∷ []) (record { context = z; lines = rest })) (sym e) read
+    subst (λ z. AreReadFrom old (x ∷ []) (record { context = z; has_unread_prefix = v; lines = rest })) (sym e) read
 
 -- a line that opens a conditional too many
-pub first-deep : (c : Context) (l : List ℕ) (rest : List (List ℕ)) → line_reads.OpensTooDeep c l → AreTooDeep (record { context = c; lines = l ∷ rest })
-first-deep c l rest h =
+pub first-deep : (c : Context) (u : Bool) (l : List ℕ) (rest : List (List ℕ)) → line_reads.OpensTooDeep c l → AreTooDeep (record { context = c; has_unread_prefix = u; lines = l ∷ rest })
+first-deep c u l rest h =
     omega (arith, opens-deep c.conditionals (class_of c l) (classed (context_after c (class_of c l)) rest) h)
+
+-- the context after some lines and others
+context_after-append : (c : Context) (ls ks : List LocatedLine) → context_after_located_lines c (ls ++ ks) ≡ context_after_located_lines (context_after_located_lines c ls) ks
+context_after-append c [] ks = refl
+context_after-append c (l ∷ ls) ks = context_after-append (context_after_located c l.class) ls ks
+
+-- lines were read, and then others
+pub read-then : (first second last : UnreadLines) (left right : List LocatedLine) → AreReadFrom first left second → AreReadFrom second right last → AreReadFrom first (left ++ right) last
+read-then first second last left right a b =
+    let told = list_any is_unread_located in record {
+      all = append_assoc left right (shown_lines last) ∙ (ap (λ z. left ++ z) b.all ∙ a.all);
+      fit = λ h. a.fit (b.fit h);
+      deep = λ h. a.deep (b.deep h);
+      context_is = b.context_is ∙ (ap (λ z. context_after_located_lines z right) a.context_is ∙ sym (context_after-append first.context left right));
+      unread_is = b.unread_is ∙ (ap (λ z. z || told right) a.unread_is
+          ∙ (or_assoc first.has_unread_prefix (told left) (told right) ∙ ap (λ z. first.has_unread_prefix || z) (sym (list_any-append is_unread_located left right))));
+    }
 
 -- some lines were read, then one line, and then others
 pub read-joined : (first second third last : UnreadLines) (left right : List LocatedLine) (x : LocatedLine) → AreReadFrom first left second → AreReadFrom second (x ∷ []) third → AreReadFrom third right last
     → AreReadFrom first (left ++ x ∷ right) last
-read-joined first second third last left right x a b d = record {
-  all = append_assoc left (x ∷ right) (shown_lines last) ∙ (ap (λ z. left ++ x ∷ z) d.all ∙ (ap (λ z. left ++ z) b.all ∙ a.all));
-  fit = λ h. a.fit (b.fit (d.fit h));
-  deep = λ h. a.deep (b.deep (d.deep h));
-}
+read-joined first second third last left right x a b d = read-then first second last left (x ∷ right) a (read-then second third last (x ∷ []) right b d)
 
 -- the lines that are left have at most as many bytes as all lines
 pub left-fits : (old left : UnreadLines) (read : List LocatedLine) → AreReadFrom old read left → size_of (shown_lines old) ≤ max_text → size_of (shown_lines left) ≤ max_text
@@ -164,7 +185,7 @@ pub read-some : (old left : UnreadLines) (x : LocatedLine) → AreReadFrom old (
 read-some old left x h e = omega (arith, ap length (h.all ∙ ap (λ ls. located_lines (classed old.context ls)) e))
 
 -- a text within the limit has fewer lines than a full tree of 25 levels
-none-left : (text : List ℕ) (left : UnreadLines) (read : List LocatedLine) (height : ℕ) → length text ≤ max_text → AreReadFrom (record { context = start; lines = logical_lines text }) read left
+none-left : (text : List ℕ) (left : UnreadLines) (read : List LocatedLine) (height : ℕ) → length text ≤ max_text → AreReadFrom (record { context = start; has_unread_prefix = false; lines = logical_lines text }) read left
     → (left.lines ≢ [] → (height ≡ 25) × (2 ^ 25 ≤ length read + 1)) → left.lines ≡ []
 none-left text left read height short h full = go left.lines refl
   where
@@ -176,15 +197,23 @@ none-left text left read height short h full = go left.lines refl
     go (l ∷ ls) some = absurd (omega (arith, few, (full (λ none. omega (arith, ap length (sym some ∙ none)))).1))
 
 -- a tree that is read up to 25 levels has all lines of a text within the limit
-pub read-all : (text : List ℕ) (old left : UnreadLines) (read : List LocatedLine) (height : ℕ) → length text ≤ max_text → old ≡ record { context = start; lines = logical_lines text } → AreReadFrom old read left
+pub read-all : (text : List ℕ) (old left : UnreadLines) (read : List LocatedLine) (height : ℕ) → length text ≤ max_text → old ≡ record { context = start; has_unread_prefix = false; lines = logical_lines text } → AreReadFrom old read left
     → (left.lines ≢ [] → (height ≡ 25) × (2 ^ 25 ≤ length read + 1)) → (read ≡ document_lines text) × AreConditionalsFit 0 (document_lines text)
 read-all text old left read height short e h full =
-    let whole : AreReadFrom (record { context = start; lines = logical_lines text }) read left = subst (λ z. AreReadFrom z read left) e h in
+    let whole : AreReadFrom (record { context = start; has_unread_prefix = false; lines = logical_lines text }) read left = subst (λ z. AreReadFrom z read left) e h in
     let none = none-left text left read height short whole full in
     let empty : shown_lines left ≡ [] = ap (λ z. located_lines (classed left.context z)) none in (
       sym (append-nil read) ∙ (ap (λ z. read ++ z) (sym empty) ∙ whole.all),
       whole.fit (subst (AreConditionalsFit left.context.conditionals) (sym empty) tt),
     )
+
+-- what the lines that were read leave is where they end
+pub end-read : (text : List ℕ) (old left : UnreadLines) (read : List LocatedLine) (end : End) → old ≡ record { context = start; has_unread_prefix = false; lines = logical_lines text } → AreReadFrom old read left
+    → end ≡ record { context = left.context; has_unread_prefix = left.has_unread_prefix } → IsEndOf read end
+end-read text old left read end e h same = record {
+  context_is = ap (λ (z : End). z.context) same ∙ (h.context_is ∙ ap (λ (z : UnreadLines). context_after_located_lines z.context read) e);
+  unread_is = ap (λ (z : End). z.has_unread_prefix) same ∙ (h.unread_is ∙ ap (λ (z : UnreadLines). z.has_unread_prefix || list_any is_unread_located read) e);
+}
 
 -- ---- the whole text
 

@@ -20,6 +20,7 @@ pub mod TreeWalks
 pub mod Origins
 pub mod Admissions
 pub mod Plain
+pub mod UnreadPrefixes
 pub mod Unread
 pub mod Printing
 -- Statements of laws

@@ -2,6 +2,7 @@
 //!
 //! - [`document`]: the document, and the calls that change its lines.
 //! - [`parse`]: a document made of a text.
+//! - [`end`]: what is known where the lines of a document end.
 //! - [`iter`]: the lines of a document in order.
 //! - [`walk`]: the lines of a document in order, each with its context.
 //! - [`tree`]: the balanced tree that the lines stand in, and a line by itself.
@@ -12,6 +13,7 @@
 mod content;
 mod contexts;
 pub mod document;
+pub mod end;
 pub mod gathering;
 pub mod iter;
 pub mod laws;
@@ -27,6 +29,7 @@ mod unread;
 pub mod walk;
 
 pub use document::Doc;
+pub use end::End;
 pub use iter::Lines;
 pub use line_bytes::LineBytes;
 pub use tree::Line;

@@ -7,8 +7,10 @@ ghost use Rattle.mk_tree.specs.Faults.{IsParsingFault, IsReadingFault};
 ghost use Rattle.mk_tree.specs.Documents.{IsFaithful, IsFaithfulTo, IsTooDeep};
 ghost use Rattle.mk_tree.specs.LocatedLines.{size_of};
 ghost use Rattle.mk_tree.specs.Unread.{AreReadFrom, AreTooDeep, shown_lines};
+ghost use Rattle.mk_tree.specs.UnreadPrefixes.{IsEndOf};
 
 use crate::document::Doc;
+use crate::end::End;
 use crate::origin::Origin;
 use crate::tree::Tree;
 use crate::unread::Unread;
@@ -68,6 +70,34 @@ impl<A: Allocator + Copy> Doc<A> {
         ensures forward { meter.old ≤ meter.new }
         ensures few_read { meter.new ≤ meter.old + length (logical_lines text.items) }
     {
+        let (doc, _) = Doc::parse_with_end(alloc, text, meter)?;
+        Ok(doc)
+    }
+
+    /// The document of a text, as [`Doc::parse_vec`] gives it, and where its lines end. The end
+    /// costs no walk: it is noted while the lines are read.
+    ///
+    /// # Errors
+    ///
+    /// The errors of [`Doc::parse`].
+    pub fn parse_with_end(
+        alloc: A,
+        text: Vec<u8, A>,
+        meter: &mut Meter,
+    ) -> Result<(Doc<A>, End), Fault>
+        ensures long { max_text < length text.items
+            → IsErrAnd result (λ fault. fault ≡ Fault.TooLong) }
+        ensures faithful { IfOk result (λ r. IsFaithfulTo r.0 text.items) }
+        ensures own { IfOk result (λ r. IsFaithful r.0) }
+        ensures end { IfOk result (λ r. IsEndOf r.0 r.1) }
+        ensures short { IfOk result (λ _. length text.items ≤ max_text) }
+        ensures shallow { IfOk result (λ _. IsTooDeep text.items → ⊥) }
+        ensures fault { IfErr result (λ fault.
+            IsParsingFault (max_text < length text.items) (IsTooDeep text.items) fault) }
+        ensures counted { IfOk result (λ r. AreCounted meter.old (length r.0) meter.new) }
+        ensures forward { meter.old ≤ meter.new }
+        ensures few_read { meter.new ≤ meter.old + length (logical_lines text.items) }
+    {
         if text.len() > MAX_TEXT {
             return Err(Fault::TooLong);
         }
@@ -75,8 +105,9 @@ impl<A: Allocator + Copy> Doc<A> {
         let text = RcSlice::from_vec(text)?;
         let mut lines = Unread::new(alloc, &text);
         let tree = read_tree(&mut lines, BOUND_OF_HEIGHT, meter)?;
+        let end = lines.end();
         let origin = Origin::new(text, tree.len());
-        Ok(Doc { tree, size, origin })
+        Ok((Doc { tree, size, origin }, end))
     }
 }
 

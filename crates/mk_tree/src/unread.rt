@@ -1,5 +1,5 @@
 //! The lines of a text that are still to be read.
-ghost use Rattle.std.specs.Prelude.{◌≡◌, ◌+◌, ◌-◌, ◌^◌, ◌<◌, ◌≤◌, ◌∷◌, [], IfErr, IfOk, MatchOption, OnOk, length, min};
+ghost use Rattle.std.specs.Prelude.{◌≡◌, ◌+◌, ◌-◌, ◌^◌, ◌<◌, ◌≤◌, ◌∷◌, [], false, IfErr, IfOk, MatchOption, OnOk, length, min};
 ghost use Rattle.std.specs.Rc.{rc_slice_items};
 ghost use Rattle.mk_lines.specs.Limits.{max_text};
 ghost use Rattle.mk_lines.specs.LogicalLines.{logical_lines};
@@ -8,6 +8,7 @@ ghost use Rattle.mk_tree.specs.Faults.{IsReadingFault};
 ghost use Rattle.mk_tree.specs.Trees.{line_view};
 ghost use Rattle.mk_tree.specs.Unread.{AreReadFrom, AreTooDeep};
 
+use crate::end::{End, sets_prefix_unread};
 use crate::line_bytes::LineBytes;
 use crate::plain::{clean_up_to, first_line};
 use crate::read::read_line;
@@ -20,7 +21,8 @@ use std::marker::Model;
 use std::rc::RcSlice;
 
 /// The lines of a text from some line on, each read in the context of the lines before it.
-/// Contracts see the lines, and the context of the first line.
+/// Contracts see the lines, the context of the first line, and whether a line before it sets the
+/// recipe prefix in a way that is not read.
 ///
 /// A line is cut from the text when it is read. A list of all lines would take 16 bytes for each
 /// line, beside the text and the lines that were read.
@@ -32,7 +34,8 @@ pub(crate) struct Unread<'a, A: Allocator> {
     at: usize,
     // from there up to this offset the text has no NUL and no carriage return
     clean: usize,
-    context: Context,
+    // what the lines that were read leave
+    end: End,
 }
 
 impl<'a, A: Allocator> Model for Unread<'a, A> {
@@ -44,27 +47,44 @@ impl<'a, A: Allocator> Model for Unread<'a, A> {
     ghost Value = { UnreadLines };
 
     ghost view = { λ u. record {
-      context = u.context;
+      context = u.end.context;
+      has_unread_prefix = u.end.has_unread_prefix;
       lines = logical_lines (drop u.at (rc_slice_items u.text.now));
     } };
 
-    ghost invariant = { λ u. AreUnread (rc_slice_items u.text.now) u.at u.clean u.context };
+    ghost invariant = { λ u. AreUnread (rc_slice_items u.text.now) u.at u.clean u.end.context };
 }
 
 impl<'a, A: Allocator + Copy> Unread<'a, A> {
     /// All lines of a text.
     pub(crate) fn new(alloc: A, text: &'a RcSlice<u8, A>) -> Unread<'a, A>
         requires { length (rc_slice_items text.now) ≤ max_text }
-        ensures { result
-            ≡ record { context = start; lines = logical_lines (rc_slice_items text.now) } }
+        ensures { result ≡ record {
+          context = start;
+          has_unread_prefix = false;
+          lines = logical_lines (rc_slice_items text.now);
+        } }
     {
         Unread {
             alloc,
             text,
             at: 0,
             clean: 0,
-            context: Context::start(),
+            end: End {
+                context: Context::start(),
+                has_unread_prefix: false,
+            },
         }
+    }
+
+    /// What the lines that were read leave. After the last line, this is where the text ends.
+    pub(crate) fn end(&self) -> End
+        ensures { result ≡ record {
+          context = self.now.context;
+          has_unread_prefix = self.now.has_unread_prefix;
+        } }
+    {
+        self.end
     }
 
     /// Reads the first line, or answers `None` if no line is left. The call adds one to the meter
@@ -91,8 +111,10 @@ impl<'a, A: Allocator + Copy> Unread<'a, A> {
         self.at = end;
         let is_plain = first.is_physical && end <= clean;
         let bytes = LineBytes::of_text(self.text, Span { start, end })?;
-        let (line, after) = read_line(self.alloc, bytes, is_plain, self.context, meter)?;
-        self.context = after;
+        let (line, after) = read_line(self.alloc, bytes, is_plain, self.end.context, meter)?;
+        self.end.context = after;
+        let class = line.class();
+        self.end.has_unread_prefix |= sets_prefix_unread(&line, &class);
         Ok(Some(line))
     }
 }

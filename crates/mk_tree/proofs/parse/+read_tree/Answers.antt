@@ -19,3 +19,9 @@ returns-clause-full g t c some =
     let line = rw c.in-Some.is at c.in_ok-line.ensures.read in
     let left = c.in_ok-left.ensures.full (λ none. read-some _ _ (line_view c.in-Some.line) line none) in
     full-joined c.args.height c.in_ok-left.left c.in_ok-right.right (line_view c.in-Some.line) c.append.result c.if-height-eq0.false left (c.in_ok-right.ensures.full some) c.append.ensures.lines c.append.ensures.height
+
+pub returns-clause-read : goal.returns-clause-read
+returns-clause-read g t c =
+    let line = rw c.in-Some.is at c.in_ok-line.ensures.read in
+    rw c.append.ensures.lines
+    (read-joined _ _ _ _ c.in_ok-left.left.0 c.in_ok-right.right.0 (line_view c.in-Some.line) c.in_ok-left.ensures.read line c.in_ok-right.ensures.read)

@@ -1,7 +1,9 @@
-use Rattle.std.proofs.Common.{◌≡◌, ◌∙◌, ◌∷◌, ◌+◌, List, ℕ, [], arith, length, drop, subst, sym, ap, rules}
+use Rattle.std.proofs.Common.{◌≡◌, ◌∙◌, ◌∷◌, ◌+◌, ◌||◌, List, ℕ, [], arith, length, drop, subst, sym, ap, rules}
 use Rattle.std.specs.Rc.{rc_slice_items}
 use Rattle.mk_lines.specs.LogicalLines.{logical_lines}
+use Rattle.mk_lines.specs.Cells.{joined_byte}
 use Rattle.mk_class.specs.Contexts.{Context}
+use Rattle.mk_class.specs.LocatedClasses.{located_class}
 use Rattle.mk_class.specs.ClassTable.{class_of}
 use Rattle.std.proofs.lemmas.Bool.{leb-true, false≢true}
 use Rattle.mk_class.specs.LineReads.{IsPlain}
@@ -39,9 +41,9 @@ returns-in_err-line-clause-fault g c =
     let text : List ℕ = rc_slice_items c.self.inside.text.now in
     let next = next-line (rc_slice_items c.self.inside.text.now) _ c.in-Some.first.length c.self.inside.at c.self.invariant.within (search rules) c.in-Some.ensures.line in
     let rest : List (List ℕ) = logical_lines (drop (c.self.inside.at + c.in-Some.first.length) text) in
-    let seen : record { context = c.self.inside.context; lines = c.in_ok-bytes.bytes ∷ rest } ≡ c.args.self.now =
-    ap (λ z. record { context = c.self.inside.context; lines = z ∷ rest }) c.in_ok-bytes.ensures.ok ∙ next-seen text c.in-Some.first.length c.self.inside.at c.self.inside.context _ next c.self.view_is in
-    let fault = fault-of_line _ _ _ (first-deep c.self.inside.context c.in_ok-bytes.bytes rest) c.in_err-line.ensures.fault in
+    let seen : record { context = c.self.inside.end.context; has_unread_prefix = c.self.inside.end.has_unread_prefix; lines = c.in_ok-bytes.bytes ∷ rest } ≡ c.args.self.now =
+    ap (λ z. record { context = c.self.inside.end.context; has_unread_prefix = c.self.inside.end.has_unread_prefix; lines = z ∷ rest }) c.in_ok-bytes.ensures.ok ∙ next-seen text c.in-Some.first.length c.self.inside.at c.self.inside.end.context c.self.inside.end.has_unread_prefix _ next c.self.view_is in
+    let fault = fault-of_line _ _ _ (first-deep c.self.inside.end.context c.self.inside.end.has_unread_prefix c.in_ok-bytes.bytes rest) c.in_err-line.ensures.fault in
     let deep = subst (λ (z : UnreadLines). IsReadingFault (AreTooDeep z) c.in_err-line.field-0.0) seen fault in
     handed_on c.from_residual-in_err-line.result _ (IsReadingFault (AreTooDeep c.args.self.now)) c.from_residual-in_err-line.ensures (λ f e. subst (IsReadingFault (AreTooDeep c.args.self.now)) (sym e) deep)
 
@@ -50,10 +52,17 @@ returns-clause-read g c =
     let text : List ℕ = rc_slice_items c.self.inside.text.now in
     let next = next-line (rc_slice_items c.self.inside.text.now) _ c.in-Some.first.length c.self.inside.at c.self.invariant.within (search rules) c.in-Some.ensures.line in
     let rest : List (List ℕ) = logical_lines (drop (c.self.inside.at + c.in-Some.first.length) text) in
-    let seen : record { context = c.self.inside.context; lines = c.in_ok-bytes.bytes ∷ rest } ≡ c.args.self.now =
-    ap (λ z. record { context = c.self.inside.context; lines = z ∷ rest }) c.in_ok-bytes.ensures.ok ∙ next-seen text c.in-Some.first.length c.self.inside.at c.self.inside.context _ next c.self.view_is in
-    subst (λ (z : UnreadLines). AreReadFrom z (line_view c.in_ok-line.line ∷ []) (record { context = c.in_ok-line.after; lines = rest })) seen
-    (read-first c.self.inside.context c.in_ok-line.after c.in_ok-bytes.bytes rest (line_view c.in_ok-line.line) c.in_ok-line.ensures.bytes c.in_ok-line.ensures.read)
+    let seen : record { context = c.self.inside.end.context; has_unread_prefix = c.self.inside.end.has_unread_prefix; lines = c.in_ok-bytes.bytes ∷ rest } ≡ c.args.self.now =
+    ap (λ z. record { context = c.self.inside.end.context; has_unread_prefix = c.self.inside.end.has_unread_prefix; lines = z ∷ rest }) c.in_ok-bytes.ensures.ok ∙ next-seen text c.in-Some.first.length c.self.inside.at c.self.inside.end.context c.self.inside.end.has_unread_prefix _ next c.self.view_is in
+    let unread = c.self.inside.end.has_unread_prefix || c.sets_prefix_unread.result in
+    subst (λ (z : UnreadLines). AreReadFrom z (line_view c.in_ok-line.line ∷ []) (record { context = c.in_ok-line.after; has_unread_prefix = unread; lines = rest })) seen
+    (read-first c.self.inside.end.context c.in_ok-line.after c.self.inside.end.has_unread_prefix unread c.in_ok-bytes.bytes rest (line_view c.in_ok-line.line) c.in_ok-line.ensures.bytes c.in_ok-line.ensures.read (ap (λ z. c.self.inside.end.has_unread_prefix || z) c.sets_prefix_unread.ensures))
+
+pub sets_prefix_unread-requires-clause-classed : goal.sets_prefix_unread-requires-clause-classed
+sets_prefix_unread-requires-clause-classed g c = record {
+  context = c.self.inside.end.context;
+  class_is = c.in_ok-line.ensures.read.0 ∙ ap (λ l. located_class joined_byte (class_of c.self.inside.end.context l)) (sym c.in_ok-line.ensures.bytes);
+}
 
 pub invariant_of-self-2 : goal.invariant_of-self-2
 invariant_of-self-2 g c =
@@ -61,7 +70,7 @@ invariant_of-self-2 g c =
     record {
       short = c.self.invariant.short;
       within = next.within;
-      few = omega (arith, c.self.invariant.few, c.in-Some.ensures.line.some, ap (λ (z : Context). z.defines) c.in_ok-line.ensures.read.1, defines_after-few c.self.inside.context.defines (class_of c.self.inside.context c.in_ok-bytes.bytes));
+      few = omega (arith, c.self.invariant.few, c.in-Some.ensures.line.some, ap (λ (z : Context). z.defines) c.in_ok-line.ensures.read.1, defines_after-few c.self.inside.end.context.defines (class_of c.self.inside.end.context c.in_ok-bytes.bytes));
       clean_within = omega (arith, c.clean_up_to-clean.ensures.within, ap length c.as_slice-text.ensures.value);
       is_clean = clean-further (rc_slice_items c.self.inside.text.now) c.self.inside.at (c.self.inside.at + c.in-Some.first.length) c.clean_up_to-clean.result (omega arith) (subst (λ t. IsClean t c.self.inside.at c.clean_up_to-clean.result) c.as_slice-text.ensures.value c.clean_up_to-clean.ensures.clean);
     }

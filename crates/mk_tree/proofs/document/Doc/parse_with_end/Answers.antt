@@ -5,9 +5,9 @@ use Rattle.mk_tree.specs.LocatedLines.{size_of}
 use Rattle.mk_tree.specs.Unread.{UnreadLines, shown_lines}
 use Rattle.mk_tree.proofs.on_changes.Sizes.{size_of-text}
 use Rattle.mk_tree.proofs.on_documents.DocumentLemmas.{faithful-own, faithful-text}
-use Rattle.mk_tree.proofs.Reading.{read-all, shallow, size_of-document}
+use Rattle.mk_tree.proofs.Reading.{end-read, read-all, shallow, size_of-document}
 use Rattle.mk_tree.proofs.OriginLemmas.{untouched-read}
-use Rattle.mk_tree.proofs.document.Doc.parse_vec.Goals as goal
+use Rattle.mk_tree.proofs.document.Doc.parse_with_end.Goals as goal
 
 pub read_tree-requires : goal.read_tree-requires
 read_tree-requires g c =
@@ -25,6 +25,9 @@ returns-clause-own g c =
     let text = rc_slice_items c.in_ok-text.text in
     let short : length text ≤ max_text = omega (arith, c.if-len-gt-MAX_TEXT.false, c.len.ensures, ap length c.in_ok-text.ensures) in
     faithful-own c.in_ok-tree.tree.0 text (read-all text _ _ c.in_ok-tree.tree.0 c.in_ok-tree.tree.1 short c.new-lines.ensures c.in_ok-tree.ensures.read c.in_ok-tree.ensures.full).0
+
+pub returns-clause-end : goal.returns-clause-end
+returns-clause-end g c = end-read (rc_slice_items c.in_ok-text.text) _ _ c.in_ok-tree.tree.0 c.end-end.result c.new-lines.ensures c.in_ok-tree.ensures.read c.end-end.ensures
 
 pub returns-clause-shallow : goal.returns-clause-shallow
 returns-clause-shallow g c =
