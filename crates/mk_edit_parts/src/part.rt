@@ -1,6 +1,5 @@
 //! Parts of a line's joined text, by their offsets.
 ghost use Rattle.std.specs.Prelude.{◌≡◌, ◌≤◌, drop, length};
-ghost use Rattle.std.specs.Str.{bytes_eq};
 ghost use Rattle.mk_lines.specs.Ranges.{text_at};
 ghost use Rattle.mk_tree.specs.Trees.{line_view};
 ghost use Rattle.mk_tree.specs.LocatedLines.{text_of_line};
@@ -23,19 +22,6 @@ pub fn part(text: &[u8], span: Span) -> &[u8]
     ensures { result.now ≡ text_at text.now span }
 {
     &text[span.start..span.end]
-}
-
-/// Whether a part of a line's joined text is some text. The line's text is looked at only if the
-/// part is as long, since most parts are told apart by their lengths.
-pub fn is_part<A: Allocator>(line: &Line<A>, span: Span, text: &[u8]) -> bool
-    requires rises { span.start ≤ span.end }
-    requires within { span.end ≤ length (text_of_line (line_view line.now)) }
-    ensures { result ≡ bytes_eq (text_at (text_of_line (line_view line.now)) span) text.now }
-{
-    if span.end - span.start != text.len() {
-        return false;
-    }
-    part(text_of_line(line), span) == text
 }
 
 /// A text from an index on.

@@ -1,14 +1,11 @@
 //! Where the lines of a document end: what an edit at the end has to know.
-ghost use Rattle.std.specs.Prelude.{◌≡◌, ◌≤◌, length};
-ghost use Rattle.std.specs.Str.{bytes_eq};
-ghost use Rattle.mk_lines.specs.Ranges.{text_at};
-ghost use Rattle.mk_tree.specs.LocatedLines.{text_of_line};
+ghost use Rattle.std.specs.Prelude.{◌≡◌};
 ghost use Rattle.mk_tree.specs.Trees.{line_view};
 ghost use Rattle.mk_tree.specs.UnreadPrefixes.{IsClassed, is_unread_located};
 
+use crate::part::is_part;
 use crate::tree::Line;
 use mk_class::{Class, Context};
-use mk_lines::split::Span;
 use std::alloc::Allocator;
 
 /// Where the lines of a document end, as they were read: what an edit at the end has to know.
@@ -33,26 +30,4 @@ pub fn sets_prefix_unread<A: Allocator>(line: &Line<A>, class: &Class) -> bool
         Class::DefineHead(is_unread) => *is_unread,
         _ => false,
     }
-}
-
-// Whether a part of a line's joined text is some text. The line's text is looked at only if the part
-// is as long, since most parts are told apart by their lengths.
-fn is_part<A: Allocator>(line: &Line<A>, span: Span, text: &[u8]) -> bool
-    requires rises { span.start ≤ span.end }
-    requires within { span.end ≤ length (text_of_line (line_view line.now)) }
-    ensures { result ≡ bytes_eq (text_at (text_of_line (line_view line.now)) span) text.now }
-{
-    if span.end - span.start != text.len() {
-        return false;
-    }
-    part(line.text(), span) == text
-}
-
-// A part of a text.
-fn part(text: &[u8], span: Span) -> &[u8]
-    requires rises { span.start ≤ span.end }
-    requires within { span.end ≤ length text.now }
-    ensures { result.now ≡ text_at text.now span }
-{
-    &text[span.start..span.end]
 }
