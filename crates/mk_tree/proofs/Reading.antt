@@ -154,7 +154,7 @@ context_after-append c [] ks = refl
 context_after-append c (l ∷ ls) ks = context_after-append (context_after_located c l.class) ls ks
 
 -- lines were read, and then others
-pub read-then : (first second last : UnreadLines) (left right : List LocatedLine) → AreReadFrom first left second → AreReadFrom second right last → AreReadFrom first (left ++ right) last
+read-then : (first second last : UnreadLines) (left right : List LocatedLine) → AreReadFrom first left second → AreReadFrom second right last → AreReadFrom first (left ++ right) last
 read-then first second last left right a b =
     let told = list_any is_unread_located in record {
       all = append_assoc left right (shown_lines last) ∙ (ap (λ z. left ++ z) b.all ∙ a.all);

@@ -14,7 +14,7 @@ ghost use Rattle.mk_tree.specs.Trees.{line_view};
 use crate::content::Content;
 use crate::line_bytes::LineBytes;
 use crate::tree::Line;
-use mk_class::{Context, Meter, class_of_plain_line, class_with_cells};
+use mk_class::{Class, Context, Meter, class_of_plain_line, class_with_cells};
 use mk_lines::Fault;
 use mk_lines::cells::cells;
 use std::alloc::Allocator;
@@ -57,20 +57,21 @@ impl<A: Allocator + Copy> Line<A> {
     }
 }
 
-/// One logical line, as [`Line::read`] gives it, and the context after it. A line that is known to
-/// be plain, with neither folds nor a stray byte, is not searched for them.
+/// One logical line, as [`Line::read`] gives it, its class, and the context after it. A line that is
+/// known to be plain, with neither folds nor a stray byte, is not searched for them.
 pub(crate) fn read_line<A: Allocator + Copy>(
     alloc: A,
     bytes: LineBytes<A>,
     is_plain: bool,
     context: Context,
     meter: &mut Meter,
-) -> Result<(Line<A>, Context), Fault>
+) -> Result<(Line<A>, Class, Context), Fault>
     requires line { logical_lines bytes ≡ bytes ∷ [] }
     requires defines { context.defines < max_text }
     requires plain { is_plain ≡ true → IsPlain bytes }
     ensures bytes { IfOk result (λ r. (line_view r.0).bytes ≡ bytes) }
-    ensures read { IfOk result (λ r. IsLineRead context bytes (line_view r.0).class r.1) }
+    ensures class { IfOk result (λ r. r.1 ≡ (line_view r.0).class) }
+    ensures read { IfOk result (λ r. IsLineRead context bytes (line_view r.0).class r.2) }
     ensures fault { IfErr result (λ fault. IsReadingFault (OpensTooDeep context bytes) fault) }
     ensures counted { OnOk result (meter.new ≡ min (meter.old + 1) (2 ^ 64 - 1)) }
     ensures forward { meter.old ≤ meter.new }
@@ -82,7 +83,7 @@ pub(crate) fn read_line<A: Allocator + Copy>(
     let cells = cells(alloc, bytes.as_slice())?;
     let (class, after) = class_with_cells(bytes.as_slice(), &cells, context, meter)?;
     let line = Line::new(alloc, Content::new(alloc, bytes, cells, class)?)?;
-    Ok((line, after))
+    Ok((line, class, after))
 }
 
 // One plain line, as [`read_line`] gives it. No cells are made for it.
@@ -91,12 +92,13 @@ fn read_plain_line<A: Allocator + Copy>(
     bytes: LineBytes<A>,
     context: Context,
     meter: &mut Meter,
-) -> Result<(Line<A>, Context), Fault>
+) -> Result<(Line<A>, Class, Context), Fault>
     requires line { logical_lines bytes ≡ bytes ∷ [] }
     requires defines { context.defines < max_text }
     requires plain { IsPlain bytes }
     ensures bytes { IfOk result (λ r. (line_view r.0).bytes ≡ bytes) }
-    ensures read { IfOk result (λ r. IsLineRead context bytes (line_view r.0).class r.1) }
+    ensures class { IfOk result (λ r. r.1 ≡ (line_view r.0).class) }
+    ensures read { IfOk result (λ r. IsLineRead context bytes (line_view r.0).class r.2) }
     ensures fault { IfErr result (λ fault. IsReadingFault (OpensTooDeep context bytes) fault) }
     ensures counted { OnOk result (meter.new ≡ min (meter.old + 1) (2 ^ 64 - 1)) }
     ensures forward { meter.old ≤ meter.new }
@@ -104,5 +106,5 @@ fn read_plain_line<A: Allocator + Copy>(
 {
     let (class, after) = class_of_plain_line(bytes.as_slice(), context, meter)?;
     let line = Line::new(alloc, Content::plain(alloc, bytes, class)?)?;
-    Ok((line, after))
+    Ok((line, class, after))
 }

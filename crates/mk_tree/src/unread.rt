@@ -111,9 +111,8 @@ impl<'a, A: Allocator + Copy> Unread<'a, A> {
         self.at = end;
         let is_plain = first.is_physical && end <= clean;
         let bytes = LineBytes::of_text(self.text, Span { start, end })?;
-        let (line, after) = read_line(self.alloc, bytes, is_plain, self.end.context, meter)?;
+        let (line, class, after) = read_line(self.alloc, bytes, is_plain, self.end.context, meter)?;
         self.end.context = after;
-        let class = line.class();
         self.end.has_unread_prefix |= sets_prefix_unread(&line, &class);
         Ok(Some(line))
     }
