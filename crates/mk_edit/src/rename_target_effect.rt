@@ -11,9 +11,10 @@ ghost use Rattle.mk_edit.specs.RenameTargetPatches.{HasFewWords, held_places, is
 use crate::rename_target_places::{Held, noted};
 use mk_class::{Class, Context};
 use mk_edit_parts::lean::begins_with;
-use mk_edit_parts::line_test::{has_target, is_unread};
+use mk_edit_parts::line_test::has_target;
 use mk_edit_parts::seek::Found;
 use mk_edit_parts::tally::{Tally, count_words};
+use mk_tree::end::sets_prefix_unread;
 use mk_tree::{Doc, Line};
 use std::alloc::Allocator;
 
@@ -144,7 +145,7 @@ fn effect_of_line<A: Allocator>(
     ensures { result ≡ effect_of_line from.now to.now context (line_view line.now) }
 {
     Effect {
-        has_unread_prefix: is_unread(line, class),
+        has_unread_prefix: sets_prefix_unread(line, class),
         is_there: is_there(line, class, tally, from),
         begins_line: tally.at_front && begins_with(to, context.prefix()),
         is_taken: has_target(line, class, to),

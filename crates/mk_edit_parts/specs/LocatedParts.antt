@@ -1,25 +1,17 @@
 -- What walks over a document ask of a line, by the offsets of its parts: what it assigns, which
--- targets it has, and whether it sets the recipe prefix in a way that is not read.
+-- targets it has, and (in mk_tree) whether it sets the recipe prefix in a way that is not read.
 -- Told in docs/ARCHITECTURE.md, "An edit's way, from Edit to moved lines".
-use Rattle.std.specs.Prelude.{not, ◌&&◌, is_some, ◌≡◌, ℕ, Bool, false, List, [], ◌∷◌}
+use Rattle.std.specs.Prelude.{ℕ, Bool, false, List, [], ◌∷◌}
 use Rattle.std.specs.Str.{bytes_eq}
-use Rattle.mk_lines.specs.Cells.{joined_byte}
 use Rattle.mk_lines.specs.Ranges.{text_at}
 use Rattle.mk_lines.specs.Words.{words_in}
 use Rattle.mk_class.specs.Texts.{is_one_of}
-use Rattle.mk_class.specs.RecipePrefix.{is_prefix_name}
-use Rattle.mk_class.specs.Contexts.{Context}
-use Rattle.mk_class.specs.ClassTable.{class_of}
-use Rattle.mk_class.specs.LocatedClasses.{located_class}
 use Rattle.mk_class.specs.declared.class.Class as class
 use Rattle.mk_class.specs.declared.class.Class.TheVariants as variants
 use Rattle.mk_tree.specs.LocatedLines.{LocatedLine, text_of_line}
+pub use Rattle.mk_tree.specs.UnreadPrefixes.{IsClassed, is_unread_in, is_unread_located}
 
--- a line with the class that it has in some context
-pub record IsClassed (l : LocatedLine) : Type 0 where
-  pub context : Context
-  pub class_is : l.class ≡ located_class joined_byte (class_of context l.bytes)
-
+-- each of some lines has the class that it has in some context
 abbrev pub AreEachClassed : List LocatedLine → Type 0
 AreEachClassed [] = Unit {0}
 AreEachClassed (l ∷ ls) = IsClassed l × AreEachClassed ls
@@ -52,12 +44,3 @@ is_target_in t w k = false
 
 abbrev pub is_target_located : (word : List ℕ) → LocatedLine → Bool
 is_target_located w l = is_target_in (text_of_line l) w l.class
-
--- whether a line of this joined text and class sets the recipe prefix in a way that is not read
-abbrev pub is_unread_in : (text : List ℕ) → class.Class → Bool
-is_unread_in t (variants.Assign a p) = not (is_some p) && is_prefix_name (text_at t a.name)
-is_unread_in t (variants.DefineHead p) = p
-is_unread_in t k = false
-
-abbrev pub is_unread_located : LocatedLine → Bool
-is_unread_located l = is_unread_in (text_of_line l) l.class

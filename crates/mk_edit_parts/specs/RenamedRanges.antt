@@ -1,6 +1,6 @@
 -- Where the words that a rename replaces stand in a line, as a document shows the line.
 -- Told in docs/ARCHITECTURE.md, "An edit's way, from Edit to moved lines".
-use Rattle.std.specs.Prelude.{ℕ, ◌+◌, ◌-◌, ◌≤◌, ◌==◌, ◌||◌, if◌then◌else◌, Bool, false, List, [], ◌∷◌, ◌++◌, length, Option, Some, None}
+use Rattle.std.specs.Prelude.{ℕ, ◌+◌, ◌-◌, ◌≤◌, ◌==◌, ◌||◌, if◌then◌else◌, Bool, true, false, List, [], ◌∷◌, ◌++◌, length, Option, Some, None}
 use Rattle.std.specs.Str.{bytes_eq}
 use Rattle.std.specs.List.{list_any}
 use Rattle.mk_lines.specs.Cells.{Cell, joined_text, line_cells}
@@ -28,6 +28,12 @@ word_parts (variants.Header h) = record {
 word_parts (variants.TargetAssign a) =
     record { targets = span 0 a.targets_end; normal = span 0 0; order_only = span 0 0 }
 word_parts k = record { targets = span 0 0; normal = span 0 0; order_only = span 0 0 }
+
+-- whether a line of this class has such parts
+abbrev pub has_parts : class.Class → Bool
+has_parts (variants.Header h) = true
+has_parts (variants.TargetAssign a) = true
+has_parts k = false
 
 -- ---- the words
 

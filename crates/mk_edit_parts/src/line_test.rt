@@ -1,10 +1,9 @@
-//! Tests of lines: which variable a line assigns, which targets it has, and whether it sets the
-//! recipe prefix unread.
+//! Tests of lines: which variable a line assigns, and which targets it has.
 //!
 //! Each test takes the class of the line, which the caller has at hand.
 ghost use Rattle.std.specs.Prelude.{◌≡◌, ◌≤◌, length};
 ghost use Rattle.mk_class.specs.Texts.{is_one_of};
-ghost use Rattle.mk_edit_parts.specs.LocatedParts.{IsClassed, assigns_located, is_rule_for_located, is_target_located, is_unread_located, words_before};
+ghost use Rattle.mk_edit_parts.specs.LocatedParts.{IsClassed, assigns_located, is_rule_for_located, is_target_located, words_before};
 ghost use Rattle.mk_tree.specs.LocatedLines.{text_of_line};
 ghost use Rattle.mk_lines.specs.Cells.{line_cells};
 ghost use Rattle.mk_tree.specs.Trees.{line_view};
@@ -50,19 +49,6 @@ pub fn has_target<A: Allocator>(line: &Line<A>, class: &Class, word: &[u8]) -> b
     match class {
         Class::Header(header) => has_word_before(line, header.targets_end, word),
         Class::TargetAssign(assignment) => has_word_before(line, assignment.targets_end, word),
-        _ => false,
-    }
-}
-
-/// Whether a line sets the recipe prefix in a way that is not read.
-pub fn is_unread<A: Allocator>(line: &Line<A>, class: &Class) -> bool
-    requires classed { IsClassed (line_view line.now) }
-    requires class { class.now ≡ (line_view line.now).class }
-    ensures { result ≡ is_unread_located (line_view line.now) }
-{
-    match class {
-        Class::Assign(assignment, None) => is_part(line, assignment.name, b".RECIPEPREFIX"),
-        Class::DefineHead(prefix) => *prefix,
         _ => false,
     }
 }

@@ -9,6 +9,7 @@ use mk_tree::Line;
 use std::alloc::Allocator;
 
 /// The joined text of a line.
+#[inline(always)]
 pub fn text_of_line<A: Allocator>(line: &Line<A>) -> &[u8]
     ensures { result.now ≡ text_of_line (line_view line.now) }
 {

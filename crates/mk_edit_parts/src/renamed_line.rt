@@ -8,6 +8,7 @@ ghost use Rattle.mk_edit_parts.specs.RenamedTexts.{AreApart, renamed_text, writt
 ghost use Rattle.mk_edit_parts.specs.WordCuts.{last_end};
 
 use crate::part::{part, rest, text_of_line};
+use crate::text::may_have_word;
 use crate::word_parts::{parts_of, range_of_word};
 use mk_class::Class;
 use mk_lines::split::Span;
@@ -46,8 +47,34 @@ pub fn renamed_bytes<A: Allocator + Copy>(
 }
 
 // Writes a line from an offset up to the end of the last word of a part that is replaced, and
-// answers this end; if no word is replaced, it writes nothing and answers the offset.
+// answers this end; if no word is replaced, it writes nothing and answers the offset. Most parts do
+// not have the word, and are not cut into words: a look from blank to blank is quicker.
 fn write_part<A: Allocator + Copy>(
+    bytes: &mut Vec<u8, A>,
+    line: &Line<A>,
+    span: Span,
+    from: &[u8],
+    to: &[u8],
+    done: usize,
+) -> Result<usize, AllocError>
+    requires within { IsWithin (length (line_cells (line_view line.now).bytes)) span }
+    requires apart { AreApart done (length (line_view line.now).bytes)
+        (part_ranges (line_cells (line_view line.now).bytes) from.now span) }
+    ensures end { IfOk result (λ end.
+        end ≡ last_end done (part_ranges (line_cells (line_view line.now).bytes) from.now span)) }
+    ensures written { IfOk result (λ end. bytes.new.items
+        ≡ bytes.old.items
+        ++ written (line_view line.now).bytes done to.now
+        (part_ranges (line_cells (line_view line.now).bytes) from.now span)) }
+{
+    if may_have_word(part(text_of_line(line), span), from) {
+        return write_words(bytes, line, span, from, to, done);
+    }
+    Ok(done)
+}
+
+// The same, where the part is cut into words.
+fn write_words<A: Allocator + Copy>(
     bytes: &mut Vec<u8, A>,
     line: &Line<A>,
     span: Span,

@@ -11,8 +11,9 @@ ghost use Rattle.mk_edit_parts.specs.LocatedParts.{IsClassed};
 ghost use Rattle.mk_edit_parts.specs.Seeking.{IsSought, may_mean, noted_by, nothing_seen, wanted};
 
 use crate::address::Address;
-use crate::line_test::{assigns, is_rule_for, is_unread};
+use crate::line_test::{assigns, is_rule_for};
 use mk_class::{Class, Context};
+use mk_tree::end::sets_prefix_unread;
 use mk_tree::{Doc, Line};
 use std::alloc::Allocator;
 
@@ -51,7 +52,7 @@ pub fn seek<A: Allocator>(doc: &Doc<A>, address: Option<Address>) -> Sought
     'lines: for line in doc.iter() {
         let class = line.class();
         let is_meant = may_mean(address, line, &class);
-        let is_unread = is_unread(line, &class);
+        let is_unread = sets_prefix_unread(line, &class);
         sought = noted(is_meant, is_unread, wanted, &class, sought);
     }
     sought

@@ -3,7 +3,7 @@ ghost use Rattle.std.specs.Prelude.{◌≡◌, ◌+◌, ◌<◌, ◌≤◌, ◌^
 ghost use Rattle.mk_lines.specs.Cells.{line_cells};
 ghost use Rattle.mk_tree.specs.Trees.{line_view};
 ghost use Rattle.mk_edit_parts.specs.LocatedParts.{IsClassed};
-ghost use Rattle.mk_edit_parts.specs.RenamedRanges.{IsWithin, before_ranges, bytes_in, no_words, part_ranges, renamed_ranges, tallied};
+ghost use Rattle.mk_edit_parts.specs.RenamedRanges.{IsWithin, before_ranges, bytes_in, has_parts, no_words, part_ranges, renamed_ranges, tallied};
 
 use crate::part::{part, text_of_line};
 use crate::text::may_have_word;
@@ -33,15 +33,25 @@ pub fn count_words<A: Allocator>(line: &Line<A>, class: &Class, from: &[u8]) -> 
     requires few_bytes { bytes_in (renamed_ranges from.now (line_view line.now)) ≤ 2 ^ 32 }
     ensures { result ≡ tallied no_words (renamed_ranges from.now (line_view line.now)) }
 {
-    let parts = parts_of(line, class);
     let none = Tally {
         words: 0,
         bytes: 0,
         at_front: false,
     };
+    if !has_parts(class) {
+        return none;
+    }
+    let parts = parts_of(line, class);
     let targets = count_in_part(line, parts.targets, from, none);
     let normal = count_in_part(line, parts.normal, from, targets);
     count_in_part(line, parts.order_only, from, normal)
+}
+
+// Whether a line of this class has parts in which words are replaced.
+fn has_parts(class: &Class) -> bool
+    ensures { result ≡ has_parts class.now }
+{
+    matches!(class, Class::Header(_) | Class::TargetAssign(_))
 }
 
 // The count with the words of a part added that are `from`. Most parts do not have the word, and are

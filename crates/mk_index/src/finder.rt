@@ -1,7 +1,8 @@
 //! The index of a document that is edited.
-ghost use Rattle.std.specs.Prelude.{◌≡◌, ◌+◌, IsTrue, None, length};
+ghost use Rattle.std.specs.Prelude.{◌≡◌, ◌+◌, IsTrue, None, is_some, length, true};
 ghost use Rattle.mk_tree.specs.Documents.{IsFaithful};
 ghost use Rattle.mk_tree.specs.Trees.{line_view};
+ghost use Rattle.mk_tree.specs.UnreadPrefixes.{IsEndOf};
 ghost use Rattle.mk_edit_parts.specs.EditViews.{edit_of};
 ghost use Rattle.mk_edit_parts.specs.LocatedParts.{IsClassed};
 ghost use Rattle.mk_edit_parts.specs.Seeking.{IsKnown};
@@ -16,7 +17,7 @@ use mk_edit_parts::part::{part, text_of_line};
 use mk_edit_parts::seek::Sought;
 use mk_edit_parts::text::is_same_text;
 use mk_patch::{Patch, Step};
-use mk_tree::{Doc, Line};
+use mk_tree::{Doc, End, Line};
 use std::alloc::{Allocator, Global};
 use std::marker::Model;
 
@@ -55,12 +56,15 @@ impl<A: Allocator> Model for Finder<A> {
 }
 
 impl<A: Allocator + Copy> Finder<A> {
-    /// A finder without an index.
-    pub fn new() -> Finder<A>
-        ensures { result ≡ None }
+    /// A finder of a document that was just read. It knows where the document ends. It takes no
+    /// walk and no memory.
+    pub fn over(doc: &Doc<A>, end: End) -> Finder<A>
+        requires { IsEndOf doc.now end }
+        ensures index { IsIndexIfAny doc.now result }
+        ensures some { is_some result ≡ true }
     {
         Finder {
-            index: None,
+            index: Some(Index::at_end(doc, end)),
             is_due: false,
         }
     }
@@ -69,9 +73,10 @@ impl<A: Allocator + Copy> Finder<A> {
     /// its line. The first edit of a variable makes do with a walk, unless more edits are expected. The
     /// second one makes an index, which costs little more, unless the document has fewer than 1,024
     /// lines. A growth that is refused leaves the finder without an index, and is no refusal of the
-    /// edit. An edit without an address, which goes to the end, makes an index that tells where the
-    /// end is: this takes one walk, and no memory. Nothing is known of where rules stand, nor for a
-    /// rename, which looks at every line.
+    /// edit. An edit without an address, which goes to the end, needs an index that tells where the
+    /// end is: the finder has one from the reading of the document. Once a change has dropped it, the
+    /// next such edit makes another, by one walk and without memory. Nothing is known of where rules
+    /// stand, nor for a rename, which looks at every line.
     pub fn known(&mut self, alloc: A, doc: &Doc<A>, edit: &Edit<A>) -> Option<Sought>
         requires faithful { IsFaithful doc.now }
         requires index { IsIndexIfAny doc.now self.old }

@@ -6,6 +6,7 @@ ghost use Rattle.mk_class.specs.Contexts.{Admits};
 ghost use Rattle.mk_tree.specs.Documents.{IsFaithful};
 ghost use Rattle.mk_tree.specs.LocatedLines.{LocatedLine};
 ghost use Rattle.mk_tree.specs.Trees.{line_view};
+ghost use Rattle.mk_tree.specs.UnreadPrefixes.{IsEndOf};
 ghost use Rattle.mk_edit_laws.specs.Addresses.{Variable};
 ghost use Rattle.mk_edit_parts.specs.EditViews.{address_seen};
 ghost use Rattle.mk_edit_parts.specs.LocatedParts.{IsClassed};
@@ -17,9 +18,9 @@ ghost use Rattle.mk_index.specs.Indexes.{AreChainsIfAny, IsIndexOf};
 use crate::chains::Chains;
 use mk_class::{Class, Context};
 use mk_edit_parts::address::Address;
-use mk_edit_parts::line_test::is_unread;
 use mk_edit_parts::part::{part, text_of_line};
 use mk_edit_parts::seek::{Found, Sought, seek, wanted};
+use mk_tree::end::{End, sets_prefix_unread};
 use mk_tree::{Doc, Line};
 use std::alloc::{AllocError, Allocator, Global};
 use std::marker::Model;
@@ -75,6 +76,22 @@ impl<A: Allocator + Copy> Index<A> {
         }
     }
 
+    /// An index of a document that was just read, by where its lines end. It tells only where the
+    /// document ends. It takes no walk and no memory.
+    pub fn at_end(doc: &Doc<A>, end: End) -> Index<A>
+        requires { IsEndOf doc.now end }
+        ensures { IsIndexOf doc.now result }
+    {
+        Index {
+            chains: None,
+            has_unread_prefix: end.has_unread_prefix,
+            end: Found {
+                at: doc.len(),
+                context: end.context,
+            },
+        }
+    }
+
     // An index of no line, with these chains.
     fn without_lines(chains: Option<Chains<A>>) -> Index<A>
         requires { AreChainsIfAny [] chains }
@@ -112,7 +129,7 @@ impl<A: Allocator + Copy> Index<A> {
         if let Some(chains) = &mut self.chains {
             chains.push_if(name_assigned(line, &class), self.end)?;
         }
-        self.has_unread_prefix |= is_unread(line, &class);
+        self.has_unread_prefix |= sets_prefix_unread(line, &class);
         self.end = Found {
             at: self.end.at + 1,
             context: self.end.context.step(&class),

@@ -8,6 +8,7 @@ ghost use Rattle.mk_edit_laws.specs.Costs.{cost};
 ghost use Rattle.mk_edit_parts.specs.EditViews.{edit_of};
 ghost use Rattle.mk_history.specs.Machine.{Apply, Undo, Redo, Begin, End, Cancel};
 ghost use Rattle.mk_history.specs.Machine as machine;
+ghost use Rattle.mk_index.specs.Effects.{IsIndexIfAny};
 ghost use Rattle.mk_session.specs.Sessions.{IsBadDepth, IsBeginRefusal, IsEditRefusal, IsOpeningFault, IsRefusedBy, answer, seen_opened};
 
 use mk_class::Meter;
@@ -116,15 +117,23 @@ impl<A: Allocator + Copy> Session<A> {
     {
         test_depth(depth)?; // before any line is read
         let mut meter = Meter::new();
-        let doc = Doc::parse_vec(alloc, text, &mut meter)?;
-        Session::over(alloc, doc, depth, meter)
+        let (doc, end) = Doc::parse_with_end(alloc, text, &mut meter)?;
+        let finder = Finder::over(&doc, end);
+        Session::over(alloc, doc, finder, depth, meter)
     }
 
-    // A session on a document, with nothing to undo or redo. The meter has counted the document's
-    // lines.
-    fn over(alloc: A, doc: Doc<A>, depth: u32, meter: Meter) -> Result<Session<A>, Fault>
+    // A session on a document, with nothing to undo or redo. The finder is one of the document, and
+    // the meter has counted the document's lines.
+    fn over(
+        alloc: A,
+        doc: Doc<A>,
+        finder: Finder<A>,
+        depth: u32,
+        meter: Meter,
+    ) -> Result<Session<A>, Fault>
         requires good { IsBadDepth depth → ⊥ }
         requires faithful { IsFaithful doc }
+        requires index { IsIndexIfAny doc finder }
         requires counted { AreCounted 0 (length doc) meter }
         ensures opened { IfOk result (λ s. s ≡ seen_opened depth (located_text doc)) }
         ensures fault { IsOkUnless result Fault.NoMemory }
@@ -135,7 +144,7 @@ impl<A: Allocator + Copy> Session<A> {
         Ok(Session {
             alloc,
             doc,
-            finder: Finder::new(),
+            finder,
             history,
             group: None,
             meter,

@@ -7,7 +7,9 @@ use Rattle.std.proofs.lemmas.List.Folds.{list_any-append}
 use Rattle.mk_class.specs.Contexts.{Context, start, context_after_located}
 use Rattle.mk_tree.specs.Admissions.{AreAdmitted}
 use Rattle.mk_tree.specs.Documents.{IsFaithful}
-use Rattle.mk_tree.specs.LocatedLines.{LocatedLine}
+use Rattle.mk_tree.specs.LocatedLines.{LocatedLine, context_after_located_lines}
+use Rattle.mk_tree.specs.UnreadPrefixes.{IsEndOf}
+use Rattle.mk_tree.specs.declared.end.End.{End}
 use Rattle.mk_edit_parts.specs.LocatedParts.{AreEachClassed, is_unread_located}
 use Rattle.mk_edit_parts.specs.declared.seek.Found.{Found}
 use Rattle.mk_edit_parts.proofs.on_finding.SeekLemmas.{faithful-each}
@@ -79,6 +81,20 @@ few-entries lines i h = go i.chains h.chains_are
     go : (o : Option chains.Stored) → AreChainsIfAny (last_first lines) o → IfSome o (λ c. length c.entries ≤ i.end.at)
     go None k = tt
     go (Some c) k = few-entries_of lines i c h k
+
+-- ---- an index of the end
+
+below-context : (f : Found) (ls : List LocatedLine) → (below_all f ls).context ≡ context_after_located_lines f.context ls
+below-context f [] = refl
+below-context f (l ∷ ls) = below-context (below f l) ls
+
+-- the place below all lines, by their number and by the context after them
+pub ends-at : (ls : List LocatedLine) (count : ℕ) (end : End) → count ≡ length ls → IsEndOf ls end → record { at = count; context = end.context } ≡ below_all first_place ls
+ends-at ls count end n h =
+    let b = below-at first_place ls in
+    let at : count ≡ (below_all first_place ls).at = omega (arith, n, b) in
+    let context : end.context ≡ (below_all first_place ls).context = h.context_is ∙ sym (below-context first_place ls) in
+    ap (λ (m : ℕ). record { at = m; context = end.context }) at ∙ ap (λ (c : Context). record { at = (below_all first_place ls).at; context = c }) context
 
 -- ---- the walk that makes an index
 

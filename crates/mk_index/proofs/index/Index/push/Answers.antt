@@ -16,8 +16,8 @@ returns-clause-index g c = λ lines h.
     let old : Stored = record { chains = c.self.inside.chains; has_unread_prefix = c.self.inside.has_unread_prefix; end = c.self.inside.end } in
     let before : IsIndexOf lines old = subst (IsIndexOf lines) (sym c.self.view_is) h in
     let pushed : (now : Option chains.Stored) → c.match-self.self-inside.end ≡ old.end → AreChainsIfAny (with_assigned (name_assigned l) old.end (last_first lines)) now
-    → IsIndexOf (lines ++ l ∷ []) (record { chains = now; has_unread_prefix = old.has_unread_prefix || c.is_unread.result; end = record { at = old.end.at + 1; context = c.step.result } })
-    = λ now end made. index-pushed lines l old now c.is_unread.result c.step.result before made c.is_unread.ensures
+    → IsIndexOf (lines ++ l ∷ []) (record { chains = now; has_unread_prefix = old.has_unread_prefix || c.sets_prefix_unread.result; end = record { at = old.end.at + 1; context = c.step.result } })
+    = λ now end made. index-pushed lines l old now c.sets_prefix_unread.result c.step.result before made c.sets_prefix_unread.ensures
     (c.step.ensures.located ∙ (ap (λ (f : Found). context_after_located f.context c.class-class.result) end ∙ ap (context_after_located old.end.context) c.class-class.ensures)) in
     elim c.match-self.branch [
       | in-Some+in_ok-push_if w ↦
