@@ -213,22 +213,6 @@ fn a_text_by_value_is_parsed_as_one_that_is_copied(rt: HostRuntime) -> Result<()
 }
 
 #[test]
-fn the_reading_tells_where_a_text_ends(rt: HostRuntime) -> Result<(), Fail> {
-    for (text, has_unread_prefix) in [
-        (FOUR_LINES, false),
-        (b".RECIPEPREFIX = >\na:\n>b\n".as_slice(), false),
-        (b".RECIPEPREFIX ?= >\nX = 1\n".as_slice(), true),
-        (b"define .RECIPEPREFIX\n>\n".as_slice(), true),
-    ] {
-        let text = Vec::from_slice(rt.alloc(), text)?;
-        let (doc, end) = Doc::parse_with_end(rt.alloc(), text, &mut Meter::new())?;
-        assert_eq!(rt; end.context, doc.end_context());
-        assert_eq!(rt; end.has_unread_prefix, has_unread_prefix);
-    }
-    Ok(())
-}
-
-#[test]
 fn a_line_outlives_its_document(rt: HostRuntime) -> Result<(), Fail> {
     let mut doc = Doc::parse(rt.alloc(), b"X=1\nY=2\n", &mut Meter::new())?;
     let Some(line) = take_out(&mut doc, 0) else {
