@@ -1,7 +1,8 @@
 -- First words that say what a line is.
 -- Told in docs/LANGUAGE.md, chapter 4, and docs/EDITS.md, "Refusals".
-use Rattle.std.specs.Prelude.{ℕ, if◌then◌else◌, Bool, List, [], ◌∷◌, codes}
+use Rattle.std.specs.Prelude.{ℕ, if◌then◌else◌, Bool, ◌==◌, ◌||◌, List, [], ◌∷◌, codes}
 use Rattle.std.specs.Str.{bytes_eq}
+use Rattle.mk_lines.specs.Bytes.{is_blank_byte}
 use Rattle.mk_lines.specs.Lists.{after_leading}
 use Rattle.mk_class.specs.Texts.{is_one_of}
 
@@ -59,6 +60,16 @@ reserved_words =
     ∷ codes "include" ∷ codes "-include" ∷ codes "sinclude" ∷ codes "load" ∷ codes "-load"
     ∷ codes "export" ∷ codes "unexport" ∷ codes "override" ∷ codes "private"
     ∷ codes "vpath" ∷ []
+
+-- whether a reserved word begins with a byte: it is one of - d e i l o p s u v
+abbrev pub begins_reserved : ℕ → Bool
+begins_reserved b =
+    b == 45 || b == 100 || b == 101 || b == 105 || b == 108 || b == 111 || b == 112 || b == 115
+    || b == 117 || b == 118
+
+-- whether the first word of a text that begins with a byte may be a reserved word
+abbrev pub may_begin_reserved : ℕ → Bool
+may_begin_reserved b = is_blank_byte b || begins_reserved b
 
 -- whether a word is one of these reserved words
 abbrev pub is_reserved_word : List ℕ → Bool

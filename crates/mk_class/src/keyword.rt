@@ -7,9 +7,10 @@
 ghost use Rattle.std.specs.Prelude.{◌≡◌};
 ghost use Rattle.std.specs.Str.{bytes_eq};
 ghost use Rattle.mk_lines.specs.Units.{units};
-ghost use Rattle.mk_class.specs.ClassTable.{defines_prefix, directive};
+ghost use Rattle.mk_class.specs.ClassTable.{defines_prefix, directive, directive_by};
 ghost use Rattle.mk_class.specs.FirstWords.{known_class, meant_keyword, modifier, text_words};
-ghost use Rattle.mk_class.specs.Keywords.{after_modifiers, directive_words, first_keyword, if_words, is_reserved_word, keyword};
+ghost use Rattle.mk_class.specs.ListTests.{first_passes};
+ghost use Rattle.mk_class.specs.Keywords.{after_modifiers, directive_words, first_keyword, if_words, is_reserved_word, keyword, may_begin_reserved};
 ghost use Rattle.mk_class.specs.TextClasses.{body_text_class, itself};
 ghost use Rattle.mk_class.specs.Texts.{is_one_of};
 
@@ -87,16 +88,48 @@ pub fn is_reserved_word(word: &[u8]) -> bool
 }
 
 /// The class that the words of a cut text say, if they say one. Then the first word is a reserved
-/// word, so no other word is read in most lines.
+/// word. Most lines begin with a byte that begins no reserved word, and their first word is not cut.
 pub(crate) fn directive_class(text: &[u8], in_conditional: bool) -> Option<Class>
     ensures { result ≡ known_class (directive in_conditional (text_words text.now)) }
 {
-    let (word, _) = split_first_word(text)?;
-    if !is_reserved_word(word) {
+    if !may_begin_reserved(text) {
         return None;
     }
+    let (word, _) = split_first_word(text)?;
+    let first = keyword_of(word);
+    if modifier_of(word).is_none() {
+        return class_by(first, first, text, in_conditional);
+    }
     let bare = after_modifiers(text);
-    match (first_keyword(text), first_keyword(bare)) {
+    class_by(first, first_keyword(bare), bare, in_conditional)
+}
+
+/// Whether the first word of a text may be a reserved word: the text begins with a blank, or with a
+/// byte that begins a reserved word.
+fn may_begin_reserved(text: &[u8]) -> bool
+    ensures { result ≡ first_passes may_begin_reserved text.now }
+{
+    matches!(
+        text,
+        [
+            b' ' | b'\t' | b'-' | b'd' | b'e' | b'i' | b'l' | b'o' | b'p' | b's' | b'u' | b'v',
+            ..
+        ]
+    )
+}
+
+/// The class that keywords say: the first word of a text, and the first of `bare`, which is the text
+/// after its modifiers.
+fn class_by(
+    first: Option<Keyword>,
+    unmodified: Option<Keyword>,
+    bare: &[u8],
+    in_conditional: bool,
+) -> Option<Class>
+    ensures { result ≡ known_class (directive_by (meant_keyword first) (meant_keyword unmodified)
+        in_conditional (text_words bare.now)) }
+{
+    match (first, unmodified) {
         (_, Some(Keyword::Define)) => Some(Class::DefineHead(defines_prefix(bare))),
         (Some(Keyword::If), _) => Some(Class::If),
         (Some(Keyword::Else), _) if in_conditional => Some(Class::Else),
