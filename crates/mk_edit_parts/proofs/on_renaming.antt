@@ -5,3 +5,4 @@ pub mod PieceRanges
 pub mod LinePieces
 pub mod AbsentWords
 pub mod WordEnds
+pub mod WordGlances

@@ -13,3 +13,4 @@ pub mod NewPrerequisites
 -- A rename
 pub mod RenamedRanges
 pub mod RenamedTexts
+pub mod Glances

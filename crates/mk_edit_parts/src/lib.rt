@@ -28,6 +28,7 @@ pub mod address;
 pub mod argument;
 pub mod edit;
 pub mod find;
+pub mod glance;
 pub mod lean;
 pub mod line_end;
 pub mod line_test;

@@ -8,8 +8,9 @@ ghost use Rattle.mk_tree.specs.LocatedLines.{text_of_line};
 ghost use Rattle.mk_lines.specs.Cells.{line_cells};
 ghost use Rattle.mk_tree.specs.Trees.{line_view};
 
+use crate::glance::may_have_word;
 use crate::part::{part, text_of_line};
-use crate::text::{has_word, may_have_word};
+use crate::text::has_word;
 use mk_class::Class;
 use mk_lines::split::Span;
 use mk_tree::Line;
@@ -58,6 +59,7 @@ fn has_word_before<A: Allocator>(line: &Line<A>, end: usize, word: &[u8]) -> boo
     requires within { end ≤ length (line_cells (line_view line.now).bytes) }
     ensures { result ≡ is_one_of word.now (words_before end (text_of_line (line_view line.now))) }
 {
-    let before = part(text_of_line(line), Span { start: 0, end });
-    may_have_word(before, word) && has_word(before, word)
+    let text = text_of_line(line);
+    let before = Span { start: 0, end };
+    may_have_word(text, before, word) && has_word(part(text, before), word)
 }

@@ -7,8 +7,8 @@ ghost use Rattle.mk_edit_parts.specs.RenamedRanges.{IsWithin, part_ranges, renam
 ghost use Rattle.mk_edit_parts.specs.RenamedTexts.{AreApart, renamed_text, written};
 ghost use Rattle.mk_edit_parts.specs.WordCuts.{last_end};
 
+use crate::glance::may_have_word;
 use crate::part::{part, rest, text_of_line};
-use crate::text::may_have_word;
 use crate::word_parts::{parts_of, range_of_word};
 use mk_class::Class;
 use mk_lines::split::Span;
@@ -67,7 +67,7 @@ fn write_part<A: Allocator + Copy>(
         ++ written (line_view line.now).bytes done to.now
         (part_ranges (line_cells (line_view line.now).bytes) from.now span)) }
 {
-    if may_have_word(part(text_of_line(line), span), from) {
+    if may_have_word(text_of_line(line), span, from) {
         return write_words(bytes, line, span, from, to, done);
     }
     Ok(done)

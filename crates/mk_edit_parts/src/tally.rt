@@ -5,8 +5,8 @@ ghost use Rattle.mk_tree.specs.Trees.{line_view};
 ghost use Rattle.mk_edit_parts.specs.LocatedParts.{IsClassed};
 ghost use Rattle.mk_edit_parts.specs.RenamedRanges.{IsWithin, before_ranges, bytes_in, has_parts, no_words, part_ranges, renamed_ranges, tallied};
 
+use crate::glance::{may_have_word, may_have_word_in};
 use crate::part::{part, text_of_line};
-use crate::text::may_have_word;
 use crate::word_parts::{parts_of, range_of_word};
 use mk_class::Class;
 use mk_lines::split::Span;
@@ -42,6 +42,9 @@ pub fn count_words<A: Allocator>(line: &Line<A>, class: &Class, from: &[u8]) -> 
         return none;
     }
     let parts = parts_of(line, class);
+    if !may_have_word_in(text_of_line(line), parts, from) {
+        return none;
+    }
     let targets = count_in_part(line, parts.targets, from, none);
     let normal = count_in_part(line, parts.normal, from, targets);
     count_in_part(line, parts.order_only, from, normal)
@@ -66,7 +69,7 @@ fn count_in_part<A: Allocator>(line: &Line<A>, span: Span, from: &[u8], tally: T
     ensures { result
         ≡ tallied tally (part_ranges (line_cells (line_view line.now).bytes) from.now span) }
 {
-    if may_have_word(part(text_of_line(line), span), from) {
+    if may_have_word(text_of_line(line), span, from) {
         return count_each_word(line, span, from, tally);
     }
     tally

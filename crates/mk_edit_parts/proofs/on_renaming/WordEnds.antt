@@ -1,12 +1,11 @@
--- A word of a text stands in it behind a blank or at the front, and before a blank or at the end. So a search from blank to blank that sees no such place says that the word is none of the text's words.
-use Rattle.std.proofs.Common.{◌≡◌, refl, sym, ap, ◌∙◌, subst, arith, ℕ, ◌+◌, ◌-◌, ◌<◌, ◌≤◌, ◌⊎◌, inl, inr, Bool, true, false, List, [], ◌∷◌, ◌++◌, drop, take, length, length-append, append_assoc, ⊎_elim, Some, None}
-use Rattle.std.specs.Prelude.{if◌then◌else◌, slice_index, ◌||◌, ◌==◌}
+-- A word of a text stands in it behind a blank or at the front, and before a blank or at the end. So a glance from blank to blank that sees no such place says that the word is none of the text's words.
+use Rattle.std.proofs.Common.{◌≡◌, refl, sym, ap, ◌∙◌, subst, arith, ℕ, ◌-◌, ◌<◌, ◌⊎◌, inl, inr, Bool, true, false, List, [], ◌∷◌, ◌++◌, take, length, append_assoc, ⊎_elim}
+use Rattle.std.specs.Prelude.{if◌then◌else◌, ◌||◌, ◌==◌}
 use Rattle.std.specs.Str.{bytes_eq}
-use Rattle.std.proofs.lemmas.Bool.{or_cases, cases_order, false≢true}
-use Rattle.std.proofs.lemmas.List.{drop-append-le, get_or-append-add}
-use Rattle.std.proofs.Math.Seq.{drop-length, take-append_seam}
+use Rattle.std.proofs.lemmas.Bool.{or_cases, false≢true}
+use Rattle.std.proofs.Math.Seq.{take-append_seam}
 use Rattle.std.proofs.lemmas.Slice.Eq.{bytes_eq-Decides}
-use Rattle.memchr.specs.Find.{IsFirstByte, is_byte2}
+use Rattle.memchr.specs.Find.{is_byte2}
 use Rattle.mk_lines.specs.Bytes.{LineFeed, CarriageReturn, Backslash, Blank, Ordinary, is_blank_byte, is_blank_kind}
 use Rattle.mk_lines.specs.Lists.{FirstFails, concat}
 use Rattle.mk_lines.specs.Ranges.{text_at}
@@ -106,9 +105,9 @@ word-stands w t e =
     let ts = tokens (λ b. b) (units (λ b. b) t) in
     subst (StandsIn w) (token_text-tokens (λ b. b) (units (λ b. b) t) ∙ concat-units (λ b. b) t) (token-stands ts w (tokens-are_tokens (λ b. b) (units (λ b. b) t)) e).place
 
--- ---- a search from blank to blank
+-- ---- a glance from blank to blank
 
-blank-two : (x : ℕ) → is_blank_byte x ≡ true → is_byte2 32 9 x ≡ true
+pub blank-two : (x : ℕ) → is_blank_byte x ≡ true → is_byte2 32 9 x ≡ true
 blank-two x h = go (x == 10) (x == 13) (x == 92) (x == 32) (x == 9) h
   where
     go : (a b c d e : Bool)
@@ -119,59 +118,6 @@ blank-two x h = go (x == 10) (x == 13) (x == 92) (x == 32) (x == 9) h
     go false false false true e h = refl
     go false false false false true h = refl
     go false false false false false h = absurd (cc)
-
--- the blank before a word is one of the text's bytes
-blank-index : (w t : List ℕ) (s : StandsIn w t) (e : EndsInBlank s.before) → slice_index t (length e.front) ≡ e.blank
-blank-index w t s e =
-    let split : t ≡ e.front ++ (e.blank ∷ (w ++ s.after)) = s.whole ∙ (ap (λ z. z ++ (w ++ s.after)) e.whole ∙ append_assoc e.front (e.blank ∷ []) (w ++ s.after)) in
-    let none : length e.front ≡ length e.front + 0 = omega arith in
-    ap (λ z. slice_index z (length e.front)) split ∙ (ap (slice_index (e.front ++ (e.blank ∷ (w ++ s.after)))) none ∙ get_or-append-add e.front (e.blank ∷ (w ++ s.after)) 0 0)
-
-blank-within : (w t : List ℕ) (s : StandsIn w t) (e : EndsInBlank s.before) → length e.front < length t
-blank-within w t s e = omega (arith, ap length s.whole, length-append s.before (w ++ s.after), ap length e.whole, length-append e.front (e.blank ∷ []))
-
--- a word that does not stand at the front stands behind a blank
-behind-blank : (w t : List ℕ) (s : StandsIn w t) → ((after : List ℕ) → t ≡ w ++ after → (0 < length after) × FirstFails is_blank_byte after) → EndsInBlank s.before
-behind-blank w t s front =
-    ⊎_elim (λ nothing. let f = front s.after (s.whole ∙ ap (λ z. z ++ (w ++ s.after)) nothing) in absurd (s.follows f.0 f.1)) (λ e. e) s.opens
-
--- no blank, and nothing at the front
-pub nowhere-stands : (w t : List ℕ) → ((after : List ℕ) → t ≡ w ++ after → (0 < length after) × FirstFails is_blank_byte after) → IsFirstByte (is_byte2 32 9) t None → StandsIn w t → ⊥
-nowhere-stands w t front none s =
-    let e = behind-blank w t s front in
-    none (length e.front) (omega arith) (blank-within w t s e) (ap (is_byte2 32 9) (blank-index w t s e) ∙ blank-two e.blank e.is_blank)
-
-drop-past : (f : List ℕ) (x : ℕ) → drop (length f + 1) (f ++ (x ∷ [])) ≡ []
-drop-past f x = ap (λ n. drop n (f ++ (x ∷ []))) (sym (length-append f (x ∷ []))) ∙ drop-length (f ++ (x ∷ []))
-
--- the word stands behind the first blank
-pub stands-behind : (w t : List ℕ) (at : ℕ) → ((after : List ℕ) → t ≡ w ++ after → (0 < length after) × FirstFails is_blank_byte after) → IsFirstByte (is_byte2 32 9) t (Some at) → StandsIn w t → StandsIn w (drop (at + 1) t)
-stands-behind w t at front first s =
-    let e = behind-blank w t s front in
-    let near : at ≤ length e.front = ⊎_elim (λ same. omega (arith, same)) (λ other. ⊎_elim (λ less. omega (arith, less)) (λ more. absurd (first.0.before (length e.front) (omega arith) more (ap (is_byte2 32 9) (blank-index w t s e) ∙ blank-two e.blank e.is_blank))) other) (cases_order at (length e.front)) in
-    let long : length s.before ≡ length e.front + 1 = ap length e.whole ∙ length-append e.front (e.blank ∷ []) in
-    record {
-      before = drop (at + 1) s.before;
-      after = s.after;
-      whole = ap (drop (at + 1)) s.whole ∙ drop-append-le (at + 1) s.before (w ++ s.after) (omega (arith, near, long));
-      opens = rest-opens at s.before e near;
-      follows = s.follows;
-    }
-  where
-    rest-opens : (at : ℕ) (b : List ℕ) (e : EndsInBlank b) → at ≤ length e.front → (drop (at + 1) b ≡ []) ⊎ EndsInBlank (drop (at + 1) b)
-    rest-opens at b e near =
-        ⊎_elim
-        (λ same. inl (ap (drop (at + 1)) e.whole ∙ (ap (λ n. drop n (e.front ++ (e.blank ∷ []))) (ap (λ n. n + 1) same) ∙ drop-past e.front e.blank)))
-        (λ other. ⊎_elim
-        (λ less. inr (record {
-          front = drop (at + 1) e.front;
-          blank = e.blank;
-          whole = ap (drop (at + 1)) e.whole ∙ drop-append-le (at + 1) e.front (e.blank ∷ []) (omega (arith, less));
-          is_blank = e.is_blank;
-        }))
-        (λ more. absurd (omega (arith, more, near)))
-        other)
-        (cases_order at (length e.front))
 
 -- the bytes of a word at the front of a text
 pub front-same : (w t after : List ℕ) → t ≡ w ++ after → bytes_eq (text_at t (span 0 (length w))) w ≡ true

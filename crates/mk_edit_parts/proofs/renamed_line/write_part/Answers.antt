@@ -12,14 +12,12 @@ use Rattle.mk_edit_parts.proofs.renamed_line.write_part.Goals as goal
 pub returns-clause-end : goal.returns-clause-end
 returns-clause-end g c =
     let cs = line_cells (line_view c.args.line.now).bytes in
-    let part_is = c.part.ensures ∙ ap (λ t. text_at t c.args.span) c.text_of_line.ensures in
-    let none = part-lacks cs c.args.span c.args.from.now c.requires.within (ap (λ t. is_one_of c.args.from.now (words_in t)) (sym part_is) ∙ c.may_have_word.ensures c.if-may_have_word.false) in
+    let none = part-lacks cs c.args.span c.args.from.now c.requires.within (ap (λ t. is_one_of c.args.from.now (words_in (text_at t c.args.span))) (sym c.text_of_line.ensures) ∙ c.may_have_word.ensures c.if-may_have_word.false) in
     ap (last_end c.args.done) (sym none)
 
 pub returns-clause-written : goal.returns-clause-written
 returns-clause-written g c =
     let l = (line_view c.args.line.now).bytes in
     let cs = line_cells l in
-    let part_is = c.part.ensures ∙ ap (λ t. text_at t c.args.span) c.text_of_line.ensures in
-    let none = part-lacks cs c.args.span c.args.from.now c.requires.within (ap (λ t. is_one_of c.args.from.now (words_in t)) (sym part_is) ∙ c.may_have_word.ensures c.if-may_have_word.false) in
+    let none = part-lacks cs c.args.span c.args.from.now c.requires.within (ap (λ t. is_one_of c.args.from.now (words_in (text_at t c.args.span))) (sym c.text_of_line.ensures) ∙ c.may_have_word.ensures c.if-may_have_word.false) in
     sym (append-nil c.args.bytes.now.items) ∙ ap (λ ss. c.args.bytes.now.items ++ written l c.args.done c.args.to.now ss) (sym none)

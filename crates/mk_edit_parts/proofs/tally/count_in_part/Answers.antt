@@ -12,6 +12,5 @@ use Rattle.mk_edit_parts.proofs.tally.count_in_part.Goals as goal
 pub returns : goal.returns
 returns g c =
     let cs = line_cells (line_view c.args.line.now).bytes in
-    let part_is = c.part.ensures ∙ ap (λ t. text_at t c.args.span) c.text_of_line.ensures in
-    let none = part-lacks cs c.args.span c.args.from.now c.requires.within (ap (λ t. is_one_of c.args.from.now (words_in t)) (sym part_is) ∙ c.may_have_word.ensures c.if-may_have_word.false) in
+    let none = part-lacks cs c.args.span c.args.from.now c.requires.within (ap (λ t. is_one_of c.args.from.now (words_in (text_at t c.args.span))) (sym c.text_of_line.ensures) ∙ c.may_have_word.ensures c.if-may_have_word.false) in
     sym (tallied-none c.args.tally) ∙ ap (tallied c.args.tally) (sym none)

@@ -1,11 +1,16 @@
-use Rattle.std.proofs.Common.{◌≡◌, ◌∙◌, ap, arith, ℕ, ◌+◌, ◌^◌, ◌≤◌, ◌++◌, List}
+use Rattle.std.proofs.Common.{◌≡◌, ◌∙◌, sym, ap, arith, false, [], ℕ, ◌+◌, ◌^◌, ◌≤◌, ◌++◌, List}
 use Rattle.mk_lines.specs.Cells.{Cell, line_cells}
+use Rattle.mk_lines.specs.Ranges.{text_at}
+use Rattle.mk_lines.specs.Words.{words_in}
+use Rattle.mk_lines.specs.declared.split.Span.{Span}
+use Rattle.mk_class.specs.Texts.{is_one_of}
 use Rattle.mk_class.specs.declared.class.Class as class
 use Rattle.mk_tree.specs.Trees.{line_view}
 use Rattle.mk_edit_parts.specs.declared.tally.Tally.{Tally}
 use Rattle.mk_edit_parts.specs.declared.word_parts.WordParts.{WordParts}
-use Rattle.mk_edit_parts.specs.RenamedRanges.{bytes_in, no_words, part_ranges, parts_ranges, tallied, word_parts}
-use Rattle.mk_edit_parts.proofs.on_renaming.RangeLemmas.{bytes_in-three, ranges-are, tallied-append}
+use Rattle.mk_edit_parts.specs.RenamedRanges.{IsWithin, bytes_in, no_words, part_ranges, parts_ranges, tallied, word_parts}
+use Rattle.mk_edit_parts.proofs.on_renaming.AbsentWords.{part-lacks}
+use Rattle.mk_edit_parts.proofs.on_renaming.RangeLemmas.{bytes_in-three, ranges-are, tallied-append, tallied-none}
 use Rattle.mk_edit_parts.proofs.tally.count_words.Goals as goal
 
 few : (cs : List Cell) (o : List ℕ) (p : WordParts) (k j : class.Class) → p ≡ word_parts k → k ≡ j → bytes_in (parts_ranges cs o (word_parts j)) ≤ 2 ^ 32
@@ -38,3 +43,20 @@ returns g c =
     c.count_in_part.ensures
     ∙ (ap (λ (t : Tally). tallied t O) (c.count_in_part-normal.ensures ∙ ap (λ (t : Tally). tallied t N) c.count_in_part-targets.ensures)
     ∙ (tallied-append (tallied no_words T) N O ∙ (tallied-append no_words T (N ++ O) ∙ ap (tallied no_words) (ranges-are cs o p _ _ c.parts_of-parts.ensures.parts c.requires.class))))
+
+pub returns-then-not-may_have_word_in : goal.returns-then-not-may_have_word_in
+returns-then-not-may_have_word_in g c =
+    let cs = line_cells (line_view c.args.line.now).bytes in
+    let o = c.args.from.now in
+    let p = c.parts_of-parts.result in
+    let within = c.parts_of-parts.ensures.within in
+    let free = c.may_have_word_in.ensures in
+    let absent = c.if-not-may_have_word_in.true in
+    let lacks : (s : Span) → IsWithin _ s → is_one_of o (words_in (text_at c.text_of_line.result.now s)) ≡ false → part_ranges cs o s ≡ [] =
+    λ s h e. part-lacks cs s o h (ap (λ t. is_one_of o (words_in (text_at t s))) (sym c.text_of_line.ensures) ∙ e) in
+    let T = lacks p.targets within.0 (free.targets absent) in
+    let N = lacks p.normal within.1 (free.normal absent) in
+    let O = lacks p.order_only within.2 (free.order_only absent) in
+    sym (ap (tallied no_words) (sym (ranges-are cs o p _ _ c.parts_of-parts.ensures.parts c.requires.class)
+    ∙ (ap (λ z. z ++ (part_ranges cs o p.normal ++ part_ranges cs o p.order_only)) T ∙ (ap (λ z. z ++ part_ranges cs o p.order_only) N ∙ O)))
+    ∙ tallied-none no_words)

@@ -1,0 +1,127 @@
+//! A glance at the parts of a text: whether a word may be one of their words.
+//!
+//! Most lines do not have the word that an edit looks for, and to cut their parts into words takes
+//! longer than to look behind each blank. The blanks of the whole text are searched together, since
+//! a search of the library goes byte by byte through a text of fewer than 32 bytes, and most parts
+//! are that short.
+ghost use Rattle.std.specs.Prelude.{◌≡◌, ◌≤◌, false, length, drop};
+ghost use Rattle.mk_class.specs.ListTests.{first_passes};
+ghost use Rattle.mk_class.specs.Texts.{is_one_of};
+ghost use Rattle.mk_lines.specs.Bytes.{is_blank_byte};
+ghost use Rattle.mk_lines.specs.Ranges.{text_at};
+ghost use Rattle.mk_lines.specs.Words.{words_in};
+ghost use Rattle.mk_edit_parts.specs.Glances.{EndsPart, StandsAt, StandsBehindNone};
+ghost use Rattle.mk_edit_parts.specs.RenamedRanges.{ArePartsWithin, IsWithin};
+
+use crate::part::{part, rest};
+use crate::text::is_same_text;
+use crate::word_parts::WordParts;
+use memchr::memchr2_iter;
+use mk_lines::split::Span;
+
+/// Whether a word may be one of the words of a part of a text. `false` is certain, and quicker than
+/// cutting the part into words. Takes no memory.
+pub fn may_have_word(text: &[u8], span: Span, word: &[u8]) -> bool
+    requires { IsWithin (length text.now) span }
+    ensures { result ≡ false → is_one_of word.now (words_in (text_at text.now span)) ≡ false }
+{
+    let parts = WordParts {
+        targets: span,
+        normal: span,
+        order_only: span,
+    };
+    stands_at(text, parts, span.start, word) || stands_behind_blank(text, span, parts, word)
+}
+
+/// Whether a word may be one of the words of some parts of a text, as [`may_have_word`] says it of
+/// one part.
+pub fn may_have_word_in(text: &[u8], parts: WordParts, word: &[u8]) -> bool
+    requires { ArePartsWithin (length text.now) parts }
+    ensures targets { result ≡ false
+        → is_one_of word.now (words_in (text_at text.now parts.targets)) ≡ false }
+    ensures normal { result ≡ false
+        → is_one_of word.now (words_in (text_at text.now parts.normal)) ≡ false }
+    ensures order_only { result ≡ false
+        → is_one_of word.now (words_in (text_at text.now parts.order_only)) ≡ false }
+{
+    let range = Span {
+        start: 0,
+        end: last_end(parts),
+    };
+    stands_at_front(text, parts, word) || stands_behind_blank(text, range, parts, word)
+}
+
+// The end of the part that ends last.
+fn last_end(parts: WordParts) -> usize
+    ensures targets { parts.targets.end ≤ result }
+    ensures normal { parts.normal.end ≤ result }
+    ensures order_only { parts.order_only.end ≤ result }
+    ensures one { EndsPart parts result }
+{
+    let end = parts.targets.end.max(parts.normal.end);
+    end.max(parts.order_only.end)
+}
+
+// Whether a word may stand at the front of one of the parts.
+fn stands_at_front(text: &[u8], parts: WordParts, word: &[u8]) -> bool
+    requires { ArePartsWithin (length text.now) parts }
+    ensures targets { result ≡ false
+        → StandsAt text.now word.now parts parts.targets.start → ⊥ }
+    ensures normal { result ≡ false → StandsAt text.now word.now parts parts.normal.start → ⊥ }
+    ensures order_only { result ≡ false
+        → StandsAt text.now word.now parts parts.order_only.start → ⊥ }
+{
+    stands_at(text, parts, parts.targets.start, word)
+        || stands_at(text, parts, parts.normal.start, word)
+        || stands_at(text, parts, parts.order_only.start, word)
+}
+
+// Whether a word may stand behind a blank of a range.
+fn stands_behind_blank(text: &[u8], range: Span, parts: WordParts, word: &[u8]) -> bool
+    requires { range.end ≤ length text.now }
+    ensures { result ≡ false → StandsBehindNone text.now word.now parts range }
+{
+    'blanks: for blank in memchr2_iter(b' ', b'\t', text) {
+        if blank >= range.end {
+            return false;
+        }
+        if blank >= range.start && stands_at(text, parts, blank + 1, word) {
+            return true;
+        }
+    }
+    false
+}
+
+// Whether a word may stand at an offset: its bytes do, and behind them a part ends or a blank stands.
+fn stands_at(text: &[u8], parts: WordParts, at: usize, word: &[u8]) -> bool
+    requires { at ≤ length text.now }
+    ensures { result ≡ false → StandsAt text.now word.now parts at → ⊥ }
+{
+    let ahead = rest(text, at);
+    if ahead.len() < word.len() {
+        return false;
+    }
+    let behind = rest(ahead, word.len());
+    if !ends_part(parts, at + word.len()) && !begins_with_blank(behind) {
+        return false;
+    }
+    let front = Span {
+        start: 0,
+        end: word.len(),
+    };
+    is_same_text(part(ahead, front), word)
+}
+
+// Whether one of the parts ends at an offset.
+fn ends_part(parts: WordParts, end: usize) -> bool
+    ensures { result ≡ false → EndsPart parts end → ⊥ }
+{
+    parts.targets.end == end || parts.normal.end == end || parts.order_only.end == end
+}
+
+// Whether the first byte of a text is a blank.
+fn begins_with_blank(text: &[u8]) -> bool
+    ensures { result ≡ first_passes is_blank_byte text.now }
+{
+    matches!(text, [b' ' | b'\t', ..])
+}
