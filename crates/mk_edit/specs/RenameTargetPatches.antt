@@ -7,8 +7,10 @@ use Rattle.mk_lines.specs.LogicalLines.{logical_lines}
 use Rattle.mk_class.specs.Contexts.{Context, start, context_after_located}
 use Rattle.mk_tree.specs.LineTexts.{line_in}
 use Rattle.mk_tree.specs.LocatedLines.{LocatedLine, located_line}
+use Rattle.mk_tree.specs.Trees.{line_view}
 use Rattle.mk_patch.specs.Moves.{Move, Exchange, IsPlain}
 use Rattle.mk_edit_parts.specs.LocatedParts.{IsClassed}
+use Rattle.mk_edit_parts.specs.declared.seek.Found.{Found}
 use Rattle.mk_edit_parts.specs.declared.tally.Tally.{Tally}
 use Rattle.mk_edit_parts.specs.RenamedRanges.{renamed_ranges, bytes_in, no_words, tallied}
 use Rattle.mk_edit_parts.specs.RenamedTexts.{renamed_text, AreApart}
@@ -32,20 +34,33 @@ is_turn_of turn.Longer w b n = nat_lt b (w * n)
 abbrev pub tally_of : (old : List ℕ) → LocatedLine → Tally
 tally_of o l = tallied no_words (renamed_ranges o l)
 
--- what is noted of a line that stands at this index and in this context
-abbrev pub held_line : (old : List ℕ) → (at : ℕ) → Context → LocatedLine → Held
-held_line o at c l = record { place = record { at = at; context = c }; tally = tally_of o l }
+-- A line that holds the word: where it stands, the count of its words, and the line.
+pub record HeldLine : Type 0 where
+  pub place : Found
+  pub tally : Tally
+  pub line : LocatedLine
 
--- The places of the lines that hold the word, in their order, each with the count of its words; the
--- first line stands at this index and in this context.
-abbrev pub held_places_from : (old : List ℕ) → (at : ℕ) → Context → List LocatedLine → List Held
+-- what a note says, whatever stands left and right of its line in the tree
+abbrev pub held_view : {A : _} → Held A → HeldLine
+held_view h = record { place = h.place; tally = h.tally; line = line_view h.line.now }
+
+-- what is noted of a line that stands at this index and in this context
+abbrev pub held_line : (old : List ℕ) → (at : ℕ) → Context → LocatedLine → HeldLine
+held_line o at c l =
+    record { place = record { at = at; context = c }; tally = tally_of o l; line = l }
+
+-- The places of the lines that hold the word, in their order, each with the line and the count of
+-- its words; the first line stands at this index and in this context.
+abbrev pub held_places_from : (old : List ℕ) → (at : ℕ) → Context → List LocatedLine
+    → List HeldLine
 held_places_from o at c [] = []
 held_places_from o at c (l ∷ ls) =
     let below = held_places_from o (at + 1) (context_after_located c l.class) ls in
     if holds_word o l then held_line o at c l ∷ below else below
 
--- the places of the lines of a document that hold the word, each with the count of its words
-abbrev pub held_places : (old : List ℕ) → List LocatedLine → List Held
+-- the places of the lines of a document that hold the word, each with the line and the count of its
+-- words
+abbrev pub held_places : (old : List ℕ) → List LocatedLine → List HeldLine
 held_places o ls = held_places_from o 0 start ls
 
 -- whether this line is exchanged in a turn

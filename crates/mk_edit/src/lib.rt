@@ -19,7 +19,7 @@
 //! - `prereq`: a new prerequisite, and a prerequisite taken out, planned.
 //! - `value`: edits of a value, planned.
 //! - `remove_assign`: the removal of an assignment.
-//! - `rename_target_places`: the places of the lines that a rename exchanges, noted.
+//! - `rename_target_places`: the lines that a rename exchanges and their places, noted.
 //! - `rename_target_effect`: what a rename finds among the lines and does to them.
 //! - `rename_target_causes`: the causes of refusal of a rename.
 //! - `rename_target_patch`: the patch of a rename whose causes are decided.

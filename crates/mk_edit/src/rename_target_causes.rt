@@ -1,5 +1,5 @@
 //! The causes of refusal of a rename, in their order.
-ghost use Rattle.std.specs.Prelude.{◌≡◌, ◌+◌, ◌*◌, ◌≤◌, IfOk, IfErr, IfSome, None, Some, nat_lt};
+ghost use Rattle.std.specs.Prelude.{◌≡◌, ◌+◌, ◌*◌, ◌≤◌, IfOk, IfErr, IfSome, None, Some, map, nat_lt};
 ghost use Rattle.mk_lines.specs.Limits.{max_text};
 ghost use Rattle.mk_class.specs.ClassedLines.{classed_lines};
 ghost use Rattle.mk_class.specs.Contexts.{start};
@@ -8,7 +8,7 @@ ghost use Rattle.mk_tree.specs.LocatedLines.{located_text};
 ghost use Rattle.mk_edit_laws.specs.Refusals.{causes, first_cause};
 ghost use Rattle.mk_edit_parts.specs.EditViews.{edit_of};
 ghost use Rattle.mk_edit.specs.RenameTargetEffects.{IsRenameTarget, effect_on, first_of_lines};
-ghost use Rattle.mk_edit.specs.RenameTargetPatches.{held_places};
+ghost use Rattle.mk_edit.specs.RenameTargetPatches.{held_places, held_view};
 
 use crate::rename_target_effect::{Effect, Survey, rename_target_effect};
 use mk_edit_laws::Refusal;
@@ -28,19 +28,19 @@ use std::alloc::Allocator;
 /// # Errors
 ///
 /// The first refusal whose cause holds.
-pub(crate) fn accepted_rename<A: Allocator + Copy>(
+pub(crate) fn accepted_rename<'a, A: Allocator + Copy>(
     alloc: A,
-    doc: &Doc<A>,
+    doc: &'a Doc<A>,
     edit: &Edit<A>,
     from: &[u8],
     to: &[u8],
-) -> Result<Survey<A>, Refusal>
+) -> Result<Survey<'a, A>, Refusal>
     requires faithful { IsFaithful doc.now }
     requires kind { IsRenameTarget from.now to.now (edit_of edit.now) }
     ensures effect { IfOk result (λ survey.
         survey.effect ≡ effect_on from.now to.now start doc.now) }
     ensures places { IfOk result (λ survey. IfSome survey.places (λ places.
-        places.items ≡ held_places from.now doc.now)) }
+        map held_view places.items ≡ held_places from.now doc.now)) }
     ensures accepted { IfOk result (λ _. first_cause (causes (located_text doc.now)
         (classed_lines (located_text doc.now)) (edit_of edit.now)) ≡ None) }
     ensures refused { IfErr result (λ refusal. first_cause (causes (located_text doc.now)

@@ -1,12 +1,12 @@
 //! What a rename finds among the lines of a document and does to them, seen by one walk.
-ghost use Rattle.std.specs.Prelude.{◌≡◌, ◌+◌, ◌<◌, ◌≤◌, ◌^◌, IfSome};
+ghost use Rattle.std.specs.Prelude.{◌≡◌, ◌+◌, ◌<◌, ◌≤◌, ◌^◌, IfSome, map};
 ghost use Rattle.mk_lines.specs.Limits.{max_text};
 ghost use Rattle.mk_class.specs.Contexts.{start};
 ghost use Rattle.mk_tree.specs.Documents.{IsFaithful};
 ghost use Rattle.mk_tree.specs.Trees.{line_view};
 ghost use Rattle.mk_edit_parts.specs.LocatedParts.{IsClassed, is_target_located};
 ghost use Rattle.mk_edit.specs.RenameTargetEffects.{effect_of_line, effect_on, joined, may_tell, no_effect};
-ghost use Rattle.mk_edit.specs.RenameTargetPatches.{HasFewWords, held_places, is_turn_of, tally_of};
+ghost use Rattle.mk_edit.specs.RenameTargetPatches.{HasFewWords, held_places, held_view, is_turn_of, tally_of};
 
 use crate::rename_target_places::{Held, noted};
 use mk_class::{Class, Context};
@@ -51,28 +51,28 @@ pub(crate) struct Effect {
 
 /// What the walk that decides a rename has seen.
 #[derive(Drop)]
-pub(crate) struct Survey<A: Allocator> {
+pub(crate) struct Survey<'a, A: Allocator> {
     /// What the rename finds among the lines, and what it does to them.
     pub effect: Effect,
     /// The places of the lines that hold the old word, in their order, each with the count of its
-    /// words. `None` if a growth was refused.
-    pub places: Option<Vec<Held, A>>,
+    /// words and the line itself. `None` if a growth was refused.
+    pub places: Option<Vec<Held<'a, A>, A>>,
 }
 
 /// What a rename finds among the lines of a document, what it does to them, and where the lines
 /// stand that it exchanges. The call walks once over the kept lines and reads no line anew. It takes
 /// memory for the places alone, and goes on without it.
-pub(crate) fn rename_target_effect<A: Allocator + Copy>(
+pub(crate) fn rename_target_effect<'a, A: Allocator + Copy>(
     alloc: A,
-    doc: &Doc<A>,
+    doc: &'a Doc<A>,
     from: &[u8],
     to: &[u8],
-) -> Survey<A>
+) -> Survey<'a, A>
     requires { IsFaithful doc.now }
     ensures effect { result.effect ≡ effect_on from.now to.now start doc.now }
     ensures few_bytes { result.effect.bytes ≤ max_text }
     ensures places { IfSome result.places (λ places.
-        places.items ≡ held_places from.now doc.now) }
+        map held_view places.items ≡ held_places from.now doc.now) }
 {
     // The contract of `size` says that the text is within the limit, and so are its words.
     let _size = doc.size();
@@ -94,7 +94,7 @@ pub(crate) fn rename_target_effect<A: Allocator + Copy>(
             let of_line = effect_of_line(line, &class, tally, place.context, from, to);
             effect = joined(effect, of_line);
             if of_line.words > 0 {
-                places = noted(places, Held { place, tally });
+                places = noted(places, Held { place, tally, line });
             }
         }
     }

@@ -4,7 +4,7 @@
 //! shorter and another longer, and the text has to stay within its limit after each step. So the
 //! lines are exchanged in two turns: first the lines that get no longer, then the lines that get
 //! longer.
-ghost use Rattle.std.specs.Prelude.{◌≡◌, ◌≤◌, ◌+◌, ◌++◌, IfOk, OnOk, IsOkUnless, if◌then◌else◌, length, option_map};
+ghost use Rattle.std.specs.Prelude.{◌≡◌, ◌≤◌, ◌+◌, ◌++◌, IfOk, OnOk, IsOkUnless, if◌then◌else◌, length, map, option_map};
 ghost use Rattle.mk_lines.specs.Limits.{max_text};
 ghost use Rattle.mk_class.specs.ClassedLines.{classed_lines};
 ghost use Rattle.mk_class.specs.Contexts.{start};
@@ -17,7 +17,7 @@ ghost use Rattle.mk_edit_laws.specs.Edits.{RenameTarget};
 ghost use Rattle.mk_edit_laws.specs.Refusals.{causes, first_cause};
 ghost use Rattle.mk_edit.specs.Planned.{IsPlanned};
 ghost use Rattle.mk_edit.specs.RenameTargetEffects.{effect_on};
-ghost use Rattle.mk_edit.specs.RenameTargetPatches.{CanBeRenamed, CanEachBeRenamed, exchanged_count, held_places, is_exchanged, line_renamed, tally_of, turn_moves};
+ghost use Rattle.mk_edit.specs.RenameTargetPatches.{CanBeRenamed, CanEachBeRenamed, exchanged_count, held_places, held_view, is_exchanged, line_renamed, tally_of, turn_moves};
 
 use crate::moves::{builder, read_line};
 use crate::rename_target_effect::{Effect, Turn, is_of_turn};
@@ -38,8 +38,8 @@ struct Batch {
 }
 
 /// The patch that replaces a word in all targets and prerequisites. The caller knows that no cause
-/// of refusal holds, what the rename does to the lines, and the places of those that hold the old
-/// word. Each of these lines is read once.
+/// of refusal holds, what the rename does to the lines, and those that hold the old word, each with
+/// its place. Each of these lines is read once.
 ///
 /// # Errors
 ///
@@ -47,14 +47,14 @@ struct Batch {
 pub(crate) fn rename_target_patch<A: Allocator + Copy>(
     alloc: A,
     doc: &Doc<A>,
-    places: &[Held],
+    places: &[Held<'_, A>],
     from: &[u8],
     to: &[u8],
     effect: Effect,
     meter: &mut Meter,
 ) -> Result<Patch<A>, Refusal>
     requires faithful { IsFaithful doc.now }
-    requires places { places.now ≡ held_places from.now doc.now }
+    requires places { map held_view places.now ≡ held_places from.now doc.now }
     requires effect { effect ≡ effect_on from.now to.now start doc.now }
     requires accepted { first_cause (causes (located_text doc.now)
         (classed_lines (located_text doc.now)) (RenameTarget from.now to.now)) ≡ None }
@@ -88,7 +88,7 @@ pub(crate) fn rename_target_patch<A: Allocator + Copy>(
 fn exchange_lines<A: Allocator + Copy>(
     alloc: A,
     doc: &Doc<A>,
-    places: &[Held],
+    places: &[Held<'_, A>],
     patch: &mut PatchBuilder<A>,
     from: &[u8],
     to: &[u8],
@@ -97,7 +97,7 @@ fn exchange_lines<A: Allocator + Copy>(
 ) -> Result<(), Refusal>
     requires faithful { IsFaithful doc.now }
     requires can { CanEachBeRenamed from.now to.now start doc.now }
-    requires places { places.now ≡ held_places from.now doc.now }
+    requires places { map held_view places.now ≡ held_places from.now doc.now }
     requires lines { batch.lines ≡ exchanged_count batch.turn from.now to.now doc.now }
     requires room { length patch.old.moves + exchanged_count batch.turn from.now to.now doc.now
         ≤ patch.old.room }
@@ -115,8 +115,7 @@ fn exchange_lines<A: Allocator + Copy>(
     // The contract of `len` bounds the number of lines, as counting them asks.
     let _count = doc.len();
     'places: for held in places {
-        let line = doc.line(held.place.at);
-        let renamed = line_of_turn(alloc, line, held, from, to, batch.turn, meter)?;
+        let renamed = line_of_turn(alloc, held, from, to, batch.turn, meter)?;
         if let Some(renamed) = renamed {
             patch.push(Step::Exchange(held.place.at, renamed));
         }
@@ -127,27 +126,30 @@ fn exchange_lines<A: Allocator + Copy>(
 // The line after the rename, if it is exchanged in this turn.
 fn line_of_turn<A: Allocator + Copy>(
     alloc: A,
-    line: &Line<A>,
-    held: &Held,
+    held: &Held<'_, A>,
     from: &[u8],
     to: &[u8],
     turn: Turn,
     meter: &mut Meter,
 ) -> Result<Option<Line<A>>, Refusal>
-    requires can { CanBeRenamed from.now to.now held.now.place.context (line_view line.now) }
-    requires tally { held.now.tally ≡ tally_of from.now (line_view line.now) }
+    requires can { CanBeRenamed from.now to.now held.now.place.context
+        (line_view held.now.line.now) }
+    requires tally { held.now.tally ≡ tally_of from.now (line_view held.now.line.now) }
     ensures line { IfOk result (λ renamed. option_map line_view renamed
-        ≡ (if is_exchanged turn from.now to.now (line_view line.now)
-        then Some (line_renamed from.now to.now held.now.place.context (line_view line.now))
+        ≡ (if is_exchanged turn from.now to.now (line_view held.now.line.now)
+        then Some (line_renamed from.now to.now held.now.place.context
+        (line_view held.now.line.now))
         else None)) }
     ensures refused { IsOkUnless result Refusal.NoMemory }
     ensures counted { OnOk result (AreCounted meter.old
-        (if is_exchanged turn from.now to.now (line_view line.now) then 1 else 0) meter.new) }
-    ensures few_read { meter.new
-        ≤ meter.old + (if is_exchanged turn from.now to.now (line_view line.now) then 1 else 0) }
+        (if is_exchanged turn from.now to.now (line_view held.now.line.now) then 1 else 0)
+        meter.new) }
+    ensures few_read { meter.new ≤ meter.old
+        + (if is_exchanged turn from.now to.now (line_view held.now.line.now) then 1 else 0) }
     ensures forward { meter.old ≤ meter.new }
 {
     let tally = held.tally;
+    let line = held.line;
     if !is_of_turn(tally, to.len(), turn) {
         return Ok(None);
     }

@@ -1,14 +1,15 @@
 -- The walk that decides a rename notes the places of the lines that hold the word: the notes so far, and then the places among the
 -- lines ahead, are those of the document. A line whose class tells nothing has no effect.
-use Rattle.std.proofs.Common.{◌≡◌, refl, sym, ap, ◌∙◌, ℕ, ◌+◌, ◌*◌, ◌<◌, ◌≤◌, Bool, true, false, List, [], ◌∷◌, ◌++◌, length, append-nil, append_assoc, Option, Some, None, option_map, arith}
+use Rattle.std.proofs.Common.{◌≡◌, refl, sym, ap, ◌∙◌, ℕ, ◌+◌, ◌*◌, ◌<◌, ◌≤◌, Bool, true, false, List, [], ◌∷◌, ◌++◌, length, append-nil, append_assoc, map, Option, Some, None, option_map, arith}
 use Rattle.std.specs.Prelude.{IfSome, nat_lt, if◌then◌else◌}
 use Rattle.std.proofs.lemmas.Bool.{lt-ltb, le-ltb}
+use Rattle.std.proofs.lemmas.List.{map-append}
 use Rattle.mk_class.specs.Contexts.{Context, context_after_located}
 use Rattle.mk_class.specs.declared.class.Class as class
 use Rattle.mk_class.specs.declared.class.Class.TheVariants as variants
 use Rattle.mk_tree.specs.LocatedLines.{LocatedLine}
 use Rattle.mk_edit.specs.RenameTargetEffects.{effect_of_line, may_tell, no_effect}
-use Rattle.mk_edit.specs.RenameTargetPatches.{held_line, held_places_from, holds_word}
+use Rattle.mk_edit.specs.RenameTargetPatches.{HeldLine, held_line, held_places_from, held_view, holds_word}
 use Rattle.mk_edit.specs.declared.rename_target_effect.Effect.{Effect}
 use Rattle.mk_edit.specs.declared.rename_target_places.Held.{Held}
 use Rattle.mk_edit_parts.specs.RenamedRanges.{renamed_ranges}
@@ -59,12 +60,12 @@ holds-none o n c l e i h = le-ltb 0 (length (renamed_ranges o l)) (omega (arith,
 -- ---- the notes
 
 -- with the places among the lines ahead, notes are all places; the notes may have been dropped
-abbrev pub AreNoted : {X : Type 0} (items : X → List Held) → (notes : Option X) → (ahead all : List Held) → Type 0
-AreNoted items notes ahead all = IfSome notes (λ p. items p ++ ahead ≡ all)
+abbrev pub AreNoted : {A : _} {X : Type 0} (items : X → List (Held A)) → (notes : Option X) → (ahead all : List HeldLine) → Type 0
+AreNoted items notes ahead all = IfSome notes (λ p. map held_view (items p) ++ ahead ≡ all)
 
-module _ {X : Type 0} (items : X → List Held) (o : List ℕ) (all : List Held) (at : ℕ) (c a : Context) (l : LocatedLine) (ahead left : List LocatedLine) (first_is : ahead ≡ l ∷ left) (then_in : a ≡ context_after_located c l.class) where
+module _ {A : _} {X : Type 0} (items : X → List (Held A)) (o : List ℕ) (all : List HeldLine) (at : ℕ) (c a : Context) (l : LocatedLine) (ahead left : List LocatedLine) (first_is : ahead ≡ l ∷ left) (then_in : a ≡ context_after_located c l.class) where
   -- the places among the lines ahead, by whether the first of them holds the word
-  abbrev with_first : Bool → List Held
+  abbrev with_first : Bool → List HeldLine
   with_first b =
       let below = held_places_from o (at + 1) a left in
       if b then held_line o at c l ∷ below else below
@@ -78,22 +79,23 @@ module _ {X : Type 0} (items : X → List Held) (o : List ℕ) (all : List Held)
   -- one line on, which does not hold the word
   pub notes-kept : (notes : Option X) → holds_word o l ≡ false → AreNoted items notes (held_places_from o at c ahead) all → AreNoted items notes (held_places_from o (at + 1) a left) all
   notes-kept None h k = tt
-  notes-kept (Some p) h k = ap (λ z. items p ++ z) (sym (places-first false h)) ∙ k
+  notes-kept (Some p) h k = ap (λ z. map held_view (items p) ++ z) (sym (places-first false h)) ∙ k
 
   -- one line on, which holds the word: its place and its count are noted, or the notes are dropped
-  pub notes-more : (before after : Option X) (held : Held) → held ≡ held_line o at c l → holds_word o l ≡ true → IfSome after (λ q. Some (items q) ≡ option_map (λ p. items p ++ held ∷ []) before)
+  pub notes-more : (before after : Option X) (held : Held A) → held_view held ≡ held_line o at c l → holds_word o l ≡ true → IfSome after (λ q. Some (items q) ≡ option_map (λ p. items p ++ held ∷ []) before)
       → AreNoted items before (held_places_from o at c ahead) all → AreNoted items after (held_places_from o (at + 1) a left) all
   notes-more before None held e h w k = tt
   notes-more None (Some q) held e h w k = absurd (cc)
   notes-more (Some p) (Some q) held e h w k =
       let below = held_places_from o (at + 1) a left in
       let i : items q ≡ items p ++ held ∷ [] = cc in
-      ap (λ z. z ++ below) (i ∙ ap (λ (z : Held). items p ++ z ∷ []) e)
-      ∙ (append_assoc (items p) (held_line o at c l ∷ []) below
-      ∙ (ap (λ z. items p ++ z) (sym (places-first true h)) ∙ k))
+      let noted : List HeldLine = map held_view (items p) in
+      ap (λ z. z ++ below) (ap (map held_view) i ∙ (map-append held_view (items p) (held ∷ []) ∙ ap (λ (z : HeldLine). noted ++ z ∷ []) e))
+      ∙ (append_assoc noted (held_line o at c l ∷ []) below
+      ∙ (ap (λ z. noted ++ z) (sym (places-first true h)) ∙ k))
 
 -- at the end of the walk
-pub notes-all : {X : Type 0} (items : X → List Held) (o : List ℕ) (all : List Held) (at : ℕ) (c : Context) (ahead : List LocatedLine) (notes : Option X) → ahead ≡ [] → AreNoted items notes (held_places_from o at c ahead) all
-    → IfSome notes (λ p. items p ≡ all)
+pub notes-all : {A : _} {X : Type 0} (items : X → List (Held A)) (o : List ℕ) (all : List HeldLine) (at : ℕ) (c : Context) (ahead : List LocatedLine) (notes : Option X) → ahead ≡ [] → AreNoted items notes (held_places_from o at c ahead) all
+    → IfSome notes (λ p. map held_view (items p) ≡ all)
 notes-all items o all at c ahead None s k = tt
-notes-all items o all at c ahead (Some p) s k = sym (append-nil (items p)) ∙ (ap (λ z. items p ++ held_places_from o at c z) (sym s) ∙ k)
+notes-all items o all at c ahead (Some p) s k = sym (append-nil (map held_view (items p))) ∙ (ap (λ z. map held_view (items p) ++ held_places_from o at c z) (sym s) ∙ k)

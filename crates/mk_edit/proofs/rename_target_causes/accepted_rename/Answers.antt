@@ -29,8 +29,8 @@ returns-in-Some-first_of_lines-clause-refused g c =
     sym (causes-told c.args.doc.now e c.args.from.now c.args.to.now c.rename_target_effect-survey.result.effect c.size.result c.requires.kind c.requires.faithful fields free c.rename_target_effect-survey.ensures.effect c.size.ensures.number)
     ∙ (sym c.first_of_lines.ensures ∙ c.in-Some-first_of_lines.is)
 
-pub returns-in-None-clause-accepted : goal.returns-in-None-clause-accepted
-returns-in-None-clause-accepted g c =
+pub returns-clause-accepted : goal.returns-clause-accepted
+returns-clause-accepted g c =
     let e = edit_of c.args.edit.now in
     let fields : bad_argument e ≡ None = sym c.bad_field.ensures ∙ ap field_refusal c.in_default.is in
     let free : reserved e ≡ None = reserved-holds e c.is_reserved.result c.is_reserved.ensures ∙ ap (λ b. where_holds b Reserved) c.if-is_reserved.false in

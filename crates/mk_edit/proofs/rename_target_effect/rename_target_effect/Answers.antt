@@ -1,11 +1,12 @@
-use Rattle.std.proofs.Common.{◌≡◌, ◌∙◌, ◌++◌, List, length, refl, sym, ap, subst, arith}
+use Rattle.std.proofs.Common.{◌≡◌, ◌∙◌, ◌++◌, List, length, map, refl, sym, ap, subst, arith}
 use Rattle.mk_class.specs.Contexts.{Admits, Context, start, context_after_located}
 use Rattle.mk_tree.specs.Admissions.{AreAdmitted}
 use Rattle.mk_tree.specs.LocatedLines.{LocatedLine}
 use Rattle.mk_tree.specs.TreeWalks.{LinesInContext}
 use Rattle.mk_tree.specs.Trees.{line_view}
 use Rattle.mk_edit.specs.RenameTargetEffects.{effect_on, may_tell, no_effect}
-use Rattle.mk_edit.specs.RenameTargetPatches.{HasFewWords, HaveFewWords, held_places}
+use Rattle.mk_edit.specs.RenameTargetPatches.{HasFewWords, HaveFewWords, HeldLine, held_places, held_view}
+use Rattle.mk_edit_parts.specs.declared.seek.Found.{Found}
 use Rattle.mk_edit_parts.specs.declared.tally.Tally.{Tally}
 use Rattle.mk_edit.proofs.on_renaming.PlacesNoted.{holds-none, holds-some, notes-all, notes-kept, notes-more, passed-over}
 use Rattle.mk_edit.proofs.on_renaming.SizesOfEffects.{joined-none, walk-from, room-ahead, walk-on, walk-over, effect-bytes}
@@ -14,6 +15,10 @@ use Rattle.mk_edit.proofs.rename_target_effect.rename_target_effect.Goals as goa
 -- lines that are ahead of a walk, in their context
 abbrev ahead : Context → List LocatedLine → LinesInContext
 ahead c ls = record { context = c; lines = ls }
+
+-- what is noted of a line
+abbrev noted : Found → Tally → LocatedLine → HeldLine
+noted p t l = record { place = p; tally = t; line = l }
 
 pub lines-init : goal.lines-init
 lines-init g c =
@@ -25,7 +30,7 @@ lines-init g c =
       c.iter-line-items.ensures.admitted c.requires,
       w.3,
       omega arith,
-      ap (λ z. z ++ held_places c.args.from.now c.args.doc.now) c.new.ensures.items,
+      ap (λ z. map held_view z ++ held_places c.args.from.now c.args.doc.now) c.new.ensures.items,
     )
 
 pub count_words-tally-requires-clause-classed : goal.count_words-tally-requires-clause-classed
@@ -94,7 +99,7 @@ lines-preserved-then-of_line-gt0 g c =
       subst (λ (z : Context). AreAdmitted z rest) (sym k) admitted.1,
       walk-on o n c.lines.effect c.effect_of_line-of_line.result c.joined-effect.result (effect_on o n start c.args.doc.now) x x c.step.result l c.lines.line-iterator rest c.joined-effect.ensures c.effect_of_line-of_line.ensures refl s k c.lines.invariant.4,
       omega (arith, c.lines.invariant.5, ap length s),
-      notes-more (λ p. p.items) o (held_places o c.args.doc.now) c.lines.next.at x c.step.result l c.lines.line-iterator rest s k c.lines.places c.noted-places.result (record { place = c.lines.next; tally = c.count_words-tally.result }) (ap (λ (t : Tally). record { place = c.lines.next; tally = t }) c.count_words-tally.ensures) (holds-some o n x l c.effect_of_line-of_line.result c.effect_of_line-of_line.ensures c.if-of_line-gt0.true) c.noted-places.ensures c.lines.invariant.6,
+      notes-more (λ p. p.items) o (held_places o c.args.doc.now) c.lines.next.at x c.step.result l c.lines.line-iterator rest s k c.lines.places c.noted-places.result (record { place = c.lines.next; tally = c.count_words-tally.result; line = c.in-Some.line }) (ap (λ (t : Tally). noted c.lines.next t l) c.count_words-tally.ensures) (holds-some o n x l c.effect_of_line-of_line.result c.effect_of_line-of_line.ensures c.if-of_line-gt0.true) c.noted-places.ensures c.lines.invariant.6,
     )
 
 pub lines-preserved-else-of_line-gt0 : goal.lines-preserved-else-of_line-gt0

@@ -21,7 +21,7 @@ overflow_add-room g c = omega (arith, (words-counted _ _ _ _ _ c.requires.can c.
 
 pub read_line-requires-clause-plain : goal.read_line-requires-clause-plain
 read_line-requires-clause-plain g c =
-    let l = line_view c.args.line.now in
+    let l = line_view c.args.held.now.line.now in
     let W = words-counted _ _ _ _ _ c.requires.can c.requires.tally in
     let e : is_exchanged c.args.turn c.args.from.now c.args.to.now l ≡ true = sym (W.turn c.args.turn) ∙ (sym c.is_of_turn.ensures ∙ c.if-not-is_of_turn.false) in
     let p = c.requires.can.plain (exchanged-holds c.args.turn c.args.from.now c.args.to.now l e) in
@@ -30,7 +30,7 @@ read_line-requires-clause-plain g c =
 
 pub returns-clause-line : goal.returns-clause-line
 returns-clause-line g c =
-    let l = line_view c.args.line.now in
+    let l = line_view c.args.held.now.line.now in
     let W = words-counted _ _ _ _ _ c.requires.can c.requires.tally in
     let e : is_exchanged c.args.turn c.args.from.now c.args.to.now l ≡ true = sym (W.turn c.args.turn) ∙ (sym c.is_of_turn.ensures ∙ c.if-not-is_of_turn.false) in
     let bytes = c.in-Ok.ensures in
