@@ -131,6 +131,20 @@ def one_word(size):
     return Shape("one word in one rule", part(b"w"), said, edits)
 
 
+def nested_words(size):
+    """A word of references within references, beside a longer one that begins so behind each blank."""
+    depth = size // 8
+    inner = depth // 2
+    # (so long that a blank of the longer word stands where it would end)
+    filling = 3 - inner % 4 if inner % 4 < 3 else 4
+    longer = [(b"$(a ", depth), (b")", depth)]
+    word = [(b"$(a ", inner), (b"x", filling), (b")", inner)]
+    text = b"".join(part * times for part, times in word)
+    edits = (("rename", b'rename "%s" new' % text, [*longer, (b": b\nnew: c\n", 1)]),)
+    said = {"rules": [(b"1:0: ", 1), *longer, (b": b [0]\n2:0: ", 1), *word, (b": c [0]\n", 1)]}
+    return Shape("nested words", [*longer, (b": b\n", 1), *word, (b": c\n", 1)], said, edits)
+
+
 def renamed_lines(size):
     """Lines that each have a word to be renamed."""
     count = size // 5
@@ -260,6 +274,7 @@ SHAPES = (
     targets,
     prerequisites,
     one_word,
+    nested_words,
     renamed_lines,
     rules,
     recipe_lines,

@@ -19,12 +19,20 @@ use crate::word_parts::WordParts;
 use memchr::memchr2_iter;
 use mk_lines::split::Span;
 
+/// A longer word is not looked for. It may have blanks of its own, within references, and a text may
+/// begin as the word does behind each of its blanks: then each look would take time by the length of
+/// the word.
+const LONGEST: usize = 255;
+
 /// Whether a word may be one of the words of a part of a text. `false` is certain, and quicker than
-/// cutting the part into words. Takes no memory.
+/// cutting the part into words. Takes no memory, and time linear in the bytes of the text.
 pub fn may_have_word(text: &[u8], span: Span, word: &[u8]) -> bool
     requires { IsWithin (length text.now) span }
     ensures { result ≡ false → is_one_of word.now (words_in (text_at text.now span)) ≡ false }
 {
+    if word.len() > LONGEST {
+        return true;
+    }
     let parts = WordParts {
         targets: span,
         normal: span,
@@ -44,6 +52,9 @@ pub fn may_have_word_in(text: &[u8], parts: WordParts, word: &[u8]) -> bool
     ensures order_only { result ≡ false
         → is_one_of word.now (words_in (text_at text.now parts.order_only)) ≡ false }
 {
+    if word.len() > LONGEST {
+        return true;
+    }
     let range = Span {
         start: 0,
         end: last_end(parts),

@@ -1,10 +1,8 @@
 //! Texts compared, and the words of a text.
-ghost use Rattle.std.specs.Prelude.{ℕ, ◌≡◌, ◌<◌, ◌++◌, List, false, length};
+ghost use Rattle.std.specs.Prelude.{◌≡◌};
 ghost use Rattle.std.specs.Str.{bytes_eq};
 ghost use Rattle.mk_class.specs.RecipePrefix.{is_prefix_name};
 ghost use Rattle.mk_class.specs.Texts.{is_one_of};
-ghost use Rattle.mk_lines.specs.Bytes.{is_blank_byte};
-ghost use Rattle.mk_lines.specs.Lists.{FirstFails};
 ghost use Rattle.mk_lines.specs.Words.{words_in};
 
 use mk_lines::split_first_word;
