@@ -1,13 +1,11 @@
 -- What a rename finds among the lines of a document, what it does to them as a whole, and the first
 -- cause of refusal that this decides.
 -- Told in docs/ARCHITECTURE.md, "An edit's way, from Edit to moved lines".
-use Rattle.std.specs.Prelude.{◌≡◌, ℕ, ◌+◌, ◌*◌, ◌&&◌, ◌||◌, not, is_some, nat_lt, if◌then◌else◌, Bool, true, false, List, [], ◌∷◌, length, Option}
+use Rattle.std.specs.Prelude.{◌≡◌, ℕ, ◌+◌, ◌*◌, ◌&&◌, ◌||◌, not, nat_lt, if◌then◌else◌, Bool, false, List, [], ◌∷◌, length, Option}
 use Rattle.std.specs.List.{list_any}
 use Rattle.mk_lines.specs.Limits.{max_text}
 use Rattle.mk_class.specs.Contexts.{Context, context_after_located}
 use Rattle.mk_class.specs.RecipePrefix.{is_prefix_led}
-use Rattle.mk_class.specs.declared.class.Class as class
-use Rattle.mk_class.specs.declared.class.Class.TheVariants as variants
 use Rattle.mk_tree.specs.LocatedLines.{LocatedLine}
 use Rattle.mk_edit_laws.specs.Causes.{where_holds}
 use Rattle.mk_edit_laws.specs.Edits.{Edit, RenameTarget}
@@ -69,16 +67,6 @@ effect_of_line o n c l =
       no_longer = if is_exchanged turn.NoLonger o n l then 1 else 0;
       longer = if is_exchanged turn.Longer o n l then 1 else 0;
     }
-
--- whether a line of this class may have an effect: only a header or an assignment for targets has
--- words that are replaced, and only a plain assignment or the head of a `define` may set the recipe
--- prefix in a way that is not read
-abbrev pub may_tell : class.Class → Bool
-may_tell (variants.Header h) = true
-may_tell (variants.TargetAssign a) = true
-may_tell (variants.Assign a p) = not (is_some p)
-may_tell (variants.DefineHead u) = u
-may_tell k = false
 
 -- the effect on some lines and on other lines together
 abbrev pub joined : Effect → Effect → Effect

@@ -4,8 +4,7 @@ ghost use Rattle.mk_lines.specs.Limits.{max_text};
 ghost use Rattle.mk_class.specs.Contexts.{start};
 ghost use Rattle.mk_tree.specs.Documents.{IsFaithful};
 ghost use Rattle.mk_tree.specs.Trees.{line_view};
-ghost use Rattle.mk_edit_parts.specs.LocatedParts.{IsClassed, is_target_located};
-ghost use Rattle.mk_edit.specs.RenameTargetEffects.{effect_of_line, effect_on, joined, may_tell, no_effect};
+ghost use Rattle.mk_edit.specs.RenameTargetEffects.{effect_of_line, effect_on, joined, no_effect};
 ghost use Rattle.mk_edit.specs.RenameTargetPatches.{HasFewWords, held_places, held_view, is_turn_of, tally_of};
 
 use crate::rename_target_places::{Held, noted};
@@ -13,7 +12,7 @@ use mk_class::{Class, Context};
 use mk_edit_parts::lean::begins_with;
 use mk_edit_parts::line_test::has_target;
 use mk_edit_parts::seek::Found;
-use mk_edit_parts::tally::{Tally, count_words};
+use mk_edit_parts::tally::{Tally, count_words, has_parts};
 use mk_tree::end::sets_prefix_unread;
 use mk_tree::{Doc, Line};
 use std::alloc::Allocator;
@@ -78,24 +77,26 @@ pub(crate) fn rename_target_effect<'a, A: Allocator + Copy>(
     let _size = doc.size();
     let mut effect = no_effect();
     let mut places = Some(Vec::new(alloc));
-    let mut next = Found {
-        at: 0,
-        context: Context::start(),
-    };
+    let mut next_at = 0;
+    let mut next_context = Context::start();
     'lines: for line in doc.iter() {
         let class = line.class();
-        let place = next;
-        next = Found {
-            at: place.at + 1,
-            context: place.context.step(&class),
-        };
-        if may_tell(&class) {
+        let (at, context) = (next_at, next_context);
+        next_at = at + 1;
+        next_context = context.step(&class);
+        // Most lines tell one thing at most.
+        if has_parts(&class) {
             let tally = count_words(line, &class, from);
-            let of_line = effect_of_line(line, &class, tally, place.context, from, to);
-            effect = joined(effect, of_line);
-            if of_line.words > 0 {
+            if tally.words > 0 {
+                let of_line = effect_of_line(line, &class, tally, context, from, to);
+                effect = joined(effect, of_line);
+                let place = Found { at, context };
                 places = noted(places, Held { place, tally, line });
+            } else {
+                effect.is_taken |= has_target(line, &class, to);
             }
+        } else {
+            effect.has_unread_prefix |= sets_prefix_unread(line, &class);
         }
     }
     Survey { effect, places }
@@ -117,18 +118,6 @@ fn no_effect() -> Effect
     }
 }
 
-// Whether a line of this class may have an effect. Most lines are of other classes, and the walk
-// passes over them.
-fn may_tell(class: &Class) -> bool
-    ensures { result ≡ may_tell class.now }
-{
-    match class {
-        Class::Header(_) | Class::TargetAssign(_) | Class::Assign(_, None) => true,
-        Class::DefineHead(is_unread) => *is_unread,
-        _ => false,
-    }
-}
-
 // The effect on a line of this class that stands in this context. The tally counts its words that
 // are replaced.
 fn effect_of_line<A: Allocator>(
@@ -146,7 +135,7 @@ fn effect_of_line<A: Allocator>(
 {
     Effect {
         has_unread_prefix: sets_prefix_unread(line, class),
-        is_there: is_there(line, class, tally, from),
+        is_there: has_target(line, class, from),
         begins_line: tally.at_front && begins_with(to, context.prefix()),
         is_taken: has_target(line, class, to),
         words: tally.words,
@@ -154,17 +143,6 @@ fn effect_of_line<A: Allocator>(
         no_longer: usize::from(is_of_turn(tally, to.len(), Turn::NoLonger)),
         longer: usize::from(is_of_turn(tally, to.len(), Turn::Longer)),
     }
-}
-
-// Whether the old word is a target of a line of this class, by the count of the words that are
-// replaced. A line without the word is not searched for it again.
-fn is_there<A: Allocator>(line: &Line<A>, class: &Class, tally: Tally, from: &[u8]) -> bool
-    requires classed { IsClassed (line_view line.now) }
-    requires class { class.now ≡ (line_view line.now).class }
-    requires tally { tally ≡ tally_of from.now (line_view line.now) }
-    ensures { result ≡ is_target_located from.now (line_view line.now) }
-{
-    tally.words > 0 && has_target(line, class, from)
 }
 
 // The effect on some lines and on other lines together.

@@ -155,7 +155,7 @@ fn line_of_turn<A: Allocator + Copy>(
     }
     let class = line.class();
     let room = line.bytes().len() - tally.bytes + tally.words * to.len();
-    let Ok(bytes) = renamed_bytes(alloc, line, &class, from, to, room) else {
+    let Ok(bytes) = renamed_bytes(alloc, line, &class, from, to, room, tally) else {
         return Err(Refusal::NoMemory);
     };
     let renamed = read_line(alloc, bytes, held.place.context, meter)?;

@@ -1,6 +1,6 @@
 -- Where a word of some parts of a text may stand, as a glance at the text sees it.
 -- Told in docs/ARCHITECTURE.md, "An edit's way, from Edit to moved lines".
-use Rattle.std.specs.Prelude.{◌≡◌, ℕ, ◌+◌, ◌<◌, ◌≤◌, ◌⊎◌, true, List, ◌++◌, length, drop}
+use Rattle.std.specs.Prelude.{◌≡◌, ℕ, ◌+◌, ◌<◌, ◌≤◌, ◌⊎◌, true, List, ◌++◌, length, drop, Option, Some, None}
 use Rattle.memchr.specs.Find.{Passes, is_byte2}
 use Rattle.mk_lines.specs.Bytes.{is_blank_byte}
 use Rattle.mk_lines.specs.declared.split.Span.{Span}
@@ -22,3 +22,9 @@ abbrev pub StandsBehindNone : (text word : List ℕ) → WordParts → Span → 
 StandsBehindNone text word parts range =
     (k : ℕ) → range.start ≤ k → k < range.end → Passes (is_byte2 32 9) text k
     → StandsAt text word parts (k + 1) → ⊥
+
+-- A part that ends at this offset is passed before the first place where a word may stand. Each part
+-- is, if there is no such place.
+abbrev pub IsPassed : (place : Option ℕ) → (end : ℕ) → Type 0
+IsPassed None e = Unit {0}
+IsPassed (Some at) e = e ≤ at

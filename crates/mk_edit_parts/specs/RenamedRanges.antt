@@ -80,6 +80,12 @@ bytes_in (s ∷ ss) = (s.end - s.start) + bytes_in ss
 abbrev pub is_at_front : Span → Bool
 is_at_front s = s.start == 0
 
+-- the first range, of those counted before or else of some more
+abbrev pub first_range : (before : Option Span) → (more : List Span) → Option Span
+first_range (Some s) ss = Some s
+first_range None [] = None
+first_range None (s ∷ ss) = Some s
+
 -- a count with the words in these ranges added
 abbrev pub tallied : Tally → List Span → Tally
 tallied t ss =
@@ -87,11 +93,12 @@ tallied t ss =
       words = t.words + length ss;
       bytes = t.bytes + bytes_in ss;
       at_front = t.at_front || list_any is_at_front ss;
+      first = first_range t.first ss;
     }
 
 -- nothing counted
 abbrev pub no_words : Tally
-no_words = record { words = 0; bytes = 0; at_front = false }
+no_words = record { words = 0; bytes = 0; at_front = false; first = None }
 
 -- ---- where the ranges may stand
 

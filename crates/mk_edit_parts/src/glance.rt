@@ -1,17 +1,17 @@
-//! A glance at the parts of a text: whether a word may be one of their words.
+//! A glance at the parts of a text: whether a word may be one of their words, and from where on.
 //!
 //! Most lines do not have the word that an edit looks for, and to cut their parts into words takes
 //! longer than to look behind each blank. The blanks of the whole text are searched together, since
 //! a search of the library goes byte by byte through a text of fewer than 32 bytes, and most parts
 //! are that short.
-ghost use Rattle.std.specs.Prelude.{◌≡◌, ◌≤◌, false, length, drop};
+ghost use Rattle.std.specs.Prelude.{◌≡◌, ◌≤◌, None, false, length, drop, IfSome};
 ghost use Rattle.mk_class.specs.ListTests.{first_passes};
 ghost use Rattle.mk_class.specs.Texts.{is_one_of};
 ghost use Rattle.mk_lines.specs.Bytes.{is_blank_byte};
 ghost use Rattle.mk_lines.specs.Ranges.{text_at};
 ghost use Rattle.mk_lines.specs.Words.{words_in};
-ghost use Rattle.mk_edit_parts.specs.Glances.{EndsPart, StandsAt, StandsBehindNone};
-ghost use Rattle.mk_edit_parts.specs.RenamedRanges.{ArePartsWithin, IsWithin};
+ghost use Rattle.mk_edit_parts.specs.Glances.{EndsPart, IsPassed, StandsAt, StandsBehindNone};
+ghost use Rattle.mk_edit_parts.specs.RenamedRanges.{ArePartsWithin, IsWithin, span};
 
 use crate::part::{part, rest};
 use crate::text::is_same_text;
@@ -38,28 +38,30 @@ pub fn may_have_word(text: &[u8], span: Span, word: &[u8]) -> bool
         normal: span,
         order_only: span,
     };
-    stands_at(text, parts, span.start, word) || stands_behind_blank(text, span, parts, word)
+    stands_at(text, parts, span.start, word) || first_blank(text, span, parts, word).is_some()
 }
 
-/// Whether a word may be one of the words of some parts of a text, as [`may_have_word`] says it of
-/// one part.
-pub fn may_have_word_in(text: &[u8], parts: WordParts, word: &[u8]) -> bool
+/// Where a word may first be one of the words of some parts of a text. A part that ends at this
+/// offset or before it does not have the word, and if there is no such offset, no part has it. A
+/// part that ends behind the offset may have the word or not. Takes no memory, and time linear in
+/// the bytes of the text.
+pub fn first_place(text: &[u8], parts: WordParts, word: &[u8]) -> Option<usize>
     requires { ArePartsWithin (length text.now) parts }
-    ensures targets { result ≡ false
+    ensures targets { IsPassed result parts.targets.end
         → is_one_of word.now (words_in (text_at text.now parts.targets)) ≡ false }
-    ensures normal { result ≡ false
+    ensures normal { IsPassed result parts.normal.end
         → is_one_of word.now (words_in (text_at text.now parts.normal)) ≡ false }
-    ensures order_only { result ≡ false
+    ensures order_only { IsPassed result parts.order_only.end
         → is_one_of word.now (words_in (text_at text.now parts.order_only)) ≡ false }
 {
-    if word.len() > LONGEST {
-        return true;
+    if word.len() > LONGEST || stands_at_front(text, parts, word) {
+        return Some(0);
     }
     let range = Span {
         start: 0,
         end: last_end(parts),
     };
-    stands_at_front(text, parts, word) || stands_behind_blank(text, range, parts, word)
+    first_blank(text, range, parts, word)
 }
 
 // The end of the part that ends last.
@@ -87,20 +89,22 @@ fn stands_at_front(text: &[u8], parts: WordParts, word: &[u8]) -> bool
         || stands_at(text, parts, parts.order_only.start, word)
 }
 
-// Whether a word may stand behind a blank of a range.
-fn stands_behind_blank(text: &[u8], range: Span, parts: WordParts, word: &[u8]) -> bool
+// The first blank of a range behind which a word may stand.
+fn first_blank(text: &[u8], range: Span, parts: WordParts, word: &[u8]) -> Option<usize>
     requires { range.end ≤ length text.now }
-    ensures { result ≡ false → StandsBehindNone text.now word.now parts range }
+    ensures none { result ≡ None → StandsBehindNone text.now word.now parts range }
+    ensures first { IfSome result (λ blank.
+        StandsBehindNone text.now word.now parts (span range.start blank)) }
 {
     'blanks: for blank in memchr2_iter(b' ', b'\t', text) {
         if blank >= range.end {
-            return false;
+            return None;
         }
         if blank >= range.start && stands_at(text, parts, blank + 1, word) {
-            return true;
+            return Some(blank);
         }
     }
-    false
+    None
 }
 
 // Whether a word may stand at an offset: its bytes do, and behind them a part ends or a blank stands.

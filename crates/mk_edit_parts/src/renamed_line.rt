@@ -3,12 +3,13 @@ ghost use Rattle.std.specs.Prelude.{◌≡◌, ◌≤◌, [], ◌∷◌, ◌++�
 ghost use Rattle.mk_lines.specs.Cells.{line_cells};
 ghost use Rattle.mk_tree.specs.Trees.{line_view};
 ghost use Rattle.mk_edit_parts.specs.LocatedParts.{IsClassed};
-ghost use Rattle.mk_edit_parts.specs.RenamedRanges.{IsWithin, part_ranges, renamed_ranges};
-ghost use Rattle.mk_edit_parts.specs.RenamedTexts.{AreApart, renamed_text, written};
+ghost use Rattle.mk_edit_parts.specs.RenamedRanges.{IsWithin, no_words, part_ranges, renamed_ranges, tallied};
+ghost use Rattle.mk_edit_parts.specs.RenamedTexts.{AreApart, renamed_text, rewritten, written};
 ghost use Rattle.mk_edit_parts.specs.WordCuts.{last_end};
 
 use crate::glance::may_have_word;
 use crate::part::{part, rest, text_of_line};
+use crate::tally::Tally;
 use crate::word_parts::{parts_of, range_of_word};
 use mk_class::Class;
 use mk_lines::split::Span;
@@ -17,7 +18,8 @@ use mk_tree::Line;
 use std::alloc::{AllocError, Allocator};
 
 /// The bytes of a line in which a rename replaces the words that are `from` by `to`. The caller
-/// says how many bytes there will be, so that room is taken once.
+/// says how many bytes there will be, so that room is taken once, and has counted the words: a line
+/// with one such word, as most are, is not cut into words again.
 ///
 /// # Errors
 ///
@@ -29,20 +31,43 @@ pub fn renamed_bytes<A: Allocator + Copy>(
     from: &[u8],
     to: &[u8],
     room: usize,
+    tally: Tally,
 ) -> Result<Vec<u8, A>, AllocError>
     requires classed { IsClassed (line_view line.now) }
     requires class { class.now ≡ (line_view line.now).class }
     requires apart { AreApart 0 (length (line_view line.now).bytes)
         (renamed_ranges from.now (line_view line.now)) }
+    requires tally { tally ≡ tallied no_words (renamed_ranges from.now (line_view line.now)) }
     ensures { IfOk result (λ bytes.
         bytes.items ≡ renamed_text from.now to.now (line_view line.now)) }
 {
+    if let (1, Some(word)) = (tally.words, tally.first) {
+        return with_word(alloc, line.bytes(), word, to, room);
+    }
     let parts = parts_of(line, class);
     let mut bytes = Vec::with_capacity(alloc, room)?;
     let targets_end = write_part(&mut bytes, line, parts.targets, from, to, 0)?;
     let normal_end = write_part(&mut bytes, line, parts.normal, from, to, targets_end)?;
     let end = write_part(&mut bytes, line, parts.order_only, from, to, normal_end)?;
     bytes.extend_from_slice(rest(line.bytes(), end))?;
+    Ok(bytes)
+}
+
+// The bytes of a line with a new word in the place of one of its words.
+fn with_word<A: Allocator>(
+    alloc: A,
+    line: &[u8],
+    word: Span,
+    to: &[u8],
+    room: usize,
+) -> Result<Vec<u8, A>, AllocError>
+    requires rises { word.start ≤ word.end }
+    requires within { word.end ≤ length line.now }
+    ensures { IfOk result (λ bytes. bytes.items ≡ rewritten line.now to.now (word ∷ [])) }
+{
+    let mut bytes = Vec::with_capacity(alloc, room)?;
+    write_word(&mut bytes, line, 0, word, to)?;
+    bytes.extend_from_slice(rest(line, word.end))?;
     Ok(bytes)
 }
 

@@ -1,11 +1,15 @@
 //! The words of a line that a rename replaces, counted.
 ghost use Rattle.std.specs.Prelude.{◌≡◌, ◌+◌, ◌<◌, ◌≤◌, ◌^◌, [], false, length, IfSome};
 ghost use Rattle.mk_lines.specs.Cells.{line_cells};
+ghost use Rattle.mk_lines.specs.Ranges.{text_at};
+ghost use Rattle.mk_lines.specs.Words.{words_in};
+ghost use Rattle.mk_class.specs.Texts.{is_one_of};
+ghost use Rattle.mk_tree.specs.LocatedLines.{text_of_line};
 ghost use Rattle.mk_tree.specs.Trees.{line_view};
 ghost use Rattle.mk_edit_parts.specs.LocatedParts.{IsClassed};
 ghost use Rattle.mk_edit_parts.specs.RenamedRanges.{IsWithin, before_ranges, bytes_in, has_parts, no_words, part_ranges, renamed_ranges, tallied};
 
-use crate::glance::{may_have_word, may_have_word_in};
+use crate::glance::first_place;
 use crate::part::{part, text_of_line};
 use crate::word_parts::{parts_of, range_of_word};
 use mk_class::Class;
@@ -23,6 +27,8 @@ pub struct Tally {
     pub bytes: usize,
     /// Whether one of the words stands at the very front of the line.
     pub at_front: bool,
+    /// The raw range of the first of these words, in bytes of the line.
+    pub first: Option<Span>,
 }
 
 /// Counts the words of a line that are `from`, where a rename replaces words. Takes no memory.
@@ -37,30 +43,41 @@ pub fn count_words<A: Allocator>(line: &Line<A>, class: &Class, from: &[u8]) -> 
         words: 0,
         bytes: 0,
         at_front: false,
+        first: None,
     };
     if !has_parts(class) {
         return none;
     }
     let parts = parts_of(line, class);
-    if !may_have_word_in(text_of_line(line), parts, from) {
+    let Some(place) = first_place(text_of_line(line), parts, from) else {
         return none;
-    }
-    let targets = count_in_part(line, parts.targets, from, none);
-    let normal = count_in_part(line, parts.normal, from, targets);
-    count_in_part(line, parts.order_only, from, normal)
+    };
+    let targets = count_in_part(line, parts.targets, from, place, none);
+    let normal = count_in_part(line, parts.normal, from, place, targets);
+    count_in_part(line, parts.order_only, from, place, normal)
 }
 
-// Whether a line of this class has parts in which words are replaced.
-fn has_parts(class: &Class) -> bool
+/// Whether a line of this class has parts in which words are replaced: whether it is the header of a
+/// rule, or an assignment for targets.
+pub fn has_parts(class: &Class) -> bool
     ensures { result ≡ has_parts class.now }
 {
     matches!(class, Class::Header(_) | Class::TargetAssign(_))
 }
 
-// The count with the words of a part added that are `from`. Most parts do not have the word, and are
-// not cut into words: a look from blank to blank is quicker.
-fn count_in_part<A: Allocator>(line: &Line<A>, span: Span, from: &[u8], tally: Tally) -> Tally
+// The count with the words of a part added that are `from`. A part that ends at `place` or before
+// it does not have the word, and is not cut into words.
+fn count_in_part<A: Allocator>(
+    line: &Line<A>,
+    span: Span,
+    from: &[u8],
+    place: usize,
+    tally: Tally,
+) -> Tally
     requires within { IsWithin (length (line_cells (line_view line.now).bytes)) span }
+    requires passed { span.end ≤ place
+        → is_one_of from.now (words_in (text_at (text_of_line (line_view line.now)) span))
+        ≡ false }
     requires few { tally.words
         + length (part_ranges (line_cells (line_view line.now).bytes) from.now span) < 2 ^ 32 }
     requires few_bytes { tally.bytes
@@ -69,10 +86,10 @@ fn count_in_part<A: Allocator>(line: &Line<A>, span: Span, from: &[u8], tally: T
     ensures { result
         ≡ tallied tally (part_ranges (line_cells (line_view line.now).bytes) from.now span) }
 {
-    if may_have_word(text_of_line(line), span, from) {
-        return count_each_word(line, span, from, tally);
+    if span.end <= place {
+        return tally;
     }
-    tally
+    count_each_word(line, span, from, tally)
 }
 
 // The same, where the part is cut into words.
@@ -106,6 +123,7 @@ fn counted(tally: Tally, range: Option<Span>) -> Tally
             words: tally.words + 1,
             bytes: tally.bytes + (range.end - range.start),
             at_front: tally.at_front || range.start == 0,
+            first: tally.first.or(Some(range)),
         },
     }
 }

@@ -18,9 +18,15 @@ type Passed<'a, A> = ArrayVec<Option<&'a Line<A>>, HEIGHT_LIMIT>;
 /// It borrows the document and takes no memory: it keeps the lines on the way down to the next
 /// line. There are at most 34 of these, since a document has at most 16,777,216 lines in a balanced
 /// tree.
+///
+/// A walk over a large document waits for memory most of its time: where the next line is, only the
+/// line before it says. So a way down also looks at the right side of each line that it passes, and
+/// the processor fetches both sides at once.
 #[derive(Drop)]
 pub struct Lines<'a, A: Allocator = Global> {
     passed: Passed<'a, A>,
+    // What the looks at right sides saw. Nobody reads it, but without it there would be no look.
+    seen: bool,
 }
 
 impl<'a, A: Allocator> Model for Lines<'a, A> {
@@ -42,10 +48,11 @@ impl<'a, A: Allocator> Lines<'a, A> {
         ensures few { length result ≤ max_text }
     {
         let mut passed = ArrayVec::new();
+        let mut seen = false;
         if tree.len() > 0 {
-            pass_left(&mut passed, tree);
+            pass_left(&mut passed, &mut seen, tree);
         }
-        Lines { passed }
+        Lines { passed, seen }
     }
 
     /// The lines of a tree from the one at an index on.
@@ -57,7 +64,10 @@ impl<'a, A: Allocator> Lines<'a, A> {
         if at < tree.len() {
             pass_to(&mut passed, tree, at);
         }
-        Lines { passed }
+        Lines {
+            passed,
+            seen: false,
+        }
     }
 }
 
@@ -84,8 +94,8 @@ fn pass_to<'a, A: Allocator>(passed: &mut Passed<'a, A>, whole: &'a Tree<A>, ind
     }
 }
 
-// Goes down to the first line of a tree, past the lines on the way.
-fn pass_left<'a, A: Allocator>(passed: &mut Passed<'a, A>, tree: &'a Tree<A>)
+// Goes down to the first line of a tree, past the lines on the way, and looks at their right sides.
+fn pass_left<'a, A: Allocator>(passed: &mut Passed<'a, A>, seen: &mut bool, tree: &'a Tree<A>)
     requires room { array_vec_len passed.old + tree.now.1 ≤ 34 }
     requires within { HaveRoom 0 passed.old.items }
     ensures ahead { lines_ahead passed.new.items ≡ tree.now.0 ++ lines_ahead passed.old.items }
@@ -94,6 +104,9 @@ fn pass_left<'a, A: Allocator>(passed: &mut Passed<'a, A>, tree: &'a Tree<A>)
     let mut tree = tree;
     'down: while let Some(line) = tree.top() {
         passed.push(Some(line));
+        if let Some(right) = line.after().top() {
+            *seen ^= right.before().top().is_none(); // without a branch, which would wait for it
+        }
         tree = line.before();
     }
 }
@@ -112,7 +125,7 @@ impl<'a, A: Allocator> Iterator for Lines<'a, A> {
     fn next(&mut self) -> Option<&'a Line<A>> {
         match self.passed.pop() {
             Some(Some(line)) => {
-                pass_left(&mut self.passed, line.after());
+                pass_left(&mut self.passed, &mut self.seen, line.after());
                 Some(line)
             }
             Some(None) => unreachable!(),

@@ -116,12 +116,14 @@ const BOUND_OF_HEIGHT: u8 = 25;
 
 /// Reads lines into a tree that is no higher than `height`: as many as fill it, or all that are
 /// left. First the lines of its left side are read, then its top, then the lines of its right side.
-/// Each line is put into its place as soon as it is read.
+/// Each line is put into its place as soon as it is read. The two lowest levels, on which three of
+/// four lines stand, are read by functions of their own.
 fn read_tree<A: Allocator + Copy>(
     lines: &mut Unread<'_, A>,
     height: u8,
     meter: &mut Meter,
 ) -> Result<Tree<A>, Fault>
+    requires high { 2 ≤ height }
     requires fits { size_of (shown_lines lines.old) ≤ max_text }
     ensures read { IfOk result (λ tree. AreReadFrom lines.old tree.0 lines.new) }
     ensures low { IfOk result (λ tree. tree.1 ≤ height) }
@@ -132,11 +134,8 @@ fn read_tree<A: Allocator + Copy>(
     ensures forward { meter.old ≤ meter.new }
     ensures few_read { meter.new + length lines.new.lines ≤ meter.old + length lines.old.lines }
 {
-    if height == 0 {
-        return Ok(Tree::new());
-    }
-    if height == 1 {
-        return read_leaf(lines, meter);
+    if height == 2 {
+        return read_low(lines, meter);
     }
     let left = read_tree(lines, height - 1, meter)?;
     let Some(line) = lines.read_next(meter)? else {
@@ -146,8 +145,30 @@ fn read_tree<A: Allocator + Copy>(
     Ok(Tree::append(left, line, right))
 }
 
-/// Reads the first line, if one is left, into a tree of its own. Half of all lines stand at the
-/// lowest level of a full tree; nothing is read for their sides.
+/// Reads the first three lines, or all that are left, into a tree that is no higher than two.
+fn read_low<A: Allocator + Copy>(
+    lines: &mut Unread<'_, A>,
+    meter: &mut Meter,
+) -> Result<Tree<A>, Fault>
+    requires fits { size_of (shown_lines lines.old) ≤ max_text }
+    ensures read { IfOk result (λ tree. AreReadFrom lines.old tree.0 lines.new) }
+    ensures low { IfOk result (λ tree. tree.1 ≤ 2) }
+    ensures full { IfOk result (λ tree.
+        lines.new.lines ≢ [] → (tree.1 ≡ 2) × (length tree.0 ≡ 3)) }
+    ensures fault { IfErr result (λ fault. IsReadingFault (AreTooDeep lines.old) fault) }
+    ensures counted { IfOk result (λ tree. AreCounted meter.old (length tree.0) meter.new) }
+    ensures forward { meter.old ≤ meter.new }
+    ensures few_read { meter.new + length lines.new.lines ≤ meter.old + length lines.old.lines }
+{
+    let left = read_leaf(lines, meter)?;
+    let Some(line) = lines.read_next(meter)? else {
+        return Ok(left);
+    };
+    let right = read_leaf(lines, meter)?;
+    Ok(Tree::join(left, line, right))
+}
+
+/// Reads the first line, if one is left, into a tree of its own, which has no sides.
 fn read_leaf<A: Allocator + Copy>(
     lines: &mut Unread<'_, A>,
     meter: &mut Meter,

@@ -1,6 +1,6 @@
 -- The effect of a rename, gathered by a walk over the lines of a document: there is room for each sum, and it is that on all lines.
 use Rattle.std.proofs.Common.{◌≡◌, refl, sym, ap, ◌∙◌, subst, arith, ℕ, ◌+◌, ◌*◌, ◌≤◌, Bool, true, false, List, [], ◌∷◌, length, filter}
-use Rattle.std.specs.Prelude.{if◌then◌else◌}
+use Rattle.std.specs.Prelude.{if◌then◌else◌, ◌||◌}
 use Rattle.std.proofs.Math.Bool.{or-false, or_assoc}
 use Rattle.mk_lines.specs.Limits.{max_text}
 use Rattle.mk_class.specs.ClassedLines.{classed_lines}
@@ -20,7 +20,7 @@ use Rattle.mk_edit.proofs.on_renaming.SizesOfWords.{all-bytes, all-words}
 
 -- ---- effects joined
 
-same-effect : (e f : Effect) → e.has_unread_prefix ≡ f.has_unread_prefix → e.is_there ≡ f.is_there → e.begins_line ≡ f.begins_line → e.is_taken ≡ f.is_taken → e.words ≡ f.words → e.bytes ≡ f.bytes → e.no_longer ≡ f.no_longer
+pub same-effect : (e f : Effect) → e.has_unread_prefix ≡ f.has_unread_prefix → e.is_there ≡ f.is_there → e.begins_line ≡ f.begins_line → e.is_taken ≡ f.is_taken → e.words ≡ f.words → e.bytes ≡ f.bytes → e.no_longer ≡ f.no_longer
     → e.longer ≡ f.longer → e ≡ f
 same-effect e f u t l k w b s g =
     let mk : (u t l k : Bool) → (w b s g : ℕ) → Effect = λ u t l k w b s g. record { has_unread_prefix = u; is_there = t; begins_line = l; is_taken = k; words = w; bytes = b; no_longer = s; longer = g } in
@@ -33,9 +33,19 @@ same-effect e f u t l k w b s g =
     ∙ (ap (λ z. mk f.has_unread_prefix f.is_there f.begins_line f.is_taken f.words f.bytes z e.longer) s
     ∙ ap (mk f.has_unread_prefix f.is_there f.begins_line f.is_taken f.words f.bytes f.no_longer) g))))))
 
-pub joined-none : (e : Effect) → joined e no_effect ≡ e
+joined-none : (e : Effect) → joined e no_effect ≡ e
 joined-none e =
     same-effect (joined e no_effect) e (or-false e.has_unread_prefix) (or-false e.is_there) (or-false e.begins_line) (or-false e.is_taken) (omega arith) (omega arith) (omega arith) (omega arith)
+
+-- with an effect that tells nothing but that a line sets the prefix unread
+pub joined-unread : (e : Effect) (u : Bool) → joined e (record no_effect { has_unread_prefix = u }) ≡ record e { has_unread_prefix = e.has_unread_prefix || u }
+joined-unread e u =
+    same-effect (joined e (record no_effect { has_unread_prefix = u })) (record e { has_unread_prefix = e.has_unread_prefix || u }) refl (or-false e.is_there) (or-false e.begins_line) (or-false e.is_taken) (omega arith) (omega arith) (omega arith) (omega arith)
+
+-- with an effect that tells nothing but that the new word is a target
+pub joined-taken : (e : Effect) (t : Bool) → joined e (record no_effect { is_taken = t }) ≡ record e { is_taken = e.is_taken || t }
+joined-taken e t =
+    same-effect (joined e (record no_effect { is_taken = t })) (record e { is_taken = e.is_taken || t }) (or-false e.has_unread_prefix) (or-false e.is_there) (or-false e.begins_line) refl (omega arith) (omega arith) (omega arith) (omega arith)
 
 joined-assoc : (e f g : Effect) → joined (joined e f) g ≡ joined e (joined f g)
 joined-assoc e f g =

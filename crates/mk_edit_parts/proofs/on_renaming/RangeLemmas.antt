@@ -16,7 +16,7 @@ use Rattle.mk_class.specs.PartOffsets.{IsPart}
 use Rattle.mk_class.specs.declared.class.Class as class
 use Rattle.mk_edit_laws.proofs.on_lines.ClassParts.{cells-within}
 use Rattle.mk_edit_parts.specs.declared.word_parts.WordParts.{WordParts}
-use Rattle.mk_edit_parts.specs.RenamedRanges.{span, range_in, ranges_in, IsWithin, AreWithin, before_ranges, parts_ranges, word_parts, bytes_in, is_at_front, tallied}
+use Rattle.mk_edit_parts.specs.RenamedRanges.{span, range_in, ranges_in, IsWithin, AreWithin, before_ranges, parts_ranges, word_parts, bytes_in, is_at_front, first_range, no_words, tallied}
 use Rattle.mk_edit_parts.specs.declared.tally.Tally.{Tally}
 use Rattle.mk_edit_parts.proofs.on_prerequisites.RawPartLemmas.{raw-rises}
 
@@ -64,16 +64,37 @@ first-within n w ws vs h e = subst (AreWithin n) e h
 
 -- ---- counts
 
-same-tally : (s t : Tally) → s.words ≡ t.words → s.bytes ≡ t.bytes → s.at_front ≡ t.at_front → s ≡ t
-same-tally s t h i j =
-    let f : ℕ → ℕ → Bool → Tally = λ w b a. record { words = w; bytes = b; at_front = a } in
-    ap (λ z. f z s.bytes s.at_front) h ∙ (ap (λ z. f t.words z s.at_front) i ∙ ap (f t.words t.bytes) j)
+same-tally : (s t : Tally) → s.words ≡ t.words → s.bytes ≡ t.bytes → s.at_front ≡ t.at_front → s.first ≡ t.first → s ≡ t
+same-tally s t h i j k =
+    let f : ℕ → ℕ → Bool → Option Span → Tally = λ w b a o. record { words = w; bytes = b; at_front = a; first = o } in
+    ap (λ z. f z s.bytes s.at_front s.first) h ∙ (ap (λ z. f t.words z s.at_front s.first) i ∙ (ap (λ z. f t.words t.bytes z s.first) j ∙ ap (f t.words t.bytes t.at_front) k))
+
+-- the first range, where no range is added
+first-none : (o : Option Span) → first_range o [] ≡ o
+first-none None = refl
+first-none (Some s) = refl
+
+-- the first range of some ranges, and then of others
+first-append : (o : Option Span) (a b : List Span) → first_range (first_range o a) b ≡ first_range o (a ++ b)
+first-append None [] b = refl
+first-append None (s ∷ a) b = refl
+first-append (Some s) a b = refl
+
+only-range : (ss : List Span) (s : Span) → length ss ≡ 1 → first_range None ss ≡ Some s → ss ≡ s ∷ []
+only-range [] s one first = absurd (cc)
+only-range (x ∷ []) s one first = cc
+only-range (x ∷ y ∷ ss) s one first = absurd (omega (arith, one))
+
+-- where one range is counted, it is the first one
+pub only-counted : (t : Tally) (ss : List Span) (s : Span) → t ≡ tallied no_words ss → t.words ≡ 1 → t.first ≡ Some s → ss ≡ s ∷ []
+only-counted t ss s e one first = only-range ss s (omega (arith, ap (λ (z : Tally). z.words) e, one)) (sym (ap (λ (z : Tally). z.first) e) ∙ first)
 
 -- one range more, if there is one, and then others
 pub tallied-before : (t : Tally) (o : Option Span) (ss : List Span) → tallied (tallied t (before_ranges o [])) ss ≡ tallied t (before_ranges o ss)
-tallied-before t None ss = same-tally _ _ (omega arith) (omega arith) (or_assoc t.at_front false (list_any is_at_front ss))
+tallied-before t None ss = same-tally _ _ (omega arith) (omega arith) (or_assoc t.at_front false (list_any is_at_front ss)) (first-append t.first [] ss)
 tallied-before t (Some s) ss =
     same-tally _ _ (omega arith) (omega arith) (or_assoc t.at_front (is_at_front s || false) (list_any is_at_front ss) ∙ ap (λ z. t.at_front || (z || list_any is_at_front ss)) (or-false (is_at_front s)))
+    (first-append t.first (s ∷ []) ss)
 
 any-append : (p : Span → Bool) (a b : List Span) → list_any p (a ++ b) ≡ (list_any p a || list_any p b)
 any-append p [] b = refl
@@ -87,10 +108,11 @@ bytes_in-append (s ∷ a) b = omega (arith, bytes_in-append a b)
 pub tallied-append : (t : Tally) (a b : List Span) → tallied (tallied t a) b ≡ tallied t (a ++ b)
 tallied-append t a b =
     same-tally _ _ (omega (arith, length-append a b)) (omega (arith, bytes_in-append a b)) (or_assoc t.at_front (list_any is_at_front a) (list_any is_at_front b) ∙ ap (λ z. t.at_front || z) (sym (any-append is_at_front a b)))
+    (first-append t.first a b)
 
 -- a count to which nothing is added is as it was
 pub tallied-none : (t : Tally) → tallied t [] ≡ t
-tallied-none t = same-tally _ _ (omega arith) (omega arith) (or-false t.at_front)
+tallied-none t = same-tally _ _ (omega arith) (omega arith) (or-false t.at_front) (first-none t.first)
 
 -- What is counted of a part: the count so far, and the words ahead, with the first of them. There is room for one more.
 pub record HasRoom (t : Tally) (o : Option Span) : Type 0 where

@@ -1,6 +1,7 @@
 -- A glance from blank to blank that sees no place for a word in the parts of a text says that the word is none of their words.
-use Rattle.std.proofs.Common.{◌≡◌, refl, sym, ap, ◌∙◌, subst, arith, ℕ, suc, zero, ◌+◌, ◌-◌, ◌<◌, ◌≤◌, ◌⊎◌, inl, inr, Bool, true, false, List, [], ◌∷◌, ◌++◌, drop, take, length, length-append, append_assoc, take-append-drop, ⊎_elim}
-use Rattle.std.specs.Prelude.{slice_index}
+use Rattle.std.proofs.Common.{◌≡◌, refl, sym, ap, ◌∙◌, subst, arith, ℕ, suc, zero, ◌+◌, ◌-◌, ◌<◌, ◌≤◌, ◌⊎◌, inl, inr, Bool, true, false, List, [], ◌∷◌, ◌++◌, drop, take, length, length-append, append_assoc, take-append-drop, ⊎_elim, Option, Some, None}
+use Rattle.std.specs.Prelude.{slice_index, IfSome}
+use Rattle.std.specs.Option.{is_some}
 use Rattle.std.proofs.lemmas.Bool.{cases_order, cond-true, cond-false, false≢true}
 use Rattle.std.proofs.lemmas.List.{drop-drop, get_or-append-add, length-drop, length-take-le}
 use Rattle.std.proofs.Math.Seq.{drop-append_seam}
@@ -12,8 +13,8 @@ use Rattle.mk_lines.specs.Words.{words_in}
 use Rattle.mk_lines.specs.declared.split.Span.{Span}
 use Rattle.mk_class.specs.ListTests.{first_passes}
 use Rattle.mk_class.specs.Texts.{is_one_of}
-use Rattle.mk_edit_parts.specs.Glances.{EndsPart, StandsAt, StandsBehindNone}
-use Rattle.mk_edit_parts.specs.RenamedRanges.{IsWithin}
+use Rattle.mk_edit_parts.specs.Glances.{EndsPart, IsPassed, StandsAt, StandsBehindNone}
+use Rattle.mk_edit_parts.specs.RenamedRanges.{IsWithin, span}
 use Rattle.mk_edit_parts.specs.declared.word_parts.WordParts.{WordParts}
 use Rattle.mk_edit_parts.proofs.on_renaming.WordEnds.{EndsInBlank, StandsIn, blank-two, not-one_of}
 
@@ -85,8 +86,8 @@ module _ (text word : List ℕ) (parts : WordParts) (range : Span) (ahead left :
   pub next-blank : IsNext (is_byte2 32 9) text s.at x left
   next-blank = first-place (is_byte2 32 9) text s.at (length text - s.at) x left (omega (arith, s.within)) (sym s.ahead_is ∙ e)
 
-  -- no blank stands from where the search has come to up to the next one
-  passed-over : (k : ℕ) → range.start ≤ k → k < x → Passes (is_byte2 32 9) text k → StandsAt text word parts (k + 1) → ⊥
+  -- behind no blank before the next one the word may stand
+  pub passed-over : StandsBehindNone text word parts (span range.start x)
   passed-over k low high p there =
       ⊎_elim (λ same. next-blank.none.before k (omega (arith, same)) high p)
       (λ other. ⊎_elim (λ less. s.passed k low less p there) (λ more. next-blank.none.before k (omega (arith, more)) high p) other)
@@ -212,3 +213,14 @@ no-word text word parts part range h last low high front none = not-one_of word 
         ⊎_elim (λ e. front (subst (StandsAt text word parts) e p.stands))
         (λ (b : IsBehindBlank text part p.at). none b.blank (omega (arith, low, b.low)) (omega (arith, high, b.high)) b.passes (subst (StandsAt text word parts) b.is_before p.stands))
         p.opens
+
+-- a part that is passed before the first place where a word may stand does not have the word
+pub passed-lacks : (text word : List ℕ) (parts : WordParts) (part range : Span) (place : Option ℕ) → IsWithin (length text) part → EndsPart parts part.end → range.start ≤ part.start → part.end ≤ range.end
+    → (StandsAt text word parts part.start → ⊥) → (place ≡ None → StandsBehindNone text word parts range) → IfSome place (λ blank. StandsBehindNone text word parts (span range.start blank))
+    → IsPassed place part.end → is_one_of word (words_in (text_at text part)) ≡ false
+passed-lacks text word parts part range None h last low high front none first passed = no-word text word parts part range h last low high front (none refl)
+passed-lacks text word parts part range (Some blank) h last low high front none first passed = no-word text word parts part (span range.start blank) h last low passed front first
+
+pub none-found : (place : Option ℕ) → is_some place ≡ false → place ≡ None
+none-found None e = refl
+none-found (Some at) e = absurd (cc)

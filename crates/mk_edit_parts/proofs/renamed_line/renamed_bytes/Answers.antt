@@ -1,11 +1,12 @@
-use Rattle.std.proofs.Common.{◌≡◌, ◌∙◌, sym, ap, subst, arith, ◌++◌, length, List, ℕ, drop}
+use Rattle.std.proofs.Common.{◌≡◌, ◌∙◌, sym, ap, subst, arith, [], ◌∷◌, ◌++◌, length, List, ℕ, drop}
+use Rattle.std.specs.Prelude.{IfOk}
 use Rattle.mk_lines.specs.Cells.{line_cells}
 use Rattle.mk_class.specs.declared.class.Class as class
 use Rattle.mk_tree.specs.Trees.{line_view}
 use Rattle.mk_edit_parts.specs.declared.word_parts.WordParts.{WordParts}
-use Rattle.mk_edit_parts.specs.RenamedRanges.{part_ranges, parts_ranges, word_parts}
+use Rattle.mk_edit_parts.specs.RenamedRanges.{part_ranges, parts_ranges, renamed_ranges, word_parts}
 use Rattle.mk_edit_parts.specs.RenamedTexts.{AreApart, rewritten}
-use Rattle.mk_edit_parts.proofs.on_renaming.RangeLemmas.{ranges-are}
+use Rattle.mk_edit_parts.proofs.on_renaming.RangeLemmas.{only-counted, ranges-are}
 use Rattle.mk_edit_parts.proofs.on_renaming.WrittenLemmas.{AreWritten, three-written, parts-joined}
 use Rattle.mk_edit_parts.specs.WordCuts.{last_end}
 use Rattle.mk_edit_parts.proofs.renamed_line.renamed_bytes.Goals as goal
@@ -40,7 +41,7 @@ rest-requires g c =
     let o = c.args.from.now in
     let W = parts-written l o c.args.to.now p _ _ c.parts_of-parts.ensures.parts c.requires.class c.requires.apart in
     let e = c.in_ok-end.ensures.end ∙ ap (λ m. last_end m (part_ranges cs o p.order_only)) (c.in_ok-normal_end.ensures.end ∙ ap (λ m. last_end m (part_ranges cs o p.normal)) c.in_ok-targets_end.ensures.end) in
-    omega (arith, e, W.within, ap length c.bytes.ensures.bytes)
+    omega (arith, e, W.within, ap length c.bytes-2.ensures.bytes)
 
 pub returns : goal.returns
 returns g c =
@@ -53,8 +54,28 @@ returns g c =
     let b = part_ranges cs o p.normal in
     let d = part_ranges cs o p.order_only in
     let W = parts-written l o n p _ _ c.parts_of-parts.ensures.parts c.requires.class c.requires.apart in
-    let all : c.extend_from_slice.new.self.items ≡ c.write_part-3.new.bytes.items ++ drop c.in_ok-end.end l = c.in_ok-extend_from_slice.ensures.items ∙ ap (λ z. c.write_part-3.new.bytes.items ++ z) (c.rest.ensures ∙ ap (drop c.in_ok-end.end) c.bytes.ensures.bytes) in
+    let all : c.extend_from_slice.new.self.items ≡ c.write_part-3.new.bytes.items ++ drop c.in_ok-end.end l = c.in_ok-extend_from_slice.ensures.items ∙ ap (λ z. c.write_part-3.new.bytes.items ++ z) (c.rest.ensures ∙ ap (drop c.in_ok-end.end) c.bytes-2.ensures.bytes) in
     parts-joined l n a b d c.in_ok-bytes.bytes.items c.write_part.new.bytes.items c.write_part-2.new.bytes.items c.write_part-3.new.bytes.items c.extend_from_slice.new.self.items
     c.in_ok-targets_end.targets_end c.in_ok-normal_end.normal_end c.in_ok-end.end W c.in_ok-bytes.ensures.items c.in_ok-targets_end.ensures.end c.in_ok-normal_end.ensures.end c.in_ok-end.ensures.end
     c.in_ok-targets_end.ensures.written c.in_ok-normal_end.ensures.written c.in_ok-end.ensures.written all
     ∙ ap (rewritten l n) (ranges-are cs o p _ _ c.parts_of-parts.ensures.parts c.requires.class)
+
+pub with_word-requires-clause-rises : goal.with_word-requires-clause-rises
+with_word-requires-clause-rises g c =
+    let one = only-counted c.args.tally _ _ c.requires.tally c.in-1-Some.is-0 c.in-1-Some.is-1 in
+    (subst (AreApart 0 (length (line_view c.args.line.now).bytes)) one c.requires.apart).1
+
+pub with_word-requires-clause-within : goal.with_word-requires-clause-within
+with_word-requires-clause-within g c =
+    let one = only-counted c.args.tally _ _ c.requires.tally c.in-1-Some.is-0 c.in-1-Some.is-1 in
+    let within = (subst (AreApart 0 (length (line_view c.args.line.now).bytes)) one c.requires.apart).2 in
+    omega (arith, within, ap length c.bytes.ensures.bytes)
+
+pub returns-in-1-Some : goal.returns-in-1-Some
+returns-in-1-Some g c =
+    let l = (line_view c.args.line.now).bytes in
+    let n = c.args.to.now in
+    let w = c.in-1-Some.word in
+    let one : renamed_ranges c.args.from.now (line_view c.args.line.now) ≡ w ∷ [] = only-counted c.args.tally _ _ c.requires.tally c.in-1-Some.is-0 c.in-1-Some.is-1 in
+    subst (λ ss. IfOk c.with_word.result (λ bytes. bytes.items ≡ rewritten l n ss)) (sym one)
+    (subst (λ t. IfOk c.with_word.result (λ bytes. bytes.items ≡ rewritten t n (w ∷ []))) c.bytes.ensures.bytes c.with_word.ensures)

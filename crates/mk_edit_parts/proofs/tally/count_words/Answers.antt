@@ -1,4 +1,4 @@
-use Rattle.std.proofs.Common.{◌≡◌, ◌∙◌, sym, ap, arith, false, [], ℕ, ◌+◌, ◌^◌, ◌≤◌, ◌++◌, List}
+use Rattle.std.proofs.Common.{◌≡◌, ◌∙◌, sym, ap, subst, arith, false, [], ℕ, ◌+◌, ◌^◌, ◌≤◌, ◌++◌, List}
 use Rattle.mk_lines.specs.Cells.{Cell, line_cells}
 use Rattle.mk_lines.specs.Ranges.{text_at}
 use Rattle.mk_lines.specs.Words.{words_in}
@@ -8,6 +8,7 @@ use Rattle.mk_class.specs.declared.class.Class as class
 use Rattle.mk_tree.specs.Trees.{line_view}
 use Rattle.mk_edit_parts.specs.declared.tally.Tally.{Tally}
 use Rattle.mk_edit_parts.specs.declared.word_parts.WordParts.{WordParts}
+use Rattle.mk_edit_parts.specs.Glances.{IsPassed}
 use Rattle.mk_edit_parts.specs.RenamedRanges.{IsWithin, bytes_in, no_words, part_ranges, parts_ranges, tallied, word_parts}
 use Rattle.mk_edit_parts.proofs.on_renaming.AbsentWords.{part-lacks}
 use Rattle.mk_edit_parts.proofs.on_renaming.RangeLemmas.{bytes_in-three, ranges-are, tallied-append, tallied-none}
@@ -44,19 +45,30 @@ returns g c =
     ∙ (ap (λ (t : Tally). tallied t O) (c.count_in_part-normal.ensures ∙ ap (λ (t : Tally). tallied t N) c.count_in_part-targets.ensures)
     ∙ (tallied-append (tallied no_words T) N O ∙ (tallied-append no_words T (N ++ O) ∙ ap (tallied no_words) (ranges-are cs o p _ _ c.parts_of-parts.ensures.parts c.requires.class))))
 
-pub returns-then-not-may_have_word_in : goal.returns-then-not-may_have_word_in
-returns-then-not-may_have_word_in g c =
+pub count_in_part-targets-requires-clause-passed : goal.count_in_part-targets-requires-clause-passed
+count_in_part-targets-requires-clause-passed g c passed =
+    ap (λ t. is_one_of c.args.from.now (words_in (text_at t c.parts_of-parts.result.targets))) (sym c.text_of_line.ensures) ∙ c.in-Some.ensures.targets passed
+
+pub count_in_part-normal-requires-clause-passed : goal.count_in_part-normal-requires-clause-passed
+count_in_part-normal-requires-clause-passed g c passed =
+    ap (λ t. is_one_of c.args.from.now (words_in (text_at t c.parts_of-parts.result.normal))) (sym c.text_of_line.ensures) ∙ c.in-Some.ensures.normal passed
+
+pub count_in_part-requires-clause-passed : goal.count_in_part-requires-clause-passed
+count_in_part-requires-clause-passed g c passed =
+    ap (λ t. is_one_of c.args.from.now (words_in (text_at t c.parts_of-parts.result.order_only))) (sym c.text_of_line.ensures) ∙ c.in-Some.ensures.order_only passed
+
+pub returns-in_default : goal.returns-in_default
+returns-in_default g c =
     let cs = line_cells (line_view c.args.line.now).bytes in
     let o = c.args.from.now in
     let p = c.parts_of-parts.result in
     let within = c.parts_of-parts.ensures.within in
-    let free = c.may_have_word_in.ensures in
-    let absent = c.if-not-may_have_word_in.true in
+    let passed : (e : ℕ) → IsPassed c.first_place.result e = λ e. subst (λ place. IsPassed place e) (sym c.in_default.is) tt in
     let lacks : (s : Span) → IsWithin _ s → is_one_of o (words_in (text_at c.text_of_line.result.now s)) ≡ false → part_ranges cs o s ≡ [] =
     λ s h e. part-lacks cs s o h (ap (λ t. is_one_of o (words_in (text_at t s))) (sym c.text_of_line.ensures) ∙ e) in
-    let T = lacks p.targets within.0 (free.targets absent) in
-    let N = lacks p.normal within.1 (free.normal absent) in
-    let O = lacks p.order_only within.2 (free.order_only absent) in
+    let T = lacks p.targets within.0 (c.first_place.ensures.targets (passed p.targets.end)) in
+    let N = lacks p.normal within.1 (c.first_place.ensures.normal (passed p.normal.end)) in
+    let O = lacks p.order_only within.2 (c.first_place.ensures.order_only (passed p.order_only.end)) in
     sym (ap (tallied no_words) (sym (ranges-are cs o p _ _ c.parts_of-parts.ensures.parts c.requires.class)
     ∙ (ap (λ z. z ++ (part_ranges cs o p.normal ++ part_ranges cs o p.order_only)) T ∙ (ap (λ z. z ++ part_ranges cs o p.order_only) N ∙ O)))
     ∙ tallied-none no_words)

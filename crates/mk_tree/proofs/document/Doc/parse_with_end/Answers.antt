@@ -12,7 +12,7 @@ use Rattle.mk_tree.proofs.document.Doc.parse_with_end.Goals as goal
 pub read_tree-requires : goal.read_tree-requires
 read_tree-requires g c =
     let same = ap (λ (u : UnreadLines). size_of (shown_lines u)) c.new-lines.ensures in
-    record { fits = omega (arith, c.if-len-gt-MAX_TEXT.false, c.len.ensures, same, size_of-document (rc_slice_items c.in_ok-text.text), ap length c.in_ok-text.ensures) }
+    record { high = omega arith; fits = omega (arith, c.if-len-gt-MAX_TEXT.false, c.len.ensures, same, size_of-document (rc_slice_items c.in_ok-text.text), ap length c.in_ok-text.ensures) }
 
 pub returns-clause-faithful : goal.returns-clause-faithful
 returns-clause-faithful g c =
