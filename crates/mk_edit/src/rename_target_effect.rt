@@ -80,12 +80,12 @@ pub(crate) fn rename_target_effect<'a, A: Allocator + Copy>(
     let mut next_at = 0;
     let mut next_context = Context::start();
     'lines: for line in doc.iter() {
-        let class = line.class();
         let (at, context) = (next_at, next_context);
         next_at = at + 1;
-        next_context = context.step(&class);
-        // Most lines tell one thing at most.
-        if has_parts(&class) {
+        next_context = context.step(&line.class());
+        // Most lines tell one thing at most, and their class is not kept.
+        if has_parts(&line.class()) {
+            let class = line.class();
             let tally = count_words(line, &class, from);
             if tally.words > 0 {
                 let of_line = effect_of_line(line, &class, tally, context, from, to);
@@ -96,7 +96,7 @@ pub(crate) fn rename_target_effect<'a, A: Allocator + Copy>(
                 effect.is_taken |= has_target(line, &class, to);
             }
         } else {
-            effect.has_unread_prefix |= sets_prefix_unread(line, &class);
+            effect.has_unread_prefix |= sets_prefix_unread(line, &line.class());
         }
     }
     Survey { effect, places }

@@ -84,7 +84,7 @@ joined-effect-requires-clause-few_longer g c =
 pub step-next_context-requires : goal.step-next_context-requires
 step-next_context-requires g c =
     let admitted : Admits c.lines.next_context (line_view c.in-Some.line.now).class × AreAdmitted (context_after_located c.lines.next_context (line_view c.in-Some.line.now).class) c.next.new.self = subst (AreAdmitted c.lines.next_context) c.in-Some.ensures.steps c.lines.invariant.3 in
-    subst (Admits c.lines.next_context) (sym c.class-class.ensures) admitted.0
+    subst (Admits c.lines.next_context) (sym c.class.ensures) admitted.0
 
 pub lines-preserved-then-tally-gt0 : goal.lines-preserved-then-tally-gt0
 lines-preserved-then-tally-gt0 g c =
@@ -94,7 +94,7 @@ lines-preserved-then-tally-gt0 g c =
     let l = line_view c.in-Some.line.now in
     let rest = c.next.new.self in
     let s = c.in-Some.ensures.steps in
-    let k : c.step-next_context.result ≡ context_after_located x l.class = c.step-next_context.ensures.located ∙ ap (context_after_located x) c.class-class.ensures in
+    let k : c.step-next_context.result ≡ context_after_located x l.class = c.step-next_context.ensures.located ∙ ap (context_after_located x) c.class.ensures in
     let few : HasFewWords o l × HaveFewWords o rest = subst (HaveFewWords o) s c.lines.invariant.2 in
     let admitted : Admits x l.class × AreAdmitted (context_after_located x l.class) rest = subst (AreAdmitted x) s c.lines.invariant.3 in (
       tt,
@@ -114,10 +114,10 @@ lines-preserved-else-tally-gt0 g c =
     let l = line_view c.in-Some.line.now in
     let rest = c.next.new.self in
     let s = c.in-Some.ensures.steps in
-    let k : c.step-next_context.result ≡ context_after_located x l.class = c.step-next_context.ensures.located ∙ ap (context_after_located x) c.class-class.ensures in
+    let k : c.step-next_context.result ≡ context_after_located x l.class = c.step-next_context.ensures.located ∙ ap (context_after_located x) c.class.ensures in
     let few : HasFewWords o l × HaveFewWords o rest = subst (HaveFewWords o) s c.lines.invariant.2 in
     let admitted : Admits x l.class × AreAdmitted (context_after_located x l.class) rest = subst (AreAdmitted x) s c.lines.invariant.3 in
-    let parts : has_parts l.class ≡ true = ap has_parts (sym c.class-class.ensures) ∙ (sym c.has_parts.ensures ∙ c.if-has_parts.true) in
+    let parts : has_parts l.class ≡ true = ap has_parts (sym c.class-in-lines.ensures) ∙ (sym c.has_parts.ensures ∙ c.if-has_parts.true) in
     let taken : Effect = record no_effect { is_taken = is_target_located n l } in
     let whole : record c.lines.effect { is_taken = c.lines.effect.is_taken || c.has_target.result } ≡ joined c.lines.effect taken =
     ap (λ b. record c.lines.effect { is_taken = c.lines.effect.is_taken || b }) c.has_target.ensures ∙ sym (joined-taken c.lines.effect (is_target_located n l)) in (
@@ -138,10 +138,10 @@ lines-preserved g c =
     let l = line_view c.in-Some.line.now in
     let rest = c.next.new.self in
     let s = c.in-Some.ensures.steps in
-    let k : c.step-next_context.result ≡ context_after_located x l.class = c.step-next_context.ensures.located ∙ ap (context_after_located x) c.class-class.ensures in
+    let k : c.step-next_context.result ≡ context_after_located x l.class = c.step-next_context.ensures.located ∙ ap (context_after_located x) c.class.ensures in
     let few : HasFewWords o l × HaveFewWords o rest = subst (HaveFewWords o) s c.lines.invariant.2 in
     let admitted : Admits x l.class × AreAdmitted (context_after_located x l.class) rest = subst (AreAdmitted x) s c.lines.invariant.3 in
-    let P = passed-over o n x l (ap has_parts (sym c.class-class.ensures) ∙ (sym c.has_parts.ensures ∙ c.if-has_parts.false)) in
+    let P = passed-over o n x l (ap has_parts (sym c.class-in-lines.ensures) ∙ (sym c.has_parts.ensures ∙ c.if-has_parts.false)) in
     let unread : Effect = record no_effect { has_unread_prefix = is_unread_located l } in
     let whole : record c.lines.effect { has_unread_prefix = c.lines.effect.has_unread_prefix || c.sets_prefix_unread.result } ≡ joined c.lines.effect unread =
     ap (λ b. record c.lines.effect { has_unread_prefix = c.lines.effect.has_unread_prefix || b }) c.sets_prefix_unread.ensures ∙ sym (joined-unread c.lines.effect (is_unread_located l)) in (
