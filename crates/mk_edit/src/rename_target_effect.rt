@@ -77,12 +77,9 @@ pub(crate) fn rename_target_effect<'a, A: Allocator + Copy>(
     let _size = doc.size();
     let mut effect = no_effect();
     let mut places = Some(Vec::new(alloc));
-    let mut next_at = 0;
-    let mut next_context = Context::start();
+    let mut at = 0;
+    let mut context = Context::start();
     'lines: for line in doc.iter() {
-        let (at, context) = (next_at, next_context);
-        next_at = at + 1;
-        next_context = context.step(&line.class());
         // Most lines tell one thing at most, and their class is not kept.
         if has_parts(&line.class()) {
             let class = line.class();
@@ -98,6 +95,8 @@ pub(crate) fn rename_target_effect<'a, A: Allocator + Copy>(
         } else {
             effect.has_unread_prefix |= sets_prefix_unread(line, &line.class());
         }
+        at += 1;
+        context = context.step(&line.class());
     }
     Survey { effect, places }
 }

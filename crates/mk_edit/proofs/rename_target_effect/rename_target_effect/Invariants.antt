@@ -13,7 +13,7 @@ abbrev pub invariant-lines : goal.invariant-lines
 invariant-lines g l =
     (goal.iterator-lines g).can_next l.line-iterator × (goal.iterator-lines g).is_finite l.line-iterator
     × HaveFewWords l.from l.line-iterator
-    × AreAdmitted l.next_context l.line-iterator
-    × (joined l.effect (effect_on l.from l.to l.next_context l.line-iterator) ≡ effect_on l.from l.to start l.doc)
-    × (l.next_at + length l.line-iterator ≡ length l.doc)
-    × AreNoted (λ p. p.items) l.places (held_places_from l.from l.next_at l.next_context l.line-iterator) (held_places l.from l.doc)
+    × AreAdmitted l.context l.line-iterator
+    × (joined l.effect (effect_on l.from l.to l.context l.line-iterator) ≡ effect_on l.from l.to start l.doc)
+    × (l.at + length l.line-iterator ≡ length l.doc)
+    × AreNoted (λ p. p.items) l.places (held_places_from l.from l.at l.context l.line-iterator) (held_places l.from l.doc)
