@@ -1,7 +1,9 @@
 """What the benches share: the texts, which they make where they are not there yet, and the cost of a command."""
 
 import os
+import statistics
 import subprocess
+import time
 from pathlib import Path
 
 BENCH = Path(__file__).resolve().parent
@@ -13,6 +15,8 @@ GREATEST_RATIO = 5
 # sed and cat are fastest, so hardest to keep up with, where a character is a byte.
 ENVIRONMENT = {**os.environ, "LC_ALL": "C"}
 SED = ["sed", "s/^CC = .*/CC = clang/"]
+# How many seconds each round may wait until the machine is quiet: PATIENCE=60 bench/aims
+PATIENCE = float(os.environ.get("PATIENCE", "0"))
 
 
 def is_made(path, *sources):
@@ -51,15 +55,50 @@ def cost(words, out=os.devnull):
     return used.ru_utime + used.ru_stime, used.ru_maxrss * 1024
 
 
+class Pace:
+    """How fast a loop runs that only counts. Where a host has other guests, that is at times half as fast."""
+
+    def __init__(self):
+        self.full = 0.0
+
+    def look(self):
+        """How often the loop turns in a second, seen for 2 milliseconds."""
+        turns, begun = 0, time.perf_counter()
+        while (passed := time.perf_counter() - begun) < 0.002:
+            turns += 1
+        return turns / passed
+
+    def is_full(self):
+        """Whether the loop runs as fast as it ever did, or nearly so, for most of 40 milliseconds."""
+        looks = [self.look() for _ in range(20)]
+        self.full = max(self.full, *looks)
+        return statistics.median(looks) > 0.95 * self.full
+
+    def wait(self):
+        """Waits until the machine is quiet, but no longer than PATIENCE."""
+        ends = time.monotonic() + PATIENCE
+        while time.monotonic() < ends and not self.is_full():
+            time.sleep(0.1)
+
+
+PACE = Pace()
+
+
 def best(commands, rounds):
     """The least time and the greatest peak of each command, over rounds in which each runs once."""
-    runs = [[cost(it) for it in commands] for _ in range(rounds)]
+    runs = []
+    for _ in range(rounds):
+        PACE.wait()
+        runs.append([cost(it) for it in commands])
     return [(min(time for time, _ in each), max(peak for _, peak in each)) for each in zip(*runs)]
 
 
 def in_a_row(commands, starts, rounds):
     """The time of many runs of each command in a row, the least over rounds in which each has its turn."""
-    sums = [[sum(cost(it)[0] for _ in range(starts)) for it in commands] for _ in range(rounds)]
+    sums = []
+    for _ in range(rounds):
+        PACE.wait()
+        sums.append([sum(cost(it)[0] for _ in range(starts)) for it in commands])
     return [min(it) for it in zip(*sums)]
 
 
