@@ -6,9 +6,13 @@
 #                   crates/mkedit/out/bin/mkedit, has the C library in it where the machine has a
 #                   static one, so that it starts sooner (tools/link)
 #   make demo       shows scripts at work, one that is refused, and the queries
-#   make check      the whole test: tests/house, tests/rows, the proofs with the wrong bodies and the
-#                   tests of the crates (tests/crates, which is rt ci made quicker), and tests/program
-#                   over what was built there; the last line is 'N passed, M failed', the sum
+#   make check      the test of a change: tests/house, tests/rows, the proofs of the crates that the
+#                   program stands on with a share of the wrong bodies, the tests of all crates with
+#                   run-time checks, and tests/program over what was proved and built; the last line
+#                   is 'N passed, M failed, K skipped', the sum; skipped are the wrong bodies that
+#                   were not tried
+#   make check-all  all wrong bodies, and all that rt ci does at the top of the repository; for some
+#                   crates and those below them alone with CRATES="mk_edit mk_session"
 #   make soak       tries the program on random makefiles and scripts for MINUTES minutes; prints
 #                   the seed, which SEED=N takes again
 #   make judge      has GNU make judge edits of random makefiles, for MINUTES minutes
@@ -30,7 +34,7 @@
 #
 # It is written for POSIX.1-2024 make, which GNU make 4 reads as well.
 .POSIX:
-.PHONY: all demo check hostile judge soak fuzz rows install uninstall bench clean
+.PHONY: all demo check check-all hostile judge soak fuzz rows install uninstall bench clean
 
 PREFIX ?= /usr/local
 BINDIR ?= $(PREFIX)/bin
@@ -61,7 +65,10 @@ demo: $(PROGRAM)
 
 # Needs no program: the gate proves and builds its own, and takes nothing from what make has proved.
 check:
-	@tests/check
+	@tests/gate/check
+
+check-all:
+	@tests/gate/check --all $(CRATES)
 
 hostile: $(PROGRAM)
 	@tests/hostile $(BUILT)

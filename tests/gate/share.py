@@ -1,0 +1,47 @@
+"""Which wrong bodies a run tries: all, or the share that a commit's checksum chooses.
+
+All wrong bodies take hours of processor time. So a landing tries one in twelve, and another landing
+others. `make check-all` tries all.
+"""
+
+import hashlib
+import subprocess
+from typing import NamedTuple
+
+from turned import wrong_bodies
+
+SHARES = 12
+
+
+class Body(NamedTuple):
+    """A wrong body, by its crate and by the name of its file."""
+
+    crate: str
+    name: str
+
+
+def bodies_of(crates):
+    """The wrong bodies of some crates. Those that turn one function stand one after the other.
+
+    So a share has as few of one function as can be, and its bodies fit into few checks.
+    """
+    found = [(it.name, sorted(body.functions), body.name) for it in crates for body in wrong_bodies(it.folder)]
+    return [Body(crate, name) for crate, _, name in sorted(found)]
+
+
+def checksum(top):
+    """The checksum of the commit that is checked out, as a number.
+
+    Where there is no commit, as in an unpacked archive, it is that of the list of crates.
+    """
+    command = ["git", "-C", top, "rev-parse", "--verify", "HEAD"]
+    try:
+        found = subprocess.run(command, capture_output=True, text=True, check=True).stdout
+    except (OSError, subprocess.CalledProcessError):
+        found = hashlib.sha256((top / "crates.txt").read_bytes()).hexdigest()
+    return int(found, 16)
+
+
+def share_of(bodies, number):
+    """One share of wrong bodies, by a number: each body is in one of SHARES shares."""
+    return bodies[number % SHARES :: SHARES]

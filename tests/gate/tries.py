@@ -1,0 +1,76 @@
+"""The tests and the programs of crates, run with run-time checks and with nothing proved.
+
+`rt try` builds a crate and all below it with checks that end the run at a fault that a proof would
+exclude: an index out of range, a sum that does not fit, most of the clauses of `requires`. It takes a
+minute a crate, where the proof of a crate of tests takes up to half an hour. The assertions of the
+tests are the same. `make check-all` proves the crates of tests too.
+"""
+
+import re
+import subprocess
+import threading
+from concurrent.futures import ThreadPoolExecutor
+from typing import NamedTuple
+
+RESULT = re.compile(rb"^test result: \w+\. (\d+) passed; (\d+) failed; 0 ignored; 0 filtered out$", re.M)
+# How many crates are tried at once, and how much they give way to the proofs beside them.
+AT_ONCE, GIVES_WAY = 2, "10"
+
+
+class Tried(NamedTuple):
+    """What the try of a crate came to: how many tests or runs passed, how many failed, and what it printed."""
+
+    passed: int
+    failed: int
+    said: str
+
+
+def rt_try(crate, words, given):
+    """Runs `rt try` in a crate's folder."""
+    command = ["nice", "-n", GIVES_WAY, "rt", "try", *words]
+    return subprocess.run(command, cwd=crate.folder, input=given, capture_output=True)
+
+
+def said_by(ran):
+    return (ran.stdout + ran.stderr).decode(errors="replace")
+
+
+def tests_of(crate):
+    """Runs the tests of a crate."""
+    ran = rt_try(crate, ["--test"], b"")
+    counts = RESULT.search(ran.stdout)
+    passed, failed = map(int, counts.groups()) if counts else (0, 0)
+    wrong = failed or int(ran.returncode != 0 or not passed)
+    return Tried(passed, wrong, said_by(ran) if wrong else f"{passed} tests passed\n")
+
+
+def program_of(crate):
+    """Runs a program on its file stdin, and compares what it writes, and its status, with its files."""
+    words = (crate.stream("args") or b"").decode().splitlines()
+    ran = rt_try(crate, ["--", *words] if words else [], crate.stream("stdin") or b"")
+    status = int(crate.stream("status") or 0)
+    wrong = ["its output is not that of the file stdout"] * (ran.stdout != (crate.stream("stdout") or b""))
+    wrong += [f"its status is {ran.returncode}, and not {status}"] * (ran.returncode != status)
+    if wrong:
+        return Tried(0, 1, f"{'; '.join(wrong)}\n{ran.stderr.decode(errors='replace')}")
+    return Tried(1, 0, "ran, and wrote what it has to write\n")
+
+
+class Tries:
+    """Tries of crates that go on beside other work."""
+
+    def __init__(self, crates):
+        self.printing = threading.Lock()
+        self.pool = ThreadPoolExecutor(AT_ONCE)
+        self.tried = [self.pool.submit(self.run, it) for it in crates]
+
+    def run(self, crate):
+        tried = tests_of(crate) if crate.has_tests else program_of(crate)
+        with self.printing:
+            print(f"== {crate.name}, with run-time checks\n{tried.said}", end="", flush=True)
+        return tried
+
+    def counts(self):
+        """How many tests and runs passed, and how many failed, once all have ended."""
+        ended = [it.result() for it in self.tried]
+        return sum(it.passed for it in ended), sum(it.failed for it in ended)
