@@ -9,7 +9,7 @@ use Rattle.mk_class.specs.ClassedLines.{classed_lines}
 use Rattle.mk_tree.specs.Documents.{IsFaithful, text_of}
 use Rattle.mk_tree.specs.LocatedLines.{LocatedLine, located_line, located_lines, located_text}
 use Rattle.mk_tree.specs.LineTexts.{StandingLine}
-use Rattle.mk_patch.proofs.on_moves.ShapeLemmas.{get-between}
+use Rattle.mk_tree.proofs.Indices.{get_middle}
 use Rattle.mk_edit_laws.specs.Addresses.{Rule}
 use Rattle.mk_edit_laws.specs.Edits.{Edit, SetRecipe}
 use Rattle.mk_edit_laws.specs.Spots.{nth_of}
@@ -49,7 +49,7 @@ shown-at ls nth g n at l h R k =
     let B = located_lines s.below in
     let shown : ls ≡ A ++ located_line s.line ∷ B = h ∙ (ap located_lines R.lines ∙ map-append located_line s.above (s.line ∷ s.below)) in
     let place : at ≡ length A = sym R.place_is ∙ sym (length-map s.above located_line) in
-    let q : Some l ≡ Some (located_line s.line) = k ∙ (ap (λ z. slice_get z at) shown ∙ get-between A B (located_line s.line) at place) in
+    let q : Some l ≡ Some (located_line s.line) = k ∙ (ap (λ z. slice_get z at) shown ∙ get_middle A B (located_line s.line) at place) in
     cc
 
 -- the range of the command is the span of the edit

@@ -1,5 +1,5 @@
 -- The line of a document where an edit applies, with those above and below it.
-use Rattle.std.proofs.Common.{◌≡◌, sym, ap, ◌∙◌, subst, arith, ℕ, zero, suc, ◌+◌, ◌<◌, List, [], ◌∷◌, ◌++◌, length, take, drop, Some}
+use Rattle.std.proofs.Common.{◌≡◌, sym, ap, ◌∙◌, subst, arith, ℕ, zero, suc, ◌+◌, ◌<◌, List, [], ◌∷◌, ◌++◌, length, length-append, take, drop, Some}
 use Rattle.std.specs.Prelude.{slice_get}
 use Rattle.std.proofs.lemmas.List.{map-append, length-map}
 use Rattle.std.proofs.Math.Seq.{take-append_seam, drop-append_seam, drop-append-add}
@@ -10,7 +10,7 @@ use Rattle.mk_tree.specs.Documents.{IsFaithful, context_of}
 use Rattle.mk_tree.specs.LocatedLines.{LocatedLine, located_line, located_lines, located_text}
 use Rattle.mk_tree.proofs.on_documents.LinesInText.{line-in_text, context_of-last}
 use Rattle.mk_tree.specs.LineTexts.{StandingLine}
-use Rattle.mk_patch.proofs.on_moves.ShapeLemmas.{get-between, within-between}
+use Rattle.mk_tree.proofs.Indices.{get_middle}
 use Rattle.mk_edit_laws.specs.Addresses.{Address}
 use Rattle.mk_edit_laws.proofs.on_edits.EditPlaces.{found-spot}
 use Rattle.mk_edit_parts.specs.Found.{IsFoundAt}
@@ -48,8 +48,8 @@ line-at ls a f h F =
       lines = w;
       shown = shown;
       place_is = n;
-      within = omega (arith, ap length shown, within-between A B (located_line s.line) f.at n);
-      line_is = ap (λ z. slice_get z f.at) shown ∙ get-between A B (located_line s.line) f.at n;
+      within = omega (arith, ap length shown, length-append A (located_line s.line ∷ B), n);
+      line_is = ap (λ z. slice_get z f.at) shown ∙ get_middle A B (located_line s.line) f.at n;
       above_is = ap (take f.at) shown ∙ (ap (λ n. take n (A ++ located_line s.line ∷ B)) n ∙ take-append_seam A (located_line s.line ∷ B));
       from_is = ap (drop f.at) shown ∙ (ap (λ n. drop n (A ++ located_line s.line ∷ B)) n ∙ drop-append_seam A (located_line s.line ∷ B));
       below_is = ap (drop (f.at + 1)) shown ∙ (ap (λ n. drop (n + 1) (A ++ located_line s.line ∷ B)) n ∙ drop-append-add A (located_line s.line ∷ B) 1);

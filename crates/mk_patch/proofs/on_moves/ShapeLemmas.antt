@@ -1,12 +1,11 @@
 -- What the shapes of patches lead to: a line put in; a line put in after a last line that gets another line end; a line
 -- exchanged; and a run of lines taken out.
 use Rattle.std.proofs.Common.{◌≡◌, refl, sym, ap, ◌∙◌, arith, ℕ, zero, suc, ◌+◌, ◌<◌, ◌≤◌, List, [], ◌∷◌, ◌++◌, length, length-append, take, drop, replicate, Some}
-use Rattle.std.specs.Prelude.{slice_get}
 use Rattle.std.proofs.Math.Seq.{take-append_seam, drop-append_seam, drop-append-add}
 use Rattle.mk_lines.specs.Limits.{max_text}
 use Rattle.mk_lines.specs.PhysicalLines.{without_line_end}
 use Rattle.mk_tree.specs.LocatedLines.{LocatedLine, bytes_of_line, last_line, size_of, with_last_bytes}
-use Rattle.mk_tree.proofs.Indices.{size_of-append}
+use Rattle.mk_tree.proofs.Indices.{get_middle, size_of-append}
 use Rattle.mk_patch.specs.Moves.{Move, PutIn, TakeOut, Exchange, SwapEnd, FitMoves, IsPlain, IsPlainAt, after_moves, exchanged, held_by, taken_by}
 
 -- moves fit some lines and lead to others
@@ -37,15 +36,8 @@ pub exchanged-between : (above below : List LocatedLine) (old new : LocatedLine)
 exchanged-between above below old new at e =
     rw e (ap (λ z. z ++ new ∷ drop (length above + 1) (above ++ old ∷ below)) (take-append_seam above (old ∷ below)) ∙ ap (λ z. above ++ new ∷ z) (drop-append-add above (old ∷ below) 1))
 
-get-first : {X : Type 0} (xs ys : List X) (y : X) → slice_get (xs ++ y ∷ ys) (length xs) ≡ Some y
-get-first [] ys y = refl
-get-first (x ∷ xs) ys y = get-first xs ys y
-
-pub get-between : (above below : List LocatedLine) (l : LocatedLine) (at : ℕ) → at ≡ length above → slice_get (above ++ l ∷ below) at ≡ Some l
-get-between above below l at e = rw e (get-first above below l)
-
 pub plain-between : (above below : List LocatedLine) (l : LocatedLine) (at : ℕ) → at ≡ length above → IsPlain l → IsPlainAt at (above ++ l ∷ below)
-plain-between above below l at e p = rw (get-between above below l at e) p
+plain-between above below l at e p = rw (get_middle above below l at e) p
 
 pub within-between : (above below : List LocatedLine) (l : LocatedLine) (at : ℕ) → at ≡ length above → at < length (above ++ l ∷ below)
 within-between above below l at e = omega (arith, length-append above (l ∷ below), e)
