@@ -5,7 +5,7 @@ use Rattle.std.specs.Prelude.{◌≡◌, ◌⊎◌, ℕ, ◌+◌, List, [], ◌�
 use Rattle.std.specs.List.{AllByRecursion}
 use Rattle.mk_edit_laws.specs.Edits.{Edit}
 use Rattle.mk_history.specs.Machine.{Command}
-use Rattle.mk_session.specs.CommandViews.{command_of}
+use Rattle.mk_command.specs.CommandViews.{command_of}
 use Rattle.mk_script.specs.Lines.{script_lines, IsSkipped, HasCommand, IsReadable}
 use Rattle.mk_script.specs.declared.script.NumberedCommand.{NumberedCommand}
 use Rattle.mk_script.specs.declared.script.ScriptFault.{ScriptFault}

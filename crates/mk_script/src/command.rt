@@ -1,7 +1,7 @@
 //! The command of a line: a call of a session that is one word, or an edit, before which `nth` and
 //! a number may stand.
 ghost use Rattle.std.specs.Prelude.{◌≡◌};
-ghost use Rattle.mk_session.specs.CommandViews.{command_of};
+ghost use Rattle.mk_command.specs.CommandViews.{command_of};
 ghost use Rattle.mk_edit_parts.specs.EditViews.{edit_of};
 ghost use Rattle.mk_script.specs.SeenFields.{field_text};
 ghost use Rattle.mk_script.specs.CommandReading.{addressed_edit, command};
@@ -13,7 +13,8 @@ use crate::field::Field;
 use crate::fields::{first_field, is_blank};
 use crate::number::number_of;
 use crate::word::call;
-use mk_session::{Command, Edit};
+use mk_command::Command;
+use mk_edit_parts::Edit;
 use std::alloc::Allocator;
 
 /// Whether a line is skipped: its first byte is `#`, or it has only blanks.

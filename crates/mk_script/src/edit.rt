@@ -15,7 +15,7 @@ use crate::field::Field;
 use crate::fields::{first_field, one_field, three_fields, two_fields};
 use crate::number::number_of;
 use crate::word::{EditWord, PlaceWord, colons, edit_word, flavor, place_word};
-use mk_session::{Edit, Place};
+use mk_edit_parts::{Edit, Place};
 use std::alloc::{AllocError, Allocator};
 
 /// A place whose text is still in the line.

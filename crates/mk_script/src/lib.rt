@@ -28,5 +28,5 @@ mod number;
 pub mod script;
 mod word;
 
-pub use mk_session::Command;
+pub use mk_command::Command;
 pub use script::{NumberedCommand, ScriptFault, parse_script};

@@ -5,7 +5,7 @@ ghost use Rattle.mk_script.specs.Scripts.{IsScript, IsScriptFault, numbered};
 use crate::command::{is_skipped, read_command};
 use crate::fault::LineFault;
 use bstr::ByteSlice;
-use mk_session::Command;
+use mk_command::Command;
 use std::alloc::{Allocator, Global};
 use thiserror::Error;
 

@@ -1,6 +1,6 @@
 -- The session machine of makefiles
 pub mod Sessions
-pub mod CommandViews
+pub use Rattle.mk_command.specs.CommandViews
 -- What a session stores
 pub mod StoredSessions
 -- Any calls

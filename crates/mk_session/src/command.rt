@@ -1,27 +1,11 @@
-//! The calls of a session as values, for programs that read them.
-ghost use Rattle.mk_session.specs.CommandViews.{command_of};
+//! A call of a session as a value, and the session that does it.
+ghost use Rattle.mk_command.specs.CommandViews.{command_of};
 ghost use Rattle.mk_session.specs.Calls.{IsAnswered};
 
 use crate::session::Session;
-use mk_edit::{Edit, Refusal};
-use std::alloc::{Allocator, Global};
-
-/// One call of a [`Session`].
-#[derive(Drop)]
-pub enum Command<A: Allocator = Global> {
-    /// Makes an edit: [`Session::apply`].
-    Apply(Edit<A>),
-    /// Takes back the last edit or group: [`Session::undo`].
-    Undo,
-    /// Makes the last undone edit or group again: [`Session::redo`].
-    Redo,
-    /// Begins a group: [`Session::begin`].
-    Begin,
-    /// Ends the group: [`Session::end`].
-    End,
-    /// Takes back the edits of the group and ends it: [`Session::cancel`].
-    Cancel,
-}
+pub use mk_command::Command;
+use mk_edit::Refusal;
+use std::alloc::Allocator;
 
 impl<A: Allocator + Copy> Session<A> {
     /// Does what a command says.

@@ -1,6 +1,6 @@
 //! A session: a makefile that is edited, with undo, redo and groups of edits.
 //!
-//! - [`command`]: the calls of a session as values.
+//! - [`command`]: the calls of a session as values, which `mk_command` has, done.
 //! - [`laws`]: what holds for a session over any list of calls.
 //! - [`session`]: the session.
 //!

@@ -1,6 +1,6 @@
 use Rattle.std.proofs.Common.{◌+◌, length, map, ap, sym, ◌∙◌, subst, arith}
 use Rattle.std.proofs.lemmas.List.{map-append}
-use Rattle.mk_session.specs.CommandViews.{command_of}
+use Rattle.mk_command.specs.CommandViews.{command_of}
 use Rattle.mk_script.specs.Lines.{IsReadable}
 use Rattle.mk_script.specs.Scripts.{numbered}
 use Rattle.mk_script.specs.ReaderAnswers.{is_short}
