@@ -1,8 +1,8 @@
 //! The cells of lines, and their readers.
 use mk_lines::cells::cells;
 use mk_lines::{Fault, Span};
-use refusing::Refusing;
 use std::test::Fail;
+use watched::Watched;
 
 #[test]
 fn a_fold_is_one_space_with_the_raw_range_of_its_run(rt: HostRuntime) -> Result<(), Fail> {
@@ -83,11 +83,11 @@ fn cells_meet_each_refused_growth(rt: HostRuntime) -> Result<(), Fail> {
             line.extend_from_slice(b"a \\\n b".as_slice())?;
         }
         for admitted in 0..growths {
-            let heap = Refusing::after(rt.alloc(), admitted);
+            let heap = Watched::refusing_one_after(rt.alloc(), admitted);
             assert!(rt; matches!(cells(&heap, &line), Err(Fault::NoMemory)));
             assert!(rt; heap.has_refused());
         }
-        let heap = Refusing::after(rt.alloc(), growths);
+        let heap = Watched::refusing_one_after(rt.alloc(), growths);
         assert!(rt; cells(&heap, &line).is_ok());
         assert!(rt; !heap.has_refused());
     }
@@ -97,7 +97,7 @@ fn cells_meet_each_refused_growth(rt: HostRuntime) -> Result<(), Fail> {
 #[test]
 fn a_line_without_folds_takes_no_memory(rt: HostRuntime) -> Result<(), Fail> {
     let line = b"sources = main.c lexer.c parser.c # in order\n".as_slice();
-    let heap = Refusing::after(rt.alloc(), 0);
+    let heap = Watched::refusing_one_after(rt.alloc(), 0);
     let kept = cells(&heap, line)?;
     assert!(rt; !heap.has_refused());
     assert_eq!(rt; kept.text(line).len(), 44);

@@ -4,9 +4,9 @@ use mk_lines::sink::{write_all, write_parts};
 use mk_lines::source::{MAX_TEXT, read_all};
 use mk_lines::split::{split, split_first_line};
 use mk_lines::{ByteSink, ByteSource, End, Fault, Span, StdSink, StdSource};
-use refusing::Refusing;
 use std::test::Fail;
 use test_devices::{MemorySink, MemorySource};
+use watched::Watched;
 
 #[test]
 fn faults_have_their_texts(rt: HostRuntime) -> Result<(), Fail> {
@@ -169,7 +169,7 @@ fn no_read_follows_a_fault(rt: HostRuntime) {
 fn reading_meets_each_refused_growth(rt: HostRuntime) {
     let text = [b'x'; 20_000];
     for admitted in 0..100 {
-        let heap = Refusing::after(rt.alloc(), admitted);
+        let heap = Watched::refusing_one_after(rt.alloc(), admitted);
         let mut source = MemorySource::new(text.as_slice(), 100);
         let answer = read_all(&heap, &mut source);
         if !heap.has_refused() {
@@ -265,7 +265,7 @@ fn the_first_physical_line_tells_how_new_lines_end(rt: HostRuntime) {
 fn splitting_meets_each_refused_growth(rt: HostRuntime) {
     let text = [b'\n'; 100];
     for admitted in 0..100 {
-        let heap = Refusing::after(rt.alloc(), admitted);
+        let heap = Watched::refusing_one_after(rt.alloc(), admitted);
         let answer = split(&heap, text.as_slice());
         if !heap.has_refused() {
             assert!(rt; admitted > 0 && answer.is_ok());

@@ -15,9 +15,9 @@ use mk_lines::Fault;
 use mk_lines::ends::without_line_end;
 use mk_lines::source::MAX_TEXT;
 use mk_tree::{Doc, Line, LineBytes};
-use refusing::Refusing;
 use std::alloc::{AllocError, Allocator};
 use std::test::Fail;
+use watched::Watched;
 
 // ---- steps that fit
 
@@ -291,7 +291,7 @@ fn planned<A: Allocator + Copy>(alloc: A) -> Result<Option<(Doc<A>, Patch<A>)>, 
 #[test]
 fn each_refused_growth_of_a_builder_is_an_error(rt: HostRuntime) -> Result<(), Fail> {
     for admitted in 0..3 {
-        let heap = Refusing::after(rt.alloc(), admitted);
+        let heap = Watched::refusing_one_after(rt.alloc(), admitted);
         let builder: Result<PatchBuilder<_>, AllocError> = PatchBuilder::with_room(&heap, 3);
         // one ring for the steps, and one for the steps that take them back
         assert_eq!(rt; builder.is_err(), admitted < 2);
@@ -303,7 +303,7 @@ fn each_refused_growth_of_a_builder_is_an_error(rt: HostRuntime) -> Result<(), F
 #[test]
 fn a_patch_is_made_and_taken_back_without_memory(rt: HostRuntime) -> Result<(), Fail> {
     for admitted in 0..100 {
-        let heap = Refusing::after(rt.alloc(), admitted);
+        let heap = Watched::refusing_one_after(rt.alloc(), admitted);
         match planned(&heap) {
             Ok(Some((doc, patch))) => {
                 // the next growth would be refused

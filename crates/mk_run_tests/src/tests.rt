@@ -1,10 +1,10 @@
 use crate::bench::{Answer, moving, run_row};
 use crate::rows::{Row, kept_going, rows};
 use mk_run::{Outcome, message, run, status};
-use refusing::Refusing;
 use std::process::Abort;
 use std::test::Fail;
 use test_devices::{EndlessSource, MemorySink, MemorySource};
+use watched::Watched;
 
 // More bytes than any device of a row moves.
 const ALL: usize = 1000;
@@ -37,7 +37,7 @@ fn is_refused_rename(row: &Row) -> bool {
 fn each_growth_refused_in_turn(rt: HostRuntime) {
     for row in &rows() {
         for admitted in 0..1000 {
-            let heap = Refusing::after(rt.alloc(), admitted);
+            let heap = Watched::refusing_one_after(rt.alloc(), admitted);
             let answer = run_row(&rt, &heap, row, moving(ALL));
             if !heap.has_refused() {
                 assert_is(&rt, row, &answer);
@@ -69,7 +69,7 @@ fn a_refusal_is_reported_at_once(rt: HostRuntime) {
     );
     let mut is_met = false;
     for admitted in 0..1000 {
-        let heap = Refusing::after(rt.alloc(), admitted);
+        let heap = Watched::refusing_one_after(rt.alloc(), admitted);
         let answer = run_row(&rt, &heap, &row, moving(ALL));
         if !heap.has_refused() {
             break;

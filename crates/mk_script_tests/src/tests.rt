@@ -3,9 +3,9 @@
 use crate::rows::{FAULTY, SCRIPTS, Script};
 use crate::shown::shown;
 use mk_script::{ScriptFault, parse_script};
-use refusing::Refusing;
 use std::alloc::{AllocError, Allocator};
 use std::test::Fail;
+use watched::Watched;
 
 // Whether a script was read as its commands.
 fn is_read<A: Allocator + Copy>(
@@ -47,7 +47,7 @@ fn the_first_line_that_is_no_command_is_told(rt: HostRuntime) {
 fn each_growth_refused_in_turn(rt: HostRuntime) -> Result<(), Fail> {
     for script in &SCRIPTS {
         for admitted in 0..100 {
-            let heap = Refusing::after(rt.alloc(), admitted);
+            let heap = Watched::refusing_one_after(rt.alloc(), admitted);
             if admitted == script.growths {
                 assert!(rt; is_read(&rt, &heap, script)?);
                 assert!(rt; !heap.has_refused());
@@ -63,7 +63,7 @@ fn each_growth_refused_in_turn(rt: HostRuntime) -> Result<(), Fail> {
 #[test]
 fn a_line_that_is_no_command_takes_no_memory(rt: HostRuntime) {
     for faulty in &FAULTY {
-        let heap = Refusing::after(rt.alloc(), 0);
+        let heap = Watched::refusing_one_after(rt.alloc(), 0);
         let fault = fault_of(&heap, faulty.text);
         // The one row with a command before the fault takes memory for the list of commands.
         let has_command = faulty.text.starts_with(b"undo");
@@ -77,7 +77,7 @@ fn a_line_that_is_no_command_takes_no_memory(rt: HostRuntime) {
 
 #[test]
 fn no_memory_hides_a_later_line(rt: HostRuntime) {
-    let heap = Refusing::after(rt.alloc(), 0);
+    let heap = Watched::refusing_one_after(rt.alloc(), 0);
     let fault = fault_of(&heap, b"set X 1\nx\n");
     assert_eq!(rt; fault, Some(ScriptFault::NoMemory));
 }

@@ -7,10 +7,10 @@ use mk_class::{Class, Context, Meter};
 use mk_lines::Fault;
 use mk_lines::source::MAX_TEXT;
 use mk_tree::{Doc, Line, LineBytes};
-use refusing::Refusing;
 use std::alloc::{AllocError, Allocator};
 use std::test::Fail;
 use test_devices::MemorySink;
+use watched::Watched;
 
 // A text of so many bytes, the piece over and over.
 fn repeated(rt: &HostRuntime, piece: &[u8], count: usize) -> Result<Vec<u8>, AllocError> {
@@ -109,7 +109,7 @@ const FOUR_LINES: &[u8] = b"A = 1\nB = a \\\n b\nfoo: x\n\techo\n";
 #[test]
 fn each_refused_growth_of_parse_is_no_memory(rt: HostRuntime) -> Result<(), Fail> {
     for admitted in 0..100 {
-        let heap = Refusing::after(rt.alloc(), admitted);
+        let heap = Watched::refusing_one_after(rt.alloc(), admitted);
         let answer = Doc::parse(&heap, FOUR_LINES, &mut Meter::new());
         if !heap.has_refused() {
             // the text and the count of its owners, a node of each line, and four for the fold
@@ -126,7 +126,7 @@ fn each_refused_growth_of_parsing_a_text_by_value_is_no_memory(
     rt: HostRuntime,
 ) -> Result<(), Fail> {
     for admitted in 0..100 {
-        let heap = Refusing::after(rt.alloc(), admitted);
+        let heap = Watched::refusing_one_after(rt.alloc(), admitted);
         let Ok(text) = Vec::from_slice(&heap, FOUR_LINES) else {
             continue;
         };
@@ -155,7 +155,7 @@ fn only_the_class_of_a_long_line_takes_memory(rt: HostRuntime) -> Result<(), Fai
         let mut text = Vec::from_slice(rt.alloc(), b"A = ")?;
         text.extend_from_slice(&repeated(&rt, b"x", count)?)?;
         for admitted in 0..20 {
-            let heap = Refusing::after(rt.alloc(), admitted);
+            let heap = Watched::refusing_one_after(rt.alloc(), admitted);
             let answer = Doc::parse(&heap, &text, &mut Meter::new());
             if !heap.has_refused() {
                 // the text and the count of its owners, the node, and the class if one of its offsets
@@ -184,7 +184,7 @@ const GROWTHS_OF_LINES: &[(&[u8], u64)] = &[
 fn only_a_class_that_is_not_short_takes_memory(rt: HostRuntime) -> Result<(), Fail> {
     for (text, growths) in GROWTHS_OF_LINES {
         for admitted in 0..20 {
-            let heap = Refusing::after(rt.alloc(), admitted);
+            let heap = Watched::refusing_one_after(rt.alloc(), admitted);
             let answer = Doc::parse(&heap, text, &mut Meter::new());
             if !heap.has_refused() {
                 assert!(rt; admitted == *growths && answer.is_ok());
@@ -226,7 +226,7 @@ fn a_line_outlives_its_document(rt: HostRuntime) -> Result<(), Fail> {
 #[test]
 fn bytes_of_their_own_are_those_given(rt: HostRuntime) -> Result<(), Fail> {
     for admitted in 0..10 {
-        let heap = Refusing::after(rt.alloc(), admitted);
+        let heap = Watched::refusing_one_after(rt.alloc(), admitted);
         let Ok(bytes) = Vec::from_slice(&heap, b"X=1") else {
             continue;
         };
@@ -347,7 +347,7 @@ fn a_line_is_read_in_the_context_at_the_end(rt: HostRuntime) -> Result<(), Fail>
 #[test]
 fn each_refused_growth_of_reading_a_line_is_no_memory(rt: HostRuntime) -> Result<(), Fail> {
     for admitted in 0..20 {
-        let heap = Refusing::after(rt.alloc(), admitted);
+        let heap = Watched::refusing_one_after(rt.alloc(), admitted);
         let answer = read_with(&heap, b"B = a \\\n b\n");
         if !heap.has_refused() {
             // the bytes and the count of their owners, the stack that joins them, the folds' ends, the

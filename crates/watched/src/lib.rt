@@ -60,6 +60,13 @@ impl<B: Allocator> Watched<B> {
         }
     }
 
+    /// An allocator that refuses the growth after the first `admitted`, and no other.
+    pub fn refusing_one_after(inner: B, admitted: u64) -> Watched<B> {
+        let heap = Watched::new(inner);
+        heap.refuse_one_after(admitted);
+        heap
+    }
+
     /// Refuses the growth after the next `admitted`, and no other. What was noted is forgotten.
     pub fn refuse_one_after(&self, admitted: u64) {
         self.restart(Refusal::OneAfter(admitted));
@@ -200,6 +207,50 @@ mod tests {
             pushed(&heap, 1)?;
         }
         assert!(rt; heap.passed().count == 5 && heap.passed() != first);
+        Ok(())
+    }
+}
+
+#[cfg(test)]
+mod one_refusal {
+    use super::*;
+    use std::test::Fail;
+
+    fn hundred_pushed<A: Allocator>(alloc: A) -> Result<usize, AllocError> {
+        let mut numbers = Vec::new(alloc);
+        for number in 0..100u8 {
+            numbers.push(number)?;
+        }
+        Ok(numbers.len())
+    }
+
+    fn boxed<A: Allocator>(alloc: A) -> Result<u8, AllocError> {
+        Ok(Box::into_inner(Box::new(alloc, 1u8)?))
+    }
+
+    #[test]
+    fn refuses_each_growth_in_turn(rt: HostRuntime) -> Result<(), Fail> {
+        let mut growths = 0;
+        for admitted in 0..100 {
+            let heap = Watched::refusing_one_after(rt.alloc(), admitted);
+            let answer = hundred_pushed(&heap);
+            assert_eq!(rt; answer.is_err(), heap.has_refused());
+            if !heap.has_refused() {
+                break;
+            }
+            growths = admitted + 1;
+        }
+        // 8, 16, 32, 64 and 128 bytes
+        assert_eq!(rt; growths, 5);
+        Ok(())
+    }
+
+    #[test]
+    fn refuses_once(rt: HostRuntime) -> Result<(), Fail> {
+        let heap = Watched::refusing_one_after(rt.alloc(), 1);
+        boxed(&heap)?;
+        assert!(rt; boxed(&heap).is_err());
+        boxed(&heap)?;
         Ok(())
     }
 }

@@ -7,9 +7,9 @@ use mk_class::reading::classify;
 use mk_class::rule::{Header, Separator};
 use mk_lines::split::split;
 use mk_lines::{Fault, Span};
-use refusing::Refusing;
 use std::alloc::Allocator;
 use std::test::Fail;
+use watched::Watched;
 
 /// The name of a class.
 fn name(class: &Class) -> &'static str {
@@ -297,7 +297,7 @@ fn classify_meets_each_refused_growth(rt: HostRuntime) -> Result<(), Fail> {
         line.extend_from_slice(b"a \\\n b".as_slice())?;
     }
     for admitted in 0..100 {
-        let heap = Refusing::after(rt.alloc(), admitted);
+        let heap = Watched::refusing_one_after(rt.alloc(), admitted);
         let mut meter = Meter::new();
         let answer = classify(&heap, &line, Context::start(), &mut meter);
         assert_eq!(rt; meter.count(), 1);
@@ -312,7 +312,7 @@ fn classify_meets_each_refused_growth(rt: HostRuntime) -> Result<(), Fail> {
 
 #[test]
 fn a_line_without_folds_is_read_without_memory(rt: HostRuntime) -> Result<(), Fail> {
-    let heap = Refusing::after(rt.alloc(), 0);
+    let heap = Watched::refusing_one_after(rt.alloc(), 0);
     let class = class_of(&heap, b"sources = main.c lexer.c # in order\n")?;
     assert!(rt; !heap.has_refused());
     assert_eq!(rt; name(&class), "Assign");

@@ -9,10 +9,10 @@ use crate::change::Change;
 use crate::history::{History, HistoryError};
 use crate::sequence::Sequence;
 use mk_lines::Fault;
-use refusing::Refusing;
 use std::alloc::Allocator;
 use std::marker::Model;
 use std::test::Fail;
+use watched::Watched;
 
 #[derive(Clone, Copy, Debug, PartialEq, Eq)]
 enum DraftError {

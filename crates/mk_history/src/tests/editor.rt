@@ -9,10 +9,10 @@ ghost use Rattle.mk_history.specs.CallSteps.{IsStep};
 use crate::change::Change;
 use crate::history::{History, HistoryError, MAX_DEPTH};
 use mk_lines::Fault;
-use refusing::Refusing;
 use std::alloc::{AllocError, Allocator};
 use std::marker::Model;
 use std::test::Fail;
+use watched::Watched;
 
 /// Sets a byte, for which it takes some memory and gives it back.
 #[derive(Drop)]
@@ -203,14 +203,14 @@ fn fault_of<A: Allocator + Copy>(alloc: A, depth: u32) -> Option<Fault> {
 #[test]
 fn new_makes_two_rings_after_the_test_of_the_depth(rt: HostRuntime) -> Result<(), Fail> {
     for admitted in 0..2 {
-        let heap = Refusing::after(rt.alloc(), admitted);
+        let heap = Watched::refusing_one_after(rt.alloc(), admitted);
         assert_eq!(rt; fault_of(&heap, 3), Some(Fault::NoMemory));
         assert_eq!(rt; fault_of(&heap, 3), None);
     }
-    let heap = Refusing::after(rt.alloc(), 2);
+    let heap = Watched::refusing_one_after(rt.alloc(), 2);
     assert_eq!(rt; fault_of(&heap, 3), None);
     assert!(rt; !heap.has_refused());
-    let heap = Refusing::after(rt.alloc(), 0);
+    let heap = Watched::refusing_one_after(rt.alloc(), 0);
     assert_eq!(rt; fault_of(&heap, 0), Some(Fault::BadDepth));
     assert!(rt; !heap.has_refused());
     Ok(())
@@ -312,7 +312,7 @@ const REFUSED: &[(Call, [u8; 4])] = &[
 #[test]
 fn a_refused_change_stays_on_top(rt: HostRuntime) -> Result<(), Fail> {
     for growth in 0..7 {
-        let heap = Refusing::after(rt.alloc(), 2 + growth);
+        let heap = Watched::refusing_one_after(rt.alloc(), 2 + growth);
         let mut editor = Editor::open(&heap, *b"abcd", 9)?;
         for (call, text) in REFUSED.iter().copied() {
             assert!(rt; leads_to(&heap, &mut editor, call, text));

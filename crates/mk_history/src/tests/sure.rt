@@ -5,10 +5,10 @@ ghost use Rattle.mk_history.specs.Chain.{IsChain};
 use crate::change::{Change, SureChange};
 use crate::sequence::Sequence;
 use mk_lines::Fault;
-use refusing::Refusing;
 use std::alloc::{AllocError, Allocator};
 use std::process::Abort;
 use std::test::Fail;
+use watched::Watched;
 
 /// Sets a byte.
 #[derive(Clone, Copy, Drop)]
@@ -79,10 +79,10 @@ fn a_sequence_is_made_in_order_and_taken_back_in_reverse(rt: HostRuntime) -> Res
 #[test]
 fn a_sequence_takes_memory_only_for_room(rt: HostRuntime) -> Result<(), Fail> {
     for growth in 0..5 {
-        let heap = Refusing::after(rt.alloc(), growth);
+        let heap = Watched::refusing_one_after(rt.alloc(), growth);
         assert_eq!(rt; three_sets(&heap).is_err(), growth < 4);
     }
-    let heap = Refusing::after(rt.alloc(), 4);
+    let heap = Watched::refusing_one_after(rt.alloc(), 4);
     let sets = three_sets(&heap)?;
     let mut text = [7; 4];
     let Ok(_) = sets.apply(&mut text) else {
@@ -132,7 +132,7 @@ fn each_growth_of_a_sequence_may_be_refused(rt: HostRuntime) -> Result<(), Fail>
     // two rings, and each of them is replaced by one of 2, 4, 8, 16 and so on, up to 256
     let growths = 2 + 2 * 8;
     for admitted in 0..growths + 1 {
-        let heap = Refusing::after(rt.alloc(), admitted);
+        let heap = Watched::refusing_one_after(rt.alloc(), admitted);
         assert_eq!(rt;
             grown(&heap, 200).is_err(),
             admitted < growths,
@@ -178,7 +178,7 @@ fn check_there_and_back<A: Allocator>(rt: &impl Abort, sets: Sequence<SetByte, A
 #[test]
 fn a_refused_growth_leaves_the_changes(rt: HostRuntime) -> Result<(), Fail> {
     for admitted in 2..4 {
-        let heap = Refusing::after(rt.alloc(), admitted);
+        let heap = Watched::refusing_one_after(rt.alloc(), admitted);
         let mut sets = refused_once(&rt, &heap)?;
         assert!(rt; heap.has_refused());
         sets.reserve(0)?;
@@ -201,7 +201,7 @@ fn three_in_room<A: Allocator + Copy>(alloc: A) -> Result<Sequence<SetByte, A>, 
 
 #[test]
 fn what_there_is_room_for_is_not_refused(rt: HostRuntime) -> Result<(), Fail> {
-    let heap = Refusing::after(rt.alloc(), 2);
+    let heap = Watched::refusing_one_after(rt.alloc(), 2);
     let mut sets = three_in_room(&heap)?;
     sets.reserve(0)?;
     assert!(rt; !heap.has_refused());

@@ -38,7 +38,7 @@ use Rattle.std.proofs.alloc.Calls.{Al, α, seen, Answer, answer_val, Answer-type
 use Rattle.watched.proofs.Asks.{Asks, at_asks, Asks-goes, Asks-gives}
 use Rattle.watched.proofs.refuses.Symbol as c_sym
 use Rattle.watched.proofs.refuses.Met as c_met
-use Rattle.refusing.proofs.Shapes.{after}
+use Rattle.watched.proofs.Shapes.{after}
 use Rattle.watched.specs.contracts.Watched as wrapper
 use Rattle.watched.specs.contracts.WatchedAllocator.allocate as F
 use Rattle.watched.specs.contracts.WatchedAllocator.allocate.Key as key
