@@ -1,6 +1,5 @@
 -- Lemmas by subject, which the crates above cite too
 pub mod on_histories
--- A session over four bytes, for tests
-pub mod DraftLemmas
+-- Sessions computed
 mod AppendingSession
 mod SessionRows

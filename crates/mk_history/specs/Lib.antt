@@ -7,5 +7,3 @@ pub mod Shown
 pub mod CallSteps
 -- Statements of laws
 pub mod Claims
--- For tests
-pub mod SetBytes

@@ -14,6 +14,3 @@ pub mod sequence;
 pub use change::{Change, SureChange};
 pub use history::{History, HistoryError};
 pub use sequence::Sequence;
-
-#[cfg(test)]
-mod tests;

@@ -18,6 +18,3 @@ pub mod step;
 pub use builder::PatchBuilder;
 pub use patch::Patch;
 pub use step::Step;
-
-#[cfg(test)]
-mod tests;

@@ -5,14 +5,11 @@ ghost use Rattle.mk_history.specs.SetBytes.{set_answer};
 ghost use Rattle.mk_history.specs.Shown.{shown_opened};
 
 use super::sure::SetByte;
-use crate::change::Change;
-use crate::history::{History, HistoryError};
-use crate::sequence::Sequence;
+use mk_history::{Change, History, Sequence};
 use mk_lines::Fault;
 use std::alloc::Allocator;
 use std::marker::Model;
 use std::test::Fail;
-use watched::Watched;
 
 #[derive(Clone, Copy, Debug, PartialEq, Eq)]
 enum DraftError {
@@ -80,7 +77,7 @@ impl<A: Allocator + Copy> Draft<A> {
         self.text
     }
 
-    #[tactic(auto, using(crate::proofs::on_histories::ChainLemmas::chains))]
+    #[tactic(auto, using(mk_history::proofs::on_histories::ChainLemmas::chains))]
     fn set(&mut self, at: usize, byte: u8) -> Result<(), DraftError>
         requires { at < 4 }
         ensures done { OnOk result (set_answer (Apply (at, byte)) self.old ≡ Ok self.new) }
@@ -165,7 +162,7 @@ impl<A: Allocator + Copy> Draft<A> {
         Ok(())
     }
 
-    #[tactic(auto, using(crate::proofs::on_histories::ChainLemmas::chains))]
+    #[tactic(auto, using(mk_history::proofs::on_histories::ChainLemmas::chains))]
     fn end(&mut self) -> Result<(), DraftError>
         ensures done { OnOk result (set_answer End self.old ≡ Ok self.new) }
         ensures none { OnErr result

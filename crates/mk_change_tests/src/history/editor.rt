@@ -2,12 +2,12 @@
 ghost use Rattle.std.specs.Prelude.{◌≡◌, ◌<◌, [], IfOk};
 ghost use Rattle.mk_history.specs.Claims.{history_reply};
 ghost use Rattle.mk_history.specs.Machine.{Apply, Undo, Redo};
-ghost use Rattle.mk_history.specs.SetBytes.{set_answer};
+ghost use Rattle.mk_change_tests.specs.SetBytes.{set_answer};
 ghost use Rattle.mk_history.specs.Shown.{shown_opened};
 ghost use Rattle.mk_history.specs.CallSteps.{IsStep};
 
-use crate::change::Change;
-use crate::history::{History, HistoryError, MAX_DEPTH};
+use mk_history::history::MAX_DEPTH;
+use mk_history::{Change, History, HistoryError};
 use mk_lines::Fault;
 use std::alloc::{AllocError, Allocator};
 use std::marker::Model;
@@ -98,7 +98,7 @@ impl<A: Allocator + Copy> Editor<A> {
         self.text
     }
 
-    #[tactic(auto, using(crate::proofs::on_histories::ChainLemmas::chains))]
+    #[tactic(auto, using(mk_history::proofs::on_histories::ChainLemmas::chains))]
     fn set(&mut self, alloc: A, at: usize, byte: u8) -> Result<(), HistoryError>
         requires { at < 4 }
         ensures { IsStep set_answer (Apply (at, byte)) (history_reply result) self.old self.new }

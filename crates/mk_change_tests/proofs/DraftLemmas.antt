@@ -3,7 +3,7 @@ use Rattle.std.proofs.Common.{◌≡◌, ℕ, zero, suc, ◌<◌, Bool, false, L
 use Rattle.std.specs.Prelude.{slice_set, ◌==◌}
 use Rattle.mk_history.specs.Machine.{Apply, End}
 use Rattle.mk_history.specs.Stacks.{Stacks, Several, after_in_turn}
-use Rattle.mk_history.specs.SetBytes.{set_act}
+use Rattle.mk_change_tests.specs.SetBytes.{set_act}
 use Rattle.mk_history.specs.Shown.{Shown, shown_answer, shown_session, IsConsistent}
 use Rattle.mk_history.proofs.on_histories.HistoryLemmas.{edit-steps, end-steps}
 

@@ -1,5 +1,5 @@
 //! What is shown of an error.
-use crate::history::HistoryError;
+use mk_history::HistoryError;
 use std::test::Fail;
 
 #[test]

@@ -2,8 +2,7 @@
 ghost use Rattle.std.specs.Prelude.{◌≡◌, ◌<◌, [], ◌∷◌, IfOk, slice_set};
 ghost use Rattle.mk_history.specs.Chain.{IsChain};
 
-use crate::change::{Change, SureChange};
-use crate::sequence::Sequence;
+use mk_history::{Change, Sequence, SureChange};
 use mk_lines::Fault;
 use std::alloc::{AllocError, Allocator};
 use std::process::Abort;

@@ -1,4 +1,4 @@
-//! Patches of small documents, made and taken back.
+//! Tests of `mk_patch`: patches of small documents, made and taken back.
 ghost use Rattle.std.specs.Prelude.{◌≡◌, ◌+◌, ◌≤◌, ◌<◌, [], ◌∷◌, IsTrue, IfOk, IfSome, length};
 ghost use Rattle.mk_lines.specs.Limits.{max_text};
 ghost use Rattle.mk_lines.specs.LogicalLines.{logical_lines};
@@ -7,13 +7,11 @@ ghost use Rattle.mk_tree.specs.Trees.{line_view};
 ghost use Rattle.mk_patch.specs.Moves.{FitMoves, FitsMove, IsPlain, IsPlainAt, SwapEnd};
 ghost use Rattle.mk_patch.specs.StepMoves.{move_of};
 
-use crate::builder::PatchBuilder;
-use crate::patch::Patch;
-use crate::step::Step;
 use mk_class::{Class, Context, Meter};
 use mk_lines::Fault;
 use mk_lines::ends::without_line_end;
 use mk_lines::source::MAX_TEXT;
+use mk_patch::{Patch, PatchBuilder, Step};
 use mk_tree::{Doc, Line, LineBytes};
 use std::alloc::{AllocError, Allocator};
 use std::test::Fail;
@@ -240,7 +238,7 @@ fn several_steps_are_made_in_order_and_taken_back_in_reverse(rt: HostRuntime) ->
 }
 
 // The last line gets another end, and a line goes in below it.
-#[tactic(auto, using(crate::proofs::on_moves::MoveLemmas::ends))]
+#[tactic(auto, using(mk_patch::proofs::on_moves::MoveLemmas::ends))]
 fn put_last<A: Allocator + Copy>(
     alloc: A,
     doc: &Doc<A>,

@@ -1,8 +1,8 @@
 use Rattle.std.proofs.Common.{◌<◌, ℕ, List, length, sym}
 use Rattle.std.specs.Prelude.{slice_set}
-use Rattle.mk_history.specs.declared.tests.sure.SetByte.{SetByte}
-use Rattle.mk_history.proofs.DraftLemmas.{end-of-some, some-if-not-empty}
-use Rattle.mk_history.proofs.tests.draft.Draft.end.Goals as goal
+use Rattle.mk_change_tests.specs.declared.history.sure.SetByte.{SetByte}
+use Rattle.mk_change_tests.proofs.DraftLemmas.{end-of-some, some-if-not-empty}
+use Rattle.mk_change_tests.proofs.history.draft.Draft.end.Goals as goal
 
 abbrev is_within : SetByte → List ℕ → Type 0
 is_within change text = change.at < 4

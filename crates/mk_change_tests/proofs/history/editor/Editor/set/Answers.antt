@@ -1,11 +1,11 @@
 use Rattle.std.proofs.Common.{◌≡◌, ℕ, List, [], ◌∷◌, Ok, sym, ap, subst, take}
 use Rattle.std.specs.Prelude.{slice_set}
-use Rattle.mk_history.specs.declared.tests.editor.SetByte.{SetByte}
+use Rattle.mk_change_tests.specs.declared.history.editor.SetByte.{SetByte}
 use Rattle.mk_history.specs.Machine.{Apply}
 use Rattle.mk_history.specs.Shown.{Shown, shown_answer, shown_history}
 use Rattle.mk_history.proofs.on_histories.HistoryLemmas.{edit-steps}
-use Rattle.mk_history.specs.SetBytes.{set_act}
-use Rattle.mk_history.proofs.tests.editor.Editor.set.Goals as goal
+use Rattle.mk_change_tests.specs.SetBytes.{set_act}
+use Rattle.mk_change_tests.proofs.history.editor.Editor.set.Goals as goal
 
 abbrev after_set : {A : _} → SetByte A → List ℕ → List ℕ
 after_set change text = slice_set text change.at change.byte

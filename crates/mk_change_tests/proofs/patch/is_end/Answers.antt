@@ -6,7 +6,7 @@ use Rattle.mk_lines.specs.PhysicalLines.{without_line_end}
 use Rattle.mk_tree.specs.LocatedLines.{size_of}
 use Rattle.mk_tree.specs.Trees.{line_view}
 use Rattle.mk_patch.proofs.on_moves.MoveLemmas.{swap_end-fits}
-use Rattle.mk_patch.proofs.tests.is_end.Goals as goal
+use Rattle.mk_change_tests.proofs.patch.is_end.Goals as goal
 
 pub returns-then-own-size : goal.returns-then-own-size
 returns-then-own-size g c h =

@@ -1,4 +1,4 @@
--- A text of bytes that edits set one at a time: the session that this crate's tests use.
+-- A text of bytes that edits set one at a time: the session that the tests of `mk_history` use.
 -- Told in docs/DECISIONS.md, "mk_history".
 use Rattle.std.specs.Prelude.{ℕ, List, Result, Ok, slice_set}
 use Rattle.mk_history.specs.Machine.{Command, Refusal}

@@ -1,6 +1,6 @@
 //! Each law at concrete types.
 use super::sure::SetByte;
-use crate::laws::{
+use mk_history::laws::{
     depth_bounds, groups_are_one_edit, groups_make_the_steps, history_makes_the_steps,
     undo_brings_back, what_is_seen_is_the_machine,
 };

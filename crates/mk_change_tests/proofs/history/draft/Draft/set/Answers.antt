@@ -1,9 +1,9 @@
 use Rattle.std.proofs.Common.{◌≡◌, ℕ, List, sym}
 use Rattle.std.specs.Prelude.{slice_set}
-use Rattle.mk_history.specs.declared.tests.sure.SetByte.{SetByte}
+use Rattle.mk_change_tests.specs.declared.history.sure.SetByte.{SetByte}
 use Rattle.mk_history.specs.Stacks.{after_in_turn}
-use Rattle.mk_history.proofs.DraftLemmas.{set-alone}
-use Rattle.mk_history.proofs.tests.draft.Draft.set.Goals as goal
+use Rattle.mk_change_tests.proofs.DraftLemmas.{set-alone}
+use Rattle.mk_change_tests.proofs.history.draft.Draft.set.Goals as goal
 
 -- the text after a byte is set
 abbrev after_set : SetByte → List ℕ → List ℕ

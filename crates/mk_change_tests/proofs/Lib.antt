@@ -1,0 +1,2 @@
+-- The steps of a session over four bytes
+mod DraftLemmas

@@ -1,6 +1,0 @@
-//! Undo and redo of single bytes of a text of four.
-mod called;
-mod draft;
-mod editor;
-mod sure;
-mod texts;
