@@ -10,8 +10,8 @@ puts others in place of, at most), and the cost of a refused one.
 
     edit_rows.py TABLE
 
-Rows whose script is not one edit alone are left out. tests/rows says which files the crate
-mk_edit_laws_rows keeps.
+Rows whose script is not one edit alone are left out. tests/rows says which files the crate mk_rows
+keeps.
 
 A table (row_tables.py) has the columns name, makefile, script, stdout, stderr and status, and perhaps
 more. The columns spans, cost and size may stand there too, all three together: a span is its start, its
@@ -190,8 +190,8 @@ IMPORTS = [
         ["SetValue", "AppendValue", "AddAssign", "RemoveAssign", "AddRule", "RemoveRule", "AddPrereq", "RemovePrereq"]
         + ["AddRecipe", "SetRecipe", "RemoveRecipe", "RenameTarget"],
     ),
-    ("Rattle.mk_edit_laws_rows.proofs.Outcomes", ["outcome", "account", "span"]),
-    ("Rattle.mk_edit_laws_rows.proofs.Outcomes", ["Becomes", "Refused", "Accepted", "NotMade"]),
+    ("Rattle.mk_rows.proofs.edits.Outcomes", ["outcome", "account", "span"]),
+    ("Rattle.mk_rows.proofs.edits.Outcomes", ["Becomes", "Refused", "Accepted", "NotMade"]),
 ]
 
 

@@ -184,7 +184,7 @@ def made(table):
 
 # What the two kinds of files import beside what both need.
 TEXTS = ("Rattle.mk_queries.specs.Queries.{vars_text, rules_text, check_text}", "Rattle.mk_queries.specs.Caveats.{caveats_text}")
-ANSWERS = ("Rattle.mk_queries_rows.proofs.Answers.{Answers, answers}",)
+ANSWERS = ("Rattle.mk_rows.proofs.queries.Answers.{Answers, answers}",)
 
 
 def print_file(imported, equations):

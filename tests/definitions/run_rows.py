@@ -8,8 +8,8 @@ and its output.
     run_rows.py TABLE
 
 tests/rows says which file the crate keeps. Of the rows whose script is one edit alone the first for each
-refusal is taken, and the first that is done: the others are equations of `crates/mk_edit_laws_rows`. Rows
-whose script has a fault (status 2) are left out.
+refusal is taken, and the first that is done: the others are equations of `crates/mk_rows`. Rows whose
+script has a fault (status 2) are left out.
 
 A table (row_tables.py) has the columns name, makefile, script, flags, stdout, stderr and status.
 """

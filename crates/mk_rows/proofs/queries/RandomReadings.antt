@@ -2,7 +2,7 @@
 use Rattle.std.proofs.Common.{◌≡◌, refl, []}
 use Rattle.std.specs.Prelude.{codes}
 use Rattle.std.specs.Fmt.{digits}
-use Rattle.mk_queries_rows.proofs.Answers.{Answers, answers}
+use Rattle.mk_rows.proofs.queries.Answers.{Answers, answers}
 
 row_random_001 : answers (codes "$(f {): : \t \n\ta \\\n\tb\n>q\t:= \t%.o\\\\$(s\\) \n #\\\\\n$(a b): : \\\r\n $(q:;=|):| \na: \n\ta\\\ntt: u") ≡ Answers (codes "4:0: >q := %.o\\\\$(s\\)\n") (codes "8:0: a: [1]\n") (codes "1: rough\n6: rough\n")
 unfolding digits

@@ -6,8 +6,8 @@ use Rattle.mk_edit_laws.specs.declared.edit.Colons.TheVariants.{One, Two}
 use Rattle.mk_edit_laws.specs.declared.refusal.Refusal.TheVariants.{BadArgument, Reserved, RecipePrefix, NoSuch, Ambiguous, Absent, Taken, SharedRule, Straddles, OpenValue, OpenLine, OpenDefine, Leans}
 use Rattle.mk_edit_laws.specs.Edits.{Bottom, BeforeVar, AfterVar, BeforeRule}
 use Rattle.mk_edit_laws.specs.Edits.{SetValue, AppendValue, AddAssign, RemoveAssign, AddRule, RemoveRule, AddPrereq, RemovePrereq, AddRecipe, SetRecipe, RemoveRecipe, RenameTarget}
-use Rattle.mk_edit_laws_rows.proofs.Outcomes.{outcome}
-use Rattle.mk_edit_laws_rows.proofs.Outcomes.{Becomes, Refused}
+use Rattle.mk_rows.proofs.edits.Outcomes.{outcome}
+use Rattle.mk_rows.proofs.edits.Outcomes.{Becomes, Refused}
 use Rattle.mk_edit_laws.specs.declared.refusal.Field.TheVariants as field
 
 row_set_keeps_the_comment : outcome (codes "CC = gcc # c\n") (SetValue None (codes "CC") (codes "clang")) ≡ Becomes (codes "CC = clang # c\n")

@@ -6,8 +6,8 @@ use Rattle.mk_edit_laws.specs.declared.edit.Colons.TheVariants.{One, Two}
 use Rattle.mk_edit_laws.specs.declared.refusal.Refusal.TheVariants.{BadArgument, Reserved, RecipePrefix, NoSuch, Ambiguous, Absent, Already, Taken, SharedRule, Straddles, OpenValue, OpenLine, OpenDefine, Leans}
 use Rattle.mk_edit_laws.specs.Edits.{Bottom, BeforeVar, AfterVar, BeforeRule}
 use Rattle.mk_edit_laws.specs.Edits.{SetValue, AppendValue, AddAssign, RemoveAssign, AddRule, RemoveRule, AddPrereq, RemovePrereq, AddRecipe, SetRecipe, RemoveRecipe, RenameTarget}
-use Rattle.mk_edit_laws_rows.proofs.Outcomes.{account, span}
-use Rattle.mk_edit_laws_rows.proofs.Outcomes.{Becomes, Accepted, NotMade}
+use Rattle.mk_rows.proofs.edits.Outcomes.{account, span}
+use Rattle.mk_rows.proofs.edits.Outcomes.{Becomes, Accepted, NotMade}
 use Rattle.mk_edit_laws.specs.declared.refusal.Field.TheVariants as field
 
 row_prefix_001 : account (codes ".RECIPEPREFIX = X\nifdef A\na:\n") (RenameTarget (codes "a") (codes "X1")) ≡ NotMade 1 RecipePrefix

@@ -2,7 +2,7 @@
 use Rattle.std.proofs.Common.{◌≡◌, refl, []}
 use Rattle.std.specs.Prelude.{codes}
 use Rattle.std.specs.Fmt.{digits}
-use Rattle.mk_queries_rows.proofs.Answers.{Answers, answers}
+use Rattle.mk_rows.proofs.queries.Answers.{Answers, answers}
 
 row_a_value_folded_twice : answers (codes "X = a \\\n \\\n b\n") ≡ Answers (codes "1:0: X = a b\n") [] []
 unfolding digits

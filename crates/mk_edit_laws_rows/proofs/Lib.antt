@@ -1,5 +1,0 @@
--- The definitions of edits computed on rows with answers from outside
-mod Outcomes
-mod WorkedEdits
-mod RandomEdits
-mod CornerEdits

@@ -1,4 +1,0 @@
--- Definitions computed
-mod Answers
-mod WorkedReadings
-mod RandomReadings

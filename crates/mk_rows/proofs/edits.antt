@@ -1,0 +1,5 @@
+-- The definitions of edits, computed on rows with answers from outside
+mod Outcomes
+mod WorkedEdits
+mod RandomEdits
+mod CornerEdits
