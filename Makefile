@@ -47,8 +47,7 @@ EDITS ?= 10000
 PROGRAM = crates/mkedit/out/bin/mkedit
 # The same program as rt links it: it loads the C library when it starts.
 BUILT = crates/mkedit/out/mkedit
-LINE_BENCH = crates/line_bench/out/line_bench
-EDIT_BENCH = crates/edit_bench/out/edit_bench
+BENCH = crates/mk_bench/out/mk_bench
 SMALL = examples/config.mk
 SOURCES != find crates -name out -prune -o '(' -name '*.rt' -o -name '*.antt' ')' -print
 
@@ -100,20 +99,16 @@ uninstall:
 	rm -f "$(DESTDIR)$(BASHCOMPDIR)/mkedit" "$(DESTDIR)$(ZSHCOMPDIR)/_mkedit"
 	rm -f "$(DESTDIR)$(FISHCOMPDIR)/mkedit.fish"
 
-# The benches measure a file. Any will do where they are only built.
-$(LINE_BENCH): crates.txt HANDLES $(SOURCES)
-	@tools/build line_bench ../../$(SMALL)
+# The bench measures a file. Any will do where it is only built.
+$(BENCH): crates.txt HANDLES $(SOURCES)
+	@tools/build mk_bench edits ../../$(SMALL)
 	@touch $@
 
-$(EDIT_BENCH): crates.txt HANDLES $(SOURCES)
-	@tools/build edit_bench ../../$(SMALL)
-	@touch $@
-
-bench: $(PROGRAM) $(LINE_BENCH) $(EDIT_BENCH)
+bench: $(PROGRAM) $(BENCH)
 	@bench/run $(PROGRAM)
 	@bench/aims --edits $(EDITS) $(PROGRAM)
-	@bench/lines $(LINE_BENCH)
-	@bench/edits $(EDIT_BENCH)
+	@bench/lines $(BENCH)
+	@bench/edits $(BENCH)
 
 clean:
 	rm -rf crates/*/out bench/data

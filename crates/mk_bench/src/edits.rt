@@ -1,15 +1,8 @@
-//! Measures edits of a makefile: `edit_bench FILE` opens it as a session, and prints the processor
-//! time of single edits and of many, in microseconds, with how many lines were read for them.
-//! `bench/edits` runs it.
-#![tactic(auto)]
-
-use anyhow::Context as _;
+//! Edits of a makefile: opens it as a session, and prints the processor time of single edits and of
+//! many, in microseconds, with how many lines were read for them.
 use mk_class::{Class, Flavor};
-use mk_lines::StdSource;
-use mk_lines::source::read_all;
 use mk_session::{Colons, Edit, Place, Session};
 use std::alloc::AllocError;
-use std::fs::File;
 use std::time::{CpuClock, Duration};
 
 /// How many edits of one kind are made where many are.
@@ -156,9 +149,10 @@ fn undos(rt: &HostRuntime, session: &mut Session) -> anyhow::Result<()> {
     told(rt, "undos", start, 0, undone)
 }
 
+/// Measures edits of a makefile.
 // The steps are functions of their own: in one, each way out would drop all that is live there, and
 // its proof would take most of the time of this crate's.
-fn measure(rt: &HostRuntime, text: &[u8]) -> anyhow::Result<()> {
+pub(crate) fn measure(rt: &HostRuntime, text: &[u8]) -> anyhow::Result<()> {
     let mut session = opened(rt, text)?;
     walked(rt, &session)?;
     prepared(rt, &mut session)?;
@@ -166,12 +160,4 @@ fn measure(rt: &HostRuntime, text: &[u8]) -> anyhow::Result<()> {
     assigns(rt, &mut session)?;
     renames(rt, &mut session)?;
     undos(rt, &mut session)
-}
-
-fn main(rt: HostRuntime) -> anyhow::Result<()> {
-    let words = std::env::args(&rt)?.collect::<Vec<String>>(rt.alloc())?;
-    let name = words.get(1).context("usage: edit_bench FILE")?;
-    let mut source = StdSource::new(File::open(&rt, name.as_str())?);
-    let text = read_all(rt.alloc(), &mut source)?;
-    measure(&rt, text.as_slice())
 }

@@ -1,16 +1,11 @@
-//! Measures the lines of a file: `line_bench FILE` reads it, and prints the processor time of
-//! splitting it, of the cells of its lines, of its units and words, and of the classes of its lines
-//! with their cells, in microseconds, with how many of them there are. `bench/lines` runs it.
-#![tactic(auto)]
-
-use anyhow::Context as _;
+//! The lines of a text: prints the processor time of splitting it, of the cells of its lines, of its
+//! units and words, and of the classes of its lines with their cells, in microseconds, with how many
+//! of them there are.
 use mk_class::context::MAX_DEFINES;
 use mk_class::{Class, Context, Meter, classify};
 use mk_lines::cells::cells;
-use mk_lines::source::read_all;
 use mk_lines::split::{Span, split};
-use mk_lines::{StdSource, units, words};
-use std::fs::File;
+use mk_lines::{units, words};
 use std::time::{CpuClock, Duration};
 
 // The microseconds of processor time since `start`.
@@ -19,7 +14,8 @@ fn micros_since(rt: &HostRuntime, start: Duration) -> anyhow::Result<u128> {
     Ok(now.saturating_sub(start).as_micros())
 }
 
-fn measure(rt: &HostRuntime, text: &[u8]) -> anyhow::Result<()> {
+/// Measures the lines of a text.
+pub(crate) fn measure(rt: &HostRuntime, text: &[u8]) -> anyhow::Result<()> {
     let start = rt.process_cpu_time()?;
     let lines = split(rt.alloc(), text)?;
     println!(rt; "split {} {}", micros_since(rt, start)?, lines.len())?;
@@ -64,12 +60,4 @@ fn read_lines(rt: &HostRuntime, text: &[u8], lines: &[Span]) -> anyhow::Result<u
         context = next;
     }
     Ok(read)
-}
-
-fn main(rt: HostRuntime) -> anyhow::Result<()> {
-    let words = std::env::args(&rt)?.collect::<Vec<String>>(rt.alloc())?;
-    let name = words.get(1).context("usage: line_bench FILE")?;
-    let mut source = StdSource::new(File::open(&rt, name.as_str())?);
-    let text = read_all(rt.alloc(), &mut source)?;
-    measure(&rt, text.as_slice())
 }
