@@ -1,10 +1,10 @@
-//! Tests of runs: over devices that move little, fail or never end, and over an allocator that
-//! refuses each growth in turn.
+//! Tests of scripts and of their runs.
+//!
+//! - `run`: tests of `mk_run`.
+//! - `script`: tests of `mk_script`.
 #![tactic(auto)]
 
 #[cfg(test)]
-mod bench;
+mod run;
 #[cfg(test)]
-mod rows;
-#[cfg(test)]
-mod tests;
+mod script;

@@ -1,10 +1,5 @@
 //! Tests of `mk_script`: scripts with their commands and with lines that are none, an allocator
 //! that refuses each growth in turn, and the texts of faults.
-#![tactic(auto)]
-
-#[cfg(test)]
 mod rows;
-#[cfg(test)]
 mod shown;
-#[cfg(test)]
 mod tests;

@@ -1,7 +1,7 @@
 //! What the proofs do not say: that memory is found, how often it is asked for, and texts.
 
-use crate::rows::{FAULTY, SCRIPTS, Script};
-use crate::shown::shown;
+use super::rows::{FAULTY, SCRIPTS, Script};
+use super::shown::shown;
 use mk_script::{ScriptFault, parse_script};
 use std::alloc::{AllocError, Allocator};
 use std::test::Fail;

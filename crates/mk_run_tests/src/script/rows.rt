@@ -4,7 +4,7 @@
 pub struct Script {
     /// Its text.
     pub text: &'static [u8],
-    /// Its commands as [`crate::shown::shown`] shows them.
+    /// Its commands as [`super::shown::shown`] shows them.
     pub commands: &'static [u8],
     /// How many growths its commands take: one for each text that is not empty, and those of the
     /// list of commands.

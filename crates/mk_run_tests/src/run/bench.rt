@@ -1,7 +1,7 @@
 //! A row run over devices that are told where to fail.
 ghost use Rattle.std.specs.Prelude.{◌<◌};
 
-use crate::rows::Row;
+use super::rows::Row;
 use mk_run::{Outcome, run};
 use std::alloc::Allocator;
 use test_devices::{MemorySink, MemorySource};

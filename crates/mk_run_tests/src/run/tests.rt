@@ -1,5 +1,5 @@
-use crate::bench::{Answer, moving, run_row};
-use crate::rows::{Row, kept_going, rows};
+use super::bench::{Answer, moving, run_row};
+use super::rows::{Row, kept_going, rows};
 use mk_run::{Outcome, message, run, status};
 use std::process::Abort;
 use std::test::Fail;

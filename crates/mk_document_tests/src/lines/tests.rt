@@ -1,4 +1,4 @@
-use crate::std_devices::{CallEnd, ListReader, ListWriter};
+use super::std_devices::{CallEnd, ListReader, ListWriter};
 use mk_lines::ends::{file_line_end, is_open, line_end, without_line_end};
 use mk_lines::sink::{write_all, write_parts};
 use mk_lines::source::{MAX_TEXT, read_all};

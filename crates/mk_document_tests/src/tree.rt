@@ -1,4 +1,5 @@
-//! Documents: parsed, printed, at their limits, changed, and where no memory is found.
+//! Tests of `mk_tree`: texts parsed and printed, the limits, lines put in and taken out, and an
+//! allocator that refuses each growth in turn.
 ghost use Rattle.std.specs.Prelude.{◌<◌, ◌≤◌, ◌≡◌, [], ◌∷◌};
 ghost use Rattle.mk_lines.specs.LogicalLines.{logical_lines};
 ghost use Rattle.mk_tree.specs.Documents.{IsFaithful};

@@ -1,0 +1,13 @@
+//! Tests of documents and of what they are made of.
+//!
+//! - `lines`: tests of `mk_lines`.
+//! - `class`: tests of `mk_class`.
+//! - `tree`: tests of `mk_tree`.
+#![tactic(auto)]
+
+#[cfg(test)]
+mod class;
+#[cfg(test)]
+mod lines;
+#[cfg(test)]
+mod tree;
