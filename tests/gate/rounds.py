@@ -7,12 +7,13 @@ in vain, or where an answer of that function's proof does not fit any more; that
 proved refuses nothing. What no round can judge is tried by itself, as `rt ci` does it. What is
 refused only because a proof names what the edit took away shows nothing, and fails.
 
-At last one in five of the functions that were turned is checked as it is, over what the rounds kept.
-Where one of them is not proved, nothing that was found counts, and each edit is tried by itself. (All of
-them have just been proved in the check of the whole crate; this shows that the rounds can prove.)
+Each round begins with the same folder of proofs, the seed: what one check of the functions that are
+turned, as they stand, has proved. So no round proves again what another has turned. And it shows that the
+rounds can prove: where one of these functions is not proved in it, nothing that was found counts, and each
+edit is tried by itself.
 
 Where the toolchain can, the edits of a crate are tried in up to four shares side by side, each in rounds
-of its own. All of them begin with what one check of the crate as it stands has proved, the seed.
+of its own. All of them begin with one seed, which is then a check of the whole crate.
 """
 
 import hashlib
@@ -21,6 +22,7 @@ import os
 import shutil
 import tempfile
 import threading
+from contextlib import contextmanager
 from functools import partial
 from pathlib import Path
 
@@ -36,24 +38,43 @@ TRIES = "crate, edits, flags"
 MOST_SHARES, FEWEST_EDITS = 4, 6
 
 
-class Trial:
-    """The wrong bodies of one crate, tried over what the checks before kept."""
+def linked(seed, folder):
+    """Makes a folder with the files of a seed. A check replaces a file and never writes into it, so links will do."""
+    shutil.copytree(seed, folder, copy_function=os.link)
 
-    def __init__(self, script, crate, kept):
+
+class Trial:
+    """The wrong bodies of one crate, tried over a seed."""
+
+    def __init__(self, script, crate, seed):
         self.script = script
         self.crate = crate
-        self.kept = kept
+        self.seed = seed
         self.folder = Path(crate.folder)
         # of each body, what was found: whether it is refused, and words on it
         self.found = {}
         # of each body, the functions that must stay as they are where it is tried
         self.apart = {}
 
-    def said(self, texts, functions):
-        """Checks these functions with these texts in place of the crate's own."""
+    def said(self, texts, functions, kept):
+        """Checks these functions with these texts in place of the crate's own, over what a folder keeps."""
         only = [word for it in sorted(functions) for word in ("--only", it)]
-        ran = self.script.checked(self.crate, texts, [*FLAGS, *only], self.kept)
+        ran = self.script.checked(self.crate, texts, [*FLAGS, *only], str(kept))
         return Said(self.crate.name, ran.stdout)
+
+    def is_sound(self, functions):
+        """Whether these functions are proved as they stand. The seed then has their proofs."""
+        if not functions:
+            return True
+        said = self.said({}, functions, self.seed)
+        return said.is_judged() and all(map(said.is_proved, functions))
+
+    @contextmanager
+    def kept(self):
+        """A folder to check over, which begins as the seed and is removed at the end."""
+        with tempfile.TemporaryDirectory(prefix="wrong-bodies-") as room:
+            linked(self.seed, f"{room}/kept")
+            yield f"{room}/kept"
 
     def round_of(self, bodies):
         """The first bodies that fit into one check, and the texts of all of them."""
@@ -70,7 +91,8 @@ class Trial:
     def try_round(self, bodies, texts):
         """Tries bodies in one check, and returns those that have to be tried again."""
         turned = set().union(*(it.functions for it in bodies))
-        said = self.said(texts, turned)
+        with self.kept() as kept:
+            said = self.said(texts, turned, kept)
         if not said.is_judged() or any(self.script.unread(it, texts) for it in said.lines):
             return self.try_halves(bodies)
         again = []
@@ -97,34 +119,28 @@ class Trial:
     def try_alone(self, body):
         """Tries a body in a check of the whole crate, which has to refuse more than a missing name."""
         edit = f"{self.crate.folder}/must-fail/{body.name}.edit"
-        kind, text = self.script.must_fail(self.crate, edit, list(FLAGS), self.kept)
+        with self.kept() as kept:
+            kind, text = self.script.must_fail(self.crate, edit, list(FLAGS), kept)
         shows_something = "only because a proof file names what the edit took away" not in text
         words = text.partition(".edit: ")[2].partition(": ")[2]
         self.found[body] = kind in refusals(self.script) and shows_something, words
-
-    def is_sound(self):
-        """Whether functions that were turned are proved where they are left as they are."""
-        functions = sorted(set().union(*(it.functions for it in self.found)))[::5]
-        if not functions:
-            return True
-        said = self.said({}, functions)
-        return said.is_judged() and all(map(said.is_proved, functions))
 
 
 def found_in_rounds(script, crate, names, seed=None):
     """What was found of some wrong bodies of a crate, by their names: whether each is refused, and words on it.
 
-    The checks begin with what a seed holds, a folder, if there is one. None where the checks cannot be
-    trusted. ValueError where an edit does not fit.
+    The seed is a folder with what was proved of the crate as it stands, if there is one. None where the
+    checks cannot be trusted. ValueError where an edit does not fit.
     """
     bodies = [it for it in wrong_bodies(Path(crate.folder)) if it.name in names]
     with tempfile.TemporaryDirectory(prefix="wrong-bodies-") as room:
-        kept = f"{room}/kept"
         if seed:
-            script.linked(seed, kept)
+            linked(seed, f"{room}/seed")
         else:
-            os.mkdir(kept)
-        trial = Trial(script, crate, kept)
+            os.mkdir(f"{room}/seed")
+        trial = Trial(script, crate, f"{room}/seed")
+        if not trial.is_sound(set().union(*(it.functions for it in bodies))):
+            return None
         for body in bodies:
             if not body.functions:
                 trial.try_alone(body)
@@ -133,8 +149,6 @@ def found_in_rounds(script, crate, names, seed=None):
             chosen, texts = trial.round_of(left)
             again = trial.try_round(chosen, texts)
             left = again + [it for it in left if it not in chosen]
-        if not trial.is_sound():
-            return None
         return {body.name: found for body, found in trial.found.items()}
 
 
