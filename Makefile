@@ -70,19 +70,19 @@ check-all:
 	@tests/gate/check --all $(CRATES)
 
 hostile: $(PROGRAM)
-	@tests/hostile $(BUILT)
+	@python3 -B -m tests.hostile $(BUILT)
 
 soak: $(PROGRAM)
-	@tests/soak --minutes $(MINUTES) $(SEED:%=--seed %) $(PROGRAM)
+	@python3 -B -m tests.soak --minutes $(MINUTES) $(SEED:%=--seed %) $(PROGRAM)
 
 fuzz: $(PROGRAM)
-	@tests/fuzz --minutes $(MINUTES) $(SEED:%=--seed %) $(PROGRAM)
+	@python3 -B -m tests.fuzz --minutes $(MINUTES) $(SEED:%=--seed %) $(PROGRAM)
 
 rows:
 	@tests/rows --write
 
 judge: $(PROGRAM)
-	@tests/judge --minutes $(MINUTES) $(PROGRAM)
+	@python3 -B -m tests.judge --minutes $(MINUTES) $(PROGRAM)
 
 install: $(PROGRAM)
 	install -d "$(DESTDIR)$(BINDIR)" "$(DESTDIR)$(MANDIR)/man1" "$(DESTDIR)$(BASHCOMPDIR)"

@@ -9,7 +9,7 @@ from shared import BENCH, DATA, cost, is_made, text_of
 
 OUT_OF_MKEDIT, OUT_OF_SED = DATA / "out-of-mkedit", DATA / "out-of-sed"
 QUERIES = ("vars", "rules", "check", "caveats")
-READER = BENCH.parent / "tests/reading.py"
+READER = BENCH.parent / "tests/lib/reading.py"
 
 
 class Job(NamedTuple):

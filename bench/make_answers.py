@@ -3,7 +3,7 @@
 
     make_answers.py MAKEFILE
 
-The answer to `mkedit vars` goes to MAKEFILE.vars, and so on. tests/reading.py gives it, which shares
+The answer to `mkedit vars` goes to MAKEFILE.vars, and so on. tests/lib/reading.py gives it, which shares
 no line with the program and is slow. So the makefile is cut where nothing is open, behind includes
 and assignments for targets, and each processor reads some of the pieces: 16 MB take about a minute.
 """
@@ -15,9 +15,9 @@ from multiprocessing import Pool
 from pathlib import Path
 
 sys.dont_write_bytecode = True
-sys.path.append(str(Path(__file__).resolve().parent.parent / "tests"))
-# (below the switch, so that no __pycache__ is left)
-from reading import QUERIES, Context, read  # noqa: E402
+sys.path.insert(0, str(Path(__file__).resolve().parent.parent))
+# (below the two, so that no __pycache__ is left, and the package tests is found)
+from tests.lib.reading import QUERIES, Context, read  # noqa: E402
 
 PIECE = re.compile(rb"(?s).+?(?:\n-include [^\n]*\n|\n\w+: CFLAGS \+= [^\n]*\n|\Z)")
 NUMBER = re.compile(rb"(?m)^\d+")

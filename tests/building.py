@@ -8,9 +8,9 @@ import subprocess
 import sys
 from pathlib import Path
 
-from checks import SECONDS, Outcome, differences
-from rooms import Checks
-from terminals import terminal
+from tests.lib.checks import SECONDS, Outcome, differences
+from tests.lib.rooms import Checks
+from tests.lib.terminals import terminal
 
 TOP = Path(__file__).resolve().parent.parent
 CRATES = "# Lowest first.\nmk_lines: memchr\nmk_class: memchr mk_lines\nmkedit: mk_class clap\nother:\n"

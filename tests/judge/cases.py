@@ -1,0 +1,193 @@
+"""What is judged: random makefiles by a seed, and the examples, each with edits. And the counts."""
+
+import collections
+import itertools
+import random
+import re
+
+from tests import TOP
+from tests.lib.rooms import Room
+
+from . import generator
+from .database import Make
+from .verdicts import EQUAL, FINDING, FOLLOWS, GROUP, NOT_FOLLOWED, REFUSED, SKIPPED, Judge, row
+
+EXAMPLES = TOP / "examples/makefiles"
+# An example is judged in a copy in which nothing runs and no file is read.
+TAMED = (
+    (rb"\$\((?:shell|eval)\b", b"$(tamed"),
+    (rb"(?m)^-?include\b", b"vpath %.none"),
+    (rb"!=", b"?="),
+    (rb"\bMAKE(?=\W|FLAGS)|\bM(?=FLAGS\b)", b"TAMED"),
+    (rb"\$\(call (?![A-Za-z0-9_.-]+[,)])", b"$(tamed "),
+    (rb"\b(shell|eval|guile|file|s?include|load|MAKEFILES|GNUMAKEFLAGS)\b", rb"\1d"),
+    (rb"\+(?!=)", b"p"),
+)
+ROUNDS = 3  # how often each kind of edit is drawn for an example
+MOST_ROWS = 20
+
+
+def tamed(text):
+    """A makefile without what is not safe to give to make."""
+    for pattern, instead in TAMED:
+        text = re.sub(pattern, instead, text)
+    return text
+
+
+def examples(seed):
+    """The examples, each with its name and the source of its edits."""
+    for folder in sorted(it for it in EXAMPLES.iterdir() if it.is_dir()):
+        source = random.Random(f"{seed}/{folder.name}")
+        yield folder.name, tamed((folder / "Makefile").read_bytes()), source, ROUNDS
+
+
+def random_cases(seed):
+    """Random makefiles without end, each with its name and the source of its edits."""
+    number = 0
+    while True:
+        number += 1
+        source = random.Random(f"{seed}/{number}")
+        yield f"seed-{seed}-{number}", generator.makefile(source), source, 1
+
+
+class Counts:
+    """What was judged, by kind of edit and by verdict, and the rows of what was found."""
+
+    def __init__(self, judge):
+        self.judge = judge
+        self.makefiles = collections.Counter()
+        self.edits = collections.defaultdict(collections.Counter)
+        self.groups = collections.Counter()
+        self.refusals = collections.Counter()
+        self.compared = 0
+        self.rows = []
+
+    def found(self):
+        """How many findings there are."""
+        return self.makefiles[FINDING] + sum(it[FINDING] for it in self.edits.values())
+
+    def judged(self, command):
+        """How many edits of a kind were judged."""
+        counts = self.edits[command]
+        return sum(counts.values()) - counts[REFUSED] - counts[SKIPPED]
+
+    def take(self, name, text, source, rounds):
+        """Judges a makefile and its edits, and says what was found."""
+        new = []
+        verdict, before = self.judge.of_makefile(text)
+        self.makefiles[verdict.kind] += 1
+        self.compared += verdict.compared
+        self.note(verdict, name, text, None, new)
+        for _ in range(rounds if before else 0):
+            for edit in generator.Editor(source, text).edits():
+                verdict = self.judge.of_edit(text, before, edit)
+                self.edits[edit[0]][verdict.kind] += 1
+                self.note(verdict, f"{name}-{edit[0]}", text, edit, new)
+        return new
+
+    def note(self, verdict, name, text, edit, new):
+        """Counts a group or a refusal, and writes the row of a finding."""
+        if verdict.kind == GROUP:
+            self.groups["reading" if edit is None else "edit", verdict.about] += 1
+        elif verdict.kind == REFUSED:
+            self.refusals[verdict.about] += 1
+        elif verdict.kind == FINDING:
+            is_shown = len(self.rows) < MOST_ROWS
+            new.append(row(self.judge, name, text, edit) if is_shown else name)
+            self.rows += new[-1:]
+
+    def table(self):
+        """The counts, in lines."""
+        of = self.makefiles
+        judged = sum(of.values()) - of[SKIPPED]
+        yield (
+            f"makefiles: {judged} judged ({self.compared} variables and targets), {of[EQUAL]} equal, "
+            f"{of[GROUP]} in a group, {of[FINDING]} found; {of[SKIPPED]} skipped"
+        )
+        columns = (EQUAL, FOLLOWS, NOT_FOLLOWED, GROUP, FINDING, REFUSED, SKIPPED)
+        rows = [("edit", "judged", *columns)]
+        total = collections.Counter()
+        for command in sorted(self.edits):
+            total += self.edits[command]
+            counts = self.edits[command]
+            rows.append((command, self.judged(command), *(counts[it] for it in columns)))
+        judged = sum(map(self.judged, list(self.edits)))
+        rows.append(("all", judged, *(total[it] for it in columns)))
+        for it in rows:
+            yield f"{it[0]:13}" + "".join(f"{column:>14}" for column in it[1:])
+        for (what, group), count in sorted(self.groups.items()):
+            yield f"{count:7} {what}: {group.replace('_', ' ')}"
+
+
+# Wrong edits, which the judge has to find: a makefile, an edit, and what it must not become.
+PLANTED = (
+    (b"A = 1\nB = 2\n", ("set", None, b"A", b"3"), b"A = 1\nB = 2\n"),
+    (b"A = 1\nB = 2\n", ("set", None, b"A", b"3"), b"A = 3\nB = 3\n"),
+    (b"A = 1 # c\n", ("append", None, b"A", b"3"), b"A = 1 # c 3\n"),
+    (b"A = 1\nB = 2\n", ("unset", None, b"A"), b""),
+    (b"A = 1\nB := $(C)\n", ("assign", None, b"bottom", b"C", b"=", b"3"), b"C = 3\nA = 1\nB := $(C)\n"),
+    (b"t: a\n\tx\nu: b\n", ("depend", None, b"t", b"c"), b"t: a | c\n\tx\nu: b\n"),
+    (b"t: a\n\tx\nu: b\n", ("unrule", None, b"t"), b"u: b\n\tx\n"),
+    (b"t: a\n\tx\nu: b\n", ("recipe", None, b"t", b"y"), b"t: a\n\ty\n\tx\nu: b\n"),
+    (b"t: a\n\tx\n\ty\n", ("recipe-del", None, b"t", b"1"), b"t: a\n\tx\n"),
+    (b"t: a\nu: t\n", ("rename", None, b"t", b"v"), b"v: a\nu: t\n"),
+)
+# Edits of special targets, in which the judge has to find nothing: a makefile and an edit of it.
+# `.SUFFIXES:` clears the suffixes above it, `.DEFAULT:` the recipe; the words of .PHONY are targets.
+SPECIAL = (
+    (
+        b".SUFFIXES: a.o  \\\nlib.a(x.o)\n.SUFFIXES:\n",
+        ("depend-order", 2, b".SUFFIXES", b"lib.a(y.o)"),
+    ),
+    (b".SUFFIXES: .a | .b\n.SUFFIXES:\n", ("depend", 2, b".SUFFIXES", b".c")),
+    (b".SUFFIXES: .a | .b\n.SUFFIXES: .c\n", ("undepend", 2, b".SUFFIXES", b".c")),
+    (b".SUFFIXES: .a\n.SUFFIXES:\n.SUFFIXES: .b\n", ("unrule", 2, b".SUFFIXES")),
+    (b".DEFAULT:\n\tx\n.DEFAULT:\n", ("depend", 2, b".DEFAULT", b"a")),
+    (b".DEFAULT:\n\tx\n.DEFAULT: a\n", ("undepend", 2, b".DEFAULT", b"a")),
+    (b".DEFAULT:\n\tx\n.DEFAULT:\n", ("recipe", 2, b".DEFAULT", b"y")),
+    (b".PHONY: a\nd::\n\tx\n", ("depend", None, b".PHONY", b"d")),
+    (b".PHONY: a\n", ("depend", None, b".PHONY", b".SUFFIXES")),
+    (b".PHONY: a | b\n", ("undepend", None, b".PHONY", b"b")),
+    (b".SECONDARY: a\na:\n", ("undepend", None, b".SECONDARY", b"a")),
+    (b".DEFAULT_GOAL = a\na: b\nb:\n", ("set", None, b".DEFAULT_GOAL", b"b")),
+)
+SEED, MAKEFILES = 1, 100
+
+
+def check_fixed(judge):
+    """The fixed edits are judged: what is wrong with the verdicts on them."""
+    return [*check_planted(judge), *check_special(judge)]
+
+
+def check_special(judge):
+    """In none of the edits of special targets is anything found; all are judged, without an excuse."""
+    for text, edit in SPECIAL:
+        verdict, before = judge.of_makefile(text)
+        if verdict.kind == EQUAL:
+            verdict = judge.of_edit(text, before, edit)
+        if verdict.kind not in (EQUAL, FOLLOWS, NOT_FOLLOWED):
+            yield f"{edit} in {text} is judged {verdict}"
+
+
+def check_planted(judge):
+    """Each planted wrong edit is found."""
+    for text, edit, wrong in PLANTED:
+        before, after = judge.make.database(text), judge.make.database(wrong)
+        verdict = judge.compared(text, wrong, edit, before, after)
+        if verdict.kind != FINDING:
+            yield f"{edit} to {wrong} is judged {verdict}"
+
+
+def run(program, tally):
+    """The examples and a fixed number of random makefiles by a fixed seed, for tests/program."""
+    with Make() as make, Room(program) as room:
+        if not make.is_gnu():
+            tally.add("judge", ["GNU make 4 is not there"])
+            return
+        counts = Counts(Judge(room, make))
+        tally.add("judge: fixed edits", check_fixed(counts.judge))
+        drawn = itertools.islice(random_cases(SEED), MAKEFILES)
+        for case in itertools.chain(examples(SEED), drawn):
+            tally.add(f"judge: {case[0]}", counts.take(*case))
+        few = [it for it in generator.FIELDS if counts.judged(it) < MAKEFILES // 10]
+        tally.add("judge: kinds of edits", [f"too few are judged of {it}" for it in few])

@@ -1,0 +1,364 @@
+"""Random makefiles and edits for the judge.
+
+The makefiles are small and lean to corners: folds, comments, references, conditionals, prefixes,
+defines and every kind of rule at each other's edges. make stops at few of them, and few have what
+groups.py tells, so that most are judged without an excuse. The edits are drawn for a makefile, so that
+most are accepted.
+"""
+
+from tests.lib import reading
+
+# A value refers only to names after its own, so that no variable refers to itself.
+VARIABLES = b"A B CC CFLAGS X.y n-1 _d R Z".split()
+TARGETS = b"all t u a.o b.o lib.a(x.o) sub/d $(R)x v-1 t2".split()
+DOUBLE = [b"d", b"e"]
+# Targets with a meaning of their own. Some have another meaning where they have no prerequisites.
+SPECIAL = b".PHONY .SUFFIXES .DEFAULT".split() * 3
+SPECIAL += b".SECONDARY .INTERMEDIATE .PRECIOUS .SILENT .IGNORE .ONESHELL .POSIX .NOTPARALLEL".split()
+SPECIAL += b".DELETE_ON_ERROR .EXPORT_ALL_VARIABLES .SECONDEXPANSION".split()
+PATTERNS = [b"%.o", b"%.q", b"x%"]
+WORDS = b"a.c b.h t u c lib.a(y.o) $(R) ${Z} sub/x w % $(NONE) $$v".split()
+PIECES = b"gcc -O2 a x=1 y:z $$ $$(b) a,b p;q { | & \\n %.c".split() + [b"'q q'"]
+REFERENCES = [b"$(%s)", b"${%s}", b"$(%s)", b"$(subst a,b,$(%s))", b"$(%s:.c=.o)"]
+COMMANDS = [
+    *(b"", b"echo a", b"@echo $@", b"-rm -f x", b"  two", b"# not a comment", b"$(CC) -c $<", b"$(A)#b"),
+    *(b"a\\\\", b"x = 1", b"t: u", b"a \\\n\tb", b"a \\\n  b", b"if x; then \\\n\ty; fi"),
+]
+COMMENTS = [b"# c", b"#", b"# a \\\n  b", b"  # x = 1", b"# t:", b"#\tz"]
+PLAIN_BLANKS = [b"", b" ", b"  "]
+FOLDED_BLANKS = [b" \\\n ", b"\\\n\t", b"  \\\n"]
+DEFINED = [
+    *(b"line", b"A = 1", b"\ttab", b"t: u", b"# c", b"", b"a \\\n  b", b"ifdef X", b"$$(x)", b"\tendef"),
+    b"define K\nendef",
+]
+# In how many makefiles a byte or two are put in or taken out anywhere, and which.
+NOISY = 0.2
+NOISE = b"\\ # : = ; $ ( ) { | & ? \\# a % $$ ,".split()
+NOISE += [b" ", b"\t", b"\t\t", b"\n", b"\\\n", b"\r", b"\f"]
+BYTE_ORDER_MARK = b"\xef\xbb\xbf"
+# What groups.py tells, and what is near to it.
+HOSTILE = [
+    *(b"\f\n", b"\v # c\n", b"\f define D\nA = 1\nendef\n", b"\fA = 1\n", b"A = \f1\n", b"\r\n\t\n"),
+    *(b"$(NONE)\n", b"$(NONE)\n\tB = 2\n", b"$(NONE): b\n\tx\n", b": b\n\tx\n", b"A = 1\r2\n"),
+    *(b"define .RECIPEPREFIX=\n>\nendef\n", b"P = .RECIPEPREFIX\n$(P) = >\n"),
+    *(b"ifdef NONE\n.RECIPEPREFIX = >\nendif\n", b"ifndef NONE\nt:\n\telse\nendif\n"),
+    *(b"ifdef NONE\nX = 1\nendif\n\tA = 2\n", b"ifdef NONE\nu:\nendif\n\tx\n"),
+    *(b"A = a\\\\# c\n", b"B = b\\\\\\# c\n", b"a\\#b = 1\n", b"\\#:\n\tA = 1\n", b"A \\\\\\\n = 1\n"),
+    *(b"t: lib.a(a b)\n", b"./t: a.c\n", b"u: ./t\n", b"t: a\\ b\n", b"t: a|b\n", b"t: B = 1;2 # c\n"),
+    *(b"A;B = 1\n", b"unexport A = 1\n", b"define D \\\nA = 1\nendef\n", b"A\\:= 1\n"),
+]
+
+
+# What an edit brings now and then: values, words and recipe lines near to the edge of their tests.
+CORNERED = 0.08
+VALUES = [b"\\\\ a", b"%", b"a:", b"= b", b":= b", b"'\"'", b"$(NONE)", b"a\\ b", b"$$", b"+= x"]
+VALUES += [b"$(subst #,-,a)"]
+NEW_WORDS = b"export override private define endef else endif ifdef vpath undefine".split()
+NEW_WORDS += b"a, & * [a] 'x' a(b) %x% -x @x a$(NONE) $(NONE) .PHONY .DEFAULT .x $(R)$(Z) {} ! ^".split()
+NEW_WORDS += b".SUFFIXES .SECONDARY".split()
+LINES = [b" ", b"\t", b"define x", b"endif", b"else", b"a  ", b": ;", b"\\ ", b"a # b", b"$(NONE)", b"a$"]
+
+
+class Writer:
+    """Writes one makefile from a source of random choices."""
+
+    def __init__(self, source):
+        self.source = source
+        self.prefix = b"\t"
+        self.depth = 0
+
+    def chance(self, share):
+        return self.source.random() < share
+
+    def one(self, of):
+        return self.source.choice(of)
+
+    def blank(self, least=b""):
+        """Blanks, rarely with a fold."""
+        if self.chance(0.06):
+            return self.one(FOLDED_BLANKS)
+        return least or self.one(PLAIN_BLANKS)
+
+    def text(self):
+        """A makefile."""
+        text = b"".join(self.piece() for _ in range(self.source.randint(2, 10)))
+        if self.chance(0.005):
+            text = BYTE_ORDER_MARK + text
+        if self.chance(NOISY):
+            text = self.noisy(text)
+        if self.chance(0.12):
+            text = text[:-1]
+        return text.replace(b"\n", b"\r\n") if self.chance(0.08) else text
+
+    def noisy(self, text):
+        """The text with a byte or two put in or taken out."""
+        for _ in range(self.source.randint(1, 2)):
+            at = self.source.randrange(len(text) + 1)
+            new = self.one(NOISE) if self.chance(0.8) else b""
+            text = text[:at] + new + text[at + self.source.randint(0, 1) :]
+        return text
+
+    def piece(self):
+        """Some lines that stand together."""
+        if self.chance(0.012):
+            return self.one(HOSTILE)
+        kinds = (
+            [self.assignment] * 8
+            + [self.rule] * 7
+            + [self.target_assignment, self.define, self.directive]
+            + [self.gap] * 3
+            + ([self.conditional] * 3 if self.depth < 3 else [])
+            + ([self.change_prefix] if self.depth == 0 and self.chance(0.3) else [])
+        )
+        return self.one(kinds)()
+
+    def gap(self):
+        return self.one([b"\n", b"\n", b"  \n", self.one(COMMENTS) + b"\n"])
+
+    def value(self, name):
+        """A value for a variable: it refers only to those after it."""
+        later = VARIABLES[VARIABLES.index(name) + 1 :] if name in VARIABLES else VARIABLES
+        words = []
+        for _ in range(self.one([0, 1, 1, 1, 2, 3])):
+            if later and self.chance(0.15):
+                words.append(self.one(REFERENCES) % self.one(later))
+            elif name in (b"R", b"Z"):
+                words.append(self.one([b"r", b"s.c", b"w"]))
+            else:
+                words.append(self.one(PIECES))
+        return b"".join(self.blank(b" ") + it for it in words).lstrip(b" \t") if words else b""
+
+    def definition(self, name):
+        """A name, an operator and a value, perhaps with a comment."""
+        operator = self.one([b"=", b"=", b":=", b"::=", b"?=", b"+=", b"+="])
+        value = self.value(name)
+        before = b" " if name[-1:] in b"+?!" else self.one([b"", b" ", b"\t", b" "])
+        line = name + before + operator + self.blank() + value
+        if self.chance(0.15):
+            line += self.one([b" ", b"  ", b"\t"]) + self.one(COMMENTS).lstrip(b" ")
+        elif self.chance(0.08):
+            line += b"  "
+        return line
+
+    def assignment(self):
+        modifiers = b""
+        if self.chance(0.12):
+            modifiers = self.one([b"override ", b"export ", b"private ", b"override export "])
+        led = self.one([b" ", b"  "]) if self.chance(0.08) else b""
+        return led + modifiers + self.definition(self.one(VARIABLES)) + b"\n"
+
+    def target_assignment(self):
+        targets = self.one([*TARGETS, *DOUBLE, b"t u", b"%.o"])
+        modifier = self.one([b"override ", b"private ", b"export "]) if self.chance(0.15) else b""
+        definition = self.definition(self.one(VARIABLES)).replace(b";", b",")
+        return targets + self.one([b": ", b":", b" : "]) + modifier + definition + b"\n"
+
+    def define(self):
+        head = self.one([b"define ", b"define ", b"override define "]) + self.one([b"M", *VARIABLES[:4]])
+        head += self.one([b"", b"", b" =", b" :="])
+        body = b"".join(self.one(DEFINED) + b"\n" for _ in range(self.source.randint(0, 3)))
+        return head + b"\n" + body + self.one([b"endef\n", b"endef # c\n", b" endef\n"])
+
+    def directive(self):
+        word = self.one([b"export", b"unexport", b"undefine", b"vpath", b"override undefine"])
+        if word == b"vpath":
+            return self.one([b"vpath\n", b"vpath %.c src\n"])
+        return word + b" " + self.one(VARIABLES) + self.one([b"", b" # c"]) + b"\n"
+
+    def conditional(self):
+        """A conditional with pieces in its branches."""
+        self.depth += 1
+        text = self.condition() + b"\n"
+        text += b"".join(self.piece() for _ in range(self.source.randint(0, 2)))
+        if self.chance(0.15):
+            text += b"else " + self.condition() + b"\n" + self.piece()
+        if self.chance(0.4):
+            text += self.one([b"else\n", b"else # c\n", b" else\n"]) + self.piece()
+        self.depth -= 1
+        return text + self.one([b"endif\n", b"endif # c\n", b"  endif\n"])
+
+    def condition(self):
+        forms = [b"ifdef %s", b"ifndef %s", b"ifeq ($(%s),a)", b'ifneq "$(%s)" "gcc"', b"ifeq (%s,B)"]
+        return self.one([*forms, b"ifdef  %s # c"]) % self.one([*VARIABLES, b"NONE"])
+
+    def change_prefix(self):
+        """Another recipe prefix for what follows."""
+        self.prefix, value = self.one([(b">", b">"), (b">", b"> x"), (b"\t", b""), (b"|", b"|")])
+        return b".RECIPEPREFIX" + self.one([b" = ", b" := ", b"="]) + value + b"\n"
+
+    def words(self, of, least, most):
+        found = [self.one(of) for _ in range(self.source.randint(least, most))]
+        return b"".join(self.blank(b" ") + it for it in found)
+
+    def needs(self, is_static):
+        """The prerequisites of a rule."""
+        words = [it for it in WORDS if is_static or it != b"%"]
+        text = self.words([*words, b"%.c"] if is_static else words, 0, 3)
+        if self.chance(0.2):
+            text += b" | " + self.words([it for it in words if b"%" not in it], 0, 2).lstrip(b" ")
+        return text
+
+    def rule(self):
+        """A rule of any kind, perhaps with a recipe."""
+        kind = self.one(["plain"] * 6 + ["double", "pattern", "static", "grouped", "special"])
+        if kind == "special":
+            return self.special()
+        line = self.targets(kind) + self.needs(kind in ("pattern", "static"))
+        if self.chance(0.1) or kind == "grouped":
+            line += self.one([b";", b" ; echo # b", b";x \\\n\ty", b"; "])
+        elif self.chance(0.08):
+            line += b" # c"
+        has_recipe = self.chance(0.7) or kind == "grouped"
+        return line + b"\n" + (self.recipe() if has_recipe else b"")
+
+    def special(self):
+        """One or two rules of a special target, or the variable that names the goal."""
+        if self.chance(0.05):
+            return b".DEFAULT_GOAL" + self.one([b" = ", b" := "]) + self.one(TARGETS) + b"\n"
+        target = self.one(SPECIAL)
+        return b"".join(self.special_rule(target) for _ in range(self.one([1, 1, 2])))
+
+    def special_rule(self, target):
+        """A rule of a special target, often without prerequisites, seldom with a recipe."""
+        line = target + self.one([b":", b":", b" :"])
+        line += self.words([*TARGETS, *DOUBLE], 0, 2) if self.chance(0.7) else self.needs(False)
+        has_recipe = self.chance(0.5 if target == b".DEFAULT" else 0.1)
+        return line + b"\n" + (self.recipe() if has_recipe else b"")
+
+    def targets(self, kind):
+        """The targets of a rule, and its separator;"""
+        if kind == "pattern":
+            return self.one(PATTERNS) + self.one([b":", b": "])
+        if kind == "static":
+            return self.one([b"a.o", b"a.o b.o", b"$(NONE) b.o"]) + b": %.o:"
+        if kind == "double":
+            return self.one(DOUBLE) + b"::"
+        if kind == "grouped":
+            return self.one([b"g h", b"h", b"g t2"]) + self.one([b" &:", b"&: "])
+        return self.words(TARGETS, 1, 2).lstrip(b" \t\\\n") + self.one([b":", b" :", b": "])
+
+    def recipe(self):
+        """Recipe lines, perhaps with other lines between them."""
+        text = b""
+        for _ in range(self.source.randint(0, 3)):
+            command = self.one(COMMANDS).replace(b"\t", self.one([self.prefix, b" "]))
+            text += self.prefix + command + b"\n"
+            if self.chance(0.12):
+                text += self.gap()
+            elif self.chance(0.05) and self.depth < 3:
+                command = self.one([b"echo a", b"", b"@echo $@"])
+                text += self.condition() + b"\n" + self.prefix + command + b"\nendif\n"
+        return text
+
+
+def makefile(source):
+    """A random makefile."""
+    return Writer(source).text()
+
+
+class Editor:
+    """Draws edits for a makefile."""
+
+    def __init__(self, source, text):
+        self.source = source
+        self.one = source.choice
+        self.writer = Writer(source)
+        lines, _ = reading.read(text)
+        self.names = [it.parts[1] for it in lines if it.kind == "Assign"]
+        self.rules = [it.parts for it in lines if it.kind == "Header"]
+
+    def edits(self):
+        """One edit of each kind, in a random order."""
+        found = [self.edit(command) for command in FIELDS]
+        self.source.shuffle(found)
+        return [it for it in found if it]
+
+    def edit(self, command):
+        """An edit of this kind, or None where the makefile has nothing for it."""
+        fields = FIELDS[command](self)
+        if fields is None:
+            return None
+        is_counted = command != "rename" and fields[0] != b"bottom"
+        return (command, self.nth(fields[0]) if is_counted else None, *fields)
+
+    def nth(self, address):
+        """A number among the lines that an address means, where there are several."""
+        name = address.split(b" ")[-1]
+        count = self.names.count(name) + sum(name in it[0] for it in self.rules)
+        return self.source.randint(1, count) if count > 1 and self.source.random() < 0.9 else None
+
+    def name(self):
+        return self.one(self.names) if self.names else None
+
+    def target(self):
+        targets = [it for rule in self.rules for it in rule[0]]
+        return self.one(targets) if targets else None
+
+    def value(self, name):
+        """A value on one line."""
+        if self.writer.chance(CORNERED):
+            return self.one(VALUES)
+        folded = self.writer.value(name)
+        return b" ".join(folded.replace(b"\\\n", b" ").split())
+
+    def word(self):
+        if self.writer.chance(CORNERED):
+            return self.one(NEW_WORDS)
+        return self.one(WORDS[:10])
+
+    def place(self):
+        name, target = self.name(), self.target()
+        places = [b"bottom"] + ([b"before-var " + name, b"after-var " + name] if name else [])
+        return self.one(places + ([b"before-rule " + target] if target else []))
+
+    def needed(self, target):
+        """A prerequisite of a rule, most often."""
+        words = [it for rule in self.rules if target in rule[0] for it in (*rule[3], *rule[4])]
+        return self.one(words) if words and self.source.random() < 0.9 else self.word()
+
+    def command(self):
+        if self.writer.chance(CORNERED):
+            return self.one(LINES)
+        return self.one([it for it in COMMANDS if b"\n" not in it and it[-1:] != b"\\"])
+
+    def for_name(self, *rest):
+        name = self.name()
+        return name and (name, *(it(name) for it in rest))
+
+    def for_target(self, *rest):
+        target = self.target()
+        return target and (target, *(it(target) for it in rest))
+
+    def assign(self):
+        name = self.one(VARIABLES)
+        operator = self.one([b"=", b":=", b"::=", b"?=", b"+="])
+        return self.place(), name, operator, self.value(name)
+
+    def rule(self):
+        is_double = self.source.random() < 0.2
+        targets = self.one(DOUBLE) if is_double else self.one([b"n", b"n m", self.word()])
+        needs = b" ".join(self.word() for _ in range(self.source.randint(0, 2)))
+        return self.place(), targets, b"::" if is_double else b":", needs
+
+    def number(self, _):
+        return b"%d" % self.one([1, 1, 1, 2, 2, 3])
+
+    def rename(self):
+        return self.for_target(lambda _: self.one([b"new", self.word(), b"$(R)n", self.one(TARGETS)]))
+
+
+FIELDS = {
+    "set": lambda it: it.for_name(it.value),
+    "append": lambda it: it.for_name(lambda name: it.value(name) or b"more"),
+    "unset": lambda it: it.for_name(),
+    "assign": Editor.assign,
+    "rule": Editor.rule,
+    "unrule": lambda it: it.for_target(),
+    "depend": lambda it: it.for_target(lambda _: it.word()),
+    "depend-order": lambda it: it.for_target(lambda _: it.word()),
+    "undepend": lambda it: it.for_target(it.needed),
+    "recipe": lambda it: it.for_target(lambda _: it.command()),
+    "recipe-set": lambda it: it.for_target(it.number, lambda _: it.command()),
+    "recipe-del": lambda it: it.for_target(it.number),
+    "rename": Editor.rename,
+}

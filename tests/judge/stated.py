@@ -1,0 +1,226 @@
+"""Edits over the items of a makefile, as docs/EDITS.md states their changes.
+
+An edit is a tuple: its command, the number N of `nth N` or None, and the command's fields as bytes. A
+place is one of its fields, as b"after-var X". after() gives the items after an accepted edit, and
+touched() what of make's data base the edit is about.
+"""
+
+import re
+
+from tests.lib import reading
+
+from .expected import Item
+from .values import shown
+
+OF_VARIABLES = ("set", "append", "unset", "assign")
+
+
+def field(text):
+    """A field as a script has it."""
+    if text and not re.search(rb'[ \t]|\A"', text):
+        return text
+    return b'"' + text.replace(b"\\", b"\\\\").replace(b'"', b'\\"') + b'"'
+
+
+def line_of(edit):
+    """The line of a script for an edit."""
+    command, nth, *fields = edit
+    words = [b"nth %d" % nth] if nth else []
+    words.append(command.encode())
+    if command in ("assign", "rule"):
+        words += map(field, fields.pop(0).split(b" ", 1))
+    return b" ".join(words + list(map(field, fields)))
+
+
+def addressed(of, nth, is_it):
+    """The place of the line that an edit means."""
+    return [at for at, item in enumerate(of) if is_it(item)][(nth or 1) - 1]
+
+
+def assigns(name):
+    return lambda item: item.kind == "Assign" and item.parts[1] == name
+
+
+def has_target(target):
+    return lambda item: item.kind == "Header" and target in item.parts[0]
+
+
+def place_of(of, nth, place):
+    """Where a new line goes."""
+    word, _, name = place.partition(b" ")
+    if word == b"bottom":
+        return len(of)
+    is_it = has_target(name) if word == b"before-rule" else assigns(name)
+    return addressed(of, nth, is_it) + (word == b"after-var")
+
+
+def recipe_places(of, at):
+    """The places of the recipe lines of the rule at a place."""
+    found = []
+    for place in range(at + 1, len(of)):
+        kind = of[place].kind
+        if kind == "Recipe":
+            found.append(place)
+        elif kind not in ("Blank", "Comment", "If", "Else", "Endif"):
+            break
+    return found
+
+
+def words_of(text):
+    return reading.texts(reading.units(text))
+
+
+def after(of, edit):
+    """The items after an accepted edit."""
+    command, nth, *fields = edit
+    return CHANGES[command](list(of), nth, *fields)
+
+
+def with_value(of, nth, name, change):
+    at = addressed(of, nth, assigns(name))
+    *front, old = of[at].parts
+    new = change(old)
+    of[at] = Item("Assign", (*front, new), of[at].tail if new else b"")
+    return of
+
+
+def set_value(of, nth, name, value):
+    return with_value(of, nth, name, lambda _: value)
+
+
+def append(of, nth, name, more):
+    return with_value(of, nth, name, lambda old: old + b" " + more if old else more)
+
+
+def unset(of, nth, name):
+    del of[addressed(of, nth, assigns(name))]
+    return of
+
+
+def assign(of, nth, place, name, operator, value):
+    of.insert(place_of(of, nth, place), Item("Assign", ((), name, operator, value)))
+    return of
+
+
+def rule(of, nth, place, targets, separator, needs):
+    parts = (words_of(targets), separator, None, words_of(needs), (), None)
+    of.insert(place_of(of, nth, place), Item("Header", parts))
+    return of
+
+
+def unrule(of, nth, target):
+    at = addressed(of, nth, has_target(target))
+    del of[at : [at, *recipe_places(of, at)][-1] + 1]
+    return of
+
+
+def with_header(of, nth, target, change):
+    at = addressed(of, nth, has_target(target))
+    targets, separator, pattern, normal, order, inline = of[at].parts
+    of[at] = Item("Header", (targets, separator, pattern, *change(normal, order), inline))
+    return of
+
+
+def depend(of, nth, target, word):
+    return with_header(of, nth, target, lambda normal, order: ((*normal, word), order))
+
+
+def depend_order(of, nth, target, word):
+    return with_header(of, nth, target, lambda normal, order: (normal, (*order, word)))
+
+
+def without(words, word):
+    return tuple(it for it in words if it != word)
+
+
+def undepend(of, nth, target, word):
+    return with_header(of, nth, target, lambda *lists: tuple(without(it, word) for it in lists))
+
+
+def recipe(of, nth, target, line):
+    at = addressed(of, nth, has_target(target))
+    of.insert([at, *recipe_places(of, at)][-1] + 1, Item("Recipe", (line,)))
+    return of
+
+
+def recipe_set(of, nth, target, number, line):
+    at = recipe_places(of, addressed(of, nth, has_target(target)))[int(number) - 1]
+    of[at] = Item("Recipe", (line,))
+    return of
+
+
+def recipe_del(of, nth, target, number):
+    del of[recipe_places(of, addressed(of, nth, has_target(target)))[int(number) - 1]]
+    return of
+
+
+def rename(of, _, old, new):
+    def renamed(words):
+        return tuple(new if it == old else it for it in words)
+
+    for at, item in enumerate(of):
+        if item.kind == "TargetAssign":
+            of[at] = item._replace(parts=(renamed(item.parts[0]), *item.parts[1:]))
+        elif item.kind == "Header":
+            targets, separator, pattern, normal, order, inline = item.parts
+            lists = map(renamed, (targets, normal, order))
+            targets, normal, order = lists
+            of[at] = Item("Header", (targets, separator, pattern, normal, order, inline))
+    return of
+
+
+CHANGES = {
+    "set": set_value,
+    "append": append,
+    "unset": unset,
+    "assign": assign,
+    "rule": rule,
+    "unrule": unrule,
+    "depend": depend,
+    "depend-order": depend_order,
+    "undepend": undepend,
+    "recipe": recipe,
+    "recipe-set": recipe_set,
+    "recipe-del": recipe_del,
+    "rename": rename,
+}
+
+
+def edited_targets(of, edit):
+    """The targets of the rule that an edit is about: both names of a renaming, none for a variable."""
+    command, nth, *fields = edit
+    if command in OF_VARIABLES:
+        return ()
+    if command == "rename":
+        return tuple(fields)
+    if command == "rule":
+        return words_of(fields[1])
+    return of[addressed(of, nth, has_target(fields[0]))].parts[0]
+
+
+def touched(of, edit, expected, database):
+    """The keys of make's data base that an edit is about: a variable, the targets of a rule, or,
+    of a renaming, both names and whatever has the old one as a prerequisite."""
+    command, _, *fields = edit
+    targets = expected.values.final_words(edited_targets(of, edit))
+    if not targets:
+        return {("variables", shown(fields[command == "assign"]))}
+    if command == "rename":
+        return renamed_keys(database, *targets) if len(targets) == 2 else set()
+    return {("patterns", tuple(targets)), *(("targets", it) for it in targets)}
+
+
+def renamed_keys(database, old, new):
+    """The keys that a renaming is about."""
+    found = {("targets", old), ("targets", new)}
+    for name, rules in database.targets.items():
+        if any(old in it.prerequisites + it.order_only for it in rules):
+            found.add(("targets", name))
+    for names, rules in database.patterns.items():
+        if old in names or any(old in it.prerequisites + it.order_only for it in rules):
+            found.add(("patterns", names))
+            found.add(("patterns", tuple(new if it == old else it for it in names)))
+    for target, name in database.target_variables:
+        if target == old:
+            found |= {("target_variables", (it, name)) for it in (old, new)}
+    return found

@@ -1,0 +1,1 @@
+"""Tests of the built program as its user meets it: standard output, standard error and exit status."""

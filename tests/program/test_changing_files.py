@@ -1,0 +1,91 @@
+"""Checks on files that another process changes while the program reads them."""
+
+import os
+import threading
+
+from tests.lib.checks import Outcome
+from tests.lib.rooms import TOO_LONG, Checks
+
+LIMIT = 16_777_216
+LINE = b"# a comment of forty bytes, and its end\n"
+
+check = Checks()
+
+
+class Another:
+    """A thread that does something over and over as long as a program runs."""
+
+    def __init__(self, does):
+        self.does = does
+
+    def __call__(self, process):
+        def run():
+            while process.poll() is None and self.does():
+                pass
+
+        threading.Thread(target=run, daemon=True).start()
+
+
+def grow(path, line, bound):
+    """What puts a line at a file's end, until the file has so many bytes."""
+    file = os.open(path, os.O_WRONLY | os.O_APPEND)
+
+    def does():
+        os.write(file, line)
+        if os.fstat(file).st_size < bound:
+            return True
+        os.close(file)
+        return False
+
+    return Another(does)
+
+
+@check
+def a_file_that_grows_is_read_to_an_end_that_it_had(room):
+    path = room.folder / "grows"
+    for _ in range(10):
+        path.write_bytes(LINE * 50_000)
+        got = room.run("edit", "empty", "grows", meanwhile=grow(path, LINE, LIMIT - len(LINE)))
+        text = path.read_bytes()
+        if not text.startswith(got.stdout) or len(got.stdout) < len(LINE) * 50_000:
+            yield f"{len(got.stdout)} bytes are no prefix of the file"
+        yield from () if got[1:] == (b"", 0) else [f"standard error and status are {got[1:]}"]
+
+
+@check
+def a_file_that_grows_without_end_is_too_long(room):
+    path = room.folder / "grows"
+    path.write_bytes(LINE * 400_000)
+    size = path.stat().st_size
+    # in one step from below the limit to above it, wherever the program is by then
+    meanwhile = grow(path, b"#" * (LIMIT + 1 - size), LIMIT)
+    got = room.run("edit", "empty", "grows", meanwhile=meanwhile)
+    shorter = Outcome(LINE * 400_000, b"", 0)
+    return [] if got in (TOO_LONG, shorter) else [f"neither whole nor too long: {got[1:]}"]
+
+
+@check
+def a_file_that_is_emptied_is_read_to_where_it_ends(room):
+    path, text = room.folder / "shrinks", LINE * 50_000
+    for _ in range(10):
+        path.write_bytes(text)
+
+        def empty():
+            os.truncate(path, 0)
+
+        got = room.run("edit", "empty", "shrinks", meanwhile=Another(empty))
+        yield from () if text.startswith(got.stdout) else ["what came is no prefix of the file"]
+        yield from () if got[1:] == (b"", 0) else [f"standard error and status are {got[1:]}"]
+
+
+@check
+def a_file_whose_name_is_taken_away_is_read_whole(room):
+    path, text = room.folder / "leaves", LINE * 50_000
+    path.write_bytes(text)
+
+    def remove():
+        path.unlink()
+
+    got = room.run("edit", "empty", "leaves", meanwhile=Another(remove))
+    gone = Outcome(b"", b"mkedit: cannot open leaves\n", 3)
+    return [] if got in (gone, Outcome(text, b"", 0)) else [f"neither whole nor gone: {got[1:]}"]

@@ -1,0 +1,168 @@
+"""The completions of bash, zsh and fish beside what `mkedit --help` says, so that they cannot drift.
+
+Every shell that is there is asked what it completes. The files for zsh and fish are also read, since
+these two are seldom there.
+"""
+
+import re
+import shutil
+import subprocess
+
+from tests import TOP
+from tests.lib.checks import SECONDS
+from tests.lib.rooms import Checks
+from tests.program.test_explanations import refusals
+
+FOLDER = TOP / "completions"
+COMMAND = re.compile(r"^  (\w+) {2}", re.M)
+OPTION = re.compile(r"^ +(?:(-\w), )?(--[\w-]+)", re.M)
+ZSH_COMMAND = re.compile(r"^ +'(\w+):.*'$", re.M)
+ZSH_OPTION = re.compile(r"\{(-\w)\+?,(--[\w-]+?)=?\}")
+FISH_COMMAND = re.compile(r"-n __fish_use_subcommand -a (\w+)")
+FISH_REFUSALS = re.compile(r"_from explain;.* -a '(.*)'")
+FISH_OPTION = re.compile(r"-s (\w) -l ([\w-]+)")
+
+check = Checks()
+
+
+def section(shown, title):
+    """The lines of a section of help."""
+    return re.search(rf"^{title}:\n((?: .*\n?)+)", shown, re.M)[1]
+
+
+def options_of_fish(text, others):
+    """The options in the lines that do not have the condition of others."""
+    lines = "\n".join(it for it in text.splitlines() if others not in it)
+    return {it for pair in FISH_OPTION.findall(lines) for it in (f"-{pair[0]}", f"--{pair[1]}")}
+
+
+def section_of_zsh(text, function):
+    """The text of a function."""
+    return re.search(rf"^{function}\(\) \{{\n(.*?)^\}}$", text, re.M | re.S)[1]
+
+
+def commands(room):
+    """The commands that help lists."""
+    shown = room.run("--help").stdout.decode()
+    return set(COMMAND.findall(section(shown, "Commands")))
+
+
+def options(room, *words):
+    """The options that the help of a command lists."""
+    shown = room.run(*words, "--help").stdout.decode()
+    found = OPTION.findall(section(shown, "Options"))
+    return {it for pair in found for it in pair if it}
+
+
+def line_starts(room):
+    """Beginnings of command lines, each with the words that have to be offered at its end."""
+    yield ["mkedit"], commands(room), ""
+    yield ["mkedit"], options(room), "-"
+    yield ["mkedit", "help"], commands(room), ""
+    for command in sorted(commands(room) - {"help"}):
+        yield ["mkedit", command], options(room, command), "-"
+
+
+def names_of_refusals():
+    """The name of each refusal."""
+    return {name for _, name in refusals()}
+
+
+def files(room):
+    """Every name in the room's folder."""
+    return {it.name for it in room.folder.iterdir()}
+
+
+def offered_by_bash(room, words, begun):
+    """What bash offers for the word that is begun after the others."""
+    line = [*words, begun]
+    script = (
+        'source "$1"; shift; COMP_WORDS=("$@"); COMP_CWORD=$(($# - 1)); _mkedit; '
+        'printf "%s\\n" "${COMPREPLY[@]}"'
+    )
+    words = ["bash", "--norc", "--noprofile", "-c", script, "bash", FOLDER / "mkedit.bash", *line]
+    return answered(words, room)
+
+
+def offered_by_fish(room, words, begun):
+    """What fish offers for the word that is begun after the others."""
+    line = " ".join([*words, begun])
+    script = f'source {FOLDER / "mkedit.fish"}; complete -C "{line}"'
+    return {it.partition("\t")[0] for it in answered(["fish", "--no-config", "-c", script], room)}
+
+
+def answered(words, room):
+    """The lines that a shell prints in the folder of the room."""
+    home = {"HOME": str(room.folder), "PATH": "/usr/local/bin:/usr/bin:/bin", "LC_ALL": "C.UTF-8"}
+    ran = subprocess.run(
+        words, cwd=room.folder, env=home, capture_output=True, text=True, timeout=SECONDS
+    )
+    if ran.stderr:
+        raise ValueError(ran.stderr.strip())
+    return {it for it in ran.stdout.splitlines() if it}
+
+
+def compare(room, shell, offered):
+    """What a shell offers otherwise than help lists it."""
+    if not shutil.which(shell):
+        print(f"skipped: what {shell} completes, since it is not there")
+        return
+    there = files(room)
+    for words, wanted, begun in line_starts(room):
+        got = offered(room, words, begun)
+        if got != wanted:
+            yield f"{shell} offers {sorted(got)} after {words}, wanted {sorted(wanted)}"
+    for words in (["edit"], ["edit", "script"], ["edit", "-k"], ["edit", "-o"], ["vars"]):
+        got = offered(room, ["mkedit", *words], "")
+        if not there <= got:
+            yield f"{shell} offers {sorted(got)} after {words}, wanted the files too"
+    got = offered(room, ["mkedit", "explain"], "")
+    if got != names_of_refusals():
+        yield f"{shell} offers {sorted(got)} after explain"
+    got = offered(room, ["mkedit", "edit", "-d"], "")
+    if got & there:
+        yield f"{shell} offers files for a depth: {sorted(got)}"
+
+
+@check
+def bash_completes_what_help_lists(room):
+    return compare(room, "bash", offered_by_bash)
+
+
+@check
+def fish_completes_what_help_lists(room):
+    return compare(room, "fish", offered_by_fish)
+
+
+@check
+def the_file_for_fish_has_what_help_lists(room):
+    text = (FOLDER / "mkedit.fish").read_text(encoding="utf-8")
+    for words, others in (([], "__fish_seen_subcommand_from"), (["edit"], "__fish_use_subcommand")):
+        found = options_of_fish(text, others)
+        if found != options(room, *words):
+            yield f"its options of {words} are {sorted(found)}"
+    if set(FISH_REFUSALS.search(text)[1].split()) != names_of_refusals():
+        yield "its refusals are others"
+    named = set(FISH_COMMAND.findall(text))
+    if named != commands(room):
+        yield f"its commands are {sorted(named)}"
+
+
+@check
+def the_file_for_zsh_has_what_help_lists(room):
+    text = (FOLDER / "mkedit.zsh").read_text(encoding="utf-8")
+    named = set(ZSH_COMMAND.findall(section_of_zsh(text, "_mkedit_commands")))
+    if named != commands(room):
+        yield f"its commands are {sorted(named)}"
+    functions = (("", []), ("_edit", ["edit"]), ("_query", ["vars"]), ("_explain", ["explain"]))
+    for function, words in functions:
+        part = section_of_zsh(text, f"_mkedit{function}")
+        found = {it for pair in ZSH_OPTION.findall(part) for it in pair}
+        if found != options(room, *words):
+            yield f"its options of {words} are {sorted(found)}"
+    part = section_of_zsh(text, "_mkedit_explain")
+    if set(re.search(r"refusals=\((.*?)\)", part, re.S)[1].split()) != names_of_refusals():
+        yield "its refusals are others"
+    if shutil.which("zsh"):
+        ran = subprocess.run(["zsh", "-n", FOLDER / "mkedit.zsh"], capture_output=True, text=True)
+        yield from ran.stderr.splitlines()

@@ -1,0 +1,61 @@
+"""The tasks of docs/COOKBOOK.md, run as they stand there.
+
+A task is a title of the second level with fenced blocks below it. A block ```make NAME or
+```mkedit NAME is a file, and ```console a shell session. The blocks of a task are done in their order
+in a folder of its own. Each refusal that a task names has to be one of docs/EDITS.md.
+"""
+
+import re
+
+from tests import TOP
+from tests.lib.rooms import Room
+from tests.lib.transcripts import Shell
+
+DOCS = TOP / "docs"
+TASK = re.compile(r"^## (.*)\n((?:(?!## ).*\n)*)", re.M)
+BLOCK = re.compile(r"^```(.*)\n((?:(?!```).*\n)*)```\n", re.M)
+REFUSAL = re.compile(r"`(\d+) (\w+)[^`]*`")
+TASKS = 17
+
+
+def write_file(room, name, text):
+    """Writes a file of a task; a script of the shell or of make may be run."""
+    path = room.folder / name
+    path.parent.mkdir(parents=True, exist_ok=True)
+    path.write_text(text, encoding="utf-8")
+    path.chmod(0o755 if text.startswith("#!") else 0o644)
+
+
+def check_task(program, text):
+    """What is wrong with a task: nothing where its sessions print what they show."""
+    with Room(program) as room, Shell(program, room.folder) as shell:
+        sessions = 0
+        for head, content in BLOCK.findall(text):
+            kind, _, name = head.partition(" ")
+            if kind == "console":
+                sessions += 1
+                yield from shell.differs(content)
+            elif kind in ("make", "mkedit") and name:
+                write_file(room, name, content)
+            else:
+                yield f"a block is neither a file nor a session: {head}"
+        if not sessions:
+            yield "no session"
+
+
+def unknown_refusals(text):
+    """The refusals that are named with another number than in docs/EDITS.md."""
+    edits = (DOCS / "EDITS.md").read_text(encoding="utf-8")
+    known = set(re.findall(r"^\| (\d+) \| `(\w+)`", edits, re.M))
+    named = REFUSAL.findall(text)
+    return [f"no refusal {' '.join(it)}" for it in named if it not in known]
+
+
+def run(program, tally):
+    """Runs every task."""
+    tasks = TASK.findall((DOCS / "COOKBOOK.md").read_text(encoding="utf-8"))
+    for title, text in tasks:
+        wrong = list(check_task(program, text)) + unknown_refusals(text)
+        tally.add(f"docs/COOKBOOK.md: {title}", wrong)
+    few = [f"{len(tasks)} tasks, wanted {TASKS}"] if len(tasks) < TASKS else []
+    tally.add("docs/COOKBOOK.md: tasks", few)

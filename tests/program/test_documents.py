@@ -1,0 +1,106 @@
+"""The examples of docs/EDITS.md and of the last chapter of docs/LANGUAGE.md, run through the program.
+
+In an example `⏎` is a line feed, `⇥` a tab, `␌` a form feed and `␀` a NUL. Two forms are run:
+
+    MAKEFILE          COMMAND          TEXT       a line, its columns at least two blanks apart
+    MAKEFILE          OUTPUT                      the lines below the title of a query, which has them
+                                                  side by side
+
+In the last chapter of docs/LANGUAGE.md each section with an example also names, as `5: opaque`, what
+`mkedit check` prints of the section's first makefile, and as "`caveats` names line 6" of which line
+`mkedit caveats` tells. docs/LIBRARY.md shows lines of two files.
+"""
+
+import re
+
+from tests import TOP
+from tests.lib.checks import Outcome, differences
+from tests.lib.rooms import Room
+
+EDITS = TOP / "docs/EDITS.md"
+LANGUAGE = TOP / "docs/LANGUAGE.md"
+LIBRARY = TOP / "docs/LIBRARY.md"
+QUOTED = ("crates/session_example/src/main.rt", "crates/mk_session/src/session.rt")
+LAST_CHAPTER = "## 8. Where make reads otherwise\n"
+COMMANDS = (
+    "nth set append unset assign rule unrule depend depend-order undepend recipe recipe-set recipe-del "
+    "rename"
+)
+EXAMPLE = re.compile(
+    rf"^    (\S.*?⏎|X=1) {{2,}}((?:{COMMANDS.replace(' ', '|')}) .*?) {{2,}}(\S.*⏎)$", re.M
+)
+QUERY = re.compile(r"^### `mkedit (\w+)`\n(?:.*\n)*?\n((?:    .*\n)+)", re.M)
+SECTION = re.compile(r"^### (.*)\n((?:(?!### ).*\n)*)", re.M)
+UNREAD = re.compile(r"`(\d+: (?:rough|opaque))`")
+CAVEAT = re.compile(r"`caveats` names line (\d+)")
+CODE = re.compile(r"^```rust\n((?:(?!```).*\n)*)```\n", re.M)
+
+
+def text_of(shown):
+    """The bytes that an example shows."""
+    return shown.translate(str.maketrans("⏎⇥␌␀", "\n\t\f\0")).encode()
+
+
+def edit(room, makefile, command):
+    room.write("Makefile", text_of(makefile))
+    room.write("script", text_of(command) + b"\n")
+    return room.run("edit", "script", "Makefile")
+
+
+def check_edits(room, document):
+    for before, command, after in EXAMPLE.findall(document):
+        yield command, differences(edit(room, before, command), Outcome(text_of(after), b"", 0))
+
+
+def check_queries(room, document):
+    for query, block in QUERY.findall(document):
+        rows = [re.fullmatch(r"    (\S.*?⏎) *(.*)\n", line) for line in block.splitlines(True)]
+        room.write("Makefile", b"".join(text_of(row[1]) for row in rows))
+        wanted = "".join(row[2] + "\n" for row in rows if row[2]).encode()
+        yield query, differences(room.run(query, "Makefile"), Outcome(wanted, b"", 0))
+
+
+def check_unread(room, chapter):
+    for title, section in SECTION.findall(chapter):
+        example = EXAMPLE.search(section)
+        if example:
+            room.write("Makefile", text_of(example[1]))
+            wanted = "".join(f"{it}\n" for it in UNREAD.findall(section)).encode()
+            yield title, differences(room.run("check", "Makefile"), Outcome(wanted, b"", 0))
+            named = re.findall(r"^(\d+): ", room.run("caveats", "Makefile").stdout.decode(), re.M)
+            caveats = CAVEAT.findall(section)
+            wrong = [f"caveats names {named}, wanted {caveats}"] if named != caveats else []
+            yield f"caveats, {title}", wrong
+
+
+def check_code(_, document):
+    """The blocks of code: their lines have to stand in the files of QUOTED, apart from indentation."""
+    code = "\n".join((TOP / it).read_text(encoding="utf-8") for it in QUOTED)
+    code = re.sub(r"^ +", "", code, flags=re.M)
+    for block in CODE.findall(document):
+        shown = re.sub(r"^ +", "", block, flags=re.M)
+        yield shown.splitlines()[0], [] if shown in code else ["it does not stand in the crates"]
+
+
+def last_chapter():
+    """The chapter of docs/LANGUAGE.md on what make reads otherwise."""
+    return LANGUAGE.read_text(encoding="utf-8").partition(LAST_CHAPTER)[2]
+
+
+def run(program, tally):
+    """Runs every example, and counts them, so that none drops out by its form."""
+    edits = EDITS.read_text(encoding="utf-8")
+    checks = (
+        (EDITS, check_edits, edits, 14),
+        (EDITS, check_queries, edits, 3),
+        (LANGUAGE, check_edits, last_chapter(), 34),
+        (LANGUAGE, check_unread, last_chapter(), 36),
+        (LIBRARY, check_code, LIBRARY.read_text(encoding="utf-8"), 4),
+    )
+    with Room(program) as room:
+        for document, check, text, least in checks:
+            found = list(check(room, text))
+            for name, problems in found:
+                tally.add(f"docs/{document.name}: {name}", problems)
+            few = [f"{len(found)} examples, wanted {least}"] if len(found) < least else []
+            tally.add(f"docs/{document.name}: {check.__name__.replace('_', '-')}", few)

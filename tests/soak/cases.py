@@ -1,0 +1,130 @@
+"""A case, which follows from a seed and a number, and what is wrong with the program's runs of it."""
+
+from typing import NamedTuple
+
+from tests.lib import reading
+from tests.lib.checks import Outcome, brief, differences
+
+from .drawing import Drawing, source_of
+from .edits import LIMIT
+from .judge import answered, judged
+from .makefiles import Makefiles
+from .scripts import Scripts
+
+USUAL_DEPTH = 100
+GREATEST_DEPTH = 10000
+DEPTHS = (1, 1, 2, 2, 3, USUAL_DEPTH, USUAL_DEPTH)
+
+
+class Case(NamedTuple):
+    """The files and the options of a run, and the query that is asked beside it.
+
+    Where there is padding, that many bytes `#` stand before the makefile, and make it about as long as
+    a text may be. Such a makefile begins with a comment, which no edit touches and which the padding
+    only makes longer. So the judge leaves the padding out.
+    """
+
+    makefile: bytes
+    script: bytes
+    depth: int
+    goes_on: bool
+    query: str
+    padding: int = 0
+
+    @property
+    def flags(self):
+        depth = [] if self.depth == USUAL_DEPTH else ["-d", str(self.depth)]
+        return [*(["-k"] if self.goes_on else []), *depth]
+
+    @property
+    def is_one(self):
+        """Whether the makefile may have its padding. A case that was shrunk may not."""
+        return not self.padding or self.makefile.startswith(b"#")
+
+    @property
+    def limit(self):
+        return LIMIT - self.padding
+
+    @property
+    def verdict(self):
+        return judged(self.makefile, self.script, self.depth, self.goes_on, self.limit)
+
+    def padded(self, text):
+        return b"#" * self.padding + text
+
+    def without_padding(self, text):
+        """The text without the padding, where that stands there."""
+        has_padding = text.startswith(b"#" * self.padding)
+        return text[self.padding :] if has_padding else text
+
+
+def drawn(seed, number):
+    """The case of a seed with this number."""
+    drawing = Drawing(source_of(seed, number))
+    makefile, padding = Makefiles(drawing.source).makefile(), 0
+    if drawing.chance(0.002):
+        makefile = b"ifdef A\n" * drawing.one([255, 256, 257]) + makefile
+    elif drawing.chance(0.002):
+        makefile = b"#\n" + makefile
+        padding = LIMIT - len(makefile) - drawing.one([-1, 0, 1, 5, 10, 20])
+    depth = drawing.one(DEPTHS)
+    script = Scripts(drawing.source, makefile, depth).script()
+    goes_on, query = drawing.chance(0.75), drawing.one(list(reading.QUERIES))
+    return Case(makefile, script, depth, goes_on, query, padding)
+
+
+def problems_of(room, case, verdict):
+    """Runs a case and its query, and says what is wrong."""
+    room.write("Makefile", case.padded(case.makefile))
+    room.write("script", case.script)
+    out, err, status = room.run("edit", *case.flags, "script", "Makefile")
+    got = Outcome(case.without_padding(out), err, status)
+    problems = differences(got, verdict.outcome) + list(broken_promises(got, case, verdict))
+    if verdict.outcome.status < 2:
+        problems += wrong_undoing(room, case)
+    if len(case.makefile) <= case.limit:
+        problems += wrong_query(room, case.query, "Makefile", case.makefile)
+    if got.status == 0:
+        room.write("edited", out)
+        problems += wrong_query(room, case.query, "edited", got.stdout)
+    return problems + room.changed()
+
+
+def broken_promises(got, case, verdict):
+    """Which promises do not hold, by what was printed where that says it."""
+    if got.status == 1 and not case.goes_on and got.stdout:
+        yield "a refused run printed a text"
+    for reply in verdict.replies:
+        if reply.plan and reading.reading(reply.after) != reply.plan.reading:
+            yield f"{reply.name} on {brief(reply.before)} does not read as stated"
+    plan = verdict.replies[0].plan if len(verdict.replies) == 1 else None
+    if plan:
+        if reading.reading(got.stdout) != plan.reading:
+            yield "the text that was printed does not read as stated"
+        if not keeps_other_bytes(case.makefile, got.stdout, plan.spans):
+            yield "bytes outside the spans have changed"
+
+
+def keeps_other_bytes(before, after, spans):
+    """Whether the bytes between the spans stand in both texts, where the spans leave them."""
+    at, to = 0, 0
+    for start, end, new in spans:
+        if after[to : to + start - at] != before[at:start]:
+            return False
+        at, to = end, to + start - at + len(new)
+    return after[to:] == before[at:]
+
+
+def wrong_undoing(room, case):
+    """Whether the first bytes fail to come back where the whole script is undone."""
+    commands = case.script.count(b"\n") + 1
+    room.write("undone", case.script + b"\ncancel\n" + b"undo\n" * commands)
+    got = room.run("edit", "-k", "-d", str(GREATEST_DEPTH), "undone", "Makefile")
+    is_right = (case.without_padding(got.stdout), got.status) == (case.makefile, 1)
+    return [] if is_right else [f"undoing all gives {brief(got.stdout)} and the status {got.status}"]
+
+
+def wrong_query(room, query, name, text):
+    """How the answer to a query differs from what it has to be."""
+    wanted = answered(query, text)
+    return [f"{query} of {name}: {it}" for it in differences(room.run(query, name), wanted)]

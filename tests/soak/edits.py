@@ -1,0 +1,467 @@
+"""The twelve edits, from docs/EDITS.md: when they are refused, what they replace, their stated change.
+
+Each edit is a class with the fields that script_rows.py gives a command. plan() tests the causes of
+refusal in their order, and hands out the spans of the edit and the reading that it states.
+"""
+
+from typing import NamedTuple
+
+from argument_rows import is_closed, is_command, is_name, is_target, is_value, is_word
+from line_rows import is_open
+from tests.lib import reading
+
+from . import document
+
+LIMIT = 16777216
+RESERVED_TARGETS = frozenset(
+    b"ifeq ifneq ifdef ifndef else endif define endef undefine include -include sinclude load -load"
+    b" export unexport override private vpath".split()
+)
+NAMES = {
+    1: "BadArgument",
+    2: "Reserved",
+    3: "RecipePrefix",
+    4: "NoSuch",
+    5: "Ambiguous",
+    6: "Absent",
+    7: "Already",
+    8: "Taken",
+    9: "SharedRule",
+    10: "Straddles",
+    11: "OpenValue",
+    12: "OpenLine",
+    13: "OpenDefine",
+    14: "Leans",
+    15: "TooLong",
+    16: "NothingToUndo",
+    17: "NothingToRedo",
+    18: "GroupOpen",
+    19: "NoGroup",
+}
+
+
+class Refused(Exception):
+    """A refusal, with the count or the field that some have."""
+
+    def __init__(self, number, detail=None):
+        super().__init__(number, detail)
+        self.number = number
+        self.detail = detail
+
+    def __str__(self):
+        detail = "" if self.detail is None else f" {self.detail}"
+        return f"{self.number} {NAMES[self.number]}{detail}"
+
+
+class Span(NamedTuple):
+    """A part of the text and the bytes that stand there afterwards."""
+
+    start: int
+    end: int
+    new: bytes
+
+
+class Plan(NamedTuple):
+    """What an accepted edit does: its spans, and what the text reads as afterwards."""
+
+    spans: list
+    reading: tuple
+
+
+def replaced(text, spans):
+    """The text with each span replaced."""
+    parts, at = [], 0
+    for start, end, new in spans:
+        parts += [text[at:start], new]
+        at = end
+    return b"".join([*parts, text[at:]])
+
+
+def refuse(number, holds, detail=None):
+    """Refuses where a cause holds."""
+    if holds:
+        raise Refused(number, detail)
+
+
+def refuse_prefix(line, prefix):
+    """Refuses a line to be written that would begin with the prefix in force there."""
+    refuse(3, line[:1] == prefix)
+
+
+def picked(found, nth):
+    """The index among those found that `nth` picks, or the only one."""
+    if nth is not None:
+        refuse(4, not 1 <= nth <= len(found))
+        return found[nth - 1]
+    refuse(4, not found)
+    refuse(5, len(found) > 1, len(found))
+    return found[0]
+
+
+def items_of(lines):
+    return [it.item for it in lines]
+
+
+def item_with(item, at, part):
+    """An item with one of its parts replaced."""
+    return (*item[:at], part, *item[at + 1 :])
+
+
+class Edit:
+    """What all edits have. An edit says its fields, its names and targets, and how it is planned."""
+
+    names = ()
+    targets = ()
+
+    def fields(self):
+        """Each field that is tested: its name, its text and the test."""
+        raise NotImplementedError
+
+    def plan_in(self, doc):
+        """The spans, and the items of the lines afterwards, or the first refusal after 3."""
+        raise NotImplementedError
+
+    def plan(self, text, limit=LIMIT):
+        """The plan of the edit on a text, or the first refusal whose cause holds."""
+        for name, field, test in self.fields():
+            refuse(1, not test(field), name)
+        refuse(2, reading.PREFIX_NAME in self.names or RESERVED_TARGETS & set(self.targets))
+        doc = document.read(text)
+        refuse(3, doc.sets_prefix_unread())
+        spans, items = self.plan_in(doc)
+        refuse(15, len(replaced(text, spans)) > limit)
+        return Plan(spans, tuple(it for it in items if it is not None))
+
+
+# ---- variables
+
+
+class OfVariable(Edit):
+    """An edit of an assignment."""
+
+    def __init__(self, nth, name, value=b""):
+        self.nth, self.name, self.value = nth, name, value
+        self.names = (name,)
+
+    def fields(self):
+        return [("name", self.name, is_name), ("value", self.value, is_value)]
+
+    def find(self, doc):
+        return picked(doc.assignments(self.name), self.nth)
+
+
+class SetValue(OfVariable):
+    def plan_in(self, doc):
+        at = self.find(doc)
+        line = doc.lines[at]
+        start, end, cut_end = document.value_places(line)
+        end = end if self.value else cut_end
+        items = items_of(doc.lines)
+        leaves_fold = doc.text[:start].endswith(b"\n") and end == len(doc.text) and not self.value
+        items[at] = (*items[at][:-1], b"\\" if leaves_fold else self.value)
+        return [Span(start, end, self.value)], items
+
+
+class AppendValue(OfVariable):
+    def fields(self):
+        return [("name", self.name, is_name), ("value", self.value, lambda it: it and is_value(it))]
+
+    def plan_in(self, doc):
+        at = self.find(doc)
+        line = doc.lines[at]
+        old = line.parts[-1]
+        refuse(11, not is_closed(old))
+        _, end, _ = document.value_places(line)
+        added = b" " + self.value if old else self.value
+        takes_space_in = document.ends_in_fold(line)
+        items = items_of(doc.lines)
+        items[at] = (*items[at][:-1], old + (self.value if takes_space_in else added))
+        return [Span(end, end, added)], items
+
+
+class RemoveAssign(OfVariable):
+    def plan_in(self, doc):
+        at = self.find(doc)
+        refuse_leaning(doc, at + 1, doc.context(at).flag, doc.context(at + 1).flag)
+        return [removed(doc.lines[at])], items_of(doc.lines[:at] + doc.lines[at + 1 :])
+
+
+# ---- new lines and lines that go
+
+
+def removed(line):
+    return Span(line.start, line.end, b"")
+
+
+def refuse_leaning(doc, at, flag, flag_before):
+    """Refuses where the flag before the line with this index changes and that line leans on it."""
+    rest = (it for it in doc.lines[at:] if it.is_led or it.kind not in document.PASSED_OVER)
+    line = next(rest, None)
+    refuse(14, flag != flag_before and line is not None and line.is_led)
+
+
+def refuse_open_line(doc, at):
+    """Refuses a new line after the last one where that could take it in."""
+    refuse(12, at == len(doc.lines) and doc.lines and is_open(doc.lines[-1].raw))
+
+
+def new_line(doc, at, line):
+    """The span of a new line before the line with this index."""
+    place, end = doc.place(at), doc.line_end()
+    follows_open_end = at == len(doc.lines) and doc.lines and not reading.line_end(doc.lines[-1].raw)
+    return Span(place, place, (end if follows_open_end else b"") + line + end)
+
+
+class AtPlace(Edit):
+    """An edit that puts in a line at a place."""
+
+    def __init__(self, place):
+        self.place = place
+        kind, field = place[0], place[-1]
+        self.names = (field,) if kind in ("BeforeVar", "AfterVar") else ()
+        self.targets = (field,) if kind == "BeforeRule" else ()
+
+    def fields(self):
+        kind, field = self.place[0], self.place[-1]
+        test = is_target if kind == "BeforeRule" else is_name
+        return [] if kind == "Bottom" else [("place", field, test)]
+
+    def find(self, doc):
+        """The index of the line before which the new one goes."""
+        if self.place[0] == "Bottom":
+            return len(doc.lines)
+        kind, nth, field = self.place
+        found = doc.rules(field) if kind == "BeforeRule" else doc.assignments(field)
+        return picked(found, nth) + (kind == "AfterVar")
+
+    def insert(self, doc, line, flag, item):
+        """The plan of the new line, after which the flag is this."""
+        at = self.find(doc)
+        refuse_prefix(line, doc.context(at).prefix)
+        refuse_open_line(doc, at)
+        refuse(13, self.place[0] == "Bottom" and doc.end_context.defines)
+        refuse_leaning(doc, at, flag, doc.context(at).flag)
+        items = items_of(doc.lines)
+        items.insert(at, item)
+        return [new_line(doc, at, line)], items
+
+
+class AddAssign(AtPlace):
+    def __init__(self, place, name, operator, value):
+        super().__init__(place)
+        self.name, self.operator, self.value = name, operator, value
+        self.names = (*self.names, name)
+
+    def fields(self):
+        return [*super().fields(), ("name", self.name, is_name), ("value", self.value, is_value)]
+
+    def plan_in(self, doc):
+        line = self.name + b" " + self.operator + (b" " + self.value if self.value else b"")
+        return self.insert(doc, line, "Off", ("Assign", (), self.name, self.operator, self.value))
+
+
+class AddRule(AtPlace):
+    def __init__(self, place, targets, separator, needs):
+        super().__init__(place)
+        self.target_field, self.separator, self.need_field = targets, separator, needs
+        self.new_targets = reading.texts(reading.units(targets))
+        self.needs = reading.texts(reading.units(needs))
+        self.targets = (*self.targets, *self.new_targets)
+
+    def fields(self):
+        are_targets = bool(self.new_targets) and all(map(is_target, self.new_targets))
+        are_words = all(map(is_word, self.needs))
+        targets = ("targets", self.target_field, lambda _: are_targets)
+        return [*super().fields(), targets, ("prereqs", self.need_field, lambda _: are_words)]
+
+    def plan_in(self, doc):
+        line = b" ".join(self.new_targets) + self.separator + reading.spaced(b" ", self.needs)
+        item = ("Header", self.new_targets, self.separator, None, self.needs, (), None)
+        return self.insert(doc, line, "Rule", item)
+
+
+# ---- rules
+
+
+class OfRule(Edit):
+    """An edit of a rule."""
+
+    def __init__(self, nth, target):
+        self.nth, self.target = nth, target
+        self.targets = (target,)
+
+    def fields(self):
+        return [("target", self.target, is_target)]
+
+    def find(self, doc):
+        return picked(doc.rules(self.target), self.nth)
+
+
+def refuse_straddling(doc, at, last):
+    """Refuses where the line of a conditional stands between a rule's line and its last recipe line."""
+    refuse(10, any(it.kind in document.CONDITIONAL_LINES for it in doc.lines[at:last]))
+
+
+class RemoveRule(OfRule):
+    def plan_in(self, doc):
+        at = self.find(doc)
+        count = len(doc.lines[at].targets)
+        refuse(9, count > 1, count)
+        last = max(doc.recipe_lines(at), default=at)
+        refuse_straddling(doc, at, last)
+        refuse_leaning(doc, last + 1, doc.context(at).flag, doc.context(last + 1).flag)
+        span = Span(doc.lines[at].start, doc.lines[last].end, b"")
+        return [span], items_of(doc.lines[:at] + doc.lines[last + 1 :])
+
+
+class AddPrereq(OfRule):
+    def __init__(self, is_order, nth, target, word):
+        super().__init__(nth, target)
+        self.is_order, self.word = is_order, word
+
+    def fields(self):
+        return [*super().fields(), ("word", self.word, is_word)]
+
+    def plan_in(self, doc):
+        at = self.find(doc)
+        part = 5 if self.is_order else 4
+        items = items_of(doc.lines)
+        refuse(7, self.word in items[at][part])
+        items[at] = item_with(items[at], part, (*items[at][part], self.word))
+        return [self.span(doc.text, document.rule_parts(doc.lines[at]))], items
+
+    def span(self, text, parts):
+        place = parts.normal[-1].end if parts.normal else parts.separator_end
+        if not self.is_order:
+            after = b" " if parts.bar and parts.bar.start == place else b""
+            return Span(place, place, b" " + self.word + after)
+        if parts.bar is None:
+            return Span(place, place, b" | " + self.word)
+        place = parts.order[-1].end if parts.order else parts.bar.end
+        return Span(place, place, b" " + self.word)
+
+
+class RemovePrereq(OfRule):
+    def __init__(self, nth, target, word):
+        super().__init__(nth, target)
+        self.word = word
+
+    def fields(self):
+        return [*super().fields(), ("word", self.word, is_word)]
+
+    def plan_in(self, doc):
+        at = self.find(doc)
+        parts = document.rule_parts(doc.lines[at])
+        found = [it for it in (*parts.normal, *parts.order) if it.text == self.word]
+        refuse(6, not found)
+        items = items_of(doc.lines)
+        for part in (4, 5):
+            left = tuple(it for it in items[at][part] if it != self.word)
+            items[at] = item_with(items[at], part, left)
+        return [Span(it.gap, it.end, b"") for it in found], items
+
+
+# ---- recipes
+
+
+class AddRecipe(OfRule):
+    def __init__(self, nth, target, line):
+        super().__init__(nth, target)
+        self.line = line
+
+    def fields(self):
+        return [*super().fields(), ("line", self.line, is_command)]
+
+    def plan_in(self, doc):
+        at = self.find(doc)
+        last = max(doc.recipe_lines(at), default=at)
+        refuse_straddling(doc, at, last)
+        refuse_open_line(doc, last + 1)
+        items = items_of(doc.lines)
+        items.insert(last + 1, ("Recipe", self.line))
+        prefix = doc.context(last + 1).prefix
+        return [new_line(doc, last + 1, prefix + self.line)], items
+
+
+class OfRecipeLine(OfRule):
+    """An edit of the recipe line with a number."""
+
+    def __init__(self, nth, target, number, line=b""):
+        super().__init__(nth, target)
+        self.number, self.line = number, line
+
+    def fields(self):
+        return [*super().fields(), ("line", self.line, is_command)]
+
+    def find_line(self, doc):
+        found = doc.recipe_lines(self.find(doc))
+        refuse(6, not 1 <= self.number <= len(found))
+        return found[self.number - 1]
+
+
+class SetRecipe(OfRecipeLine):
+    def plan_in(self, doc):
+        at = self.find_line(doc)
+        line, items = doc.lines[at], items_of(doc.lines)
+        items[at] = ("Recipe", self.line)
+        return [Span(line.start + 1, line.text_end, self.line)], items
+
+
+class RemoveRecipe(OfRecipeLine):
+    def plan_in(self, doc):
+        at = self.find_line(doc)
+        return [removed(doc.lines[at])], items_of(doc.lines[:at] + doc.lines[at + 1 :])
+
+
+# ---- targets
+
+
+class RenameTarget(Edit):
+    def __init__(self, old, new):
+        self.old, self.new = old, new
+        self.targets = (old, new)
+
+    def fields(self):
+        return [("old", self.old, is_target), ("new", self.new, is_target)]
+
+    def plan_in(self, doc):
+        refuse(4, not doc.has_target(self.old))
+        spans = [self.spans_in(line) for line in doc.lines]
+        for line, its_spans in zip(doc.lines, spans):
+            if its_spans and its_spans[0].start == line.start:
+                refuse_prefix(self.new, line.context.prefix)
+        refuse(8, doc.has_target(self.new))
+        items = [self.renamed(it.item) for it in doc.lines]
+        return [it for its_spans in spans for it in its_spans], items
+
+    def spans_in(self, line):
+        if line.kind not in ("Header", "TargetAssign"):
+            return []
+        parts = document.rule_parts(line)
+        words = parts.targets
+        if line.kind == "Header":
+            words = words + parts.normal + parts.order
+        return [Span(it.start, it.end, self.new) for it in words if it.text == self.old]
+
+    def renamed(self, item):
+        places = {"Header": (1, 4, 5), "TargetAssign": (1,)}.get(item and item[0], ())
+        for at in places:
+            item = item_with(item, at, tuple(self.new if it == self.old else it for it in item[at]))
+        return item
+
+
+KINDS = (
+    SetValue,
+    AppendValue,
+    AddAssign,
+    RemoveAssign,
+    AddRule,
+    RemoveRule,
+    AddPrereq,
+    RemovePrereq,
+    AddRecipe,
+    SetRecipe,
+    RemoveRecipe,
+    RenameTarget,
+)
+EDITS = {it.__name__: it for it in KINDS}

@@ -1,0 +1,266 @@
+"""Scripts drawn at random for a makefile.
+
+Most fields are names, targets, words and numbers that stand in the makefile as it is when the command
+is reached, so that many edits are accepted.
+"""
+
+from argument_rows import is_name, is_target, is_word
+from tests.lib.reading import PREFIX_NAME
+
+from . import document
+from .drawing import Drawing
+from .judge import meaning_of_line, obey
+from .session import Session
+from .vocabulary import (
+    BAD_FIELDS,
+    COMMANDS,
+    NAMES,
+    NO_COMMANDS,
+    OPERATORS,
+    RESERVED,
+    TARGETS,
+    VALUES,
+    WORDS,
+)
+
+# The edits with their weights, by what they need in the makefile.
+OF_NAMES = {b"set": 10, b"append": 8, b"unset": 9}
+OF_RULES = {
+    b"unrule": 10,
+    b"depend": 7,
+    b"depend-order": 6,
+    b"undepend": 8,
+    b"recipe": 9,
+    b"rename": 9,
+}
+OF_RECIPES = {b"recipe-set": 8, b"recipe-del": 8}
+NEW_LINES = {b"assign": 10, b"rule": 9}
+GREATEST = 4294967295
+
+
+class Scripts(Drawing):
+    """Draws one script, and keeps the session that it leads to."""
+
+    def __init__(self, source, text, depth):
+        super().__init__(source)
+        self.session = Session(text, depth)
+        self.document = document.read(text)
+        self.end = b"\r\n" if self.chance(0.1) else b"\n"
+        # in some scripts undo, redo and groups are what matters
+        self.is_of_calls = self.chance(0.25)
+
+    def count(self):
+        """How many commands the script has."""
+        if self.is_of_calls:
+            return self.source.randint(4, 24)
+        return 1 if self.chance(0.3) else self.one([0, 2, 3, 4, 5, 6, 8, 10])
+
+    def script(self):
+        script = b""
+        for _ in range(self.count()):
+            line = self.line(self.command())
+            command = meaning_of_line(line)
+            if command:
+                obey(self.session, *command)
+            script += line + self.end + self.filler()
+        if self.chance(0.015):
+            script += self.one(NO_COMMANDS) + self.end
+        return script[: -len(self.end)] if self.chance(0.2) else script
+
+    def filler(self):
+        """A line without a command, now and then."""
+        return self.one([b"# c", b"", b" \t", b"#"]) + self.end if self.chance(0.05) else b""
+
+    # ---- lines
+
+    def line(self, fields):
+        gap = b" " if self.chance(0.9) else self.one([b"  ", b"\t", b" \t"])
+        line = gap.join(map(self.field, fields))
+        return self.one([b" ", b"\t"]) + line + b" " if self.chance(0.05) else line
+
+    def field(self, text):
+        """A field as a script writes it."""
+        needs_quotes = not text or text[:1] == b'"' or b" " in text or b"\t" in text
+        if needs_quotes or self.chance(0.1):
+            return b'"' + text.replace(b"\\", b"\\\\").replace(b'"', b'\\"') + b'"'
+        return text
+
+    def command(self):
+        """The fields of a command."""
+        if self.chance(0.55 if self.is_of_calls else 0.2):
+            return [self.weighted(self.calls())]
+        self.document = document.read(self.session.text)
+        word = self.weighted(self.edits())
+        return getattr(self, word.decode().replace("-", "_"))()
+
+    def calls(self):
+        """The calls of a session with their weights: not often one that is refused."""
+        session = self.session
+        if session.group is not None:
+            return {b"end": 12, b"cancel": 11, b"undo": 1, b"redo": 1, b"begin": 1}
+        if self.is_of_calls:
+            return {b"undo": 14, b"redo": 8, b"begin": 6, b"end": 0.5, b"cancel": 0.5}
+        undo = 16 if len(session.done) - 1 > session.floor else 1.5
+        redo = 14 if session.undone else 1
+        return {b"undo": undo, b"redo": redo, b"begin": 5, b"end": 0.5, b"cancel": 0.5}
+
+    def has(self, kind):
+        """Whether the makefile has a line of this class."""
+        return any(it.kind == kind for it in self.document.lines)
+
+    def edits(self):
+        """The edits with their weights: seldom one that finds nothing."""
+        weights = dict(NEW_LINES)
+        for edits, kind in ((OF_NAMES, "Assign"), (OF_RULES, "Header"), (OF_RECIPES, "Recipe")):
+            share = 1 if self.has(kind) else 0.08
+            weights.update((it, weight * share) for it, weight in edits.items())
+        return weights
+
+    # ---- fields
+
+    def bad_or(self, field):
+        """The field, or seldom one that some test refuses."""
+        return self.one(BAD_FIELDS) if self.chance(0.025) else field
+
+    def standing(self, words, others):
+        """A word that stands in the makefile, where there is one; seldom another."""
+        return self.one(words) if words and self.chance(0.92) else self.one(others)
+
+    def targets_of(self, lines):
+        """The targets of lines that an edit may name."""
+        return [word for it in lines for word in it.targets if is_target(word)]
+
+    def headers(self):
+        return [it for it in self.document.lines if it.kind == "Header"]
+
+    def name(self):
+        if self.chance(0.01):
+            return PREFIX_NAME
+        names = [it.parts[1] for it in self.document.lines if it.kind == "Assign"]
+        names = [it for it in names if is_name(it) and it != PREFIX_NAME]
+        return self.bad_or(self.standing(names, NAMES))
+
+    def target(self):
+        if self.chance(0.012):
+            return self.one(RESERVED)
+        return self.bad_or(self.standing(self.targets_of(self.headers()), TARGETS))
+
+    def new_target(self):
+        if self.chance(0.02):
+            return self.one(RESERVED)
+        return self.bad_or(self.one([b"n1", b"t", b"tidy", b">n", b"X", b"b1", *TARGETS]))
+
+    def need(self, target, share):
+        """With this chance a prerequisite of a rule that has this target, else any word."""
+        rules = [self.document.lines[at] for at in self.document.rules(target)]
+        needs = [word for it in rules for word in (*it.parts[3], *it.parts[4]) if is_word(word)]
+        return self.bad_or(self.one(needs) if needs and self.chance(share) else self.one(WORDS))
+
+    def value(self):
+        return self.bad_or(self.one(VALUES))
+
+    def line_text(self):
+        return self.bad_or(self.one(COMMANDS))
+
+    def number(self, count):
+        """The words `nth N` for one of this number of lines, or nothing."""
+        if not self.chance(0.7 if count > 1 else 0.06):
+            return []
+        number = self.source.randint(1, max(count, 1))
+        number = self.one([0, count + 1, GREATEST]) if self.chance(0.08) else number
+        return [b"nth", (b"%010d" if self.chance(0.05) else b"%d") % number]
+
+    def place(self):
+        """The words `nth N`, or nothing, and the fields of a place."""
+        places = [b"bottom"]
+        places += [b"before-var", b"after-var"] * (self.has("Assign") or self.chance(0.05))
+        places += [b"before-rule"] * (self.has("Header") or self.chance(0.05))
+        kind = self.one(places)
+        if kind == b"bottom":
+            return [], [kind]
+        if kind == b"before-rule":
+            target = self.target()
+            return self.number(len(self.document.rules(target))), [kind, target]
+        name = self.name()
+        return self.number(len(self.document.assignments(name))), [kind, name]
+
+    # ---- commands
+
+    def of_name(self, word, *rest):
+        name = self.name()
+        return [*self.number(len(self.document.assignments(name))), word, name, *rest]
+
+    def of_target(self, word, target, *rest):
+        return [*self.number(len(self.document.rules(target))), word, target, *rest]
+
+    def set(self):
+        return self.of_name(b"set", self.value())
+
+    def append(self):
+        return self.of_name(b"append", self.value() or self.one([b"v", b"v", b""]))
+
+    def unset(self):
+        return self.of_name(b"unset")
+
+    def assign(self):
+        number, place = self.place()
+        name = self.one([*NAMES, b"N"]) if self.chance(0.98) else PREFIX_NAME
+        fields = [self.bad_or(name), self.one(OPERATORS), self.value()]
+        return [*number, b"assign", *place, *fields]
+
+    def rule(self):
+        number, place = self.place()
+        gap = b" " if self.chance(0.9) else self.one([b"  ", b"\t"])
+        targets = gap.join(self.new_target() for _ in range(self.one([1, 1, 1, 1, 2, 2, 3])))
+        needs = gap.join(self.some(WORDS, 0, 3))
+        fields = [self.bad_or(targets), self.one([b":", b"::"]), self.bad_or(needs)]
+        return [*number, b"rule", *place, *fields]
+
+    def unrule(self):
+        alone = self.targets_of(it for it in self.headers() if len(it.targets) == 1)
+        target = self.one(alone) if alone and self.chance(0.6) else self.target()
+        return self.of_target(b"unrule", target)
+
+    def depend(self):
+        target = self.target()
+        return self.of_target(b"depend", target, self.need(target, 0.2))
+
+    def depend_order(self):
+        target = self.target()
+        return self.of_target(b"depend-order", target, self.need(target, 0.2))
+
+    def undepend(self):
+        target = self.target()
+        return self.of_target(b"undepend", target, self.need(target, 0.85))
+
+    def recipe(self):
+        return self.of_target(b"recipe", self.target(), self.line_text())
+
+    def recipe_target(self):
+        """A target of a rule that has recipe lines, where there is one."""
+        lines = enumerate(self.document.lines)
+        rules = [it for at, it in lines if it.kind == "Header" and self.document.recipe_lines(at)]
+        targets = self.targets_of(rules)
+        return self.one(targets) if targets and self.chance(0.85) else self.target()
+
+    def recipe_number(self, target):
+        """The number of a recipe line of a rule with this target; seldom 0, or one too many."""
+        rules = self.document.rules(target)
+        most = max((len(self.document.recipe_lines(at)) for at in rules), default=0)
+        most += 1 if not most or self.chance(0.15) else 0
+        return b"%d" % (0 if self.chance(0.03) else self.source.randint(1, most))
+
+    def recipe_set(self):
+        target = self.recipe_target()
+        number = self.recipe_number(target)
+        return self.of_target(b"recipe-set", target, number, self.line_text())
+
+    def recipe_del(self):
+        target = self.recipe_target()
+        return self.of_target(b"recipe-del", target, self.recipe_number(target))
+
+    def rename(self):
+        standing = self.targets_of(self.document.lines)
+        old = self.bad_or(self.standing(standing, TARGETS))
+        is_taken = standing and self.chance(0.12)
+        return [b"rename", old, self.one(standing) if is_taken else self.new_target()]
