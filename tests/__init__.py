@@ -1,6 +1,6 @@
 """The tests of mkedit. All of them are run at the top of the repository, as `python3 -m tests.program`.
 
-    program/       tests of the built program: tests.program
+    program/       tests of the built program, as unittest cases: tests.program runs them all
     hostile/       hostile texts of full size, memory that ends, valgrind: tests.hostile
     soak/          random work beside a judge in Python: tests.soak
     fuzz/          a fuzzer with feedback: tests.fuzz

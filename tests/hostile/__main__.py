@@ -54,7 +54,7 @@ def main():
         word = "" if chosen else given.only
         large_shapes.run(given.program, tally, given.rounds, word, given.share or (1, 1))
     if "memory" in chosen:
-        address_space.run_long(given.program, tally)
+        address_space.run(given.program, tally)
     if "valgrind" in chosen:
         memcheck.run(given.program, tally)
     print(tally)

@@ -9,6 +9,7 @@ on standard output and the report of the commands before.
 import signal
 from typing import NamedTuple
 
+from bench.shared import row as show
 from tests.lib.checks import Outcome, brief
 from tests.lib.rooms import ANSWERS, EDITED, FILES, NO_MEMORY, Room
 
@@ -91,11 +92,6 @@ def rows():
     yield Row("1,000 long lines in a group, cancelled", ("edit", "long-group", "Makefile"), back)
 
 
-def show(line):
-    """Prints a line of the table at once."""
-    print(line, flush=True)
-
-
 def has_not_started(got):
     """Whether a run ended before the program's first instruction."""
     is_killed = got.status in (-signal.SIGKILL, -signal.SIGSEGV) and not got.stderr
@@ -114,18 +110,18 @@ def said(row, got):
 class Steps:
     """The spaces that were tried of a row, and what is wrong with what was given in them."""
 
-    def __init__(self, room, row):
-        self.room, self.row = room, row
+    def __init__(self, room, row, step):
+        self.room, self.row, self.step = room, row, step
         self.first = {}
         self.runs = 0
         self.wrong = []
 
-    def climb(self, step):
+    def climb(self):
         """Tries space after space, until the run has had its answer a few times."""
-        space, answers = step, 0
+        space, answers = self.step, 0
         while answers < 5 and space < GREATEST:
             answers += self.try_in(space) == "answer"
-            space += step
+            space += self.step
         if answers < 5:
             self.wrong.append(f"no answer in {GREATEST:,} bytes")
 
@@ -140,33 +136,34 @@ class Steps:
         self.first.setdefault(what, space)
         return what
 
+    def problems(self):
+        """What is wrong, or the first of it."""
+        return self.wrong[:5] + self.room.changed()
+
     def columns(self):
-        """The least space of each ending in KB, for a table."""
+        """The step, the least space of each ending, both in KB, and how many runs there were."""
         spaces = (self.first.get(it) for it in ("no memory", "answer"))
-        return ["-" if it is None else f"{it // 1024:,}" for it in spaces]
+        least = ["-" if it is None else f"{it // 1024:,}" for it in spaces]
+        return [str(self.step // 1024), *least, str(self.runs)]
 
 
-def run_long(program, tally):
-    """Climbs with each row by small steps, and prints a table."""
-    climb_all(program, tally, PAGE, 16 * PAGE, show)
+def climbs(room, step, large_step):
+    """Climbs with each row, by large steps where its files are large, and hands out what was found."""
+    for name, content in files().items():
+        room.write(name, content)
+    for row in rows():
+        is_large = {"lines", "long", "long-group"} & {*row.words}
+        steps = Steps(room, row, large_step if is_large else step)
+        steps.climb()
+        yield steps
 
 
 def run(program, tally):
-    """Climbs with each row by wide steps, which takes seconds."""
-    climb_all(program, tally, 32 * PAGE, 256 * PAGE, lambda _: None)
-
-
-def climb_all(program, tally, step, large_step, tell):
-    """Climbs with each row, by a smaller step where its files are small, and tells a table."""
-    tell("| Run | KB of the step | says no memory from, KB | has its answer from, KB | runs |")
-    tell("| --- | ---: | ---: | ---: | ---: |")
+    """Climbs with each row by small steps, and prints a table."""
+    show("Run", "KB of the step", "says no memory from, KB", "has its answer from, KB", "runs")
+    show("---", *["---:"] * 4)
     with Room(program) as room:
-        for name, content in files().items():
-            room.write(name, content)
-        for row in rows():
-            steps = Steps(room, row)
-            wide = large_step if {"lines", "long", "long-group"} & {*row.words} else step
-            steps.climb(wide)
-            tell(f"| {row.name} | {wide // 1024} | {' | '.join(steps.columns())} | {steps.runs} |")
-            tally.add(f"memory in steps: {row.name}", steps.wrong[:5] + room.changed())
-    tell("")
+        for steps in climbs(room, PAGE, 16 * PAGE):
+            show(steps.row.name, *steps.columns())
+            tally.add(f"memory in steps: {steps.row.name}", steps.problems())
+    print(flush=True)

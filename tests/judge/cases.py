@@ -1,16 +1,13 @@
 """What is judged: random makefiles by a seed, and the examples, each with edits. And the counts."""
 
 import collections
-import itertools
 import random
 import re
 
 from tests import TOP
-from tests.lib.rooms import Room
 
 from . import generator
-from .database import Make
-from .verdicts import EQUAL, FINDING, FOLLOWS, GROUP, NOT_FOLLOWED, REFUSED, SKIPPED, Judge, row
+from .verdicts import EQUAL, FINDING, FOLLOWS, GROUP, NOT_FOLLOWED, REFUSED, SKIPPED, row
 
 EXAMPLES = TOP / "examples/makefiles"
 # An example is judged in a copy in which nothing runs and no file is read.
@@ -151,7 +148,6 @@ SPECIAL = (
     (b".SECONDARY: a\na:\n", ("undepend", None, b".SECONDARY", b"a")),
     (b".DEFAULT_GOAL = a\na: b\nb:\n", ("set", None, b".DEFAULT_GOAL", b"b")),
 )
-SEED, MAKEFILES = 1, 100
 
 
 def check_fixed(judge):
@@ -176,18 +172,3 @@ def check_planted(judge):
         verdict = judge.compared(text, wrong, edit, before, after)
         if verdict.kind != FINDING:
             yield f"{edit} to {wrong} is judged {verdict}"
-
-
-def run(program, tally):
-    """The examples and a fixed number of random makefiles by a fixed seed, for tests/program."""
-    with Make() as make, Room(program) as room:
-        if not make.is_gnu():
-            tally.add("judge", ["GNU make 4 is not there"])
-            return
-        counts = Counts(Judge(room, make))
-        tally.add("judge: fixed edits", check_fixed(counts.judge))
-        drawn = itertools.islice(random_cases(SEED), MAKEFILES)
-        for case in itertools.chain(examples(SEED), drawn):
-            tally.add(f"judge: {case[0]}", counts.take(*case))
-        few = [it for it in generator.FIELDS if counts.judged(it) < MAKEFILES // 10]
-        tally.add("judge: kinds of edits", [f"too few are judged of {it}" for it in few])

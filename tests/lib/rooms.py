@@ -1,14 +1,11 @@
-"""A room: the folder in which a test runs the program. And checks that are functions of a room.
-
-Such a check is named after what has to hold. Its room has the files of FILES; it returns what is
-wrong, nothing where all is well. After it the files have to be as they were written.
-"""
+"""A room: the folder in which a test runs the program. And a unittest case that has one."""
 
 import shutil
 import tempfile
+import unittest
 from pathlib import Path
 
-from tests.lib.checks import Outcome, brief, differences
+from tests.lib.checks import Outcome, Program, brief, differences, program_at, usual_path
 
 TEXT = b"CC = gcc # c\n"
 # A makefile with a line for each query, and what they print.
@@ -46,30 +43,8 @@ def cannot_open(name):
     return Outcome(b"", f"mkedit: cannot open {name}\n".encode(), 3)
 
 
-class Checks:
-    """The checks of a file, in their order."""
-
-    def __init__(self):
-        self.functions = []
-
-    def __call__(self, function):
-        self.functions.append(function)
-        return function
-
-    def run(self, program, tally):
-        for function in self.functions:
-            with Room(program) as room:
-                for name, content in FILES.items():
-                    room.write(name, content)
-                try:
-                    problems = list(function(room)) + room.changed()
-                except Exception as fault:  # so that the other checks still run
-                    problems = [f"not run: {type(fault).__name__}: {fault}"]
-                tally.add(function.__name__.replace("_", "-"), problems)
-
-
 class Room:
-    """A folder for one check. It knows what was written there, and whether that still stands."""
+    """A folder for one test. It knows what was written there, and whether that still stands."""
 
     def __init__(self, program):
         self.program = program
@@ -112,6 +87,65 @@ class Room:
     def run(self, *words, **how):
         return self.program.run(words, self.folder, **how)
 
-    def differs(self, wanted, *words, **how):
-        """Runs the program, and says how the outcome differs from the one that is wanted."""
-        return differences(self.run(*words, **how), wanted)
+    def copy_program(self):
+        """Copies the program into this folder, where the user nobody gets at it, and runs the copy.
+
+        Root reads files of mode 0, so the tests of them run as nobody.
+        """
+        copy = self.folder / "mkedit"
+        shutil.copyfile(self.program.path, copy)
+        copy.chmod(0o755)
+        self.program = Program(copy)
+
+
+class RoomCase(unittest.TestCase):
+    """Tests in rooms of their own, with the files of FILES, which have to be as they were after a test."""
+
+    @classmethod
+    def setUpClass(cls):
+        cls.program = program_at(usual_path())
+
+    def setUp(self):
+        self.room = Room(self.program)
+        self.addCleanup(shutil.rmtree, self.room.folder, ignore_errors=True)
+        for name, content in FILES.items():
+            self.room.write(name, content)
+
+    def tearDown(self):
+        self.assert_well(self.room.changed())
+
+    def assert_well(self, problems):
+        """Fails where there are problems, and says what they are."""
+        problems = list(problems)
+        if problems:
+            self.fail("; ".join(problems))
+
+    def assert_run(self, wanted, *words, **how):
+        """Runs the program, whose outcome has to be the wanted one."""
+        found = differences(self.room.run(*words, **how), wanted)
+        self.assert_well(f"of {words} {it}" for it in found)
+
+    def assert_bad_command_line(self, *words):
+        """Runs the program with words that it has to refuse: a message, and nothing more."""
+        got = self.room.run(*words)
+        is_refused = not got.stdout and got.stderr.strip() and got.status == 2
+        self.assertTrue(is_refused, f"the words {words} give {got}")
+
+    def assert_holds(self, name, wanted):
+        """A file has to hold this, and may have been written to. None: there has to be no such file."""
+        self.assert_well(self.room.holds(name, wanted))
+
+    def assert_cases(self, cases):
+        """Each case, a name and what is wrong, is a subtest."""
+        for name, problems in cases:
+            with self.subTest(name):
+                self.assert_well(problems)
+
+
+def checks_of(case):
+    """What makes a check, a function of a room that hands out what is wrong, a test of a case."""
+
+    def check(function):
+        setattr(case, f"test_{function.__name__}", lambda it: it.assert_well(function(it.room)))
+
+    return check

@@ -15,8 +15,7 @@ import re
 from typing import NamedTuple
 
 from tests import TOP
-from tests.lib.checks import Outcome, differences
-from tests.lib.rooms import Room
+from tests.lib.checks import Outcome
 
 CASES = TOP / "tests/cases"
 TABLES = (
@@ -90,24 +89,3 @@ def cases():
                 yield case_of(f"{table}: {row['name']}", row)
             except (ValueError, KeyError) as fault:
                 raise ValueError(f"{place}: {fault}") from fault
-
-
-def problems_of(program, case):
-    """Runs a case, and says what is wrong."""
-    with Room(program) as room:
-        for name, content in case.files.items():
-            room.write(name, content)
-        return differences(room.run(*case.words), case.wanted) + room.changed()
-
-
-def run(program, tally):
-    """Runs every case."""
-    seen = set()
-    try:
-        for case in cases():
-            if case.name in seen:
-                tally.add(case.name, ["two cases have this name"])
-            seen.add(case.name)
-            tally.add(case.name, problems_of(program, case))
-    except ValueError as fault:
-        tally.add("tables", [str(fault)])

@@ -1,66 +1,102 @@
-"""Tests the built program as its user meets it: standard output, standard error and exit status.
+"""Tests the built program as its user meets it, in as many processes as there are processors.
 
-First the cases of tests/cases, the queries over all their makefiles, the makefiles of
-examples/makefiles, the examples of docs, random makefiles and scripts beside a judge that is not the
-program's code, what a fuzzer found beside that judge, and random edits that GNU make judges. Then
-hostile shapes with little stack and memory that ends, and what a table cannot hold: files, outputs,
-edits in place, devices, terminals, limits, the command line, explanations, completions, the
-installation. A check that fails has one line; the last line is 'N passed, M failed', and the status is
-0 only where nothing failed.
+    python3 -m tests.program [--processes N] [PROGRAM]
 
-Last come the examples of README.md, and what `make` prints of a build (tests/building.py).
-
-Expected values come from the definitions of the project, never from the program.
+It runs each test of the files test_*.py of this folder. A test counts once, or once for each of its
+subtests, which are the cases of a table. One that fails has one line, which names it for `python3 -m
+unittest`. The last line is 'N passed, M failed', and the status is 0 only where nothing failed.
 """
 
+import os
 import sys
+import unittest
+import warnings
+from concurrent.futures import ProcessPoolExecutor
+from pathlib import Path
 
-from tests import building
-from tests.hostile import address_space
-from tests.judge import cases as judged_cases
-from tests.lib import tables, terminals
+from tests import TOP
 from tests.lib.checks import Tally, command
-from tests.program import (
-    test_changing_files,
-    test_command_line,
-    test_completions,
-    test_cookbook,
-    test_descriptors,
-    test_devices,
-    test_documents,
-    test_explanations,
-    test_files,
-    test_fuzzed,
-    test_hostile_shapes,
-    test_in_place,
-    test_installation,
-    test_limits,
-    test_makefiles,
-    test_manual,
-    test_outputs,
-    test_queries,
-    test_random_work,
-    test_readme,
-)
+
+HERE = Path(__file__).resolve().parent
+# The tests that take longest are begun first.
+LONG = ("test_judge", "test_tables", "test_queries", "test_random_work")
+
+
+def said(fault):
+    """What an exception says, on one line."""
+    text = "; ".join(it.strip() for it in str(fault).splitlines() if it.strip())
+    return text if isinstance(fault, AssertionError) else f"not run: {type(fault).__name__}: {text}"
+
+
+class Counts(unittest.TestResult):
+    """Tallies each test that was run, or each of its subtests, and says which were skipped."""
+
+    def __init__(self):
+        super().__init__()
+        self.tally = Tally()
+        self.problems = []
+        self.has_cases = False
+
+    def addSubTest(self, test, subtest, err):
+        super().addSubTest(test, subtest, err)
+        self.has_cases = True
+        self.tally.add(subtest.id(), [said(err[1])] if err else [])
+
+    def addFailure(self, test, err):
+        super().addFailure(test, err)
+        self.problems.append(said(err[1]))
+
+    addError = addFailure
+
+    def addSkip(self, test, reason):
+        super().addSkip(test, reason)
+        self.has_cases = True
+        print(f"skipped {test.id()}: {reason}", flush=True)
+
+    def close(self, name):
+        """Tallies the test, where none of its cases was or something is wrong with the whole."""
+        if self.problems or not self.has_cases:
+            self.tally.add(name, self.problems)
+
+
+def names_of(suite):
+    """The name of each test of a suite."""
+    for it in suite:
+        yield from names_of(it) if isinstance(it, unittest.TestSuite) else [it.id()]
+
+
+def names():
+    """The name of each test, those first that take longest."""
+    loader = unittest.TestLoader()
+    found = list(names_of(loader.discover(HERE, top_level_dir=TOP)))
+    if loader.errors:
+        sys.exit("\n".join(loader.errors))
+    return sorted(found, key=lambda it: it.split(".")[2] not in LONG)
+
+
+def run(name):
+    """Runs a test, and hands out how many checks passed and how many failed."""
+    # a test that yields is not run, and would pass: Python 3.11 and later warn of it
+    warnings.filterwarnings("error", "It is deprecated to return a value")
+    counts = Counts()
+    unittest.defaultTestLoader.loadTestsFromName(name).run(counts)
+    counts.close(name)
+    return counts.tally.passed, counts.tally.failed
 
 
 def main():
-    program = command("tests.program", "Tests the built program mkedit.").parse_args().program
-    tally = Tally()
-    for it in (tables, test_queries, test_makefiles, test_documents, test_cookbook):
-        it.run(program, tally)
-    for it in (test_random_work, test_fuzzed, judged_cases):
-        it.run(program, tally)
-    for it in (test_hostile_shapes, address_space):
-        it.run(program, tally)
-    for it in (test_files, test_changing_files, test_outputs, test_in_place, test_devices, test_descriptors, terminals):
-        it.check.run(program, tally)
-    for it in (test_limits, test_command_line, test_explanations, test_manual, test_completions, test_installation):
-        it.check.run(program, tally)
-    for it in (test_readme, building):
-        it.check.run(program, tally)
-    print(tally)
-    return 1 if tally.failed else 0
+    parser = command("tests.program", "Tests the built program mkedit.")
+    processors = len(os.sched_getaffinity(0))
+    parser.add_argument("--processes", type=int, default=processors, help="how many processes")
+    given = parser.parse_args()
+    os.environ["MKEDIT"] = str(given.program.path)
+    total = Tally()
+    with ProcessPoolExecutor(given.processes) as pool:
+        for passed, failed in pool.map(run, names()):
+            total.passed += passed
+            total.failed += failed
+    print(total)
+    return 0 if total.passed and not total.failed else 1
 
 
 if __name__ == "__main__":

@@ -1,15 +1,13 @@
-"""Checks on files that another process changes while the program reads them."""
+"""Tests of files that another process changes while the program reads them."""
 
 import os
 import threading
 
 from tests.lib.checks import Outcome
-from tests.lib.rooms import TOO_LONG, Checks
+from tests.lib.rooms import TOO_LONG, RoomCase
 
 LIMIT = 16_777_216
 LINE = b"# a comment of forty bytes, and its end\n"
-
-check = Checks()
 
 
 class Another:
@@ -40,52 +38,47 @@ def grow(path, line, bound):
     return Another(does)
 
 
-@check
-def a_file_that_grows_is_read_to_an_end_that_it_had(room):
-    path = room.folder / "grows"
-    for _ in range(10):
-        path.write_bytes(LINE * 50_000)
-        got = room.run("edit", "empty", "grows", meanwhile=grow(path, LINE, LIMIT - len(LINE)))
-        text = path.read_bytes()
-        if not text.startswith(got.stdout) or len(got.stdout) < len(LINE) * 50_000:
-            yield f"{len(got.stdout)} bytes are no prefix of the file"
-        yield from () if got[1:] == (b"", 0) else [f"standard error and status are {got[1:]}"]
+class ChangingFiles(RoomCase):
+    def test_a_file_that_grows_is_read_to_an_end_that_it_had(self):
+        path = self.room.folder / "grows"
+        for _ in range(10):
+            path.write_bytes(LINE * 50_000)
+            got = self.room.run("edit", "empty", "grows", meanwhile=grow(path, LINE, LIMIT - len(LINE)))
+            text = path.read_bytes()
+            is_prefix = text.startswith(got.stdout) and len(got.stdout) >= len(LINE) * 50_000
+            self.assertTrue(is_prefix, f"{len(got.stdout)} bytes are no prefix of the file")
+            self.assertEqual(got[1:], (b"", 0))
 
+    def test_a_file_that_grows_without_end_is_too_long(self):
+        path = self.room.folder / "grows"
+        path.write_bytes(LINE * 400_000)
+        size = path.stat().st_size
+        # in one step from below the limit to above it, wherever the program is by then
+        meanwhile = grow(path, b"#" * (LIMIT + 1 - size), LIMIT)
+        got = self.room.run("edit", "empty", "grows", meanwhile=meanwhile)
+        shorter = Outcome(LINE * 400_000, b"", 0)
+        self.assertTrue(got in (TOO_LONG, shorter), f"neither whole nor too long: {got[1:]}")
 
-@check
-def a_file_that_grows_without_end_is_too_long(room):
-    path = room.folder / "grows"
-    path.write_bytes(LINE * 400_000)
-    size = path.stat().st_size
-    # in one step from below the limit to above it, wherever the program is by then
-    meanwhile = grow(path, b"#" * (LIMIT + 1 - size), LIMIT)
-    got = room.run("edit", "empty", "grows", meanwhile=meanwhile)
-    shorter = Outcome(LINE * 400_000, b"", 0)
-    return [] if got in (TOO_LONG, shorter) else [f"neither whole nor too long: {got[1:]}"]
+    def test_a_file_that_is_emptied_is_read_to_where_it_ends(self):
+        path, text = self.room.folder / "shrinks", LINE * 50_000
+        for _ in range(10):
+            path.write_bytes(text)
 
+            def empty():
+                os.truncate(path, 0)
 
-@check
-def a_file_that_is_emptied_is_read_to_where_it_ends(room):
-    path, text = room.folder / "shrinks", LINE * 50_000
-    for _ in range(10):
+            got = self.room.run("edit", "empty", "shrinks", meanwhile=Another(empty))
+            self.assertTrue(text.startswith(got.stdout), "what came is no prefix of the file")
+            self.assertEqual(got[1:], (b"", 0))
+
+    def test_a_file_whose_name_is_taken_away_is_read_whole(self):
+        path, text = self.room.folder / "leaves", LINE * 50_000
         path.write_bytes(text)
 
-        def empty():
-            os.truncate(path, 0)
+        def remove():
+            path.unlink()
 
-        got = room.run("edit", "empty", "shrinks", meanwhile=Another(empty))
-        yield from () if text.startswith(got.stdout) else ["what came is no prefix of the file"]
-        yield from () if got[1:] == (b"", 0) else [f"standard error and status are {got[1:]}"]
-
-
-@check
-def a_file_whose_name_is_taken_away_is_read_whole(room):
-    path, text = room.folder / "leaves", LINE * 50_000
-    path.write_bytes(text)
-
-    def remove():
-        path.unlink()
-
-    got = room.run("edit", "empty", "leaves", meanwhile=Another(remove))
-    gone = Outcome(b"", b"mkedit: cannot open leaves\n", 3)
-    return [] if got in (gone, Outcome(text, b"", 0)) else [f"neither whole nor gone: {got[1:]}"]
+        got = self.room.run("edit", "empty", "leaves", meanwhile=Another(remove))
+        gone = Outcome(b"", b"mkedit: cannot open leaves\n", 3)
+        whole = Outcome(text, b"", 0)
+        self.assertTrue(got in (gone, whole), f"neither whole nor gone: {got[1:]}")

@@ -10,8 +10,8 @@ import subprocess
 
 from tests import TOP
 from tests.lib.checks import SECONDS
-from tests.lib.rooms import Checks
-from tests.program.test_explanations import refusals
+from tests.lib.documents import refusals
+from tests.lib.rooms import RoomCase
 
 FOLDER = TOP / "completions"
 COMMAND = re.compile(r"^  (\w+) {2}", re.M)
@@ -21,8 +21,6 @@ ZSH_OPTION = re.compile(r"\{(-\w)\+?,(--[\w-]+?)=?\}")
 FISH_COMMAND = re.compile(r"-n __fish_use_subcommand -a (\w+)")
 FISH_REFUSALS = re.compile(r"_from explain;.* -a '(.*)'")
 FISH_OPTION = re.compile(r"-s (\w) -l ([\w-]+)")
-
-check = Checks()
 
 
 def section(shown, title):
@@ -94,75 +92,52 @@ def offered_by_fish(room, words, begun):
 def answered(words, room):
     """The lines that a shell prints in the folder of the room."""
     home = {"HOME": str(room.folder), "PATH": "/usr/local/bin:/usr/bin:/bin", "LC_ALL": "C.UTF-8"}
-    ran = subprocess.run(
-        words, cwd=room.folder, env=home, capture_output=True, text=True, timeout=SECONDS
-    )
+    how = {"cwd": room.folder, "env": home, "timeout": SECONDS}
+    ran = subprocess.run(words, capture_output=True, text=True, **how)
     if ran.stderr:
         raise ValueError(ran.stderr.strip())
     return {it for it in ran.stdout.splitlines() if it}
 
 
-def compare(room, shell, offered):
-    """What a shell offers otherwise than help lists it."""
-    if not shutil.which(shell):
-        print(f"skipped: what {shell} completes, since it is not there")
-        return
-    there = files(room)
-    for words, wanted, begun in line_starts(room):
-        got = offered(room, words, begun)
-        if got != wanted:
-            yield f"{shell} offers {sorted(got)} after {words}, wanted {sorted(wanted)}"
-    for words in (["edit"], ["edit", "script"], ["edit", "-k"], ["edit", "-o"], ["vars"]):
-        got = offered(room, ["mkedit", *words], "")
-        if not there <= got:
-            yield f"{shell} offers {sorted(got)} after {words}, wanted the files too"
-    got = offered(room, ["mkedit", "explain"], "")
-    if got != names_of_refusals():
-        yield f"{shell} offers {sorted(got)} after explain"
-    got = offered(room, ["mkedit", "edit", "-d"], "")
-    if got & there:
-        yield f"{shell} offers files for a depth: {sorted(got)}"
+class Completions(RoomCase):
+    def assert_completes(self, shell, offered):
+        """A shell has to offer what help lists."""
+        if not shutil.which(shell):
+            self.skipTest(f"{shell} is not there")
+        there = files(self.room)
+        for words, wanted, begun in line_starts(self.room):
+            self.assertEqual(offered(self.room, words, begun), wanted, f"after {words}")
+        for words in (["edit"], ["edit", "script"], ["edit", "-k"], ["edit", "-o"], ["vars"]):
+            self.assertLessEqual(there, offered(self.room, ["mkedit", *words], ""), f"after {words}")
+        self.assertEqual(offered(self.room, ["mkedit", "explain"], ""), names_of_refusals())
+        # a depth is no file
+        self.assertFalse(there & offered(self.room, ["mkedit", "edit", "-d"], ""))
 
+    def test_bash_completes_what_help_lists(self):
+        self.assert_completes("bash", offered_by_bash)
 
-@check
-def bash_completes_what_help_lists(room):
-    return compare(room, "bash", offered_by_bash)
+    def test_fish_completes_what_help_lists(self):
+        self.assert_completes("fish", offered_by_fish)
 
+    def test_the_file_for_fish_has_what_help_lists(self):
+        text = (FOLDER / "mkedit.fish").read_text(encoding="utf-8")
+        for words, others in (([], "__fish_seen_subcommand_from"), (["edit"], "__fish_use_subcommand")):
+            self.assertEqual(options_of_fish(text, others), options(self.room, *words))
+        self.assertEqual({*FISH_REFUSALS.search(text)[1].split()}, names_of_refusals())
+        self.assertEqual({*FISH_COMMAND.findall(text)}, commands(self.room))
 
-@check
-def fish_completes_what_help_lists(room):
-    return compare(room, "fish", offered_by_fish)
-
-
-@check
-def the_file_for_fish_has_what_help_lists(room):
-    text = (FOLDER / "mkedit.fish").read_text(encoding="utf-8")
-    for words, others in (([], "__fish_seen_subcommand_from"), (["edit"], "__fish_use_subcommand")):
-        found = options_of_fish(text, others)
-        if found != options(room, *words):
-            yield f"its options of {words} are {sorted(found)}"
-    if set(FISH_REFUSALS.search(text)[1].split()) != names_of_refusals():
-        yield "its refusals are others"
-    named = set(FISH_COMMAND.findall(text))
-    if named != commands(room):
-        yield f"its commands are {sorted(named)}"
-
-
-@check
-def the_file_for_zsh_has_what_help_lists(room):
-    text = (FOLDER / "mkedit.zsh").read_text(encoding="utf-8")
-    named = set(ZSH_COMMAND.findall(section_of_zsh(text, "_mkedit_commands")))
-    if named != commands(room):
-        yield f"its commands are {sorted(named)}"
-    functions = (("", []), ("_edit", ["edit"]), ("_query", ["vars"]), ("_explain", ["explain"]))
-    for function, words in functions:
-        part = section_of_zsh(text, f"_mkedit{function}")
-        found = {it for pair in ZSH_OPTION.findall(part) for it in pair}
-        if found != options(room, *words):
-            yield f"its options of {words} are {sorted(found)}"
-    part = section_of_zsh(text, "_mkedit_explain")
-    if set(re.search(r"refusals=\((.*?)\)", part, re.S)[1].split()) != names_of_refusals():
-        yield "its refusals are others"
-    if shutil.which("zsh"):
-        ran = subprocess.run(["zsh", "-n", FOLDER / "mkedit.zsh"], capture_output=True, text=True)
-        yield from ran.stderr.splitlines()
+    def test_the_file_for_zsh_has_what_help_lists(self):
+        text = (FOLDER / "mkedit.zsh").read_text(encoding="utf-8")
+        named = {*ZSH_COMMAND.findall(section_of_zsh(text, "_mkedit_commands"))}
+        self.assertEqual(named, commands(self.room))
+        functions = (("", []), ("_edit", ["edit"]), ("_query", ["vars"]), ("_explain", ["explain"]))
+        for function, words in functions:
+            part = section_of_zsh(text, f"_mkedit{function}")
+            found = {it for pair in ZSH_OPTION.findall(part) for it in pair}
+            self.assertEqual(found, options(self.room, *words))
+        part = section_of_zsh(text, "_mkedit_explain")
+        found = {*re.search(r"refusals=\((.*?)\)", part, re.S)[1].split()}
+        self.assertEqual(found, names_of_refusals())
+        if shutil.which("zsh"):
+            ran = subprocess.run(["zsh", "-n", FOLDER / "mkedit.zsh"], capture_output=True, text=True)
+            self.assertEqual(ran.stderr, "")

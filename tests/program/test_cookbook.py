@@ -7,11 +7,10 @@ in a folder of its own. Each refusal that a task names has to be one of docs/EDI
 
 import re
 
-from tests import TOP
-from tests.lib.rooms import Room
+from tests.lib.documents import DOCS, told_refusals
+from tests.lib.rooms import Room, RoomCase
 from tests.lib.transcripts import Shell
 
-DOCS = TOP / "docs"
 TASK = re.compile(r"^## (.*)\n((?:(?!## ).*\n)*)", re.M)
 BLOCK = re.compile(r"^```(.*)\n((?:(?!```).*\n)*)```\n", re.M)
 REFUSAL = re.compile(r"`(\d+) (\w+)[^`]*`")
@@ -45,17 +44,16 @@ def check_task(program, text):
 
 def unknown_refusals(text):
     """The refusals that are named with another number than in docs/EDITS.md."""
-    edits = (DOCS / "EDITS.md").read_text(encoding="utf-8")
-    known = set(re.findall(r"^\| (\d+) \| `(\w+)`", edits, re.M))
     named = REFUSAL.findall(text)
-    return [f"no refusal {' '.join(it)}" for it in named if it not in known]
+    return [f"no refusal {' '.join(it)}" for it in named if it not in told_refusals()]
 
 
-def run(program, tally):
-    """Runs every task."""
-    tasks = TASK.findall((DOCS / "COOKBOOK.md").read_text(encoding="utf-8"))
-    for title, text in tasks:
-        wrong = list(check_task(program, text)) + unknown_refusals(text)
-        tally.add(f"docs/COOKBOOK.md: {title}", wrong)
-    few = [f"{len(tasks)} tasks, wanted {TASKS}"] if len(tasks) < TASKS else []
-    tally.add("docs/COOKBOOK.md: tasks", few)
+class Cookbook(RoomCase):
+    def test_each_task_is_done_as_it_stands_there(self):
+        tasks = TASK.findall((DOCS / "COOKBOOK.md").read_text(encoding="utf-8"))
+        for title, text in tasks:
+            with self.subTest(f"docs/COOKBOOK.md: {title}"):
+                self.assert_well(check_task(self.program, text))
+                self.assert_well(unknown_refusals(text))
+        with self.subTest("docs/COOKBOOK.md: tasks"):
+            self.assertGreaterEqual(len(tasks), TASKS)

@@ -1,4 +1,4 @@
-"""Checks on pipes and devices: bytes that come slowly or for ever, outputs that fail or go away."""
+"""Tests of pipes and devices: bytes that come slowly or for ever, outputs that fail or go away."""
 
 import os
 import select
@@ -6,9 +6,7 @@ import signal
 import time
 
 from tests.lib.checks import SECONDS, Outcome
-from tests.lib.rooms import ANSWERS, EDITED, QUERIED, REFUSED, TEXT, TOO_LONG, WRITE_FAULT, Checks, silent
-
-check = Checks()
+from tests.lib.rooms import ANSWERS, EDITED, QUERIED, REFUSED, TEXT, TOO_LONG, WRITE_FAULT, RoomCase, silent
 
 
 def feed(path, content, pause=0.0, stop=None):
@@ -40,148 +38,106 @@ def feed(path, content, pause=0.0, stop=None):
     return meanwhile
 
 
-@check
-def a_pipe_that_gives_single_bytes_is_read_to_its_end(room):
-    os.mkfifo(room.folder / "pipe")
-    meanwhile = feed(room.folder / "pipe", TEXT, pause=0.005)
-    return room.differs(EDITED, "edit", "script", "pipe", meanwhile=meanwhile)
+class Devices(RoomCase):
+    def test_a_pipe_that_gives_single_bytes_is_read_to_its_end(self):
+        os.mkfifo(self.room.folder / "pipe")
+        meanwhile = feed(self.room.folder / "pipe", TEXT, pause=0.005)
+        self.assert_run(EDITED, "edit", "script", "pipe", meanwhile=meanwhile)
 
+    def test_a_script_may_be_a_pipe(self):
+        os.mkfifo(self.room.folder / "pipe")
+        meanwhile = feed(self.room.folder / "pipe", b"set CC clang\n", pause=0.005)
+        self.assert_run(EDITED, "edit", "pipe", "Makefile", meanwhile=meanwhile)
 
-@check
-def a_script_may_be_a_pipe(room):
-    os.mkfifo(room.folder / "pipe")
-    meanwhile = feed(room.folder / "pipe", b"set CC clang\n", pause=0.005)
-    return room.differs(EDITED, "edit", "pipe", "Makefile", meanwhile=meanwhile)
+    def test_a_program_that_is_stopped_and_goes_on_loses_nothing(self):
+        os.mkfifo(self.room.folder / "pipe")
+        meanwhile = feed(self.room.folder / "pipe", TEXT, pause=0.005, stop=True)
+        self.assert_run(EDITED, "edit", "script", "pipe", meanwhile=meanwhile)
 
+    def test_a_query_reads_a_pipe_to_its_end(self):
+        for query, answer in ANSWERS.items():
+            path = self.room.folder / f"pipe-{query}"
+            os.mkfifo(path)
+            meanwhile = feed(path, QUERIED, pause=0.002)
+            self.assert_run(Outcome(answer, b"", 0), query, path.name, meanwhile=meanwhile)
 
-@check
-def a_program_that_is_stopped_and_goes_on_loses_nothing(room):
-    os.mkfifo(room.folder / "pipe")
-    meanwhile = feed(room.folder / "pipe", TEXT, pause=0.005, stop=True)
-    return room.differs(EDITED, "edit", "script", "pipe", meanwhile=meanwhile)
+    def test_standard_input_may_be_a_pipe_that_gives_single_bytes(self):
+        reader, writer = os.pipe()
 
+        def write(_):
+            os.close(reader)
+            for byte in TEXT:
+                os.write(writer, bytes([byte]))
+                time.sleep(0.005)
+            os.close(writer)
 
-@check
-def a_query_reads_a_pipe_to_its_end(room):
-    for query, answer in ANSWERS.items():
-        path = room.folder / f"pipe-{query}"
-        os.mkfifo(path)
-        meanwhile = feed(path, QUERIED, pause=0.002)
-        yield from room.differs(Outcome(answer, b"", 0), query, path.name, meanwhile=meanwhile)
+        self.assert_run(EDITED, "edit", "script", stdin=reader, meanwhile=write)
 
+    def test_an_endless_file_is_too_long(self):
+        for words in (["edit", "script"], *([it] for it in ANSWERS)):
+            self.assert_run(TOO_LONG, *words, "/dev/zero")
 
-@check
-def standard_input_may_be_a_pipe_that_gives_single_bytes(room):
-    reader, writer = os.pipe()
+    def test_an_endless_script_is_too_long(self):
+        self.assert_run(TOO_LONG, "edit", "/dev/zero", "Makefile")
 
-    def write(_):
-        os.close(reader)
-        for byte in TEXT:
-            os.write(writer, bytes([byte]))
-            time.sleep(0.005)
-        os.close(writer)
-
-    return room.differs(EDITED, "edit", "script", stdin=reader, meanwhile=write)
-
-
-@check
-def an_endless_file_is_too_long(room):
-    for words in (["edit", "script"], *([it] for it in ANSWERS)):
-        yield from room.differs(TOO_LONG, *words, "/dev/zero")
-
-
-@check
-def an_endless_script_is_too_long(room):
-    return room.differs(TOO_LONG, "edit", "/dev/zero", "Makefile")
-
-
-@check
-def a_full_device_is_a_write_fault(room):
-    with open("/dev/full", "wb") as full:
-        return room.differs(WRITE_FAULT, "edit", "script", "Makefile", stdout=full)
-
-
-@check
-def a_query_to_a_full_device_is_a_write_fault(room):
-    for query in ANSWERS:
+    def test_a_full_device_is_a_write_fault(self):
         with open("/dev/full", "wb") as full:
-            yield from room.differs(WRITE_FAULT, query, "queried", stdout=full)
+            self.assert_run(WRITE_FAULT, "edit", "script", "Makefile", stdout=full)
 
+    def test_a_query_to_a_full_device_is_a_write_fault(self):
+        for query in ANSWERS:
+            with open("/dev/full", "wb") as full:
+                self.assert_run(WRITE_FAULT, query, "queried", stdout=full)
 
-@check
-def a_query_without_lines_needs_no_room(room):
-    for query in ANSWERS:
+    def test_a_query_without_lines_needs_no_room(self):
+        for query in ANSWERS:
+            with open("/dev/full", "wb") as full:
+                self.assert_run(silent(0), query, "empty", stdout=full)
+
+    def test_a_closed_output_is_a_write_fault(self):
+        self.assert_run(WRITE_FAULT, "edit", "script", "Makefile", closed=(1,))
+        for query in ANSWERS:
+            self.assert_run(WRITE_FAULT, query, "queried", closed=(1,))
+
+    def test_an_output_that_nobody_reads_is_a_write_fault(self):
+        reader, writer = os.pipe()
+        os.close(reader)
+        self.assert_run(WRITE_FAULT, "edit", "script", "Makefile", stdout=writer)
+        os.close(writer)
+
+    def assert_fault_of_leaving(self, *words):
+        """Runs the program, whose reader leaves after the first byte."""
+        reader, writer = os.pipe()
+
+        def leave(_):
+            os.close(writer)
+            if select.select([reader], [], [], SECONDS)[0]:
+                os.read(reader, 1)
+            os.close(reader)
+
+        self.assert_run(WRITE_FAULT, *words, stdout=writer, meanwhile=leave)
+
+    def test_a_reader_that_leaves_early_is_a_write_fault(self):
+        self.room.write("long", b"# a comment of forty bytes, and its end\n" * 25_000)
+        self.assert_fault_of_leaving("edit", "empty", "long")
+
+    def test_a_query_whose_reader_leaves_early_is_a_write_fault(self):
+        self.room.write("long", b"NAME = a value, and a line of forty bytes\n" * 25_000)
+        self.assert_fault_of_leaving("vars", "long")
+
+    def test_a_refused_script_needs_no_output(self):
+        self.assert_run(REFUSED, "edit", "undo", "Makefile", closed=(1,))
+
+    def test_an_edit_needs_no_standard_error(self):
+        self.assert_run(EDITED, "edit", "script", "Makefile", closed=(2,))
+
+    def test_a_bad_script_without_standard_error_keeps_its_status(self):
+        self.assert_run(silent(2), "edit", "bad", "Makefile", closed=(2,))
+
+    def test_a_missing_file_without_standard_error_keeps_its_status(self):
+        self.assert_run(silent(3), "edit", "script", "absent", closed=(2,))
+
+    def test_a_report_that_cannot_be_written_is_a_write_fault(self):
         with open("/dev/full", "wb") as full:
-            yield from room.differs(silent(0), query, "empty", stdout=full)
-
-
-@check
-def a_closed_output_is_a_write_fault(room):
-    wrong = room.differs(WRITE_FAULT, "edit", "script", "Makefile", closed=(1,))
-    for query in ANSWERS:
-        wrong += room.differs(WRITE_FAULT, query, "queried", closed=(1,))
-    return wrong
-
-
-@check
-def an_output_that_nobody_reads_is_a_write_fault(room):
-    reader, writer = os.pipe()
-    os.close(reader)
-    wrong = room.differs(WRITE_FAULT, "edit", "script", "Makefile", stdout=writer)
-    os.close(writer)
-    return wrong
-
-
-@check
-def a_reader_that_leaves_early_is_a_write_fault(room):
-    room.write("long", b"# a comment of forty bytes, and its end\n" * 25_000)
-    reader, writer = os.pipe()
-
-    def leave(process):
-        os.close(writer)
-        if select.select([reader], [], [], SECONDS)[0]:
-            os.read(reader, 1)
-        os.close(reader)
-
-    return room.differs(WRITE_FAULT, "edit", "empty", "long", stdout=writer, meanwhile=leave)
-
-
-@check
-def a_query_whose_reader_leaves_early_is_a_write_fault(room):
-    room.write("long", b"NAME = a value, and a line of forty bytes\n" * 25_000)
-    reader, writer = os.pipe()
-
-    def leave(process):
-        os.close(writer)
-        if select.select([reader], [], [], SECONDS)[0]:
-            os.read(reader, 1)
-        os.close(reader)
-
-    return room.differs(WRITE_FAULT, "vars", "long", stdout=writer, meanwhile=leave)
-
-
-@check
-def a_refused_script_needs_no_output(room):
-    return room.differs(REFUSED, "edit", "undo", "Makefile", closed=(1,))
-
-
-@check
-def an_edit_needs_no_standard_error(room):
-    return room.differs(EDITED, "edit", "script", "Makefile", closed=(2,))
-
-
-@check
-def a_bad_script_without_standard_error_keeps_its_status(room):
-    return room.differs(silent(2), "edit", "bad", "Makefile", closed=(2,))
-
-
-@check
-def a_missing_file_without_standard_error_keeps_its_status(room):
-    return room.differs(silent(3), "edit", "script", "absent", closed=(2,))
-
-
-@check
-def a_report_that_cannot_be_written_is_a_write_fault(room):
-    with open("/dev/full", "wb") as full:
-        wrong = room.differs(silent(3), "edit", "undo", "Makefile", stderr=full)
-    return wrong + room.differs(silent(3), "edit", "undo", "Makefile", closed=(2,))
+            self.assert_run(silent(3), "edit", "undo", "Makefile", stderr=full)
+        self.assert_run(silent(3), "edit", "undo", "Makefile", closed=(2,))

@@ -15,11 +15,10 @@ import re
 
 from tests import TOP
 from tests.lib.checks import Outcome, differences
-from tests.lib.rooms import Room
+from tests.lib.documents import DOCS, edits
+from tests.lib.rooms import RoomCase
 
-EDITS = TOP / "docs/EDITS.md"
-LANGUAGE = TOP / "docs/LANGUAGE.md"
-LIBRARY = TOP / "docs/LIBRARY.md"
+EDITS, LANGUAGE, LIBRARY = (DOCS / f"{it}.md" for it in ("EDITS", "LANGUAGE", "LIBRARY"))
 QUOTED = ("crates/session_example/src/main.rt", "crates/mk_session/src/session.rt")
 LAST_CHAPTER = "## 8. Where make reads otherwise\n"
 COMMANDS = (
@@ -87,20 +86,22 @@ def last_chapter():
     return LANGUAGE.read_text(encoding="utf-8").partition(LAST_CHAPTER)[2]
 
 
-def run(program, tally):
-    """Runs every example, and counts them, so that none drops out by its form."""
-    edits = EDITS.read_text(encoding="utf-8")
-    checks = (
-        (EDITS, check_edits, edits, 14),
-        (EDITS, check_queries, edits, 3),
-        (LANGUAGE, check_edits, last_chapter(), 34),
-        (LANGUAGE, check_unread, last_chapter(), 36),
-        (LIBRARY, check_code, LIBRARY.read_text(encoding="utf-8"), 4),
-    )
-    with Room(program) as room:
-        for document, check, text, least in checks:
-            found = list(check(room, text))
-            for name, problems in found:
-                tally.add(f"docs/{document.name}: {name}", problems)
-            few = [f"{len(found)} examples, wanted {least}"] if len(found) < least else []
-            tally.add(f"docs/{document.name}: {check.__name__.replace('_', '-')}", few)
+class Documents(RoomCase):
+    def assert_examples(self, document, check, text, least):
+        """Every example has to be so. They are counted, so that none drops out by its form."""
+        found = list(check(self.room, text))
+        name = f"docs/{document.name}"
+        self.assert_cases((f"{name}: {example}", problems) for example, problems in found)
+        with self.subTest(f"{name}: {check.__name__.replace('_', '-')}"):
+            self.assertGreaterEqual(len(found), least)
+
+    def test_the_examples_of_the_page_on_edits(self):
+        self.assert_examples(EDITS, check_edits, edits(), 14)
+        self.assert_examples(EDITS, check_queries, edits(), 3)
+
+    def test_the_examples_of_what_make_reads_otherwise(self):
+        self.assert_examples(LANGUAGE, check_edits, last_chapter(), 34)
+        self.assert_examples(LANGUAGE, check_unread, last_chapter(), 36)
+
+    def test_the_code_of_the_page_on_the_library(self):
+        self.assert_examples(LIBRARY, check_code, LIBRARY.read_text(encoding="utf-8"), 4)

@@ -10,7 +10,7 @@ import re
 from tests import TOP
 from tests.lib import reading
 from tests.lib.checks import Outcome, differences
-from tests.lib.rooms import Room
+from tests.lib.rooms import RoomCase
 
 EXAMPLES = TOP / "examples/makefiles"
 HUNK = re.compile(rb"@@ -(\d+)(?:,(\d+))? \+(\d+)(?:,(\d+))? @@\n")
@@ -53,7 +53,6 @@ def check_example(room, folder):
     script = (folder / "edits.mkedit").read_bytes()
     room.write("Makefile", text)
     room.write("script", script)
-    room.write("empty", b"")
     room.write("undone", script + b"undo\n" * 100)
     edited = applied((folder / "edits.diff").read_bytes(), text)
     yield "edits", differences(room.run("edit", "script", "Makefile"), Outcome(edited, b"", 0))
@@ -70,9 +69,9 @@ def check_example(room, folder):
     yield "files", room.changed()
 
 
-def run(program, tally):
-    """Runs every example."""
-    for folder in sorted(it for it in EXAMPLES.iterdir() if it.is_dir()):
-        with Room(program) as room:
-            for what, problems in check_example(room, folder):
-                tally.add(f"examples/makefiles/{folder.name}: {what}", problems)
+class Makefiles(RoomCase):
+    def test_each_example_is_edited_and_read_as_its_files_say(self):
+        for folder in sorted(it for it in EXAMPLES.iterdir() if it.is_dir()):
+            name = f"examples/makefiles/{folder.name}"
+            found = check_example(self.room, folder)
+            self.assert_cases((f"{name}: {what}", problems) for what, problems in found)

@@ -15,32 +15,15 @@ import re
 import shutil
 import subprocess
 
-from tests import TOP
 from tests.lib.checks import SECONDS, Outcome, differences
-from tests.lib.rooms import Checks
+from tests.lib.documents import PAGE, displays_of, edits, page, told_refusals
+from tests.lib.rooms import RoomCase, silent
 from tests.lib.transcripts import Shell
 
-DOCS = TOP / "docs"
-PAGE = DOCS / "mkedit.1"
-DISPLAY = re.compile(r"^\.Bd -literal[^\n]*\n(.*?)^\.Ed$", re.M | re.S)
-ESCAPE = re.compile(r"\\(.)")
-ESCAPED = {"e": "\\", "&": ""}
 REPORT = re.compile(r"\d+: refused .*\n")
 # What mandoc says of the pages of other programs, which this machine may not have.
 OTHER_PAGES = re.compile(r"referenced manual not found|outdated mandoc\.db")
 EXAMPLES = 41
-
-check = Checks()
-
-
-def page():
-    return PAGE.read_text(encoding="utf-8")
-
-
-def displays_of(source):
-    """The text of each display; an escape that is not among the known ones is a KeyError."""
-    for shown in DISPLAY.findall(source):
-        yield ESCAPE.sub(lambda escape: ESCAPED[escape[1]], shown)
 
 
 def changed_lines(before, after):
@@ -49,83 +32,66 @@ def changed_lines(before, after):
     return "".join(it for it in list(lines)[2:] if not it.startswith("@@"))
 
 
-def check_script(room, makefile, script, wanted):
-    """What is wrong with what comes of a script."""
-    room.write("Makefile", makefile.encode())
-    room.write("script", script.encode())
-    got = room.run("edit", "script", "Makefile")
-    if REPORT.fullmatch(wanted):
-        return differences(got, Outcome(b"", wanted.encode(), 1))
-    wrong = differences(got._replace(stdout=b""), Outcome(b"", b"", 0))
-    changed = changed_lines(makefile, got.stdout.decode())
-    return wrong + ([] if changed == wanted else [f"{script!r} changes {changed!r}"])
+class Manual(RoomCase):
+    def assert_script(self, makefile, script, wanted):
+        """A report, or changed lines, have to come of a script."""
+        self.room.write("Makefile", makefile.encode())
+        self.room.write("script", script.encode())
+        got = self.room.run("edit", "script", "Makefile")
+        if REPORT.fullmatch(wanted):
+            self.assert_well(differences(got, Outcome(b"", wanted.encode(), 1)))
+        else:
+            self.assert_well(differences(got._replace(stdout=b""), silent(0)))
+            self.assertEqual(changed_lines(makefile, got.stdout.decode()), wanted, script)
 
+    def test_each_example_of_the_manual_page_is_so(self):
+        makefile, *examples = displays_of(page())
+        for example in examples:
+            if example.startswith("$ "):
+                self.room.write("Makefile", makefile.encode())
+                with Shell(self.room.program, self.room.folder) as shell:
+                    self.assert_well(shell.differs(example))
+                continue
+            *script, wanted = example.split("\n\n")
+            own = script[0] + "\n" if len(script) == 2 else makefile
+            self.assert_script(own, script[-1] + "\n", wanted)
+        self.assertGreaterEqual(len(examples), EXAMPLES)
 
-@check
-def each_example_of_the_manual_page_is_so(room):
-    makefile, *examples = displays_of(page())
-    for example in examples:
-        if example.startswith("$ "):
-            room.write("Makefile", makefile.encode())
-            with Shell(room.program, room.folder) as shell:
-                yield from shell.differs(example)
-            continue
-        *script, wanted = example.split("\n\n")
-        own = script[0] + "\n" if len(script) == 2 else makefile
-        yield from check_script(room, own, script[-1] + "\n", wanted)
-    if len(examples) < EXAMPLES:
-        yield f"{len(examples)} examples, wanted {EXAMPLES}"
+    def test_the_manual_page_has_a_good_form(self):
+        if shutil.which("mandoc"):
+            words = ["mandoc", "-T", "lint", str(PAGE)]
+        elif shutil.which("groff"):
+            words = ["groff", "-ww", "-mdoc", "-T", "utf8", "-z", str(PAGE)]
+        else:
+            self.skipTest("there are neither mandoc nor groff")
+        ran = subprocess.run(words, capture_output=True, text=True, timeout=SECONDS)
+        lines = (ran.stdout + ran.stderr).splitlines()
+        self.assert_well(it for it in lines if not OTHER_PAGES.search(it))
 
+    def test_the_manual_page_has_every_refusal(self):
+        found = re.findall(r"^\.It (\d+) (\w+)", page(), re.M)
+        self.assertEqual(found, told_refusals())
 
-@check
-def the_manual_page_has_a_good_form(room):
-    if shutil.which("mandoc"):
-        words = ["mandoc", "-T", "lint", str(PAGE)]
-    elif shutil.which("groff"):
-        words = ["groff", "-ww", "-mdoc", "-T", "utf8", "-z", str(PAGE)]
-    else:
-        print("skipped: the form of the manual page, without mandoc and groff")
-        return []
-    ran = subprocess.run(words, capture_output=True, text=True, timeout=SECONDS)
-    lines = (ran.stdout + ran.stderr).splitlines()
-    return [it for it in lines if not OTHER_PAGES.search(it)]
+    def test_the_manual_page_has_every_command_of_a_script(self):
+        shown = self.room.run("edit", "--help").stdout.decode()
+        commands = re.search(r"^A line of the script.*\n((?:    .*\n)+)", shown, re.M)[1]
+        fields = re.split(r"\n| {2,}", commands.strip())
+        words = {it.split()[0] for it in fields if it.strip()}
+        listed = re.findall(r"^\.It Cm (.*)", page().partition(".Sh SCRIPT")[2], re.M)
+        found = {it for line in listed for it in re.findall(r"\b[a-z-]+", line)}
+        self.assertEqual(found, words)
 
+    def test_the_manual_page_has_every_option_and_command_of_the_program(self):
+        synopsis = page().partition(".Sh DESCRIPTION")[0]
+        for command in ("edit", "vars", "rules", "check", "caveats", "explain", "help"):
+            self.assertIn(f".Cm {command}\n", synopsis)
+        shown = self.room.run("--help").stdout.decode() + self.room.run("edit", "--help").stdout.decode()
+        for short, long in re.findall(r"^  -(\w), --([\w-]+)", shown, re.M):
+            if short != "h":
+                option = re.compile(rf"^\.It Fl {short}.* Fl -{long}\b", re.M)
+                self.assertRegex(page(), option)
 
-@check
-def the_manual_page_has_every_refusal(room):
-    edits = (DOCS / "EDITS.md").read_text(encoding="utf-8")
-    known = re.findall(r"^\| (\d+) \| `(\w+)`", edits, re.M)
-    found = re.findall(r"^\.It (\d+) (\w+)", page(), re.M)
-    return [] if found == known else [f"the refusals are {found}, wanted {known}"]
-
-
-@check
-def the_manual_page_has_every_command_of_a_script(room):
-    shown = room.run("edit", "--help").stdout.decode()
-    commands = re.search(r"^A line of the script.*\n((?:    .*\n)+)", shown, re.M)[1]
-    fields = re.split(r"\n| {2,}", commands.strip())
-    words = {it.split()[0] for it in fields if it.strip()}
-    listed = re.findall(r"^\.It Cm (.*)", page().partition(".Sh SCRIPT")[2], re.M)
-    found = {it for line in listed for it in re.findall(r"\b[a-z-]+", line)}
-    return [] if found == words else [f"the commands differ by {found ^ words}"]
-
-
-@check
-def the_manual_page_has_every_option_and_command_of_the_program(room):
-    text = page()
-    for command in ("edit", "vars", "rules", "check", "caveats", "explain", "help"):
-        if f".Cm {command}\n" not in text.partition(".Sh DESCRIPTION")[0]:
-            yield f"the synopsis lacks {command}"
-    shown = room.run("--help").stdout.decode() + room.run("edit", "--help").stdout.decode()
-    for short, long in re.findall(r"^  -(\w), --([\w-]+)", shown, re.M):
-        if short != "h" and not re.search(rf"^\.It Fl {short}.* Fl -{long}\b", text, re.M):
-            yield f"the page lacks -{short}, --{long}"
-
-
-@check
-def the_manual_page_has_every_message(room):
-    edits = (DOCS / "EDITS.md").read_text(encoding="utf-8")
-    text = re.sub(r" ?\b(?:Ar|No) ", " ", page())
-    for message in re.findall(r"\| `(mkedit: [a-z ]+)", edits):
-        if message.strip() not in text:
-            yield f"the page lacks the message {message}"
+    def test_the_manual_page_has_every_message(self):
+        text = re.sub(r" ?\b(?:Ar|No) ", " ", page())
+        for message in re.findall(r"\| `(mkedit: [a-z ]+)", edits()):
+            self.assertIn(message.strip(), text)

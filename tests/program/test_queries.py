@@ -1,4 +1,4 @@
-"""The queries over every makefile of tests/cases, beside a reading in Python (reading.py).
+"""The queries over every makefile of tests/cases, beside a reading in Python (tests/lib/reading.py).
 
 The tables have some 3,200 makefiles, most of them small and hostile. Each has to be read as
 tests/cases/readings says, where it stands there, and each query has to print what reading.py says.
@@ -7,21 +7,11 @@ tests/cases/readings says, where it stands there, and each query has to print wh
 import ast
 
 from tests.lib import reading
-from tests.lib.checks import Outcome, differences
-from tests.lib.rooms import Room
+from tests.lib.checks import Outcome
+from tests.lib.rooms import RoomCase
 from tests.lib.tables import TABLES, rows, unescape
 
 READINGS = ("readings/worked", "readings/random")
-
-
-def check_readings(tally):
-    """Compares reading.py with the readings that were given."""
-    for table in READINGS:
-        for _, row in rows(table):
-            given = ast.literal_eval(unescape(row["reading"]).decode("latin-1"))
-            got = reading.reading(unescape(row["makefile"]))
-            wrong = [f"reading.py reads {got}, wanted {given}"] if got != given else []
-            tally.add(f"{table}: {row['name']}", wrong)
 
 
 def makefiles():
@@ -33,12 +23,30 @@ def makefiles():
     return found
 
 
-def run(program, tally):
-    """Compares the queries over every makefile of the tables."""
-    check_readings(tally)
-    with Room(program) as room:
+class Queries(RoomCase):
+    def test_the_reading_reads_as_the_tables_of_readings_say(self):
+        for table in READINGS:
+            for _, row in rows(table):
+                with self.subTest(f"{table}: {row['name']}"):
+                    given = ast.literal_eval(unescape(row["reading"]).decode("latin-1"))
+                    self.assertEqual(reading.reading(unescape(row["makefile"])), given)
+
+    def assert_answers(self, query):
+        """The answer to a query over each makefile has to be that of the reading."""
         for text, name in makefiles().items():
-            room.write("Makefile", text)
-            for query, text_of in reading.QUERIES.items():
-                wanted = Outcome(text_of(text), b"", 0)
-                tally.add(f"{query}, {name}", differences(room.run(query, "Makefile"), wanted))
+            with self.subTest(f"{query}, {name}"):
+                self.room.write("Makefile", text)
+                wanted = Outcome(reading.QUERIES[query](text), b"", 0)
+                self.assert_run(wanted, query, "Makefile")
+
+    def test_vars(self):
+        self.assert_answers("vars")
+
+    def test_rules(self):
+        self.assert_answers("rules")
+
+    def test_check(self):
+        self.assert_answers("check")
+
+    def test_caveats(self):
+        self.assert_answers("caveats")

@@ -1,51 +1,41 @@
-"""Random work with a fixed seed, less than a minute of it; tests/soak does as much as you like.
+"""Random work with a fixed seed, less than a minute of it; tests.soak does as much as you like.
 
 First the judge is compared with the tables of runs and edits, whose answers come from elsewhere, and
-with the spans where a table says them. Then each case is a check: its output, report and status, the
-promises, and a query. soaking/__init__.py says which module does what.
+with the spans where a table says them. Then each case is a subtest: its output, report and status, the
+promises, and a query. tests/soak/__init__.py says which module does what.
 """
 
-from tests.lib.checks import Outcome, differences
-from tests.lib.rooms import Room
-from tests.lib.tables import rows, unescape
-from tests.soak.cases import USUAL_DEPTH
-from tests.soak.judge import judged
+from tests.lib.rooms import RoomCase
+from tests.soak.tables import judged_rows
 from tests.soak.work import Work
 
-TABLES = ("runs", "corner-runs", "random-runs", "edits/corners", "edits/random")
 SEED = "1"
-CASES = 2500
+# So many cases for each of five tests, which may run side by side.
+CASES = 500
 
 
-def verdict_on(row):
-    """The judge's verdict on a row of a table."""
-    flags = row.get("flags", "").split()
-    depth = int(flags[flags.index("-d") + 1]) if "-d" in flags else USUAL_DEPTH
-    return judged(unescape(row["makefile"]), unescape(row["script"]), depth, "-k" in flags)
+class RandomWork(RoomCase):
+    def test_the_judge_says_what_the_tables_say(self):
+        self.assert_cases(judged_rows())
 
+    def assert_work(self, first):
+        """The program has to do in each of CASES cases what the judge says."""
+        work = Work(self.room, SEED)
+        for number in range(first, first + CASES):
+            with self.subTest(f"random work, case {number} of the seed {SEED}"):
+                self.assert_well(work.difference(number))
 
-def spans_of(verdict):
-    """The spans of a run of one edit, as a table has them."""
-    plan = verdict.replies[0].plan
-    return " ".join(f"{it.start}:{it.end}:{it.new.hex()}" for it in plan.spans) if plan else ""
+    def test_the_first_cases(self):
+        self.assert_work(0)
 
+    def test_the_second_cases(self):
+        self.assert_work(CASES)
 
-def check_judge(tally):
-    """Compares the judge with the tables."""
-    for table in TABLES:
-        for _, row in rows(table):
-            verdict = verdict_on(row)
-            wanted = Outcome(unescape(row["stdout"]), unescape(row["stderr"]), int(row["status"]))
-            problems = differences(verdict.outcome, wanted)
-            if "spans" in row and spans_of(verdict) != row["spans"]:
-                problems.append(f"the spans are {spans_of(verdict)}, wanted {row['spans']}")
-            tally.add(f"the judge on {table}: {row['name']}", problems)
+    def test_the_third_cases(self):
+        self.assert_work(2 * CASES)
 
+    def test_the_fourth_cases(self):
+        self.assert_work(3 * CASES)
 
-def run(program, tally):
-    """Compares the judge with the tables, and the program with the judge."""
-    check_judge(tally)
-    with Room(program) as room:
-        work = Work(room, SEED)
-        for number in range(CASES):
-            tally.add(f"random work, case {number} of the seed {SEED}", work.difference(number))
+    def test_the_fifth_cases(self):
+        self.assert_work(4 * CASES)

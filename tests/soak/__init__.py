@@ -14,6 +14,7 @@ arguments by the programs of tests/definitions, which were written from the rule
     cases.py       a case, which follows from a seed and a number, and what is wrong with it
     shrinking.py   a smaller case that is still wrong
     rows.py        a case as rows of tests/cases
+    tables.py      the judge beside the tables of tests/cases
     work.py        case after case, with a count of what they meet
 """
 

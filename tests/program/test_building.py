@@ -6,13 +6,12 @@ import re
 import shutil
 import subprocess
 import sys
-from pathlib import Path
 
+from tests import TOP
 from tests.lib.checks import SECONDS, Outcome, differences
-from tests.lib.rooms import Checks
+from tests.lib.rooms import RoomCase, checks_of
 from tests.lib.terminals import terminal
 
-TOP = Path(__file__).resolve().parent.parent
 CRATES = "# Lowest first.\nmk_lines: memchr\nmk_class: memchr mk_lines\nmkedit: mk_class clap\nother:\n"
 # What rt says, step by step.
 READ = "statements thiserror: modules loaded=0\nonly=0 proved=0\nrt: the quick pass above also reads\n"
@@ -40,7 +39,12 @@ SOURCE = '#include <stdio.h>\nint main(void) { return puts("mkedit 1") < 0; }\n'
 NO_MEMBERS = "!<arch>\n"
 LOADER = b"/ld-linux"
 
-check = Checks()
+
+class Building(RoomCase):
+    """Its tests are the checks below."""
+
+
+check = checks_of(Building)
 
 
 class Tree:

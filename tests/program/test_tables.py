@@ -1,0 +1,22 @@
+"""The cases of the tables: runs and queries, with what has to come of each (tests/lib/tables.py)."""
+
+from tests.lib.checks import differences
+from tests.lib.rooms import Room, RoomCase
+from tests.lib.tables import cases
+
+
+class Tables(RoomCase):
+    def test_each_case_of_a_table(self):
+        names = set()
+        for case in cases():
+            with self.subTest(case.name):
+                self.assertNotIn(case.name, names, "two cases have this name")
+                names.add(case.name)
+                self.assert_case(case)
+
+    def assert_case(self, case):
+        """Runs a case in a room that has its files alone."""
+        with Room(self.program) as room:
+            for name, content in case.files.items():
+                room.write(name, content)
+            self.assert_well(differences(room.run(*case.words), case.wanted) + room.changed())
