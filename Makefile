@@ -6,11 +6,11 @@
 #                   crates/mkedit/out/bin/mkedit, has the C library in it where the machine has a
 #                   static one, so that it starts sooner (tools/link)
 #   make demo       shows scripts at work, one that is refused, and the queries
-#   make check      the test of a change: tests/house, tests/rows, the proofs of the crates that the
-#                   program stands on with a share of the wrong bodies, the tests of all crates with
-#                   run-time checks, and tests/program over what was proved and built; the last line
-#                   is 'N passed, M failed, K skipped', the sum; skipped are the wrong bodies that
-#                   were not tried
+#   make check      the test of a change (tests/gate): the house, the stored rows, the proofs of the
+#                   crates that the program stands on with a share of the wrong bodies, the tests of
+#                   all crates with run-time checks, and tests/program over what was proved and built;
+#                   the last line is 'N passed, M failed, K skipped', the sum; skipped are the wrong
+#                   bodies that were not tried
 #   make check-all  all wrong bodies, and all that rt ci does at the top of the repository; for some
 #                   crates and those below them alone with CRATES="mk_edit mk_session"
 #   make soak       tries the program on random makefiles and scripts for MINUTES minutes; prints
@@ -64,10 +64,10 @@ demo: $(PROGRAM)
 
 # Needs no program: the gate proves and builds its own, and takes nothing from what make has proved.
 check:
-	@tests/gate/check
+	@python3 -B -m tests.gate
 
 check-all:
-	@tests/gate/check --all $(CRATES)
+	@python3 -B -m tests.gate --all $(CRATES)
 
 hostile: $(PROGRAM)
 	@python3 -B -m tests.hostile $(BUILT)
@@ -79,7 +79,7 @@ fuzz: $(PROGRAM)
 	@python3 -B -m tests.fuzz --minutes $(MINUTES) $(SEED:%=--seed %) $(PROGRAM)
 
 rows:
-	@tests/rows --write
+	@python3 -B -m tests.gate.rows --write
 
 judge: $(PROGRAM)
 	@python3 -B -m tests.judge --minutes $(MINUTES) $(PROGRAM)

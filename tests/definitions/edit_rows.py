@@ -10,7 +10,7 @@ puts others in place of, at most), and the cost of a refused one.
 
     edit_rows.py TABLE
 
-Rows whose script is not one edit alone are left out. tests/rows says which files the crate mk_rows
+Rows whose script is not one edit alone are left out. tests/gate/rows.py says which files the crate mk_rows
 keeps.
 
 A table (row_tables.py) has the columns name, makefile, script, stdout, stderr and status, and perhaps

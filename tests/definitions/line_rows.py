@@ -7,7 +7,7 @@ loops), and prints a file of equations by which the checker computes the definit
 
     line_rows.py COUNT SEED
 
-COUNT texts are drawn by SEED; one text may be drawn twice. tests/rows says which rows the crate keeps.
+COUNT texts are drawn by SEED; one text may be drawn twice. tests/gate/rows.py says which rows the crate keeps.
 Other rows are for a copy of the crate.
 """
 

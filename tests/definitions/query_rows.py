@@ -6,7 +6,7 @@ Turns a table into a file of equations, by which the checker computes the defini
 
     query_rows.py TABLE
 
-tests/rows says which files the crates keep.
+tests/gate/rows.py says which files the crates keep.
 
 A table with the columns name, query, makefile and stdout says the text of each query itself. A table
 with the columns name, makefile and reading says the items of each makefile (see reading_rows.py), and

@@ -7,7 +7,7 @@ file checks, the definitions give each reading.
 
     reading_rows.py TABLE [COUNT]
 
-With COUNT only the first COUNT rows are taken. tests/rows says which files the crate keeps.
+With COUNT only the first COUNT rows are taken. tests/gate/rows.py says which files the crate keeps.
 
 A table (row_tables.py) has the columns name, makefile and reading. A reading is a Python tuple of items,
 one for each line that is neither blank nor a comment:

@@ -7,7 +7,7 @@ and its output.
 
     run_rows.py TABLE
 
-tests/rows says which file the crate keeps. Of the rows whose script is one edit alone the first for each
+tests/gate/rows.py says which file the crate keeps. Of the rows whose script is one edit alone the first for each
 refusal is taken, and the first that is done: the others are equations of `crates/mk_rows`. Rows whose
 script has a fault (status 2) are left out.
 

@@ -9,7 +9,7 @@ has to agree with it.
 
     script_rows.py TABLE..
 
-tests/rows says which files the crate keeps.
+tests/gate/rows.py says which files the crate keeps.
 
 A table (row_tables.py) has the columns name and script, and perhaps more; of scripts that are alike the
 first is taken. A meaning is the number of the first line that is no command, or a Python list of

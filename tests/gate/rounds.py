@@ -26,8 +26,8 @@ from contextlib import contextmanager
 from functools import partial
 from pathlib import Path
 
-from proving import Said
-from turned import wrong_bodies
+from .proving import Said
+from .turned import wrong_bodies
 
 FLAGS = ("--jobs", "1")
 # What the toolchain's function asks for that has the wrong bodies of a crate tried: of one that keeps what

@@ -8,7 +8,7 @@ import hashlib
 import subprocess
 from typing import NamedTuple
 
-from turned import wrong_bodies
+from .turned import wrong_bodies
 
 SHARES = 12
 

@@ -15,6 +15,8 @@ from typing import NamedTuple
 RESULT = re.compile(rb"^test result: \w+\. (\d+) passed; (\d+) failed; 0 ignored; 0 filtered out$", re.M)
 # How many crates are tried at once, and how much they give way to the proofs beside them.
 AT_ONCE, GIVES_WAY = 2, "10"
+# How many seconds a run may take: a million lines with run-time checks take two minutes.
+SECONDS = "1200"
 
 
 class Tried(NamedTuple):
@@ -27,12 +29,14 @@ class Tried(NamedTuple):
 
 def rt_try(crate, words, given):
     """Runs `rt try` in a crate's folder."""
-    command = ["nice", "-n", GIVES_WAY, "rt", "try", *words]
+    command = ["nice", "-n", GIVES_WAY, "rt", "try", "--seconds", SECONDS, *words]
     return subprocess.run(command, cwd=crate.folder, input=given, capture_output=True)
 
 
 def said_by(ran):
-    return (ran.stdout + ran.stderr).decode(errors="replace")
+    """What a run printed, without the lines of tests that passed."""
+    lines = (ran.stdout + ran.stderr).decode(errors="replace").splitlines(keepends=True)
+    return "".join(it for it in lines if not it.endswith(" ... ok\n"))
 
 
 def tests_of(crate):

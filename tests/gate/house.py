@@ -1,4 +1,3 @@
-#!/usr/bin/env python3
 """Tests that the crates say each thing once: each lemma, each definition, each import.
 
 Over the definitions and lemmas of all crates it looks for
@@ -15,25 +14,20 @@ Over the definitions and lemmas of all crates it looks for
 
 Rows, which compute definitions on examples, are not searched, but what they import is cited. A
 finding has one line; the last line is 'N passed, M failed', and the status is 0 only where nothing
-failed.
+failed. It runs at the top of the repository, as `python3 -m tests.gate.house`.
 """
 
 import re
 import sys
 from collections import defaultdict
 from functools import partial
-from pathlib import Path
 
-sys.dont_write_bytecode = True
-sys.path.insert(0, str(Path(__file__).resolve().parent.parent))
-# (below the two, so that no __pycache__ is left, and the package tests is found)
-import antt  # noqa: E402
-import chapters  # noqa: E402
-import layout  # noqa: E402
-from statements import definition_key, is_data, is_type_of_data, statement_key  # noqa: E402
-from tests.lib.checks import Tally  # noqa: E402
+from tests import TOP
+from tests.lib.checks import Tally
 
-TOP = Path(__file__).resolve().parent.parent
+from . import antt, chapters, layout
+from .statements import definition_key, is_data, is_type_of_data, statement_key
+
 GHOST_USE = re.compile(r"ghost use ([^;]*);")
 USING = re.compile(r"\busing\(([^)]*)\)")
 

@@ -6,7 +6,7 @@ type share a pair of parentheses or stand in `module _`, and names of premises t
 
 import re
 
-from antt import CLOSING, OPENING
+from .antt import CLOSING, OPENING
 
 # What a declaration gives that is no proof: a definition, which is told by its body.
 DATA = ("ℕ", "Bool", "List", "Option", "Result", "Type", "Unit")

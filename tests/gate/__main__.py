@@ -1,21 +1,21 @@
-#!/usr/bin/env python3
 """The whole test command: the crates' house, the stored rows, the proofs, the tests, the built program.
 
-    tests/gate/check            `make check`: in minutes
-    tests/gate/check --all      `make check-all`: all of it, in an hour and more
-    tests/gate/check --all NAME..   the same of some crates alone, without the tests of the program
+    python3 -m tests.gate                 `make check`: in minutes
+    python3 -m tests.gate --all           `make check-all`: all of it, in an hour
+    python3 -m tests.gate --all NAME..    the same of some crates, without the tests of the program
 
-`make check` runs these, each of which ends with a line 'N passed, M failed':
+`make check` does these in turn, and counts what passed and what failed in each:
 
   house     what the crates say twice or say in vain
   rows      the stored files of rows are what their scripts make
+  gate      the tests of the gate itself
   crates    proves every crate that the program stands on, and those of rows, from nothing, and has the
             prover refuse one in twelve wrong bodies, which the commit's checksum chooses (share.py)
   tries     beside it: the tests of all crates, and the programs of crates, with run-time checks
   program   tests the program that was proved and built there
 
 With --all the prover refuses each wrong body, and proves the crates of tests too, whose tests are run
-as two compilers build them: all that `rt ci` does at the top of the repository.
+as they are built: all that `rt ci` does at the top of the repository.
 
 The last line adds the counts up, and says as skipped how many wrong bodies were not tried. The status
 is 0 only where nothing failed. No step takes anything from what `rt check` has left, and none leaves
@@ -29,60 +29,57 @@ import sys
 import tempfile
 from pathlib import Path
 
-sys.dont_write_bytecode = True
-# (below the switch, so that no __pycache__ is left)
-from listed import listed, with_below  # noqa: E402
-from part import copy_part  # noqa: E402
-from share import SHARES, bodies_of, checksum, share_of  # noqa: E402
-from tries import Tries  # noqa: E402
+from tests import TOP
 
-TOP = Path(__file__).resolve().parent.parent.parent
+from .listed import listed, with_below
+from .part import copy_part
+from .share import SHARES, bodies_of, checksum, share_of
+from .tries import Tries
+
 BUILT, LINKED = "crates/mkedit/out/mkedit", "crates/mkedit/out/bin/mkedit"
 COUNTS = re.compile(r"(\d+) passed, (\d+) failed\n?")
 
 
-def counts_of(*words):
-    """Runs a command, shows what it prints, and returns how many passed and how many failed.
+def counts_of(module, *words):
+    """Runs a module of tests, shows what it prints, and returns how many passed and how many failed.
 
-    A command that cannot be started, that ends without its counts, or that ends with a status
-    other than 0 while it counts no failure, is one failure.
+    One that ends without its counts, or with a status other than 0 while it counts no failure, is one failure.
     """
     last = ""
-    try:
-        how = {"stdout": subprocess.PIPE, "text": True, "errors": "replace"}
-        process = subprocess.Popen(words, cwd=TOP, **how)
-    except OSError as fault:
-        print(f"cannot start {words[0]}: {fault.strerror}")
-        return 0, 1
-    for last in process.stdout:
-        print(last, end="", flush=True)
-    status = process.wait()
+    command = [sys.executable, "-B", "-m", f"tests.{module}", *words]
+    with subprocess.Popen(command, cwd=TOP, stdout=subprocess.PIPE, text=True, errors="replace") as process:
+        for last in process.stdout:
+            print(last, end="", flush=True)
     counts = COUNTS.fullmatch(last)
     passed, failed = map(int, counts.groups()) if counts else (0, 1)
-    return passed, failed or int(status != 0)
+    return passed, failed or int(process.returncode != 0)
 
 
-def chosen(crates, bodies):
-    """The crates that `make check` proves: what the program stands on, those of rows, those of its wrong bodies."""
-    rows = [name for name, it in crates.items() if it.holds_rows]
+def quick_counts():
+    """The steps that take seconds."""
+    return [counts_of(it) for it in ("gate.house", "gate.rows", "gate.test_gate")]
+
+
+def proved_crates(crates, bodies):
+    """The crates that `make check` proves: what the program stands on, those of rows, those of wrong bodies."""
+    rows = [it.name for it in crates.values() if it.holds_rows]
     return with_below(crates, ["mkedit", *rows, *(it.crate for it in bodies)])
 
 
 def checked(room):
-    """Does what `make check` does, in a room, and returns the counts of each step, and the bodies not tried."""
+    """Does what `make check` does, in a room, and returns the counts of each step, and how many bodies were not tried."""
     crates = listed(TOP)
     bodies = bodies_of(crates.values())
     share = share_of(bodies, checksum(TOP))
-    proved = chosen(crates, share)
+    proved = proved_crates(crates, share)
     copy_part(TOP, room, [crates[it] for it in proved], share)
     print(f"wrong bodies to be tried, one in {SHARES} by the commit's checksum: {len(share)} of {len(bodies)}")
     for it in share:
         print(f"  {it.crate}/must-fail/{it.name}.edit", flush=True)
-    tried = [it for it in crates.values() if it.has_tests or it.is_program and it.name not in proved]
-    counts = [counts_of("tests/house"), counts_of("tests/rows")]
-    tries = Tries(tried)
-    counts += [counts_of("tests/gate/crates", room), tries.counts()]
-    return [*counts, tested_program(room)], len(bodies) - len(share)
+    counts = quick_counts()
+    tries = Tries([it for it in crates.values() if it.has_tests or it.is_program and it.name not in proved])
+    counts += [counts_of("gate.crates", room), tries.counts(), tested_program(room)]
+    return counts, len(bodies) - len(share)
 
 
 def checked_all(room, names):
@@ -93,25 +90,26 @@ def checked_all(room, names):
     copy_part(TOP, room, [crates[it] for it in with_below(crates, [it.name for it in named])], bodies)
     skipped = len(bodies_of(crates.values())) - len(bodies)
     if names:
-        return [counts_of("tests/gate/crates", room)], skipped
-    counts = [counts_of("tests/house"), counts_of("tests/rows"), counts_of("tests/gate/crates", room)]
-    return [*counts, tested_program(room)], skipped
+        return [counts_of("gate.crates", room)], skipped
+    return [*quick_counts(), counts_of("gate.crates", room), tested_program(room)], skipped
 
 
 def tested_program(room):
     """Links the program that was proved in a room, as `make` does, and tests it."""
     subprocess.run(["tools/link", room / BUILT, room / LINKED], cwd=TOP)
-    return counts_of(sys.executable, "-B", "-m", "tests.program", room / LINKED)
+    return counts_of("program", room / LINKED)
 
 
 def arguments():
-    parser = argparse.ArgumentParser(description="Tests the whole repository.")
+    parser = argparse.ArgumentParser(prog="tests.gate", description="Tests the whole repository.")
     parser.add_argument("--all", action="store_true", help="try all wrong bodies, and prove the tests")
     parser.add_argument("crates", nargs="*", help="with --all: the crates that are tried")
     given = parser.parse_args()
     unknown = sorted({*given.crates} - {*listed(TOP)})
-    if unknown or given.crates and not given.all:
-        parser.error(f"crates.txt lists no {', '.join(unknown)}" if unknown else "CRATES goes with --all")
+    if unknown:
+        parser.error(f"crates.txt lists no {', '.join(unknown)}")
+    if given.crates and not given.all:
+        parser.error("names of crates go with --all")
     return given
 
 

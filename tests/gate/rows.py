@@ -1,14 +1,14 @@
-#!/usr/bin/env python3
 """The files of rows that are stored, and whether each is what its script makes.
 
 The tables of tests/cases and the scripts of tests/definitions make files that the crates store: the
 equations that the prover computes, and the rows that the program of crates/edit_rows runs. This list
 says which script makes which file of which table.
 
-    tests/rows            makes each, compares it with the file that is stored, and says which differ;
-                          the last line is 'N passed, M failed', and the status is 0 where none failed
-    tests/rows --write    stores each
-    tests/rows --judge    compares the rows of the tables with what the judge of random work says
+    python3 -m tests.gate.rows            makes each, compares it with the file that is stored, and says
+                                          which differ; the last line is 'N passed, M failed', and the
+                                          status is 0 where none failed
+    python3 -m tests.gate.rows --write    stores each
+    python3 -m tests.gate.rows --judge    compares the rows of the tables with what the judge says
 
 Run the second after a table or a script has changed, the third after a row was added, the first in
 every test of the whole project.
@@ -17,16 +17,11 @@ every test of the whole project.
 import argparse
 import subprocess
 import sys
-from pathlib import Path
 from typing import NamedTuple
 
-sys.dont_write_bytecode = True
-sys.path.insert(0, str(Path(__file__).resolve().parent.parent))
-# (below the two, so that no __pycache__ is left, and the package tests is found)
-from tests.lib.checks import Tally  # noqa: E402
-from tests.soak.tables import check_judge  # noqa: E402
-
-TOP = Path(__file__).resolve().parent.parent
+from tests import TOP
+from tests.lib.checks import Tally
+from tests.soak.tables import check_judge
 
 
 class Stored(NamedTuple):

@@ -5,7 +5,9 @@ import subprocess
 import sys
 from pathlib import Path
 
-CRATES = Path(__file__).resolve().parent.parent / "crates"
+from tests import TOP
+
+CRATES = TOP / "crates"
 
 
 def formatter():

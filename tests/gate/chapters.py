@@ -8,9 +8,9 @@ A chapter is a heading that begins with its number; another heading stands there
 """
 
 import re
-from pathlib import Path
 
-TOP = Path(__file__).resolve().parent.parent
+from tests import TOP
+
 TOLD = re.compile(r"^-- Told in (docs/.*)\.$", re.M)
 DOCUMENT = re.compile(r"(docs/\w+\.md), (.*?)(?:, and (?=docs/)|$)")
 PLACE = re.compile(r'"([^"]+)"|(\d+)')

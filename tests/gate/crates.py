@@ -1,21 +1,18 @@
-#!/usr/bin/env python3
 """Proves, builds and runs the crates of a folder, wrong bodies and all, as `rt ci` does there.
 
-    tests/gate/crates FOLDER
+    python3 -m tests.gate.crates FOLDER
 
 This is `rt ci` with one difference: it tries many wrong bodies of a crate in one check (rounds.py says
-how), in half the time. With a toolchain that keeps what an earlier `rt ci` has tried on this machine, it
-does not try that again. Where the toolchain is another one, whose inner parts rounds.py does not know,
+how), in a third of the time. With a toolchain that keeps what an earlier `rt ci` has tried on this machine,
+it does not try that again. Where the toolchain is another one, whose inner parts rounds.py does not know,
 this is `rt ci` itself. The last line is 'N passed, M failed', and the status is 0 only where nothing failed.
 """
 
 import os
 import sys
 
-sys.dont_write_bytecode = True
-# (below the switch, so that no __pycache__ is left)
-from proving import toolchain  # noqa: E402
-from rounds import take_rounds  # noqa: E402
+from .proving import toolchain
+from .rounds import take_rounds
 
 
 def main():

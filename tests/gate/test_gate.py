@@ -1,0 +1,151 @@
+"""Tests of the gate itself: which wrong bodies it tries, what it copies, what it takes for a pass.
+
+    python3 -m tests.gate.test_gate       the last line is 'N passed, M failed'
+    python3 -m unittest tests.gate.test_gate.Share
+"""
+
+import os
+import sys
+import tempfile
+import unittest
+from pathlib import Path
+
+from tests import TOP
+
+from .listed import listed, with_below
+from .part import copy_part
+from .proving import Said, toolchain
+from .rounds import linked, take_rounds
+from .share import SHARES, Body, bodies_of, share_of
+from .tries import program_of, tests_of
+
+# What stands for rt: it prints what stands in a file, and ends with the status that stands in another.
+RT = "#!/bin/sh\ncat {room}/out\necho 'run=ended' >&2\nexit $(cat {room}/status)\n"
+RESULT = "test a ... ok\ntest result: ok. 2 passed; {failed} failed; 0 ignored; 0 filtered out\n"
+
+
+class InRoom(unittest.TestCase):
+    """A test with a folder of its own."""
+
+    def setUp(self):
+        folder = tempfile.TemporaryDirectory(prefix="gate-test-")
+        self.addCleanup(folder.cleanup)
+        self.room = Path(folder.name)
+
+
+class Share(unittest.TestCase):
+    def test_each_wrong_body_is_in_one_share(self):
+        bodies = bodies_of(listed(TOP).values())
+        shared = [it for number in range(SHARES) for it in share_of(bodies, number)]
+        self.assertEqual(sorted(shared), sorted(bodies))
+
+    def test_each_file_of_must_fail_is_a_wrong_body(self):
+        files = {Body(it.parent.parent.name, it.stem) for it in TOP.glob("crates/*/must-fail/*.edit")}
+        self.assertEqual({*bodies_of(listed(TOP).values())}, files)
+
+    def test_shares_are_alike_in_size(self):
+        bodies = [Body("mk_lines", str(it)) for it in range(100)]
+        self.assertEqual({len(share_of(bodies, it)) for it in range(SHARES)}, {8, 9})
+
+
+class Part(InRoom):
+    def test_a_part_has_its_crates_and_the_bodies_to_try(self):
+        crates, body = listed(TOP), Body("mk_history", "depth_0_is_taken")
+        names = with_below(crates, ["mk_history"])
+        copy_part(TOP, self.room, [crates[it] for it in names], [body])
+        found = sorted(it.name for it in (self.room / "crates").iterdir())
+        self.assertEqual(found, sorted(names))
+        self.assertEqual([*listed(self.room)], names)
+        edits = [it.stem for it in self.room.glob("crates/*/must-fail/*")]
+        self.assertEqual(edits, [body.name])
+        self.assertFalse([*self.room.glob("crates/*/out")])
+
+    def test_a_crate_stands_above_those_below_it(self):
+        crates = listed(TOP)
+        for name, crate in crates.items():
+            below = with_below(crates, [name])
+            self.assertEqual(below[-1], name)
+            self.assertTrue({*crate.uses} <= {*below})
+
+    def test_a_seed_is_linked_and_stays(self):
+        (self.room / "seed/a").mkdir(parents=True)
+        (self.room / "seed/a/b").write_text("proved")
+        linked(self.room / "seed", self.room / "kept")
+        (self.room / "kept/a/new").write_text("tried")
+        (self.room / "kept/a/b").replace(self.room / "kept/a/c")
+        self.assertEqual([it.name for it in (self.room / "seed/a").iterdir()], ["b"])
+
+
+class WithRt(InRoom):
+    """Tests with a program that stands for rt."""
+
+    def setUp(self):
+        super().setUp()
+        rt = self.room / "bin/rt"
+        rt.parent.mkdir()
+        rt.write_text(RT.format(room=self.room))
+        rt.chmod(0o755)
+        path = os.environ["PATH"]
+        self.addCleanup(os.environ.__setitem__, "PATH", path)
+        os.environ["PATH"] = f"{rt.parent}:{path}"
+        self.crate = listed(TOP)["session_example"]
+
+    def says(self, out, status=0):
+        (self.room / "out").write_bytes(out if isinstance(out, bytes) else out.encode())
+        (self.room / "status").write_text(str(status))
+
+    def test_tests_that_pass_are_counted(self):
+        self.says(RESULT.format(failed=0))
+        self.assertEqual(tests_of(self.crate)[:2], (2, 0))
+
+    def test_tests_that_fail_are_counted(self):
+        self.says(RESULT.format(failed=3), 1)
+        self.assertEqual(tests_of(self.crate)[:2], (2, 3))
+
+    def test_tests_without_a_result_are_a_failure(self):
+        for out, status in (("", 0), ("test a ... ok\n", 0), (RESULT.format(failed=0), 1)):
+            self.says(out, status)
+            self.assertEqual(tests_of(self.crate).failed, 1)
+
+    def test_a_program_has_to_write_its_file(self):
+        self.says(self.crate.stream("stdout"))
+        self.assertEqual(program_of(self.crate)[:2], (1, 0))
+        self.says(self.crate.stream("stdout") + b"more")
+        self.assertEqual(program_of(self.crate)[:2], (0, 1))
+        self.says(self.crate.stream("stdout"), 1)
+        self.assertEqual(program_of(self.crate)[:2], (0, 1))
+
+
+class Toolchain(unittest.TestCase):
+    def test_the_rounds_know_the_toolchain_or_say_that_they_do_not(self):
+        try:
+            take_rounds(toolchain())
+        except ValueError as fault:
+            self.skipTest(f"{fault}: tests.gate.crates is rt ci itself")
+
+    def test_a_goal_that_was_tried_in_vain_is_a_fault_of_its_function(self):
+        said = Said("low", "fn low::a::f: no proof: `search` did not prove `returns-clause-ends`\nonly=1 proved=0\n")
+        self.assertTrue(said.is_judged())
+        self.assertEqual(said.fault_of("a::f"), "`search` did not prove `returns-clause-ends`")
+        self.assertFalse(said.is_proved("a::f"))
+
+    def test_a_callee_that_is_not_proved_is_no_fault_of_its_caller(self):
+        said = Said("low", "fn low::g: not proved: it calls `low::a::f`, which is not proved\nonly=1 proved=0\n")
+        self.assertIsNone(said.fault_of("g"))
+        self.assertEqual(said.waits_for("g"), {"a::f"})
+
+    def test_a_proof_that_names_what_is_gone_is_no_fault(self):
+        error = "./proofs/a/f/Answers.antt:3:1: error: `loop-x` is not in scope\nfn low::a::f: not proved\nonly=1 proved=0\n"
+        self.assertIsNone(Said("low", error).fault_of("a::f"))
+
+
+def main():
+    tests = unittest.defaultTestLoader.loadTestsFromModule(sys.modules[__name__])
+    result = unittest.TextTestRunner(stream=sys.stdout, verbosity=0).run(tests)
+    failed = len(result.failures) + len(result.errors)
+    print(f"{result.testsRun - failed} passed, {failed} failed", flush=True)
+    return 0 if result.wasSuccessful() and result.testsRun else 1
+
+
+if __name__ == "__main__":
+    sys.exit(main())
