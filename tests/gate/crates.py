@@ -3,7 +3,7 @@
     python3 -m tests.gate.crates FOLDER
 
 This is `rt ci` with one difference: it tries many wrong bodies of a crate in one check (rounds.py says
-how), in a third of the time. With a toolchain that keeps what an earlier `rt ci` has tried on this machine,
+how), in less time. With a toolchain that keeps what an earlier `rt ci` has tried on this machine,
 it does not try that again. Where the toolchain is another one, whose inner parts rounds.py does not know,
 this is `rt ci` itself. The last line is 'N passed, M failed', and the status is 0 only where nothing failed.
 """
