@@ -1,5 +1,6 @@
-"""The tests of mkedit. All of them are run at the top of the repository, as `python3 -m tests.program`.
+"""The tests of mkedit. They are run at the top of the repository, as `python3 -m tests.program`.
 
+    gate/          what has to pass before a change lands: tests.gate
     program/       tests of the built program, as unittest cases: tests.program runs them all
     hostile/       hostile texts of full size, memory that ends, valgrind: tests.hostile
     soak/          random work beside a judge in Python: tests.soak
