@@ -5,7 +5,9 @@
 #                   what the prover says is in crates/mkedit/out/build.log. The program,
 #                   crates/mkedit/out/bin/mkedit, has the C library in it where the machine has a
 #                   static one, so that it starts sooner (tools/link)
-#   make demo       shows scripts at work, one that is refused, and the queries
+#   make demo       shows scripts at work, one that is refused, and the queries; the program that it
+#                   shows is built in a minute, with checks while it runs and without proofs
+#                   (tools/try), and is not the one of make: crates/mkedit/out/tried/mkedit
 #   make check      the test of a change (tests/gate): the house, the stored rows, the proofs of the
 #                   crates that the program stands on with a share of the wrong bodies, the tests of
 #                   all crates with run-time checks, and tests/program over what was proved and built;
@@ -47,6 +49,8 @@ EDITS ?= 10000
 PROGRAM = crates/mkedit/out/bin/mkedit
 # The same program as rt links it: it loads the C library when it starts.
 BUILT = crates/mkedit/out/mkedit
+# The same program without proofs, with checks while it runs.
+TRIED = crates/mkedit/out/tried/mkedit
 BENCH = crates/mk_bench/out/mk_bench
 SMALL = examples/config.mk
 SOURCES != find crates -name out -prune -o '(' -name '*.rt' -o -name '*.antt' ')' -print
@@ -59,8 +63,14 @@ $(PROGRAM): crates.txt HANDLES tools/link $(SOURCES)
 	@tools/build mkedit --help
 	@tools/link $(BUILT) $@
 
-demo: $(PROGRAM)
-	@MKEDIT=$(PROGRAM) examples/demo
+$(TRIED): crates.txt tools/try $(SOURCES)
+	@tools/try $@
+
+demo: $(TRIED)
+	@MKEDIT=$(TRIED) examples/demo
+	@echo
+	@echo "The program that ran is $(TRIED). It is built without proofs, and checks end it at a fault."
+	@echo "'make' proves mkedit, and builds the program that 'make install' installs."
 
 # Needs no program: the gate proves and builds its own, and takes nothing from what make has proved.
 check:

@@ -4,15 +4,12 @@ and the program that it leaves: tools/link."""
 import os
 import re
 import shutil
-import subprocess
-import sys
 
-from tests import TOP
-from tests.lib.checks import SECONDS, Outcome, differences
+from tests.lib.checks import Outcome, differences
 from tests.lib.rooms import RoomCase, checks_of
 from tests.lib.terminals import terminal
+from tests.lib.trees import LOG, Tree
 
-CRATES = "# Lowest first.\nmk_lines: memchr\nmk_class: memchr mk_lines\nmkedit: mk_class clap\nother:\n"
 # What rt says, step by step.
 READ = "statements thiserror: modules loaded=0\nonly=0 proved=0\nrt: the quick pass above also reads\n"
 LOW = "rt: chose --jobs 4 for mk_lines\nso far: 0 of 9 functions checked; the verdict comes last\n"
@@ -23,7 +20,6 @@ STOPPED = "rt: the library mk_class did not build, so nothing above it was check
 NEXT_PROVED = "logic=proved functions=140 sum=0\n"
 LAST = "rt: chose --jobs 1 for mkedit\nlogic=proved functions=1 axioms=3\nrt: running out/mkedit\nUsage\n"
 WHOLE = READ + LOW + LOW_PROVED + NEXT + NEXT_PROVED + LAST
-LOG = "crates/mkedit/out/build.log"
 FIRST_LINE = f"building mkedit: the prover's words go to {LOG}\n"
 LOW_LINE = "proved mk_lines: 8 functions, crate 1 of 3\n"
 LINES = (
@@ -45,48 +41,6 @@ class Building(RoomCase):
 
 
 check = checks_of(Building)
-
-
-class Tree:
-    """A copy of what builds, below the room, and a program rt that says one thing and does another."""
-
-    def __init__(self, room, said, done="mkdir -p out && : > out/mkedit"):
-        self.top, self.names = room.folder / "tree", room.folder / "names"
-        for folder in (self.top / "tools", self.top / "crates/mkedit", self.names):
-            folder.mkdir(parents=True)
-        for name in ("Makefile", "tools/build", "tools/link"):
-            shutil.copy(TOP / name, self.top / name)
-        (self.top / "crates.txt").write_text(CRATES)
-        (self.top / "HANDLES").touch()
-        (self.names / "said").write_text(said)
-        self.write_rt(done)
-
-    def write_rt(self, done):
-        path = self.names / "rt"
-        given = 'test "$*" = "run -- --help" || exit 99'
-        path.write_text(f"#!/bin/sh\n{given}\ncat {self.names}/said >&2\n{done}\n")
-        path.chmod(0o755)
-
-    def run(self, *words, path=None, **streams):
-        """Runs a command with this rt, or with the programs of a path alone."""
-        path = f"{self.names}:{os.environ['PATH']}" if path is None else path
-        kept = {it: os.environ[it] for it in ("HOME", "TMPDIR") if it in os.environ}
-        environment = {**kept, "PATH": path, "LC_ALL": "C.UTF-8", "COLUMNS": "80"}
-        streams = {"stdout": subprocess.PIPE, "stderr": subprocess.PIPE, **streams}
-        ran = subprocess.run(words, cwd=self.top, env=environment, timeout=SECONDS, **streams)
-        return Outcome(ran.stdout or b"", ran.stderr or b"", ran.returncode)
-
-    def build(self, **how):
-        return self.run(sys.executable, "tools/build", "mkedit", "--help", **how)
-
-    def log(self):
-        return (self.top / LOG).read_text(encoding="utf-8")
-
-    def differs(self, wanted, got):
-        """Says how a run differs from what is wanted of output, errors and status; any time will do."""
-        shown = re.sub(rb"\d+ min \d+ s", b"0 min 0 s", got.stdout)
-        stdout, stderr, status = wanted
-        return differences(got._replace(stdout=shown), (stdout.encode(), stderr.encode(), status))
 
 
 @check
