@@ -58,7 +58,7 @@ def a_terminal_shows_how_far_a_crate_is(room):
         wrong = tree.differs(("", "", 0), tree.build(stdout=program))
         shown = os.read(user, 10_000).decode()
     rows = [re.findall(r"[^\r]+", it)[-1].rstrip() for it in shown.split("\n") if it]
-    wrong += [] if "\rproving mk_class: 54 of 141 functions, crate 2 of 3" in shown else [shown]
+    wrong += [] if "\r1 of 3 crates proved; proving mk_class: 54 of 141 functions" in shown else [shown]
     told = re.sub(r"\d+ min \d+ s", "0 min 0 s", "".join(f"{it}\n" for it in rows))
     return wrong + ([] if told == LINES else [f"the terminal is left with {told!r}"])
 
@@ -67,21 +67,21 @@ def a_terminal_shows_how_far_a_crate_is(room):
 def a_crate_that_is_refused_is_named_with_its_errors_and_the_log(room):
     tree = Tree(room, READ + LOW + LOW_PROVED + NEXT + REFUSED + STOPPED, "exit 3")
     shown = "".join(f"    {it}\n" for it in (REFUSED + STOPPED).splitlines() if "logic" not in it)
-    told = f"build: proving mk_class failed: rt ended with 3. It said:\n{shown}{WHOLE_LOG}"
+    told = f"build: proving mk_class failed: it ended with 3. It said:\n{shown}{WHOLE_LOG}"
     return tree.differs((FIRST_LINE + LOW_LINE, told, 3), tree.build())
 
 
 @check
 def a_failure_without_errors_shows_the_end_of_the_log(room):
     tree = Tree(room, "one\ntwo\n", "exit 1")
-    told = "build: reading the sources failed: rt ended with 1. It said:\n    one\n    two\n"
+    told = "build: reading the sources failed: it ended with 1. It said:\n    one\n    two\n"
     return tree.differs((FIRST_LINE, told + WHOLE_LOG, 1), tree.build())
 
 
 @check
 def a_prover_that_is_killed_is_told_so(room):
     tree = Tree(room, LOW, "kill -9 $$")
-    told = "build: proving mk_lines failed: rt was ended by SIGKILL. It said:\n"
+    told = "build: proving mk_lines failed: it was ended by SIGKILL. It said:\n"
     shown = "".join(f"    {it}\n" for it in LOW.splitlines())
     return tree.differs((FIRST_LINE, told + shown + WHOLE_LOG, 137), tree.build())
 
