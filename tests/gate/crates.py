@@ -11,13 +11,18 @@ this is `rt ci` itself. The last line is 'N passed, M failed', and the status is
 import os
 import sys
 
-from .proving import toolchain
+from tests import TOP
+
 from .rounds import take_rounds
+
+sys.path.insert(0, str(TOP / "tools"))
+# (below the line that says where it is)
+from toolchain import load  # noqa: E402
 
 
 def main():
     os.chdir(sys.argv[1])
-    script = toolchain()
+    script = load()
     try:
         take_rounds(script)
     except ValueError as fault:

@@ -3,12 +3,7 @@
 The checks are made by the toolchain's own script, which knows their flags and their need of memory.
 """
 
-import importlib.machinery
-import importlib.util
-import os
 import re
-import shutil
-import sys
 
 FAULT = re.compile(r"^\./proofs/(?P<folder>\S+)/\w+\.antt:\d+:\d+: error: (?P<words>.*)$", re.M)
 # A declaration that was not looked at, since one before it was refused.
@@ -17,19 +12,6 @@ NOT_LOOKED_AT = re.compile(r"that depends? on .*, which w(?:as|ere) rejected")
 NAMES = re.compile(r"has no field|is not in scope|has no `|was not admitted")
 OPEN_GOALS = re.compile(r"`search` did not prove [^;]*")
 CALLEES = re.compile(r"it calls ([^;]*), which (?:is|are) not proved")
-
-
-def toolchain():
-    """The toolchain's script `rt`, as a module."""
-    path = shutil.which("rt")
-    if path is None:
-        sys.exit("there is no rt on the PATH")
-    loader = importlib.machinery.SourceFileLoader("rt", os.path.realpath(path))
-    module = importlib.util.module_from_spec(importlib.util.spec_from_loader("rt", loader))
-    words, sys.argv = sys.argv, ["rt"]
-    loader.exec_module(module)
-    sys.argv = words
-    return module
 
 
 class Said:

@@ -14,7 +14,8 @@ from tests import TOP
 
 from .listed import listed, with_below
 from .part import copy_part
-from .proving import Said, toolchain
+from .crates import load
+from .proving import Said
 from .rounds import linked, take_rounds
 from .share import SHARES, Body, bodies_of, share_of
 from .tries import program_of, tests_of
@@ -119,7 +120,7 @@ class WithRt(InRoom):
 class Toolchain(unittest.TestCase):
     def test_the_rounds_know_the_toolchain_or_say_that_they_do_not(self):
         try:
-            take_rounds(toolchain())
+            take_rounds(load())
         except ValueError as fault:
             self.skipTest(f"{fault}: tests.gate.crates is rt ci itself")
 
