@@ -3,8 +3,11 @@
 import os
 import re
 import shutil
+import signal
 import subprocess
 import sys
+import time
+from functools import partial
 
 from tests import TOP
 from tests.lib.checks import SECONDS, Outcome, differences
@@ -41,6 +44,26 @@ class Tree:
         streams = {"stdout": subprocess.PIPE, "stderr": subprocess.PIPE, **streams}
         ran = subprocess.run(words, cwd=self.top, env=environment, timeout=SECONDS, **streams)
         return Outcome(ran.stdout or b"", ran.stderr or b"", ran.returncode)
+
+    def ended_by(self, number, has_begun, *words):
+        """Starts a command, and ends it by a signal once something has begun.
+
+        The signal does what it does by default, also where the tests are run with it ignored, as they are
+        in the background of a shell.
+        """
+        environment = {**os.environ, "PATH": f"{self.names}:{os.environ['PATH']}"}
+        how = {"cwd": self.top, "env": environment, "stdout": subprocess.PIPE, "stderr": subprocess.PIPE}
+        by_default = partial(signal.signal, number, signal.SIG_DFL)
+        with subprocess.Popen(words, preexec_fn=by_default, **how) as process:
+            end = time.monotonic() + SECONDS
+            while not has_begun() and time.monotonic() < end:
+                time.sleep(0.01)
+            process.send_signal(number)
+            try:
+                out, err = process.communicate(timeout=SECONDS)
+            finally:
+                process.kill()
+        return Outcome(out, err, process.returncode)
 
     def build(self, **how):
         return self.run(sys.executable, "tools/build", "mkedit", "--help", **how)

@@ -5,12 +5,9 @@ import contextlib
 import os
 import re
 import signal
-import subprocess
 import sys
-import time
 from pathlib import Path
 
-from tests.lib.checks import SECONDS, Outcome
 from tests.lib.rooms import RoomCase, checks_of
 from tests.lib.terminals import terminal
 from tests.lib.trees import Tree
@@ -279,16 +276,9 @@ def rt_proves_all_where_its_script_fails(room):
 def what_a_build_has_started_ends_with_it(room):
     tree = Crates(room)
     tree.let("waits", "low", "never")
-    environment = {**os.environ, "PATH": f"{tree.names}:{os.environ['PATH']}"}
-    how = {"cwd": tree.top, "env": environment, "stdout": subprocess.PIPE, "stderr": subprocess.PIPE}
     for number in (signal.SIGTERM, signal.SIGINT):
-        with subprocess.Popen([sys.executable, "tools/build", "mkedit", "--help"], **how) as build:
-            end = time.monotonic() + SECONDS
-            while not tree.begun() and time.monotonic() < end:
-                time.sleep(0.01)
-            build.send_signal(number)
-            out, err = build.communicate(timeout=SECONDS)
-        yield from tree.differs((FIRST_LINE, "", 128 + number), Outcome(out, err, build.returncode))
+        got = tree.ended_by(number, tree.begun, sys.executable, "tools/build", "mkedit", "--help")
+        yield from tree.differs((FIRST_LINE, "", 128 + number), got)
         if tree.at_work():
             yield f"the processes {tree.at_work()} have not ended"
         (tree.names / "events").unlink()

@@ -1,12 +1,9 @@
 """The program that `make demo` shows: tools/try, where another program stands for rt."""
 
-import os
 import signal
-import subprocess
 import sys
-import time
 
-from tests.lib.checks import SECONDS, Outcome
+from tests.lib.checks import SECONDS
 from tests.lib.rooms import RoomCase, checks_of
 from tests.lib.trees import Tree
 
@@ -104,18 +101,12 @@ def without_rt_nothing_is_tried(room):
 @check
 def what_is_started_ends_with_it(room):
     tree = tree_with(room, f"echo begun > {room.folder}/begun\nexec sleep {SECONDS}\n")
+    begun = room.folder / "begun"
     for number in (signal.SIGTERM, signal.SIGINT):
-        environment = {**os.environ, "PATH": f"{tree.names}:{os.environ['PATH']}"}
-        how = {"cwd": tree.top, "env": environment, "stdout": subprocess.PIPE, "stderr": subprocess.PIPE}
-        with subprocess.Popen([sys.executable, "tools/try", OUT], **how) as started:
-            end = time.monotonic() + SECONDS
-            while not (room.folder / "begun").exists() and time.monotonic() < end:
-                time.sleep(0.01)
-            started.send_signal(number)
-            out, err = started.communicate(timeout=SECONDS)
-        yield from tree.differs((FIRST_LINE, "", 128 + number), Outcome(out, err, started.returncode))
+        got = tree.ended_by(number, begun.exists, sys.executable, "tools/try", OUT)
+        yield from tree.differs((FIRST_LINE, "", 128 + number), got)
         yield from [f"there is {left(tree)}"] if left(tree) else []
-        (room.folder / "begun").unlink()
+        begun.unlink()
 
 
 @check
