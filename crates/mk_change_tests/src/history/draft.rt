@@ -1,7 +1,7 @@
 //! A text whose bytes are set alone or in groups, as a session stands on a history.
 ghost use Rattle.std.specs.Prelude.{◌≡◌, ◌<◌, Ok, Err, IfOk, OnOk, OnErr};
 ghost use Rattle.mk_history.specs.Machine.{Apply, Undo, Redo, Begin, End, Cancel, GroupOpen, NoGroup, NothingToUndo, NothingToRedo};
-ghost use Rattle.mk_history.specs.SetBytes.{set_answer};
+ghost use Rattle.mk_change_tests.specs.SetBytes.{set_answer};
 ghost use Rattle.mk_history.specs.Shown.{shown_opened};
 
 use super::sure::SetByte;
