@@ -125,8 +125,8 @@ const RULES: (&[u8], &[u8]) = (b"all:\n", b"b: all\n");
 
 #[test]
 fn an_edit_of_many_lines_takes_memory_for_each_of_them(rt: HostRuntime) -> Result<(), Fail> {
-    for count in [1, 1_000, 100_000] {
-        let most = most_bytes(count + 1);
+    for count in [1usize, 1_000, 100_000] {
+        let most = most_bytes(count.saturating_add(1));
         let unrule = bytes_of_edit(&rt, RULE, count, Step::RemoveRule(b"all"))?;
         assert!(rt; unrule <= most, "unrule: {unrule}");
         let rename = bytes_of_edit(&rt, RULES, count, Step::RenameTarget(b"all", b"tidy"))?;
