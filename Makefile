@@ -23,7 +23,9 @@
 #   make rows       makes the stored files of rows anew, after a table of tests/cases has changed
 #   make hostile    tries the program, as rt links it, with hostile texts of 16 MB, with memory that
 #                   ends and under valgrind, and measures it there; some minutes long
-#   make install    puts the program into $(DESTDIR)$(PREFIX)/bin, and the manual page and the
+#   make texts      makes the texts anew that several files share, after their source has changed:
+#                   what is said of refusals, and the makefile of the manual pages (tools/texts)
+#   make install    puts the program into $(DESTDIR)$(PREFIX)/bin, and the manual pages and the
 #                   completions of bash, zsh and fish where each belongs
 #   make uninstall  takes away what make install puts there
 #                   (PREFIX, BINDIR, MANDIR, BASHCOMPDIR, ZSHCOMPDIR and FISHCOMPDIR say where,
@@ -36,7 +38,7 @@
 #
 # It is written for POSIX.1-2024 make, which GNU make 4 reads as well.
 .POSIX:
-.PHONY: all demo check check-all hostile judge soak fuzz rows install uninstall bench clean
+.PHONY: all demo check check-all hostile judge soak fuzz rows texts install uninstall bench clean
 
 PREFIX ?= /usr/local
 BINDIR ?= $(PREFIX)/bin
@@ -91,14 +93,18 @@ fuzz: $(PROGRAM)
 rows:
 	@python3 -B -m tests.gate.rows --write
 
+texts:
+	@tools/texts
+
 judge: $(PROGRAM)
 	@python3 -B -m tests.judge --minutes $(MINUTES) $(PROGRAM)
 
 install: $(PROGRAM)
-	install -d "$(DESTDIR)$(BINDIR)" "$(DESTDIR)$(MANDIR)/man1" "$(DESTDIR)$(BASHCOMPDIR)"
-	install -d "$(DESTDIR)$(ZSHCOMPDIR)" "$(DESTDIR)$(FISHCOMPDIR)"
+	install -d "$(DESTDIR)$(BINDIR)" "$(DESTDIR)$(MANDIR)/man1" "$(DESTDIR)$(MANDIR)/man5"
+	install -d "$(DESTDIR)$(BASHCOMPDIR)" "$(DESTDIR)$(ZSHCOMPDIR)" "$(DESTDIR)$(FISHCOMPDIR)"
 	install -m 755 $(PROGRAM) "$(DESTDIR)$(BINDIR)/mkedit"
 	install -m 644 docs/mkedit.1 "$(DESTDIR)$(MANDIR)/man1/mkedit.1"
+	install -m 644 docs/mkedit-script.5 "$(DESTDIR)$(MANDIR)/man5/mkedit-script.5"
 	install -m 644 completions/mkedit.bash "$(DESTDIR)$(BASHCOMPDIR)/mkedit"
 	install -m 644 completions/mkedit.zsh "$(DESTDIR)$(ZSHCOMPDIR)/_mkedit"
 	install -m 644 completions/mkedit.fish "$(DESTDIR)$(FISHCOMPDIR)/mkedit.fish"
@@ -106,6 +112,7 @@ install: $(PROGRAM)
 # The folders stay, since others may use them.
 uninstall:
 	rm -f "$(DESTDIR)$(BINDIR)/mkedit" "$(DESTDIR)$(MANDIR)/man1/mkedit.1"
+	rm -f "$(DESTDIR)$(MANDIR)/man5/mkedit-script.5"
 	rm -f "$(DESTDIR)$(BASHCOMPDIR)/mkedit" "$(DESTDIR)$(ZSHCOMPDIR)/_mkedit"
 	rm -f "$(DESTDIR)$(FISHCOMPDIR)/mkedit.fish"
 

@@ -11,6 +11,7 @@ Over the definitions and lemmas of all crates it looks for
   chapters  definition files that do not say which chapter of docs/ tells of them, or that name one
             which is not there
   layout    files that `rt fmt` would lay out anew: the gate refuses their crate, after an hour
+  texts     documents and completions that have other texts than their source, such as those on refusals
 
 Rows, which compute definitions on examples, are not searched, but what they import is cited. A
 finding has one line; the last line is 'N passed, M failed', and the status is 0 only where nothing
@@ -25,7 +26,7 @@ from functools import partial
 from tests import TOP
 from tests.lib.checks import Tally
 
-from . import antt, chapters, layout
+from . import antt, chapters, layout, texts
 from .statements import definition_key, is_data, is_type_of_data, statement_key
 
 GHOST_USE = re.compile(r"ghost use ([^;]*);")
@@ -251,6 +252,7 @@ def main():
         ("imports", house.unused_imports()),
         ("chapters", chapters.problems()),
         ("layout", layout.problems()),
+        ("texts", texts.problems()),
     ):
         for place in found:
             tally.add(title, [place])

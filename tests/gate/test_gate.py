@@ -5,6 +5,8 @@
 """
 
 import os
+import re
+import shutil
 import sys
 import tempfile
 import unittest
@@ -18,6 +20,7 @@ from .crates import load
 from .proving import Said
 from .rounds import linked, take_rounds
 from .share import SHARES, Body, bodies_of, share_of
+from .texts import problems as old_texts
 from .tries import program_of, tests_of
 
 # What stands for rt: it prints what stands in a file, and ends with the status that stands in another.
@@ -75,6 +78,58 @@ class Part(InRoom):
         (self.room / "kept/a/new").write_text("tried")
         (self.room / "kept/a/b").replace(self.room / "kept/a/c")
         self.assertEqual([it.name for it in (self.room / "seed/a").iterdir()], ["b"])
+
+
+class Texts(InRoom):
+    """The texts that several files share: a copy of the files, in which one is changed."""
+
+    SHARED = ("docs/EDITS.md", "docs/mkedit-script.5", *(f"completions/mkedit.{it}" for it in ("bash", "fish", "zsh")))
+    SOURCE, OTHERS = "crates/mkedit/src/explanations.rt", ("docs/mkedit.1", "examples/manual.mk")
+    NUMBERS = "crates/mk_edit_laws/specs/RefusalTexts.antt"
+
+    def setUp(self):
+        super().setUp()
+        for name in (*self.SHARED, *self.OTHERS, self.SOURCE, self.NUMBERS):
+            (self.room / name).parent.mkdir(parents=True, exist_ok=True)
+            shutil.copy(TOP / name, self.room / name)
+
+    def change(self, name, old, new):
+        path = self.room / name
+        text = path.read_text(encoding="utf-8")
+        self.assertIn(old, text)
+        path.write_text(text.replace(old, new), encoding="utf-8")
+
+    def assert_old(self, *names):
+        """These files have to be told, and no other."""
+        self.assertEqual(sorted(re.split("[: ]", it)[0] for it in old_texts(self.room)), sorted(names))
+
+    def test_the_texts_of_the_repository_are_those_of_their_source(self):
+        self.assert_old()
+
+    def test_a_source_with_another_text_makes_its_documents_old(self):
+        self.change(self.SOURCE, "Nothing has to be done.", "Nothing is to be done.")
+        self.assert_old("docs/EDITS.md", "docs/mkedit-script.5")
+
+    def test_another_name_makes_each_file_old(self):
+        for name in (self.SOURCE, self.NUMBERS):
+            self.change(name, "SharedRule", "CommonRule")
+        self.assert_old(*self.SHARED)
+
+    def test_another_makefile_makes_both_pages_old(self):
+        self.change("examples/manual.mk", "gcc", "cc")
+        self.assert_old("docs/mkedit.1", "docs/mkedit-script.5")
+
+    def test_a_text_that_was_changed_by_hand_is_told(self):
+        self.change("docs/EDITS.md", "| Decide by hand. |", "| Decide. |")
+        self.assert_old("docs/EDITS.md")
+
+    def test_a_file_without_its_part_is_told(self):
+        self.change("completions/mkedit.bash", "made until here", "")
+        self.assert_old("completions/mkedit.bash")
+
+    def test_a_source_in_another_form_is_told(self):
+        self.change(self.SOURCE, "Refusal::Taken => TAKEN,", "")
+        self.assert_old(self.SOURCE)
 
 
 class WithRt(InRoom):
