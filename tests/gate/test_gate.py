@@ -4,16 +4,20 @@
     python3 -m unittest tests.gate.test_gate.Share
 """
 
+import contextlib
 import os
 import re
 import shutil
+import subprocess
 import sys
 import tempfile
+import types
 import unittest
 from pathlib import Path
 
 from tests import TOP
 
+from .beside import GIVES_WAY, Tasks, in_lanes
 from .listed import listed, with_below
 from .part import copy_part
 from .crates import load
@@ -170,6 +174,76 @@ class WithRt(InRoom):
         self.assertEqual(program_of(self.crate)[:2], (0, 1))
         self.says(self.crate.stream("stdout"), 1)
         self.assertEqual(program_of(self.crate)[:2], (0, 1))
+
+
+# The memory of a task, and more than all tasks take together.
+ONE, ENOUGH = 1_000, 1_000_000
+
+
+def task(*after, lines=100, memory=ONE, call=None):
+    return after, lines, memory, call or (lambda given, jobs: jobs)
+
+
+def proof(name):
+    return name, "proof"
+
+
+def two_crates():
+    """The tasks of two crates, of which one waits for the other; each has wrong bodies."""
+    return {
+        proof("low"): task(),
+        ("low", "seed"): task(),
+        ("low", "edits", 0): task(proof("low"), ("low", "seed")),
+        ("low", "edits", 1): task(proof("low"), ("low", "seed")),
+        proof("high"): task(proof("low"), lines=10),
+        ("high", "seed"): task(proof("low"), lines=10),
+    }
+
+
+class Beside(unittest.TestCase):
+    """The tasks of a run, side by side."""
+
+    def begun(self, memory=ENOUGH):
+        """The tasks on two processors, once the first proof and the first seed have ended, and which begin then."""
+        tasks = Tasks(two_crates(), 2, memory)
+        first = [key for key, _, _ in tasks.starts()]
+        self.assertEqual(first, [proof("low"), ("low", "seed")])
+        for key in first:
+            tasks.ended(key, True)
+        return tasks, [*tasks.starts()]
+
+    def test_the_next_proof_begins_though_wrong_bodies_are_tried(self):
+        _, begun = self.begun()
+        self.assertEqual(begun[0], (proof("high"), 2, True))
+
+    def test_as_many_wrong_bodies_are_tried_as_there_are_processors(self):
+        tasks, begun = self.begun()
+        self.assertEqual(begun[1:], [(("low", "edits", 0), 1, False), (("low", "edits", 1), 1, False)])
+        tasks.ended(("low", "edits", 0), True)
+        self.assertEqual([*tasks.starts()], [(("high", "seed"), 1, False)])
+
+    def test_wrong_bodies_wait_for_memory(self):
+        _, begun = self.begun(memory=1.4 * ONE)
+        self.assertEqual([key for key, _, _ in begun], [proof("high"), ("low", "edits", 0)])
+
+    def test_each_task_gets_what_those_before_it_gave(self):
+        script = types.SimpleNamespace(processors=lambda: 2, free=lambda: ENOUGH, ending=contextlib.nullcontext)
+        seen = {}
+        tasks = two_crates()
+        tasks["low", "edits", 1] = task(proof("low"), call=lambda given, jobs: seen.update(given))
+        given = in_lanes(script, tasks)
+        self.assertEqual(given.keys(), tasks.keys())
+        self.assertEqual(seen[proof("low")], 2)
+
+    def test_wrong_bodies_give_way_to_the_proofs_that_others_wait_for(self):
+        script = types.SimpleNamespace(processors=lambda: 2, free=lambda: ENOUGH, ending=contextlib.nullcontext)
+
+        def own(given, jobs):
+            return int(subprocess.run([sys.executable, "-c", "import os; print(os.nice(0))"], capture_output=True).stdout)
+
+        tasks = {proof("low"): task(call=own), ("low", "seed"): task(call=own)}
+        given = in_lanes(script, tasks)
+        self.assertEqual(given["low", "seed"] - given[proof("low")], GIVES_WAY)
 
 
 class Toolchain(unittest.TestCase):
