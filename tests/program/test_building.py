@@ -5,7 +5,7 @@ import os
 import re
 import shutil
 
-from tests.lib.rooms import RoomCase
+from tests.lib.rooms import Room, RoomCase
 from tests.lib.terminals import terminal
 from tests.lib.trees import LOG, Tree
 
@@ -139,3 +139,44 @@ class Building(RoomCase):
         if got.status or got.stderr or b": it starts later\n" not in got.stdout:
             self.fail(f"tools/link gives {got}")
         self.assert_well(tree.differs(("mkedit 1\n", "", 0), tree.run(PROGRAM)))
+
+    def tree_of_a_program(self, version):
+        """A copy of what builds, where the built program prints a version."""
+        tree, built = tree_to_link(self.room)
+        built.write_text(f"#!/bin/sh\necho '{version}'\n")
+        built.chmod(0o755)
+        return tree
+
+    def commit(self, tree):
+        """Makes the copy a checkout whose files are those of a commit, and returns the commit's name."""
+        if not shutil.which("git"):
+            self.skipTest("git is not there")
+        author = ("-c", "user.name=A", "-c", "user.email=a@invalid")
+        for words in (("init", "-q"), ("add", "Makefile", "tools"), (*author, "commit", "-q", "-m", "a")):
+            self.assertEqual(tree.run("git", *words).status, 0)
+        return tree.run("git", "rev-parse", "HEAD").stdout.decode()[:12]
+
+    def assert_tells(self, tree, version, said):
+        """A program that is linked again has to print this version, and the line on it has to end so."""
+        got = tree.run("tools/link", BUILT, PROGRAM)
+        self.assertEqual((got.stderr, got.status), (b"", 0))
+        self.assertTrue(got.stdout.endswith(f"{said}\n".encode()), got.stdout)
+        self.assert_well(tree.differs((f"{version}\n", "", 0), tree.run(PROGRAM)))
+        self.assertEqual([it.name for it in (tree.top / PROGRAM).parent.iterdir()], ["mkedit"])
+
+    def test_a_program_tells_the_commit_of_a_checkout_without_changes(self):
+        version = "mkedit 1 (commit not recorded)"
+        tree = self.tree_of_a_program(version)
+        self.assert_tells(tree, version, "starts later")
+        name = self.commit(tree)
+        self.assert_tells(tree, f"mkedit 1 (commit {name})", f"tells the commit {name}")
+        (tree.top / "Makefile").write_text("all:\n")
+        self.assert_tells(tree, version, "starts later")
+
+    def test_a_program_with_no_place_for_its_commit_or_with_two_stays_as_it_is(self):
+        for version in ("mkedit 1", "mkedit 1 (commit not recorded) (commit not recorded)"):
+            with self.subTest(version), Room(self.program) as room:
+                self.room = room
+                tree = self.tree_of_a_program(version)
+                self.commit(tree)
+                self.assert_tells(tree, version, "starts later")
