@@ -24,6 +24,7 @@ READ = ("README.md", "CHANGELOG.md", "docs/EDITS.md", "docs/COOKBOOK.md", "docs/
 # The time of each file where nothing says another: the first second of 2000.
 EPOCH = 946_684_800
 VERSION = re.compile(r"mkedit (\d+\.\d+\.\d+)( .*)?\n")
+# What a program of Linux with 64 bits begins with, the number of its machine, and of a part with a loader's name.
 ELF, X86_64, INTERPRETER = b"\x7fELF\x02\x01", 62, 3
 
 
@@ -38,16 +39,22 @@ def read(name):
 
 def asks_for_a_loader(code):
     """Whether a program has the system load libraries when it starts."""
-    start, size, count = struct.unpack_from("<32xQ14xHH", code)[0], *struct.unpack_from("<54xHH", code)
-    return any(struct.unpack_from("<I", code, start + it * size)[0] == INTERPRETER for it in range(count))
+    (start,), (size, count) = struct.unpack_from("<Q", code, 32), struct.unpack_from("<HH", code, 54)
+    kinds = [struct.unpack_from("<I", code, start + it * size)[0] for it in range(count)]
+    return INTERPRETER in kinds
 
 
 def program_at(path):
     """The bytes of a program that runs on any Linux on x86-64. A NotPacked says that it is no such program."""
     code = Path(path).read_bytes()
-    if not code.startswith(ELF) or struct.unpack_from("<18xH", code)[0] != X86_64:
+    try:
+        is_for_x86_64 = code.startswith(ELF) and struct.unpack_from("<H", code, 18) == (X86_64,)
+        needs_more = is_for_x86_64 and asks_for_a_loader(code)
+    except struct.error:
+        is_for_x86_64 = False
+    if not is_for_x86_64:
         raise NotPacked(f"{path} is no program for x86-64")
-    if asks_for_a_loader(code):
+    if needs_more:
         raise NotPacked(f"{path} loads the C library of the machine: build it where there is a static one (libc.a)")
     return code
 
@@ -63,7 +70,9 @@ def version_of(path):
 
 def time():
     """The time of each file: $SOURCE_DATE_EPOCH, else that of the last commit."""
-    given = os.environ.get("SOURCE_DATE_EPOCH")
+    given = os.environ.get("SOURCE_DATE_EPOCH", "")
+    if given and not given.isdecimal():
+        raise NotPacked(f"SOURCE_DATE_EPOCH is no number of seconds: {given}")
     return int(given) if given else time_of_commit() or EPOCH
 
 

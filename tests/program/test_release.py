@@ -134,7 +134,8 @@ class Releases(RoomCase):
         code = bytearray(Path(self.program.path).read_bytes())
         at = int.from_bytes(code[32:40], "little")
         code[at : at + 4] = INTERPRETER
-        for content, why in ((code, b"loads the C library"), (b"#!/bin/sh\n", b"no program for x86-64")):
+        others = (code, b"loads the C library"), (b"#!/bin/sh\n", b"no program"), (code[:60], b"no program")
+        for content, why in others:
             self.room.write("other", bytes(content), 0o755)
             for tool in ("dist", "deb"):
                 ran = self.pack(tool, self.room.folder / "other", self.out)
@@ -198,3 +199,4 @@ class Releases(RoomCase):
             ran = subprocess.run(words, cwd=TOP, capture_output=True, timeout=SECONDS)
             self.assertEqual(ran.returncode, 2)
             self.assertEqual(self.pack(tool, "absent", self.out).returncode, 1)
+            self.assertEqual(self.pack(tool, self.program.path, self.out, "yesterday").returncode, 1)
