@@ -63,10 +63,10 @@ class Releases(RoomCase):
         if LOADER in self.program.path.read_bytes():
             self.skipTest("the program has not the C library in it: tools/link makes one that has")
 
-    def pack(self, tool, program, folder, time=TIME):
+    def pack(self, tool, program, folder, time=TIME, maintainer=""):
         """Runs tools/dist or tools/deb."""
         words = [sys.executable, "-B", f"tools/{tool}", program, folder]
-        environment = {**os.environ, "SOURCE_DATE_EPOCH": str(time)}
+        environment = {**os.environ, "SOURCE_DATE_EPOCH": str(time), "MAINTAINER": maintainer}
         return subprocess.run(words, cwd=TOP, env=environment, capture_output=True, timeout=SECONDS)
 
     def packed(self, tool, folder="out"):
@@ -170,6 +170,14 @@ class Releases(RoomCase):
         self.assert_run(EDITED, "edit", "script", "Makefile")
         self.dpkg(root, "--remove", "mkedit")
         self.assertEqual(self.files_below(root), set())
+
+    def test_a_package_names_the_maintainer_who_is_given(self):
+        if not shutil.which("dpkg-deb"):
+            self.skipTest("dpkg-deb is not there")
+        self.assertEqual(self.pack("deb", self.program.path, self.out, maintainer="A <a@b.org>").returncode, 0)
+        words = ["dpkg-deb", "--field", next(self.out.iterdir()), "Package", "Maintainer"]
+        ran = subprocess.run(words, capture_output=True, text=True, timeout=SECONDS)
+        self.assertEqual(ran.stdout, "Package: mkedit\nMaintainer: A <a@b.org>\n")
 
     def assert_shows_manuals(self, root):
         """man has to find both pages below a root folder."""
