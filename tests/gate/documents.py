@@ -6,8 +6,8 @@
   wrong bodies  each that docs/PROOFS.md names is a file of must-fail/, and each such file stands there
   crates        the table of docs/ARCHITECTURE.md has the crates of crates.txt, each with what it
                 stands on, and the table below it has their libraries
-  edits         the table of docs/DEVELOPING.md has each command that is an edit, and what it names is
-                there: its definitions, its law, its code, a row, a wrong body
+  edits         the tables of README.md and docs/DEVELOPING.md have each command that is an edit, and
+                what the second one names is there: definitions, law, code, a row, a wrong body
 
 Each check takes the text of a document, and yields a line for each problem.
 """
@@ -193,11 +193,19 @@ def edit_problems(text, bodies):
         yield from (f"docs/DEVELOPING.md: {it}" for it in edit_row_problems(last, bodies))
 
 
+def command_problems(text):
+    """Compares the table of edits of README.md with the commands of scripts."""
+    rows = table_below(text[text.find("## Edits\n") :], "| Command of a script | What it does |")
+    told = {it.split()[0] for row in rows for it in CODE.findall(row[0])}
+    yield from (f"README.md: its table of edits is wrong on `{it}`" for it in sorted(told ^ edit_commands()))
+
+
 def problems():
     """What is wrong with the documents, a line for each."""
     texts, crates = documents(), listed(TOP)
     bodies = {it.stem for it in TOP.glob("crates/*/must-fail/*.edit")}
     yield from length_problems(texts["README.md"])
+    yield from command_problems(texts["README.md"])
     for name, text in texts.items():
         yield from history_problems(name, text)
         yield from path_problems(name, text)

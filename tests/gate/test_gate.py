@@ -213,6 +213,8 @@ class Documents(unittest.TestCase):
             self.assert_seen(documents.edit_problems(text, self.bodies), *words)
         text = self.replaced("docs/DEVELOPING.md", "| `append` | `AppendValue` |", "| `set` | `AppendValue` |")
         self.assertTrue([*documents.edit_problems(text, self.bodies)])
+        text = self.replaced("README.md", "| `append NAME VALUE` |", "| `set NAME VALUE` |")
+        self.assert_seen(documents.command_problems(text), "append")
 
 
 def main():
