@@ -164,13 +164,13 @@ class Beside(unittest.TestCase):
 
     def test_as_many_wrong_bodies_are_tried_as_there_are_processors(self):
         tasks, begun = self.begun()
-        self.assertEqual(begun[1:], [(("low", "edits", 0), 1, False), (("low", "edits", 1), 1, False)])
-        tasks.ended(("low", "edits", 0), True)
-        self.assertEqual([*tasks.starts()], [(("high", "seed"), 1, False)])
+        self.assertEqual(begun[1:], [(("high", "seed"), 1, False), (("low", "edits", 1), 1, False)])
+        tasks.ended(("low", "edits", 1), True)
+        self.assertEqual([*tasks.starts()], [(("low", "edits", 0), 1, False)])
 
     def test_wrong_bodies_wait_for_memory(self):
         _, begun = self.begun(memory=1.4 * ONE)
-        self.assertEqual([key for key, _, _ in begun], [proof("high"), ("low", "edits", 0)])
+        self.assertEqual([key for key, _, _ in begun], [proof("high"), ("high", "seed")])
 
     def test_each_task_gets_what_those_before_it_gave(self):
         script = types.SimpleNamespace(processors=lambda: 2, free=lambda: ENOUGH, ending=contextlib.nullcontext)
