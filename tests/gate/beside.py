@@ -22,7 +22,8 @@ from toolchain import lacking  # noqa: E402
 PARTS = {"ending": (0,), "free": (0,), "in_lanes": (1,), "processors": (0,)}
 
 # The kinds of tasks that try wrong bodies.
-EDITS = ("edits", "seed")
+SEED = "seed"
+EDITS = ("edits", SEED)
 # How much all else gives way to the proofs that others wait for.
 GIVES_WAY = 10
 # What a check takes of the memory that the toolchain's script reckons with.
@@ -42,7 +43,9 @@ class Tasks:
         self.given, self.running = {}, {}
         proofs = [it for it in tasks if it[1] not in EDITS]
         self.lanes = Lanes({it: self.proof(it) for it in proofs}, processors, memory)
-        self.edits = sorted((it for it in tasks if it[1] in EDITS), key=lambda it: -tasks[it][1])
+        # (what others wait for first, and then what can begin late alone: the crates above all others)
+        edits = [it for it in reversed([*tasks]) if it[1] in EDITS]
+        self.edits = sorted(edits, key=lambda it: it[1] != SEED)
         # of the wrong bodies that are being tried, the memory
         self.trying = {}
         # the proofs that go on beside others

@@ -12,6 +12,8 @@ Over the definitions and lemmas of all crates it looks for
             which is not there
   layout    files that `rt fmt` would lay out anew: the gate refuses their crate, after an hour
   texts     documents and completions that have other texts than their source, such as those on refusals
+  documents what the documents say of the repository that is not so, or that git alone has to know
+            (documents.py)
 
 Rows, which compute definitions on examples, are not searched, but what they import is cited. A
 finding has one line; the last line is 'N passed, M failed', and the status is 0 only where nothing
@@ -26,7 +28,7 @@ from functools import partial
 from tests import TOP
 from tests.lib.checks import Tally
 
-from . import antt, chapters, layout, texts
+from . import antt, chapters, documents, layout, texts
 from .statements import definition_key, is_data, is_type_of_data, statement_key
 
 GHOST_USE = re.compile(r"ghost use ([^;]*);")
@@ -253,6 +255,7 @@ def main():
         ("chapters", chapters.problems()),
         ("layout", layout.problems()),
         ("texts", texts.problems()),
+        ("documents", documents.problems()),
     ):
         for place in found:
             tally.add(title, [place])

@@ -17,6 +17,7 @@ from pathlib import Path
 
 from tests import TOP
 
+from . import documents
 from .beside import GIVES_WAY, Tasks, in_lanes
 from .listed import listed, with_below
 from .part import copy_part
@@ -218,13 +219,13 @@ class Beside(unittest.TestCase):
 
     def test_as_many_wrong_bodies_are_tried_as_there_are_processors(self):
         tasks, begun = self.begun()
-        self.assertEqual(begun[1:], [(("low", "edits", 0), 1, False), (("low", "edits", 1), 1, False)])
-        tasks.ended(("low", "edits", 0), True)
-        self.assertEqual([*tasks.starts()], [(("high", "seed"), 1, False)])
+        self.assertEqual(begun[1:], [(("high", "seed"), 1, False), (("low", "edits", 1), 1, False)])
+        tasks.ended(("low", "edits", 1), True)
+        self.assertEqual([*tasks.starts()], [(("low", "edits", 0), 1, False)])
 
     def test_wrong_bodies_wait_for_memory(self):
         _, begun = self.begun(memory=1.4 * ONE)
-        self.assertEqual([key for key, _, _ in begun], [proof("high"), ("low", "edits", 0)])
+        self.assertEqual([key for key, _, _ in begun], [proof("high"), ("high", "seed")])
 
     def test_each_task_gets_what_those_before_it_gave(self):
         script = types.SimpleNamespace(processors=lambda: 2, free=lambda: ENOUGH, ending=contextlib.nullcontext)
@@ -267,6 +268,82 @@ class Toolchain(unittest.TestCase):
     def test_a_proof_that_names_what_is_gone_is_no_fault(self):
         error = "./proofs/a/f/Answers.antt:3:1: error: `loop-x` is not in scope\nfn low::a::f: not proved\nonly=1 proved=0\n"
         self.assertIsNone(Said("low", error).fault_of("a::f"))
+
+
+class Documents(unittest.TestCase):
+    """Tests that each check of the documents sees a fault that is put in."""
+
+    def setUp(self):
+        self.texts = documents.documents()
+        self.bodies = {it.name for it in bodies_of(listed(TOP).values())}
+
+    def assert_seen(self, problems, *words):
+        """There has to be one problem, which names these words."""
+        found = [*problems]
+        self.assertEqual(len(found), 1, found)
+        for word in words:
+            self.assertIn(word, found[0])
+
+    def replaced(self, name, old, new):
+        self.assertIn(old, self.texts[name])
+        return self.texts[name].replace(old, new, 1)
+
+    def test_a_long_readme_is_seen(self):
+        self.assertEqual([*documents.length_problems("line\n" * 130)], [])
+        self.assert_seen(documents.length_problems("line\n" * 131), "131")
+
+    def test_what_tells_of_the_past_is_seen(self):
+        for text in (
+            "It ran on 2026-01-31.",
+            "It passed on 3 March.",
+            "On that day it took longer.",
+            "The host had other work.",
+            "This is of an earlier program.",
+            "The run was cut after 10 minutes.",
+        ):
+            self.assert_seen(documents.history_problems("docs/A.md", f"A line.\n{text}\n"), "docs/A.md:2")
+        self.assertEqual([*documents.history_problems("docs/A.md", "A line may be cut before `#`.")], [])
+
+    def test_a_path_that_is_not_there_is_seen(self):
+        text = "`mk_lines/src/ends.rt`, `mk_lines/specs/Words`, `mk_lines/specs/Ranges.raw_offset`, {}"
+        self.assertEqual([*documents.path_problems("docs/A.md", text)], [])
+        for place in ("mk_lines/src/nothing.rt", "mk_lines/specs/Ranges.nothing"):
+            self.assert_seen(documents.path_problems("docs/A.md", text.format(f"`{place}`")), place)
+
+    def test_a_wrong_body_that_is_not_told_or_not_there_is_seen(self):
+        text, body = self.texts["docs/PROOFS.md"], "a_recipe_ends_at_its_first_blank_line"
+        self.assert_seen(documents.body_problems(text, self.bodies - {body}), "no wrong body", body)
+        self.assert_seen(documents.body_problems(text.replace(body, "…"), self.bodies), "no row", body)
+
+    def test_a_table_of_crates_that_differs_is_seen(self):
+        crates = listed(TOP)
+        for old, new, *words in (
+            ("| `mk_class` | what", "| `mk_klass` | what", "mk_class", "mk_klass"),
+            ("| `mk_session`, `mk_script` | `itoa` |", "| `mk_session` | `itoa` |", "mk_run stands on"),
+            ("| `mk_command` | `bstr`, `thiserror` |", "| `mk_command` | `bstr` |", "mk_script uses"),
+            ("| `bstr` | cuts", "| `nom` | cuts", ""),
+        ):
+            text = self.replaced("docs/ARCHITECTURE.md", old, new)
+            found = [*documents.crate_problems(text, crates)]
+            self.assertTrue(found, old)
+            for word in words:
+                self.assertIn(word, found[0])
+
+    def test_a_table_of_edits_that_differs_is_seen(self):
+        for old, new, *words in (
+            ("| `append` | `AppendValue` |", "| `append` | `AppendText` |", "append", "AppendText"),
+            ("ValueSpans.append_value_span", "ValueSpans.append_span", "append", "append_span"),
+            ("AppendValueLemmas.append_value-reads", "AppendValueLemmas.append-reads", "no law"),
+            ("`value.rt`: `plan_append_value`", "`value.rt`: `plan_append`", "no code"),
+            ("| `append-writes-a-space` |", "| `set-keeps-the-comment` |", "no row"),
+            ("| `append_value_goes_behind_the_blanks` |", "| `append_goes` |", "no wrong body"),
+        ):
+            text = self.replaced("docs/DEVELOPING.md", old, new)
+            self.assert_seen(documents.edit_problems(text, self.bodies), *words)
+        text = self.replaced("docs/DEVELOPING.md", "| `append` | `AppendValue` |", "| `set` | `AppendValue` |")
+        self.assertTrue([*documents.edit_problems(text, self.bodies)])
+        text = self.replaced("README.md", "| `append NAME VALUE` |", "| `set NAME VALUE` |")
+        self.assert_seen(documents.command_problems(text), "append")
 
 
 def main():
