@@ -6,10 +6,10 @@ use Rattle.mk_history.specs.Shown.{Shown}
 use Rattle.mk_session.specs.Sessions.{Seen, seen_opened}
 use Rattle.mk_script.specs.Scripts.{CommandAt, IsScript, HasNoCommand}
 use Rattle.mk_run.specs.ObeyedCommands.{obeyed}
-use Rattle.mk_run.specs.Runs.{IsTooLong}
-use Rattle.mk_run.specs.RunEnds.{HasText, Written, IsOut, IsPrefixOut, GoesOn, IsShort}
+use Rattle.mk_run.specs.Runs.{IsTooLong, ended, result_after}
+use Rattle.mk_run.specs.RunEnds.{HasText, Written, IsOut, IsPrefixOut, GoesOn, IsShort, IsWhole, IsCut}
 use Rattle.mk_run.specs.declared.outcome.Outcome.{Outcome}
-use Rattle.mk_run.specs.declared.outcome.Outcome.TheVariants.{Refused, NotACommand, TooLong, TooDeep, NoMemory, Read, Write}
+use Rattle.mk_run.specs.declared.outcome.Outcome.TheVariants.{Done, Refused, NotACommand, BadDepth, TooLong, TooDeep, NoMemory, Read, Write}
 
 -- ---- the script
 
@@ -68,6 +68,12 @@ StopsMakefile bytes failed NoMemory = failed ≡ false
 StopsMakefile bytes failed Read = failed ≡ true
 StopsMakefile bytes failed outcome = ⊥
 
+-- an outcome that comes before the makefile is read, whatever the makefile is
+abbrev pub is_before_makefile : Outcome → Bool
+is_before_makefile BadDepth = true
+is_before_makefile (NotACommand line) = true
+is_before_makefile outcome = false
+
 -- ---- the commands
 
 -- All commands were obeyed, and `refused` of them were refused.
@@ -102,3 +108,24 @@ StopsCommands k commands s failed report NoMemory = (failed ≡ false) × AreSho
 StopsCommands k commands s failed report Write =
     (failed ≡ true) × IsPrefixOut report (obeyed k commands s).report
 StopsCommands k commands s failed report outcome = ⊥
+
+-- ---- the commands, and the text after them
+
+-- The commands ended the run with this outcome.
+abbrev pub EndsCommands : (keep_going : Bool) → List CommandAt → (first : Shown (List ℕ))
+    → (report_failed : Bool) → (report out : Written) → Outcome → Type 0
+EndsCommands k commands s failed report out Done =
+    IsWhole (result_after k (obeyed k commands s)) Done report out
+EndsCommands k commands s failed report out (Refused n) =
+    IsWhole (result_after k (obeyed k commands s)) (Refused n) report out
+EndsCommands k commands s failed report out NoMemory = AreShort k commands s report
+EndsCommands k commands s failed report out Write =
+    IsCut (result_after k (obeyed k commands s)) failed report out
+EndsCommands k commands s failed report out outcome = ⊥
+
+-- What is shown last is what the commands lead to, with a group that was open ended, and its text
+-- went out.
+pub record IsLeft (keep_going : Bool) (commands : List CommandAt) (first last : Shown (List ℕ))
+    (out : Written) : Type 0 where
+  pub shown : last ≡ ended (obeyed keep_going commands first).shown
+  pub is_out : IsOut out last.text

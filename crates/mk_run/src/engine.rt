@@ -1,5 +1,5 @@
 //! A script over a makefile: the steps of a run, in their order.
-ghost use Rattle.std.specs.Prelude.{◌≡◌, ◌⊎◌, ◌↔◌, ◌<◌, ◌+◌, ◌||◌, ℕ, IsTrue, IfSome, map, false, true, is_ok, OnOk, IfOk, IfErr};
+ghost use Rattle.std.specs.Prelude.{◌≡◌, ◌⊎◌, ◌↔◌, ◌<◌, ◌+◌, ◌||◌, ℕ, IsTrue, IfSome, List, Option, map, false, true, is_ok, OnOk, IfOk, IfErr};
 ghost use Rattle.std.specs.Io.KnownBytes.{Appends};
 ghost use Rattle.mk_lines.specs.Device.{AppendsPrefix, TakesAtMost, count_if};
 ghost use Rattle.mk_session.specs.Sessions.{IsBadDepth};
@@ -7,7 +7,7 @@ ghost use Rattle.mk_script.specs.Scripts.{numbered};
 ghost use Rattle.mk_run.specs.Outcome.{is_printed, may_report};
 ghost use Rattle.mk_run.specs.Runs.{IsTooLong, ended};
 ghost use Rattle.mk_run.specs.RunEnds.{HandsBack, IsRunOver, TellsEndOnce, written};
-ghost use Rattle.mk_run.specs.RunSteps.{AreObeyed, GivesCommands, GivesSession, StopsCommands, StopsMakefile, StopsScript};
+ghost use Rattle.mk_run.specs.RunSteps.{AreObeyed, EndsCommands, GivesCommands, GivesSession, IsLeft, StopsCommands, StopsMakefile, StopsScript, is_before_makefile};
 
 use crate::outcome::Outcome;
 use crate::report::report_refusal;
@@ -156,6 +156,98 @@ fn put_out<A: Allocator + Copy, W: ByteSink>(
         Ok(()) => out.flush(),
         Err(fault) => Err(fault),
     }
+}
+
+// Obeys the commands, and writes out the text that they lead to.
+fn obey_and_put_out<A, W, P>(
+    session: &mut Session<A>,
+    commands: &[NumberedCommand<A>],
+    keep_going: bool,
+    out: &mut W,
+    report: &mut P,
+) -> Outcome
+where
+    A: Allocator + Copy,
+    W: ByteSink,
+    P: ByteSink,
+    requires out_works { W.failed out.old ≡ false }
+    requires report_works { P.failed report.old ≡ false }
+    ensures ends { EndsCommands keep_going (map numbered commands.now) session.old.shown
+        (P.failed report.new) (written (P.contents report.old) (P.contents report.new))
+        (written (W.contents out.old) (W.contents out.new)) result }
+    ensures unwritten { is_printed result keep_going ≡ false → W.failed out.new ≡ false
+        → out.new ≡ out.old }
+    ensures write { result ≡ Outcome.Write ↔ IsTrue (W.failed out.new || P.failed report.new) }
+    ensures flushed { W.flushes out.new
+        ≡ count_if (is_printed result keep_going) (W.flushes out.old) }
+    ensures settled { is_printed result keep_going ≡ true
+        → IfSome (W.pending out.new) (λ n. n ≡ 0) }
+    ensures report { P.flushes report.new ≡ P.flushes report.old }
+    ensures kept { is_printed result keep_going ≡ true
+        → IsLeft keep_going (map numbered commands.now) session.old.shown session.new.shown
+        (written (W.contents out.old) (W.contents out.new)) }
+{
+    let refused = match obey_all(session, commands, keep_going, report) {
+        Ok(refused) => refused,
+        Err(outcome) => return outcome,
+    };
+    match put_out(session, out) {
+        Ok(()) if refused == 0 => Outcome::Done,
+        Ok(()) => Outcome::Refused(refused),
+        Err(fault) => Outcome::from(fault),
+    }
+}
+
+// Runs commands over a makefile, which is read to its end first. The laws hold for each script that
+// has these commands.
+fn run_commands<A, R, W, P>(
+    alloc: A,
+    makefile: &mut R,
+    commands: &[NumberedCommand<A>],
+    depth: u32,
+    keep_going: bool,
+    out: &mut W,
+    report: &mut P,
+    kept: &mut Option<Session<A>>,
+) -> Outcome
+where
+    A: Allocator + Copy,
+    R: ByteSource,
+    W: ByteSink,
+    P: ByteSink,
+    requires makefile_works { R.failed makefile.old ≡ false }
+    requires out_works { W.failed out.old ≡ false }
+    requires report_works { P.failed report.old ≡ false }
+    requires depth { IsBadDepth depth → ⊥ }
+    ensures law { (script : Option (List ℕ)) → GivesCommands script (map numbered commands.now)
+        → IsRunOver (R.remaining makefile.old) script depth keep_going
+        result (P.failed report.new) (written (P.contents report.old) (P.contents report.new))
+        (written (W.contents out.old) (W.contents out.new)) }
+    ensures unwritten { is_printed result keep_going ≡ false → W.failed out.new ≡ false
+        → out.new ≡ out.old }
+    ensures unreported { may_report result ≡ false → report.new ≡ report.old }
+    ensures taken { TakesAtMost (R.remaining makefile.old) (R.remaining makefile.new)
+        (MAX_TEXT + BUFFER) }
+    ensures end { TellsEndOnce (R.ends makefile.old) (R.ends makefile.new) }
+    ensures begun { is_before_makefile result ≡ false }
+    ensures read { result ≡ Outcome.Read ↔ R.failed makefile.new ≡ true }
+    ensures write { result ≡ Outcome.Write ↔ IsTrue (W.failed out.new || P.failed report.new) }
+    ensures flushed { W.flushes out.new
+        ≡ count_if (is_printed result keep_going) (W.flushes out.old) }
+    ensures settled { is_printed result keep_going ≡ true
+        → IfSome (W.pending out.new) (λ n. n ≡ 0) }
+    ensures report { P.flushes report.new ≡ P.flushes report.old }
+    ensures kept { (script : Option (List ℕ)) → GivesCommands script (map numbered commands.now)
+        → is_printed result keep_going ≡ true
+        → HandsBack (R.remaining makefile.old) script depth keep_going
+        (written (W.contents out.old) (W.contents out.new)) kept.new }
+{
+    let session = match open_makefile(alloc, makefile, depth) {
+        Ok(session) => session,
+        Err(outcome) => return outcome,
+    };
+    let session = kept.insert(session);
+    obey_and_put_out(session, commands, keep_going, out, report)
 }
 
 /// Runs a script over a makefile. The text after the script's commands goes to `out`, and a line on
@@ -319,18 +411,14 @@ where
         Ok(commands) => commands,
         Err(outcome) => return outcome,
     };
-    let session = match open_makefile(alloc, makefile, depth) {
-        Ok(session) => session,
-        Err(outcome) => return outcome,
-    };
-    let session = kept.insert(session);
-    let refused = match obey_all(session, commands.as_slice(), keep_going, report) {
-        Ok(refused) => refused,
-        Err(outcome) => return outcome,
-    };
-    match put_out(session, out) {
-        Ok(()) if refused == 0 => Outcome::Done,
-        Ok(()) => Outcome::Refused(refused),
-        Err(fault) => Outcome::from(fault),
-    }
+    run_commands(
+        alloc,
+        makefile,
+        commands.as_slice(),
+        depth,
+        keep_going,
+        out,
+        report,
+        kept,
+    )
 }
