@@ -1,4 +1,5 @@
-"""Tests of the gate itself: which wrong bodies it tries, what it copies, what it takes for a pass.
+"""Tests of the gate itself: which wrong bodies it tries, what it copies, what it takes for a pass, and
+which sources it refuses.
 
     python3 -m tests.gate.test_gate       the last line is 'N passed, M failed'
     python3 -m unittest tests.gate.test_gate.Share
@@ -17,7 +18,7 @@ from pathlib import Path
 
 from tests import TOP
 
-from . import documents
+from . import documents, meters
 from .beside import GIVES_WAY, Tasks, in_lanes
 from .listed import listed, with_below
 from .part import copy_part
@@ -135,6 +136,59 @@ class Texts(InRoom):
     def test_a_source_in_another_form_is_told(self):
         self.change(self.SOURCE, "Refusal::Taken => TAKEN,", "")
         self.assert_old(self.SOURCE)
+
+
+class Meters(InRoom):
+    """Sources that read a line on a meter that was not handed in."""
+
+    def setUp(self):
+        super().setUp()
+        shutil.copy(TOP / "crates.txt", self.room)
+        for name in with_below(listed(TOP), ["mkedit"]):
+            shutil.copytree(TOP / "crates" / name / "src", self.room / "crates" / name / "src")
+
+    def turned(self, file, old, new):
+        """What is said where the first of some words of a source are others."""
+        path = self.room / file
+        text = path.read_text(encoding="utf-8")
+        self.assertIn(old, text)
+        path.write_text(text.replace(old, new, 1), encoding="utf-8")
+        try:
+            return [*meters.problems(self.room)]
+        finally:
+            path.write_text(text, encoding="utf-8")
+
+    def test_no_source_reads_on_another_meter(self):
+        self.assertEqual([*meters.problems(TOP)], [])
+        self.assertEqual([*meters.problems(self.room)], [])
+
+    def test_a_source_that_may_read_on_another_meter_is_refused(self):
+        new = "&mut Meter::new()"
+        moves, read, unread = (f"crates/{it}.rt" for it in ("mk_edit/src/moves", "mk_tree/src/read", "mk_tree/src/unread"))
+        session, meter = (f"crates/{it}" for it in (meters.SESSION, meters.METER))
+        for turn in (
+            (moves, "Line::read(alloc, bytes, context, meter)", f"Line::read(alloc, bytes, context, {new})"),
+            (read, "(&bytes, &cells, context, meter)", f"(&bytes, &cells, context, {new})"),
+            (unread, "self.end.context = after;", f"let _ = read_again(line, {new}); self.end.context = after;"),
+            (session, "let _few = doc.len();", "let _few = doc.len(); let meter = Meter :: new();"),
+            ("crates/mk_queries/src/caveat.rt", "match name {", f"let _ = text(name, {new}); match name {{"),
+            ("crates/mkedit/src/main.rt", "fn main", "fn made() { let _ = mk_class::Meter::new; }\nfn main"),
+            (moves, "use mk_class::{Context, Meter};", "use mk_class::{Context, Meter as Count};"),
+            (moves, "use mk_class::{Context, Meter};", "use mk_class::{Context, Meter};\ntype Count = Meter;"),
+            (moves, "meter: &mut Meter", "meter: Meter"),
+            (meter, "#[derive(Debug, Drop)]", "#[derive(Clone, Debug, Drop)]"),
+            (meter, "    /// How many lines were", "    pub fn at(count: u64) -> Self { Meter { count } }\n    /// How many lines were"),
+            ("crates/mk_class/src/reading.rt", "fn text_class(", "pub fn text_class("),
+            (session, "let _few = doc.len();", "let _few = doc.len(); let _ = Session::open(alloc, b\"\", 1);"),
+            (moves, "use mk_class::{Context, Meter};", "use mk_class::{Context, Meter};\nfn f() { mk_session::Session::open_vec(); }"),
+            ("crates.txt", "mk_edit: mk_lines", "mk_edit: mk_queries mk_lines"),
+        ):
+            with self.subTest(turn=turn):
+                self.assertEqual(len(self.turned(*turn)), 1)
+
+    def test_comments_and_texts_make_no_meter(self):
+        self.assertEqual(self.turned("crates/mk_edit/src/moves.rt", "use mk_class", '// Meter::new() of "a\nuse mk_class'), [])
+        self.assertEqual(self.turned("crates/mkedit/src/main.rt", "fn main", 'const A: &str = "Meter::new()";\nfn main'), [])
 
 
 class WithRt(InRoom):
