@@ -6,8 +6,8 @@ ghost use Rattle.mk_session.specs.Sessions.{IsBadDepth};
 ghost use Rattle.mk_script.specs.Scripts.{numbered};
 ghost use Rattle.mk_run.specs.Outcome.{is_printed, may_report};
 ghost use Rattle.mk_run.specs.Runs.{IsTooLong, ended};
-ghost use Rattle.mk_run.specs.RunEnds.{HandsBack, IsRunOver, TellsEndOnce, written};
-ghost use Rattle.mk_run.specs.RunSteps.{AreObeyed, EndsCommands, GivesCommands, GivesSession, IsLeft, StopsCommands, StopsMakefile, StopsScript, is_before_makefile};
+ghost use Rattle.mk_run.specs.RunEnds.{IsRunOver, Leaves, TellsEndOnce, written};
+ghost use Rattle.mk_run.specs.RunSteps.{AreObeyed, EndsCommands, GivesCommands, GivesSession, StopsCommands, StopsMakefile, StopsScript, is_before_makefile};
 
 use crate::outcome::Outcome;
 use crate::report::report_refusal;
@@ -89,8 +89,8 @@ fn obey_all<A: Allocator + Copy, P: ByteSink>(
         (written (P.contents report.old) (P.contents report.new))) }
     ensures works { OnOk result (P.failed report.new ≡ false) }
     ensures stops { IfErr result (λ outcome.
-        StopsCommands keep_going (map numbered commands.now) session.old.shown (P.failed report.new)
-        (written (P.contents report.old) (P.contents report.new)) outcome) }
+        StopsCommands keep_going (map numbered commands.now) session.old.shown session.new.shown
+        (P.failed report.new) (written (P.contents report.old) (P.contents report.new)) outcome) }
     ensures unflushed { P.flushes report.new ≡ P.flushes report.old }
 {
     if commands.len() >= MANY_COMMANDS {
@@ -112,8 +112,8 @@ fn obey_each<A: Allocator + Copy, P: ByteSink>(
         (written (P.contents report.old) (P.contents report.new))) }
     ensures works { OnOk result (P.failed report.new ≡ false) }
     ensures stops { IfErr result (λ outcome.
-        StopsCommands keep_going (map numbered commands.now) session.old.shown (P.failed report.new)
-        (written (P.contents report.old) (P.contents report.new)) outcome) }
+        StopsCommands keep_going (map numbered commands.now) session.old.shown session.new.shown
+        (P.failed report.new) (written (P.contents report.old) (P.contents report.new)) outcome) }
     ensures unflushed { P.flushes report.new ≡ P.flushes report.old }
 {
     let mut refused = 0u64;
@@ -173,7 +173,7 @@ where
     requires out_works { W.failed out.old ≡ false }
     requires report_works { P.failed report.old ≡ false }
     ensures ends { EndsCommands keep_going (map numbered commands.now) session.old.shown
-        (P.failed report.new) (written (P.contents report.old) (P.contents report.new))
+        session.new.shown (P.failed report.new) (written (P.contents report.old) (P.contents report.new))
         (written (W.contents out.old) (W.contents out.new)) result }
     ensures unwritten { is_printed result keep_going ≡ false → W.failed out.new ≡ false
         → out.new ≡ out.old }
@@ -183,13 +183,10 @@ where
     ensures settled { is_printed result keep_going ≡ true
         → IfSome (W.pending out.new) (λ n. n ≡ 0) }
     ensures report { P.flushes report.new ≡ P.flushes report.old }
-    ensures kept { is_printed result keep_going ≡ true
-        → IsLeft keep_going (map numbered commands.now) session.old.shown session.new.shown
-        (written (W.contents out.old) (W.contents out.new)) }
 {
     let refused = match obey_all(session, commands, keep_going, report) {
         Ok(refused) => refused,
-        Err(outcome) => return outcome,
+        Err(early) => return early,
     };
     match put_out(session, out) {
         Ok(()) if refused == 0 => Outcome::Done,
@@ -238,9 +235,9 @@ where
         → IfSome (W.pending out.new) (λ n. n ≡ 0) }
     ensures report { P.flushes report.new ≡ P.flushes report.old }
     ensures kept { (script : Option (List ℕ)) → GivesCommands script (map numbered commands.now)
-        → is_printed result keep_going ≡ true
-        → HandsBack (R.remaining makefile.old) script depth keep_going
-        (written (W.contents out.old) (W.contents out.new)) kept.new }
+        → Leaves (R.remaining makefile.old) script depth keep_going
+        (P.failed report.new) (written (P.contents report.old) (P.contents report.new))
+        (written (W.contents out.old) (W.contents out.new)) kept.old kept.new result }
 {
     let session = match open_makefile(alloc, makefile, depth) {
         Ok(session) => session,
@@ -335,9 +332,14 @@ where
 /// Runs a script over a makefile as [`run`] does, and leaves the session in `kept`.
 ///
 /// A session owns a box for each line, so giving it up takes time. A program that ends after the
-/// run keeps it from being given up, by `mem::forget`; another one may go on with it. If the text
-/// was written, `kept` has the session after the commands, with all that can be undone and redone.
-/// If the run ended before the makefile was opened, `kept` is what it was.
+/// run keeps it from being given up, by `mem::forget`; another one may go on with it. What `kept`
+/// has after the run, with all that can be undone and redone:
+///
+/// - if no command was reached, what it was;
+/// - if all commands were obeyed, the session after them, with no group open, whether the text is
+///   out or not;
+/// - if the run ended at a command, the session after the commands before it. A group that was open
+///   stays open.
 pub fn run_keeping<A, R, S, W, P>(
     alloc: A,
     makefile: &mut R,
@@ -399,10 +401,11 @@ where
         → IfSome (W.pending out.new) (λ n. n ≡ 0) }
     ensures report { P.flushes report.new ≡ P.flushes report.old }
 
-    // If the text is out, the session that the commands lead to is handed back.
-    ensures kept { is_printed result keep_going ≡ true
-        → HandsBack (R.remaining makefile.old) (S.remaining script.old) depth keep_going
-        (written (W.contents out.old) (W.contents out.new)) kept.new }
+    // If no command was reached, `kept` is what it was. Otherwise the session is handed back, as the
+    // commands left it that were done.
+    ensures kept { Leaves (R.remaining makefile.old) (S.remaining script.old) depth keep_going
+        (P.failed report.new) (written (P.contents report.old) (P.contents report.new))
+        (written (W.contents out.old) (W.contents out.new)) kept.old kept.new result }
 {
     if depth < 1 || depth > MAX_DEPTH {
         return Outcome::BadDepth;

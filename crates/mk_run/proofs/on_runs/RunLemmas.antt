@@ -8,9 +8,9 @@ use Rattle.mk_session.specs.Sessions.{Seen, IsBadDepth}
 use Rattle.mk_script.specs.Scripts.{CommandAt}
 use Rattle.mk_run.specs.ObeyedCommands.{obeyed}
 use Rattle.mk_run.specs.Runs.{RunResult, stopped, ended, outcome_after, output_after, result_after}
-use Rattle.mk_run.specs.RunEnds.{HasText, GoesOn, Written, written, IsOut, IsPrefixOut, IsWhole, IsCut, EndsAs, HandsBack, IsRunOver}
+use Rattle.mk_run.specs.RunEnds.{HasText, GoesOn, Written, written, IsOut, IsPrefixOut, IsWhole, IsCut, EndsAs, IsLeft, IsLeftRefused, IsLeftShort, IsLeftCut, HandsBack, Leaves, IsRunOver}
 use Rattle.mk_run.specs.Outcome.{is_printed, may_report}
-use Rattle.mk_run.specs.RunSteps.{GivesCommands, GivesSession, AreObeyed, AreEnded, IsLeft, StopsScript, StopsMakefile, StopsCommands, EndsCommands, is_before_makefile}
+use Rattle.mk_run.specs.RunSteps.{GivesCommands, GivesSession, AreObeyed, AreEnded, StopsScript, StopsMakefile, StopsCommands, EndsCommands, is_before_makefile}
 use Rattle.mk_run.specs.declared.outcome.Outcome as o
 use Rattle.mk_run.specs.declared.outcome.Outcome.TheVariants.{Done, Refused, NotACommand, BadDepth, TooLong, TooDeep, Read, Write, NoMemory}
 use Rattle.mk_run.proofs.on_runs.ResultLemmas.{has-run}
@@ -161,10 +161,36 @@ begun-not_bad outcome begun h = let on : is_before_makefile outcome ≡ true = a
 pub begun-not_no_command : (outcome : o.Outcome) (line : ℕ) → is_before_makefile outcome ≡ false → outcome ≡ NotACommand line → ⊥
 begun-not_no_command outcome line begun h = let on : is_before_makefile outcome ≡ true = ap is_before_makefile h in absurd (cc)
 
+-- what is left where no command was reached
+module _ (makefile script : Option (List ℕ)) (depth : ℕ) (k : Bool) (failed : Bool) (report : Option (List ℕ)) (out : Written) (before : Option Seen) where
+  pub script-leaves : (bytes : Option (List ℕ)) (reader_failed : Bool) (outcome : o.Outcome) → StopsScript bytes reader_failed outcome
+      → Leaves makefile script depth k failed (written report report) out before before outcome
+  script-leaves bytes reader_failed TooLong stops = refl
+  script-leaves bytes reader_failed (NotACommand line) stops = refl
+  script-leaves bytes reader_failed NoMemory stops = inl (refl, Keeps-refl report)
+  script-leaves bytes reader_failed Read stops = refl
+  script-leaves bytes reader_failed Done stops = absurd stops
+  script-leaves bytes reader_failed (Refused n) stops = absurd stops
+  script-leaves bytes reader_failed BadDepth stops = absurd stops
+  script-leaves bytes reader_failed TooDeep stops = absurd stops
+  script-leaves bytes reader_failed Write stops = absurd stops
+
+  pub makefile-leaves : (bytes : Option (List ℕ)) (reader_failed : Bool) (outcome : o.Outcome) → StopsMakefile bytes reader_failed outcome
+      → Leaves makefile script depth k failed (written report report) out before before outcome
+  makefile-leaves bytes reader_failed TooLong stops = refl
+  makefile-leaves bytes reader_failed TooDeep stops = refl
+  makefile-leaves bytes reader_failed NoMemory stops = inl (refl, Keeps-refl report)
+  makefile-leaves bytes reader_failed Read stops = refl
+  makefile-leaves bytes reader_failed Done stops = absurd stops
+  makefile-leaves bytes reader_failed (Refused n) stops = absurd stops
+  makefile-leaves bytes reader_failed (NotACommand line) stops = absurd stops
+  makefile-leaves bytes reader_failed BadDepth stops = absurd stops
+  makefile-leaves bytes reader_failed Write stops = absurd stops
+
 -- ---- the commands
 
 -- a text goes out where the run goes on
-output-some : (k : Bool) (n : ℕ) (text : List ℕ) → GoesOn k n → output_after k n text ≡ Some text
+pub output-some : (k : Bool) (n : ℕ) (text : List ℕ) → GoesOn k n → output_after k n text ≡ Some text
 output-some true n text on = refl
 output-some false zero text on = refl
 output-some false (suc n) text on = absurd (omega (arith, on refl))
@@ -179,10 +205,15 @@ refused-is : (n : ℕ) → (n ≡ 0 → ⊥) → Refused n ≡ outcome_after n
 refused-is zero some = absurd (some refl)
 refused-is (suc n) some = refl
 
+-- the run went on after a refusal
+pub printed-refused : (k : Bool) (n : ℕ) → GoesOn k n → (n ≡ 0 → ⊥) → k ≡ true
+printed-refused true n on some = refl
+printed-refused false n on some = absurd (some (on refl))
+
 module _ (k : Bool) (commands : List CommandAt) (first : Shown (List ℕ)) where
-  ended-by_refusal : (n : ℕ) (report : Written) (out : Option (List ℕ)) → AreEnded k commands first n report
+  ended-by_refusal : (last : Shown (List ℕ)) (n : ℕ) (report : Written) (out : Option (List ℕ)) → AreEnded k commands first last n report
       → IsWhole (result_after k (obeyed k commands first)) (Refused n) report (written out out)
-  ended-by_refusal n report out are =
+  ended-by_refusal last n report out are =
       let did = obeyed k commands first in
       record {
         outcome_is = rw are.one (ap outcome_after (sym are.one ∙ are.number));
@@ -191,19 +222,26 @@ module _ (k : Bool) (commands : List CommandAt) (first : Shown (List ℕ)) where
             (no-output did.refused (ended did.shown).text (λ text. Appends out out text) (sym are.number ∙ are.one));
       }
 
+  left-by_refusal : (last : Shown (List ℕ)) (n : ℕ) (report out : Written) → AreEnded k commands first last n report → IsLeftRefused k commands first last out
+  left-by_refusal last n report out are =
+      subst (λ (q : Bool). IsLeftRefused q commands first last out) (sym are.ends)
+      (subst (λ (q : Bool). last ≡ (obeyed q commands first).shown) are.ends are.shown)
+
   -- the commands did not come to their end, and nothing is out
-  pub stopped-ends : (failed : Bool) (outcome : o.Outcome) (report : Written) (out : Option (List ℕ)) → StopsCommands k commands first failed report outcome
-      → EndsCommands k commands first failed report (written out out) outcome
-  stopped-ends failed (Refused n) report out (works, are) = ended-by_refusal n report out are
-  stopped-ends failed NoMemory report out (works, are) = are
-  stopped-ends failed Write report out (fails, cut) =
-      subst (λ (f : Bool). IsCut (result_after k (obeyed k commands first)) f report (written out out)) (sym fails) cut
-  stopped-ends failed Done report out stops = absurd stops
-  stopped-ends failed (NotACommand line) report out stops = absurd stops
-  stopped-ends failed BadDepth report out stops = absurd stops
-  stopped-ends failed TooLong report out stops = absurd stops
-  stopped-ends failed TooDeep report out stops = absurd stops
-  stopped-ends failed Read report out stops = absurd stops
+  pub stopped-ends : (last : Shown (List ℕ)) (failed : Bool) (outcome : o.Outcome) (report : Written) (out : Option (List ℕ)) → StopsCommands k commands first last failed report outcome
+      → EndsCommands k commands first last failed report (written out out) outcome
+  stopped-ends last failed (Refused n) report out (works, are) = (ended-by_refusal last n report out are, left-by_refusal last n report (written out out) are)
+  stopped-ends last failed NoMemory report out (works, short) = short
+  stopped-ends last failed Write report out (fails, cut, left) = (
+    subst (λ (f : Bool). IsCut (result_after k (obeyed k commands first)) f report (written out out)) (sym fails) cut,
+    subst (λ (f : Bool). IsLeftCut k f commands first last) (sym fails) left,
+  )
+  stopped-ends last failed Done report out stops = absurd stops
+  stopped-ends last failed (NotACommand line) report out stops = absurd stops
+  stopped-ends last failed BadDepth report out stops = absurd stops
+  stopped-ends last failed TooLong report out stops = absurd stops
+  stopped-ends last failed TooDeep report out stops = absurd stops
+  stopped-ends last failed Read report out stops = absurd stops
 
   module _ (last : Shown (List ℕ)) (n : ℕ) (report : Written) (are : AreObeyed k commands first last n report) where
     -- the text goes out
@@ -220,51 +258,58 @@ module _ (k : Bool) (commands : List CommandAt) (first : Shown (List ℕ)) where
       written = if_some-is (output_after k (obeyed k commands first).refused (ended (obeyed k commands first).shown).text) (ended last).text (λ text. IsOut out text) text-goes whole;
     }
 
-    -- no command was refused, and the text is out
-    pub done-ends : (failed : Bool) (out : Written) → n ≡ 0 → IsOut out (ended last).text → EndsCommands k commands first failed report out Done
-    done-ends failed out none whole = wholly Done out (ap outcome_after (sym none)) whole
+    -- what is shown at the end
+    module _ (new : Shown (List ℕ)) (is : new ≡ ended last) where
+      all-left : (out : Written) → IsOut out (ended last).text → IsLeft k commands first new out
+      all-left out whole = record {
+        shown = is ∙ ap ended are.shown;
+        is_out = subst (λ (s : Shown (List ℕ)). IsOut out s.text) (sym is) whole;
+      }
 
-    -- some commands were refused, and the text is out
-    pub refused-ends : (failed : Bool) (out : Written) → (n ≡ 0 → ⊥) → IsOut out (ended last).text → EndsCommands k commands first failed report out (Refused n)
-    refused-ends failed out some whole = wholly (Refused n) out (refused-is n some) whole
+      -- no command was refused, and the text is out
+      pub done-ends : (failed : Bool) (out : Written) → n ≡ 0 → IsOut out (ended last).text → EndsCommands k commands first new failed report out Done
+      done-ends failed out none whole = (wholly Done out (ap outcome_after (sym none)) whole, all-left out whole)
 
-    -- the text could not be written or flushed
-    pub cut-ends : (failed : Bool) (out : Written) → failed ≡ false → IsPrefixOut out (ended last).text → EndsCommands k commands first failed report out Write
-    cut-ends failed out works cut =
+      -- some commands were refused, and the text is out
+      pub refused-ends : (failed : Bool) (out : Written) → (n ≡ 0 → ⊥) → IsOut out (ended last).text → EndsCommands k commands first new failed report out (Refused n)
+      refused-ends failed out some whole =
+          let on = printed-refused k n are.goes_on some in (
+            wholly (Refused n) out (refused-is n some) whole,
+            subst (λ (q : Bool). IsLeftRefused q commands first new out) (sym on) (subst (λ (q : Bool). IsLeft q commands first new out) on (all-left out whole)),
+          )
+
+      -- the text could not be written or flushed
+      pub cut-ends : (failed : Bool) (out : Written) → failed ≡ false → IsPrefixOut out (ended last).text → EndsCommands k commands first new failed report out Write
+      cut-ends failed out works cut = (
         subst (λ (f : Bool). IsCut (result_after k (obeyed k commands first)) f report out) (sym works)
-        (are.reported, ((ended last).text, text-goes, cut))
+            (are.reported, ((ended last).text, text-goes, cut)),
+        subst (λ (f : Bool). IsLeftCut k f commands first new) (sym works) (is ∙ ap ended are.shown),
+      )
 
-    -- what is shown after the commands
-    pub obeyed-left : (new : Shown (List ℕ)) (out : Written) → new ≡ ended last → IsOut out (ended last).text → IsLeft k commands first new out
-    obeyed-left new out is whole = record {
-      shown = is ∙ ap ended are.shown;
-      is_out = subst (λ (s : Shown (List ℕ)). IsOut out s.text) (sym is) whole;
-    }
-
-pub ends-not_before : (k : Bool) (commands : List CommandAt) (first : Shown (List ℕ)) (failed : Bool) (report out : Written) (outcome : o.Outcome) → EndsCommands k commands first failed report out outcome
+pub ends-not_before : (k : Bool) (commands : List CommandAt) (first last : Shown (List ℕ)) (failed : Bool) (report out : Written) (outcome : o.Outcome) → EndsCommands k commands first last failed report out outcome
     → is_before_makefile outcome ≡ false
-ends-not_before k commands first failed report out Done ends = refl
-ends-not_before k commands first failed report out (Refused n) ends = refl
-ends-not_before k commands first failed report out NoMemory ends = refl
-ends-not_before k commands first failed report out Write ends = refl
-ends-not_before k commands first failed report out (NotACommand line) ends = absurd ends
-ends-not_before k commands first failed report out BadDepth ends = absurd ends
-ends-not_before k commands first failed report out TooLong ends = absurd ends
-ends-not_before k commands first failed report out TooDeep ends = absurd ends
-ends-not_before k commands first failed report out Read ends = absurd ends
+ends-not_before k commands first last failed report out Done ends = refl
+ends-not_before k commands first last failed report out (Refused n) ends = refl
+ends-not_before k commands first last failed report out NoMemory ends = refl
+ends-not_before k commands first last failed report out Write ends = refl
+ends-not_before k commands first last failed report out (NotACommand line) ends = absurd ends
+ends-not_before k commands first last failed report out BadDepth ends = absurd ends
+ends-not_before k commands first last failed report out TooLong ends = absurd ends
+ends-not_before k commands first last failed report out TooDeep ends = absurd ends
+ends-not_before k commands first last failed report out Read ends = absurd ends
 
 -- the commands were reached
-pub ends-reached : (k : Bool) (commands : List CommandAt) (first : Shown (List ℕ)) (failed : Bool) (report out : Written) (outcome : o.Outcome) → EndsCommands k commands first failed report out outcome
+pub ends-reached : (k : Bool) (commands : List CommandAt) (first last : Shown (List ℕ)) (failed : Bool) (report out : Written) (outcome : o.Outcome) → EndsCommands k commands first last failed report out outcome
     → may_report outcome ≡ true
-ends-reached k commands first failed report out Done ends = refl
-ends-reached k commands first failed report out (Refused n) ends = refl
-ends-reached k commands first failed report out NoMemory ends = refl
-ends-reached k commands first failed report out Write ends = refl
-ends-reached k commands first failed report out (NotACommand line) ends = absurd ends
-ends-reached k commands first failed report out BadDepth ends = absurd ends
-ends-reached k commands first failed report out TooLong ends = absurd ends
-ends-reached k commands first failed report out TooDeep ends = absurd ends
-ends-reached k commands first failed report out Read ends = absurd ends
+ends-reached k commands first last failed report out Done ends = refl
+ends-reached k commands first last failed report out (Refused n) ends = refl
+ends-reached k commands first last failed report out NoMemory ends = refl
+ends-reached k commands first last failed report out Write ends = refl
+ends-reached k commands first last failed report out (NotACommand line) ends = absurd ends
+ends-reached k commands first last failed report out BadDepth ends = absurd ends
+ends-reached k commands first last failed report out TooLong ends = absurd ends
+ends-reached k commands first last failed report out TooDeep ends = absurd ends
+ends-reached k commands first last failed report out Read ends = absurd ends
 
 pub reached-not_read : (outcome : o.Outcome) → may_report outcome ≡ true → outcome ≡ Read → ⊥
 reached-not_read outcome reached h = let off : may_report outcome ≡ false = ap may_report h in absurd (cc)
@@ -287,37 +332,49 @@ module _ (makefile script : Option (List ℕ)) (depth : ℕ) (k : Bool) (command
   first-is : seen.shown ≡ shown_opened depth opens.text
   first-is = ap (λ (s : Seen). s.shown) opens.opened
 
-  pub commands-over : (failed : Bool) (report out : Written) (outcome : o.Outcome) → EndsCommands k commands seen.shown failed report out outcome
-      → IsRunOver makefile script depth k outcome failed report out
-  commands-over failed report out outcome ends = go outcome (subst (λ (s : Shown (List ℕ)). EndsCommands k commands s failed report out outcome) first-is ends)
-    where
-      go : (outcome : o.Outcome) → EndsCommands k commands (shown_opened depth opens.text) failed report out outcome → IsRunOver makefile script depth k outcome failed report out
-      go Done ends = of-commands Done failed report out ends
-      go (Refused n) ends = of-commands (Refused n) failed report out ends
-      go NoMemory are =
-          of-commands NoMemory failed report out (inr (record { commands = commands; lines = are.lines; are_commands = says.is_script; result_is = refl; is_short = are.is_short; is_out = are.is_out }))
-      go Write ends = of-commands Write failed report out ends
-      go (NotACommand line) ends = absurd ends
-      go BadDepth ends = absurd ends
-      go TooLong ends = absurd ends
-      go TooDeep ends = absurd ends
-      go Read ends = absurd ends
+  module _ (failed : Bool) (report out : Written) (session : Seen) where
+    -- the run of the commands is over
+    pub commands-over : (outcome : o.Outcome) → EndsCommands k commands seen.shown session.shown failed report out outcome
+        → IsRunOver makefile script depth k outcome failed report out
+    commands-over outcome ends = go outcome (subst (λ (s : Shown (List ℕ)). EndsCommands k commands s session.shown failed report out outcome) first-is ends)
+      where
+        go : (outcome : o.Outcome) → EndsCommands k commands (shown_opened depth opens.text) session.shown failed report out outcome → IsRunOver makefile script depth k outcome failed report out
+        go Done ends = of-commands Done failed report out ends.0
+        go (Refused n) ends = of-commands (Refused n) failed report out ends.0
+        go NoMemory short =
+            of-commands NoMemory failed report out (inr (record { commands = commands; lines = short.lines; are_commands = says.is_script; result_is = refl; is_short = short.is_short; is_out = short.is_out }))
+        go Write ends = of-commands Write failed report out ends.0
+        go (NotACommand line) ends = absurd ends
+        go BadDepth ends = absurd ends
+        go TooLong ends = absurd ends
+        go TooDeep ends = absurd ends
+        go Read ends = absurd ends
 
-  -- the session after the commands is handed back
-  pub hands-back : (session : Seen) (out : Written) → IsLeft k commands seen.shown session.shown out → HandsBack makefile script depth k out (Some session)
-  hands-back session out left = record {
-    makefile_text = opens.text;
-    script_text = says.text;
-    commands = commands;
-    of_makefile = opens.has_text;
-    of_script = says.has_text;
-    are_commands = says.is_script;
-    shown = subst (λ (s : Shown (List ℕ)). session.shown ≡ ended (obeyed k commands s).shown) first-is left.shown;
-    is_out = left.is_out;
-  }
+    session-of : (Shows : List CommandAt → (first last : Shown (List ℕ)) → Type 0) → Shows commands (shown_opened depth opens.text) session.shown
+        → HandsBack makefile script depth Shows (Some session)
+    session-of Shows shows = record {
+      makefile_text = opens.text;
+      script_text = says.text;
+      commands = commands;
+      of_makefile = opens.has_text;
+      of_script = says.has_text;
+      are_commands = says.is_script;
+      shows = shows;
+    }
 
--- ---- the text is out
-
-pub printed-refused : (k : Bool) (n : ℕ) → GoesOn k n → (n ≡ 0 → ⊥) → k ≡ true
-printed-refused true n on some = refl
-printed-refused false n on some = absurd (some (on refl))
+    -- the session that the commands leave is handed back
+    pub commands-leave : (before : Option Seen) (outcome : o.Outcome) → EndsCommands k commands seen.shown session.shown failed report out outcome
+        → Leaves makefile script depth k failed report out before (Some session) outcome
+    commands-leave before outcome ends = go outcome (subst (λ (s : Shown (List ℕ)). EndsCommands k commands s session.shown failed report out outcome) first-is ends)
+      where
+        go : (outcome : o.Outcome) → EndsCommands k commands (shown_opened depth opens.text) session.shown failed report out outcome
+            → Leaves makefile script depth k failed report out before (Some session) outcome
+        go Done ends = session-of (λ commands first last. IsLeft k commands first last out) ends.1
+        go (Refused n) ends = session-of (λ commands first last. IsLeftRefused k commands first last out) ends.1
+        go NoMemory short = inr (session-of (λ commands first last. IsLeftShort k commands first last report) short)
+        go Write ends = session-of (λ commands first last. IsLeftCut k failed commands first last) ends.1
+        go (NotACommand line) ends = absurd ends
+        go BadDepth ends = absurd ends
+        go TooLong ends = absurd ends
+        go TooDeep ends = absurd ends
+        go Read ends = absurd ends

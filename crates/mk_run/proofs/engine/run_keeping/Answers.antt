@@ -1,7 +1,7 @@
 use Rattle.std.proofs.Common.{map, inl, inr}
 use Rattle.mk_script.specs.Scripts.{numbered}
 use Rattle.mk_run.proofs.on_runs.ReadLemmas.{short-script}
-use Rattle.mk_run.proofs.on_runs.RunLemmas.{good-depth, depth-stops, script-stops, begun-not_bad, begun-not_no_command}
+use Rattle.mk_run.proofs.on_runs.RunLemmas.{good-depth, depth-stops, script-stops, script-leaves, begun-not_bad, begun-not_no_command}
 use Rattle.mk_run.proofs.engine.run_keeping.Goals as goal
 use Rattle.mk_run.proofs.engine.run_keeping.Goals.{then-depth-lt1-via-then-depth-lt1, then-depth-lt1-via-else-depth-lt1+then-depth-gt-MAX_DEPTH}
 
@@ -21,7 +21,10 @@ pub returns-clause-law : goal.returns-clause-law
 returns-clause-law g c = c.run_commands.ensures.law _ (rw c.as_slice.ensures.value c.in-Ok.ensures.commands)
 
 pub returns-clause-kept : goal.returns-clause-kept
-returns-clause-kept g c = λ on. c.run_commands.ensures.kept _ (rw c.as_slice.ensures.value c.in-Ok.ensures.commands) on
+returns-clause-kept g c = c.run_commands.ensures.kept _ (rw c.as_slice.ensures.value c.in-Ok.ensures.commands)
+
+pub returns-in-Err-clause-kept : goal.returns-in-Err-clause-kept
+returns-in-Err-clause-kept g c = script-leaves _ _ c.args.depth c.args.keep_going _ _ _ _ _ _ c.in-Err.outcome c.in-Err.ensures.stops
 
 pub returns-clause-unread : goal.returns-clause-unread
 returns-clause-unread g c = λ is. absurd (begun-not_bad c.run_commands.result c.run_commands.ensures.begun is)
