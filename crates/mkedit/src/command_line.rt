@@ -11,8 +11,9 @@ use mk_history::history::MAX_DEPTH;
 use mk_session::Refusal;
 use std::alloc::{AllocError, Global};
 
-/// The version that `--version` names. CHANGELOG.md says what is new in it.
-const VERSION: &str = "0.1.0";
+/// The version that `--version` names, of which CHANGELOG.md says what is new, and a place for the
+/// commit: tools/link writes its first twelve digits over `not recorded` in the built program.
+const VERSION: &str = "0.1.0 (commit not recorded)";
 
 /// How many edits can be undone, where the command line does not say it.
 const DEFAULT_DEPTH: &str = "100";
