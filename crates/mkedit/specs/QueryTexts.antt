@@ -3,8 +3,8 @@
 use Rattle.std.specs.Prelude.{ℕ, List}
 use Rattle.mk_queries.specs.Queries.{vars_text, rules_text, check_text}
 use Rattle.mk_queries.specs.Caveats.{caveats_text}
-use Rattle.mkedit.specs.declared.query.Query.{Query}
-use Rattle.mkedit.specs.declared.query.Query.TheVariants.{Vars, Rules, Check, Caveats}
+use Rattle.mk_command_line.specs.declared.request.Query.{Query}
+use Rattle.mk_command_line.specs.declared.request.Query.TheVariants.{Vars, Rules, Check, Caveats}
 
 abbrev pub query_text : Query → List ℕ → List ℕ
 query_text Vars text = vars_text text

@@ -4,44 +4,13 @@ ghost use Rattle.std.specs.Prelude.{◌≡◌, false};
 use crate::files::{CannotOpen, open};
 use crate::in_place::InPlaceFile;
 use crate::out_file::OutFile;
+use mk_command_line::{EditWords, Output, Script};
 use mk_lines::{ByteSink, ByteSource, StdSink, StdSource};
 use mk_run::{Outcome, run_keeping};
 use std::mem;
 
-/// Where the commands come from.
-#[derive(Drop)]
-pub enum Script<'a> {
-    /// The file of this name.
-    File(&'a str),
-    /// The command line: these lines.
-    Lines(String),
-}
-
-/// Where the text goes.
-#[derive(Clone, Copy)]
-pub enum Output<'a> {
-    /// To standard output.
-    Standard,
-    /// To the file of this name, which is written in place of what it has.
-    File(&'a str),
-    /// To the makefile of this name, which is the old file or the new one at every moment.
-    InPlace(&'a str),
-}
-
-/// What the words of the command say.
-#[derive(Drop)]
-pub struct EditWords<'a> {
-    /// Whether the commands after a refused one are done.
-    pub keep_going: bool,
-    /// How many edits can be undone.
-    pub depth: u32,
-    /// Where the text goes.
-    pub output: Output<'a>,
-    /// Where the commands come from.
-    pub script: Script<'a>,
-    /// The name of the makefile; without one it is standard input.
-    pub file: Option<&'a str>,
-}
+// The command line takes the depths that a history has.
+const _: () = prove!(mk_command_line::MAX_DEPTH == mk_history::history::MAX_DEPTH);
 
 // Runs the script over the makefile, with the text to a sink. The session is not given up: the
 // program ends soon, and a box for each line would be given up one by one.

@@ -1,5 +1,5 @@
 //! `mkedit explain`: why a command is refused, and what to do then.
-ghost use Rattle.std.specs.Prelude.{◌≡◌, ◌++◌, List, All, IfSome, IfNone, IfErr, OnOk, false, true, is_ok};
+ghost use Rattle.std.specs.Prelude.{◌≡◌, ◌++◌, List, All, IfSome, IfNone, IfErr, OnOk, MatchResult, false, true, is_ok};
 ghost use Rattle.std.specs.Io.KnownBytes.{Appends};
 ghost use Rattle.mk_lines.specs.Device.{AppendsPrefix, count_if};
 ghost use Rattle.mk_edit_laws.specs.declared.refusal.Refusal.{Refusal};
@@ -10,6 +10,7 @@ use mk_lines::sink::write_parts;
 use mk_lines::{ByteSink, Fault, StdSink};
 use mk_run::Outcome;
 use mk_session::{Field, Refusal};
+use std::str::FromStr;
 
 // Whether the word is the refusal's name, or its number in decimal digits.
 fn is_called(word: &str, refusal: &Refusal) -> bool
@@ -61,6 +62,29 @@ pub fn refusal_of(word: &str) -> Option<Refusal>
         Refusal::NoMemory,
     ];
     first_called(word, &refusals)
+}
+
+/// A refusal that a word of the command line calls.
+#[derive(Clone, Copy, Drop)]
+pub struct CalledRefusal(pub Refusal);
+
+/// The word calls no refusal.
+#[derive(Clone, Copy, Debug, Drop)]
+pub struct NoRefusal;
+
+impl FromStr for CalledRefusal {
+    type Err = NoRefusal;
+
+    ghost from_str_gives = { λ word called. MatchResult called
+        (λ r. is_called word r.0 ≡ true)
+        (λ _. (refusal : Refusal) → is_called word refusal ≡ false) };
+
+    fn from_str(word: &str) -> Result<CalledRefusal, NoRefusal> {
+        match refusal_of(word) {
+            Some(refusal) => Ok(CalledRefusal(refusal)),
+            None => Err(NoRefusal),
+        }
+    }
 }
 
 /// Writes a text on a refusal below its number and its name, and flushes it once.

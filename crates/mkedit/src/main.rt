@@ -1,7 +1,6 @@
 //! The program `mkedit`: edits a makefile by a script, and keeps every byte that no edit concerns.
+//! What its words ask for, [`mk_command_line`] reads.
 //!
-//! - `command_line`: what the words of the command line ask for.
-//! - `help`: the texts of help.
 //! - `edit`: a script over a makefile, by [`mk_run::run`].
 //! - `query`: what a makefile has, by [`mk_queries`].
 //! - `explain`: why a command is refused; `explanations` has the texts.
@@ -10,19 +9,18 @@
 //! - `ending`: the message and the status.
 #![tactic(auto)]
 
-mod command_line;
 mod edit;
 mod ending;
 mod explain;
 mod explanations;
 mod files;
-mod help;
 mod in_place;
 mod out_file;
 mod query;
 
-use command_line::{Request, read_request};
 use ending::{BAD_COMMAND_LINE, answered, ended, not_opened};
+use explain::CalledRefusal;
+use mk_command_line::{Request, read_request};
 use mk_run::Outcome;
 use std::io::ErrorKind;
 use std::process::ExitCode;
@@ -47,7 +45,7 @@ fn done(rt: &HostRuntime, words: &[String]) -> ExitCode {
     let outcome = match read_request(rt.alloc(), words) {
         Ok(Request::Edit(words)) => edit::edit(rt, &words),
         Ok(Request::Query(query, file)) => query::ask(rt, query, file),
-        Ok(Request::Explain(refusal)) => Ok(explain::explain(rt, &refusal)),
+        Ok(Request::Explain(CalledRefusal(refusal))) => Ok(explain::explain(rt, &refusal)),
         Err(error) => return answered(rt, &error),
     };
     match outcome {

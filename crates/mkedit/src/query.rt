@@ -9,6 +9,7 @@ ghost use Rattle.mk_tree.specs.Documents.{IsFaithful, IsTooDeep};
 ghost use Rattle.mkedit.specs.QueryTexts.{query_text};
 
 use crate::files::{CannotOpen, open};
+use mk_command_line::Query;
 use mk_lines::source::read_all;
 use mk_lines::{ByteSink, ByteSource, Fault, StdSink, StdSource};
 use mk_queries::{caveats, check, rules, vars};
@@ -20,19 +21,6 @@ use std::mem;
 
 // A session that is only looked at: the least depth there is.
 const DEPTH: u32 = 1;
-
-/// What a makefile is asked for.
-#[derive(Clone, Copy)]
-pub enum Query {
-    /// Its assignments.
-    Vars,
-    /// Its rules.
-    Rules,
-    /// The lines that are kept and not read inside.
-    Check,
-    /// The lines that make may read otherwise.
-    Caveats,
-}
 
 // Writes the answer, and flushes it once.
 fn put_out<A: Allocator, W: ByteSink>(query: Query, doc: &Doc<A>, out: &mut W) -> Result<(), Fault>

@@ -1,7 +1,10 @@
 //! The texts of help: what each command does, with an example of it.
 
+use crate::command_name::CommandName;
+use crate::request::Query;
+
 /// Below the help of the program itself.
-pub const PROGRAM: &str = "\
+pub(crate) const PROGRAM: &str = "\
 Examples:
     mkedit edit use-clang config.mk              prints config.mk as the script use-clang edits it
     mkedit edit -e 'set CC clang' config.mk      does so by the command that is given
@@ -10,11 +13,11 @@ Examples:
 `mkedit help COMMAND` has an example of each command.
 ";
 
-/// What `edit` does, in a line.
-pub const ABOUT_EDIT: &str = "Runs a script of edits over a makefile, and prints the text";
+// What `edit` does, in a line.
+const ABOUT_EDIT: &str = "Runs a script of edits over a makefile, and prints the text";
 
-/// Below the help of `edit`.
-pub const EDIT: &str = "\
+// Below the help of `edit`.
+const EDIT: &str = "\
 A line of the script is a command, a comment that begins with #, or blank:
     set NAME VALUE            append NAME VALUE           unset NAME
     assign PLACE NAME OP VALUE                            rename OLD NEW
@@ -42,11 +45,11 @@ Status: 0 done, 1 a command was refused, 2 a bad command line or script, 3 a fau
 writing, a limit or memory.
 ";
 
-/// What `vars` does, in a line.
-pub const ABOUT_VARS: &str = "Lists the assignments of a makefile";
+// What `vars` does, in a line.
+const ABOUT_VARS: &str = "Lists the assignments of a makefile";
 
-/// Below the help of `vars`.
-pub const VARS: &str = "\
+// Below the help of `vars`.
+const VARS: &str = "\
 A line for each assignment: the number of its line, how many conditionals are open there, and the
 assignment with its folds joined and without its comment.
 
@@ -57,11 +60,11 @@ prints
     4:0: all: CC = gcc
 ";
 
-/// What `rules` does, in a line.
-pub const ABOUT_RULES: &str = "Lists the rules of a makefile";
+// What `rules` does, in a line.
+const ABOUT_RULES: &str = "Lists the rules of a makefile";
 
-/// Below the help of `rules`.
-pub const RULES: &str = "\
+// Below the help of `rules`.
+const RULES: &str = "\
 A line for each rule: the number of its line, how many conditionals are open there, the line with its
 folds joined, and how many recipe lines the rule has.
 
@@ -72,11 +75,11 @@ prints
     3:0: %.o: %.c [0]
 ";
 
-/// What `check` does, in a line.
-pub const ABOUT_CHECK: &str = "Lists the lines of a makefile that are kept and not read inside";
+// What `check` does, in a line.
+const ABOUT_CHECK: &str = "Lists the lines of a makefile that are kept and not read inside";
 
-/// Below the help of `check`.
-pub const CHECK: &str = "\
+// Below the help of `check`.
+const CHECK: &str = "\
 A line for each line that no edit and no other query looks into: the number of the line, and `rough`
 for a rule with something in it that is not read, such as a backslash, or `opaque` for any other line.
 Then how many conditionals and defines are still open at the end, where some are.
@@ -89,11 +92,11 @@ prints
     end: conditionals 1
 ";
 
-/// What `caveats` does, in a line.
-pub const ABOUT_CAVEATS: &str = "Lists the lines of a makefile that make may read otherwise";
+// What `caveats` does, in a line.
+const ABOUT_CAVEATS: &str = "Lists the lines of a makefile that make may read otherwise";
 
-/// Below the help of `caveats`.
-pub const CAVEATS: &str = "\
+// Below the help of `caveats`.
+const CAVEATS: &str = "\
 A line for each line that make may read otherwise than mkedit does: the number of the line, and what
 make may do with it. Look at these lines before an edit. docs/LANGUAGE.md has what each sentence means,
 and what else make may read otherwise, of which nothing is said here.
@@ -105,11 +108,11 @@ prints
 since make skips `X = 1` where DEBUG is not set, and then the tab begins a recipe line of all.
 ";
 
-/// What `explain` does, in a line.
-pub const ABOUT_EXPLAIN: &str = "Says why a command is refused, and what to do then";
+// What `explain` does, in a line.
+const ABOUT_EXPLAIN: &str = "Says why a command is refused, and what to do then";
 
-/// Below the help of `explain`.
-pub const EXPLAIN: &str = "\
+// Below the help of `explain`.
+const EXPLAIN: &str = "\
 A command that is refused has a line on standard error, such as
     3: refused 4 NoSuch
 for line 3 of the script. The number or the name of the refusal is what `explain` takes.
@@ -120,3 +123,27 @@ Example:
     mkedit explain NoSuch
 both print the cause of this refusal, an example of it and what to do.
 ";
+
+/// What a command does, in a line.
+pub(crate) fn about<'a>(name: CommandName) -> &'a str {
+    match name {
+        CommandName::Edit => ABOUT_EDIT,
+        CommandName::Query(Query::Vars) => ABOUT_VARS,
+        CommandName::Query(Query::Rules) => ABOUT_RULES,
+        CommandName::Query(Query::Check) => ABOUT_CHECK,
+        CommandName::Query(Query::Caveats) => ABOUT_CAVEATS,
+        CommandName::Explain => ABOUT_EXPLAIN,
+    }
+}
+
+/// What stands below the help of a command: what it prints, with an example.
+pub(crate) fn example<'a>(name: CommandName) -> &'a str {
+    match name {
+        CommandName::Edit => EDIT,
+        CommandName::Query(Query::Vars) => VARS,
+        CommandName::Query(Query::Rules) => RULES,
+        CommandName::Query(Query::Check) => CHECK,
+        CommandName::Query(Query::Caveats) => CAVEATS,
+        CommandName::Explain => EXPLAIN,
+    }
+}

@@ -1,0 +1,3 @@
+-- The command line: its commands and arguments, and what its words ask for.
+pub mod Commands
+pub mod Requests

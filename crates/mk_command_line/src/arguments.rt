@@ -1,0 +1,121 @@
+//! The arguments of the commands, each with the name by which its words are found.
+ghost use Rattle.std.specs.Prelude.{◌≡◌, IfOk, false};
+ghost use Rattle.clap.specs.Words.{rule_of};
+ghost use Rattle.mk_command_line.specs.Commands.{depth_rule, expression_rule, file_rule};
+ghost use Rattle.mk_command_line.specs.Commands.{in_place_rule, keep_going_rule, output_rule};
+ghost use Rattle.mk_command_line.specs.Commands.{refusal_rule, script_rule};
+
+use crate::request::MAX_DEPTH;
+use clap::builder::ValueParser;
+use clap::{Arg, ArgAction};
+use std::alloc::{AllocError, Global};
+
+/// How many edits can be undone, where the command line does not say it.
+const DEFAULT_DEPTH: &str = "100";
+
+pub(crate) const SCRIPT: &str = "SCRIPT";
+
+pub(crate) const FILE: &str = "FILE";
+
+pub(crate) const KEEP_GOING: &str = "keep-going";
+
+pub(crate) const DEPTH: &str = "depth";
+
+pub(crate) const OUTPUT: &str = "output";
+
+pub(crate) const IN_PLACE: &str = "in-place";
+
+pub(crate) const EXPRESSION: &str = "expression";
+
+pub(crate) const REFUSAL: &str = "REFUSAL";
+
+/// The makefile.
+pub(crate) fn file<'a>(alloc: Global) -> Arg<'a>
+    ensures rule { rule_of result ≡ file_rule }
+    ensures local { result.global ≡ false }
+{
+    Arg::new(alloc, FILE).help("The makefile; standard input where none is named")
+}
+
+/// The script.
+pub(crate) fn script<'a>(alloc: Global) -> Result<Arg<'a>, AllocError>
+    ensures rule { IfOk result (λ arg. rule_of arg ≡ script_rule) }
+    ensures local { IfOk result (λ arg. arg.global ≡ false) }
+{
+    let script = Arg::new(alloc, SCRIPT).required_unless_present(EXPRESSION)?;
+    Ok(script.help("The script: a command a line"))
+}
+
+/// Whether the commands after a refused one are done.
+pub(crate) fn keep_going<'a>(alloc: Global) -> Arg<'a>
+    ensures rule { rule_of result ≡ keep_going_rule }
+    ensures local { result.global ≡ false }
+{
+    Arg::new(alloc, KEEP_GOING)
+        .short('k')
+        .long("keep-going")
+        .action(ArgAction::SetTrue)
+        .help("Goes on after a refused command")
+}
+
+/// How many edits can be undone.
+pub(crate) fn depth<'a>(alloc: Global) -> Arg<'a>
+    ensures rule { rule_of result ≡ depth_rule }
+    ensures local { result.global ≡ false }
+{
+    Arg::new(alloc, DEPTH)
+        .short('d')
+        .long("depth")
+        .value_name("DEPTH")
+        .value_parser(ValueParser::unsigned(1, u64::from(MAX_DEPTH)))
+        .default_value(DEFAULT_DEPTH)
+        .help("How many edits can be undone, from 1 to 10000")
+}
+
+/// The file that the text goes to.
+pub(crate) fn output<'a>(alloc: Global) -> Arg<'a>
+    ensures rule { rule_of result ≡ output_rule }
+    ensures local { result.global ≡ false }
+{
+    Arg::new(alloc, OUTPUT)
+        .short('o')
+        .long("output")
+        .value_name("OUT")
+        .help("Where the text goes; it may be FILE, which is then named twice")
+}
+
+/// Whether the text goes to the makefile itself.
+pub(crate) fn in_place<'a>(alloc: Global) -> Result<Arg<'a>, AllocError>
+    ensures rule { IfOk result (λ arg. rule_of arg ≡ in_place_rule) }
+    ensures local { IfOk result (λ arg. arg.global ≡ false) }
+{
+    let in_place = Arg::new(alloc, IN_PLACE)
+        .short('i')
+        .long("in-place")
+        .action(ArgAction::SetTrue)
+        .conflicts_with(OUTPUT)?;
+    Ok(in_place.help("FILE gets the text, and is the old file or the new one at every moment"))
+}
+
+/// The lines of a script that stand on the command line.
+pub(crate) fn expression<'a>(alloc: Global) -> Arg<'a>
+    ensures rule { rule_of result ≡ expression_rule }
+    ensures local { result.global ≡ false }
+{
+    Arg::new(alloc, EXPRESSION)
+        .short('e')
+        .long("expression")
+        .value_name("COMMAND")
+        .action(ArgAction::Append)
+        .help("A line of a script, in place of SCRIPT; several -e are its lines")
+}
+
+/// The word that calls a refusal.
+pub(crate) fn refusal<'a>(alloc: Global) -> Arg<'a>
+    ensures rule { rule_of result ≡ refusal_rule }
+    ensures local { result.global ≡ false }
+{
+    Arg::new(alloc, REFUSAL)
+        .required(true)
+        .help("Its number or its name, as the report has them")
+}

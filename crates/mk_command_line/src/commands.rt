@@ -1,0 +1,122 @@
+//! The commands with their arguments, as `clap` has to read them.
+ghost use Rattle.std.specs.Prelude.{◌≡◌, IfOk, false, map, [], string_bytes};
+ghost use Rattle.clap.specs.Words.{app_of, with_subcommand};
+ghost use Rattle.clap.specs.declared.builder.command.Command.TheViews.{out-Command as fields_of};
+ghost use Rattle.mk_command_line.specs.Commands.{command_app, commands, edit_options, leaf};
+ghost use Rattle.mk_command_line.specs.Commands.{first_command, program_for, program_with, shape_of_command, word_of};
+
+use crate::arguments::{
+    depth, expression, file, in_place, keep_going, output, refusal, script,
+};
+use crate::command_name::{COMMANDS, CommandName, command_named};
+use crate::help;
+use clap::Command;
+use std::alloc::{AllocError, Global};
+
+/// The version that `--version` names, of which CHANGELOG.md says what is new, and a place for the
+/// commit: tools/link writes its first twelve digits over `not recorded` in the built program.
+const VERSION: &str = "0.1.0 (commit not recorded)";
+
+// How `edit` is called.
+const EDIT_USAGE: &str = "mkedit edit [OPTIONS] SCRIPT [FILE]
+       mkedit edit [OPTIONS] -e COMMAND [-e COMMAND ...] [FILE]";
+
+// A command with its texts, and no argument yet.
+fn titled<'a>(alloc: Global, name: CommandName) -> Command<'a>
+    ensures app { app_of result ≡ leaf (word_of name) [] }
+    ensures local { (fields_of result).has_globals ≡ false }
+{
+    Command::new(alloc, name.word())
+        .about(help::about(name))
+        .after_help(help::example(name))
+}
+
+// `edit` with its options.
+fn edit_options<'a>(alloc: Global) -> Result<Command<'a>, AllocError>
+    ensures app { IfOk result (λ edit. app_of edit ≡ leaf (word_of CommandName.Edit) edit_options) }
+    ensures local { IfOk result (λ edit. (fields_of edit).has_globals ≡ false) }
+{
+    titled(alloc, CommandName::Edit)
+        .override_usage(EDIT_USAGE)
+        .arg(keep_going(alloc))?
+        .arg(depth(alloc))?
+        .arg(output(alloc))?
+        .arg(in_place(alloc)?)?
+        .arg(expression(alloc))
+}
+
+// `edit`: a script over a makefile.
+fn edit<'a>(alloc: Global) -> Result<Command<'a>, AllocError>
+    ensures app { IfOk result (λ edit. app_of edit ≡ command_app CommandName.Edit) }
+    ensures local { IfOk result (λ edit. (fields_of edit).has_globals ≡ false) }
+{
+    edit_options(alloc)?.arg(script(alloc)?)?.arg(file(alloc))
+}
+
+// The command of this name, with its arguments.
+fn command<'a>(alloc: Global, name: CommandName) -> Result<Command<'a>, AllocError>
+    ensures app { IfOk result (λ command. app_of command ≡ command_app name) }
+    ensures local { IfOk result (λ command. (fields_of command).has_globals ≡ false) }
+{
+    match name {
+        CommandName::Edit => edit(alloc),
+        CommandName::Query(_) => titled(alloc, name).arg(file(alloc)),
+        CommandName::Explain => titled(alloc, name).arg(refusal(alloc)),
+    }
+}
+
+// The program, and no command yet.
+fn program<'a>(alloc: Global) -> Command<'a>
+    ensures { app_of result ≡ program_with [] }
+{
+    Command::new(alloc, "mkedit")
+        .version(VERSION)
+        .about("Edits a makefile by a script, and keeps every byte that no edit concerns")
+        .after_help(help::PROGRAM)
+        .subcommand_required(true)
+}
+
+// The program with one command more.
+fn with_command<'a>(
+    alloc: Global,
+    program: Command<'a>,
+    name: CommandName,
+) -> Result<Command<'a>, AllocError>
+    ensures { IfOk result (λ program'. app_of program'
+        ≡ with_subcommand (app_of program.entry) (shape_of_command name)) }
+{
+    program.subcommand(command(alloc, name)?)
+}
+
+// The program with all of its commands.
+fn with_all_commands<'a>(alloc: Global) -> Result<Command<'a>, AllocError>
+    ensures { IfOk result (λ program. app_of program ≡ program_with commands) }
+{
+    let mut program = program(alloc);
+    for name in COMMANDS {
+        program = with_command(alloc, program, name)?;
+    }
+    Ok(program)
+}
+
+// The command that the first word after the program's name names, if it names one.
+fn first_command(words: &[String]) -> Option<CommandName>
+    ensures { result ≡ first_command (map string_bytes words.now) }
+{
+    command_named(words.get(1)?.as_str())
+}
+
+/// The program as `clap` has to read these words. Where the first word names a command, `clap` asks
+/// for no other, and none is built.
+///
+/// # Errors
+///
+/// Want of memory.
+pub(crate) fn program_for<'a>(alloc: Global, words: &[String]) -> Result<Command<'a>, AllocError>
+    ensures { IfOk result (λ program. app_of program ≡ program_for (map string_bytes words.now)) }
+{
+    match first_command(words) {
+        Some(name) => with_command(alloc, program(alloc), name),
+        None => with_all_commands(alloc),
+    }
+}
