@@ -23,7 +23,14 @@
 #   make rows       makes the stored files of rows anew, after a table of tests/cases has changed
 #   make hostile    tries the program, as rt links it, with hostile texts of 16 MB, with memory that
 #                   ends and under valgrind, and measures it there; some minutes long
-#   make install    puts the program into $(DESTDIR)$(PREFIX)/bin, and the manual page and the
+#   make texts      makes the texts anew that several files share, after their source has changed:
+#                   what is said of refusals, and the makefile of the manual pages (tools/texts)
+#   make dist       packs a release, mkedit-VERSION-x86_64-linux.tar.gz with its SHA-256 beside it, into
+#                   the folder $(DIST): the program, the manual pages, the completions, and what a user
+#                   reads; the same bytes each time (tools/dist)
+#   make deb        packs the same as a Debian package; MAINTAINER='NAME <ADDRESS>' says who is
+#                   asked about it (tools/deb)
+#   make install    puts the program into $(DESTDIR)$(PREFIX)/bin, and the manual pages and the
 #                   completions of bash, zsh and fish where each belongs
 #   make uninstall  takes away what make install puts there
 #                   (PREFIX, BINDIR, MANDIR, BASHCOMPDIR, ZSHCOMPDIR and FISHCOMPDIR say where,
@@ -32,11 +39,11 @@
 #                   at, draws into bench/data/speed.svg how its time grows, and measures the reading
 #                   of lines, and edits of a large makefile; some 25 minutes long, or 18 where
 #                   EDITS=1000 leaves out the cases of 10,000 edits
-#   make clean      removes all that was made, and what rt keeps between two checks
+#   make clean      removes all that was made but releases, and what rt keeps between two checks
 #
 # It is written for POSIX.1-2024 make, which GNU make 4 reads as well.
 .POSIX:
-.PHONY: all demo check check-all hostile judge soak fuzz rows install uninstall bench clean
+.PHONY: all demo check check-all hostile judge soak fuzz rows texts dist deb install uninstall bench clean
 
 PREFIX ?= /usr/local
 BINDIR ?= $(PREFIX)/bin
@@ -44,6 +51,7 @@ MANDIR ?= $(PREFIX)/share/man
 BASHCOMPDIR ?= $(PREFIX)/share/bash-completion/completions
 ZSHCOMPDIR ?= $(PREFIX)/share/zsh/site-functions
 FISHCOMPDIR ?= $(PREFIX)/share/fish/vendor_completions.d
+DIST ?= dist
 MINUTES ?= 15
 EDITS ?= 10000
 PROGRAM = crates/mkedit/out/bin/mkedit
@@ -91,14 +99,27 @@ fuzz: $(PROGRAM)
 rows:
 	@python3 -B -m tests.gate.rows --write
 
+texts:
+	@tools/texts
+
 judge: $(PROGRAM)
 	@python3 -B -m tests.judge --minutes $(MINUTES) $(PROGRAM)
 
+# The program is linked again, so that it tells the commit that is checked out now.
+dist: $(PROGRAM)
+	@tools/link $(BUILT) $(PROGRAM)
+	@tools/dist $(PROGRAM) "$(DIST)"
+
+deb: $(PROGRAM)
+	@tools/link $(BUILT) $(PROGRAM)
+	@MAINTAINER="$(MAINTAINER)" tools/deb $(PROGRAM) "$(DIST)"
+
 install: $(PROGRAM)
-	install -d "$(DESTDIR)$(BINDIR)" "$(DESTDIR)$(MANDIR)/man1" "$(DESTDIR)$(BASHCOMPDIR)"
-	install -d "$(DESTDIR)$(ZSHCOMPDIR)" "$(DESTDIR)$(FISHCOMPDIR)"
+	install -d "$(DESTDIR)$(BINDIR)" "$(DESTDIR)$(MANDIR)/man1" "$(DESTDIR)$(MANDIR)/man5"
+	install -d "$(DESTDIR)$(BASHCOMPDIR)" "$(DESTDIR)$(ZSHCOMPDIR)" "$(DESTDIR)$(FISHCOMPDIR)"
 	install -m 755 $(PROGRAM) "$(DESTDIR)$(BINDIR)/mkedit"
 	install -m 644 docs/mkedit.1 "$(DESTDIR)$(MANDIR)/man1/mkedit.1"
+	install -m 644 docs/mkedit-script.5 "$(DESTDIR)$(MANDIR)/man5/mkedit-script.5"
 	install -m 644 completions/mkedit.bash "$(DESTDIR)$(BASHCOMPDIR)/mkedit"
 	install -m 644 completions/mkedit.zsh "$(DESTDIR)$(ZSHCOMPDIR)/_mkedit"
 	install -m 644 completions/mkedit.fish "$(DESTDIR)$(FISHCOMPDIR)/mkedit.fish"
@@ -106,6 +127,7 @@ install: $(PROGRAM)
 # The folders stay, since others may use them.
 uninstall:
 	rm -f "$(DESTDIR)$(BINDIR)/mkedit" "$(DESTDIR)$(MANDIR)/man1/mkedit.1"
+	rm -f "$(DESTDIR)$(MANDIR)/man5/mkedit-script.5"
 	rm -f "$(DESTDIR)$(BASHCOMPDIR)/mkedit" "$(DESTDIR)$(ZSHCOMPDIR)/_mkedit"
 	rm -f "$(DESTDIR)$(FISHCOMPDIR)/mkedit.fish"
 

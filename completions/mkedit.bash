@@ -11,9 +11,11 @@ _mkedit_options() {
     esac
 }
 
+# made by tools/texts: refusals
 _mkedit_refusals="BadArgument Reserved RecipePrefix NoSuch Ambiguous Absent Already Taken SharedRule \
-    Straddles OpenValue OpenLine OpenDefine Leans TooLong NothingToUndo NothingToRedo GroupOpen NoGroup \
-    NoMemory"
+    Straddles OpenValue OpenLine OpenDefine Leans TooLong NothingToUndo NothingToRedo GroupOpen \
+    NoGroup NoMemory"
+# made until here
 
 _mkedit() {
     local word=${COMP_WORDS[COMP_CWORD]} before=${COMP_WORDS[COMP_CWORD - 1]}

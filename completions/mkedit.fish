@@ -21,4 +21,7 @@ complete -c mkedit -n '__fish_seen_subcommand_from edit' -s e -l expression -x -
 
 complete -c mkedit -n '__fish_seen_subcommand_from edit vars rules check caveats; and not __fish_seen_subcommand_from help' -F
 complete -c mkedit -n '__fish_seen_subcommand_from help' -a 'edit vars rules check caveats explain help'
-complete -c mkedit -n '__fish_seen_subcommand_from explain; and not __fish_seen_subcommand_from help' -a 'BadArgument Reserved RecipePrefix NoSuch Ambiguous Absent Already Taken SharedRule Straddles OpenValue OpenLine OpenDefine Leans TooLong NothingToUndo NothingToRedo GroupOpen NoGroup NoMemory'
+# made by tools/texts: refusals
+set -l refusals BadArgument Reserved RecipePrefix NoSuch Ambiguous Absent Already Taken SharedRule Straddles OpenValue OpenLine OpenDefine Leans TooLong NothingToUndo NothingToRedo GroupOpen NoGroup NoMemory
+# made until here
+complete -c mkedit -n '__fish_seen_subcommand_from explain; and not __fish_seen_subcommand_from help' -a "$refusals"

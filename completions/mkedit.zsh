@@ -41,11 +41,13 @@ _mkedit_query() {
 
 _mkedit_explain() {
     local -a refusals
+    # made by tools/texts: refusals
     refusals=(
         BadArgument Reserved RecipePrefix NoSuch Ambiguous Absent Already Taken SharedRule Straddles
         OpenValue OpenLine OpenDefine Leans TooLong NothingToUndo NothingToRedo GroupOpen NoGroup
         NoMemory
     )
+    # made until here
     _arguments -s \
         '(-h --help)'{-h,--help}'[print help]' \
         "1:refusal:(${refusals[*]})"

@@ -3,7 +3,8 @@
 A crate waits for those that it stands on, and the longest chain of such crates is most of the work. So
 the crates of this chain are urgent: they get as many jobs as there are processors, at most four each. A
 proof has steps that take one processor alone, at its begin, between its rounds and at its end. So other
-crates are proved beside an urgent one, each with one job and with less priority.
+crates are proved beside an urgent one, each with one job and with less priority, unless the next crate of
+the chain waits for them too.
 """
 
 from typing import NamedTuple
@@ -52,10 +53,11 @@ class Lanes:
             self.chains[name] = crates[name].work() + max(above, default=0)
 
     def starts(self):
-        """The crates whose proofs begin now, each with its jobs, and whether it is urgent; the most urgent first."""
+        """The crates whose proofs begin now, each with its jobs, and whether all else gives way to it; the most urgent first."""
         found = []
         ready = sorted(filter(self.is_ready, self.left), key=lambda it: -self.chains[it])
         urgent = self.urgent(ready)
+        awaited = self.awaited()
         for name in ready:
             is_urgent = name in urgent
             first = [it for it in self.running if self.chains[it] >= self.chains[name]]
@@ -66,7 +68,7 @@ class Lanes:
                 break
             self.left.remove(name)
             self.running[name] = self.crates[name].memory_of(jobs)
-            found.append((name, jobs, is_urgent))
+            found.append((name, jobs, is_urgent or name in awaited))
         return found
 
     def ended(self, name):
@@ -80,6 +82,12 @@ class Lanes:
         """Those that would make all end later if they waited as long as their own work takes."""
         longest = max(map(self.chains.get, [*ready, *self.running]), default=0)
         return [it for it in ready if longest - self.chains[it] < self.crates[it].work()]
+
+    def awaited(self):
+        """What the next crate of the longest chain waits for."""
+        waiting = [it for it in self.left if not self.is_ready(it)]
+        longest = max(waiting, key=self.chains.get, default=None)
+        return self.crates[longest].below if waiting else ()
 
     def jobs_of(self, name, wanted):
         """How many jobs memory holds, at most those wanted; at least one where nothing else runs, else it may be none."""

@@ -19,8 +19,24 @@
 //!     floor vars FILE           prints what the query of this name prints; likewise rules, check and
 //!                               caveats
 //!
-//! It does only what the bench asks for; docs/SPEED.md says what it leaves out. It gives up the memory
-//! of lines that no undo can bring back, and no other memory.
+//! It gives up the memory of lines that no undo can bring back, and no other memory. It does only what the
+//! bench asks for, and leaves this out, though the definitions ask for it:
+//!
+//!     lines with a CR or a NUL       it ends where the text has such a byte
+//!     bad folds, rough lines, static patterns, a modifier before `define` or `undefine`
+//!                                    it reads such a line as another class
+//!     a recipe prefix that is set    it refuses each edit where an assignment sets `.RECIPEPREFIX`, and
+//!                                    does not see a `define` of this name
+//!     lines of more than 65,535 bytes
+//!                                    it takes them for opaque, or for what their first byte says
+//!     a 257th conditional            it counts the open ones, and ends at the 257th
+//!     scripts                        it knows `set`, `assign bottom`, `rule bottom`, `rename` and `undo`;
+//!                                    no `nth`, no group, no `redo`, no backslash between quotes
+//!     edits                          it refuses an empty value in `set`, a `#` in a value outside a
+//!                                    reference, and an old word with a blank in `rename`; a new line
+//!                                    ends in LF
+//!     the end of memory              it ends at once
+//!     files, standard input, options it reads one file and prints to standard output
 
 mod bytes;
 mod caveats;

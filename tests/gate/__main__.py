@@ -6,7 +6,7 @@
 
 `make check` does these in turn, and counts what passed and what failed in each:
 
-  house     what the crates say twice or say in vain
+  house     what the crates say twice or say in vain, and texts that are not those of their source
   rows      the stored files of rows are what their scripts make
   gate      the tests of the gate itself
   crates    proves every crate that the program stands on, and those of rows, from nothing, and has the

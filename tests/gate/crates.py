@@ -2,10 +2,11 @@
 
     python3 -m tests.gate.crates FOLDER
 
-This is `rt ci` with one difference: it tries many wrong bodies of a crate in one check (rounds.py says
-how), in less time. With a toolchain that keeps what an earlier `rt ci` has tried on this machine,
-it does not try that again. Where the toolchain is another one, whose inner parts rounds.py does not know,
-this is `rt ci` itself. The last line is 'N passed, M failed', and the status is 0 only where nothing failed.
+This is `rt ci` with two differences. It tries many wrong bodies of a crate in one check (rounds.py says
+how), in less time. And the proofs that others wait for go before all else (beside.py). With a toolchain
+that keeps what an earlier `rt ci` has tried on this machine, it does not try that again. Where the
+toolchain is another one, whose inner parts rounds.py does not know, this is `rt ci` itself. The last line
+is 'N passed, M failed', and the status is 0 only where nothing failed.
 """
 
 import os
@@ -13,6 +14,7 @@ import sys
 
 from tests import TOP
 
+from .beside import take_lanes
 from .rounds import take_rounds
 
 sys.path.insert(0, str(TOP / "tools"))
@@ -25,6 +27,7 @@ def main():
     script = load()
     try:
         take_rounds(script)
+        take_lanes(script)
     except ValueError as fault:
         print(f"crates: {fault}, so this is rt ci", flush=True)
         os.execvp("rt", ["rt", "ci"])

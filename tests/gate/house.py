@@ -10,7 +10,11 @@ Over the definitions and lemmas of all crates it looks for
   imports   imports that their file does not name
   chapters  definition files that do not say which chapter of docs/ tells of them, or that name one
             which is not there
+  meters    sources in which a line may be read uncounted: on another meter than the one handed in
   layout    files that `rt fmt` would lay out anew: the gate refuses their crate, after an hour
+  texts     documents and completions that have other texts than their source, such as those on refusals
+  documents what the documents say of the repository that is not so, or that git alone has to know
+            (documents.py)
 
 Rows, which compute definitions on examples, are not searched, but what they import is cited. A
 finding has one line; the last line is 'N passed, M failed', and the status is 0 only where nothing
@@ -25,7 +29,7 @@ from functools import partial
 from tests import TOP
 from tests.lib.checks import Tally
 
-from . import antt, chapters, layout
+from . import antt, chapters, documents, layout, meters, texts
 from .statements import definition_key, is_data, is_type_of_data, statement_key
 
 GHOST_USE = re.compile(r"ghost use ([^;]*);")
@@ -250,7 +254,10 @@ def main():
         ("pub", house.needlessly_pub()),
         ("imports", house.unused_imports()),
         ("chapters", chapters.problems()),
+        ("meters", meters.problems()),
         ("layout", layout.problems()),
+        ("texts", texts.problems()),
+        ("documents", documents.problems()),
     ):
         for place in found:
             tally.add(title, [place])

@@ -9,11 +9,11 @@ refused only because a proof names what the edit took away shows nothing, and fa
 
 Each round begins with the same folder of proofs, the seed: what one check of the functions that are
 turned, as they stand, has proved. So no round proves again what another has turned. And it shows that the
-rounds can prove: where one of these functions is not proved in it, nothing that was found counts, and each
-edit is tried by itself.
+rounds can prove: where one of these functions is not proved in it, there is no seed, and each edit is
+tried by itself. The first edit that rounds cannot judge has the whole crate proved over the seed.
 
-Where the toolchain can, the edits of a crate are tried in up to four shares side by side, each in rounds
-of its own. All of them begin with one seed, which is then a check of the whole crate.
+Where the toolchain can, the many edits of a crate are tried in up to four shares side by side, each in
+rounds of its own. All of them begin with one seed, which is proved beside the crate itself.
 """
 
 import hashlib
@@ -34,8 +34,9 @@ FLAGS = ("--jobs", "1")
 # it found from run to run, and of one that does not.
 ADDS = "tasks, crate, edits, first, waits, is_well, kept, start=None, in_ci=True"
 TRIES = "crate, edits, flags"
-# At most so many shares of a crate's edits go side by side, and each has at least so many edits.
-MOST_SHARES, FEWEST_EDITS = 4, 6
+# At most so many shares of a crate's edits go side by side, and each has at least so many edits: each
+# round of a share has the start of a check, which takes as long as an edit.
+MOST_SHARES, FEWEST_EDITS = 4, 16
 
 
 def linked(seed, folder):
@@ -55,19 +56,17 @@ class Trial:
         self.found = {}
         # of each body, the functions that must stay as they are where it is tried
         self.apart = {}
+        # whether the seed has the proofs of the whole crate
+        self.is_whole = False
 
-    def said(self, texts, functions, kept):
-        """Checks these functions with these texts in place of the crate's own, over what a folder keeps."""
+    def said(self, texts, functions, kept, flags=FLAGS):
+        """Checks these functions, all where none is named, with these texts in place of the crate's own.
+
+        The check begins with what a folder keeps, and leaves there what it proves.
+        """
         only = [word for it in sorted(functions) for word in ("--only", it)]
-        ran = self.script.checked(self.crate, texts, [*FLAGS, *only], str(kept))
+        ran = self.script.checked(self.crate, texts, [*flags, *only], str(kept))
         return Said(self.crate.name, ran.stdout)
-
-    def is_sound(self, functions):
-        """Whether these functions are proved as they stand. The seed then has their proofs."""
-        if not functions:
-            return True
-        said = self.said({}, functions, self.seed)
-        return said.is_judged() and all(map(said.is_proved, functions))
 
     @contextmanager
     def kept(self):
@@ -90,7 +89,7 @@ class Trial:
 
     def try_round(self, bodies, texts):
         """Tries bodies in one check, and returns those that have to be tried again."""
-        turned = set().union(*(it.functions for it in bodies))
+        turned = turned_by(bodies)
         with self.kept() as kept:
             said = self.said(texts, turned, kept)
         if not said.is_judged() or any(self.script.unread(it, texts) for it in said.lines):
@@ -119,6 +118,9 @@ class Trial:
     def try_alone(self, body):
         """Tries a body in a check of the whole crate, which has to refuse more than a missing name."""
         edit = f"{self.crate.folder}/must-fail/{body.name}.edit"
+        if not self.is_whole:
+            self.said({}, (), self.seed)
+            self.is_whole = True
         with self.kept() as kept:
             kind, text = self.script.must_fail(self.crate, edit, list(FLAGS), kept)
         shows_something = "only because a proof file names what the edit took away" not in text
@@ -126,21 +128,40 @@ class Trial:
         self.found[body] = kind in refusals(self.script) and shows_something, words
 
 
+def bodies_named(crate, names):
+    """The wrong bodies of a crate that have these names. ValueError where an edit does not fit."""
+    return [it for it in wrong_bodies(Path(crate.folder)) if it.name in names]
+
+
+def turned_by(bodies):
+    """The functions that some wrong bodies turn."""
+    return set().union(*(it.functions for it in bodies))
+
+
+def sown(script, crate, names, seed, jobs=1):
+    """Makes the seed of some wrong bodies, and returns whether all functions that they turn are proved as they stand."""
+    functions = turned_by(bodies_named(crate, names))
+    os.mkdir(seed)
+    if not functions:
+        return True
+    said = Trial(script, crate, seed).said({}, functions, seed, ["--jobs", str(jobs)])
+    return said.is_judged() and all(map(said.is_proved, functions))
+
+
 def found_in_rounds(script, crate, names, seed=None):
     """What was found of some wrong bodies of a crate, by their names: whether each is refused, and words on it.
 
-    The seed is a folder with what was proved of the crate as it stands, if there is one. None where the
+    The seed is the one of these bodies and perhaps of others; without one it is made here. None where the
     checks cannot be trusted. ValueError where an edit does not fit.
     """
-    bodies = [it for it in wrong_bodies(Path(crate.folder)) if it.name in names]
+    bodies = bodies_named(crate, names)
     with tempfile.TemporaryDirectory(prefix="wrong-bodies-") as room:
+        own = f"{room}/seed"
         if seed:
-            linked(seed, f"{room}/seed")
-        else:
-            os.mkdir(f"{room}/seed")
-        trial = Trial(script, crate, f"{room}/seed")
-        if not trial.is_sound(set().union(*(it.functions for it in bodies))):
+            linked(seed, own)
+        elif not sown(script, crate, names, own):
             return None
+        trial = Trial(script, crate, own)
         for body in bodies:
             if not body.functions:
                 trial.try_alone(body)
@@ -225,7 +246,7 @@ def take_rounds(script):
     ValueError where its inner parts are not those that this was written for.
     """
     has_parts = all(getattr(script, it, None) for it in ("must_fail", "checked", "unread", "need"))
-    has_seeds = all(getattr(script, it, None) for it in ("seeded", "linked", "OVER"))
+    has_seeds = all(hasattr(script, it) for it in ("SEEDS", "OVER"))
     if has_parts and has_seeds and is_function(script, "add_edits", ADDS):
         take_kept_rounds(script)
     elif has_parts and is_function(script, "must_fail_all", TRIES):
@@ -284,16 +305,23 @@ class Shares:
 
     def add_to(self, tasks, first, waits):
         name, lines, needs = self.crate.name, self.crate.count(rb"\n"), self.script.need(self.crate)
-        tasks[name, "seed"] = first, 0, needs, partial(self.sow, first)
+        tasks[name, "seed"] = first, lines, needs, partial(self.sow, first)
         for number, places in enumerate(self.shares):
             after = [*waits, (name, "seed")]
             tasks[name, "edits", number] = after, lines, self.script.OVER * needs, partial(self.try_share, places)
 
     def sow(self, first, given, jobs):
-        """A room with the seed; None where all edits are known, or the crate is not proved."""
-        if len(self.known()) == len(self.edits) or not all(given[it] for it in first):
+        """A room with the seed; None where all edits are known, or where there can be none."""
+        names = {Path(it).stem for at, it in enumerate(self.edits) if at not in self.known()}
+        if not names or not all(given[it] for it in first):
             return None
-        return self.script.seeded(self.crate, ["--jobs", str(jobs)])
+        room = tempfile.mkdtemp(prefix="wrong-bodies-")
+        # (the script removes it, however the run ends)
+        self.script.SEEDS.append(room)
+        try:
+            return room if sown(self.script, self.crate, names, f"{room}/seed", jobs) else None
+        except (OSError, ValueError):
+            return None
 
     def try_share(self, places, given, jobs):
         """What the edits of a share come to, by their places; None where the crate is not proved."""

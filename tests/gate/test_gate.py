@@ -1,23 +1,32 @@
-"""Tests of the gate itself: which wrong bodies it tries, what it copies, what it takes for a pass.
+"""Tests of the gate itself: which wrong bodies it tries, what it copies, what it takes for a pass, and
+which sources it refuses.
 
     python3 -m tests.gate.test_gate       the last line is 'N passed, M failed'
     python3 -m unittest tests.gate.test_gate.Share
 """
 
+import contextlib
 import os
+import re
+import shutil
+import subprocess
 import sys
 import tempfile
+import types
 import unittest
 from pathlib import Path
 
 from tests import TOP
 
+from . import documents, meters
+from .beside import GIVES_WAY, Tasks, in_lanes
 from .listed import listed, with_below
 from .part import copy_part
 from .crates import load
 from .proving import Said
 from .rounds import linked, take_rounds
 from .share import SHARES, Body, bodies_of, share_of
+from .texts import problems as old_texts
 from .tries import program_of, tests_of
 
 # What stands for rt: it prints what stands in a file, and ends with the status that stands in another.
@@ -77,6 +86,111 @@ class Part(InRoom):
         self.assertEqual([it.name for it in (self.room / "seed/a").iterdir()], ["b"])
 
 
+class Texts(InRoom):
+    """The texts that several files share: a copy of the files, in which one is changed."""
+
+    SHARED = ("docs/EDITS.md", "docs/mkedit-script.5", *(f"completions/mkedit.{it}" for it in ("bash", "fish", "zsh")))
+    SOURCE, OTHERS = "crates/mkedit/src/explanations.rt", ("docs/mkedit.1", "examples/manual.mk")
+    NUMBERS = "crates/mk_edit_laws/specs/RefusalTexts.antt"
+
+    def setUp(self):
+        super().setUp()
+        for name in (*self.SHARED, *self.OTHERS, self.SOURCE, self.NUMBERS):
+            (self.room / name).parent.mkdir(parents=True, exist_ok=True)
+            shutil.copy(TOP / name, self.room / name)
+
+    def change(self, name, old, new):
+        path = self.room / name
+        text = path.read_text(encoding="utf-8")
+        self.assertIn(old, text)
+        path.write_text(text.replace(old, new), encoding="utf-8")
+
+    def assert_old(self, *names):
+        """These files have to be told, and no other."""
+        self.assertEqual(sorted(re.split("[: ]", it)[0] for it in old_texts(self.room)), sorted(names))
+
+    def test_the_texts_of_the_repository_are_those_of_their_source(self):
+        self.assert_old()
+
+    def test_a_source_with_another_text_makes_its_documents_old(self):
+        self.change(self.SOURCE, "Nothing has to be done.", "Nothing is to be done.")
+        self.assert_old("docs/EDITS.md", "docs/mkedit-script.5")
+
+    def test_another_name_makes_each_file_old(self):
+        for name in (self.SOURCE, self.NUMBERS):
+            self.change(name, "SharedRule", "CommonRule")
+        self.assert_old(*self.SHARED)
+
+    def test_another_makefile_makes_both_pages_old(self):
+        self.change("examples/manual.mk", "gcc", "cc")
+        self.assert_old("docs/mkedit.1", "docs/mkedit-script.5")
+
+    def test_a_text_that_was_changed_by_hand_is_told(self):
+        self.change("docs/EDITS.md", "| Decide by hand. |", "| Decide. |")
+        self.assert_old("docs/EDITS.md")
+
+    def test_a_file_without_its_part_is_told(self):
+        self.change("completions/mkedit.bash", "made until here", "")
+        self.assert_old("completions/mkedit.bash")
+
+    def test_a_source_in_another_form_is_told(self):
+        self.change(self.SOURCE, "Refusal::Taken => TAKEN,", "")
+        self.assert_old(self.SOURCE)
+
+
+class Meters(InRoom):
+    """Sources that read a line on a meter that was not handed in."""
+
+    def setUp(self):
+        super().setUp()
+        shutil.copy(TOP / "crates.txt", self.room)
+        for name in with_below(listed(TOP), ["mkedit"]):
+            shutil.copytree(TOP / "crates" / name / "src", self.room / "crates" / name / "src")
+
+    def turned(self, file, old, new):
+        """What is said where the first of some words of a source are others."""
+        path = self.room / file
+        text = path.read_text(encoding="utf-8")
+        self.assertIn(old, text)
+        path.write_text(text.replace(old, new, 1), encoding="utf-8")
+        try:
+            return [*meters.problems(self.room)]
+        finally:
+            path.write_text(text, encoding="utf-8")
+
+    def test_no_source_reads_on_another_meter(self):
+        self.assertEqual([*meters.problems(TOP)], [])
+        self.assertEqual([*meters.problems(self.room)], [])
+
+    def test_a_source_that_may_read_on_another_meter_is_refused(self):
+        new = "&mut Meter::new()"
+        moves, read, unread = (f"crates/{it}.rt" for it in ("mk_edit/src/moves", "mk_tree/src/read", "mk_tree/src/unread"))
+        session, meter = (f"crates/{it}" for it in (meters.SESSION, meters.METER))
+        for turn in (
+            (moves, "Line::read(alloc, bytes, context, meter)", f"Line::read(alloc, bytes, context, {new})"),
+            (read, "(&bytes, &cells, context, meter)", f"(&bytes, &cells, context, {new})"),
+            (unread, "self.end.context = after;", f"let _ = read_again(line, {new}); self.end.context = after;"),
+            (session, "let _few = doc.len();", "let _few = doc.len(); let meter = Meter :: new();"),
+            ("crates/mk_queries/src/caveat.rt", "match name {", f"let _ = text(name, {new}); match name {{"),
+            ("crates/mkedit/src/main.rt", "fn main", "fn made() { let _ = mk_class::Meter::new; }\nfn main"),
+            (moves, "use mk_class::{Context, Meter};", "use mk_class::{Context, Meter as Count};"),
+            (moves, "use mk_class::{Context, Meter};", "use mk_class::{Context, Meter};\ntype Count = Meter;"),
+            (moves, "meter: &mut Meter", "meter: Meter"),
+            (meter, "#[derive(Debug, Drop)]", "#[derive(Clone, Debug, Drop)]"),
+            (meter, "    /// How many lines were", "    pub fn at(count: u64) -> Self { Meter { count } }\n    /// How many lines were"),
+            ("crates/mk_class/src/reading.rt", "fn text_class(", "pub fn text_class("),
+            (session, "let _few = doc.len();", "let _few = doc.len(); let _ = Session::open(alloc, b\"\", 1);"),
+            (moves, "use mk_class::{Context, Meter};", "use mk_class::{Context, Meter};\nfn f() { mk_session::Session::open_vec(); }"),
+            ("crates.txt", "mk_edit: mk_lines", "mk_edit: mk_queries mk_lines"),
+        ):
+            with self.subTest(turn=turn):
+                self.assertEqual(len(self.turned(*turn)), 1)
+
+    def test_comments_and_texts_make_no_meter(self):
+        self.assertEqual(self.turned("crates/mk_edit/src/moves.rt", "use mk_class", '// Meter::new() of "a\nuse mk_class'), [])
+        self.assertEqual(self.turned("crates/mkedit/src/main.rt", "fn main", 'const A: &str = "Meter::new()";\nfn main'), [])
+
+
 class WithRt(InRoom):
     """Tests with a program that stands for rt."""
 
@@ -117,6 +231,77 @@ class WithRt(InRoom):
         self.assertEqual(program_of(self.crate)[:2], (0, 1))
 
 
+# The memory of a task, and more than all tasks take together.
+ONE, ENOUGH = 1_000, 1_000_000
+
+
+def task(*after, lines=100, memory=ONE, call=None):
+    return after, lines, memory, call or (lambda given, jobs: jobs)
+
+
+def proof(name):
+    return name, "proof"
+
+
+def two_crates():
+    """The tasks of two crates, of which one waits for the other; each has wrong bodies."""
+    return {
+        proof("low"): task(),
+        ("low", "seed"): task(),
+        ("low", "edits", 0): task(proof("low"), ("low", "seed")),
+        ("low", "edits", 1): task(proof("low"), ("low", "seed")),
+        proof("high"): task(proof("low"), lines=10),
+        ("high", "seed"): task(proof("low"), lines=10),
+    }
+
+
+class Beside(unittest.TestCase):
+    """The tasks of a run, side by side."""
+
+    def begun(self, memory=ENOUGH):
+        """The tasks on two processors, once the first proof and the first seed have ended, and which begin then."""
+        tasks = Tasks(two_crates(), 2, memory)
+        first = [key for key, _, _ in tasks.starts()]
+        self.assertEqual(first, [proof("low"), ("low", "seed")])
+        for key in first:
+            tasks.ended(key, True)
+        return tasks, [*tasks.starts()]
+
+    def test_the_next_proof_begins_though_wrong_bodies_are_tried(self):
+        _, begun = self.begun()
+        self.assertEqual(begun[0], (proof("high"), 2, True))
+
+    def test_as_many_wrong_bodies_are_tried_as_there_are_processors(self):
+        tasks, begun = self.begun()
+        self.assertEqual(begun[1:], [(("high", "seed"), 1, False), (("low", "edits", 1), 1, False)])
+        tasks.ended(("low", "edits", 1), True)
+        self.assertEqual([*tasks.starts()], [(("low", "edits", 0), 1, False)])
+
+    def test_wrong_bodies_wait_for_memory(self):
+        _, begun = self.begun(memory=1.4 * ONE)
+        self.assertEqual([key for key, _, _ in begun], [proof("high"), ("high", "seed")])
+
+    def test_each_task_gets_what_those_before_it_gave(self):
+        script = types.SimpleNamespace(processors=lambda: 2, free=lambda: ENOUGH, ending=contextlib.nullcontext)
+        seen = {}
+        tasks = two_crates()
+        tasks["low", "edits", 1] = task(proof("low"), call=lambda given, jobs: seen.update(given))
+        given = in_lanes(script, tasks)
+        self.assertEqual(given.keys(), tasks.keys())
+        self.assertEqual(seen[proof("low")], 2)
+
+    def test_wrong_bodies_give_way_to_the_proofs_that_others_wait_for(self):
+        script = types.SimpleNamespace(processors=lambda: 2, free=lambda: ENOUGH, ending=contextlib.nullcontext)
+
+        def own(given, jobs):
+            return int(subprocess.run([sys.executable, "-c", "import os; print(os.nice(0))"], capture_output=True).stdout)
+
+        tasks = {proof("low"): task(call=own), ("low", "seed"): task(call=own)}
+        given = in_lanes(script, tasks)
+        # (19 is the least priority there is)
+        self.assertEqual(given["low", "seed"], min(19, given[proof("low")] + GIVES_WAY))
+
+
 class Toolchain(unittest.TestCase):
     def test_the_rounds_know_the_toolchain_or_say_that_they_do_not(self):
         try:
@@ -138,6 +323,82 @@ class Toolchain(unittest.TestCase):
     def test_a_proof_that_names_what_is_gone_is_no_fault(self):
         error = "./proofs/a/f/Answers.antt:3:1: error: `loop-x` is not in scope\nfn low::a::f: not proved\nonly=1 proved=0\n"
         self.assertIsNone(Said("low", error).fault_of("a::f"))
+
+
+class Documents(unittest.TestCase):
+    """Tests that each check of the documents sees a fault that is put in."""
+
+    def setUp(self):
+        self.texts = documents.documents()
+        self.bodies = {it.name for it in bodies_of(listed(TOP).values())}
+
+    def assert_seen(self, problems, *words):
+        """There has to be one problem, which names these words."""
+        found = [*problems]
+        self.assertEqual(len(found), 1, found)
+        for word in words:
+            self.assertIn(word, found[0])
+
+    def replaced(self, name, old, new):
+        self.assertIn(old, self.texts[name])
+        return self.texts[name].replace(old, new, 1)
+
+    def test_a_long_readme_is_seen(self):
+        self.assertEqual([*documents.length_problems("line\n" * 130)], [])
+        self.assert_seen(documents.length_problems("line\n" * 131), "131")
+
+    def test_what_tells_of_the_past_is_seen(self):
+        for text in (
+            "It ran on 2026-01-31.",
+            "It passed on 3 March.",
+            "On that day it took longer.",
+            "The host had other work.",
+            "This is of an earlier program.",
+            "The run was cut after 10 minutes.",
+        ):
+            self.assert_seen(documents.history_problems("docs/A.md", f"A line.\n{text}\n"), "docs/A.md:2")
+        self.assertEqual([*documents.history_problems("docs/A.md", "A line may be cut before `#`.")], [])
+
+    def test_a_path_that_is_not_there_is_seen(self):
+        text = "`mk_lines/src/ends.rt`, `mk_lines/specs/Words`, `mk_lines/specs/Ranges.raw_offset`, {}"
+        self.assertEqual([*documents.path_problems("docs/A.md", text)], [])
+        for place in ("mk_lines/src/nothing.rt", "mk_lines/specs/Ranges.nothing"):
+            self.assert_seen(documents.path_problems("docs/A.md", text.format(f"`{place}`")), place)
+
+    def test_a_wrong_body_that_is_not_told_or_not_there_is_seen(self):
+        text, body = self.texts["docs/PROOFS.md"], "a_recipe_ends_at_its_first_blank_line"
+        self.assert_seen(documents.body_problems(text, self.bodies - {body}), "no wrong body", body)
+        self.assert_seen(documents.body_problems(text.replace(body, "…"), self.bodies), "no row", body)
+
+    def test_a_table_of_crates_that_differs_is_seen(self):
+        crates = listed(TOP)
+        for old, new, *words in (
+            ("| `mk_class` | what", "| `mk_klass` | what", "mk_class", "mk_klass"),
+            ("| `mk_session`, `mk_script` | `itoa` |", "| `mk_session` | `itoa` |", "mk_run stands on"),
+            ("| `mk_command` | `bstr`, `thiserror` |", "| `mk_command` | `bstr` |", "mk_script uses"),
+            ("| `bstr` | cuts", "| `nom` | cuts", ""),
+        ):
+            text = self.replaced("docs/ARCHITECTURE.md", old, new)
+            found = [*documents.crate_problems(text, crates)]
+            self.assertTrue(found, old)
+            for word in words:
+                self.assertIn(word, found[0])
+
+    def test_a_table_of_edits_that_differs_is_seen(self):
+        for old, new, *words in (
+            ("| `append` | `AppendValue` |", "| `append` | `AppendText` |", "append", "AppendText"),
+            ("ValueSpans.append_value_span", "ValueSpans.append_span", "append", "append_span"),
+            ("AppendValueLemmas.append_value-reads", "AppendValueLemmas.append-reads", "no law"),
+            ("`value.rt`: `plan_append_value`", "`value.rt`: `plan_append`", "no code"),
+            ("| `append-writes-a-space` |", "| `set-keeps-the-comment` |", "no row"),
+            ("| `append_value_goes_behind_the_blanks` |", "| `append_goes` |", "no wrong body"),
+        ):
+            text = self.replaced("docs/DEVELOPING.md", old, new)
+            self.assert_seen(documents.edit_problems(text, self.bodies), *words)
+        text = self.replaced("docs/DEVELOPING.md", "| `append` | `AppendValue` |", "| `set` | `AppendValue` |")
+        self.assertTrue([*documents.edit_problems(text, self.bodies)])
+        text = self.replaced("README.md", "| `append NAME VALUE` |", "| `set NAME VALUE` |")
+        self.assert_seen(documents.command_problems(text), "append")
 
 
 def main():

@@ -4,7 +4,7 @@
     rooms.py         a folder in which a test runs the program, and a unittest case that has one
     tables.py        cases in the tables of tests/cases
     reading.py       a makefile read by Python, and the texts of the queries
-    documents.py     what the documents say of refusals, and the displays of the manual page
+    documents.py     what the documents say of refusals, and the displays of the manual pages
     terminals.py     a terminal with a user at its other side
     transcripts.py   shell sessions that a document shows
 """

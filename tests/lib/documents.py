@@ -1,11 +1,12 @@
-"""What several tests ask of the documents: the refusals, and the displays of the manual page."""
+"""What several tests ask of the documents: the refusals, and the displays of the manual pages."""
 
 import re
 
 from tests import TOP
 
 DOCS = TOP / "docs"
-PAGE = DOCS / "mkedit.1"
+# The manual pages: the command line, and scripts.
+PAGE, SCRIPT_PAGE = DOCS / "mkedit.1", DOCS / "mkedit-script.5"
 TEXTS = TOP / "crates/mk_edit_laws/specs/RefusalTexts.antt"
 NUMBER = re.compile(r"^number_of \(?(\w+).*?= (\d+)$", re.M)
 ROW = re.compile(r"^\| (\d+) \| `(\w+)`", re.M)
@@ -29,9 +30,9 @@ def told_refusals():
     return ROW.findall(edits())
 
 
-def page():
-    """The text of the manual page."""
-    return PAGE.read_text(encoding="utf-8")
+def page(path=PAGE):
+    """The text of a manual page."""
+    return path.read_text(encoding="utf-8")
 
 
 def displays_of(source):

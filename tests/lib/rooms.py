@@ -140,12 +140,3 @@ class RoomCase(unittest.TestCase):
         for name, problems in cases:
             with self.subTest(name):
                 self.assert_well(problems)
-
-
-def checks_of(case):
-    """What makes a check, a function of a room that hands out what is wrong, a test of a case."""
-
-    def check(function):
-        setattr(case, f"test_{function.__name__}", lambda it: it.assert_well(function(it.room)))
-
-    return check

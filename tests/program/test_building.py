@@ -5,8 +5,7 @@ import os
 import re
 import shutil
 
-from tests.lib.checks import Outcome, differences
-from tests.lib.rooms import RoomCase, checks_of
+from tests.lib.rooms import Room, RoomCase
 from tests.lib.terminals import terminal
 from tests.lib.trees import LOG, Tree
 
@@ -36,97 +35,6 @@ NO_MEMBERS = "!<arch>\n"
 LOADER = b"/ld-linux"
 
 
-class Building(RoomCase):
-    """Its tests are the checks below."""
-
-
-check = checks_of(Building)
-
-
-@check
-def a_build_has_a_line_for_each_crate_and_a_log(room):
-    tree = Tree(room, WHOLE)
-    yield from tree.differs((LINES, "", 0), tree.build())
-    if tree.log() != WHOLE:
-        yield f"the log is {tree.log()!r}"
-
-
-@check
-def a_terminal_shows_how_far_a_crate_is(room):
-    tree = Tree(room, WHOLE)
-    with terminal(lines=False) as (user, program):
-        wrong = tree.differs(("", "", 0), tree.build(stdout=program))
-        shown = os.read(user, 10_000).decode()
-    rows = [re.findall(r"[^\r]+", it)[-1].rstrip() for it in shown.split("\n") if it]
-    wrong += [] if "\r1 of 3 crates proved; proving mk_class: 54 of 141 functions" in shown else [shown]
-    told = re.sub(r"\d+ min \d+ s", "0 min 0 s", "".join(f"{it}\n" for it in rows))
-    return wrong + ([] if told == LINES else [f"the terminal is left with {told!r}"])
-
-
-@check
-def a_crate_that_is_refused_is_named_with_its_errors_and_the_log(room):
-    tree = Tree(room, READ + LOW + LOW_PROVED + NEXT + REFUSED + STOPPED, "exit 3")
-    shown = "".join(f"    {it}\n" for it in (REFUSED + STOPPED).splitlines() if "logic" not in it)
-    told = f"build: proving mk_class failed: it ended with 3. It said:\n{shown}{WHOLE_LOG}"
-    return tree.differs((FIRST_LINE + LOW_LINE, told, 3), tree.build())
-
-
-@check
-def a_failure_without_errors_shows_the_end_of_the_log(room):
-    tree = Tree(room, "one\ntwo\n", "exit 1")
-    told = "build: reading the sources failed: it ended with 1. It said:\n    one\n    two\n"
-    return tree.differs((FIRST_LINE, told + WHOLE_LOG, 1), tree.build())
-
-
-@check
-def a_prover_that_is_killed_is_told_so(room):
-    tree = Tree(room, LOW, "kill -9 $$")
-    told = "build: proving mk_lines failed: it was ended by SIGKILL. It said:\n"
-    shown = "".join(f"    {it}\n" for it in LOW.splitlines())
-    return tree.differs((FIRST_LINE, told + shown + WHOLE_LOG, 137), tree.build())
-
-
-@check
-def what_keeps_a_build_waiting_is_told(room):
-    waiting = "waiting for another rt to finish in crates/mk_lines"
-    sharing = "mk_lines: another copy of the repository is building this library; waiting for it"
-    killed = "the check was killed, most likely for memory: once more with --jobs 1"
-    said = f"rt: {waiting}\nrt: {sharing}\n{LOW}rt: {killed}\n{LOW_PROVED}{NEXT}{NEXT_PROVED}{LAST}"
-    wanted = LINES.replace(LOW_LINE, f"{waiting}\n{sharing}\n{killed}\n{LOW_LINE}")
-    tree = Tree(room, said)
-    return tree.differs((wanted, "", 0), tree.build())
-
-
-@check
-def a_build_without_rt_says_what_is_missing(room):
-    tree = Tree(room, WHOLE)
-    got = tree.build(path=str(tree.top))
-    told = b"build: there is no command rt: "
-    wrong = [] if got.stderr.startswith(told) else [f"it says {got.stderr}"]
-    return wrong + differences(got._replace(stderr=b""), Outcome(b"", b"", 127))
-
-
-@check
-def make_builds_once_and_says_no_more_than_the_steps(room):
-    tree = Tree(room, WHOLE)
-    yield from tree.differs((LINES + COPIED, "", 0), tree.run("make"))
-    if not (tree.top / PROGRAM).exists():
-        yield "the program is not there"
-    again = tree.run("make")
-    if again.status or b"building" in again.stdout:
-        yield f"the second make gives {again}"
-
-
-@check
-def make_fails_where_a_crate_is_refused(room):
-    tree = Tree(room, LOW + REFUSED, "exit 1")
-    got = tree.run("make")
-    if got.status != 2 or b"proving mk_lines failed" not in got.stderr:
-        yield f"make gives {got}"
-    if (tree.top / PROGRAM).exists():
-        yield "the program is there"
-
-
 def tree_to_link(room):
     """A copy of what builds, and where a program goes in it that is linked again."""
     tree = Tree(room, WHOLE)
@@ -141,31 +49,134 @@ def links(tree, said):
     yield from tree.differs(("mkedit 1\n", "", 0), tree.run(PROGRAM))
 
 
-@check
-def a_program_is_linked_with_the_c_library_in_it(room):
-    tree, built = tree_to_link(room)
-    (tree.names.parent / "c").mkdir()
-    for name in ("libos_c.a", "liblibc_c.a"):
-        (tree.names.parent / "c" / name).write_text(NO_MEMBERS)
-    (tree.top / "main.c").write_text(SOURCE)
-    if not shutil.which("cc") or tree.run("cc", "-static-pie", "-o", "main", "main.c").status:
-        return
-    yield from tree.differs(("", "", 0), tree.run("cc", "-fPIE", "-c", "-o", f"{BUILT}.o", "main.c"))
-    yield from tree.differs(("", "", 0), tree.run("cc", "-o", BUILT, f"{BUILT}.o"))
-    yield from links(tree, LINKED)
-    if LOADER not in built.read_bytes() or LOADER in (tree.top / PROGRAM).read_bytes():
-        yield "the loader is asked for by another program"
+class Building(RoomCase):
+    """What a build prints, and which program it leaves."""
 
+    def test_a_build_has_a_line_for_each_crate_and_a_log(self):
+        tree = Tree(self.room, WHOLE)
+        self.assert_well(tree.differs((LINES, "", 0), tree.build()))
+        self.assertEqual(tree.log(), WHOLE)
 
-@check
-def a_program_is_copied_where_it_cannot_be_linked(room):
-    tree, built = tree_to_link(room)
-    built.write_text("#!/bin/sh\necho mkedit 1\n")
-    built.chmod(0o755)
-    yield from links(tree, COPIED)
-    (built.parent / "mkedit.o").write_text("no object file")
-    (tree.top / PROGRAM).unlink()
-    got = tree.run("tools/link", BUILT, PROGRAM)
-    if got.status or got.stderr or b": it starts later\n" not in got.stdout:
-        yield f"tools/link gives {got}"
-    yield from tree.differs(("mkedit 1\n", "", 0), tree.run(PROGRAM))
+    def test_a_terminal_shows_how_far_a_crate_is(self):
+        tree = Tree(self.room, WHOLE)
+        with terminal(lines=False) as (user, program):
+            self.assert_well(tree.differs(("", "", 0), tree.build(stdout=program)))
+            shown = os.read(user, 10_000).decode()
+        rows = [re.findall(r"[^\r]+", it)[-1].rstrip() for it in shown.split("\n") if it]
+        self.assertIn("\r1 of 3 crates proved; proving mk_class: 54 of 141 functions", shown)
+        told = re.sub(r"\d+ min \d+ s", "0 min 0 s", "".join(f"{it}\n" for it in rows))
+        self.assertEqual(told, LINES)
+
+    def test_a_crate_that_is_refused_is_named_with_its_errors_and_the_log(self):
+        tree = Tree(self.room, READ + LOW + LOW_PROVED + NEXT + REFUSED + STOPPED, "exit 3")
+        shown = "".join(f"    {it}\n" for it in (REFUSED + STOPPED).splitlines() if "logic" not in it)
+        told = f"build: proving mk_class failed: it ended with 3. It said:\n{shown}{WHOLE_LOG}"
+        self.assert_well(tree.differs((FIRST_LINE + LOW_LINE, told, 3), tree.build()))
+
+    def test_a_failure_without_errors_shows_the_end_of_the_log(self):
+        tree = Tree(self.room, "one\ntwo\n", "exit 1")
+        told = "build: reading the sources failed: it ended with 1. It said:\n    one\n    two\n"
+        self.assert_well(tree.differs((FIRST_LINE, told + WHOLE_LOG, 1), tree.build()))
+
+    def test_a_prover_that_is_killed_is_told_so(self):
+        tree = Tree(self.room, LOW, "kill -9 $$")
+        told = "build: proving mk_lines failed: it was ended by SIGKILL. It said:\n"
+        shown = "".join(f"    {it}\n" for it in LOW.splitlines())
+        self.assert_well(tree.differs((FIRST_LINE, told + shown + WHOLE_LOG, 137), tree.build()))
+
+    def test_what_keeps_a_build_waiting_is_told(self):
+        waiting = "waiting for another rt to finish in crates/mk_lines"
+        sharing = "mk_lines: another copy of the repository is building this library; waiting for it"
+        killed = "the check was killed, most likely for memory: once more with --jobs 1"
+        said = f"rt: {waiting}\nrt: {sharing}\n{LOW}rt: {killed}\n{LOW_PROVED}{NEXT}{NEXT_PROVED}{LAST}"
+        wanted = LINES.replace(LOW_LINE, f"{waiting}\n{sharing}\n{killed}\n{LOW_LINE}")
+        tree = Tree(self.room, said)
+        self.assert_well(tree.differs((wanted, "", 0), tree.build()))
+
+    def test_a_build_without_rt_says_what_is_missing(self):
+        tree = Tree(self.room, WHOLE)
+        got = tree.build(path=str(tree.top))
+        self.assertTrue(got.stderr.startswith(b"build: there is no command rt: "), f"it says {got.stderr}")
+        self.assertEqual((got.stdout, got.status), (b"", 127))
+
+    def test_make_builds_once_and_says_no_more_than_the_steps(self):
+        tree = Tree(self.room, WHOLE)
+        self.assert_well(tree.differs((LINES + COPIED, "", 0), tree.run("make")))
+        self.assertTrue((tree.top / PROGRAM).exists())
+        again = tree.run("make")
+        if again.status or b"building" in again.stdout:
+            self.fail(f"the second make gives {again}")
+
+    def test_make_fails_where_a_crate_is_refused(self):
+        tree = Tree(self.room, LOW + REFUSED, "exit 1")
+        got = tree.run("make")
+        if got.status != 2 or b"proving mk_lines failed" not in got.stderr:
+            self.fail(f"make gives {got}")
+        self.assertFalse((tree.top / PROGRAM).exists())
+
+    def test_a_program_is_linked_with_the_c_library_in_it(self):
+        tree, built = tree_to_link(self.room)
+        (tree.names.parent / "c").mkdir()
+        for name in ("libos_c.a", "liblibc_c.a"):
+            (tree.names.parent / "c" / name).write_text(NO_MEMBERS)
+        (tree.top / "main.c").write_text(SOURCE)
+        if not shutil.which("cc") or tree.run("cc", "-static-pie", "-o", "main", "main.c").status:
+            self.skipTest("there is no C compiler, or no static C library")
+        self.assert_well(tree.differs(("", "", 0), tree.run("cc", "-fPIE", "-c", "-o", f"{BUILT}.o", "main.c")))
+        self.assert_well(tree.differs(("", "", 0), tree.run("cc", "-o", BUILT, f"{BUILT}.o")))
+        self.assert_well(links(tree, LINKED))
+        if LOADER not in built.read_bytes() or LOADER in (tree.top / PROGRAM).read_bytes():
+            self.fail("the loader is asked for by another program")
+
+    def test_a_program_is_copied_where_it_cannot_be_linked(self):
+        tree, built = tree_to_link(self.room)
+        built.write_text("#!/bin/sh\necho mkedit 1\n")
+        built.chmod(0o755)
+        self.assert_well(links(tree, COPIED))
+        (built.parent / "mkedit.o").write_text("no object file")
+        (tree.top / PROGRAM).unlink()
+        got = tree.run("tools/link", BUILT, PROGRAM)
+        if got.status or got.stderr or b": it starts later\n" not in got.stdout:
+            self.fail(f"tools/link gives {got}")
+        self.assert_well(tree.differs(("mkedit 1\n", "", 0), tree.run(PROGRAM)))
+
+    def tree_of_a_program(self, version):
+        """A copy of what builds, where the built program prints a version."""
+        tree, built = tree_to_link(self.room)
+        built.write_text(f"#!/bin/sh\necho '{version}'\n")
+        built.chmod(0o755)
+        return tree
+
+    def commit(self, tree):
+        """Makes the copy a checkout whose files are those of a commit, and returns the commit's name."""
+        if not shutil.which("git"):
+            self.skipTest("git is not there")
+        author = ("-c", "user.name=A", "-c", "user.email=a@invalid")
+        for words in (("init", "-q"), ("add", "Makefile", "tools"), (*author, "commit", "-q", "-m", "a")):
+            self.assertEqual(tree.run("git", *words).status, 0)
+        return tree.run("git", "rev-parse", "HEAD").stdout.decode()[:12]
+
+    def assert_tells(self, tree, version, said):
+        """A program that is linked again has to print this version, and the line on it has to end so."""
+        got = tree.run("tools/link", BUILT, PROGRAM)
+        self.assertEqual((got.stderr, got.status), (b"", 0))
+        self.assertTrue(got.stdout.endswith(f"{said}\n".encode()), got.stdout)
+        self.assert_well(tree.differs((f"{version}\n", "", 0), tree.run(PROGRAM)))
+        self.assertEqual([it.name for it in (tree.top / PROGRAM).parent.iterdir()], ["mkedit"])
+
+    def test_a_program_tells_the_commit_of_a_checkout_without_changes(self):
+        version = "mkedit 1 (commit not recorded)"
+        tree = self.tree_of_a_program(version)
+        self.assert_tells(tree, version, "starts later")
+        name = self.commit(tree)
+        self.assert_tells(tree, f"mkedit 1 (commit {name})", f"tells the commit {name}")
+        (tree.top / "Makefile").write_text("all:\n")
+        self.assert_tells(tree, version, "starts later")
+
+    def test_a_program_with_no_place_for_its_commit_or_with_two_stays_as_it_is(self):
+        for version in ("mkedit 1", "mkedit 1 (commit not recorded) (commit not recorded)"):
+            with self.subTest(version), Room(self.program) as room:
+                self.room = room
+                tree = self.tree_of_a_program(version)
+                self.commit(tree)
+                self.assert_tells(tree, version, "starts later")

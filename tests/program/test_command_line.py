@@ -38,7 +38,10 @@ class CommandLine(RoomCase):
         changes = (TOP / "CHANGELOG.md").read_text(encoding="utf-8")
         version = re.search(r"^## (\d+\.\d+\.\d+)\b", changes, re.M)[1]
         for word in ("--version", "-V"):
-            self.assert_run(Outcome(f"mkedit {version}\n".encode(), b"", 0), word)
+            got = self.room.run(word)
+            self.assert_well(differences(got._replace(stdout=b""), silent(0)))
+            commit = r"(?:not recorded|[0-9a-f]{12})"
+            self.assertRegex(got.stdout.decode(), rf"^mkedit {re.escape(version)} \(commit {commit}\)\n$")
             self.assert_bad_command_line("edit", word)
 
     def test_help_comes_before_what_is_missing(self):

@@ -19,7 +19,7 @@ OPTION = re.compile(r"^ +(?:(-\w), )?(--[\w-]+)", re.M)
 ZSH_COMMAND = re.compile(r"^ +'(\w+):.*'$", re.M)
 ZSH_OPTION = re.compile(r"\{(-\w)\+?,(--[\w-]+?)=?\}")
 FISH_COMMAND = re.compile(r"-n __fish_use_subcommand -a (\w+)")
-FISH_REFUSALS = re.compile(r"_from explain;.* -a '(.*)'")
+FISH_REFUSALS = re.compile(r"^set -l refusals (.*)$", re.M)
 FISH_OPTION = re.compile(r"-s (\w) -l ([\w-]+)")
 
 

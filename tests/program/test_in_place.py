@@ -13,6 +13,8 @@ from tests.lib.rooms import EDITED, READ_FAULT, REFUSED, TEXT, WRITE_FAULT, Room
 
 WORDS = ("edit", "-i", "script", "Makefile")
 CALL = re.compile(r"^(?:\d+ +)?(\w+)\(", re.M)
+# A group that nobody else is in.
+GROUP = 54_321
 
 
 def names(room):
@@ -38,6 +40,13 @@ def calls(room):
     # strace makes the first call, which starts the program
     names_of_calls = CALL.findall((room.folder / "calls").read_text())[1:]
     return [(name, names_of_calls[: at + 1].count(name)) for at, name in enumerate(names_of_calls)]
+
+
+def become_nobody():
+    """Makes this process one of the user nobody, who is in GROUP too."""
+    os.setgroups([GROUP])
+    os.setgid(NOBODY)
+    os.setuid(NOBODY)
 
 
 class InPlace(RoomCase):
@@ -101,6 +110,32 @@ class InPlace(RoomCase):
         self.assertEqual((found.st_uid, found.st_gid), (NOBODY, NOBODY))
         self.assertEqual(oct(found.st_mode & 0o7777), oct(0o4755))
         self.assert_holds("Makefile", EDITED.stdout)
+
+    def test_the_group_stays_where_only_the_owner_may_not(self):
+        if os.geteuid():
+            self.skipTest("only root may give a file away")
+        self.room.copy_program()
+        os.chmod(self.room.folder, 0o777)
+        self.room.write("Makefile", TEXT, mode=0o664)
+        os.chown(self.room.folder / "Makefile", 0, GROUP)
+        how = {"cwd": self.room.folder, "capture_output": True, "timeout": SECONDS}
+        ran = subprocess.run([self.room.program.path, *WORDS], preexec_fn=become_nobody, **how)
+        self.assertEqual(Outcome(ran.stdout, ran.stderr, ran.returncode), silent(0))
+        found = os.stat(self.room.folder / "Makefile")
+        self.assertEqual((found.st_uid, found.st_gid), (NOBODY, GROUP))
+        self.assertEqual(oct(found.st_mode & 0o7777), oct(0o664))
+        self.assert_holds("Makefile", EDITED.stdout)
+
+    def test_the_new_file_is_its_owners_alone_until_it_has_the_mode(self):
+        self.need_strace()
+        self.addCleanup(os.umask, os.umask(0))
+        self.room.write("Makefile", TEXT, mode=0o666)
+        for call in ("fchown", "fchmod"):
+            got = injected(self.room, f"{call}:signal=KILL:when=1")
+            self.assertEqual(got, silent(-signal.SIGKILL), call)
+            (left,) = self.room.folder.glob(".mkedit-*")
+            self.assertEqual(oct(left.stat().st_mode & 0o7777), oct(0o600), call)
+            left.unlink()
 
     def test_a_file_of_another_owner_may_be_edited_in_place(self):
         self.room.copy_program()
@@ -201,6 +236,12 @@ class InPlace(RoomCase):
             self.assert_holds("Makefile", TEXT if at <= renamed else EDITED.stdout)
             for left in self.room.folder.glob(".mkedit-*"):
                 left.unlink()
+
+    def test_the_text_is_on_the_disk_before_the_name_changes(self):
+        self.need_strace()
+        steps = [name for name, _ in calls(self.room) if name in ("write", "fsync", "rename")]
+        self.assertEqual(steps, ["write", "fsync", "rename"])
+        self.assert_holds("Makefile", EDITED.stdout)
 
     def test_a_call_that_fails_leaves_the_file_whole(self):
         self.need_strace()

@@ -12,17 +12,18 @@ from tests.lib.rooms import EDITED, RoomCase
 PLACES = {
     "bin/mkedit": None,
     "share/man/man1/mkedit.1": "docs/mkedit.1",
+    "share/man/man5/mkedit-script.5": "docs/mkedit-script.5",
     "share/bash-completion/completions/mkedit": "completions/mkedit.bash",
     "share/zsh/site-functions/_mkedit": "completions/mkedit.zsh",
     "share/fish/vendor_completions.d/mkedit.fish": "completions/mkedit.fish",
 }
-# Folders of one's own, each with the file that goes there.
+# Folders of one's own, each with the files that go there.
 FOLDERS = {
-    "BINDIR": "mkedit",
-    "MANDIR": "man1/mkedit.1",
-    "BASHCOMPDIR": "mkedit",
-    "ZSHCOMPDIR": "_mkedit",
-    "FISHCOMPDIR": "mkedit.fish",
+    "BINDIR": ("mkedit",),
+    "MANDIR": ("man1/mkedit.1", "man5/mkedit-script.5"),
+    "BASHCOMPDIR": ("mkedit",),
+    "ZSHCOMPDIR": ("_mkedit",),
+    "FISHCOMPDIR": ("mkedit.fish",),
 }
 
 
@@ -70,7 +71,8 @@ class Installation(RoomCase):
     def test_each_folder_of_an_installation_can_be_chosen(self):
         chosen = {name: f"/chosen/{name.lower()} 1" for name in FOLDERS}
         self.make("install", **chosen)
-        self.assert_installed(f"chosen/{name.lower()} 1/{file}" for name, file in FOLDERS.items())
+        placed = [(name, file) for name, files in FOLDERS.items() for file in files]
+        self.assert_installed(f"chosen/{name.lower()} 1/{file}" for name, file in placed)
         self.make("uninstall", **chosen)
         self.assert_installed(())
 

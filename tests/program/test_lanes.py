@@ -56,6 +56,15 @@ class LanesOfCrates(unittest.TestCase):
         crates = {name: Crate(below, lines, ONE) for name, (below, lines) in GRAPH.items()}
         self.assertEqual(Lanes(crates, 4, ENOUGH).starts(), [("lines", 4, True), ("errors", 1, False)])
 
+    def test_what_the_next_crate_of_the_chain_waits_for_too_does_not_give_way(self):
+        crates = {name: Crate(below, lines, ONE) for name, (below, lines) in GRAPH.items()}
+        lanes, last = Lanes(crates, 4, ENOUGH), []
+        for name in ["", *"errors lines class history tree laws patch parts".split()]:
+            if name:
+                lanes.ended(name)
+            last = lanes.starts() or last
+        self.assertEqual(last, [("edit", 4, True), ("index", 1, True)])
+
     def test_one_processor_proves_one_crate_after_the_other(self):
         got = begun(1, ENOUGH, "lines class tree")
         self.assertEqual(got, [{"lines": 1}, {"class": 1}, {"tree": 1}, {"errors": 1}])

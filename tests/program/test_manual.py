@@ -1,6 +1,7 @@
-"""The manual page, docs/mkedit.1: its form, its examples, and that it leaves nothing out.
+"""The manual pages, docs/mkedit.1 and docs/mkedit-script.5: their form, their examples, and that they
+leave nothing out.
 
-Each literal display of the page is an example. The first is the makefile of the examples. The parts of
+Each literal display of a page is an example. The first is the makefile of the examples. The parts of
 the others have an empty line between them:
 
     a shell session                     `$ COMMAND`, and what it prints
@@ -11,19 +12,28 @@ What comes of a script is its report, or the lines that diff -U0 shows, without 
 """
 
 import difflib
+import itertools
+import os
 import re
 import shutil
 import subprocess
 
 from tests.lib.checks import SECONDS, Outcome, differences
-from tests.lib.documents import PAGE, displays_of, edits, page, told_refusals
+from tests.lib.documents import PAGE, SCRIPT_PAGE, displays_of, edits, page, refusals
 from tests.lib.rooms import RoomCase, silent
 from tests.lib.transcripts import Shell
 
 REPORT = re.compile(r"\d+: refused .*\n")
 # What mandoc says of the pages of other programs, which this machine may not have.
 OTHER_PAGES = re.compile(r"referenced manual not found|outdated mandoc\.db")
-EXAMPLES = 41
+# How many examples each page has at least.
+EXAMPLES = {PAGE: 5, SCRIPT_PAGE: 36}
+# What looks at the form of a page, and says nothing where all is well.
+FORMS = (
+    ("mandoc", "-T", "lint"),
+    ("groff", "-ww", "-mdoc", "-T", "utf8", "-z"),
+    ("man", "--warnings", "-E", "UTF-8", "-Tutf8", "-Z", "-l"),
+)
 
 
 def changed_lines(before, after):
@@ -44,40 +54,49 @@ class Manual(RoomCase):
             self.assert_well(differences(got._replace(stdout=b""), silent(0)))
             self.assertEqual(changed_lines(makefile, got.stdout.decode()), wanted, script)
 
-    def test_each_example_of_the_manual_page_is_so(self):
-        makefile, *examples = displays_of(page())
+    def assert_examples(self, path):
+        """The examples of a page have to be so."""
+        makefile, *examples = displays_of(page(path))
         for example in examples:
             if example.startswith("$ "):
                 self.room.write("Makefile", makefile.encode())
                 with Shell(self.room.program, self.room.folder) as shell:
                     self.assert_well(shell.differs(example))
+                # (a session may edit the makefile)
+                self.room.written.pop("Makefile")
                 continue
             *script, wanted = example.split("\n\n")
             own = script[0] + "\n" if len(script) == 2 else makefile
             self.assert_script(own, script[-1] + "\n", wanted)
-        self.assertGreaterEqual(len(examples), EXAMPLES)
+        self.assertGreaterEqual(len(examples), EXAMPLES[path])
 
-    def test_the_manual_page_has_a_good_form(self):
-        if shutil.which("mandoc"):
-            words = ["mandoc", "-T", "lint", str(PAGE)]
-        elif shutil.which("groff"):
-            words = ["groff", "-ww", "-mdoc", "-T", "utf8", "-z", str(PAGE)]
-        else:
-            self.skipTest("there are neither mandoc nor groff")
-        ran = subprocess.run(words, capture_output=True, text=True, timeout=SECONDS)
-        lines = (ran.stdout + ran.stderr).splitlines()
-        self.assert_well(it for it in lines if not OTHER_PAGES.search(it))
+    def test_each_example_of_the_page_on_the_command_line_is_so(self):
+        self.assert_examples(PAGE)
 
-    def test_the_manual_page_has_every_refusal(self):
-        found = re.findall(r"^\.It (\d+) (\w+)", page(), re.M)
-        self.assertEqual(found, told_refusals())
+    def test_each_example_of_the_page_on_scripts_is_so(self):
+        self.assert_examples(SCRIPT_PAGE)
 
-    def test_the_manual_page_has_every_command_of_a_script(self):
+    def test_the_manual_pages_have_a_good_form(self):
+        there = [it for it in FORMS if shutil.which(it[0])]
+        if not there:
+            self.skipTest("there is neither mandoc nor groff nor man")
+        how = {"env": {**os.environ, "LC_ALL": "C.UTF-8"}, "timeout": SECONDS}
+        for words, path in itertools.product(there, EXAMPLES):
+            ran = subprocess.run([*words, path], capture_output=True, errors="replace", **how)
+            # (on standard output man has the page)
+            lines = (ran.stderr if words[0] == "man" else ran.stdout + ran.stderr).splitlines()
+            self.assertEqual([it for it in lines if not OTHER_PAGES.search(it)], [], words)
+
+    def test_the_page_on_scripts_has_every_refusal(self):
+        found = re.findall(r"^\.It (\d+) (\w+)", page(SCRIPT_PAGE), re.M)
+        self.assertEqual(found, refusals())
+
+    def test_the_page_on_scripts_has_every_command_of_a_script(self):
         shown = self.room.run("edit", "--help").stdout.decode()
         commands = re.search(r"^A line of the script.*\n((?:    .*\n)+)", shown, re.M)[1]
         fields = re.split(r"\n| {2,}", commands.strip())
         words = {it.split()[0] for it in fields if it.strip()}
-        listed = re.findall(r"^\.It Cm (.*)", page().partition(".Sh SCRIPT")[2], re.M)
+        listed = re.findall(r"^\.It Cm (.*)", page(SCRIPT_PAGE), re.M)
         found = {it for line in listed for it in re.findall(r"\b[a-z-]+", line)}
         self.assertEqual(found, words)
 

@@ -71,6 +71,12 @@ class Outputs(RoomCase):
         self.assert_run(silent(0), "edit", "-o", "long", "empty", "long")
         self.assert_holds("long", text)
 
+    def test_a_text_of_several_writes_goes_to_out_whole(self):
+        half = b"# a comment of forty bytes, and its end\n" * 1_000
+        self.room.write("long", half + TEXT + half)
+        self.assert_run(silent(0), "edit", "-o", "out", "script", "long")
+        self.assert_holds("out", half + EDITED.stdout + half)
+
     def test_a_refused_run_leaves_out_alone(self):
         self.room.write("out", b"older\n")
         self.assert_run(REFUSED, "edit", "-o", "out", "undo", "Makefile")

@@ -18,9 +18,7 @@ EXAMPLE = re.compile(
     re.M,
 )
 NAMED = re.compile(r"\b(?:docs|crates|tests|tools|examples)/(?:[\w./-]|\*(?=[\w/]))*\w")
-# What a build makes.
-BUILT = re.compile(r"crates/\w+/out\b")
-EXAMPLES = 2
+EXAMPLES = 1
 
 
 def readme():
@@ -67,10 +65,4 @@ class Readme(RoomCase):
 
     def test_what_the_readme_names_is_there(self):
         for name in sorted(set(NAMED.findall(readme()))):
-            self.assertTrue(BUILT.match(name) or list(TOP.glob(name)), f"there is no {name}")
-
-    def test_the_readme_names_each_crate(self):
-        crates = re.findall(r"^(\w+):", (TOP / "crates.txt").read_text(encoding="utf-8"), re.M)
-        for crate in crates:
-            if not crate.endswith("_tests"):
-                self.assertIn(f"`crates/{crate}`", readme())
+            self.assertTrue(list(TOP.glob(name)), f"there is no {name}")

@@ -8,7 +8,7 @@ import signal
 import sys
 from pathlib import Path
 
-from tests.lib.rooms import RoomCase, checks_of
+from tests.lib.rooms import RoomCase
 from tests.lib.terminals import terminal
 from tests.lib.trees import Tree
 from tests.program.test_building import FIRST_LINE, LINES, WHOLE, WHOLE_LOG
@@ -123,12 +123,6 @@ if __name__ == "__main__":
     sys.exit(main(sys.argv[1:]))
 '''
 
-class SideBySide(RoomCase):
-    """Its tests are the checks below."""
-
-
-check = checks_of(SideBySide)
-
 
 class Crates(Tree):
     """A copy of what builds, with that script for rt, over crates of its own."""
@@ -178,107 +172,88 @@ SHOWN = r"\r1 of 4 crates proved;.* proving (left|right)(: 1 of \d)?; proving (l
 END = "built crates/mkedit/out/mkedit in 0 min 0 s\n"
 
 
-@check
-def crates_that_do_not_wait_for_each_other_are_proved_side_by_side(room):
-    tree = Crates(room)
-    # (the right one ends first, and neither ends before the other has begun)
-    tree.let("waits", "right", "left begins")
-    tree.let("waits", "left", "right ends")
-    wanted = FIRST_LINE + proved("low", "right", "left", "mkedit") + END
-    yield from tree.differs((wanted, "", 0), tree.build())
-    if sorted(tree.begun()) != [("left", 2), ("low", 4), ("right", 2)]:
-        yield f"the proofs begin as {tree.begun()}"
-    if "rt run --jobs 4 -- --help" not in tree.events() or "no lock" in tree.events():
-        yield f"what is done is {tree.events()}"
+class SideBySide(RoomCase):
+    """What a build of several crates does."""
 
+    def test_crates_that_do_not_wait_for_each_other_are_proved_side_by_side(self):
+        tree = Crates(self.room)
+        # (the right one ends first, and neither ends before the other has begun)
+        tree.let("waits", "right", "left begins")
+        tree.let("waits", "left", "right ends")
+        wanted = FIRST_LINE + proved("low", "right", "left", "mkedit") + END
+        self.assert_well(tree.differs((wanted, "", 0), tree.build()))
+        self.assertEqual(sorted(tree.begun()), [("left", 2), ("low", 4), ("right", 2)])
+        self.assertIn("rt run --jobs 4 -- --help", tree.events())
+        self.assertNotIn("no lock", tree.events())
 
-@check
-def the_log_names_the_crate_of_each_line(room):
-    tree = Crates(room)
-    tree.let("told", "low", "so far: 1 of 2 functions\nlogic=proved functions=2\n")
-    tree.build()
-    if "low: so far: 1 of 2 functions\nlow: logic=proved functions=2\n" not in tree.log():
-        yield f"the log is {tree.log()!r}"
+    def test_the_log_names_the_crate_of_each_line(self):
+        tree = Crates(self.room)
+        tree.let("told", "low", "so far: 1 of 2 functions\nlogic=proved functions=2\n")
+        tree.build()
+        self.assertIn("low: so far: 1 of 2 functions\nlow: logic=proved functions=2\n", tree.log())
 
+    def test_a_terminal_shows_how_far_each_crate_is(self):
+        tree = Crates(self.room)
+        for name, other in (("left", "right"), ("right", "left")):
+            tree.let("told", name, f"so far: 1 of {len(name)} functions\nlogic=proved functions=2\n")
+            tree.let("waits", name, f"{other} begins")
+        with terminal(lines=False) as (user, program):
+            self.assert_well(tree.differs(("", "", 0), tree.build(stdout=program)))
+            shown = os.read(user, 10_000).decode()
+        self.assertRegex(shown, SHOWN)
 
-@check
-def a_terminal_shows_how_far_each_crate_is(room):
-    tree = Crates(room)
-    for name, other in (("left", "right"), ("right", "left")):
-        tree.let("told", name, f"so far: 1 of {len(name)} functions\nlogic=proved functions=2\n")
-        tree.let("waits", name, f"{other} begins")
-    with terminal(lines=False) as (user, program):
-        wrong = tree.differs(("", "", 0), tree.build(stdout=program))
-        shown = os.read(user, 10_000).decode()
-    return wrong + ([] if re.search(SHOWN, shown) else [f"the terminal shows {shown!r}"])
-
-
-@check
-def only_what_has_changed_is_proved(room):
-    tree = Crates(room)
-    tree.build()
-    (tree.names / "events").unlink()
-    (tree.top / "crates/right/out/stamp").unlink()
-    yield from tree.differs((FIRST_LINE + proved("right", "mkedit", first=3) + END, "", 0), tree.build())
-    # (the sources are not read apart where the crate has been proved before)
-    if tree.events()[:1] != ["right begins with ['--jobs', '4'], anew False"] or "sources begin" in tree.events():
-        yield f"what is done is {tree.events()}"
-
-
-@check
-def a_crate_that_is_refused_ends_those_beside_it(room):
-    tree = Crates(room)
-    tree.let("told", "left", "so far: 1 of 2 functions\n./proofs/A.antt:8:13: error: two types differ\n")
-    tree.let("status", "left", "1")
-    tree.let("waits", "left", "right begins")
-    tree.let("waits", "right", "never")
-    told = "build: proving left failed: it ended with 1. It said:\n"
-    told += f"    ./proofs/A.antt:8:13: error: two types differ\n{WHOLE_LOG}"
-    yield from tree.differs((FIRST_LINE + proved("low"), told, 1), tree.build())
-    if any(it.startswith(("right ends", "rt")) for it in tree.events()):
-        yield f"what is done is {tree.events()}"
-
-
-@check
-def sources_that_cannot_be_read_end_the_proofs(room):
-    tree = Crates(room)
-    tree.let("told", "sources", "error[types]: two types differ\n")
-    tree.let("status", "sources", "1")
-    tree.let("waits", "sources", "low begins")
-    tree.let("waits", "low", "never")
-    told = "build: reading the sources failed: it ended with 1. It said:\n"
-    told += f"    error[types]: two types differ\n{WHOLE_LOG}"
-    return tree.differs((FIRST_LINE, told, 1), tree.build())
-
-
-@check
-def rt_proves_all_where_its_script_has_other_parts(room):
-    tree = Crates(room, SCRIPT.replace("def build_rlib(self, flags, anew):", "def build_rlib(self, flags):"))
-    tree.let("told", "mkedit", WHOLE)
-    yield from tree.differs((IN_TURN, "", 0), tree.build())
-    if tree.events() != ["rt run -- --help", "mkedit ends with 0"]:
-        yield f"what is done is {tree.events()}"
-
-
-@check
-def rt_proves_all_where_its_script_fails(room):
-    tree = Crates(room, SCRIPT.replace("    def front_end(self):", "    def front_end(self):\n        self.quick()"))
-    tree.let("waits", "low", "never")
-    tree.let("told", "mkedit", WHOLE)
-    got = tree.build()
-    said = "one crate after the other, since the toolchain's script has other parts: sources ended with 70\n"
-    yield from tree.differs((IN_TURN.replace(FIRST_LINE, FIRST_LINE + said), "", 0), got)
-    if "AttributeError" not in tree.log() or tree.events()[-2:] != ["rt run -- --help", "mkedit ends with 0"]:
-        yield f"what is done is {tree.events()}, and the log {tree.log()!r}"
-
-
-@check
-def what_a_build_has_started_ends_with_it(room):
-    tree = Crates(room)
-    tree.let("waits", "low", "never")
-    for number in (signal.SIGTERM, signal.SIGINT):
-        got = tree.ended_by(number, tree.begun, sys.executable, "tools/build", "mkedit", "--help")
-        yield from tree.differs((FIRST_LINE, "", 128 + number), got)
-        if tree.at_work():
-            yield f"the processes {tree.at_work()} have not ended"
+    def test_only_what_has_changed_is_proved(self):
+        tree = Crates(self.room)
+        tree.build()
         (tree.names / "events").unlink()
+        (tree.top / "crates/right/out/stamp").unlink()
+        self.assert_well(tree.differs((FIRST_LINE + proved("right", "mkedit", first=3) + END, "", 0), tree.build()))
+        # (the sources are not read apart where the crate has been proved before)
+        self.assertEqual(tree.events()[:1], ["right begins with ['--jobs', '4'], anew False"])
+        self.assertNotIn("sources begin", tree.events())
+
+    def test_a_crate_that_is_refused_ends_those_beside_it(self):
+        tree = Crates(self.room)
+        tree.let("told", "left", "so far: 1 of 2 functions\n./proofs/A.antt:8:13: error: two types differ\n")
+        tree.let("status", "left", "1")
+        tree.let("waits", "left", "right begins")
+        tree.let("waits", "right", "never")
+        told = "build: proving left failed: it ended with 1. It said:\n"
+        told += f"    ./proofs/A.antt:8:13: error: two types differ\n{WHOLE_LOG}"
+        self.assert_well(tree.differs((FIRST_LINE + proved("low"), told, 1), tree.build()))
+        self.assertEqual([it for it in tree.events() if it.startswith(("right ends", "rt"))], [])
+
+    def test_sources_that_cannot_be_read_end_the_proofs(self):
+        tree = Crates(self.room)
+        tree.let("told", "sources", "error[types]: two types differ\n")
+        tree.let("status", "sources", "1")
+        tree.let("waits", "sources", "low begins")
+        tree.let("waits", "low", "never")
+        told = "build: reading the sources failed: it ended with 1. It said:\n"
+        told += f"    error[types]: two types differ\n{WHOLE_LOG}"
+        self.assert_well(tree.differs((FIRST_LINE, told, 1), tree.build()))
+
+    def test_rt_proves_all_where_its_script_has_other_parts(self):
+        tree = Crates(self.room, SCRIPT.replace("def build_rlib(self, flags, anew):", "def build_rlib(self, flags):"))
+        tree.let("told", "mkedit", WHOLE)
+        self.assert_well(tree.differs((IN_TURN, "", 0), tree.build()))
+        self.assertEqual(tree.events(), ["rt run -- --help", "mkedit ends with 0"])
+
+    def test_rt_proves_all_where_its_script_fails(self):
+        tree = Crates(self.room, SCRIPT.replace("    def front_end(self):", "    def front_end(self):\n        self.quick()"))
+        tree.let("waits", "low", "never")
+        tree.let("told", "mkedit", WHOLE)
+        got = tree.build()
+        said = "one crate after the other, since the toolchain's script has other parts: sources ended with 70\n"
+        self.assert_well(tree.differs((IN_TURN.replace(FIRST_LINE, FIRST_LINE + said), "", 0), got))
+        self.assertIn("AttributeError", tree.log())
+        self.assertEqual(tree.events()[-2:], ["rt run -- --help", "mkedit ends with 0"])
+
+    def test_what_a_build_has_started_ends_with_it(self):
+        tree = Crates(self.room)
+        tree.let("waits", "low", "never")
+        for number in (signal.SIGTERM, signal.SIGINT):
+            got = tree.ended_by(number, tree.begun, sys.executable, "tools/build", "mkedit", "--help")
+            self.assert_well(tree.differs((FIRST_LINE, "", 128 + number), got))
+            self.assertEqual(tree.at_work(), [])
+            (tree.names / "events").unlink()

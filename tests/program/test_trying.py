@@ -4,7 +4,7 @@ import signal
 import sys
 
 from tests.lib.checks import SECONDS
-from tests.lib.rooms import RoomCase, checks_of
+from tests.lib.rooms import RoomCase
 from tests.lib.trees import Tree
 
 OUT = "crates/mkedit/out/tried/mkedit"
@@ -29,13 +29,6 @@ The program that ran is {OUT}. It is built without proofs, and checks end it at 
 """
 
 
-class Trying(RoomCase):
-    """Its tests are the checks below."""
-
-
-check = checks_of(Trying)
-
-
 def tree_with(room, does):
     """A copy of what builds, with an rt that does this."""
     tree = Tree(room, "")
@@ -58,63 +51,53 @@ def left(tree):
     return sorted(it.name for it in folder.iterdir()) if folder.exists() else []
 
 
-@check
-def the_program_that_rt_runs_is_kept(room):
-    tree = tree_with(room, runs(room))
-    got = tries(tree)
-    yield from tree.differs((FIRST_LINE + LAST_LINE, "", 0), got)
-    if left(tree) != ["mkedit"]:
-        yield f"there is {left(tree)}"
-    yield from tree.differs(("", "", 0), tree.run(OUT, "--version"))
+class Trying(RoomCase):
+    """What tools/try does."""
 
+    def test_the_program_that_rt_runs_is_kept(self):
+        tree = tree_with(self.room, runs(self.room))
+        got = tries(tree)
+        self.assert_well(tree.differs((FIRST_LINE + LAST_LINE, "", 0), got))
+        self.assertEqual(left(tree), ["mkedit"])
+        self.assert_well(tree.differs(("", "", 0), tree.run(OUT, "--version")))
 
-@check
-def a_program_that_is_not_built_is_told_with_what_rt_says(room):
-    said = [f"line {it}" for it in range(20)]
-    tree = tree_with(room, f"printf '%s\\n' {' '.join(map(repr, said))}\nexit 1\n")
-    told = f"try: {OUT} is not built: rt try ended with 1 and did not run the program. It said:\n"
-    told += "".join(f"    {it}\n" for it in said[-8:])
-    yield from tree.differs((FIRST_LINE, told, 1), tries(tree))
-    if left(tree):
-        yield f"there is {left(tree)}"
+    def test_a_program_that_is_not_built_is_told_with_what_rt_says(self):
+        said = [f"line {it}" for it in range(20)]
+        tree = tree_with(self.room, f"printf '%s\\n' {' '.join(map(repr, said))}\nexit 1\n")
+        told = f"try: {OUT} is not built: rt try ended with 1 and did not run the program. It said:\n"
+        told += "".join(f"    {it}\n" for it in said[-8:])
+        self.assert_well(tree.differs((FIRST_LINE, told, 1), tries(tree)))
+        self.assertEqual(left(tree), [])
 
+    def test_a_program_that_does_not_start_is_no_program(self):
+        tree = tree_with(self.room, runs(self.room, status=3))
+        (tree.top / OUT).parent.mkdir(parents=True)
+        (tree.top / OUT).write_text("an earlier one")
+        told = f"try: {OUT} is not built: `mkedit --version` ends with 3\n"
+        self.assert_well(tree.differs((FIRST_LINE, told, 1), tries(tree)))
+        self.assertEqual(left(tree), ["mkedit"])
+        self.assertEqual((tree.top / OUT).read_text(), "an earlier one")
 
-@check
-def a_program_that_does_not_start_is_no_program(room):
-    tree = tree_with(room, runs(room, status=3))
-    (tree.top / OUT).parent.mkdir(parents=True)
-    (tree.top / OUT).write_text("an earlier one")
-    told = f"try: {OUT} is not built: `mkedit --version` ends with 3\n"
-    yield from tree.differs((FIRST_LINE, told, 1), tries(tree))
-    if left(tree) != ["mkedit"] or (tree.top / OUT).read_text() != "an earlier one":
-        yield f"there is {left(tree)}"
+    def test_without_rt_nothing_is_tried(self):
+        tree = tree_with(self.room, runs(self.room))
+        got = tree.run(sys.executable, "tools/try", OUT, path=str(tree.top))
+        if not got.stderr.startswith(b"try: there is no command rt: ") or got.status != 127:
+            self.fail(f"it says {got}")
 
+    def test_what_is_started_ends_with_it(self):
+        tree = tree_with(self.room, f"echo begun > {self.room.folder}/begun\nexec sleep {SECONDS}\n")
+        begun = self.room.folder / "begun"
+        for number in (signal.SIGTERM, signal.SIGINT):
+            got = tree.ended_by(number, begun.exists, sys.executable, "tools/try", OUT)
+            self.assert_well(tree.differs((FIRST_LINE, "", 128 + number), got))
+            self.assertEqual(left(tree), [])
+            begun.unlink()
 
-@check
-def without_rt_nothing_is_tried(room):
-    tree = tree_with(room, runs(room))
-    got = tree.run(sys.executable, "tools/try", OUT, path=str(tree.top))
-    if not got.stderr.startswith(b"try: there is no command rt: ") or got.status != 127:
-        yield f"it says {got}"
-
-
-@check
-def what_is_started_ends_with_it(room):
-    tree = tree_with(room, f"echo begun > {room.folder}/begun\nexec sleep {SECONDS}\n")
-    begun = room.folder / "begun"
-    for number in (signal.SIGTERM, signal.SIGINT):
-        got = tree.ended_by(number, begun.exists, sys.executable, "tools/try", OUT)
-        yield from tree.differs((FIRST_LINE, "", 128 + number), got)
-        yield from [f"there is {left(tree)}"] if left(tree) else []
-        begun.unlink()
-
-
-@check
-def a_demo_builds_once_and_says_what_it_shows(room):
-    tree = tree_with(room, runs(room))
-    (tree.top / "examples").mkdir()
-    (tree.top / "examples/demo").write_text('#!/bin/sh\necho "the demo of $MKEDIT"\n')
-    (tree.top / "examples/demo").chmod(0o755)
-    shown = f"the demo of {OUT}\n{SHOWN}"
-    yield from tree.differs((FIRST_LINE + LAST_LINE + shown, "", 0), tree.run("make", "demo"))
-    yield from tree.differs((shown, "", 0), tree.run("make", "demo"))
+    def test_a_demo_builds_once_and_says_what_it_shows(self):
+        tree = tree_with(self.room, runs(self.room))
+        (tree.top / "examples").mkdir()
+        (tree.top / "examples/demo").write_text('#!/bin/sh\necho "the demo of $MKEDIT"\n')
+        (tree.top / "examples/demo").chmod(0o755)
+        shown = f"the demo of {OUT}\n{SHOWN}"
+        self.assert_well(tree.differs((FIRST_LINE + LAST_LINE + shown, "", 0), tree.run("make", "demo")))
+        self.assert_well(tree.differs((shown, "", 0), tree.run("make", "demo")))

@@ -9,6 +9,10 @@ use std::marker::Model;
 /// work of a call that reads lines anew. A meter cannot be copied. A call that takes a meter could
 /// put a new one in its place. So each such call says that the count is no lower afterwards, also
 /// if it answers a fault.
+///
+/// A call could also make a meter of its own and read lines on it. No contract says that none does:
+/// the repository's gate looks that [`Meter::new`] stands in no source of the program but where a
+/// session is opened, and in the query `caveats`.
 #[derive(Debug, Drop)]
 pub struct Meter {
     count: u64,
@@ -23,7 +27,8 @@ impl Model for Meter {
 }
 
 impl Meter {
-    /// A meter that has counted no line. Takes no memory.
+    /// A meter that has counted no line. Takes no memory. Whoever makes one answers for what is read
+    /// on it.
     pub fn new() -> Meter
         ensures { result ≡ 0 }
     {

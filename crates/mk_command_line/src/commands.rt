@@ -11,8 +11,9 @@ use crate::help;
 use clap::Command;
 use std::alloc::{AllocError, Global};
 
-/// The version that `--version` names. CHANGELOG.md says what is new in it.
-const VERSION: &str = "0.1.0";
+/// The version that `--version` names, of which CHANGELOG.md says what is new, and a place for the
+/// commit: tools/link writes its first twelve digits over `not recorded` in the built program.
+const VERSION: &str = "0.1.0 (commit not recorded)";
 
 // How `edit` is called.
 const EDIT_USAGE: &str = "mkedit edit [OPTIONS] SCRIPT [FILE]

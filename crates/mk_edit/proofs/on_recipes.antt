@@ -1,6 +1,7 @@
 -- Lemmas. The recipes of rules, and the edits of rules and recipes.
 pub mod OwnCauses
 pub mod RulePlaces
+pub mod RuleEnds
 pub mod RemoveRulePlans
 pub mod RecipePlaces
 pub mod RemoveRecipePlans

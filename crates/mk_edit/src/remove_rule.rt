@@ -12,11 +12,10 @@ ghost use Rattle.mk_edit.specs.RecipeEdits.{IsRemoveRule};
 ghost use Rattle.mk_edit_parts.specs.RecipeWalks.{header_targets_located};
 
 use crate::moves::take_out;
-use mk_class::{Class, RuleFlag};
+use mk_class::Class;
 use mk_edit_laws::Refusal;
 use mk_edit_parts::edit::Edit;
 use mk_edit_parts::find::find;
-use mk_edit_parts::lean::leans;
 use mk_edit_parts::part::{part, text_of_line};
 use mk_edit_parts::recipe::recipe_below;
 use mk_edit_parts::seek::Sought;
@@ -31,9 +30,11 @@ use std::alloc::Allocator;
 /// # Errors
 ///
 /// The first cause of the edit that holds: the causes of [`find`]; [`Refusal::SharedRule`] if the
-/// rule has several targets; [`Refusal::Straddles`] if a line of a conditional stands in its
-/// recipe; and [`Refusal::Leans`] if the lines below would be read in another way. If no cause
-/// holds, [`Refusal::NoMemory`] if a growth was refused.
+/// rule has several targets; and [`Refusal::Straddles`] if a line of a conditional stands in its
+/// recipe. If no cause holds, [`Refusal::NoMemory`] if a growth was refused.
+///
+/// No line below leans: the first that counts does not begin with the recipe prefix, since it would
+/// be one more recipe line. So the answer is never [`Refusal::Leans`].
 pub(crate) fn plan_remove_rule<A: Allocator + Copy>(
     alloc: A,
     doc: &Doc<A>,
@@ -60,17 +61,6 @@ pub(crate) fn plan_remove_rule<A: Allocator + Copy>(
     let recipe = recipe_below(doc, header.at + 1);
     if recipe.is_split {
         return Err(Refusal::Straddles);
-    }
-    let prefix = header.context.prefix();
-    // After a header and its recipe the flag says that a rule is open.
-    if leans(
-        doc,
-        recipe.end,
-        prefix,
-        header.context.flag(),
-        RuleFlag::Rule,
-    ) {
-        return Err(Refusal::Leans);
     }
     match take_out(alloc, header.at, recipe.end - header.at) {
         Ok(patch) => Ok(patch),

@@ -2,3 +2,4 @@ pub mod ModifierLemmas
 pub mod ColonLemmas
 pub mod AssignmentPartLemmas
 pub mod HeaderPartLemmas
+pub mod ReadableLemmas

@@ -3,6 +3,7 @@ ghost use Rattle.std.specs.Prelude.{◌≡◌};
 ghost use Rattle.mk_lines.specs.Cells.{joined_byte};
 ghost use Rattle.mk_class.specs.LocatedClasses.{located_class};
 ghost use Rattle.mk_class.specs.ClassTable.{class_of};
+ghost use Rattle.mk_class.specs.LineReads.{IsPlain};
 ghost use Rattle.mk_class.specs.Contexts.{start};
 ghost use Rattle.mk_tree.specs.LocatedLines.{text_of_line};
 ghost use Rattle.mk_tree.specs.Trees.{line_view};
@@ -12,7 +13,7 @@ ghost use Rattle.mk_queries.specs.LocatedTexts.{IsClassedIn};
 use crate::line_part::{part, text_of_line};
 use crate::make_word::{is_text, word_of};
 use crate::seen::{Seen, is_led, is_other_class, is_rule};
-use mk_class::{Class, Context};
+use mk_class::{Class, Context, Meter, class_of_plain_line};
 use mk_lines::after_first_unit;
 use mk_tree::Line;
 use std::alloc::Allocator;
@@ -129,12 +130,37 @@ fn named_caveat(name: &[u8], value: &[u8]) -> Option<Caveat>
     }
 }
 
-// Whether an opaque line would be an assignment as the first line of a text.
+// Whether a line of this class is an assignment.
+fn is_assignment(class: &Class) -> bool
+    ensures { result ≡ is_assignment class.now }
+{
+    matches!(class, Class::Assign(..))
+}
+
+// The class of a plain line as the first line of a text, read on a meter of its own.
+fn class_as_first(line: &[u8]) -> Class
+    requires { IsPlain line.now }
+    ensures { result ≡ located_class joined_byte (class_of start line.now) }
+{
+    match class_of_plain_line(line, Context::start(), &mut Meter::new()) {
+        Ok((class, _)) => class,
+        // It opens too many conditionals only below others.
+        Err(_) => unreachable!(),
+    }
+}
+
+// Whether an opaque line would be an assignment as the first line of a text. A readable line is one
+// where its joined text is.
 fn is_unread_assignment<A: Allocator>(line: &Line<A>) -> bool
     ensures { result
         ≡ is_assignment (located_class joined_byte (class_of start (line_view line.now).bytes)) }
 {
-    matches!(line.class_as_first(), Class::Assign(..))
+    if line.is_unreadable() {
+        return false;
+    }
+    let text = text_of_line(line);
+    let class = class_as_first(text);
+    is_assignment(&class)
 }
 
 // The caveat of a line of this class as an assignment.

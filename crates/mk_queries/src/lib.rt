@@ -7,7 +7,7 @@
 //!   show it.
 //!
 //! A query walks over the lines of a document and takes no memory. [`caveats`] reads each opaque
-//! line once more; no other query reads a line anew. The formats are this project's profile.
+//! line once more, on a meter of its own; no other query reads a line anew. The formats are this project's profile.
 //!
 //! The modules, lowest first:
 //!

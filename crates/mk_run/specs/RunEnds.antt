@@ -1,9 +1,11 @@
 -- How a run of the code may end: with the result that the definitions give it, or for want of
 -- memory, or because a device failed.
 -- Told in docs/PROOFS.md, "A run".
-use Rattle.std.specs.Prelude.{◌≡◌, ◌⊎◌, ℕ, Bool, true, false, List, ◌∷◌, ◌++◌, Option, Some, None, Ok, IfSome}
+use Rattle.std.specs.Prelude.{◌≡◌, ◌⊎◌, ℕ, Bool, true, false, List, ◌∷◌, ◌++◌, Option, Some, None, Ok, Err, IfSome}
 use Rattle.std.specs.Io.KnownBytes.{Appends, Keeps}
 use Rattle.mk_lines.specs.Device.{AppendsPrefix, count_if}
+use Rattle.mk_edit_laws.specs.declared.refusal.Refusal.{Refusal}
+use Rattle.mk_history.specs.Machine as machine
 use Rattle.mk_history.specs.Shown.{Shown, shown_opened}
 use Rattle.mk_session.specs.Sessions.{Seen, answer}
 use Rattle.mk_session.specs.Calls.{takes_memory}
@@ -11,7 +13,7 @@ use Rattle.mk_script.specs.Scripts.{CommandAt, IsScript}
 use Rattle.mk_run.specs.ObeyedCommands.{obeyed}
 use Rattle.mk_run.specs.Runs.{RunResult, IsRun, ended, result_after}
 use Rattle.mk_run.specs.declared.outcome.Outcome.{Outcome}
-use Rattle.mk_run.specs.declared.outcome.Outcome.TheVariants.{NoMemory, Read, Write}
+use Rattle.mk_run.specs.declared.outcome.Outcome.TheVariants.{Done, Refused, NoMemory, Read, Write}
 
 -- a reader that tells its bytes has this text
 abbrev pub HasText : (bytes : Option (List ℕ)) → (text : List ℕ) → Type 0
@@ -40,26 +42,6 @@ IsOut w text = Appends w.before w.after text
 -- a prefix of the text went out
 abbrev pub IsPrefixOut : Written → List ℕ → Type 0
 IsPrefixOut w text = AppendsPrefix w.before w.after text
-
--- The session is what the commands of the script lead to from the makefile, with a group that was
--- open ended, and it shows the text that went out. Makefile and script are what their readers tell.
-pub record IsAfterRun (makefile script : Option (List ℕ)) (depth : ℕ) (keep_going : Bool)
-    (out : Written) (session : Seen) : Type 0 where
-  pub makefile_text : List ℕ
-  pub script_text : List ℕ
-  pub commands : List CommandAt
-  pub of_makefile : HasText makefile makefile_text
-  pub of_script : HasText script script_text
-  pub are_commands : IsScript script_text commands
-  pub shown : session.shown
-      ≡ ended (obeyed keep_going commands (shown_opened depth makefile_text)).shown
-  pub is_out : IsOut out session.shown.text
-
--- The session that a run leads to is handed back.
-abbrev pub HandsBack : (makefile script : Option (List ℕ)) → (depth : ℕ) → (keep_going : Bool)
-    → (out : Written) → Option Seen → Type 0
-HandsBack m s d k out None = ⊥
-HandsBack m s d k out (Some session) = IsAfterRun m s d k out session
 
 -- ---- want of memory
 
@@ -132,3 +114,82 @@ pub record IsRunOver (makefile script : Option (List ℕ)) (depth : ℕ) (keep_g
   pub is_run : IsRun makefile_text script_text depth keep_going result
   pub ends : EndsAs makefile_text script_text depth keep_going result report_failed report out
       outcome
+
+-- ---- the session that is handed back
+
+-- All commands were obeyed. What is shown last is what they lead to, with a group that was open
+-- ended, and its text is what went out.
+pub record IsLeft (keep_going : Bool) (commands : List CommandAt) (first last : Shown (List ℕ))
+    (out : Written) : Type 0 where
+  pub shown : last ≡ ended (obeyed keep_going commands first).shown
+  pub is_out : IsOut out last.text
+
+-- Some commands were refused. Either the run went on, and all commands were obeyed; or what is shown
+-- last is what the commands up to the first refused one lead to, which changed nothing.
+abbrev pub IsLeftRefused : (keep_going : Bool) → List CommandAt → (first last : Shown (List ℕ))
+    → (out : Written) → Type 0
+IsLeftRefused true commands first last out = IsLeft true commands first last out
+IsLeftRefused false commands first last out = last ≡ (obeyed false commands first).shown
+
+-- One of the commands found no memory. What is shown last is what the commands before it lead to.
+pub record IsLeftShort (keep_going : Bool) (commands : List CommandAt)
+    (first last : Shown (List ℕ)) (report : Written) : Type 0 where
+  pub lines : List ℕ
+  pub is_short : IsShort keep_going commands first lines
+  pub is_out : IsOut report lines
+  pub shown : last ≡ (obeyed keep_going is_short.earlier first).shown
+
+-- The line on a refused command could not be written. What is shown last is what the commands
+-- before it lead to.
+pub record IsLeftUnreported (keep_going : Bool) (commands : List CommandAt)
+    (first last : Shown (List ℕ)) : Type 0 where
+  pub earlier : List CommandAt
+  pub command : CommandAt
+  pub later : List CommandAt
+  pub cause : machine.Refusal Refusal
+  pub commands_are : commands ≡ earlier ++ command ∷ later
+  pub reached : GoesOn keep_going (obeyed keep_going earlier first).refused
+  pub shown : last ≡ (obeyed keep_going earlier first).shown
+  pub refused : answer command.command last ≡ Err cause
+
+-- A write or the flush failed: of the report, or of the text after all commands were obeyed.
+abbrev pub IsLeftCut : (keep_going : Bool) → (report_failed : Bool) → List CommandAt
+    → (first last : Shown (List ℕ)) → Type 0
+IsLeftCut k true commands first last = IsLeftUnreported k commands first last
+IsLeftCut k false commands first last = last ≡ ended (obeyed k commands first).shown
+
+-- A session that was opened on the makefile, for the script's commands. Makefile and script are what
+-- their readers tell. `Shows` is what the session shows, by the commands and by what was shown
+-- before them.
+pub record IsSessionOf (makefile script : Option (List ℕ)) (depth : ℕ)
+    (Shows : List CommandAt → (first : Shown (List ℕ)) → Type 0) : Type 0 where
+  pub makefile_text : List ℕ
+  pub script_text : List ℕ
+  pub commands : List CommandAt
+  pub of_makefile : HasText makefile makefile_text
+  pub of_script : HasText script script_text
+  pub are_commands : IsScript script_text commands
+  pub shows : Shows commands (shown_opened depth makefile_text)
+
+-- Such a session is handed back.
+abbrev pub HandsBack : (makefile script : Option (List ℕ)) → (depth : ℕ)
+    → (Shows : List CommandAt → (first last : Shown (List ℕ)) → Type 0) → Option Seen → Type 0
+HandsBack m s d Shows None = ⊥
+HandsBack m s d Shows (Some session) =
+    IsSessionOf m s d (λ commands first. Shows commands first session.shown)
+
+-- What a run with this outcome leaves in the place of a session. If no command was reached, it is
+-- what was there before; otherwise it is the session as the commands left it.
+abbrev pub Leaves : (makefile script : Option (List ℕ)) → (depth : ℕ) → (keep_going : Bool)
+    → (report_failed : Bool) → (report out : Written) → (before after : Option Seen) → Outcome
+    → Type 0
+Leaves m s d k failed report out before after Done =
+    HandsBack m s d (λ commands first last. IsLeft k commands first last out) after
+Leaves m s d k failed report out before after (Refused count) =
+    HandsBack m s d (λ commands first last. IsLeftRefused k commands first last out) after
+Leaves m s d k failed report out before after Write =
+    HandsBack m s d (λ commands first last. IsLeftCut k failed commands first last) after
+Leaves m s d k failed report out before after NoMemory =
+    ((after ≡ before) × IsKept report)
+    ⊎ HandsBack m s d (λ commands first last. IsLeftShort k commands first last report) after
+Leaves m s d k failed report out before after outcome = after ≡ before

@@ -1,6 +1,6 @@
 -- Laws of runs. Each law is the contract of a public function.
 -- Told in docs/PROOFS.md, "Runs (mk_run)".
-use Rattle.std.specs.Prelude.{◌≡◌, ℕ, Bool, true, false, List, [], ◌∷◌, length, None, Result, Ok, Err, IfSome}
+use Rattle.std.specs.Prelude.{◌≡◌, ℕ, Bool, true, false, List, [], ◌∷◌, ◌++◌, length, Some, None, Result, Ok, Err, IfSome}
 use Rattle.mk_edit_laws.specs.Edits.{Edit}
 use Rattle.mk_edit_laws.specs.declared.refusal.Refusal.{Refusal}
 use Rattle.mk_history.specs.Machine as machine
@@ -12,7 +12,8 @@ use Rattle.mk_session.specs.Calls.{Call, EditMachine, after_calls, standing}
 use Rattle.mk_session.specs.SessionLaws.{IsMade}
 use Rattle.mk_script.specs.Scripts.{CommandAt, IsScript}
 use Rattle.mk_run.specs.ObeyedCommands.{obeyed}
-use Rattle.mk_run.specs.Runs.{RunResult, IsRun}
+use Rattle.mk_run.specs.Runs.{RunResult, IsRun, outcome_after, result_after}
+use Rattle.mk_run.specs.RunEnds.{GoesOn}
 
 -- ---- a run has one result
 
@@ -80,7 +81,8 @@ module _ (keep_going : Bool) (commands : List CommandAt) (makefile : List ℕ) (
   -- The commands keep every byte that no edit concerns. Each does as stated. The text after them is
   -- the makefile with the edits that stand replayed over it. If all of these edits are within the
   -- depth and no group is open, as many `undo` as members stand are all granted, and give back the
-  -- makefile.
+  -- makefile. So the commands with these `undo` behind them put out the makefile, if no refusal ended
+  -- the run before; the outcome and the report are those of the commands alone.
   pub record KeepEveryByte : Type 0 where
     pub each : DoAsStated calls first last
     pub replayed : last.text ≡ replay edited makefile (standing machine_after)
@@ -88,6 +90,15 @@ module _ (keep_going : Bool) (commands : List CommandAt) (makefile : List ℕ) (
         → AreUndos undos → length undos ≡ length machine_after.done
         → ((obeyed keep_going undos last).refused ≡ 0)
         × ((obeyed keep_going undos last).shown.text ≡ makefile)
+    pub undone_by_script : machine_after.floor ≡ 0 → machine_after.group ≡ None
+        → (undos : List CommandAt) → AreUndos undos
+        → length undos ≡ length machine_after.done
+        → GoesOn keep_going (obeyed keep_going commands first).refused
+        → result_after keep_going (obeyed keep_going (commands ++ undos) first) ≡ record {
+          outcome = outcome_after (obeyed keep_going commands first).refused;
+          report = (obeyed keep_going commands first).report;
+          output = Some makefile;
+        }
 
 -- The commands of the script of any run keep every byte that no edit concerns. The output of the
 -- run, if it has one, is the makefile with the edits that stand replayed over it.

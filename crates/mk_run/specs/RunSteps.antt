@@ -6,10 +6,10 @@ use Rattle.mk_history.specs.Shown.{Shown}
 use Rattle.mk_session.specs.Sessions.{Seen, seen_opened}
 use Rattle.mk_script.specs.Scripts.{CommandAt, IsScript, HasNoCommand}
 use Rattle.mk_run.specs.ObeyedCommands.{obeyed}
-use Rattle.mk_run.specs.Runs.{IsTooLong}
-use Rattle.mk_run.specs.RunEnds.{HasText, Written, IsOut, IsPrefixOut, GoesOn, IsShort}
+use Rattle.mk_run.specs.Runs.{IsTooLong, result_after}
+use Rattle.mk_run.specs.RunEnds.{HasText, Written, IsOut, IsPrefixOut, GoesOn, IsWhole, IsCut, IsLeft, IsLeftRefused, IsLeftShort, IsLeftUnreported, IsLeftCut}
 use Rattle.mk_run.specs.declared.outcome.Outcome.{Outcome}
-use Rattle.mk_run.specs.declared.outcome.Outcome.TheVariants.{Refused, NotACommand, TooLong, TooDeep, NoMemory, Read, Write}
+use Rattle.mk_run.specs.declared.outcome.Outcome.TheVariants.{Done, Refused, NotACommand, BadDepth, TooLong, TooDeep, NoMemory, Read, Write}
 
 -- ---- the script
 
@@ -68,6 +68,12 @@ StopsMakefile bytes failed NoMemory = failed ≡ false
 StopsMakefile bytes failed Read = failed ≡ true
 StopsMakefile bytes failed outcome = ⊥
 
+-- an outcome that comes before the makefile is read, whatever the makefile is
+abbrev pub is_before_makefile : Outcome → Bool
+is_before_makefile BadDepth = true
+is_before_makefile (NotACommand line) = true
+is_before_makefile outcome = false
+
 -- ---- the commands
 
 -- All commands were obeyed, and `refused` of them were refused.
@@ -79,26 +85,39 @@ pub record AreObeyed (keep_going : Bool) (commands : List CommandAt) (first last
   pub reported : IsOut report (obeyed keep_going commands first).report
 
 -- One of the commands was refused, and ended the run.
-pub record AreEnded (keep_going : Bool) (commands : List CommandAt) (first : Shown (List ℕ))
+pub record AreEnded (keep_going : Bool) (commands : List CommandAt) (first last : Shown (List ℕ))
     (refused : ℕ) (report : Written) : Type 0 where
   pub ends : keep_going ≡ false
   pub one : refused ≡ 1
   pub number : refused ≡ (obeyed keep_going commands first).refused
+  pub shown : last ≡ (obeyed keep_going commands first).shown
   pub reported : IsOut report (obeyed keep_going commands first).report
 
--- One of the commands found no memory.
-pub record AreShort (keep_going : Bool) (commands : List CommandAt) (first : Shown (List ℕ))
-    (report : Written) : Type 0 where
-  pub lines : List ℕ
-  pub is_short : IsShort keep_going commands first lines
-  pub is_out : IsOut report lines
-
 -- The commands stopped with this outcome; the sink of the report failed only if this is Write.
-abbrev pub StopsCommands : (keep_going : Bool) → List CommandAt → (first : Shown (List ℕ))
+abbrev pub StopsCommands : (keep_going : Bool) → List CommandAt → (first last : Shown (List ℕ))
     → (failed : Bool) → (report : Written) → Outcome → Type 0
-StopsCommands k commands s failed report (Refused n) =
-    (failed ≡ false) × AreEnded k commands s n report
-StopsCommands k commands s failed report NoMemory = (failed ≡ false) × AreShort k commands s report
-StopsCommands k commands s failed report Write =
-    (failed ≡ true) × IsPrefixOut report (obeyed k commands s).report
-StopsCommands k commands s failed report outcome = ⊥
+StopsCommands k commands s t failed report (Refused n) =
+    (failed ≡ false) × AreEnded k commands s t n report
+StopsCommands k commands s t failed report NoMemory =
+    (failed ≡ false) × IsLeftShort k commands s t report
+StopsCommands k commands s t failed report Write =
+    (failed ≡ true)
+    × IsPrefixOut report (obeyed k commands s).report
+    × IsLeftUnreported k commands s t
+StopsCommands k commands s t failed report outcome = ⊥
+
+-- ---- the commands, and the text after them
+
+-- The commands ended the run with this outcome.
+abbrev pub EndsCommands : (keep_going : Bool) → List CommandAt → (first last : Shown (List ℕ))
+    → (report_failed : Bool) → (report out : Written) → Outcome → Type 0
+EndsCommands k commands s t failed report out Done =
+    IsWhole (result_after k (obeyed k commands s)) Done report out × IsLeft k commands s t out
+EndsCommands k commands s t failed report out (Refused n) =
+    IsWhole (result_after k (obeyed k commands s)) (Refused n) report out
+    × IsLeftRefused k commands s t out
+EndsCommands k commands s t failed report out NoMemory = IsLeftShort k commands s t report
+EndsCommands k commands s t failed report out Write =
+    IsCut (result_after k (obeyed k commands s)) failed report out
+    × IsLeftCut k failed commands s t
+EndsCommands k commands s t failed report out outcome = ⊥

@@ -1,13 +1,13 @@
 //! A script over a makefile: the steps of a run, in their order.
-ghost use Rattle.std.specs.Prelude.{◌≡◌, ◌⊎◌, ◌↔◌, ◌<◌, ◌+◌, ◌||◌, ℕ, IsTrue, IfSome, map, false, true, is_ok, OnOk, IfOk, IfErr};
+ghost use Rattle.std.specs.Prelude.{◌≡◌, ◌⊎◌, ◌↔◌, ◌<◌, ◌+◌, ◌||◌, ℕ, IsTrue, IfSome, List, Option, map, false, true, is_ok, OnOk, IfOk, IfErr};
 ghost use Rattle.std.specs.Io.KnownBytes.{Appends};
 ghost use Rattle.mk_lines.specs.Device.{AppendsPrefix, TakesAtMost, count_if};
 ghost use Rattle.mk_session.specs.Sessions.{IsBadDepth};
 ghost use Rattle.mk_script.specs.Scripts.{numbered};
 ghost use Rattle.mk_run.specs.Outcome.{is_printed, may_report};
 ghost use Rattle.mk_run.specs.Runs.{IsTooLong, ended};
-ghost use Rattle.mk_run.specs.RunEnds.{HandsBack, IsRunOver, TellsEndOnce, written};
-ghost use Rattle.mk_run.specs.RunSteps.{AreObeyed, GivesCommands, GivesSession, StopsCommands, StopsMakefile, StopsScript};
+ghost use Rattle.mk_run.specs.RunEnds.{IsRunOver, Leaves, TellsEndOnce, written};
+ghost use Rattle.mk_run.specs.RunSteps.{AreObeyed, EndsCommands, GivesCommands, GivesSession, StopsCommands, StopsMakefile, StopsScript, is_before_makefile};
 
 use crate::outcome::Outcome;
 use crate::report::report_refusal;
@@ -89,8 +89,8 @@ fn obey_all<A: Allocator + Copy, P: ByteSink>(
         (written (P.contents report.old) (P.contents report.new))) }
     ensures works { OnOk result (P.failed report.new ≡ false) }
     ensures stops { IfErr result (λ outcome.
-        StopsCommands keep_going (map numbered commands.now) session.old.shown (P.failed report.new)
-        (written (P.contents report.old) (P.contents report.new)) outcome) }
+        StopsCommands keep_going (map numbered commands.now) session.old.shown session.new.shown
+        (P.failed report.new) (written (P.contents report.old) (P.contents report.new)) outcome) }
     ensures unflushed { P.flushes report.new ≡ P.flushes report.old }
 {
     if commands.len() >= MANY_COMMANDS {
@@ -112,8 +112,8 @@ fn obey_each<A: Allocator + Copy, P: ByteSink>(
         (written (P.contents report.old) (P.contents report.new))) }
     ensures works { OnOk result (P.failed report.new ≡ false) }
     ensures stops { IfErr result (λ outcome.
-        StopsCommands keep_going (map numbered commands.now) session.old.shown (P.failed report.new)
-        (written (P.contents report.old) (P.contents report.new)) outcome) }
+        StopsCommands keep_going (map numbered commands.now) session.old.shown session.new.shown
+        (P.failed report.new) (written (P.contents report.old) (P.contents report.new)) outcome) }
     ensures unflushed { P.flushes report.new ≡ P.flushes report.old }
 {
     let mut refused = 0u64;
@@ -156,6 +156,95 @@ fn put_out<A: Allocator + Copy, W: ByteSink>(
         Ok(()) => out.flush(),
         Err(fault) => Err(fault),
     }
+}
+
+// Obeys the commands, and writes out the text that they lead to.
+fn obey_and_put_out<A, W, P>(
+    session: &mut Session<A>,
+    commands: &[NumberedCommand<A>],
+    keep_going: bool,
+    out: &mut W,
+    report: &mut P,
+) -> Outcome
+where
+    A: Allocator + Copy,
+    W: ByteSink,
+    P: ByteSink,
+    requires out_works { W.failed out.old ≡ false }
+    requires report_works { P.failed report.old ≡ false }
+    ensures ends { EndsCommands keep_going (map numbered commands.now) session.old.shown
+        session.new.shown (P.failed report.new) (written (P.contents report.old) (P.contents report.new))
+        (written (W.contents out.old) (W.contents out.new)) result }
+    ensures unwritten { is_printed result keep_going ≡ false → W.failed out.new ≡ false
+        → out.new ≡ out.old }
+    ensures write { result ≡ Outcome.Write ↔ IsTrue (W.failed out.new || P.failed report.new) }
+    ensures flushed { W.flushes out.new
+        ≡ count_if (is_printed result keep_going) (W.flushes out.old) }
+    ensures settled { is_printed result keep_going ≡ true
+        → IfSome (W.pending out.new) (λ n. n ≡ 0) }
+    ensures report { P.flushes report.new ≡ P.flushes report.old }
+{
+    let refused = match obey_all(session, commands, keep_going, report) {
+        Ok(refused) => refused,
+        Err(early) => return early,
+    };
+    match put_out(session, out) {
+        Ok(()) if refused == 0 => Outcome::Done,
+        Ok(()) => Outcome::Refused(refused),
+        Err(fault) => Outcome::from(fault),
+    }
+}
+
+// Runs commands over a makefile, which is read to its end first. The laws hold for each script that
+// has these commands.
+fn run_commands<A, R, W, P>(
+    alloc: A,
+    makefile: &mut R,
+    commands: &[NumberedCommand<A>],
+    depth: u32,
+    keep_going: bool,
+    out: &mut W,
+    report: &mut P,
+    kept: &mut Option<Session<A>>,
+) -> Outcome
+where
+    A: Allocator + Copy,
+    R: ByteSource,
+    W: ByteSink,
+    P: ByteSink,
+    requires makefile_works { R.failed makefile.old ≡ false }
+    requires out_works { W.failed out.old ≡ false }
+    requires report_works { P.failed report.old ≡ false }
+    requires depth { IsBadDepth depth → ⊥ }
+    ensures law { (script : Option (List ℕ)) → GivesCommands script (map numbered commands.now)
+        → IsRunOver (R.remaining makefile.old) script depth keep_going
+        result (P.failed report.new) (written (P.contents report.old) (P.contents report.new))
+        (written (W.contents out.old) (W.contents out.new)) }
+    ensures unwritten { is_printed result keep_going ≡ false → W.failed out.new ≡ false
+        → out.new ≡ out.old }
+    ensures unreported { may_report result ≡ false → report.new ≡ report.old }
+    ensures taken { TakesAtMost (R.remaining makefile.old) (R.remaining makefile.new)
+        (MAX_TEXT + BUFFER) }
+    ensures end { TellsEndOnce (R.ends makefile.old) (R.ends makefile.new) }
+    ensures begun { is_before_makefile result ≡ false }
+    ensures read { result ≡ Outcome.Read ↔ R.failed makefile.new ≡ true }
+    ensures write { result ≡ Outcome.Write ↔ IsTrue (W.failed out.new || P.failed report.new) }
+    ensures flushed { W.flushes out.new
+        ≡ count_if (is_printed result keep_going) (W.flushes out.old) }
+    ensures settled { is_printed result keep_going ≡ true
+        → IfSome (W.pending out.new) (λ n. n ≡ 0) }
+    ensures report { P.flushes report.new ≡ P.flushes report.old }
+    ensures kept { (script : Option (List ℕ)) → GivesCommands script (map numbered commands.now)
+        → Leaves (R.remaining makefile.old) script depth keep_going
+        (P.failed report.new) (written (P.contents report.old) (P.contents report.new))
+        (written (W.contents out.old) (W.contents out.new)) kept.old kept.new result }
+{
+    let session = match open_makefile(alloc, makefile, depth) {
+        Ok(session) => session,
+        Err(outcome) => return outcome,
+    };
+    let session = kept.insert(session);
+    obey_and_put_out(session, commands, keep_going, out, report)
 }
 
 /// Runs a script over a makefile. The text after the script's commands goes to `out`, and a line on
@@ -243,9 +332,14 @@ where
 /// Runs a script over a makefile as [`run`] does, and leaves the session in `kept`.
 ///
 /// A session owns a box for each line, so giving it up takes time. A program that ends after the
-/// run keeps it from being given up, by `mem::forget`; another one may go on with it. If the text
-/// was written, `kept` has the session after the commands, with all that can be undone and redone.
-/// If the run ended before the makefile was opened, `kept` is what it was.
+/// run keeps it from being given up, by `mem::forget`; another one may go on with it. What `kept`
+/// has after the run, with all that can be undone and redone:
+///
+/// - if no command was reached, what it was;
+/// - if all commands were obeyed, the session after them, with no group open, whether the text is
+///   out or not;
+/// - if the run ended at a command, the session after the commands before it. A group that was open
+///   stays open.
 pub fn run_keeping<A, R, S, W, P>(
     alloc: A,
     makefile: &mut R,
@@ -307,10 +401,11 @@ where
         → IfSome (W.pending out.new) (λ n. n ≡ 0) }
     ensures report { P.flushes report.new ≡ P.flushes report.old }
 
-    // If the text is out, the session that the commands lead to is handed back.
-    ensures kept { is_printed result keep_going ≡ true
-        → HandsBack (R.remaining makefile.old) (S.remaining script.old) depth keep_going
-        (written (W.contents out.old) (W.contents out.new)) kept.new }
+    // If no command was reached, `kept` is what it was. Otherwise the session is handed back, as the
+    // commands left it that were done.
+    ensures kept { Leaves (R.remaining makefile.old) (S.remaining script.old) depth keep_going
+        (P.failed report.new) (written (P.contents report.old) (P.contents report.new))
+        (written (W.contents out.old) (W.contents out.new)) kept.old kept.new result }
 {
     if depth < 1 || depth > MAX_DEPTH {
         return Outcome::BadDepth;
@@ -319,18 +414,14 @@ where
         Ok(commands) => commands,
         Err(outcome) => return outcome,
     };
-    let session = match open_makefile(alloc, makefile, depth) {
-        Ok(session) => session,
-        Err(outcome) => return outcome,
-    };
-    let session = kept.insert(session);
-    let refused = match obey_all(session, commands.as_slice(), keep_going, report) {
-        Ok(refused) => refused,
-        Err(outcome) => return outcome,
-    };
-    match put_out(session, out) {
-        Ok(()) if refused == 0 => Outcome::Done,
-        Ok(()) => Outcome::Refused(refused),
-        Err(fault) => Outcome::from(fault),
-    }
+    run_commands(
+        alloc,
+        makefile,
+        commands.as_slice(),
+        depth,
+        keep_going,
+        out,
+        report,
+        kept,
+    )
 }

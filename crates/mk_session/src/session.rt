@@ -31,8 +31,9 @@ use std::marker::Model;
 /// edits; and how many lines were read since the session was opened. Each call is one step of that
 /// machine.
 ///
-/// An edit that is kept for undo holds the lines that it changed, and no other lines. A refused
-/// call changes nothing.
+/// An edit that is kept for undo holds the lines that it changed, and no other lines. A line of the
+/// text that was opened is a part of that text and keeps it whole. So this text stays in memory as
+/// long as the session, also where edits have replaced its lines. A refused call changes nothing.
 #[derive(Drop)]
 pub struct Session<A: Allocator = Global> {
     alloc: A,

@@ -2,7 +2,7 @@
 //!
 //! Each means the only assignment of its name, or the only rule of its target.
 use mk_class::Flavor;
-use mk_session::{Edit, Place};
+use mk_session::{Colons, Edit, Place};
 use std::alloc::{AllocError, Allocator};
 
 /// Gives a variable another value.
@@ -57,6 +57,22 @@ pub fn remove_assign<A: Allocator + Copy>(alloc: A, name: &[u8]) -> Result<Edit<
     Ok(Edit::RemoveAssign { nth: None, name })
 }
 
+/// Puts `TARGETS: PREREQS` at the end.
+pub fn add_rule<A: Allocator + Copy>(
+    alloc: A,
+    targets: &[u8],
+    prereqs: &[u8],
+) -> Result<Edit<A>, AllocError> {
+    let targets = Vec::from_slice(alloc, targets)?;
+    let prereqs = Vec::from_slice(alloc, prereqs)?;
+    Ok(Edit::AddRule {
+        place: Place::Bottom,
+        targets,
+        colons: Colons::One,
+        prereqs,
+    })
+}
+
 /// Takes out the rule of a target.
 pub fn remove_rule<A: Allocator + Copy>(alloc: A, target: &[u8]) -> Result<Edit<A>, AllocError> {
     let target = Vec::from_slice(alloc, target)?;
@@ -91,6 +107,47 @@ pub fn remove_prereq<A: Allocator + Copy>(
         nth: None,
         target,
         word,
+    })
+}
+
+/// Puts a line after the recipe of a target.
+pub fn add_recipe<A: Allocator + Copy>(
+    alloc: A,
+    target: &[u8],
+    line: &[u8],
+) -> Result<Edit<A>, AllocError> {
+    let target = Vec::from_slice(alloc, target)?;
+    let line = Vec::from_slice(alloc, line)?;
+    Ok(Edit::AddRecipe {
+        nth: None,
+        target,
+        line,
+    })
+}
+
+/// Gives the first recipe line of a target another command.
+pub fn set_recipe<A: Allocator + Copy>(
+    alloc: A,
+    target: &[u8],
+    line: &[u8],
+) -> Result<Edit<A>, AllocError> {
+    let target = Vec::from_slice(alloc, target)?;
+    let line = Vec::from_slice(alloc, line)?;
+    Ok(Edit::SetRecipe {
+        nth: None,
+        target,
+        number: 1,
+        line,
+    })
+}
+
+/// Takes out the first recipe line of a target.
+pub fn remove_recipe<A: Allocator + Copy>(alloc: A, target: &[u8]) -> Result<Edit<A>, AllocError> {
+    let target = Vec::from_slice(alloc, target)?;
+    Ok(Edit::RemoveRecipe {
+        nth: None,
+        target,
+        number: 1,
     })
 }
 

@@ -1,6 +1,6 @@
 //! Tests of `mk_session`: worked rows, the lines that calls read again, growths that are refused
-//! and growths that are counted, many calls over hostile makefiles, and documents that are long
-//! enough for an index.
+//! and growths that are counted, the memory that changes take, many calls over hostile makefiles, and
+//! documents that are long enough for an index.
 #![tactic(auto)]
 
 #[cfg(test)]
@@ -23,6 +23,8 @@ mod refused_rows;
 mod rows;
 #[cfg(test)]
 mod steps;
+#[cfg(test)]
+mod taken_memory;
 #[cfg(test)]
 mod text_machine;
 #[cfg(test)]

@@ -1,7 +1,7 @@
 //! Calls of a session as constants, each with its answer, and sessions that are asked for them.
 use crate::edits::{
-    add_assign, add_order_prereq, append_value, remove_assign, remove_prereq, remove_rule,
-    rename_target, set_value,
+    add_assign, add_order_prereq, add_recipe, add_rule, append_value, remove_assign, remove_prereq,
+    remove_recipe, remove_rule, rename_target, set_recipe, set_value,
 };
 use crate::texts::is_as_parsed;
 use mk_session::{Command, Refusal, Session};
@@ -19,12 +19,20 @@ pub enum Step {
     AddAssign(&'static [u8], &'static [u8]),
     /// Name.
     RemoveAssign(&'static [u8]),
+    /// Targets and prerequisites.
+    AddRule(&'static [u8], &'static [u8]),
     /// Target.
     RemoveRule(&'static [u8]),
     /// Target and word.
     AddOrderPrereq(&'static [u8], &'static [u8]),
     /// Target and word.
     RemovePrereq(&'static [u8], &'static [u8]),
+    /// Target and command.
+    AddRecipe(&'static [u8], &'static [u8]),
+    /// Target and command.
+    SetRecipe(&'static [u8], &'static [u8]),
+    /// Target.
+    RemoveRecipe(&'static [u8]),
     /// The old and the new target.
     RenameTarget(&'static [u8], &'static [u8]),
     Undo,
@@ -45,9 +53,13 @@ impl Step {
             Step::AppendValue(name, value) => append_value(alloc, name, value),
             Step::AddAssign(name, value) => add_assign(alloc, name, value),
             Step::RemoveAssign(name) => remove_assign(alloc, name),
+            Step::AddRule(targets, prereqs) => add_rule(alloc, targets, prereqs),
             Step::RemoveRule(target) => remove_rule(alloc, target),
             Step::AddOrderPrereq(target, word) => add_order_prereq(alloc, target, word),
             Step::RemovePrereq(target, word) => remove_prereq(alloc, target, word),
+            Step::AddRecipe(target, line) => add_recipe(alloc, target, line),
+            Step::SetRecipe(target, line) => set_recipe(alloc, target, line),
+            Step::RemoveRecipe(target) => remove_recipe(alloc, target),
             Step::RenameTarget(from, to) => rename_target(alloc, from, to),
             Step::Undo => return Ok(Command::Undo),
             Step::Redo => return Ok(Command::Redo),

@@ -1,19 +1,17 @@
 //! What a document stores of a line.
-ghost use Rattle.std.specs.Prelude.{◌≡◌, ◌≢◌, ◌<◌, ◌≤◌, All, IfOk, IsOk, IsOkUnless, length};
-ghost use Rattle.mk_lines.specs.Cells.{joined_byte, joined_text, line_cells};
+ghost use Rattle.std.specs.Prelude.{◌≡◌, ◌≢◌, ◌<◌, ◌≤◌, ℕ, List, All, IfOk, IsOk, IsOkUnless, length};
+ghost use Rattle.mk_lines.specs.Cells.{joined_text, line_cells};
 ghost use Rattle.mk_lines.specs.PhysicalLines.{without_line_end};
 ghost use Rattle.mk_lines.specs.Ranges.{raw_range};
 ghost use Rattle.mk_lines.specs.StoredCells.{AreCellsOf};
-ghost use Rattle.mk_class.specs.ClassTable.{class_of};
-ghost use Rattle.mk_class.specs.Contexts.{start};
+ghost use Rattle.mk_class.specs.ClassTable.{is_unreadable};
 ghost use Rattle.mk_class.specs.LineReads.{IsPlain};
-ghost use Rattle.mk_class.specs.LocatedClasses.{located_class};
 ghost use Rattle.mk_tree.specs.LocatedLines.{text_of_line};
 ghost use Rattle.mk_tree.specs.ShortClasses.{IsLong};
 
 use crate::line_bytes::LineBytes;
 use crate::short_class::ShortClass;
-use mk_class::{Class, Context, Meter, class_with_cells};
+use mk_class::Class;
 use mk_lines::ends::without_line_end;
 use mk_lines::split::Span;
 use mk_lines::{Cells, Fault};
@@ -178,17 +176,14 @@ impl<A: Allocator> Content<A> {
         }
     }
 
-    /// The class that the line would have as the first of a text.
-    pub(crate) fn class_as_first(&self) -> Class
-        ensures { result ≡ located_class joined_byte (class_of start self.now.bytes) }
+    /// Whether the line has a stray byte or a bad fold.
+    pub(crate) fn is_unreadable(&self) -> bool
+        ensures { result ≡ is_unreadable (line_cells self.now.bytes) }
     {
         match &self.stored {
-            Stored::Plain(_, bytes) => {
-                let bytes = bytes.as_slice();
-                first_class(bytes, &Cells::<A>::without_folds(bytes))
-            }
-            Stored::Folded(_, line) => first_class(line.bytes.as_slice(), &line.cells),
-            Stored::Long(long) => first_class(long.line.bytes.as_slice(), &long.line.cells),
+            Stored::Plain(_, bytes) => is_unreadable(&Cells::<A>::without_folds(bytes.as_slice())),
+            Stored::Folded(_, line) => is_unreadable(&line.cells),
+            Stored::Long(long) => is_unreadable(&long.line.cells),
         }
     }
 
@@ -210,14 +205,10 @@ impl<A: Allocator> Content<A> {
     }
 }
 
-// The class of the first line of a text.
-fn first_class<A: Allocator>(bytes: &[u8], cells: &Cells<A>) -> Class
-    requires { AreCellsOf cells.now bytes.now }
-    ensures { result ≡ located_class joined_byte (class_of start bytes.now) }
+// Whether a line with these cells has a stray byte or a bad fold.
+fn is_unreadable<A: Allocator>(cells: &Cells<A>) -> bool
+    ensures { (line : List ℕ) → AreCellsOf cells.now line
+        → result ≡ is_unreadable (line_cells line) }
 {
-    match class_with_cells(bytes, cells, Context::start(), &mut Meter::new()) {
-        Ok((class, _)) => class,
-        // It opens too many conditionals only below others.
-        Err(_) => unreachable!(),
-    }
+    cells.has_stray() || cells.has_bad_fold()
 }

@@ -7,12 +7,10 @@
 //! the place of another, the nodes stay, and two boxes exchange what they hold ([`Tree::replace`]).
 ghost use Rattle.std.specs.Prelude.{◌≡◌, ◌+◌, ◌<◌, ◌≤◌, max, [], ◌∷◌, ◌++◌, length, Some, IfOk, MatchOption, slice_get, take, drop};
 ghost use Rattle.mk_lines.specs.Limits.{max_text};
-ghost use Rattle.mk_lines.specs.Cells.{joined_byte, line_cells};
+ghost use Rattle.mk_lines.specs.Cells.{line_cells};
 ghost use Rattle.mk_lines.specs.PhysicalLines.{without_line_end};
 ghost use Rattle.mk_lines.specs.Ranges.{raw_range};
-ghost use Rattle.mk_class.specs.ClassTable.{class_of};
-ghost use Rattle.mk_class.specs.Contexts.{start};
-ghost use Rattle.mk_class.specs.LocatedClasses.{located_class};
+ghost use Rattle.mk_class.specs.ClassTable.{is_unreadable};
 ghost use Rattle.mk_tree.specs.LocatedLines.{bytes_of_line, last_line, size_of, size_of_line, text_of_line, with_last_bytes};
 ghost use Rattle.mk_tree.specs.Trees.{line_view, lines_and_height, DifferByAtMost, AreFew, IsUnlinked, IsTop, IsHeightAfter};
 
@@ -148,13 +146,14 @@ impl<A: Allocator> Line<A> {
         self.node.content.raw_range(start, end)
     }
 
-    /// What the line would be as the first line of a text. Takes no memory; the time is linear in
-    /// the line's bytes.
-    pub fn class_as_first(&self) -> Class
-        ensures { result
-            ≡ located_class joined_byte (class_of start (line_view self.now).bytes) }
+    /// Whether the line has a stray byte (a NUL, or a CR that is no part of a line end) or a bad fold
+    /// (one with a backslash directly before it). A line with either is not read inside, unless a
+    /// recipe or a define has it: this project's profile. Takes no memory; the time is linear in the
+    /// line's bytes.
+    pub fn is_unreadable(&self) -> bool
+        ensures { result ≡ is_unreadable (line_cells (line_view self.now).bytes) }
     {
-        self.node.content.class_as_first()
+        self.node.content.is_unreadable()
     }
 
     /// What stands before the line in its tree, below it.

@@ -1,7 +1,7 @@
 //! What is said of each refusal: its cause, an example and what to do.
 //!
-//! docs/EDITS.md and docs/mkedit.1 have the same sentences and examples, and a test compares the
-//! three.
+//! `make texts` makes of this file what docs/EDITS.md, docs/mkedit-script.5 and the completions say
+//! of refusals.
 
 use mk_session::Refusal;
 

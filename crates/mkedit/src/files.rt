@@ -1,4 +1,5 @@
 //! Files beside the standard streams.
+ghost use Rattle.std.specs.Prelude.{◌≡◌, IfOk, IfErr};
 
 use std::fs::{File, OpenOptions};
 use std::io;
@@ -14,16 +15,17 @@ pub(crate) fn beside_standard_streams(file: File) -> io::Result<File> {
 }
 
 /// Opens a file to be read.
-pub fn open<'a>(rt: &HostRuntime, name: &'a str) -> Result<File, CannotOpen<'a>> {
+///
+/// # Errors
+///
+/// [`CannotOpen`] with the name.
+pub fn open<'a>(rt: &HostRuntime, name: &'a str) -> Result<File, CannotOpen<'a>>
+    ensures cannot { IfErr result (λ error. error.0.now ≡ name.now) }
+{
     match File::open(rt, name).and_then(beside_standard_streams) {
         Ok(file) => Ok(file),
         Err(_) => Err(CannotOpen(name)),
     }
-}
-
-// Opens a file to be written, with the bytes that it has, or makes it where there is none.
-fn open_or_make(rt: &HostRuntime, name: &str) -> io::Result<File> {
-    OpenOptions::new().write(true).create(true).open(rt, name)
 }
 
 // Empties a file. A pipe or a device has nothing to empty, and would refuse to be cut.
@@ -34,15 +36,44 @@ fn emptied(file: File) -> io::Result<File> {
     Ok(file)
 }
 
+/// A file that [`create`] has opened, with the name that it was opened under.
+#[derive(Drop)]
+pub struct Created<'a> {
+    name: &'a str,
+    file: File,
+}
+
+impl<'a> Created<'a> {
+    /// The file, to be written.
+    pub fn file(&self) -> &File
+        ensures { result.now ≡ self.now.file }
+    {
+        &self.file
+    }
+
+    // Opens the file with the bytes that it has, or makes it where there is none. It is emptied
+    // when all else has succeeded.
+    fn open(rt: &HostRuntime, name: &'a str) -> io::Result<Created<'a>>
+        ensures name { IfOk result (λ created. created.name.now ≡ name.now) }
+    {
+        let file = OpenOptions::new().write(true).create(true).open(rt, name)?;
+        let file = emptied(beside_standard_streams(file)?)?;
+        Ok(Created { name, file })
+    }
+}
+
 /// Opens a file to be written, which it empties, or makes where there is none.
 ///
-/// It is emptied when all else has succeeded, so a file that cannot be opened keeps its bytes.
-pub fn create<'a>(rt: &HostRuntime, name: &'a str) -> Result<File, CannotOpen<'a>> {
-    match open_or_make(rt, name)
-        .and_then(beside_standard_streams)
-        .and_then(emptied)
-    {
-        Ok(file) => Ok(file),
+/// # Errors
+///
+/// [`CannotOpen`] with the name where one of the steps fails. The file is emptied in the last one,
+/// so a file that cannot be opened keeps its bytes.
+pub fn create<'a>(rt: &HostRuntime, name: &'a str) -> Result<Created<'a>, CannotOpen<'a>>
+    ensures name { IfOk result (λ created. created.name.now ≡ name.now) }
+    ensures cannot { IfErr result (λ error. error.0.now ≡ name.now) }
+{
+    match Created::open(rt, name) {
+        Ok(created) => Ok(created),
         Err(_) => Err(CannotOpen(name)),
     }
 }

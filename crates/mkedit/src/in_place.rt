@@ -3,98 +3,34 @@
 //! The text goes into a new file beside the makefile. This file takes the makefile's name when the
 //! text is whole and on the disk. So the name stands for the old file or for the new one at every
 //! moment.
-ghost use Rattle.std.specs.Prelude.{◌≡◌, ◌||◌, ◌≤◌, None, Some, true, false, is_err, is_some, length, IfOk, IfErr, IfSome, OnErr, OnOk};
+ghost use Rattle.std.specs.Prelude.{◌≡◌, ◌||◌, ◌≤◌, None, Some, false, is_err, length, IfOk, IfErr, IfSome, IsSomeAnd, OnErr, OnOk};
 ghost use Rattle.mk_lines.specs.Device.{is_refused};
 
-use crate::files::beside_standard_streams;
+mod draft;
+
+use draft::{Draft, Placed, Removed};
 use mk_lines::{ByteSink, Fault, StdSink};
-use std::fs::{File, Metadata, OpenOptions};
-use std::io::ErrorKind;
-use std::os::unix::fs::{MetadataExt, OpenOptionsExt, fchown};
-use std::path::PathBuf;
-use std::{fs, io};
 
-// How many names are tried for the new file.
-const NAMES: u32 = 10_000;
-
-// The mode of the new file before it has that of the makefile: what may be secret is not shown.
-const FIRST_MODE: u32 = 0o600;
-
-// The new file, which does not have the makefile's name yet.
-#[derive(Drop)]
-struct Draft {
-    path: PathBuf,
-    file: File,
-    // Where it goes: the makefile, by a path without links.
-    makefile: PathBuf,
-}
-
-// Makes a new file in the makefile's folder, under the first name that is free.
-fn new_file_beside(rt: &HostRuntime, makefile: &PathBuf) -> io::Result<(PathBuf, File)> {
-    for number in 0..NAMES {
-        let name = format!(in rt.alloc(); ".mkedit-{number}.tmp")?;
-        let path = makefile.with_file_name(rt.alloc(), name.as_str())?;
-        match OpenOptions::new()
-            .write(true)
-            .create_new(true)
-            .mode(FIRST_MODE)
-            .open(rt, &path)
-        {
-            Ok(file) => return Ok((path, file)),
-            Err(error) if error.kind() == ErrorKind::AlreadyExists => {}
-            Err(error) => return Err(error),
-        }
-    }
-    Err(io::Error::from(ErrorKind::AlreadyExists))
-}
-
-// Gives the file the mode of the old one, and the owner and the group where that is allowed. The
-// mode comes last, since another owner takes some of its bits away.
-fn with_attributes(old: &Metadata, file: File) -> io::Result<File> {
-    let group = Some(old.gid());
-    if fchown(&file, Some(old.uid()), group).is_err() {
-        let _ = fchown(&file, None, group);
-    }
-    file.set_permissions(old.permissions())?;
-    Ok(file)
-}
-
-// The new file for the makefile of this name. It is empty.
-fn begin(rt: &HostRuntime, name: &str) -> io::Result<Draft> {
-    let makefile = fs::canonicalize(rt, name)?;
-    let old = fs::metadata(rt, &makefile)?;
-    if !old.is_file() {
-        return Err(io::Error::from(ErrorKind::InvalidInput));
-    }
-    let (path, file) = new_file_beside(rt, &makefile)?;
-    match beside_standard_streams(file).and_then(|file| with_attributes(&old, file)) {
-        Ok(file) => Ok(Draft {
-            path,
-            file,
-            makefile,
-        }),
-        Err(error) => {
-            let _ = fs::remove_file(rt, &path);
-            Err(error)
-        }
-    }
-}
-
-// Makes the text sure, and puts it into the makefile's place.
-fn rename_to_makefile(rt: &HostRuntime, draft: &Draft) -> io::Result<()> {
-    draft.file.sync_all()?;
-    fs::rename(rt, &draft.path, &draft.makefile)
+// Makes the text sure, and puts it into the makefile's place. Where one of the two fails, the draft
+// stays one.
+fn put_into_place<'a>(rt: &HostRuntime, draft: Draft<'a>) -> Result<Placed<'a>, Draft<'a>>
+    ensures placed { IfOk result (λ placed. placed.draft ≡ draft.entry) }
+    ensures draft { IfErr result (λ same. same ≡ draft.entry) }
+{
+    draft.sync()?.rename(rt)
 }
 
 /// A sink to the makefile of this name. Its flush, which comes once and after the whole text, puts
 /// the new text into the old one's place.
 ///
 /// Without a write or a flush nothing is touched. A fault leaves the makefile as it was.
-#[derive(Drop)]
+///
+/// Such a sink cannot be dropped: [`InPlaceFile::close`] ends it, so no run leaves a draft behind.
 pub struct InPlaceFile<'a> {
     rt: &'a HostRuntime,
     name: &'a str,
-    draft: Option<Draft>,
+    draft: Option<Draft<'a>>,
+    placed: Option<Placed<'a>>,
     is_failed: bool,
 }
 
@@ -103,35 +39,50 @@ impl<'a> InPlaceFile<'a> {
     pub fn new(rt: &'a HostRuntime, name: &'a str) -> InPlaceFile<'a>
         ensures name { result.name.now ≡ name.now }
         ensures closed { result.draft ≡ None }
+        ensures unplaced { result.placed ≡ None }
         ensures works { result.is_failed ≡ false }
     {
         InPlaceFile {
             rt,
             name,
             draft: None,
+            placed: None,
             is_failed: false,
         }
     }
 
     /// Takes the new file away where it does not have the makefile's name.
-    pub fn close(self) {
-        if let Some(draft) = &self.draft {
-            let _ = fs::remove_file(self.rt, &draft.path);
+    pub fn close(self) -> Option<Removed<'a>>
+        ensures removed { IfSome self.entry.draft (λ draft. IsSomeAnd result (λ removed. removed.draft ≡ draft)) }
+        ensures none { self.entry.draft ≡ None → result ≡ None }
+    {
+        let InPlaceFile {
+            rt,
+            name: _,
+            draft,
+            placed: _,
+            is_failed: _,
+        } = self;
+        match draft {
+            Some(draft) => Some(draft.remove(rt)),
+            None => None,
         }
     }
 
     // The new file; it is made where it has not been yet, and that alone can fail.
-    fn take_draft(&mut self) -> Result<Draft, Fault>
+    fn take_draft(&mut self) -> Result<Draft<'a>, Fault>
         ensures open { IfSome self.old.draft (λ draft. result ≡ Ok draft) }
+        ensures begun { self.old.draft ≡ None → IfOk result (λ draft. draft.name.now ≡ self.old.name.now) }
         ensures fault { IfErr result (λ fault. fault ≡ Fault.Write) }
         ensures failed { self.new.is_failed ≡ (self.old.is_failed || is_err result) }
         ensures taken { self.new.draft ≡ None }
+        ensures placed { self.new.placed ≡ self.old.placed }
         ensures name { self.new.name ≡ self.old.name }
     {
         if let Some(draft) = self.draft.take() {
             return Ok(draft);
         }
-        match begin(self.rt, self.name) {
+        match Draft::begin(self.rt, self.name) {
             Ok(draft) => Ok(draft),
             Err(_) => {
                 self.is_failed = true;
@@ -146,14 +97,15 @@ impl ByteSink for InPlaceFile<'_> {
 
     fn write(&mut self, text: &[u8]) -> Result<usize, Fault>
         ensures bound { IfOk result (λ count. count ≤ length text.now) }
-        ensures open { IfOk result (λ _. is_some self.new.draft ≡ true) }
         ensures draft { IfSome self.old.draft (λ draft. self.new.draft ≡ Some draft) }
+        ensures begun { self.old.draft ≡ None → IfOk result (λ _. IsSomeAnd self.new.draft (λ draft. draft.name.now ≡ self.old.name.now)) }
+        ensures placed { self.new.placed ≡ self.old.placed }
         ensures fault { IfErr result (λ fault. fault ≡ Fault.Write) }
         ensures failed { self.new.is_failed ≡ (self.old.is_failed || is_refused result text.now) }
         ensures name { self.new.name ≡ self.old.name }
     {
         let draft = self.take_draft()?;
-        let answer = StdSink::new(&draft.file).write(text);
+        let answer = StdSink::new(draft.file()).write(text);
         self.draft = Some(draft);
         let is_refused = match answer {
             Ok(count) => count == 0 && !text.is_empty(),
@@ -166,18 +118,24 @@ impl ByteSink for InPlaceFile<'_> {
     // Where it fails, a draft that was there stays, for `close`.
     fn flush(&mut self) -> Result<(), Fault>
         ensures closed { OnOk result (self.new.draft ≡ None) }
+        ensures placed { OnOk result (IfSome self.old.draft (λ draft. IsSomeAnd self.new.placed (λ placed. placed.draft ≡ draft))) }
+        ensures begun { self.old.draft ≡ None → OnOk result (IsSomeAnd self.new.placed (λ placed. placed.draft.name.now ≡ self.old.name.now)) }
+        ensures unplaced { OnErr result (self.new.placed ≡ self.old.placed) }
         ensures draft { OnErr result (IfSome self.old.draft (λ draft. self.new.draft ≡ Some draft)) }
         ensures fault { IfErr result (λ fault. fault ≡ Fault.Write) }
         ensures failed { self.new.is_failed ≡ (self.old.is_failed || is_err result) }
         ensures name { self.new.name ≡ self.old.name }
     {
-        let draft = self.take_draft()?;
-        let answer = rename_to_makefile(self.rt, &draft);
-        if answer.is_err() {
-            self.draft = Some(draft);
-            self.is_failed = true;
-        }
-        answer.map_err(|_| Fault::Write)
+        let placed = match put_into_place(self.rt, self.take_draft()?) {
+            Ok(placed) => placed,
+            Err(draft) => {
+                self.draft = Some(draft);
+                self.is_failed = true;
+                return Err(Fault::Write);
+            }
+        };
+        self.placed = Some(placed);
+        Ok(())
     }
 
     fn failed(&self) -> bool {

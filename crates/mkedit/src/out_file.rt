@@ -1,10 +1,9 @@
 //! The file that a text goes to.
-ghost use Rattle.std.specs.Prelude.{◌≡◌, ◌||◌, ◌≤◌, None, true, false, is_err, is_some, length, IfOk, IfErr, IfSome, OnOk};
+ghost use Rattle.std.specs.Prelude.{◌≡◌, ◌||◌, ◌≤◌, None, Some, false, is_err, length, IfOk, IfErr, IfSome, IsSomeAnd};
 ghost use Rattle.mk_lines.specs.Device.{is_refused};
 
-use crate::files::create;
+use crate::files::{Created, create};
 use mk_lines::{ByteSink, Fault, StdSink};
-use std::fs::File;
 
 /// A sink to the file of this name, which is opened and emptied at the first write or flush.
 ///
@@ -14,7 +13,7 @@ use std::fs::File;
 pub struct OutFile<'a> {
     rt: &'a HostRuntime,
     name: &'a str,
-    file: Option<StdSink<File>>,
+    file: Option<Created<'a>>,
     is_failed: bool,
 }
 
@@ -34,8 +33,9 @@ impl<'a> OutFile<'a> {
     }
 
     // The file; it is opened and emptied where it has not been yet, and that alone can fail.
-    fn take_file(&mut self) -> Result<StdSink<File>, Fault>
+    fn take_file(&mut self) -> Result<Created<'a>, Fault>
         ensures open { IfSome self.old.file (λ file. result ≡ Ok file) }
+        ensures created { self.old.file ≡ None → IfOk result (λ file. file.name.now ≡ self.old.name.now) }
         ensures fault { IfErr result (λ fault. fault ≡ Fault.Write) }
         ensures failed { self.new.is_failed ≡ (self.old.is_failed || is_err result) }
         ensures name { self.new.name ≡ self.old.name }
@@ -44,7 +44,7 @@ impl<'a> OutFile<'a> {
             return Ok(file);
         }
         match create(self.rt, self.name) {
-            Ok(file) => Ok(StdSink::new(file)),
+            Ok(file) => Ok(file),
             Err(_) => {
                 self.is_failed = true;
                 Err(Fault::Write)
@@ -58,13 +58,14 @@ impl ByteSink for OutFile<'_> {
 
     fn write(&mut self, text: &[u8]) -> Result<usize, Fault>
         ensures bound { IfOk result (λ count. count ≤ length text.now) }
-        ensures open { IfOk result (λ _. is_some self.new.file ≡ true) }
+        ensures open { IfSome self.old.file (λ file. self.new.file ≡ Some file) }
+        ensures created { self.old.file ≡ None → IfOk result (λ _. IsSomeAnd self.new.file (λ file. file.name.now ≡ self.old.name.now)) }
         ensures fault { IfErr result (λ fault. fault ≡ Fault.Write) }
         ensures failed { self.new.is_failed ≡ (self.old.is_failed || is_refused result text.now) }
         ensures name { self.new.name ≡ self.old.name }
     {
-        let mut file = self.take_file()?;
-        let answer = file.write(text);
+        let file = self.take_file()?;
+        let answer = StdSink::new(file.file()).write(text);
         self.file = Some(file);
         let is_refused = match answer {
             Ok(count) => count == 0 && !text.is_empty(),
@@ -75,13 +76,14 @@ impl ByteSink for OutFile<'_> {
     }
 
     fn flush(&mut self) -> Result<(), Fault>
-        ensures open { OnOk result (is_some self.new.file ≡ true) }
+        ensures open { IfSome self.old.file (λ file. self.new.file ≡ Some file) }
+        ensures created { self.old.file ≡ None → IfOk result (λ _. IsSomeAnd self.new.file (λ file. file.name.now ≡ self.old.name.now)) }
         ensures fault { IfErr result (λ fault. fault ≡ Fault.Write) }
         ensures failed { self.new.is_failed ≡ (self.old.is_failed || is_err result) }
         ensures name { self.new.name ≡ self.old.name }
     {
-        let mut file = self.take_file()?;
-        let answer = file.flush();
+        let file = self.take_file()?;
+        let answer = StdSink::new(file.file()).flush();
         self.file = Some(file);
         self.is_failed = self.is_failed || answer.is_err();
         answer

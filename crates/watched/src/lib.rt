@@ -10,18 +10,25 @@
 use std::alloc::{AllocError, Allocator};
 use std::cell::Cell;
 
-/// Growths that were passed on: how many, and a number that is the same for two runs if their
-/// growths have the same sizes in the same order.
+/// Growths that were passed on: how many, how many bytes they have, and a number that is the same
+/// for two runs if their growths have the same sizes in the same order.
 #[derive(Clone, Copy, Debug, PartialEq, Eq)]
 pub struct Growths {
     /// How many growths.
     pub count: u64,
+    /// How many bytes they have together, also those that were given back since then. So what is
+    /// kept of them has at most so many.
+    pub bytes: u64,
     /// A number made of their sizes in turn.
     pub sizes: u64,
 }
 
 /// No growth.
-const NONE: Growths = Growths { count: 0, sizes: 0 };
+const NONE: Growths = Growths {
+    count: 0,
+    bytes: 0,
+    sizes: 0,
+};
 
 // Which growths are refused from now on.
 #[derive(Clone, Copy)]
@@ -125,6 +132,7 @@ fn refuses(watch: &Cell<Watch>, size: usize) -> bool {
     } else {
         next.passed = Growths {
             count: next.passed.count.saturating_add(1),
+            bytes: next.passed.bytes.saturating_add(size as u64),
             sizes: next
                 .passed
                 .sizes
@@ -195,7 +203,8 @@ mod tests {
         let heap = Watched::new(rt.alloc());
         pushed(&heap, 100)?;
         let first = heap.passed();
-        assert_eq!(rt; first.count, 5);
+        // 8, 16, 32, 64 and 128 bytes
+        assert!(rt; first.count == 5 && first.bytes == 248);
         heap.refuse_none();
         pushed(&heap, 70)?;
         assert_eq!(rt; heap.passed(), first);

@@ -1,5 +1,5 @@
 -- The removal of a rule: its causes by what the code asks, and its plan.
-use Rattle.std.proofs.Common.{◌≡◌, refl, sym, ap, ◌∙◌, arith, ℕ, ◌+◌, ◌-◌, ◌<◌, ◌≤◌, ◌&&◌, not, true, false, Bool, List, [], ◌∷◌, ◌++◌, length, drop, Option, Some, None, option_map}
+use Rattle.std.proofs.Common.{◌≡◌, refl, sym, ap, ◌∙◌, arith, ℕ, ◌+◌, ◌-◌, ◌<◌, ◌≤◌, true, false, Bool, List, [], length, Option, Some, None, option_map}
 use Rattle.std.specs.List.{list_any}
 use Rattle.std.specs.Prelude.{Ok, Err, nat_lt, slice_get}
 use Rattle.std.proofs.lemmas.Bool.{lt-ltb, le-ltb}
@@ -14,12 +14,9 @@ use Rattle.mk_class.specs.Contexts.{Context}
 use Rattle.mk_class.specs.ClassTable.{class_of}
 use Rattle.mk_class.specs.ClassedLines.{ClassedLine, classed_lines}
 use Rattle.mk_class.proofs.on_classes.LinePartLemmas.{line-parts_located}
-use Rattle.mk_class.specs.declared.context.RuleFlag.{RuleFlag}
-use Rattle.mk_class.specs.declared.context.RuleFlag.TheVariants as flag
-use Rattle.mk_tree.specs.Documents.{IsFaithful, context_of}
-use Rattle.mk_tree.specs.Leaning.{is_same_flag, leans}
-use Rattle.mk_tree.specs.LocatedLines.{LocatedLine, located_line, located_lines, located_text, size_of}
-use Rattle.mk_tree.specs.RecipeLines.{recipe_run, after_recipe}
+use Rattle.mk_tree.specs.Documents.{IsFaithful}
+use Rattle.mk_tree.specs.LocatedLines.{LocatedLine, located_line, located_text, size_of}
+use Rattle.mk_tree.specs.RecipeLines.{recipe_run}
 use Rattle.mk_tree.proofs.on_changes.Sizes.{size_of-text}
 use Rattle.mk_tree.specs.LineTexts.{StandingLine}
 use Rattle.mk_edit_laws.specs.Edits.{Edit, RemoveRule}
@@ -29,21 +26,20 @@ use Rattle.mk_edit_laws.specs.EditSpans.{removed_span, spans_of, where_found}
 use Rattle.mk_edit_laws.specs.Causes.{where_holds}
 use Rattle.mk_edit_laws.specs.Costs.{line_count}
 use Rattle.mk_edit_laws.specs.RuleCauses.{class_found, targets_found, shared_by, shared_rule, has_conditional, straddles}
-use Rattle.mk_edit_laws.specs.LineCauses.{removal_leans, leaning, too_long}
+use Rattle.mk_edit_laws.specs.LineCauses.{leaning, too_long}
 use Rattle.mk_edit_laws.specs.Lengths.{bytes_put}
 use Rattle.mk_edit_laws.specs.Refusals.{spans}
-use Rattle.mk_edit_laws.specs.declared.refusal.Refusal.TheVariants.{SharedRule, Straddles, Leans}
+use Rattle.mk_edit_laws.specs.declared.refusal.Refusal.TheVariants.{SharedRule, Straddles}
 use Rattle.mk_edit_parts.specs.Found.{IsAddressed}
-use Rattle.mk_edit_parts.specs.LineRanges.{is_led_first_located}
 use Rattle.mk_edit.specs.RecipeEdits.{IsRemoveRule}
 use Rattle.mk_edit_parts.specs.RecipeWalks.{lines_from, header_targets_in, header_targets_located}
 use Rattle.mk_edit_parts.specs.declared.seek.Found.{Found}
 use Rattle.mk_edit_parts.proofs.CauseLemmas.{passed, holds}
-use Rattle.mk_edit_parts.proofs.on_finding.LeanLemmas.{led_first-located}
 use Rattle.mk_edit_parts.proofs.on_finding.PartLemmas.{words-part}
 use Rattle.mk_edit.proofs.on_plans.CausePlans.{never-long}
 use Rattle.mk_edit.proofs.on_plans.LinePlans.{IsTakenOut, lines-taken_out}
 use Rattle.mk_edit.proofs.on_recipes.OwnCauses.{own-refused, own-accepted}
+use Rattle.mk_edit.proofs.on_recipes.RuleEnds.{removal-never_leans}
 use Rattle.mk_edit.proofs.on_recipes.RulePlaces.{IsRuleAt, rule-at, rule-within}
 
 -- ---- the targets of a header
@@ -70,19 +66,6 @@ straddles-is ls nth g f b R h =
     ap (λ (o : Option StandingLine). where_holds (has_conditional o) Straddles) R.found_is
     ∙ ap (λ b. where_holds b Straddles) (sym (h ∙ ap (λ z. list_any (λ l. is_conditional l.class) (recipe_run z)) R.below_is))
 
-leaning-is : (ls : List LocatedLine) (nth : Option ℕ) (g : List ℕ) (f : Found) (end : ℕ) (b : Bool) → IsRuleAt ls nth g f → end ≡ f.at + 1 + length (recipe_run (lines_from ls (f.at + 1)))
-    → b ≡ (not (is_same_flag f.context.flag flag.Rule) && is_led_first_located f.context.prefix (drop end ls)) → leaning (classed_lines (located_text ls)) (RemoveRule nth g) ≡ where_holds b Leans
-leaning-is ls nth g f end b R e h =
-    let s = R.spot in
-    let C = context_of s.above in
-    let E = context_of (s.above ++ s.line ∷ recipe_run s.below) in
-    let rest : drop end ls ≡ located_lines (after_recipe s.below) = ap (λ n. drop n ls) (e ∙ ap (λ z. f.at + 1 + length (recipe_run z)) R.below_is) ∙ R.after_is in
-    let same : leans C.prefix C.flag E.flag (after_recipe s.below) ≡ b =
-    ap (λ z. leans C.prefix C.flag z (after_recipe s.below)) R.flag_is
-    ∙ (ap (λ (c : Context). leans c.prefix c.flag flag.Rule (after_recipe s.below)) R.line.context_is
-    ∙ (ap (λ z. not (is_same_flag f.context.flag flag.Rule) && z) (sym (ap (is_led_first_located f.context.prefix) rest ∙ led_first-located f.context.prefix (after_recipe s.below))) ∙ sym h)) in
-    ap (λ (o : Option StandingLine). where_holds (removal_leans (option_map whole_rule o)) Leans) R.found_is ∙ ap (λ z. where_holds z Leans) same
-
 -- the rest of the text is no longer than the text
 within-limit : (ls : List LocatedLine) (nth : Option ℕ) (g : List ℕ) (f : Found) → IsRuleAt ls nth g f → size_of ls ≤ max_text
     → too_long (located_text ls) (spans_of (located_text ls) (classed_lines (located_text ls)) (RemoveRule nth g)) ≡ None
@@ -90,12 +73,6 @@ within-limit ls nth g f R z =
     never-long (located_text ls) (RemoveRule nth g) (ap (λ (o : Option StandingLine). bytes_put (where_found removed_span (option_map whole_rule o))) R.found_is) (omega (arith, size_of-text ls, z))
 
 -- ---- the whole
-
--- what the code asks of the lines below, through what it has of the context
-pub leaning-asked : (ls : List LocatedLine) (f : Found) (end : ℕ) (b : Bool) (before : RuleFlag) (prefix : ℕ) → b ≡ (not (is_same_flag before flag.Rule) && is_led_first_located prefix (drop end ls))
-    → before ≡ f.context.flag → prefix ≡ f.context.prefix → b ≡ (not (is_same_flag f.context.flag flag.Rule) && is_led_first_located f.context.prefix (drop end ls))
-leaning-asked ls f end b before prefix h k m =
-    h ∙ (ap (λ (z : RuleFlag). not (is_same_flag z flag.Rule) && is_led_first_located prefix (drop end ls)) k ∙ ap (λ z. not (is_same_flag f.context.flag flag.Rule) && is_led_first_located z (drop end ls)) m)
 
 -- What the code asks of a document if a rule is removed, and what follows from the answers.
 pub record IsRemoveRuleOf (e : Edit) (ls : List LocatedLine) (f : Found) : Type 0 where
@@ -106,14 +83,9 @@ pub record IsRemoveRuleOf (e : Edit) (ls : List LocatedLine) (f : Found) : Type 
   -- a line of a conditional in the recipe
   pub straddling : (l : LocatedLine) (n : ℕ) → Some l ≡ slice_get ls f.at → n ≡ length (header_targets_located l) → n ≤ 1
       → true ≡ list_any (λ l. is_conditional l.class) (recipe_run (lines_from ls (f.at + 1))) → spans (located_text ls) e ≡ Err Straddles
-  -- lines below that lean
-  pub leaning_on : (l : LocatedLine) (n end : ℕ) → Some l ≡ slice_get ls f.at → n ≡ length (header_targets_located l) → n ≤ 1
-      → false ≡ list_any (λ l. is_conditional l.class) (recipe_run (lines_from ls (f.at + 1))) → end ≡ f.at + 1 + length (recipe_run (lines_from ls (f.at + 1)))
-      → true ≡ (not (is_same_flag f.context.flag flag.Rule) && is_led_first_located f.context.prefix (drop end ls)) → spans (located_text ls) e ≡ Err Leans
-  -- none of these causes holds
+  -- neither of these causes holds; the lines below do not lean
   pub accepted : (l : LocatedLine) (n end : ℕ) → size_of ls ≤ max_text → Some l ≡ slice_get ls f.at → n ≡ length (header_targets_located l) → n ≤ 1
       → false ≡ list_any (λ l. is_conditional l.class) (recipe_run (lines_from ls (f.at + 1))) → end ≡ f.at + 1 + length (recipe_run (lines_from ls (f.at + 1)))
-      → false ≡ (not (is_same_flag f.context.flag flag.Rule) && is_led_first_located f.context.prefix (drop end ls))
       → (rs : List Replacement) × (spans (located_text ls) e ≡ Ok rs) × IsTakenOut e ls f.at (end - f.at)
 
 remove_rule : (nth : Option ℕ) (g : List ℕ) (ls : List LocatedLine) (f : Found) → IsFaithful ls → IsAddressed (RemoveRule nth g) ls f → IsRemoveRuleOf (RemoveRule nth g) ls f
@@ -123,13 +95,11 @@ remove_rule nth g ls f h A = record {
   shared = λ l n i k m. own-refused e ls f (SharedRule n) A (holds (shared_rule lines e) _ (SharedRule n) (shared-is ls nth g f l n R i k ∙ ap (λ b. where_holds b (SharedRule n)) (lt-ltb 1 n m)));
   straddling = λ l n i k m b. own-refused e ls f Straddles A
       (passed (shared_rule lines e) _ (Some Straddles) (one l n i k m) (holds (straddles lines e) _ Straddles (straddles-is ls nth g f true R b)));
-  leaning_on = λ l n end i k m b p q. own-refused e ls f Leans A
-      (passed (shared_rule lines e) _ (Some Leans) (one l n i k m) (passed (straddles lines e) _ (Some Leans) (straddles-is ls nth g f false R b) (holds (leaning lines e) _ Leans (leaning-is ls nth g f end true R p q))));
-  accepted = λ l n end z i k m b p q.
+  accepted = λ l n end z i k m b p.
       let taken = own-accepted e ls f A
       (passed (shared_rule lines e) _ None (one l n i k m)
       (passed (straddles lines e) _ None (straddles-is ls nth g f false R b)
-      (passed (leaning lines e) _ None (leaning-is ls nth g f end false R p q) (passed (too_long t (spans_of t lines e)) [] None (within-limit ls nth g f R z) refl)))) in
+      (passed (leaning lines e) _ None (removal-never_leans ls nth g f R) (passed (too_long t (spans_of t lines e)) [] None (within-limit ls nth g f R z) refl)))) in
       let many : length (whole_rule s).lines ≡ end - f.at = omega (arith, p, ap (λ z. length (recipe_run z)) R.below_is) in
       (spans_of t lines e, taken, lines-taken_out e ls (spans_of t lines e) (whole_rule s) f.at (end - f.at) h taken (ap (option_map whole_rule) R.found_is) R.place_is many refl refl (ap (λ (o : Option StandingLine). line_count (option_map whole_rule o)) R.found_is ∙ many));
 }

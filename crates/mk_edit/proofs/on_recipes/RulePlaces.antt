@@ -1,18 +1,15 @@
--- The rule that an edit means, as it stands in a document: its header, its recipe, and the lines below.
-use Rattle.std.proofs.Common.{◌≡◌, sym, ap, ◌∙◌, arith, ℕ, ◌+◌, ◌≤◌, List, ◌∷◌, ◌++◌, length, length-append, drop, drop-drop, Option, Some, None}
-use Rattle.std.proofs.lemmas.List.{drop-map, length-map}
+-- The rule that an edit means, as it stands in a document: its header, and the lines below.
+use Rattle.std.proofs.Common.{◌≡◌, sym, ap, ◌∙◌, arith, ℕ, ◌+◌, ◌≤◌, List, ◌∷◌, ◌++◌, length, length-append, drop, Option, Some, None}
+use Rattle.std.proofs.lemmas.List.{length-map}
 use Rattle.std.proofs.Math.Seq.{drop-append-add}
 use Rattle.mk_lines.specs.Cells.{Cell}
 use Rattle.mk_class.specs.Headers
 use Rattle.mk_class.specs.Classes.Class.{Header}
-use Rattle.mk_class.specs.Contexts.{Context}
-use Rattle.mk_class.specs.ClassedLines.{classed_lines, context_after_lines}
-use Rattle.mk_class.specs.declared.context.RuleFlag.TheVariants as flag
-use Rattle.mk_tree.specs.Documents.{IsFaithful, context_of}
-use Rattle.mk_tree.specs.LocatedLines.{LocatedLine, located_line, located_lines, located_text}
+use Rattle.mk_class.specs.ClassedLines.{classed_lines}
+use Rattle.mk_tree.specs.Documents.{IsFaithful}
+use Rattle.mk_tree.specs.LocatedLines.{LocatedLine, located_line, located_text}
 use Rattle.mk_tree.specs.RecipeLines.{recipe_run, after_recipe}
-use Rattle.mk_tree.proofs.on_documents.LinesInText.{line-in_text, context_of-append}
-use Rattle.mk_tree.proofs.on_changes.RecipeRunLemmas.{rule-context, recipe_run-after, recipe_run-stays}
+use Rattle.mk_tree.proofs.on_changes.RecipeRunLemmas.{recipe_run-after}
 use Rattle.mk_tree.specs.LineTexts.{StandingLine}
 use Rattle.mk_edit_laws.specs.Addresses.{Rule, found}
 use Rattle.mk_edit_laws.specs.AddressCauses.{no_such_line, ambiguous_line}
@@ -34,11 +31,6 @@ pub record IsRuleAt (ls : List LocatedLine) (nth : Option ℕ) (g : List ℕ) (f
   pub class_is : spot.line.class ≡ Header header
   -- the lines of the text below it
   pub below_is : lines_from ls (f.at + 1) ≡ spot.below
-  -- the lines of the document below its recipe
-  pub after_is : drop (f.at + 1 + length (recipe_run spot.below)) ls ≡ located_lines (after_recipe spot.below)
-  -- the flag after its recipe
-  pub flag_is : (context_of (spot.above ++ spot.line ∷ recipe_run spot.below)).flag ≡ flag.Rule
-  pub prefix_is : (context_of (spot.above ++ spot.line ∷ recipe_run spot.below)).prefix ≡ f.context.prefix
 
 pub rule-at : (ls : List LocatedLine) (nth : Option ℕ) (g : List ℕ) (f : Found) → IsFaithful ls → no_such_line (classed_lines (located_text ls)) (Some (Rule nth g)) ≡ None
     → ambiguous_line (classed_lines (located_text ls)) (Some (Rule nth g)) ≡ None → IsFoundAt (classed_lines (located_text ls)) (Rule nth g) f → IsRuleAt ls nth g f
@@ -50,13 +42,8 @@ rule-at ls nth g f h there one F =
     let q : Some R.spot ≡ Some s = sym R.found_is ∙ F.found_is in
     let same : R.spot ≡ s = cc in
     let k : s.line.class ≡ Header R.header = ap (λ (z : StandingLine). z.line.class) (sym same) ∙ R.class_is in
-    let run = recipe_run s.below in
     let below : lines_from ls (f.at + 1) ≡ s.below =
     ap (drop (f.at + 1)) L.lines ∙ (ap (λ n. drop (n + 1) (s.above ++ s.line ∷ s.below)) (sym F.place_is) ∙ drop-append-add s.above (s.line ∷ s.below) 1) in
-    let rest : drop (f.at + 1 + length run) ls ≡ located_lines (after_recipe s.below) =
-    sym (drop-drop (length run) (f.at + 1) ls) ∙ (ap (drop (length run)) L.below_is ∙ drop-map located_line (length run) s.below) in
-    let C = rule-context (context_of s.above) s.line R.header run (line-in_text (located_text ls) s.above s.line s.below L.lines).class k (recipe_run-stays s.below) in
-    let into : context_of (s.above ++ s.line ∷ run) ≡ context_after_lines (context_of s.above) (s.line ∷ run) = context_of-append s.above (s.line ∷ run) in
     record {
       spot = s;
       found_is = F.found_is;
@@ -65,9 +52,6 @@ rule-at ls nth g f h there one F =
       header = R.header;
       class_is = k;
       below_is = below;
-      after_is = rest;
-      flag_is = ap (λ (c : Context). c.flag) into ∙ C.flag;
-      prefix_is = ap (λ (c : Context). c.prefix) into ∙ (C.prefix ∙ ap (λ (c : Context). c.prefix) F.context_is);
     }
 
 -- the recipe of the rule ends within the document

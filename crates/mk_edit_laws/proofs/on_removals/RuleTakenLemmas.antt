@@ -105,7 +105,7 @@ no-more (l ∷ ls) below h k = rw (not-true (is_recipe l.class) h.0, no-more ls 
     go false = refl
 
 -- below its last recipe line a rule does not go on
-after_recipe-ends : (ls : List ClassedLine) → recipe_goes_on (after_recipe ls) ≡ false
+pub after_recipe-ends : (ls : List ClassedLine) → recipe_goes_on (after_recipe ls) ≡ false
 after_recipe-ends ls =
     let p : ClassedLine → Bool = λ l. not (is_recipe l.class) in
     let q : ClassedLine → Bool = λ l. stays_in_rule l.class in

@@ -1,6 +1,7 @@
 -- The commands of a run are calls of a session, so the laws of sessions hold of them.
-use Rattle.std.proofs.Common.{◌≡◌, refl, sym, ap, subst, ◌∙◌, arith, ℕ, suc, zero, Bool, true, false, List, [], ◌∷◌, length, map, replicate, Option, Some, None, Ok, Err, inl, inr}
+use Rattle.std.proofs.Common.{◌≡◌, refl, sym, ap, subst, ◌∙◌, arith, ℕ, suc, zero, ◌+◌, Bool, true, false, List, [], ◌∷◌, length, map, replicate, Option, Some, None, Ok, Err, inl, inr, ◌++◌}
 use Rattle.std.specs.Prelude.{Result, IfSome}
+use Rattle.std.proofs.lemmas.List.{append-nil}
 use Rattle.mk_edit_laws.specs.Edits.{Edit}
 use Rattle.mk_edit_laws.specs.declared.refusal.Refusal.{Refusal}
 use Rattle.mk_history.specs.Machine as machine
@@ -13,10 +14,13 @@ use Rattle.mk_session.proofs.on_sessions.CallLemmas.{standing-replayed, all-undo
 use Rattle.mk_script.specs.Scripts.{CommandAt, IsScript}
 use Rattle.mk_script.proofs.on_scripts.OneLemmas.{commands-one, not-both}
 use Rattle.mk_run.specs.ObeyedCommands.{Obeyed, obeyed_next, obeyed}
-use Rattle.mk_run.specs.Runs.{RunResult, IsRunOf, IsRun, ended, shown_or, output_after, stopped}
+use Rattle.mk_run.specs.Runs.{RunResult, IsRunOf, IsRun, ended, shown_or, outcome_after, output_after, result_after, stopped}
+use Rattle.mk_run.specs.RunEnds.{GoesOn}
 use Rattle.mk_run.specs.declared.outcome.Outcome as o
 use Rattle.mk_run.specs.declared.outcome.Outcome.TheVariants.{BadDepth, TooLong, TooDeep}
 use Rattle.mk_run.specs.RunLaws.{tried_next, tried, DoesAsStated, DoAsStated, machine_after, AreUndos, KeepEveryByte, RunsKeepEveryByte}
+use Rattle.mk_run.proofs.on_runs.CommandLemmas.{joined, obeyed-append}
+use Rattle.mk_run.proofs.on_runs.RunLemmas.{output-some}
 
 -- what is shown, of a session that has read no line
 seen : Shown (List ℕ) → Seen
@@ -96,17 +100,18 @@ unfolding AllGranted
 granted-replies [] h = tt
 granted-replies (r ∷ replies) h = (cons-first r Granted replies (replicate (length replies) Granted) h, granted-replies replies (cons-rest r Granted replies (replicate (length replies) Granted) h))
 
--- if all calls were granted, no command was refused, and the run is the same if it stops at a refusal
+-- if all calls were granted, no command was refused, nothing was reported, and the run is the same if it stops at a refusal
 none-next : (k : Bool) (c : CommandAt) (s : Shown (List ℕ)) (others all : Shown (List ℕ) → Obeyed) (calls : Shown (List ℕ) → List Call)
-    → ((t : Shown (List ℕ)) → AllGranted (calls t) → ((others t).refused ≡ 0) × ((others t).shown ≡ (all t).shown))
+    → ((t : Shown (List ℕ)) → AllGranted (calls t) → ((others t).refused ≡ 0) × ((others t).report ≡ []) × ((others t).shown ≡ (all t).shown))
     → (a : Result (Shown (List ℕ)) (machine.Refusal Refusal)) → AllGranted (tried_next true c.command s calls a)
-    → ((obeyed_next k c s others a).refused ≡ 0) × ((obeyed_next k c s others a).shown ≡ (obeyed_next true c s all a).shown)
+    → ((obeyed_next k c s others a).refused ≡ 0) × ((obeyed_next k c s others a).report ≡ []) × ((obeyed_next k c s others a).shown ≡ (obeyed_next true c s all a).shown)
 unfolding AllGranted
 none-next k c s others all calls hyp (Ok new) granted = hyp new granted.1
 none-next k c s others all calls hyp (Err q) granted = let no = granted.0 in absurd (cc)
 
-none-refused : (k : Bool) (commands : List CommandAt) (s : Shown (List ℕ)) → AllGranted (tried true commands s) → ((obeyed k commands s).refused ≡ 0) × ((obeyed k commands s).shown ≡ (obeyed true commands s).shown)
-none-refused k [] s granted = (refl, refl)
+none-refused : (k : Bool) (commands : List CommandAt) (s : Shown (List ℕ)) → AllGranted (tried true commands s)
+    → ((obeyed k commands s).refused ≡ 0) × ((obeyed k commands s).report ≡ []) × ((obeyed k commands s).shown ≡ (obeyed true commands s).shown)
+none-refused k [] s granted = (refl, refl, refl)
 none-refused k (c ∷ commands) s granted =
     none-next k c s (λ t. obeyed k commands t) (λ t. obeyed true commands t) (λ t. tried true commands t) (λ t. none-refused k commands t) (answer c.command s) granted
 
@@ -144,6 +149,19 @@ module _ (makefile script : List ℕ) (depth : ℕ) (k : Bool) (commands : List 
   of-run are (inr (good, inr (short, inr (others, are_other, run)))) =
       of-commands (subst (λ (cs : List CommandAt). IsRunOf cs makefile depth k result) (commands-one script others commands are_other are) run)
 
+-- ---- commands, and others behind them that are all granted and lead to this text
+
+joined-result : (k : Bool) (did rest : Obeyed) (text : List ℕ) → GoesOn k did.refused → rest.refused ≡ 0 → rest.report ≡ [] → rest.shown.text ≡ text
+    → result_after k (joined did rest) ≡ record { outcome = outcome_after did.refused; report = did.report; output = Some text }
+joined-result k did rest text on none silent back =
+    let number : did.refused + rest.refused ≡ did.refused = omega (arith, none) in
+    let report : did.report ++ rest.report ≡ did.report = ap (λ l. did.report ++ l) silent ∙ append-nil did.report in
+    let output : output_after k (did.refused + rest.refused) (ended rest.shown).text ≡ Some text =
+    ap (λ n. output_after k n (ended rest.shown).text) number ∙ (output-some k did.refused (ended rest.shown).text on ∙ ap Some (ended-text rest.shown ∙ back)) in
+    ap (λ n. record { outcome = outcome_after n; report = did.report ++ rest.report; output = output_after k (did.refused + rest.refused) (ended rest.shown).text }) number
+    ∙ (ap (λ l. record { outcome = outcome_after did.refused; report = l; output = output_after k (did.refused + rest.refused) (ended rest.shown).text }) report
+    ∙ ap (λ t. record { outcome = outcome_after did.refused; report = did.report; output = t }) output)
+
 -- ---- the headline
 
 module _ (makefile : List ℕ) (depth : ℕ) (k : Bool) (commands : List CommandAt) where
@@ -158,9 +176,15 @@ module _ (makefile : List ℕ) (depth : ℕ) (k : Bool) (commands : List Command
   unfolding seen last
   replayed = (standing-replayed depth makefile (tried k commands (shown_opened depth makefile)) (seen last) session-calls).1
 
+  -- as many `undo` as members stand
+  record AreTakenBack (undos : List CommandAt) : Type 0 where
+    pub none : (obeyed k undos last).refused ≡ 0
+    pub silent : (obeyed k undos last).report ≡ []
+    pub back : (obeyed k undos last).shown.text ≡ makefile
+
   all-back : (machine_after k commands makefile depth).floor ≡ 0 → (machine_after k commands makefile depth).group ≡ None
       → (undos : List CommandAt) → AreUndos undos → length undos ≡ length (machine_after k commands makefile depth).done
-      → ((obeyed k undos last).refused ≡ 0) × ((obeyed k undos last).shown.text ≡ makefile)
+      → AreTakenBack undos
   unfolding seen last
   all-back floor group undos are number =
       let them = undo-replies undos last are in
@@ -168,14 +192,25 @@ module _ (makefile : List ℕ) (depth : ℕ) (k : Bool) (commands : List Command
       let back = all-undone depth makefile (tried k commands (shown_opened depth makefile)) (seen last) session-calls floor group them.replies (seen (obeyed true undos last).shown) (them.number_is ∙ number) calls in
       let granted = subst AllGranted (sym them.calls_are) (granted-replies them.replies back.0) in
       let same = none-refused k undos last granted in
-      (same.0, ap (λ (s : Shown (List ℕ)). s.text) same.1 ∙ back.1)
+      record { none = same.0; silent = same.1; back = ap (λ (s : Shown (List ℕ)). s.text) same.2 ∙ back.1 }
+
+  -- the commands with such `undo` behind them
+  put-back : (undos : List CommandAt) → AreTakenBack undos → GoesOn k (obeyed k commands (shown_opened depth makefile)).refused
+      → result_after k (obeyed k (commands ++ undos) (shown_opened depth makefile))
+      ≡ record { outcome = outcome_after (obeyed k commands (shown_opened depth makefile)).refused; report = (obeyed k commands (shown_opened depth makefile)).report; output = Some makefile }
+  unfolding last
+  put-back undos them on =
+      let did = obeyed k commands (shown_opened depth makefile) in
+      ap (result_after k) (obeyed-append k commands undos (shown_opened depth makefile) on)
+      ∙ joined-result k did (obeyed k undos did.shown) makefile on them.none them.silent them.back
 
   every-byte_kept : KeepEveryByte k commands makefile depth
   unfolding seen last
   every-byte_kept = record {
     each = do-as_stated (tried k commands (shown_opened depth makefile)) (seen_opened depth makefile) (seen last) session-calls;
     replayed = replayed;
-    undone = all-back;
+    undone = λ floor group undos are number. let them = all-back floor group undos are number in (them.none, them.back);
+    undone_by_script = λ floor group undos are number on. put-back undos (all-back floor group undos are number) on;
   }
 
 -- runs keep every byte that no edit concerns

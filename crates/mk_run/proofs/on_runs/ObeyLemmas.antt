@@ -19,8 +19,8 @@ use Rattle.mk_session.proofs.on_sessions.RefusalLemmas.{answer-other}
 use Rattle.mk_script.specs.Scripts.{CommandAt}
 use Rattle.mk_run.specs.Report.{report_line}
 use Rattle.mk_run.specs.ObeyedCommands.{Obeyed, obeyed_next, obeyed}
-use Rattle.mk_run.specs.RunEnds.{GoesOn, written}
-use Rattle.mk_run.specs.RunSteps.{AreObeyed, AreEnded, AreShort}
+use Rattle.mk_run.specs.RunEnds.{GoesOn, IsLeftShort, IsLeftUnreported, written}
+use Rattle.mk_run.specs.RunSteps.{AreObeyed, AreEnded}
 use Rattle.mk_run.proofs.on_runs.CommandLemmas.{joined, obeyed-append}
 
 -- ---- a list at one of its indices
@@ -72,19 +72,20 @@ refused-reply c e x y NoMemory told step other = absurd (other told)
 pub answered-err : (c : Command Edit) (e : Refusal) (x y : Seen) → IsAnswered c (Err e) x y → (e ≡ refusal.NoMemory → ⊥) → IsRefusedCall c e x.shown y.shown
 answered-err c e x y h other = refused-reply c e x y h.reply h.told h.call.step other
 
--- the machine grants a call that takes memory
-pub record IsGrantedCall (c : Command Edit) (before : Shown (List ℕ)) : Type 0 where
+-- the machine grants a call that takes memory, and nothing changed
+pub record IsGrantedCall (c : Command Edit) (before after : Shown (List ℕ)) : Type 0 where
   pub new : Shown (List ℕ)
   pub takes : takes_memory c ≡ true
   pub granted : answer c before ≡ Ok new
+  pub same : after ≡ before
 
-short-reply : (c : Command Edit) (e : Refusal) (x y : Seen) (r : Reply) → IsTold (Err e) r → IsCall (c, r) x y → e ≡ refusal.NoMemory → IsGrantedCall c x.shown
+short-reply : (c : Command Edit) (e : Refusal) (x y : Seen) (r : Reply) → IsTold (Err e) r → IsCall (c, r) x y → e ≡ refusal.NoMemory → IsGrantedCall c x.shown y.shown
 short-reply c e x y Granted told call none = absurd told
 short-reply c e x y (Refused q) told call none = absurd (answer-other c x.shown q call.step.0 (sym told ∙ none))
-short-reply c e x y NoMemory told call none = let g = call.granted_else refl in record { new = g.0; takes = call.memory refl; granted = g.1 }
+short-reply c e x y NoMemory told call none = let g = call.granted_else refl in record { new = g.0; takes = call.memory refl; granted = g.1; same = call.step }
 
 -- a call that found no memory
-pub answered-short : (c : Command Edit) (e : Refusal) (x y : Seen) → IsAnswered c (Err e) x y → e ≡ refusal.NoMemory → IsGrantedCall c x.shown
+pub answered-short : (c : Command Edit) (e : Refusal) (x y : Seen) → IsAnswered c (Err e) x y → e ≡ refusal.NoMemory → IsGrantedCall c x.shown y.shown
 answered-short c e x y h none = short-reply c e x y h.reply h.told h.call none
 
 -- ---- one command after the others
@@ -115,8 +116,8 @@ module _ (k : Bool) (earlier : List CommandAt) (c : CommandAt) (later : List Com
       }
 
   -- a command that finds no memory
-  pub short-next : IsGrantedCall c.command x → AreShort k (earlier ++ c ∷ later) first (written a b)
-  short-next g = record {
+  pub short-next : (y : Shown (List ℕ)) → IsGrantedCall c.command x y → IsLeftShort k (earlier ++ c ∷ later) first y (written a b)
+  short-next y g = record {
     lines = (obeyed k earlier first).report;
     is_short = record {
       earlier = earlier;
@@ -130,6 +131,7 @@ module _ (k : Bool) (earlier : List CommandAt) (c : CommandAt) (later : List Com
       granted = at-shown (Ok g.new) g.granted;
     };
     is_out = did.reported;
+    shown = g.same ∙ did.shown;
   }
 
 -- what goes out for a refusal begins with its line
@@ -156,7 +158,7 @@ module _ (earlier : List CommandAt) (c : CommandAt) (later : List CommandAt) (fi
       }
 
   -- a command that is refused, and ends the run
-  pub refused-last : (k : Bool) → AreObeyed k earlier first x n (written a b) → Appends b d (report_line c.line r) → k ≡ false → AreEnded k (earlier ++ c ∷ later) first (n + 1) (written a d)
+  pub refused-last : (k : Bool) → AreObeyed k earlier first x n (written a b) → Appends b d (report_line c.line r) → k ≡ false → AreEnded k (earlier ++ c ∷ later) first y (n + 1) (written a d)
   refused-last true did out off = absurd (cc)
   refused-last false did out off =
       let o = obeyed false earlier first in
@@ -166,6 +168,7 @@ module _ (earlier : List CommandAt) (c : CommandAt) (later : List CommandAt) (fi
         ends = refl;
         one = omega (arith, did.goes_on refl);
         number = omega (arith, did.number, ap (λ o. o.refused) all);
+        shown = h.same ∙ (did.shown ∙ sym (ap (λ (o : Obeyed). o.shown) all));
         reported = subst (Appends a d)
             (ap (λ (q : Refusal). o.report ++ report_line c.line q) h.told ∙ (ap (λ l. o.report ++ l) (sym (append-nil line)) ∙ sym (ap (λ (o : Obeyed). o.report) all)))
             (Appends-trans a b d o.report (report_line c.line r) did.reported out);
@@ -180,6 +183,19 @@ module _ (earlier : List CommandAt) (c : CommandAt) (later : List CommandAt) (fi
       subst (AppendsPrefix a d)
       (ap (λ (q : Refusal). o.report ++ (report_line c.line q ++ line.0)) h.told ∙ (ap (λ l. o.report ++ l) (sym line.1) ∙ sym (ap (λ (o : Obeyed). o.report) all)))
       (AppendsPrefix-more a b d o.report (report_line c.line r ++ line.0) did.reported (AppendsPrefix-front b d (report_line c.line r) line.0 out))
+
+  -- a command that is refused, and whose line is not out
+  pub refused-unreported : (k : Bool) → AreObeyed k earlier first x n (written a b) → IsLeftUnreported k (earlier ++ c ∷ later) first y
+  refused-unreported k did = record {
+    earlier = earlier;
+    command = c;
+    later = later;
+    cause = h.cause;
+    commands_are = refl;
+    reached = reached k earlier c later first x n a b did;
+    shown = h.same ∙ did.shown;
+    refused = ap (answer c.command) h.same ∙ h.refused;
+  }
 
 -- no command yet
 pub none-obeyed : (k : Bool) (first : Shown (List ℕ)) (a : Option (List ℕ)) → AreObeyed k [] first first 0 (written a a)

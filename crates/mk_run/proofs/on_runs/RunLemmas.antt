@@ -1,6 +1,6 @@
 -- How a run ends, by the step at which it ends.
 use Rattle.std.proofs.Common.{◌≡◌, refl, sym, ap, subst, ◌∙◌, arith, ℕ, suc, zero, ◌≤◌, Bool, true, false, List, [], Option, Some, None, inl, inr}
-use Rattle.std.specs.Prelude.{IfSome}
+use Rattle.std.specs.Prelude.{◌↔◌, IfSome}
 use Rattle.std.specs.Io.KnownBytes.{Appends}
 use Rattle.std.proofs.KnownBytes.{Appends-nil, Keeps-refl}
 use Rattle.mk_history.specs.Shown.{Shown, shown_opened}
@@ -8,8 +8,9 @@ use Rattle.mk_session.specs.Sessions.{Seen, IsBadDepth}
 use Rattle.mk_script.specs.Scripts.{CommandAt}
 use Rattle.mk_run.specs.ObeyedCommands.{obeyed}
 use Rattle.mk_run.specs.Runs.{RunResult, stopped, ended, outcome_after, output_after, result_after}
-use Rattle.mk_run.specs.RunEnds.{HasText, GoesOn, Written, written, IsOut, IsPrefixOut, IsWhole, IsCut, EndsAs, HandsBack, IsRunOver}
-use Rattle.mk_run.specs.RunSteps.{GivesCommands, GivesSession, AreObeyed, AreEnded, StopsScript, StopsMakefile, StopsCommands}
+use Rattle.mk_run.specs.RunEnds.{HasText, GoesOn, Written, written, IsOut, IsPrefixOut, IsWhole, IsCut, EndsAs, IsLeft, IsLeftRefused, IsLeftShort, IsLeftCut, HandsBack, Leaves, IsRunOver}
+use Rattle.mk_run.specs.Outcome.{is_printed, may_report}
+use Rattle.mk_run.specs.RunSteps.{GivesCommands, GivesSession, AreObeyed, AreEnded, StopsScript, StopsMakefile, StopsCommands, EndsCommands, is_before_makefile}
 use Rattle.mk_run.specs.declared.outcome.Outcome as o
 use Rattle.mk_run.specs.declared.outcome.Outcome.TheVariants.{Done, Refused, NotACommand, BadDepth, TooLong, TooDeep, Read, Write, NoMemory}
 use Rattle.mk_run.proofs.on_runs.ResultLemmas.{has-run}
@@ -120,13 +121,76 @@ module _ (makefile script : Option (List ℕ)) (depth : ℕ) (k : Bool) (failed 
   makefile-stops commands reader_failed BadDepth good says stops = absurd stops
   makefile-stops commands reader_failed Write good says stops = absurd stops
 
-pub makefile-not_bad : (bytes : Option (List ℕ)) (failed : Bool) (outcome : o.Outcome) → StopsMakefile bytes failed outcome → outcome ≡ BadDepth → ⊥
-makefile-not_bad bytes failed outcome stops h = subst (λ (x : o.Outcome). StopsMakefile bytes failed x) h stops
+pub makefile-not_before : (bytes : Option (List ℕ)) (failed : Bool) (outcome : o.Outcome) → StopsMakefile bytes failed outcome → is_before_makefile outcome ≡ false
+makefile-not_before bytes failed TooLong stops = refl
+makefile-not_before bytes failed TooDeep stops = refl
+makefile-not_before bytes failed NoMemory stops = refl
+makefile-not_before bytes failed Read stops = refl
+makefile-not_before bytes failed Done stops = absurd stops
+makefile-not_before bytes failed (Refused n) stops = absurd stops
+makefile-not_before bytes failed (NotACommand line) stops = absurd stops
+makefile-not_before bytes failed BadDepth stops = absurd stops
+makefile-not_before bytes failed Write stops = absurd stops
+
+pub makefile-read : (bytes : Option (List ℕ)) (failed : Bool) (outcome : o.Outcome) → StopsMakefile bytes failed outcome → outcome ≡ Read ↔ failed ≡ true
+makefile-read bytes failed TooLong stops = (λ is. absurd (cc), λ fails. absurd (let works = stops.0 in cc))
+makefile-read bytes failed TooDeep stops = (λ is. absurd (cc), λ fails. absurd (let works = stops.0 in cc))
+makefile-read bytes failed NoMemory stops = (λ is. absurd (cc), λ fails. absurd (cc))
+makefile-read bytes failed Read stops = (λ is. stops, λ fails. refl)
+makefile-read bytes failed Done stops = absurd stops
+makefile-read bytes failed (Refused n) stops = absurd stops
+makefile-read bytes failed (NotACommand line) stops = absurd stops
+makefile-read bytes failed BadDepth stops = absurd stops
+makefile-read bytes failed Write stops = absurd stops
+
+pub makefile-not_printed : (bytes : Option (List ℕ)) (failed : Bool) (outcome : o.Outcome) (k : Bool) → StopsMakefile bytes failed outcome → is_printed outcome k ≡ false
+makefile-not_printed bytes failed TooLong k stops = refl
+makefile-not_printed bytes failed TooDeep k stops = refl
+makefile-not_printed bytes failed NoMemory k stops = refl
+makefile-not_printed bytes failed Read k stops = refl
+makefile-not_printed bytes failed Done k stops = absurd stops
+makefile-not_printed bytes failed (Refused n) k stops = absurd stops
+makefile-not_printed bytes failed (NotACommand line) k stops = absurd stops
+makefile-not_printed bytes failed BadDepth k stops = absurd stops
+makefile-not_printed bytes failed Write k stops = absurd stops
+
+-- an outcome that comes after the makefile was begun is no other
+pub begun-not_bad : (outcome : o.Outcome) → is_before_makefile outcome ≡ false → outcome ≡ BadDepth → ⊥
+begun-not_bad outcome begun h = let on : is_before_makefile outcome ≡ true = ap is_before_makefile h in absurd (cc)
+
+pub begun-not_no_command : (outcome : o.Outcome) (line : ℕ) → is_before_makefile outcome ≡ false → outcome ≡ NotACommand line → ⊥
+begun-not_no_command outcome line begun h = let on : is_before_makefile outcome ≡ true = ap is_before_makefile h in absurd (cc)
+
+-- what is left where no command was reached
+module _ (makefile script : Option (List ℕ)) (depth : ℕ) (k : Bool) (failed : Bool) (report : Option (List ℕ)) (out : Written) (before : Option Seen) where
+  pub script-leaves : (bytes : Option (List ℕ)) (reader_failed : Bool) (outcome : o.Outcome) → StopsScript bytes reader_failed outcome
+      → Leaves makefile script depth k failed (written report report) out before before outcome
+  script-leaves bytes reader_failed TooLong stops = refl
+  script-leaves bytes reader_failed (NotACommand line) stops = refl
+  script-leaves bytes reader_failed NoMemory stops = inl (refl, Keeps-refl report)
+  script-leaves bytes reader_failed Read stops = refl
+  script-leaves bytes reader_failed Done stops = absurd stops
+  script-leaves bytes reader_failed (Refused n) stops = absurd stops
+  script-leaves bytes reader_failed BadDepth stops = absurd stops
+  script-leaves bytes reader_failed TooDeep stops = absurd stops
+  script-leaves bytes reader_failed Write stops = absurd stops
+
+  pub makefile-leaves : (bytes : Option (List ℕ)) (reader_failed : Bool) (outcome : o.Outcome) → StopsMakefile bytes reader_failed outcome
+      → Leaves makefile script depth k failed (written report report) out before before outcome
+  makefile-leaves bytes reader_failed TooLong stops = refl
+  makefile-leaves bytes reader_failed TooDeep stops = refl
+  makefile-leaves bytes reader_failed NoMemory stops = inl (refl, Keeps-refl report)
+  makefile-leaves bytes reader_failed Read stops = refl
+  makefile-leaves bytes reader_failed Done stops = absurd stops
+  makefile-leaves bytes reader_failed (Refused n) stops = absurd stops
+  makefile-leaves bytes reader_failed (NotACommand line) stops = absurd stops
+  makefile-leaves bytes reader_failed BadDepth stops = absurd stops
+  makefile-leaves bytes reader_failed Write stops = absurd stops
 
 -- ---- the commands
 
 -- a text goes out where the run goes on
-output-some : (k : Bool) (n : ℕ) (text : List ℕ) → GoesOn k n → output_after k n text ≡ Some text
+pub output-some : (k : Bool) (n : ℕ) (text : List ℕ) → GoesOn k n → output_after k n text ≡ Some text
 output-some true n text on = refl
 output-some false zero text on = refl
 output-some false (suc n) text on = absurd (omega (arith, on refl))
@@ -140,6 +204,115 @@ no-output n text P one = rw one tt
 refused-is : (n : ℕ) → (n ≡ 0 → ⊥) → Refused n ≡ outcome_after n
 refused-is zero some = absurd (some refl)
 refused-is (suc n) some = refl
+
+-- the run went on after a refusal
+pub printed-refused : (k : Bool) (n : ℕ) → GoesOn k n → (n ≡ 0 → ⊥) → k ≡ true
+printed-refused true n on some = refl
+printed-refused false n on some = absurd (some (on refl))
+
+module _ (k : Bool) (commands : List CommandAt) (first : Shown (List ℕ)) where
+  ended-by_refusal : (last : Shown (List ℕ)) (n : ℕ) (report : Written) (out : Option (List ℕ)) → AreEnded k commands first last n report
+      → IsWhole (result_after k (obeyed k commands first)) (Refused n) report (written out out)
+  ended-by_refusal last n report out are =
+      let did = obeyed k commands first in
+      record {
+        outcome_is = rw are.one (ap outcome_after (sym are.one ∙ are.number));
+        reported = are.reported;
+        written = subst (λ (q : Bool). IfSome (output_after q did.refused (ended did.shown).text) (λ text. Appends out out text)) (sym are.ends)
+            (no-output did.refused (ended did.shown).text (λ text. Appends out out text) (sym are.number ∙ are.one));
+      }
+
+  left-by_refusal : (last : Shown (List ℕ)) (n : ℕ) (report out : Written) → AreEnded k commands first last n report → IsLeftRefused k commands first last out
+  left-by_refusal last n report out are =
+      subst (λ (q : Bool). IsLeftRefused q commands first last out) (sym are.ends)
+      (subst (λ (q : Bool). last ≡ (obeyed q commands first).shown) are.ends are.shown)
+
+  -- the commands did not come to their end, and nothing is out
+  pub stopped-ends : (last : Shown (List ℕ)) (failed : Bool) (outcome : o.Outcome) (report : Written) (out : Option (List ℕ)) → StopsCommands k commands first last failed report outcome
+      → EndsCommands k commands first last failed report (written out out) outcome
+  stopped-ends last failed (Refused n) report out (works, are) = (ended-by_refusal last n report out are, left-by_refusal last n report (written out out) are)
+  stopped-ends last failed NoMemory report out (works, short) = short
+  stopped-ends last failed Write report out (fails, cut, left) = (
+    subst (λ (f : Bool). IsCut (result_after k (obeyed k commands first)) f report (written out out)) (sym fails) cut,
+    subst (λ (f : Bool). IsLeftCut k f commands first last) (sym fails) left,
+  )
+  stopped-ends last failed Done report out stops = absurd stops
+  stopped-ends last failed (NotACommand line) report out stops = absurd stops
+  stopped-ends last failed BadDepth report out stops = absurd stops
+  stopped-ends last failed TooLong report out stops = absurd stops
+  stopped-ends last failed TooDeep report out stops = absurd stops
+  stopped-ends last failed Read report out stops = absurd stops
+
+  module _ (last : Shown (List ℕ)) (n : ℕ) (report : Written) (are : AreObeyed k commands first last n report) where
+    -- the text goes out
+    text-goes : output_after k (obeyed k commands first).refused (ended (obeyed k commands first).shown).text ≡ Some (ended last).text
+    text-goes =
+        let did = obeyed k commands first in
+        output-some k did.refused (ended did.shown).text (λ off. sym are.number ∙ are.goes_on off) ∙ ap (λ (x : Shown (List ℕ)). Some (ended x).text) (sym are.shown)
+
+    wholly : (outcome : o.Outcome) (out : Written) → outcome ≡ outcome_after n → IsOut out (ended last).text
+        → IsWhole (result_after k (obeyed k commands first)) outcome report out
+    wholly outcome out is whole = record {
+      outcome_is = is ∙ ap outcome_after are.number;
+      reported = are.reported;
+      written = if_some-is (output_after k (obeyed k commands first).refused (ended (obeyed k commands first).shown).text) (ended last).text (λ text. IsOut out text) text-goes whole;
+    }
+
+    -- what is shown at the end
+    module _ (new : Shown (List ℕ)) (is : new ≡ ended last) where
+      all-left : (out : Written) → IsOut out (ended last).text → IsLeft k commands first new out
+      all-left out whole = record {
+        shown = is ∙ ap ended are.shown;
+        is_out = subst (λ (s : Shown (List ℕ)). IsOut out s.text) (sym is) whole;
+      }
+
+      -- no command was refused, and the text is out
+      pub done-ends : (failed : Bool) (out : Written) → n ≡ 0 → IsOut out (ended last).text → EndsCommands k commands first new failed report out Done
+      done-ends failed out none whole = (wholly Done out (ap outcome_after (sym none)) whole, all-left out whole)
+
+      -- some commands were refused, and the text is out
+      pub refused-ends : (failed : Bool) (out : Written) → (n ≡ 0 → ⊥) → IsOut out (ended last).text → EndsCommands k commands first new failed report out (Refused n)
+      refused-ends failed out some whole =
+          let on = printed-refused k n are.goes_on some in (
+            wholly (Refused n) out (refused-is n some) whole,
+            subst (λ (q : Bool). IsLeftRefused q commands first new out) (sym on) (subst (λ (q : Bool). IsLeft q commands first new out) on (all-left out whole)),
+          )
+
+      -- the text could not be written or flushed
+      pub cut-ends : (failed : Bool) (out : Written) → failed ≡ false → IsPrefixOut out (ended last).text → EndsCommands k commands first new failed report out Write
+      cut-ends failed out works cut = (
+        subst (λ (f : Bool). IsCut (result_after k (obeyed k commands first)) f report out) (sym works)
+            (are.reported, ((ended last).text, text-goes, cut)),
+        subst (λ (f : Bool). IsLeftCut k f commands first new) (sym works) (is ∙ ap ended are.shown),
+      )
+
+pub ends-not_before : (k : Bool) (commands : List CommandAt) (first last : Shown (List ℕ)) (failed : Bool) (report out : Written) (outcome : o.Outcome) → EndsCommands k commands first last failed report out outcome
+    → is_before_makefile outcome ≡ false
+ends-not_before k commands first last failed report out Done ends = refl
+ends-not_before k commands first last failed report out (Refused n) ends = refl
+ends-not_before k commands first last failed report out NoMemory ends = refl
+ends-not_before k commands first last failed report out Write ends = refl
+ends-not_before k commands first last failed report out (NotACommand line) ends = absurd ends
+ends-not_before k commands first last failed report out BadDepth ends = absurd ends
+ends-not_before k commands first last failed report out TooLong ends = absurd ends
+ends-not_before k commands first last failed report out TooDeep ends = absurd ends
+ends-not_before k commands first last failed report out Read ends = absurd ends
+
+-- the commands were reached
+pub ends-reached : (k : Bool) (commands : List CommandAt) (first last : Shown (List ℕ)) (failed : Bool) (report out : Written) (outcome : o.Outcome) → EndsCommands k commands first last failed report out outcome
+    → may_report outcome ≡ true
+ends-reached k commands first last failed report out Done ends = refl
+ends-reached k commands first last failed report out (Refused n) ends = refl
+ends-reached k commands first last failed report out NoMemory ends = refl
+ends-reached k commands first last failed report out Write ends = refl
+ends-reached k commands first last failed report out (NotACommand line) ends = absurd ends
+ends-reached k commands first last failed report out BadDepth ends = absurd ends
+ends-reached k commands first last failed report out TooLong ends = absurd ends
+ends-reached k commands first last failed report out TooDeep ends = absurd ends
+ends-reached k commands first last failed report out Read ends = absurd ends
+
+pub reached-not_read : (outcome : o.Outcome) → may_report outcome ≡ true → outcome ≡ Read → ⊥
+reached-not_read outcome reached h = let off : may_report outcome ≡ false = ap may_report h in absurd (cc)
 
 -- a run of commands over a makefile
 module _ (makefile script : Option (List ℕ)) (depth : ℕ) (k : Bool) (commands : List CommandAt) (seen : Seen) (good : IsBadDepth depth → ⊥) (says : GivesCommands script commands) (opens : GivesSession makefile depth seen) where
@@ -159,93 +332,49 @@ module _ (makefile script : Option (List ℕ)) (depth : ℕ) (k : Bool) (command
   first-is : seen.shown ≡ shown_opened depth opens.text
   first-is = ap (λ (s : Seen). s.shown) opens.opened
 
-  ended-by_refusal : (n : ℕ) (report : Written) (out : Option (List ℕ)) → AreEnded k commands (shown_opened depth opens.text) n report
-      → IsWhole (result_after k (obeyed k commands (shown_opened depth opens.text))) (Refused n) report (written out out)
-  ended-by_refusal n report out are =
-      let did = obeyed k commands (shown_opened depth opens.text) in
-      record {
-        outcome_is = rw are.one (ap outcome_after (sym are.one ∙ are.number));
-        reported = are.reported;
-        written = subst (λ (q : Bool). IfSome (output_after q did.refused (ended did.shown).text) (λ text. Appends out out text)) (sym are.ends)
-            (no-output did.refused (ended did.shown).text (λ text. Appends out out text) (sym are.number ∙ are.one));
-      }
+  module _ (failed : Bool) (report out : Written) (session : Seen) where
+    -- the run of the commands is over
+    pub commands-over : (outcome : o.Outcome) → EndsCommands k commands seen.shown session.shown failed report out outcome
+        → IsRunOver makefile script depth k outcome failed report out
+    commands-over outcome ends = go outcome (subst (λ (s : Shown (List ℕ)). EndsCommands k commands s session.shown failed report out outcome) first-is ends)
+      where
+        go : (outcome : o.Outcome) → EndsCommands k commands (shown_opened depth opens.text) session.shown failed report out outcome → IsRunOver makefile script depth k outcome failed report out
+        go Done ends = of-commands Done failed report out ends.0
+        go (Refused n) ends = of-commands (Refused n) failed report out ends.0
+        go NoMemory short =
+            of-commands NoMemory failed report out (inr (record { commands = commands; lines = short.lines; are_commands = says.is_script; result_is = refl; is_short = short.is_short; is_out = short.is_out }))
+        go Write ends = of-commands Write failed report out ends.0
+        go (NotACommand line) ends = absurd ends
+        go BadDepth ends = absurd ends
+        go TooLong ends = absurd ends
+        go TooDeep ends = absurd ends
+        go Read ends = absurd ends
 
-  pub commands-stop : (failed : Bool) (outcome : o.Outcome) (report : Written) (out : Option (List ℕ)) → StopsCommands k commands seen.shown failed report outcome
-      → IsRunOver makefile script depth k outcome failed report (written out out)
-  commands-stop failed outcome report out stops = go outcome (subst (λ (s : Shown (List ℕ)). StopsCommands k commands s failed report outcome) first-is stops)
-    where
-      go : (outcome : o.Outcome) → StopsCommands k commands (shown_opened depth opens.text) failed report outcome → IsRunOver makefile script depth k outcome failed report (written out out)
-      go (Refused n) (works, are) = of-commands (Refused n) failed report (written out out) (ended-by_refusal n report out are)
-      go NoMemory (works, are) =
-          of-commands NoMemory failed report (written out out) (inr (record { commands = commands; lines = are.lines; are_commands = says.is_script; result_is = refl; is_short = are.is_short; is_out = are.is_out }))
-      go Write (fails, cut) =
-          of-commands Write failed report (written out out)
-          (subst (λ (f : Bool). IsCut (result_after k (obeyed k commands (shown_opened depth opens.text))) f report (written out out)) (sym fails) cut)
-      go Done stops = absurd stops
-      go (NotACommand line) stops = absurd stops
-      go BadDepth stops = absurd stops
-      go TooLong stops = absurd stops
-      go TooDeep stops = absurd stops
-      go Read stops = absurd stops
-
-  pub commands-not_bad : (failed : Bool) (outcome : o.Outcome) (report : Written) → StopsCommands k commands seen.shown failed report outcome → outcome ≡ BadDepth → ⊥
-  commands-not_bad failed outcome report stops h = subst (λ (x : o.Outcome). StopsCommands k commands seen.shown failed report x) h stops
-
-  module _ (last : Shown (List ℕ)) (n : ℕ) (report : Written) (are : AreObeyed k commands (shown_opened depth opens.text) last n report) where
-    -- the text goes out
-    text-goes : output_after k (obeyed k commands (shown_opened depth opens.text)).refused (ended (obeyed k commands (shown_opened depth opens.text)).shown).text ≡ Some (ended last).text
-    text-goes =
-        let did = obeyed k commands (shown_opened depth opens.text) in
-        output-some k did.refused (ended did.shown).text (λ off. sym are.number ∙ are.goes_on off) ∙ ap (λ (x : Shown (List ℕ)). Some (ended x).text) (sym are.shown)
-
-    wholly : (outcome : o.Outcome) (out : Written) → outcome ≡ outcome_after n → IsOut out (ended last).text
-        → IsWhole (result_after k (obeyed k commands (shown_opened depth opens.text))) outcome report out
-    wholly outcome out is whole = record {
-      outcome_is = is ∙ ap outcome_after are.number;
-      reported = are.reported;
-      written = if_some-is (output_after k (obeyed k commands (shown_opened depth opens.text)).refused (ended (obeyed k commands (shown_opened depth opens.text)).shown).text) (ended last).text (λ text. IsOut out text) text-goes whole;
+    session-of : (Shows : List CommandAt → (first last : Shown (List ℕ)) → Type 0) → Shows commands (shown_opened depth opens.text) session.shown
+        → HandsBack makefile script depth Shows (Some session)
+    session-of Shows shows = record {
+      makefile_text = opens.text;
+      script_text = says.text;
+      commands = commands;
+      of_makefile = opens.has_text;
+      of_script = says.has_text;
+      are_commands = says.is_script;
+      shows = shows;
     }
 
-  obeyed-first : (last : Shown (List ℕ)) (n : ℕ) (report : Written) → AreObeyed k commands seen.shown last n report → AreObeyed k commands (shown_opened depth opens.text) last n report
-  obeyed-first last n report are = subst (λ (s : Shown (List ℕ)). AreObeyed k commands s last n report) first-is are
-
-  -- no command was refused, and the text is out
-  pub run-done : (last : Shown (List ℕ)) (n : ℕ) (failed : Bool) (report out : Written) → AreObeyed k commands seen.shown last n report → n ≡ 0 → IsOut out (ended last).text
-      → IsRunOver makefile script depth k Done failed report out
-  run-done last n failed report out are none whole =
-      of-commands Done failed report out (wholly last n report (obeyed-first last n report are) Done out (ap outcome_after (sym none)) whole)
-
-  -- the session after the commands is handed back
-  pub run-hands_back : (last : Shown (List ℕ)) (n : ℕ) (report out : Written) (session : Seen) → AreObeyed k commands seen.shown last n report
-      → session.shown ≡ ended last → IsOut out (ended last).text → HandsBack makefile script depth k out (Some session)
-  run-hands_back last n report out session are is whole = record {
-    makefile_text = opens.text;
-    script_text = says.text;
-    commands = commands;
-    of_makefile = opens.has_text;
-    of_script = says.has_text;
-    are_commands = says.is_script;
-    shown = is ∙ ap ended (obeyed-first last n report are).shown;
-    is_out = subst (λ (s : Shown (List ℕ)). IsOut out s.text) (sym is) whole;
-  }
-
-  -- some commands were refused, and the text is out
-  pub run-refused : (last : Shown (List ℕ)) (n : ℕ) (failed : Bool) (report out : Written) → AreObeyed k commands seen.shown last n report → (n ≡ 0 → ⊥) → IsOut out (ended last).text
-      → IsRunOver makefile script depth k (Refused n) failed report out
-  run-refused last n failed report out are some whole =
-      of-commands (Refused n) failed report out (wholly last n report (obeyed-first last n report are) (Refused n) out (refused-is n some) whole)
-
-  -- the text could not be written or flushed
-  pub run-cut : (last : Shown (List ℕ)) (n : ℕ) (failed : Bool) (report out : Written) → AreObeyed k commands seen.shown last n report → failed ≡ false → IsPrefixOut out (ended last).text
-      → IsRunOver makefile script depth k Write failed report out
-  run-cut last n failed report out are works cut =
-      let here = obeyed-first last n report are in
-      of-commands Write failed report out
-      (subst (λ (f : Bool). IsCut (result_after k (obeyed k commands (shown_opened depth opens.text))) f report out) (sym works)
-      (here.reported, ((ended last).text, text-goes last n report here, cut)))
-
--- ---- the text is out
-
-pub printed-refused : (k : Bool) (n : ℕ) → GoesOn k n → (n ≡ 0 → ⊥) → k ≡ true
-printed-refused true n on some = refl
-printed-refused false n on some = absurd (some (on refl))
+    -- the session that the commands leave is handed back
+    pub commands-leave : (before : Option Seen) (outcome : o.Outcome) → EndsCommands k commands seen.shown session.shown failed report out outcome
+        → Leaves makefile script depth k failed report out before (Some session) outcome
+    commands-leave before outcome ends = go outcome (subst (λ (s : Shown (List ℕ)). EndsCommands k commands s session.shown failed report out outcome) first-is ends)
+      where
+        go : (outcome : o.Outcome) → EndsCommands k commands (shown_opened depth opens.text) session.shown failed report out outcome
+            → Leaves makefile script depth k failed report out before (Some session) outcome
+        go Done ends = session-of (λ commands first last. IsLeft k commands first last out) ends.1
+        go (Refused n) ends = session-of (λ commands first last. IsLeftRefused k commands first last out) ends.1
+        go NoMemory short = inr (session-of (λ commands first last. IsLeftShort k commands first last report) short)
+        go Write ends = session-of (λ commands first last. IsLeftCut k failed commands first last) ends.1
+        go (NotACommand line) ends = absurd ends
+        go BadDepth ends = absurd ends
+        go TooLong ends = absurd ends
+        go TooDeep ends = absurd ends
+        go Read ends = absurd ends

@@ -1,9 +1,9 @@
-use Rattle.std.proofs.Common.{◌∙◌, sym, subst, arith, inl, inr, true, false}
+use Rattle.std.proofs.Common.{◌∙◌, sym, subst, arith, inl, inr}
 use Rattle.mk_tree.specs.Trees.{line_view}
 use Rattle.mk_edit_parts.specs.EditViews.{edit_of}
 use Rattle.mk_edit.specs.Planned.{IsPlanned}
 use Rattle.mk_edit_parts.proofs.on_finding.PlaceLemmas.{faithful-at}
-use Rattle.mk_edit.proofs.on_recipes.RemoveRulePlans.{remove_rule-of, leaning-asked}
+use Rattle.mk_edit.proofs.on_recipes.RemoveRulePlans.{remove_rule-of}
 use Rattle.mk_edit.proofs.remove_rule.plan_remove_rule.Goals as goal
 
 pub line-requires : goal.line-requires
@@ -33,29 +33,14 @@ returns-then-recipe-clause-refused g c =
     inl (U.straddling (line_view c.line.result.now) c.target_count-targets.result c.line.ensures c.target_count-targets.ensures c.if-targets-gt1.false
     (sym c.if-recipe.true ∙ c.recipe_below-recipe.ensures.is_split))
 
-pub leans-requires : goal.leans-requires
-leans-requires g c =
-    let U = remove_rule-of (edit_of c.args.edit.now) c.args.doc.now c.in-Ok.header c.requires.faithful c.requires.kind c.in-Ok.ensures.found in
-    omega (arith, U.end_within, c.recipe_below-recipe.ensures.end)
-
-pub returns-then-leans-clause-refused : goal.returns-then-leans-clause-refused
-returns-then-leans-clause-refused g c =
-    let d = c.args.doc.now in
-    let U = remove_rule-of (edit_of c.args.edit.now) d c.in-Ok.header c.requires.faithful c.requires.kind c.in-Ok.ensures.found in
-    let end = c.recipe_below-recipe.result.end in
-    let asked = leaning-asked d c.in-Ok.header end true c.flag.result c.prefix-prefix.result (sym c.if-leans.true ∙ c.leans.ensures) c.flag.ensures c.prefix-prefix.ensures in
-    inl (U.leaning_on (line_view c.line.result.now) c.target_count-targets.result end c.line.ensures c.target_count-targets.ensures c.if-targets-gt1.false
-    (sym c.if-recipe.false ∙ c.recipe_below-recipe.ensures.is_split) c.recipe_below-recipe.ensures.end asked)
-
 pub returns-in-Ok-take_out-clause-planned : goal.returns-in-Ok-take_out-clause-planned
 returns-in-Ok-take_out-clause-planned g c =
     let d = c.args.doc.now in
     let e = edit_of c.args.edit.now in
     let U = remove_rule-of e d c.in-Ok.header c.requires.faithful c.requires.kind c.in-Ok.ensures.found in
     let end = c.recipe_below-recipe.result.end in
-    let asked = leaning-asked d c.in-Ok.header end false c.flag.result c.prefix-prefix.result (sym c.if-leans.false ∙ c.leans.ensures) c.flag.ensures c.prefix-prefix.ensures in
     let T = U.accepted (line_view c.line.result.now) c.target_count-targets.result end c.size-size.ensures.few c.line.ensures c.target_count-targets.ensures c.if-targets-gt1.false
-    (sym c.if-recipe.false ∙ c.recipe_below-recipe.ensures.is_split) c.recipe_below-recipe.ensures.end asked in
+    (sym c.if-recipe.false ∙ c.recipe_below-recipe.ensures.is_split) c.recipe_below-recipe.ensures.end in
     subst (IsPlanned e d) (sym c.in-Ok-take_out.ensures.moves) T.2.planned
 
 pub returns-in-Err-take_out-clause-refused : goal.returns-in-Err-take_out-clause-refused
@@ -64,7 +49,6 @@ returns-in-Err-take_out-clause-refused g c =
     let e = edit_of c.args.edit.now in
     let U = remove_rule-of e d c.in-Ok.header c.requires.faithful c.requires.kind c.in-Ok.ensures.found in
     let end = c.recipe_below-recipe.result.end in
-    let asked = leaning-asked d c.in-Ok.header end false c.flag.result c.prefix-prefix.result (sym c.if-leans.false ∙ c.leans.ensures) c.flag.ensures c.prefix-prefix.ensures in
     let T = U.accepted (line_view c.line.result.now) c.target_count-targets.result end c.size-size.ensures.few c.line.ensures c.target_count-targets.ensures c.if-targets-gt1.false
-    (sym c.if-recipe.false ∙ c.recipe_below-recipe.ensures.is_split) c.recipe_below-recipe.ensures.end asked in
+    (sym c.if-recipe.false ∙ c.recipe_below-recipe.ensures.is_split) c.recipe_below-recipe.ensures.end in
     inr (c.in-Err-take_out.ensures.refused, T.0, T.1)

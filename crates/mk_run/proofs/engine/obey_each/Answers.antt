@@ -1,13 +1,13 @@
 use Rattle.std.proofs.Common.{◌+◌, ◌∙◌, [], suc, take, drop, map, List, ap, sym, subst, arith, rules}
 use Rattle.mk_session.specs.CommandViews.{command_of}
 use Rattle.mk_script.specs.Scripts.{CommandAt, numbered}
-use Rattle.mk_run.specs.RunEnds.{written}
+use Rattle.mk_run.specs.RunEnds.{IsLeftShort, IsLeftUnreported, written}
 use Rattle.mk_run.specs.Outcome.{outcome_of}
-use Rattle.mk_run.specs.RunSteps.{AreObeyed, AreEnded, AreShort, StopsCommands}
+use Rattle.mk_run.specs.RunSteps.{AreObeyed, AreEnded, StopsCommands}
 use Rattle.mk_run.specs.declared.outcome.Outcome.{Outcome}
 use Rattle.mk_run.specs.ObeyedCommands.{obeyed}
 use Rattle.mk_lines.specs.Device.{AppendsPrefix}
-use Rattle.mk_run.proofs.on_runs.ObeyLemmas.{mapped-at, mapped-more, answered-ok, answered-err, answered-short, granted-next, short-next, refused-next, refused-last, refused-cut, none-obeyed}
+use Rattle.mk_run.proofs.on_runs.ObeyLemmas.{mapped-at, mapped-more, answered-ok, answered-err, answered-short, granted-next, short-next, refused-next, refused-last, refused-cut, refused-unreported, none-obeyed}
 use Rattle.mk_run.proofs.engine.obey_each.Goals as goal
 
 pub loop-numbered-init : goal.loop-numbered-init
@@ -34,9 +34,9 @@ returns-in-NoMemory-clause-stops g c =
     let i = c.loop-numbered.numbered-index in
     let x = c.numbered-item.result in (
       c.loop-numbered.invariant.works,
-      subst (λ (cs : List CommandAt). AreShort c.args.keep_going cs c.args.session.now.shown (written (g.P.ByteSink.contents c.args.report.now) (g.P.ByteSink.contents c.loop-numbered.report)))
+      subst (λ (cs : List CommandAt). IsLeftShort c.args.keep_going cs c.args.session.now.shown c.obey.new.self.shown (written (g.P.ByteSink.contents c.args.report.now) (g.P.ByteSink.contents c.loop-numbered.report)))
           (mapped-at numbered xs i x c.loop-numbered-test.true c.numbered-item.is)
-          (short-next c.args.keep_going (take i (map numbered xs)) (numbered x) (drop (suc i) (map numbered xs)) c.args.session.now.shown c.loop-numbered.session.shown c.loop-numbered.refused _ _ c.loop-numbered.invariant.obeyed
+          (short-next c.args.keep_going (take i (map numbered xs)) (numbered x) (drop (suc i) (map numbered xs)) c.args.session.now.shown c.loop-numbered.session.shown c.loop-numbered.refused _ _ c.loop-numbered.invariant.obeyed c.obey.new.self.shown
           (answered-short (command_of x.command) c.in-Err.refusal c.loop-numbered.session c.obey.new.self c.in-Err.ensures c.in-NoMemory.is)),
     )
 
@@ -46,15 +46,20 @@ returns-in-Err-report_refusal-clause-stops g c =
     let i = c.loop-numbered.numbered-index in
     let x = c.numbered-item.result in
     let failed = c.in-Err-report_refusal.ensures.fault in
-    subst (λ (o : Outcome). StopsCommands c.args.keep_going (map numbered xs) c.args.session.now.shown (g.P.ByteSink.failed c.report_refusal.new.out) (written (g.P.ByteSink.contents c.args.report.now) (g.P.ByteSink.contents c.report_refusal.new.out)) o)
+    let refused = answered-err (command_of x.command) c.in-Err.refusal c.loop-numbered.session c.obey.new.self c.in-Err.ensures c.in_default-refusal.not-NoMemory in
+    subst (λ (o : Outcome). StopsCommands c.args.keep_going (map numbered xs) c.args.session.now.shown c.obey.new.self.shown (g.P.ByteSink.failed c.report_refusal.new.out) (written (g.P.ByteSink.contents c.args.report.now) (g.P.ByteSink.contents c.report_refusal.new.out)) o)
     (sym (c.from.ensures ∙ ap outcome_of failed.0)) (
       failed.1,
       subst (λ (cs : List CommandAt). AppendsPrefix (g.P.ByteSink.contents c.args.report.now) (g.P.ByteSink.contents c.report_refusal.new.out) (obeyed c.args.keep_going cs c.args.session.now.shown).report)
           (mapped-at numbered xs i x c.loop-numbered-test.true c.numbered-item.is)
           (refused-cut (take i (map numbered xs)) (numbered x) (drop (suc i) (map numbered xs)) c.args.session.now.shown c.loop-numbered.session.shown c.obey.new.self.shown c.loop-numbered.refused
           (g.P.ByteSink.contents c.args.report.now) (g.P.ByteSink.contents c.loop-numbered.report) (g.P.ByteSink.contents c.report_refusal.new.out) c.in-Err.refusal
-          (answered-err (command_of x.command) c.in-Err.refusal c.loop-numbered.session c.obey.new.self c.in-Err.ensures c.in_default-refusal.not-NoMemory)
-          c.args.keep_going c.loop-numbered.invariant.obeyed c.in-Err-report_refusal.ensures.prefix),
+          refused c.args.keep_going c.loop-numbered.invariant.obeyed c.in-Err-report_refusal.ensures.prefix),
+      subst (λ (cs : List CommandAt). IsLeftUnreported c.args.keep_going cs c.args.session.now.shown c.obey.new.self.shown)
+          (mapped-at numbered xs i x c.loop-numbered-test.true c.numbered-item.is)
+          (refused-unreported (take i (map numbered xs)) (numbered x) (drop (suc i) (map numbered xs)) c.args.session.now.shown c.loop-numbered.session.shown c.obey.new.self.shown c.loop-numbered.refused
+          (g.P.ByteSink.contents c.args.report.now) (g.P.ByteSink.contents c.loop-numbered.report) (g.P.ByteSink.contents c.report_refusal.new.out) c.in-Err.refusal
+          refused c.args.keep_going c.loop-numbered.invariant.obeyed),
     )
 
 pub returns-then-not-keep_going-clause-stops : goal.returns-then-not-keep_going-clause-stops
@@ -63,7 +68,7 @@ returns-then-not-keep_going-clause-stops g c =
     let i = c.loop-numbered.numbered-index in
     let x = c.numbered-item.result in (
       c.in-Ok.ensures.works,
-      subst (λ (cs : List CommandAt). AreEnded c.args.keep_going cs c.args.session.now.shown (c.loop-numbered.refused + 1) (written (g.P.ByteSink.contents c.args.report.now) (g.P.ByteSink.contents c.report_refusal.new.out)))
+      subst (λ (cs : List CommandAt). AreEnded c.args.keep_going cs c.args.session.now.shown c.obey.new.self.shown (c.loop-numbered.refused + 1) (written (g.P.ByteSink.contents c.args.report.now) (g.P.ByteSink.contents c.report_refusal.new.out)))
           (mapped-at numbered xs i x c.loop-numbered-test.true c.numbered-item.is)
           (refused-last (take i (map numbered xs)) (numbered x) (drop (suc i) (map numbered xs)) c.args.session.now.shown c.loop-numbered.session.shown c.obey.new.self.shown c.loop-numbered.refused
           (g.P.ByteSink.contents c.args.report.now) (g.P.ByteSink.contents c.loop-numbered.report) (g.P.ByteSink.contents c.report_refusal.new.out) c.in-Err.refusal

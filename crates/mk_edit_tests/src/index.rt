@@ -1,0 +1,110 @@
+//! What an index tells, and what it leaves to a walk over the lines.
+use crate::checks::{Heap, document};
+use crate::edits::{add_assign, set_value};
+use mk_class::{Flavor, Meter};
+use mk_edit::Edit;
+use mk_edit_parts::address::Address;
+use mk_index::{Finder, Index};
+use mk_tree::Doc;
+use std::alloc::AllocError;
+use std::test::Fail;
+use watched::Watched;
+
+// How many lines of a makefile the index tells for a name, unless it leaves the name to a walk.
+fn told<'a>(heap: Heap<'a>, makefile: &[u8], name: &[u8]) -> Result<Option<usize>, Fail> {
+    let doc = document(heap, makefile)?;
+    let index = Index::new(heap, &doc)?;
+    match index.sought(&doc, Some(Address::Variable(None, name))) {
+        Some(sought) => Ok(Some(sought.count)),
+        None => Ok(None),
+    }
+}
+
+// A line, so many times.
+fn repeated<'a>(
+    heap: Heap<'a>,
+    line: &[u8],
+    count: usize,
+) -> Result<Vec<u8, Heap<'a>>, AllocError> {
+    let mut makefile = Vec::new(heap);
+    for _ in 0..count {
+        makefile.extend_from_slice(line)?;
+    }
+    Ok(makefile)
+}
+
+#[test]
+fn a_lookup_walks_over_64_entries_at_most(rt: HostRuntime) -> Result<(), Fail> {
+    let heap = Watched::new(rt.alloc());
+    for count in [1, 63] {
+        let makefile = repeated(&heap, b"A=1\n", count)?;
+        assert_eq!(rt; told(&heap, &makefile, b"A")?, Some(count));
+    }
+    for count in [65, 1_000] {
+        let makefile = repeated(&heap, b"A=1\n", count)?;
+        assert_eq!(rt; told(&heap, &makefile, b"A")?, None);
+    }
+    Ok(())
+}
+
+// A line `XY=1` for each two letters.
+fn assignments_of_many_names<'a>(heap: Heap<'a>) -> Result<Vec<u8, Heap<'a>>, AllocError> {
+    let mut makefile = Vec::new(heap);
+    for first in b'A'..=b'Z' {
+        for second in b'A'..=b'Z' {
+            makefile.extend_from_slice(&[first, second])?;
+            makefile.extend_from_slice(b"=1\n")?;
+        }
+    }
+    Ok(makefile)
+}
+
+#[test]
+fn a_lookup_walks_over_few_names_of_many(rt: HostRuntime) -> Result<(), Fail> {
+    let heap = Watched::new(rt.alloc());
+    let makefile = assignments_of_many_names(&heap)?;
+    for name in [b"AA", b"MN", b"ZY", b"ZZ"] {
+        assert_eq!(rt; told(&heap, &makefile, name)?, Some(1));
+    }
+    assert_eq!(rt; told(&heap, &makefile, b"A")?, Some(0));
+    Ok(())
+}
+
+// Whether a finder knows where the line of an edit stands: at the first such edit, and at the second.
+fn known_in_turn<'a>(
+    heap: Heap<'a>,
+    makefile: Vec<u8, Heap<'a>>,
+    edit: &Edit<Heap<'a>>,
+) -> Result<[bool; 2], Fail> {
+    let (doc, end) = Doc::parse_with_end(heap, makefile, &mut Meter::new())?;
+    let mut finder = Finder::over(&doc, end);
+    let first = finder.known(heap, &doc, edit).is_some();
+    let second = finder.known(heap, &doc, edit).is_some();
+    Ok([first, second])
+}
+
+// The same of an edit for which there may have been no memory.
+fn is_known_in_turn<'a>(
+    heap: Heap<'a>,
+    lines: usize,
+    edit: Result<Edit<Heap<'a>>, AllocError>,
+) -> Result<[bool; 2], Fail> {
+    let mut makefile = repeated(heap, b"B=1\n", lines.saturating_sub(1))?;
+    makefile.extend_from_slice(b"A=1\n")?;
+    match &edit {
+        Ok(edit) => known_in_turn(heap, makefile, edit),
+        Err(_) => Err(Fail::from("no memory for the edit")),
+    }
+}
+
+#[test]
+fn the_second_edit_of_a_variable_needs_no_walk(rt: HostRuntime) -> Result<(), Fail> {
+    let heap = Watched::new(rt.alloc());
+    for (lines, known) in [(1_023, [false, false]), (1_024, [false, true])] {
+        let edit = set_value(&heap, b"A", b"2");
+        assert_eq!(rt; is_known_in_turn(&heap, lines, edit)?, known);
+        let edit = add_assign(&heap, b"B", Flavor::Simple, b"2");
+        assert_eq!(rt; is_known_in_turn(&heap, lines, edit)?, [true, true]);
+    }
+    Ok(())
+}

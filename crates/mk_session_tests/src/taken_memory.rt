@@ -1,0 +1,159 @@
+//! The memory that edits take. What a change keeps for its undo is a part of it, and so is what the
+//! document keeps of its new lines.
+use crate::steps::Step;
+use mk_session::{Command, Refusal, Session};
+use std::alloc::Global;
+use std::test::Fail;
+use watched::{Growths, Watched};
+
+type Heap = Watched<Global>;
+
+// The bytes that an edit of short lines takes at most: so many by itself, and so many for each line
+// that it changes.
+//
+// By itself it has to hold two rings with a patch in one of them, and the two rings of this patch. A
+// line that it changes is a step in one ring, and has room for a step in the other. A new line has its
+// bytes with the count of their owners, and a node in the document. A rename notes each line before
+// that, in a list whose room doubles. Each of these has less than 100 bytes, and the list takes no more
+// than four times what it holds.
+const MOST_BYTES: u64 = 1_024;
+
+// How many bytes an edit takes at most that changes so many lines.
+fn most_bytes(lines: usize) -> u64 {
+    MOST_BYTES.saturating_mul((lines as u64).saturating_add(1))
+}
+
+// What a document begins with to which each of the edits below can be made.
+const FRONT: &[u8] = b"A=1\nall: a b\n\tx\n\ty\n";
+
+// An edit of each kind, by its command in a script, with the number of lines that it changes in such
+// a document.
+const EDITS: [(&str, Step, usize); 12] = [
+    ("set", Step::SetValue(b"A", b"2"), 1),
+    ("append", Step::AppendValue(b"A", b"2"), 1),
+    ("assign", Step::AddAssign(b"C", b"2"), 1),
+    ("unset", Step::RemoveAssign(b"A"), 1),
+    ("rule", Step::AddRule(b"c", b"d"), 1),
+    ("unrule", Step::RemoveRule(b"all"), 3),
+    ("depend-order", Step::AddOrderPrereq(b"all", b"c"), 1),
+    ("undepend", Step::RemovePrereq(b"all", b"a"), 1),
+    ("recipe", Step::AddRecipe(b"all", b"z"), 1),
+    ("recipe-set", Step::SetRecipe(b"all", b"z"), 1),
+    ("recipe-del", Step::RemoveRecipe(b"all"), 1),
+    ("rename", Step::RenameTarget(b"all", b"tidy"), 1),
+];
+
+// A line, and so many others below it.
+fn text_of(rt: &HostRuntime, first: &[u8], other: &[u8], count: usize) -> Result<Vec<u8>, Fail> {
+    let mut text = Vec::from_slice(rt.alloc(), first)?;
+    for _ in 0..count {
+        text.extend_from_slice(other)?;
+    }
+    Ok(text)
+}
+
+// The growths of a call.
+fn growths_of<'a>(
+    heap: &'a Heap,
+    session: &mut Session<&'a Heap>,
+    command: &Command<&'a Heap>,
+) -> Result<Growths, Refusal> {
+    heap.refuse_none();
+    session.obey(command)?;
+    Ok(heap.passed())
+}
+
+// The growths of the call of a step.
+fn growths_of_step<'a>(
+    heap: &'a Heap,
+    session: &mut Session<&'a Heap>,
+    step: Step,
+) -> Result<Growths, Fail> {
+    let command = step.command(heap)?;
+    Ok(growths_of(heap, session, &command)?)
+}
+
+// The growths of each edit of a document with so many lines below its front. Each is undone, so that
+// the next finds the same document.
+fn growths_of_edits(rt: &HostRuntime, lines: usize) -> Result<Vec<Growths>, Fail> {
+    let heap = Watched::new(rt.alloc());
+    let text = text_of(rt, FRONT, b"B=1\n", lines)?;
+    let mut session = Session::open(&heap, text.as_slice(), 100)?;
+    let mut found = Vec::new(rt.alloc());
+    for (_, step, _) in EDITS {
+        found.push(growths_of_step(&heap, &mut session, step)?)?;
+        session.undo()?;
+    }
+    Ok(found)
+}
+
+#[test]
+fn an_edit_takes_memory_for_its_lines_alone(rt: HostRuntime) -> Result<(), Fail> {
+    let found = growths_of_edits(&rt, 1)?;
+    for (growths, (name, _, lines)) in found.iter().zip(EDITS) {
+        let bytes = growths.bytes;
+        assert!(rt; bytes <= most_bytes(lines), "{name}: {bytes}");
+    }
+    Ok(())
+}
+
+#[test]
+fn an_edit_takes_the_same_memory_in_a_long_file(rt: HostRuntime) -> Result<(), Fail> {
+    let found = growths_of_edits(&rt, 1)?;
+    for lines in [1_000, 100_000] {
+        assert_eq!(rt; growths_of_edits(&rt, lines)?, found);
+    }
+    Ok(())
+}
+
+// The bytes that an edit takes which is made to a first line and so many others below it.
+fn bytes_of_edit(
+    rt: &HostRuntime,
+    (first, other): (&[u8], &[u8]),
+    count: usize,
+    step: Step,
+) -> Result<u64, Fail> {
+    let heap = Watched::new(rt.alloc());
+    let text = text_of(rt, first, other, count)?;
+    let mut session = Session::open(&heap, text.as_slice(), 100)?;
+    Ok(growths_of_step(&heap, &mut session, step)?.bytes)
+}
+
+const RULE: (&[u8], &[u8]) = (b"all:\n", b"\tx\n");
+
+const RULES: (&[u8], &[u8]) = (b"all:\n", b"b: all\n");
+
+#[test]
+fn an_edit_of_many_lines_takes_memory_for_each_of_them(rt: HostRuntime) -> Result<(), Fail> {
+    for count in [1usize, 1_000, 100_000] {
+        let most = most_bytes(count.saturating_add(1));
+        let unrule = bytes_of_edit(&rt, RULE, count, Step::RemoveRule(b"all"))?;
+        assert!(rt; unrule <= most, "unrule: {unrule}");
+        let rename = bytes_of_edit(&rt, RULES, count, Step::RenameTarget(b"all", b"tidy"))?;
+        assert!(rt; rename <= most, "rename: {rename}");
+    }
+    Ok(())
+}
+
+// The bytes that a group of so many edits takes, each of one line.
+fn bytes_of_group(rt: &HostRuntime, edits: usize) -> Result<u64, Fail> {
+    let heap = Watched::new(rt.alloc());
+    let mut session = Session::open(&heap, FRONT, 100)?;
+    let command = Step::SetValue(b"A", b"2").command(&heap)?;
+    heap.refuse_none();
+    session.begin()?;
+    for _ in 0..edits {
+        session.obey(&command)?;
+    }
+    session.end()?;
+    Ok(heap.passed().bytes)
+}
+
+#[test]
+fn a_group_takes_memory_for_each_of_its_edits(rt: HostRuntime) -> Result<(), Fail> {
+    for edits in [1, 2, 10, 1_000] {
+        let bytes = bytes_of_group(&rt, edits)?;
+        assert!(rt; bytes <= most_bytes(edits), "{edits} edits: {bytes}");
+    }
+    Ok(())
+}

@@ -1,0 +1,111 @@
+"""Each edit where much is large: the makefile, the line, the lines that it changes, the list of edits.
+
+A contract lets a call answer that no memory was found, whatever it is asked. So each edit is done here
+at a size that no other test of it has.
+"""
+
+import resource
+
+from tests.hostile.scenes import BLOCK, BOTTOM, EDITS
+from tests.lib.checks import Outcome
+from tests.lib.rooms import RoomCase
+from tests.program.test_limits import LIMIT
+
+MANY = 1_000_000
+# Each kind of edit of a long line: its command, the lines that it finds, and what they become. @ stands
+# for a word of nearly 16 MB.
+LONG_LINES = {
+    "set": (b"set CC @", b"CC = gcc # c\n", b"CC = @ # c\n"),
+    "append": (b"append CC @", b"CC = gcc # c\n", b"CC = gcc @ # c\n"),
+    "unset": (b"unset CC", b"CC = @\n", b""),
+    "assign": (b"assign bottom CC = @", b"", b"CC = @\n"),
+    "rule": (b"rule bottom all : @", b"", b"all: @\n"),
+    "unrule": (b"unrule all", b"all: @\n\tcc\n", b""),
+    "depend": (b"depend all @", b"all: a\n", b"all: a @\n"),
+    "depend-order": (b"depend-order all @", b"all: a\n", b"all: a | @\n"),
+    "undepend": (b"undepend all a", b"all: a @\n", b"all: @\n"),
+    "recipe": (b"recipe all @", b"all:\n", b"all:\n\t@\n"),
+    "recipe-set": (b"recipe-set all 1 @", b"all:\n\tcc\n", b"all:\n\t@\n"),
+    "recipe-del": (b"recipe-del all 1", b"all:\n\t@\n", b"all:\n"),
+    "rename": (b"rename all @", b"all: a\n", b"@: a\n"),
+}
+# Commands for variables that have numbers, and what becomes of a line `V1 = a`.
+LISTS = {
+    "set": (b"set V%d b\n", b"V%d = b\n"),
+    "append": (b"append V%d b\n", b"V%d = a b\n"),
+}
+
+
+def processor_time():
+    """The seconds of processor time that the programs took which this process has run."""
+    used = resource.getrusage(resource.RUSAGE_CHILDREN)
+    return used.ru_utime + used.ru_stime
+
+
+class LargeEdits(RoomCase):
+    def assert_edit(self, command, before, after):
+        """A script of one command makes one text of another."""
+        self.room.write("edit", command + b"\n")
+        self.room.write("large", before)
+        self.assert_run(Outcome(after, b"", 0), "edit", "edit", "large")
+
+    def test_each_edit_of_a_makefile_of_a_million_lines_is_made(self):
+        above = b"A=\n" * MANY
+        for name, (command, old, new) in EDITS.items():
+            with self.subTest(name):
+                block = BLOCK.replace(old, new.replace(b"@", b"\n"), 1)
+                self.assert_edit(command, above + BLOCK, above + block)
+        for name, (command, line) in BOTTOM.items():
+            with self.subTest(name):
+                self.assert_edit(command, above, above + line + b"\n")
+
+    def test_each_edit_of_a_line_of_16_mb_is_made(self):
+        # (the lines beside it have less than 100 bytes)
+        word = b"x" * (LIMIT - 100)
+        for name, row in LONG_LINES.items():
+            with self.subTest(name):
+                command, before, after = (it.replace(b"@", word) for it in row)
+                self.assert_edit(command, b"A = 1\n" + before, b"A = 1\n" + after)
+
+    def test_an_edit_may_change_a_million_lines(self):
+        self.assert_edit(b"rename a b", b"a:\n" + b"c: a\n" * MANY, b"b:\n" + b"c: b\n" * MANY)
+        self.assert_edit(b"rename a bc", b"a:\n" + b"c: a\n" * MANY, b"bc:\n" + b"c: bc\n" * MANY)
+        self.assert_edit(b"unrule a", b"a:\n" + b"\tc\n" * MANY, b"")
+
+    def seconds(self, script, wanted):
+        """The least processor time of some runs of a script, whose text has to be the wanted one."""
+        self.room.write("many", script)
+        least = float("inf")
+        for _ in range(3):
+            begun = processor_time()
+            self.assert_run(Outcome(wanted, b"", 0), "edit", "many", "large")
+            least = min(least, processor_time() - begun)
+        return least
+
+    def assert_few_walks(self, lines, script, wanted):
+        """Ten thousand edits of `large` take at most ten times as long as one.
+
+        The walk of one edit takes about a fifteenth of the time of its run. So ten thousand edits that
+        walk each would take hundreds of times as long as one.
+        """
+        one = self.seconds(b"set V0 b\n", b"V0 = b\n" + b"".join(lines[1:]))
+        many = self.seconds(script, wanted)
+        self.assertLess(many, 10 * max(one, 0.01), "many edits take too long beside one")
+
+    def test_many_edits_of_variables_need_few_walks(self):
+        lines = [b"V%d = a\n" % it for it in range(100_000)]
+        self.room.write("large", b"".join(lines))
+        edited = range(0, len(lines), 10)
+        for name, (command, line) in LISTS.items():
+            with self.subTest(name):
+                after = list(lines)
+                for it in edited:
+                    after[it] = line % it
+                self.assert_few_walks(lines, b"".join(command % it for it in edited), b"".join(after))
+
+    def test_many_new_lines_need_few_walks(self):
+        lines = [b"V%d = a\n" % it for it in range(100_000)]
+        self.room.write("large", b"".join(lines))
+        new = [b"W%d = b\n" % it for it in range(10_000)]
+        script = b"".join(b"assign bottom " + it for it in new)
+        self.assert_few_walks(lines, script, b"".join(lines + new))

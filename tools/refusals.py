@@ -1,0 +1,145 @@
+"""What is said of each refusal, read from its one source, and the forms in which the documents have it.
+
+The texts stand in crates/mkedit/src/explanations.rt, as the program prints them: the cause, an example
+and what to do, with an empty line between the three. The numbers, and whether a count or a field comes
+with a refusal, stand in the definitions, RefusalTexts.antt.
+"""
+
+import re
+import textwrap
+from pathlib import Path
+from typing import NamedTuple
+
+import mdoc
+
+TOP = Path(__file__).resolve().parent.parent
+TEXTS = "crates/mkedit/src/explanations.rt"
+NUMBERS = "crates/mk_edit_laws/specs/RefusalTexts.antt"
+
+CONSTANT = re.compile(r'^const (\w+): &str = "\\\n(.*?)";$', re.M | re.S)
+CHOICE = re.compile(r"^ +Refusal::(\w+)(?:\(_\))? => (\w+),$", re.M)
+NUMBER = re.compile(r"^number_of \(?(\w+).*?= (\d+)$", re.M)
+DETAIL = re.compile(r"^detail_of \((\w+) \w+\) = detail\.(\w+)", re.M)
+ESCAPE = re.compile(r"\\(.)")
+ESCAPED = {"\\": "\\", '"': '"', "t": "\t", "n": "\n"}
+
+PARTS = re.compile(r"(.*?)\n\nExample: (.*?)\n\n(.*?)\n", re.S)
+EXAMPLE = re.compile(r"(?:over\n(.*?)\n)?the script\n(.*?)\nis reported as\n(.*)", re.S)
+# How wide a line of the completions may be.
+WIDTH = 100
+
+
+class Refusal(NamedTuple):
+    """A refusal, by its number and name, with the word for what a report says beside it, or none.
+
+    text is what `mkedit explain` prints below the number and the name. The cause and the advice are
+    sentences on one line. An example has a script, a report and perhaps a makefile; one in words has
+    words in place of these.
+    """
+
+    number: int
+    name: str
+    detail: str
+    text: str
+    cause: str
+    makefile: str
+    script: str
+    report: str
+    words: str
+    advice: str
+
+
+def on_one_line(text):
+    return " ".join(text.split())
+
+
+def outdented(block):
+    """The text of a block of lines that are indented by four blanks; nothing of no block."""
+    return re.sub(r"^ {4}", "", block, flags=re.M) + "\n" if block else ""
+
+
+def refusal_of(number, name, detail, text):
+    """The refusal that a text is about. A ValueError says that the text has another form."""
+    parts = PARTS.fullmatch(text)
+    if not parts:
+        raise ValueError(f"{TEXTS}: the text of {name} is no cause, example and advice")
+    cause, example, advice = parts.groups()
+    shape = EXAMPLE.fullmatch(example)
+    makefile, script, report = map(outdented, shape.groups()) if shape else ("", "", "")
+    words = "" if shape else on_one_line(example)
+    return Refusal(
+        number, name, detail, text, on_one_line(cause), makefile, script, report, words, on_one_line(advice)
+    )
+
+
+def refusals(top=TOP):
+    """All refusals, by their numbers. A ValueError says what the sources have in another form."""
+    source, numbers = ((top / it).read_text(encoding="utf-8") for it in (TEXTS, NUMBERS))
+    texts = {name: ESCAPE.sub(lambda it: ESCAPED[it[1]], text) for name, text in CONSTANT.findall(source)}
+    chosen, details = dict(CHOICE.findall(source)), dict(DETAIL.findall(numbers))
+    numbered = {name: int(number) for name, number in NUMBER.findall(numbers)}
+    if {*numbered} != {*chosen} or sorted(texts) != sorted(chosen.values()):
+        raise ValueError(f"{TEXTS} and {NUMBERS} have not the same refusals")
+    found = sorted((number, name) for name, number in numbered.items())
+    return [refusal_of(it, name, details.get(name, "").lower(), texts[chosen[name]]) for it, name in found]
+
+
+def cell(text):
+    """A text as a cell of a table has it: on one line, and each bar behind a backslash."""
+    return text.replace("|", "\\|")
+
+
+def example_cell(refusal):
+    """The example of a refusal on one line, with a sign for each line feed and tab."""
+    if refusal.words:
+        return refusal.words[0].upper() + refusal.words[1:]
+    # (a script stands there without its last line end)
+    parts = [it for it in (refusal.makefile, refusal.script[:-1]) if it]
+    return ", ".join(f"`{it}`" for it in parts).replace("\n", "⏎").replace("\t", "⇥")
+
+
+def table(found):
+    """The table of docs/EDITS.md."""
+    yield "| No. | Name | When | For example | What to do |"
+    yield "|---|---|---|---|---|"
+    for it in found:
+        name = f"`{it.name}` *{it.detail}*" if it.detail else f"`{it.name}`"
+        cells = [name, *map(cell, (it.cause, example_cell(it), it.advice))]
+        yield f"| {it.number} | {' | '.join(cells)} |"
+
+
+def items(found):
+    """The list of the manual page on scripts."""
+    yield ".Bl -tag -width Ds"
+    for it in found:
+        yield f".It {it.number} {it.name}" + (f" Ar {it.detail}" if it.detail else "")
+        yield from mdoc.paragraph(it.cause)
+        if it.words:
+            yield from mdoc.paragraph(f"For example, {it.words}")
+        else:
+            yield from mdoc.display("\n".join(part for part in (it.makefile, it.script, it.report) if part))
+            yield ".Pp"
+        yield from mdoc.paragraph(it.advice)
+    yield ".El"
+
+
+def bash_words(found):
+    """The names, as bash has them in a variable."""
+    words = " ".join(it.name for it in found)
+    lines = textwrap.wrap(f'_mkedit_refusals="{words}"', WIDTH, subsequent_indent="    ")
+    yield from (f"{it} \\" for it in lines[:-1])
+    yield lines[-1]
+
+
+def zsh_words(found):
+    """The names, as zsh has them in an array of a function."""
+    yield "    refusals=("
+    indent = " " * 8
+    words = " ".join(it.name for it in found)
+    yield from textwrap.wrap(words, WIDTH, initial_indent=indent, subsequent_indent=indent)
+    yield "    )"
+
+
+def fish_words(found):
+    """The names, as fish has them in a variable."""
+    yield f"set -l refusals {' '.join(it.name for it in found)}"
