@@ -2,7 +2,7 @@
 -- by its definitions.
 use Rattle.std.proofs.Common.{◌≡◌, ◌∙◌, ◌||◌, ◌+◌, ◌<◌, ◌++◌, ℕ, List, [], ◌∷◌, refl, Bool, true, false, Option, Some, None, ap, ap₂, get_or, length, map, take}
 use Rattle.std.proofs.lemmas.List.{map-append, take_more}
-use Rattle.clap.specs.Words.{AddsArg, AddsSubcommand, App, Rule, app_of, is_simple, rule_of, shape_of, with_rule, with_subcommand}
+use Rattle.clap.specs.Words.{AddsArg, App, Rule, app_of, is_simple, rule_of, with_rule, with_subcommand}
 use Rattle.clap.specs.declared.builder.arg.Arg.{Arg}
 use Rattle.clap.specs.declared.builder.command.Command.{Command}
 use Rattle.clap.specs.declared.builder.command.Command.TheViews.{out-Command}

@@ -1,6 +1,6 @@
 -- What the words of the command line ask for, by what clap finds in them.
 -- Told in docs/mkedit.1.
-use Rattle.std.specs.Prelude.{◌≡◌, ℕ, Bool, true, false, List, Option, Some, None, Result, Ok, codes, option_map, IfSome, string_bytes, ⊤}
+use Rattle.std.specs.Prelude.{◌≡◌, ℕ, Bool, true, false, List, Option, Some, None, Result, Ok, codes, option_map, string_bytes, ⊤}
 use Rattle.std.specs.Borrow.{Bor}
 use Rattle.std.specs.List.{join_by, list_all}
 use Rattle.std.specs.Str.Parse.{digits_value}

@@ -9,9 +9,7 @@ ghost use Rattle.mk_command_line.specs.Commands.{program_for};
 ghost use Rattle.mk_command_line.specs.Requests.{Asks, AsksEdit, GoesTo, IsDepth, IsFlag};
 ghost use Rattle.mk_command_line.specs.Requests.{ReadsFrom, is_query};
 
-use crate::arguments::{
-    DEPTH, EXPRESSION, FILE, IN_PLACE, KEEP_GOING, OUTPUT, REFUSAL, SCRIPT,
-};
+use crate::arguments::{DEPTH, EXPRESSION, FILE, IN_PLACE, KEEP_GOING, OUTPUT, REFUSAL, SCRIPT};
 use crate::command_name::{CommandName, command_named};
 use crate::commands::program_for;
 use crate::request::{EditWords, Output, Request, Script};

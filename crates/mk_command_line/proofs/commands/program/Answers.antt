@@ -1,6 +1,5 @@
-use Rattle.std.proofs.Common.{◌≡◌, ◌∙◌, ap, true}
+use Rattle.std.proofs.Common.{ap, true}
 use Rattle.clap.specs.Words.{App}
-use Rattle.clap.specs.Simple.{app_of_fields}
 use Rattle.mk_command_line.proofs.commands.program.Goals as goal
 
 pub returns : goal.returns

@@ -1,4 +1,4 @@
-use Rattle.std.proofs.Common.{◌≡◌, ◌∙◌, ap, get_or}
+use Rattle.std.proofs.Common.{◌∙◌, ap, get_or}
 use Rattle.clap.specs.Words.{App, with_subcommand}
 use Rattle.mk_command_line.specs.Commands.{commands, shape_of_command}
 use Rattle.mk_command_line.specs.declared.command_name.CommandName.TheVariants.{Edit}

@@ -1,4 +1,4 @@
-use Rattle.std.proofs.Common.{◌≡◌, refl}
+use Rattle.std.proofs.Common.{refl}
 use Rattle.mk_command_line.proofs.reading.output_of.Goals as goal
 
 pub returns-in_ok-file : goal.returns-in_ok-file

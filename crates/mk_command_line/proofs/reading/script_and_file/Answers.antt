@@ -1,4 +1,4 @@
-use Rattle.std.proofs.Common.{◌≡◌, ◌∙◌, refl, codes}
+use Rattle.std.proofs.Common.{◌∙◌, refl, codes}
 use Rattle.mk_command_line.proofs.WordLemmas.{lines_joined}
 use Rattle.mk_command_line.proofs.reading.script_and_file.Goals as goal
 
