@@ -91,13 +91,13 @@ refusal_rule = record (new_rule (codes "REFUSAL")) { required = true }
 abbrev pub edit_options : List Rule
 edit_options = keep_going_rule ∷ depth_rule ∷ output_rule ∷ in_place_rule ∷ expression_rule ∷ []
 
-abbrev pub arguments_of : CommandName → List Rule
+abbrev arguments_of : CommandName → List Rule
 arguments_of Edit = edit_options ++ script_rule ∷ file_rule ∷ []
 arguments_of (Query query) = file_rule ∷ []
 arguments_of Explain = refusal_rule ∷ []
 
 -- a command with these arguments, and without commands of its own
-abbrev pub shape_with : Text → List Rule → Shape
+abbrev shape_with : Text → List Rule → Shape
 shape_with word rules = record (new_shape word) { rules = rules }
 
 abbrev pub leaf : Text → List Rule → App

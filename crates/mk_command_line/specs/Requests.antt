@@ -61,7 +61,7 @@ pub record AsksEdit (rows : List Row) (words : EditWords) : Type 0 where
 
 module _ {R E : Type 0} (reads : Text → Result R E → Type 0) where
   -- what a command asks for; `reads` tells what refusal a word calls
-  abbrev pub AsksByCommand : Option CommandName → List Row → Request R → Type 0
+  abbrev AsksByCommand : Option CommandName → List Row → Request R → Type 0
   AsksByCommand (Some Edit) rows (request.Edit words) = AsksEdit rows words
   AsksByCommand (Some (Query query)) rows (request.Query asked file) =
       (asked ≡ query) × (option_map (λ name. name.now) file ≡ first_of (codes "FILE") rows)
@@ -74,7 +74,7 @@ module _ {R E : Type 0} (reads : Text → Result R E → Type 0) where
   Asks None asked = ⊥
   Asks (Some found) asked = AsksByCommand (command_named found.0) found.1 asked
 
-abbrev pub is_query_name : Option CommandName → Bool
+abbrev is_query_name : Option CommandName → Bool
 is_query_name (Some (Query query)) = true
 is_query_name _ = false
 
