@@ -1,5 +1,7 @@
 //! `mkedit edit`: a script over a makefile.
-ghost use Rattle.std.specs.Prelude.{◌≡◌, false};
+ghost use Rattle.std.specs.Prelude.{◌≡◌, ◌↔◌, ◌||◌, IsTrue, false};
+ghost use Rattle.mk_session.specs.Sessions.{IsBadDepth};
+ghost use Rattle.mk_run.specs.RunEnds.{IsRunOver, written};
 
 use crate::files::{CannotOpen, open};
 use crate::in_place::InPlaceFile;
@@ -7,34 +9,49 @@ use crate::out_file::OutFile;
 use mk_command_line::{EditWords, Output, Script};
 use mk_lines::{ByteSink, ByteSource, StdSink, StdSource};
 use mk_run::{Outcome, run_keeping};
+use std::alloc::Allocator;
 use std::mem;
 
 // The command line takes the depths that a history has.
 const _: () = prove!(mk_command_line::MAX_DEPTH == mk_history::history::MAX_DEPTH);
 
-// Runs the script over the makefile, with the text to a sink. The session is not given up: the
-// program ends soon, and a box for each line would be given up one by one.
-fn run_to<R: ByteSource, S: ByteSource, W: ByteSink>(
-    rt: &HostRuntime,
+// Runs the script over the makefile as the words say, with the text to a sink. The session is not
+// given up: the program ends soon, and a box for each line would be given up one by one.
+fn run_to<A, R, S, W, P>(
+    alloc: A,
     words: &EditWords<'_>,
     makefile: &mut R,
     script: &mut S,
     out: &mut W,
+    report: &mut P,
 ) -> Outcome
+where
+    A: Allocator + Copy,
+    R: ByteSource,
+    S: ByteSource,
+    W: ByteSink,
+    P: ByteSink,
     requires makefile_works { R.failed makefile.old ≡ false }
     requires script_works { S.failed script.old ≡ false }
     requires out_works { W.failed out.old ≡ false }
+    requires report_works { P.failed report.old ≡ false }
+    ensures law { IsRunOver (R.remaining makefile.old) (S.remaining script.old) words.now.depth
+        words.now.keep_going result (P.failed report.new)
+        (written (P.contents report.old) (P.contents report.new))
+        (written (W.contents out.old) (W.contents out.new)) }
+    ensures bad_depth { (result ≡ Outcome.BadDepth) ↔ IsBadDepth words.now.depth }
+    ensures read { result ≡ Outcome.Read ↔ IsTrue (R.failed makefile.new || S.failed script.new) }
+    ensures write { result ≡ Outcome.Write ↔ IsTrue (W.failed out.new || P.failed report.new) }
 {
-    let mut report = StdSink::new(rt.stderr());
     let mut kept = None;
     let outcome = run_keeping(
-        rt.alloc(),
+        alloc,
         makefile,
         script,
         words.depth,
         words.keep_going,
         out,
-        &mut report,
+        report,
         &mut kept,
     );
     mem::forget(kept);
@@ -51,20 +68,21 @@ fn run_over<R: ByteSource, S: ByteSource>(
     requires makefile_works { R.failed makefile.old ≡ false }
     requires script_works { S.failed script.old ≡ false }
 {
+    let mut report = StdSink::new(rt.stderr());
     match words.output {
         Output::File(name) => {
             let mut out = OutFile::new(rt, name);
-            run_to(rt, words, makefile, script, &mut out)
+            run_to(rt.alloc(), words, makefile, script, &mut out, &mut report)
         }
         Output::InPlace(name) => {
             let mut out = InPlaceFile::new(rt, name);
-            let outcome = run_to(rt, words, makefile, script, &mut out);
+            let outcome = run_to(rt.alloc(), words, makefile, script, &mut out, &mut report);
             out.close();
             outcome
         }
         Output::Standard => {
             let mut out = StdSink::new(rt.stdout());
-            run_to(rt, words, makefile, script, &mut out)
+            run_to(rt.alloc(), words, makefile, script, &mut out, &mut report)
         }
     }
 }

@@ -1,5 +1,5 @@
 //! `mkedit explain`: why a command is refused, and what to do then.
-ghost use Rattle.std.specs.Prelude.{◌≡◌, ◌++◌, List, All, IfSome, IfNone, IfErr, OnOk, MatchResult, false, true, is_ok};
+ghost use Rattle.std.specs.Prelude.{◌≡◌, ◌++◌, ◌⊎◌, ℕ, List, All, IfSome, IfNone, IfErr, OnOk, MatchResult, false, true, is_ok};
 ghost use Rattle.std.specs.Io.KnownBytes.{Appends};
 ghost use Rattle.mk_lines.specs.Device.{AppendsPrefix, count_if};
 ghost use Rattle.mk_edit_laws.specs.declared.refusal.Refusal.{Refusal};
@@ -110,11 +110,22 @@ pub fn put_out<W: ByteSink>(refusal: &Refusal, text: &'static str, out: &mut W) 
     out.flush()
 }
 
-/// Says on standard output why the refusal comes, and what to do then.
-pub fn explain(rt: &HostRuntime, refusal: &Refusal) -> Outcome {
-    let mut out = StdSink::new(rt.stdout());
-    match put_out(refusal, explanation(refusal), &mut out) {
+// Says on a sink why the refusal comes, and what to do then.
+fn print<W: ByteSink>(refusal: &Refusal, out: &mut W) -> Outcome
+    requires { W.failed out.old ≡ false }
+    ensures whole { result ≡ Outcome.Done → (text : List ℕ)
+        × Appends (W.contents out.old) (W.contents out.new) (title_of refusal.now ++ text) }
+    ensures write { (result ≡ Outcome.Done) ⊎ ((result ≡ Outcome.Write)
+        × (W.failed out.new ≡ true)) }
+{
+    match put_out(refusal, explanation(refusal), out) {
         Ok(()) => Outcome::Done,
         Err(fault) => Outcome::from(fault),
     }
+}
+
+/// Says on standard output why the refusal comes, and what to do then.
+pub fn explain(rt: &HostRuntime, refusal: &Refusal) -> Outcome {
+    let mut out = StdSink::new(rt.stdout());
+    print(refusal, &mut out)
 }

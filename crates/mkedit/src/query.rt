@@ -1,16 +1,17 @@
 //! `mkedit vars`, `mkedit rules`, `mkedit check` and `mkedit caveats`: what a makefile has, a line
 //! for each thing.
-ghost use Rattle.std.specs.Prelude.{◌≡◌, ◌↔◌, ◌<◌, ◌||◌, ℕ, List, IsTrue, IfOk, IfErr, IfSome, OnOk, OnErr, false, true, length, is_ok};
+ghost use Rattle.std.specs.Prelude.{◌≡◌, ◌↔◌, ◌<◌, ◌+◌, ◌||◌, ℕ, List, IsTrue, IfOk, IfErr, IfSome, OnOk, OnErr, false, true, length, is_ok};
 ghost use Rattle.std.specs.Io.KnownBytes.{Appends};
 ghost use Rattle.mk_lines.specs.Limits.{max_text};
-ghost use Rattle.mk_lines.specs.Device.{AppendsPrefix, count_if};
+ghost use Rattle.mk_lines.specs.Device.{AppendsPrefix, TakesAtMost, count_if};
 ghost use Rattle.mk_tree.specs.LocatedLines.{located_text};
 ghost use Rattle.mk_tree.specs.Documents.{IsFaithful, IsTooDeep};
+ghost use Rattle.mk_run.specs.RunEnds.{TellsEndOnce};
 ghost use Rattle.mkedit.specs.QueryTexts.{query_text};
 
 use crate::files::{CannotOpen, open};
 use mk_command_line::Query;
-use mk_lines::source::read_all;
+use mk_lines::source::{BUFFER, MAX_TEXT, read_all};
 use mk_lines::{ByteSink, ByteSource, Fault, StdSink, StdSource};
 use mk_queries::{caveats, check, rules, vars};
 use mk_run::Outcome;
@@ -74,6 +75,9 @@ where
     ensures too_deep { result ≡ Err Fault.TooDeep
         → IfSome (R.remaining makefile.old) (λ text. IsTooDeep text) }
     ensures shallow { OnOk result (IfSome (R.remaining makefile.old) (λ text. IsTooDeep text → ⊥)) }
+    ensures taken { TakesAtMost (R.remaining makefile.old) (R.remaining makefile.new)
+        (MAX_TEXT + BUFFER) }
+    ensures ends { TellsEndOnce (R.ends makefile.old) (R.ends makefile.new) }
     ensures flushed { W.flushes out.new ≡ count_if (is_ok result) (W.flushes out.old) }
     ensures settled { OnOk result (IfSome (W.pending out.new) (λ n. n ≡ 0)) }
 {
@@ -85,12 +89,26 @@ where
     answered
 }
 
-// Answers on standard output.
-fn print<R: ByteSource>(rt: &HostRuntime, query: Query, makefile: &mut R) -> Outcome
-    requires { R.failed makefile.old ≡ false }
+// Answers on a sink, and says how that ended.
+fn print<A, R, W>(alloc: A, query: Query, makefile: &mut R, out: &mut W) -> Outcome
+where
+    A: Allocator + Copy,
+    R: ByteSource,
+    W: ByteSink,
+    requires makefile_works { R.failed makefile.old ≡ false }
+    requires out_works { W.failed out.old ≡ false }
+    ensures whole { result ≡ Outcome.Done → IfSome (R.remaining makefile.old) (λ text.
+        Appends (W.contents out.old) (W.contents out.new) (query_text query text)) }
+    ensures prefix { IfSome (R.remaining makefile.old) (λ text.
+        AppendsPrefix (W.contents out.old) (W.contents out.new) (query_text query text)) }
+    ensures read { result ≡ Outcome.Read ↔ R.failed makefile.new ≡ true }
+    ensures write { result ≡ Outcome.Write ↔ W.failed out.new ≡ true }
+    ensures too_long { result ≡ Outcome.TooLong
+        → IfSome (R.remaining makefile.old) (λ text. max_text < length text) }
+    ensures too_deep { result ≡ Outcome.TooDeep
+        → IfSome (R.remaining makefile.old) (λ text. IsTooDeep text) }
 {
-    let mut out = StdSink::new(rt.stdout());
-    match answer(rt.alloc(), query, makefile, &mut out) {
+    match answer(alloc, query, makefile, out) {
         Ok(()) => Outcome::Done,
         Err(fault) => Outcome::from(fault),
     }
@@ -107,14 +125,15 @@ pub fn ask<'a>(
     query: Query,
     file: Option<&'a str>,
 ) -> Result<Outcome, CannotOpen<'a>> {
+    let mut out = StdSink::new(rt.stdout());
     match file {
         Some(name) => {
             let mut makefile = StdSource::new(open(rt, name)?);
-            Ok(print(rt, query, &mut makefile))
+            Ok(print(rt.alloc(), query, &mut makefile, &mut out))
         }
         None => {
             let mut makefile = StdSource::new(rt.stdin());
-            Ok(print(rt, query, &mut makefile))
+            Ok(print(rt.alloc(), query, &mut makefile, &mut out))
         }
     }
 }
