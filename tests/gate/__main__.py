@@ -17,16 +17,19 @@
 With --all the prover refuses each wrong body, and proves the crates of tests too, whose tests are run
 as they are built: all that `rt ci` does at the top of the repository.
 
-The last line adds the counts up, and says as skipped how many wrong bodies were not tried. The status
-is 0 only where nothing failed. No step takes anything from what `rt check` has left, and none leaves
-anything in the repository: what is proved is copied to a folder outside (part.py).
+The last line adds the counts up, and says as skipped how many wrong bodies were not tried; the line above
+it says how long the run took. The status is 0 only where nothing failed. No step takes anything from what
+`rt check` has left, and none leaves anything in the repository: what is proved is copied to a folder
+outside (part.py).
 """
 
 import argparse
+import os
 import re
 import subprocess
 import sys
 import tempfile
+import time
 from pathlib import Path
 
 from tests import TOP
@@ -114,13 +117,15 @@ def arguments():
 
 
 def main():
-    given = arguments()
+    given, start = arguments(), time.monotonic()
     with tempfile.TemporaryDirectory(prefix="mkedit-gate-") as folder:
         room = Path(folder)
         # (some tests run the program as another user)
         room.chmod(0o711)
         counts, skipped = checked_all(room, given.crates) if given.all else checked(room)
     passed, failed = map(sum, zip(*counts))
+    minutes, seconds = divmod(round(time.monotonic() - start), 60)
+    print(f"the gate took {minutes} min {seconds} s on {len(os.sched_getaffinity(0))} processors")
     print(f"{passed} passed, {failed} failed" + (f", {skipped} skipped" if skipped else ""), flush=True)
     return 1 if failed else 0
 
