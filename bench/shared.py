@@ -56,7 +56,7 @@ def cost(words, out=os.devnull):
 
 
 class Pace:
-    """How fast a loop runs that only counts. Where a host has other guests, that is at times half as fast."""
+    """How fast a loop runs that only counts. Where others use the processors too, that is at times half as fast."""
 
     def __init__(self):
         self.full = 0.0
