@@ -1,7 +1,7 @@
 -- What reading a source to its end and writing a text out do to the bytes and the counts of a
 -- device.
 -- Told in docs/DECISIONS.md, "mk_lines".
-use Rattle.std.specs.Prelude.{ℕ, ◌+◌, ◌≤◌, Bool, true, false, ◌==◌, ◌&&◌, nat_lt, List, [], ◌∷◌, ◌++◌, length, take, Option, None, Some, Result, Ok, Err}
+use Rattle.std.specs.Prelude.{◌≡◌, ℕ, ◌+◌, ◌≤◌, Bool, true, false, ◌==◌, ◌&&◌, nat_lt, List, [], ◌∷◌, ◌++◌, length, take, Option, None, Some, Result, Ok, Err, OnOk, IfErr}
 use Rattle.std.specs.Borrow.{Bor}
 use Rattle.std.specs.Io.KnownBytes.{Appends, Consumes}
 use Rattle.mk_lines.specs.declared.fault.Fault.{Fault}
@@ -10,6 +10,17 @@ use Rattle.mk_lines.specs.declared.fault.Fault.TheVariants.{NoMemory, TooLong, T
 -- the known bytes of a sink grow by some prefix of the text
 abbrev pub AppendsPrefix : Option (List ℕ) → Option (List ℕ) → List ℕ → Type 0
 AppendsPrefix old new text = (n : ℕ) × (n ≤ length text) × Appends old new (take n text)
+
+-- A text was written into a sink, which tells its bytes, whether it failed and its flushes: the whole
+-- text, or a prefix of it and the fault Write if the sink failed. Nothing was flushed.
+pub record Writes {S : Type 0} (contents : S → Option (List ℕ)) (failed : S → Bool)
+    (flushes : S → Option ℕ) (old new : S) (result : Result Unit Fault) (text : List ℕ)
+    : Type 0 where
+  pub whole : OnOk result (Appends (contents old) (contents new) text)
+  pub prefix : AppendsPrefix (contents old) (contents new) text
+  pub works : OnOk result (failed new ≡ false)
+  pub fault : IfErr result (λ e. (e ≡ Write) × (failed new ≡ true))
+  pub unflushed : flushes new ≡ flushes old
 
 -- a write of the text failed: it answered a fault, or it took no byte though the text is not empty
 abbrev pub is_refused : {E : Type 0} → Result ℕ E → List ℕ → Bool

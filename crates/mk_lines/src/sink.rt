@@ -1,7 +1,7 @@
 //! Where bytes go to.
-ghost use Rattle.std.specs.Prelude.{◌≡◌, ◌||◌, ◌≤◌, ℕ, Bool, List, Option, None, true, false, is_err, is_ok, length, IfOk, IfErr, OnOk, OnErr};
-ghost use Rattle.std.specs.Io.KnownBytes.{Appends, Keeps, WriteAppends};
-ghost use Rattle.mk_lines.specs.Device.{AppendsPrefix, count_if, count_more, is_refused, reset_if, count_taken, text_of_parts};
+ghost use Rattle.std.specs.Prelude.{◌≡◌, ◌||◌, ◌≤◌, ℕ, Bool, List, Option, None, true, false, is_err, is_ok, length, IfOk, IfErr};
+ghost use Rattle.std.specs.Io.KnownBytes.{Keeps, WriteAppends};
+ghost use Rattle.mk_lines.specs.Device.{Writes, count_if, count_more, is_refused, reset_if, count_taken, text_of_parts};
 
 use crate::fault::Fault;
 use std::io::{ErrorKind, Write};
@@ -119,11 +119,7 @@ impl<W: Write> ByteSink for StdSink<W> {
 /// [`Fault::Write`] if a write answered it or took no byte. A prefix of the text is out then.
 pub fn write_all<W: ByteSink>(out: &mut W, text: &[u8]) -> Result<(), Fault>
     requires { W.failed out.old ≡ false }
-    ensures whole { OnOk result (Appends (W.contents out.old) (W.contents out.new) text.now) }
-    ensures prefix { AppendsPrefix (W.contents out.old) (W.contents out.new) text.now }
-    ensures works { OnOk result (W.failed out.new ≡ false) }
-    ensures fault { IfErr result (λ e. (e ≡ Fault.Write) × (W.failed out.new ≡ true)) }
-    ensures unflushed { W.flushes out.new ≡ W.flushes out.old }
+    ensures { Writes W.contents W.failed W.flushes out.old out.new result text.now }
 {
     let mut at = 0;
     while at < text.len() {
@@ -144,13 +140,8 @@ pub fn write_all<W: ByteSink>(out: &mut W, text: &[u8]) -> Result<(), Fault>
 /// then.
 pub fn write_parts<W: ByteSink>(out: &mut W, parts: &[&[u8]]) -> Result<(), Fault>
     requires { W.failed out.old ≡ false }
-    ensures whole { OnOk result (Appends (W.contents out.old) (W.contents out.new)
-        (text_of_parts parts.now)) }
-    ensures prefix { AppendsPrefix (W.contents out.old) (W.contents out.new)
+    ensures { Writes W.contents W.failed W.flushes out.old out.new result
         (text_of_parts parts.now) }
-    ensures works { OnOk result (W.failed out.new ≡ false) }
-    ensures fault { IfErr result (λ e. (e ≡ Fault.Write) × (W.failed out.new ≡ true)) }
-    ensures unflushed { W.flushes out.new ≡ W.flushes out.old }
 {
     for part in parts {
         write_all(out, part)?;

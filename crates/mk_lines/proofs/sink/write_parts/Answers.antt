@@ -14,7 +14,12 @@ loop-part-preserved g c = (
   search rules,
 )
 
-pub returns-in_err-write_all-clause-prefix : goal.returns-in_err-write_all-clause-prefix
-returns-in_err-write_all-clause-prefix g c =
-    subst (AppendsPrefix _ _) (sym (text_of_parts-at c.args.parts.now c.loop-part.part-index _ c.loop-part-test.true))
-    (AppendsPrefix-more _ _ _ _ _ c.loop-part.invariant.1 (AppendsPrefix-front _ _ _ _ c.in_err-write_all.ensures.prefix))
+pub returns-in_err-write_all : goal.returns-in_err-write_all
+returns-in_err-write_all g c = record {
+  whole = search rules;
+  prefix = subst (AppendsPrefix _ _) (sym (text_of_parts-at c.args.parts.now c.loop-part.part-index _ c.loop-part-test.true))
+      (AppendsPrefix-more _ _ _ _ _ c.loop-part.invariant.1 (AppendsPrefix-front _ _ _ _ c.in_err-write_all.ensures.prefix));
+  works = search rules;
+  fault = search rules;
+  unflushed = search rules;
+}
