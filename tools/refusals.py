@@ -14,7 +14,7 @@ import mdoc
 
 TOP = Path(__file__).resolve().parent.parent
 TEXTS = "crates/mkedit/src/explanations.rt"
-NUMBERS = "crates/mk_edit_laws/specs/RefusalTexts.antt"
+NUMBERS = "crates/mk_edit_language/specs/RefusalTexts.antt"
 
 CONSTANT = re.compile(r'^const (\w+): &str = "\\\n(.*?)";$', re.M | re.S)
 CHOICE = re.compile(r"^ +Refusal::(\w+)(?:\(_\))? => (\w+),$", re.M)

@@ -2,7 +2,7 @@
 """Edits as equations that the checker computes.
 
 Turns tables of makefiles and scripts with their answers into a file of equations, by which the checker
-computes the definitions of `crates/mk_edit_laws/specs`. Where the file checks, the definitions give each
+computes the definitions of `crates/mk_edit_language/specs`. Where the file checks, the definitions give each
 answer: of an accepted edit the text after it, and that the stated change of the reading is what this
 text reads as; of a refused one the refusal. Where the table says them, also the spans of an accepted
 edit, its cost (how many lines it reads again at most) and its size (how many lines it takes out or
@@ -25,7 +25,7 @@ import sys
 from reading_rows import FLAVORS, antt_list, antt_text
 from row_tables import rows_of_table, unescape
 
-COLONS = {b":": "One", b"::": "Two"}
+SEPARATORS = {b":": "Single", b"::": "Double"}
 
 FIELDS = {
     "place": "Place",
@@ -116,7 +116,7 @@ def antt_edit(fields):
         return f"(AddAssign {place} {text(name)} {FLAVORS[operator]} {text(value)})"
     if command == b"rule":
         place, (targets, colons, prereqs) = place_of(nth, rest)
-        return f"(AddRule {place} {text(targets)} {COLONS[colons]} {text(prereqs)})"
+        return f"(AddRule {place} {text(targets)} {SEPARATORS[colons]} {text(prereqs)})"
     if command in (b"depend", b"depend-order"):
         order = "true" if command == b"depend-order" else "false"
         return f"(AddPrereq {order} {number} {text(rest[0])} {text(rest[1])})"
@@ -182,11 +182,11 @@ IMPORTS = [
     ("Rattle.std.proofs.Common", ["◌≡◌", "refl", "[]", "◌∷◌", "Some", "None", "true", "false"]),
     ("Rattle.std.specs.Prelude", ["codes"]),
     ("Rattle.mk_class.specs.declared.assignment.Flavor.TheVariants", list(FLAVORS.values())),
-    ("Rattle.mk_edit_laws.specs.declared.edit.Colons.TheVariants", list(COLONS.values())),
-    ("Rattle.mk_edit_laws.specs.declared.refusal.Refusal.TheVariants", list(REFUSALS.values())),
-    ("Rattle.mk_edit_laws.specs.Edits", ["Bottom", "BeforeVar", "AfterVar", "BeforeRule"]),
+    ("Rattle.mk_edit_language.specs.declared.edit.RuleSeparator.TheVariants", list(SEPARATORS.values())),
+    ("Rattle.mk_edit_language.specs.declared.refusal.Refusal.TheVariants", list(REFUSALS.values())),
+    ("Rattle.mk_edit_language.specs.Edits", ["Bottom", "BeforeVar", "AfterVar", "BeforeRule"]),
     (
-        "Rattle.mk_edit_laws.specs.Edits",
+        "Rattle.mk_edit_language.specs.Edits",
         ["SetValue", "AppendValue", "AddAssign", "RemoveAssign", "AddRule", "RemoveRule", "AddPrereq", "RemovePrereq"]
         + ["AddRecipe", "SetRecipe", "RemoveRecipe", "RenameTarget"],
     ),
@@ -211,7 +211,7 @@ def head_of(table, body):
         if used:
             lines.append(f"use {module}.{{{', '.join(used)}}}")
     if re.search(r"(?<!\w)field\.", bare):
-        lines.append("use Rattle.mk_edit_laws.specs.declared.refusal.Field.TheVariants as field")
+        lines.append("use Rattle.mk_edit_language.specs.declared.refusal.Field.TheVariants as field")
     return "\n".join(lines) + "\n"
 
 

@@ -17,7 +17,7 @@ A table (row_tables.py) has the columns name, makefile, script, flags, stdout, s
 import re
 import sys
 
-from edit_rows import COLONS, antt_edit, fields_of
+from edit_rows import SEPARATORS, antt_edit, fields_of
 from reading_rows import FLAVORS, antt_list, antt_text
 from row_tables import rows_of_table, unescape
 
@@ -29,10 +29,10 @@ IMPORTS = [
     ("Rattle.std.specs.Prelude", ["codes"]),
     ("Rattle.std.specs.Fmt", ["digits"]),
     ("Rattle.mk_class.specs.declared.assignment.Flavor.TheVariants", list(FLAVORS.values())),
-    ("Rattle.mk_edit_laws.specs.declared.edit.Colons.TheVariants", list(COLONS.values())),
-    ("Rattle.mk_edit_laws.specs.Edits", ["Edit", "Bottom", "BeforeVar", "AfterVar", "BeforeRule"]),
+    ("Rattle.mk_edit_language.specs.declared.edit.RuleSeparator.TheVariants", list(SEPARATORS.values())),
+    ("Rattle.mk_edit_language.specs.Edits", ["Edit", "Bottom", "BeforeVar", "AfterVar", "BeforeRule"]),
     (
-        "Rattle.mk_edit_laws.specs.Edits",
+        "Rattle.mk_edit_language.specs.Edits",
         ["SetValue", "AppendValue", "AddAssign", "RemoveAssign", "AddRule", "RemoveRule", "AddPrereq", "RemovePrereq"]
         + ["AddRecipe", "SetRecipe", "RemoveRecipe", "RenameTarget"],
     ),

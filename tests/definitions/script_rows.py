@@ -23,7 +23,7 @@ import sys
 from reading_rows import FLAVORS, antt_text
 from row_tables import rows_of_table, unescape
 
-COLONS = {b":": "One", b"::": "Two"}
+SEPARATORS = {b":": "Single", b"::": "Double"}
 MOST = 4294967295
 
 # ---- what a script means
@@ -115,7 +115,7 @@ def edit_of(nth, word, fields):
         first, sign, last = taken(fields, 3)
         if word == b"assign":
             return ("AddAssign", place, first, known(FLAVORS, sign), last)
-        return ("AddRule", place, first, known(COLONS, sign), last)
+        return ("AddRule", place, first, known(SEPARATORS, sign), last)
     if word == b"recipe-set":
         target, number, text = taken(fields, 3)
         return ("SetRecipe", nth, target, number_of(number), text)
@@ -190,7 +190,7 @@ def antt_command(name, *arguments):
         return name
     parts = list(arguments)
     nth = 0 if name in NTH_FIRST else 1 if name == "AddPrereq" else None
-    sign = {"AddAssign": FLAVORS, "AddRule": COLONS}.get(name)
+    sign = {"AddAssign": FLAVORS, "AddRule": SEPARATORS}.get(name)
     terms = [
         antt_nth(part) if at == nth else sign[part] if sign and at == 2 else antt_argument(name, part)
         for at, part in enumerate(parts)
@@ -212,10 +212,10 @@ IMPORTS = [
     ("Rattle.std.specs.Prelude", ["codes", "Ok", "Err"]),
     ("Rattle.bstr.specs.Text", ["line_len", "lines_from"]),
     ("Rattle.mk_class.specs.declared.assignment.Flavor.TheVariants", list(FLAVORS.values())),
-    ("Rattle.mk_edit_laws.specs.declared.edit.Colons.TheVariants", list(COLONS.values())),
-    ("Rattle.mk_edit_laws.specs.Edits", ["Bottom", *PLACES.values()]),
+    ("Rattle.mk_edit_language.specs.declared.edit.RuleSeparator.TheVariants", list(SEPARATORS.values())),
+    ("Rattle.mk_edit_language.specs.Edits", ["Bottom", *PLACES.values()]),
     (
-        "Rattle.mk_edit_laws.specs.Edits",
+        "Rattle.mk_edit_language.specs.Edits",
         ["SetValue", "AppendValue", "AddAssign", "RemoveAssign", "AddRule", "RemoveRule", "AddPrereq", "RemovePrereq"]
         + ["AddRecipe", "SetRecipe", "RemoveRecipe", "RenameTarget"],
     ),

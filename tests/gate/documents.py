@@ -167,12 +167,12 @@ def edit_row_problems(row, bodies):
     """What is wrong with the row of one edit."""
     command, kind, definitions, law, code, case, body = row
     name = CODE.findall(command)[0]
-    if not re.search(rf"^  {kind.strip('`')} : ", text_at("crates/mk_edit_laws/specs/Edits.antt"), re.M):
+    if not re.search(rf"^  {kind.strip('`')} : ", text_at("crates/mk_edit_language/specs/Edits.antt"), re.M):
         yield f"{name}: there is no edit {kind}"
     for it in CODE.findall(definitions):
-        if not declared_in("mk_edit_laws/specs", it):
+        if not declared_in("mk_edit_language/specs", it):
             yield f"{name}: there is no definition {it}"
-    if not declared_in("mk_edit_laws/proofs", law.strip("`")):
+    if not declared_in("mk_edit_language/proofs", law.strip("`")):
         yield f"{name}: there is no law {law}"
     if not has_function(code):
         yield f"{name}: there is no code {code}"

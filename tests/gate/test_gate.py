@@ -91,7 +91,7 @@ class Texts(InRoom):
 
     SHARED = ("docs/EDITS.md", "docs/mkedit-script.5", *(f"completions/mkedit.{it}" for it in ("bash", "fish", "zsh")))
     SOURCE, OTHERS = "crates/mkedit/src/explanations.rt", ("docs/mkedit.1", "examples/manual.mk")
-    NUMBERS = "crates/mk_edit_laws/specs/RefusalTexts.antt"
+    NUMBERS = "crates/mk_edit_language/specs/RefusalTexts.antt"
 
     def setUp(self):
         super().setUp()

@@ -7,7 +7,7 @@ from tests import TOP
 DOCS = TOP / "docs"
 # The manual pages: the command line, and scripts.
 PAGE, SCRIPT_PAGE = DOCS / "mkedit.1", DOCS / "mkedit-script.5"
-TEXTS = TOP / "crates/mk_edit_laws/specs/RefusalTexts.antt"
+TEXTS = TOP / "crates/mk_edit_language/specs/RefusalTexts.antt"
 NUMBER = re.compile(r"^number_of \(?(\w+).*?= (\d+)$", re.M)
 ROW = re.compile(r"^\| (\d+) \| `(\w+)`", re.M)
 DISPLAY = re.compile(r"^\.Bd -literal[^\n]*\n(.*?)^\.Ed$", re.M | re.S)

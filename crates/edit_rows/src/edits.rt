@@ -3,7 +3,7 @@
 use crate::text::unescape;
 use anyhow::{Context as _, Result, bail};
 use mk_class::Flavor;
-use mk_edit::{Colons, Edit, Place};
+use mk_edit::{Edit, Place, RuleSeparator};
 use mk_session::Command;
 use std::alloc::Global;
 
@@ -106,13 +106,13 @@ fn read_addition(alloc: Global, word: &str, nth: Option<u32>, fields: &[&str]) -
                 value,
             })
         }
-        ("rule", [targets, colons, prereqs]) => {
-            let colons = read_colons(colons)?;
+        ("rule", [targets, separator, prereqs]) => {
+            let separator = read_separator(separator)?;
             let (targets, prereqs) = unescape_both(alloc, targets, prereqs)?;
             Ok(Edit::AddRule {
                 place,
                 targets,
-                colons,
+                separator,
                 prereqs,
             })
         }
@@ -159,11 +159,11 @@ fn read_operator(operator: &str) -> Result<Flavor> {
 }
 
 /// The separator of a new rule.
-fn read_colons(colons: &str) -> Result<Colons> {
-    match colons {
-        ":" => Ok(Colons::One),
-        "::" => Ok(Colons::Two),
-        _ => bail!("no separator: {colons}"),
+fn read_separator(separator: &str) -> Result<RuleSeparator> {
+    match separator {
+        ":" => Ok(RuleSeparator::Single),
+        "::" => Ok(RuleSeparator::Double),
+        _ => bail!("no separator: {separator}"),
     }
 }
 

@@ -1,7 +1,7 @@
 //! Edits of a makefile: opens it as a session, and prints the processor time of single edits and of
 //! many, in microseconds, with how many lines were read for them.
 use mk_class::{Class, Flavor};
-use mk_session::{Colons, Edit, Place, Session};
+use mk_session::{Edit, Place, RuleSeparator, Session};
 use std::alloc::AllocError;
 use std::time::{CpuClock, Duration};
 
@@ -36,7 +36,7 @@ fn add_rule(rt: &HostRuntime, target: &[u8]) -> Result<Edit, AllocError> {
     Ok(Edit::AddRule {
         place: Place::Bottom,
         targets: bytes(rt, target)?,
-        colons: Colons::One,
+        separator: RuleSeparator::Single,
         prereqs: bytes(rt, b"")?,
     })
 }

@@ -1,7 +1,7 @@
 -- What contracts see of a program's commands: the calls of the session machine.
 -- Told in docs/ARCHITECTURE.md, "How a session stands on mk_history".
-use Rattle.mk_edit_laws.specs.Edits.{Edit}
-use Rattle.mk_edit_parts.specs.EditViews.{edit_of}
+use Rattle.mk_edit_language.specs.Edits.{Edit}
+use Rattle.mk_edit_language.specs.EditViews.{edit_of}
 use Rattle.mk_history.specs.Machine as machine
 use Rattle.mk_command.specs.declared.command.Command.{Command}
 use Rattle.mk_command.specs.declared.command.Command.TheVariants as command

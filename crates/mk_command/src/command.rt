@@ -1,5 +1,5 @@
 //! One call of a session.
-use mk_edit_parts::Edit;
+use mk_edit_language::Edit;
 use std::alloc::{Allocator, Global};
 
 /// One call of the type `Session` of `mk_session`.

@@ -6,12 +6,12 @@ use Rattle.mk_lines.specs.PhysicalLines.{line_end_bytes, file_line_end}
 use Rattle.mk_class.specs.ClassedLines.{classed_lines}
 use Rattle.mk_tree.specs.Documents.{context_of}
 use Rattle.mk_tree.specs.LocatedLines.{LocatedLine, located_text}
-use Rattle.mk_edit_laws.specs.Edits.{Place, Bottom, Edit, AddAssign, AddRule, AddRecipe}
-use Rattle.mk_edit_laws.specs.Stretches.{Stretch}
-use Rattle.mk_edit_laws.specs.EditSpans.{spans_of}
-use Rattle.mk_edit_laws.specs.LineCauses.{open_line, open_define, leaning, too_long}
-use Rattle.mk_edit_laws.specs.Refusals.{causes, first_cause}
-use Rattle.mk_edit_laws.specs.declared.refusal.Refusal.{Refusal}
+use Rattle.mk_edit_language.specs.Edits.{Place, Bottom, Edit, AddAssign, AddRule, AddRecipe}
+use Rattle.mk_edit_language.specs.Stretches.{Stretch}
+use Rattle.mk_edit_language.specs.EditSpans.{spans_of}
+use Rattle.mk_edit_language.specs.LineCauses.{open_line, open_define, leaning, too_long}
+use Rattle.mk_edit_language.specs.Refusals.{causes, first_cause}
+use Rattle.mk_edit_language.specs.declared.refusal.Refusal.{Refusal}
 use Rattle.mk_edit.specs.PlannedMoves.{follows_unended}
 use Rattle.mk_edit_parts.specs.declared.seek.Found.{Found}
 

@@ -7,7 +7,7 @@ use Rattle.mk_lines.specs.LogicalLines.{logical_lines, has_no_line_end}
 use Rattle.mk_class.specs.ClassedLines.{ClassedLine, classed_lines}
 use Rattle.mk_tree.specs.LineTexts.{context_of, line_in}
 use Rattle.mk_tree.specs.LocatedLines.{LocatedLine, located_line, located_text, size_of, bytes_of_line, last_line}
-use Rattle.mk_edit_laws.specs.Stretches.{Stretch}
+use Rattle.mk_edit_language.specs.Stretches.{Stretch}
 use Rattle.mk_patch.specs.Moves.{Move, PutIn, TakeOut, Exchange, SwapEnd, IsPlain}
 
 -- a line of these bytes, with its class in the context of the lines before a place

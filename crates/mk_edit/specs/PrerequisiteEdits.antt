@@ -3,8 +3,8 @@
 use Rattle.std.specs.Prelude.{◌≡◌, ℕ, Bool, true, false, List, Option}
 use Rattle.mk_lines.specs.Cells.{Cell}
 use Rattle.mk_class.specs.Headers
-use Rattle.mk_edit_laws.specs.Edits.{Edit, AddPrereq, RemovePrereq}
-use Rattle.mk_edit_laws.specs.RuleCauses.{is_normal, is_order_only}
+use Rattle.mk_edit_language.specs.Edits.{Edit, AddPrereq, RemovePrereq}
+use Rattle.mk_edit_language.specs.RuleCauses.{is_normal, is_order_only}
 
 -- an edit puts this word last among the order-only prerequisites, or among the normal ones
 pub record IsAddPrereq (order : Bool) (word : List ℕ) (e : Edit) : Type 0 where

@@ -4,7 +4,7 @@
 use Rattle.std.specs.Prelude.{◌≡◌, ℕ, List, length}
 use Rattle.mk_lines.specs.PhysicalLines.{without_line_end}
 use Rattle.mk_lines.specs.declared.split.Span.{Span}
-use Rattle.mk_edit_laws.specs.Edits.{Edit, RemoveRule, AddRecipe, SetRecipe, RemoveRecipe}
+use Rattle.mk_edit_language.specs.Edits.{Edit, RemoveRule, AddRecipe, SetRecipe, RemoveRecipe}
 
 -- the removal of a rule
 abbrev pub IsRemoveRule : Edit → Type 0

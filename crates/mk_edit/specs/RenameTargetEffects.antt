@@ -7,11 +7,11 @@ use Rattle.mk_lines.specs.Limits.{max_text}
 use Rattle.mk_class.specs.Contexts.{Context, context_after_located}
 use Rattle.mk_class.specs.RecipePrefix.{is_prefix_led}
 use Rattle.mk_tree.specs.LocatedLines.{LocatedLine}
-use Rattle.mk_edit_laws.specs.Causes.{where_holds}
-use Rattle.mk_edit_laws.specs.Edits.{Edit, RenameTarget}
-use Rattle.mk_edit_laws.specs.Refusals.{first_cause}
-use Rattle.mk_edit_laws.specs.declared.refusal.Refusal.{Refusal}
-use Rattle.mk_edit_laws.specs.declared.refusal.Refusal.TheVariants.{NoSuch, RecipePrefix, Taken, TooLong}
+use Rattle.mk_edit_language.specs.Causes.{where_holds}
+use Rattle.mk_edit_language.specs.Edits.{Edit, RenameTarget}
+use Rattle.mk_edit_language.specs.Refusals.{first_cause}
+use Rattle.mk_edit_language.specs.declared.refusal.Refusal.{Refusal}
+use Rattle.mk_edit_language.specs.declared.refusal.Refusal.TheVariants.{NoSuch, RecipePrefix, Taken, TooLong}
 use Rattle.mk_edit.specs.declared.rename_target_effect.Effect.{Effect}
 use Rattle.mk_edit.specs.declared.rename_target_effect.Turn.TheVariants as turn
 use Rattle.mk_edit.specs.RenameTargetPatches.{exchanged_count, is_exchanged}

@@ -6,7 +6,7 @@ use Rattle.mk_class.specs.ListTests.{is_empty}
 use Rattle.mk_class.specs.declared.class.Class as class
 use Rattle.mk_class.specs.declared.class.Class.TheVariants as variants
 use Rattle.mk_tree.specs.LocatedLines.{LocatedLine, text_of_line}
-use Rattle.mk_edit_laws.specs.Edits.{Edit, SetValue, AppendValue}
+use Rattle.mk_edit_language.specs.Edits.{Edit, SetValue, AppendValue}
 
 -- an edit sets a variable to this value
 pub record IsSetValue (e : Edit) (value : List ℕ) : Type 0 where

@@ -1,6 +1,6 @@
 //! What an edit would do to a document, as a patch of moved lines, or why it is refused.
 //!
-//! What an edit does is defined in `mk_edit_laws`, whose laws say what follows from it.
+//! What an edit does is defined in `mk_edit_language`, whose laws say what follows from it.
 //! `mk_edit_parts` has the edits as Rust types, the line that each edit means, and the bytes of the
 //! lines that edits write.
 //!
@@ -14,7 +14,7 @@
 //! - `remove_recipe`: the removal of a recipe line.
 //! - `set_recipe`: another command for a recipe line.
 //! - `insertion`: where new lines go, and the causes of refusal that their places decide.
-//! - `addition`: new lines, planned.
+//! - `add_line`: new lines, planned: those of assignments and of rules.
 //! - `add_recipe`: a new recipe line, planned.
 //! - `prereq`: a new prerequisite, and a prerequisite taken out, planned.
 //! - `value`: edits of a value, planned.
@@ -26,8 +26,8 @@
 //! - `rename_target`: a rename, planned.
 #![tactic(auto)]
 
+mod add_line;
 mod add_recipe;
-mod addition;
 mod insertion;
 mod moves;
 pub mod planning;
@@ -43,6 +43,5 @@ mod rename_target_places;
 mod set_recipe;
 mod value;
 
-pub use mk_edit_laws::{Colons, Detail, Field, Refusal};
-pub use mk_edit_parts::{Edit, Place};
-pub use planning::{plan, plan_with};
+pub use mk_edit_language::{RuleSeparator, Detail, Field, Refusal};
+pub pub use planning::{plan, plan_with};

@@ -17,7 +17,7 @@ ghost use Rattle.mk_edit.specs.PlannedMoves.{CanInsert, CanReplace, follows_unen
 ghost use Rattle.mk_edit_parts.specs.Found.{IsPlaceOf};
 
 use mk_class::{Context, Meter};
-use mk_edit_laws::Refusal;
+use mk_edit_language::Refusal;
 use mk_edit_parts::line_end::{file_line_end, with_line_end};
 use mk_edit_parts::seek::Found;
 use mk_lines::Fault;

@@ -3,13 +3,13 @@ ghost use Rattle.std.specs.Prelude.{◌≤◌, ◌+◌, IfOk, IfErr, OnOk};
 ghost use Rattle.mk_tree.specs.Counting.{AreCounted};
 ghost use Rattle.mk_tree.specs.Documents.{IsFaithful};
 ghost use Rattle.mk_tree.specs.LocatedLines.{located_text};
-ghost use Rattle.mk_edit_laws.specs.Costs.{cost};
-ghost use Rattle.mk_edit_parts.specs.EditViews.{edit_of};
+ghost use Rattle.mk_edit_language.specs.Costs.{cost};
+ghost use Rattle.mk_edit_language.specs.EditViews.{edit_of};
 ghost use Rattle.mk_edit_parts.specs.Seeking.{IsKnown};
 ghost use Rattle.mk_edit.specs.Planned.{IsPlanned, IsRefusal};
 
+use crate::add_line::plan_add_line;
 use crate::add_recipe::plan_add_recipe;
-use crate::addition::plan_addition;
 use crate::prereq::{plan_add_prereq, plan_remove_prereq};
 use crate::remove_assign::plan_remove_assign;
 use crate::remove_recipe::plan_remove_recipe;
@@ -18,8 +18,7 @@ use crate::rename_target::plan_rename_target;
 use crate::set_recipe::plan_set_recipe;
 use crate::value::{plan_append_value, plan_set_value};
 use mk_class::Meter;
-use mk_edit_laws::Refusal;
-use mk_edit_parts::edit::Edit;
+use mk_edit_language::{Edit, Refusal};
 use mk_edit_parts::seek::Sought;
 use mk_patch::Patch;
 use mk_tree::Doc;
@@ -82,7 +81,7 @@ pub fn plan_with<A: Allocator + Copy>(
     match edit {
         Edit::SetValue { value, .. } => plan_set_value(alloc, doc, edit, known, value, meter),
         Edit::AppendValue { value, .. } => plan_append_value(alloc, doc, edit, known, value, meter),
-        Edit::AddAssign { .. } | Edit::AddRule { .. } => plan_addition(
+        Edit::AddAssign { .. } | Edit::AddRule { .. } => plan_add_line(
             alloc, doc, edit, known, meter,
         ),
         Edit::RemoveAssign { .. } => plan_remove_assign(alloc, doc, edit, known),

@@ -6,9 +6,9 @@ ghost use Rattle.mk_tree.specs.Counting.{AreCounted};
 ghost use Rattle.mk_tree.specs.Documents.{IsFaithful};
 ghost use Rattle.mk_tree.specs.LocatedLines.{located_text};
 ghost use Rattle.mk_tree.specs.Trees.{line_view};
-ghost use Rattle.mk_edit_laws.specs.Costs.{cost};
-ghost use Rattle.mk_edit_laws.specs.RuleCauses.{is_normal, is_order_only};
-ghost use Rattle.mk_edit_parts.specs.EditViews.{edit_of};
+ghost use Rattle.mk_edit_language.specs.Costs.{cost};
+ghost use Rattle.mk_edit_language.specs.RuleCauses.{is_normal, is_order_only};
+ghost use Rattle.mk_edit_language.specs.EditViews.{edit_of};
 ghost use Rattle.mk_edit_parts.specs.Seeking.{IsKnown};
 ghost use Rattle.mk_edit.specs.Planned.{IsPlanned, IsRefusal};
 ghost use Rattle.mk_edit_parts.specs.SeenHeaders.{HasHeader, IsHeaderSeen, IsRuleLine, IsHeaderAt};
@@ -16,8 +16,7 @@ ghost use Rattle.mk_edit.specs.PrerequisiteEdits.{IsAddPrereq, IsRemovePrereq, i
 
 use crate::moves::replace_line;
 use mk_class::{Class, Header, Meter};
-use mk_edit_laws::Refusal;
-use mk_edit_parts::edit::Edit;
+use mk_edit_language::{Edit, Refusal};
 use mk_edit_parts::find::find;
 use mk_edit_parts::prerequisite::{
     has_normal, has_order_only, len_of_new, with_prerequisite, without_prerequisite,

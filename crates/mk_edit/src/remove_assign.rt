@@ -3,16 +3,16 @@ ghost use Rattle.std.specs.Prelude.{◌≡◌, ◌≤◌, ◌+◌, Some, length,
 ghost use Rattle.mk_class.specs.ClassedLines.{classed_lines};
 ghost use Rattle.mk_tree.specs.Documents.{IsFaithful};
 ghost use Rattle.mk_tree.specs.LocatedLines.{located_text};
-ghost use Rattle.mk_edit_laws.specs.LineCauses.{removal_leans};
-ghost use Rattle.mk_edit_parts.specs.EditViews.{IsRemoveAssign, edit_of};
+ghost use Rattle.mk_edit_language.specs.LineCauses.{removal_leans};
+ghost use Rattle.mk_edit_language.specs.EditViews.{edit_of};
+ghost use Rattle.mk_edit_parts.specs.AddressViews.{IsRemoveAssign};
 ghost use Rattle.mk_edit_parts.specs.Seeking.{IsKnown};
 ghost use Rattle.mk_edit.specs.Planned.{IsPlanned, IsRefusal};
 ghost use Rattle.mk_edit.specs.PlannedMoves.{stretch_at};
 ghost use Rattle.mk_edit_parts.specs.Found.{IsPlaceOf};
 
 use crate::moves::take_out;
-use mk_edit_laws::Refusal;
-use mk_edit_parts::edit::Edit;
+use mk_edit_language::{Edit, Refusal};
 use mk_edit_parts::find::find;
 use mk_edit_parts::lean::leans;
 use mk_edit_parts::place::after_lines;

@@ -2,14 +2,13 @@
 ghost use Rattle.std.specs.Prelude.{◌≡◌, IfOk, IfErr};
 ghost use Rattle.mk_tree.specs.Documents.{IsFaithful};
 ghost use Rattle.mk_tree.specs.LocatedLines.{located_text};
-ghost use Rattle.mk_edit_parts.specs.EditViews.{edit_of};
+ghost use Rattle.mk_edit_language.specs.EditViews.{edit_of};
 ghost use Rattle.mk_edit_parts.specs.Seeking.{IsKnown};
 ghost use Rattle.mk_edit.specs.Planned.{IsPlanned, IsRefusal};
 ghost use Rattle.mk_edit.specs.RecipeEdits.{IsRemoveRecipe};
 
 use crate::moves::take_out;
-use mk_edit_laws::Refusal;
-use mk_edit_parts::edit::Edit;
+use mk_edit_language::{Edit, Refusal};
 use mk_edit_parts::find::find;
 use mk_edit_parts::recipe::recipe_line;
 use mk_edit_parts::seek::Sought;

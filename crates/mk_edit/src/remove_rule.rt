@@ -4,7 +4,7 @@ ghost use Rattle.mk_tree.specs.Documents.{IsFaithful};
 ghost use Rattle.mk_tree.specs.LocatedLines.{located_text};
 ghost use Rattle.mk_tree.specs.Trees.{line_view};
 ghost use Rattle.mk_lines.specs.Words.{words_in};
-ghost use Rattle.mk_edit_parts.specs.EditViews.{edit_of};
+ghost use Rattle.mk_edit_language.specs.EditViews.{edit_of};
 ghost use Rattle.mk_edit_parts.specs.Seeking.{IsKnown};
 ghost use Rattle.mk_edit_parts.specs.LocatedParts.{IsClassed};
 ghost use Rattle.mk_edit.specs.Planned.{IsPlanned, IsRefusal};
@@ -13,8 +13,7 @@ ghost use Rattle.mk_edit_parts.specs.RecipeWalks.{header_targets_located};
 
 use crate::moves::take_out;
 use mk_class::Class;
-use mk_edit_laws::Refusal;
-use mk_edit_parts::edit::Edit;
+use mk_edit_language::{Edit, Refusal};
 use mk_edit_parts::find::find;
 use mk_edit_parts::part::{part, text_of_line};
 use mk_edit_parts::recipe::recipe_below;

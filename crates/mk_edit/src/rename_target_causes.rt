@@ -5,15 +5,14 @@ ghost use Rattle.mk_class.specs.ClassedLines.{classed_lines};
 ghost use Rattle.mk_class.specs.Contexts.{start};
 ghost use Rattle.mk_tree.specs.Documents.{IsFaithful};
 ghost use Rattle.mk_tree.specs.LocatedLines.{located_text};
-ghost use Rattle.mk_edit_laws.specs.Refusals.{causes, first_cause};
-ghost use Rattle.mk_edit_parts.specs.EditViews.{edit_of};
+ghost use Rattle.mk_edit_language.specs.Refusals.{causes, first_cause};
+ghost use Rattle.mk_edit_language.specs.EditViews.{edit_of};
 ghost use Rattle.mk_edit.specs.RenameTargetEffects.{IsRenameTarget, effect_on, first_of_lines};
 ghost use Rattle.mk_edit.specs.RenameTargetPatches.{held_places, held_view};
 
 use crate::rename_target_effect::{Effect, Survey, rename_target_effect};
-use mk_edit_laws::Refusal;
+use mk_edit_language::{Edit, Refusal};
 use mk_edit_parts::argument::{bad_field, is_reserved};
-use mk_edit_parts::edit::Edit;
 use mk_lines::source::MAX_TEXT;
 use mk_tree::Doc;
 use std::alloc::Allocator;

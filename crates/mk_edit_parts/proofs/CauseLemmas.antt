@@ -2,10 +2,10 @@
 use Rattle.std.proofs.Common.{◌≡◌, ap, ◌∙◌, ℕ, List, ◌∷◌, Option, Some, None}
 use Rattle.std.specs.Prelude.{Ok, Err}
 use Rattle.mk_class.specs.ClassedLines.{classed_lines}
-use Rattle.mk_edit_laws.specs.Edits.{Edit}
-use Rattle.mk_edit_laws.specs.EditSpans.{spans_of}
-use Rattle.mk_edit_laws.specs.Refusals.{first_cause, unless_refused, causes, spans}
-use Rattle.mk_edit_laws.specs.declared.refusal.Refusal.{Refusal}
+use Rattle.mk_edit_language.specs.Edits.{Edit}
+use Rattle.mk_edit_language.specs.EditSpans.{spans_of}
+use Rattle.mk_edit_language.specs.Refusals.{first_cause, unless_refused, causes, spans}
+use Rattle.mk_edit_language.specs.declared.refusal.Refusal.{Refusal}
 
 -- a cause that does not hold is passed over, and the first that holds is answered
 pub passed : (o : Option Refusal) (cs : List (Option Refusal)) (r : Option Refusal) → o ≡ None → first_cause cs ≡ r → first_cause (o ∷ cs) ≡ r

@@ -6,12 +6,12 @@ use Rattle.mk_class.specs.ClassedLines.{ClassedLine, classed_lines}
 use Rattle.mk_tree.specs.Documents.{context_of}
 use Rattle.mk_tree.specs.LocatedLines.{LocatedLine, located_text}
 use Rattle.mk_tree.specs.LineTexts.{StandingLine}
-use Rattle.mk_edit_laws.specs.Edits.{Edit}
-use Rattle.mk_edit_laws.specs.Addresses.{Address, address, found}
-use Rattle.mk_edit_laws.specs.ArgumentCauses.{bad_argument, reserved}
-use Rattle.mk_edit_laws.specs.AddressCauses.{unread_prefix, no_such, no_such_line, ambiguous, ambiguous_line}
-use Rattle.mk_edit_laws.specs.Refusals.{first_cause}
-use Rattle.mk_edit_laws.specs.declared.refusal.Refusal.{Refusal}
+use Rattle.mk_edit_language.specs.Edits.{Edit}
+use Rattle.mk_edit_language.specs.Addresses.{Address, address, found}
+use Rattle.mk_edit_language.specs.ArgumentCauses.{bad_argument, reserved}
+use Rattle.mk_edit_language.specs.AddressCauses.{unread_prefix, no_such, no_such_line, ambiguous, ambiguous_line}
+use Rattle.mk_edit_language.specs.Refusals.{first_cause}
+use Rattle.mk_edit_language.specs.declared.refusal.Refusal.{Refusal}
 use Rattle.mk_edit_parts.specs.declared.seek.Found.{Found}
 
 -- the line that an address means stands at this place, in this context

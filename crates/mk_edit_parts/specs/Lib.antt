@@ -1,5 +1,5 @@
-pub mod EditViews
 -- The line that an edit means
+pub mod AddressViews
 pub mod LocatedParts
 pub mod Seeking
 pub mod Found

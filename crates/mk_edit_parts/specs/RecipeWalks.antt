@@ -8,7 +8,7 @@ use Rattle.mk_class.specs.ClassedLines.{ClassedLine, classed_lines}
 use Rattle.mk_tree.specs.LocatedLines.{LocatedLine, located_text, is_conditional_located, text_of_line}
 use Rattle.mk_tree.specs.RecipeLines.{recipe_lines}
 use Rattle.mk_tree.specs.LineTexts.{StandingLine}
-use Rattle.mk_edit_laws.specs.Spots.{spots}
+use Rattle.mk_edit_language.specs.Spots.{spots}
 use Rattle.mk_edit_parts.specs.LocatedParts.{words_before}
 use Rattle.mk_edit_parts.specs.declared.recipe.Recipe as recipe
 

@@ -8,10 +8,10 @@ use Rattle.mk_class.specs.declared.class.Class as class
 use Rattle.mk_tree.specs.Documents.{context_of}
 use Rattle.mk_tree.specs.LocatedLines.{LocatedLine, located_text}
 use Rattle.mk_tree.specs.LineTexts.{StandingLine}
-use Rattle.mk_edit_laws.specs.Spots.{nth_of}
-use Rattle.mk_edit_laws.specs.Edits.{Edit}
-use Rattle.mk_edit_laws.specs.Addresses.{Address, Variable, Rule, address, candidates, nth_meant}
-use Rattle.mk_edit_laws.specs.AddressCauses.{is_unread_prefix}
+use Rattle.mk_edit_language.specs.Spots.{nth_of}
+use Rattle.mk_edit_language.specs.Edits.{Edit}
+use Rattle.mk_edit_language.specs.Addresses.{Address, Variable, Rule, address, candidates, nth_meant}
+use Rattle.mk_edit_language.specs.AddressCauses.{is_unread_prefix}
 use Rattle.mk_edit_parts.specs.LocatedParts.{assigns_located, is_rule_for_located, is_unread_located}
 use Rattle.mk_edit_parts.specs.declared.seek.Found.{Found}
 use Rattle.mk_edit_parts.specs.declared.seek.Sought.{Sought}

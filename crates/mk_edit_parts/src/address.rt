@@ -1,9 +1,10 @@
 //! The line that an edit means, as the edit says it.
 ghost use Rattle.std.specs.Prelude.{◌≡◌};
-ghost use Rattle.mk_edit_laws.specs.Addresses.{address, place_address};
-ghost use Rattle.mk_edit_parts.specs.EditViews.{address_seen, edit_of, place_of};
+ghost use Rattle.mk_edit_language.specs.Addresses.{address, place_address};
+ghost use Rattle.mk_edit_language.specs.EditViews.{edit_of, place_of};
+ghost use Rattle.mk_edit_parts.specs.AddressViews.{address_seen};
 
-use crate::edit::{Edit, Place};
+use mk_edit_language::{Edit, Place};
 use std::alloc::Allocator;
 
 /// What an edit says of the line that it means. The number counts from 1; without one the line is

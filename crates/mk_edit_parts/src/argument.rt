@@ -4,14 +4,14 @@ ghost use Rattle.std.specs.List.{list_any};
 ghost use Rattle.mk_class.specs.Arguments.{is_target, is_word};
 ghost use Rattle.mk_class.specs.Keywords.{is_reserved_word};
 ghost use Rattle.mk_class.specs.RecipePrefix.{is_prefix_name};
-ghost use Rattle.mk_edit_laws.specs.ArgumentCauses.{Tested, are_targets, are_words, bad_argument, first_failed, is_place, names, place_names, place_targets, targets};
+ghost use Rattle.mk_edit_language.specs.ArgumentCauses.{Tested, are_targets, are_words, bad_argument, first_failed, is_place, names, place_names, place_targets, targets};
 ghost use Rattle.mk_lines.specs.Words.{words_in};
-ghost use Rattle.mk_edit_parts.specs.EditViews.{edit_of, field_refusal, place_of};
+ghost use Rattle.mk_edit_language.specs.EditViews.{edit_of, place_of};
+ghost use Rattle.mk_edit_parts.specs.AddressViews.{field_refusal};
 
-use crate::edit::{Edit, Place};
 use crate::text::is_prefix_name;
 use mk_class::{is_command, is_name, is_reserved_word, is_target, is_value, is_word};
-use mk_edit_laws::Field;
+use mk_edit_language::{Edit, Field, Place};
 use mk_lines::split_first_word;
 use std::alloc::Allocator;
 

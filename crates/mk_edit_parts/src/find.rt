@@ -4,18 +4,18 @@ ghost use Rattle.std.specs.Prelude.{◌≡◌, ◌≤◌, length, IfOk, IfErr, E
 ghost use Rattle.mk_class.specs.ClassedLines.{ClassedLine, classed_lines};
 ghost use Rattle.mk_tree.specs.Documents.{IsFaithful};
 ghost use Rattle.mk_tree.specs.LocatedLines.{located_text};
-ghost use Rattle.mk_edit_laws.specs.Addresses.{nth_meant};
-ghost use Rattle.mk_edit_laws.specs.Refusals.{spans};
-ghost use Rattle.mk_edit_laws.specs.TouchedLines.{IsOfOnePlace};
-ghost use Rattle.mk_edit_parts.specs.EditViews.{address_seen, address_view, edit_of};
+ghost use Rattle.mk_edit_language.specs.Addresses.{nth_meant};
+ghost use Rattle.mk_edit_language.specs.Refusals.{spans};
+ghost use Rattle.mk_edit_language.specs.TouchedLines.{IsOfOnePlace};
+ghost use Rattle.mk_edit_language.specs.EditViews.{edit_of};
+ghost use Rattle.mk_edit_parts.specs.AddressViews.{address_seen, address_view};
 ghost use Rattle.mk_edit_parts.specs.Found.{IsAddressed, IsNotPicked, IsPicked};
 ghost use Rattle.mk_edit_parts.specs.Seeking.{IsKnown, IsKnownOf, IsSought};
 
 use crate::address::{Address, address_of};
 use crate::argument::{bad_field, is_reserved};
-use crate::edit::Edit;
 use crate::seek::{Found, Sought, seek};
-use mk_edit_laws::Refusal;
+use mk_edit_language::{Edit, Refusal};
 use mk_tree::Doc;
 use std::alloc::Allocator;
 

@@ -1,10 +1,8 @@
-//! The parts of edits: what an edit is, which line it means, and the bytes of the lines that it
-//! writes.
+//! The parts of edits: which line an edit means, and the bytes of the lines that it writes.
 //!
-//! What an edit does is defined in `mk_edit_laws`, whose laws say what follows from it. The calls
+//! What an edit does is defined in `mk_edit_language`, whose laws say what follows from it. The calls
 //! here answer what these definitions say; `mk_edit` plans edits with these calls.
 //!
-//! - [`edit`]: the twelve edits, and the places of new lines.
 //! - [`text`]: texts compared, and the words of a text.
 //! - [`argument`]: the causes of refusal that the fields of an edit decide.
 //! - [`address`]: the line that an edit means, as the edit says it.
@@ -26,7 +24,6 @@
 
 pub mod address;
 pub mod argument;
-pub mod edit;
 pub mod find;
 pub mod glance;
 pub mod lean;
@@ -43,6 +40,3 @@ pub mod seek;
 pub mod tally;
 pub mod text;
 pub mod word_parts;
-
-pub use edit::{Edit, Place};
-pub use mk_edit_laws::{Colons, Detail, Field, Refusal};

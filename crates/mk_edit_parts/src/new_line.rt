@@ -2,26 +2,25 @@
 ghost use Rattle.std.specs.Prelude.{◌≡◌, ◌==◌, ◌-◌, ◌*◌, ◌≤◌, ◌^◌, ◌∷◌, ◌++◌, ℕ, List, OnOk, IfOk, length, min};
 ghost use Rattle.mk_class.specs.RecipePrefix.{is_prefix_led};
 ghost use Rattle.mk_lines.specs.PhysicalLines.{line_end_bytes};
-ghost use Rattle.mk_edit_laws.specs.declared.edit.Colons as colons;
+ghost use Rattle.mk_edit_language.specs.declared.edit.RuleSeparator as separator;
 ghost use Rattle.mk_lines.specs.Spacing.{each_after_space, spaced_words, after_space};
-ghost use Rattle.mk_edit_laws.specs.NewLines.{assign_text, colons_text, new_text, rule_text};
+ghost use Rattle.mk_edit_language.specs.NewLines.{assign_text, rule_separator_text, new_text, rule_text};
 ghost use Rattle.mk_lines.specs.Words.{words_in};
-ghost use Rattle.mk_edit_parts.specs.EditViews.{edit_of};
+ghost use Rattle.mk_edit_language.specs.EditViews.{edit_of};
 
-use crate::edit::Edit;
 use mk_class::Flavor;
-use mk_edit_laws::Colons;
+use mk_edit_language::{Edit, RuleSeparator};
 use mk_lines::ends::End;
 use mk_lines::split_first_word;
 use std::alloc::{AllocError, Allocator};
 
 // The text of a separator.
-fn colons_text(colons: Colons) -> &'static [u8]
-    ensures { result.now ≡ colons_text colons }
+fn rule_separator_text(separator: RuleSeparator) -> &'static [u8]
+    ensures { result.now ≡ rule_separator_text separator }
 {
-    match colons {
-        Colons::One => b":",
-        Colons::Two => b"::",
+    match separator {
+        RuleSeparator::Single => b":",
+        RuleSeparator::Double => b"::",
     }
 }
 
@@ -71,10 +70,10 @@ pub fn new_len<A: Allocator>(edit: &Edit<A>) -> usize
         } => assign_len(name, *flavor, value),
         Edit::AddRule {
             targets,
-            colons,
+            separator,
             prereqs,
             ..
-        } => rule_len(targets, *colons, prereqs),
+        } => rule_len(targets, *separator, prereqs),
         Edit::AddRecipe { line, .. } => line.len().saturating_add(1),
         _ => 0,
     }
@@ -91,11 +90,11 @@ fn assign_len(name: &[u8], flavor: Flavor, value: &[u8]) -> usize
 }
 
 // How many bytes a rule has, or the greatest `usize` if it has more.
-fn rule_len(targets: &[u8], colons: Colons, prereqs: &[u8]) -> usize
-    ensures { result ≡ min (length (rule_text targets.now colons prereqs.now)) (2 ^ 64 - 1) }
+fn rule_len(targets: &[u8], separator: RuleSeparator, prereqs: &[u8]) -> usize
+    ensures { result ≡ min (length (rule_text targets.now separator prereqs.now)) (2 ^ 64 - 1) }
 {
     joined_len(targets)
-        .saturating_add(colons_text(colons).len())
+        .saturating_add(rule_separator_text(separator).len())
         .saturating_add(each_spaced_len(prereqs))
 }
 
@@ -124,10 +123,10 @@ pub fn new_line<A: Allocator + Copy>(
         } => push_assign(&mut bytes, name, *flavor, value)?,
         Edit::AddRule {
             targets,
-            colons,
+            separator,
             prereqs,
             ..
-        } => push_rule(&mut bytes, targets, *colons, prereqs)?,
+        } => push_rule(&mut bytes, targets, *separator, prereqs)?,
         Edit::AddRecipe { line, .. } => push_recipe(&mut bytes, prefix, line)?,
         _ => (),
     }
@@ -155,14 +154,14 @@ fn push_assign<A: Allocator>(
 fn push_rule<A: Allocator>(
     bytes: &mut Vec<u8, A>,
     targets: &[u8],
-    colons: Colons,
+    separator: RuleSeparator,
     prereqs: &[u8],
 ) -> Result<(), AllocError>
     ensures { OnOk result
-        (bytes.new.items ≡ bytes.old.items ++ rule_text targets.now colons prereqs.now) }
+        (bytes.new.items ≡ bytes.old.items ++ rule_text targets.now separator prereqs.now) }
 {
     push_joined(bytes, targets)?;
-    bytes.extend_from_slice(colons_text(colons))?;
+    bytes.extend_from_slice(rule_separator_text(separator))?;
     push_each_spaced(bytes, prereqs)
 }
 
@@ -254,7 +253,7 @@ fn first_byte(text: &[u8], other: u8) -> u8
 
 // The first byte of a rule with these targets.
 fn first_of_rule(targets: &[u8]) -> u8
-    ensures { (prefix : ℕ) (c : colons.Colons) (prereqs : List ℕ)
+    ensures { (prefix : ℕ) (c : separator.RuleSeparator) (prereqs : List ℕ)
         → (result == prefix) ≡ is_prefix_led prefix (rule_text targets.now c prereqs) }
 {
     match split_first_word(targets) {

@@ -8,7 +8,7 @@ ghost use Rattle.mk_class.specs.Classes.{is_conditional};
 ghost use Rattle.mk_tree.specs.Documents.{IsFaithful};
 ghost use Rattle.mk_tree.specs.LocatedLines.{is_conditional_located};
 ghost use Rattle.mk_tree.specs.RecipeLines.{recipe_run};
-ghost use Rattle.mk_edit_laws.specs.Spots.{nth_of};
+ghost use Rattle.mk_edit_language.specs.Spots.{nth_of};
 ghost use Rattle.mk_edit_parts.specs.RecipeWalks.{is_recipe_located, lines_from, recipe_spots_in, stays_in_rule_located};
 
 use mk_class::Class;

@@ -3,7 +3,7 @@
 
 use crate::checks::Heap;
 use mk_class::Flavor;
-use mk_edit::{Colons, Edit, Place};
+use mk_edit::{Edit, Place, RuleSeparator};
 use std::alloc::AllocError;
 
 /// Gives a variable another value.
@@ -59,13 +59,13 @@ pub fn remove_assign<'a>(heap: Heap<'a>, name: &[u8]) -> Result<Edit<Heap<'a>>, 
 pub fn add_rule<'a>(
     heap: Heap<'a>,
     targets: &[u8],
-    colons: Colons,
+    separator: RuleSeparator,
     prereqs: &[u8],
 ) -> Result<Edit<Heap<'a>>, AllocError> {
     Ok(Edit::AddRule {
         place: Place::Bottom,
         targets: Vec::from_slice(heap, targets)?,
-        colons,
+        separator,
         prereqs: Vec::from_slice(heap, prereqs)?,
     })
 }

@@ -10,7 +10,7 @@ use crate::edits::{
     remove_recipe, remove_rule, rename_target, set_recipe, set_value,
 };
 use mk_class::{Flavor, Meter};
-use mk_edit::{Colons, Edit, Field, Refusal, plan};
+use mk_edit::{Edit, Field, Refusal, RuleSeparator, plan};
 use mk_lines::source::MAX_TEXT;
 use mk_patch::Patch;
 use mk_tree::Doc;
@@ -51,7 +51,7 @@ fn an_assignment_is_taken_out(rt: HostRuntime) -> Result<(), Fail> {
 #[test]
 fn a_rule_is_put_in(rt: HostRuntime) -> Result<(), Fail> {
     let heap = Watched::new(rt.alloc());
-    let edit = add_rule(&heap, b"a b", Colons::Two, b"$(subst x y,z,w) c");
+    let edit = add_rule(&heap, b"a b", RuleSeparator::Double, b"$(subst x y,z,w) c");
     check_accepted(
         &heap,
         b"X = 1\n",

@@ -3,7 +3,7 @@ ghost use Rattle.std.specs.Prelude.{◌≡◌, ◌+◌, IsTrue, None, is_some, l
 ghost use Rattle.mk_tree.specs.Documents.{IsFaithful};
 ghost use Rattle.mk_tree.specs.Trees.{line_view};
 ghost use Rattle.mk_tree.specs.UnreadPrefixes.{IsEndOf};
-ghost use Rattle.mk_edit_parts.specs.EditViews.{edit_of};
+ghost use Rattle.mk_edit_language.specs.EditViews.{edit_of};
 ghost use Rattle.mk_edit_parts.specs.LocatedParts.{IsClassed};
 ghost use Rattle.mk_edit_parts.specs.Seeking.{IsKnown};
 ghost use Rattle.mk_patch.specs.Moves.{FitMoves, after_moves, held_by, taken_by};
@@ -11,8 +11,8 @@ ghost use Rattle.mk_index.specs.Effects.{AssignSame, IsBehind, IsEffect, IsIndex
 
 use crate::index::Index;
 use mk_class::Class;
+use mk_edit_language::Edit;
 use mk_edit_parts::address::{Address, address_of};
-use mk_edit_parts::edit::Edit;
 use mk_edit_parts::part::{part, text_of_line};
 use mk_edit_parts::seek::Sought;
 use mk_edit_parts::text::is_same_text;

@@ -16,29 +16,23 @@
 //! - `line_part`: parts of a line by their offsets.
 //! - `position`: the numbers of lines, and where an item stands.
 //! - `targets`: targets with the separator after them.
-//! - `unread`: the query [`check`].
-//! - `variables`: the query [`vars`].
-//! - `headers`: the query [`rules`].
 //! - `make_word`: the first word of a line, as make finds it.
 //! - `seen`: what the lines above tell of rules, where make passes some of them.
 //! - `caveat`: what make may read in a line otherwise.
-//! - `otherwise`: the query [`caveats`].
+//! - `query`: the four queries, each in the module of its name.
 #![tactic(auto)]
 
 mod caveat;
 mod gathering;
-mod headers;
 mod line_part;
 mod make_word;
-mod otherwise;
 mod position;
+mod query;
 mod seen;
 mod spacing;
 mod targets;
-mod unread;
-mod variables;
 
-pub use headers::rules;
-pub use otherwise::caveats;
-pub use unread::check;
-pub use variables::vars;
+pub use query::caveats::caveats;
+pub use query::check::check;
+pub use query::rules::rules;
+pub use query::vars::vars;

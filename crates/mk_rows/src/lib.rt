@@ -1,4 +1,4 @@
-//! The definitions of `mk_edit_laws` and of `mk_queries`, computed on rows with answers from outside.
+//! The definitions of `mk_edit_language` and of `mk_queries`, computed on rows with answers from outside.
 //!
 //! There is no code here: `proofs/` has an equation for each row, which the check computes. It is a
 //! crate of its own, since 10,000 lines of equations take memory, and nothing stands on them.

@@ -3,9 +3,9 @@ use Rattle.std.proofs.Common.{◌≡◌, refl, ℕ, Bool, true, false, List, [],
 use Rattle.std.specs.Prelude.{codes}
 use Rattle.std.specs.Fmt.{digits}
 use Rattle.mk_class.specs.declared.assignment.Flavor.TheVariants.{Recursive, Simple}
-use Rattle.mk_edit_laws.specs.declared.edit.Colons.TheVariants.{One}
-use Rattle.mk_edit_laws.specs.Edits.{Edit, Bottom, BeforeVar}
-use Rattle.mk_edit_laws.specs.Edits.{SetValue, AppendValue, AddAssign, RemoveAssign, AddRule, RemoveRule, AddPrereq, RemovePrereq, AddRecipe, SetRecipe, RemoveRecipe, RenameTarget}
+use Rattle.mk_edit_language.specs.declared.edit.RuleSeparator.TheVariants.{Single}
+use Rattle.mk_edit_language.specs.Edits.{Edit, Bottom, BeforeVar}
+use Rattle.mk_edit_language.specs.Edits.{SetValue, AppendValue, AddAssign, RemoveAssign, AddRule, RemoveRule, AddPrereq, RemovePrereq, AddRecipe, SetRecipe, RemoveRecipe, RenameTarget}
 use Rattle.mk_history.specs.Machine.{Command, Apply, Undo, Redo, Begin, End, Cancel}
 use Rattle.mk_history.specs.Shown.{shown_opened}
 use Rattle.mk_script.specs.Scripts.{CommandAt}
@@ -175,7 +175,7 @@ row_inline_recipe_has_no_number : came_to false 100 (codes "foo: ; x\n") (at 1 (
 unfolding digits
 row_inline_recipe_has_no_number = refl
 
-row_target_that_ends_in_an_ampersand_is_refused : came_to false 100 [] (at 1 (Apply (AddRule Bottom (codes "$&") One [])) ∷ []) ≡ ends (Refused 1) (codes "1: refused 1 BadArgument targets\n") None
+row_target_that_ends_in_an_ampersand_is_refused : came_to false 100 [] (at 1 (Apply (AddRule Bottom (codes "$&") Single [])) ∷ []) ≡ ends (Refused 1) (codes "1: refused 1 BadArgument targets\n") None
 unfolding digits
 row_target_that_ends_in_an_ampersand_is_refused = refl
 

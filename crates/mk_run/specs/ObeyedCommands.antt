@@ -1,7 +1,7 @@
 -- The commands of a script, which the session machine obeys one after the other.
 -- Told in docs/PROOFS.md, "A run".
 use Rattle.std.specs.Prelude.{ℕ, ◌+◌, Bool, true, false, List, [], ◌∷◌, ◌++◌, Result, Ok, Err}
-use Rattle.mk_edit_laws.specs.declared.refusal.Refusal.{Refusal}
+use Rattle.mk_edit_language.specs.declared.refusal.Refusal.{Refusal}
 use Rattle.mk_history.specs.Machine as machine
 use Rattle.mk_history.specs.Shown.{Shown}
 use Rattle.mk_session.specs.Sessions.{answer, session_refusal}

@@ -1,10 +1,10 @@
 -- The line that a report has for a refused command.
 -- Told in docs/EDITS.md, "Running a script".
 use Rattle.std.specs.Prelude.{ℕ, List, [], ◌++◌, codes, decimal}
-use Rattle.mk_edit_laws.specs.RefusalTexts.{number_of, name_of, detail_of, field_name}
-use Rattle.mk_edit_laws.specs.declared.refusal.Refusal.{Refusal}
-use Rattle.mk_edit_laws.specs.declared.refusal.Detail.{Detail}
-use Rattle.mk_edit_laws.specs.declared.refusal.Detail.TheVariants.{Count, Field, Nothing}
+use Rattle.mk_edit_language.specs.RefusalTexts.{number_of, name_of, detail_of, field_name}
+use Rattle.mk_edit_language.specs.declared.refusal.Refusal.{Refusal}
+use Rattle.mk_edit_language.specs.declared.refusal.Detail.{Detail}
+use Rattle.mk_edit_language.specs.declared.refusal.Detail.TheVariants.{Count, Field, Nothing}
 
 -- what a refusal says in addition to its name
 abbrev detail_text : Detail → List ℕ

@@ -1,8 +1,8 @@
 -- Laws of runs. Each law is the contract of a public function.
 -- Told in docs/PROOFS.md, "Runs (mk_run)".
 use Rattle.std.specs.Prelude.{◌≡◌, ℕ, Bool, true, false, List, [], ◌∷◌, ◌++◌, length, Some, None, Result, Ok, Err, IfSome}
-use Rattle.mk_edit_laws.specs.Edits.{Edit}
-use Rattle.mk_edit_laws.specs.declared.refusal.Refusal.{Refusal}
+use Rattle.mk_edit_language.specs.Edits.{Edit}
+use Rattle.mk_edit_language.specs.declared.refusal.Refusal.{Refusal}
 use Rattle.mk_history.specs.Machine as machine
 use Rattle.mk_history.specs.Machine.{Command, Apply, Undo, opened, replay}
 use Rattle.mk_history.specs.Shown.{Shown, shown_opened}

@@ -2,7 +2,7 @@
 -- Told in docs/PROOFS.md, "A run".
 use Rattle.std.specs.Prelude.{◌≡◌, ◌⊎◌, ℕ, suc, zero, ◌<◌, Bool, true, false, List, [], length, Option, Some, None, Result, Ok, Err}
 use Rattle.mk_lines.specs.Limits.{max_text}
-use Rattle.mk_edit_laws.specs.declared.refusal.Refusal.{Refusal}
+use Rattle.mk_edit_language.specs.declared.refusal.Refusal.{Refusal}
 use Rattle.mk_tree.specs.Documents.{IsTooDeep}
 use Rattle.mk_history.specs.Machine as machine
 use Rattle.mk_history.specs.Machine.{End}

@@ -3,8 +3,8 @@
 use Rattle.std.specs.Prelude.{ℕ, true, false, if◌then◌else◌, List, Option, Some, None, option_map, codes}
 use Rattle.std.specs.Str.{bytes_eq}
 use Rattle.mk_class.specs.declared.assignment.Flavor.{Flavor}
-use Rattle.mk_edit_laws.specs.Edits.{Place, Bottom, BeforeVar, AfterVar, BeforeRule, Edit, SetValue, AppendValue, AddAssign, RemoveAssign, AddRule, RemoveRule, AddPrereq, RemovePrereq, AddRecipe, SetRecipe, RemoveRecipe, RenameTarget}
-use Rattle.mk_edit_laws.specs.declared.edit.Colons.{Colons}
+use Rattle.mk_edit_language.specs.Edits.{Place, Bottom, BeforeVar, AfterVar, BeforeRule, Edit, SetValue, AppendValue, AddAssign, RemoveAssign, AddRule, RemoveRule, AddPrereq, RemovePrereq, AddRecipe, SetRecipe, RemoveRecipe, RenameTarget}
+use Rattle.mk_edit_language.specs.declared.edit.RuleSeparator.{RuleSeparator}
 use Rattle.mk_history.specs.Machine.{Command, Apply}
 use Rattle.mk_script.specs.FieldReading.{is_blank, first_field, one_field, two_fields, three_fields}
 use Rattle.mk_script.specs.NumberReading.{number}
@@ -62,9 +62,9 @@ abbrev pub add_assign_after : Option (Place × List ℕ) → Option Edit
 add_assign_after None = None
 add_assign_after (Some p) = add_assign_at p.0 (three_fields p.1)
 
-abbrev pub add_rule_of : Place → Option Colons → (targets prereqs : List ℕ) → Option Edit
+abbrev pub add_rule_of : Place → Option RuleSeparator → (targets prereqs : List ℕ) → Option Edit
 add_rule_of place None targets prereqs = None
-add_rule_of place (Some colons) targets prereqs = Some (AddRule place targets colons prereqs)
+add_rule_of place (Some separator) targets prereqs = Some (AddRule place targets separator prereqs)
 
 abbrev pub add_rule_at : Place → Option (List ℕ × List ℕ × List ℕ) → Option Edit
 add_rule_at place None = None

@@ -2,8 +2,8 @@
 -- Told in docs/EDITS.md, "The script".
 use Rattle.std.specs.Prelude.{◌≡◌, ℕ, Bool, true, false, List, [], ◌∷◌, ◌++◌, Option, Some, None, codes}
 use Rattle.mk_class.specs.OperatorTexts.{operator_text}
-use Rattle.mk_edit_laws.specs.Edits.{Place, Bottom, BeforeVar, AfterVar, BeforeRule, Edit, SetValue, AppendValue, AddAssign, RemoveAssign, AddRule, RemoveRule, AddPrereq, RemovePrereq, AddRecipe, SetRecipe, RemoveRecipe, RenameTarget}
-use Rattle.mk_edit_laws.specs.NewLines.{colons_text}
+use Rattle.mk_edit_language.specs.Edits.{Place, Bottom, BeforeVar, AfterVar, BeforeRule, Edit, SetValue, AppendValue, AddAssign, RemoveAssign, AddRule, RemoveRule, AddPrereq, RemovePrereq, AddRecipe, SetRecipe, RemoveRecipe, RenameTarget}
+use Rattle.mk_edit_language.specs.NewLines.{rule_separator_text}
 use Rattle.mk_history.specs.Machine.{Command, Apply, Undo, Redo, Begin, End, Cancel}
 use Rattle.mk_script.specs.Numbers.{IsNumber}
 
@@ -46,9 +46,9 @@ IsCommand fields (Apply (AddAssign place name flavor value)) =
     IsAfterNth (nth_of_place place) fields
     (codes "assign" ∷ (place_words place ++ name ∷ operator_text flavor ∷ value ∷ []))
 IsCommand fields (Apply (RemoveAssign nth name)) = IsAfterNth nth fields (codes "unset" ∷ name ∷ [])
-IsCommand fields (Apply (AddRule place targets colons prereqs)) =
+IsCommand fields (Apply (AddRule place targets separator prereqs)) =
     IsAfterNth (nth_of_place place) fields
-    (codes "rule" ∷ (place_words place ++ targets ∷ colons_text colons ∷ prereqs ∷ []))
+    (codes "rule" ∷ (place_words place ++ targets ∷ rule_separator_text separator ∷ prereqs ∷ []))
 IsCommand fields (Apply (RemoveRule nth target)) =
     IsAfterNth nth fields (codes "unrule" ∷ target ∷ [])
 IsCommand fields (Apply (AddPrereq order nth target word)) =

@@ -4,7 +4,7 @@ use Rattle.std.specs.Prelude.{◌≡◌, ◌⊎◌, ℕ, List, [], ◌∷◌, ma
 use Rattle.bstr.specs.Text.{lines_of, without_terminator}
 use Rattle.mk_lines.specs.Lists.{Each}
 use Rattle.mk_lines.specs.Bytes.{is_blank_byte}
-use Rattle.mk_edit_laws.specs.Edits.{Edit}
+use Rattle.mk_edit_language.specs.Edits.{Edit}
 use Rattle.mk_history.specs.Machine.{Command}
 use Rattle.mk_script.specs.Fields.{HasFields}
 use Rattle.mk_script.specs.CommandTable.{IsCommand}

@@ -2,7 +2,7 @@
 -- Told in docs/ARCHITECTURE.md, "From a script to a text".
 use Rattle.std.specs.Prelude.{◌≡◌, ℕ, Bool, true, false, ◌||◌, ◌==◌, List, [], ◌∷◌, Option, Some, None, Result, Ok, Err, is_some}
 use Rattle.std.specs.Borrow.{Bor}
-use Rattle.mk_edit_laws.specs.Edits as edits
+use Rattle.mk_edit_language.specs.Edits as edits
 use Rattle.mk_script.specs.FieldReading.{is_blank}
 use Rattle.mk_script.specs.SeenFields.{field_text}
 use Rattle.mk_script.specs.declared.fault.LineFault.{LineFault}

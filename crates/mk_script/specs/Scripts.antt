@@ -3,7 +3,7 @@
 -- Told in docs/EDITS.md, "Running a script" and "The script".
 use Rattle.std.specs.Prelude.{◌≡◌, ◌⊎◌, ℕ, ◌+◌, List, [], ◌∷◌, ◌++◌, length}
 use Rattle.std.specs.List.{AllByRecursion}
-use Rattle.mk_edit_laws.specs.Edits.{Edit}
+use Rattle.mk_edit_language.specs.Edits.{Edit}
 use Rattle.mk_history.specs.Machine.{Command}
 use Rattle.mk_command.specs.CommandViews.{command_of}
 use Rattle.mk_script.specs.Lines.{script_lines, IsSkipped, HasCommand, IsReadable}

@@ -5,10 +5,10 @@ use Rattle.std.specs.Str.{bytes_eq}
 use Rattle.mk_class.specs.declared.assignment.Flavor.{Flavor}
 use Rattle.mk_class.specs.declared.assignment.Flavor.TheVariants.{Recursive, Simple, PosixSimple, Immediate, Conditional, Append, Shell}
 use Rattle.mk_class.specs.OperatorTexts.{operator_text}
-use Rattle.mk_edit_laws.specs.Edits.{Edit}
-use Rattle.mk_edit_laws.specs.NewLines.{colons_text}
-use Rattle.mk_edit_laws.specs.declared.edit.Colons.{Colons}
-use Rattle.mk_edit_laws.specs.declared.edit.Colons.TheVariants.{One, Two}
+use Rattle.mk_edit_language.specs.Edits.{Edit}
+use Rattle.mk_edit_language.specs.NewLines.{rule_separator_text}
+use Rattle.mk_edit_language.specs.declared.edit.RuleSeparator.{RuleSeparator}
+use Rattle.mk_edit_language.specs.declared.edit.RuleSeparator.TheVariants.{Single, Double}
 use Rattle.mk_history.specs.Machine.{Command, Undo, Redo, Begin, End, Cancel}
 use Rattle.mk_script.specs.declared.word.EditWord.{EditWord}
 use Rattle.mk_script.specs.declared.word.EditWord.TheVariants as word
@@ -49,5 +49,5 @@ operators =
     ∷ (Conditional, operator_text Conditional) ∷ (Append, operator_text Append)
     ∷ (Shell, operator_text Shell) ∷ []
 
-abbrev pub separators : List (Colons × List ℕ)
-separators = (One, colons_text One) ∷ (Two, colons_text Two) ∷ []
+abbrev pub separators : List (RuleSeparator × List ℕ)
+separators = (Single, rule_separator_text Single) ∷ (Double, rule_separator_text Double) ∷ []

@@ -2,7 +2,7 @@
 //! a number may stand.
 ghost use Rattle.std.specs.Prelude.{◌≡◌};
 ghost use Rattle.mk_command.specs.CommandViews.{command_of};
-ghost use Rattle.mk_edit_parts.specs.EditViews.{edit_of};
+ghost use Rattle.mk_edit_language.specs.EditViews.{edit_of};
 ghost use Rattle.mk_script.specs.SeenFields.{field_text};
 ghost use Rattle.mk_script.specs.CommandReading.{addressed_edit, command};
 ghost use Rattle.mk_script.specs.ReaderAnswers.{IsRead, begins_comment, is_skipped};
@@ -14,7 +14,7 @@ use crate::fields::{first_field, is_blank};
 use crate::number::number_of;
 use crate::word::call;
 use mk_command::Command;
-use mk_edit_parts::Edit;
+use mk_edit_language::Edit;
 use std::alloc::Allocator;
 
 /// Whether a line is skipped: its first byte is `#`, or it has only blanks.

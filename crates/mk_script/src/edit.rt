@@ -3,8 +3,8 @@
 //! Fields stay in their line until it is known that they make an edit. Then their bytes are copied,
 //! once each: memory is asked for only if there is an edit.
 ghost use Rattle.std.specs.Prelude.{◌≡◌, IfOk, true, false};
-ghost use Rattle.mk_edit_laws.specs.Edits as edits;
-ghost use Rattle.mk_edit_parts.specs.EditViews.{edit_of, place_of};
+ghost use Rattle.mk_edit_language.specs.Edits as edits;
+ghost use Rattle.mk_edit_language.specs.EditViews.{edit_of, place_of};
 ghost use Rattle.mk_script.specs.SeenFields.{field_text};
 ghost use Rattle.mk_script.specs.CommandReading.{add_assign_after, edit, of_one, of_two, place_at_front, remove_recipe_after, rename_target_of, add_rule_after, set_recipe_after};
 ghost use Rattle.mk_script.specs.FieldReading.{three_fields, two_fields};
@@ -14,8 +14,8 @@ use crate::fault::{LineFault, NotThere};
 use crate::field::Field;
 use crate::fields::{first_field, one_field, three_fields, two_fields};
 use crate::number::number_of;
-use crate::word::{EditWord, PlaceWord, colons, edit_word, flavor, place_word};
-use mk_edit_parts::{Edit, Place};
+use crate::word::{EditWord, PlaceWord, edit_word, flavor, place_word, rule_separator};
+use mk_edit_language::{Edit, Place};
 use std::alloc::{AllocError, Allocator};
 
 /// A place whose text is still in the line.
@@ -183,7 +183,7 @@ fn read_rule<A: Allocator + Copy>(
 {
     let (place, rest) = place_at_front(nth, rest)?;
     let (targets, separator, prereqs) = three_fields(rest)?;
-    let Some(colons) = colons(separator) else {
+    let Some(separator) = rule_separator(separator) else {
         return Err(LineFault::NotACommand);
     };
     let place = place.to_place(alloc)?;
@@ -192,7 +192,7 @@ fn read_rule<A: Allocator + Copy>(
     Ok(Edit::AddRule {
         place,
         targets,
-        colons,
+        separator,
         prereqs,
     })
 }

@@ -8,7 +8,7 @@ ghost use Rattle.mk_script.specs.WordReading.{calls, edit_words, named, operator
 use crate::field::Field;
 use mk_class::Flavor;
 use mk_command::Command;
-use mk_edit_laws::Colons;
+use mk_edit_language::RuleSeparator;
 use std::alloc::Allocator;
 
 /// The words of edits.
@@ -151,13 +151,13 @@ pub(crate) fn flavor(operator: Field<'_>) -> Option<Flavor>
 }
 
 /// The separator of a new rule.
-pub(crate) fn colons(separator: Field<'_>) -> Option<Colons>
+pub(crate) fn rule_separator(separator: Field<'_>) -> Option<RuleSeparator>
     ensures { result ≡ named separators (field_text separator.entry) }
 {
     if separator.is(b":") {
-        Some(Colons::One)
+        Some(RuleSeparator::Single)
     } else if separator.is(b"::") {
-        Some(Colons::Two)
+        Some(RuleSeparator::Double)
     } else {
         None
     }

@@ -3,10 +3,10 @@
 use Rattle.std.specs.Prelude.{◌≡◌, ℕ, ◌≤◌, List, length, map, replicate, None, Ok}
 use Rattle.mk_lines.specs.Pieces.{Replacement}
 use Rattle.mk_tree.specs.Readings.{reading}
-use Rattle.mk_edit_laws.specs.Edits.{Edit}
-use Rattle.mk_edit_laws.specs.Changes.{change}
-use Rattle.mk_edit_laws.specs.Refusals.{spans}
-use Rattle.mk_edit_laws.specs.RisingSpans.{IsReplacedAt}
+use Rattle.mk_edit_language.specs.Edits.{Edit}
+use Rattle.mk_edit_language.specs.Changes.{change}
+use Rattle.mk_edit_language.specs.Refusals.{spans}
+use Rattle.mk_edit_language.specs.RisingSpans.{IsReplacedAt}
 use Rattle.mk_history.specs.Machine.{Apply, Undo, opened, replay}
 use Rattle.mk_history.specs.Shown.{shown}
 use Rattle.mk_history.specs.CallSteps.{Granted}

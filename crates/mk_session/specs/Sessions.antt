@@ -5,10 +5,10 @@ use Rattle.std.specs.Prelude.{◌≡◌, ◌⊎◌, ℕ, ◌<◌, List, length, 
 use Rattle.mk_lines.specs.Limits.{max_text}
 use Rattle.mk_lines.specs.Pieces.{Replacement, replaced}
 use Rattle.mk_tree.specs.Documents.{IsTooDeep}
-use Rattle.mk_edit_laws.specs.Edits.{Edit}
-use Rattle.mk_edit_laws.specs.Refusals.{spans}
-use Rattle.mk_edit_laws.specs.declared.refusal.Refusal.{Refusal}
-use Rattle.mk_edit_laws.specs.declared.refusal.Refusal.TheVariants.{NoMemory, NothingToUndo, NothingToRedo, GroupOpen, NoGroup}
+use Rattle.mk_edit_language.specs.Edits.{Edit}
+use Rattle.mk_edit_language.specs.Refusals.{spans}
+use Rattle.mk_edit_language.specs.declared.refusal.Refusal.{Refusal}
+use Rattle.mk_edit_language.specs.declared.refusal.Refusal.TheVariants.{NoMemory, NothingToUndo, NothingToRedo, GroupOpen, NoGroup}
 use Rattle.mk_lines.specs.declared.fault.Fault as fault
 use Rattle.mk_lines.specs.declared.fault.Fault.TheVariants.{TooLong, TooDeep, BadDepth}
 use Rattle.mk_history.specs.Machine as machine

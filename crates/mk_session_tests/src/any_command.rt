@@ -1,7 +1,7 @@
 //! Commands drawn at random: many of them fit the texts of the tests, and many do not.
 use crate::numbers::Numbers;
 use mk_class::Flavor;
-use mk_session::{Colons, Command, Edit, Place};
+use mk_session::{Command, Edit, Place, RuleSeparator};
 use std::alloc::AllocError;
 
 const NAMES: [&[u8]; 8] = [
@@ -100,7 +100,7 @@ fn rule_edit(rt: &HostRuntime, numbers: &mut Numbers) -> Result<Edit, AllocError
         0 => Edit::AddRule {
             place: place(rt, numbers)?,
             targets: numbers.one_of(rt, &LISTS)?,
-            colons: Colons::One,
+            separator: RuleSeparator::Single,
             prereqs: numbers.one_of(rt, &LISTS)?,
         },
         1 => Edit::RemoveRule { nth, target },

@@ -2,7 +2,7 @@
 //!
 //! Each means the only assignment of its name, or the only rule of its target.
 use mk_class::Flavor;
-use mk_session::{Colons, Edit, Place};
+use mk_session::{Edit, Place, RuleSeparator};
 use std::alloc::{AllocError, Allocator};
 
 /// Gives a variable another value.
@@ -68,7 +68,7 @@ pub fn add_rule<A: Allocator + Copy>(
     Ok(Edit::AddRule {
         place: Place::Bottom,
         targets,
-        colons: Colons::One,
+        separator: RuleSeparator::Single,
         prereqs,
     })
 }

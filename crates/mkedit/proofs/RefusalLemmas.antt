@@ -1,8 +1,8 @@
 -- A word that calls none of the listed refusals calls no refusal: a count or a field changes nothing.
 use Rattle.std.proofs.Common.{◌≡◌, ℕ, ◌<◌, List, [], ◌∷◌, Option, Some, None, All, IfNone, false, arith}
-use Rattle.mk_edit_laws.specs.declared.refusal.Field.TheVariants.{Name}
-use Rattle.mk_edit_laws.specs.declared.refusal.Refusal.{Refusal}
-use Rattle.mk_edit_laws.specs.declared.refusal.Refusal.TheVariants.{BadArgument, Reserved, RecipePrefix, NoSuch, Ambiguous, Absent, Already, Taken, SharedRule, Straddles, OpenValue, OpenLine, OpenDefine, Leans, TooLong, NothingToUndo, NothingToRedo, GroupOpen, NoGroup, NoMemory}
+use Rattle.mk_edit_language.specs.declared.refusal.Field.TheVariants.{Name}
+use Rattle.mk_edit_language.specs.declared.refusal.Refusal.{Refusal}
+use Rattle.mk_edit_language.specs.declared.refusal.Refusal.TheVariants.{BadArgument, Reserved, RecipePrefix, NoSuch, Ambiguous, Absent, Already, Taken, SharedRule, Straddles, OpenValue, OpenLine, OpenDefine, Leans, TooLong, NothingToUndo, NothingToRedo, GroupOpen, NoGroup, NoMemory}
 use Rattle.mkedit.specs.Explanations.{is_called}
 
 abbrev refusals : List Refusal

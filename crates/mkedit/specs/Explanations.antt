@@ -2,8 +2,8 @@
 -- Told in docs/EDITS.md, "Refusals".
 use Rattle.std.specs.Prelude.{ℕ, Bool, List, ◌||◌, ◌++◌, codes, decimal}
 use Rattle.std.specs.Str.{bytes_eq}
-use Rattle.mk_edit_laws.specs.RefusalTexts.{name_of, number_of}
-use Rattle.mk_edit_laws.specs.declared.refusal.Refusal.{Refusal}
+use Rattle.mk_edit_language.specs.RefusalTexts.{name_of, number_of}
+use Rattle.mk_edit_language.specs.declared.refusal.Refusal.{Refusal}
 
 -- whether a word is the name of a refusal, or its number in decimal digits
 abbrev pub is_called : (word : List ℕ) → Refusal → Bool

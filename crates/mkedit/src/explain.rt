@@ -2,7 +2,7 @@
 ghost use Rattle.std.specs.Prelude.{◌≡◌, ◌++◌, ◌⊎◌, ℕ, List, All, IfSome, IfNone, IfErr, OnOk, MatchResult, false, true, is_ok};
 ghost use Rattle.std.specs.Io.KnownBytes.{Appends};
 ghost use Rattle.mk_lines.specs.Device.{AppendsPrefix, count_if};
-ghost use Rattle.mk_edit_laws.specs.declared.refusal.Refusal.{Refusal};
+ghost use Rattle.mk_edit_language.specs.declared.refusal.Refusal.{Refusal};
 ghost use Rattle.mkedit.specs.Explanations.{is_called, title_of};
 
 use crate::explanations::explanation;

@@ -5,11 +5,11 @@ use Rattle.mk_class.specs.Contexts.{Context}
 use Rattle.mk_class.specs.ClassedLines.{classed_lines}
 use Rattle.mk_tree.specs.Documents.{IsFaithful}
 use Rattle.mk_tree.specs.LocatedLines.{LocatedLine, located_text}
-use Rattle.mk_edit_laws.specs.Edits.{Edit}
-use Rattle.mk_edit_laws.specs.NewLines.{new_text}
-use Rattle.mk_edit_laws.specs.Refusals.{first_cause}
-use Rattle.mk_edit_laws.specs.EditSpans.{spans_of}
-use Rattle.mk_edit_laws.specs.Stretches.{insertion}
+use Rattle.mk_edit_language.specs.Edits.{Edit}
+use Rattle.mk_edit_language.specs.NewLines.{new_text}
+use Rattle.mk_edit_language.specs.Refusals.{first_cause}
+use Rattle.mk_edit_language.specs.EditSpans.{spans_of}
+use Rattle.mk_edit_language.specs.Stretches.{insertion}
 use Rattle.mk_edit.specs.Insertions.{IsDecidedByPlace, IsInsertedAt, place_causes}
 use Rattle.mk_edit_parts.specs.declared.seek.Found.{Found}
 use Rattle.mk_edit_parts.proofs.CauseLemmas.{unrefused}

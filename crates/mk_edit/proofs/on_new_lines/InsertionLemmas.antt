@@ -7,10 +7,10 @@ use Rattle.mk_class.specs.ListTests.{is_empty, last_passes}
 use Rattle.mk_class.specs.ClassedLines.{ClassedLine, classed_lines}
 use Rattle.mk_tree.specs.Documents.{IsFaithful, context_of}
 use Rattle.mk_tree.specs.LocatedLines.{LocatedLine, located_line, located_lines, located_text, last_line}
-use Rattle.mk_edit_laws.specs.Edits.{Place, Bottom, BeforeVar, AfterVar, BeforeRule}
-use Rattle.mk_edit_laws.specs.Addresses.{Address, Variable, Rule, found, place_address}
-use Rattle.mk_edit_laws.specs.Stretches.{Stretch, bottom, before_line, after_line, place_found}
-use Rattle.mk_edit_laws.proofs.on_edits.EditPlaces.{found-spot}
+use Rattle.mk_edit_language.specs.Edits.{Place, Bottom, BeforeVar, AfterVar, BeforeRule}
+use Rattle.mk_edit_language.specs.Addresses.{Address, Variable, Rule, found, place_address}
+use Rattle.mk_edit_language.specs.Stretches.{Stretch, bottom, before_line, after_line, place_found}
+use Rattle.mk_edit_language.proofs.on_edits.EditPlaces.{found-spot}
 use Rattle.mk_edit_parts.specs.Found.{IsFoundAt, IsEnd, IsMeant, IsPlaceOf}
 use Rattle.mk_edit.specs.Insertions.{IsInsertedAt}
 use Rattle.mk_edit.proofs.on_plans.RemovalPlans.{place-found}

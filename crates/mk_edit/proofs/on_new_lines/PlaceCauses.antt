@@ -15,13 +15,13 @@ use Rattle.mk_tree.specs.Leaning.{is_same_flag, leans}
 use Rattle.mk_tree.specs.NewLineEnds.{missing_line_end, lacks_line_end}
 use Rattle.mk_tree.specs.LocatedLines.{LocatedLine, located_text, size_of, last_line}
 use Rattle.mk_tree.proofs.on_changes.Sizes.{size_of-text}
-use Rattle.mk_edit_laws.specs.Causes.{where_holds}
-use Rattle.mk_edit_laws.specs.Edits.{Place, Bottom, BeforeVar, AfterVar, BeforeRule, Edit, SetValue, AppendValue, AddAssign, RemoveAssign, AddRule, RemoveRule, AddPrereq, RemovePrereq, AddRecipe, SetRecipe, RemoveRecipe, RenameTarget}
-use Rattle.mk_edit_laws.specs.LineCauses.{follows_open_line, open_line, open_define, open_define_at, flag_below_new, new_line_leans, removal_leans, leaning, too_long}
-use Rattle.mk_edit_laws.specs.NewLines.{new_text, new_line_span}
-use Rattle.mk_edit_laws.specs.EditSpans.{spans_of, where_found}
-use Rattle.mk_edit_laws.specs.Stretches.{Stretch, bottom, insertion, removal, place_found}
-use Rattle.mk_edit_laws.specs.declared.refusal.Refusal.TheVariants.{OpenLine, OpenDefine, Leans, TooLong}
+use Rattle.mk_edit_language.specs.Causes.{where_holds}
+use Rattle.mk_edit_language.specs.Edits.{Place, Bottom, BeforeVar, AfterVar, BeforeRule, Edit, SetValue, AppendValue, AddAssign, RemoveAssign, AddRule, RemoveRule, AddPrereq, RemovePrereq, AddRecipe, SetRecipe, RemoveRecipe, RenameTarget}
+use Rattle.mk_edit_language.specs.LineCauses.{follows_open_line, open_line, open_define, open_define_at, flag_below_new, new_line_leans, removal_leans, leaning, too_long}
+use Rattle.mk_edit_language.specs.NewLines.{new_text, new_line_span}
+use Rattle.mk_edit_language.specs.EditSpans.{spans_of, where_found}
+use Rattle.mk_edit_language.specs.Stretches.{Stretch, bottom, insertion, removal, place_found}
+use Rattle.mk_edit_language.specs.declared.refusal.Refusal.TheVariants.{OpenLine, OpenDefine, Leans, TooLong}
 use Rattle.mk_edit.specs.Insertions.{IsInsertedAt, IsOfNewLine, is_bottom, is_at_bottom, is_open_line, ends_length}
 use Rattle.mk_edit_parts.specs.LineRanges.{is_led_first_located}
 use Rattle.mk_edit.specs.PlannedMoves.{is_unended, follows_unended}

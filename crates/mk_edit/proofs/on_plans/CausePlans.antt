@@ -6,20 +6,20 @@ use Rattle.mk_lines.specs.Limits.{max_text}
 use Rattle.mk_lines.specs.Pieces.{replaced}
 use Rattle.mk_class.specs.ClassedLines.{ClassedLine, classed_lines}
 use Rattle.mk_tree.specs.LocatedLines.{LocatedLine, located_text}
-use Rattle.mk_edit_laws.specs.Edits.{Edit}
-use Rattle.mk_edit_laws.specs.EditSpans.{spans_of}
-use Rattle.mk_edit_laws.specs.Stretches.{Stretch, insertion, removal}
-use Rattle.mk_edit_laws.specs.Causes.{where_holds}
-use Rattle.mk_edit_laws.specs.ArgumentCauses.{bad_argument, reserved}
-use Rattle.mk_edit_laws.specs.AddressCauses.{unread_prefix, no_such, ambiguous, prefix_led}
-use Rattle.mk_edit_laws.specs.RuleCauses.{absent, already, taken, shared_rule, straddles}
-use Rattle.mk_edit_laws.specs.LineCauses.{open_value, open_line, open_define, leaning, new_line_leans, removal_leans, too_long}
-use Rattle.mk_edit_laws.specs.Lengths.{bytes_taken, bytes_put}
-use Rattle.mk_edit_laws.specs.Refusals.{first_cause, causes}
-use Rattle.mk_edit_laws.specs.declared.refusal.Refusal.{Refusal}
-use Rattle.mk_edit_laws.specs.declared.refusal.Refusal.TheVariants.{Leans, TooLong}
-use Rattle.mk_edit_laws.proofs.on_edits.LengthLemmas.{length-replaced}
-use Rattle.mk_edit_laws.proofs.on_edits.SpansRise.{spans-rise}
+use Rattle.mk_edit_language.specs.Edits.{Edit}
+use Rattle.mk_edit_language.specs.EditSpans.{spans_of}
+use Rattle.mk_edit_language.specs.Stretches.{Stretch, insertion, removal}
+use Rattle.mk_edit_language.specs.Causes.{where_holds}
+use Rattle.mk_edit_language.specs.ArgumentCauses.{bad_argument, reserved}
+use Rattle.mk_edit_language.specs.AddressCauses.{unread_prefix, no_such, ambiguous, prefix_led}
+use Rattle.mk_edit_language.specs.RuleCauses.{absent, already, taken, shared_rule, straddles}
+use Rattle.mk_edit_language.specs.LineCauses.{open_value, open_line, open_define, leaning, new_line_leans, removal_leans, too_long}
+use Rattle.mk_edit_language.specs.Lengths.{bytes_taken, bytes_put}
+use Rattle.mk_edit_language.specs.Refusals.{first_cause, causes}
+use Rattle.mk_edit_language.specs.declared.refusal.Refusal.{Refusal}
+use Rattle.mk_edit_language.specs.declared.refusal.Refusal.TheVariants.{Leans, TooLong}
+use Rattle.mk_edit_language.proofs.on_edits.LengthLemmas.{length-replaced}
+use Rattle.mk_edit_language.proofs.on_edits.SpansRise.{spans-rise}
 use Rattle.mk_edit_parts.specs.Found.{IsAddressed}
 use Rattle.mk_edit_parts.specs.declared.seek.Found.{Found}
 use Rattle.mk_edit_parts.proofs.CauseLemmas.{passed}

@@ -6,13 +6,13 @@ use Rattle.mk_class.specs.ClassedLines.{classed_lines}
 use Rattle.mk_tree.specs.Documents.{IsFaithful, context_of}
 use Rattle.mk_tree.specs.LineTexts.{line_in, StandingLine}
 use Rattle.mk_tree.specs.LocatedLines.{LocatedLine, located_line, located_lines, located_text}
-use Rattle.mk_edit_laws.specs.Edits.{Edit}
-use Rattle.mk_edit_laws.specs.Stretches.{Stretch, this_line, touched_by}
-use Rattle.mk_edit_laws.specs.Costs.{cost, size}
-use Rattle.mk_edit_laws.specs.EditedLines.{edited_bytes}
-use Rattle.mk_edit_laws.specs.KeptLines.{above_after}
-use Rattle.mk_edit_laws.specs.Refusals.{spans, text_after}
-use Rattle.mk_edit_laws.proofs.on_edits.EditedLineLemmas.{edited, put-there, taken-out}
+use Rattle.mk_edit_language.specs.Edits.{Edit}
+use Rattle.mk_edit_language.specs.Stretches.{Stretch, this_line, touched_by}
+use Rattle.mk_edit_language.specs.Costs.{cost, size}
+use Rattle.mk_edit_language.specs.EditedLines.{edited_bytes}
+use Rattle.mk_edit_language.specs.KeptLines.{above_after}
+use Rattle.mk_edit_language.specs.Refusals.{spans, text_after}
+use Rattle.mk_edit_language.proofs.on_edits.EditedLineLemmas.{edited, put-there, taken-out}
 use Rattle.mk_patch.specs.Moves.{Exchange, TakeOut, IsPlain}
 use Rattle.mk_patch.proofs.on_moves.ShapeLemmas.{LeadTo, run-held, run-taken}
 use Rattle.mk_patch.proofs.on_moves.TextLineLemmas.{plain-located, text_line-exchanged, text_run-taken_out}

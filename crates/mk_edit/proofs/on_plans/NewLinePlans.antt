@@ -18,15 +18,15 @@ use Rattle.mk_tree.specs.NewLineEnds.{above_ended, last_ended, lacks_line_end, w
 use Rattle.mk_tree.specs.LocatedLines.{LocatedLine, located_line, located_lines, located_text, size_of, last_line, bytes_of_line}
 use Rattle.mk_tree.proofs.on_changes.NewLineLemmas.{file_line_end-some, last_ended-last}
 use Rattle.mk_tree.proofs.on_changes.EndedLast.{end-put, ended-already, located-last}
-use Rattle.mk_edit_laws.specs.Edits.{Edit}
-use Rattle.mk_edit_laws.specs.Stretches.{Stretch, between, insertion}
-use Rattle.mk_edit_laws.specs.Costs.{cost, size}
-use Rattle.mk_edit_laws.specs.EditedLines.{new_line_bytes}
-use Rattle.mk_edit_laws.specs.KeptLines.{above_after}
-use Rattle.mk_edit_laws.specs.LineCauses.{follows_open_line}
-use Rattle.mk_edit_laws.specs.Refusals.{spans, text_after}
-use Rattle.mk_edit_laws.proofs.on_edits.Accepted.{accepted, where_holds-none}
-use Rattle.mk_edit_laws.proofs.on_edits.EditedLineLemmas.{edited, put-there}
+use Rattle.mk_edit_language.specs.Edits.{Edit}
+use Rattle.mk_edit_language.specs.Stretches.{Stretch, between, insertion}
+use Rattle.mk_edit_language.specs.Costs.{cost, size}
+use Rattle.mk_edit_language.specs.EditedLines.{new_line_bytes}
+use Rattle.mk_edit_language.specs.KeptLines.{above_after}
+use Rattle.mk_edit_language.specs.LineCauses.{follows_open_line}
+use Rattle.mk_edit_language.specs.Refusals.{spans, text_after}
+use Rattle.mk_edit_language.proofs.on_edits.Accepted.{accepted, where_holds-none}
+use Rattle.mk_edit_language.proofs.on_edits.EditedLineLemmas.{edited, put-there}
 use Rattle.mk_patch.specs.Moves.{PutIn, SwapEnd, IsPlain}
 use Rattle.mk_patch.proofs.on_moves.TextLineLemmas.{plain-located, text_line-put_in, text_line-put_in_ended}
 use Rattle.mk_edit.specs.Planned.{IsPlanned, ended_by, ended_lines}

@@ -10,17 +10,17 @@ use Rattle.mk_tree.specs.Documents.{IsFaithful, document_lines, context_of}
 use Rattle.mk_tree.specs.LineTexts.{line_in}
 use Rattle.mk_tree.specs.LocatedLines.{LocatedLine, located_line, located_lines, located_text, size_of}
 use Rattle.mk_tree.proofs.on_documents.DocumentLemmas.{faithful-own}
-use Rattle.mk_edit_laws.specs.Edits.{Edit, SetValue, AppendValue, AddAssign, RemoveAssign, AddRule, RemoveRule, AddPrereq, RemovePrereq, AddRecipe, SetRecipe, RemoveRecipe, RenameTarget}
-use Rattle.mk_edit_laws.specs.Stretches.{Stretch, between, insertion, touched_by}
-use Rattle.mk_edit_laws.specs.Costs.{cost, size}
-use Rattle.mk_edit_laws.specs.EditedLines.{edited_bytes, new_line_bytes}
-use Rattle.mk_edit_laws.specs.Refusals.{spans, text_after}
-use Rattle.mk_edit_laws.proofs.on_edits.EditLemmas.{edits-read}
-use Rattle.mk_edit_laws.proofs.on_edits.LengthLemmas.{size-fits}
+use Rattle.mk_edit_language.specs.Edits.{Edit, SetValue, AppendValue, AddAssign, RemoveAssign, AddRule, RemoveRule, AddPrereq, RemovePrereq, AddRecipe, SetRecipe, RemoveRecipe, RenameTarget}
+use Rattle.mk_edit_language.specs.Stretches.{Stretch, between, insertion, touched_by}
+use Rattle.mk_edit_language.specs.Costs.{cost, size}
+use Rattle.mk_edit_language.specs.EditedLines.{edited_bytes, new_line_bytes}
+use Rattle.mk_edit_language.specs.Refusals.{spans, text_after}
+use Rattle.mk_edit_language.proofs.on_edits.EditLemmas.{edits-read}
+use Rattle.mk_edit_language.proofs.on_edits.LengthLemmas.{size-fits}
 use Rattle.mk_patch.specs.Moves.{Move, held_by, taken_by}
 use Rattle.mk_patch.proofs.on_moves.ShapeLemmas.{LeadTo, same-lead}
-use Rattle.mk_edit_laws.specs.declared.refusal.Refusal.{Refusal}
-use Rattle.mk_edit_laws.specs.declared.refusal.Refusal.TheVariants.{NoMemory}
+use Rattle.mk_edit_language.specs.declared.refusal.Refusal.{Refusal}
+use Rattle.mk_edit_language.specs.declared.refusal.Refusal.TheVariants.{NoMemory}
 use Rattle.mk_edit.specs.Planned.{IsPlanned, IsRefusal, ended_lines}
 use Rattle.mk_edit.specs.PlannedMoves.{line_read_at}
 

@@ -11,16 +11,16 @@ use Rattle.mk_tree.specs.Documents.{IsFaithful, text_of}
 use Rattle.mk_tree.specs.LocatedLines.{LocatedLine, located_text, size_of}
 use Rattle.mk_tree.proofs.on_changes.Sizes.{size_of-text}
 use Rattle.mk_tree.specs.LineTexts.{StandingLine}
-use Rattle.mk_edit_laws.specs.Edits.{Edit}
-use Rattle.mk_edit_laws.specs.Stretches.{this_line, touched_by}
-use Rattle.mk_edit_laws.specs.Causes.{where_holds}
-use Rattle.mk_edit_laws.specs.EditedLines.{respanned_bytes, edited_bytes}
-use Rattle.mk_edit_laws.specs.LineCauses.{too_long}
-use Rattle.mk_edit_laws.specs.Lengths.{bytes_taken, bytes_put}
-use Rattle.mk_edit_laws.specs.EditSpans.{spans_of}
-use Rattle.mk_edit_laws.specs.Refusals.{first_cause, causes, spans}
-use Rattle.mk_edit_laws.specs.declared.refusal.Refusal.TheVariants.{TooLong}
-use Rattle.mk_edit_laws.proofs.on_edits.EditedLineLemmas.{respanned-one}
+use Rattle.mk_edit_language.specs.Edits.{Edit}
+use Rattle.mk_edit_language.specs.Stretches.{this_line, touched_by}
+use Rattle.mk_edit_language.specs.Causes.{where_holds}
+use Rattle.mk_edit_language.specs.EditedLines.{respanned_bytes, edited_bytes}
+use Rattle.mk_edit_language.specs.LineCauses.{too_long}
+use Rattle.mk_edit_language.specs.Lengths.{bytes_taken, bytes_put}
+use Rattle.mk_edit_language.specs.EditSpans.{spans_of}
+use Rattle.mk_edit_language.specs.Refusals.{first_cause, causes, spans}
+use Rattle.mk_edit_language.specs.declared.refusal.Refusal.TheVariants.{TooLong}
+use Rattle.mk_edit_language.proofs.on_edits.EditedLineLemmas.{respanned-one}
 use Rattle.mk_edit_parts.proofs.CauseLemmas.{refused, unrefused}
 use Rattle.mk_edit.proofs.on_plans.CausePlans.{long-said}
 use Rattle.mk_edit.proofs.on_plans.LinePlans.{IsReplaced, line-replaced}

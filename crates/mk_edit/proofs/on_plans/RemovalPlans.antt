@@ -11,19 +11,19 @@ use Rattle.mk_tree.specs.Documents.{IsFaithful, context_of}
 use Rattle.mk_tree.specs.Leaning.{is_same_flag, leans}
 use Rattle.mk_tree.specs.LocatedLines.{LocatedLine, located_lines, located_text, size_of}
 use Rattle.mk_tree.proofs.on_changes.Sizes.{size_of-text}
-use Rattle.mk_edit_laws.specs.Edits.{Edit, SetValue, AppendValue, AddAssign, RemoveAssign, AddRule, RemoveRule, AddPrereq, RemovePrereq, AddRecipe, SetRecipe, RemoveRecipe, RenameTarget}
-use Rattle.mk_edit_laws.specs.EditSpans.{spans_of, removed_span, where_found}
-use Rattle.mk_edit_laws.specs.Stretches.{Stretch, this_line, insertion, removal, touched_by}
-use Rattle.mk_edit_laws.specs.Addresses.{Address, Variable}
-use Rattle.mk_edit_laws.specs.Causes.{where_holds}
-use Rattle.mk_edit_laws.specs.Costs.{cost, size}
-use Rattle.mk_edit_laws.specs.LineCauses.{leaning, removal_leans, too_long}
-use Rattle.mk_edit_laws.specs.Lengths.{bytes_put}
-use Rattle.mk_edit_laws.specs.EditedLines.{edited_bytes}
-use Rattle.mk_edit_laws.specs.Refusals.{first_cause, spans}
-use Rattle.mk_edit_laws.specs.declared.refusal.Refusal.TheVariants.{Leans}
-use Rattle.mk_edit_laws.proofs.on_edits.EditPlaces.{found-spot}
-use Rattle.mk_edit_parts.specs.EditViews.{IsRemoveAssign}
+use Rattle.mk_edit_language.specs.Edits.{Edit, SetValue, AppendValue, AddAssign, RemoveAssign, AddRule, RemoveRule, AddPrereq, RemovePrereq, AddRecipe, SetRecipe, RemoveRecipe, RenameTarget}
+use Rattle.mk_edit_language.specs.EditSpans.{spans_of, removed_span, where_found}
+use Rattle.mk_edit_language.specs.Stretches.{Stretch, this_line, insertion, removal, touched_by}
+use Rattle.mk_edit_language.specs.Addresses.{Address, Variable}
+use Rattle.mk_edit_language.specs.Causes.{where_holds}
+use Rattle.mk_edit_language.specs.Costs.{cost, size}
+use Rattle.mk_edit_language.specs.LineCauses.{leaning, removal_leans, too_long}
+use Rattle.mk_edit_language.specs.Lengths.{bytes_put}
+use Rattle.mk_edit_language.specs.EditedLines.{edited_bytes}
+use Rattle.mk_edit_language.specs.Refusals.{first_cause, spans}
+use Rattle.mk_edit_language.specs.declared.refusal.Refusal.TheVariants.{Leans}
+use Rattle.mk_edit_language.proofs.on_edits.EditPlaces.{found-spot}
+use Rattle.mk_edit_parts.specs.AddressViews.{IsRemoveAssign}
 use Rattle.mk_edit_parts.specs.Found.{IsFoundAt, IsAddressed, IsPlaceOf}
 use Rattle.mk_edit_parts.specs.LineRanges.{is_led_first_located}
 use Rattle.mk_edit.specs.PlannedMoves.{stretch_at}

@@ -19,19 +19,19 @@ use Rattle.mk_tree.specs.Documents.{IsFaithful, text_of}
 use Rattle.mk_tree.specs.LocatedLines.{LocatedLine, located_text, size_of, text_of_line}
 use Rattle.mk_tree.proofs.on_changes.Sizes.{size_of-text}
 use Rattle.mk_tree.specs.LineTexts.{StandingLine}
-use Rattle.mk_edit_laws.specs.Addresses.{Rule}
-use Rattle.mk_edit_laws.specs.Edits.{Edit, AddPrereq}
-use Rattle.mk_edit_laws.specs.Lengths.{bytes_put, bytes_taken}
-use Rattle.mk_edit_laws.specs.Stretches.{this_line}
-use Rattle.mk_edit_laws.specs.EditSpans.{spans_of, word_spans, where_found}
-use Rattle.mk_edit_laws.specs.Causes.{where_holds}
-use Rattle.mk_edit_laws.specs.LineCauses.{too_long}
-use Rattle.mk_edit_laws.specs.Refusals.{spans}
-use Rattle.mk_edit_laws.specs.RuleCauses.{already, class_found, header_passes, is_normal, is_order_only}
-use Rattle.mk_edit_laws.specs.WordPieces.{header_pieces, kept, put_last, prerequisite_text, add_pieces}
-use Rattle.mk_edit_laws.specs.declared.refusal.Refusal.TheVariants.{Already, TooLong}
-use Rattle.mk_edit_laws.proofs.on_prerequisites.HeaderEdits.{header_pieces-whole, kept-old, word_spans-header}
-use Rattle.mk_edit_laws.proofs.on_prerequisites.AddPrereqLemmas.{put_last-old}
+use Rattle.mk_edit_language.specs.Addresses.{Rule}
+use Rattle.mk_edit_language.specs.Edits.{Edit, AddPrereq}
+use Rattle.mk_edit_language.specs.Lengths.{bytes_put, bytes_taken}
+use Rattle.mk_edit_language.specs.Stretches.{this_line}
+use Rattle.mk_edit_language.specs.EditSpans.{spans_of, word_spans, where_found}
+use Rattle.mk_edit_language.specs.Causes.{where_holds}
+use Rattle.mk_edit_language.specs.LineCauses.{too_long}
+use Rattle.mk_edit_language.specs.Refusals.{spans}
+use Rattle.mk_edit_language.specs.RuleCauses.{already, class_found, header_passes, is_normal, is_order_only}
+use Rattle.mk_edit_language.specs.WordPieces.{header_pieces, kept, put_last, prerequisite_text, add_pieces}
+use Rattle.mk_edit_language.specs.declared.refusal.Refusal.TheVariants.{Already, TooLong}
+use Rattle.mk_edit_language.proofs.on_prerequisites.HeaderEdits.{header_pieces-whole, kept-old, word_spans-header}
+use Rattle.mk_edit_language.proofs.on_prerequisites.AddPrereqLemmas.{put_last-old}
 use Rattle.mk_edit_parts.specs.Found.{IsAddressed, IsPlaceOf}
 use Rattle.mk_edit_parts.specs.NewPrerequisites.{after_new, before_new, new_word_text, offset_of_new}
 use Rattle.mk_edit.specs.PrerequisiteEdits.{IsAddPrereq, is_in_list}

@@ -11,7 +11,7 @@ use Rattle.mk_class.specs.declared.rule.Header as header
 use Rattle.mk_class.specs.declared.class.Class.TheVariants as variants
 use Rattle.mk_class.proofs.on_classes.LinePartLemmas.{line-parts_located}
 use Rattle.mk_tree.specs.LocatedLines.{LocatedLine, located_line}
-use Rattle.mk_edit_laws.proofs.on_lines.HeaderChanges.{header-here}
+use Rattle.mk_edit_language.proofs.on_lines.HeaderChanges.{header-here}
 use Rattle.mk_edit_parts.specs.SeenHeaders.{IsHeaderSeen, IsHeaderAt, IsRuleLine}
 use Rattle.mk_edit_parts.specs.declared.seek.Found.{Found}
 use Rattle.mk_edit.proofs.on_recipes.RulePlaces.{IsRuleAt}

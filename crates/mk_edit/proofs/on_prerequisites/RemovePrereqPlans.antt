@@ -16,19 +16,19 @@ use Rattle.mk_tree.specs.Documents.{IsFaithful, text_of}
 use Rattle.mk_tree.specs.LocatedLines.{LocatedLine, located_text, size_of}
 use Rattle.mk_tree.proofs.on_changes.Sizes.{size_of-text}
 use Rattle.mk_tree.specs.LineTexts.{StandingLine}
-use Rattle.mk_edit_laws.specs.Addresses.{Rule}
-use Rattle.mk_edit_laws.specs.Edits.{Edit, RemovePrereq}
-use Rattle.mk_edit_laws.specs.Lengths.{bytes_put}
-use Rattle.mk_edit_laws.specs.Stretches.{this_line}
-use Rattle.mk_edit_laws.specs.EditSpans.{spans_of, word_spans, where_found}
-use Rattle.mk_edit_laws.specs.Causes.{where_holds}
-use Rattle.mk_edit_laws.specs.LineCauses.{too_long}
-use Rattle.mk_edit_laws.specs.Refusals.{spans}
-use Rattle.mk_edit_laws.specs.RuleCauses.{absent, class_found, header_passes, is_normal, is_order_only}
-use Rattle.mk_edit_laws.specs.WordPieces.{kept, is_word_of, removed_tokens, removed_words, remove_pieces}
-use Rattle.mk_edit_laws.specs.declared.refusal.Refusal.TheVariants.{Absent}
-use Rattle.mk_edit_laws.proofs.on_prerequisites.HeaderEdits.{header_pieces-whole, kept-old, word_spans-header}
-use Rattle.mk_edit_laws.proofs.on_prerequisites.RemovePrereqLemmas.{removed-old}
+use Rattle.mk_edit_language.specs.Addresses.{Rule}
+use Rattle.mk_edit_language.specs.Edits.{Edit, RemovePrereq}
+use Rattle.mk_edit_language.specs.Lengths.{bytes_put}
+use Rattle.mk_edit_language.specs.Stretches.{this_line}
+use Rattle.mk_edit_language.specs.EditSpans.{spans_of, word_spans, where_found}
+use Rattle.mk_edit_language.specs.Causes.{where_holds}
+use Rattle.mk_edit_language.specs.LineCauses.{too_long}
+use Rattle.mk_edit_language.specs.Refusals.{spans}
+use Rattle.mk_edit_language.specs.RuleCauses.{absent, class_found, header_passes, is_normal, is_order_only}
+use Rattle.mk_edit_language.specs.WordPieces.{kept, is_word_of, removed_tokens, removed_words, remove_pieces}
+use Rattle.mk_edit_language.specs.declared.refusal.Refusal.TheVariants.{Absent}
+use Rattle.mk_edit_language.proofs.on_prerequisites.HeaderEdits.{header_pieces-whole, kept-old, word_spans-header}
+use Rattle.mk_edit_language.proofs.on_prerequisites.RemovePrereqLemmas.{removed-old}
 use Rattle.mk_edit_parts.specs.Found.{IsAddressed, IsPlaceOf}
 use Rattle.mk_edit.specs.PrerequisiteEdits.{IsRemovePrereq}
 use Rattle.mk_edit_parts.specs.SeenHeaders.{IsHeaderSeen, IsHeaderAt, IsRuleLine}

@@ -14,13 +14,13 @@ use Rattle.mk_class.specs.declared.rule.Header as header
 use Rattle.mk_tree.specs.Documents.{IsFaithful, text_of}
 use Rattle.mk_tree.specs.LocatedLines.{LocatedLine, located_text}
 use Rattle.mk_tree.specs.LineTexts.{StandingLine}
-use Rattle.mk_edit_laws.specs.Edits.{Edit}
-use Rattle.mk_edit_laws.specs.Lengths.{bytes_taken, bytes_put}
-use Rattle.mk_edit_laws.specs.Stretches.{this_line, touched_by}
-use Rattle.mk_edit_laws.specs.EditSpans.{spans_of}
-use Rattle.mk_edit_laws.specs.EditedLines.{respanned_bytes, edited_bytes}
-use Rattle.mk_edit_laws.specs.Refusals.{spans}
-use Rattle.mk_edit_laws.proofs.on_edits.EditedLineLemmas.{respanned-pieces}
+use Rattle.mk_edit_language.specs.Edits.{Edit}
+use Rattle.mk_edit_language.specs.Lengths.{bytes_taken, bytes_put}
+use Rattle.mk_edit_language.specs.Stretches.{this_line, touched_by}
+use Rattle.mk_edit_language.specs.EditSpans.{spans_of}
+use Rattle.mk_edit_language.specs.EditedLines.{respanned_bytes, edited_bytes}
+use Rattle.mk_edit_language.specs.Refusals.{spans}
+use Rattle.mk_edit_language.proofs.on_edits.EditedLineLemmas.{respanned-pieces}
 use Rattle.mk_edit_parts.specs.SeenHeaders.{IsHeaderSeen}
 use Rattle.mk_edit.proofs.on_plans.LinePlans.{IsReplaced, line-replaced}
 

@@ -8,12 +8,12 @@ use Rattle.mk_tree.specs.Documents.{IsFaithful}
 use Rattle.mk_tree.specs.LocatedLines.{LocatedLine, located_text}
 use Rattle.mk_tree.specs.RecipeLines.{recipe_run, after_recipe}
 use Rattle.mk_tree.proofs.on_changes.RecipeRunLemmas.{recipe_run-after}
-use Rattle.mk_edit_laws.specs.Edits.{Edit, AddRecipe}
-use Rattle.mk_edit_laws.specs.Addresses.{Rule}
-use Rattle.mk_edit_laws.specs.RuleCauses.{straddles}
-use Rattle.mk_edit_laws.specs.Refusals.{first_cause, spans}
-use Rattle.mk_edit_laws.specs.Stretches.{after_rule, insertion}
-use Rattle.mk_edit_laws.specs.declared.refusal.Refusal.TheVariants.{Straddles}
+use Rattle.mk_edit_language.specs.Edits.{Edit, AddRecipe}
+use Rattle.mk_edit_language.specs.Addresses.{Rule}
+use Rattle.mk_edit_language.specs.RuleCauses.{straddles}
+use Rattle.mk_edit_language.specs.Refusals.{first_cause, spans}
+use Rattle.mk_edit_language.specs.Stretches.{after_rule, insertion}
+use Rattle.mk_edit_language.specs.declared.refusal.Refusal.TheVariants.{Straddles}
 use Rattle.mk_edit_parts.specs.Found.{IsAddressed, IsPlaceOf}
 use Rattle.mk_edit.specs.Insertions.{IsDecidedByPlace, IsInsertedAt, place_causes}
 use Rattle.mk_edit.specs.RecipeEdits.{IsAddRecipe}

@@ -10,11 +10,11 @@ use Rattle.mk_tree.specs.Documents.{IsFaithful, context_of}
 use Rattle.mk_tree.specs.LocatedLines.{LocatedLine, located_line, located_text}
 use Rattle.mk_tree.proofs.on_documents.LinesInText.{line-in_text, context_of-last}
 use Rattle.mk_tree.specs.LineTexts.{StandingLine}
-use Rattle.mk_edit_laws.specs.Spots.{nth_of}
-use Rattle.mk_edit_laws.specs.Stretches.{below_header, recipe_spot, recipe_found}
-use Rattle.mk_edit_laws.proofs.on_edits.EditPlaces.{recipe_found-spot, recipe_found-recipe}
-use Rattle.mk_edit_laws.proofs.on_lines.SpotLemmas.{recipe-class}
-use Rattle.mk_edit_laws.proofs.on_recipes.RecipeClassLemmas.{recipe-stands}
+use Rattle.mk_edit_language.specs.Spots.{nth_of}
+use Rattle.mk_edit_language.specs.Stretches.{below_header, recipe_spot, recipe_found}
+use Rattle.mk_edit_language.proofs.on_edits.EditPlaces.{recipe_found-spot, recipe_found-recipe}
+use Rattle.mk_edit_language.proofs.on_lines.SpotLemmas.{recipe-class}
+use Rattle.mk_edit_language.proofs.on_recipes.RecipeClassLemmas.{recipe-stands}
 use Rattle.mk_edit_parts.specs.RecipeWalks.{lines_from, recipe_spots_in}
 use Rattle.mk_edit_parts.specs.declared.seek.Found.{Found}
 use Rattle.mk_edit_parts.proofs.on_finding.SeekLemmas.{nth-map}

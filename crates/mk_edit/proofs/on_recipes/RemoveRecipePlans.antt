@@ -11,15 +11,15 @@ use Rattle.mk_tree.specs.Leaning.{leans}
 use Rattle.mk_tree.specs.LocatedLines.{LocatedLine, located_text, size_of}
 use Rattle.mk_tree.proofs.on_changes.Sizes.{size_of-text}
 use Rattle.mk_tree.specs.LineTexts.{StandingLine}
-use Rattle.mk_edit_laws.specs.Edits.{Edit, RemoveRecipe}
-use Rattle.mk_edit_laws.specs.Stretches.{this_line}
-use Rattle.mk_edit_laws.specs.EditSpans.{removed_span, spans_of, where_found}
-use Rattle.mk_edit_laws.specs.Causes.{where_holds}
-use Rattle.mk_edit_laws.specs.RuleCauses.{absent}
-use Rattle.mk_edit_laws.specs.LineCauses.{removal_leans, leaning, too_long}
-use Rattle.mk_edit_laws.specs.Lengths.{bytes_put}
-use Rattle.mk_edit_laws.specs.Refusals.{spans}
-use Rattle.mk_edit_laws.specs.declared.refusal.Refusal.TheVariants.{Absent, Leans}
+use Rattle.mk_edit_language.specs.Edits.{Edit, RemoveRecipe}
+use Rattle.mk_edit_language.specs.Stretches.{this_line}
+use Rattle.mk_edit_language.specs.EditSpans.{removed_span, spans_of, where_found}
+use Rattle.mk_edit_language.specs.Causes.{where_holds}
+use Rattle.mk_edit_language.specs.RuleCauses.{absent}
+use Rattle.mk_edit_language.specs.LineCauses.{removal_leans, leaning, too_long}
+use Rattle.mk_edit_language.specs.Lengths.{bytes_put}
+use Rattle.mk_edit_language.specs.Refusals.{spans}
+use Rattle.mk_edit_language.specs.declared.refusal.Refusal.TheVariants.{Absent, Leans}
 use Rattle.mk_edit_parts.specs.Found.{IsAddressed}
 use Rattle.mk_edit.specs.RecipeEdits.{IsRemoveRecipe}
 use Rattle.mk_edit_parts.specs.declared.seek.Found.{Found}

@@ -19,17 +19,17 @@ use Rattle.mk_tree.specs.LocatedLines.{LocatedLine, located_line, located_text, 
 use Rattle.mk_tree.specs.RecipeLines.{recipe_run}
 use Rattle.mk_tree.proofs.on_changes.Sizes.{size_of-text}
 use Rattle.mk_tree.specs.LineTexts.{StandingLine}
-use Rattle.mk_edit_laws.specs.Edits.{Edit, RemoveRule}
-use Rattle.mk_edit_laws.specs.Addresses.{Rule, targets_of, found}
-use Rattle.mk_edit_laws.specs.Stretches.{whole_rule}
-use Rattle.mk_edit_laws.specs.EditSpans.{removed_span, spans_of, where_found}
-use Rattle.mk_edit_laws.specs.Causes.{where_holds}
-use Rattle.mk_edit_laws.specs.Costs.{line_count}
-use Rattle.mk_edit_laws.specs.RuleCauses.{class_found, targets_found, shared_by, shared_rule, has_conditional, straddles}
-use Rattle.mk_edit_laws.specs.LineCauses.{leaning, too_long}
-use Rattle.mk_edit_laws.specs.Lengths.{bytes_put}
-use Rattle.mk_edit_laws.specs.Refusals.{spans}
-use Rattle.mk_edit_laws.specs.declared.refusal.Refusal.TheVariants.{SharedRule, Straddles}
+use Rattle.mk_edit_language.specs.Edits.{Edit, RemoveRule}
+use Rattle.mk_edit_language.specs.Addresses.{Rule, targets_of, found}
+use Rattle.mk_edit_language.specs.Stretches.{whole_rule}
+use Rattle.mk_edit_language.specs.EditSpans.{removed_span, spans_of, where_found}
+use Rattle.mk_edit_language.specs.Causes.{where_holds}
+use Rattle.mk_edit_language.specs.Costs.{line_count}
+use Rattle.mk_edit_language.specs.RuleCauses.{class_found, targets_found, shared_by, shared_rule, has_conditional, straddles}
+use Rattle.mk_edit_language.specs.LineCauses.{leaning, too_long}
+use Rattle.mk_edit_language.specs.Lengths.{bytes_put}
+use Rattle.mk_edit_language.specs.Refusals.{spans}
+use Rattle.mk_edit_language.specs.declared.refusal.Refusal.TheVariants.{SharedRule, Straddles}
 use Rattle.mk_edit_parts.specs.Found.{IsAddressed}
 use Rattle.mk_edit.specs.RecipeEdits.{IsRemoveRule}
 use Rattle.mk_edit_parts.specs.RecipeWalks.{lines_from, header_targets_in, header_targets_located}

@@ -16,13 +16,13 @@ use Rattle.mk_tree.specs.LocatedLines.{LocatedLine, located_text}
 use Rattle.mk_tree.specs.RecipeLines.{ends_rule, recipe_run, after_recipe}
 use Rattle.mk_tree.proofs.on_changes.RecipeRunLemmas.{recipe_run-after, recipe_run-stays, rule-context}
 use Rattle.mk_tree.proofs.on_documents.LinesInText.{AreClassed, AreClassed-class, AreClassed-tail, line-in_text, run-in_text}
-use Rattle.mk_edit_laws.specs.Edits.{RemoveRule}
-use Rattle.mk_edit_laws.specs.Causes.{where_holds}
-use Rattle.mk_edit_laws.specs.LineCauses.{leaning, removal_leans}
-use Rattle.mk_edit_laws.specs.RuleTaken.{recipe_goes_on}
-use Rattle.mk_edit_laws.specs.Stretches.{whole_rule}
-use Rattle.mk_edit_laws.specs.declared.refusal.Refusal.TheVariants.{Leans}
-use Rattle.mk_edit_laws.proofs.on_removals.RuleTakenLemmas.{after_recipe-ends}
+use Rattle.mk_edit_language.specs.Edits.{RemoveRule}
+use Rattle.mk_edit_language.specs.Causes.{where_holds}
+use Rattle.mk_edit_language.specs.LineCauses.{leaning, removal_leans}
+use Rattle.mk_edit_language.specs.RuleTaken.{recipe_goes_on}
+use Rattle.mk_edit_language.specs.Stretches.{whole_rule}
+use Rattle.mk_edit_language.specs.declared.refusal.Refusal.TheVariants.{Leans}
+use Rattle.mk_edit_language.proofs.on_removals.RuleTakenLemmas.{after_recipe-ends}
 use Rattle.mk_edit_parts.specs.declared.seek.Found.{Found}
 use Rattle.mk_edit.proofs.on_recipes.RulePlaces.{IsRuleAt}
 

@@ -11,11 +11,11 @@ use Rattle.mk_tree.specs.LocatedLines.{LocatedLine, located_line, located_text}
 use Rattle.mk_tree.specs.RecipeLines.{recipe_run, after_recipe}
 use Rattle.mk_tree.proofs.on_changes.RecipeRunLemmas.{recipe_run-after}
 use Rattle.mk_tree.specs.LineTexts.{StandingLine}
-use Rattle.mk_edit_laws.specs.Addresses.{Rule, found}
-use Rattle.mk_edit_laws.specs.AddressCauses.{no_such_line, ambiguous_line}
-use Rattle.mk_edit_laws.proofs.on_edits.Accepted.{where_holds-none}
-use Rattle.mk_edit_laws.proofs.on_lines.SpotLemmas.{rule-found}
-use Rattle.mk_edit_laws.specs.declared.refusal.Refusal.TheVariants.{NoSuch}
+use Rattle.mk_edit_language.specs.Addresses.{Rule, found}
+use Rattle.mk_edit_language.specs.AddressCauses.{no_such_line, ambiguous_line}
+use Rattle.mk_edit_language.proofs.on_edits.Accepted.{where_holds-none}
+use Rattle.mk_edit_language.proofs.on_lines.SpotLemmas.{rule-found}
+use Rattle.mk_edit_language.specs.declared.refusal.Refusal.TheVariants.{NoSuch}
 use Rattle.mk_edit_parts.specs.Found.{IsFoundAt}
 use Rattle.mk_edit_parts.specs.RecipeWalks.{lines_from}
 use Rattle.mk_edit_parts.specs.declared.seek.Found.{Found}

@@ -10,17 +10,17 @@ use Rattle.mk_tree.specs.Documents.{IsFaithful, text_of}
 use Rattle.mk_tree.specs.LocatedLines.{LocatedLine, located_line, located_lines, located_text}
 use Rattle.mk_tree.specs.LineTexts.{StandingLine}
 use Rattle.mk_tree.proofs.Indices.{get_middle}
-use Rattle.mk_edit_laws.specs.Addresses.{Rule}
-use Rattle.mk_edit_laws.specs.Edits.{Edit, SetRecipe}
-use Rattle.mk_edit_laws.specs.Spots.{nth_of}
-use Rattle.mk_edit_laws.specs.Stretches.{this_line}
-use Rattle.mk_edit_laws.specs.EditSpans.{recipe_span, spans_of, where_found}
-use Rattle.mk_edit_laws.specs.Causes.{where_holds}
-use Rattle.mk_edit_laws.specs.RuleCauses.{absent}
-use Rattle.mk_edit_laws.specs.RisingSpans.{Rise}
-use Rattle.mk_edit_laws.specs.Refusals.{spans}
-use Rattle.mk_edit_laws.specs.declared.refusal.Refusal.TheVariants.{Absent}
-use Rattle.mk_edit_laws.proofs.on_edits.SpansRise.{spans-rise}
+use Rattle.mk_edit_language.specs.Addresses.{Rule}
+use Rattle.mk_edit_language.specs.Edits.{Edit, SetRecipe}
+use Rattle.mk_edit_language.specs.Spots.{nth_of}
+use Rattle.mk_edit_language.specs.Stretches.{this_line}
+use Rattle.mk_edit_language.specs.EditSpans.{recipe_span, spans_of, where_found}
+use Rattle.mk_edit_language.specs.Causes.{where_holds}
+use Rattle.mk_edit_language.specs.RuleCauses.{absent}
+use Rattle.mk_edit_language.specs.RisingSpans.{Rise}
+use Rattle.mk_edit_language.specs.Refusals.{spans}
+use Rattle.mk_edit_language.specs.declared.refusal.Refusal.TheVariants.{Absent}
+use Rattle.mk_edit_language.proofs.on_edits.SpansRise.{spans-rise}
 use Rattle.mk_edit_parts.specs.Found.{IsAddressed, IsPlaceOf}
 use Rattle.mk_edit.specs.RecipeEdits.{IsSetRecipe, command_range}
 use Rattle.mk_edit_parts.specs.RecipeWalks.{lines_from, recipe_spots_in}

@@ -17,8 +17,8 @@ use Rattle.mk_class.proofs.on_classes.ClassHolds.{HoldsOf, holds-as}
 use Rattle.mk_tree.specs.Documents.{IsFaithful}
 use Rattle.mk_tree.specs.LocatedLines.{LocatedLine, located_line, located_lines, located_text}
 use Rattle.mk_tree.proofs.on_documents.LinesInText.{AreClassed, AreClassed-class, AreClassed-tail, AreClassed-lines}
-use Rattle.mk_edit_laws.specs.AddressCauses.{begins_renamed_line, begins_some_renamed_line}
-use Rattle.mk_edit_laws.specs.WordPieces.{is_replaced, renamed_pieces}
+use Rattle.mk_edit_language.specs.AddressCauses.{begins_renamed_line, begins_some_renamed_line}
+use Rattle.mk_edit_language.specs.WordPieces.{is_replaced, renamed_pieces}
 use Rattle.mk_edit_parts.specs.RenamedRanges.{is_at_front, renamed_ranges}
 use Rattle.mk_edit.specs.RenameTargetEffects.{begins_some_line}
 use Rattle.mk_edit_parts.proofs.on_renaming.PieceRanges.{replacing}

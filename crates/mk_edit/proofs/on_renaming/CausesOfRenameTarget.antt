@@ -13,19 +13,19 @@ use Rattle.mk_class.specs.Texts.{is_one_of}
 use Rattle.mk_tree.specs.Documents.{IsFaithful}
 use Rattle.mk_tree.specs.LocatedLines.{LocatedLine, located_text, size_of}
 use Rattle.mk_tree.proofs.on_changes.Sizes.{size_of-text}
-use Rattle.mk_edit_laws.specs.Edits.{Edit, RenameTarget}
-use Rattle.mk_edit_laws.specs.Addresses.{is_a_target, targets_of}
-use Rattle.mk_edit_laws.specs.ArgumentCauses.{bad_argument, reserved}
-use Rattle.mk_edit_laws.specs.AddressCauses.{ambiguous, begins_some_renamed_line, is_unread_prefix, no_such, prefix_led, unread_prefix}
-use Rattle.mk_edit_laws.specs.RuleCauses.{absent, already, shared_rule, straddles, taken}
-use Rattle.mk_edit_laws.specs.Causes.{where_holds}
-use Rattle.mk_edit_laws.specs.LineCauses.{leaning, open_define, open_line, open_value, too_long}
-use Rattle.mk_edit_laws.specs.Refusals.{causes, first_cause}
-use Rattle.mk_edit_laws.specs.EditSpans.{spans_of}
-use Rattle.mk_edit_laws.specs.declared.refusal.Field.TheVariants as field
-use Rattle.mk_edit_laws.specs.declared.refusal.Refusal.{Refusal}
-use Rattle.mk_edit_laws.specs.declared.refusal.Refusal.TheVariants.{RecipePrefix, TooLong}
-use Rattle.mk_edit_laws.proofs.on_edits.Accepted.{two-passed}
+use Rattle.mk_edit_language.specs.Edits.{Edit, RenameTarget}
+use Rattle.mk_edit_language.specs.Addresses.{is_a_target, targets_of}
+use Rattle.mk_edit_language.specs.ArgumentCauses.{bad_argument, reserved}
+use Rattle.mk_edit_language.specs.AddressCauses.{ambiguous, begins_some_renamed_line, is_unread_prefix, no_such, prefix_led, unread_prefix}
+use Rattle.mk_edit_language.specs.RuleCauses.{absent, already, shared_rule, straddles, taken}
+use Rattle.mk_edit_language.specs.Causes.{where_holds}
+use Rattle.mk_edit_language.specs.LineCauses.{leaning, open_define, open_line, open_value, too_long}
+use Rattle.mk_edit_language.specs.Refusals.{causes, first_cause}
+use Rattle.mk_edit_language.specs.EditSpans.{spans_of}
+use Rattle.mk_edit_language.specs.declared.refusal.Field.TheVariants as field
+use Rattle.mk_edit_language.specs.declared.refusal.Refusal.{Refusal}
+use Rattle.mk_edit_language.specs.declared.refusal.Refusal.TheVariants.{RecipePrefix, TooLong}
+use Rattle.mk_edit_language.proofs.on_edits.Accepted.{two-passed}
 use Rattle.mk_edit.specs.declared.rename_target_effect.Effect.{Effect}
 use Rattle.mk_edit.specs.RenameTargetEffects.{IsRenameTarget, effect_on, first_of_lines, first_told, replaced_bytes, replaced_words}
 use Rattle.mk_edit_parts.specs.LocatedParts.{is_target_located}

@@ -13,8 +13,8 @@ use Rattle.mk_tree.specs.LineTexts.{line_in}
 use Rattle.mk_tree.specs.LocatedLines.{LocatedLine, located_line, located_lines, size_of}
 use Rattle.mk_tree.proofs.AdmissionLemmas.{defines_after-few}
 use Rattle.mk_tree.proofs.on_documents.LinesInText.{AreClassed, AreClassed-class, AreClassed-tail}
-use Rattle.mk_edit_laws.specs.Costs.{is_renamed}
-use Rattle.mk_edit_laws.specs.RenamedLines.{AreLinesRenamedInPlace, IsLineRenamed}
+use Rattle.mk_edit_language.specs.Costs.{is_renamed}
+use Rattle.mk_edit_language.specs.RenamedLines.{AreLinesRenamedInPlace, IsLineRenamed}
 use Rattle.mk_patch.specs.Moves.{IsPlain}
 use Rattle.mk_patch.proofs.on_moves.TextLineLemmas.{plain-located}
 use Rattle.mk_edit_parts.specs.RenamedRanges.{renamed_ranges}

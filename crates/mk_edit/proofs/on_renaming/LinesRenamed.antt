@@ -12,10 +12,10 @@ use Rattle.mk_class.specs.Contexts.{Context}
 use Rattle.mk_class.specs.ClassTable.{class_of}
 use Rattle.mk_class.specs.ClassedLines.{ClassedLine}
 use Rattle.mk_tree.specs.LocatedLines.{LocatedLine, located_line}
-use Rattle.mk_edit_laws.specs.WordPieces.{renamed_pieces, is_replaced}
-use Rattle.mk_edit_laws.specs.Costs.{is_renamed}
-use Rattle.mk_edit_laws.specs.RisingSpans.{Rise}
-use Rattle.mk_edit_laws.proofs.on_edits.RisingSpanLemmas.{Rise-until, Rise-pieces}
+use Rattle.mk_edit_language.specs.WordPieces.{renamed_pieces, is_replaced}
+use Rattle.mk_edit_language.specs.Costs.{is_renamed}
+use Rattle.mk_edit_language.specs.RisingSpans.{Rise}
+use Rattle.mk_edit_language.proofs.on_edits.RisingSpanLemmas.{Rise-until, Rise-pieces}
 use Rattle.mk_edit_parts.specs.RenamedRanges.{renamed_ranges, bytes_in}
 use Rattle.mk_edit_parts.specs.RenamedTexts.{AreApart, written, renamed_text}
 use Rattle.mk_edit.specs.RenameTargetPatches.{holds_word}

@@ -7,12 +7,12 @@ use Rattle.mk_class.specs.ClassedLines.{ClassedLine, classed_lines}
 use Rattle.mk_tree.specs.Documents.{IsFaithful}
 use Rattle.mk_tree.specs.LocatedLines.{LocatedLine, located_line, located_lines, located_text, size_of}
 use Rattle.mk_tree.proofs.on_documents.LinesInText.{AreClassed, AreClassed-class, AreClassed-tail, AreClassed-lines}
-use Rattle.mk_edit_laws.specs.Edits.{RenameTarget}
-use Rattle.mk_edit_laws.specs.Costs.{cost, is_renamed}
-use Rattle.mk_edit_laws.specs.EditSpans.{spans_of}
-use Rattle.mk_edit_laws.specs.Refusals.{causes, first_cause, spans, text_after, unless_refused}
-use Rattle.mk_edit_laws.specs.declared.refusal.Refusal.{Refusal}
-use Rattle.mk_edit_laws.proofs.on_edits.KeptByRenameTargetLemmas.{rename_target-keeps}
+use Rattle.mk_edit_language.specs.Edits.{RenameTarget}
+use Rattle.mk_edit_language.specs.Costs.{cost, is_renamed}
+use Rattle.mk_edit_language.specs.EditSpans.{spans_of}
+use Rattle.mk_edit_language.specs.Refusals.{causes, first_cause, spans, text_after, unless_refused}
+use Rattle.mk_edit_language.specs.declared.refusal.Refusal.{Refusal}
+use Rattle.mk_edit_language.proofs.on_edits.KeptByRenameTargetLemmas.{rename_target-keeps}
 use Rattle.mk_patch.specs.Moves.{Exchange, IsPlain, FitMoves, after_moves, held_by, taken_by}
 use Rattle.mk_patch.proofs.on_moves.MoveLemmas.{after_moves-append, fit-append, held_by-append, taken_by-append}
 use Rattle.mk_patch.proofs.on_moves.ShapeLemmas.{LeadTo}

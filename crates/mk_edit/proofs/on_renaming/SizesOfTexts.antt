@@ -8,10 +8,10 @@ use Rattle.mk_class.specs.ClassedLines.{ClassedLine, classed_lines}
 use Rattle.mk_tree.specs.Documents.{IsFaithful}
 use Rattle.mk_tree.specs.LocatedLines.{LocatedLine, located_line, located_lines, located_text}
 use Rattle.mk_tree.proofs.on_documents.LinesInText.{AreClassed, AreClassed-class, AreClassed-tail, AreClassed-lines}
-use Rattle.mk_edit_laws.specs.Edits.{RenameTarget}
-use Rattle.mk_edit_laws.specs.Lengths.{bytes_taken, bytes_put}
-use Rattle.mk_edit_laws.specs.EditSpans.{renamed_spans, spans_of}
-use Rattle.mk_edit_laws.specs.WordPieces.{renamed_pieces}
+use Rattle.mk_edit_language.specs.Edits.{RenameTarget}
+use Rattle.mk_edit_language.specs.Lengths.{bytes_taken, bytes_put}
+use Rattle.mk_edit_language.specs.EditSpans.{renamed_spans, spans_of}
+use Rattle.mk_edit_language.specs.WordPieces.{renamed_pieces}
 use Rattle.mk_edit_parts.specs.RenamedRanges.{bytes_in, renamed_ranges}
 use Rattle.mk_edit.specs.RenameTargetEffects.{replaced_bytes, replaced_words}
 use Rattle.mk_edit_parts.proofs.on_renaming.LinePieces.{line-pieces}

@@ -14,11 +14,11 @@ use Rattle.mk_lines.proofs.on_cells.CellLemmas.{cells-are_cells}
 use Rattle.mk_class.specs.ClassTable.{class_of}
 use Rattle.mk_class.specs.ClassedLines.{ClassedLine}
 use Rattle.mk_tree.specs.LocatedLines.{LocatedLine, located_line, size_of}
-use Rattle.mk_edit_laws.specs.Lengths.{bytes_taken, bytes_put}
-use Rattle.mk_edit_laws.specs.RisingSpans.{Rise}
-use Rattle.mk_edit_laws.specs.WordPieces.{renamed_pieces}
-use Rattle.mk_edit_laws.proofs.on_edits.RisingSpanLemmas.{Rise-pieces}
-use Rattle.mk_edit_laws.proofs.on_lines.ClassParts.{cells-within}
+use Rattle.mk_edit_language.specs.Lengths.{bytes_taken, bytes_put}
+use Rattle.mk_edit_language.specs.RisingSpans.{Rise}
+use Rattle.mk_edit_language.specs.WordPieces.{renamed_pieces}
+use Rattle.mk_edit_language.proofs.on_edits.RisingSpanLemmas.{Rise-pieces}
+use Rattle.mk_edit_language.proofs.on_lines.ClassParts.{cells-within}
 use Rattle.mk_edit_parts.specs.LocatedParts.{IsClassed, AreEachClassed}
 use Rattle.mk_edit_parts.specs.RenamedRanges.{before_ranges, bytes_in, part_ranges, range_in, ranges_in, renamed_ranges, word_parts}
 use Rattle.mk_edit.specs.RenameTargetEffects.{replaced_bytes, replaced_words}

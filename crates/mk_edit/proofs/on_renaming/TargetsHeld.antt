@@ -15,8 +15,8 @@ use Rattle.mk_class.specs.ClassTable.{class_of}
 use Rattle.mk_class.specs.ClassedLines.{ClassedLine}
 use Rattle.mk_class.specs.Texts.{is_one_of, unit_text}
 use Rattle.mk_tree.specs.LocatedLines.{LocatedLine, located_line}
-use Rattle.mk_edit_laws.specs.Addresses.{targets_of}
-use Rattle.mk_edit_laws.specs.WordPieces.{is_replaced, is_word_of, renamed_pieces, renamed_tokens, renamed_words}
+use Rattle.mk_edit_language.specs.Addresses.{targets_of}
+use Rattle.mk_edit_language.specs.WordPieces.{is_replaced, is_word_of, renamed_pieces, renamed_tokens, renamed_words}
 use Rattle.mk_edit_parts.specs.LocatedParts.{IsClassed, is_target_located}
 use Rattle.mk_edit_parts.specs.RenamedRanges.{renamed_ranges}
 use Rattle.mk_edit_parts.specs.declared.tally.Tally.{Tally}

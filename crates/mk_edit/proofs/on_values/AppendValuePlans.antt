@@ -16,16 +16,16 @@ use Rattle.mk_class.specs.ClassedLines.{classed_lines}
 use Rattle.mk_tree.specs.Documents.{IsFaithful, text_of}
 use Rattle.mk_tree.specs.LocatedLines.{LocatedLine, located_text}
 use Rattle.mk_tree.specs.LineTexts.{StandingLine}
-use Rattle.mk_edit_laws.specs.Edits.{Edit, AppendValue}
-use Rattle.mk_edit_laws.specs.Stretches.{this_line}
-use Rattle.mk_edit_laws.specs.RuleCauses.{class_found}
-use Rattle.mk_edit_laws.specs.LineCauses.{has_open_value, open_value}
-use Rattle.mk_edit_laws.specs.Causes.{where_holds}
-use Rattle.mk_edit_laws.specs.ValueSpans.{value_end, append_value_span, value_span, assignment_span}
-use Rattle.mk_edit_laws.specs.EditSpans.{where_found}
-use Rattle.mk_edit_laws.specs.Refusals.{spans}
-use Rattle.mk_edit_laws.specs.declared.refusal.Refusal.TheVariants.{OpenValue}
-use Rattle.mk_edit_laws.proofs.on_values.SetValueLemmas.{not_prefix}
+use Rattle.mk_edit_language.specs.Edits.{Edit, AppendValue}
+use Rattle.mk_edit_language.specs.Stretches.{this_line}
+use Rattle.mk_edit_language.specs.RuleCauses.{class_found}
+use Rattle.mk_edit_language.specs.LineCauses.{has_open_value, open_value}
+use Rattle.mk_edit_language.specs.Causes.{where_holds}
+use Rattle.mk_edit_language.specs.ValueSpans.{value_end, append_value_span, value_span, assignment_span}
+use Rattle.mk_edit_language.specs.EditSpans.{where_found}
+use Rattle.mk_edit_language.specs.Refusals.{spans}
+use Rattle.mk_edit_language.specs.declared.refusal.Refusal.TheVariants.{OpenValue}
+use Rattle.mk_edit_language.proofs.on_values.SetValueLemmas.{not_prefix}
 use Rattle.mk_edit_parts.specs.Found.{IsAddressed}
 use Rattle.mk_edit_parts.specs.LineRanges.{value_range_located}
 use Rattle.mk_edit.specs.ValuesGiven.{IsAppendValue, value_text_located, space_after}

@@ -10,11 +10,11 @@ use Rattle.mk_class.specs.ClassedLines.{classed_lines}
 use Rattle.mk_class.specs.PartOffsets.{raw_width}
 use Rattle.mk_tree.specs.Documents.{IsFaithful, text_of}
 use Rattle.mk_tree.specs.LocatedLines.{LocatedLine, located_text}
-use Rattle.mk_edit_laws.specs.Edits.{Edit, SetValue}
-use Rattle.mk_edit_laws.specs.Stretches.{this_line}
-use Rattle.mk_edit_laws.specs.ValueSpans.{set_value_span, value_span, assignment_span}
-use Rattle.mk_edit_laws.specs.EditSpans.{where_found}
-use Rattle.mk_edit_laws.proofs.on_values.SetValueLemmas.{not_prefix}
+use Rattle.mk_edit_language.specs.Edits.{Edit, SetValue}
+use Rattle.mk_edit_language.specs.Stretches.{this_line}
+use Rattle.mk_edit_language.specs.ValueSpans.{set_value_span, value_span, assignment_span}
+use Rattle.mk_edit_language.specs.EditSpans.{where_found}
+use Rattle.mk_edit_language.proofs.on_values.SetValueLemmas.{not_prefix}
 use Rattle.mk_edit_parts.specs.Found.{IsAddressed}
 use Rattle.mk_edit_parts.specs.LineRanges.{value_range_located}
 use Rattle.mk_edit.specs.ValuesGiven.{IsSetValue}

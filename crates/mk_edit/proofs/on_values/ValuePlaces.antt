@@ -20,12 +20,12 @@ use Rattle.mk_class.specs.PartOffsets.{raw_width}
 use Rattle.mk_tree.specs.Documents.{IsFaithful, context_of}
 use Rattle.mk_tree.specs.LocatedLines.{LocatedLine, located_line, located_text}
 use Rattle.mk_tree.specs.LineTexts.{StandingLine}
-use Rattle.mk_edit_laws.specs.Edits.{Edit}
-use Rattle.mk_edit_laws.specs.Addresses.{Variable, address, found}
-use Rattle.mk_edit_laws.specs.AddressCauses.{no_such_line, ambiguous_line}
-use Rattle.mk_edit_laws.proofs.on_edits.Accepted.{where_holds-none}
-use Rattle.mk_edit_laws.proofs.on_values.FoundAssignments.{assignment-found}
-use Rattle.mk_edit_laws.proofs.on_edits.EditPlaces.{found-spot}
+use Rattle.mk_edit_language.specs.Edits.{Edit}
+use Rattle.mk_edit_language.specs.Addresses.{Variable, address, found}
+use Rattle.mk_edit_language.specs.AddressCauses.{no_such_line, ambiguous_line}
+use Rattle.mk_edit_language.proofs.on_edits.Accepted.{where_holds-none}
+use Rattle.mk_edit_language.proofs.on_values.FoundAssignments.{assignment-found}
+use Rattle.mk_edit_language.proofs.on_edits.EditPlaces.{found-spot}
 use Rattle.mk_edit_parts.specs.Found.{IsAddressed, IsFoundAt, IsMeant, IsPlaceOf}
 use Rattle.mk_edit_parts.specs.LineRanges.{value_range_located}
 use Rattle.mk_edit_parts.specs.declared.seek.Found.{Found}

@@ -5,15 +5,15 @@ use Rattle.std.specs.Prelude.{Err}
 use Rattle.mk_class.specs.Keywords.{is_reserved_word}
 use Rattle.mk_class.specs.RecipePrefix.{is_prefix_name}
 use Rattle.mk_class.specs.ClassedLines.{ClassedLine, classed_lines}
-use Rattle.mk_edit_laws.specs.Edits.{Edit, SetValue, AppendValue, AddAssign, RemoveAssign, AddRule, RemoveRule, AddPrereq, RemovePrereq, AddRecipe, SetRecipe, RemoveRecipe, RenameTarget}
-use Rattle.mk_edit_laws.specs.Addresses.{address}
-use Rattle.mk_edit_laws.specs.Causes.{where_holds}
-use Rattle.mk_edit_laws.specs.ArgumentCauses.{bad_argument, reserved, names, targets}
-use Rattle.mk_edit_laws.specs.AddressCauses.{is_unread_prefix, unread_prefix, no_such, no_such_line, ambiguous}
-use Rattle.mk_edit_laws.specs.Refusals.{first_cause, spans}
-use Rattle.mk_edit_laws.specs.TouchedLines.{IsOfOnePlace}
-use Rattle.mk_edit_laws.specs.declared.refusal.Refusal.{Refusal}
-use Rattle.mk_edit_laws.specs.declared.refusal.Refusal.TheVariants.{Reserved, RecipePrefix}
+use Rattle.mk_edit_language.specs.Edits.{Edit, SetValue, AppendValue, AddAssign, RemoveAssign, AddRule, RemoveRule, AddPrereq, RemovePrereq, AddRecipe, SetRecipe, RemoveRecipe, RenameTarget}
+use Rattle.mk_edit_language.specs.Addresses.{address}
+use Rattle.mk_edit_language.specs.Causes.{where_holds}
+use Rattle.mk_edit_language.specs.ArgumentCauses.{bad_argument, reserved, names, targets}
+use Rattle.mk_edit_language.specs.AddressCauses.{is_unread_prefix, unread_prefix, no_such, no_such_line, ambiguous}
+use Rattle.mk_edit_language.specs.Refusals.{first_cause, spans}
+use Rattle.mk_edit_language.specs.TouchedLines.{IsOfOnePlace}
+use Rattle.mk_edit_language.specs.declared.refusal.Refusal.{Refusal}
+use Rattle.mk_edit_language.specs.declared.refusal.Refusal.TheVariants.{Reserved, RecipePrefix}
 use Rattle.mk_edit_parts.specs.Found.{IsNotPicked}
 use Rattle.mk_edit_parts.proofs.CauseLemmas.{passed, refused}
 

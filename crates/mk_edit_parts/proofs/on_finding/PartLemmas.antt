@@ -21,8 +21,8 @@ use Rattle.mk_class.specs.declared.rule.Header as header
 use Rattle.mk_class.specs.declared.class.Class.TheVariants as variants
 use Rattle.mk_class.specs.ClassedLines.{ClassedLine}
 use Rattle.mk_tree.specs.LocatedLines.{LocatedLine, located_line, text_of_line}
-use Rattle.mk_edit_laws.specs.Addresses.{assigns, is_rule_for, targets_of}
-use Rattle.mk_edit_laws.specs.AddressCauses.{is_unread_prefix}
+use Rattle.mk_edit_language.specs.Addresses.{assigns, is_rule_for, targets_of}
+use Rattle.mk_edit_language.specs.AddressCauses.{is_unread_prefix}
 use Rattle.mk_edit_parts.specs.LocatedParts.{IsClassed, words_before, assigns_in, assigns_located, is_rule_for_in, is_rule_for_located, is_target_in, is_target_located, is_unread_in, is_unread_located}
 
 -- the joined text of a line is as long as its cells

@@ -11,8 +11,8 @@ use Rattle.mk_tree.specs.LocatedLines.{LocatedLine, located_line, located_lines,
 use Rattle.mk_tree.proofs.on_documents.LinesInText.{line-in_text, context_of-last}
 use Rattle.mk_tree.specs.LineTexts.{StandingLine}
 use Rattle.mk_tree.proofs.Indices.{get_middle}
-use Rattle.mk_edit_laws.specs.Addresses.{Address}
-use Rattle.mk_edit_laws.proofs.on_edits.EditPlaces.{found-spot}
+use Rattle.mk_edit_language.specs.Addresses.{Address}
+use Rattle.mk_edit_language.proofs.on_edits.EditPlaces.{found-spot}
 use Rattle.mk_edit_parts.specs.Found.{IsFoundAt}
 use Rattle.mk_edit_parts.specs.LocatedParts.{AreEachClassed, IsClassed}
 use Rattle.mk_edit_parts.specs.declared.seek.Found.{Found}

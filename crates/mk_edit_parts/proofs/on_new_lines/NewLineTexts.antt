@@ -12,9 +12,9 @@ use Rattle.mk_lines.proofs.UnitWalkLemmas.{words_left-blanks}
 use Rattle.mk_lines.specs.Bytes.{is_blank_byte}
 use Rattle.mk_class.specs.RecipePrefix.{is_prefix_led}
 use Rattle.mk_lines.specs.Spacing.{each_after_space, spaced_words}
-use Rattle.mk_edit_laws.specs.NewLines.{colons_text, rule_text}
-use Rattle.mk_edit_laws.specs.declared.edit.Colons.{Colons}
-use Rattle.mk_edit_laws.specs.declared.edit.Colons.TheVariants.{One, Two}
+use Rattle.mk_edit_language.specs.NewLines.{rule_separator_text, rule_text}
+use Rattle.mk_edit_language.specs.declared.edit.RuleSeparator.{RuleSeparator}
+use Rattle.mk_edit_language.specs.declared.edit.RuleSeparator.TheVariants.{Single, Double}
 
 -- a word and what follows it are no longer than what they are cut from
 pub cut-lengths : (rest word after : List ℕ) → word ++ after ≡ after_leading is_blank_byte rest → length word + length after ≤ length rest
@@ -58,17 +58,17 @@ begins-some p [] a b h = absurd (omega arith)
 begins-some p (x ∷ word) a b h = refl
 
 -- a rule begins with its first target
-pub rule-begins : (p : ℕ) (text word after : List ℕ) (c : Colons) (prereqs : List ℕ) → words_in text ≡ word ∷ words_in after → word ++ after ≡ after_leading is_blank_byte text
+pub rule-begins : (p : ℕ) (text word after : List ℕ) (c : RuleSeparator) (prereqs : List ℕ) → words_in text ≡ word ∷ words_in after → word ++ after ≡ after_leading is_blank_byte text
     → is_prefix_led p (word ++ 58 ∷ []) ≡ is_prefix_led p (rule_text text c prereqs)
 rule-begins p text word after c prereqs w j =
     let some = word-some text word after w j in
-    let rest = colons_text c ++ each_after_space (words_in prereqs) in
+    let rest = rule_separator_text c ++ each_after_space (words_in prereqs) in
     let more = each_after_space (words_in after) in
     begins-some p word (58 ∷ []) (more ++ rest) some
     ∙ (ap (is_prefix_led p) (sym (append_assoc word more rest))
     ∙ ap (λ z. is_prefix_led p (z ++ rest)) (sym (ap spaced_words w)))
 
 -- or, where it has none, with its separator
-pub rule-begins_bare : (p : ℕ) (text : List ℕ) (c : Colons) (prereqs : List ℕ) → words_in text ≡ [] → (58 == p) ≡ is_prefix_led p (rule_text text c prereqs)
-rule-begins_bare p text One prereqs w = ap (λ ws. is_prefix_led p (spaced_words ws ++ (58 ∷ [] ++ each_after_space (words_in prereqs)))) (sym w)
-rule-begins_bare p text Two prereqs w = ap (λ ws. is_prefix_led p (spaced_words ws ++ (58 ∷ 58 ∷ [] ++ each_after_space (words_in prereqs)))) (sym w)
+pub rule-begins_bare : (p : ℕ) (text : List ℕ) (c : RuleSeparator) (prereqs : List ℕ) → words_in text ≡ [] → (58 == p) ≡ is_prefix_led p (rule_text text c prereqs)
+rule-begins_bare p text Single prereqs w = ap (λ ws. is_prefix_led p (spaced_words ws ++ (58 ∷ [] ++ each_after_space (words_in prereqs)))) (sym w)
+rule-begins_bare p text Double prereqs w = ap (λ ws. is_prefix_led p (spaced_words ws ++ (58 ∷ 58 ∷ [] ++ each_after_space (words_in prereqs)))) (sym w)

@@ -21,9 +21,9 @@ use Rattle.mk_class.proofs.on_classes.PartOffsetLemmas.{width-append}
 use Rattle.mk_class.proofs.on_classes.LinePartLemmas.{bar-width}
 use Rattle.mk_class.specs.LineParts.{normal_span, order_only_span}
 use Rattle.mk_tree.specs.LocatedLines.{LocatedLine, text_of_line}
-use Rattle.mk_edit_laws.specs.WordPieces.{kept, header_pieces, put_last, removed_words, remove_pieces, add_pieces, prerequisite_text}
-use Rattle.mk_edit_laws.proofs.on_lines.HeaderChanges.{middle_units, header-cells}
-use Rattle.mk_edit_laws.proofs.on_prerequisites.WordsAdded.{front_units, gaps_after, front-gaps, front-cells, gaps-are_gaps}
+use Rattle.mk_edit_language.specs.WordPieces.{kept, header_pieces, put_last, removed_words, remove_pieces, add_pieces, prerequisite_text}
+use Rattle.mk_edit_language.proofs.on_lines.HeaderChanges.{middle_units, header-cells}
+use Rattle.mk_edit_language.proofs.on_prerequisites.WordsAdded.{front_units, gaps_after, front-gaps, front-cells, gaps-are_gaps}
 use Rattle.mk_edit_parts.specs.SeenHeaders.{IsHeaderSeen}
 use Rattle.mk_edit_parts.specs.WordCuts.{raw_between, without_words, last_end}
 use Rattle.mk_edit_parts.specs.NewPrerequisites.{words_end, offset_of_new, before_new, after_new}

@@ -19,7 +19,7 @@ use Rattle.mk_class.specs.PartOffsets.{IsPart}
 use Rattle.mk_class.specs.TextClasses.{itself}
 use Rattle.mk_class.proofs.on_classes.PartOffsetLemmas.{width-append}
 use Rattle.mk_class.proofs.on_classes.FirstWordLemmas.{text_words-words}
-use Rattle.mk_edit_laws.specs.WordPieces.{is_word_of, removed_tokens}
+use Rattle.mk_edit_language.specs.WordPieces.{is_word_of, removed_tokens}
 use Rattle.mk_edit_parts.specs.WordCuts.{raw_between, without_words, last_end}
 
 -- ---- ranges

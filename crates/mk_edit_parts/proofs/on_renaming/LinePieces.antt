@@ -30,8 +30,8 @@ use Rattle.mk_class.proofs.on_classes.LinePartLemmas.{header-located, target-loc
 use Rattle.mk_class.proofs.on_headers.HeadersWhole.{header-whole, separated-whole}
 use Rattle.mk_tree.specs.LocatedLines.{located_line}
 use Rattle.mk_tree.proofs.on_changes.SpansInLines.{replacements-append}
-use Rattle.mk_edit_laws.specs.WordPieces.{kept, renamed_pieces, renamed_words}
-use Rattle.mk_edit_laws.proofs.on_lines.ClassParts.{raw_width-append}
+use Rattle.mk_edit_language.specs.WordPieces.{kept, renamed_pieces, renamed_words}
+use Rattle.mk_edit_language.proofs.on_lines.ClassParts.{raw_width-append}
 use Rattle.mk_edit_parts.specs.RenamedRanges.{span, part_ranges, renamed_ranges}
 use Rattle.mk_edit_parts.proofs.on_renaming.RangeLemmas.{text_at-length}
 use Rattle.mk_edit_parts.proofs.on_renaming.PieceRanges.{replacing, replacing-append, part-pieces, words-old, kept-and_words}

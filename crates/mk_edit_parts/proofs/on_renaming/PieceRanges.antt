@@ -16,7 +16,7 @@ use Rattle.mk_lines.proofs.on_units.TokenLemmas.{token_text, token_text-tokens, 
 use Rattle.mk_class.specs.TextClasses.{itself}
 use Rattle.mk_class.proofs.on_classes.PartOffsetLemmas.{offset-after}
 use Rattle.mk_tree.proofs.on_changes.SpansInLines.{replacements-append}
-use Rattle.mk_edit_laws.specs.WordPieces.{is_word_of, kept, renamed_tokens, renamed_words}
+use Rattle.mk_edit_language.specs.WordPieces.{is_word_of, kept, renamed_tokens, renamed_words}
 use Rattle.mk_edit_parts.specs.RenamedRanges.{span, range_in, ranges_in, before_ranges, part_ranges}
 
 -- replacements of ranges by one text

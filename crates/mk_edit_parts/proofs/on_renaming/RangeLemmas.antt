@@ -14,7 +14,7 @@ use Rattle.mk_lines.proofs.on_units.TokenLemmas.{token_text, token_text-tokens}
 use Rattle.mk_lines.proofs.on_units.UnitLemmas.{concat-units}
 use Rattle.mk_class.specs.PartOffsets.{IsPart}
 use Rattle.mk_class.specs.declared.class.Class as class
-use Rattle.mk_edit_laws.proofs.on_lines.ClassParts.{cells-within}
+use Rattle.mk_edit_language.proofs.on_lines.ClassParts.{cells-within}
 use Rattle.mk_edit_parts.specs.declared.word_parts.WordParts.{WordParts}
 use Rattle.mk_edit_parts.specs.RenamedRanges.{span, range_in, ranges_in, IsWithin, AreWithin, before_ranges, parts_ranges, word_parts, bytes_in, is_at_front, first_range, no_words, tallied}
 use Rattle.mk_edit_parts.specs.declared.tally.Tally.{Tally}

@@ -15,9 +15,9 @@ use Rattle.mk_tree.specs.Documents.{IsFaithful, context_of}
 use Rattle.mk_tree.specs.LineTexts.{StandingLine}
 use Rattle.mk_tree.specs.LocatedLines.{LocatedLine, located_line, located_lines, located_text, text_of_line}
 use Rattle.mk_tree.proofs.on_documents.LinesInText.{AreClassed-lines}
-use Rattle.mk_edit_laws.specs.Addresses.{Variable}
-use Rattle.mk_edit_laws.specs.AddressCauses.{is_unread_prefix}
-use Rattle.mk_edit_laws.specs.Spots.{nth_of, spot_if, spots, under}
+use Rattle.mk_edit_language.specs.Addresses.{Variable}
+use Rattle.mk_edit_language.specs.AddressCauses.{is_unread_prefix}
+use Rattle.mk_edit_language.specs.Spots.{nth_of, spot_if, spots, under}
 use Rattle.mk_edit_parts.specs.LocatedParts.{assigns_in, assigns_located}
 use Rattle.mk_edit_parts.specs.Seeking.{IsSought, candidates_of, nothing_seen, standing_found, wanted}
 use Rattle.mk_edit_parts.specs.declared.seek.Found.{Found}

@@ -2,13 +2,13 @@
 use Rattle.std.proofs.Common.{◌≡◌, refl, [], ◌∷◌, Some, None, true, false}
 use Rattle.std.specs.Prelude.{codes}
 use Rattle.mk_class.specs.declared.assignment.Flavor.TheVariants.{Recursive, Simple, PosixSimple, Immediate, Conditional, Append, Shell}
-use Rattle.mk_edit_laws.specs.declared.edit.Colons.TheVariants.{One, Two}
-use Rattle.mk_edit_laws.specs.declared.refusal.Refusal.TheVariants.{BadArgument, Reserved, RecipePrefix, NoSuch, Ambiguous, Absent, Already, Taken, SharedRule, Straddles, OpenValue, OpenLine, OpenDefine, Leans}
-use Rattle.mk_edit_laws.specs.Edits.{Bottom, BeforeVar, AfterVar, BeforeRule}
-use Rattle.mk_edit_laws.specs.Edits.{SetValue, AppendValue, AddAssign, RemoveAssign, AddRule, RemoveRule, AddPrereq, RemovePrereq, AddRecipe, SetRecipe, RemoveRecipe, RenameTarget}
+use Rattle.mk_edit_language.specs.declared.edit.RuleSeparator.TheVariants.{Single, Double}
+use Rattle.mk_edit_language.specs.declared.refusal.Refusal.TheVariants.{BadArgument, Reserved, RecipePrefix, NoSuch, Ambiguous, Absent, Already, Taken, SharedRule, Straddles, OpenValue, OpenLine, OpenDefine, Leans}
+use Rattle.mk_edit_language.specs.Edits.{Bottom, BeforeVar, AfterVar, BeforeRule}
+use Rattle.mk_edit_language.specs.Edits.{SetValue, AppendValue, AddAssign, RemoveAssign, AddRule, RemoveRule, AddPrereq, RemovePrereq, AddRecipe, SetRecipe, RemoveRecipe, RenameTarget}
 use Rattle.mk_rows.proofs.edits.Outcomes.{account, span}
 use Rattle.mk_rows.proofs.edits.Outcomes.{Becomes, Accepted, NotMade}
-use Rattle.mk_edit_laws.specs.declared.refusal.Field.TheVariants as field
+use Rattle.mk_edit_language.specs.declared.refusal.Field.TheVariants as field
 
 row_prefix_001 : account (codes ".RECIPEPREFIX = X\nifdef A\na:\n") (RenameTarget (codes "a") (codes "X1")) ≡ NotMade 1 RecipePrefix
 row_prefix_001 = refl
@@ -16,10 +16,10 @@ row_prefix_001 = refl
 row_prefix_002 : account (codes ".RECIPEPREFIX = b\na: b\n.RECIPEPREFIX=\nf: a\n") (RenameTarget (codes "a") (codes "%1")) ≡ Accepted 2 2 (span 18 19 (codes "%1") ∷ span 41 42 (codes "%1") ∷ []) (Becomes (codes ".RECIPEPREFIX = b\n%1: b\n.RECIPEPREFIX=\nf: %1\n"))
 row_prefix_002 = refl
 
-row_prefix_003 : account (codes ".RECIPEPREFIX = f\n a: b a\nfz\nf: a\n") (AddRule (BeforeRule None (codes "a")) (codes "f a") One (codes "c")) ≡ NotMade 1 RecipePrefix
+row_prefix_003 : account (codes ".RECIPEPREFIX = f\n a: b a\nfz\nf: a\n") (AddRule (BeforeRule None (codes "a")) (codes "f a") Single (codes "c")) ≡ NotMade 1 RecipePrefix
 row_prefix_003 = refl
 
-row_prefix_004 : account (codes ".RECIPEPREFIX = a\nfoo:\nax\n.RECIPEPREFIX=\nf: a\n") (AddRule (BeforeRule (Some 2) (codes "foo")) (codes "a x.o") One (codes "${g(} .PHONY")) ≡ NotMade 1 NoSuch
+row_prefix_004 : account (codes ".RECIPEPREFIX = a\nfoo:\nax\n.RECIPEPREFIX=\nf: a\n") (AddRule (BeforeRule (Some 2) (codes "foo")) (codes "a x.o") Single (codes "${g(} .PHONY")) ≡ NotMade 1 NoSuch
 row_prefix_004 = refl
 
 row_prefix_005 : account (codes ".RECIPEPREFIX = t\nX=1\nf: a\n") (RenameTarget (codes "f") (codes "q1")) ≡ Accepted 1 1 (span 22 23 (codes "q1") ∷ []) (Becomes (codes ".RECIPEPREFIX = t\nX=1\nq1: a\n"))
@@ -31,13 +31,13 @@ row_prefix_006 = refl
 row_prefix_007 : account (codes ".RECIPEPREFIX = >\na: b\n>y\n") (AddAssign Bottom (codes "1") Simple (codes "1")) ≡ Accepted 1 0 (span 26 26 (codes "1 := 1\n") ∷ []) (Becomes (codes ".RECIPEPREFIX = >\na: b\n>y\n1 := 1\n"))
 row_prefix_007 = refl
 
-row_prefix_008 : account (codes ".RECIPEPREFIX = f\nifdef A\nf: a\n") (AddRule (AfterVar None (codes ".RECIPEPREFIX")) (codes "$(q:;=|)") Two []) ≡ NotMade 1 Reserved
+row_prefix_008 : account (codes ".RECIPEPREFIX = f\nifdef A\nf: a\n") (AddRule (AfterVar None (codes ".RECIPEPREFIX")) (codes "$(q:;=|)") Double []) ≡ NotMade 1 Reserved
 row_prefix_008 = refl
 
-row_prefix_009 : account (codes ".RECIPEPREFIX = f\nb a: X = 1\n>y") (AddRule Bottom (codes "qx a") One (codes "c")) ≡ Accepted 1 0 (span 31 31 (codes "\nqx a: c\n") ∷ []) (Becomes (codes ".RECIPEPREFIX = f\nb a: X = 1\n>y\nqx a: c\n"))
+row_prefix_009 : account (codes ".RECIPEPREFIX = f\nb a: X = 1\n>y") (AddRule Bottom (codes "qx a") Single (codes "c")) ≡ Accepted 1 0 (span 31 31 (codes "\nqx a: c\n") ∷ []) (Becomes (codes ".RECIPEPREFIX = f\nb a: X = 1\n>y\nqx a: c\n"))
 row_prefix_009 = refl
 
-row_prefix_010 : account (codes ".RECIPEPREFIX = .\nifdef A\n.RECIPEPREFIX=\n.y\n") (AddRule Bottom (codes "%.c") One (codes "b .PHONY")) ≡ NotMade 1 RecipePrefix
+row_prefix_010 : account (codes ".RECIPEPREFIX = .\nifdef A\n.RECIPEPREFIX=\n.y\n") (AddRule Bottom (codes "%.c") Single (codes "b .PHONY")) ≡ NotMade 1 RecipePrefix
 row_prefix_010 = refl
 
 row_prefix_011 : account (codes ".RECIPEPREFIX = .\nX=1\n.y\n") (AddAssign (BeforeVar None (codes "X")) (codes "t") PosixSimple (codes "1")) ≡ Accepted 1 0 (span 18 18 (codes "t ::= 1\n") ∷ []) (Becomes (codes ".RECIPEPREFIX = .\nt ::= 1\nX=1\n.y\n"))
@@ -67,7 +67,7 @@ row_prefix_018 = refl
 row_prefix_019 : account (codes ".RECIPEPREFIX = f\nfoo:\nfx\nX=2\n") (AddAssign (AfterVar None (codes "X")) (codes "q") Recursive (codes "1")) ≡ Accepted 1 0 (span 30 30 (codes "q = 1\n") ∷ []) (Becomes (codes ".RECIPEPREFIX = f\nfoo:\nfx\nX=2\nq = 1\n"))
 row_prefix_019 = refl
 
-row_prefix_020 : account (codes ".RECIPEPREFIX = t\nX=1\nty\n") (AddRule (AfterVar (Some 4294967295) (codes "X")) (codes "t a") One (codes "c")) ≡ NotMade 1 NoSuch
+row_prefix_020 : account (codes ".RECIPEPREFIX = t\nX=1\nty\n") (AddRule (AfterVar (Some 4294967295) (codes "X")) (codes "t a") Single (codes "c")) ≡ NotMade 1 NoSuch
 row_prefix_020 = refl
 
 row_prefix_021 : account (codes ".RECIPEPREFIX = \\t\ndefine D\nendef\na:\n") (AddPrereq false None (codes "a") (codes "%.o")) ≡ NotMade 1 RecipePrefix
@@ -79,13 +79,13 @@ row_prefix_022 = refl
 row_prefix_023 : account (codes ".RECIPEPREFIX = f\na: b\n.RECIPEPREFIX=t\nf: a\n") (AddAssign (BeforeRule None (codes "f")) (codes "x") Recursive (codes "1")) ≡ Accepted 1 0 (span 39 39 (codes "x = 1\n") ∷ []) (Becomes (codes ".RECIPEPREFIX = f\na: b\n.RECIPEPREFIX=t\nx = 1\nf: a\n"))
 row_prefix_023 = refl
 
-row_prefix_024 : account (codes ".RECIPEPREFIX = b\nX=1\nbz\n%y") (AddRule (BeforeVar (Some 0) (codes "X")) (codes "%x a") One (codes "c")) ≡ NotMade 1 NoSuch
+row_prefix_024 : account (codes ".RECIPEPREFIX = b\nX=1\nbz\n%y") (AddRule (BeforeVar (Some 0) (codes "X")) (codes "%x a") Single (codes "c")) ≡ NotMade 1 NoSuch
 row_prefix_024 = refl
 
-row_prefix_025 : account (codes ".RECIPEPREFIX = .\nifdef A\na: f\nX=2\n") (AddRule (BeforeVar None (codes "X")) (codes ">x") One (codes "c")) ≡ Accepted 1 0 (span 31 31 (codes ">x: c\n") ∷ []) (Becomes (codes ".RECIPEPREFIX = .\nifdef A\na: f\n>x: c\nX=2\n"))
+row_prefix_025 : account (codes ".RECIPEPREFIX = .\nifdef A\na: f\nX=2\n") (AddRule (BeforeVar None (codes "X")) (codes ">x") Single (codes "c")) ≡ Accepted 1 0 (span 31 31 (codes ">x: c\n") ∷ []) (Becomes (codes ".RECIPEPREFIX = .\nifdef A\na: f\n>x: c\nX=2\n"))
 row_prefix_025 = refl
 
-row_prefix_026 : account (codes ".RECIPEPREFIX = b\nb a: X = 1\nbz\n") (AddRule (BeforeRule None (codes "$(p #)")) (codes "q") One (codes "c")) ≡ NotMade 1 NoSuch
+row_prefix_026 : account (codes ".RECIPEPREFIX = b\nb a: X = 1\nbz\n") (AddRule (BeforeRule None (codes "$(p #)")) (codes "q") Single (codes "c")) ≡ NotMade 1 NoSuch
 row_prefix_026 = refl
 
 row_prefix_027 : account (codes ".RECIPEPREFIX = %\nfoo:\n%x\n.RECIPEPREFIX=b\na:\n") (RenameTarget (codes "a") (codes "1")) ≡ Accepted 1 1 (span 42 43 (codes "1") ∷ []) (Becomes (codes ".RECIPEPREFIX = %\nfoo:\n%x\n.RECIPEPREFIX=b\n1:\n"))
@@ -94,10 +94,10 @@ row_prefix_027 = refl
 row_prefix_028 : account (codes ".RECIPEPREFIX = -\nfoo:\n-x\n-z\na:\n") (AddAssign Bottom (codes "-1") Recursive (codes "1")) ≡ NotMade 1 RecipePrefix
 row_prefix_028 = refl
 
-row_prefix_029 : account (codes ".RECIPEPREFIX = a\nX=1\na: f\nay\n") (AddRule (BeforeVar (Some 0) (codes "X")) (codes " q") One (codes "c")) ≡ NotMade 1 NoSuch
+row_prefix_029 : account (codes ".RECIPEPREFIX = a\nX=1\na: f\nay\n") (AddRule (BeforeVar (Some 0) (codes "X")) (codes " q") Single (codes "c")) ≡ NotMade 1 NoSuch
 row_prefix_029 = refl
 
-row_prefix_030 : account (codes ".RECIPEPREFIX = a\nX=1\n.RECIPEPREFIX=\n") (AddRule (AfterVar None (codes "X")) (codes " q") One (codes "c")) ≡ Accepted 1 0 (span 22 22 (codes "q: c\n") ∷ []) (Becomes (codes ".RECIPEPREFIX = a\nX=1\nq: c\n.RECIPEPREFIX=\n"))
+row_prefix_030 : account (codes ".RECIPEPREFIX = a\nX=1\n.RECIPEPREFIX=\n") (AddRule (AfterVar None (codes "X")) (codes " q") Single (codes "c")) ≡ Accepted 1 0 (span 22 22 (codes "q: c\n") ∷ []) (Becomes (codes ".RECIPEPREFIX = a\nX=1\nq: c\n.RECIPEPREFIX=\n"))
 row_prefix_030 = refl
 
 row_prefix_031 : account (codes ".RECIPEPREFIX = b\nfoo:\nbx\n.RECIPEPREFIX=f\na:\n") (RenameTarget (codes "foo") (codes "x")) ≡ Accepted 1 1 (span 18 21 (codes "x") ∷ []) (Becomes (codes ".RECIPEPREFIX = b\nx:\nbx\n.RECIPEPREFIX=f\na:\n"))
@@ -124,7 +124,7 @@ row_prefix_037 = refl
 row_prefix_038 : account (codes ".RECIPEPREFIX = X\ndefine D\nendef\nXz\nXy\n") (AddAssign Bottom (codes "qx") Recursive (codes "1")) ≡ Accepted 1 0 (span 39 39 (codes "qx = 1\n") ∷ []) (Becomes (codes ".RECIPEPREFIX = X\ndefine D\nendef\nXz\nXy\nqx = 1\n"))
 row_prefix_038 = refl
 
-row_prefix_039 : account (codes ".RECIPEPREFIX = e\nX=1\nez\n") (AddRule Bottom (codes "e1 a") One (codes "c")) ≡ NotMade 1 RecipePrefix
+row_prefix_039 : account (codes ".RECIPEPREFIX = e\nX=1\nez\n") (AddRule Bottom (codes "e1 a") Single (codes "c")) ≡ NotMade 1 RecipePrefix
 row_prefix_039 = refl
 
 row_prefix_040 : account (codes ".RECIPEPREFIX = f\nX=1\n.RECIPEPREFIX=\nfy\n") (AddAssign Bottom (codes "f") Shell (codes "1")) ≡ Accepted 1 0 (span 40 40 (codes "f != 1\n") ∷ []) (Becomes (codes ".RECIPEPREFIX = f\nX=1\n.RECIPEPREFIX=\nfy\nf != 1\n"))
@@ -133,7 +133,7 @@ row_prefix_040 = refl
 row_prefix_041 : account (codes ".RECIPEPREFIX = t\nX=1\n.RECIPEPREFIX=a\n") (SetValue (Some 2) (codes ".RECIPEPREFIX") []) ≡ NotMade 1 Reserved
 row_prefix_041 = refl
 
-row_prefix_042 : account (codes ".RECIPEPREFIX = t\na: b\na: f\nty\n") (AddRule (BeforeRule (Some 2) (codes "a")) (codes " t") One (codes "c")) ≡ NotMade 1 RecipePrefix
+row_prefix_042 : account (codes ".RECIPEPREFIX = t\na: b\na: f\nty\n") (AddRule (BeforeRule (Some 2) (codes "a")) (codes " t") Single (codes "c")) ≡ NotMade 1 RecipePrefix
 row_prefix_042 = refl
 
 row_prefix_043 : account (codes ".RECIPEPREFIX = >\ndefine D\nendef\nf: a\n") (RenameTarget (codes "f") (codes ">x")) ≡ NotMade 1 RecipePrefix
@@ -145,7 +145,7 @@ row_prefix_044 = refl
 row_prefix_045 : account (codes ".RECIPEPREFIX = X\nb a: X = 1\nXz\na:\n") (AddPrereq false None (codes "a") (codes "%.c")) ≡ Accepted 1 1 (span 34 34 (codes " %.c") ∷ []) (Becomes (codes ".RECIPEPREFIX = X\nb a: X = 1\nXz\na: %.c\n"))
 row_prefix_045 = refl
 
-row_prefix_046 : account (codes ".RECIPEPREFIX = -\ndefine D\nendef\n-z\n-y\n") (AddRule Bottom (codes " q") One (codes "c")) ≡ Accepted 1 0 (span 39 39 (codes "q: c\n") ∷ []) (Becomes (codes ".RECIPEPREFIX = -\ndefine D\nendef\n-z\n-y\nq: c\n"))
+row_prefix_046 : account (codes ".RECIPEPREFIX = -\ndefine D\nendef\n-z\n-y\n") (AddRule Bottom (codes " q") Single (codes "c")) ≡ Accepted 1 0 (span 39 39 (codes "q: c\n") ∷ []) (Becomes (codes ".RECIPEPREFIX = -\ndefine D\nendef\n-z\n-y\nq: c\n"))
 row_prefix_046 = refl
 
 row_prefix_047 : account (codes ".RECIPEPREFIX = e\nfoo:\nex\n.RECIPEPREFIX=-\na:\n") (RenameTarget (codes "a") (codes "e1")) ≡ Accepted 1 1 (span 42 43 (codes "e1") ∷ []) (Becomes (codes ".RECIPEPREFIX = e\nfoo:\nex\n.RECIPEPREFIX=-\ne1:\n"))
@@ -154,16 +154,16 @@ row_prefix_047 = refl
 row_prefix_048 : account (codes ".RECIPEPREFIX = t\nfoo:\ntx\na: f\na:\n") (AddAssign (BeforeRule (Some 2) (codes "a")) (codes "q1") Shell (codes "1")) ≡ Accepted 1 0 (span 31 31 (codes "q1 != 1\n") ∷ []) (Becomes (codes ".RECIPEPREFIX = t\nfoo:\ntx\na: f\nq1 != 1\na:\n"))
 row_prefix_048 = refl
 
-row_prefix_049 : account (codes ".RECIPEPREFIX = .\n a: b a\n.z\n.y\n") (AddRule (BeforeRule None (codes "a")) (codes "q a") One (codes "c")) ≡ Accepted 1 0 (span 18 18 (codes "q a: c\n") ∷ []) (Becomes (codes ".RECIPEPREFIX = .\nq a: c\n a: b a\n.z\n.y\n"))
+row_prefix_049 : account (codes ".RECIPEPREFIX = .\n a: b a\n.z\n.y\n") (AddRule (BeforeRule None (codes "a")) (codes "q a") Single (codes "c")) ≡ Accepted 1 0 (span 18 18 (codes "q a: c\n") ∷ []) (Becomes (codes ".RECIPEPREFIX = .\nq a: c\n a: b a\n.z\n.y\n"))
 row_prefix_049 = refl
 
-row_prefix_050 : account (codes ".RECIPEPREFIX = a\n a: b a\n.RECIPEPREFIX=\nX=2\n") (AddRule (AfterVar None (codes "X")) (codes "ax") One (codes "c")) ≡ Accepted 1 0 (span 45 45 (codes "ax: c\n") ∷ []) (Becomes (codes ".RECIPEPREFIX = a\n a: b a\n.RECIPEPREFIX=\nX=2\nax: c\n"))
+row_prefix_050 : account (codes ".RECIPEPREFIX = a\n a: b a\n.RECIPEPREFIX=\nX=2\n") (AddRule (AfterVar None (codes "X")) (codes "ax") Single (codes "c")) ≡ Accepted 1 0 (span 45 45 (codes "ax: c\n") ∷ []) (Becomes (codes ".RECIPEPREFIX = a\n a: b a\n.RECIPEPREFIX=\nX=2\nax: c\n"))
 row_prefix_050 = refl
 
-row_prefix_051 : account (codes ".RECIPEPREFIX = b\n a: b a\na: f\nby\n") (AddRule Bottom (codes "bx a") One (codes "c")) ≡ NotMade 1 RecipePrefix
+row_prefix_051 : account (codes ".RECIPEPREFIX = b\n a: b a\na: f\nby\n") (AddRule Bottom (codes "bx a") Single (codes "c")) ≡ NotMade 1 RecipePrefix
 row_prefix_051 = refl
 
-row_prefix_052 : account (codes ".RECIPEPREFIX = \\t\nb a: X = 1\n.RECIPEPREFIX=\n") (AddRule Bottom (codes "\\t a") One (codes "c")) ≡ NotMade 1 (BadArgument field.Targets)
+row_prefix_052 : account (codes ".RECIPEPREFIX = \\t\nb a: X = 1\n.RECIPEPREFIX=\n") (AddRule Bottom (codes "\\t a") Single (codes "c")) ≡ NotMade 1 (BadArgument field.Targets)
 row_prefix_052 = refl
 
 row_prefix_053 : account (codes ".RECIPEPREFIX = %\na: b\nf: a\n") (RemovePrereq None (codes "a") (codes "b")) ≡ Accepted 1 1 (span 20 22 [] ∷ []) (Becomes (codes ".RECIPEPREFIX = %\na:\nf: a\n"))
@@ -184,7 +184,7 @@ row_prefix_057 = refl
 row_prefix_058 : account (codes ".RECIPEPREFIX = e\ndefine D\nendef\nX=2\n") (RemoveAssign None (codes ".RECIPEPREFIX")) ≡ NotMade 0 Reserved
 row_prefix_058 = refl
 
-row_prefix_059 : account (codes ".RECIPEPREFIX = .\nX=1\nX=2\n") (AddRule (AfterVar (Some 2) (codes "X")) (codes ".PHONY") Two (codes "a&b")) ≡ NotMade 1 RecipePrefix
+row_prefix_059 : account (codes ".RECIPEPREFIX = .\nX=1\nX=2\n") (AddRule (AfterVar (Some 2) (codes "X")) (codes ".PHONY") Double (codes "a&b")) ≡ NotMade 1 RecipePrefix
 row_prefix_059 = refl
 
 row_prefix_060 : account (codes ".RECIPEPREFIX = f\na: b\n.RECIPEPREFIX=\n") (SetValue None (codes ".RECIPEPREFIX") (codes ": |")) ≡ NotMade 1 Reserved
@@ -193,7 +193,7 @@ row_prefix_060 = refl
 row_prefix_061 : account (codes ".RECIPEPREFIX = X\nfoo:\nXx\n.RECIPEPREFIX=\nX=2\n") (RenameTarget (codes "foo") (codes "Xx")) ≡ NotMade 1 RecipePrefix
 row_prefix_061 = refl
 
-row_prefix_062 : account (codes ".RECIPEPREFIX = X\nX=1\na: f\nX=2\n") (AddRule (BeforeVar (Some 1) (codes "X")) (codes " q1") One (codes "c")) ≡ NotMade 1 Leans
+row_prefix_062 : account (codes ".RECIPEPREFIX = X\nX=1\na: f\nX=2\n") (AddRule (BeforeVar (Some 1) (codes "X")) (codes " q1") Single (codes "c")) ≡ NotMade 1 Leans
 row_prefix_062 = refl
 
 row_prefix_063 : account (codes ".RECIPEPREFIX = >\n a: b a\n.RECIPEPREFIX=\nX=2\n") (RenameTarget (codes "b") (codes "Xx")) ≡ NotMade 1 NoSuch
@@ -202,16 +202,16 @@ row_prefix_063 = refl
 row_prefix_064 : account (codes ".RECIPEPREFIX = e\nfoo:\nex\na: f\nX=2\n") (RenameTarget (codes "f") (codes "f1")) ≡ NotMade 1 NoSuch
 row_prefix_064 = refl
 
-row_prefix_065 : account (codes ".RECIPEPREFIX = t\ndefine D\nendef\nfy") (AddRule Bottom (codes "x") One (codes "c")) ≡ Accepted 1 0 (span 35 35 (codes "\nx: c\n") ∷ []) (Becomes (codes ".RECIPEPREFIX = t\ndefine D\nendef\nfy\nx: c\n"))
+row_prefix_065 : account (codes ".RECIPEPREFIX = t\ndefine D\nendef\nfy") (AddRule Bottom (codes "x") Single (codes "c")) ≡ Accepted 1 0 (span 35 35 (codes "\nx: c\n") ∷ []) (Becomes (codes ".RECIPEPREFIX = t\ndefine D\nendef\nfy\nx: c\n"))
 row_prefix_065 = refl
 
 row_prefix_066 : account (codes ".RECIPEPREFIX = %\ndefine D\nendef\na: f\nX=2\n") (AddAssign Bottom (codes "q") Append (codes "1")) ≡ Accepted 1 0 (span 42 42 (codes "q += 1\n") ∷ []) (Becomes (codes ".RECIPEPREFIX = %\ndefine D\nendef\na: f\nX=2\nq += 1\n"))
 row_prefix_066 = refl
 
-row_prefix_067 : account (codes ".RECIPEPREFIX = e\nX=1\na: f\nf: a\n") (AddRule Bottom (codes " a1") One (codes "c")) ≡ Accepted 1 0 (span 32 32 (codes "a1: c\n") ∷ []) (Becomes (codes ".RECIPEPREFIX = e\nX=1\na: f\nf: a\na1: c\n"))
+row_prefix_067 : account (codes ".RECIPEPREFIX = e\nX=1\na: f\nf: a\n") (AddRule Bottom (codes " a1") Single (codes "c")) ≡ Accepted 1 0 (span 32 32 (codes "a1: c\n") ∷ []) (Becomes (codes ".RECIPEPREFIX = e\nX=1\na: f\nf: a\na1: c\n"))
 row_prefix_067 = refl
 
-row_prefix_068 : account (codes ".RECIPEPREFIX = >\nfoo:\n>x\nX=2\n") (AddRule Bottom (codes " >1") One (codes "c")) ≡ NotMade 1 RecipePrefix
+row_prefix_068 : account (codes ".RECIPEPREFIX = >\nfoo:\n>x\nX=2\n") (AddRule Bottom (codes " >1") Single (codes "c")) ≡ NotMade 1 RecipePrefix
 row_prefix_068 = refl
 
 row_prefix_069 : account (codes ".RECIPEPREFIX = >\na: b\na: f\n>y\n") (AddAssign (BeforeVar None (codes "-x_9")) (codes "e1") Shell (codes "1")) ≡ NotMade 1 NoSuch
@@ -223,16 +223,16 @@ row_prefix_070 = refl
 row_prefix_071 : account (codes ".RECIPEPREFIX = e\nX=1\n.RECIPEPREFIX=.\nX=2\n") (SetRecipe None (codes "Ã©") 4294967295 (codes ">")) ≡ NotMade 1 NoSuch
 row_prefix_071 = refl
 
-row_prefix_072 : account (codes ".RECIPEPREFIX = X\n a: b a\n.RECIPEPREFIX=\na:\n") (AddRule Bottom (codes " t") One (codes "c")) ≡ Accepted 1 0 (span 44 44 (codes "t: c\n") ∷ []) (Becomes (codes ".RECIPEPREFIX = X\n a: b a\n.RECIPEPREFIX=\na:\nt: c\n"))
+row_prefix_072 : account (codes ".RECIPEPREFIX = X\n a: b a\n.RECIPEPREFIX=\na:\n") (AddRule Bottom (codes " t") Single (codes "c")) ≡ Accepted 1 0 (span 44 44 (codes "t: c\n") ∷ []) (Becomes (codes ".RECIPEPREFIX = X\n a: b a\n.RECIPEPREFIX=\na:\nt: c\n"))
 row_prefix_072 = refl
 
-row_prefix_073 : account (codes ".RECIPEPREFIX = -\n a: b a\na: f\n") (AddRule Bottom (codes ".x") One (codes "c")) ≡ Accepted 1 0 (span 31 31 (codes ".x: c\n") ∷ []) (Becomes (codes ".RECIPEPREFIX = -\n a: b a\na: f\n.x: c\n"))
+row_prefix_073 : account (codes ".RECIPEPREFIX = -\n a: b a\na: f\n") (AddRule Bottom (codes ".x") Single (codes "c")) ≡ Accepted 1 0 (span 31 31 (codes ".x: c\n") ∷ []) (Becomes (codes ".RECIPEPREFIX = -\n a: b a\na: f\n.x: c\n"))
 row_prefix_073 = refl
 
 row_prefix_074 : account (codes ".RECIPEPREFIX = \\t\nifdef A\n\\tz\n") (AddAssign Bottom (codes "1") Conditional (codes "1")) ≡ NotMade 1 RecipePrefix
 row_prefix_074 = refl
 
-row_prefix_075 : account (codes ".RECIPEPREFIX = %\na: b\n%z\na:\n") (AddRule Bottom (codes "%1") One (codes "c")) ≡ NotMade 1 RecipePrefix
+row_prefix_075 : account (codes ".RECIPEPREFIX = %\na: b\n%z\na:\n") (AddRule Bottom (codes "%1") Single (codes "c")) ≡ NotMade 1 RecipePrefix
 row_prefix_075 = refl
 
 row_prefix_076 : account (codes ".RECIPEPREFIX = \\t\ndefine D\nendef\na: f\nf: a\n") (AddAssign Bottom (codes "x") Simple (codes "1")) ≡ NotMade 1 RecipePrefix
@@ -241,13 +241,13 @@ row_prefix_076 = refl
 row_prefix_077 : account (codes ".RECIPEPREFIX = b\nb a: X = 1\nbz\nf: a\n") (AddPrereq false (Some 2) (codes "f") (codes "t")) ≡ NotMade 1 NoSuch
 row_prefix_077 = refl
 
-row_prefix_078 : account (codes ".RECIPEPREFIX = .\na: b\na: f\n") (AddRule (BeforeRule None (codes "a")) (codes "f") One (codes "c")) ≡ NotMade 1 (Ambiguous 2)
+row_prefix_078 : account (codes ".RECIPEPREFIX = .\na: b\na: f\n") (AddRule (BeforeRule None (codes "a")) (codes "f") Single (codes "c")) ≡ NotMade 1 (Ambiguous 2)
 row_prefix_078 = refl
 
 row_prefix_079 : account (codes ".RECIPEPREFIX = a\nifdef A\na: f\nX=2\n") (SetValue None (codes "X") (codes ":")) ≡ Accepted 1 1 (span 33 34 (codes ":") ∷ []) (Becomes (codes ".RECIPEPREFIX = a\nifdef A\na: f\nX=:\n"))
 row_prefix_079 = refl
 
-row_prefix_080 : account (codes ".RECIPEPREFIX = .\n a: b a\nf: a\n") (AddRule (BeforeRule None (codes "f")) (codes "qx") One (codes "c")) ≡ Accepted 1 0 (span 26 26 (codes "qx: c\n") ∷ []) (Becomes (codes ".RECIPEPREFIX = .\n a: b a\nqx: c\nf: a\n"))
+row_prefix_080 : account (codes ".RECIPEPREFIX = .\n a: b a\nf: a\n") (AddRule (BeforeRule None (codes "f")) (codes "qx") Single (codes "c")) ≡ Accepted 1 0 (span 26 26 (codes "qx: c\n") ∷ []) (Becomes (codes ".RECIPEPREFIX = .\n a: b a\nqx: c\nf: a\n"))
 row_prefix_080 = refl
 
 row_prefix_081 : account (codes ".RECIPEPREFIX = t\nX=1\n.RECIPEPREFIX=X\na:\n") (AddAssign (AfterVar None (codes "X")) (codes "qx") Shell (codes "1")) ≡ Accepted 1 0 (span 22 22 (codes "qx != 1\n") ∷ []) (Becomes (codes ".RECIPEPREFIX = t\nX=1\nqx != 1\n.RECIPEPREFIX=X\na:\n"))
@@ -277,7 +277,7 @@ row_prefix_088 = refl
 row_prefix_089 : account (codes ".RECIPEPREFIX = b\n a: b a\na: f\nX=2\n") (AddAssign Bottom (codes "x") Immediate (codes "1")) ≡ Accepted 1 0 (span 35 35 (codes "x :::= 1\n") ∷ []) (Becomes (codes ".RECIPEPREFIX = b\n a: b a\na: f\nX=2\nx :::= 1\n"))
 row_prefix_089 = refl
 
-row_prefix_090 : account (codes ".RECIPEPREFIX = f\nb a: X = 1\nfz\nX=2\n") (AddRule Bottom (codes "\\tx a") One (codes "c")) ≡ NotMade 1 (BadArgument field.Targets)
+row_prefix_090 : account (codes ".RECIPEPREFIX = f\nb a: X = 1\nfz\nX=2\n") (AddRule Bottom (codes "\\tx a") Single (codes "c")) ≡ NotMade 1 (BadArgument field.Targets)
 row_prefix_090 = refl
 
 row_prefix_091 : account (codes ".RECIPEPREFIX = a\nX=1\n.RECIPEPREFIX=t\nf: a\n") (AddAssign (BeforeRule None (codes "$(a b)")) (codes "Y") Conditional []) ≡ NotMade 1 NoSuch
@@ -286,7 +286,7 @@ row_prefix_091 = refl
 row_prefix_092 : account (codes ".RECIPEPREFIX = t\nX=1\nX=2\n") (RemoveAssign (Some 2) (codes ".RECIPEPREFIX")) ≡ NotMade 0 Reserved
 row_prefix_092 = refl
 
-row_prefix_093 : account (codes ".RECIPEPREFIX = %\nX=1\na: f\n%y\n") (AddRule (AfterVar (Some 0) (codes "X")) (codes "X a") One (codes "c")) ≡ NotMade 1 NoSuch
+row_prefix_093 : account (codes ".RECIPEPREFIX = %\nX=1\na: f\n%y\n") (AddRule (AfterVar (Some 0) (codes "X")) (codes "X a") Single (codes "c")) ≡ NotMade 1 NoSuch
 row_prefix_093 = refl
 
 row_prefix_094 : account (codes ".RECIPEPREFIX = .\nX=1\n.z\n") (RenameTarget (codes "a") (codes "q1")) ≡ NotMade 0 NoSuch
@@ -295,7 +295,7 @@ row_prefix_094 = refl
 row_prefix_095 : account (codes ".RECIPEPREFIX = >\nb a: X = 1\na: f\nX=2\n") (RenameTarget (codes "b") (codes "qx")) ≡ Accepted 1 1 (span 18 19 (codes "qx") ∷ []) (Becomes (codes ".RECIPEPREFIX = >\nqx a: X = 1\na: f\nX=2\n"))
 row_prefix_095 = refl
 
-row_prefix_096 : account (codes ".RECIPEPREFIX = >\ndefine D\nendef\na: f\nX=2\n") (AddRule (AfterVar None (codes "X")) (codes " q1") One (codes "c")) ≡ Accepted 1 0 (span 42 42 (codes "q1: c\n") ∷ []) (Becomes (codes ".RECIPEPREFIX = >\ndefine D\nendef\na: f\nX=2\nq1: c\n"))
+row_prefix_096 : account (codes ".RECIPEPREFIX = >\ndefine D\nendef\na: f\nX=2\n") (AddRule (AfterVar None (codes "X")) (codes " q1") Single (codes "c")) ≡ Accepted 1 0 (span 42 42 (codes "q1: c\n") ∷ []) (Becomes (codes ".RECIPEPREFIX = >\ndefine D\nendef\na: f\nX=2\nq1: c\n"))
 row_prefix_096 = refl
 
 row_prefix_097 : account (codes ".RECIPEPREFIX = >\nX=1\n") (AddAssign (BeforeVar None (codes "a.b")) (codes "t") Recursive (codes "1")) ≡ NotMade 1 NoSuch
@@ -307,7 +307,7 @@ row_prefix_098 = refl
 row_prefix_099 : account (codes ".RECIPEPREFIX = X\nfoo:\nXx\na: f\n") (RenameTarget (codes "a") (codes "q")) ≡ Accepted 1 1 (span 26 27 (codes "q") ∷ []) (Becomes (codes ".RECIPEPREFIX = X\nfoo:\nXx\nq: f\n"))
 row_prefix_099 = refl
 
-row_prefix_100 : account (codes ".RECIPEPREFIX = b\na: b\n.RECIPEPREFIX=f\n") (AddRule Bottom (codes "b1") One (codes "c")) ≡ Accepted 1 0 (span 39 39 (codes "b1: c\n") ∷ []) (Becomes (codes ".RECIPEPREFIX = b\na: b\n.RECIPEPREFIX=f\nb1: c\n"))
+row_prefix_100 : account (codes ".RECIPEPREFIX = b\na: b\n.RECIPEPREFIX=f\n") (AddRule Bottom (codes "b1") Single (codes "c")) ≡ Accepted 1 0 (span 39 39 (codes "b1: c\n") ∷ []) (Becomes (codes ".RECIPEPREFIX = b\na: b\n.RECIPEPREFIX=f\nb1: c\n"))
 row_prefix_100 = refl
 
 row_prefix_101 : account (codes ".RECIPEPREFIX = b\nfoo:\nbx\nbz\n%y") (RenameTarget (codes "foo") (codes "q1")) ≡ Accepted 1 1 (span 18 21 (codes "q1") ∷ []) (Becomes (codes ".RECIPEPREFIX = b\nq1:\nbx\nbz\n%y"))
@@ -322,7 +322,7 @@ row_prefix_103 = refl
 row_prefix_104 : account (codes ".RECIPEPREFIX = e\nifdef A\na: f\nf: a\n") (RenameTarget (codes "a") (codes ".1")) ≡ Accepted 2 2 (span 26 27 (codes ".1") ∷ span 34 35 (codes ".1") ∷ []) (Becomes (codes ".RECIPEPREFIX = e\nifdef A\n.1: f\nf: .1\n"))
 row_prefix_104 = refl
 
-row_prefix_105 : account (codes ".RECIPEPREFIX = >\nifdef A\n>z\nf: a\n") (AddRule (AfterVar None (codes "a.b")) (codes "x a") One (codes "c")) ≡ NotMade 1 NoSuch
+row_prefix_105 : account (codes ".RECIPEPREFIX = >\nifdef A\n>z\nf: a\n") (AddRule (AfterVar None (codes "a.b")) (codes "x a") Single (codes "c")) ≡ NotMade 1 NoSuch
 row_prefix_105 = refl
 
 row_prefix_106 : account (codes ".RECIPEPREFIX = b\nfoo:\nbx\na: f\n") (RenameTarget (codes "foo") (codes "t")) ≡ Accepted 1 1 (span 18 21 (codes "t") ∷ []) (Becomes (codes ".RECIPEPREFIX = b\nt:\nbx\na: f\n"))
@@ -340,7 +340,7 @@ row_prefix_109 = refl
 row_prefix_110 : account (codes ".RECIPEPREFIX = .\nifdef A\na: f\nf: a\n") (RenameTarget (codes "f") (codes "ax")) ≡ Accepted 2 2 (span 29 30 (codes "ax") ∷ span 31 32 (codes "ax") ∷ []) (Becomes (codes ".RECIPEPREFIX = .\nifdef A\na: ax\nax: a\n"))
 row_prefix_110 = refl
 
-row_prefix_111 : account (codes ".RECIPEPREFIX = t\nb a: X = 1\na: f\nfy") (AddRule (BeforeRule None (codes "a")) (codes "x") One (codes "c")) ≡ Accepted 1 0 (span 29 29 (codes "x: c\n") ∷ []) (Becomes (codes ".RECIPEPREFIX = t\nb a: X = 1\nx: c\na: f\nfy"))
+row_prefix_111 : account (codes ".RECIPEPREFIX = t\nb a: X = 1\na: f\nfy") (AddRule (BeforeRule None (codes "a")) (codes "x") Single (codes "c")) ≡ Accepted 1 0 (span 29 29 (codes "x: c\n") ∷ []) (Becomes (codes ".RECIPEPREFIX = t\nb a: X = 1\nx: c\na: f\nfy"))
 row_prefix_111 = refl
 
 row_prefix_112 : account (codes ".RECIPEPREFIX = t\nifdef A\na: f\na:\n") (AddPrereq false (Some 2) (codes "a") (codes "-include2")) ≡ Accepted 1 1 (span 33 33 (codes " -include2") ∷ []) (Becomes (codes ".RECIPEPREFIX = t\nifdef A\na: f\na: -include2\n"))
@@ -352,10 +352,10 @@ row_prefix_113 = refl
 row_prefix_114 : account (codes ".RECIPEPREFIX = X\nifdef A\nXz\nX=2\n") (SetValue (Some 2) (codes ".RECIPEPREFIX") []) ≡ NotMade 1 Reserved
 row_prefix_114 = refl
 
-row_prefix_115 : account (codes ".RECIPEPREFIX = >\na: b\n.RECIPEPREFIX=t\nX=2\n") (AddRule (AfterVar None (codes "X")) (codes " 1") One (codes "c")) ≡ Accepted 1 0 (span 43 43 (codes "1: c\n") ∷ []) (Becomes (codes ".RECIPEPREFIX = >\na: b\n.RECIPEPREFIX=t\nX=2\n1: c\n"))
+row_prefix_115 : account (codes ".RECIPEPREFIX = >\na: b\n.RECIPEPREFIX=t\nX=2\n") (AddRule (AfterVar None (codes "X")) (codes " 1") Single (codes "c")) ≡ Accepted 1 0 (span 43 43 (codes "1: c\n") ∷ []) (Becomes (codes ".RECIPEPREFIX = >\na: b\n.RECIPEPREFIX=t\nX=2\n1: c\n"))
 row_prefix_115 = refl
 
-row_prefix_116 : account (codes ".RECIPEPREFIX = b\ndefine D\nendef\nf: a\n") (AddRule Bottom (codes "%1 a") One (codes "c")) ≡ Accepted 1 0 (span 38 38 (codes "%1 a: c\n") ∷ []) (Becomes (codes ".RECIPEPREFIX = b\ndefine D\nendef\nf: a\n%1 a: c\n"))
+row_prefix_116 : account (codes ".RECIPEPREFIX = b\ndefine D\nendef\nf: a\n") (AddRule Bottom (codes "%1 a") Single (codes "c")) ≡ Accepted 1 0 (span 38 38 (codes "%1 a: c\n") ∷ []) (Becomes (codes ".RECIPEPREFIX = b\ndefine D\nendef\nf: a\n%1 a: c\n"))
 row_prefix_116 = refl
 
 row_prefix_117 : account (codes ".RECIPEPREFIX = t\nX=1\n.RECIPEPREFIX=-\nty\n") (AppendValue (Some 1) (codes ".RECIPEPREFIX") (codes "${c}")) ≡ NotMade 1 Reserved
@@ -367,7 +367,7 @@ row_prefix_118 = refl
 row_prefix_119 : account (codes ".RECIPEPREFIX = .\nb a: X = 1\n.RECIPEPREFIX=\ney") (SetValue (Some 2) (codes "a.b") (codes "1 $(q:;=|)")) ≡ NotMade 1 NoSuch
 row_prefix_119 = refl
 
-row_prefix_120 : account (codes ".RECIPEPREFIX = f\nifdef A\nfz\nXy") (AddRule (AfterVar None (codes ".RECIPEPREFIX")) (codes "${g(}") One (codes ".PHONY b")) ≡ NotMade 1 Reserved
+row_prefix_120 : account (codes ".RECIPEPREFIX = f\nifdef A\nfz\nXy") (AddRule (AfterVar None (codes ".RECIPEPREFIX")) (codes "${g(}") Single (codes ".PHONY b")) ≡ NotMade 1 Reserved
 row_prefix_120 = refl
 
 row_prefix_121 : account (codes ".RECIPEPREFIX = >\nfoo:\n>x\n.RECIPEPREFIX=a\n") (AddAssign (BeforeRule (Some 2) (codes "foo")) (codes ">x") Recursive (codes "1")) ≡ NotMade 1 (BadArgument field.Name)
@@ -385,10 +385,10 @@ row_prefix_124 = refl
 row_prefix_125 : account (codes ".RECIPEPREFIX = X\n a: b a\na: f\nf: a\n") (RenameTarget (codes "a") (codes "fx")) ≡ Accepted 3 3 (span 19 20 (codes "fx") ∷ span 24 25 (codes "fx") ∷ span 26 27 (codes "fx") ∷ span 34 35 (codes "fx") ∷ []) (Becomes (codes ".RECIPEPREFIX = X\n fx: b fx\nfx: f\nf: fx\n"))
 row_prefix_125 = refl
 
-row_prefix_126 : account (codes ".RECIPEPREFIX = .\nX=1\n.z\na:\n") (AddRule (BeforeVar None (codes "X")) (codes " bx") One (codes "c")) ≡ Accepted 1 0 (span 18 18 (codes "bx: c\n") ∷ []) (Becomes (codes ".RECIPEPREFIX = .\nbx: c\nX=1\n.z\na:\n"))
+row_prefix_126 : account (codes ".RECIPEPREFIX = .\nX=1\n.z\na:\n") (AddRule (BeforeVar None (codes "X")) (codes " bx") Single (codes "c")) ≡ Accepted 1 0 (span 18 18 (codes "bx: c\n") ∷ []) (Becomes (codes ".RECIPEPREFIX = .\nbx: c\nX=1\n.z\na:\n"))
 row_prefix_126 = refl
 
-row_prefix_127 : account (codes ".RECIPEPREFIX = a\nifdef A\na: f\nf: a\n") (AddRule Bottom (codes "q1 a") One (codes "c")) ≡ Accepted 1 0 (span 36 36 (codes "q1 a: c\n") ∷ []) (Becomes (codes ".RECIPEPREFIX = a\nifdef A\na: f\nf: a\nq1 a: c\n"))
+row_prefix_127 : account (codes ".RECIPEPREFIX = a\nifdef A\na: f\nf: a\n") (AddRule Bottom (codes "q1 a") Single (codes "c")) ≡ Accepted 1 0 (span 36 36 (codes "q1 a: c\n") ∷ []) (Becomes (codes ".RECIPEPREFIX = a\nifdef A\na: f\nf: a\nq1 a: c\n"))
 row_prefix_127 = refl
 
 row_prefix_128 : account (codes ".RECIPEPREFIX = e\na: b\na: f\n") (RenameTarget (codes "f") (codes "q")) ≡ NotMade 1 NoSuch
@@ -403,7 +403,7 @@ row_prefix_130 = refl
 row_prefix_131 : account (codes ".RECIPEPREFIX = X\ndefine D\nendef\n.RECIPEPREFIX=f\nfy") (RemoveRecipe None (codes "$x") 4294967295) ≡ NotMade 0 NoSuch
 row_prefix_131 = refl
 
-row_prefix_132 : account (codes ".RECIPEPREFIX = t\nX=1\na:\n") (AddRule (BeforeVar None (codes "X")) (codes "bx") One (codes "c")) ≡ Accepted 1 0 (span 18 18 (codes "bx: c\n") ∷ []) (Becomes (codes ".RECIPEPREFIX = t\nbx: c\nX=1\na:\n"))
+row_prefix_132 : account (codes ".RECIPEPREFIX = t\nX=1\na:\n") (AddRule (BeforeVar None (codes "X")) (codes "bx") Single (codes "c")) ≡ Accepted 1 0 (span 18 18 (codes "bx: c\n") ∷ []) (Becomes (codes ".RECIPEPREFIX = t\nbx: c\nX=1\na:\n"))
 row_prefix_132 = refl
 
 row_prefix_133 : account (codes ".RECIPEPREFIX = %\nifdef A\n%z\n%y\n") (AddAssign (BeforeVar None (codes ".RECIPEPREFIX")) (codes "a.b") Recursive (codes "| $(f {)")) ≡ NotMade 1 Reserved
@@ -427,10 +427,10 @@ row_prefix_138 = refl
 row_prefix_139 : account (codes ".RECIPEPREFIX = f\nfoo:\nfx\n.RECIPEPREFIX=\nXy") (RenameTarget (codes "a") (codes "q")) ≡ NotMade 0 NoSuch
 row_prefix_139 = refl
 
-row_prefix_140 : account (codes ".RECIPEPREFIX = t\nX=1\na: f\na:\n") (AddRule (BeforeRule None (codes "-include2")) (codes " t1") One (codes "c")) ≡ NotMade 1 NoSuch
+row_prefix_140 : account (codes ".RECIPEPREFIX = t\nX=1\na: f\na:\n") (AddRule (BeforeRule None (codes "-include2")) (codes " t1") Single (codes "c")) ≡ NotMade 1 NoSuch
 row_prefix_140 = refl
 
-row_prefix_141 : account (codes ".RECIPEPREFIX = e\nb a: X = 1\nez\nf: a\n") (AddRule (BeforeRule (Some 1) (codes "f")) (codes " 1") One (codes "c")) ≡ Accepted 1 0 (span 32 32 (codes "1: c\n") ∷ []) (Becomes (codes ".RECIPEPREFIX = e\nb a: X = 1\nez\n1: c\nf: a\n"))
+row_prefix_141 : account (codes ".RECIPEPREFIX = e\nb a: X = 1\nez\nf: a\n") (AddRule (BeforeRule (Some 1) (codes "f")) (codes " 1") Single (codes "c")) ≡ Accepted 1 0 (span 32 32 (codes "1: c\n") ∷ []) (Becomes (codes ".RECIPEPREFIX = e\nb a: X = 1\nez\n1: c\nf: a\n"))
 row_prefix_141 = refl
 
 row_prefix_142 : account (codes ".RECIPEPREFIX = f\nifdef A\na: f\na:\n") (AddAssign Bottom (codes "a.b") Conditional []) ≡ Accepted 1 0 (span 34 34 (codes "a.b ?=\n") ∷ []) (Becomes (codes ".RECIPEPREFIX = f\nifdef A\na: f\na:\na.b ?=\n"))
@@ -448,7 +448,7 @@ row_prefix_145 = refl
 row_prefix_146 : account (codes ".RECIPEPREFIX = .\nb a: X = 1\nf: a\n") (RenameTarget (codes "b") (codes ">x")) ≡ Accepted 1 1 (span 18 19 (codes ">x") ∷ []) (Becomes (codes ".RECIPEPREFIX = .\n>x a: X = 1\nf: a\n"))
 row_prefix_146 = refl
 
-row_prefix_147 : account (codes ".RECIPEPREFIX = a\na: b\n.RECIPEPREFIX=\nay\n") (AddRule Bottom (codes "x") One (codes "c")) ≡ Accepted 1 0 (span 41 41 (codes "x: c\n") ∷ []) (Becomes (codes ".RECIPEPREFIX = a\na: b\n.RECIPEPREFIX=\nay\nx: c\n"))
+row_prefix_147 : account (codes ".RECIPEPREFIX = a\na: b\n.RECIPEPREFIX=\nay\n") (AddRule Bottom (codes "x") Single (codes "c")) ≡ Accepted 1 0 (span 41 41 (codes "x: c\n") ∷ []) (Becomes (codes ".RECIPEPREFIX = a\na: b\n.RECIPEPREFIX=\nay\nx: c\n"))
 row_prefix_147 = refl
 
 row_prefix_148 : account (codes ".RECIPEPREFIX = %\na: b\nX=2\n") (RenameTarget (codes "a") (codes "-x")) ≡ Accepted 1 1 (span 18 19 (codes "-x") ∷ []) (Becomes (codes ".RECIPEPREFIX = %\n-x: b\nX=2\n"))
@@ -460,7 +460,7 @@ row_prefix_149 = refl
 row_prefix_150 : account (codes ".RECIPEPREFIX = b\nfoo:\nbx\n.RECIPEPREFIX=a\nX=2\n") (AddAssign (BeforeVar (Some 0) (codes "X")) (codes "q1") Recursive (codes "1")) ≡ NotMade 1 NoSuch
 row_prefix_150 = refl
 
-row_prefix_151 : account (codes ".RECIPEPREFIX = b\nifdef A\nbz\n") (AddRule Bottom (codes "1 a") One (codes "c")) ≡ Accepted 1 0 (span 29 29 (codes "1 a: c\n") ∷ []) (Becomes (codes ".RECIPEPREFIX = b\nifdef A\nbz\n1 a: c\n"))
+row_prefix_151 : account (codes ".RECIPEPREFIX = b\nifdef A\nbz\n") (AddRule Bottom (codes "1 a") Single (codes "c")) ≡ Accepted 1 0 (span 29 29 (codes "1 a: c\n") ∷ []) (Becomes (codes ".RECIPEPREFIX = b\nifdef A\nbz\n1 a: c\n"))
 row_prefix_151 = refl
 
 row_prefix_152 : account (codes ".RECIPEPREFIX = t\nfoo:\ntx\na: f\na:\n") (RenameTarget (codes "f") (codes "a")) ≡ NotMade 1 NoSuch
@@ -472,7 +472,7 @@ row_prefix_153 = refl
 row_prefix_154 : account (codes ".RECIPEPREFIX = f\nifdef A\nX=2\n") (AddAssign (BeforeRule None (codes "b")) (codes "f1") Immediate (codes "1")) ≡ NotMade 1 NoSuch
 row_prefix_154 = refl
 
-row_prefix_155 : account (codes ".RECIPEPREFIX = a\nX=1\na: f\na:\n") (AddRule (AfterVar None (codes "X")) (codes " qx") One (codes "c")) ≡ NotMade 1 Leans
+row_prefix_155 : account (codes ".RECIPEPREFIX = a\nX=1\na: f\na:\n") (AddRule (AfterVar None (codes "X")) (codes " qx") Single (codes "c")) ≡ NotMade 1 Leans
 row_prefix_155 = refl
 
 row_prefix_156 : account (codes ".RECIPEPREFIX = >\ndefine D\nendef\n") (AddAssign Bottom (codes ">1") PosixSimple (codes "1")) ≡ NotMade 1 (BadArgument field.Name)
@@ -484,7 +484,7 @@ row_prefix_157 = refl
 row_prefix_158 : account (codes ".RECIPEPREFIX = e\nfoo:\nex\na:\n") (AddPrereq false None (codes "foo") (codes "%.c")) ≡ Accepted 1 1 (span 22 22 (codes " %.c") ∷ []) (Becomes (codes ".RECIPEPREFIX = e\nfoo: %.c\nex\na:\n"))
 row_prefix_158 = refl
 
-row_prefix_159 : account (codes ".RECIPEPREFIX = >\nfoo:\n>x\n.RECIPEPREFIX=-\n>y\n") (AddRule (BeforeRule None (codes "foo")) (codes " 1") One (codes "c")) ≡ Accepted 1 0 (span 18 18 (codes "1: c\n") ∷ []) (Becomes (codes ".RECIPEPREFIX = >\n1: c\nfoo:\n>x\n.RECIPEPREFIX=-\n>y\n"))
+row_prefix_159 : account (codes ".RECIPEPREFIX = >\nfoo:\n>x\n.RECIPEPREFIX=-\n>y\n") (AddRule (BeforeRule None (codes "foo")) (codes " 1") Single (codes "c")) ≡ Accepted 1 0 (span 18 18 (codes "1: c\n") ∷ []) (Becomes (codes ".RECIPEPREFIX = >\n1: c\nfoo:\n>x\n.RECIPEPREFIX=-\n>y\n"))
 row_prefix_159 = refl
 
 row_prefix_160 : account (codes ".RECIPEPREFIX = b\nfoo:\nbx\n") (AddPrereq true None (codes "foo") (codes "$(s\\)")) ≡ Accepted 1 1 (span 22 22 (codes " | $(s\\)") ∷ []) (Becomes (codes ".RECIPEPREFIX = b\nfoo: | $(s\\)\nbx\n"))
@@ -499,16 +499,16 @@ row_prefix_162 = refl
 row_prefix_163 : account (codes ".RECIPEPREFIX = b\nX=1\n") (RenameTarget (codes "a") (codes "e")) ≡ NotMade 0 NoSuch
 row_prefix_163 = refl
 
-row_prefix_164 : account (codes ".RECIPEPREFIX = b\nb a: X = 1\nby\n") (AddRule Bottom (codes "q1 a") One (codes "c")) ≡ Accepted 1 0 (span 32 32 (codes "q1 a: c\n") ∷ []) (Becomes (codes ".RECIPEPREFIX = b\nb a: X = 1\nby\nq1 a: c\n"))
+row_prefix_164 : account (codes ".RECIPEPREFIX = b\nb a: X = 1\nby\n") (AddRule Bottom (codes "q1 a") Single (codes "c")) ≡ Accepted 1 0 (span 32 32 (codes "q1 a: c\n") ∷ []) (Becomes (codes ".RECIPEPREFIX = b\nb a: X = 1\nby\nq1 a: c\n"))
 row_prefix_164 = refl
 
-row_prefix_165 : account (codes ".RECIPEPREFIX = a\nb a: X = 1\n.RECIPEPREFIX=>\nf: a\n") (AddRule (BeforeRule None (codes "f")) (codes " a1") One (codes "c")) ≡ Accepted 1 0 (span 45 45 (codes "a1: c\n") ∷ []) (Becomes (codes ".RECIPEPREFIX = a\nb a: X = 1\n.RECIPEPREFIX=>\na1: c\nf: a\n"))
+row_prefix_165 : account (codes ".RECIPEPREFIX = a\nb a: X = 1\n.RECIPEPREFIX=>\nf: a\n") (AddRule (BeforeRule None (codes "f")) (codes " a1") Single (codes "c")) ≡ Accepted 1 0 (span 45 45 (codes "a1: c\n") ∷ []) (Becomes (codes ".RECIPEPREFIX = a\nb a: X = 1\n.RECIPEPREFIX=>\na1: c\nf: a\n"))
 row_prefix_165 = refl
 
 row_prefix_166 : account (codes ".RECIPEPREFIX = f\n a: b a\nX=2\n") (RenameTarget (codes "a") (codes "a")) ≡ NotMade 1 Taken
 row_prefix_166 = refl
 
-row_prefix_167 : account (codes ".RECIPEPREFIX = .\nfoo:\n.x\n.RECIPEPREFIX=\nX=2\n") (AddRule (BeforeRule (Some 4294967295) (codes "foo")) (codes "%") One (codes "c")) ≡ NotMade 1 NoSuch
+row_prefix_167 : account (codes ".RECIPEPREFIX = .\nfoo:\n.x\n.RECIPEPREFIX=\nX=2\n") (AddRule (BeforeRule (Some 4294967295) (codes "foo")) (codes "%") Single (codes "c")) ≡ NotMade 1 NoSuch
 row_prefix_167 = refl
 
 row_prefix_168 : account (codes ".RECIPEPREFIX = .\na: b\n.RECIPEPREFIX=t\na:\n") (AddAssign (BeforeRule (Some 2) (codes "a")) (codes "-x_9") Shell []) ≡ Accepted 1 0 (span 39 39 (codes "-x_9 !=\n") ∷ []) (Becomes (codes ".RECIPEPREFIX = .\na: b\n.RECIPEPREFIX=t\n-x_9 !=\na:\n"))
@@ -517,7 +517,7 @@ row_prefix_168 = refl
 row_prefix_169 : account (codes ".RECIPEPREFIX = .\n a: b a\na: f\n.y\n") (RenameTarget (codes "a") (codes "tx")) ≡ Accepted 2 2 (span 19 20 (codes "tx") ∷ span 24 25 (codes "tx") ∷ span 26 27 (codes "tx") ∷ []) (Becomes (codes ".RECIPEPREFIX = .\n tx: b tx\ntx: f\n.y\n"))
 row_prefix_169 = refl
 
-row_prefix_170 : account (codes ".RECIPEPREFIX = f\nb a: X = 1\n") (AddRule Bottom (codes "a1") One (codes "c")) ≡ Accepted 1 0 (span 29 29 (codes "a1: c\n") ∷ []) (Becomes (codes ".RECIPEPREFIX = f\nb a: X = 1\na1: c\n"))
+row_prefix_170 : account (codes ".RECIPEPREFIX = f\nb a: X = 1\n") (AddRule Bottom (codes "a1") Single (codes "c")) ≡ Accepted 1 0 (span 29 29 (codes "a1: c\n") ∷ []) (Becomes (codes ".RECIPEPREFIX = f\nb a: X = 1\na1: c\n"))
 row_prefix_170 = refl
 
 row_prefix_171 : account (codes ".RECIPEPREFIX = %\ndefine D\nendef\n") (RenameTarget (codes "a") (codes "fx")) ≡ NotMade 0 NoSuch
@@ -550,10 +550,10 @@ row_prefix_179 = refl
 row_prefix_180 : account (codes ".RECIPEPREFIX = >\nifdef A\n>z\na:\n") (RemoveRule (Some 2) (codes "a")) ≡ NotMade 0 NoSuch
 row_prefix_180 = refl
 
-row_prefix_181 : account (codes ".RECIPEPREFIX = t\na: b\n.RECIPEPREFIX=-\n") (AddRule Bottom (codes "-x") One (codes "c")) ≡ NotMade 1 RecipePrefix
+row_prefix_181 : account (codes ".RECIPEPREFIX = t\na: b\n.RECIPEPREFIX=-\n") (AddRule Bottom (codes "-x") Single (codes "c")) ≡ NotMade 1 RecipePrefix
 row_prefix_181 = refl
 
-row_prefix_182 : account (codes ".RECIPEPREFIX = -\n a: b a\n.y") (AddRule Bottom (codes ".1") One (codes "c")) ≡ Accepted 1 0 (span 28 28 (codes "\n.1: c\n") ∷ []) (Becomes (codes ".RECIPEPREFIX = -\n a: b a\n.y\n.1: c\n"))
+row_prefix_182 : account (codes ".RECIPEPREFIX = -\n a: b a\n.y") (AddRule Bottom (codes ".1") Single (codes "c")) ≡ Accepted 1 0 (span 28 28 (codes "\n.1: c\n") ∷ []) (Becomes (codes ".RECIPEPREFIX = -\n a: b a\n.y\n.1: c\n"))
 row_prefix_182 = refl
 
 row_prefix_183 : account (codes ".RECIPEPREFIX = >\ndefine D\nendef\na: f\n-y") (RenameTarget (codes "a") (codes "1")) ≡ Accepted 1 1 (span 33 34 (codes "1") ∷ []) (Becomes (codes ".RECIPEPREFIX = >\ndefine D\nendef\n1: f\n-y"))
@@ -565,7 +565,7 @@ row_prefix_184 = refl
 row_prefix_185 : account (codes ".RECIPEPREFIX = X\ndefine D\nendef\nXy\n") (SetValue None (codes ".RECIPEPREFIX") (codes "c")) ≡ NotMade 1 Reserved
 row_prefix_185 = refl
 
-row_prefix_186 : account (codes ".RECIPEPREFIX = >\nX=1\n>z\nXy") (AddRule (BeforeVar (Some 2) (codes "X")) (codes "X1 a") One (codes "c")) ≡ NotMade 1 NoSuch
+row_prefix_186 : account (codes ".RECIPEPREFIX = >\nX=1\n>z\nXy") (AddRule (BeforeVar (Some 2) (codes "X")) (codes "X1 a") Single (codes "c")) ≡ NotMade 1 NoSuch
 row_prefix_186 = refl
 
 row_prefix_187 : account (codes ".RECIPEPREFIX = .\nfoo:\n.x\n") (AddAssign Bottom (codes ".") Recursive (codes "1")) ≡ NotMade 1 RecipePrefix
@@ -577,7 +577,7 @@ row_prefix_188 = refl
 row_prefix_189 : account (codes ".RECIPEPREFIX = .\nX=1\na: f\nf: a\n") (RemoveRule None (codes "a")) ≡ Accepted 0 1 (span 22 27 [] ∷ []) (Becomes (codes ".RECIPEPREFIX = .\nX=1\nf: a\n"))
 row_prefix_189 = refl
 
-row_prefix_190 : account (codes ".RECIPEPREFIX = %\na: b\n%z\n%y\n") (AddRule (BeforeRule None (codes "a")) (codes "q1 a") One (codes "c")) ≡ Accepted 1 0 (span 18 18 (codes "q1 a: c\n") ∷ []) (Becomes (codes ".RECIPEPREFIX = %\nq1 a: c\na: b\n%z\n%y\n"))
+row_prefix_190 : account (codes ".RECIPEPREFIX = %\na: b\n%z\n%y\n") (AddRule (BeforeRule None (codes "a")) (codes "q1 a") Single (codes "c")) ≡ Accepted 1 0 (span 18 18 (codes "q1 a: c\n") ∷ []) (Becomes (codes ".RECIPEPREFIX = %\nq1 a: c\na: b\n%z\n%y\n"))
 row_prefix_190 = refl
 
 row_prefix_191 : account (codes ".RECIPEPREFIX = a\nfoo:\nax\n.RECIPEPREFIX=\nf: a\n") (RenameTarget (codes "a") (codes "t")) ≡ NotMade 1 NoSuch
@@ -595,13 +595,13 @@ row_prefix_194 = refl
 row_prefix_195 : account (codes ".RECIPEPREFIX = %\na: b\n%y\n") (AddAssign Bottom (codes "\\tx") Shell (codes "1")) ≡ NotMade 1 (BadArgument field.Name)
 row_prefix_195 = refl
 
-row_prefix_196 : account (codes ".RECIPEPREFIX = e\nfoo:\nex\na: f\n") (AddRule Bottom (codes " b1") One (codes "c")) ≡ Accepted 1 0 (span 31 31 (codes "b1: c\n") ∷ []) (Becomes (codes ".RECIPEPREFIX = e\nfoo:\nex\na: f\nb1: c\n"))
+row_prefix_196 : account (codes ".RECIPEPREFIX = e\nfoo:\nex\na: f\n") (AddRule Bottom (codes " b1") Single (codes "c")) ≡ Accepted 1 0 (span 31 31 (codes "b1: c\n") ∷ []) (Becomes (codes ".RECIPEPREFIX = e\nfoo:\nex\na: f\nb1: c\n"))
 row_prefix_196 = refl
 
 row_prefix_197 : account (codes ".RECIPEPREFIX = >\nb a: X = 1\n>z\n>y\n") (RenameTarget (codes "a") (codes "q1")) ≡ Accepted 1 1 (span 20 21 (codes "q1") ∷ []) (Becomes (codes ".RECIPEPREFIX = >\nb q1: X = 1\n>z\n>y\n"))
 row_prefix_197 = refl
 
-row_prefix_198 : account (codes ".RECIPEPREFIX = e\ndefine D\nendef\n.RECIPEPREFIX=t\n") (AddRule Bottom (codes "qx a") One (codes "c")) ≡ NotMade 1 OpenDefine
+row_prefix_198 : account (codes ".RECIPEPREFIX = e\ndefine D\nendef\n.RECIPEPREFIX=t\n") (AddRule Bottom (codes "qx a") Single (codes "c")) ≡ NotMade 1 OpenDefine
 row_prefix_198 = refl
 
 row_prefix_199 : account (codes ".RECIPEPREFIX = f\n a: b a\nfz\n") (AppendValue (Some 2) (codes ".RECIPEPREFIX") []) ≡ NotMade 1 (BadArgument field.Value)
@@ -622,13 +622,13 @@ row_prefix_203 = refl
 row_prefix_204 : account (codes ".RECIPEPREFIX = f\nfoo:\nfx\na:\n") (AddAssign (BeforeRule None (codes "a")) (codes "b1") Append (codes "1")) ≡ Accepted 1 0 (span 26 26 (codes "b1 += 1\n") ∷ []) (Becomes (codes ".RECIPEPREFIX = f\nfoo:\nfx\nb1 += 1\na:\n"))
 row_prefix_204 = refl
 
-row_prefix_205 : account (codes ".RECIPEPREFIX = X\n a: b a\nf: a\n") (AddRule (BeforeRule None (codes "a")) (codes " t") One (codes "c")) ≡ Accepted 1 0 (span 18 18 (codes "t: c\n") ∷ []) (Becomes (codes ".RECIPEPREFIX = X\nt: c\n a: b a\nf: a\n"))
+row_prefix_205 : account (codes ".RECIPEPREFIX = X\n a: b a\nf: a\n") (AddRule (BeforeRule None (codes "a")) (codes " t") Single (codes "c")) ≡ Accepted 1 0 (span 18 18 (codes "t: c\n") ∷ []) (Becomes (codes ".RECIPEPREFIX = X\nt: c\n a: b a\nf: a\n"))
 row_prefix_205 = refl
 
-row_prefix_206 : account (codes ".RECIPEPREFIX = b\n a: b a\n.RECIPEPREFIX=\nty") (AddRule (BeforeRule None (codes "a")) (codes "t1") One (codes "c")) ≡ Accepted 1 0 (span 18 18 (codes "t1: c\n") ∷ []) (Becomes (codes ".RECIPEPREFIX = b\nt1: c\n a: b a\n.RECIPEPREFIX=\nty"))
+row_prefix_206 : account (codes ".RECIPEPREFIX = b\n a: b a\n.RECIPEPREFIX=\nty") (AddRule (BeforeRule None (codes "a")) (codes "t1") Single (codes "c")) ≡ Accepted 1 0 (span 18 18 (codes "t1: c\n") ∷ []) (Becomes (codes ".RECIPEPREFIX = b\nt1: c\n a: b a\n.RECIPEPREFIX=\nty"))
 row_prefix_206 = refl
 
-row_prefix_207 : account (codes ".RECIPEPREFIX = .\n a: b a\n.RECIPEPREFIX=\n.y") (AddRule (BeforeVar None (codes ".RECIPEPREFIX")) (codes "%.o") One (codes "x.o")) ≡ NotMade 1 Reserved
+row_prefix_207 : account (codes ".RECIPEPREFIX = .\n a: b a\n.RECIPEPREFIX=\n.y") (AddRule (BeforeVar None (codes ".RECIPEPREFIX")) (codes "%.o") Single (codes "x.o")) ≡ NotMade 1 Reserved
 row_prefix_207 = refl
 
 row_prefix_208 : account (codes ".RECIPEPREFIX = .\nifdef A\n.y") (RenameTarget (codes "a") (codes ".")) ≡ NotMade 0 NoSuch
@@ -637,7 +637,7 @@ row_prefix_208 = refl
 row_prefix_209 : account (codes ".RECIPEPREFIX = >\n a: b a\nf: a\n") (RenameTarget (codes "a") (codes ">x")) ≡ Accepted 2 2 (span 19 20 (codes ">x") ∷ span 24 25 (codes ">x") ∷ span 29 30 (codes ">x") ∷ []) (Becomes (codes ".RECIPEPREFIX = >\n >x: b >x\nf: >x\n"))
 row_prefix_209 = refl
 
-row_prefix_210 : account (codes ".RECIPEPREFIX = X\nX=1\nby") (AddRule (BeforeVar None (codes "X")) (codes "1") One (codes "c")) ≡ NotMade 1 Leans
+row_prefix_210 : account (codes ".RECIPEPREFIX = X\nX=1\nby") (AddRule (BeforeVar None (codes "X")) (codes "1") Single (codes "c")) ≡ NotMade 1 Leans
 row_prefix_210 = refl
 
 row_prefix_211 : account (codes ".RECIPEPREFIX = a\ndefine D\nendef\na: f\nay\n") (RenameTarget (codes "a") (codes "b")) ≡ NotMade 0 NoSuch
@@ -646,16 +646,16 @@ row_prefix_211 = refl
 row_prefix_212 : account (codes ".RECIPEPREFIX = .\nifdef A\n.RECIPEPREFIX=\\t\n.y\n") (RenameTarget (codes "a") (codes "1")) ≡ NotMade 0 RecipePrefix
 row_prefix_212 = refl
 
-row_prefix_213 : account (codes ".RECIPEPREFIX = f\ndefine D\nendef\na: f\nX=2\n") (AddRule (BeforeRule None (codes "a")) (codes " f1") One (codes "c")) ≡ NotMade 1 RecipePrefix
+row_prefix_213 : account (codes ".RECIPEPREFIX = f\ndefine D\nendef\na: f\nX=2\n") (AddRule (BeforeRule None (codes "a")) (codes " f1") Single (codes "c")) ≡ NotMade 1 RecipePrefix
 row_prefix_213 = refl
 
-row_prefix_214 : account (codes ".RECIPEPREFIX = f\nX=1\n.RECIPEPREFIX=\nX=2\n") (AddRule Bottom (codes " f1") One (codes "c")) ≡ Accepted 1 0 (span 41 41 (codes "f1: c\n") ∷ []) (Becomes (codes ".RECIPEPREFIX = f\nX=1\n.RECIPEPREFIX=\nX=2\nf1: c\n"))
+row_prefix_214 : account (codes ".RECIPEPREFIX = f\nX=1\n.RECIPEPREFIX=\nX=2\n") (AddRule Bottom (codes " f1") Single (codes "c")) ≡ Accepted 1 0 (span 41 41 (codes "f1: c\n") ∷ []) (Becomes (codes ".RECIPEPREFIX = f\nX=1\n.RECIPEPREFIX=\nX=2\nf1: c\n"))
 row_prefix_214 = refl
 
-row_prefix_215 : account (codes ".RECIPEPREFIX = X\nb a: X = 1\n") (AddRule Bottom (codes "Xx") One (codes "c")) ≡ NotMade 1 RecipePrefix
+row_prefix_215 : account (codes ".RECIPEPREFIX = X\nb a: X = 1\n") (AddRule Bottom (codes "Xx") Single (codes "c")) ≡ NotMade 1 RecipePrefix
 row_prefix_215 = refl
 
-row_prefix_216 : account (codes ".RECIPEPREFIX = >\nb a: X = 1\n.RECIPEPREFIX=\n\\ty") (AddRule Bottom (codes ">1") One (codes "c")) ≡ Accepted 1 0 (span 47 47 (codes "\n>1: c\n") ∷ []) (Becomes (codes ".RECIPEPREFIX = >\nb a: X = 1\n.RECIPEPREFIX=\n\\ty\n>1: c\n"))
+row_prefix_216 : account (codes ".RECIPEPREFIX = >\nb a: X = 1\n.RECIPEPREFIX=\n\\ty") (AddRule Bottom (codes ">1") Single (codes "c")) ≡ Accepted 1 0 (span 47 47 (codes "\n>1: c\n") ∷ []) (Becomes (codes ".RECIPEPREFIX = >\nb a: X = 1\n.RECIPEPREFIX=\n\\ty\n>1: c\n"))
 row_prefix_216 = refl
 
 row_prefix_217 : account (codes ".RECIPEPREFIX = e\nb a: X = 1\n.RECIPEPREFIX=\nf: a\n") (RenameTarget (codes "f") (codes "e")) ≡ Accepted 1 1 (span 44 45 (codes "e") ∷ []) (Becomes (codes ".RECIPEPREFIX = e\nb a: X = 1\n.RECIPEPREFIX=\ne: a\n"))
@@ -736,10 +736,10 @@ row_rule_021 = refl
 row_rule_022 : account (codes "ifdef Z\nelse\na:\n\tx\n# c\r\n") (AddAssign (BeforeVar None (codes "X")) (codes "N") Conditional []) ≡ NotMade 1 NoSuch
 row_rule_022 = refl
 
-row_rule_023 : account (codes "ifdef Z\na:\nendif\n\tx") (AddRule (AfterVar (Some 1) (codes "X")) (codes "d") One (codes "e")) ≡ NotMade 1 NoSuch
+row_rule_023 : account (codes "ifdef Z\na:\nendif\n\tx") (AddRule (AfterVar (Some 1) (codes "X")) (codes "d") Single (codes "e")) ≡ NotMade 1 NoSuch
 row_rule_023 = refl
 
-row_rule_024 : account (codes "ifdef Z\na: b\nendif\n\tx\nX=1\n\tx\n\t# c\n$(u)\r\n") (AddRule (AfterVar (Some 2) (codes "X")) (codes "d") One (codes "e")) ≡ NotMade 1 NoSuch
+row_rule_024 : account (codes "ifdef Z\na: b\nendif\n\tx\nX=1\n\tx\n\t# c\n$(u)\r\n") (AddRule (AfterVar (Some 2) (codes "X")) (codes "d") Single (codes "e")) ≡ NotMade 1 NoSuch
 row_rule_024 = refl
 
 row_rule_025 : account (codes "ifdef Z\na: b\nendif\n\tx\n\nendif\n") (AddAssign (BeforeVar None (codes "X")) (codes "N") Conditional []) ≡ NotMade 1 NoSuch
@@ -763,7 +763,7 @@ row_rule_030 = refl
 row_rule_031 : account (codes "ifdef Z\nelse\na: b\n# c\nendif") (RemoveRule None (codes "a")) ≡ Accepted 0 1 (span 13 18 [] ∷ []) (Becomes (codes "ifdef Z\nelse\n# c\nendif"))
 row_rule_031 = refl
 
-row_rule_032 : account (codes "a:\nifdef A\nifdef A\n\ty\\\n\tz\n\tx\n\tx\n\tx\r\n") (AddRule (BeforeRule (Some 2) (codes "a")) (codes "d") Two []) ≡ NotMade 1 NoSuch
+row_rule_032 : account (codes "a:\nifdef A\nifdef A\n\ty\\\n\tz\n\tx\n\tx\n\tx\r\n") (AddRule (BeforeRule (Some 2) (codes "a")) (codes "d") Double []) ≡ NotMade 1 NoSuch
 row_rule_032 = refl
 
 row_rule_033 : account (codes "a: b\nX=1\nendif") (AddAssign (BeforeVar (Some 2) (codes "X")) (codes "N") Conditional []) ≡ NotMade 1 NoSuch
@@ -775,7 +775,7 @@ row_rule_034 = refl
 row_rule_035 : account (codes "a: b; i\n$(u)\n") (RemoveAssign None (codes "X")) ≡ NotMade 0 NoSuch
 row_rule_035 = refl
 
-row_rule_036 : account (codes "ifdef Z\nelse\na:\n\ty\\\n\tz\r\n") (AddRule (AfterVar (Some 2) (codes "X")) (codes "d") One (codes "e")) ≡ NotMade 1 NoSuch
+row_rule_036 : account (codes "ifdef Z\nelse\na:\n\ty\\\n\tz\r\n") (AddRule (AfterVar (Some 2) (codes "X")) (codes "d") Single (codes "e")) ≡ NotMade 1 NoSuch
 row_rule_036 = refl
 
 row_rule_037 : account (codes "ifdef Z\na:\nendif\nifdef A\nendif\n\ty\\\n\tz\nX=1\nelse\n") (RemoveRecipe None (codes "a") 3) ≡ NotMade 0 Absent
@@ -790,13 +790,13 @@ row_rule_039 = refl
 row_rule_040 : account (codes "ifdef Z\na: b; i\n\t# c\nendif\n# c") (RemoveRecipe None (codes "a") 2) ≡ NotMade 0 Absent
 row_rule_040 = refl
 
-row_rule_041 : account (codes "a: b; i\n\n\tx\n\ty\\\n\tz\nelse\n# c\r\n") (AddRule (AfterVar (Some 2) (codes "X")) (codes "d") One (codes "e")) ≡ NotMade 1 NoSuch
+row_rule_041 : account (codes "a: b; i\n\n\tx\n\ty\\\n\tz\nelse\n# c\r\n") (AddRule (AfterVar (Some 2) (codes "X")) (codes "d") Single (codes "e")) ≡ NotMade 1 NoSuch
 row_rule_041 = refl
 
 row_rule_042 : account (codes "a: b; i\nendif\nifdef A\nX=1\n\tx\nb:\n# c\r\n") (SetRecipe (Some 2) (codes "a") 2 []) ≡ NotMade 1 NoSuch
 row_rule_042 = refl
 
-row_rule_043 : account (codes "a: b\nX=1\na:\\\n c\na:\\\n c\n\tx\n# c\nifdef A") (AddRule (BeforeRule (Some 2) (codes "a")) (codes "d") Two []) ≡ Accepted 1 0 (span 9 9 (codes "d::\n") ∷ []) (Becomes (codes "a: b\nX=1\nd::\na:\\\n c\na:\\\n c\n\tx\n# c\nifdef A"))
+row_rule_043 : account (codes "a: b\nX=1\na:\\\n c\na:\\\n c\n\tx\n# c\nifdef A") (AddRule (BeforeRule (Some 2) (codes "a")) (codes "d") Double []) ≡ Accepted 1 0 (span 9 9 (codes "d::\n") ∷ []) (Becomes (codes "a: b\nX=1\nd::\na:\\\n c\na:\\\n c\n\tx\n# c\nifdef A"))
 row_rule_043 = refl
 
 row_rule_044 : account (codes "ifdef Z\nelse\na:\n# c\nendif\nendif\nX=1") (SetRecipe (Some 2) (codes "a") 3 []) ≡ NotMade 1 NoSuch
@@ -808,7 +808,7 @@ row_rule_045 = refl
 row_rule_046 : account (codes "ifdef Z\na: b; i\n\nifdef A\r\n") (RemoveRule (Some 1) (codes "a")) ≡ Accepted 0 1 (span 8 16 [] ∷ []) (Becomes (codes "ifdef Z\n\nifdef A\r\n"))
 row_rule_046 = refl
 
-row_rule_047 : account (codes "a: b\nelse\n\tx\n\t# c\nifdef A\n\ty\\\n\tz\nendif\r\n") (AddRule (AfterVar (Some 2) (codes "X")) (codes "d") One (codes "e")) ≡ NotMade 1 NoSuch
+row_rule_047 : account (codes "a: b\nelse\n\tx\n\t# c\nifdef A\n\ty\\\n\tz\nendif\r\n") (AddRule (AfterVar (Some 2) (codes "X")) (codes "d") Single (codes "e")) ≡ NotMade 1 NoSuch
 row_rule_047 = refl
 
 row_rule_048 : account (codes "a: b; i\n\tx\n\tx\nb:") (RemoveAssign None (codes "X")) ≡ NotMade 0 NoSuch
@@ -820,7 +820,7 @@ row_rule_049 = refl
 row_rule_050 : account (codes "ifdef Z\na: b\nifdef A\nifdef A\n") (AddAssign (BeforeVar None (codes "X")) (codes "N") Conditional []) ≡ NotMade 1 NoSuch
 row_rule_050 = refl
 
-row_rule_051 : account (codes "ifdef Z\na:\nelse\nendif\nifdef A\r\n") (AddRule (BeforeRule None (codes "a")) (codes "d") Two []) ≡ Accepted 1 0 (span 8 8 (codes "d::\n") ∷ []) (Becomes (codes "ifdef Z\nd::\na:\nelse\nendif\nifdef A\r\n"))
+row_rule_051 : account (codes "ifdef Z\na:\nelse\nendif\nifdef A\r\n") (AddRule (BeforeRule None (codes "a")) (codes "d") Double []) ≡ Accepted 1 0 (span 8 8 (codes "d::\n") ∷ []) (Becomes (codes "ifdef Z\nd::\na:\nelse\nendif\nifdef A\r\n"))
 row_rule_051 = refl
 
 row_rule_052 : account (codes "ifdef Z\na: b\n\t# c\nifdef A\n\nelse\n\t# c\n\ty\\\n\tz\r\n") (SetRecipe None (codes "a") 1 (codes "w")) ≡ Accepted 1 1 (span 14 17 (codes "w") ∷ []) (Becomes (codes "ifdef Z\na: b\n\tw\nifdef A\n\nelse\n\t# c\n\ty\\\n\tz\r\n"))
@@ -835,13 +835,13 @@ row_rule_054 = refl
 row_rule_055 : account (codes "a: b; i\n\ty\\\n\tz\nX=1\nb:\n# c\nelse\n") (SetRecipe (Some 2) (codes "a") 3 (codes "w")) ≡ NotMade 1 NoSuch
 row_rule_055 = refl
 
-row_rule_056 : account (codes "a:\n\tx\n\tx\n\tx\n") (AddRule (AfterVar (Some 1) (codes "X")) (codes "d") One (codes "e")) ≡ NotMade 1 NoSuch
+row_rule_056 : account (codes "a:\n\tx\n\tx\n\tx\n") (AddRule (AfterVar (Some 1) (codes "X")) (codes "d") Single (codes "e")) ≡ NotMade 1 NoSuch
 row_rule_056 = refl
 
-row_rule_057 : account (codes "a: b; i\nendif\r\n") (AddRule (BeforeRule (Some 2) (codes "a")) (codes "d") Two []) ≡ NotMade 1 NoSuch
+row_rule_057 : account (codes "a: b; i\nendif\r\n") (AddRule (BeforeRule (Some 2) (codes "a")) (codes "d") Double []) ≡ NotMade 1 NoSuch
 row_rule_057 = refl
 
-row_rule_058 : account (codes "ifdef Z\nelse\na:\na:\\\n c\nifdef A\nendif\nifdef A\nendif\r\n") (AddRule (AfterVar (Some 2) (codes "X")) (codes "d") One (codes "e")) ≡ NotMade 1 NoSuch
+row_rule_058 : account (codes "ifdef Z\nelse\na:\na:\\\n c\nifdef A\nendif\nifdef A\nendif\r\n") (AddRule (AfterVar (Some 2) (codes "X")) (codes "d") Single (codes "e")) ≡ NotMade 1 NoSuch
 row_rule_058 = refl
 
 row_rule_059 : account (codes "ifdef Z\na: b\n\t# c\nelse\nendif\nX=1\n\n\tx") (AddAssign (BeforeVar None (codes "X")) (codes "N") Conditional []) ≡ Accepted 1 0 (span 29 29 (codes "N ?=\n") ∷ []) (Becomes (codes "ifdef Z\na: b\n\t# c\nelse\nendif\nN ?=\nX=1\n\n\tx"))
@@ -853,7 +853,7 @@ row_rule_060 = refl
 row_rule_061 : account (codes "a: b; i\n\tx\r\n") (AddAssign (BeforeVar None (codes "X")) (codes "N") Conditional []) ≡ NotMade 1 NoSuch
 row_rule_061 = refl
 
-row_rule_062 : account (codes "ifdef Z\na:\n\tx\n\tx\n\ty\\\n\tz\nendif\n\t# c\n\ty\\\n\tz") (AddRule (BeforeRule None (codes "a")) (codes "d") Two []) ≡ Accepted 1 0 (span 8 8 (codes "d::\n") ∷ []) (Becomes (codes "ifdef Z\nd::\na:\n\tx\n\tx\n\ty\\\n\tz\nendif\n\t# c\n\ty\\\n\tz"))
+row_rule_062 : account (codes "ifdef Z\na:\n\tx\n\tx\n\ty\\\n\tz\nendif\n\t# c\n\ty\\\n\tz") (AddRule (BeforeRule None (codes "a")) (codes "d") Double []) ≡ Accepted 1 0 (span 8 8 (codes "d::\n") ∷ []) (Becomes (codes "ifdef Z\nd::\na:\n\tx\n\tx\n\ty\\\n\tz\nendif\n\t# c\n\ty\\\n\tz"))
 row_rule_062 = refl
 
 row_rule_063 : account (codes "ifdef Z\nelse\na: b; i\n\tx\nifdef A\nifdef A\n\tx\n") (AddRecipe None (codes "a") (codes "w")) ≡ NotMade 1 Straddles
@@ -862,13 +862,13 @@ row_rule_063 = refl
 row_rule_064 : account (codes "ifdef Z\na: b\nX=1\nelse\n# c\nifdef A\r\n") (RemoveRule (Some 1) (codes "a")) ≡ Accepted 0 1 (span 8 13 [] ∷ []) (Becomes (codes "ifdef Z\nX=1\nelse\n# c\nifdef A\r\n"))
 row_rule_064 = refl
 
-row_rule_065 : account (codes "a: b; i\n$(u)\n# c\n\ty\\\n\tz") (AddRule (AfterVar (Some 2) (codes "X")) (codes "d") One (codes "e")) ≡ NotMade 1 NoSuch
+row_rule_065 : account (codes "a: b; i\n$(u)\n# c\n\ty\\\n\tz") (AddRule (AfterVar (Some 2) (codes "X")) (codes "d") Single (codes "e")) ≡ NotMade 1 NoSuch
 row_rule_065 = refl
 
 row_rule_066 : account (codes "a: b\n\tx\nX=1\nb:\r\n") (RemoveRule (Some 1) (codes "a")) ≡ Accepted 0 2 (span 0 8 [] ∷ []) (Becomes (codes "X=1\nb:\r\n"))
 row_rule_066 = refl
 
-row_rule_067 : account (codes "a: b; i\nelse\n") (AddRule (BeforeRule None (codes "a")) (codes "d") Two []) ≡ Accepted 1 0 (span 0 0 (codes "d::\n") ∷ []) (Becomes (codes "d::\na: b; i\nelse\n"))
+row_rule_067 : account (codes "a: b; i\nelse\n") (AddRule (BeforeRule None (codes "a")) (codes "d") Double []) ≡ Accepted 1 0 (span 0 0 (codes "d::\n") ∷ []) (Becomes (codes "d::\na: b; i\nelse\n"))
 row_rule_067 = refl
 
 row_rule_068 : account (codes "ifdef Z\nelse\na: b\nifdef A\n\ty\\\n\tz\n$(u)\r\n") (SetRecipe (Some 2) (codes "a") 3 (codes "w")) ≡ NotMade 1 NoSuch
@@ -883,7 +883,7 @@ row_rule_070 = refl
 row_rule_071 : account (codes "ifdef Z\nelse\na: b; i\n\tx\nX=1\n\n\tx") (RemoveRecipe None (codes "a") 2) ≡ NotMade 0 Absent
 row_rule_071 = refl
 
-row_rule_072 : account (codes "ifdef Z\na:\n\tx\n\tx\n\t# c\n\tx\n\tx\n\ty\\\n\tz\n") (AddRule (BeforeRule None (codes "a")) (codes "d") Two []) ≡ Accepted 1 0 (span 8 8 (codes "d::\n") ∷ []) (Becomes (codes "ifdef Z\nd::\na:\n\tx\n\tx\n\t# c\n\tx\n\tx\n\ty\\\n\tz\n"))
+row_rule_072 : account (codes "ifdef Z\na:\n\tx\n\tx\n\t# c\n\tx\n\tx\n\ty\\\n\tz\n") (AddRule (BeforeRule None (codes "a")) (codes "d") Double []) ≡ Accepted 1 0 (span 8 8 (codes "d::\n") ∷ []) (Becomes (codes "ifdef Z\nd::\na:\n\tx\n\tx\n\t# c\n\tx\n\tx\n\ty\\\n\tz\n"))
 row_rule_072 = refl
 
 row_rule_073 : account (codes "a:\n\t# c\n# c\n") (SetRecipe None (codes "a") 2 (codes "w")) ≡ NotMade 1 Absent
@@ -895,7 +895,7 @@ row_rule_074 = refl
 row_rule_075 : account (codes "ifdef Z\na: b; i\n\nb:\nifdef A\n\t# c\nendif\r\n") (RemoveRule None (codes "a")) ≡ Accepted 0 1 (span 8 16 [] ∷ []) (Becomes (codes "ifdef Z\n\nb:\nifdef A\n\t# c\nendif\r\n"))
 row_rule_075 = refl
 
-row_rule_076 : account (codes "ifdef Z\na:\nendif\n\ty\\\n\tz\r\n") (AddRule (AfterVar None (codes "X")) (codes "d") One (codes "e")) ≡ NotMade 1 NoSuch
+row_rule_076 : account (codes "ifdef Z\na:\nendif\n\ty\\\n\tz\r\n") (AddRule (AfterVar None (codes "X")) (codes "d") Single (codes "e")) ≡ NotMade 1 NoSuch
 row_rule_076 = refl
 
 row_rule_077 : account (codes "ifdef Z\nelse\na: b\n# c\n# c\nendif\nb:") (RemoveAssign (Some 1) (codes "X")) ≡ NotMade 0 NoSuch
@@ -913,28 +913,28 @@ row_rule_080 = refl
 row_rule_081 : account (codes "ifdef Z\na:\nendif\nelse\nelse\r\n") (AddRecipe None (codes "a") (codes "w")) ≡ Accepted 1 0 (span 11 11 (codes "\tw\n") ∷ []) (Becomes (codes "ifdef Z\na:\n\tw\nendif\nelse\nelse\r\n"))
 row_rule_081 = refl
 
-row_rule_082 : account (codes "a:\n\tx\n\tx\nifdef A\n") (AddRule (AfterVar (Some 2) (codes "X")) (codes "d") One (codes "e")) ≡ NotMade 1 NoSuch
+row_rule_082 : account (codes "a:\n\tx\n\tx\nifdef A\n") (AddRule (AfterVar (Some 2) (codes "X")) (codes "d") Single (codes "e")) ≡ NotMade 1 NoSuch
 row_rule_082 = refl
 
-row_rule_083 : account (codes "ifdef Z\nelse\na:\n# c") (AddRule (BeforeRule (Some 1) (codes "a")) (codes "d") Two []) ≡ Accepted 1 0 (span 13 13 (codes "d::\n") ∷ []) (Becomes (codes "ifdef Z\nelse\nd::\na:\n# c"))
+row_rule_083 : account (codes "ifdef Z\nelse\na:\n# c") (AddRule (BeforeRule (Some 1) (codes "a")) (codes "d") Double []) ≡ Accepted 1 0 (span 13 13 (codes "d::\n") ∷ []) (Becomes (codes "ifdef Z\nelse\nd::\na:\n# c"))
 row_rule_083 = refl
 
-row_rule_084 : account (codes "a: b; i\n\tx\n") (AddRule (AfterVar (Some 2) (codes "X")) (codes "d") One (codes "e")) ≡ NotMade 1 NoSuch
+row_rule_084 : account (codes "a: b; i\n\tx\n") (AddRule (AfterVar (Some 2) (codes "X")) (codes "d") Single (codes "e")) ≡ NotMade 1 NoSuch
 row_rule_084 = refl
 
 row_rule_085 : account (codes "ifdef Z\na: b; i\nifdef A\nelse\nelse\n\tx\n\ty\\\n\tz") (RemoveRecipe None (codes "a") 1) ≡ Accepted 0 1 (span 34 37 [] ∷ []) (Becomes (codes "ifdef Z\na: b; i\nifdef A\nelse\nelse\n\ty\\\n\tz"))
 row_rule_085 = refl
 
-row_rule_086 : account (codes "a: b\nendif") (AddRule (BeforeRule None (codes "a")) (codes "d") Two []) ≡ Accepted 1 0 (span 0 0 (codes "d::\n") ∷ []) (Becomes (codes "d::\na: b\nendif"))
+row_rule_086 : account (codes "a: b\nendif") (AddRule (BeforeRule None (codes "a")) (codes "d") Double []) ≡ Accepted 1 0 (span 0 0 (codes "d::\n") ∷ []) (Becomes (codes "d::\na: b\nendif"))
 row_rule_086 = refl
 
-row_rule_087 : account (codes "ifdef Z\nelse\na:\n\nelse") (AddRule (AfterVar (Some 2) (codes "X")) (codes "d") One (codes "e")) ≡ NotMade 1 NoSuch
+row_rule_087 : account (codes "ifdef Z\nelse\na:\n\nelse") (AddRule (AfterVar (Some 2) (codes "X")) (codes "d") Single (codes "e")) ≡ NotMade 1 NoSuch
 row_rule_087 = refl
 
-row_rule_088 : account (codes "ifdef Z\na: b; i\n\tx\n\t# c\n\t# c\n# c") (AddRule (BeforeRule None (codes "a")) (codes "d") Two []) ≡ Accepted 1 0 (span 8 8 (codes "d::\n") ∷ []) (Becomes (codes "ifdef Z\nd::\na: b; i\n\tx\n\t# c\n\t# c\n# c"))
+row_rule_088 : account (codes "ifdef Z\na: b; i\n\tx\n\t# c\n\t# c\n# c") (AddRule (BeforeRule None (codes "a")) (codes "d") Double []) ≡ Accepted 1 0 (span 8 8 (codes "d::\n") ∷ []) (Becomes (codes "ifdef Z\nd::\na: b; i\n\tx\n\t# c\n\t# c\n# c"))
 row_rule_088 = refl
 
-row_rule_089 : account (codes "a:\nendif\nifdef A\n\tx\n") (AddRule (AfterVar (Some 2) (codes "X")) (codes "d") One (codes "e")) ≡ NotMade 1 NoSuch
+row_rule_089 : account (codes "a:\nendif\nifdef A\n\tx\n") (AddRule (AfterVar (Some 2) (codes "X")) (codes "d") Single (codes "e")) ≡ NotMade 1 NoSuch
 row_rule_089 = refl
 
 row_rule_090 : account (codes "a: b; i\n\tx\n\tx\nifdef A\n\tx\r\n") (RemoveRule (Some 1) (codes "a")) ≡ NotMade 0 Straddles
@@ -946,7 +946,7 @@ row_rule_091 = refl
 row_rule_092 : account (codes "a: b; i\nelse\n# c\nb:\n\tx\n\nelse") (RemoveRule (Some 1) (codes "a")) ≡ Accepted 0 1 (span 0 8 [] ∷ []) (Becomes (codes "else\n# c\nb:\n\tx\n\nelse"))
 row_rule_092 = refl
 
-row_rule_093 : account (codes "ifdef Z\na: b; i\n# c\nelse\r\n") (AddRule (AfterVar None (codes "X")) (codes "d") One (codes "e")) ≡ NotMade 1 NoSuch
+row_rule_093 : account (codes "ifdef Z\na: b; i\n# c\nelse\r\n") (AddRule (AfterVar None (codes "X")) (codes "d") Single (codes "e")) ≡ NotMade 1 NoSuch
 row_rule_093 = refl
 
 row_rule_094 : account (codes "ifdef Z\nelse\na:\nifdef A\n\tx\n\t# c\nelse\n") (RemoveAssign (Some 2) (codes "X")) ≡ NotMade 0 NoSuch
@@ -976,7 +976,7 @@ row_rule_101 = refl
 row_rule_102 : account (codes "ifdef Z\na: b\n\na:\\\n c\n\ty\\\n\tz\n# c\r\n") (RemoveRecipe (Some 2) (codes "a") 3) ≡ NotMade 0 Absent
 row_rule_102 = refl
 
-row_rule_103 : account (codes "ifdef Z\na: b; i\nifdef A\n\tx\n\tx\n# c\n$(u)\nendif\n") (AddRule (BeforeRule None (codes "a")) (codes "d") Two []) ≡ Accepted 1 0 (span 8 8 (codes "d::\n") ∷ []) (Becomes (codes "ifdef Z\nd::\na: b; i\nifdef A\n\tx\n\tx\n# c\n$(u)\nendif\n"))
+row_rule_103 : account (codes "ifdef Z\na: b; i\nifdef A\n\tx\n\tx\n# c\n$(u)\nendif\n") (AddRule (BeforeRule None (codes "a")) (codes "d") Double []) ≡ Accepted 1 0 (span 8 8 (codes "d::\n") ∷ []) (Becomes (codes "ifdef Z\nd::\na: b; i\nifdef A\n\tx\n\tx\n# c\n$(u)\nendif\n"))
 row_rule_103 = refl
 
 row_rule_104 : account (codes "a: b; i\nendif\n\ty\\\n\tz\n") (RemoveRecipe None (codes "a") 1) ≡ NotMade 0 Absent
@@ -991,16 +991,16 @@ row_rule_106 = refl
 row_rule_107 : account (codes "a: b\nelse\n\tx\nendif\n# c\n\r\n") (AddRecipe (Some 2) (codes "a") (codes "w")) ≡ NotMade 1 NoSuch
 row_rule_107 = refl
 
-row_rule_108 : account (codes "ifdef Z\nelse\na:\n\n\tx\nendif\r\n") (AddRule (AfterVar None (codes "X")) (codes "d") One (codes "e")) ≡ NotMade 1 NoSuch
+row_rule_108 : account (codes "ifdef Z\nelse\na:\n\n\tx\nendif\r\n") (AddRule (AfterVar None (codes "X")) (codes "d") Single (codes "e")) ≡ NotMade 1 NoSuch
 row_rule_108 = refl
 
-row_rule_109 : account (codes "ifdef Z\na: b\n# c\n# c\nifdef A\nelse\n\ty\\\n\tz\n\n") (AddRule (BeforeRule None (codes "a")) (codes "d") Two []) ≡ Accepted 1 0 (span 8 8 (codes "d::\n") ∷ []) (Becomes (codes "ifdef Z\nd::\na: b\n# c\n# c\nifdef A\nelse\n\ty\\\n\tz\n\n"))
+row_rule_109 : account (codes "ifdef Z\na: b\n# c\n# c\nifdef A\nelse\n\ty\\\n\tz\n\n") (AddRule (BeforeRule None (codes "a")) (codes "d") Double []) ≡ Accepted 1 0 (span 8 8 (codes "d::\n") ∷ []) (Becomes (codes "ifdef Z\nd::\na: b\n# c\n# c\nifdef A\nelse\n\ty\\\n\tz\n\n"))
 row_rule_109 = refl
 
 row_rule_110 : account (codes "a: b\n# c\n\tx\nelse\n\tx\n\tx\nendif\n") (RemoveRecipe None (codes "a") 1) ≡ Accepted 0 1 (span 9 12 [] ∷ []) (Becomes (codes "a: b\n# c\nelse\n\tx\n\tx\nendif\n"))
 row_rule_110 = refl
 
-row_rule_111 : account (codes "a: b\nifdef A\n\tx\nelse\nifdef A") (AddRule (BeforeRule None (codes "a")) (codes "d") Two []) ≡ Accepted 1 0 (span 0 0 (codes "d::\n") ∷ []) (Becomes (codes "d::\na: b\nifdef A\n\tx\nelse\nifdef A"))
+row_rule_111 : account (codes "a: b\nifdef A\n\tx\nelse\nifdef A") (AddRule (BeforeRule None (codes "a")) (codes "d") Double []) ≡ Accepted 1 0 (span 0 0 (codes "d::\n") ∷ []) (Becomes (codes "d::\na: b\nifdef A\n\tx\nelse\nifdef A"))
 row_rule_111 = refl
 
 row_rule_112 : account (codes "ifdef Z\nelse\na: b; i\n\tx\n# c\n") (SetRecipe None (codes "a") 0 (codes "w")) ≡ NotMade 1 Absent
@@ -1030,10 +1030,10 @@ row_rule_119 = refl
 row_rule_120 : account (codes "ifdef Z\na: b\n\ty\\\n\tz\nifdef A\nb:\n\tx\na:\\\n c") (RemoveRule None (codes "a")) ≡ NotMade 0 (Ambiguous 2)
 row_rule_120 = refl
 
-row_rule_121 : account (codes "a:\n\tx\n\tx\n$(u)\n") (AddRule (AfterVar (Some 2) (codes "X")) (codes "d") One (codes "e")) ≡ NotMade 1 NoSuch
+row_rule_121 : account (codes "a:\n\tx\n\tx\n$(u)\n") (AddRule (AfterVar (Some 2) (codes "X")) (codes "d") Single (codes "e")) ≡ NotMade 1 NoSuch
 row_rule_121 = refl
 
-row_rule_122 : account (codes "ifdef Z\nelse\na: b\n# c\nifdef A\n$(u)\nelse\r\n") (AddRule (AfterVar (Some 2) (codes "X")) (codes "d") One (codes "e")) ≡ NotMade 1 NoSuch
+row_rule_122 : account (codes "ifdef Z\nelse\na: b\n# c\nifdef A\n$(u)\nelse\r\n") (AddRule (AfterVar (Some 2) (codes "X")) (codes "d") Single (codes "e")) ≡ NotMade 1 NoSuch
 row_rule_122 = refl
 
 row_rule_123 : account (codes "ifdef Z\nelse\na: b\nendif\n\tx\n$(u)\n\tx\n# c\n") (RemoveAssign (Some 1) (codes "X")) ≡ NotMade 0 NoSuch
@@ -1054,7 +1054,7 @@ row_rule_127 = refl
 row_rule_128 : account (codes "a:\n\t# c\nX=1\nb:\nendif\nifdef A\nb:") (SetRecipe None (codes "a") 0 []) ≡ NotMade 1 Absent
 row_rule_128 = refl
 
-row_rule_129 : account (codes "a: b; i\n\tx\n# c\n") (AddRule (BeforeRule (Some 2) (codes "a")) (codes "d") Two []) ≡ NotMade 1 NoSuch
+row_rule_129 : account (codes "a: b; i\n\tx\n# c\n") (AddRule (BeforeRule (Some 2) (codes "a")) (codes "d") Double []) ≡ NotMade 1 NoSuch
 row_rule_129 = refl
 
 row_rule_130 : account (codes "ifdef Z\nelse\na: b; i\nendif\nifdef A\n# c\n\tx\n") (AddAssign (BeforeVar (Some 1) (codes "X")) (codes "N") Conditional []) ≡ NotMade 1 NoSuch
@@ -1111,7 +1111,7 @@ row_rule_146 = refl
 row_rule_147 : account (codes "ifdef Z\na:\n\nelse\n\n\t# c") (AddRecipe None (codes "a") (codes "w")) ≡ NotMade 1 Straddles
 row_rule_147 = refl
 
-row_rule_148 : account (codes "ifdef Z\nelse\na: b\nifdef A\n\tx\n\ty\\\n\tz\r\n") (AddRule (BeforeRule (Some 2) (codes "a")) (codes "d") Two []) ≡ NotMade 1 NoSuch
+row_rule_148 : account (codes "ifdef Z\nelse\na: b\nifdef A\n\tx\n\ty\\\n\tz\r\n") (AddRule (BeforeRule (Some 2) (codes "a")) (codes "d") Double []) ≡ NotMade 1 NoSuch
 row_rule_148 = refl
 
 row_rule_149 : account (codes "ifdef Z\na: b; i\nb:\n\tx\nifdef A\n") (AddAssign (BeforeVar (Some 1) (codes "X")) (codes "N") Conditional []) ≡ NotMade 1 NoSuch
@@ -1123,22 +1123,22 @@ row_rule_150 = refl
 row_rule_151 : account (codes "a: b; i\n# c\nendif\n\tx\n\ty\\\n\tz") (RemoveRecipe (Some 2) (codes "a") 2) ≡ NotMade 0 NoSuch
 row_rule_151 = refl
 
-row_rule_152 : account (codes "a:\n\t# c") (AddRule (AfterVar None (codes "X")) (codes "d") One (codes "e")) ≡ NotMade 1 NoSuch
+row_rule_152 : account (codes "a:\n\t# c") (AddRule (AfterVar None (codes "X")) (codes "d") Single (codes "e")) ≡ NotMade 1 NoSuch
 row_rule_152 = refl
 
-row_rule_153 : account (codes "a:\n# c\n\t# c\nendif\nifdef A") (AddRule (AfterVar (Some 1) (codes "X")) (codes "d") One (codes "e")) ≡ NotMade 1 NoSuch
+row_rule_153 : account (codes "a:\n# c\n\t# c\nendif\nifdef A") (AddRule (AfterVar (Some 1) (codes "X")) (codes "d") Single (codes "e")) ≡ NotMade 1 NoSuch
 row_rule_153 = refl
 
 row_rule_154 : account (codes "a: b\nb:\n\tx\n$(u)\na:\\\n c\n\n\tx\r\n") (RemoveRecipe None (codes "a") 0) ≡ NotMade 0 (Ambiguous 2)
 row_rule_154 = refl
 
-row_rule_155 : account (codes "ifdef Z\na: b\n\tx\n\nifdef A\n\ty\\\n\tz\nX=1\n") (AddRule (BeforeRule (Some 1) (codes "a")) (codes "d") Two []) ≡ Accepted 1 0 (span 8 8 (codes "d::\n") ∷ []) (Becomes (codes "ifdef Z\nd::\na: b\n\tx\n\nifdef A\n\ty\\\n\tz\nX=1\n"))
+row_rule_155 : account (codes "ifdef Z\na: b\n\tx\n\nifdef A\n\ty\\\n\tz\nX=1\n") (AddRule (BeforeRule (Some 1) (codes "a")) (codes "d") Double []) ≡ Accepted 1 0 (span 8 8 (codes "d::\n") ∷ []) (Becomes (codes "ifdef Z\nd::\na: b\n\tx\n\nifdef A\n\ty\\\n\tz\nX=1\n"))
 row_rule_155 = refl
 
-row_rule_156 : account (codes "a:\n\tx\nendif\n") (AddRule (BeforeRule (Some 1) (codes "a")) (codes "d") Two []) ≡ Accepted 1 0 (span 0 0 (codes "d::\n") ∷ []) (Becomes (codes "d::\na:\n\tx\nendif\n"))
+row_rule_156 : account (codes "a:\n\tx\nendif\n") (AddRule (BeforeRule (Some 1) (codes "a")) (codes "d") Double []) ≡ Accepted 1 0 (span 0 0 (codes "d::\n") ∷ []) (Becomes (codes "d::\na:\n\tx\nendif\n"))
 row_rule_156 = refl
 
-row_rule_157 : account (codes "ifdef Z\nelse\na:\n# c\nifdef A\n# c\nb:\r\n") (AddRule (BeforeRule (Some 1) (codes "a")) (codes "d") Two []) ≡ Accepted 1 0 (span 13 13 (codes "d::\n") ∷ []) (Becomes (codes "ifdef Z\nelse\nd::\na:\n# c\nifdef A\n# c\nb:\r\n"))
+row_rule_157 : account (codes "ifdef Z\nelse\na:\n# c\nifdef A\n# c\nb:\r\n") (AddRule (BeforeRule (Some 1) (codes "a")) (codes "d") Double []) ≡ Accepted 1 0 (span 13 13 (codes "d::\n") ∷ []) (Becomes (codes "ifdef Z\nelse\nd::\na:\n# c\nifdef A\n# c\nb:\r\n"))
 row_rule_157 = refl
 
 row_rule_158 : account (codes "ifdef Z\na:\n$(u)\n\ty\\\n\tz\n$(u)\n\t# c") (AddRecipe (Some 1) (codes "a") (codes "w")) ≡ Accepted 1 0 (span 11 11 (codes "\tw\n") ∷ []) (Becomes (codes "ifdef Z\na:\n\tw\n$(u)\n\ty\\\n\tz\n$(u)\n\t# c"))
@@ -1147,10 +1147,10 @@ row_rule_158 = refl
 row_rule_159 : account (codes "ifdef Z\na: b; i\n\tx\n\t# c\n\tx\n$(u)\n\r\n") (RemoveAssign (Some 2) (codes "X")) ≡ NotMade 0 NoSuch
 row_rule_159 = refl
 
-row_rule_160 : account (codes "ifdef Z\na:\nendif\n") (AddRule (AfterVar None (codes "X")) (codes "d") One (codes "e")) ≡ NotMade 1 NoSuch
+row_rule_160 : account (codes "ifdef Z\na:\nendif\n") (AddRule (AfterVar None (codes "X")) (codes "d") Single (codes "e")) ≡ NotMade 1 NoSuch
 row_rule_160 = refl
 
-row_rule_161 : account (codes "ifdef Z\nelse\na:\n\tx\n\tx\r\n") (AddRule (AfterVar (Some 2) (codes "X")) (codes "d") One (codes "e")) ≡ NotMade 1 NoSuch
+row_rule_161 : account (codes "ifdef Z\nelse\na:\n\tx\n\tx\r\n") (AddRule (AfterVar (Some 2) (codes "X")) (codes "d") Single (codes "e")) ≡ NotMade 1 NoSuch
 row_rule_161 = refl
 
 row_rule_162 : account (codes "a: b; i\n\ty\\\n\tz\nb:\n# c\n\tx") (RemoveRecipe None (codes "a") 1) ≡ Accepted 0 1 (span 8 15 [] ∷ []) (Becomes (codes "a: b; i\nb:\n# c\n\tx"))
@@ -1171,10 +1171,10 @@ row_rule_166 = refl
 row_rule_167 : account (codes "a: b; i\n\tx\n\tx\r\n") (RemoveRecipe (Some 2) (codes "a") 2) ≡ NotMade 0 NoSuch
 row_rule_167 = refl
 
-row_rule_168 : account (codes "ifdef Z\nelse\na:\nifdef A\nendif\n") (AddRule (BeforeRule (Some 1) (codes "a")) (codes "d") Two []) ≡ Accepted 1 0 (span 13 13 (codes "d::\n") ∷ []) (Becomes (codes "ifdef Z\nelse\nd::\na:\nifdef A\nendif\n"))
+row_rule_168 : account (codes "ifdef Z\nelse\na:\nifdef A\nendif\n") (AddRule (BeforeRule (Some 1) (codes "a")) (codes "d") Double []) ≡ Accepted 1 0 (span 13 13 (codes "d::\n") ∷ []) (Becomes (codes "ifdef Z\nelse\nd::\na:\nifdef A\nendif\n"))
 row_rule_168 = refl
 
-row_rule_169 : account (codes "a: b; i\na:\\\n c") (AddRule (BeforeRule (Some 2) (codes "a")) (codes "d") Two []) ≡ Accepted 1 0 (span 8 8 (codes "d::\n") ∷ []) (Becomes (codes "a: b; i\nd::\na:\\\n c"))
+row_rule_169 : account (codes "a: b; i\na:\\\n c") (AddRule (BeforeRule (Some 2) (codes "a")) (codes "d") Double []) ≡ Accepted 1 0 (span 8 8 (codes "d::\n") ∷ []) (Becomes (codes "a: b; i\nd::\na:\\\n c"))
 row_rule_169 = refl
 
 row_rule_170 : account (codes "ifdef Z\na:\n\tx\n$(u)\nendif\nelse\nendif\nifdef A\r\n") (RemoveRecipe None (codes "a") 2) ≡ NotMade 0 Absent
@@ -1189,7 +1189,7 @@ row_rule_172 = refl
 row_rule_173 : account (codes "a: b; i\n$(u)\n\tx\n\ty\\\n\tz\nendif\n\tx\n") (SetRecipe None (codes "a") 0 (codes "w")) ≡ NotMade 1 Absent
 row_rule_173 = refl
 
-row_rule_174 : account (codes "ifdef Z\na: b\n\tx\r\n") (AddRule (AfterVar (Some 2) (codes "X")) (codes "d") One (codes "e")) ≡ NotMade 1 NoSuch
+row_rule_174 : account (codes "ifdef Z\na: b\n\tx\r\n") (AddRule (AfterVar (Some 2) (codes "X")) (codes "d") Single (codes "e")) ≡ NotMade 1 NoSuch
 row_rule_174 = refl
 
 row_rule_175 : account (codes "ifdef Z\na: b\nX=1\n") (RemoveRule None (codes "a")) ≡ Accepted 0 1 (span 8 13 [] ∷ []) (Becomes (codes "ifdef Z\nX=1\n"))
@@ -1204,7 +1204,7 @@ row_rule_177 = refl
 row_rule_178 : account (codes "a:\n# c\n\t# c\nendif\n\tx") (RemoveRecipe (Some 2) (codes "a") 2) ≡ NotMade 0 NoSuch
 row_rule_178 = refl
 
-row_rule_179 : account (codes "a:\na:\\\n c\n\r\n") (AddRule (BeforeRule (Some 2) (codes "a")) (codes "d") Two []) ≡ Accepted 1 0 (span 3 3 (codes "d::\n") ∷ []) (Becomes (codes "a:\nd::\na:\\\n c\n\r\n"))
+row_rule_179 : account (codes "a:\na:\\\n c\n\r\n") (AddRule (BeforeRule (Some 2) (codes "a")) (codes "d") Double []) ≡ Accepted 1 0 (span 3 3 (codes "d::\n") ∷ []) (Becomes (codes "a:\nd::\na:\\\n c\n\r\n"))
 row_rule_179 = refl
 
 row_rule_180 : account (codes "ifdef Z\na: b\nifdef A\n\tx\n\tx\nendif\n$(u)\r\n") (AddRecipe (Some 1) (codes "a") (codes "w")) ≡ NotMade 1 Straddles
@@ -1228,7 +1228,7 @@ row_rule_185 = refl
 row_rule_186 : account (codes "ifdef Z\nelse\na:\nelse\n$(u)\n\tx\n") (AddAssign (BeforeVar None (codes "X")) (codes "N") Conditional []) ≡ NotMade 1 NoSuch
 row_rule_186 = refl
 
-row_rule_187 : account (codes "a: b\nifdef A") (AddRule (BeforeRule None (codes "a")) (codes "d") Two []) ≡ Accepted 1 0 (span 0 0 (codes "d::\n") ∷ []) (Becomes (codes "d::\na: b\nifdef A"))
+row_rule_187 : account (codes "a: b\nifdef A") (AddRule (BeforeRule None (codes "a")) (codes "d") Double []) ≡ Accepted 1 0 (span 0 0 (codes "d::\n") ∷ []) (Becomes (codes "d::\na: b\nifdef A"))
 row_rule_187 = refl
 
 row_rule_188 : account (codes "ifdef Z\na:\n$(u)\n\n\ty\\\n\tz\nendif\n") (AddAssign (BeforeVar None (codes "X")) (codes "N") Conditional []) ≡ NotMade 1 NoSuch
@@ -1282,10 +1282,10 @@ row_rule_203 = refl
 row_rule_204 : account (codes "ifdef Z\na:\n\t# c\n\tx\n\nelse\n") (RemoveRule None (codes "a")) ≡ Accepted 0 3 (span 8 19 [] ∷ []) (Becomes (codes "ifdef Z\n\nelse\n"))
 row_rule_204 = refl
 
-row_rule_205 : account (codes "ifdef Z\na: b; i\nendif\n\nifdef A\nendif\r\n") (AddRule (AfterVar None (codes "X")) (codes "d") One (codes "e")) ≡ NotMade 1 NoSuch
+row_rule_205 : account (codes "ifdef Z\na: b; i\nendif\n\nifdef A\nendif\r\n") (AddRule (AfterVar None (codes "X")) (codes "d") Single (codes "e")) ≡ NotMade 1 NoSuch
 row_rule_205 = refl
 
-row_rule_206 : account (codes "a: b\nendif\nelse\n# c\n") (AddRule (AfterVar None (codes "X")) (codes "d") One (codes "e")) ≡ NotMade 1 NoSuch
+row_rule_206 : account (codes "a: b\nendif\nelse\n# c\n") (AddRule (AfterVar None (codes "X")) (codes "d") Single (codes "e")) ≡ NotMade 1 NoSuch
 row_rule_206 = refl
 
 row_rule_207 : account (codes "ifdef Z\na: b\nelse\na:\\\n c\n\tx\n\tx\n# c\n") (AddAssign (BeforeVar None (codes "X")) (codes "N") Conditional []) ≡ NotMade 1 NoSuch
@@ -1297,7 +1297,7 @@ row_rule_208 = refl
 row_rule_209 : account (codes "ifdef Z\nelse\na:\nendif\n\tx") (AddRecipe (Some 1) (codes "a") (codes "w")) ≡ NotMade 1 Straddles
 row_rule_209 = refl
 
-row_rule_210 : account (codes "a: b; i\nendif\nendif\n\tx\n") (AddRule (AfterVar None (codes "X")) (codes "d") One (codes "e")) ≡ NotMade 1 NoSuch
+row_rule_210 : account (codes "a: b; i\nendif\nendif\n\tx\n") (AddRule (AfterVar None (codes "X")) (codes "d") Single (codes "e")) ≡ NotMade 1 NoSuch
 row_rule_210 = refl
 
 row_rule_211 : account (codes "ifdef Z\na: b; i\n\n\tx\n\ty\\\n\tz\n\tx\n$(u)\n") (RemoveRecipe (Some 1) (codes "a") 2) ≡ Accepted 0 1 (span 20 27 [] ∷ []) (Becomes (codes "ifdef Z\na: b; i\n\n\tx\n\tx\n$(u)\n"))
@@ -1312,7 +1312,7 @@ row_rule_213 = refl
 row_rule_214 : account (codes "a: b; i\n$(u)\n# c\n\tx\n") (RemoveAssign (Some 2) (codes "X")) ≡ NotMade 0 NoSuch
 row_rule_214 = refl
 
-row_rule_215 : account (codes "a:\nendif\nifdef A\n\n# c\n\tx\nifdef A") (AddRule (AfterVar (Some 1) (codes "X")) (codes "d") One (codes "e")) ≡ NotMade 1 NoSuch
+row_rule_215 : account (codes "a:\nendif\nifdef A\n\n# c\n\tx\nifdef A") (AddRule (AfterVar (Some 1) (codes "X")) (codes "d") Single (codes "e")) ≡ NotMade 1 NoSuch
 row_rule_215 = refl
 
 row_rule_216 : account (codes "a:\n\tx\nb:") (AddRecipe None (codes "a") (codes "w")) ≡ Accepted 1 0 (span 6 6 (codes "\tw\n") ∷ []) (Becomes (codes "a:\n\tx\n\tw\nb:"))
@@ -1330,16 +1330,16 @@ row_rule_219 = refl
 row_rule_220 : account (codes "ifdef Z\na:\n# c\n# c\n# c\n\tx\n\tx\na:\\\n c") (AddRecipe None (codes "a") (codes "w")) ≡ NotMade 1 (Ambiguous 2)
 row_rule_220 = refl
 
-row_rule_221 : account (codes "ifdef Z\na: b\n$(u)\nb:\n\tx\nifdef A\nX=1") (AddRule (BeforeRule (Some 1) (codes "a")) (codes "d") Two []) ≡ Accepted 1 0 (span 8 8 (codes "d::\n") ∷ []) (Becomes (codes "ifdef Z\nd::\na: b\n$(u)\nb:\n\tx\nifdef A\nX=1"))
+row_rule_221 : account (codes "ifdef Z\na: b\n$(u)\nb:\n\tx\nifdef A\nX=1") (AddRule (BeforeRule (Some 1) (codes "a")) (codes "d") Double []) ≡ Accepted 1 0 (span 8 8 (codes "d::\n") ∷ []) (Becomes (codes "ifdef Z\nd::\na: b\n$(u)\nb:\n\tx\nifdef A\nX=1"))
 row_rule_221 = refl
 
 row_rule_222 : account (codes "a:\n\n\tx\n\tx\n\ty\\\n\tz\nendif\nendif\r\n") (RemoveRule (Some 1) (codes "a")) ≡ Accepted 0 5 (span 0 17 [] ∷ []) (Becomes (codes "endif\nendif\r\n"))
 row_rule_222 = refl
 
-row_rule_223 : account (codes "ifdef Z\nelse\na: b; i\n$(u)\n\nifdef A") (AddRule (BeforeRule None (codes "a")) (codes "d") Two []) ≡ Accepted 1 0 (span 13 13 (codes "d::\n") ∷ []) (Becomes (codes "ifdef Z\nelse\nd::\na: b; i\n$(u)\n\nifdef A"))
+row_rule_223 : account (codes "ifdef Z\nelse\na: b; i\n$(u)\n\nifdef A") (AddRule (BeforeRule None (codes "a")) (codes "d") Double []) ≡ Accepted 1 0 (span 13 13 (codes "d::\n") ∷ []) (Becomes (codes "ifdef Z\nelse\nd::\na: b; i\n$(u)\n\nifdef A"))
 row_rule_223 = refl
 
-row_rule_224 : account (codes "ifdef Z\nelse\na: b\n\tx\nifdef A\nifdef A\n$(u)\nelse\r\n") (AddRule (AfterVar None (codes "X")) (codes "d") One (codes "e")) ≡ NotMade 1 NoSuch
+row_rule_224 : account (codes "ifdef Z\nelse\na: b\n\tx\nifdef A\nifdef A\n$(u)\nelse\r\n") (AddRule (AfterVar None (codes "X")) (codes "d") Single (codes "e")) ≡ NotMade 1 NoSuch
 row_rule_224 = refl
 
 row_rule_225 : account (codes "ifdef Z\nelse\na:\nifdef A\n\ty\\\n\tz\na:\\\n c\nifdef A\n\tx\n\tx\n") (AddRecipe (Some 2) (codes "a") (codes "w")) ≡ NotMade 1 Straddles
@@ -1348,10 +1348,10 @@ row_rule_225 = refl
 row_rule_226 : account (codes "ifdef Z\na:\n\ty\\\n\tz\nelse\n\ty\\\n\tz\na:\\\n c\na:\\\n c\n\n") (AddAssign (BeforeVar None (codes "X")) (codes "N") Conditional []) ≡ NotMade 1 NoSuch
 row_rule_226 = refl
 
-row_rule_227 : account (codes "ifdef Z\na: b\nelse\nifdef A\r\n") (AddRule (AfterVar (Some 2) (codes "X")) (codes "d") One (codes "e")) ≡ NotMade 1 NoSuch
+row_rule_227 : account (codes "ifdef Z\na: b\nelse\nifdef A\r\n") (AddRule (AfterVar (Some 2) (codes "X")) (codes "d") Single (codes "e")) ≡ NotMade 1 NoSuch
 row_rule_227 = refl
 
-row_rule_228 : account (codes "ifdef Z\nelse\na:\nendif\n") (AddRule (AfterVar (Some 2) (codes "X")) (codes "d") One (codes "e")) ≡ NotMade 1 NoSuch
+row_rule_228 : account (codes "ifdef Z\nelse\na:\nendif\n") (AddRule (AfterVar (Some 2) (codes "X")) (codes "d") Single (codes "e")) ≡ NotMade 1 NoSuch
 row_rule_228 = refl
 
 row_rule_229 : account (codes "ifdef Z\na:\n$(u)\nifdef A\n# c") (AddAssign (BeforeVar (Some 2) (codes "X")) (codes "N") Conditional []) ≡ NotMade 1 NoSuch
@@ -1369,7 +1369,7 @@ row_rule_232 = refl
 row_rule_233 : account (codes "a: b; i\n# c\r\n") (SetRecipe (Some 1) (codes "a") 3 (codes "w")) ≡ NotMade 1 Absent
 row_rule_233 = refl
 
-row_rule_234 : account (codes "ifdef Z\nelse\na: b; i\n# c\n") (AddRule (BeforeRule None (codes "a")) (codes "d") Two []) ≡ Accepted 1 0 (span 13 13 (codes "d::\n") ∷ []) (Becomes (codes "ifdef Z\nelse\nd::\na: b; i\n# c\n"))
+row_rule_234 : account (codes "ifdef Z\nelse\na: b; i\n# c\n") (AddRule (BeforeRule None (codes "a")) (codes "d") Double []) ≡ Accepted 1 0 (span 13 13 (codes "d::\n") ∷ []) (Becomes (codes "ifdef Z\nelse\nd::\na: b; i\n# c\n"))
 row_rule_234 = refl
 
 row_rule_235 : account (codes "ifdef Z\nelse\na:\n\ty\\\n\tz\n# c\r\n") (AddAssign (BeforeVar (Some 2) (codes "X")) (codes "N") Conditional []) ≡ NotMade 1 NoSuch
@@ -1381,7 +1381,7 @@ row_rule_236 = refl
 row_rule_237 : account (codes "ifdef Z\na: b\n\n# c\n\tx\n\tx\n\ty\\\n\tz\n") (RemoveAssign (Some 1) (codes "X")) ≡ NotMade 0 NoSuch
 row_rule_237 = refl
 
-row_rule_238 : account (codes "ifdef Z\nelse\na:\n\t# c\r\n") (AddRule (BeforeRule None (codes "a")) (codes "d") Two []) ≡ Accepted 1 0 (span 13 13 (codes "d::\n") ∷ []) (Becomes (codes "ifdef Z\nelse\nd::\na:\n\t# c\r\n"))
+row_rule_238 : account (codes "ifdef Z\nelse\na:\n\t# c\r\n") (AddRule (BeforeRule None (codes "a")) (codes "d") Double []) ≡ Accepted 1 0 (span 13 13 (codes "d::\n") ∷ []) (Becomes (codes "ifdef Z\nelse\nd::\na:\n\t# c\r\n"))
 row_rule_238 = refl
 
 row_rule_239 : account (codes "ifdef Z\na: b; i\na:\\\n c\n\ty\\\n\tz\nb:\nb:\nb:") (AddAssign (BeforeVar (Some 1) (codes "X")) (codes "N") Conditional []) ≡ NotMade 1 NoSuch
@@ -1405,13 +1405,13 @@ row_rule_244 = refl
 row_rule_245 : account (codes "ifdef Z\nelse\na: b\nendif\n\tx\nifdef A") (SetRecipe (Some 2) (codes "a") 1 (codes "w")) ≡ NotMade 1 NoSuch
 row_rule_245 = refl
 
-row_rule_246 : account (codes "ifdef Z\na: b\nelse\n# c\nifdef A\n\tx\r\n") (AddRule (AfterVar None (codes "X")) (codes "d") One (codes "e")) ≡ NotMade 1 NoSuch
+row_rule_246 : account (codes "ifdef Z\na: b\nelse\n# c\nifdef A\n\tx\r\n") (AddRule (AfterVar None (codes "X")) (codes "d") Single (codes "e")) ≡ NotMade 1 NoSuch
 row_rule_246 = refl
 
-row_rule_247 : account (codes "ifdef Z\nelse\na:\nendif") (AddRule (BeforeRule (Some 1) (codes "a")) (codes "d") Two []) ≡ Accepted 1 0 (span 13 13 (codes "d::\n") ∷ []) (Becomes (codes "ifdef Z\nelse\nd::\na:\nendif"))
+row_rule_247 : account (codes "ifdef Z\nelse\na:\nendif") (AddRule (BeforeRule (Some 1) (codes "a")) (codes "d") Double []) ≡ Accepted 1 0 (span 13 13 (codes "d::\n") ∷ []) (Becomes (codes "ifdef Z\nelse\nd::\na:\nendif"))
 row_rule_247 = refl
 
-row_rule_248 : account (codes "ifdef Z\na: b; i\na:\\\n c\n\ty\\\n\tz\r\n") (AddRule (BeforeRule (Some 2) (codes "a")) (codes "d") Two []) ≡ Accepted 1 0 (span 16 16 (codes "d::\n") ∷ []) (Becomes (codes "ifdef Z\na: b; i\nd::\na:\\\n c\n\ty\\\n\tz\r\n"))
+row_rule_248 : account (codes "ifdef Z\na: b; i\na:\\\n c\n\ty\\\n\tz\r\n") (AddRule (BeforeRule (Some 2) (codes "a")) (codes "d") Double []) ≡ Accepted 1 0 (span 16 16 (codes "d::\n") ∷ []) (Becomes (codes "ifdef Z\na: b; i\nd::\na:\\\n c\n\ty\\\n\tz\r\n"))
 row_rule_248 = refl
 
 row_rule_249 : account (codes "ifdef Z\na: b\nX=1\n\ty\\\n\tz\n\tx\n# c\nendif\n\tx") (RemoveRule None (codes "a")) ≡ Accepted 0 1 (span 8 13 [] ∷ []) (Becomes (codes "ifdef Z\nX=1\n\ty\\\n\tz\n\tx\n# c\nendif\n\tx"))
@@ -1423,7 +1423,7 @@ row_rule_250 = refl
 row_rule_251 : account (codes "ifdef Z\na:\nendif\n\tx\nendif") (AddRecipe (Some 1) (codes "a") (codes "w")) ≡ NotMade 1 Straddles
 row_rule_251 = refl
 
-row_rule_252 : account (codes "ifdef Z\nelse\na: b; i\nendif\n\tx\nendif\nifdef A\n\tx\nendif\r\n") (AddRule (AfterVar (Some 2) (codes "X")) (codes "d") One (codes "e")) ≡ NotMade 1 NoSuch
+row_rule_252 : account (codes "ifdef Z\nelse\na: b; i\nendif\n\tx\nendif\nifdef A\n\tx\nendif\r\n") (AddRule (AfterVar (Some 2) (codes "X")) (codes "d") Single (codes "e")) ≡ NotMade 1 NoSuch
 row_rule_252 = refl
 
 row_rule_253 : account (codes "ifdef Z\na: b; i\na:\\\n c\n# c\nifdef A\n\t# c\nifdef A\n# c") (AddAssign (BeforeVar (Some 2) (codes "X")) (codes "N") Conditional []) ≡ NotMade 1 NoSuch
@@ -1438,10 +1438,10 @@ row_rule_255 = refl
 row_rule_256 : account (codes "a: b; i\n\tx\n") (RemoveRule (Some 1) (codes "a")) ≡ Accepted 0 2 (span 0 11 [] ∷ []) (Becomes [])
 row_rule_256 = refl
 
-row_rule_257 : account (codes "ifdef Z\nelse\na:\n\tx\nendif\nelse\n\tx\n\ty\\\n\tz\na:\\\n c") (AddRule (BeforeRule (Some 1) (codes "a")) (codes "d") Two []) ≡ Accepted 1 0 (span 13 13 (codes "d::\n") ∷ []) (Becomes (codes "ifdef Z\nelse\nd::\na:\n\tx\nendif\nelse\n\tx\n\ty\\\n\tz\na:\\\n c"))
+row_rule_257 : account (codes "ifdef Z\nelse\na:\n\tx\nendif\nelse\n\tx\n\ty\\\n\tz\na:\\\n c") (AddRule (BeforeRule (Some 1) (codes "a")) (codes "d") Double []) ≡ Accepted 1 0 (span 13 13 (codes "d::\n") ∷ []) (Becomes (codes "ifdef Z\nelse\nd::\na:\n\tx\nendif\nelse\n\tx\n\ty\\\n\tz\na:\\\n c"))
 row_rule_257 = refl
 
-row_rule_258 : account (codes "ifdef Z\na: b; i\n\n\t# c\n\r\n") (AddRule (AfterVar None (codes "X")) (codes "d") One (codes "e")) ≡ NotMade 1 NoSuch
+row_rule_258 : account (codes "ifdef Z\na: b; i\n\n\t# c\n\r\n") (AddRule (AfterVar None (codes "X")) (codes "d") Single (codes "e")) ≡ NotMade 1 NoSuch
 row_rule_258 = refl
 
 row_rule_259 : account (codes "ifdef Z\nelse\na: b\nifdef A\nendif\n\tx\nelse\n# c\n") (SetRecipe None (codes "a") 3 (codes "w")) ≡ NotMade 1 Absent
@@ -1519,19 +1519,19 @@ row_rule_282 = refl
 row_rule_283 : account (codes "a:\n\tx\n\ty\\\n\tz\nelse\r\n") (RemoveRule (Some 1) (codes "a")) ≡ Accepted 0 3 (span 0 13 [] ∷ []) (Becomes (codes "else\r\n"))
 row_rule_283 = refl
 
-row_rule_284 : account (codes "a: b; i\nb:") (AddRule (BeforeRule (Some 2) (codes "a")) (codes "d") Two []) ≡ NotMade 1 NoSuch
+row_rule_284 : account (codes "a: b; i\nb:") (AddRule (BeforeRule (Some 2) (codes "a")) (codes "d") Double []) ≡ NotMade 1 NoSuch
 row_rule_284 = refl
 
 row_rule_285 : account (codes "a: b; i\n$(u)\n\tx\nendif\n\tx\nifdef A\nelse\n") (SetRecipe (Some 1) (codes "a") 2 (codes "w")) ≡ NotMade 1 Absent
 row_rule_285 = refl
 
-row_rule_286 : account (codes "ifdef Z\nelse\na: b\n\tx\n\t# c\n\tx\n") (AddRule (AfterVar (Some 2) (codes "X")) (codes "d") One (codes "e")) ≡ NotMade 1 NoSuch
+row_rule_286 : account (codes "ifdef Z\nelse\na: b\n\tx\n\t# c\n\tx\n") (AddRule (AfterVar (Some 2) (codes "X")) (codes "d") Single (codes "e")) ≡ NotMade 1 NoSuch
 row_rule_286 = refl
 
 row_rule_287 : account (codes "a: b\n\tx\n\tx\r\n") (RemoveRule None (codes "a")) ≡ Accepted 0 3 (span 0 12 [] ∷ []) (Becomes [])
 row_rule_287 = refl
 
-row_rule_288 : account (codes "a: b\n\n") (AddRule (BeforeRule (Some 2) (codes "a")) (codes "d") Two []) ≡ NotMade 1 NoSuch
+row_rule_288 : account (codes "a: b\n\n") (AddRule (BeforeRule (Some 2) (codes "a")) (codes "d") Double []) ≡ NotMade 1 NoSuch
 row_rule_288 = refl
 
 row_rule_289 : account (codes "ifdef Z\nelse\na: b; i\nelse\n# c\r\n") (AddAssign (BeforeVar None (codes "X")) (codes "N") Conditional []) ≡ NotMade 1 NoSuch
@@ -1546,10 +1546,10 @@ row_rule_291 = refl
 row_rule_292 : account (codes "a:\nb:\r\n") (RemoveAssign None (codes "X")) ≡ NotMade 0 NoSuch
 row_rule_292 = refl
 
-row_rule_293 : account (codes "ifdef Z\nelse\na: b; i\n\nendif\n") (AddRule (BeforeRule None (codes "a")) (codes "d") Two []) ≡ Accepted 1 0 (span 13 13 (codes "d::\n") ∷ []) (Becomes (codes "ifdef Z\nelse\nd::\na: b; i\n\nendif\n"))
+row_rule_293 : account (codes "ifdef Z\nelse\na: b; i\n\nendif\n") (AddRule (BeforeRule None (codes "a")) (codes "d") Double []) ≡ Accepted 1 0 (span 13 13 (codes "d::\n") ∷ []) (Becomes (codes "ifdef Z\nelse\nd::\na: b; i\n\nendif\n"))
 row_rule_293 = refl
 
-row_rule_294 : account (codes "ifdef Z\na: b; i\nendif\n\tx\n\ty\\\n\tz\r\n") (AddRule (BeforeRule (Some 2) (codes "a")) (codes "d") Two []) ≡ NotMade 1 NoSuch
+row_rule_294 : account (codes "ifdef Z\na: b; i\nendif\n\tx\n\ty\\\n\tz\r\n") (AddRule (BeforeRule (Some 2) (codes "a")) (codes "d") Double []) ≡ NotMade 1 NoSuch
 row_rule_294 = refl
 
 row_rule_295 : account (codes "a: b\nendif\nendif\nendif\nendif\n\ty\\\n\tz\n") (RemoveRecipe (Some 1) (codes "a") 1) ≡ NotMade 0 Absent
@@ -1561,7 +1561,7 @@ row_rule_296 = refl
 row_rule_297 : account (codes "a: b\na:\\\n c\nifdef A\r\n") (RemoveRecipe None (codes "a") 3) ≡ NotMade 0 (Ambiguous 2)
 row_rule_297 = refl
 
-row_rule_298 : account (codes "ifdef Z\nelse\na:\nelse\nifdef A\nifdef A\r\n") (AddRule (BeforeRule (Some 2) (codes "a")) (codes "d") Two []) ≡ NotMade 1 NoSuch
+row_rule_298 : account (codes "ifdef Z\nelse\na:\nelse\nifdef A\nifdef A\r\n") (AddRule (BeforeRule (Some 2) (codes "a")) (codes "d") Double []) ≡ NotMade 1 NoSuch
 row_rule_298 = refl
 
 row_rule_299 : account (codes "a: b\n\tx\n\tx\nelse\n$(u)\n\tx") (AddRecipe None (codes "a") (codes "w")) ≡ Accepted 1 0 (span 11 11 (codes "\tw\n") ∷ []) (Becomes (codes "a: b\n\tx\n\tx\n\tw\nelse\n$(u)\n\tx"))
@@ -2491,10 +2491,10 @@ row_small_006 = refl
 row_small_007 : account (codes "X=a$$\n") (AddAssign (AfterVar None (codes "X")) (codes "Y") Recursive (codes "1")) ≡ Accepted 1 0 (span 6 6 (codes "Y = 1\n") ∷ []) (Becomes (codes "X=a$$\nY = 1\n"))
 row_small_007 = refl
 
-row_small_008 : account (codes "\tx\n>x\nendif") (AddRule (BeforeVar (Some 1) (codes "X")) (codes "c") One []) ≡ NotMade 1 NoSuch
+row_small_008 : account (codes "\tx\n>x\nendif") (AddRule (BeforeVar (Some 1) (codes "X")) (codes "c") Single []) ≡ NotMade 1 NoSuch
 row_small_008 = refl
 
-row_small_009 : account (codes "a:\na:\nb: a\n") (AddRule Bottom (codes "c") One []) ≡ Accepted 1 0 (span 11 11 (codes "c:\n") ∷ []) (Becomes (codes "a:\na:\nb: a\nc:\n"))
+row_small_009 : account (codes "a:\na:\nb: a\n") (AddRule Bottom (codes "c") Single []) ≡ Accepted 1 0 (span 11 11 (codes "c:\n") ∷ []) (Becomes (codes "a:\na:\nb: a\nc:\n"))
 row_small_009 = refl
 
 row_small_010 : account (codes "X=1\n\t") (RemoveRule (Some 1) (codes "b")) ≡ NotMade 0 NoSuch
@@ -2506,7 +2506,7 @@ row_small_011 = refl
 row_small_012 : account (codes "X=1\n") (RemoveAssign (Some 1) (codes "X")) ≡ Accepted 0 1 (span 0 4 [] ∷ []) (Becomes [])
 row_small_012 = refl
 
-row_small_013 : account (codes ".RECIPEPREFIX=\n>x") (AddRule (AfterVar (Some 1) (codes "X")) (codes "c") One []) ≡ NotMade 1 NoSuch
+row_small_013 : account (codes ".RECIPEPREFIX=\n>x") (AddRule (AfterVar (Some 1) (codes "X")) (codes "c") Single []) ≡ NotMade 1 NoSuch
 row_small_013 = refl
 
 row_small_014 : account (codes "\n") (RemoveRule (Some 1) (codes "a")) ≡ NotMade 0 NoSuch
@@ -2578,13 +2578,13 @@ row_small_035 = refl
 row_small_036 : account (codes "define D\nifdef A\n") (AddAssign (AfterVar (Some 1) (codes "X")) (codes "Y") Recursive []) ≡ NotMade 1 NoSuch
 row_small_036 = refl
 
-row_small_037 : account (codes ".RECIPEPREFIX=\n") (AddRule (BeforeVar (Some 1) (codes "X")) (codes "c") One []) ≡ NotMade 1 NoSuch
+row_small_037 : account (codes ".RECIPEPREFIX=\n") (AddRule (BeforeVar (Some 1) (codes "X")) (codes "c") Single []) ≡ NotMade 1 NoSuch
 row_small_037 = refl
 
 row_small_038 : account (codes "a::;#\n") (RenameTarget (codes "a") (codes "d")) ≡ Accepted 1 1 (span 0 1 (codes "d") ∷ []) (Becomes (codes "d::;#\n"))
 row_small_038 = refl
 
-row_small_039 : account (codes "\t\n\tx\n\tx") (AddRule (BeforeRule (Some 1) (codes "b")) (codes "c") One []) ≡ NotMade 1 NoSuch
+row_small_039 : account (codes "\t\n\tx\n\tx") (AddRule (BeforeRule (Some 1) (codes "b")) (codes "c") Single []) ≡ NotMade 1 NoSuch
 row_small_039 = refl
 
 row_small_040 : account (codes "X=$#\n") (AppendValue None (codes "X") (codes "b")) ≡ Accepted 1 1 (span 4 4 (codes " b") ∷ []) (Becomes (codes "X=$# b\n"))
@@ -2614,7 +2614,7 @@ row_small_047 = refl
 row_small_048 : account (codes ".RECIPEPREFIX=") (RemoveRule (Some 1) (codes "b")) ≡ NotMade 0 NoSuch
 row_small_048 = refl
 
-row_small_049 : account (codes "a:\n") (AddRule (BeforeRule (Some 1) (codes "b")) (codes "c") One []) ≡ NotMade 1 NoSuch
+row_small_049 : account (codes "a:\n") (AddRule (BeforeRule (Some 1) (codes "b")) (codes "c") Single []) ≡ NotMade 1 NoSuch
 row_small_049 = refl
 
 row_small_050 : account (codes "X=\n#\\") (RemoveAssign None (codes "X")) ≡ Accepted 0 1 (span 0 3 [] ∷ []) (Becomes (codes "#\\"))
@@ -2671,7 +2671,7 @@ row_small_066 = refl
 row_small_067 : account (codes "a: \\\n$\n") (AddPrereq false None (codes "a") (codes "$|")) ≡ NotMade 1 NoSuch
 row_small_067 = refl
 
-row_small_068 : account (codes ".RECIPEPREFIX=\n") (AddRule (BeforeVar (Some 1) (codes "X")) (codes "c") One []) ≡ NotMade 1 NoSuch
+row_small_068 : account (codes ".RECIPEPREFIX=\n") (AddRule (BeforeVar (Some 1) (codes "X")) (codes "c") Single []) ≡ NotMade 1 NoSuch
 row_small_068 = refl
 
 row_small_069 : account (codes "X=(\\a #") (AppendValue None (codes "X") (codes "b")) ≡ Accepted 1 1 (span 5 5 (codes " b") ∷ []) (Becomes (codes "X=(\\a b #"))
@@ -2686,7 +2686,7 @@ row_small_071 = refl
 row_small_072 : account (codes "X= \\ \\#") (SetValue None (codes "X") (codes "b")) ≡ Accepted 1 1 (span 3 7 (codes "b") ∷ []) (Becomes (codes "X= b"))
 row_small_072 = refl
 
-row_small_073 : account (codes ".RECIPEPREFIX=\n") (AddRule (BeforeRule (Some 1) (codes "b")) (codes "c") One []) ≡ NotMade 1 NoSuch
+row_small_073 : account (codes ".RECIPEPREFIX=\n") (AddRule (BeforeRule (Some 1) (codes "b")) (codes "c") Single []) ≡ NotMade 1 NoSuch
 row_small_073 = refl
 
 row_small_074 : account (codes "X=1") (AddAssign (BeforeVar (Some 1) (codes "X")) (codes "Y") Recursive []) ≡ Accepted 1 0 (span 0 0 (codes "Y =\n") ∷ []) (Becomes (codes "Y =\nX=1"))
@@ -2791,7 +2791,7 @@ row_small_106 = refl
 row_small_107 : account (codes "\tx") (SetRecipe (Some 1) (codes "a") 1 []) ≡ NotMade 1 NoSuch
 row_small_107 = refl
 
-row_small_108 : account (codes ".RECIPEPREFIX=\n\n\t\n") (AddRule (BeforeRule (Some 1) (codes "b")) (codes "c") One []) ≡ NotMade 1 NoSuch
+row_small_108 : account (codes ".RECIPEPREFIX=\n\n\t\n") (AddRule (BeforeRule (Some 1) (codes "b")) (codes "c") Single []) ≡ NotMade 1 NoSuch
 row_small_108 = refl
 
 row_small_109 : account (codes "a:$bb\n") (RenameTarget (codes "a") (codes "b")) ≡ Accepted 1 1 (span 0 1 (codes "b") ∷ []) (Becomes (codes "b:$bb\n"))
@@ -2803,7 +2803,7 @@ row_small_110 = refl
 row_small_111 : account (codes "X=1") (AddAssign Bottom (codes "Y") Recursive []) ≡ Accepted 1 0 (span 3 3 (codes "\nY =\n") ∷ []) (Becomes (codes "X=1\nY =\n"))
 row_small_111 = refl
 
-row_small_112 : account (codes "endif") (AddRule (AfterVar (Some 1) (codes "X")) (codes "c") One []) ≡ NotMade 1 NoSuch
+row_small_112 : account (codes "endif") (AddRule (AfterVar (Some 1) (codes "X")) (codes "c") Single []) ≡ NotMade 1 NoSuch
 row_small_112 = refl
 
 row_small_113 : account (codes "ifdef A\na: X=1\ndefine D\n") (RemoveRule (Some 1) (codes "b")) ≡ NotMade 0 NoSuch
@@ -2827,7 +2827,7 @@ row_small_118 = refl
 row_small_119 : account (codes "X=#$\n") (RemoveAssign None (codes "X")) ≡ Accepted 0 1 (span 0 5 [] ∷ []) (Becomes [])
 row_small_119 = refl
 
-row_small_120 : account (codes "ifdef A\n>x\na: X=1") (AddRule (AfterVar (Some 1) (codes "X")) (codes "c") One []) ≡ NotMade 1 NoSuch
+row_small_120 : account (codes "ifdef A\n>x\na: X=1") (AddRule (AfterVar (Some 1) (codes "X")) (codes "c") Single []) ≡ NotMade 1 NoSuch
 row_small_120 = refl
 
 row_small_121 : account (codes "a:=") (AddPrereq false None (codes "a") (codes "c")) ≡ NotMade 1 NoSuch
@@ -2884,7 +2884,7 @@ row_small_137 = refl
 row_small_138 : account (codes "a:$;") (AddPrereq true None (codes "a") (codes "c")) ≡ Accepted 1 1 (span 4 4 (codes " | c") ∷ []) (Becomes (codes "a:$; | c"))
 row_small_138 = refl
 
-row_small_139 : account (codes ">x\na:\n\n") (AddRule (BeforeVar (Some 1) (codes "X")) (codes "c") One []) ≡ NotMade 1 NoSuch
+row_small_139 : account (codes ">x\na:\n\n") (AddRule (BeforeVar (Some 1) (codes "X")) (codes "c") Single []) ≡ NotMade 1 NoSuch
 row_small_139 = refl
 
 row_small_140 : account (codes "X=aa$\n\n\n") (AddAssign (AfterVar None (codes "X")) (codes "Y") Recursive (codes "1")) ≡ Accepted 1 0 (span 6 6 (codes "Y = 1\n") ∷ []) (Becomes (codes "X=aa$\nY = 1\n\n\n"))
@@ -2929,7 +2929,7 @@ row_small_152 = refl
 row_small_153 : account (codes "X=$$$#(") (SetValue None (codes "X") (codes "b")) ≡ Accepted 1 1 (span 2 7 (codes "b") ∷ []) (Becomes (codes "X=b"))
 row_small_153 = refl
 
-row_small_154 : account [] (AddRule (BeforeVar (Some 1) (codes "X")) (codes "c") One []) ≡ NotMade 1 NoSuch
+row_small_154 : account [] (AddRule (BeforeVar (Some 1) (codes "X")) (codes "c") Single []) ≡ NotMade 1 NoSuch
 row_small_154 = refl
 
 row_small_155 : account (codes "X=$\\\n") (RemoveAssign None (codes "X")) ≡ Accepted 0 1 (span 0 5 [] ∷ []) (Becomes [])
@@ -2989,7 +2989,7 @@ row_small_172 = refl
 row_small_173 : account (codes "X=\n$\n") (RemoveAssign None (codes "X")) ≡ Accepted 0 1 (span 0 3 [] ∷ []) (Becomes (codes "$\n"))
 row_small_173 = refl
 
-row_small_174 : account (codes ".RECIPEPREFIX=") (AddRule (BeforeVar (Some 1) (codes "X")) (codes "c") One []) ≡ NotMade 1 NoSuch
+row_small_174 : account (codes ".RECIPEPREFIX=") (AddRule (BeforeVar (Some 1) (codes "X")) (codes "c") Single []) ≡ NotMade 1 NoSuch
 row_small_174 = refl
 
 row_small_175 : account (codes "X=(\\ \n") (SetValue None (codes "X") []) ≡ Accepted 1 1 (span 2 5 [] ∷ []) (Becomes (codes "X=\n"))
@@ -3040,7 +3040,7 @@ row_small_189 = refl
 row_small_190 : account (codes "X=a(\n(a\n") (RemoveAssign None (codes "X")) ≡ Accepted 0 1 (span 0 5 [] ∷ []) (Becomes (codes "(a\n"))
 row_small_190 = refl
 
-row_small_191 : account (codes "X=1\na:") (AddRule (BeforeVar (Some 1) (codes "X")) (codes "c") One []) ≡ Accepted 1 0 (span 0 0 (codes "c:\n") ∷ []) (Becomes (codes "c:\nX=1\na:"))
+row_small_191 : account (codes "X=1\na:") (AddRule (BeforeVar (Some 1) (codes "X")) (codes "c") Single []) ≡ Accepted 1 0 (span 0 0 (codes "c:\n") ∷ []) (Becomes (codes "c:\nX=1\na:"))
 row_small_191 = refl
 
 row_small_192 : account (codes "X=#\n$\n") (RemoveAssign None (codes "X")) ≡ Accepted 0 1 (span 0 4 [] ∷ []) (Becomes (codes "$\n"))
@@ -3085,7 +3085,7 @@ row_mixed_004 = refl
 row_mixed_005 : account (codes ".RECIPEPREFIX = f\n;\n=\\\n\r\n;$\r\n \n$$ :$x\\\n\t\\\r\n$(s\\) $(q:;=|) \nifdef A\n\t\\\n\nY = 1\n\tZ = 1\n") (RenameTarget (codes "|") (codes "$(a b)")) ≡ NotMade 0 (BadArgument field.Old)
 row_mixed_005 = refl
 
-row_mixed_006 : account (codes ".RECIPEPREFIX = f\n;\n=\\\n\r\n;$\r\n \n$$ :$x\\\n\t\\\r\n$(s\\) $(q:;=|) \nifdef A\n\t\\\n\nY = 1\n\tZ = 1\n") (AddRule (BeforeVar None (codes ".RECIPEPREFIX")) (codes "${g(}") One (codes "%.c")) ≡ NotMade 1 Reserved
+row_mixed_006 : account (codes ".RECIPEPREFIX = f\n;\n=\\\n\r\n;$\r\n \n$$ :$x\\\n\t\\\r\n$(s\\) $(q:;=|) \nifdef A\n\t\\\n\nY = 1\n\tZ = 1\n") (AddRule (BeforeVar None (codes ".RECIPEPREFIX")) (codes "${g(}") Single (codes "%.c")) ≡ NotMade 1 Reserved
 row_mixed_006 = refl
 
 row_mixed_007 : account (codes ".RECIPEPREFIX = c\r\n.RECIPEPREFIX=# c\n") (AppendValue (Some 1) (codes ".RECIPEPREFIX") (codes "$(a b)")) ≡ NotMade 1 Reserved
@@ -3112,13 +3112,13 @@ row_mixed_013 = refl
 row_mixed_014 : account (codes "$(s\\) : %.c ${g(}\\\n| ; \n\t\nelse ifdef Q\nfoo: c $x\n>a\\\nifndef X # c\n$ : \t.PHONY\tx.o|$(f {)\\\n\t; x.o") (RenameTarget (codes "$(s\\)") (codes "c")) ≡ Accepted 1 1 (span 0 5 (codes "c") ∷ []) (Becomes (codes "c : %.c ${g(}\\\n| ; \n\t\nelse ifdef Q\nfoo: c $x\n>a\\\nifndef X # c\n$ : \t.PHONY\tx.o|$(f {)\\\n\t; x.o"))
 row_mixed_014 = refl
 
-row_mixed_015 : account (codes "\nendif # c\n\t$(p #) &: \\\n   ;\nCC!= \na#cifdef Q\ndefine D\n") (AddRule (BeforeVar None (codes "CC")) [] Two (codes "$$")) ≡ NotMade 1 (BadArgument field.Targets)
+row_mixed_015 : account (codes "\nendif # c\n\t$(p #) &: \\\n   ;\nCC!= \na#cifdef Q\ndefine D\n") (AddRule (BeforeVar None (codes "CC")) [] Double (codes "$$")) ≡ NotMade 1 (BadArgument field.Targets)
 row_mixed_015 = refl
 
 row_mixed_016 : account (codes "\nendif # c\n\t$(p #) &: \\\n   ;\nCC!= \na#cifdef Q\ndefine D\n") (RemoveAssign None (codes "CC")) ≡ Accepted 0 1 (span 29 35 [] ∷ []) (Becomes (codes "\nendif # c\n\t$(p #) &: \\\n   ;\na#cifdef Q\ndefine D\n"))
 row_mixed_016 = refl
 
-row_mixed_017 : account (codes "ende # c\noo: c\nifdf\\\nB\n\t \nifndef X # c\n$(p #) &: a : \n\n") (AddRule (BeforeRule None (codes "oo")) (codes "x.o t") Two (codes "$(s\\) ${c}")) ≡ Accepted 1 0 (span 9 9 (codes "x.o t:: $(s\\) ${c}\n") ∷ []) (Becomes (codes "ende # c\nx.o t:: $(s\\) ${c}\noo: c\nifdf\\\nB\n\t \nifndef X # c\n$(p #) &: a : \n\n"))
+row_mixed_017 : account (codes "ende # c\noo: c\nifdf\\\nB\n\t \nifndef X # c\n$(p #) &: a : \n\n") (AddRule (BeforeRule None (codes "oo")) (codes "x.o t") Double (codes "$(s\\) ${c}")) ≡ Accepted 1 0 (span 9 9 (codes "x.o t:: $(s\\) ${c}\n") ∷ []) (Becomes (codes "ende # c\nx.o t:: $(s\\) ${c}\noo: c\nifdf\\\nB\n\t \nifndef X # c\n$(p #) &: a : \n\n"))
 row_mixed_017 = refl
 
 row_mixed_018 : account (codes "ende # c\noo: c\nifdf\\\nB\n\t \nifndef X # c\n$(p #) &: a : \n\n") (RemoveRule None (codes "oo")) ≡ Accepted 0 1 (span 9 15 [] ∷ []) (Becomes (codes "ende # c\nifdf\\\nB\n\t \nifndef X # c\n$(p #) &: a : \n\n"))
@@ -3166,7 +3166,7 @@ row_mixed_031 = refl
 row_mixed_032 : account (codes "b: b b | c b\n") (RemovePrereq None (codes "b") (codes "b")) ≡ Accepted 1 1 (span 2 4 [] ∷ span 4 6 [] ∷ span 10 12 [] ∷ []) (Becomes (codes "b: | c\n"))
 row_mixed_032 = refl
 
-row_mixed_033 : account (codes "foo: b\n\tx\nelse\n\ty\n\tifdef Z\r\noverride .RECIPEPREFIX?=\\\n.\\\nifdef\\\nB\\\nendef\nelse ifdef Q\r\n>echo a # b\nendif\\\n") (AddRule (AfterVar (Some 1) (codes ".RECIPEPREFIX")) [] Two (codes "${c}")) ≡ NotMade 1 (BadArgument field.Targets)
+row_mixed_033 : account (codes "foo: b\n\tx\nelse\n\ty\n\tifdef Z\r\noverride .RECIPEPREFIX?=\\\n.\\\nifdef\\\nB\\\nendef\nelse ifdef Q\r\n>echo a # b\nendif\\\n") (AddRule (AfterVar (Some 1) (codes ".RECIPEPREFIX")) [] Double (codes "${c}")) ≡ NotMade 1 (BadArgument field.Targets)
 row_mixed_033 = refl
 
 row_mixed_034 : account (codes "foo: b\n\tx\nelse\n\ty\n\tifdef Z\r\noverride .RECIPEPREFIX?=\\\n.\\\nifdef\\\nB\\\nendef\nelse ifdef Q\r\n>echo a # b\nendif\\\n") (SetRecipe None (codes "%.o") 0 (codes "t")) ≡ NotMade 1 RecipePrefix
@@ -3181,7 +3181,7 @@ row_mixed_036 = refl
 row_mixed_037 : account (codes "a:\nifdef A\nelse\n\tz\nendif\n$(q:;=|) :: export\\\n>q ::= \\\n\r\n") (RemoveRecipe None (codes "a") 1) ≡ Accepted 0 1 (span 16 19 [] ∷ []) (Becomes (codes "a:\nifdef A\nelse\nendif\n$(q:;=|) :: export\\\n>q ::= \\\n\r\n"))
 row_mixed_037 = refl
 
-row_mixed_038 : account (codes "a:\nifdef A\nelse\n\tz\nendif\n$(q:;=|) :: export\\\n>q ::= \\\n\r\n") (AddRule (BeforeRule (Some 0) (codes "a")) (codes "$(s\\) %.o") Two []) ≡ NotMade 1 NoSuch
+row_mixed_038 : account (codes "a:\nifdef A\nelse\n\tz\nendif\n$(q:;=|) :: export\\\n>q ::= \\\n\r\n") (AddRule (BeforeRule (Some 0) (codes "a")) (codes "$(s\\) %.o") Double []) ≡ NotMade 1 NoSuch
 row_mixed_038 = refl
 
 row_mixed_039 : account (codes ".RECIPEPREFIX = Y\n$$\n$$a\n$( (a)\n\\$$|${$(x)}=\0\n{;\t\r}\\ \\\n\n# c\\") (RemoveAssign None (codes "}(Z")) ≡ NotMade 0 (BadArgument field.Name)
@@ -3202,13 +3202,13 @@ row_mixed_043 = refl
 row_mixed_044 : account [] (AddAssign Bottom (codes "t") PosixSimple (codes "$(a b) ${c}")) ≡ Accepted 1 0 (span 0 0 (codes "t ::= $(a b) ${c}\n") ∷ []) (Becomes (codes "t ::= $(a b) ${c}\n"))
 row_mixed_044 = refl
 
-row_mixed_045 : account (codes "Y = $(\n\tdefine Q\nexport private define D\n\t\n") (AddRule Bottom (codes "${g(}") Two (codes "${g(}")) ≡ NotMade 1 OpenDefine
+row_mixed_045 : account (codes "Y = $(\n\tdefine Q\nexport private define D\n\t\n") (AddRule Bottom (codes "${g(}") Double (codes "${g(}")) ≡ NotMade 1 OpenDefine
 row_mixed_045 = refl
 
 row_mixed_046 : account (codes "Y = $(\n\tdefine Q\nexport private define D\n\t\n") (AppendValue (Some 2) (codes "Y") (codes "$#")) ≡ NotMade 1 NoSuch
 row_mixed_046 = refl
 
-row_mixed_047 : account (codes ".RECIPEPREFIX = b\n\t#\\\\\\\n\ndefine.RECI$EPREFIX\n#\n>q \t:=$ \n") (AddRule Bottom (codes "$(p #)") Two (codes "$(q:;=|)")) ≡ Accepted 1 0 (span 56 56 (codes "$(p #):: $(q:;=|)\n") ∷ []) (Becomes (codes ".RECIPEPREFIX = b\n\t#\\\\\\\n\ndefine.RECI$EPREFIX\n#\n>q \t:=$ \n$(p #):: $(q:;=|)\n"))
+row_mixed_047 : account (codes ".RECIPEPREFIX = b\n\t#\\\\\\\n\ndefine.RECI$EPREFIX\n#\n>q \t:=$ \n") (AddRule Bottom (codes "$(p #)") Double (codes "$(q:;=|)")) ≡ Accepted 1 0 (span 56 56 (codes "$(p #):: $(q:;=|)\n") ∷ []) (Becomes (codes ".RECIPEPREFIX = b\n\t#\\\\\\\n\ndefine.RECI$EPREFIX\n#\n>q \t:=$ \n$(p #):: $(q:;=|)\n"))
 row_mixed_047 = refl
 
 row_mixed_048 : account (codes ".RECIPEPREFIX = b\n\t#\\\\\\\n\ndefine.RECI$EPREFIX\n#\n>q \t:=$ \n") (AppendValue None (codes ">q") (codes "foo $(a b)")) ≡ NotMade 1 (BadArgument field.Name)
@@ -3217,7 +3217,7 @@ row_mixed_048 = refl
 row_mixed_049 : account (codes "\\\n=%.c: a&b $(s\\)|   #c \\> d$ax\na :\\\r\nt %.o  b ;  \n${g(}&:: .PHONY .P$NY \n \\\n\n ifdef  =\\\r\n\n") (RemoveRecipe None (codes "${g(}") 2) ≡ NotMade 0 Absent
 row_mixed_049 = refl
 
-row_mixed_050 : account (codes "\\\n=%.c: a&b $(s\\)|   #c \\> d$ax\na :\\\r\nt %.o  b ;  \n${g(}&:: .PHONY .P$NY \n \\\n\n ifdef  =\\\r\n\n") (AddRule (BeforeVar None (codes "ifdef")) [] One []) ≡ NotMade 1 (BadArgument field.Targets)
+row_mixed_050 : account (codes "\\\n=%.c: a&b $(s\\)|   #c \\> d$ax\na :\\\r\nt %.o  b ;  \n${g(}&:: .PHONY .P$NY \n \\\n\n ifdef  =\\\r\n\n") (AddRule (BeforeVar None (codes "ifdef")) [] Single []) ≡ NotMade 1 (BadArgument field.Targets)
 row_mixed_050 = refl
 
 row_mixed_051 : account (codes "Y = ${u\nendef # c\r\nendef x\r\n.PHONY : $x\toverride| \r\nifdef A\r\nendef x\r\n\t$x&::\t\r\noverride define D\r\ntt: u\r\noverride define D\r\n") (SetValue None (codes "Y") (codes "x.o")) ≡ Accepted 1 1 (span 4 7 (codes "x.o") ∷ []) (Becomes (codes "Y = x.o\nendef # c\r\nendef x\r\n.PHONY : $x\toverride| \r\nifdef A\r\nendef x\r\n\t$x&::\t\r\noverride define D\r\ntt: u\r\noverride define D\r\n"))
@@ -3235,7 +3235,7 @@ row_mixed_054 = refl
 row_mixed_055 : account (codes ";") (AddAssign (AfterVar None (codes "CC")) (codes "X") Append (codes "\\$x")) ≡ NotMade 1 NoSuch
 row_mixed_055 = refl
 
-row_mixed_056 : account (codes ";") (AddRule Bottom (codes ".PHONY") One []) ≡ Accepted 1 0 (span 1 1 (codes "\n.PHONY:\n") ∷ []) (Becomes (codes ";\n.PHONY:\n"))
+row_mixed_056 : account (codes ";") (AddRule Bottom (codes ".PHONY") Single []) ≡ Accepted 1 0 (span 1 1 (codes "\n.PHONY:\n") ∷ []) (Becomes (codes ";\n.PHONY:\n"))
 row_mixed_056 = refl
 
 row_mixed_057 : account (codes "foo: b\n\tx\nifdef A\n\ty\nendif\nX :::=\\\\\n \n\\\n#\n>foo: $(f {) |$(p #) \n\telse\nifneq\n\tA ::=  X :::=\\\\\n") (AddAssign Bottom (codes "a.b") PosixSimple (codes ":")) ≡ Accepted 1 0 (span 93 93 (codes "a.b ::= :\n") ∷ []) (Becomes (codes "foo: b\n\tx\nifdef A\n\ty\nendif\nX :::=\\\\\n \n\\\n#\n>foo: $(f {) |$(p #) \n\telse\nifneq\n\tA ::=  X :::=\\\\\na.b ::= :\n"))
@@ -3277,7 +3277,7 @@ row_mixed_068 = refl
 row_mixed_069 : account (codes "\tdefine Q\\\n") (AddAssign Bottom (codes "A") Append []) ≡ NotMade 1 OpenLine
 row_mixed_069 = refl
 
-row_mixed_070 : account (codes "\tdefine Q\\\n") (AddRule Bottom (codes "define") Two (codes "else $(q:;=|)")) ≡ NotMade 1 Reserved
+row_mixed_070 : account (codes "\tdefine Q\\\n") (AddRule Bottom (codes "define") Double (codes "else $(q:;=|)")) ≡ NotMade 1 Reserved
 row_mixed_070 = refl
 
 row_mixed_071 : account (codes ".RECIPEPREFIX = iendef(p #\\ \t::: ${g(} a\t$$ #\\\\\ndefine D\nX = 1\n") (SetValue None (codes ".RECIPEPREFIX") []) ≡ NotMade 1 Reserved
@@ -3289,7 +3289,7 @@ row_mixed_072 = refl
 row_mixed_073 : account (codes "endef ?= x.ox.o:\\\n# \r\n\n\n\\\\\n\\\n\\\\\n\n${c} &:-x_9 \\\n  =  \na :: \t \n\ta\\\n# c\n.RECIPEPREFIX =\\\nt\n !+;$ ?$)\n\nexport define\n\noverride define E # c\ndefine D\n") (RenameTarget (codes "a") (codes "${g(}")) ≡ Accepted 1 1 (span 53 54 (codes "${g(}") ∷ []) (Becomes (codes "endef ?= x.ox.o:\\\n# \r\n\n\n\\\\\n\\\n\\\\\n\n${c} &:-x_9 \\\n  =  \n${g(} :: \t \n\ta\\\n# c\n.RECIPEPREFIX =\\\nt\n !+;$ ?$)\n\nexport define\n\noverride define E # c\ndefine D\n"))
 row_mixed_073 = refl
 
-row_mixed_074 : account (codes "endef ?= x.ox.o:\\\n# \r\n\n\n\\\\\n\\\n\\\\\n\n${c} &:-x_9 \\\n  =  \na :: \t \n\ta\\\n# c\n.RECIPEPREFIX =\\\nt\n !+;$ ?$)\n\nexport define\n\noverride define E # c\ndefine D\n") (AddRule (AfterVar None (codes ".RECIPEPREFIX")) (codes "${c} x.o") Two (codes "${g(}${c}")) ≡ NotMade 1 Reserved
+row_mixed_074 : account (codes "endef ?= x.ox.o:\\\n# \r\n\n\n\\\\\n\\\n\\\\\n\n${c} &:-x_9 \\\n  =  \na :: \t \n\ta\\\n# c\n.RECIPEPREFIX =\\\nt\n !+;$ ?$)\n\nexport define\n\noverride define E # c\ndefine D\n") (AddRule (AfterVar None (codes ".RECIPEPREFIX")) (codes "${c} x.o") Double (codes "${g(}${c}")) ≡ NotMade 1 Reserved
 row_mixed_074 = refl
 
 row_mixed_075 : account (codes ".\\\n\nexport .RECIPEPREFIX =.\n.RECIPEPREFIX?=a\nifdef\\\nB\n-x_9?= \\\n \\\n \n.RECIPEPREFIX=\\\n # c\n\tZ = 1\n\tendef\n") (AppendValue (Some 2) (codes ".RECIPEPREFIX") (codes ".PHONY c")) ≡ NotMade 1 Reserved
@@ -3316,10 +3316,10 @@ row_mixed_081 = refl
 row_mixed_082 : account (codes "a\r") (AddAssign Bottom (codes "t1") Shell (codes "2 3 $(f {)")) ≡ NotMade 1 OpenLine
 row_mixed_082 = refl
 
-row_mixed_083 : account (codes "$(a)\r\n$(a b)\\\r\n\\ \\\n\n\r\n $\\\n\\\n#$$=\n+ \\\r\n\t\\\n \0${\\\\\n\n\\ \\\n\\#\na:\\") (AddRule Bottom (codes "x.o %.o") One []) ≡ NotMade 1 OpenLine
+row_mixed_083 : account (codes "$(a)\r\n$(a b)\\\r\n\\ \\\n\n\r\n $\\\n\\\n#$$=\n+ \\\r\n\t\\\n \0${\\\\\n\n\\ \\\n\\#\na:\\") (AddRule Bottom (codes "x.o %.o") Single []) ≡ NotMade 1 OpenLine
 row_mixed_083 = refl
 
-row_mixed_084 : account (codes "$(a)\r\n$(a b)\\\r\n\\ \\\n\n\r\n $\\\n\\\n#$$=\n+ \\\r\n\t\\\n \0${\\\\\n\n\\ \\\n\\#\na:\\") (AddRule Bottom (codes "-include2 a") One (codes "c $(q:;=|)")) ≡ NotMade 1 OpenLine
+row_mixed_084 : account (codes "$(a)\r\n$(a b)\\\r\n\\ \\\n\n\r\n $\\\n\\\n#$$=\n+ \\\r\n\t\\\n \0${\\\\\n\n\\ \\\n\\#\na:\\") (AddRule Bottom (codes "-include2 a") Single (codes "c $(q:;=|)")) ≡ NotMade 1 OpenLine
 row_mixed_084 = refl
 
 row_mixed_085 : account (codes "a: b\r") (AddAssign Bottom (codes "define") PosixSimple (codes "foo")) ≡ NotMade 1 OpenLine
@@ -3331,7 +3331,7 @@ row_mixed_086 = refl
 row_mixed_087 : account (codes "> \n-include2:::\tx.o %.c\tx.o \n") (AddRecipe None (codes "x.o") (codes "define")) ≡ NotMade 1 NoSuch
 row_mixed_087 = refl
 
-row_mixed_088 : account (codes "> \n-include2:::\tx.o %.c\tx.o \n") (AddRule Bottom (codes "t") One (codes "${g(}")) ≡ Accepted 1 0 (span 29 29 (codes "t: ${g(}\n") ∷ []) (Becomes (codes "> \n-include2:::\tx.o %.c\tx.o \nt: ${g(}\n"))
+row_mixed_088 : account (codes "> \n-include2:::\tx.o %.c\tx.o \n") (AddRule Bottom (codes "t") Single (codes "${g(}")) ≡ Accepted 1 0 (span 29 29 (codes "t: ${g(}\n") ∷ []) (Becomes (codes "> \n-include2:::\tx.o %.c\tx.o \nt: ${g(}\n"))
 row_mixed_088 = refl
 
 row_mixed_089 : account (codes "ifdef A\na:\nendif\n\n\ty\nendef\\\n\n\\\nendif\n-x_9:::= \t$x\n") (AppendValue None (codes "-x_9") (codes "$(s\\)")) ≡ Accepted 1 1 (span 49 49 (codes " $(s\\)") ∷ []) (Becomes (codes "ifdef A\na:\nendif\n\n\ty\nendef\\\n\n\\\nendif\n-x_9:::= \t$x $(s\\)\n"))
@@ -3388,7 +3388,7 @@ row_mixed_105 = refl
 row_mixed_106 : account (codes "else ifdef Q\nendif # c\ndefine F \\\n\ndefine E # c\ndefine \\\r\n += $$\t\nendef # c\nifneq\nifdef\\\nB\n") (SetRecipe (Some 1) (codes "$$") 4294967295 (codes "cÿ")) ≡ NotMade 1 NoSuch
 row_mixed_106 = refl
 
-row_mixed_107 : account (codes "a&b $ ::b \t#\\\\\nendef # c\n \\\n\n ifdef A\nprivate CC !=\t$(q:;=|)$(w \\\n\nendef\n") (AddRule (AfterVar None (codes "CC")) (codes "t") Two (codes "%.c")) ≡ Accepted 1 0 (span 67 67 (codes "t:: %.c\n") ∷ []) (Becomes (codes "a&b $ ::b \t#\\\\\nendef # c\n \\\n\n ifdef A\nprivate CC !=\t$(q:;=|)$(w \\\n\nt:: %.c\nendef\n"))
+row_mixed_107 : account (codes "a&b $ ::b \t#\\\\\nendef # c\n \\\n\n ifdef A\nprivate CC !=\t$(q:;=|)$(w \\\n\nendef\n") (AddRule (AfterVar None (codes "CC")) (codes "t") Double (codes "%.c")) ≡ Accepted 1 0 (span 67 67 (codes "t:: %.c\n") ∷ []) (Becomes (codes "a&b $ ::b \t#\\\\\nendef # c\n \\\n\n ifdef A\nprivate CC !=\t$(q:;=|)$(w \\\n\nt:: %.c\nendef\n"))
 row_mixed_107 = refl
 
 row_mixed_108 : account (codes "a&b $ ::b \t#\\\\\nendef # c\n \\\n\n ifdef A\nprivate CC !=\t$(q:;=|)$(w \\\n\nendef\n") (SetValue (Some 0) (codes "CC") []) ≡ NotMade 1 NoSuch
@@ -3418,7 +3418,7 @@ row_mixed_115 = refl
 row_mixed_116 : account (codes ".RECIPEPREFIX = -\n.RECIPEPREFIX:=\\\n\n.endef\n\tifdef Z\nendef :=  #\n") (AddAssign (AfterVar None (codes ".RECIPEPREFIX")) (codes "X") Immediate (codes "\\#")) ≡ NotMade 1 Reserved
 row_mixed_116 = refl
 
-row_mixed_117 : account [] (AddRule Bottom (codes ".PHONY ${c}") Two (codes "%.c")) ≡ Accepted 1 0 (span 0 0 (codes ".PHONY ${c}:: %.c\n") ∷ []) (Becomes (codes ".PHONY ${c}:: %.c\n"))
+row_mixed_117 : account [] (AddRule Bottom (codes ".PHONY ${c}") Double (codes "%.c")) ≡ Accepted 1 0 (span 0 0 (codes ".PHONY ${c}:: %.c\n") ∷ []) (Becomes (codes ".PHONY ${c}:: %.c\n"))
 row_mixed_117 = refl
 
 row_mixed_118 : account [] (AddAssign Bottom (codes "endef") Append []) ≡ Accepted 1 0 (span 0 0 (codes "endef +=\n") ∷ []) (Becomes (codes "endef +=\n"))
@@ -3427,7 +3427,7 @@ row_mixed_118 = refl
 row_mixed_119 : account (codes "override define .RECIPEPREFIX\r\n.RECIPEPREFIX ?=# c\nendif # c\n.RECIPEPREFIX=\\\n>\na: b\r\nendif # c\n") (AddAssign Bottom (codes "a.b") Simple (codes "$(f {)")) ≡ NotMade 1 RecipePrefix
 row_mixed_119 = refl
 
-row_mixed_120 : account (codes "override define .RECIPEPREFIX\r\n.RECIPEPREFIX ?=# c\nendif # c\n.RECIPEPREFIX=\\\n>\na: b\r\nendif # c\n") (AddRule Bottom [] Two (codes "$(q:;=|) x.o")) ≡ NotMade 1 (BadArgument field.Targets)
+row_mixed_120 : account (codes "override define .RECIPEPREFIX\r\n.RECIPEPREFIX ?=# c\nendif # c\n.RECIPEPREFIX=\\\n>\na: b\r\nendif # c\n") (AddRule Bottom [] Double (codes "$(q:;=|) x.o")) ≡ NotMade 1 (BadArgument field.Targets)
 row_mixed_120 = refl
 
 row_mixed_121 : account (codes "eZ = 1\n\t\\\nifdef A\nendif\ndefine D\r\ndefine E\nendef\n") (AppendValue (Some 0) (codes "eZ") (codes "${g(}")) ≡ NotMade 1 NoSuch
@@ -3436,7 +3436,7 @@ row_mixed_121 = refl
 row_mixed_122 : account (codes "eZ = 1\n\t\\\nifdef A\nendif\ndefine D\r\ndefine E\nendef\n") (RemoveAssign (Some 4294967295) (codes "eZ")) ≡ NotMade 0 NoSuch
 row_mixed_122 = refl
 
-row_mixed_123 : account (codes "\tx.o&:\\\n\\\r\na \n$(a b) &:: \t$x\\\n%.o \n \\\n\n#=\ra\n;\r\n\\defineendef\\\r\n!\n \nY = 1\n\tZ = 1\n") (AddRule (AfterVar (Some 0) (codes "Z")) [] One (codes ".PHONY")) ≡ NotMade 1 (BadArgument field.Targets)
+row_mixed_123 : account (codes "\tx.o&:\\\n\\\r\na \n$(a b) &:: \t$x\\\n%.o \n \\\n\n#=\ra\n;\r\n\\defineendef\\\r\n!\n \nY = 1\n\tZ = 1\n") (AddRule (AfterVar (Some 0) (codes "Z")) [] Single (codes ".PHONY")) ≡ NotMade 1 (BadArgument field.Targets)
 row_mixed_123 = refl
 
 row_mixed_124 : account (codes "\tx.o&:\\\n\\\r\na \n$(a b) &:: \t$x\\\n%.o \n \\\n\n#=\ra\n;\r\n\\defineendef\\\r\n!\n \nY = 1\n\tZ = 1\n") (SetValue None (codes "!#a+&") (codes "${g(}")) ≡ NotMade 1 (BadArgument field.Name)
@@ -3457,7 +3457,7 @@ row_mixed_128 = refl
 row_mixed_129 : account (codes "-include2\t.PHONY :: A += ${u$$\t\r\n\r\n") (RenameTarget (codes "a&b") (codes "$x")) ≡ NotMade 0 NoSuch
 row_mixed_129 = refl
 
-row_mixed_130 : account (codes "-include2\t.PHONY :: A += ${u$$\t\r\n\r\n") (AddRule (BeforeVar None (codes "A")) (codes "$(p #)") Two (codes "$(q:;=|) $$")) ≡ NotMade 1 NoSuch
+row_mixed_130 : account (codes "-include2\t.PHONY :: A += ${u$$\t\r\n\r\n") (AddRule (BeforeVar None (codes "A")) (codes "$(p #)") Double (codes "$(q:;=|) $$")) ≡ NotMade 1 NoSuch
 row_mixed_130 = refl
 
 row_mixed_131 : account (codes "\t\\\n\noverride?= \t # \\\nb : \t$(q:;=|)\tb \\\r\n define D\nX = 1\n") (RemoveAssign None (codes ">q")) ≡ NotMade 0 (BadArgument field.Name)
@@ -3466,7 +3466,7 @@ row_mixed_131 = refl
 row_mixed_132 : account (codes "\t\\\n\noverride?= \t # \\\nb : \t$(q:;=|)\tb \\\r\n define D\nX = 1\n") (AddRecipe None (codes "t") (codes "x")) ≡ NotMade 1 NoSuch
 row_mixed_132 = refl
 
-row_mixed_133 : account (codes ".RECIPEPREFIX = a\r\nfoo: :\tb :%.o \r\noverride define F \\\n\r\n") (AddRule (BeforeVar None (codes ".RECIPEPREFIX")) (codes "b") Two (codes "$(q:;=|)")) ≡ NotMade 1 Reserved
+row_mixed_133 : account (codes ".RECIPEPREFIX = a\r\nfoo: :\tb :%.o \r\noverride define F \\\n\r\n") (AddRule (BeforeVar None (codes ".RECIPEPREFIX")) (codes "b") Double (codes "$(q:;=|)")) ≡ NotMade 1 Reserved
 row_mixed_133 = refl
 
 row_mixed_134 : account (codes "b\n\r#$\n") (AddAssign Bottom (codes "a.b") Recursive (codes "%.o$(a b)  .PHONY")) ≡ Accepted 1 0 (span 6 6 (codes "a.b = %.o$(a b)  .PHONY\n") ∷ []) (Becomes (codes "b\n\r#$\na.b = %.o$(a b)  .PHONY\n"))
@@ -3475,13 +3475,13 @@ row_mixed_134 = refl
 row_mixed_135 : account (codes "b\n\r#$\n") (AddAssign (BeforeVar (Some 2) (codes "X$:")) (codes "a.b") Conditional (codes "$(q:;=|)")) ≡ NotMade 1 (BadArgument field.Place)
 row_mixed_135 = refl
 
-row_mixed_136 : account (codes "endef?(?endef\0\n\\\n\t\nendif\\endif\\") (AddRule Bottom (codes "x.o") One (codes "a foo")) ≡ NotMade 1 OpenLine
+row_mixed_136 : account (codes "endef?(?endef\0\n\\\n\t\nendif\\endif\\") (AddRule Bottom (codes "x.o") Single (codes "a foo")) ≡ NotMade 1 OpenLine
 row_mixed_136 = refl
 
 row_mixed_137 : account (codes "ifdef B\na:\nifdef A\n\ty\nendif\n") (AddAssign Bottom (codes "define") Immediate (codes "1 :")) ≡ Accepted 1 0 (span 28 28 (codes "define :::= 1 :\n") ∷ []) (Becomes (codes "ifdef B\na:\nifdef A\n\ty\nendif\ndefine :::= 1 :\n"))
 row_mixed_137 = refl
 
-row_mixed_138 : account (codes "\t\\\nendef # c\r\ndefine X =\r\n\telse\r\n$(X):= $(p #) \r\nifdef\\\nB\r\n$(X):= $(p #) \r\n") (AddRule Bottom (codes "$(q:;=|)") Two (codes "$(q:;=|) .PHONY")) ≡ NotMade 1 OpenDefine
+row_mixed_138 : account (codes "\t\\\nendef # c\r\ndefine X =\r\n\telse\r\n$(X):= $(p #) \r\nifdef\\\nB\r\n$(X):= $(p #) \r\n") (AddRule Bottom (codes "$(q:;=|)") Double (codes "$(q:;=|) .PHONY")) ≡ NotMade 1 OpenDefine
 row_mixed_138 = refl
 
 row_mixed_139 : account (codes "\ta \\\n\tb\n\ta \\\n\tb\n &:Y :::=$(p #) \\\n  \n\ta\\\\define D\n") (AddAssign Bottom (codes "a.b") Immediate []) ≡ Accepted 1 0 (span 50 50 (codes "a.b :::=\n") ∷ []) (Becomes (codes "\ta \\\n\tb\n\ta \\\n\tb\n &:Y :::=$(p #) \\\n  \n\ta\\\\define D\na.b :::=\n"))
@@ -3493,7 +3493,7 @@ row_mixed_140 = refl
 row_mixed_141 : account (codes "a:\nifdef A\n\ty\n!") (AddRecipe None (codes "a") (codes "$(")) ≡ NotMade 1 Straddles
 row_mixed_141 = refl
 
-row_mixed_142 : account [] (AddRule Bottom (codes "$(s\\) include") Two (codes "$$")) ≡ NotMade 1 Reserved
+row_mixed_142 : account [] (AddRule Bottom (codes "$(s\\) include") Double (codes "$$")) ≡ NotMade 1 Reserved
 row_mixed_142 = refl
 
 row_mixed_143 : account (codes "endef\r\n\techoendefa # b\nexport private define .RECIPEPREFIX\r\no-$(a b) !=   # \r\r\nCC:::= $#\nndef\n.RECIPEPREFIX = >\na: b\n\tx\n") (SetValue None (codes "a.b") (codes "x.o")) ≡ NotMade 1 RecipePrefix
@@ -3526,13 +3526,13 @@ row_mixed_151 = refl
 row_mixed_152 : account (codes "endif\r\nifeq (a,$(b\r\n.RECIPEPREFIX:::=t\r\noverride undefine X\r\nifdef\\\nB\r\n\tZ = 1\r\ndefine E # c\r\nY = 2\n\t# c\noverride undefine X\r\n") (AddAssign Bottom (codes "X") Conditional (codes "-include2")) ≡ NotMade 1 RecipePrefix
 row_mixed_152 = refl
 
-row_mixed_153 : account (codes ".RECIPEPREFIX:::=\\\n>\n\\\n\t\nendef # c\nX\t+=  \nifdef\\\nB\n# c\\") (AddRule (AfterVar None (codes ".RECIPEPREFIX")) (codes "${c} .PHONY") Two []) ≡ NotMade 1 Reserved
+row_mixed_153 : account (codes ".RECIPEPREFIX:::=\\\n>\n\\\n\t\nendef # c\nX\t+=  \nifdef\\\nB\n# c\\") (AddRule (AfterVar None (codes ".RECIPEPREFIX")) (codes "${c} .PHONY") Double []) ≡ NotMade 1 Reserved
 row_mixed_153 = refl
 
 row_mixed_154 : account (codes ".RECIPEPREFIX:::=\\\n>\n\\\n\t\nendef # c\nX\t+=  \nifdef\\\nB\n# c\\") (AppendValue (Some 0) (codes ".RECIPEPREFIX") (codes "2 3 :")) ≡ NotMade 1 Reserved
 row_mixed_154 = refl
 
-row_mixed_155 : account (codes "=#$\r\nifneq\r\n$(a b) &:$(q:;=|) c\tx.o \r\na: b\n\tx\nifneq\r\n") (AddRule Bottom (codes "$(a b)") Two []) ≡ Accepted 1 0 (span 53 53 (codes "$(a b)::\r\n") ∷ []) (Becomes (codes "=#$\r\nifneq\r\n$(a b) &:$(q:;=|) c\tx.o \r\na: b\n\tx\nifneq\r\n$(a b)::\r\n"))
+row_mixed_155 : account (codes "=#$\r\nifneq\r\n$(a b) &:$(q:;=|) c\tx.o \r\na: b\n\tx\nifneq\r\n") (AddRule Bottom (codes "$(a b)") Double []) ≡ Accepted 1 0 (span 53 53 (codes "$(a b)::\r\n") ∷ []) (Becomes (codes "=#$\r\nifneq\r\n$(a b) &:$(q:;=|) c\tx.o \r\na: b\n\tx\nifneq\r\n$(a b)::\r\n"))
 row_mixed_155 = refl
 
 row_mixed_156 : account (codes "ifdef\\#\n\tendef\nY = 1\n\tZ = 1\n") (RemoveAssign None (codes "Y")) ≡ NotMade 0 Leans
@@ -3544,13 +3544,13 @@ row_mixed_157 = refl
 row_mixed_158 : account (codes "\\b\n \n\\ \\\n\r\n\n") (AddAssign Bottom (codes "endef") Recursive []) ≡ Accepted 1 0 (span 12 12 (codes "endef =\n") ∷ []) (Becomes (codes "\\b\n \n\\ \\\n\r\n\nendef =\n"))
 row_mixed_158 = refl
 
-row_mixed_159 : account (codes "\\b\n \n\\ \\\n\r\n\n") (AddRule Bottom (codes "c") Two (codes "c $(s\\)")) ≡ Accepted 1 0 (span 12 12 (codes "c:: c $(s\\)\n") ∷ []) (Becomes (codes "\\b\n \n\\ \\\n\r\n\nc:: c $(s\\)\n"))
+row_mixed_159 : account (codes "\\b\n \n\\ \\\n\r\n\n") (AddRule Bottom (codes "c") Double (codes "c $(s\\)")) ≡ Accepted 1 0 (span 12 12 (codes "c:: c $(s\\)\n") ∷ []) (Becomes (codes "\\b\n \n\\ \\\n\r\n\nc:: c $(s\\)\n"))
 row_mixed_159 = refl
 
 row_mixed_160 : account (codes ".RECIPEPREFIX = x\nifd\0f A\r\n# x ; y } z = 1\r\n.RECIPEPREFIX:=\\\n:\nifndef X # c\n\tb: b b | c b\n") (AppendValue (Some 2) (codes ".RECIPEPREFIX") (codes "x.o")) ≡ NotMade 1 Reserved
 row_mixed_160 = refl
 
-row_mixed_161 : account (codes " a.b= \t\\\n\r\n \\\n\tY:::=  \r\n-include2 ${g(}  &\\\n$(q:;=|)  $(f {) $x #\\\\\r\n") (AddRule (BeforeVar None (codes "a.b")) (codes ".PHONY") Two (codes "define a&b")) ≡ Accepted 1 0 (span 0 0 (codes ".PHONY:: define a&b\n") ∷ []) (Becomes (codes ".PHONY:: define a&b\n a.b= \t\\\n\r\n \\\n\tY:::=  \r\n-include2 ${g(}  &\\\n$(q:;=|)  $(f {) $x #\\\\\r\n"))
+row_mixed_161 : account (codes " a.b= \t\\\n\r\n \\\n\tY:::=  \r\n-include2 ${g(}  &\\\n$(q:;=|)  $(f {) $x #\\\\\r\n") (AddRule (BeforeVar None (codes "a.b")) (codes ".PHONY") Double (codes "define a&b")) ≡ Accepted 1 0 (span 0 0 (codes ".PHONY:: define a&b\n") ∷ []) (Becomes (codes ".PHONY:: define a&b\n a.b= \t\\\n\r\n \\\n\tY:::=  \r\n-include2 ${g(}  &\\\n$(q:;=|)  $(f {) $x #\\\\\r\n"))
 row_mixed_161 = refl
 
 row_mixed_162 : account (codes " a.b= \t\\\n\r\n \\\n\tY:::=  \r\n-include2 ${g(}  &\\\n$(q:;=|)  $(f {) $x #\\\\\r\n") (AppendValue None (codes "a.b") (codes "x.o $(s\\)")) ≡ Accepted 1 1 (span 9 9 (codes "x.o $(s\\)") ∷ []) (Becomes (codes " a.b= \t\\\nx.o $(s\\)\r\n \\\n\tY:::=  \r\n-include2 ${g(}  &\\\n$(q:;=|)  $(f {) $x #\\\\\r\n"))
@@ -3562,7 +3562,7 @@ row_mixed_163 = refl
 row_mixed_164 : account [] (AddAssign Bottom (codes "CC") Recursive []) ≡ Accepted 1 0 (span 0 0 (codes "CC =\n") ∷ []) (Becomes (codes "CC =\n"))
 row_mixed_164 = refl
 
-row_mixed_165 : account (codes "a:\\") (AddRule Bottom (codes "a") One (codes "$x")) ≡ NotMade 1 OpenLine
+row_mixed_165 : account (codes "a:\\") (AddRule Bottom (codes "a") Single (codes "$x")) ≡ NotMade 1 OpenLine
 row_mixed_165 = refl
 
 row_mixed_166 : account (codes "t1 !==\\\n\\$x b : #c \\\n d\r\n\r\n") (AddAssign (BeforeVar None (codes "t1")) (codes "t1") Simple []) ≡ Accepted 1 0 (span 0 0 (codes "t1 :=\n") ∷ []) (Becomes (codes "t1 :=\nt1 !==\\\n\\$x b : #c \\\n d\r\n\r\n"))
@@ -3613,7 +3613,7 @@ row_mixed_180 = refl
 row_mixed_181 : account (codes "$(p #) \t: %.\no: \na\r") (RenameTarget (codes "o") (codes "$(p #)")) ≡ NotMade 1 Taken
 row_mixed_181 = refl
 
-row_mixed_182 : account (codes "$(p #) \t: %.\no: \na\r") (AddRule Bottom (codes "b") One (codes "%.c a")) ≡ NotMade 1 OpenLine
+row_mixed_182 : account (codes "$(p #) \t: %.\no: \na\r") (AddRule Bottom (codes "b") Single (codes "%.c a")) ≡ NotMade 1 OpenLine
 row_mixed_182 = refl
 
 row_mixed_183 : account (codes ".RECIPEPREFIX = X\nY = x\\\\\\\n\t${c}\\\n\\\n%.c&::\\\n\t |$(f {) #\\\\\r\nb:\t$(s\\)  x.o\\\n\t\\\r\n|  # x ; y : z =:1\r\nX!\\\n=){") (SetRecipe None (codes "b") 1 (codes "cÿ")) ≡ Accepted 1 1 (span 99 105 (codes "cÿ") ∷ []) (Becomes (codes ".RECIPEPREFIX = X\nY = x\\\\\\\n\t${c}\\\n\\\n%.c&::\\\n\t |$(f {) #\\\\\r\nb:\t$(s\\)  x.o\\\n\t\\\r\n|  # x ; y : z =:1\r\nXcÿ"))
@@ -3625,7 +3625,7 @@ row_mixed_184 = refl
 row_mixed_185 : account (codes "Y = $(\nelse\r\nprivate define:=  \r\nCC = \\\n  ${c} $(w \\\n  $(f {) \r\n #\\\\\r\n") (AppendValue None (codes "Y") (codes "${g(}")) ≡ NotMade 1 OpenValue
 row_mixed_185 = refl
 
-row_mixed_186 : account (codes ":a:(\t\\\n>b=##\n\r\n") (AddRule Bottom (codes "-include2") Two []) ≡ Accepted 1 0 (span 15 15 (codes "-include2::\n") ∷ []) (Becomes (codes ":a:(\t\\\n>b=##\n\r\n-include2::\n"))
+row_mixed_186 : account (codes ":a:(\t\\\n>b=##\n\r\n") (AddRule Bottom (codes "-include2") Double []) ≡ Accepted 1 0 (span 15 15 (codes "-include2::\n") ∷ []) (Becomes (codes ":a:(\t\\\n>b=##\n\r\n-include2::\n"))
 row_mixed_186 = refl
 
 row_mixed_187 : account (codes ":a:(\t\\\n>b=##\n\r\n") (AddAssign Bottom (codes "define") Recursive (codes "a \\#")) ≡ Accepted 1 0 (span 15 15 (codes "define = a \\#\n") ∷ []) (Becomes (codes ":a:(\t\\\n>b=##\n\r\ndefine = a \\#\n"))
@@ -3634,7 +3634,7 @@ row_mixed_187 = refl
 row_mixed_188 : account (codes ".RECIPEPREFIX = t\nx.o y: $(p #)\nea \\\n.RECIPEPREFIX +=.\n\tb\n\tendef\n>\n.RECIPEPREFIX :::= \na.b ?=  \t# x ; y : z = 1\n") (AddAssign (BeforeRule None (codes "y")) (codes "e") Simple (codes "%.o")) ≡ NotMade 1 RecipePrefix
 row_mixed_188 = refl
 
-row_mixed_189 : account (codes ".RECIPEPREFIX = t\nx.o y: $(p #)\nea \\\n.RECIPEPREFIX +=.\n\tb\n\tendef\n>\n.RECIPEPREFIX :::= \na.b ?=  \t# x ; y : z = 1\n") (AddRule (AfterVar (Some 2) (codes ".RECIPEPREFIX")) (codes "$(f {)") One (codes "c $$")) ≡ NotMade 1 Reserved
+row_mixed_189 : account (codes ".RECIPEPREFIX = t\nx.o y: $(p #)\nea \\\n.RECIPEPREFIX +=.\n\tb\n\tendef\n>\n.RECIPEPREFIX :::= \na.b ?=  \t# x ; y : z = 1\n") (AddRule (AfterVar (Some 2) (codes ".RECIPEPREFIX")) (codes "$(f {)") Single (codes "c $$")) ≡ NotMade 1 Reserved
 row_mixed_189 = refl
 
 row_mixed_190 : account (codes "ifdef B\nfoo: b\n\tx\nifdef A\n\ty\nendif\nt : $x: \t$(a b) ${g(} a \\\n \\\n \nt \n#;=\\#dedefineine)\n") (AddAssign (BeforeRule None (codes "t")) (codes "-x_9") Recursive (codes "$(a b)")) ≡ Accepted 1 0 (span 35 35 (codes "-x_9 = $(a b)\n") ∷ []) (Becomes (codes "ifdef B\nfoo: b\n\tx\nifdef A\n\ty\nendif\n-x_9 = $(a b)\nt : $x: \t$(a b) ${g(} a \\\n \\\n \nt \n#;=\\#dedefineine)\n"))
@@ -3652,10 +3652,10 @@ row_mixed_193 = refl
 row_mixed_194 : account (codes ">define Q\naa \\\n\tb\nendef\nelse\n\t \nelse\n \\\n\n\t \n") (AddAssign Bottom (codes "define") Immediate (codes "$(q:;=|)")) ≡ Accepted 1 0 (span 44 44 (codes "define :::= $(q:;=|)\n") ∷ []) (Becomes (codes ">define Q\naa \\\n\tb\nendef\nelse\n\t \nelse\n \\\n\n\t \ndefine :::= $(q:;=|)\n"))
 row_mixed_194 = refl
 
-row_mixed_195 : account (codes ">define Q\naa \\\n\tb\nendef\nelse\n\t \nelse\n \\\n\n\t \n") (AddRule Bottom (codes "${c}") One (codes "$(s\\)")) ≡ Accepted 1 0 (span 44 44 (codes "${c}: $(s\\)\n") ∷ []) (Becomes (codes ">define Q\naa \\\n\tb\nendef\nelse\n\t \nelse\n \\\n\n\t \n${c}: $(s\\)\n"))
+row_mixed_195 : account (codes ">define Q\naa \\\n\tb\nendef\nelse\n\t \nelse\n \\\n\n\t \n") (AddRule Bottom (codes "${c}") Single (codes "$(s\\)")) ≡ Accepted 1 0 (span 44 44 (codes "${c}: $(s\\)\n") ∷ []) (Becomes (codes ">define Q\naa \\\n\tb\nendef\nelse\n\t \nelse\n \\\n\n\t \n${c}: $(s\\)\n"))
 row_mixed_195 = refl
 
-row_mixed_196 : account (codes "?$( (a)\\\r${(}$( (a)\n") (AddRule Bottom (codes "a&b") One (codes "a&b")) ≡ Accepted 1 0 (span 20 20 (codes "a&b: a&b\n") ∷ []) (Becomes (codes "?$( (a)\\\r${(}$( (a)\na&b: a&b\n"))
+row_mixed_196 : account (codes "?$( (a)\\\r${(}$( (a)\n") (AddRule Bottom (codes "a&b") Single (codes "a&b")) ≡ Accepted 1 0 (span 20 20 (codes "a&b: a&b\n") ∷ []) (Becomes (codes "?$( (a)\\\r${(}$( (a)\na&b: a&b\n"))
 row_mixed_196 = refl
 
 row_mixed_197 : account (codes "ifdef A\na: b\n\tx\nendif\n\ty\n.RCIPEPREFIX = -\r\n") (SetRecipe None (codes "a") 2 (codes "\tb")) ≡ Accepted 1 1 (span 23 24 (codes "\tb") ∷ []) (Becomes (codes "ifdef A\na: b\n\tx\nendif\n\t\tb\n.RCIPEPREFIX = -\r\n"))
@@ -3676,22 +3676,22 @@ row_mixed_201 = refl
 row_mixed_202 : account (codes "override define F \\\n\r\n$(f {):::b \\\r\n $(s\\)  b# c\r\n.RECIPEPREFIX = a\r\nendif\r\n.RECIPEPREFIX=\\\n>>\r\n\\\ndefine D\r\n") (AddAssign Bottom (codes "define") PosixSimple []) ≡ NotMade 1 OpenDefine
 row_mixed_202 = refl
 
-row_mixed_203 : account (codes "-x_9 = a\\:b\\ \\\n$# \nifdef Q\ndefine D\n") (AddRule Bottom (codes "${c}") One []) ≡ NotMade 1 OpenDefine
+row_mixed_203 : account (codes "-x_9 = a\\:b\\ \\\n$# \nifdef Q\ndefine D\n") (AddRule Bottom (codes "${c}") Single []) ≡ NotMade 1 OpenDefine
 row_mixed_203 = refl
 
 row_mixed_204 : account (codes "a\n\n!\\\r\n\n\n+\n#\n\0\r\nb: b b | c b\n\na\n") (RenameTarget (codes "b") (codes "$x")) ≡ Accepted 1 1 (span 16 17 (codes "$x") ∷ span 19 20 (codes "$x") ∷ span 21 22 (codes "$x") ∷ span 27 28 (codes "$x") ∷ []) (Becomes (codes "a\n\n!\\\r\n\n\n+\n#\n\0\r\n$x: $x $x | c $x\n\na\n"))
 row_mixed_204 = refl
 
-row_mixed_205 : account (codes "a\n\n!\\\r\n\n\n+\n#\n\0\r\nb: b b | c b\n\na\n") (AddRule Bottom (codes "${g(} %.c") One (codes "xifndef")) ≡ Accepted 1 0 (span 32 32 (codes "${g(} %.c: xifndef\n") ∷ []) (Becomes (codes "a\n\n!\\\r\n\n\n+\n#\n\0\r\nb: b b | c b\n\na\n${g(} %.c: xifndef\n"))
+row_mixed_205 : account (codes "a\n\n!\\\r\n\n\n+\n#\n\0\r\nb: b b | c b\n\na\n") (AddRule Bottom (codes "${g(} %.c") Single (codes "xifndef")) ≡ Accepted 1 0 (span 32 32 (codes "${g(} %.c: xifndef\n") ∷ []) (Becomes (codes "a\n\n!\\\r\n\n\n+\n#\n\0\r\nb: b b | c b\n\na\n${g(} %.c: xifndef\n"))
 row_mixed_205 = refl
 
 row_mixed_206 : account (codes ".RECIPEPREFIX = X\n.RECIPEPREFIX = >\na:: %.o ${g(} .PHONY\\\n\\\n#c \\\n d\r\na :  ;c \\\n  1 \n.RECIPEPREFIX = >\r\n\tt: : $x| %.o  c\n\tifdef Z\n") (RemovePrereq (Some 2) (codes "a") (codes "x.o")) ≡ NotMade 1 Absent
 row_mixed_206 = refl
 
-row_mixed_207 : account (codes "e\ndef # c\r\n\\\n\t\r\n-includeb c{\r\nendif\r\n") (AddRule Bottom (codes "$(s\\)") Two (codes "$(q:;=|)")) ≡ Accepted 1 0 (span 37 37 (codes "$(s\\):: $(q:;=|)\n") ∷ []) (Becomes (codes "e\ndef # c\r\n\\\n\t\r\n-includeb c{\r\nendif\r\n$(s\\):: $(q:;=|)\n"))
+row_mixed_207 : account (codes "e\ndef # c\r\n\\\n\t\r\n-includeb c{\r\nendif\r\n") (AddRule Bottom (codes "$(s\\)") Double (codes "$(q:;=|)")) ≡ Accepted 1 0 (span 37 37 (codes "$(s\\):: $(q:;=|)\n") ∷ []) (Becomes (codes "e\ndef # c\r\n\\\n\t\r\n-includeb c{\r\nendif\r\n$(s\\):: $(q:;=|)\n"))
 row_mixed_207 = refl
 
-row_mixed_208 : account (codes "e\ndef # c\r\n\\\n\t\r\n-includeb c{\r\nendif\r\n") (AddRule Bottom (codes "%.c $(f {)") One (codes "x.o $(a b)")) ≡ Accepted 1 0 (span 37 37 (codes "%.c $(f {): x.o $(a b)\n") ∷ []) (Becomes (codes "e\ndef # c\r\n\\\n\t\r\n-includeb c{\r\nendif\r\n%.c $(f {): x.o $(a b)\n"))
+row_mixed_208 : account (codes "e\ndef # c\r\n\\\n\t\r\n-includeb c{\r\nendif\r\n") (AddRule Bottom (codes "%.c $(f {)") Single (codes "x.o $(a b)")) ≡ Accepted 1 0 (span 37 37 (codes "%.c $(f {): x.o $(a b)\n") ∷ []) (Becomes (codes "e\ndef # c\r\n\\\n\t\r\n-includeb c{\r\nendif\r\n%.c $(f {): x.o $(a b)\n"))
 row_mixed_208 = refl
 
 row_mixed_209 : account (codes "endef x\r\noverride undefine X\r\nY?=a\\:b \r\noverride define E # c\r\nifeq (a,$(b\r\nifeq (a,$(b\r\nifdef Q\ndefine D\n") (AddAssign (AfterVar None (codes "Y")) (codes "ifdef") Immediate []) ≡ Accepted 1 0 (span 40 40 (codes "ifdef :::=\r\n") ∷ []) (Becomes (codes "endef x\r\noverride undefine X\r\nY?=a\\:b \r\nifdef :::=\r\noverride define E # c\r\nifeq (a,$(b\r\nifeq (a,$(b\r\nifdef Q\ndefine D\n"))
@@ -3700,13 +3700,13 @@ row_mixed_209 = refl
 row_mixed_210 : account (codes ".RECIPEPREFIX = e\na::: x.o %.o \na&b\\\n\t: -include2: %.o b#\0\n #\nfoo : \\\r\n  \nt1\\\n\t:::=${c} \\") (RemovePrereq None (codes "foo") (codes "define")) ≡ NotMade 1 Absent
 row_mixed_210 = refl
 
-row_mixed_211 : account (codes "\t\\\n\\ \\\n\\#\nY = 2\n\t# c\n\n\t\\\n\\ \\\n\\#\n") (AddRule (AfterVar None (codes "Y")) (codes "$(a b)") One (codes "$(f {)")) ≡ NotMade 1 Leans
+row_mixed_211 : account (codes "\t\\\n\\ \\\n\\#\nY = 2\n\t# c\n\n\t\\\n\\ \\\n\\#\n") (AddRule (AfterVar None (codes "Y")) (codes "$(a b)") Single (codes "$(f {)")) ≡ NotMade 1 Leans
 row_mixed_211 = refl
 
 row_mixed_212 : account (codes "Y = $(\ntdefine Q\nb& : $x\t| $(a b) \\\n\nexport X  :::= t #\0\nfoo d| :\\\r\n-x_9 = \\$x foo \n # \r\n%.o $(s\\):\t%.c\t$(p #) \n\nexport X  :::= t #\0\n") (AddPrereq true None (codes "$(s\\)") (codes "a&b")) ≡ Accepted 1 1 (span 110 110 (codes " | a&b") ∷ []) (Becomes (codes "Y = $(\ntdefine Q\nb& : $x\t| $(a b) \\\n\nexport X  :::= t #\0\nfoo d| :\\\r\n-x_9 = \\$x foo \n # \r\n%.o $(s\\):\t%.c\t$(p #) | a&b \n\nexport X  :::= t #\0\n"))
 row_mixed_212 = refl
 
-row_mixed_213 : account (codes ".endif\n>\n") (AddRule Bottom (codes "c") Two (codes "$(a b) c")) ≡ Accepted 1 0 (span 9 9 (codes "c:: $(a b) c\n") ∷ []) (Becomes (codes ".endif\n>\nc:: $(a b) c\n"))
+row_mixed_213 : account (codes ".endif\n>\n") (AddRule Bottom (codes "c") Double (codes "$(a b) c")) ≡ Accepted 1 0 (span 9 9 (codes "c:: $(a b) c\n") ∷ []) (Becomes (codes ".endif\n>\nc:: $(a b) c\n"))
 row_mixed_213 = refl
 
 row_mixed_214 : account (codes ">a\\\\\n #\\\\\ndefine ::= \\\n #\\\\\\\n\n") (AddAssign Bottom (codes "e") Shell (codes "${c}")) ≡ Accepted 1 0 (span 30 30 (codes "e != ${c}\n") ∷ []) (Becomes (codes ">a\\\\\n #\\\\\ndefine ::= \\\n #\\\\\\\n\ne != ${c}\n"))
@@ -3718,7 +3718,7 @@ row_mixed_215 = refl
 row_mixed_216 : account (codes ".RECIPEPREFIX = %\nCC =  \noverride .RECIPEPREFIX =\\\n\\\n.RECIPEPREFIX =\n\tdefine Q\\\ntifdef Z\nifdef\\\nB\n\t\\\nexport private define X =\n\\\nendef#c\n") (AppendValue None (codes "CC") (codes "a\\:b")) ≡ NotMade 1 RecipePrefix
 row_mixed_216 = refl
 
-row_mixed_217 : account (codes "ifdef \\\n.RECIPEPREFIX = >\n:=  \n $$ &: \r\nt: a&b ${g(} \t$(p #) ") (AddRule Bottom (codes "${c}") Two (codes ".PHONY foo")) ≡ Accepted 1 0 (span 61 61 (codes "\n${c}:: .PHONY foo\n") ∷ []) (Becomes (codes "ifdef \\\n.RECIPEPREFIX = >\n:=  \n $$ &: \r\nt: a&b ${g(} \t$(p #) \n${c}:: .PHONY foo\n"))
+row_mixed_217 : account (codes "ifdef \\\n.RECIPEPREFIX = >\n:=  \n $$ &: \r\nt: a&b ${g(} \t$(p #) ") (AddRule Bottom (codes "${c}") Double (codes ".PHONY foo")) ≡ Accepted 1 0 (span 61 61 (codes "\n${c}:: .PHONY foo\n") ∷ []) (Becomes (codes "ifdef \\\n.RECIPEPREFIX = >\n:=  \n $$ &: \r\nt: a&b ${g(} \t$(p #) \n${c}:: .PHONY foo\n"))
 row_mixed_217 = refl
 
 row_mixed_218 : account (codes "Y = $(\nel\t\\\n.RECIPEPREFIX::=\\\n>\n\ne") (AddAssign (BeforeVar None (codes "Y")) (codes "CC") PosixSimple (codes "$(p #)")) ≡ Accepted 1 0 (span 0 0 (codes "CC ::= $(p #)\n") ∷ []) (Becomes (codes "CC ::= $(p #)\nY = $(\nel\t\\\n.RECIPEPREFIX::=\\\n>\n\ne"))
@@ -3733,7 +3733,7 @@ row_mixed_220 = refl
 row_mixed_221 : account (codes "ifdef B\nfoo: b\n\tx\nifdef A\nelse\n\tz\nendif\nendef x\nifndef X # c\n") (SetRecipe None (codes "foo") 2 []) ≡ Accepted 1 1 (span 32 33 [] ∷ []) (Becomes (codes "ifdef B\nfoo: b\n\tx\nifdef A\nelse\n\t\nendif\nendef x\nifndef X # c\n"))
 row_mixed_221 = refl
 
-row_mixed_222 : account (codes "\r\n$)\nifdef Q\ndefine D\n") (AddRule Bottom (codes "t") One (codes "$(p #) b")) ≡ NotMade 1 OpenDefine
+row_mixed_222 : account (codes "\r\n$)\nifdef Q\ndefine D\n") (AddRule Bottom (codes "t") Single (codes "$(p #) b")) ≡ NotMade 1 OpenDefine
 row_mixed_222 = refl
 
 row_mixed_223 : account (codes "endif # c\nendif\\\nifdef\\\nB\nx.o  &:$(q:;=|) \\\n") (AddAssign Bottom (codes "ifdef") Recursive (codes "$(q:;=|) 2 3")) ≡ NotMade 1 OpenLine
@@ -3745,7 +3745,7 @@ row_mixed_224 = refl
 row_mixed_225 : account (codes "\ty\r\nifeq (a,$(b\nendef#c\nY = 1\n\tZ = 1\n\n\ty\r\n") (AppendValue None (codes "Y") (codes ";")) ≡ Accepted 1 1 (span 29 29 (codes " ;") ∷ []) (Becomes (codes "\ty\r\nifeq (a,$(b\nendef#c\nY = 1 ;\n\tZ = 1\n\n\ty\r\n"))
 row_mixed_225 = refl
 
-row_mixed_226 : account (codes "\ty\r\nifeq (a,$(b\nendef#c\nY = 1\n\tZ = 1\n\n\ty\r\n") (AddRule (BeforeVar None (codes "Z")) (codes "%.c") One (codes "%.c")) ≡ NotMade 1 Leans
+row_mixed_226 : account (codes "\ty\r\nifeq (a,$(b\nendef#c\nY = 1\n\tZ = 1\n\n\ty\r\n") (AddRule (BeforeVar None (codes "Z")) (codes "%.c") Single (codes "%.c")) ≡ NotMade 1 Leans
 row_mixed_226 = refl
 
 row_mixed_227 : account (codes ">\\\n.t:\ndefine D\n") (RenameTarget (codes ">") (codes "%.c")) ≡ Accepted 1 1 (span 0 1 (codes "%.c") ∷ []) (Becomes (codes "%.c\\\n.t:\ndefine D\n"))
@@ -3757,16 +3757,16 @@ row_mixed_228 = refl
 row_mixed_229 : account (codes "!-;_9 ?= \n=a\r") (AddAssign Bottom (codes "e") Simple (codes "$(f {)")) ≡ NotMade 1 OpenLine
 row_mixed_229 = refl
 
-row_mixed_230 : account (codes "!-;_9 ?= \n=a\r") (AddRule Bottom (codes "-include2") One (codes "$&")) ≡ NotMade 1 OpenLine
+row_mixed_230 : account (codes "!-;_9 ?= \n=a\r") (AddRule Bottom (codes "-include2") Single (codes "$&")) ≡ NotMade 1 OpenLine
 row_mixed_230 = refl
 
 row_mixed_231 : account (codes "ifdef A\na:\n# c\nendif\n\n\ty\ndefine F \\\n\r\n\t# c\nx.o y: \r\naendef\n") (RemovePrereq None (codes "a") (codes "t")) ≡ NotMade 1 Absent
 row_mixed_231 = refl
 
-row_mixed_232 : account (codes " #\n>x.o\\ \\\n:a $(a b) \nfoo\\\r\n$(a b):c\\\r\noverride .RECIPEPREFIX?=\\\n\nt \n\tdefine Q\nendef x\ninclude:  $(p #)\\\n\t\\\r\na\t.PHONY;$(m \\\n n) \n\telse\nX = a\\") (AddRule (AfterVar None (codes "X")) (codes "a") One (codes "%.o $(s\\)")) ≡ NotMade 1 OpenLine
+row_mixed_232 : account (codes " #\n>x.o\\ \\\n:a $(a b) \nfoo\\\r\n$(a b):c\\\r\noverride .RECIPEPREFIX?=\\\n\nt \n\tdefine Q\nendef x\ninclude:  $(p #)\\\n\t\\\r\na\t.PHONY;$(m \\\n n) \n\telse\nX = a\\") (AddRule (AfterVar None (codes "X")) (codes "a") Single (codes "%.o $(s\\)")) ≡ NotMade 1 OpenLine
 row_mixed_232 = refl
 
-row_mixed_233 : account (codes "ifdef Q\ndefine D\n") (AddRule Bottom (codes "$$") One (codes "$(p #)")) ≡ NotMade 1 OpenDefine
+row_mixed_233 : account (codes "ifdef Q\ndefine D\n") (AddRule Bottom (codes "$$") Single (codes "$(p #)")) ≡ NotMade 1 OpenDefine
 row_mixed_233 = refl
 
 row_mixed_234 : account (codes "ifdef Q\ndefine D\n") (AddAssign Bottom (codes "e") Immediate []) ≡ NotMade 1 OpenDefine
@@ -3775,7 +3775,7 @@ row_mixed_234 = refl
 row_mixed_235 : account (codes "endef +=$#\\\n\n A \\\r\n ::=\ta \n") (AppendValue None (codes "endef") (codes "%.o ;")) ≡ Accepted 1 1 (span 10 10 (codes " %.o ;") ∷ []) (Becomes (codes "endef +=$# %.o ;\\\n\n A \\\r\n ::=\ta \n"))
 row_mixed_235 = refl
 
-row_mixed_236 : account (codes "endef +=$#\\\n\n A \\\r\n ::=\ta \n") (AddRule Bottom (codes "${g(}") One (codes "%.o ${g(}")) ≡ Accepted 1 0 (span 27 27 (codes "${g(}: %.o ${g(}\n") ∷ []) (Becomes (codes "endef +=$#\\\n\n A \\\r\n ::=\ta \n${g(}: %.o ${g(}\n"))
+row_mixed_236 : account (codes "endef +=$#\\\n\n A \\\r\n ::=\ta \n") (AddRule Bottom (codes "${g(}") Single (codes "%.o ${g(}")) ≡ Accepted 1 0 (span 27 27 (codes "${g(}: %.o ${g(}\n") ∷ []) (Becomes (codes "endef +=$#\\\n\n A \\\r\n ::=\ta \n${g(}: %.o ${g(}\n"))
 row_mixed_236 = refl
 
 row_mixed_237 : account (codes ".RECIPEPREFIX = x\nendif # c\n$(s\\)&:: t # x ; y : z = 1\n.RECIPEPREFIX=\\\ne\n \n#\0\nifdef\\\nB\n\n.RECIPEPREFIX = x\n") (AddPrereq false None (codes "$(s\\)") (codes "a&b")) ≡ NotMade 1 RecipePrefix
@@ -3793,10 +3793,10 @@ row_mixed_240 = refl
 row_mixed_241 : account (codes ".RECIPEPREFIX = a\nunexport Y\na: \n\t#\0\nfoo: \n\tx\n>define Q\nelse ifdef Qifdef Q\ndefine D\n\n.RECIPEPREFIX = a\n") (AddPrereq true None (codes "foo") (codes "$(q:;=|)")) ≡ Accepted 1 1 (span 41 41 (codes " | $(q:;=|)") ∷ []) (Becomes (codes ".RECIPEPREFIX = a\nunexport Y\na: \n\t#\0\nfoo: | $(q:;=|) \n\tx\n>define Q\nelse ifdef Qifdef Q\ndefine D\n\n.RECIPEPREFIX = a\n"))
 row_mixed_241 = refl
 
-row_mixed_242 : account (codes "endef x\r\n\\\nifdef A\\\n.RECIPEPREFIX ::= # c\\\nendef x\n") (AddRule Bottom (codes "$(q:;=|)") Two []) ≡ Accepted 1 0 (span 51 51 (codes "$(q:;=|)::\r\n") ∷ []) (Becomes (codes "endef x\r\n\\\nifdef A\\\n.RECIPEPREFIX ::= # c\\\nendef x\n$(q:;=|)::\r\n"))
+row_mixed_242 : account (codes "endef x\r\n\\\nifdef A\\\n.RECIPEPREFIX ::= # c\\\nendef x\n") (AddRule Bottom (codes "$(q:;=|)") Double []) ≡ Accepted 1 0 (span 51 51 (codes "$(q:;=|)::\r\n") ∷ []) (Becomes (codes "endef x\r\n\\\nifdef A\\\n.RECIPEPREFIX ::= # c\\\nendef x\n$(q:;=|)::\r\n"))
 row_mixed_242 = refl
 
-row_mixed_243 : account (codes "endef x\r\n\\\nifdef A\\\n.RECIPEPREFIX ::= # c\\\nendef x\n") (AddRule Bottom (codes "$$ $(s\\)") Two (codes "-include2")) ≡ Accepted 1 0 (span 51 51 (codes "$$ $(s\\):: -include2\r\n") ∷ []) (Becomes (codes "endef x\r\n\\\nifdef A\\\n.RECIPEPREFIX ::= # c\\\nendef x\n$$ $(s\\):: -include2\r\n"))
+row_mixed_243 : account (codes "endef x\r\n\\\nifdef A\\\n.RECIPEPREFIX ::= # c\\\nendef x\n") (AddRule Bottom (codes "$$ $(s\\)") Double (codes "-include2")) ≡ Accepted 1 0 (span 51 51 (codes "$$ $(s\\):: -include2\r\n") ∷ []) (Becomes (codes "endef x\r\n\\\nifdef A\\\n.RECIPEPREFIX ::= # c\\\nendef x\n$$ $(s\\):: -include2\r\n"))
 row_mixed_243 = refl
 
 row_mixed_244 : account (codes "foo: b\n\tx\nifdef A\n\ty\n.&ECIPEPREFI = d\n\ty\r\nb:: c\ta\t${c}; \n\n\nifdef A\n") (RenameTarget (codes "b") (codes "x.o")) ≡ Accepted 2 2 (span 5 6 (codes "x.o") ∷ span 42 43 (codes "x.o") ∷ []) (Becomes (codes "foo: x.o\n\tx\nifdef A\n\ty\n.&ECIPEPREFI = d\n\ty\r\nx.o:: c\ta\t${c}; \n\n\nifdef A\n"))
@@ -3808,7 +3808,7 @@ row_mixed_245 = refl
 row_mixed_246 : account (codes " #\0\n=${g(: : \\\r\nendef x.o \n\telseCC ::= x.o %.o\t$x\\\n\nt :%.c \t") (RenameTarget (codes "t") (codes "${g(}")) ≡ Accepted 1 1 (span 52 53 (codes "${g(}") ∷ []) (Becomes (codes " #\0\n=${g(: : \\\r\nendef x.o \n\telseCC ::= x.o %.o\t$x\\\n\n${g(} :%.c \t"))
 row_mixed_246 = refl
 
-row_mixed_247 : account (codes " $\\\n\n\n;\t$\\\r\n\n") (AddRule Bottom (codes "x.o") One (codes "$(f {)")) ≡ Accepted 1 0 (span 13 13 (codes "x.o: $(f {)\n") ∷ []) (Becomes (codes " $\\\n\n\n;\t$\\\r\n\nx.o: $(f {)\n"))
+row_mixed_247 : account (codes " $\\\n\n\n;\t$\\\r\n\n") (AddRule Bottom (codes "x.o") Single (codes "$(f {)")) ≡ Accepted 1 0 (span 13 13 (codes "x.o: $(f {)\n") ∷ []) (Becomes (codes " $\\\n\n\n;\t$\\\r\n\nx.o: $(f {)\n"))
 row_mixed_247 = refl
 
 row_mixed_248 : account (codes " export\\\r\nCC += $(w \\\n\r\n>$(a b)  ::\\\n\r\n") (SetValue None (codes "CC") (codes ".PHONY a\\:b")) ≡ Accepted 1 1 (span 16 22 (codes ".PHONY a\\:b") ∷ []) (Becomes (codes " export\\\r\nCC += .PHONY a\\:b\r\n>$(a b)  ::\\\n\r\n"))
@@ -3817,7 +3817,7 @@ row_mixed_248 = refl
 row_mixed_249 : account (codes " export\\\r\nCC += $(w \\\n\r\n>$(a b)  ::\\\n\r\n") (AddRecipe None (codes ">$(a b)") (codes "x")) ≡ Accepted 1 0 (span 39 39 (codes "\tx\r\n") ∷ []) (Becomes (codes " export\\\r\nCC += $(w \\\n\r\n>$(a b)  ::\\\n\r\n\tx\r\n"))
 row_mixed_249 = refl
 
-row_mixed_250 : account (codes "${c} &::c: x.o a&b \t\nendif\nA+= \0\\# %.o\n") (AddRule Bottom (codes "b") Two []) ≡ Accepted 1 0 (span 39 39 (codes "b::\n") ∷ []) (Becomes (codes "${c} &::c: x.o a&b \t\nendif\nA+= \0\\# %.o\nb::\n"))
+row_mixed_250 : account (codes "${c} &::c: x.o a&b \t\nendif\nA+= \0\\# %.o\n") (AddRule Bottom (codes "b") Double []) ≡ Accepted 1 0 (span 39 39 (codes "b::\n") ∷ []) (Becomes (codes "${c} &::c: x.o a&b \t\nendif\nA+= \0\\# %.o\nb::\n"))
 row_mixed_250 = refl
 
 row_mixed_251 : account (codes "override define D\r\nexport private define F \\\n\r\noverride define \r\nifdef\\\nB\r\n") (AddAssign Bottom (codes "endef") Recursive []) ≡ NotMade 1 OpenDefine
@@ -3856,7 +3856,7 @@ row_mixed_261 = refl
 row_mixed_262 : account (codes "# \r\noverride define D\r\nexport private define D\r\n.\nRECIPEPREFIX = >\n.RECIPEPREFIX = >>\r\nendif\\\nX = a\\") (AddAssign Bottom (codes "a.b") PosixSimple (codes "%.o")) ≡ NotMade 1 OpenLine
 row_mixed_262 = refl
 
-row_mixed_263 : account (codes "# \r\noverride define D\r\nexport private define D\r\n.\nRECIPEPREFIX = >\n.RECIPEPREFIX = >>\r\nendif\\\nX = a\\") (AddRule Bottom (codes "$(p #)") Two []) ≡ NotMade 1 OpenLine
+row_mixed_263 : account (codes "# \r\noverride define D\r\nexport private define D\r\n.\nRECIPEPREFIX = >\n.RECIPEPREFIX = >>\r\nendif\\\nX = a\\") (AddRule Bottom (codes "$(p #)") Double []) ≡ NotMade 1 OpenLine
 row_mixed_263 = refl
 
 row_mixed_264 : account (codes "\r\n \\\n\tCC ::=$ a\\:b \r\nY = 1\n\tZ = 1\n") (AppendValue None (codes "Y") (codes "|")) ≡ Accepted 1 1 (span 26 26 (codes " |") ∷ []) (Becomes (codes "\r\n \\\n\tCC ::=$ a\\:b \r\nY = 1 |\n\tZ = 1\n"))
@@ -3874,16 +3874,16 @@ row_mixed_267 = refl
 row_mixed_268 : account (codes ".RECIPEPREFIX = %\naa\\\r\n>b\n \\\n\toverride define .RECIPEPREFIX\na: %.o\n\t\n\n \\\n\toverride define .RECIPEPREFIX\n") (AddAssign (BeforeRule (Some 0) (codes ".PHONY")) (codes "X") Conditional (codes "$(p #) c")) ≡ NotMade 1 RecipePrefix
 row_mixed_268 = refl
 
-row_mixed_269 : account (codes "\ta\\\r\n>b\nendef x\nelse\nendef # c\nendef\\\n\n") (AddRule Bottom (codes "c") One (codes "a&b")) ≡ Accepted 1 0 (span 39 39 (codes "c: a&b\r\n") ∷ []) (Becomes (codes "\ta\\\r\n>b\nendef x\nelse\nendef # c\nendef\\\n\nc: a&b\r\n"))
+row_mixed_269 : account (codes "\ta\\\r\n>b\nendef x\nelse\nendef # c\nendef\\\n\n") (AddRule Bottom (codes "c") Single (codes "a&b")) ≡ Accepted 1 0 (span 39 39 (codes "c: a&b\r\n") ∷ []) (Becomes (codes "\ta\\\r\n>b\nendef x\nelse\nendef # c\nendef\\\n\nc: a&b\r\n"))
 row_mixed_269 = refl
 
-row_mixed_270 : account (codes ".RECIPEPREFIX = %") (AddRule Bottom (codes "a&b") Two (codes "$$")) ≡ Accepted 1 0 (span 17 17 (codes "\na&b:: $$\n") ∷ []) (Becomes (codes ".RECIPEPREFIX = %\na&b:: $$\n"))
+row_mixed_270 : account (codes ".RECIPEPREFIX = %") (AddRule Bottom (codes "a&b") Double (codes "$$")) ≡ Accepted 1 0 (span 17 17 (codes "\na&b:: $$\n") ∷ []) (Becomes (codes ".RECIPEPREFIX = %\na&b:: $$\n"))
 row_mixed_270 = refl
 
 row_mixed_271 : account (codes "t1 :=  \nx.o y: \n\t#\nx.o \t${g(}: a#\nY = 1\n\tZ = 1\n") (AddPrereq true (Some 2) (codes "x.o") (codes "$$")) ≡ Accepted 1 1 (span 32 32 (codes " | $$") ∷ []) (Becomes (codes "t1 :=  \nx.o y: \n\t#\nx.o \t${g(}: a | $$#\nY = 1\n\tZ = 1\n"))
 row_mixed_271 = refl
 
-row_mixed_272 : account (codes "endif\r\nifndef X # c\r\n") (AddRule Bottom (codes "$(a b)") Two []) ≡ Accepted 1 0 (span 21 21 (codes "$(a b)::\r\n") ∷ []) (Becomes (codes "endif\r\nifndef X # c\r\n$(a b)::\r\n"))
+row_mixed_272 : account (codes "endif\r\nifndef X # c\r\n") (AddRule Bottom (codes "$(a b)") Double []) ≡ Accepted 1 0 (span 21 21 (codes "$(a b)::\r\n") ∷ []) (Becomes (codes "endif\r\nifndef X # c\r\n$(a b)::\r\n"))
 row_mixed_272 = refl
 
 row_mixed_273 : account (codes "\n\\a\n\0\t\\\n\n\na: b\n\tx\n") (RenameTarget (codes "a") (codes "a")) ≡ NotMade 1 Taken
@@ -3910,7 +3910,7 @@ row_mixed_279 = refl
 row_mixed_280 : account (codes ".RECIPEPREFIX = f\nt\\\n\nifdef +=2 3\n \\\n\nendif\nifneq\noverride .RECIPEPREFIX?=\\\nt\nendef\n") (AddAssign Bottom (codes "-x_9") Recursive (codes "1")) ≡ NotMade 1 RecipePrefix
 row_mixed_280 = refl
 
-row_mixed_281 : account (codes "\t\r\n #\\\\\\\n.RECIPEPEFIX:=>\r\n") (AddRule Bottom (codes "c") Two []) ≡ Accepted 1 0 (span 26 26 (codes "c::\r\n") ∷ []) (Becomes (codes "\t\r\n #\\\\\\\n.RECIPEPEFIX:=>\r\nc::\r\n"))
+row_mixed_281 : account (codes "\t\r\n #\\\\\\\n.RECIPEPEFIX:=>\r\n") (AddRule Bottom (codes "c") Double []) ≡ Accepted 1 0 (span 26 26 (codes "c::\r\n") ∷ []) (Becomes (codes "\t\r\n #\\\\\\\n.RECIPEPEFIX:=>\r\nc::\r\n"))
 row_mixed_281 = refl
 
 row_mixed_282 : account (codes "vpath %.c a\n${c} :  \ndefine\\\n\\\n&: CC += \nifndef X # c\n") (AddPrereq true None (codes "${c}") (codes "c")) ≡ Accepted 1 1 (span 18 18 (codes " | c") ∷ []) (Becomes (codes "vpath %.c a\n${c} : | c  \ndefine\\\n\\\n&: CC += \nifndef X # c\n"))
@@ -3919,10 +3919,10 @@ row_mixed_282 = refl
 row_mixed_283 : account (codes "vpath %.c a\n${c} :  \ndefine\\\n\\\n&: CC += \nifndef X # c\n") (RemovePrereq None (codes "${c}") (codes "${c}")) ≡ NotMade 1 Absent
 row_mixed_283 = refl
 
-row_mixed_284 : account (codes "\ta \\\n\tb\r\n\tendef\r\nendef ?= foo a&b $( \r\n") (AddRule Bottom (codes "$(a b) $(p #)") Two (codes "${c} a")) ≡ Accepted 1 0 (span 39 39 (codes "$(a b) $(p #):: ${c} a\n") ∷ []) (Becomes (codes "\ta \\\n\tb\r\n\tendef\r\nendef ?= foo a&b $( \r\n$(a b) $(p #):: ${c} a\n"))
+row_mixed_284 : account (codes "\ta \\\n\tb\r\n\tendef\r\nendef ?= foo a&b $( \r\n") (AddRule Bottom (codes "$(a b) $(p #)") Double (codes "${c} a")) ≡ Accepted 1 0 (span 39 39 (codes "$(a b) $(p #):: ${c} a\n") ∷ []) (Becomes (codes "\ta \\\n\tb\r\n\tendef\r\nendef ?= foo a&b $( \r\n$(a b) $(p #):: ${c} a\n"))
 row_mixed_284 = refl
 
-row_mixed_285 : account [] (AddRule Bottom (codes "foo") Two []) ≡ Accepted 1 0 (span 0 0 (codes "foo::\n") ∷ []) (Becomes (codes "foo::\n"))
+row_mixed_285 : account [] (AddRule Bottom (codes "foo") Double []) ≡ Accepted 1 0 (span 0 0 (codes "foo::\n") ∷ []) (Becomes (codes "foo::\n"))
 row_mixed_285 = refl
 
 row_mixed_286 : account (codes "endef  !=${g(} \\\n=  \r\ndefine E # c\r\nendef\n\\\n>x\\\nxport private define E # c\nendef#c\n") (SetValue None (codes "endef") (codes "%.o %.o")) ≡ Accepted 1 1 (span 9 18 (codes "%.o %.o") ∷ []) (Becomes (codes "endef  !=%.o %.o  \r\ndefine E # c\r\nendef\n\\\n>x\\\nxport private define E # c\nendef#c\n"))
@@ -3946,10 +3946,10 @@ row_mixed_291 = refl
 row_mixed_292 : account (codes "\\\n\t::\tt1 ?= #\\\\\r\n$(q:;=|) \t$(s\\)  ::: $(s\\)\t.PHONY -include2|  x.o $x \r\n.RECIPEPREFIX :=.\n overrid\r\ne\t+=${g(}%.c\t\\\\\\.RECIPEPREFIX :=.\n") (AppendValue None (codes "e") (codes "${c}")) ≡ Accepted 1 1 (span 133 133 (codes " ${c}") ∷ []) (Becomes (codes "\\\n\t::\tt1 ?= #\\\\\r\n$(q:;=|) \t$(s\\)  ::: $(s\\)\t.PHONY -include2|  x.o $x \r\n.RECIPEPREFIX :=.\n overrid\r\ne\t+=${g(}%.c\t\\\\\\.RECIPEPREFIX :=. ${c}\n"))
 row_mixed_292 = refl
 
-row_mixed_293 : account [] (AddRule Bottom (codes "$$") One (codes "a&b")) ≡ Accepted 1 0 (span 0 0 (codes "$$: a&b\n") ∷ []) (Becomes (codes "$$: a&b\n"))
+row_mixed_293 : account [] (AddRule Bottom (codes "$$") Single (codes "a&b")) ≡ Accepted 1 0 (span 0 0 (codes "$$: a&b\n") ∷ []) (Becomes (codes "$$: a&b\n"))
 row_mixed_293 = refl
 
-row_mixed_294 : account [] (AddRule Bottom (codes "x.o") Two (codes "$(a b) $(p #)")) ≡ Accepted 1 0 (span 0 0 (codes "x.o:: $(a b) $(p #)\n") ∷ []) (Becomes (codes "x.o:: $(a b) $(p #)\n"))
+row_mixed_294 : account [] (AddRule Bottom (codes "x.o") Double (codes "$(a b) $(p #)")) ≡ Accepted 1 0 (span 0 0 (codes "x.o:: $(a b) $(p #)\n") ∷ []) (Becomes (codes "x.o:: $(a b) $(p #)\n"))
 row_mixed_294 = refl
 
 row_mixed_295 : account (codes "Y = x\\\\\\\n\texport private define F \\\n\na: $(p #)\n\t#\\\\\naa\\\\\n\telse\nX$:\\\n\t= \t# \\\n \\\n") (RemoveRecipe None (codes "a") 1) ≡ Accepted 0 1 (span 47 52 [] ∷ []) (Becomes (codes "Y = x\\\\\\\n\texport private define F \\\n\na: $(p #)\naa\\\\\n\telse\nX$:\\\n\t= \t# \\\n \\\n"))
@@ -4009,7 +4009,7 @@ row_mixed_312 = refl
 row_mixed_313 : account (codes "ifdef B\na:\nifdef A\n\ty\nendif\na\\\n\\\n: .PHONY | \\\n  \\\n\r\n\r\n") (RemoveRecipe (Some 2) (codes "a") 1) ≡ NotMade 0 Absent
 row_mixed_313 = refl
 
-row_mixed_314 : account (codes "Y = \\\nifdef A\\\n \\\n\tendef # c\r\nifdef A\r\ndefine \\\n>y\r\r\n\nifdef A\r\n") (AddRule Bottom (codes "b") One []) ≡ Accepted 1 0 (span 63 63 (codes "b:\n") ∷ []) (Becomes (codes "Y = \\\nifdef A\\\n \\\n\tendef # c\r\nifdef A\r\ndefine \\\n>y\r\r\n\nifdef A\r\nb:\n"))
+row_mixed_314 : account (codes "Y = \\\nifdef A\\\n \\\n\tendef # c\r\nifdef A\r\ndefine \\\n>y\r\r\n\nifdef A\r\n") (AddRule Bottom (codes "b") Single []) ≡ Accepted 1 0 (span 63 63 (codes "b:\n") ∷ []) (Becomes (codes "Y = \\\nifdef A\\\n \\\n\tendef # c\r\nifdef A\r\ndefine \\\n>y\r\r\n\nifdef A\r\nb:\n"))
 row_mixed_314 = refl
 
 row_mixed_315 : account (codes "ifdef A\na:\n# c\nendif\n\n\ty\n") (RemoveRule None (codes "a")) ≡ NotMade 0 Straddles
@@ -4018,7 +4018,7 @@ row_mixed_315 = refl
 row_mixed_316 : account (codes "ifdef B\nfoo: b\n\tx\nifdef A\nelse\n\tz\nendif\n#)c &\n d") (AddRecipe None (codes "foo") []) ≡ NotMade 1 Straddles
 row_mixed_316 = refl
 
-row_mixed_317 : account (codes "$(a b)\n$\n\\\n#\n\n") (AddRule Bottom (codes "x.o") One (codes "$(p #) foo")) ≡ Accepted 1 0 (span 14 14 (codes "x.o: $(p #) foo\n") ∷ []) (Becomes (codes "$(a b)\n$\n\\\n#\n\nx.o: $(p #) foo\n"))
+row_mixed_317 : account (codes "$(a b)\n$\n\\\n#\n\n") (AddRule Bottom (codes "x.o") Single (codes "$(p #) foo")) ≡ Accepted 1 0 (span 14 14 (codes "x.o: $(p #) foo\n") ∷ []) (Becomes (codes "$(a b)\n$\n\\\n#\n\nx.o: $(p #) foo\n"))
 row_mixed_317 = refl
 
 row_mixed_318 : account (codes "else\n\t$x\\\n\\\n$$:\\\n\\\n$(a b) $$\nendef\n\t\n>a\\\\\ndefine:::= \t\\\n\\\n\n\t\\\nelse\n>define E # c\n") (SetValue None (codes "define") (codes ".PHONY")) ≡ Accepted 1 1 (span 58 58 (codes ".PHONY") ∷ []) (Becomes (codes "else\n\t$x\\\n\\\n$$:\\\n\\\n$(a b) $$\nendef\n\t\n>a\\\\\ndefine:::= \t\\\n\\\n.PHONY\n\t\\\nelse\n>define E # c\n"))
@@ -4033,7 +4033,7 @@ row_mixed_320 = refl
 row_mixed_321 : account (codes "define D\r\ndefine E\nendef\n") (AddAssign Bottom (codes "CC") PosixSimple (codes "$(q:;=|)")) ≡ NotMade 1 OpenDefine
 row_mixed_321 = refl
 
-row_mixed_322 : account (codes "define D\r\ndefine E\nendef\n") (AddRule Bottom (codes "${c}") Two []) ≡ NotMade 1 OpenDefine
+row_mixed_322 : account (codes "define D\r\ndefine E\nendef\n") (AddRule Bottom (codes "${c}") Double []) ≡ NotMade 1 OpenDefine
 row_mixed_322 = refl
 
 row_mixed_323 : account (codes "\na: b\n\tx\n") (RemoveRecipe None (codes "a") 1) ≡ Accepted 0 1 (span 6 9 [] ∷ []) (Becomes (codes "\na: b\n"))
@@ -4045,7 +4045,7 @@ row_mixed_324 = refl
 row_mixed_325 : account (codes "foo: b\n\tx\nifdef A\n\ty\nendif\n\tendif\r\n$(p #): ${g(}\tb  $$\n\t#\\\\\na\\\n\r\n!") (RemoveRule None (codes "foo")) ≡ NotMade 0 Straddles
 row_mixed_325 = refl
 
-row_mixed_326 : account (codes "Y = ${u\n\nÿ$\\#b=\n\\\\\\\n$(b\t$(a \\\n b)\n=!\n!\n") (AddRule Bottom (codes "a&b") Two (codes "%.c")) ≡ Accepted 1 0 (span 39 39 (codes "a&b:: %.c\n") ∷ []) (Becomes (codes "Y = ${u\n\nÿ$\\#b=\n\\\\\\\n$(b\t$(a \\\n b)\n=!\n!\na&b:: %.c\n"))
+row_mixed_326 : account (codes "Y = ${u\n\nÿ$\\#b=\n\\\\\\\n$(b\t$(a \\\n b)\n=!\n!\n") (AddRule Bottom (codes "a&b") Double (codes "%.c")) ≡ Accepted 1 0 (span 39 39 (codes "a&b:: %.c\n") ∷ []) (Becomes (codes "Y = ${u\n\nÿ$\\#b=\n\\\\\\\n$(b\t$(a \\\n b)\n=!\n!\na&b:: %.c\n"))
 row_mixed_326 = refl
 
 row_mixed_327 : account (codes "%.c::t |  \r\nX\\\n!=  \t\r\ndefine D\r\ndefine E\nendef\n") (RemovePrereq None (codes "%.c") (codes "t")) ≡ Accepted 1 1 (span 5 6 [] ∷ []) (Becomes (codes "%.c:: |  \r\nX\\\n!=  \t\r\ndefine D\r\ndefine E\nendef\n"))
@@ -4054,10 +4054,10 @@ row_mixed_327 = refl
 row_mixed_328 : account (codes "endif # c\r\nA +=%.o\\\n\t\\\r\n# x ; y : z = 1\r\ndefine \r\nendef x\r\nenif # c\r\nifdef ::=\r\ndefine D\r\n") (RemoveAssign (Some 1) (codes "ifdef")) ≡ Accepted 0 1 (span 69 80 [] ∷ []) (Becomes (codes "endif # c\r\nA +=%.o\\\n\t\\\r\n# x ; y : z = 1\r\ndefine \r\nendef x\r\nenif # c\r\ndefine D\r\n"))
 row_mixed_328 = refl
 
-row_mixed_329 : account (codes "endif # c\r\nA +=%.o\\\n\t\\\r\n# x ; y : z = 1\r\ndefine \r\nendef x\r\nenif # c\r\nifdef ::=\r\ndefine D\r\n") (AddRule Bottom (codes "a") One []) ≡ NotMade 1 OpenDefine
+row_mixed_329 : account (codes "endif # c\r\nA +=%.o\\\n\t\\\r\n# x ; y : z = 1\r\ndefine \r\nendef x\r\nenif # c\r\nifdef ::=\r\ndefine D\r\n") (AddRule Bottom (codes "a") Single []) ≡ NotMade 1 OpenDefine
 row_mixed_329 = refl
 
-row_mixed_330 : account (codes "a&b\\\r\n&: $(a b) \tx.o $(p #)#\na\r") (AddRule Bottom (codes "foo") Two []) ≡ NotMade 1 OpenLine
+row_mixed_330 : account (codes "a&b\\\r\n&: $(a b) \tx.o $(p #)#\na\r") (AddRule Bottom (codes "foo") Double []) ≡ NotMade 1 OpenLine
 row_mixed_330 = refl
 
 row_mixed_331 : account (codes "ifndef X # c\r\n\tdefine \r\nendif\r\n>vpath %.c a\r\n") (AddAssign Bottom (codes "ifdef") Shell (codes "\\#")) ≡ NotMade 1 OpenDefine
@@ -4084,13 +4084,13 @@ row_mixed_337 = refl
 row_mixed_338 : account (codes "\ta \\\n\tb\n\\\nendef\nifdef A\nelse\nendif # c\n\\\n\t\nexport private define X =\nexport private define X =\n") (AddAssign Bottom (codes "endef") Recursive (codes "c")) ≡ NotMade 1 OpenDefine
 row_mixed_338 = refl
 
-row_mixed_339 : account (codes ".RECIPEPREFIX = d\r\n.RECIPEPREFIX =\\\na\n\0: &\r\ndefine D\r\ndefine E\nendef\n") (AddRule Bottom (codes "$(f {)") One (codes "$(s\\)")) ≡ NotMade 1 OpenDefine
+row_mixed_339 : account (codes ".RECIPEPREFIX = d\r\n.RECIPEPREFIX =\\\na\n\0: &\r\ndefine D\r\ndefine E\nendef\n") (AddRule Bottom (codes "$(f {)") Single (codes "$(s\\)")) ≡ NotMade 1 OpenDefine
 row_mixed_339 = refl
 
 row_mixed_340 : account (codes ".RECIPEPREFIX = c\n%.o\tfoo : $(q:;=|) -include2\tt \na: $(f {) $(q:;=|)\n.Z = 1\naendef\n\telse\nX += $(a b)$(w \\\n # c\nY ::=\\\r\n # x ; y : z = 1\n") (RemoveRule None (codes "a")) ≡ Accepted 0 1 (span 50 69 [] ∷ []) (Becomes (codes ".RECIPEPREFIX = c\n%.o\tfoo : $(q:;=|) -include2\tt \n.Z = 1\naendef\n\telse\nX += $(a b)$(w \\\n # c\nY ::=\\\r\n # x ; y : z = 1\n"))
 row_mixed_340 = refl
 
-row_mixed_341 : account (codes "ifneq\ndefin{e F \\\n\noverride define \n") (AddRule Bottom (codes "$(p #) foo") Two []) ≡ NotMade 1 OpenDefine
+row_mixed_341 : account (codes "ifneq\ndefin{e F \\\n\noverride define \n") (AddRule Bottom (codes "$(p #) foo") Double []) ≡ NotMade 1 OpenDefine
 row_mixed_341 = refl
 
 row_mixed_342 : account (codes ".RECIPEPREFIX = Y\nX = a\\") (SetValue None (codes "X") []) ≡ Accepted 1 1 (span 22 24 [] ∷ []) (Becomes (codes ".RECIPEPREFIX = Y\nX = "))
@@ -4138,7 +4138,7 @@ row_mixed_355 = refl
 row_mixed_356 : account (codes ".RECIPEPREFIX = b\nifdef A\nendef \\\n \\\n :::= $( \\\\c \n\t\\\n\nfoo: \nifdef\\\nB\n%.o : : foo .PHONY $$ \t\na: \na: b\n\tx\n") (AddPrereq true (Some 1) (codes "a") (codes "%.c")) ≡ Accepted 1 1 (span 96 96 (codes " | %.c") ∷ []) (Becomes (codes ".RECIPEPREFIX = b\nifdef A\nendef \\\n \\\n :::= $( \\\\c \n\t\\\n\nfoo: \nifdef\\\nB\n%.o : : foo .PHONY $$ \t\na: | %.c \na: b\n\tx\n"))
 row_mixed_356 = refl
 
-row_mixed_357 : account (codes ".a \\\n\tb\\\nelse ifdef Q\ndefine D\n") (AddRule Bottom (codes "$$") Two (codes "$(p #) %.c")) ≡ NotMade 1 OpenDefine
+row_mixed_357 : account (codes ".a \\\n\tb\\\nelse ifdef Q\ndefine D\n") (AddRule Bottom (codes "$$") Double (codes "$(p #) %.c")) ≡ NotMade 1 OpenDefine
 row_mixed_357 = refl
 
 row_mixed_358 : account (codes "a:\nifdef A\n\ty\nendif\n.RECIPEPREFIX ::=:\n") (RemoveRecipe None (codes "a") 1) ≡ Accepted 0 1 (span 11 14 [] ∷ []) (Becomes (codes "a:\nifdef A\nendif\n.RECIPEPREFIX ::=:\n"))
@@ -4189,7 +4189,7 @@ row_mixed_372 = refl
 row_mixed_373 : account (codes " :Y += \t\r\n\\# \tx.o : $(s\\) \n\\\n>q = c  $(s\\) \r\n\t\r\naZ = 1\r\n>else\nifndef X # c\n(?\r\n\r{ =;=\r\n\t\r\n") (RemoveAssign None (codes "aZ")) ≡ Accepted 0 1 (span 48 56 [] ∷ []) (Becomes (codes " :Y += \t\r\n\\# \tx.o : $(s\\) \n\\\n>q = c  $(s\\) \r\n\t\r\n>else\nifndef X # c\n(?\r\n\r{ =;=\r\n\t\r\n"))
 row_mixed_373 = refl
 
-row_mixed_374 : account (codes ".RECIPEPREFIX = x\n\tdefine Q\r\n$(p #) \\\n  .PHONY::: $(q:;=|)  foo ; \r\nendif\r\nX+= \\\r\n 2 3$$ $(p #)\\\n\t\\\r\n\r\n") (AddRule Bottom (codes "${c}") One []) ≡ NotMade 1 OpenDefine
+row_mixed_374 : account (codes ".RECIPEPREFIX = x\n\tdefine Q\r\n$(p #) \\\n  .PHONY::: $(q:;=|)  foo ; \r\nendif\r\nX+= \\\r\n 2 3$$ $(p #)\\\n\t\\\r\n\r\n") (AddRule Bottom (codes "${c}") Single []) ≡ NotMade 1 OpenDefine
 row_mixed_374 = refl
 
 row_mixed_375 : account (codes "endif # c\n>define \r\n\techo a # b\r\nfoo: $(q:;=|) ${c}\n\tZ = 1\n>a\\\r\nx.o y: b\r\na: b\n\tx\n") (RemoveRule None (codes "y")) ≡ NotMade 0 (SharedRule 3)
@@ -4267,10 +4267,10 @@ row_mixed_398 = refl
 row_mixed_399 : account (codes " \\\n\toverride ?= $(w \\\n\na: b\r") (AppendValue None (codes "override") (codes "a&b")) ≡ NotMade 1 OpenValue
 row_mixed_399 = refl
 
-row_mixed_400 : account (codes "# x ; : z = 1\n\tdefine Q\n# x ; : z = 1\n") (AddRule Bottom (codes "$(p #)") Two (codes "x.o")) ≡ NotMade 1 OpenDefine
+row_mixed_400 : account (codes "# x ; : z = 1\n\tdefine Q\n# x ; : z = 1\n") (AddRule Bottom (codes "$(p #)") Double (codes "x.o")) ≡ NotMade 1 OpenDefine
 row_mixed_400 = refl
 
-row_mixed_401 : account (codes "\t# x ; y : z = 1\n\tdefine Q\nCC+=foo \ndefine X =\nx.o y: .PHONY\n\t\n-x_9\t!=\\\n\t:\\\na foo: c\n\ty\n") (AddRule Bottom (codes "$(a b)") One (codes ".PHONY a")) ≡ NotMade 1 OpenDefine
+row_mixed_401 : account (codes "\t# x ; y : z = 1\n\tdefine Q\nCC+=foo \ndefine X =\nx.o y: .PHONY\n\t\n-x_9\t!=\\\n\t:\\\na foo: c\n\ty\n") (AddRule Bottom (codes "$(a b)") Single (codes ".PHONY a")) ≡ NotMade 1 OpenDefine
 row_mixed_401 = refl
 
 row_mixed_402 : account (codes "ifdef A\na:\n# c\nendif\n\ty\n\t\\\n\r\n\tvpath %.c a\\\n\n# c\n") (AddRecipe None (codes "a") (codes "x")) ≡ NotMade 1 Straddles

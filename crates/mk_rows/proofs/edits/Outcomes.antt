@@ -10,11 +10,11 @@ use Rattle.mk_class.specs.OperatorTexts.{operator_text}
 use Rattle.mk_tree.specs.Items.{Sets, Item}
 use Rattle.mk_tree.specs.Items.Item.{Assign, TargetAssign, Header, Recipe, Endef, Body, Opaque, DefineHead, If, Else, Endif, Directive, Rough}
 use Rattle.mk_tree.specs.Readings.{reading}
-use Rattle.mk_edit_laws.specs.Edits.{Edit}
-use Rattle.mk_edit_laws.specs.Refusals.{spans}
-use Rattle.mk_edit_laws.specs.Costs.{cost, size}
-use Rattle.mk_edit_laws.specs.Changes.{change}
-use Rattle.mk_edit_laws.specs.declared.refusal.Refusal.{Refusal}
+use Rattle.mk_edit_language.specs.Edits.{Edit}
+use Rattle.mk_edit_language.specs.Refusals.{spans}
+use Rattle.mk_edit_language.specs.Costs.{cost, size}
+use Rattle.mk_edit_language.specs.Changes.{change}
+use Rattle.mk_edit_language.specs.declared.refusal.Refusal.{Refusal}
 
 -- bytes that replace those from an offset to another
 abbrev pub span : (start end : ℕ) → (new : List ℕ) → Replacement

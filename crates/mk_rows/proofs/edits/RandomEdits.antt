@@ -2,18 +2,18 @@
 use Rattle.std.proofs.Common.{◌≡◌, refl, [], Some, None, true, false}
 use Rattle.std.specs.Prelude.{codes}
 use Rattle.mk_class.specs.declared.assignment.Flavor.TheVariants.{Recursive, Simple, PosixSimple, Immediate, Conditional, Append, Shell}
-use Rattle.mk_edit_laws.specs.declared.edit.Colons.TheVariants.{One, Two}
-use Rattle.mk_edit_laws.specs.declared.refusal.Refusal.TheVariants.{BadArgument, Reserved, RecipePrefix, NoSuch, Ambiguous, Absent, Already, Taken, SharedRule, OpenLine, OpenDefine, Leans}
-use Rattle.mk_edit_laws.specs.Edits.{Bottom, BeforeVar, AfterVar, BeforeRule}
-use Rattle.mk_edit_laws.specs.Edits.{SetValue, AppendValue, AddAssign, RemoveAssign, AddRule, RemoveRule, AddPrereq, RemovePrereq, AddRecipe, SetRecipe, RemoveRecipe, RenameTarget}
+use Rattle.mk_edit_language.specs.declared.edit.RuleSeparator.TheVariants.{Single, Double}
+use Rattle.mk_edit_language.specs.declared.refusal.Refusal.TheVariants.{BadArgument, Reserved, RecipePrefix, NoSuch, Ambiguous, Absent, Already, Taken, SharedRule, OpenLine, OpenDefine, Leans}
+use Rattle.mk_edit_language.specs.Edits.{Bottom, BeforeVar, AfterVar, BeforeRule}
+use Rattle.mk_edit_language.specs.Edits.{SetValue, AppendValue, AddAssign, RemoveAssign, AddRule, RemoveRule, AddPrereq, RemovePrereq, AddRecipe, SetRecipe, RemoveRecipe, RenameTarget}
 use Rattle.mk_rows.proofs.edits.Outcomes.{outcome}
 use Rattle.mk_rows.proofs.edits.Outcomes.{Becomes, Refused}
-use Rattle.mk_edit_laws.specs.declared.refusal.Field.TheVariants as field
+use Rattle.mk_edit_language.specs.declared.refusal.Field.TheVariants as field
 
 row_random_001 : outcome (codes ".RECIPEPREFIX = t\n\tdefine Q\r\nprivate\\\n\\\n-x_9 :=  \r\n%.c  : : %.o x.o a&b\r\n") (SetValue None (codes ".RECIPEPREFIX") (codes "-include2 .PHONY")) ≡ Refused Reserved
 row_random_001 = refl
 
-row_random_002 : outcome (codes "endif # c\r\n") (AddRule Bottom [] Two (codes "%.o")) ≡ Refused (BadArgument field.Targets)
+row_random_002 : outcome (codes "endif # c\r\n") (AddRule Bottom [] Double (codes "%.o")) ≡ Refused (BadArgument field.Targets)
 row_random_002 = refl
 
 row_random_003 : outcome (codes ".RECIPEPREFIX = -\n\n") (AppendValue (Some 1) (codes ".RECIPEPREFIX") (codes "a ${g(}")) ≡ Refused Reserved
@@ -34,7 +34,7 @@ row_random_007 = refl
 row_random_008 : outcome (codes ">a \\\n\tb\n\tx\nx.o y: -include2\t$(s\\)\n.Z = 1\n\t \na foo  &: %.c  .PHONY  $(a b)|\\\r\n \n>$(\n\tdefine Q\n\ta\\\r\nifdef :=-include2\t1\r\n") (SetValue None (codes ".Z") (codes "%.o")) ≡ Becomes (codes ">a \\\n\tb\n\tx\nx.o y: -include2\t$(s\\)\n.Z = %.o\n\t \na foo  &: %.c  .PHONY  $(a b)|\\\r\n \n>$(\n\tdefine Q\n\ta\\\r\nifdef :=-include2\t1\r\n")
 row_random_008 = refl
 
-row_random_009 : outcome (codes "foo : : \\\r\n $$ : -include2\\\n;  #c \\\n d\n\t\\\nfoo\t%.o : A ?= ${u $(w \\\n#\n") (AddRule Bottom (codes "a") Two []) ≡ Becomes (codes "foo : : \\\r\n $$ : -include2\\\n;  #c \\\n d\n\t\\\nfoo\t%.o : A ?= ${u $(w \\\n#\na::\r\n")
+row_random_009 : outcome (codes "foo : : \\\r\n $$ : -include2\\\n;  #c \\\n d\n\t\\\nfoo\t%.o : A ?= ${u $(w \\\n#\n") (AddRule Bottom (codes "a") Double []) ≡ Becomes (codes "foo : : \\\r\n $$ : -include2\\\n;  #c \\\n d\n\t\\\nfoo\t%.o : A ?= ${u $(w \\\n#\na::\r\n")
 row_random_009 = refl
 
 row_random_010 : outcome (codes "endef\\\n\n${g(} $(a b) ::: t  $(q:;=| | \\\n   #c \\\n d\n\t\\\n\n-include2 : $(p #) a&b %.c\n\t\\\n\nelse\nifdef\\\nB\nx.o y: \n #\n>y\r\n") (RemovePrereq None (codes "$(a b)") (codes "x.o")) ≡ Refused NoSuch
@@ -46,16 +46,16 @@ row_random_011 = refl
 row_random_012 : outcome (codes "x.o y: %.o\na: \n \n.\n\t \\\\") (RenameTarget (codes "x.o") (codes "$$")) ≡ Becomes (codes "$$ y: %.o\na: \n \n.\n\t \\\\")
 row_random_012 = refl
 
-row_random_013 : outcome (codes "$(p #) | :\t\n\\\n$(q:;=|)  $(s\\)\\\n\\\n\n>echo a # b\nexport >q!= \n${g(}&: a&b  :foo\\\n\tfoo \\\n  \n\tdefine Q\n-x_9 ?=\\ .PHONY#\0\na\\\n\noverride define F \\\n\nifneq\n") (AddRule (BeforeVar None (codes ">q")) (codes "$(f {)") Two (codes "$$")) ≡ Refused (BadArgument field.Place)
+row_random_013 : outcome (codes "$(p #) | :\t\n\\\n$(q:;=|)  $(s\\)\\\n\\\n\n>echo a # b\nexport >q!= \n${g(}&: a&b  :foo\\\n\tfoo \\\n  \n\tdefine Q\n-x_9 ?=\\ .PHONY#\0\na\\\n\noverride define F \\\n\nifneq\n") (AddRule (BeforeVar None (codes ">q")) (codes "$(f {)") Double (codes "$$")) ≡ Refused (BadArgument field.Place)
 row_random_013 = refl
 
 row_random_014 : outcome (codes ".RECIPEPREFIX = c\r\n\t#c\r\n)a>>q\\= \\$xaa&b ") (AppendValue None (codes ".RECIPEPREFIX") (codes "${g(} 2 3")) ≡ Refused Reserved
 row_random_014 = refl
 
-row_random_015 : outcome (codes ":\r\n\t \n") (AddRule Bottom (codes "${g(}") Two (codes "$(f {)")) ≡ Becomes (codes ":\r\n\t \n${g(}:: $(f {)\r\n")
+row_random_015 : outcome (codes ":\r\n\t \n") (AddRule Bottom (codes "${g(}") Double (codes "$(f {)")) ≡ Becomes (codes ":\r\n\t \n${g(}:: $(f {)\r\n")
 row_random_015 = refl
 
-row_random_016 : outcome (codes "\\\nendif\n\ty\r\n$(p #) &:\t$$:\t$(f {)|\t$(q:;=|) ${g(}\n\t\\\nifndef X # c\nendif\n\ta\\\r\n>b\ndefine \n") (AddRule Bottom (codes ".PHONY") Two (codes "c")) ≡ Refused OpenDefine
+row_random_016 : outcome (codes "\\\nendif\n\ty\r\n$(p #) &:\t$$:\t$(f {)|\t$(q:;=|) ${g(}\n\t\\\nifndef X # c\nendif\n\ta\\\r\n>b\ndefine \n") (AddRule Bottom (codes ".PHONY") Double (codes "c")) ≡ Refused OpenDefine
 row_random_016 = refl
 
 row_random_017 : outcome (codes ".RECIPEPREFIX = i\\") (RemoveAssign None (codes ".RECIPEPREFIX")) ≡ Refused Reserved
@@ -85,19 +85,19 @@ row_random_024 = refl
 row_random_025 : outcome (codes "b&::a&b \r\n\ta\\\\\r\nt1 ::= $\\\n $$ ; \r\n\\\n\\\n:$\r\nY != ;\\\n\\\n\\\\\\\n\t#\\\\\\\n\r\n") (RemoveRule None (codes "b")) ≡ Becomes (codes "t1 ::= $\\\n $$ ; \r\n\\\n\\\n:$\r\nY != ;\\\n\\\n\\\\\\\n\t#\\\\\\\n\r\n")
 row_random_025 = refl
 
-row_random_026 : outcome (codes "\ta\\\\\n${g(}: Y !=\\#\n\t\\>\n\r\n>\n#c\n\tdefine D") (AddRule (BeforeRule (Some 1) (codes ".PHONY")) [] Two (codes "$x")) ≡ Refused (BadArgument field.Targets)
+row_random_026 : outcome (codes "\ta\\\\\n${g(}: Y !=\\#\n\t\\>\n\r\n>\n#c\n\tdefine D") (AddRule (BeforeRule (Some 1) (codes ".PHONY")) [] Double (codes "$x")) ≡ Refused (BadArgument field.Targets)
 row_random_026 = refl
 
 row_random_027 : outcome [] (AddAssign Bottom (codes "define") Simple (codes "${g(}")) ≡ Becomes (codes "define := ${g(}\n")
 row_random_027 = refl
 
-row_random_028 : outcome (codes "a") (AddRule Bottom [] One (codes "${c} ${g(}")) ≡ Refused (BadArgument field.Targets)
+row_random_028 : outcome (codes "a") (AddRule Bottom [] Single (codes "${c} ${g(}")) ≡ Refused (BadArgument field.Targets)
 row_random_028 = refl
 
 row_random_029 : outcome (codes ".RE\rIPEPREFIX = c\r\n\\!ac \\{\n d") (AddAssign Bottom (codes ">q") Simple []) ≡ Refused (BadArgument field.Name)
 row_random_029 = refl
 
-row_random_030 : outcome (codes "$(s\\)\tt:\n-include2: -include2 \\\n%.c\\\r\nx.o  |a&b # \r\nifdef\\\n\t:::= aa\\ \\\n\t$x #\n\t$(p #)&: $\\\\\r\n:\tb\t$(q:;=|) foo# c") (AddRule Bottom (codes "$(q:;=|)") Two (codes "${c} foo")) ≡ Becomes (codes "$(s\\)\tt:\n-include2: -include2 \\\n%.c\\\r\nx.o  |a&b # \r\nifdef\\\n\t:::= aa\\ \\\n\t$x #\n\t$(p #)&: $\\\\\r\n:\tb\t$(q:;=|) foo# c\n$(q:;=|):: ${c} foo\n")
+row_random_030 : outcome (codes "$(s\\)\tt:\n-include2: -include2 \\\n%.c\\\r\nx.o  |a&b # \r\nifdef\\\n\t:::= aa\\ \\\n\t$x #\n\t$(p #)&: $\\\\\r\n:\tb\t$(q:;=|) foo# c") (AddRule Bottom (codes "$(q:;=|)") Double (codes "${c} foo")) ≡ Becomes (codes "$(s\\)\tt:\n-include2: -include2 \\\n%.c\\\r\nx.o  |a&b # \r\nifdef\\\n\t:::= aa\\ \\\n\t$x #\n\t$(p #)&: $\\\\\r\n:\tb\t$(q:;=|) foo# c\n$(q:;=|):: ${c} foo\n")
 row_random_030 = refl
 
 row_random_031 : outcome (codes "endef#c\n") (AddAssign Bottom (codes "endef") Conditional (codes "$(s\\)")) ≡ Becomes (codes "endef#c\nendef ?= $(s\\)\n")
@@ -112,16 +112,16 @@ row_random_033 = refl
 row_random_034 : outcome (codes "private\n-x_9:= \\\r\n\n\\\nendef x\noverride :=  \n") (AddAssign (BeforeVar (Some 2) (codes "-x_9")) (codes "Y") Append []) ≡ Refused NoSuch
 row_random_034 = refl
 
-row_random_035 : outcome (codes "\t}\r\n\\\n.RECIPEPREFIX =X") (AddRule (AfterVar None (codes ".RECIPEPREFIX")) (codes "$$") One []) ≡ Refused Reserved
+row_random_035 : outcome (codes "\t}\r\n\\\n.RECIPEPREFIX =X") (AddRule (AfterVar None (codes ".RECIPEPREFIX")) (codes "$$") Single []) ≡ Refused Reserved
 row_random_035 = refl
 
-row_random_036 : outcome (codes " \\\n\td|&:$(q:;=|)\n\\\n#c \\\n d\n\tendef\n\tifdef Z\nelse ifdef Q\na\\=\\\n\t?=\\\na\\:b \n") (AddRule Bottom (codes "-include2") Two (codes "$(p #) $(a b)")) ≡ Becomes (codes " \\\n\td|&:$(q:;=|)\n\\\n#c \\\n d\n\tendef\n\tifdef Z\nelse ifdef Q\na\\=\\\n\t?=\\\na\\:b \n-include2:: $(p #) $(a b)\n")
+row_random_036 : outcome (codes " \\\n\td|&:$(q:;=|)\n\\\n#c \\\n d\n\tendef\n\tifdef Z\nelse ifdef Q\na\\=\\\n\t?=\\\na\\:b \n") (AddRule Bottom (codes "-include2") Double (codes "$(p #) $(a b)")) ≡ Becomes (codes " \\\n\td|&:$(q:;=|)\n\\\n#c \\\n d\n\tendef\n\tifdef Z\nelse ifdef Q\na\\=\\\n\t?=\\\na\\:b \n-include2:: $(p #) $(a b)\n")
 row_random_036 = refl
 
 row_random_037 : outcome (codes "export X\na&b : : \\\n  \nX$:  = : \n\t${g(}&: t \t: c $(q:;=|)\te$#f #\\\\\n$\\\\\n\n\\\\\n!\\b$$endef\n(\n$(f {): ; \\\n\\#\n\ty\r\nendef x\n \\\n\t${g(}:: \\\n\t\\\r\n") (SetRecipe None (codes "$(f {)") 1 (codes " a")) ≡ Becomes (codes "export X\na&b : : \\\n  \nX$:  = : \n\t${g(}&: t \t: c $(q:;=|)\te$#f #\\\\\n$\\\\\n\n\\\\\n!\\b$$endef\n(\n$(f {): ; \\\n\\#\n\t a\r\nendef x\n \\\n\t${g(}:: \\\n\t\\\r\n")
 row_random_037 = refl
 
-row_random_038 : outcome [] (AddRule Bottom (codes "b") One (codes "b")) ≡ Becomes (codes "b: b\n")
+row_random_038 : outcome [] (AddRule Bottom (codes "b") Single (codes "b")) ≡ Becomes (codes "b: b\n")
 row_random_038 = refl
 
 row_random_039 : outcome (codes ".RECIPEPREFIX = b\r\noverride ?= $# $# \na\\\n: \t$(f {) |  #\0\n$(a b)\\\r\na&b:: \\\n \\\n a&b x.o $(f {)\r\n${g(}\\\r\na: $(p #) : $(p #) \\\n#c \\\n d\n\t\\\nelse ifdef Q\r\nexport privat\re define F \\\n\n") (AddRecipe None (codes "${g(}") (codes "cÿ")) ≡ Becomes (codes ".RECIPEPREFIX = b\r\noverride ?= $# $# \na\\\n: \t$(f {) |  #\0\n$(a b)\\\r\na&b:: \\\n \\\n a&b x.o $(f {)\r\n${g(}\\\r\na: $(p #) : $(p #) \\\n#c \\\n d\nbcÿ\r\n\t\\\nelse ifdef Q\r\nexport privat\re define F \\\n\n")
@@ -181,7 +181,7 @@ row_random_056 = refl
 row_random_057 : outcome (codes "foo: t .PHONY\n\tendef") (AddRecipe None (codes "foo") (codes "e f \\ g")) ≡ Becomes (codes "foo: t .PHONY\n\tendef\n\te f \\ g\n")
 row_random_057 = refl
 
-row_random_058 : outcome (codes ">$x :\t\\\n\\\n| ; \t;\nelse ifdef Q\r\n-include b c\r\na=\r\nendef\r\n${c}: \\\n  .PHONY|  \r\n") (AddRule (BeforeRule None (codes ">$x")) (codes "x.o .PHONY") Two (codes "$(s\\)")) ≡ Becomes (codes "x.o .PHONY:: $(s\\)\n>$x :\t\\\n\\\n| ; \t;\nelse ifdef Q\r\n-include b c\r\na=\r\nendef\r\n${c}: \\\n  .PHONY|  \r\n")
+row_random_058 : outcome (codes ">$x :\t\\\n\\\n| ; \t;\nelse ifdef Q\r\n-include b c\r\na=\r\nendef\r\n${c}: \\\n  .PHONY|  \r\n") (AddRule (BeforeRule None (codes ">$x")) (codes "x.o .PHONY") Double (codes "$(s\\)")) ≡ Becomes (codes "x.o .PHONY:: $(s\\)\n>$x :\t\\\n\\\n| ; \t;\nelse ifdef Q\r\n-include b c\r\na=\r\nendef\r\n${c}: \\\n  .PHONY|  \r\n")
 row_random_058 = refl
 
 row_random_059 : outcome [] (RemoveAssign None (codes "override")) ≡ Refused NoSuch
@@ -190,7 +190,7 @@ row_random_059 = refl
 row_random_060 : outcome (codes "\\\n:\tendef:= \\\r\n \n") (AddRecipe None (codes "foo") (codes "x")) ≡ Refused NoSuch
 row_random_060 = refl
 
-row_random_061 : outcome (codes " Y?= $(q:;=|)\\\n\nt1 ::= \\\na\\ $\\\r\n\\ \\\nb # x ; y : z = 1\noverride .RECIPEPREFIX::=$x") (AddRule (BeforeVar None (codes ".RECIPEPREFIX")) (codes "t -include2") Two (codes "$(s\\) a\\ b")) ≡ Refused (BadArgument field.Prereqs)
+row_random_061 : outcome (codes " Y?= $(q:;=|)\\\n\nt1 ::= \\\na\\ $\\\r\n\\ \\\nb # x ; y : z = 1\noverride .RECIPEPREFIX::=$x") (AddRule (BeforeVar None (codes ".RECIPEPREFIX")) (codes "t -include2") Double (codes "$(s\\) a\\ b")) ≡ Refused (BadArgument field.Prereqs)
 row_random_061 = refl
 
 row_random_062 : outcome [] (AddAssign Bottom (codes "define") Shell (codes ";")) ≡ Becomes (codes "define != ;\n")
@@ -211,7 +211,7 @@ row_random_066 = refl
 row_random_067 : outcome (codes "b  &:\t  | \\\n \nifdef\\\nB\n$(a b)\\\n\t\\\r\n: .PHONY |  c \t%.o \r\nifdef\\\nB\r\n\t# x ; y : z = 1\r\n#b;$\r\n+&define\t\\\n\r\n\t\n") (SetRecipe None (codes "b") 4294967295 (codes "t")) ≡ Refused Absent
 row_random_067 = refl
 
-row_random_068 : outcome [] (AddRule Bottom (codes "$(p #)") Two (codes "a&b")) ≡ Becomes (codes "$(p #):: a&b\n")
+row_random_068 : outcome [] (AddRule Bottom (codes "$(p #)") Double (codes "a&b")) ≡ Becomes (codes "$(p #):: a&b\n")
 row_random_068 = refl
 
 row_random_069 : outcome (codes "x.o y: ${c} \t$(f {)\n\t \n\telse\r\n${g(} &: $(s\\) $(a b) \\\n$(p #)\n# x ; y : z = 1\r\nendef:= \\$x\r\n\\\n# x ; y : z = 1\r\n#\\\\\r\nendef ::=%.c\\\r\nx  y\r\n\\\n%.o &:\\\n\\\nX$: !=\t${c}\\$x #\r\nfoo: \n>echo a # b") (SetRecipe (Some 4294967295) (codes "y") 1 (codes "x")) ≡ Refused NoSuch
@@ -241,25 +241,25 @@ row_random_076 = refl
 row_random_077 : outcome (codes "\t\\\noverride undefine X\n \\\n") (AddAssign Bottom (codes ">q") Immediate (codes "-include2")) ≡ Refused (BadArgument field.Name)
 row_random_077 = refl
 
-row_random_078 : outcome (codes "export CC:= \t$(w \\\n\\\n\\\n\nendef x\nt1 \\\n \\\n ::= \n  : Y! \t!= \n") (AddRule Bottom (codes "$x") Two (codes "$(a b)")) ≡ Becomes (codes "export CC:= \t$(w \\\n\\\n\\\n\nendef x\nt1 \\\n \\\n ::= \n  : Y! \t!= \n$x:: $(a b)\n")
+row_random_078 : outcome (codes "export CC:= \t$(w \\\n\\\n\\\n\nendef x\nt1 \\\n \\\n ::= \n  : Y! \t!= \n") (AddRule Bottom (codes "$x") Double (codes "$(a b)")) ≡ Becomes (codes "export CC:= \t$(w \\\n\\\n\\\n\nendef x\nt1 \\\n \\\n ::= \n  : Y! \t!= \n$x:: $(a b)\n")
 row_random_078 = refl
 
 row_random_079 : outcome (codes "\\") (AddAssign Bottom (codes "X") Shell (codes "b")) ≡ Refused OpenLine
 row_random_079 = refl
 
-row_random_080 : outcome (codes ".RECIPEPREFIX = $$\r\n\t\r\nt1 ::= ${c} $x\r\na.b\t?= x  y a\\ \\ \\\n.PHONY \t\r\n\r\n\r\n") (AddRule Bottom [] One (codes "a")) ≡ Refused (BadArgument field.Targets)
+row_random_080 : outcome (codes ".RECIPEPREFIX = $$\r\n\t\r\nt1 ::= ${c} $x\r\na.b\t?= x  y a\\ \\ \\\n.PHONY \t\r\n\r\n\r\n") (AddRule Bottom [] Single (codes "a")) ≡ Refused (BadArgument field.Targets)
 row_random_080 = refl
 
-row_random_081 : outcome [] (AddRule Bottom (codes "b") Two (codes "\\ -include2")) ≡ Refused (BadArgument field.Prereqs)
+row_random_081 : outcome [] (AddRule Bottom (codes "b") Double (codes "\\ -include2")) ≡ Refused (BadArgument field.Prereqs)
 row_random_081 = refl
 
 row_random_082 : outcome (codes "a::: a&b $(f {) #\\\\\\\n\n>ifdef Z\r\n%.c\\\n%.c : a&b\\\r\n$(p #) \tb |\\\n\t%.o\n>#c\n.RECIPEPREFIX !=  \n\ta\\\r\n>b\n>q+=$(a b)\\\n\t\r\n.RECIPEPREFIX=>\nc : : x.o : |\\\n\t\\\r\n$(a b) \n>endef\n\t\\\n\n\t$(\r\n\t$(p #)&:t : -include2 # c\r\n\telse\r\n\tendif\n") (SetValue None (codes ">q") (codes "${c}")) ≡ Refused (BadArgument field.Name)
 row_random_082 = refl
 
-row_random_083 : outcome (codes "x.o y: $(a b) $(q:;=|)\n\r\n$(f {) ${g(}:  ; \r\nendif\r\noo &: \r\n$(f {)&:: \t \r\n\t\\\nt1\\\n\t!= x.o ") (AddRule (BeforeRule None (codes "${g(}")) (codes "$(a b) $(f {)") Two []) ≡ Becomes (codes "x.o y: $(a b) $(q:;=|)\n\r\n$(a b) $(f {)::\n$(f {) ${g(}:  ; \r\nendif\r\noo &: \r\n$(f {)&:: \t \r\n\t\\\nt1\\\n\t!= x.o ")
+row_random_083 : outcome (codes "x.o y: $(a b) $(q:;=|)\n\r\n$(f {) ${g(}:  ; \r\nendif\r\noo &: \r\n$(f {)&:: \t \r\n\t\\\nt1\\\n\t!= x.o ") (AddRule (BeforeRule None (codes "${g(}")) (codes "$(a b) $(f {)") Double []) ≡ Becomes (codes "x.o y: $(a b) $(q:;=|)\n\r\n$(a b) $(f {)::\n$(f {) ${g(}:  ; \r\nendif\r\noo &: \r\n$(f {)&:: \t \r\n\t\\\nt1\\\n\t!= x.o ")
 row_random_083 = refl
 
-row_random_084 : outcome (codes "define F \\\n\r\ndefine :::=\\ \\\n$\\\r\n #\n$$::: b# x ; y : z = 1\r\n\t$(\r\n\t\\\nendif\n$#X\\\\\n+$\r$\r!\r\neifdef Z\r\n.RECIPEPREFIX =>>\r\n\tendif") (AddRule Bottom (codes "foo a") One (codes "$(p #) $x")) ≡ Refused OpenDefine
+row_random_084 : outcome (codes "define F \\\n\r\ndefine :::=\\ \\\n$\\\r\n #\n$$::: b# x ; y : z = 1\r\n\t$(\r\n\t\\\nendif\n$#X\\\\\n+$\r$\r!\r\neifdef Z\r\n.RECIPEPREFIX =>>\r\n\tendif") (AddRule Bottom (codes "foo a") Single (codes "$(p #) $x")) ≡ Refused OpenDefine
 row_random_084 = refl
 
 row_random_085 : outcome (codes ".RECIPEPREFI= .\n$") (AppendValue None (codes ".RECIPEPREFI") (codes "a\\:b")) ≡ Becomes (codes ".RECIPEPREFI= . a\\:b\n$")
@@ -268,7 +268,7 @@ row_random_085 = refl
 row_random_086 : outcome (codes "${g(} &: %.c\t$(p #) $(a b)# c\r\n\techo a # b\r\n\\\n\t\r\ndefine .RECIPEPREFIX\r\noverride !$=  \\\n \\\n\r\n$=: :\\\n\t\\\r\nc\r\n-_9  :=") (AddAssign Bottom (codes "e") Immediate (codes "%.o")) ≡ Refused RecipePrefix
 row_random_086 = refl
 
-row_random_087 : outcome (codes "c : Y?= $(s\\) \n>Z = 1\n\t\\\n") (AddRule (AfterVar (Some 1) (codes ">Z")) (codes ".PHONY") Two (codes "$(p #)")) ≡ Refused (BadArgument field.Place)
+row_random_087 : outcome (codes "c : Y?= $(s\\) \n>Z = 1\n\t\\\n") (AddRule (AfterVar (Some 1) (codes ">Z")) (codes ".PHONY") Double (codes "$(p #)")) ≡ Refused (BadArgument field.Place)
 row_random_087 = refl
 
 row_random_088 : outcome [] (SetValue None (codes "a.b") []) ≡ Refused NoSuch
@@ -283,7 +283,7 @@ row_random_090 = refl
 row_random_091 : outcome [] (AddAssign Bottom (codes ">q") PosixSimple (codes "$(p #)")) ≡ Refused (BadArgument field.Name)
 row_random_091 = refl
 
-row_random_092 : outcome [] (AddRule Bottom (codes "$(a b)") Two []) ≡ Becomes (codes "$(a b)::\n")
+row_random_092 : outcome [] (AddRule Bottom (codes "$(a b)") Double []) ≡ Becomes (codes "$(a b)::\n")
 row_random_092 = refl
 
 row_random_093 : outcome (codes "endef:= a\\:b %.c \n%.o&:: $$ \t${g(} \\\r\n %.c \n\n \\\n\n\techo a # b\r\nelse ifdef Q\r\n\t\\\n\\>!!\\\\\n):?\\\ne$#f : \r\n>foo :::a\t$(a b)|$x\\\n# c\nexport \\\noverride \t!=a\\:b # x ; y : z = 1") (RemoveRecipe None (codes "%.o") 0) ≡ Refused Absent
@@ -298,7 +298,7 @@ row_random_095 = refl
 row_random_096 : outcome (codes "foo \t:\nifdef\\\nB\noverride  define  !=t a# \r\nendef # c\n>CC!=a c\n") (SetRecipe None (codes "foo") 2 (codes "$(")) ≡ Refused Absent
 row_random_096 = refl
 
-row_random_097 : outcome (codes "else ifdef Q\r\nexport private define F \\\n\r\n\t\\\nendef\\\r\n?= \\\\\\ \r\nendif # c\nendif\n\t ") (AddRule Bottom (codes "$(f {)") Two []) ≡ Refused OpenDefine
+row_random_097 : outcome (codes "else ifdef Q\r\nexport private define F \\\n\r\n\t\\\nendef\\\r\n?= \\\\\\ \r\nendif # c\nendif\n\t ") (AddRule Bottom (codes "$(f {)") Double []) ≡ Refused OpenDefine
 row_random_097 = refl
 
 row_random_098 : outcome (codes "%.o &: t\\\n\t$;$ ${c}\nelse\n\t\\|\nfo:::\nt1?=\n") (AddAssign (AfterVar None (codes "t1")) (codes "t") Immediate []) ≡ Becomes (codes "%.o &: t\\\n\t$;$ ${c}\nelse\n\t\\|\nfo:::\nt1?=\nt :::=\n")
@@ -334,7 +334,7 @@ row_random_107 = refl
 row_random_108 : outcome (codes "\ta\\\r\n>b\r\n-include2: \\\nt: \t$(q:;=|) $x\n\n-include2&:: \\\r\n c  \r\n") (RemovePrereq (Some 1) (codes "-include2") (codes "$x")) ≡ Becomes (codes "\ta\\\r\n>b\r\n-include2: \\\nt: \t$(q:;=|)\n\n-include2&:: \\\r\n c  \r\n")
 row_random_108 = refl
 
-row_random_109 : outcome (codes ".RECIPEPREFIX = .\r\n\t \r\naelse\r\nedefine Q\r\na&b\\\na&b: :\t%.c \t%.c \\\n \\\n # c\r\ndefine E # c\r\nX =$  \r\na: \n\t\n\ty\r\r\nexport \tX:::=   # x ; y : z = 1\r\n") (AddRule Bottom (codes "t $x") One []) ≡ Refused OpenDefine
+row_random_109 : outcome (codes ".RECIPEPREFIX = .\r\n\t \r\naelse\r\nedefine Q\r\na&b\\\na&b: :\t%.c \t%.c \\\n \\\n # c\r\ndefine E # c\r\nX =$  \r\na: \n\t\n\ty\r\r\nexport \tX:::=   # x ; y : z = 1\r\n") (AddRule Bottom (codes "t $x") Single []) ≡ Refused OpenDefine
 row_random_109 = refl
 
 row_random_110 : outcome (codes "\r\n \\\n\tfoo&: -include2 \t$x|  # \\\n\t\\\ndefine\\\\\n|&$\0\n=\na: .PHONY\nelse ifdef Q\nelse ifdef Q\n$(f {) :-include2 \\\n \\\n :\\\n\t$=\t$(s\\)\t|  ; : %.o \\\\ #c \\\n d\r\noverride += a&b  $(f {) \r\n\\\n\t\n") (RemoveRule (Some 1) (codes "$(a b)")) ≡ Refused NoSuch
@@ -346,7 +346,7 @@ row_random_111 = refl
 row_random_112 : outcome (codes "\t\nt \t\t.o&: override \t:= c\n.t: u\n \\\n\nexport\to-$a b)!=\\\r\n \n==\n") (AddRecipe None (codes "${g(}") (codes "x")) ≡ Refused NoSuch
 row_random_112 = refl
 
-row_random_113 : outcome (codes ".PHONY $x:$(s\\)\t$x \t-include2 |foo \n\nx.o y: \n \\\n\n\\#x!= $\\\n  #\\\\") (AddRule (BeforeVar (Some 0) (codes "\\#x")) (codes "x.o $x") Two (codes "$x")) ≡ Refused (BadArgument field.Place)
+row_random_113 : outcome (codes ".PHONY $x:$(s\\)\t$x \t-include2 |foo \n\nx.o y: \n \\\n\n\\#x!= $\\\n  #\\\\") (AddRule (BeforeVar (Some 0) (codes "\\#x")) (codes "x.o $x") Double (codes "$x")) ≡ Refused (BadArgument field.Place)
 row_random_113 = refl
 
 row_random_114 : outcome (codes "$$ \telse :\\\nA+=$(a b)c \r #\\\\\ninclude a\n-x_9 ::= \nA ::=  #\0\n\tendef\n\\\n#\\\\\\\n\na :\\\n\\\n.PHONY \n.PHONY ::\\\n\t\\\r\na&b : | $$ a\n\t#c\n\techo a # b") (RemoveAssign None (codes "-x_9")) ≡ Becomes (codes "$$ \telse :\\\nA+=$(a b)c \r #\\\\\ninclude a\nA ::=  #\0\n\tendef\n\\\n#\\\\\\\n\na :\\\n\\\n.PHONY \n.PHONY ::\\\n\t\\\r\na&b : | $$ a\n\t#c\n\techo a # b")
@@ -355,19 +355,19 @@ row_random_114 = refl
 row_random_115 : outcome (codes "%.c : %.o :\t$$ \r\na&b&:: $(fdefine {) $(s\\)\t%.o \r\na.b\t+= = -include2 \\\r\n $#\\\n\t\\\r\n# c\n${g(} \\\n \\\n  &: \\\n%.o|Ã© $(p #) \n>a\r\n>b\n>endef\r\n$(p #) :: \\\n   \n#;\n\r\n\n#$\r\n") (RemovePrereq (Some 1) (codes "a&b") (codes "$(fdefine {)")) ≡ Becomes (codes "%.c : %.o :\t$$ \r\na&b&:: $(s\\)\t%.o \r\na.b\t+= = -include2 \\\r\n $#\\\n\t\\\r\n# c\n${g(} \\\n \\\n  &: \\\n%.o|Ã© $(p #) \n>a\r\n>b\n>endef\r\n$(p #) :: \\\n   \n#;\n\r\n\n#$\r\n")
 row_random_115 = refl
 
-row_random_116 : outcome (codes " \\\n\texport export  override :::= c# x ; y : z = 1\n.RECIPEPREFIX=\\\na\nendef\\\r\n+== \t#\\\\") (AddRule (AfterVar None (codes "endef")) [] One (codes "$(f {) .PHONY")) ≡ Refused (BadArgument field.Targets)
+row_random_116 : outcome (codes " \\\n\texport export  override :::= c# x ; y : z = 1\n.RECIPEPREFIX=\\\na\nendef\\\r\n+== \t#\\\\") (AddRule (AfterVar None (codes "endef")) [] Single (codes "$(f {) .PHONY")) ≡ Refused (BadArgument field.Targets)
 row_random_116 = refl
 
 row_random_117 : outcome [] (AddAssign Bottom (codes "A") Append (codes "${c} ${g(}")) ≡ Becomes (codes "A += ${c} ${g(}\n")
 row_random_117 = refl
 
-row_random_118 : outcome (codes ">define Q\nta \\\n\tb\ndefine ::= $$  \n") (AddRule Bottom [] Two []) ≡ Refused (BadArgument field.Targets)
+row_random_118 : outcome (codes ">define Q\nta \\\n\tb\ndefine ::= $$  \n") (AddRule Bottom [] Double []) ≡ Refused (BadArgument field.Targets)
 row_random_118 = refl
 
 row_random_119 : outcome (codes ".RECIPEPREFIX = b\nx.o&:: #\\\\\\\n\n\ta\\\n\\\n\t\nendif # c\n$(X) +=\\\n\\\n\0\na: .PHONY ${g(}\n\tendef\n>a \\\n\tb\nunexport Y\n>Z = 1\n a&b -include2 \\\r\n ::${c} \n-include2 &:$(q:;=|):%.o $x |; \r \n &: override :=a&b\t\n-include2: \\\r\n a&b ") (AddPrereq false (Some 1) (codes "-include2") (codes "b")) ≡ Becomes (codes ".RECIPEPREFIX = b\nx.o&:: #\\\\\\\n\n\ta\\\n\\\n\t\nendif # c\n$(X) +=\\\n\\\n\0\na: .PHONY ${g(}\n\tendef\n>a \\\n\tb\nunexport Y\n>Z = 1\n a&b -include2 \\\r\n ::${c} b \n-include2 &:$(q:;=|):%.o $x |; \r \n &: override :=a&b\t\n-include2: \\\r\n a&b ")
 row_random_119 = refl
 
-row_random_120 : outcome (codes "${g(} $(q:;=|) &:%.o \tb|$x\ta \nX&&|=?\\\n!\n\r\n\n \\\n\n$(p #)::: \n\na: \n\nelse ifdef Q\n\\\n+\n%.c:\n") (AddRule Bottom (codes "c") Two (codes "foo")) ≡ Becomes (codes "${g(} $(q:;=|) &:%.o \tb|$x\ta \nX&&|=?\\\n!\n\r\n\n \\\n\n$(p #)::: \n\na: \n\nelse ifdef Q\n\\\n+\n%.c:\nc:: foo\n")
+row_random_120 : outcome (codes "${g(} $(q:;=|) &:%.o \tb|$x\ta \nX&&|=?\\\n!\n\r\n\n \\\n\n$(p #)::: \n\na: \n\nelse ifdef Q\n\\\n+\n%.c:\n") (AddRule Bottom (codes "c") Double (codes "foo")) ≡ Becomes (codes "${g(} $(q:;=|) &:%.o \tb|$x\ta \nX&&|=?\\\n!\n\r\n\n \\\n\n$(p #)::: \n\na: \n\nelse ifdef Q\n\\\n+\n%.c:\nc:: foo\n")
 row_random_120 = refl
 
 row_random_121 : outcome (codes " #c \\\n d\r\n\nelse ifdef Q\ndefine !=\t$ \n>CC+= \t\r\noverride= \t\t#\\\\\\\n\r\na&b :  b :$; $(p #)\\\n\t\\\r\n\na: c  $(q:;=|)\nt#c\nt1 = \nundefine X\r\n") (SetValue None (codes "t1") (codes "t")) ≡ Becomes (codes " #c \\\n d\r\n\nelse ifdef Q\ndefine !=\t$ \n>CC+= \t\r\noverride= \t\t#\\\\\\\n\r\na&b :  b :$; $(p #)\\\n\t\\\r\n\na: c  $(q:;=|)\nt#c\nt1 = t\nundefine X\r\n")
@@ -391,7 +391,7 @@ row_random_126 = refl
 row_random_127 : outcome (codes ".RECIPEPREFIX = X\n :\\\n\t\\\r\ndefine \t::= \\\\\\$x = #c \\\n d\r\nx.o y: c  -include2\n\t \r\ne \n$x &:: ${g(} $(q:;=|) \n") (RemoveRecipe None (codes "y") 2) ≡ Refused Absent
 row_random_127 = refl
 
-row_random_128 : outcome (codes "a&b\\\n: $(p #$(p #)\r\n${g(}: : .PHONY : $$ $(s\\) \r\n") (AddRule Bottom (codes "foo") Two []) ≡ Becomes (codes "a&b\\\n: $(p #$(p #)\r\n${g(}: : .PHONY : $$ $(s\\) \r\nfoo::\n")
+row_random_128 : outcome (codes "a&b\\\n: $(p #$(p #)\r\n${g(}: : .PHONY : $$ $(s\\) \r\n") (AddRule Bottom (codes "foo") Double []) ≡ Becomes (codes "a&b\\\n: $(p #$(p #)\r\n${g(}: : .PHONY : $$ $(s\\) \r\nfoo::\n")
 row_random_128 = refl
 
 row_random_129 : outcome (codes " \\\n\t$(f {) : $x t \\\nt | \\# b\n \\\n\noverride != \\\\ ; \\$x \n") (AppendValue (Some 2) (codes "override") (codes "2 3")) ≡ Refused NoSuch
@@ -406,7 +406,7 @@ row_random_131 = refl
 row_random_132 : outcome (codes ".RECIPEPREFIX = -\n$(a b) :b; \\\\ # \\\n.RECIPEPREFIX= \noverride \tCC \\\n+= \r\n>q +=\\\n\t\\\r\n \r\n") (SetRecipe None (codes "$(a b)") 0 (codes "q:=1")) ≡ Refused Absent
 row_random_132 = refl
 
-row_random_133 : outcome (codes ">x.o &:: \\\n  $(f {): \\\n \\\n $$\\\n\\\n#\r\ndefine \r\nx.o y: \ntdefine Q\n>\\\n\r\n") (AddRule Bottom (codes "$(a b)") Two (codes ".PHONY $(f {)")) ≡ Refused OpenDefine
+row_random_133 : outcome (codes ">x.o &:: \\\n  $(f {): \\\n \\\n $$\\\n\\\n#\r\ndefine \r\nx.o y: \ntdefine Q\n>\\\n\r\n") (AddRule Bottom (codes "$(a b)") Double (codes ".PHONY $(f {)")) ≡ Refused OpenDefine
 row_random_133 = refl
 
 row_random_134 : outcome (codes "include a\nCC::= \\\n  \na: x.o  a\n.a\\\r\n>b\n-include2 &::\\\n\\\n${g(} \ta&b\\\n\t\\\r\n$x\t|$(s\\)  a&b \n") (RenameTarget (codes "x.o") (codes "c")) ≡ Refused NoSuch
@@ -511,7 +511,7 @@ row_random_166 = refl
 row_random_167 : outcome (codes "tZ = 1\nt1 \\\r\n :::=\\\n$$ \r a\\:b\n else ifdef Q\nifndef X # c\n-incude2 : \t| \\\n  \n%.o&: \t$(a b) #c \\\n d\n.RECIPEPREFIX= >\n\t \n") (AddRecipe None (codes "%.o") (codes " a")) ≡ Refused RecipePrefix
 row_random_167 = refl
 
-row_random_168 : outcome (codes "CC:=  #c \\\n d\nX ::= =\n$x:$(f {) c\t| $(q:;=|)  t \nendef#c\nendef ?=\\\n\\\n.PHONY#\n$(s\\) ::$(f {)\\\n\\\nc\n>\\\n\n") (AddRule (BeforeVar (Some 4294967295) (codes "endef")) (codes "${g(}") One (codes "b")) ≡ Refused NoSuch
+row_random_168 : outcome (codes "CC:=  #c \\\n d\nX ::= =\n$x:$(f {) c\t| $(q:;=|)  t \nendef#c\nendef ?=\\\n\\\n.PHONY#\n$(s\\) ::$(f {)\\\n\\\nc\n>\\\n\n") (AddRule (BeforeVar (Some 4294967295) (codes "endef")) (codes "${g(}") Single (codes "b")) ≡ Refused NoSuch
 row_random_168 = refl
 
 row_random_169 : outcome (codes "t\\\n\n \\\n\n.a\\\\\nexport private define E # c\n foo : \\\n\\\n\nx.o y: -include2 t\n\tt: u\n\tendef\n\ta\\\r\n>b\n-x_9!= #\\\\\ndefine += \\\\\\ # c\n$(a b) ::\\\n\t\\\r\n${c}\0") (AddRecipe (Some 1) (codes "b") (codes "t")) ≡ Refused NoSuch
@@ -523,7 +523,7 @@ row_random_170 = refl
 row_random_171 : outcome (codes "ifndef X # c\n.RECIPEPREFIX:= \\\n") (RemoveAssign None (codes ".RECIPEPREFIX")) ≡ Refused Reserved
 row_random_171 = refl
 
-row_random_172 : outcome (codes "\\\n-include2 &:\\\n\t\\\r\n\nendif # c\n\toverride  ::=  t  ") (AddRule (BeforeRule (Some 1) (codes "-include2")) (codes "a") One (codes "$(a b)")) ≡ Becomes (codes "a: $(a b)\n\\\n-include2 &:\\\n\t\\\r\n\nendif # c\n\toverride  ::=  t  ")
+row_random_172 : outcome (codes "\\\n-include2 &:\\\n\t\\\r\n\nendif # c\n\toverride  ::=  t  ") (AddRule (BeforeRule (Some 1) (codes "-include2")) (codes "a") Single (codes "$(a b)")) ≡ Becomes (codes "a: $(a b)\n\\\n-include2 &:\\\n\t\\\r\n\nendif # c\n\toverride  ::=  t  ")
 row_random_172 = refl
 
 row_random_173 : outcome (codes "x.o y: c \\\n \\\n $(a b)\n%.c &:\\\n\t\\\r\nb \r\nX!=\\\n\t\\\r\n$  \\\n  # c\n\\\nendef\r\n>a\\\r\n") (RemoveRecipe None (codes "%.c") 2) ≡ Refused Absent
@@ -535,13 +535,13 @@ row_random_174 = refl
 row_random_175 : outcome (codes " ") (AddAssign Bottom (codes "-x_9") Append []) ≡ Becomes (codes " \n-x_9 +=\n")
 row_random_175 = refl
 
-row_random_176 : outcome (codes "ifdef+= $(a b) |\\\n\n") (AddRule (BeforeVar (Some 0) (codes "ifdef")) (codes "$$ \\") One []) ≡ Refused (BadArgument field.Targets)
+row_random_176 : outcome (codes "ifdef+= $(a b) |\\\n\n") (AddRule (BeforeVar (Some 0) (codes "ifdef")) (codes "$$ \\") Single []) ≡ Refused (BadArgument field.Targets)
 row_random_176 = refl
 
-row_random_177 : outcome (codes "-x_\t\t?= a \n\t\\\nexport X\nY +=  ") (AddRule Bottom (codes "%.c") Two []) ≡ Becomes (codes "-x_\t\t?= a \n\t\\\nexport X\nY +=  \n%.c::\n")
+row_random_177 : outcome (codes "-x_\t\t?= a \n\t\\\nexport X\nY +=  ") (AddRule Bottom (codes "%.c") Double []) ≡ Becomes (codes "-x_\t\t?= a \n\t\\\nexport X\nY +=  \n%.c::\n")
 row_random_177 = refl
 
-row_random_178 : outcome [] (AddRule Bottom (codes "foo") One (codes "$(s\\) $$")) ≡ Becomes (codes "foo: $(s\\) $$\n")
+row_random_178 : outcome [] (AddRule Bottom (codes "foo") Single (codes "$(s\\) $$")) ≡ Becomes (codes "foo: $(s\\) $$\n")
 row_random_178 = refl
 
 row_random_179 : outcome (codes "endif\nfoo: x.o\n\t\n\telse\nt\\\n\n-include2:: $(p #) c \t%.o # \\\n \n\ta\\\r\n>b\n\n\tX$:+=\nexport ifdef = $(s\\) \n") (AddAssign (AfterVar None (codes "t1")) (codes "-x_9") Recursive (codes "\\# \\$x")) ≡ Refused NoSuch
@@ -583,7 +583,7 @@ row_random_190 = refl
 row_random_191 : outcome (codes "$$: %.c b(s\\) $(a b)#\\\\\\\n\n${c}: \r\n\ty\r\r\n>${c} : \\\r\n {\n\\\noverride !=   \n>define D\r\n\telse\n") (AddRecipe (Some 4294967295) (codes "${c}") (codes "\r")) ≡ Refused (BadArgument field.Line)
 row_random_191 = refl
 
-row_random_192 : outcome (codes ".RECIPEPREFIX = t\n$x&: c : a&b | foo #\n\na\n\telse\n: define\\\n\t::= a\\ \neelse\nCC\\\n\t\\\r\n?=\\\r\n#\n") (AddRule (AfterVar None (codes ".RECIPEPREFIX")) (codes "%.o") Two (codes "$(q:;=|) %.c")) ≡ Refused Reserved
+row_random_192 : outcome (codes ".RECIPEPREFIX = t\n$x&: c : a&b | foo #\n\na\n\telse\n: define\\\n\t::= a\\ \neelse\nCC\\\n\t\\\r\n?=\\\r\n#\n") (AddRule (AfterVar None (codes ".RECIPEPREFIX")) (codes "%.o") Double (codes "$(q:;=|) %.c")) ≡ Refused Reserved
 row_random_192 = refl
 
 row_random_193 : outcome (codes "endef :::= \\\n \\\n #\0\n\0+}\n$(p #) :: A \\\n  :=foo  \nb\\\n\\\n:  $(a b) ${c}\\\r\n| $(p #) $(f {)# x ; y : z = 1\n\t \n \\\n\tCC::= 2 3\t# c\n") (RemoveRecipe (Some 4294967295) (codes "b") 2) ≡ Refused NoSuch
@@ -595,7 +595,7 @@ row_random_194 = refl
 row_random_195 : outcome (codes "#\\\\\\\n") (AddAssign Bottom (codes "ifdef") Simple (codes "$(s\\)")) ≡ Refused OpenLine
 row_random_195 = refl
 
-row_random_196 : outcome (codes "a: \n\tifdef Z\r\n$(p #) &: x.o\\\n\t\r\nfoo: $(q:;=|) : \\\n  .PHONY\t|c\\\n\t;\\\n\t\\\r\n2 3\n") (AddRule (BeforeRule None (codes "%.o")) [] Two (codes "${c} t")) ≡ Refused (BadArgument field.Targets)
+row_random_196 : outcome (codes "a: \n\tifdef Z\r\n$(p #) &: x.o\\\n\t\r\nfoo: $(q:;=|) : \\\n  .PHONY\t|c\\\n\t;\\\n\t\\\r\n2 3\n") (AddRule (BeforeRule None (codes "%.o")) [] Double (codes "${c} t")) ≡ Refused (BadArgument field.Targets)
 row_random_196 = refl
 
 row_random_197 : outcome (codes ".RECIPEPREFIX = >\nifneq\nifdef ::= -include2\n#\\\\\\\n\r\n\tendif\nx.o y: t\t$(q:;=|)\n\tdefine Q") (RemoveRule None (codes "y")) ≡ Refused (SharedRule 2)
@@ -607,7 +607,7 @@ row_random_198 = refl
 row_random_199 : outcome (codes "\ta \\\n\tb\n \nb :: \n-include2 \t$(a b) &:\t\\# \t$(q:;=|) \t$(q:;=|)\n\t#c\noverride+= \\# :\\\n\\\n# \\\n$(q:;=|) : -include2\t#\\\\\\\n\\") (RemovePrereq None (codes "b") (codes "x.o")) ≡ Refused Absent
 row_random_199 = refl
 
-row_random_200 : outcome (codes "\\\n$(f { $x :: X \t!=\\\n\\!\n$(s\\)b \n\t\n\t\\\nendef:::= #c \\\n d\n$(q:;=|):\\ \\\n.PHONY \n##X\ndefine\t\n>\\\n\\$\na: %.o\n\ntelse\nfoo: $(a b)\n\telse") (AddRule Bottom (codes "${g(}") Two (codes "%.o foo")) ≡ Refused OpenDefine
+row_random_200 : outcome (codes "\\\n$(f { $x :: X \t!=\\\n\\!\n$(s\\)b \n\t\n\t\\\nendef:::= #c \\\n d\n$(q:;=|):\\ \\\n.PHONY \n##X\ndefine\t\n>\\\n\\$\na: %.o\n\ntelse\nfoo: $(a b)\n\telse") (AddRule Bottom (codes "${g(}") Double (codes "%.o foo")) ≡ Refused OpenDefine
 row_random_200 = refl
 
 row_random_201 : outcome (codes "%.o:a  $(f {) \r\n.RECIPEPREFIX +=\\$x:# \\") (RemoveAssign (Some 0) (codes ".RECIPEPREFIX")) ≡ Refused Reserved
@@ -616,7 +616,7 @@ row_random_201 = refl
 row_random_202 : outcome (codes ">\\\n\nifeq (a,$(b\n &: ifdef !=\\\n\t$\\\n \n${c}  a&b:$(f {)\\\r\n$$\\\n\tc\\\n\\\n\neelse\n") (RemovePrereq None (codes "$(f {)") (codes "t")) ≡ Refused NoSuch
 row_random_202 = refl
 
-row_random_203 : outcome [] (AddRule Bottom (codes "a $(p #)") One (codes "b")) ≡ Becomes (codes "a $(p #): b\n")
+row_random_203 : outcome [] (AddRule Bottom (codes "a $(p #)") Single (codes "b")) ≡ Becomes (codes "a $(p #): b\n")
 row_random_203 = refl
 
 row_random_204 : outcome (codes "\tZ = 1\n\t#c\n\\\na.b :::= $(s\\) \n>#c\n\tx\n\telse\na: ${g(} \noverride define!=$(a b)$(f {)# \\\n") (AddRecipe None (codes "$(a b)") (codes "\tb")) ≡ Refused NoSuch
@@ -640,7 +640,7 @@ row_random_209 = refl
 row_random_210 : outcome (codes "b\n$(p #): a %.o \\\n \\\n foo| c \nendif # c\nCC ?=  #c \\\n d\nelse &:\\\n\t\\\r\nb-include2 x.o #\\\\\\\n\n# \r") (AddAssign (AfterVar None (codes "CC")) (codes "X") Shell []) ≡ Becomes (codes "b\n$(p #): a %.o \\\n \\\n foo| c \nendif # c\nCC ?=  #c \\\n d\nX !=\nelse &:\\\n\t\\\r\nb-include2 x.o #\\\\\\\n\n# \r")
 row_random_210 = refl
 
-row_random_211 : outcome [] (AddRule Bottom (codes "foo") Two (codes "$(p #)")) ≡ Becomes (codes "foo:: $(p #)\n")
+row_random_211 : outcome [] (AddRule Bottom (codes "foo") Double (codes "$(p #)")) ≡ Becomes (codes "foo:: $(p #)\n")
 row_random_211 = refl
 
 row_random_212 : outcome (codes "override\tCC :=\\\n\\\n${c}-include2 \nA =\\\n\\\n\n") (SetValue None (codes "CC") (codes "${g(}")) ≡ Becomes (codes "override\tCC :=\\\n\\\n${g(} \nA =\\\n\\\n\n")
@@ -697,10 +697,10 @@ row_random_228 = refl
 row_random_229 : outcome (codes ".RECIPEPREFIX = $$\n:\n$(q:;=|) : : | x.o \n \\\n \\\n &:ifdef ::= \\\\\nx.o y: \n\tZ = 1\na&b :-include2|foo \\\n") (RemovePrereq None (codes "x=1") (codes "x.o")) ≡ Refused (BadArgument field.Target)
 row_random_229 = refl
 
-row_random_230 : outcome (codes "private\tendef ?= \r\n$(a b) %.o :\t${c} c t # c\r\n+  ?=  \\\n \\\n \r\n>\\\n\r\nendef x\r\nc  &: %.c: t \\\n$$# x ; y : z = 1") (AddRule (BeforeVar None (codes "+")) (codes "$$") Two (codes "t")) ≡ Refused (BadArgument field.Place)
+row_random_230 : outcome (codes "private\tendef ?= \r\n$(a b) %.o :\t${c} c t # c\r\n+  ?=  \\\n \\\n \r\n>\\\n\r\nendef x\r\nc  &: %.c: t \\\n$$# x ; y : z = 1") (AddRule (BeforeVar None (codes "+")) (codes "$$") Double (codes "t")) ≡ Refused (BadArgument field.Place)
 row_random_230 = refl
 
-row_random_231 : outcome (codes ".PHONY :  CC\t=# c\n%.c: :   \n\tdefine Q\nendif # c\nifdef :::= \t\\\n\t\\\r\n\n") (AddRule (AfterVar (Some 2) (codes "ifdef")) (codes "a&b") One (codes "c")) ≡ Refused NoSuch
+row_random_231 : outcome (codes ".PHONY :  CC\t=# c\n%.c: :   \n\tdefine Q\nendif # c\nifdef :::= \t\\\n\t\\\r\n\n") (AddRule (AfterVar (Some 2) (codes "ifdef")) (codes "a&b") Single (codes "c")) ≡ Refused NoSuch
 row_random_231 = refl
 
 row_random_232 : outcome (codes "\t#c\n-include2 &:a.b::= \n$(a b) : a&b $(p #) $(f {) ;\t$$ \nA ?= \\\\\t: = #\0\n\\\n\t\n$(f {)&::\td| \t.PHONY \ndefine := -include2 \\\n  #\\\\\\\n\na: \n\ta\\\\\noverride \t:::= \n") (RemovePrereq None (codes "a") (codes "a&b")) ≡ Refused Absent
@@ -709,13 +709,13 @@ row_random_232 = refl
 row_random_233 : outcome (codes "%.o: .PHONY\\\n\\\n|\\\\\\\n${c}  ${c}\n\t\nexport private define D\n>private a.b :=\n\nfoo: \nA := \\\n \nunexport Y") (SetValue None (codes "-x_9") (codes "foo")) ≡ Refused NoSuch
 row_random_233 = refl
 
-row_random_234 : outcome (codes " befine:=2 3\\\n\t\\\r\n$(w \\\n ") (AddRule Bottom (codes "${g(}") Two (codes "-include2")) ≡ Becomes (codes " befine:=2 3\\\n\t\\\r\n$(w \\\n \n${g(}:: -include2\n")
+row_random_234 : outcome (codes " befine:=2 3\\\n\t\\\r\n$(w \\\n ") (AddRule Bottom (codes "${g(}") Double (codes "-include2")) ≡ Becomes (codes " befine:=2 3\\\n\t\\\r\n$(w \\\n \n${g(}:: -include2\n")
 row_random_234 = refl
 
 row_random_235 : outcome (codes "\t \n\\\n.PHONY $$&:: t\n>q += ${c} %.o \n\t$(p #) &: ${g(}  :  \n") (SetRecipe None (codes ".PHONY") 1 (codes "y # z")) ≡ Refused Absent
 row_random_235 = refl
 
-row_random_236 : outcome (codes "$(f {) &:: a\\ b c |\\\n\\\n #\\\\\\\n\n \\\n \\\n :X::=-include2a ; #c \\\n d\nifdef :::=\\# $( \\\r\n %.c #c \\\n d\nadefine Q\n$(f {) : >q::= \\$x $\\\n#\0\nifndef X # c\nb:::#\\\\\\\n\nifneq\n ${g(}\\\n\t-include2: \\\n \\\n %.c :\\\n\t\\\r\n\\$(s\\) \\\n \\$(p #) a \\\n  | b#c \\\n d\n") (AddRule (BeforeVar (Some 1) (codes "ifdef")) (codes "$$") One (codes "b foo")) ≡ Becomes (codes "$(f {) &:: a\\ b c |\\\n\\\n #\\\\\\\n\n \\\n \\\n :X::=-include2a ; #c \\\n d\n$$: b foo\nifdef :::=\\# $( \\\r\n %.c #c \\\n d\nadefine Q\n$(f {) : >q::= \\$x $\\\n#\0\nifndef X # c\nb:::#\\\\\\\n\nifneq\n ${g(}\\\n\t-include2: \\\n \\\n %.c :\\\n\t\\\r\n\\$(s\\) \\\n \\$(p #) a \\\n  | b#c \\\n d\n")
+row_random_236 : outcome (codes "$(f {) &:: a\\ b c |\\\n\\\n #\\\\\\\n\n \\\n \\\n :X::=-include2a ; #c \\\n d\nifdef :::=\\# $( \\\r\n %.c #c \\\n d\nadefine Q\n$(f {) : >q::= \\$x $\\\n#\0\nifndef X # c\nb:::#\\\\\\\n\nifneq\n ${g(}\\\n\t-include2: \\\n \\\n %.c :\\\n\t\\\r\n\\$(s\\) \\\n \\$(p #) a \\\n  | b#c \\\n d\n") (AddRule (BeforeVar (Some 1) (codes "ifdef")) (codes "$$") Single (codes "b foo")) ≡ Becomes (codes "$(f {) &:: a\\ b c |\\\n\\\n #\\\\\\\n\n \\\n \\\n :X::=-include2a ; #c \\\n d\n$$: b foo\nifdef :::=\\# $( \\\r\n %.c #c \\\n d\nadefine Q\n$(f {) : >q::= \\$x $\\\n#\0\nifndef X # c\nb:::#\\\\\\\n\nifneq\n ${g(}\\\n\t-include2: \\\n \\\n %.c :\\\n\t\\\r\n\\$(s\\) \\\n \\$(p #) a \\\n  | b#c \\\n d\n")
 row_random_236 = refl
 
 row_random_237 : outcome (codes "\t\\\n$| &:\\\n\t\\\r\n$(q:;=|) $(f {) \\\n  $(s\\)\t\nendif\r\n\\\n#c \\\n d\r\nX$ \\\n!= \0 # \r\r\n\\#x:::= \r\n x.o \t$(a b):::  c :\\\r\n$(a b)\\\r\n\r\n!=\\\n(\\\n \\\n}:endef(X\r\n") (RemoveAssign None (codes "\\#x")) ≡ Refused (BadArgument field.Name)
@@ -745,10 +745,10 @@ row_random_244 = refl
 row_random_245 : outcome (codes ".RECIPEPREFIX = X\n$(q:;=|) : : t\tc \r\nexport private define F \\\n\r\nendif # c\r\n>endef\na\t$(a b) :\\\n\t-include2 \r\n\t\\\na&b&::b| \t#\\\\\\\n\r\n ifdef \\\n= \\$x.PHONY $  \t\r\n") (RemoveAssign None (codes ".RECIPEPREFIX")) ≡ Refused Reserved
 row_random_245 = refl
 
-row_random_246 : outcome (codes "endef#c") (AddRule Bottom (codes "foo") One (codes "$(f {) t")) ≡ Becomes (codes "endef#c\nfoo: $(f {) t\n")
+row_random_246 : outcome (codes "endef#c") (AddRule Bottom (codes "foo") Single (codes "$(f {) t")) ≡ Becomes (codes "endef#c\nfoo: $(f {) t\n")
 row_random_246 = refl
 
-row_random_247 : outcome (codes "endef\\\n\n\\\n(=X\\\\\n\\\n|\\\n") (AddRule Bottom (codes "-include2 x.o") Two (codes "a&b b")) ≡ Refused OpenLine
+row_random_247 : outcome (codes "endef\\\n\n\\\n(=X\\\\\n\\\n|\\\n") (AddRule Bottom (codes "-include2 x.o") Double (codes "a&b b")) ≡ Refused OpenLine
 row_random_247 = refl
 
 row_random_248 : outcome (codes ".RECIPEPREFIX = X\n \\\n\tfoo : \\\r\n override \\\r\n a.b != \n==\nendef{\0)\\") (AppendValue None (codes ".RECIPEPREFIX") (codes ":")) ≡ Refused Reserved
@@ -757,7 +757,7 @@ row_random_248 = refl
 row_random_249 : outcome (codes "\\\n\t\na\\\n$(s\\): x=1 \\\n \\\n | $$\n\t\nifdef A\n.\\\n\n>echo a # b\nta \\\n\tb\nx.o y: \n\techo a # b\n#c \\\n d\nX :=  \n") (SetValue None (codes "X") (codes "$(f {)")) ≡ Becomes (codes "\\\n\t\na\\\n$(s\\): x=1 \\\n \\\n | $$\n\t\nifdef A\n.\\\n\n>echo a # b\nta \\\n\tb\nx.o y: \n\techo a # b\n#c \\\n d\nX :=  $(f {)\n")
 row_random_249 = refl
 
-row_random_250 : outcome (codes "define X =\n\t\nifdef ?=} : $# \\\n \\\n $#\\\n\n") (AddRule (BeforeRule None (codes "a")) (codes "a&b ${c}") Two (codes "%.o")) ≡ Refused NoSuch
+row_random_250 : outcome (codes "define X =\n\t\nifdef ?=} : $# \\\n \\\n $#\\\n\n") (AddRule (BeforeRule None (codes "a")) (codes "a&b ${c}") Double (codes "%.o")) ≡ Refused NoSuch
 row_random_250 = refl
 
 row_random_251 : outcome (codes ".RECIPEPREFIX = -\n${g(}:c\\\n:\\\\\\\n%.c  %.c\n\t\\\n$(q:;=|)\\\r\n &: $(s\\)\nendef#c\nY+= a&b #c \\\n d\n\t\\\n  ::\\\n\t\\\r\nY!= a\\  \nY!=\t.PHONY# c\ninclude:: ; \\\n  $$\t\na.b ?= $(p #) \t\n") (RemoveAssign None (codes "a.b")) ≡ Becomes (codes ".RECIPEPREFIX = -\n${g(}:c\\\n:\\\\\\\n%.c  %.c\n\t\\\n$(q:;=|)\\\r\n &: $(s\\)\nendef#c\nY+= a&b #c \\\n d\n\t\\\n  ::\\\n\t\\\r\nY!= a\\  \nY!=\t.PHONY# c\ninclude:: ; \\\n  $$\t\n")
@@ -823,7 +823,7 @@ row_random_270 = refl
 row_random_271 : outcome (codes ".RECIPEPREFIX = X\n$(s\\) :: $= a| ;  \n$$ : \n") (AppendValue None (codes ".RECIPEPREFIX") []) ≡ Refused (BadArgument field.Value)
 row_random_271 = refl
 
-row_random_272 : outcome (codes "$(a b) : $(q:;=|)\t#c \\\n d\nt\\\n\n\n# c\r\n") (AddRule (BeforeRule (Some 4294967295) (codes "$(a b)")) (codes "${c} |d") Two (codes "$(f {) ${c}")) ≡ Refused (BadArgument field.Targets)
+row_random_272 : outcome (codes "$(a b) : $(q:;=|)\t#c \\\n d\nt\\\n\n\n# c\r\n") (AddRule (BeforeRule (Some 4294967295) (codes "$(a b)")) (codes "${c} |d") Double (codes "$(f {) ${c}")) ≡ Refused (BadArgument field.Targets)
 row_random_272 = refl
 
 row_random_273 : outcome (codes "\telse\n\t\n \n${c}:: \\\n \\\n  \n.a\\\n$(f {) &: foo :\\\n$$\\\n\t${c} ; c\n.a \\\n\tb\n\tifeq (a,$(b\nifneq\n%.c::\\\n\n.RECIPEPREFIX\\\n\t= $ $(m \\\n n) \n") (AddAssign (AfterVar None (codes ".RECIPEPREFIX")) (codes "a.b") Recursive (codes "= -include2")) ≡ Refused Reserved
@@ -847,13 +847,13 @@ row_random_278 = refl
 row_random_279 : outcome (codes "x.o : $(q:;=|) \nt1+= a\\:b\\\n\\\n$(a b) \\\r\n \n\tendif\n\t#c \\\n d\n>x\n#\\\\\\\n\na: $(q:;=|)\n>t: u\n\t \n\telse\n #c \\\n d\n") (AppendValue None (codes "t1") []) ≡ Refused (BadArgument field.Value)
 row_random_279 = refl
 
-row_random_280 : outcome [] (AddRule Bottom (codes "a&b %.o") One (codes "t ${c}")) ≡ Becomes (codes "a&b %.o: t ${c}\n")
+row_random_280 : outcome [] (AddRule Bottom (codes "a&b %.o") Single (codes "t ${c}")) ≡ Becomes (codes "a&b %.o: t ${c}\n")
 row_random_280 = refl
 
 row_random_281 : outcome (codes "ifdef :::= #\r\n\t\r\n}\r\n$>#\\\n&>\r{+endef\r\n$(p #) &: $(q:;=|):  | a&b\ta \n# \r\r\noverride \texport  define \\\r\n ::=c ; foo\r\n") (AppendValue None (codes "define") (codes "1")) ≡ Becomes (codes "ifdef :::= #\r\n\t\r\n}\r\n$>#\\\n&>\r{+endef\r\n$(p #) &: $(q:;=|):  | a&b\ta \n# \r\r\noverride \texport  define \\\r\n ::=c ; foo 1\r\n")
 row_random_281 = refl
 
-row_random_282 : outcome (codes "%.c : :\\\\\n &\0\r\nfoo ::t $(s\\) %.o # \r\r\n>#c\n\tifdef Z\n ") (AddRule Bottom (codes ".PHONY") One (codes "$(f {) ${c}")) ≡ Becomes (codes "%.c : :\\\\\n &\0\r\nfoo ::t $(s\\) %.o # \r\r\n>#c\n\tifdef Z\n \n.PHONY: $(f {) ${c}\n")
+row_random_282 : outcome (codes "%.c : :\\\\\n &\0\r\nfoo ::t $(s\\) %.o # \r\r\n>#c\n\tifdef Z\n ") (AddRule Bottom (codes ".PHONY") Single (codes "$(f {) ${c}")) ≡ Becomes (codes "%.c : :\\\\\n &\0\r\nfoo ::t $(s\\) %.o # \r\r\n>#c\n\tifdef Z\n \n.PHONY: $(f {) ${c}\n")
 row_random_282 = refl
 
 row_random_283 : outcome (codes "$x &::\\\n\tx=1 $(s\\) $(a b) \\\r\n | $(a b) #\\\\\r\n>else\r\n\t#c\r\n\t: a.b != #\\\\\\\n\r\n$(a b) %.c\t:: \r\nfoo: ${g(} x.o\no-$(a b) \\\n  += \t2 3x.o\t\\\\ \\\r\n \n\t\nendif # c\r\n\\\n$(p #) : t \\\n \\\n # \r\r\nCC \\\n  !=$\\\n \r\na: \n\\\n\t\n\techo a # b") (RenameTarget (codes "x.o") (codes "$(q:;=|)")) ≡ Refused NoSuch
@@ -889,16 +889,16 @@ row_random_292 = refl
 row_random_293 : outcome (codes "\n$(a b)\\\n: \\\r\n ; \\\n\t\\\r\n\nx.o a ::: \t-include2 \tb \\\n.PHONY ;$x\\\n\n.RECIPEPREFIX =>\n\0\0endef+):X:X?b\r\n") (RemoveAssign None (codes ".RECIPEPREFIX")) ≡ Refused Reserved
 row_random_293 = refl
 
-row_random_294 : outcome (codes "$$ b: : \\\n\t# x ; y : z = 1\n") (AddRule Bottom (codes "t") One []) ≡ Becomes (codes "$$ b: : \\\n\t# x ; y : z = 1\nt:\n")
+row_random_294 : outcome (codes "$$ b: : \\\n\t# x ; y : z = 1\n") (AddRule Bottom (codes "t") Single []) ≡ Becomes (codes "$$ b: : \\\n\t# x ; y : z = 1\nt:\n")
 row_random_294 = refl
 
 row_random_295 : outcome (codes ">a\\\na: x.o $(f {)\n\tdefine Q\n override\\\n\tY :::=$(  \\# \\\n \\\n %.c  \na\\== $(s\\)\\\n\\\n${ut \\\n  \n.Z = 1\n$$\\\n::\\\n\t-include2\t\n-x_9 ::= $(m \\\n n) b\\\\\\#c \\\n d\n# x ; y : z = 1\nvpath %.c a\n") (RemoveAssign (Some 1) (codes "a\\=")) ≡ Refused (BadArgument field.Name)
 row_random_295 = refl
 
-row_random_296 : outcome (codes "${c} : \\\r\n ${c} :\\\n\t\\\r\n$x \nexport define\ntendef\n #\\\\\\\n\nb :: \\\n \\\n b\t$(a b)\naZ = 1\n") (AddRule (BeforeRule (Some 0) (codes "${c}")) (codes "$(f {)") Two []) ≡ Refused NoSuch
+row_random_296 : outcome (codes "${c} : \\\r\n ${c} :\\\n\t\\\r\n$x \nexport define\ntendef\n #\\\\\\\n\nb :: \\\n \\\n b\t$(a b)\naZ = 1\n") (AddRule (BeforeRule (Some 0) (codes "${c}")) (codes "$(f {)") Double []) ≡ Refused NoSuch
 row_random_296 = refl
 
-row_random_297 : outcome (codes "$(;=)\\:  \r\n") (AddRule Bottom (codes "b a&b") Two []) ≡ Becomes (codes "$(;=)\\:  \r\nb a&b::\r\n")
+row_random_297 : outcome (codes "$(;=)\\:  \r\n") (AddRule Bottom (codes "b a&b") Double []) ≡ Becomes (codes "$(;=)\\:  \r\nb a&b::\r\n")
 row_random_297 = refl
 
 row_random_298 : outcome (codes "\tendef\r\n${c} : :t : \t.PHONY b|\ta ${g(}\r\n\t\r\neelse\r\nendif\r\n \\\n\t$x $)c} :: %.o\td| \n\ta\\\\\n ") (RemovePrereq (Some 1) (codes "$(p #)") (codes "b")) ≡ Refused NoSuch
@@ -940,7 +940,7 @@ row_random_309 = refl
 row_random_310 : outcome (codes "\tt  ${c}\t&::-include2  | t \r\nX?=$\\\r\n \neelse\nelse\r\n$(a b) : export >q:= .PHONY  ${u$x \\\r\n \n+ :::= a\\:b  \r\n") (AppendValue None (codes "+") (codes "-include2")) ≡ Refused (BadArgument field.Name)
 row_random_310 = refl
 
-row_random_311 : outcome (codes ".RECIPEPREFIX = >\nunexport Y\nendif # c\n\\\ndefine E # c\n> \na: ${c}\t.PHONY\n\t\nifneq\nCC\\\n\t+=  \nendef\n") (AddRule (BeforeVar None (codes ".RECIPEPREFIX")) (codes "$(p #)") One []) ≡ Refused Reserved
+row_random_311 : outcome (codes ".RECIPEPREFIX = >\nunexport Y\nendif # c\n\\\ndefine E # c\n> \na: ${c}\t.PHONY\n\t\nifneq\nCC\\\n\t+=  \nendef\n") (AddRule (BeforeVar None (codes ".RECIPEPREFIX")) (codes "$(p #)") Single []) ≡ Refused Reserved
 row_random_311 = refl
 
 row_random_312 : outcome (codes ".RECIPEPREFIX = f\nCC\\\n\t::=$\\\r\n 2 3 \nload x\n\\\nifeq (a,$(b\naifdef Z\nc :: \\\n \\\n  \t| %.c# ") (SetValue (Some 0) (codes "CC") []) ≡ Refused NoSuch
@@ -952,7 +952,7 @@ row_random_313 = refl
 row_random_314 : outcome (codes "\\\n\t\nendef\n \nb $(p #)  :: \\\n \\\n X != \r \nA !=a&b  # \r\n$(q:;=|) foo::private override !=${u$x \n>a :-include2 foo a&b | \ta \ta \n.ifdef Z\n") (AddPrereq false None (codes ">a") (codes "$(s\\)")) ≡ Becomes (codes "\\\n\t\nendef\n \nb $(p #)  :: \\\n \\\n X != \r \nA !=a&b  # \r\n$(q:;=|) foo::private override !=${u$x \n>a :-include2 foo a&b $(s\\) | \ta \ta \n.ifdef Z\n")
 row_random_314 = refl
 
-row_random_315 : outcome (codes "define") (AddRule Bottom (codes "a:b") One []) ≡ Refused (BadArgument field.Targets)
+row_random_315 : outcome (codes "define") (AddRule Bottom (codes "a:b") Single []) ≡ Refused (BadArgument field.Targets)
 row_random_315 = refl
 
 row_random_316 : outcome (codes "\t\r\n\ta&b: \t%.c \r\n\texport  ifdef := $# \r\n \\\n\t$(s\\):: t \\\n  : ${g(}|%.c\t\r\nCC!=t${g(}\r\n: $\n(+\r\n\tZ = 1\r\n=define::>define\\\n\r\n") (SetValue (Some 0) (codes "CC") (codes "$(p #)")) ≡ Refused NoSuch
@@ -1009,7 +1009,7 @@ row_random_332 = refl
 row_random_333 : outcome (codes " #\nvpath %.c a\n$x &:%.o  %.c \\\n$x  | %.c\ta&b \nifdef=  \n \\\n\t$$:  $$ # x ; y : z = 1\n$x: :  \n>q ::=  \n") (AppendValue None (codes ">q") (codes "2 3")) ≡ Refused (BadArgument field.Name)
 row_random_333 = refl
 
-row_random_334 : outcome (codes "\\\n|") (AddRule Bottom (codes "${g(}") One (codes "c foo")) ≡ Becomes (codes "\\\n|\n${g(}: c foo\n")
+row_random_334 : outcome (codes "\\\n|") (AddRule Bottom (codes "${g(}") Single (codes "c foo")) ≡ Becomes (codes "\\\n|\n${g(}: c foo\n")
 row_random_334 = refl
 
 row_random_335 : outcome (codes "\r\n::\tifdef \\\n \\\n :::= ${ua\\ \\\r\n$(#\\\\\\\n\r\n\ty\r\n\ta\\\r\n>b\nx.o y: $(f {) \\\nc\n \\\n\n\\\n\t") (SetRecipe (Some 2) (codes "x.o") 0 (codes ">")) ≡ Refused NoSuch
@@ -1030,13 +1030,13 @@ row_random_339 = refl
 row_random_340 : outcome (codes "\t$(\r\nA+=a\\:b -include2\r\n$(q:;=|):\\\n%.o \\# t \r\n\t\\\n\r\n$(a b)\\\r\n$(a b) : $x\t\r\n") (AddPrereq true None (codes "a&b") (codes "a")) ≡ Refused NoSuch
 row_random_340 = refl
 
-row_random_341 : outcome (codes "endef\r\n$(s\\): $(a b) \r\n \\\n\t$(s\\):%.c ${c} \n>ifdef Z\r\nA!= ; \r\nA ?=$(m \\\n n)%.c t# x ; y : z = 1\n\t\\\nifdef \\\n= \\\n \\\n $(q:;=|)$(q:;=|) \n-include2  %.c\\\n\t\\\r\n:: a.b!= x  y =\n") (AddRule (AfterVar (Some 1) (codes "A")) (codes "a&b") One []) ≡ Becomes (codes "endef\r\n$(s\\): $(a b) \r\n \\\n\t$(s\\):%.c ${c} \n>ifdef Z\r\nA!= ; \r\na&b:\r\nA ?=$(m \\\n n)%.c t# x ; y : z = 1\n\t\\\nifdef \\\n= \\\n \\\n $(q:;=|)$(q:;=|) \n-include2  %.c\\\n\t\\\r\n:: a.b!= x  y =\n")
+row_random_341 : outcome (codes "endef\r\n$(s\\): $(a b) \r\n \\\n\t$(s\\):%.c ${c} \n>ifdef Z\r\nA!= ; \r\nA ?=$(m \\\n n)%.c t# x ; y : z = 1\n\t\\\nifdef \\\n= \\\n \\\n $(q:;=|)$(q:;=|) \n-include2  %.c\\\n\t\\\r\n:: a.b!= x  y =\n") (AddRule (AfterVar (Some 1) (codes "A")) (codes "a&b") Single []) ≡ Becomes (codes "endef\r\n$(s\\): $(a b) \r\n \\\n\t$(s\\):%.c ${c} \n>ifdef Z\r\nA!= ; \r\na&b:\r\nA ?=$(m \\\n n)%.c t# x ; y : z = 1\n\t\\\nifdef \\\n= \\\n \\\n $(q:;=|)$(q:;=|) \n-include2  %.c\\\n\t\\\r\n:: a.b!= x  y =\n")
 row_random_341 = refl
 
 row_random_342 : outcome (codes "foo &: a&b $(f {) $(s\\) \n.RECIPEPREFIX!= \\$x \na: foo\ta&b\n>#c\n\tifdef Z\n>#c\n\ty\r\nifdef\\\nB\n") (AddRecipe None (codes "a") (codes "\tb")) ≡ Refused RecipePrefix
 row_random_342 = refl
 
-row_random_343 : outcome (codes "x.o &:%.o  %.o\\\n\r=") (AddRule (BeforeVar (Some 4294967295) (codes "ifdef")) (codes "${c} ${c}") One (codes "$(f {) $(a b)")) ≡ Refused NoSuch
+row_random_343 : outcome (codes "x.o &:%.o  %.o\\\n\r=") (AddRule (BeforeVar (Some 4294967295) (codes "ifdef")) (codes "${c} ${c}") Single (codes "$(f {) $(a b)")) ≡ Refused NoSuch
 row_random_343 = refl
 
 row_random_344 : outcome (codes "$(q:;=|): : \t$(p #)  ${g(}\n\t\r\n)\r\nt1 = #c \\\n d\n\t\\\n$(u %.c \\\n: Y ::= \r\nifeq (a,$(b\nCC  != x  y $(f {)# \\\nx.o y: %.o\t$(q:;=|)\n>ifdef Z\nendif # c\n") (AppendValue (Some 1) (codes "CC") (codes "a")) ≡ Becomes (codes "$(q:;=|): : \t$(p #)  ${g(}\n\t\r\n)\r\nt1 = #c \\\n d\n\t\\\n$(u %.c \\\n: Y ::= \r\nifeq (a,$(b\nCC  != x  y $(f {) a# \\\nx.o y: %.o\t$(q:;=|)\n>ifdef Z\nendif # c\n")
@@ -1051,7 +1051,7 @@ row_random_346 = refl
 row_random_347 : outcome (codes ".RECIPEPREFIX = >\nendef#c\n\ta\\\r\n>b\n$$ $(q:;=|) ::: # x ; y : z = 1\n=define&\r\ndefine=\\\n-include2 :%.o\n.RECIPEPREFIX= .\n\ta: $(q:;=|)\\\n\\\n%.o\t\nelse ifdef Q\nA := \n") (SetValue (Some 1) (codes ".RECIPEPREFIX") (codes "\\#")) ≡ Refused Reserved
 row_random_347 = refl
 
-row_random_348 : outcome (codes "$\t \tfoo:${c} : -include2\\\n\t\\\r\nx.o \tx.o| $(a b) \ndefine \neecho a # b\n-x_9 :::= x  y\\\n\\\na&b$x \nA:::= \\\na&b${g(}\\\n\t\\\r\n# \r\n# \r\n${g(}: \\\na\t$(s\\) \t\n\t\\\nt:: \n\t#c \\\n d\n") (AddRule Bottom (codes "$$") One (codes "-include2")) ≡ Refused OpenDefine
+row_random_348 : outcome (codes "$\t \tfoo:${c} : -include2\\\n\t\\\r\nx.o \tx.o| $(a b) \ndefine \neecho a # b\n-x_9 :::= x  y\\\n\\\na&b$x \nA:::= \\\na&b${g(}\\\n\t\\\r\n# \r\n# \r\n${g(}: \\\na\t$(s\\) \t\n\t\\\nt:: \n\t#c \\\n d\n") (AddRule Bottom (codes "$$") Single (codes "-include2")) ≡ Refused OpenDefine
 row_random_348 = refl
 
 row_random_349 : outcome (codes ".ifdef Z\n : Y?= a\\ \\\\\\ \nt&:: %.c:| \\\n\n.RECIPEPREFIX = >>\n-x_9 :::= \n") (SetValue None (codes "-x_9") (codes "2 3")) ≡ Becomes (codes ".ifdef Z\n : Y?= a\\ \\\\\\ \nt&:: %.c:| \\\n\n.RECIPEPREFIX = >>\n-x_9 :::= 2 3\n")
@@ -1084,7 +1084,7 @@ row_random_357 = refl
 row_random_358 : outcome (codes ".RECIPEXPREFIX = %\r\n\\\ninclude a\r\nifdef = : c.PHONY \n\\\n\t\r\nt: foo\t${g(} \t|t\\\n\\\n; $(a b) \n$(a b): \\\n  ; $x \r\n${g(}: c\t\r\nvpath %.c a\ndefineendef>\\\\\n\n# c\r\n") (RemovePrereq None (codes "${g(}") (codes "c")) ≡ Becomes (codes ".RECIPEXPREFIX = %\r\n\\\ninclude a\r\nifdef = : c.PHONY \n\\\n\t\r\nt: foo\t${g(} \t|t\\\n\\\n; $(a b) \n$(a b): \\\n  ; $x \r\n${g(}:\t\r\nvpath %.c a\ndefineendef>\\\\\n\n# c\r\n")
 row_random_358 = refl
 
-row_random_359 : outcome (codes "override?\\\n= \\\r\n x.o \\\r\n #\0\r\nea\\\\\r\ntendef\r\n\\\n# c") (AddRule Bottom (codes "b") Two (codes "b")) ≡ Becomes (codes "override?\\\n= \\\r\n x.o \\\r\n #\0\r\nea\\\\\r\ntendef\r\n\\\n# c\nb:: b\n")
+row_random_359 : outcome (codes "override?\\\n= \\\r\n x.o \\\r\n #\0\r\nea\\\\\r\ntendef\r\n\\\n# c") (AddRule Bottom (codes "b") Double (codes "b")) ≡ Becomes (codes "override?\\\n= \\\r\n x.o \\\r\n #\0\r\nea\\\\\r\ntendef\r\n\\\n# c\nb:: b\n")
 row_random_359 = refl
 
 row_random_360 : outcome (codes ".RECIPEPREFIX = %") (AddAssign (AfterVar None (codes ".RECIPEPREFIX")) (codes "define") Append []) ≡ Refused Reserved
@@ -1096,10 +1096,10 @@ row_random_361 = refl
 row_random_362 : outcome (codes ".RECIPEPREFIX = :\n \\\n\t &:\tCC += %.c $(a b)\r\n\ta \\\n\tb\r\n>$$ &: $(p #)\t: \t |a;  \n.Z = 1\n\tifdef Z\n.RECIPEPREFIX=\r\nt : : t x.o x.o | \t \t# \r") (SetValue (Some 1) (codes ".RECIPEPREFIX") (codes "$$")) ≡ Refused Reserved
 row_random_362 = refl
 
-row_random_363 : outcome (codes "else\n\\\nendif\n\t# x ; y : z = 1\n.define Q\n$(a b)&: \tc\\\n\\\n: ${c} $(q:;=|) \na :\\\r\n$(p #) t| $$\n$(a b) &::b $x |%.o  \n${g(}: foo\n") (AddRule (BeforeRule None (codes "${g(}")) (codes "foo t") One (codes "t $(a b)")) ≡ Becomes (codes "else\n\\\nendif\n\t# x ; y : z = 1\n.define Q\n$(a b)&: \tc\\\n\\\n: ${c} $(q:;=|) \na :\\\r\n$(p #) t| $$\n$(a b) &::b $x |%.o  \nfoo t: t $(a b)\n${g(}: foo\n")
+row_random_363 : outcome (codes "else\n\\\nendif\n\t# x ; y : z = 1\n.define Q\n$(a b)&: \tc\\\n\\\n: ${c} $(q:;=|) \na :\\\r\n$(p #) t| $$\n$(a b) &::b $x |%.o  \n${g(}: foo\n") (AddRule (BeforeRule None (codes "${g(}")) (codes "foo t") Single (codes "t $(a b)")) ≡ Becomes (codes "else\n\\\nendif\n\t# x ; y : z = 1\n.define Q\n$(a b)&: \tc\\\n\\\n: ${c} $(q:;=|) \na :\\\r\n$(p #) t| $$\n$(a b) &::b $x |%.o  \nfoo t: t $(a b)\n${g(}: foo\n")
 row_random_363 = refl
 
-row_random_364 : outcome (codes "$(f {) $(a b) : \\\n$$  :\\\n\t%.o $(q:;=|)  t\\\n# \\\n\r)\\\n\r\n\r\n\t\r\n\tendef\r\n\ta\\\\\n\ta\\\n") (AddRule Bottom (codes "$(a b)") Two []) ≡ Refused OpenLine
+row_random_364 : outcome (codes "$(f {) $(a b) : \\\n$$  :\\\n\t%.o $(q:;=|)  t\\\n# \\\n\r)\\\n\r\n\r\n\t\r\n\tendef\r\n\ta\\\\\n\ta\\\n") (AddRule Bottom (codes "$(a b)") Double []) ≡ Refused OpenLine
 row_random_364 = refl
 
 row_random_365 : outcome (codes "override undefine X\n\\\na: : $x\t-include2  a&b \t|  \n\na&b : \t$(s\\) : a  a&b \t-include2 #\\\\") (RemoveRecipe None (codes "a&b") 2) ≡ Refused Absent
@@ -1132,7 +1132,7 @@ row_random_373 = refl
 row_random_374 : outcome (codes "a|\\\n\n}\r\nprivate\r\n") (AddAssign Bottom (codes ">q") Shell (codes "%.c")) ≡ Refused (BadArgument field.Name)
 row_random_374 = refl
 
-row_random_375 : outcome (codes "a&b &: c :  \r\n>\n? $+\t\r{= \r\neelse\r\n&\r\n\r\n b &:  $|\\\r\n:$(f {) \r\n") (AddRule Bottom (codes "t") One (codes "$(p #) b")) ≡ Becomes (codes "a&b &: c :  \r\n>\n? $+\t\r{= \r\neelse\r\n&\r\n\r\n b &:  $|\\\r\n:$(f {) \r\nt: $(p #) b\r\n")
+row_random_375 : outcome (codes "a&b &: c :  \r\n>\n? $+\t\r{= \r\neelse\r\n&\r\n\r\n b &:  $|\\\r\n:$(f {) \r\n") (AddRule Bottom (codes "t") Single (codes "$(p #) b")) ≡ Becomes (codes "a&b &: c :  \r\n>\n? $+\t\r{= \r\neelse\r\n&\r\n\r\n b &:  $|\\\r\n:$(f {) \r\nt: $(p #) b\r\n")
 row_random_375 = refl
 
 row_random_376 : outcome (codes "b :$x\t$(q:;=|) b \n\ty\r\na\\= != :\\\r\na\\ \\\\ \n") (AddPrereq false None (codes "b") (codes "$$")) ≡ Becomes (codes "b :$x\t$(q:;=|) b $$ \n\ty\r\na\\= != :\\\r\na\\ \\\\ \n")
@@ -1144,7 +1144,7 @@ row_random_377 = refl
 row_random_378 : outcome (codes "define .RECIPEPREFIX\na.b :::=   \nfoo :: + ?=$\\\r\n\\\n\t\\\r\n${c} \n%.c &: $(s\\);\r\n") (AddAssign Bottom (codes "e") PosixSimple []) ≡ Refused RecipePrefix
 row_random_378 = refl
 
-row_random_379 : outcome (codes "endif # c\r\na .PHONY &: $(f {) \t$(f {) # c\r\n$(a b): t |$(a b) \r\n.PHONY : .PHONY\\\r\n: %.o $x ${c}| $(a b)\r\n|d :: $x $(f {) | $(q:;=|) \r\nifdef A\r\n") (AddRule (BeforeRule None (codes ".PHONY")) (codes "b $;") One []) ≡ Becomes (codes "endif # c\r\nb $;:\r\na .PHONY &: $(f {) \t$(f {) # c\r\n$(a b): t |$(a b) \r\n.PHONY : .PHONY\\\r\n: %.o $x ${c}| $(a b)\r\n|d :: $x $(f {) | $(q:;=|) \r\nifdef A\r\n")
+row_random_379 : outcome (codes "endif # c\r\na .PHONY &: $(f {) \t$(f {) # c\r\n$(a b): t |$(a b) \r\n.PHONY : .PHONY\\\r\n: %.o $x ${c}| $(a b)\r\n|d :: $x $(f {) | $(q:;=|) \r\nifdef A\r\n") (AddRule (BeforeRule None (codes ".PHONY")) (codes "b $;") Single []) ≡ Becomes (codes "endif # c\r\nb $;:\r\na .PHONY &: $(f {) \t$(f {) # c\r\n$(a b): t |$(a b) \r\n.PHONY : .PHONY\\\r\n: %.o $x ${c}| $(a b)\r\n|d :: $x $(f {) | $(q:;=|) \r\nifdef A\r\n")
 row_random_379 = refl
 
 row_random_380 : outcome (codes "\0=&X\n\n\tt: u\nCC:= $(s\\)  .PHONY \\\n$\\\r\n # c\n-x_9 !=\\# \n#\r\n>\n$$: include  $(p #) -include2 \\\r\n | ${g(} #\0") (RemoveAssign None (codes "CC")) ≡ Becomes (codes "\0=&X\n\n\tt: u\n-x_9 !=\\# \n#\r\n>\n$$: include  $(p #) -include2 \\\r\n | ${g(} #\0")
@@ -1156,13 +1156,13 @@ row_random_381 = refl
 row_random_382 : outcome (codes "-x_9 ::= a&b \0 $(f {) \r\n \r\n${c}\ta &:$(f {) $$ $(s\\) \t\na \t: $(p #); \tx  y \\\n\r\na.b  ?=$(q:;=|) \\$x # \r\r\nfoo:${c}:   |  \r\n${c} : :\t%.c\t%.c \n") (RemovePrereq None (codes "foo") (codes "$(p #)")) ≡ Refused Absent
 row_random_382 = refl
 
-row_random_383 : outcome (codes ".PHONY:: \\\n \\\n \\\n\t\\\r\n# c\n") (AddRule Bottom (codes "a:b") Two (codes "$(q:;=|) .PHONY")) ≡ Refused (BadArgument field.Targets)
+row_random_383 : outcome (codes ".PHONY:: \\\n \\\n \\\n\t\\\r\n# c\n") (AddRule Bottom (codes "a:b") Double (codes "$(q:;=|) .PHONY")) ≡ Refused (BadArgument field.Targets)
 row_random_383 = refl
 
 row_random_384 : outcome (codes "a: \nb!\n\\\\\n$!+=)\0$endef\nY +=; 2 3 $(w \\\n \n\tZ = 1\n") (AddRecipe None (codes "a") []) ≡ Becomes (codes "a: \n\t\nb!\n\\\\\n$!+=)\0$endef\nY +=; 2 3 $(w \\\n \n\tZ = 1\n")
 row_random_384 = refl
 
-row_random_385 : outcome (codes "${c} : -x_9 ::= 2 3 \nx.o y: \nifndef X # c\n") (AddRule Bottom (codes "x.o") Two (codes "-include2")) ≡ Becomes (codes "${c} : -x_9 ::= 2 3 \nx.o y: \nifndef X # c\nx.o:: -include2\n")
+row_random_385 : outcome (codes "${c} : -x_9 ::= 2 3 \nx.o y: \nifndef X # c\n") (AddRule Bottom (codes "x.o") Double (codes "-include2")) ≡ Becomes (codes "${c} : -x_9 ::= 2 3 \nx.o y: \nifndef X # c\nx.o:: -include2\n")
 row_random_385 = refl
 
 row_random_386 : outcome (codes ".RECIPEPREFIX = .\n\tA :::=$(m \\\n n) \\\n=$(s\\)#\\\\\n\t#\\\\\n>define Q\n\n\\\n+)+\r(\r\n\0\n") (AddAssign Bottom (codes "t") Conditional (codes "$(a b)")) ≡ Becomes (codes ".RECIPEPREFIX = .\n\tA :::=$(m \\\n n) \\\n=$(s\\)#\\\\\n\t#\\\\\n>define Q\n\n\\\n+)+\r(\r\n\0\nt ?= $(a b)\n")
@@ -1171,7 +1171,7 @@ row_random_386 = refl
 row_random_387 : outcome (codes "\tendif\r\ntt: u\r\n \\\n\t$(a b)  &: x.o : a&b\t$x | \t# \r\r\n>$(p #) :::\t$(f {) \\\n \\\n $(f {)| $& $$;$($#%.o \r\n") (RemoveRule None (codes "tt")) ≡ Becomes (codes "\tendif\r\n \\\n\t$(a b)  &: x.o : a&b\t$x | \t# \r\r\n>$(p #) :::\t$(f {) \\\n \\\n $(f {)| $& $$;$($#%.o \r\n")
 row_random_387 = refl
 
-row_random_388 : outcome (codes "$(s\\) &:\\\n\\\n;\t\r \nendif\n") (AddRule (BeforeRule None (codes "c")) (codes "c") Two (codes "$$")) ≡ Refused NoSuch
+row_random_388 : outcome (codes "$(s\\) &:\\\n\\\n;\t\r \nendif\n") (AddRule (BeforeRule None (codes "c")) (codes "c") Double (codes "$$")) ≡ Refused NoSuch
 row_random_388 = refl
 
 row_random_389 : outcome [] (AddRecipe (Some 0) (codes "else") (codes "x")) ≡ Refused Reserved
@@ -1186,7 +1186,7 @@ row_random_391 = refl
 row_random_392 : outcome (codes ".RECIPEPREFIX = f\r\n \r\n!(>+\r\n>endif\r\nendef := ${c}#\0\r\nb&: a \t.PHONY |\\\n\\\nx.o \\\r\r\n \r\n") (AddAssign Bottom (codes ">q") Append (codes "$$")) ≡ Refused (BadArgument field.Name)
 row_random_392 = refl
 
-row_random_393 : outcome (codes " : -x_9 :::= \\\n$$ 2 3 | \n.RECIP\rEPREFIX::=\\\n>\n\tZ = 1\n") (AddRule (AfterVar None (codes "endef")) (codes "foo") One (codes "$(q:;=|) %.o")) ≡ Refused NoSuch
+row_random_393 : outcome (codes " : -x_9 :::= \\\n$$ 2 3 | \n.RECIP\rEPREFIX::=\\\n>\n\tZ = 1\n") (AddRule (AfterVar None (codes "endef")) (codes "foo") Single (codes "$(q:;=|) %.o")) ≡ Refused NoSuch
 row_random_393 = refl
 
 row_random_394 : outcome (codes ".RECIPEPREFIX = $$\n$$::: foo \n") (AddAssign (BeforeVar (Some 4294967295) (codes ".RECIPEPREFIX")) (codes "e") Append (codes "${c}")) ≡ Refused Reserved
@@ -1198,7 +1198,7 @@ row_random_395 = refl
 row_random_396 : outcome (codes "!") (SetRecipe None (codes "$x") 2 (codes "q:=1")) ≡ Refused NoSuch
 row_random_396 = refl
 
-row_random_397 : outcome (codes "\noverride .RECIPEPREFIX :::=\\\na\na&b a :\\\n\t\\\r\nb :\\\n\\\n%.c -include2 $x;\\\n=${g(} \n") (AddRule (BeforeRule (Some 2) (codes "a&b")) (codes "foo") Two (codes "-include2 b")) ≡ Refused RecipePrefix
+row_random_397 : outcome (codes "\noverride .RECIPEPREFIX :::=\\\na\na&b a :\\\n\t\\\r\nb :\\\n\\\n%.c -include2 $x;\\\n=${g(} \n") (AddRule (BeforeRule (Some 2) (codes "a&b")) (codes "foo") Double (codes "-include2 b")) ≡ Refused RecipePrefix
 row_random_397 = refl
 
 row_random_398 : outcome (codes ".RECIPEPREFIX = f\r\nelse ifdef Q\r\nx.o y: c\n>a \\\n\tb\r\nc:\\\n.PHONY \r\n# \\") (RemoveRecipe None (codes "foo") 0) ≡ Refused NoSuch
@@ -1210,7 +1210,7 @@ row_random_399 = refl
 row_random_400 : outcome (codes " \\\n\tifndef X # c\r\n\t#\0\r\n o-$(a b) \t!= %.o \\$x $(w \\\n # \\\n\\\n#define\n>else\n\tx\r\n\n") (SetValue None (codes "o-$(a b)") (codes "${g(} a\\:b")) ≡ Refused (BadArgument field.Name)
 row_random_400 = refl
 
-row_random_401 : outcome (codes "\tifdef {X$ :::= $\\\n \\\r\n$| \\$x \nendef\nfoo: \n\\\n\r\n\\\\\n") (AddRule Bottom (codes "${c}") Two (codes "$(q:;=|) x.o")) ≡ Becomes (codes "\tifdef {X$ :::= $\\\n \\\r\n$| \\$x \nendef\nfoo: \n\\\n\r\n\\\\\n${c}:: $(q:;=|) x.o\n")
+row_random_401 : outcome (codes "\tifdef {X$ :::= $\\\n \\\r\n$| \\$x \nendef\nfoo: \n\\\n\r\n\\\\\n") (AddRule Bottom (codes "${c}") Double (codes "$(q:;=|) x.o")) ≡ Becomes (codes "\tifdef {X$ :::= $\\\n \\\r\n$| \\$x \nendef\nfoo: \n\\\n\r\n\\\\\n${c}:: $(q:;=|) x.o\n")
 row_random_401 = refl
 
 row_random_402 : outcome [] (AddAssign Bottom (codes "a.b") Append (codes "a")) ≡ Becomes (codes "a.b += a\n")
@@ -1285,7 +1285,7 @@ row_random_424 = refl
 row_random_425 : outcome (codes "endef x\n>$(f {) &: $(a b) \nifndef X # c\nb : : foo %.c $(s\\)| $ \\\n\\\n\nfoo: .PHONY\nendif # c\nA +=$(a b) foo1 \n.RECIPEPREFIX=\\\n# c\n\tZ = 1\n\tZ = 1\n$x :foo $(p #)| \n") (AddPrereq false None (codes ">$(f {)") (codes "Ã©")) ≡ Becomes (codes "endef x\n>$(f {) &: $(a b) Ã© \nifndef X # c\nb : : foo %.c $(s\\)| $ \\\n\\\n\nfoo: .PHONY\nendif # c\nA +=$(a b) foo1 \n.RECIPEPREFIX=\\\n# c\n\tZ = 1\n\tZ = 1\n$x :foo $(p #)| \n")
 row_random_425 = refl
 
-row_random_426 : outcome [] (AddRule Bottom (codes "%.c") One []) ≡ Becomes (codes "%.c:\n")
+row_random_426 : outcome [] (AddRule Bottom (codes "%.c") Single []) ≡ Becomes (codes "%.c:\n")
 row_random_426 = refl
 
 row_random_427 : outcome (codes " \\\n\t${g(}\t$(s\\): -include2 \tt \\\n  #\0\na: ${g(}\n>endif\n\ta \\\n\tb\nc &:: \\\na&b\\\r\n#\n") (RenameTarget (codes "a") (codes "$x")) ≡ Becomes (codes " \\\n\t${g(}\t$(s\\): -include2 \tt \\\n  #\0\n$x: ${g(}\n>endif\n\ta \\\n\tb\nc &:: \\\na&b\\\r\n#\n")
@@ -1294,10 +1294,10 @@ row_random_427 = refl
 row_random_428 : outcome (codes ".REC\r\nEPREFIX = c\n\t\n") (RemoveAssign (Some 0) (codes "EPREFIX")) ≡ Refused NoSuch
 row_random_428 = refl
 
-row_random_429 : outcome [] (AddRule Bottom (codes "$(p #)") Two (codes "t")) ≡ Becomes (codes "$(p #):: t\n")
+row_random_429 : outcome [] (AddRule Bottom (codes "$(p #)") Double (codes "t")) ≡ Becomes (codes "$(p #):: t\n")
 row_random_429 = refl
 
-row_random_430 : outcome (codes "ECIPEPREFIX = f\n define\\\r\n= \\\\ $( \\\n \n\t\\\r\n") (AddRule (AfterVar None (codes "ECIPEPREFIX")) (codes "$x ${c}") Two (codes "a")) ≡ Becomes (codes "ECIPEPREFIX = f\n$x ${c}:: a\n define\\\r\n= \\\\ $( \\\n \n\t\\\r\n")
+row_random_430 : outcome (codes "ECIPEPREFIX = f\n define\\\r\n= \\\\ $( \\\n \n\t\\\r\n") (AddRule (AfterVar None (codes "ECIPEPREFIX")) (codes "$x ${c}") Double (codes "a")) ≡ Becomes (codes "ECIPEPREFIX = f\n$x ${c}:: a\n define\\\r\n= \\\\ $( \\\n \n\t\\\r\n")
 row_random_430 = refl
 
 row_random_431 : outcome (codes "e}dif\\\\") (AddAssign Bottom (codes "a.b") Immediate []) ≡ Becomes (codes "e}dif\\\\\na.b :::=\n")
@@ -1333,7 +1333,7 @@ row_random_440 = refl
 row_random_441 : outcome (codes "endif # c\n$(X) =\\\n\t$(s\\)\nelse ifdef Q\r\n-include2 \\\n \\\n :\t$(p #) \t%.c $(a b) ;\\\n\\\n\n\t \r\na:: foo\t%.o .PHONY# c") (AppendValue None (codes "$(X)") (codes "2 3")) ≡ Refused (BadArgument field.Name)
 row_random_441 = refl
 
-row_random_442 : outcome (codes "b") (AddRule Bottom (codes "${c} %.c") Two (codes "e$#f ${g(}")) ≡ Becomes (codes "b\n${c} %.c:: e$#f ${g(}\n")
+row_random_442 : outcome (codes "b") (AddRule Bottom (codes "${c} %.c") Double (codes "e$#f ${g(}")) ≡ Becomes (codes "b\n${c} %.c:: e$#f ${g(}\n")
 row_random_442 = refl
 
 row_random_443 : outcome (codes "$") (AddAssign Bottom (codes "CC") Shell (codes "$(f {)")) ≡ Becomes (codes "$\nCC != $(f {)\n")
@@ -1345,7 +1345,7 @@ row_random_444 = refl
 row_random_445 : outcome (codes "private private -x_9:::= t $(w \\\n x  y\\\r\n#\\\\\\\n\r\n%.c ${g(}: c : $(p #)\\\n\t& | a $(p #) \t; \\\n  \0 x.o $(m \\\n n) \r\n\\\nb&:$$ $(a b) $x\t|  # \\\\\\") (RemoveRecipe None (codes "b") 2) ≡ Refused Absent
 row_random_445 = refl
 
-row_random_446 : outcome (codes "\\\n# \r\n\tt: u\ndefine F \\\n\n%.o ::\tt \\\n$(p #)  \n.RECIPEPREFIX +=\\\na\n") (AddRule Bottom (codes "%.c") Two (codes "%.c")) ≡ Refused OpenDefine
+row_random_446 : outcome (codes "\\\n# \r\n\tt: u\ndefine F \\\n\n%.o ::\tt \\\n$(p #)  \n.RECIPEPREFIX +=\\\na\n") (AddRule Bottom (codes "%.c") Double (codes "%.c")) ≡ Refused OpenDefine
 row_random_446 = refl
 
 row_random_447 : outcome (codes "endef#c\na.b= a\ta&b .PHONY\\\n\\\n\nt::: \\\n \\\n b .PHONY\ta&b \n>else\n#\n\n") (RemoveRule (Some 4294967295) (codes "$(s\\)")) ≡ Refused NoSuch
@@ -1357,13 +1357,13 @@ row_random_448 = refl
 row_random_449 : outcome (codes "A ?=${g(}\0 x  y\nt ::$x ; \\# \\# $(q:;=|)# \r\n\t \nta\\\n") (RemoveRule None (codes "t")) ≡ Becomes (codes "A ?=${g(}\0 x  y\nta\\\n")
 row_random_449 = refl
 
-row_random_450 : outcome (codes ".RECIPEPREFIX = X\n\\\n#\\\\\\\n\nendif\r\nx.o :::  \\\n\r\n$(a b): \\\r\n %.o\\\r\na \\\na\r\n") (AddRule Bottom (codes "$(q:;=|)") Two (codes "${c}")) ≡ Becomes (codes ".RECIPEPREFIX = X\n\\\n#\\\\\\\n\nendif\r\nx.o :::  \\\n\r\n$(a b): \\\r\n %.o\\\r\na \\\na\r\n$(q:;=|):: ${c}\n")
+row_random_450 : outcome (codes ".RECIPEPREFIX = X\n\\\n#\\\\\\\n\nendif\r\nx.o :::  \\\n\r\n$(a b): \\\r\n %.o\\\r\na \\\na\r\n") (AddRule Bottom (codes "$(q:;=|)") Double (codes "${c}")) ≡ Becomes (codes ".RECIPEPREFIX = X\n\\\n#\\\\\\\n\nendif\r\nx.o :::  \\\n\r\n$(a b): \\\r\n %.o\\\r\na \\\na\r\n$(q:;=|):: ${c}\n")
 row_random_450 = refl
 
-row_random_451 : outcome (codes "\tt: u\r\nx.o y: $(f {)\n.a\\\\\r\n") (AddRule (BeforeRule None (codes "x.o")) (codes "$(p #)") Two []) ≡ Becomes (codes "\tt: u\r\n$(p #)::\r\nx.o y: $(f {)\n.a\\\\\r\n")
+row_random_451 : outcome (codes "\tt: u\r\nx.o y: $(f {)\n.a\\\\\r\n") (AddRule (BeforeRule None (codes "x.o")) (codes "$(p #)") Double []) ≡ Becomes (codes "\tt: u\r\n$(p #)::\r\nx.o y: $(f {)\n.a\\\\\r\n")
 row_random_451 = refl
 
-row_random_452 : outcome (codes "\t\\\nifdef A\r\nifdef= \t\r\nifdef\\\nB\r\n>q+= $ #) #\\\\\\\n\nx.o y: \n\t$(\n\tendef\n.PHONY::$( {)  %.c |a \r\n\tifdef Z\n") (AddRule (AfterVar None (codes "ifdef")) (codes "%.c") Two (codes "b")) ≡ Becomes (codes "\t\\\nifdef A\r\nifdef= \t\r\n%.c:: b\nifdef\\\nB\r\n>q+= $ #) #\\\\\\\n\nx.o y: \n\t$(\n\tendef\n.PHONY::$( {)  %.c |a \r\n\tifdef Z\n")
+row_random_452 : outcome (codes "\t\\\nifdef A\r\nifdef= \t\r\nifdef\\\nB\r\n>q+= $ #) #\\\\\\\n\nx.o y: \n\t$(\n\tendef\n.PHONY::$( {)  %.c |a \r\n\tifdef Z\n") (AddRule (AfterVar None (codes "ifdef")) (codes "%.c") Double (codes "b")) ≡ Becomes (codes "\t\\\nifdef A\r\nifdef= \t\r\n%.c:: b\nifdef\\\nB\r\n>q+= $ #) #\\\\\\\n\nx.o y: \n\t$(\n\tendef\n.PHONY::$( {)  %.c |a \r\n\tifdef Z\n")
 row_random_452 = refl
 
 row_random_453 : outcome (codes ">q +=\r\\\n\\\n\n$x &:$$ %.c .PHONY # x ; y : z = 1\nx.o y: a&b\nea \\\n\tb\nb>=\\\\\n$? ;endef=\\\\\n\nfoo: c\n\tdefine Q\n\tifdef Z\n") (AddPrereq true None (codes "y") (codes "-include2")) ≡ Becomes (codes ">q +=\r\\\n\\\n\n$x &:$$ %.c .PHONY # x ; y : z = 1\nx.o y: a&b | -include2\nea \\\n\tb\nb>=\\\\\n$? ;endef=\\\\\n\nfoo: c\n\tdefine Q\n\tifdef Z\n")
@@ -1381,10 +1381,10 @@ row_random_456 = refl
 row_random_457 : outcome (codes "t1 \\\n?= a&b  $ $(f {) #c \\\n d\r\nifdef :::=\t\n$(X) :::= \r\nÃ© &:: $(f {)\ta&b\\\nc\\\n\n\t#c\n") (RemovePrereq None (codes "Ã©") (codes "$(f {)")) ≡ Becomes (codes "t1 \\\n?= a&b  $ $(f {) #c \\\n d\r\nifdef :::=\t\n$(X) :::= \r\nÃ© &::\ta&b\\\nc\\\n\n\t#c\n")
 row_random_457 = refl
 
-row_random_458 : outcome (codes "A := \\\n \\\n $x \\\n# \\\r\n: \r\n${c} :t $(q:;=|)\tx.o\\\\\n\r\nY!  ?= $( \r\n: export define := \t\\##\r\n %.o&:x.o \\\n  : \tfoo $(a b)\\\n\\\n%.c\n>a\\\r\n>b\nt\\\n\r\n") (AddRule (BeforeVar None (codes "A")) (codes "Ã©") Two []) ≡ Becomes (codes "Ã©::\nA := \\\n \\\n $x \\\n# \\\r\n: \r\n${c} :t $(q:;=|)\tx.o\\\\\n\r\nY!  ?= $( \r\n: export define := \t\\##\r\n %.o&:x.o \\\n  : \tfoo $(a b)\\\n\\\n%.c\n>a\\\r\n>b\nt\\\n\r\n")
+row_random_458 : outcome (codes "A := \\\n \\\n $x \\\n# \\\r\n: \r\n${c} :t $(q:;=|)\tx.o\\\\\n\r\nY!  ?= $( \r\n: export define := \t\\##\r\n %.o&:x.o \\\n  : \tfoo $(a b)\\\n\\\n%.c\n>a\\\r\n>b\nt\\\n\r\n") (AddRule (BeforeVar None (codes "A")) (codes "Ã©") Double []) ≡ Becomes (codes "Ã©::\nA := \\\n \\\n $x \\\n# \\\r\n: \r\n${c} :t $(q:;=|)\tx.o\\\\\n\r\nY!  ?= $( \r\n: export define := \t\\##\r\n %.o&:x.o \\\n  : \tfoo $(a b)\\\n\\\n%.c\n>a\\\r\n>b\nt\\\n\r\n")
 row_random_458 = refl
 
-row_random_459 : outcome (codes "\ta\\\\\n%.o:: $(q:;=|) \t$(s\\) # \r\r\nendif\n%.o\t&:b $(a b) \t$$ \n\t%.c&: A:::= %.c ") (AddRule (BeforeRule None (codes "%.o")) (codes "$x $(s\\)") One (codes ".PHONY")) ≡ Becomes (codes "\ta\\\\\n%.o:: $(q:;=|) \t$(s\\) # \r\r\nendif\n$x $(s\\): .PHONY\n%.o\t&:b $(a b) \t$$ \n\t%.c&: A:::= %.c ")
+row_random_459 : outcome (codes "\ta\\\\\n%.o:: $(q:;=|) \t$(s\\) # \r\r\nendif\n%.o\t&:b $(a b) \t$$ \n\t%.c&: A:::= %.c ") (AddRule (BeforeRule None (codes "%.o")) (codes "$x $(s\\)") Single (codes ".PHONY")) ≡ Becomes (codes "\ta\\\\\n%.o:: $(q:;=|) \t$(s\\) # \r\r\nendif\n$x $(s\\): .PHONY\n%.o\t&:b $(a b) \t$$ \n\t%.c&: A:::= %.c ")
 row_random_459 = refl
 
 row_random_460 : outcome (codes "foo: \n\ta\n>a\\\r\n\t\r\n$(s\\)\\\n\t\\\r\n$(p #):\t#\\\n \r\nt x.o &: .RECIPEPREFbX!= # \r\r\n") (RenameTarget (codes "|") (codes "a")) ≡ Refused (BadArgument field.Old)
@@ -1414,13 +1414,13 @@ row_random_467 = refl
 row_random_468 : outcome (codes "X=\n?\n \r\\\\\n\r\t#\nY !=x  y$x %.c \noverride define E # c\ndefine \nfoo: \n.a\\\r\n>b\nx.o y: \n") (RemoveAssign None (codes ">q")) ≡ Refused (BadArgument field.Name)
 row_random_468 = refl
 
-row_random_469 : outcome (codes "endef \\\n+=; \\\n# c\r\n${g(} %.o : : x.o : $(p #) \\\r\n %.c\t%.c\r\n\r\n\t#c\r\n") (AddRule (AfterVar None (codes "Y")) (codes "t") One []) ≡ Refused NoSuch
+row_random_469 : outcome (codes "endef \\\n+=; \\\n# c\r\n${g(} %.o : : x.o : $(p #) \\\r\n %.c\t%.c\r\n\r\n\t#c\r\n") (AddRule (AfterVar None (codes "Y")) (codes "t") Single []) ≡ Refused NoSuch
 row_random_469 = refl
 
 row_random_470 : outcome (codes "$(q:;=|): ${c} :\\\n\t.PHONY\r\n.RECIPEPREFIX?=\\\na\r\n${c}: $$  a \tfoo |\\\n\t ;\t \r\n# \\\r\nifneq\r\n>Z = 1\r\n\t$(s\\) : : #\\\\\\\n\r\n-x_9 :=a&b$x1 ") (SetValue None (codes ".RECIPEPREFIX") (codes ";")) ≡ Refused Reserved
 row_random_470 = refl
 
-row_random_471 : outcome (codes ".PHONY::a& ") (AddRule (BeforeVar (Some 0) (codes "CC")) (codes "$(f {)") One (codes "foo")) ≡ Refused NoSuch
+row_random_471 : outcome (codes ".PHONY::a& ") (AddRule (BeforeVar (Some 0) (codes "CC")) (codes "$(f {)") Single (codes "foo")) ≡ Refused NoSuch
 row_random_471 = refl
 
 row_random_472 : outcome (codes ".RECIPEPREFIX = .\n\n+=\n.RECIPEPREFIX:::= >\ndefine \\\r\n +=$\\\n \\\n\n.\n$(a b) ::: -i clude2 c\t#\nx.o &: #\\\\\\\n\nt1 :=  \n") (SetValue None (codes "define") (codes "c")) ≡ Becomes (codes ".RECIPEPREFIX = .\n\n+=\n.RECIPEPREFIX:::= >\ndefine \\\r\n +=c\n.\n$(a b) ::: -i clude2 c\t#\nx.o &: #\\\\\\\n\nt1 :=  \n")
@@ -1435,7 +1435,7 @@ row_random_474 = refl
 row_random_475 : outcome (codes ".RECIPEPREFIX = f\r\n endif\r\n${g(}:\\\n${c}\t$$  t \r\n") (AppendValue None (codes ".RECIPEPREFIX") (codes "$(a b)")) ≡ Refused Reserved
 row_random_475 = refl
 
-row_random_476 : outcome (codes "else ifdef Q\r\ntx\r\n") (AddRule Bottom (codes "t") Two []) ≡ Becomes (codes "else ifdef Q\r\ntx\r\nt::\r\n")
+row_random_476 : outcome (codes "else ifdef Q\r\ntx\r\n") (AddRule Bottom (codes "t") Double []) ≡ Becomes (codes "else ifdef Q\r\ntx\r\nt::\r\n")
 row_random_476 = refl
 
 row_random_477 : outcome (codes ".RECIPEPREFIX = c\r\n\\\n# \r\rt1 \\\n:::= \\\n \\\n a&b2 3 \r\nexport ifdef?=a&\n\t#\0\r\nendef # c\r\ndefine E # c\r\n.PHONY  foo ::$(f {) \\\n${c} \t${;g(} \n>else\nea\\\\\r\naecho a # b\r\nprivate\toverride a.b ::=\t$(q:;=|): # \\") (SetValue (Some 4294967295) (codes ".RECIPEPREFIX") []) ≡ Refused Reserved
@@ -1453,10 +1453,10 @@ row_random_480 = refl
 row_random_481 : outcome (codes ".RECIPEPREFIX = >\r\nc ::override \\\n!=\\\n\t \r\nt: ${c} \\\n.PHONY -include2 |\\\na&b\\\r\n\r\n\tdefine Q\r\n #c \\\n d") (SetValue None (codes ".RECIPEPREFIX") (codes "\\$x ${c}")) ≡ Refused Reserved
 row_random_481 = refl
 
-row_random_482 : outcome (codes ">%.o \tfoo:: override \\\n \\\n X::= \t$## \\\noverride define D\n\t ") (AddRule Bottom (codes "t") Two []) ≡ Becomes (codes ">%.o \tfoo:: override \\\n \\\n X::= \t$## \\\noverride define D\n\t \nt::\n")
+row_random_482 : outcome (codes ">%.o \tfoo:: override \\\n \\\n X::= \t$## \\\noverride define D\n\t ") (AddRule Bottom (codes "t") Double []) ≡ Becomes (codes ">%.o \tfoo:: override \\\n \\\n X::= \t$## \\\noverride define D\n\t \nt::\n")
 row_random_482 = refl
 
-row_random_483 : outcome (codes "> \r\n:}$\n!\n($\\X|\n;!#+\r{#\n\r\na: \n\ta\\\nifeq(a,$(b\na.b \t?= a #.c  #c \\\n d\r\n$(f {) t&:: x.o \n") (AddRule (AfterVar (Some 1) (codes "a.b")) (codes "x.o") One (codes "$(f {)")) ≡ Becomes (codes "> \r\n:}$\n!\n($\\X|\n;!#+\r{#\n\r\na: \n\ta\\\nifeq(a,$(b\na.b \t?= a #.c  #c \\\n d\r\nx.o: $(f {)\r\n$(f {) t&:: x.o \n")
+row_random_483 : outcome (codes "> \r\n:}$\n!\n($\\X|\n;!#+\r{#\n\r\na: \n\ta\\\nifeq(a,$(b\na.b \t?= a #.c  #c \\\n d\r\n$(f {) t&:: x.o \n") (AddRule (AfterVar (Some 1) (codes "a.b")) (codes "x.o") Single (codes "$(f {)")) ≡ Becomes (codes "> \r\n:}$\n!\n($\\X|\n;!#+\r{#\n\r\na: \n\ta\\\nifeq(a,$(b\na.b \t?= a #.c  #c \\\n d\r\nx.o: $(f {)\r\n$(f {) t&:: x.o \n")
 row_random_483 = refl
 
 row_random_484 : outcome (codes "a: %.c $x\n\tendef\n#\n\tZ = 1\n \\\n\n-x_9 :::=  \n$(q:;=|) &:: |$& \n $(f {) :\\\na ; c \\\n \\\n $(a b) $$ \nifdef A\n )\\\\\n+") (RemoveRule None (codes "$(f {)")) ≡ Becomes (codes "a: %.c $x\n\tendef\n#\n\tZ = 1\n \\\n\n-x_9 :::=  \n$(q:;=|) &:: |$& \nifdef A\n )\\\\\n+")
@@ -1468,7 +1468,7 @@ row_random_485 = refl
 row_random_486 : outcome (codes "$x:  \r\n>q :=\\\n\t\\\r\n%.c \\\n") (RemovePrereq None (codes "$x") (codes "$x")) ≡ Refused Absent
 row_random_486 = refl
 
-row_random_487 : outcome (codes "a: \n\t$(\na: x.o \tb\n\t#\\\\\n ifde=A\n>a\\\r\n>b\nendif\n>endef\n\t \n$$ $$ \t:: export \tprivate  >q += c 2 3 ${g(} \n") (AddRule Bottom (codes "$(q:;=|)") One (codes "t")) ≡ Becomes (codes "a: \n\t$(\na: x.o \tb\n\t#\\\\\n ifde=A\n>a\\\r\n>b\nendif\n>endef\n\t \n$$ $$ \t:: export \tprivate  >q += c 2 3 ${g(} \n$(q:;=|): t\n")
+row_random_487 : outcome (codes "a: \n\t$(\na: x.o \tb\n\t#\\\\\n ifde=A\n>a\\\r\n>b\nendif\n>endef\n\t \n$$ $$ \t:: export \tprivate  >q += c 2 3 ${g(} \n") (AddRule Bottom (codes "$(q:;=|)") Single (codes "t")) ≡ Becomes (codes "a: \n\t$(\na: x.o \tb\n\t#\\\\\n ifde=A\n>a\\\r\n>b\nendif\n>endef\n\t \n$$ $$ \t:: export \tprivate  >q += c 2 3 ${g(} \n$(q:;=|): t\n")
 row_random_487 = refl
 
 row_random_488 : outcome (codes "\\\nY ::=  #\\\\\\\n\n\n\r=>adefine&\\\n\r\n\n\\\n\t\n") (AddAssign (AfterVar None (codes "override")) (codes "define") Simple []) ≡ Refused NoSuch
@@ -1477,7 +1477,7 @@ row_random_488 = refl
 row_random_489 : outcome (codes "X :::=\\\n\t\\\r\n \nelse\n>endif\n\telse\nx.o y: $(q:;=|)\noverride X\nfoo&:${g(}  :;\\\r\n%.c| \\\n \\\n #\\\\\\\n\na&b \\\r\n -include2: :.PHONY  ${g(} $(p #)\\\r\n#\\\\\\\n") (RemoveRecipe None (codes "x.o") 1) ≡ Refused Absent
 row_random_489 = refl
 
-row_random_490 : outcome (codes "#c\n d\r\n") (AddRule Bottom (codes "a&b %.c") Two (codes "$(a b)")) ≡ Becomes (codes "#c\n d\r\na&b %.c:: $(a b)\n")
+row_random_490 : outcome (codes "#c\n d\r\n") (AddRule Bottom (codes "a&b %.c") Double (codes "$(a b)")) ≡ Becomes (codes "#c\n d\r\na&b %.c:: $(a b)\n")
 row_random_490 = refl
 
 row_random_491 : outcome (codes "x.o y: $(f {)\neendef\nc : \\\n\\\n\nY\\\n\\\n+= %.c b \t\n\t\nx.o y: $x\n\t$(\n> \n endif\nXa\r") (RemovePrereq None (codes "c") (codes "$(a b)")) ≡ Refused Absent
@@ -1510,7 +1510,7 @@ row_random_499 = refl
 row_random_500 : outcome (codes " override !=\\\n\t$\t$( %.o#\0\r\n.RECIPEPREFIX :=>\r\nx.o y: \n>echo a # b\r\n>Z = 1\r\n\t%.o: \t.PHONY b \t${c}; #\\\\\\\n\r\n#c \\\n d\r\n") (SetValue None (codes "Y") (codes "foo")) ≡ Refused NoSuch
 row_random_500 = refl
 
-row_random_501 : outcome (codes ".RECIPEPREFIX = X\r\n.a\\\r\n>b\r\nc : ${c}\\\n\\\n$  \r\nX ?=t\\\n\t\\\r\n\r\n>else\r\n$(X) \\\n  != 1 ${u \\\n# x ; y : z = 1\nendif\nendef= 2 3 #\\\\") (AddRule Bottom (codes "t") Two []) ≡ Becomes (codes ".RECIPEPREFIX = X\r\n.a\\\r\n>b\r\nc : ${c}\\\n\\\n$  \r\nX ?=t\\\n\t\\\r\n\r\n>else\r\n$(X) \\\n  != 1 ${u \\\n# x ; y : z = 1\nendif\nendef= 2 3 #\\\\\r\nt::\r\n")
+row_random_501 : outcome (codes ".RECIPEPREFIX = X\r\n.a\\\r\n>b\r\nc : ${c}\\\n\\\n$  \r\nX ?=t\\\n\t\\\r\n\r\n>else\r\n$(X) \\\n  != 1 ${u \\\n# x ; y : z = 1\nendif\nendef= 2 3 #\\\\") (AddRule Bottom (codes "t") Double []) ≡ Becomes (codes ".RECIPEPREFIX = X\r\n.a\\\r\n>b\r\nc : ${c}\\\n\\\n$  \r\nX ?=t\\\n\t\\\r\n\r\n>else\r\n$(X) \\\n  != 1 ${u \\\n# x ; y : z = 1\nendif\nendef= 2 3 #\\\\\r\nt::\r\n")
 row_random_501 = refl
 
 row_random_502 : outcome (codes "telse\n\t\\\n${g(}:\\\n$(f {)\\\n%.o x.o #\n$(f {)&: %.o :  b c\n-include2  .PHONY : $(p #) $(f {)| c \n$$ x.o &: \t$(f {) | c \\\n \\\n #c \\\n d\nendef#c\n\ta\\\n") (RemoveRule (Some 0) (codes "x.o")) ≡ Refused NoSuch
@@ -1519,7 +1519,7 @@ row_random_502 = refl
 row_random_503 : outcome (codes ".RECIPEPREFIX = d\nfoo: \nfoo: $(a b)\t$(q:;=|)\n\\\n#\n\tt: u\n>y\r\n\ta \\\n\tb\nx.o\ta&b \\\n::: \\\r\n $(a b) override \t${g(}\n>a\\\\\na: -include2\nifeq (a,$(b\n\telse\n") (AddRecipe (Some 1) (codes "foo") (codes "x")) ≡ Becomes (codes ".RECIPEPREFIX = d\nfoo: \ndx\nfoo: $(a b)\t$(q:;=|)\n\\\n#\n\tt: u\n>y\r\n\ta \\\n\tb\nx.o\ta&b \\\n::: \\\r\n $(a b) override \t${g(}\n>a\\\\\na: -include2\nifeq (a,$(b\n\telse\n")
 row_random_503 = refl
 
-row_random_504 : outcome [] (AddRule (AfterVar None (codes "CC")) (codes "x.o") One (codes "t $(q:;=|)")) ≡ Refused NoSuch
+row_random_504 : outcome [] (AddRule (AfterVar None (codes "CC")) (codes "x.o") Single (codes "t $(q:;=|)")) ≡ Refused NoSuch
 row_random_504 = refl
 
 row_random_505 : outcome (codes "\t\\\na&b foo: \\\n \\\n \na: $(q:;=|) $(s\\)\n\n\t#\\\\\n-x_9 += $(m \\\n n) -include2\n${g(} : -include2 |$(a b)  \n#\0") (AppendValue None (codes "-x_9") []) ≡ Refused (BadArgument field.Value)
@@ -1534,7 +1534,7 @@ row_random_507 = refl
 row_random_508 : outcome [] (AddAssign Bottom (codes "-x_9") Shell (codes "\\$x")) ≡ Becomes (codes "-x_9 != \\$x\n")
 row_random_508 = refl
 
-row_random_509 : outcome (codes "else ifdef Q\r\n :: \\\n-x_9  := $x \\$x\r\nfoo :: override  ?= .PHONY\r\n\tx\r\n") (AddRule Bottom (codes "foo x.o") One []) ≡ Becomes (codes "else ifdef Q\r\n :: \\\n-x_9  := $x \\$x\r\nfoo :: override  ?= .PHONY\r\n\tx\r\nfoo x.o:\r\n")
+row_random_509 : outcome (codes "else ifdef Q\r\n :: \\\n-x_9  := $x \\$x\r\nfoo :: override  ?= .PHONY\r\n\tx\r\n") (AddRule Bottom (codes "foo x.o") Single []) ≡ Becomes (codes "else ifdef Q\r\n :: \\\n-x_9  := $x \\$x\r\nfoo :: override  ?= .PHONY\r\n\tx\r\nfoo x.o:\r\n")
 row_random_509 = refl
 
 row_random_510 : outcome (codes "ifeq (a,$(b\nt  foo: \nex\n$(p #) :: \tprivate A \\\r\n := \n.RCIPEPREFIX?=>>\n\\ :  $x %.c ;2 3  $(f {) # x ; y : z = 1\n$(q:;=|): \n.RECIPEPREFIX =>\nfoo: %.c\nay\r\n") (SetValue None (codes ".RECIPEPREFIX") (codes "$(q:;=|)")) ≡ Refused Reserved
@@ -1585,7 +1585,7 @@ row_random_524 = refl
 row_random_525 : outcome (codes ">q:= # c\n>Z  1\n\r\nc: : ${c} $(q:;=|) #\\\\\\\n\n$(a b)::  ${c} \tc \t| c\n$x ::  \n # \r\n") (SetValue None (codes ">q") []) ≡ Refused (BadArgument field.Name)
 row_random_525 = refl
 
-row_random_526 : outcome (codes "\r\n>q!= \\\r\n \\\n# x ; y : z = 1\r\n") (AddRule (BeforeVar (Some 2) (codes "A")) (codes "a") Two (codes "a ${g(}")) ≡ Refused NoSuch
+row_random_526 : outcome (codes "\r\n>q!= \\\r\n \\\n# x ; y : z = 1\r\n") (AddRule (BeforeVar (Some 2) (codes "A")) (codes "a") Double (codes "a ${g(}")) ≡ Refused NoSuch
 row_random_526 = refl
 
 row_random_527 : outcome (codes ".RECendefIPEPREFIX = %\nendif\r\n \r\ntdefine Q\n") (RemoveAssign None (codes ".RECendefIPEPREFIX")) ≡ Becomes (codes "endif\r\n \r\ntdefine Q\n")
@@ -1603,7 +1603,7 @@ row_random_530 = refl
 row_random_531 : outcome [] (AppendValue None (codes "a.b") (codes "a\\:b foo")) ≡ Refused NoSuch
 row_random_531 = refl
 
-row_random_532 : outcome (codes "define X =\r\n>q = = \r\nendif\r\n") (AddRule Bottom (codes "$(q:;=|)") One (codes "$(a b) $(f {)")) ≡ Refused OpenDefine
+row_random_532 : outcome (codes "define X =\r\n>q = = \r\nendif\r\n") (AddRule Bottom (codes "$(q:;=|)") Single (codes "$(a b) $(f {)")) ≡ Refused OpenDefine
 row_random_532 = refl
 
 row_random_533 : outcome (codes ".RECIPEPREFIX ?= \nel\\se\n") (RemoveAssign None (codes ".RECIPEPREFIX")) ≡ Refused Reserved
@@ -1624,10 +1624,10 @@ row_random_537 = refl
 row_random_538 : outcome (codes "-inc\r\nde2 : t  a&b b;c $(a b) \\\nX  \n>a&b &:: $(p #) \ta&b ;  $x $  $\\\n\na&b %.c: \nifdef\r \\\n\t\n$=\\\n\\\\\n\\\nx.o y: \n\t\n>Z = 1\n") (SetRecipe (Some 4294967295) (codes "y") 1 (codes " a")) ≡ Refused NoSuch
 row_random_538 = refl
 
-row_random_539 : outcome (codes ".PHONY\\\n\t\\\r\na :A != \r\n>override\ta.b= fooa \r\n\ta \\)\n\tb\r\n-x_9 != \\\n \\\n #c \\\n d\r\n>endif\r\noverride define X =\r\n$(a b): .PHONY\r\n \t&: d\t\\\nefine\\\n\\\n:=\\\n\\\n$( a\\:b$(a b) \\\n\r\n") (AddRule (AfterVar None (codes "-x_9")) (codes "$(a b)") Two (codes "%.o")) ≡ Becomes (codes ".PHONY\\\n\t\\\r\na :A != \r\n>override\ta.b= fooa \r\n\ta \\)\n\tb\r\n-x_9 != \\\n \\\n #c \\\n d\r\n$(a b):: %.o\n>endif\r\noverride define X =\r\n$(a b): .PHONY\r\n \t&: d\t\\\nefine\\\n\\\n:=\\\n\\\n$( a\\:b$(a b) \\\n\r\n")
+row_random_539 : outcome (codes ".PHONY\\\n\t\\\r\na :A != \r\n>override\ta.b= fooa \r\n\ta \\)\n\tb\r\n-x_9 != \\\n \\\n #c \\\n d\r\n>endif\r\noverride define X =\r\n$(a b): .PHONY\r\n \t&: d\t\\\nefine\\\n\\\n:=\\\n\\\n$( a\\:b$(a b) \\\n\r\n") (AddRule (AfterVar None (codes "-x_9")) (codes "$(a b)") Double (codes "%.o")) ≡ Becomes (codes ".PHONY\\\n\t\\\r\na :A != \r\n>override\ta.b= fooa \r\n\ta \\)\n\tb\r\n-x_9 != \\\n \\\n #c \\\n d\r\n$(a b):: %.o\n>endif\r\noverride define X =\r\n$(a b): .PHONY\r\n \t&: d\t\\\nefine\\\n\\\n:=\\\n\\\n$( a\\:b$(a b) \\\n\r\n")
 row_random_539 = refl
 
-row_random_540 : outcome (codes ".RECIPEPREFIX = $$\r\n") (AddRule (BeforeVar None (codes ".RECIPEPREFIX")) [] One []) ≡ Refused (BadArgument field.Targets)
+row_random_540 : outcome (codes ".RECIPEPREFIX = $$\r\n") (AddRule (BeforeVar None (codes ".RECIPEPREFIX")) [] Single []) ≡ Refused (BadArgument field.Targets)
 row_random_540 = refl
 
 row_random_541 : outcome (codes ".RECIPEPREFIX = e\r\n\tt: u\r\nb:: #\\\\\nat: u\r\nifdef=\r\nexport private define X =\r\na:${g(} $(a b)#\0\r\nA ?=\\\n\t$(m \\\n n) \r\n$(a b):   | # \\\r\n $\\\na?=\n?\r\n\telse") (AppendValue None (codes ".RECIPEPREFIX") (codes "2 3 ;")) ≡ Refused Reserved
@@ -1636,7 +1636,7 @@ row_random_541 = refl
 row_random_542 : outcome (codes "\t\\\nt1  :::= # x ; y : z = 1\n\\\\\n\\\\\n: \\\n;>:X$\0)\nfoo a : $(q:;=|) :   ;  \\\n# \r\n\n):\\\\\n\t{\\\\\n\nx.o y: \nendif\n \\\n\tfoo\t$(s\\): : -include2 \n>endef\\\n\n.PHONY &:$$ $(q:;=|)  .PHONY | \t\r") (SetRecipe (Some 1) (codes "y") 4294967295 (codes "$(")) ≡ Refused Absent
 row_random_542 = refl
 
-row_random_543 : outcome (codes "endef x\r\n%.c %.o \\\n: ifdef = t \nfoo: $(s\\)\n>endif\n\\\n\t\n$(f {):override::= =.PHONY\n.PHONY:a&b  $x ${g(}\\\n\nb\\( ${\n$(p #) $(u \\\n:CC!= \n\tc: : $x\t%.c $(f {) # x ; y : z = 1\np}ivate define:=\\\n\\\nfoo\tfoo") (AddRule (AfterVar None (codes ">q")) [] Two []) ≡ Refused (BadArgument field.Place)
+row_random_543 : outcome (codes "endef x\r\n%.c %.o \\\n: ifdef = t \nfoo: $(s\\)\n>endif\n\\\n\t\n$(f {):override::= =.PHONY\n.PHONY:a&b  $x ${g(}\\\n\nb\\( ${\n$(p #) $(u \\\n:CC!= \n\tc: : $x\t%.c $(f {) # x ; y : z = 1\np}ivate define:=\\\n\\\nfoo\tfoo") (AddRule (AfterVar None (codes ">q")) [] Double []) ≡ Refused (BadArgument field.Place)
 row_random_543 = refl
 
 row_random_544 : outcome (codes "| \\\n   &: \\\n$(q:;=|) # \r\nY :::= =\\\n\\\n\nendif\r\n${\nc}::\\\n$$ $(p #) ${g | \\\n${c}\\\n\t\\\r\n# x ; y : z = 1\r\na : $(p #) $(q:;=|) \n") (AddRecipe None (codes "a") (codes " a")) ≡ Becomes (codes "| \\\n   &: \\\n$(q:;=|) # \r\nY :::= =\\\n\\\n\nendif\r\n${\nc}::\\\n$$ $(p #) ${g | \\\n${c}\\\n\t\\\r\n# x ; y : z = 1\r\na : $(p #) $(q:;=|) \n\t a\n")
@@ -1669,7 +1669,7 @@ row_random_552 = refl
 row_random_553 : outcome (codes "e\\\n\r\n%.o:$x # \\\n\nelse\r\n>endif\r\n>$(s\\): :a  $$ |.PHONY\\\n\t\\\r\na&b#\\\\\\\n\r\n#&endef\\\\\n\n\\)\r\nendef") (RemoveRule None (codes "%.o")) ≡ Becomes (codes "e\\\n\r\nelse\r\n>endif\r\n>$(s\\): :a  $$ |.PHONY\\\n\t\\\r\na&b#\\\\\\\n\r\n#&endef\\\\\n\n\\)\r\nendef")
 row_random_553 = refl
 
-row_random_554 : outcome (codes "b: $(p #)\ta&b# \\\nelse ifdef Q\nx.o: : $(a b) \nfoo: $$\n$ \\endef\\$>") (AddRule (BeforeRule (Some 2) (codes "foo")) (codes "t $(f {)") Two (codes "a %.c")) ≡ Refused NoSuch
+row_random_554 : outcome (codes "b: $(p #)\ta&b# \\\nelse ifdef Q\nx.o: : $(a b) \nfoo: $$\n$ \\endef\\$>") (AddRule (BeforeRule (Some 2) (codes "foo")) (codes "t $(f {)") Double (codes "a %.c")) ≡ Refused NoSuch
 row_random_554 = refl
 
 row_random_555 : outcome (codes "foo: a&b\n\t\\\nifeq (a,$(b\n  &:endef  ::=  \nexport o-$(a b) :=  a\\:b foo#\0\n") (AddPrereq false None (codes "foo") (codes "a")) ≡ Becomes (codes "foo: a&b a\n\t\\\nifeq (a,$(b\n  &:endef  ::=  \nexport o-$(a b) :=  a\\:b foo#\0\n")
@@ -1678,7 +1678,7 @@ row_random_555 = refl
 row_random_556 : outcome (codes "a::\\\n|\\\n\n$(p #): %.o \t$(p #)\r\n\\\nA\\\n\t!= $(a b) =$(a b) \\\n  #\r\nfoo: .PHONY\n\tifdef Z\n.echo a # b\n>q ?=  \nx.o y: -include2\t$(f {)\n\tt: u\nifdef A\r\nfoo: x.o \\\n$(f {)\n\ta\\\r\n>b\n.RECIPEPREFIX= >") (AddRecipe None (codes "$(p #)") (codes "e f \\ g")) ≡ Refused RecipePrefix
 row_random_556 = refl
 
-row_random_557 : outcome (codes "a.b :::= \\\r\n # x \t\\\n y : z = 1\r\n-include2\t$$ &:: | $x \r\n.RECIPEPREFIX::=\\\n>\r\n\tZ = 1\r\n\ty\r\r\nifneq\r\n}\t\\\n") (AddRule (AfterVar (Some 4294967295) (codes "Z")) [] Two (codes "$(p #) x.o")) ≡ Refused (BadArgument field.Targets)
+row_random_557 : outcome (codes "a.b :::= \\\r\n # x \t\\\n y : z = 1\r\n-include2\t$$ &:: | $x \r\n.RECIPEPREFIX::=\\\n>\r\n\tZ = 1\r\n\ty\r\r\nifneq\r\n}\t\\\n") (AddRule (AfterVar (Some 4294967295) (codes "Z")) [] Double (codes "$(p #) x.o")) ≡ Refused (BadArgument field.Targets)
 row_random_557 = refl
 
 row_random_558 : outcome (codes " #c \\\n d\n${c}\t: -include2 -include2 \\\nb \na&b .PHONY:\\ \\\n$x $(q:;=|) $  ;  \0x.o%.c\nifdef!=  #\\\\\\\n\n\tt: u\nendif\nifdef\\\nB\nprivate") (SetRecipe None (codes "${c}") 2 []) ≡ Refused Absent
@@ -1801,7 +1801,7 @@ row_random_596 = refl
 row_random_597 : outcome (codes "t1::: ${c} \t$(s\\)\r\n") (RemoveAssign None (codes "o-$(a b)")) ≡ Refused (BadArgument field.Name)
 row_random_597 = refl
 
-row_random_598 : outcome (codes "%.c\tfoo:: %.c\n\tifdef Z\r\n=a\n\n&a\r\nifndef X # c\r\n") (AddRule (AfterVar None (codes "define")) (codes "a\\ b") One (codes "a&b")) ≡ Refused (BadArgument field.Targets)
+row_random_598 : outcome (codes "%.c\tfoo:: %.c\n\tifdef Z\r\n=a\n\n&a\r\nifndef X # c\r\n") (AddRule (AfterVar None (codes "define")) (codes "a\\ b") Single (codes "a&b")) ≡ Refused (BadArgument field.Targets)
 row_random_598 = refl
 
 row_random_599 : outcome (codes "a : b %.c | $(s\\) \n>q\t?= \t$\\\n  a\\:ba\\:b\t\n$(q:;=|) \t${g(}: $(f {) $x |  \n") (AppendValue (Some 2) (codes ">q") (codes "a\\:b c")) ≡ Refused (BadArgument field.Name)
@@ -1816,13 +1816,13 @@ row_random_601 = refl
 row_random_602 : outcome (codes "X$: =  \nendef\\\n\nifdef\\\nB\n") (RemoveAssign None (codes "X$:")) ≡ Refused (BadArgument field.Name)
 row_random_602 = refl
 
-row_random_603 : outcome (codes ".RECIPEPREFIX = >\r\nifneq") (AddRule (BeforeVar (Some 0) (codes ".RECIPEPREFIX")) [] One (codes "$(q:;=|)")) ≡ Refused (BadArgument field.Targets)
+row_random_603 : outcome (codes ".RECIPEPREFIX = >\r\nifneq") (AddRule (BeforeVar (Some 0) (codes ".RECIPEPREFIX")) [] Single (codes "$(q:;=|)")) ≡ Refused (BadArgument field.Targets)
 row_random_603 = refl
 
 row_random_604 : outcome (codes "+ := a\\ \\\n\\\n\r\nt c: x.o %.o\\\n|.PHONY\r\na: ${g(}\n\net: u\nifneq\r\ndefine= b \r\nCC \t:= ${c} \r\n") (RemoveRecipe None (codes "et") 2) ≡ Refused Absent
 row_random_604 = refl
 
-row_random_605 : outcome (codes "a\\ b : ${g(} $(q:;=|) ") (AddRule Bottom (codes "%.c") One (codes "%.o x.o")) ≡ Becomes (codes "a\\ b : ${g(} $(q:;=|) \n%.c: %.o x.o\n")
+row_random_605 : outcome (codes "a\\ b : ${g(} $(q:;=|) ") (AddRule Bottom (codes "%.c") Single (codes "%.o x.o")) ≡ Becomes (codes "a\\ b : ${g(} $(q:;=|) \n%.c: %.o x.o\n")
 row_random_605 = refl
 
 row_random_606 : outcome (codes ".RECIPEPREFIX = d\n\tendef\nelse ifdef Q\nexport ifdef = foo;  foo \n>q =$(definea b) \\\n  $\\\n 1  \nb &: $(p #) \n \\\n\tendif\n$(f {): $; $(p #) \na&b  .PHONY:::${c}  x.o $(a b)\t| \\\r\n foo \\\n#\\\\\\\n\nfoo: $(q:;=|)\nex\n>endif") (RemovePrereq None (codes "b") (codes "$(p #)")) ≡ Becomes (codes ".RECIPEPREFIX = d\n\tendef\nelse ifdef Q\nexport ifdef = foo;  foo \n>q =$(definea b) \\\n  $\\\n 1  \nb &: \n \\\n\tendif\n$(f {): $; $(p #) \na&b  .PHONY:::${c}  x.o $(a b)\t| \\\r\n foo \\\n#\\\\\\\n\nfoo: $(q:;=|)\nex\n>endif")
@@ -1846,7 +1846,7 @@ row_random_611 = refl
 row_random_612 : outcome (codes "${c}:\\\r\n\n${c}\tfoo: : \\\n  | a&b # c\r\nt: $(a b): ; x  y\\\n$(q:;=|)# x ; y : z = 1\n\ta\\\r\n\ty\r\n # x ; y : z = 1") (RemoveRule None (codes "t")) ≡ Becomes (codes "${c}:\\\r\n\n${c}\tfoo: : \\\n  | a&b # c\r\n # x ; y : z = 1")
 row_random_612 = refl
 
-row_random_613 : outcome (codes ".RECIPEPREFIX = >\n") (AddRule (AfterVar None (codes ".RECIPEPREFIX")) [] Two []) ≡ Refused (BadArgument field.Targets)
+row_random_613 : outcome (codes ".RECIPEPREFIX = >\n") (AddRule (AfterVar None (codes ".RECIPEPREFIX")) [] Double []) ≡ Refused (BadArgument field.Targets)
 row_random_613 = refl
 
 row_random_614 : outcome (codes "${c: .PHONY:$(p #): $$ \n\tx\n\ta\\X>endef\n") (AddAssign Bottom (codes ">q") Conditional (codes "c $$")) ≡ Refused (BadArgument field.Name)
@@ -1858,7 +1858,7 @@ row_random_615 = refl
 row_random_616 : outcome (codes ">a\\\n\t\\\n$(a b): %.c |${g(}\t%.o \nA \\\n  ?=$$\r #\0\n>y\r\n \nelse\n\ta\\\r\n>b\n\na&b :%.c \\\n \\\n ; \t \\\n \\\n #\\\\\n") (SetRecipe None (codes "a&b") 1 (codes "cÿ")) ≡ Refused Absent
 row_random_616 = refl
 
-row_random_617 : outcome (codes "A=  x o  %.c\0 \n-include b c${g(} ::: ") (AddRule Bottom [] One (codes "$(a b)")) ≡ Refused (BadArgument field.Targets)
+row_random_617 : outcome (codes "A=  x o  %.c\0 \n-include b c${g(} ::: ") (AddRule Bottom [] Single (codes "$(a b)")) ≡ Refused (BadArgument field.Targets)
 row_random_617 = refl
 
 row_random_618 : outcome (codes "b \\\n::  %.o\t; \t= \t; \n\ta\\\\\n") (AddRecipe None (codes "b") (codes "x")) ≡ Becomes (codes "b \\\n::  %.o\t; \t= \t; \n\ta\\\\\n\tx\n")
@@ -1888,7 +1888,7 @@ row_random_625 = refl
 row_random_626 : outcome (codes "c: $(q:;=|)\tt\\\r\n$(p #)\na.b += $(s\\) x  y 1 \\\r\n #\\\\\\\n\n") (RemoveRule (Some 1) (codes "c")) ≡ Becomes (codes "a.b += $(s\\) x  y 1 \\\r\n #\\\\\\\n\n")
 row_random_626 = refl
 
-row_random_627 : outcome (codes "\tendef\n :\\\n\toverride =\\$x\\\\\\\n endef\nt1 ::= a&b-include2\\\r\n") (AddRule (AfterVar None (codes "t1")) (codes "$(s\\)") One (codes "$$ %.c")) ≡ Refused OpenLine
+row_random_627 : outcome (codes "\tendef\n :\\\n\toverride =\\$x\\\\\\\n endef\nt1 ::= a&b-include2\\\r\n") (AddRule (AfterVar None (codes "t1")) (codes "$(s\\)") Single (codes "$$ %.c")) ≡ Refused OpenLine
 row_random_627 = refl
 
 row_random_628 : outcome (codes ".RECIPEPREFIX = e\n>\n${c} : $(f {) \n\t-x_9 ?=$(s\\) # c\na: t\tx.o\n\ta\\\r\n>b\n # \r\nendif # c\no-$(a b) :::=  #\\\\\n\tA ::= \\\n\\\n\\\n\n") (AddRecipe None (codes "a") (codes "q:=1")) ≡ Becomes (codes ".RECIPEPREFIX = e\n>\n${c} : $(f {) \n\t-x_9 ?=$(s\\) # c\na: t\tx.o\neq:=1\n\ta\\\r\n>b\n # \r\nendif # c\no-$(a b) :::=  #\\\\\n\tA ::= \\\n\\\n\\\n\n")
@@ -1927,7 +1927,7 @@ row_random_638 = refl
 row_random_639 : outcome (codes "X$  ?= c  a&b\n\tX= b;\nprivate\\\nprivate  private X  !=\\\n$\\\n  $$${u \nfoo: \na$(\n.RECIPEPREFIX =\n") (AddRecipe None (codes "foo") []) ≡ Becomes (codes "X$  ?= c  a&b\n\tX= b;\nprivate\\\nprivate  private X  !=\\\n$\\\n  $$${u \nfoo: \n\t\na$(\n.RECIPEPREFIX =\n")
 row_random_639 = refl
 
-row_random_640 : outcome [] (AddRule Bottom [] One (codes "%.o ${g(}")) ≡ Refused (BadArgument field.Targets)
+row_random_640 : outcome [] (AddRule Bottom [] Single (codes "%.o ${g(}")) ≡ Refused (BadArgument field.Targets)
 row_random_640 = refl
 
 row_random_641 : outcome (codes "x.o y: $$ \t$(a b)\n\t$(\n>endif\n\n\ta \\\n\tb") (AddPrereq false None (codes "x.o") (codes "a")) ≡ Becomes (codes "x.o y: $$ \t$(a b) a\n\t$(\n>endif\n\n\ta \\\n\tb")
@@ -1942,7 +1942,7 @@ row_random_643 = refl
 row_random_644 : outcome (codes "foo: ${c}\n -x_9  :::= c # c\r\n\t \r\n\t\r\n\ndefine+!)$\\\\\n$\r\n\\\n#\\\\\r\noverride \tifdef::= \\# $(w \\\n") (AddAssign Bottom (codes "endef") Conditional (codes "$(a b) $(a b)")) ≡ Refused OpenLine
 row_random_644 = refl
 
-row_random_645 : outcome (codes "define E # c\n#\nt\\\n$(q:;=|): override +=  \t\n") (AddRule Bottom [] Two (codes "a&b b")) ≡ Refused (BadArgument field.Targets)
+row_random_645 : outcome (codes "define E # c\n#\nt\\\n$(q:;=|): override +=  \t\n") (AddRule Bottom [] Double (codes "a&b b")) ≡ Refused (BadArgument field.Targets)
 row_random_645 = refl
 
 row_random_646 : outcome (codes "foo: x.o\n#c \\\n d\r\n\t \r\n") (AddPrereq false (Some 1) (codes "foo") (codes ".PHONY")) ≡ Becomes (codes "foo: x.o .PHONY\n#c \\\n d\r\n\t \r\n")
@@ -2017,10 +2017,10 @@ row_random_668 = refl
 row_random_669 : outcome (codes ">b\\\r\n%.o:::-include2\tc|${c} $$ \n$x:  |\\\n\t\\\r\n${g(}") (AddPrereq false None (codes "$x") (codes "c")) ≡ Becomes (codes ">b\\\r\n%.o:::-include2\tc|${c} $$ \n$x: c  |\\\n\t\\\r\n${g(}")
 row_random_669 = refl
 
-row_random_670 : outcome [] (AddRule (BeforeVar None (codes "endef")) (codes "a&b") Two []) ≡ Refused NoSuch
+row_random_670 : outcome [] (AddRule (BeforeVar None (codes "endef")) (codes "a&b") Double []) ≡ Refused NoSuch
 row_random_670 = refl
 
-row_random_671 : outcome (codes "ifndef X # c") (AddRule Bottom (codes "foo") Two (codes "$; a&b")) ≡ Becomes (codes "ifndef X # c\nfoo:: $; a&b\n")
+row_random_671 : outcome (codes "ifndef X # c") (AddRule Bottom (codes "foo") Double (codes "$; a&b")) ≡ Becomes (codes "ifndef X # c\nfoo:: $; a&b\n")
 row_random_671 = refl
 
 row_random_672 : outcome (codes "#\\\\\\\n\n$(f {) : %.o \n\ta\\\r\n>b\r\n\t\\\n%.ca :  #\na: $(f {) ${g(}\n\\\n\t\n\t \n\\\n: endef ?=\\\n\\\n  \r\n$bX(\r=#\t\\\\\n$\nX?= \n") (RemovePrereq None (codes "$(f {)") (codes "%.o")) ≡ Becomes (codes "#\\\\\\\n\n$(f {) : \n\ta\\\r\n>b\r\n\t\\\n%.ca :  #\na: $(f {) ${g(}\n\\\n\t\n\t \n\\\n: endef ?=\\\n\\\n  \r\n$bX(\r=#\t\\\\\n$\nX?= \n")
@@ -2098,7 +2098,7 @@ row_random_695 = refl
 row_random_696 : outcome (codes "export \t>q := a\\  \n $(f {) \t$$  &:  $$  ${g(} # \r\n\t\\\n%.o .PHONY : a  t\n.PHONY -include2\\\r\n::\t$(p #) %.o -include2 #\0\n\ta\\\n\t$(\n>Y ?= \r \\\r\n ") (SetValue None (codes "t1") []) ≡ Refused NoSuch
 row_random_696 = refl
 
-row_random_697 : outcome (codes ".RECIPEPREFIX = a\r\nfoo: \n\ty") (AddRule (BeforeVar None (codes ".RECIPEPREFIX")) (codes "b") One []) ≡ Refused Reserved
+row_random_697 : outcome (codes ".RECIPEPREFIX = a\r\nfoo: \n\ty") (AddRule (BeforeVar None (codes ".RECIPEPREFIX")) (codes "b") Single []) ≡ Refused Reserved
 row_random_697 = refl
 
 row_random_698 : outcome (codes "a: $(s\\)\n \\\n\nendif\\\\") (AddRecipe None (codes "a") (codes "$(")) ≡ Becomes (codes "a: $(s\\)\n\t$(\n \\\n\nendif\\\\")
@@ -2143,7 +2143,7 @@ row_random_710 = refl
 row_random_711 : outcome (codes ">endif\n\noverride += %.c ${ux  y\n\t$(\n>a\\\nendef\\\n\na::ta \\\tb\nfoo: b\n\t\\\0\r\n.PHONY\n") (RemoveRecipe None (codes "foo") 1) ≡ Becomes (codes ">endif\n\noverride += %.c ${ux  y\n\t$(\n>a\\\nendef\\\n\na::ta \\\tb\nfoo: b\n.PHONY\n")
 row_random_711 = refl
 
-row_random_712 : outcome (codes "CC\\\r\n?=.PHONY ${c}$x \r\n\\\nifneq\n#:?\\endef\r\n\t\nx.o y: a&b\n\t#c\nelse\n\tendef\r\n ::override\t-x_9 =$(f {)\\\r\n%.c \nfoo: $(a b) \t$(q:;=|)\n") (AddRule (AfterVar None (codes "CC")) (codes "b") One (codes "c")) ≡ Refused Leans
+row_random_712 : outcome (codes "CC\\\r\n?=.PHONY ${c}$x \r\n\\\nifneq\n#:?\\endef\r\n\t\nx.o y: a&b\n\t#c\nelse\n\tendef\r\n ::override\t-x_9 =$(f {)\\\r\n%.c \nfoo: $(a b) \t$(q:;=|)\n") (AddRule (AfterVar None (codes "CC")) (codes "b") Single (codes "c")) ≡ Refused Leans
 row_random_712 = refl
 
 row_random_713 : outcome (codes "${g(}  &:\n.RECIPEPREFIX =\\\n") (AppendValue None (codes ".RECIPEPREFIX") []) ≡ Refused (BadArgument field.Value)
@@ -2185,7 +2185,7 @@ row_random_724 = refl
 row_random_725 : outcome (codes "\ta\\\\\naZ = 1\n #\\\\\\\n\nfoo: \n.a\\\\\n.PHONY  :$x #\\\\\\\n") (RemoveAssign None (codes "aZ")) ≡ Becomes (codes "\ta\\\\\n #\\\\\\\n\nfoo: \n.a\\\\\n.PHONY  :$x #\\\\\\\n")
 row_random_725 = refl
 
-row_random_726 : outcome (codes ".RECIPEPREFIX::= e\r\n\\#x = \\$x \nexport .RECIPEPREFIX::= :\n>$(\r\n>q = $  \r\nA\\\n\t\\\r\n::= a&b# x ; : z = 1\n\t\r\n") (AddRule (AfterVar (Some 2) (codes ".RECIPEPREFIX")) (codes ".PHONY") One []) ≡ Refused Reserved
+row_random_726 : outcome (codes ".RECIPEPREFIX::= e\r\n\\#x = \\$x \nexport .RECIPEPREFIX::= :\n>$(\r\n>q = $  \r\nA\\\n\t\\\r\n::= a&b# x ; : z = 1\n\t\r\n") (AddRule (AfterVar (Some 2) (codes ".RECIPEPREFIX")) (codes ".PHONY") Single []) ≡ Refused Reserved
 row_random_726 = refl
 
 row_random_727 : outcome (codes ">echo a # b\n>-include2\tc&::.PHONY \t-include2 c ;a $(a b)\t= \n\t") (AddRecipe None (codes ">-include2") (codes "\\\\")) ≡ Refused (BadArgument field.Line)
@@ -2275,7 +2275,7 @@ row_random_754 = refl
 row_random_755 : outcome (codes "endef # c\na&b:x.o \t$$ $(u \\\n| $x %.c \\\n \\\n #c \\\n d\n\t$(\noverride \\#x:= $#\\\r\na\ntt: u\na.b\\\n:= \n>a\\\\\n\ta \\\n\tb\nx.o y: \n.a \\\n\tb\n") (RemovePrereq (Some 4294967295) (codes "tt") (codes "u")) ≡ Refused NoSuch
 row_random_755 = refl
 
-row_random_756 : outcome (codes "\t$(\n") (AddRule Bottom (codes "$(f {) %.o") Two (codes "${g(}")) ≡ Becomes (codes "\t$(\n$(f {) %.o:: ${g(}\n")
+row_random_756 : outcome (codes "\t$(\n") (AddRule Bottom (codes "$(f {) %.o") Double (codes "${g(}")) ≡ Becomes (codes "\t$(\n$(f {) %.o:: ${g(}\n")
 row_random_756 = refl
 
 row_random_757 : outcome (codes "\t \nCC  ::= = # x ; y : z = 1\n") (RemoveAssign None (codes "CC")) ≡ Becomes (codes "\t \n")
@@ -2302,7 +2302,7 @@ row_random_763 = refl
 row_random_764 : outcome (codes " \\\n\tendef\\\n=  t\t%.c \r\n") (SetValue None (codes "endef") (codes "\\#")) ≡ Becomes (codes " \\\n\tendef\\\n=  \\# \r\n")
 row_random_764 = refl
 
-row_random_765 : outcome (codes "\t\\\n-include2&: \\\n  a \r\ndefine := $(f {)\\\n\\\n#\\\\\\\n\n\\\n\t\n\t \r\n>foo : $$ \t$& \n\\\n# c\n") (AddRule Bottom (codes "$$") Two (codes "$(s\\) $(a b)")) ≡ Becomes (codes "\t\\\n-include2&: \\\n  a \r\ndefine := $(f {)\\\n\\\n#\\\\\\\n\n\\\n\t\n\t \r\n>foo : $$ \t$& \n\\\n# c\n$$:: $(s\\) $(a b)\n")
+row_random_765 : outcome (codes "\t\\\n-include2&: \\\n  a \r\ndefine := $(f {)\\\n\\\n#\\\\\\\n\n\\\n\t\n\t \r\n>foo : $$ \t$& \n\\\n# c\n") (AddRule Bottom (codes "$$") Double (codes "$(s\\) $(a b)")) ≡ Becomes (codes "\t\\\n-include2&: \\\n  a \r\ndefine := $(f {)\\\n\\\n#\\\\\\\n\n\\\n\t\n\t \r\n>foo : $$ \t$& \n\\\n# c\n$$:: $(s\\) $(a b)\n")
 row_random_765 = refl
 
 row_random_766 : outcome (codes "a \n t1 != \\# \\\n\n${g(} .PHONY  :  \nta\\\r\n>b\nt\nx.o : a $(p #) \\\n\n$(a b)\\\n&: \\\nA::= \nexport\toverride X:= a\\ $$\n\tendif") (RemovePrereq (Some 1) (codes "x.o") (codes "a")) ≡ Becomes (codes "a \n t1 != \\# \\\n\n${g(} .PHONY  :  \nta\\\r\n>b\nt\nx.o : $(p #) \\\n\n$(a b)\\\n&: \\\nA::= \nexport\toverride X:= a\\ $$\n\tendif")
@@ -2320,7 +2320,7 @@ row_random_769 = refl
 row_random_770 : outcome (codes "\\\na : t1::=\\\n\t\\\r\n$# \r\n>q := $  \\\n \\\n $$ \r\noverride define F \\\n\r\n>x\r\nelse ifdef Q\r\nendif # c\r\nexport \t-x_9:::= \\$x  \\ %.c\r\n$(s\\)\t$(p #):   # x ; y : z = 1\r\n") (SetValue (Some 1) (codes ">q") (codes "$(a b)")) ≡ Refused (BadArgument field.Name)
 row_random_770 = refl
 
-row_random_771 : outcome (codes "ifeq (a,$(b\\") (AddRule Bottom (codes "foo") One (codes "%.o")) ≡ Refused OpenLine
+row_random_771 : outcome (codes "ifeq (a,$(b\\") (AddRule Bottom (codes "foo") Single (codes "%.o")) ≡ Refused OpenLine
 row_random_771 = refl
 
 row_random_772 : outcome (codes "$$ : >q != 1 \0 $\\\n \nx.o y: $(a b)\n=\t\\\n):\t\\\n\\$\\\\\n#++\\\nY \t+=$x\n\t\n") (AddPrereq false None (codes "y") (codes "$(q:;=|)")) ≡ Becomes (codes "$$ : >q != 1 \0 $\\\n \nx.o y: $(a b) $(q:;=|)\n=\t\\\n):\t\\\n\\$\\\\\n#++\\\nY \t+=$x\n\t\n")
@@ -2329,7 +2329,7 @@ row_random_772 = refl
 row_random_773 : outcome (codes "ifneq\\\\\n\r\nx.o: $$\\\t\\\n\\\n;  \n") (AddRecipe None (codes "a&b") (codes "$(")) ≡ Refused NoSuch
 row_random_773 = refl
 
-row_random_774 : outcome (codes "Y!=\\\n\t #\0\n") (AddRule Bottom (codes ".PHONY ${c}") Two (codes "a&b")) ≡ Becomes (codes "Y!=\\\n\t #\0\n.PHONY ${c}:: a&b\n")
+row_random_774 : outcome (codes "Y!=\\\n\t #\0\n") (AddRule Bottom (codes ".PHONY ${c}") Double (codes "a&b")) ≡ Becomes (codes "Y!=\\\n\t #\0\n.PHONY ${c}:: a&b\n")
 row_random_774 = refl
 
 row_random_775 : outcome (codes ">Z = 1\r\nfoo: \n>endef\nifndef X # c\n\tdefine Q\r\n-include2&:-x_9!=\t$\\\r\n $x\r\nx.o y: b a\nendif\n # \\\n\t\r\nifdef\\\nB\r\n#) ?\r\nexport private define .RECIPEPREFIX\r\nendef # c\r\n\ta\\\r\n") (AddRecipe (Some 2) (codes "y") (codes " a")) ≡ Refused RecipePrefix
@@ -2365,7 +2365,7 @@ row_random_784 = refl
 row_random_785 : outcome (codes "$(p #):  \\\r\n \n\ta \\\n\tb\n\t#\0\nendef :::=\\\n\\\n${c} ${c} ${g(} \n\r\n?\n.PHONY::: $(a b)\\\n$&\tfoo # c\n$(f {) : $(p #) $(f {)  b") (AddAssign (AfterVar None (codes "endef")) (codes "t1") Immediate (codes "=")) ≡ Becomes (codes "$(p #):  \\\r\n \n\ta \\\n\tb\n\t#\0\nendef :::=\\\n\\\n${c} ${c} ${g(} \nt1 :::= =\r\n\r\n?\n.PHONY::: $(a b)\\\n$&\tfoo # c\n$(f {) : $(p #) $(f {)  b")
 row_random_785 = refl
 
-row_random_786 : outcome (codes "-include2 : x.o \t#\0\n\r:\\\\\\\n\n") (AddRule Bottom (codes "$(q:;=|) else") Two (codes "${g(} a")) ≡ Refused Reserved
+row_random_786 : outcome (codes "-include2 : x.o \t#\0\n\r:\\\\\\\n\n") (AddRule Bottom (codes "$(q:;=|) else") Double (codes "${g(} a")) ≡ Refused Reserved
 row_random_786 = refl
 
 row_random_787 : outcome (codes "$(s\\) :  |$(p #) #c \\\n d\n$x:: \\\n  a&b  $$| ${g(} ${g(} \n-include2: \\\r\n \t# \\\noverride define F \\\n\n%.c: :|$(p #)\t%.o\n\tZ = 1\nt#c") (AddRecipe None (codes "-include2") (codes ">")) ≡ Becomes (codes "$(s\\) :  |$(p #) #c \\\n d\n$x:: \\\n  a&b  $$| ${g(} ${g(} \n-include2: \\\r\n \t# \\\noverride define F \\\n\n\t>\n%.c: :|$(p #)\t%.o\n\tZ = 1\nt#c")
@@ -2377,7 +2377,7 @@ row_random_788 = refl
 row_random_789 : outcome (codes "\r\na\\\r) \r\n\\\n\t\n \\\n\r\n>a \\\n\tb\nt x.o :>q ::= \\-include2\nÃ©&: -x_9\\\n\t\\\r\n+= x  y\t#\\\\") (RenameTarget (codes "t") (codes "${c}")) ≡ Becomes (codes "\r\na\\\r) \r\n\\\n\t\n \\\n\r\n>a \\\n\tb\n${c} x.o :>q ::= \\-include2\nÃ©&: -x_9\\\n\t\\\r\n+= x  y\t#\\\\")
 row_random_789 = refl
 
-row_random_790 : outcome (codes "-include2::: a: t  $x | %.c \\\r\n # \r\n") (AddRule Bottom (codes "${g(}") One (codes "$(f {)")) ≡ Becomes (codes "-include2::: a: t  $x | %.c \\\r\n # \r\n${g(}: $(f {)\r\n")
+row_random_790 : outcome (codes "-include2::: a: t  $x | %.c \\\r\n # \r\n") (AddRule Bottom (codes "${g(}") Single (codes "$(f {)")) ≡ Becomes (codes "-include2::: a: t  $x | %.c \\\r\n # \r\n${g(}: $(f {)\r\n")
 row_random_790 = refl
 
 row_random_791 : outcome (codes ".RECIPEPREFIX = b\n") (SetValue None (codes ">q") (codes "$#")) ≡ Refused (BadArgument field.Name)
@@ -2386,7 +2386,7 @@ row_random_791 = refl
 row_random_792 : outcome (codes "foo: $(p #)\n \\\n\tÃ©:b: $(s\\) \noverride .RECIPEPREFIX = e\na.b := $(f {)# c\n") (SetValue (Some 0) (codes "a.b") (codes "= a\\:b")) ≡ Refused RecipePrefix
 row_random_792 = refl
 
-row_random_793 : outcome (codes "a.b:=$ \\\n\t${g(}${u \t# c\r\n") (AddRule (BeforeVar None (codes "CC")) (codes "$$") One (codes "$(q:;=|) $(a b)")) ≡ Refused NoSuch
+row_random_793 : outcome (codes "a.b:=$ \\\n\t${g(}${u \t# c\r\n") (AddRule (BeforeVar None (codes "CC")) (codes "$$") Single (codes "$(q:;=|) $(a b)")) ≡ Refused NoSuch
 row_random_793 = refl
 
 row_random_794 : outcome (codes "\ta\\\r\n$(p #) \\\n  a&b : : ${g(} : \\\n \\\n b -include2  $x\r\nelse\r\ndefine X =\r\n\\ \\\n:\\\n\t\\\r\noverride \\\n  ?= x  y \r\n #\\\\\r\noverride += \\\n  $#\\\\ ${u\r\n>echo a # b\r\n$(q:;=|):\t \\\r\n | \\\n \\\n %.o \r\n") (RemovePrereq None (codes "%.o") (codes "c")) ≡ Refused NoSuch
@@ -2437,7 +2437,7 @@ row_random_808 = refl
 row_random_809 : outcome (codes "foo: \n\\\n# \\\n\t$(\n\r\n\t\\\n\r\n &:\\\r\nY!!=$(f {)a \\\n  1\r\nload x\r\n # \\\r\nendif") (AddAssign (BeforeRule None (codes "foo")) (codes "CC") Simple (codes "$$")) ≡ Becomes (codes "CC := $$\nfoo: \n\\\n# \\\n\t$(\n\r\n\t\\\n\r\n &:\\\r\nY!!=$(f {)a \\\n  1\r\nload x\r\n # \\\r\nendif")
 row_random_809 = refl
 
-row_random_810 : outcome (codes "x.o y: \n>a\\\n$$ : x.o $(p #) \t$(p #) ;-include2 1\\\n\t\\\r\n\nx.o y: \n\tendif\nY\\\n\\\n+=\\\n\t\\\r\nx.o\na\tfoo&: export \t-x_9 ::=\\\n\t\\$x \na&b ${g(} :::x.o: \\\n   \\\n \\\n # \r\noverride&:\\\n\\\n.PHONY \nexport private define \n") (AddRule Bottom (codes "foo") Two (codes "c a&b")) ≡ Refused OpenDefine
+row_random_810 : outcome (codes "x.o y: \n>a\\\n$$ : x.o $(p #) \t$(p #) ;-include2 1\\\n\t\\\r\n\nx.o y: \n\tendif\nY\\\n\\\n+=\\\n\t\\\r\nx.o\na\tfoo&: export \t-x_9 ::=\\\n\t\\$x \na&b ${g(} :::x.o: \\\n   \\\n \\\n # \r\noverride&:\\\n\\\n.PHONY \nexport private define \n") (AddRule Bottom (codes "foo") Double (codes "c a&b")) ≡ Refused OpenDefine
 row_random_810 = refl
 
 row_random_811 : outcome (codes "$(s\\)  b\\\n\\\n: a#\\\\\noverride\\\nY?= $\n b) \\$x\n# x ; y : z = 1\nprivate override +=  \n\\\nY ?= $(a b) \nb : :  #\\\\\n${g(}  a&::foo $(p #) t \\\r\n ") (SetValue (Some 2) (codes "Y") []) ≡ Becomes (codes "$(s\\)  b\\\n\\\n: a#\\\\\noverride\\\nY?= $\n b) \\$x\n# x ; y : z = 1\nprivate override +=  \n\\\nY ?= \nb : :  #\\\\\n${g(}  a&::foo $(p #) t \\\r\n ")
@@ -2449,7 +2449,7 @@ row_random_812 = refl
 row_random_813 : outcome (codes "\t \nexport \tY!=\\\n\t\r\nifeq (a,$(b\r\nfoo: $(s\\)\n\telse\n\\\n%.o: \\\na&b ${g(}\\\n\\\n${c}") (AddRecipe (Some 2) (codes "foo") (codes " a")) ≡ Refused NoSuch
 row_random_813 = refl
 
-row_random_814 : outcome (codes ".RECIPEPREFIX = x") (AddRule (BeforeVar None (codes ".RECIPEPREFIX")) (codes "${c}") Two []) ≡ Refused Reserved
+row_random_814 : outcome (codes ".RECIPEPREFIX = x") (AddRule (BeforeVar None (codes ".RECIPEPREFIX")) (codes "${c}") Double []) ≡ Refused Reserved
 row_random_814 = refl
 
 row_random_815 : outcome (codes "$(a b): $(a b) # \r\nfoo: \n\nendif # c\n-include2 ::c %.c | %.o %.o \\\n\nax\nA = %.c #\\\\\\\n") (AddAssign (AfterVar None (codes "A")) (codes ">q") PosixSimple (codes "= $(p #)")) ≡ Refused (BadArgument field.Name)
@@ -2488,7 +2488,7 @@ row_random_825 = refl
 row_random_826 : outcome [] (SetRecipe None (codes "-include2") 0 (codes " a")) ≡ Refused NoSuch
 row_random_826 = refl
 
-row_random_827 : outcome (codes ".RECIPEPREFIX = t\n override X\r\nprivate \tt1=  #\n\\\nendef\r\nendef x\r\n :: define ::=  \t# c\na: foo\tb\n\tZ = 1\n\to-$(a b):::= ") (AddRule Bottom (codes "t") One []) ≡ Refused RecipePrefix
+row_random_827 : outcome (codes ".RECIPEPREFIX = t\n override X\r\nprivate \tt1=  #\n\\\nendef\r\nendef x\r\n :: define ::=  \t# c\na: foo\tb\n\tZ = 1\n\to-$(a b):::= ") (AddRule Bottom (codes "t") Single []) ≡ Refused RecipePrefix
 row_random_827 = refl
 
 row_random_828 : outcome (codes "ifndef X # c\nx.o  foo :t $(s\\) |foo\t\n$(s\\) .PHONY : c|\ta \n-include2: \t$$  : %.o \\\r\n $$ \n\\\n# \\\n$(f {)::a&b  | $(p #) #c \\\n d\n") (SetRecipe None (codes "-include2") 1 (codes "t")) ≡ Refused Absent
@@ -2518,13 +2518,13 @@ row_random_835 = refl
 row_random_836 : outcome (codes "\techo a # b\n\ta \\\n\tb\n>endif\naecho a # b\n\t# \\\n") (AddAssign Bottom (codes "A") Simple (codes "x.o b")) ≡ Refused OpenLine
 row_random_836 = refl
 
-row_random_837 : outcome (codes "foo: %.c\t$$ | \ta\\\n\n$(p #) ::: c ${g(}\\\n\\\nb \nendef +=  \t\n\no-$(a b) != x.o$#\noverride :::=$#\\\n$# t\\\n\n :override\tCC := %.o\\\n\t# \\\n$\t \t$(a b) : A :=$(p #) 2 3 \\\n \\\n x.o #\\\\\n") (AddRule (AfterVar (Some 1) (codes "t1")) (codes "%.o ${c}") One []) ≡ Refused NoSuch
+row_random_837 : outcome (codes "foo: %.c\t$$ | \ta\\\n\n$(p #) ::: c ${g(}\\\n\\\nb \nendef +=  \t\n\no-$(a b) != x.o$#\noverride :::=$#\\\n$# t\\\n\n :override\tCC := %.o\\\n\t# \\\n$\t \t$(a b) : A :=$(p #) 2 3 \\\n \\\n x.o #\\\\\n") (AddRule (AfterVar (Some 1) (codes "t1")) (codes "%.o ${c}") Single []) ≡ Refused NoSuch
 row_random_837 = refl
 
 row_random_838 : outcome (codes ".RECIPEPREFIX = X\r\n${g(} $(p #):\\\r\n>q:= \\\n\\\n\r\nb:::%.o  ${g(}\\\n\t\\\r\n; $ \r\ninclude\\\n\\\n: : \\\r\n $$ \ndefine::=\\\n\t\\\r\n${g(}\\\r\n\n\\\n#\0\n.PHONY: x.o \tx.o t\\\\\\\n# c\n #\0\n+>\t(\noverride define \r\n") (SetValue (Some 2) (codes "define") []) ≡ Refused NoSuch
 row_random_838 = refl
 
-row_random_839 : outcome (codes ".RECIPEPREFIX = .\n:\n\t$(") (AddRule (BeforeVar None (codes ".RECIPEPREFIX")) (codes "${c}") One []) ≡ Refused Reserved
+row_random_839 : outcome (codes ".RECIPEPREFIX = .\n:\n\t$(") (AddRule (BeforeVar None (codes ".RECIPEPREFIX")) (codes "${c}") Single []) ≡ Refused Reserved
 row_random_839 = refl
 
 row_random_840 : outcome (codes "export private define E # c\n$(s\\) : :\t.PHONY ${c} ${g(} \t\\\nendif # c\n}\n") (AddRecipe None (codes "$(a b)") (codes "\tb")) ≡ Refused NoSuch
@@ -2578,7 +2578,7 @@ row_random_855 = refl
 row_random_856 : outcome (codes "t1 :::=\\\n\\\nx  y\\\r\n") (SetValue None (codes "t1") []) ≡ Becomes (codes "t1 :::=\\\n\\\n\r\n")
 row_random_856 = refl
 
-row_random_857 : outcome (codes "# c\nx.o y: \n>t: u\n\tifdef Z\n\t\\\n\n$$&: \t \\\n \\\n \r\n") (AddRule (BeforeRule None (codes "y")) (codes "a&b") Two (codes "$(p #) c")) ≡ Becomes (codes "# c\na&b:: $(p #) c\nx.o y: \n>t: u\n\tifdef Z\n\t\\\n\n$$&: \t \\\n \\\n \r\n")
+row_random_857 : outcome (codes "# c\nx.o y: \n>t: u\n\tifdef Z\n\t\\\n\n$$&: \t \\\n \\\n \r\n") (AddRule (BeforeRule None (codes "y")) (codes "a&b") Double (codes "$(p #) c")) ≡ Becomes (codes "# c\na&b:: $(p #) c\nx.o y: \n>t: u\n\tifdef Z\n\t\\\n\n$$&: \t \\\n \\\n \r\n")
 row_random_857 = refl
 
 row_random_858 : outcome (codes "$(s\\) \tfoo:a  a \t$(a b) | $$ \\\n \\\n a \nprivate \\\n \\\n >q:::=\\\n\\\n$(w \\\n\\\n| \nprivate\\\r\nX \t::= %.o # \r\na:   \n\t ") (AddPrereq true (Some 1) (codes "foo") (codes "b")) ≡ Becomes (codes "$(s\\) \tfoo:a  a \t$(a b) | $$ \\\n \\\n a b \nprivate \\\n \\\n >q:::=\\\n\\\n$(w \\\n\\\n| \nprivate\\\r\nX \t::= %.o # \r\na:   \n\t ")
@@ -2602,7 +2602,7 @@ row_random_863 = refl
 row_random_864 : outcome [] (RemoveRule (Some 0) (codes "-include2")) ≡ Refused NoSuch
 row_random_864 = refl
 
-row_random_865 : outcome (codes ">q \\\r\n := \n\tendif\n") (AddRule (AfterVar (Some 1) (codes ">q")) [] Two []) ≡ Refused (BadArgument field.Place)
+row_random_865 : outcome (codes ">q \\\r\n := \n\tendif\n") (AddRule (AfterVar (Some 1) (codes ">q")) [] Double []) ≡ Refused (BadArgument field.Place)
 row_random_865 = refl
 
 row_random_866 : outcome (codes "\tZ = 1\r\n# \r\r\n\t\\\nX !=%.c$(s\\) $(\t\r\n$x: \ta&b t # \r\r\n-x_9\\\n\t:::=\r\n foo &: $(f {) : $(s\\)  ") (SetValue (Some 1) (codes "-x_9") (codes "\\#")) ≡ Becomes (codes "\tZ = 1\r\n# \r\r\n\t\\\nX !=%.c$(s\\) $(\t\r\n$x: \ta&b t # \r\r\n-x_9\\\n\t:::=\\#\r\n foo &: $(f {) : $(s\\)  ")
@@ -2626,7 +2626,7 @@ row_random_871 = refl
 row_random_872 : outcome (codes "override .RECIPEPREFIX+=\\\na\nfoo: \n.x\nexport private define E # c\nCC ?=\\\n\\\na\\  \\\r\n ${u \nx.o y: $(p #)  %.c\n>endef\n\t \n") (AddAssign (AfterVar None (codes ".RECIPEPREFIX")) (codes "Y") Simple (codes "%.o")) ≡ Refused Reserved
 row_random_872 = refl
 
-row_random_873 : outcome (codes " ifndef X # c\r\n") (AddRule Bottom (codes "define") Two (codes "$(s\\)")) ≡ Refused Reserved
+row_random_873 : outcome (codes " ifndef X # c\r\n") (AddRule Bottom (codes "define") Double (codes "$(s\\)")) ≡ Refused Reserved
 row_random_873 = refl
 
 row_random_874 : outcome (codes "define F \\\n\r\nexport >q :=  \n# x ; y : z = 1") (SetValue None (codes "ifdef") (codes "%.c")) ≡ Refused NoSuch
@@ -2641,7 +2641,7 @@ row_random_876 = refl
 row_random_877 : outcome (codes "ifdef != t # \r\n\t#\\\\\\\n\n-x_9=\\\n\tc \r\n\tdefine Q\r\na: t \\\n  $(p #)\n\t#c\r\nca&b : CC?=;  \r\n") (SetValue None (codes "-x_9") (codes "1 c")) ≡ Becomes (codes "ifdef != t # \r\n\t#\\\\\\\n\n-x_9=\\\n\t1 c \r\n\tdefine Q\r\na: t \\\n  $(p #)\n\t#c\r\nca&b : CC?=;  \r\n")
 row_random_877 = refl
 
-row_random_878 : outcome (codes ".RECIPEPREFIX  d\nY :::=\\\n\t$\\\r\n $$ \\\n  b\t\n!\r\n\nfoo: b\n>  \nb :::  | \t$(s\\)#\0\n+?|:\r\n\n") (AddRule (BeforeVar (Some 0) (codes "Y")) (codes "$(q:;=|)") One (codes "foo")) ≡ Refused NoSuch
+row_random_878 : outcome (codes ".RECIPEPREFIX  d\nY :::=\\\n\t$\\\r\n $$ \\\n  b\t\n!\r\n\nfoo: b\n>  \nb :::  | \t$(s\\)#\0\n+?|:\r\n\n") (AddRule (BeforeVar (Some 0) (codes "Y")) (codes "$(q:;=|)") Single (codes "foo")) ≡ Refused NoSuch
 row_random_878 = refl
 
 row_random_879 : outcome (codes "\t$(\noverride!= \r \\\n:\\\n )\n\tt: u\n\t#c \\\n d\\\n") (AddAssign Bottom (codes "t1") Recursive (codes "$(f {)")) ≡ Refused OpenLine
@@ -2656,7 +2656,7 @@ row_random_881 = refl
 row_random_882 : outcome (codes ".RECIPEPREFIX = $$\r\nendif\r\nCC \\\r\n ::=\t$(w \\\n\\\nx.o # c\r\nelse\r\n") (RemoveAssign None (codes "CC")) ≡ Refused RecipePrefix
 row_random_882 = refl
 
-row_random_883 : outcome (codes "endef\r\nfoo: $(s\\\tendef\n\t$(\r\nfoo: b  %o\ntendif\n\t !\tendif\r\n>.PHONY :oerride\tdefine ?= $(a b) #\\\\\\\n\r\nta\\\r\n") (AddRule Bottom (codes "a&b") One []) ≡ Refused OpenLine
+row_random_883 : outcome (codes "endef\r\nfoo: $(s\\\tendef\n\t$(\r\nfoo: b  %o\ntendif\n\t !\tendif\r\n>.PHONY :oerride\tdefine ?= $(a b) #\\\\\\\n\r\nta\\\r\n") (AddRule Bottom (codes "a&b") Single []) ≡ Refused OpenLine
 row_random_883 = refl
 
 row_random_884 : outcome (codes "x.o y: \n%.o .PHONY: private \tA:::=\\\n\t\\\r\n\\$x\n\\\nendef # c\ntifdef Z\\\n") (SetRecipe None (codes "x.o") 2 (codes "q:=1")) ≡ Refused Absent

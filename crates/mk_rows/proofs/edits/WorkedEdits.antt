@@ -2,13 +2,13 @@
 use Rattle.std.proofs.Common.{◌≡◌, refl, [], Some, None, true, false}
 use Rattle.std.specs.Prelude.{codes}
 use Rattle.mk_class.specs.declared.assignment.Flavor.TheVariants.{Recursive, Simple}
-use Rattle.mk_edit_laws.specs.declared.edit.Colons.TheVariants.{One, Two}
-use Rattle.mk_edit_laws.specs.declared.refusal.Refusal.TheVariants.{BadArgument, Reserved, RecipePrefix, NoSuch, Ambiguous, Absent, Taken, SharedRule, Straddles, OpenValue, OpenLine, OpenDefine, Leans}
-use Rattle.mk_edit_laws.specs.Edits.{Bottom, BeforeVar, AfterVar, BeforeRule}
-use Rattle.mk_edit_laws.specs.Edits.{SetValue, AppendValue, AddAssign, RemoveAssign, AddRule, RemoveRule, AddPrereq, RemovePrereq, AddRecipe, SetRecipe, RemoveRecipe, RenameTarget}
+use Rattle.mk_edit_language.specs.declared.edit.RuleSeparator.TheVariants.{Single, Double}
+use Rattle.mk_edit_language.specs.declared.refusal.Refusal.TheVariants.{BadArgument, Reserved, RecipePrefix, NoSuch, Ambiguous, Absent, Taken, SharedRule, Straddles, OpenValue, OpenLine, OpenDefine, Leans}
+use Rattle.mk_edit_language.specs.Edits.{Bottom, BeforeVar, AfterVar, BeforeRule}
+use Rattle.mk_edit_language.specs.Edits.{SetValue, AppendValue, AddAssign, RemoveAssign, AddRule, RemoveRule, AddPrereq, RemovePrereq, AddRecipe, SetRecipe, RemoveRecipe, RenameTarget}
 use Rattle.mk_rows.proofs.edits.Outcomes.{outcome}
 use Rattle.mk_rows.proofs.edits.Outcomes.{Becomes, Refused}
-use Rattle.mk_edit_laws.specs.declared.refusal.Field.TheVariants as field
+use Rattle.mk_edit_language.specs.declared.refusal.Field.TheVariants as field
 
 row_set_keeps_the_comment : outcome (codes "CC = gcc # c\n") (SetValue None (codes "CC") (codes "clang")) ≡ Becomes (codes "CC = clang # c\n")
 row_set_keeps_the_comment = refl
@@ -100,10 +100,10 @@ row_unrule_takes_blank_and_comment_lines_between_recipes = refl
 row_unrule_of_a_shared_rule_is_refused : outcome (codes "a b: c\n") (RemoveRule None (codes "a")) ≡ Refused (SharedRule 2)
 row_unrule_of_a_shared_rule_is_refused = refl
 
-row_rule_with_two_targets_and_a_reference : outcome (codes "X = 1\n") (AddRule Bottom (codes "a b") Two (codes "$(subst x y,z,w) c")) ≡ Becomes (codes "X = 1\na b:: $(subst x y,z,w) c\n")
+row_rule_with_two_targets_and_a_reference : outcome (codes "X = 1\n") (AddRule Bottom (codes "a b") Double (codes "$(subst x y,z,w) c")) ≡ Becomes (codes "X = 1\na b:: $(subst x y,z,w) c\n")
 row_rule_with_two_targets_and_a_reference = refl
 
-row_rule_above_a_tab_led_line_is_refused : outcome (codes "A=1\n\tB=2\n") (AddRule (AfterVar None (codes "A")) (codes "t") One []) ≡ Refused Leans
+row_rule_above_a_tab_led_line_is_refused : outcome (codes "A=1\n\tB=2\n") (AddRule (AfterVar None (codes "A")) (codes "t") Single []) ≡ Refused Leans
 row_rule_above_a_tab_led_line_is_refused = refl
 
 row_assign_above_a_tab_led_line : outcome (codes "A=1\n\tB=2\n") (AddAssign (AfterVar None (codes "A")) (codes "C") Recursive (codes "3")) ≡ Becomes (codes "A=1\nC = 3\n\tB=2\n")
@@ -325,16 +325,16 @@ row_depend_of_a_target_assignment_finds_nothing = refl
 row_rename_in_a_target_assignment : outcome (codes "a: X = 1\n") (RenameTarget (codes "a") (codes "b")) ≡ Becomes (codes "b: X = 1\n")
 row_rename_in_a_target_assignment = refl
 
-row_target_that_ends_in_an_ampersand_is_refused : outcome [] (AddRule Bottom (codes "$&") One []) ≡ Refused (BadArgument field.Targets)
+row_target_that_ends_in_an_ampersand_is_refused : outcome [] (AddRule Bottom (codes "$&") Single []) ≡ Refused (BadArgument field.Targets)
 row_target_that_ends_in_an_ampersand_is_refused = refl
 
 row_empty_place_is_refused : outcome (codes "X=1\n") (AddAssign (BeforeVar None []) (codes "Y") Recursive (codes "1")) ≡ Refused (BadArgument field.Place)
 row_empty_place_is_refused = refl
 
-row_rule_without_a_target_is_refused : outcome (codes "X=1\n") (AddRule Bottom (codes " ") One []) ≡ Refused (BadArgument field.Targets)
+row_rule_without_a_target_is_refused : outcome (codes "X=1\n") (AddRule Bottom (codes " ") Single []) ≡ Refused (BadArgument field.Targets)
 row_rule_without_a_target_is_refused = refl
 
-row_rule_joins_prerequisites_by_one_space : outcome (codes "X=1\n") (AddRule Bottom (codes "a") One (codes "b\tc ")) ≡ Becomes (codes "X=1\na: b c\n")
+row_rule_joins_prerequisites_by_one_space : outcome (codes "X=1\n") (AddRule Bottom (codes "a") Single (codes "b\tc ")) ≡ Becomes (codes "X=1\na: b c\n")
 row_rule_joins_prerequisites_by_one_space = refl
 
 row_undepend_keeps_the_fold_after_the_last_word : outcome (codes "a: x b b\\\n c\n") (RemovePrereq None (codes "a") (codes "b")) ≡ Becomes (codes "a: x\\\n c\n")

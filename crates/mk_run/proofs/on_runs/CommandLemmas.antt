@@ -1,7 +1,7 @@
 -- Commands that are obeyed one part after the other.
 use Rattle.std.proofs.Common.{◌≡◌, refl, sym, ap, ◌∙◌, arith, ℕ, ◌+◌, Bool, true, false, List, [], ◌∷◌, ◌++◌, append_assoc, zero-add, Ok, Err}
 use Rattle.std.specs.Prelude.{Result}
-use Rattle.mk_edit_laws.specs.declared.refusal.Refusal.{Refusal}
+use Rattle.mk_edit_language.specs.declared.refusal.Refusal.{Refusal}
 use Rattle.mk_history.specs.Machine as machine
 use Rattle.mk_history.specs.Shown.{Shown}
 use Rattle.mk_session.specs.Sessions.{answer, session_refusal}

@@ -2,8 +2,8 @@
 use Rattle.std.proofs.Common.{◌≡◌, refl, sym, ap, subst, ◌∙◌, arith, ℕ, suc, zero, ◌+◌, Bool, true, false, List, [], ◌∷◌, length, map, replicate, Option, Some, None, Ok, Err, inl, inr, ◌++◌}
 use Rattle.std.specs.Prelude.{Result, IfSome}
 use Rattle.std.proofs.lemmas.List.{append-nil}
-use Rattle.mk_edit_laws.specs.Edits.{Edit}
-use Rattle.mk_edit_laws.specs.declared.refusal.Refusal.{Refusal}
+use Rattle.mk_edit_language.specs.Edits.{Edit}
+use Rattle.mk_edit_language.specs.declared.refusal.Refusal.{Refusal}
 use Rattle.mk_history.specs.Machine as machine
 use Rattle.mk_history.specs.Machine.{Command, Apply, Undo, Redo, Begin, End, Cancel, replay}
 use Rattle.mk_history.specs.Shown.{Shown, shown_opened, shown_ended}

@@ -2,7 +2,7 @@
 
 use mk_class::Flavor;
 use mk_script::{Command, NumberedCommand};
-use mk_session::{Colons, Edit, Place};
+use mk_session::{Edit, Place, RuleSeparator};
 use std::alloc::{AllocError, Allocator, Global};
 
 /// Commands as lines of text: the number of the line, the name of the edit or call, and its
@@ -100,10 +100,10 @@ fn flavor_name(flavor: Flavor) -> &'static [u8] {
     }
 }
 
-fn colons_name(colons: Colons) -> &'static [u8] {
-    match colons {
-        Colons::One => b"One",
-        Colons::Two => b"Two",
+fn colons_name(separator: RuleSeparator) -> &'static [u8] {
+    match separator {
+        RuleSeparator::Single => b"One",
+        RuleSeparator::Double => b"Two",
     }
 }
 
@@ -166,13 +166,13 @@ fn put_other<A: Allocator>(
         Edit::AddRule {
             place,
             targets,
-            colons,
+            separator,
             prereqs,
         } => {
             out.extend_from_slice(b"AddRule ")?;
             put_place(alloc, out, place)?;
             put_text(out, targets)?;
-            put_text(out, colons_name(*colons))?;
+            put_text(out, colons_name(*separator))?;
             put_text(out, prereqs)
         }
         Edit::RemoveRule { nth, target } => {

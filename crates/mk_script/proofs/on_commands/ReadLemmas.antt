@@ -4,9 +4,9 @@ use Rattle.std.specs.Prelude.{Option, Some, None, option_map}
 use Rattle.std.specs.Str.{bytes_eq}
 use Rattle.mk_class.specs.declared.assignment.Flavor.{Flavor}
 use Rattle.mk_class.specs.OperatorTexts.{operator_text}
-use Rattle.mk_edit_laws.specs.declared.edit.Colons.{Colons}
-use Rattle.mk_edit_laws.specs.Edits.{Place, Bottom, BeforeVar, AfterVar, BeforeRule, Edit, SetValue, AppendValue, AddAssign, RemoveAssign, AddRule, RemoveRule, AddPrereq, RemovePrereq, AddRecipe, SetRecipe, RemoveRecipe, RenameTarget}
-use Rattle.mk_edit_laws.specs.NewLines.{colons_text}
+use Rattle.mk_edit_language.specs.declared.edit.RuleSeparator.{RuleSeparator}
+use Rattle.mk_edit_language.specs.Edits.{Place, Bottom, BeforeVar, AfterVar, BeforeRule, Edit, SetValue, AppendValue, AddAssign, RemoveAssign, AddRule, RemoveRule, AddPrereq, RemovePrereq, AddRecipe, SetRecipe, RemoveRecipe, RenameTarget}
+use Rattle.mk_edit_language.specs.NewLines.{rule_separator_text}
 use Rattle.mk_history.specs.Machine.{Command, Apply, Undo, Redo, Begin, End, Cancel}
 use Rattle.mk_script.specs.Fields.{HasFields}
 use Rattle.mk_script.specs.Numbers.{IsNumber}
@@ -78,12 +78,12 @@ add_assign-read place name value text flavor h =
     ∙ (ap (λ o. add_assign_at place o) (three-read p.rest name (operator_text flavor) value p.others_are)
     ∙ ap (λ o. add_assign_of place o name value) (operator-named flavor))
 
-add_rule-read : (place : Place) (targets prereqs text : List ℕ) (colons : Colons) → HasFields text (place_words place ++ targets ∷ colons_text colons ∷ prereqs ∷ [])
+add_rule-read : (place : Place) (targets prereqs text : List ℕ) (colons : RuleSeparator) → HasFields text (place_words place ++ targets ∷ rule_separator_text colons ∷ prereqs ∷ [])
     → add_rule_after (place_at_front (nth_of_place place) text) ≡ Some (AddRule place targets colons prereqs)
 add_rule-read place targets prereqs text colons h =
-    let p = place-read place text (targets ∷ colons_text colons ∷ prereqs ∷ []) h in
+    let p = place-read place text (targets ∷ rule_separator_text colons ∷ prereqs ∷ []) h in
     ap (λ o. add_rule_after o) p.read
-    ∙ (ap (λ o. add_rule_at place o) (three-read p.rest targets (colons_text colons) prereqs p.others_are)
+    ∙ (ap (λ o. add_rule_at place o) (three-read p.rest targets (rule_separator_text colons) prereqs p.others_are)
     ∙ ap (λ o. add_rule_of place o targets prereqs) (separator-named colons))
 
 set_recipe-read : (nth : Option ℕ) (target digits line text : List ℕ) (n : ℕ) → IsNumber digits n → HasFields text (target ∷ digits ∷ line ∷ [])
@@ -116,7 +116,7 @@ edit-read line fields (AddAssign place name flavor value) h is =
 edit-read line fields (RemoveAssign nth name) h is =
     addressed-read nth line (codes "unset") (name ∷ []) fields _ (edit_word (codes "unset") refl refl) h is (of_one-read (RemoveAssign nth) name)
 edit-read line fields (AddRule place targets colons prereqs) h is =
-    addressed-read (nth_of_place place) line (codes "rule") (place_words place ++ targets ∷ colons_text colons ∷ prereqs ∷ []) fields _
+    addressed-read (nth_of_place place) line (codes "rule") (place_words place ++ targets ∷ rule_separator_text colons ∷ prereqs ∷ []) fields _
     (edit_word (codes "rule") refl refl) h is (λ rest. add_rule-read place targets prereqs rest colons)
 edit-read line fields (RemoveRule nth target) h is =
     addressed-read nth line (codes "unrule") (target ∷ []) fields _ (edit_word (codes "unrule") refl refl) h is (of_one-read (RemoveRule nth) target)

@@ -6,10 +6,10 @@ use Rattle.std.proofs.lemmas.Slice.Eq.{bytes_eq-Decides}
 use Rattle.mk_class.specs.declared.assignment.Flavor.{Flavor}
 use Rattle.mk_class.specs.declared.assignment.Flavor.TheVariants.{Recursive, Simple, PosixSimple, Immediate, Conditional, Append, Shell}
 use Rattle.mk_class.specs.OperatorTexts.{operator_text}
-use Rattle.mk_edit_laws.specs.Edits.{Edit}
-use Rattle.mk_edit_laws.specs.NewLines.{colons_text}
-use Rattle.mk_edit_laws.specs.declared.edit.Colons.{Colons}
-use Rattle.mk_edit_laws.specs.declared.edit.Colons.TheVariants.{One, Two}
+use Rattle.mk_edit_language.specs.Edits.{Edit}
+use Rattle.mk_edit_language.specs.NewLines.{rule_separator_text}
+use Rattle.mk_edit_language.specs.declared.edit.RuleSeparator.{RuleSeparator}
+use Rattle.mk_edit_language.specs.declared.edit.RuleSeparator.TheVariants.{Single, Double}
 use Rattle.mk_history.specs.Machine.{Command}
 use Rattle.mk_script.specs.CommandTable.{IsCommand}
 use Rattle.mk_script.specs.WordReading.{named, calls, edit_words, places, operators, separators}
@@ -67,8 +67,8 @@ named-place text k h = named-entry (λ w t. t ≡ place_text w) places (refl, (r
 pub named-operator : (text : List ℕ) (f : Flavor) → named operators text ≡ Some f → text ≡ operator_text f
 named-operator text f h = named-entry (λ w t. t ≡ operator_text w) operators (refl, (refl, (refl, (refl, (refl, (refl, (refl, tt))))))) text f h
 
-pub named-separator : (text : List ℕ) (s : Colons) → named separators text ≡ Some s → text ≡ colons_text s
-named-separator text s h = named-entry (λ w t. t ≡ colons_text w) separators (refl, (refl, tt)) text s h
+pub named-separator : (text : List ℕ) (s : RuleSeparator) → named separators text ≡ Some s → text ≡ rule_separator_text s
+named-separator text s h = named-entry (λ w t. t ≡ rule_separator_text w) separators (refl, (refl, tt)) text s h
 
 pub named-call : (text : List ℕ) (c : Command Edit) → named calls text ≡ Some c → IsCommand (text ∷ []) c
 named-call text c h = named-entry (λ w t. IsCommand (t ∷ []) w) calls (refl, (refl, (refl, (refl, (refl, tt))))) text c h
@@ -84,9 +84,9 @@ operator-named Conditional = refl
 operator-named Append = refl
 operator-named Shell = refl
 
-pub separator-named : (s : Colons) → named separators (colons_text s) ≡ Some s
-separator-named One = refl
-separator-named Two = refl
+pub separator-named : (s : RuleSeparator) → named separators (rule_separator_text s) ≡ Some s
+separator-named Single = refl
+separator-named Double = refl
 
 -- ---- what is made of something that may not stand there
 

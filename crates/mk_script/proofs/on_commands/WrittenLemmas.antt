@@ -5,9 +5,9 @@ use Rattle.std.specs.Str.{bytes_eq}
 use Rattle.std.proofs.lemmas.Slice.Eq.{bytes_eq-Decides}
 use Rattle.mk_class.specs.declared.assignment.Flavor.{Flavor}
 use Rattle.mk_class.specs.OperatorTexts.{operator_text}
-use Rattle.mk_edit_laws.specs.declared.edit.Colons.{Colons}
-use Rattle.mk_edit_laws.specs.Edits.{Place, Bottom, BeforeVar, AfterVar, BeforeRule, Edit, SetValue, AppendValue, AddAssign, RemoveAssign, AddRule, RemoveRule, AddPrereq, RemovePrereq, AddRecipe, SetRecipe, RemoveRecipe, RenameTarget}
-use Rattle.mk_edit_laws.specs.NewLines.{colons_text}
+use Rattle.mk_edit_language.specs.declared.edit.RuleSeparator.{RuleSeparator}
+use Rattle.mk_edit_language.specs.Edits.{Place, Bottom, BeforeVar, AfterVar, BeforeRule, Edit, SetValue, AppendValue, AddAssign, RemoveAssign, AddRule, RemoveRule, AddPrereq, RemovePrereq, AddRecipe, SetRecipe, RemoveRecipe, RenameTarget}
+use Rattle.mk_edit_language.specs.NewLines.{rule_separator_text}
 use Rattle.mk_history.specs.Machine.{Command, Apply}
 use Rattle.mk_script.specs.Fields.{HasFields, BeginsWithField}
 use Rattle.mk_script.specs.CommandTable.{IsAfterNth, place_words, nth_of_place, IsCommand}
@@ -156,18 +156,18 @@ add_rule-written : (nth : Option ℕ) (rest : List ℕ) (e : Edit) → add_rule_
 add_rule-written nth rest e h = go (place_at_front nth rest) refl h
   where
     of_fields : (p : Place × List ℕ) → place_at_front nth rest ≡ Some p → (q : List ℕ × List ℕ × List ℕ) → three_fields p.1 ≡ Some q
-        → (o : Option Colons) → named separators q.1 ≡ o → add_rule_of p.0 o q.0 q.2 ≡ Some e → IsWrittenEdit nth (codes "rule") rest e
+        → (o : Option RuleSeparator) → named separators q.1 ≡ o → add_rule_of p.0 o q.0 q.2 ≡ Some e → IsWrittenEdit nth (codes "rule") rest e
     of_fields p k q m None n x = absurd (cc)
     of_fields p k q m (Some colons) n x =
         let w = front-written nth rest p.0 p.1 k in
         let same : AddRule p.0 q.0 colons q.2 ≡ e = cc in
-        let fields_are : HasFields p.1 (q.0 ∷ colons_text colons ∷ q.2 ∷ []) = subst (λ z. HasFields p.1 (q.0 ∷ z ∷ q.2 ∷ [])) (named-separator q.1 colons n) (three-is p.1 q.0 q.1 q.2 m) in
+        let fields_are : HasFields p.1 (q.0 ∷ rule_separator_text colons ∷ q.2 ∷ []) = subst (λ z. HasFields p.1 (q.0 ∷ z ∷ q.2 ∷ [])) (named-separator q.1 colons n) (three-is p.1 q.0 q.1 q.2 m) in
         record {
-          args = place_words p.0 ++ q.0 ∷ colons_text colons ∷ q.2 ∷ [];
-          args_are = w.words (q.0 ∷ colons_text colons ∷ q.2 ∷ []) fields_are;
+          args = place_words p.0 ++ q.0 ∷ rule_separator_text colons ∷ q.2 ∷ [];
+          args_are = w.words (q.0 ∷ rule_separator_text colons ∷ q.2 ∷ []) fields_are;
           is_command = λ fields a.
               subst (λ z. IsCommand fields (Apply z)) same
-              (subst (λ z. IsAfterNth z fields (codes "rule" ∷ (place_words p.0 ++ q.0 ∷ colons_text colons ∷ q.2 ∷ []))) w.nth_is a);
+              (subst (λ z. IsAfterNth z fields (codes "rule" ∷ (place_words p.0 ++ q.0 ∷ rule_separator_text colons ∷ q.2 ∷ []))) w.nth_is a);
         }
 
     of_place : (p : Place × List ℕ) → place_at_front nth rest ≡ Some p → (o : Option (List ℕ × List ℕ × List ℕ)) → three_fields p.1 ≡ o → add_rule_at p.0 o ≡ Some e

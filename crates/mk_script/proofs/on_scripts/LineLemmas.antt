@@ -1,7 +1,7 @@
 -- What a line is, as the code reads it: skipped, a command or none.
 use Rattle.std.proofs.Common.{◌≡◌, ℕ, Bool, true, false, List, [], ◌∷◌, refl, ap, ◌∙◌, inl, inr, take, drop, eqb-true}
 use Rattle.std.specs.Prelude.{◌⊎◌, ◌==◌, ◌||◌, Option, Some, None, is_some}
-use Rattle.mk_edit_laws.specs.Edits.{Edit}
+use Rattle.mk_edit_language.specs.Edits.{Edit}
 use Rattle.mk_history.specs.Machine.{Command}
 use Rattle.mk_script.specs.Lines.{IsComment, IsSkipped, HasCommand, IsReadable}
 use Rattle.mk_script.specs.FieldReading.{after_blanks, bare_len, is_blank, is_empty, field_at_front}

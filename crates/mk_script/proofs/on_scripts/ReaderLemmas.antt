@@ -1,7 +1,7 @@
 -- A reader of scripts that computes, for rows: it answers the commands of a script, or the number of the first line without one.
 use Rattle.std.proofs.Common.{◌≡◌, ℕ, ◌+◌, Bool, true, false, List, [], ◌∷◌, ◌++◌, refl, ap, ◌∙◌, subst, if◌then◌else◌, cond, append_assoc}
 use Rattle.std.specs.Prelude.{Option, Some, None, Result, Ok, Err}
-use Rattle.mk_edit_laws.specs.Edits.{Edit}
+use Rattle.mk_edit_language.specs.Edits.{Edit}
 use Rattle.mk_history.specs.Machine.{Command}
 use Rattle.mk_script.specs.Lines.{script_lines, IsReadable}
 use Rattle.mk_script.specs.Scripts.{CommandAt, IsScript, HasNoCommand}

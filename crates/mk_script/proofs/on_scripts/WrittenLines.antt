@@ -7,8 +7,8 @@ use Rattle.std.proofs.lemmas.Fmt.{decimal_is_IsNumeral, length-decimal-le}
 use Rattle.mk_lines.specs.Lists.{Each}
 use Rattle.mk_lines.specs.Bytes.{is_blank_byte}
 use Rattle.mk_class.specs.OperatorTexts.{operator_text}
-use Rattle.mk_edit_laws.specs.Edits.{Edit, SetValue, AppendValue, AddAssign, RemoveAssign, AddRule, RemoveRule, AddPrereq, RemovePrereq, AddRecipe, SetRecipe, RemoveRecipe, RenameTarget}
-use Rattle.mk_edit_laws.specs.NewLines.{colons_text}
+use Rattle.mk_edit_language.specs.Edits.{Edit, SetValue, AppendValue, AddAssign, RemoveAssign, AddRule, RemoveRule, AddPrereq, RemovePrereq, AddRecipe, SetRecipe, RemoveRecipe, RenameTarget}
+use Rattle.mk_edit_language.specs.NewLines.{rule_separator_text}
 use Rattle.mk_history.specs.Machine.{Command, Apply, Undo, Redo, Begin, End, Cancel}
 use Rattle.mk_script.specs.Fields.{quoted, HasFields}
 use Rattle.mk_script.specs.Numbers.{IsNumber}
@@ -87,7 +87,7 @@ edit-line (AddAssign place name flavor value) h =
     fields-command (nth_of_place place) (codes "assign" ∷ (place_words place ++ name ∷ operator_text flavor ∷ value ∷ [])) (Apply (AddAssign place name flavor value)) h (λ fields k. k)
 edit-line (RemoveAssign nth name) h = fields-command nth (codes "unset" ∷ name ∷ []) (Apply (RemoveAssign nth name)) h (λ fields k. k)
 edit-line (AddRule place targets colons prereqs) h =
-    fields-command (nth_of_place place) (codes "rule" ∷ (place_words place ++ targets ∷ colons_text colons ∷ prereqs ∷ [])) (Apply (AddRule place targets colons prereqs)) h (λ fields k. k)
+    fields-command (nth_of_place place) (codes "rule" ∷ (place_words place ++ targets ∷ rule_separator_text colons ∷ prereqs ∷ [])) (Apply (AddRule place targets colons prereqs)) h (λ fields k. k)
 edit-line (RemoveRule nth target) h = fields-command nth (codes "unrule" ∷ target ∷ []) (Apply (RemoveRule nth target)) h (λ fields k. k)
 edit-line (AddPrereq order nth target word) h = fields-command nth (depend_word order ∷ target ∷ word ∷ []) (Apply (AddPrereq order nth target word)) h (λ fields k. k)
 edit-line (RemovePrereq nth target word) h = fields-command nth (codes "undepend" ∷ target ∷ word ∷ []) (Apply (RemovePrereq nth target word)) h (λ fields k. k)

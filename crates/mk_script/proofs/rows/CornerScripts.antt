@@ -3,9 +3,9 @@ use Rattle.std.proofs.Common.{◌≡◌, refl, [], ◌∷◌, Some, None, true, 
 use Rattle.std.specs.Prelude.{codes, Ok, Err}
 use Rattle.bstr.specs.Text.{line_len, lines_from}
 use Rattle.mk_class.specs.declared.assignment.Flavor.TheVariants.{Recursive, Simple, PosixSimple, Immediate, Conditional, Append, Shell}
-use Rattle.mk_edit_laws.specs.declared.edit.Colons.TheVariants.{One, Two}
-use Rattle.mk_edit_laws.specs.Edits.{Bottom, BeforeVar, AfterVar, BeforeRule}
-use Rattle.mk_edit_laws.specs.Edits.{SetValue, AppendValue, AddAssign, RemoveAssign, AddRule, RemoveRule, AddPrereq, RemovePrereq, AddRecipe, SetRecipe, RemoveRecipe, RenameTarget}
+use Rattle.mk_edit_language.specs.declared.edit.RuleSeparator.TheVariants.{Single, Double}
+use Rattle.mk_edit_language.specs.Edits.{Bottom, BeforeVar, AfterVar, BeforeRule}
+use Rattle.mk_edit_language.specs.Edits.{SetValue, AppendValue, AddAssign, RemoveAssign, AddRule, RemoveRule, AddPrereq, RemovePrereq, AddRecipe, SetRecipe, RemoveRecipe, RenameTarget}
 use Rattle.mk_history.specs.Machine.{Apply, Undo, Redo, Begin, End, Cancel}
 use Rattle.mk_script.proofs.on_scripts.ReaderLemmas.{on_line, read_script}
 
@@ -345,7 +345,7 @@ row_nth_of_each_edit : read_script (codes "nth 1 set X a\nnth 2 append X a\nnth 
 unfolding line_len lines_from
 row_nth_of_each_edit = refl
 
-row_nth_of_a_place : read_script (codes "nth 2 assign after-var X Y = 1\nnth 3 rule before-rule a b : c\n") ≡ Ok (on_line 1 (Apply (AddAssign (AfterVar (Some 2) (codes "X")) (codes "Y") Recursive (codes "1"))) ∷ on_line 2 (Apply (AddRule (BeforeRule (Some 3) (codes "a")) (codes "b") One (codes "c"))) ∷ [])
+row_nth_of_a_place : read_script (codes "nth 2 assign after-var X Y = 1\nnth 3 rule before-rule a b : c\n") ≡ Ok (on_line 1 (Apply (AddAssign (AfterVar (Some 2) (codes "X")) (codes "Y") Recursive (codes "1"))) ∷ on_line 2 (Apply (AddRule (BeforeRule (Some 3) (codes "a")) (codes "b") Single (codes "c"))) ∷ [])
 unfolding line_len lines_from
 row_nth_of_a_place = refl
 
@@ -361,11 +361,11 @@ row_each_operator : read_script (codes "assign bottom A = 1\nassign bottom A := 
 unfolding line_len lines_from
 row_each_operator = refl
 
-row_each_place : read_script (codes "assign bottom A = 1\nassign before-var X A = 1\nassign after-var X A = 1\nassign before-rule t A = 1\nrule bottom a : b\nrule before-var X a : b\nrule after-var X a : b\nrule before-rule t a : b\n") ≡ Ok (on_line 1 (Apply (AddAssign Bottom (codes "A") Recursive (codes "1"))) ∷ on_line 2 (Apply (AddAssign (BeforeVar None (codes "X")) (codes "A") Recursive (codes "1"))) ∷ on_line 3 (Apply (AddAssign (AfterVar None (codes "X")) (codes "A") Recursive (codes "1"))) ∷ on_line 4 (Apply (AddAssign (BeforeRule None (codes "t")) (codes "A") Recursive (codes "1"))) ∷ on_line 5 (Apply (AddRule Bottom (codes "a") One (codes "b"))) ∷ on_line 6 (Apply (AddRule (BeforeVar None (codes "X")) (codes "a") One (codes "b"))) ∷ on_line 7 (Apply (AddRule (AfterVar None (codes "X")) (codes "a") One (codes "b"))) ∷ on_line 8 (Apply (AddRule (BeforeRule None (codes "t")) (codes "a") One (codes "b"))) ∷ [])
+row_each_place : read_script (codes "assign bottom A = 1\nassign before-var X A = 1\nassign after-var X A = 1\nassign before-rule t A = 1\nrule bottom a : b\nrule before-var X a : b\nrule after-var X a : b\nrule before-rule t a : b\n") ≡ Ok (on_line 1 (Apply (AddAssign Bottom (codes "A") Recursive (codes "1"))) ∷ on_line 2 (Apply (AddAssign (BeforeVar None (codes "X")) (codes "A") Recursive (codes "1"))) ∷ on_line 3 (Apply (AddAssign (AfterVar None (codes "X")) (codes "A") Recursive (codes "1"))) ∷ on_line 4 (Apply (AddAssign (BeforeRule None (codes "t")) (codes "A") Recursive (codes "1"))) ∷ on_line 5 (Apply (AddRule Bottom (codes "a") Single (codes "b"))) ∷ on_line 6 (Apply (AddRule (BeforeVar None (codes "X")) (codes "a") Single (codes "b"))) ∷ on_line 7 (Apply (AddRule (AfterVar None (codes "X")) (codes "a") Single (codes "b"))) ∷ on_line 8 (Apply (AddRule (BeforeRule None (codes "t")) (codes "a") Single (codes "b"))) ∷ [])
 unfolding line_len lines_from
 row_each_place = refl
 
-row_both_separators : read_script (codes "rule bottom \"a b\" : \"c d\"\nrule bottom a :: \"\"\n") ≡ Ok (on_line 1 (Apply (AddRule Bottom (codes "a b") One (codes "c d"))) ∷ on_line 2 (Apply (AddRule Bottom (codes "a") Two [])) ∷ [])
+row_both_separators : read_script (codes "rule bottom \"a b\" : \"c d\"\nrule bottom a :: \"\"\n") ≡ Ok (on_line 1 (Apply (AddRule Bottom (codes "a b") Single (codes "c d"))) ∷ on_line 2 (Apply (AddRule Bottom (codes "a") Double [])) ∷ [])
 unfolding line_len lines_from
 row_both_separators = refl
 

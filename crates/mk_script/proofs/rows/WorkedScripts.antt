@@ -3,9 +3,9 @@ use Rattle.std.proofs.Common.{◌≡◌, refl, [], ◌∷◌, Some, None, true, 
 use Rattle.std.specs.Prelude.{codes, Ok, Err}
 use Rattle.bstr.specs.Text.{line_len, lines_from}
 use Rattle.mk_class.specs.declared.assignment.Flavor.TheVariants.{Recursive, Simple}
-use Rattle.mk_edit_laws.specs.declared.edit.Colons.TheVariants.{One, Two}
-use Rattle.mk_edit_laws.specs.Edits.{Bottom, BeforeVar, AfterVar, BeforeRule}
-use Rattle.mk_edit_laws.specs.Edits.{SetValue, AppendValue, AddAssign, RemoveAssign, AddRule, RemoveRule, AddPrereq, RemovePrereq, AddRecipe, SetRecipe, RemoveRecipe, RenameTarget}
+use Rattle.mk_edit_language.specs.declared.edit.RuleSeparator.TheVariants.{Single, Double}
+use Rattle.mk_edit_language.specs.Edits.{Bottom, BeforeVar, AfterVar, BeforeRule}
+use Rattle.mk_edit_language.specs.Edits.{SetValue, AppendValue, AddAssign, RemoveAssign, AddRule, RemoveRule, AddPrereq, RemovePrereq, AddRecipe, SetRecipe, RemoveRecipe, RenameTarget}
 use Rattle.mk_history.specs.Machine.{Apply, Undo, Redo, Begin, End, Cancel}
 use Rattle.mk_script.proofs.on_scripts.ReaderLemmas.{on_line, read_script}
 
@@ -173,11 +173,11 @@ row_unrule_of_a_shared_rule_is_refused : read_script (codes "unrule a") ≡ Ok (
 unfolding line_len lines_from
 row_unrule_of_a_shared_rule_is_refused = refl
 
-row_rule_with_two_targets_and_a_reference : read_script (codes "rule bottom \"a b\" :: \"$(subst x y,z,w) c\"") ≡ Ok (on_line 1 (Apply (AddRule Bottom (codes "a b") Two (codes "$(subst x y,z,w) c"))) ∷ [])
+row_rule_with_two_targets_and_a_reference : read_script (codes "rule bottom \"a b\" :: \"$(subst x y,z,w) c\"") ≡ Ok (on_line 1 (Apply (AddRule Bottom (codes "a b") Double (codes "$(subst x y,z,w) c"))) ∷ [])
 unfolding line_len lines_from
 row_rule_with_two_targets_and_a_reference = refl
 
-row_rule_above_a_tab_led_line_is_refused : read_script (codes "rule after-var A t : \"\"") ≡ Ok (on_line 1 (Apply (AddRule (AfterVar None (codes "A")) (codes "t") One [])) ∷ [])
+row_rule_above_a_tab_led_line_is_refused : read_script (codes "rule after-var A t : \"\"") ≡ Ok (on_line 1 (Apply (AddRule (AfterVar None (codes "A")) (codes "t") Single [])) ∷ [])
 unfolding line_len lines_from
 row_rule_above_a_tab_led_line_is_refused = refl
 
@@ -357,7 +357,7 @@ row_depend_of_a_target_assignment_finds_nothing : read_script (codes "depend a b
 unfolding line_len lines_from
 row_depend_of_a_target_assignment_finds_nothing = refl
 
-row_target_that_ends_in_an_ampersand_is_refused : read_script (codes "rule bottom \"$&\" : \"\"") ≡ Ok (on_line 1 (Apply (AddRule Bottom (codes "$&") One [])) ∷ [])
+row_target_that_ends_in_an_ampersand_is_refused : read_script (codes "rule bottom \"$&\" : \"\"") ≡ Ok (on_line 1 (Apply (AddRule Bottom (codes "$&") Single [])) ∷ [])
 unfolding line_len lines_from
 row_target_that_ends_in_an_ampersand_is_refused = refl
 
@@ -365,11 +365,11 @@ row_empty_place_is_refused : read_script (codes "assign before-var \"\" Y = 1") 
 unfolding line_len lines_from
 row_empty_place_is_refused = refl
 
-row_rule_without_a_target_is_refused : read_script (codes "rule bottom \" \" : \"\"") ≡ Ok (on_line 1 (Apply (AddRule Bottom (codes " ") One [])) ∷ [])
+row_rule_without_a_target_is_refused : read_script (codes "rule bottom \" \" : \"\"") ≡ Ok (on_line 1 (Apply (AddRule Bottom (codes " ") Single [])) ∷ [])
 unfolding line_len lines_from
 row_rule_without_a_target_is_refused = refl
 
-row_rule_joins_prerequisites_by_one_space : read_script (codes "rule bottom a : \"b\tc \"") ≡ Ok (on_line 1 (Apply (AddRule Bottom (codes "a") One (codes "b\tc "))) ∷ [])
+row_rule_joins_prerequisites_by_one_space : read_script (codes "rule bottom a : \"b\tc \"") ≡ Ok (on_line 1 (Apply (AddRule Bottom (codes "a") Single (codes "b\tc "))) ∷ [])
 unfolding line_len lines_from
 row_rule_joins_prerequisites_by_one_space = refl
 

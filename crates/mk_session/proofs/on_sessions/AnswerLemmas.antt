@@ -1,9 +1,9 @@
 -- What a call of a session gave back is a reply of the session machine.
 use Rattle.std.proofs.Common.{◌≡◌, refl, arith, ℕ, ◌≤◌, ◌+◌, List, Ok, Err, inl, inr}
 use Rattle.std.specs.Prelude.{Result, OnOk, OnErr, IfErr}
-use Rattle.mk_edit_laws.specs.Edits.{Edit}
-use Rattle.mk_edit_laws.specs.Costs.{cost}
-use Rattle.mk_edit_laws.specs.declared.refusal.Refusal.{Refusal}
+use Rattle.mk_edit_language.specs.Edits.{Edit}
+use Rattle.mk_edit_language.specs.Costs.{cost}
+use Rattle.mk_edit_language.specs.declared.refusal.Refusal.{Refusal}
 use Rattle.mk_history.specs.Machine as machine
 use Rattle.mk_history.specs.Machine.{Command, Apply, Begin, EditRefused}
 use Rattle.mk_history.specs.Shown.{Shown}

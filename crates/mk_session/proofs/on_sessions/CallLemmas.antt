@@ -5,13 +5,13 @@ use Rattle.std.proofs.lemmas.List.{append-nil}
 use Rattle.std.proofs.lemmas.List.Sums.{fold-append}
 use Rattle.mk_lines.specs.Pieces.{Replacement}
 use Rattle.mk_lines.specs.Lists.{concat}
-use Rattle.mk_edit_laws.specs.Edits.{Edit}
-use Rattle.mk_edit_laws.specs.Refusals.{spans, text_after}
-use Rattle.mk_edit_laws.specs.declared.refusal.Refusal.{Refusal}
+use Rattle.mk_edit_language.specs.Edits.{Edit}
+use Rattle.mk_edit_language.specs.Refusals.{spans, text_after}
+use Rattle.mk_edit_language.specs.declared.refusal.Refusal.{Refusal}
 use Rattle.mk_tree.specs.Readings.{reading}
-use Rattle.mk_edit_laws.specs.RisingSpans.{IsReplacedAt}
-use Rattle.mk_edit_laws.proofs.on_edits.EditLemmas.{edits-read}
-use Rattle.mk_edit_laws.proofs.on_edits.SpansRise.{only_spans-replaced}
+use Rattle.mk_edit_language.specs.RisingSpans.{IsReplacedAt}
+use Rattle.mk_edit_language.proofs.on_edits.EditLemmas.{edits-read}
+use Rattle.mk_edit_language.proofs.on_edits.SpansRise.{only_spans-replaced}
 use Rattle.mk_history.specs.Machine as machine
 use Rattle.mk_history.specs.Machine.{Command, Apply, Undo, Redo, Begin, End, Cancel, NothingToUndo, opened, next, accepted, text, replay}
 use Rattle.mk_history.specs.CallSteps.{Granted, Refused, NoMemory, IsStep, AreSteps}

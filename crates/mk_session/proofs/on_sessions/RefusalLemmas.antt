@@ -7,17 +7,17 @@ use Rattle.mk_history.specs.Machine as machine
 use Rattle.mk_history.specs.Machine.{Command, Apply, Undo, Redo, Begin, End, Cancel}
 use Rattle.mk_history.specs.Shown.{Shown, shown_edited, shown_ended, shown_back, shown_forward}
 use Rattle.mk_session.specs.Sessions.{answer, edited, text_with, session_refusal}
-use Rattle.mk_edit_laws.specs.Edits.{Place, Bottom, Edit, AppendValue, AddAssign, AddRule, RemoveRule, AddPrereq, RemovePrereq, AddRecipe, SetRecipe, RemoveRecipe, RenameTarget}
-use Rattle.mk_edit_laws.specs.Addresses.{Address, address}
-use Rattle.mk_edit_laws.specs.EditSpans.{spans_of}
-use Rattle.mk_edit_laws.specs.Causes.{where_holds}
-use Rattle.mk_edit_laws.specs.ArgumentCauses.{FieldTest, Tested, first_failed, field_tests, bad_argument, reserved}
-use Rattle.mk_edit_laws.specs.AddressCauses.{unread_prefix, no_such, no_such_line, ambiguous, ambiguous_line, prefix_led}
-use Rattle.mk_edit_laws.specs.RuleCauses.{absent, already, taken, shared_rule, straddles}
-use Rattle.mk_edit_laws.specs.LineCauses.{open_value, open_line, open_define, open_define_at, leaning, too_long}
-use Rattle.mk_edit_laws.specs.Refusals.{first_cause, unless_refused, causes, spans}
-use Rattle.mk_edit_laws.specs.declared.refusal.Refusal.{Refusal}
-use Rattle.mk_edit_laws.specs.declared.refusal.Refusal.TheVariants.{Reserved, RecipePrefix, NoSuch, Ambiguous, Absent, Already, Taken, SharedRule, Straddles, OpenValue, OpenLine, OpenDefine, Leans, TooLong, NoMemory}
+use Rattle.mk_edit_language.specs.Edits.{Place, Bottom, Edit, AppendValue, AddAssign, AddRule, RemoveRule, AddPrereq, RemovePrereq, AddRecipe, SetRecipe, RemoveRecipe, RenameTarget}
+use Rattle.mk_edit_language.specs.Addresses.{Address, address}
+use Rattle.mk_edit_language.specs.EditSpans.{spans_of}
+use Rattle.mk_edit_language.specs.Causes.{where_holds}
+use Rattle.mk_edit_language.specs.ArgumentCauses.{FieldTest, Tested, first_failed, field_tests, bad_argument, reserved}
+use Rattle.mk_edit_language.specs.AddressCauses.{unread_prefix, no_such, no_such_line, ambiguous, ambiguous_line, prefix_led}
+use Rattle.mk_edit_language.specs.RuleCauses.{absent, already, taken, shared_rule, straddles}
+use Rattle.mk_edit_language.specs.LineCauses.{open_value, open_line, open_define, open_define_at, leaning, too_long}
+use Rattle.mk_edit_language.specs.Refusals.{first_cause, unless_refused, causes, spans}
+use Rattle.mk_edit_language.specs.declared.refusal.Refusal.{Refusal}
+use Rattle.mk_edit_language.specs.declared.refusal.Refusal.TheVariants.{Reserved, RecipePrefix, NoSuch, Ambiguous, Absent, Already, Taken, SharedRule, Straddles, OpenValue, OpenLine, OpenDefine, Leans, TooLong, NoMemory}
 
 -- a cause that is not want of memory
 abbrev IsOther : Option Refusal → Type 0

@@ -4,10 +4,10 @@ use Rattle.std.specs.Prelude.{Result}
 use Rattle.mk_lines.specs.Pieces.{Replacement}
 use Rattle.mk_tree.specs.LocatedLines.{LocatedLine, located_text}
 use Rattle.mk_tree.proofs.on_documents.DocumentLemmas.{faithful-text}
-use Rattle.mk_edit_laws.specs.Edits.{Edit}
-use Rattle.mk_edit_laws.specs.Refusals.{spans, text_by, text_after}
-use Rattle.mk_edit_laws.specs.declared.refusal.Refusal.{Refusal}
-use Rattle.mk_edit_laws.specs.declared.refusal.Refusal.TheVariants.{NoMemory}
+use Rattle.mk_edit_language.specs.Edits.{Edit}
+use Rattle.mk_edit_language.specs.Refusals.{spans, text_by, text_after}
+use Rattle.mk_edit_language.specs.declared.refusal.Refusal.{Refusal}
+use Rattle.mk_edit_language.specs.declared.refusal.Refusal.TheVariants.{NoMemory}
 use Rattle.mk_edit.specs.Planned.{IsPlanned, IsRefusal}
 use Rattle.mk_patch.specs.Moves.{Move, after_moves}
 use Rattle.mk_history.specs.Machine.{Apply, End, EditRefused}

@@ -1,5 +1,5 @@
 use Rattle.std.proofs.Common.{◌∙◌, sym, arith, inl}
-use Rattle.mk_edit_parts.specs.EditViews.{edit_of}
+use Rattle.mk_edit_language.specs.EditViews.{edit_of}
 use Rattle.mk_edit.proofs.on_recipes.AddRecipePlans.{add_recipe-of}
 use Rattle.mk_edit.proofs.add_recipe.plan_add_recipe.Goals as goal
 

@@ -1,7 +1,7 @@
 use Rattle.std.proofs.Common.{◌≡◌, refl, ap, ℕ, false, Option, Vec}
 use Rattle.mk_edit_parts.specs.EditViews as views
-use Rattle.mk_edit_parts.specs.declared.edit.Place.{Place}
-use Rattle.mk_edit_parts.specs.declared.edit.Place.TheVariants as place
+use Rattle.mk_edit_language.specs.declared.edit.Place.{Place}
+use Rattle.mk_edit_language.specs.declared.edit.Place.TheVariants as place
 use Rattle.mk_edit.proofs.on_new_lines.InsertionLemmas.{inserted-after_var, after_var-place, after_var-within, is_after, inserted-elsewhere}
 use Rattle.mk_edit.proofs.insertion.place_of.Goals as goal
 

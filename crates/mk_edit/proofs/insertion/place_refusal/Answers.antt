@@ -1,11 +1,11 @@
 use Rattle.std.proofs.Common.{◌∙◌, refl, sym, ap, Some, None}
 use Rattle.mk_class.specs.ClassedLines.{classed_lines}
 use Rattle.mk_tree.specs.LocatedLines.{located_text}
-use Rattle.mk_edit_laws.specs.Causes.{where_holds}
-use Rattle.mk_edit_laws.specs.LineCauses.{open_line, open_define, leaning, too_long}
-use Rattle.mk_edit_laws.specs.EditSpans.{spans_of}
-use Rattle.mk_edit_laws.specs.declared.refusal.Refusal.TheVariants.{OpenLine, OpenDefine, Leans, TooLong}
-use Rattle.mk_edit_parts.specs.EditViews.{edit_of}
+use Rattle.mk_edit_language.specs.Causes.{where_holds}
+use Rattle.mk_edit_language.specs.LineCauses.{open_line, open_define, leaning, too_long}
+use Rattle.mk_edit_language.specs.EditSpans.{spans_of}
+use Rattle.mk_edit_language.specs.declared.refusal.Refusal.TheVariants.{OpenLine, OpenDefine, Leans, TooLong}
+use Rattle.mk_edit_language.specs.EditViews.{edit_of}
 use Rattle.mk_edit_parts.proofs.CauseLemmas.{passed, holds}
 use Rattle.mk_edit.proofs.on_new_lines.PlaceCauses.{open_line-at, open_define-at, leaning-at, too_long-at}
 use Rattle.mk_edit.proofs.insertion.place_refusal.Goals as goal

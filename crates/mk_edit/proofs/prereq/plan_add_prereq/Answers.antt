@@ -1,6 +1,6 @@
 use Rattle.std.proofs.Common.{◌∙◌, sym, inl, inr, refl, arith}
 use Rattle.mk_tree.specs.Trees.{line_view}
-use Rattle.mk_edit_parts.specs.EditViews.{edit_of}
+use Rattle.mk_edit_language.specs.EditViews.{edit_of}
 use Rattle.mk_edit.proofs.on_plans.PlanLemmas.{planned-if_ok, planned-if_err}
 use Rattle.mk_edit.proofs.on_plans.RangePlans.{line-short}
 use Rattle.mk_edit.proofs.on_prerequisites.AddPrereqPlans.{add_prereq-of, word-short}

@@ -1,5 +1,5 @@
 use Rattle.std.proofs.Common.{inl}
-use Rattle.mk_edit_parts.specs.EditViews.{edit_of}
+use Rattle.mk_edit_language.specs.EditViews.{edit_of}
 use Rattle.mk_edit.proofs.on_plans.PlanLemmas.{planned-if_ok, planned-if_err}
 use Rattle.mk_edit.proofs.on_plans.RemovalPlans.{remove_assign-at, taking_out-leans, taking_out-planned}
 use Rattle.mk_edit.proofs.remove_assign.plan_remove_assign.Goals as goal

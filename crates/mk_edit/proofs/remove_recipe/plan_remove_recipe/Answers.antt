@@ -1,5 +1,5 @@
 use Rattle.std.proofs.Common.{◌∙◌, sym, subst, arith, inl, inr}
-use Rattle.mk_edit_parts.specs.EditViews.{edit_of}
+use Rattle.mk_edit_language.specs.EditViews.{edit_of}
 use Rattle.mk_edit.specs.Planned.{IsPlanned}
 use Rattle.mk_edit.proofs.on_recipes.RemoveRecipePlans.{remove_recipe-of}
 use Rattle.mk_edit.proofs.remove_recipe.plan_remove_recipe.Goals as goal

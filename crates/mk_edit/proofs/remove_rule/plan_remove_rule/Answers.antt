@@ -1,6 +1,6 @@
 use Rattle.std.proofs.Common.{◌∙◌, sym, subst, arith, inl, inr}
 use Rattle.mk_tree.specs.Trees.{line_view}
-use Rattle.mk_edit_parts.specs.EditViews.{edit_of}
+use Rattle.mk_edit_language.specs.EditViews.{edit_of}
 use Rattle.mk_edit.specs.Planned.{IsPlanned}
 use Rattle.mk_edit_parts.proofs.on_finding.PlaceLemmas.{faithful-at}
 use Rattle.mk_edit.proofs.on_recipes.RemoveRulePlans.{remove_rule-of}

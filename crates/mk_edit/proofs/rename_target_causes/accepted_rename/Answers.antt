@@ -1,10 +1,11 @@
 use Rattle.std.proofs.Common.{◌≡◌, ◌∙◌, sym, ap, None}
 use Rattle.mk_class.specs.ClassedLines.{classed_lines}
 use Rattle.mk_tree.specs.LocatedLines.{located_text}
-use Rattle.mk_edit_laws.specs.ArgumentCauses.{bad_argument, reserved}
-use Rattle.mk_edit_laws.specs.Causes.{where_holds}
-use Rattle.mk_edit_laws.specs.declared.refusal.Refusal.TheVariants.{BadArgument, Reserved}
-use Rattle.mk_edit_parts.specs.EditViews.{edit_of, field_refusal}
+use Rattle.mk_edit_language.specs.ArgumentCauses.{bad_argument, reserved}
+use Rattle.mk_edit_language.specs.Causes.{where_holds}
+use Rattle.mk_edit_language.specs.declared.refusal.Refusal.TheVariants.{BadArgument, Reserved}
+use Rattle.mk_edit_language.specs.EditViews.{edit_of}
+use Rattle.mk_edit_parts.specs.AddressViews.{field_refusal}
 use Rattle.mk_edit_parts.proofs.on_finding.FindLemmas.{reserved-holds}
 use Rattle.mk_edit.proofs.on_renaming.CausesOfRenameTarget.{bad-first, causes-told, reserved-first}
 use Rattle.mk_edit.proofs.rename_target_causes.accepted_rename.Goals as goal

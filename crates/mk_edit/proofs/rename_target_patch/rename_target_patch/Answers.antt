@@ -1,5 +1,5 @@
 use Rattle.std.proofs.Common.{◌∙◌, arith, sym, subst}
-use Rattle.mk_edit_laws.specs.Edits.{RenameTarget}
+use Rattle.mk_edit_language.specs.Edits.{RenameTarget}
 use Rattle.mk_edit.specs.Planned.{IsPlanned}
 use Rattle.mk_edit.specs.RenameTargetPatches.{holds_word}
 use Rattle.mk_edit.proofs.on_renaming.PatchPlans.{rename_target-planned}

@@ -1,7 +1,7 @@
 use Rattle.std.proofs.Common.{◌≡◌, ◌∙◌, ◌+◌, ◌++◌, ap, sym, arith, inl, inr, refl, length, length-append, false}
 use Rattle.mk_tree.specs.Trees.{line_view}
-use Rattle.mk_edit_laws.specs.Addresses.{address}
-use Rattle.mk_edit_parts.specs.EditViews.{edit_of}
+use Rattle.mk_edit_language.specs.Addresses.{address}
+use Rattle.mk_edit_language.specs.EditViews.{edit_of}
 use Rattle.mk_edit_parts.specs.LineRanges.{value_range_located}
 use Rattle.mk_edit.specs.ValuesGiven.{space_after}
 use Rattle.mk_edit_parts.proofs.on_finding.PlaceLemmas.{faithful-at}

@@ -1,7 +1,7 @@
 use Rattle.std.proofs.Common.{◌∙◌, ap, arith, inl, inr, refl, length, take, drop, ◌++◌}
 use Rattle.mk_tree.specs.Trees.{line_view}
-use Rattle.mk_edit_laws.specs.Addresses.{address}
-use Rattle.mk_edit_parts.specs.EditViews.{edit_of}
+use Rattle.mk_edit_language.specs.Addresses.{address}
+use Rattle.mk_edit_language.specs.EditViews.{edit_of}
 use Rattle.mk_edit_parts.specs.LineRanges.{value_range_located}
 use Rattle.mk_edit_parts.proofs.on_finding.PlaceLemmas.{faithful-at}
 use Rattle.mk_edit.proofs.on_plans.PlanLemmas.{planned-if_ok, planned-if_err}

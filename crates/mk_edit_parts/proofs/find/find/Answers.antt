@@ -1,11 +1,12 @@
 use Rattle.std.proofs.Common.{◌≡◌, ◌∙◌, ap, subst, sym, None}
 use Rattle.mk_class.specs.ClassedLines.{classed_lines}
 use Rattle.mk_tree.specs.LocatedLines.{located_text}
-use Rattle.mk_edit_laws.specs.ArgumentCauses.{bad_argument, reserved}
-use Rattle.mk_edit_laws.specs.AddressCauses.{unread_prefix}
-use Rattle.mk_edit_laws.specs.Causes.{where_holds}
-use Rattle.mk_edit_laws.specs.declared.refusal.Refusal.TheVariants.{Reserved, RecipePrefix}
-use Rattle.mk_edit_parts.specs.EditViews.{edit_of, field_refusal}
+use Rattle.mk_edit_language.specs.ArgumentCauses.{bad_argument, reserved}
+use Rattle.mk_edit_language.specs.AddressCauses.{unread_prefix}
+use Rattle.mk_edit_language.specs.Causes.{where_holds}
+use Rattle.mk_edit_language.specs.declared.refusal.Refusal.TheVariants.{Reserved, RecipePrefix}
+use Rattle.mk_edit_language.specs.EditViews.{edit_of}
+use Rattle.mk_edit_parts.specs.AddressViews.{field_refusal}
 use Rattle.mk_edit_parts.specs.Found.{IsNotPicked}
 use Rattle.mk_edit_parts.proofs.on_finding.FindLemmas.{reserved-holds, unread-holds, not_picked-refused}
 use Rattle.mk_edit_parts.proofs.find.find.Goals as goal

@@ -1,7 +1,7 @@
 use Rattle.std.proofs.Common.{◌≡◌, sym, subst, rules, []}
 use Rattle.mk_class.specs.ClassedLines.{classed_lines}
 use Rattle.mk_tree.specs.LocatedLines.{located_text}
-use Rattle.mk_edit_parts.specs.EditViews.{address_seen}
+use Rattle.mk_edit_parts.specs.AddressViews.{address_seen}
 use Rattle.mk_edit_parts.specs.Seeking.{IsSought, may_mean, nothing_seen, wanted}
 use Rattle.mk_edit_parts.proofs.on_finding.SeekLemmas.{lines-sought, seek-from, seek-over}
 use Rattle.mk_edit_parts.proofs.seek.seek.Goals as goal

@@ -2,7 +2,7 @@
 -- its class, and may be stepped over; no more are counted than were passed.
 use Rattle.std.proofs.Common.{◌≡◌, ◌≤◌, ◌+◌, length}
 use Rattle.mk_tree.specs.Admissions.{AreAdmitted}
-use Rattle.mk_edit_parts.specs.EditViews.{address_seen}
+use Rattle.mk_edit_parts.specs.AddressViews.{address_seen}
 use Rattle.mk_edit_parts.specs.LocatedParts.{AreEachClassed}
 use Rattle.mk_edit_parts.specs.Seeking.{may_mean, nothing_seen, seek}
 use Rattle.mk_edit_parts.proofs.seek.seek.Given as goal

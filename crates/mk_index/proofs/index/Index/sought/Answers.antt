@@ -1,7 +1,7 @@
 use Rattle.std.proofs.Common.{sym, subst, None}
 use Rattle.mk_class.specs.ClassedLines.{classed_lines}
 use Rattle.mk_tree.specs.LocatedLines.{located_text}
-use Rattle.mk_edit_parts.specs.EditViews.{address_seen}
+use Rattle.mk_edit_parts.specs.AddressViews.{address_seen}
 use Rattle.mk_edit_parts.specs.Seeking.{IsSought}
 use Rattle.mk_index.proofs.on_indexes.KnownLemmas.{none-known}
 use Rattle.mk_index.proofs.index.Index.sought.Goals as goal

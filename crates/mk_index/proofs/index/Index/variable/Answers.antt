@@ -1,7 +1,7 @@
 use Rattle.std.proofs.Common.{◌∙◌, ◌≤◌, ap, sym, subst, arith, Some}
 use Rattle.mk_class.specs.ClassedLines.{classed_lines}
 use Rattle.mk_tree.specs.LocatedLines.{located_text}
-use Rattle.mk_edit_laws.specs.Addresses.{Variable}
+use Rattle.mk_edit_language.specs.Addresses.{Variable}
 use Rattle.mk_edit_parts.specs.Seeking.{IsSought}
 use Rattle.mk_index.specs.Indexes.{last_first}
 use Rattle.mk_index.specs.Passings.{named, passed_over}

@@ -1,5 +1,5 @@
 use Rattle.std.proofs.Common.{◌≡◌, ◌∷◌, sym, ap, ◌∙◌, subst, Option, arith}
-use Rattle.mk_edit_parts.specs.EditViews.{edit_of}
+use Rattle.mk_edit_language.specs.EditViews.{edit_of}
 use Rattle.mk_session.specs.StoredSessions.{Patches, IsStored, after_patches}
 use Rattle.mk_session.proofs.on_sessions.StoredLemmas.{FitPatches, stored-alone}
 use Rattle.mk_session.proofs.on_sessions.StepLemmas.{alone-step, grouped-step, edit-refused, memory-refused}

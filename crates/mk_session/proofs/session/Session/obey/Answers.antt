@@ -1,5 +1,5 @@
 use Rattle.mk_history.specs.Machine.{Undo, Redo, End, Cancel}
-use Rattle.mk_edit_parts.specs.EditViews.{edit_of}
+use Rattle.mk_edit_language.specs.EditViews.{edit_of}
 use Rattle.mk_session.proofs.on_sessions.AnswerLemmas.{edit-answered, step-answered, begin-answered}
 use Rattle.mk_session.proofs.session.Session.obey.Goals as goal
 

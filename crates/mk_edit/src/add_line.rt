@@ -1,0 +1,94 @@
+//! New lines, planned: those of assignments and of rules, and what all new lines share.
+ghost use Rattle.std.specs.Prelude.{◌≡◌, ◌≤◌, ◌+◌, IfOk, IfErr, OnOk};
+ghost use Rattle.mk_class.specs.ClassedLines.{classed_lines};
+ghost use Rattle.mk_tree.specs.Counting.{AreCounted};
+ghost use Rattle.mk_tree.specs.Documents.{IsFaithful};
+ghost use Rattle.mk_tree.specs.LocatedLines.{located_text};
+ghost use Rattle.mk_edit_language.specs.Costs.{cost};
+ghost use Rattle.mk_edit_language.specs.Stretches.{insertion};
+ghost use Rattle.mk_edit_language.specs.EditViews.{edit_of};
+ghost use Rattle.mk_edit_parts.specs.Seeking.{IsKnown};
+ghost use Rattle.mk_edit.specs.Insertions.{IsDecidedByPlace, IsInsertedAt, IsOfNewLine, IsOfPlace};
+ghost use Rattle.mk_edit.specs.Planned.{IsPlanned, IsRefusal};
+
+use crate::insertion::{insertion_of, place_refusal};
+use crate::moves::insert_line;
+use mk_class::Meter;
+use mk_edit_language::{Edit, Refusal};
+use mk_edit_parts::find::find;
+use mk_edit_parts::line_end::file_line_end;
+use mk_edit_parts::new_line::{begins_with_prefix, new_line};
+use mk_edit_parts::seek::{Found, Sought};
+use mk_patch::Patch;
+use mk_tree::Doc;
+use std::alloc::Allocator;
+
+/// Plans the new line of an assignment or of a rule. It reads the new line.
+///
+/// # Errors
+///
+/// The first cause of the edit that holds: the causes of [`find`]; [`Refusal::RecipePrefix`] if the
+/// new line would begin with the recipe prefix in force at its place; and the causes of
+/// [`place_refusal`]. If no cause holds, [`Refusal::NoMemory`] if a growth was refused.
+pub(crate) fn plan_add_line<A: Allocator + Copy>(
+    alloc: A,
+    doc: &Doc<A>,
+    edit: &Edit<A>,
+    known: Option<Sought>,
+    meter: &mut Meter,
+) -> Result<Patch<A>, Refusal>
+    requires faithful { IsFaithful doc.now }
+    requires kind { IsOfPlace (edit_of edit.now) }
+    requires known { IsKnown (edit_of edit.now) doc.now known }
+    ensures planned { IfOk result (λ patch. IsPlanned (edit_of edit.now) doc.now patch) }
+    ensures refused { IfErr result (λ refusal.
+        IsRefusal (located_text doc.now) (edit_of edit.now) refusal) }
+    ensures counted { OnOk result (AreCounted meter.old
+        (cost (located_text doc.now) (edit_of edit.now)) meter.new) }
+    ensures few_read { meter.new ≤ meter.old + cost (located_text doc.now) (edit_of edit.now) }
+    ensures forward { meter.old ≤ meter.new }
+{
+    let found = find(doc, edit, known)?;
+    let place = insertion_of(doc, edit, found);
+    if begins_with_prefix(edit, place.context.prefix()) {
+        return Err(Refusal::RecipePrefix);
+    }
+    add_line(alloc, doc, edit, place, meter)
+}
+
+/// Plans the new line of an edit at its place. It asks that no cause holds that comes before the
+/// causes of the place. It reads the new line.
+///
+/// # Errors
+///
+/// The first of the causes of [`place_refusal`] that holds. If none of them holds,
+/// [`Refusal::NoMemory`] if a growth was refused.
+pub(crate) fn add_line<A: Allocator + Copy>(
+    alloc: A,
+    doc: &Doc<A>,
+    edit: &Edit<A>,
+    place: Found,
+    meter: &mut Meter,
+) -> Result<Patch<A>, Refusal>
+    requires faithful { IsFaithful doc.now }
+    requires kind { IsOfNewLine (edit_of edit.now) }
+    requires decided { IsDecidedByPlace (located_text doc.now) (edit_of edit.now) }
+    requires inserted { IsInsertedAt doc.now
+        (insertion (classed_lines (located_text doc.now)) (edit_of edit.now)) place }
+    ensures planned { IfOk result (λ patch. IsPlanned (edit_of edit.now) doc.now patch) }
+    ensures refused { IfErr result (λ refusal.
+        IsRefusal (located_text doc.now) (edit_of edit.now) refusal) }
+    ensures counted { OnOk result (AreCounted meter.old
+        (cost (located_text doc.now) (edit_of edit.now)) meter.new) }
+    ensures few_read { meter.new ≤ meter.old + cost (located_text doc.now) (edit_of edit.now) }
+    ensures forward { meter.old ≤ meter.new }
+{
+    if let Some(refusal) = place_refusal(doc, edit, &place) {
+        return Err(refusal);
+    }
+    let end = file_line_end(doc);
+    let Ok(bytes) = new_line(alloc, edit, place.context.prefix(), end) else {
+        return Err(Refusal::NoMemory);
+    };
+    insert_line(alloc, doc, place, bytes, meter)
+}

@@ -1,0 +1,114 @@
+-- What it says of an edit that no cause refuses it.
+use Rattle.std.proofs.Common.{◌≡◌, refl, ℕ, List, [], ◌∷◌, Bool, true, false, not, Option, Some, None, is_some}
+use Rattle.std.specs.Prelude.{Ok}
+use Rattle.mk_lines.specs.Pieces.{Replacement}
+use Rattle.mk_class.specs.ClassedLines.{classed_lines}
+use Rattle.mk_tree.specs.LineTexts.{StandingLine}
+use Rattle.mk_edit_language.specs.Edits.{Edit}
+use Rattle.mk_edit_language.specs.Spots.{nth_of, picked}
+use Rattle.mk_edit_language.specs.EditSpans.{spans_of}
+use Rattle.mk_edit_language.specs.Causes.{where_holds}
+use Rattle.mk_edit_language.specs.ArgumentCauses.{Tested, first_failed, bad_argument, reserved}
+use Rattle.mk_edit_language.specs.AddressCauses.{unread_prefix, no_such, ambiguous, prefix_led, is_missing, is_several}
+use Rattle.mk_edit_language.specs.RuleCauses.{absent, already, taken, shared_rule, straddles}
+use Rattle.mk_edit_language.specs.LineCauses.{open_value, open_line, open_define, leaning, too_long}
+use Rattle.mk_edit_language.specs.Refusals.{first_cause, unless_refused, causes, spans}
+use Rattle.mk_edit_language.specs.declared.refusal.Field.{Field}
+use Rattle.mk_edit_language.specs.declared.refusal.Refusal.{Refusal}
+
+none-first : (o : Option Refusal) (cs : List (Option Refusal)) → first_cause (o ∷ cs) ≡ None → (o ≡ None) × (first_cause cs ≡ None)
+none-first None cs h = (refl, h)
+none-first (Some r) cs h = absurd (cc)
+
+-- a cause that is nothing does not hold
+pub where_holds-none : (b : Bool) (r : Refusal) → where_holds b r ≡ None → b ≡ false
+where_holds-none true r h = cc
+where_holds-none false r h = refl
+
+unrefused : (o : Option Refusal) (rs rs' : List Replacement) → unless_refused o rs ≡ Ok rs' → (o ≡ None) × (rs ≡ rs')
+unrefused None rs rs' h = let e : rs ≡ rs' = cc in (refl, e)
+unrefused (Some r) rs rs' h = absurd (cc)
+
+-- no cause holds, and these are the spans
+pub record IsAccepted (t : List ℕ) (e : Edit) (rs : List Replacement) : Type 0 where
+  pub arguments : bad_argument e ≡ None
+  pub not_reserved : reserved e ≡ None
+  pub prefix_read : unread_prefix (classed_lines t) ≡ None
+  pub is_there : no_such (classed_lines t) e ≡ None
+  pub is_one : ambiguous (classed_lines t) e ≡ None
+  pub not_led : prefix_led (classed_lines t) e ≡ None
+  pub not_absent : absent (classed_lines t) e ≡ None
+  pub not_already : already (classed_lines t) e ≡ None
+  pub not_taken : taken (classed_lines t) e ≡ None
+  pub not_shared : shared_rule (classed_lines t) e ≡ None
+  pub not_straddling : straddles (classed_lines t) e ≡ None
+  pub value_closed : open_value (classed_lines t) e ≡ None
+  pub line_closed : open_line (classed_lines t) e ≡ None
+  pub define_closed : open_define (classed_lines t) e ≡ None
+  pub not_leaning : leaning (classed_lines t) e ≡ None
+  pub not_long : too_long t (spans_of t (classed_lines t) e) ≡ None
+  pub spans_are : spans_of t (classed_lines t) e ≡ rs
+
+-- no cause of an edit with spans holds
+pub accepted : (t : List ℕ) (e : Edit) (rs : List Replacement) → spans t e ≡ Ok rs → IsAccepted t e rs
+accepted t e rs h =
+    let ls = classed_lines t in
+    let u = unrefused (first_cause (causes t ls e)) (spans_of t ls e) rs h in
+    let a = none-first (bad_argument e) _ u.0 in
+    let b = none-first (reserved e) _ a.1 in
+    let c = none-first (unread_prefix ls) _ b.1 in
+    let d = none-first (no_such ls e) _ c.1 in
+    let f = none-first (ambiguous ls e) _ d.1 in
+    let g = none-first (prefix_led ls e) _ f.1 in
+    let i = none-first (absent ls e) _ g.1 in
+    let j = none-first (already ls e) _ i.1 in
+    let k = none-first (taken ls e) _ j.1 in
+    let l = none-first (shared_rule ls e) _ k.1 in
+    let m = none-first (straddles ls e) _ l.1 in
+    let n = none-first (open_value ls e) _ m.1 in
+    let o = none-first (open_line ls e) _ n.1 in
+    let p = none-first (open_define ls e) _ o.1 in
+    let q = none-first (leaning ls e) _ p.1 in
+    let r = none-first (too_long t (spans_of t ls e)) _ q.1 in
+    record {
+      arguments = a.0;
+      not_reserved = b.0;
+      prefix_read = c.0;
+      is_there = d.0;
+      is_one = f.0;
+      not_led = g.0;
+      not_absent = i.0;
+      not_already = j.0;
+      not_taken = k.0;
+      not_shared = l.0;
+      not_straddling = m.0;
+      value_closed = n.0;
+      line_closed = o.0;
+      define_closed = p.0;
+      not_leaning = q.0;
+      not_long = r.0;
+      spans_are = u.1;
+    }
+
+-- an address that is neither missing nor one of several means a line
+pub spot-picked : (nth : Option ℕ) (ss : List StandingLine) → is_missing nth ss ≡ false → is_several nth ss ≡ false → (s : StandingLine) × (picked nth ss ≡ Some s)
+spot-picked None [] h k = absurd (cc)
+spot-picked None (s ∷ []) h k = (s, refl)
+spot-picked None (s ∷ s' ∷ ss) h k = absurd (cc)
+spot-picked (Some n) ss h k = go (nth_of n ss) refl h
+  where
+    go : (o : Option StandingLine) → nth_of n ss ≡ o → not (is_some o) ≡ false → (s : StandingLine) × (nth_of n ss ≡ Some s)
+    go None e h = absurd (cc)
+    go (Some s) e h = (s, e)
+
+-- fields that pass their tests
+pub two-passed : (f g : Field) (x y : Bool) → first_failed (Tested f x ∷ Tested g y ∷ []) ≡ None → (x ≡ true) × (y ≡ true)
+two-passed f g true true h = (refl, refl)
+two-passed f g true false h = absurd (cc)
+two-passed f g false y h = absurd (cc)
+
+pub three-passed : (f g h : Field) (x y z : Bool) → first_failed (Tested f x ∷ Tested g y ∷ Tested h z ∷ []) ≡ None → (x ≡ true) × ((y ≡ true) × (z ≡ true))
+three-passed f g h true true true e = (refl, (refl, refl))
+three-passed f g h true true false e = absurd (cc)
+three-passed f g h true false z e = absurd (cc)
+three-passed f g h false y z e = absurd (cc)

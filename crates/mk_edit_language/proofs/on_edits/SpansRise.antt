@@ -1,0 +1,329 @@
+-- The spans of each edit rise within the text and do not overlap.
+use Rattle.std.proofs.Common.{◌≡◌, refl, sym, ap, ◌∙◌, subst, arith, ℕ, List, [], ◌∷◌, ◌++◌, Bool, true, false, cond, length, length-append, append_assoc, ◌+◌, ◌≤◌, Option, Some, None}
+use Rattle.std.proofs.lemmas.Bool.{eqb-true}
+use Rattle.std.proofs.lemmas.List.{append-nil}
+use Rattle.std.specs.Prelude.{Ok, codes}
+use Rattle.mk_lines.specs.Lists.{concat, trim_end, trailing}
+use Rattle.mk_lines.specs.PhysicalLines.{line_end, line_end_bytes, without_line_end}
+use Rattle.mk_lines.proofs.on_lines.LineEndLemmas.{without_line_end-line_end}
+use Rattle.mk_lines.proofs.on_lists.ListLemmas.{concat-append, trim_end-trailing}
+use Rattle.mk_lines.specs.Cells.{Cell, joined_byte, raw_text}
+use Rattle.mk_lines.specs.Words.{tokens, is_gap}
+use Rattle.mk_lines.proofs.on_units.TokenLemmas.{token_text-tokens}
+use Rattle.mk_lines.specs.Pieces.{Replacement, Piece, old_cells, old_bytes, replacements}
+use Rattle.mk_lines.proofs.on_lists.PieceLemmas.{raw_text-old_cells, old_bytes-append}
+use Rattle.mk_class.specs.ListTests.{is_empty}
+use Rattle.mk_class.specs.Assignments.{Assignment, before_value}
+use Rattle.mk_class.proofs.on_assignments.AssignmentsWhole.{assignment_units}
+use Rattle.mk_class.specs.Headers
+use Rattle.mk_class.specs.Headers.{header_units}
+use Rattle.mk_class.specs.Classes.{Class, is_recipe}
+use Rattle.mk_class.specs.RecipePrefix.{is_prefix_led}
+use Rattle.mk_class.specs.Arguments.{is_barred_byte}
+use Rattle.mk_lines.specs.declared.ends.End.{End}
+use Rattle.mk_lines.specs.declared.ends.End.TheVariants as ends
+use Rattle.mk_class.specs.Classes.Class.{Endef, Body, Recipe, Opaque, Blank, Comment, Assign, DefineHead, If, Else, Endif, Directive, TargetAssign, Rough, Header}
+use Rattle.mk_class.specs.Contexts.{Context, start, context_after}
+use Rattle.mk_class.specs.ClassedLines.{ClassedLine, classed_lines}
+use Rattle.mk_class.specs.PartOffsets.{raw_width}
+use Rattle.mk_tree.specs.Documents.{text_of, context_of}
+use Rattle.mk_tree.proofs.on_documents.LinesInText.{line-in_text, run-in_text, AreClassed, AreClassed-class, AreClassed-tail, AreClassed-lines}
+use Rattle.mk_tree.proofs.on_documents.DocumentLemmas.{text_of-classed_lines}
+use Rattle.mk_tree.specs.LineTexts.{StandingLine}
+use Rattle.mk_edit_language.specs.Edits.{Edit, SetValue, AppendValue, AddAssign, RemoveAssign, AddRule, RemoveRule, AddPrereq, RemovePrereq, AddRecipe, SetRecipe, RemoveRecipe, RenameTarget}
+use Rattle.mk_edit_language.specs.Addresses.{Variable, Rule, found}
+use Rattle.mk_edit_language.specs.Stretches.{Stretch, insertion, removal, recipe_found, IsStretchOf}
+use Rattle.mk_edit_language.specs.NewLines.{new_line_span}
+use Rattle.mk_edit_language.specs.ValueSpans.{value_span, set_value_span, append_value_span, assignment_span}
+use Rattle.mk_edit_language.specs.WordPieces.{add_pieces, remove_pieces, rename_pieces, renamed_pieces, header_pieces, kept, put_last, prerequisite_text, removed_words, renamed_words}
+use Rattle.mk_edit_language.proofs.on_prerequisites.WordsRemoved.{removed-old_cells}
+use Rattle.mk_edit_language.specs.EditSpans.{removed_span, header_spans, word_spans, renamed_spans, recipe_span, where_found, spans_of}
+use Rattle.mk_edit_language.specs.Refusals.{spans, text_by, text_after}
+use Rattle.mk_edit_language.proofs.on_edits.Accepted.{accepted}
+use Rattle.mk_edit_language.specs.RisingSpans.{Rise, IsReplacedAt}
+use Rattle.mk_edit_language.proofs.on_edits.RisingSpanLemmas.{Rise-until, Rise-since, Rise-append, Rise-one, Rise-pieces, Rise-replaced}
+use Rattle.mk_edit_language.proofs.on_recipes.RecipeClassLemmas.{recipe-stands}
+use Rattle.mk_edit_language.proofs.on_lines.PrefixLemmas.{CanBegin, context-can_begin}
+use Rattle.mk_edit_language.proofs.on_edits.EditPlaces.{IsSpotOf, found-spot, recipe_found-spot, recipe_found-recipe, insertion-stretch, removal-stretch}
+use Rattle.mk_edit_language.proofs.on_lines.ClassParts.{part_units, parts-within, raw_width-append}
+use Rattle.mk_edit_language.proofs.on_renames.WordsRenamed.{renamed-old_cells}
+
+-- spans that rise within a text
+abbrev RiseIn : List ℕ → List Replacement → Type 0
+RiseIn t rs = Rise 0 (length t) rs
+
+-- the spans of what is found rise, if those of each thing that may be found do
+rise-found : {A : Type 0} (t : List ℕ) (f : A → List Replacement) (o : Option A) → ((x : A) → o ≡ Some x → RiseIn t (f x)) → RiseIn t (where_found f o)
+rise-found t f None h = omega arith
+rise-found t f (Some x) h = h x refl
+
+-- ---- stretches of lines
+
+rise-removed : (t : List ℕ) (s : Stretch) → IsStretchOf (classed_lines t) s → RiseIn t (removed_span s)
+rise-removed t s h =
+    Rise-one (text_of s.above) (text_of s.lines) (text_of s.below) [] t (length (text_of s.above)) (length (text_of s.above) + length (text_of s.lines)) (run-in_text t s.above s.lines s.below h).text refl refl
+
+rise-inserted : (t : List ℕ) (e : Edit) (s : Stretch) → IsStretchOf (classed_lines t) s → RiseIn t (new_line_span t e s)
+rise-inserted t e s h =
+    let at = length (text_of s.above) in
+    let e : length t ≡ at + length (text_of s.lines ++ text_of s.below) = ap length (run-in_text t s.above s.lines s.below h).text ∙ length-append (text_of s.above) (text_of s.lines ++ text_of s.below) in
+    (omega arith, omega arith, omega (arith, e))
+
+-- ---- inside a line
+
+-- what a line and the lines above it have together is within the text
+line-within : (t : List ℕ) (s : StandingLine) → IsSpotOf (classed_lines t) s → length (text_of s.above) + length s.line.bytes ≤ length t
+line-within t s h =
+    let P = line-in_text t s.above s.line s.below h in
+    let e : length t ≡ length (text_of s.above) + (length s.line.bytes + length (text_of s.below)) =
+    ap length P.text ∙ (length-append (text_of s.above) (s.line.bytes ++ text_of s.below) ∙ ap (λ z. length (text_of s.above) + z) (length-append s.line.bytes (text_of s.below))) in
+    omega (arith, e)
+
+-- the parts of a line have at most as many raw bytes as the line
+spot-parts : (t : List ℕ) (s : StandingLine) → IsSpotOf (classed_lines t) s → raw_width (part_units s.line.class) ≤ length s.line.bytes
+spot-parts t s h =
+    let P = line-in_text t s.above s.line s.below h in
+    subst (λ (z : Class Cell). raw_width (part_units z) ≤ length s.line.bytes) P.class (parts-within (context_of s.above) s.line.bytes)
+
+-- ---- values
+
+assignment-length : (a : Assignment Cell) → raw_width (assignment_units a) ≡ raw_width (before_value a) + (raw_width a.value + raw_width a.after)
+assignment-length a =
+    let s : assignment_units a ≡ before_value a ++ (a.value ++ a.after) = simp append_assoc in
+    ap raw_width s ∙ (raw_width-append (before_value a) (a.value ++ a.after) ∙ ap (λ z. raw_width (before_value a) + z) (raw_width-append a.value a.after))
+
+-- spans that rise within each line which has an assignment
+abbrev pub RisesInAssignment : (ℕ → Assignment Cell → Replacement) → Type 0
+RisesInAssignment f = (at : ℕ) (a : Assignment Cell) (n : ℕ) → raw_width (assignment_units a) ≤ n → Rise at (at + n) (f at a ∷ [])
+
+-- the value that is set
+pub set_value-rises : (v : List ℕ) → RisesInAssignment (set_value_span v)
+set_value-rises v at a n h = go (is_empty v) (assignment-length a)
+  where
+    go : (b : Bool) → raw_width (assignment_units a) ≡ raw_width (before_value a) + (raw_width a.value + raw_width a.after)
+        → Rise at (at + n) (record { start = at + raw_width (before_value a); end = cond b (at + raw_width (before_value a) + raw_width a.value + raw_width a.after) (at + raw_width (before_value a) + raw_width a.value); new = v } ∷ [])
+    go true e = (omega arith, omega arith, omega (arith, e, h))
+    go false e = (omega arith, omega arith, omega (arith, e, h))
+
+-- what is appended to it
+pub append_value-rises : (v : List ℕ) → RisesInAssignment (append_value_span v)
+append_value-rises v at a n h = let e = assignment-length a in (omega arith, omega arith, omega (arith, e, h))
+
+-- spans that rise within a line, which begins at an offset and has n bytes, whatever its class
+abbrev RisesInLine : (ℕ → Class Cell → List Replacement) → Type 0
+RisesInLine f = (at n : ℕ) (k : Class Cell) → raw_width (part_units k) ≤ n → Rise at (at + n) (f at k)
+
+rise-value : (f : ℕ → Assignment Cell → Replacement) → RisesInAssignment f → RisesInLine (assignment_span f)
+rise-value f g at n (Assign a p) h = g at a n h
+rise-value f g at n Endef h = omega arith
+rise-value f g at n (Body d) h = omega arith
+rise-value f g at n Recipe h = omega arith
+rise-value f g at n Opaque h = omega arith
+rise-value f g at n Blank h = omega arith
+rise-value f g at n Comment h = omega arith
+rise-value f g at n (DefineHead b) h = omega arith
+rise-value f g at n If h = omega arith
+rise-value f g at n Else h = omega arith
+rise-value f g at n Endif h = omega arith
+rise-value f g at n Directive h = omega arith
+rise-value f g at n (TargetAssign x) h = omega arith
+rise-value f g at n Rough h = omega arith
+rise-value f g at n (Header x) h = omega arith
+
+-- spans in the line of a spot
+pub spot-rises : (t : List ℕ) (s : StandingLine) (f : ℕ → Class Cell → List Replacement) → IsSpotOf (classed_lines t) s → RisesInLine f
+    → Rise (length (text_of s.above)) (length (text_of s.above) + length s.line.bytes) (f (length (text_of s.above)) s.line.class)
+spot-rises t s f h g = g (length (text_of s.above)) (length s.line.bytes) s.line.class (spot-parts t s h)
+
+rise-spot : (t : List ℕ) (s : StandingLine) (f : ℕ → Class Cell → List Replacement) → IsSpotOf (classed_lines t) s → RisesInLine f → RiseIn t (f (length (text_of s.above)) s.line.class)
+rise-spot t s f h g =
+    let at = length (text_of s.above) in
+    let rs = f at s.line.class in
+    Rise-since 0 at (length t) rs (Rise-until at (at + length s.line.bytes) (length t) rs (spot-rises t s f h g) (line-within t s h)) (omega arith)
+
+-- the spans of a value in the line of a spot
+pub value-rises : (t : List ℕ) (s : StandingLine) (f : ℕ → Assignment Cell → Replacement) → IsSpotOf (classed_lines t) s → RisesInAssignment f
+    → Rise (length (text_of s.above)) (length (text_of s.above) + length s.line.bytes) (value_span f s)
+value-rises t s f h g = spot-rises t s (assignment_span f) h (rise-value f g)
+
+-- ---- words
+
+-- how many bytes pieces have before
+abbrev pub old_length : List Piece → ℕ
+old_length ps = length (old_bytes ps)
+
+old_length-append : (ps qs : List Piece) → old_length (ps ++ qs) ≡ old_length ps + old_length qs
+old_length-append ps qs = ap length (old_bytes-append ps qs) ∙ length-append (old_bytes ps) (old_bytes qs)
+
+old_length-cells : (ps : List Piece) (us : List (List Cell)) → old_cells ps ≡ concat us → old_length ps ≡ raw_width us
+old_length-cells ps us h = ap length (sym (raw_text-old_cells ps)) ∙ ap (λ z. length (raw_text z)) h
+
+kept-length : (us : List (List Cell)) → old_length (kept us) ≡ raw_width us
+kept-length us = old_length-cells (kept us) us (append-nil (concat us))
+
+removed-length : (w : List ℕ) (us : List (List Cell)) → old_length (removed_words w us) ≡ raw_width us
+removed-length w us = old_length-cells (removed_words w us) us (removed-old_cells w [] (tokens joined_byte us) ∙ token_text-tokens joined_byte us)
+
+put_last-length : (v : List ℕ) (us : List (List Cell)) → old_length (put_last v us) ≡ raw_width us
+put_last-length v us =
+    let A = trim_end (is_gap joined_byte) us in
+    let B = trailing (is_gap joined_byte) us in
+    old_length-cells (put_last v us) us (ap (λ z. concat A ++ z) (append-nil (concat B)) ∙ (sym (concat-append A B) ∙ ap concat (trim_end-trailing (is_gap joined_byte) us)))
+
+renamed-length : (o n : List ℕ) (us : List (List Cell)) → old_length (renamed_words o n us) ≡ raw_width us
+renamed-length o n us = old_length-cells (renamed_words o n us) us (renamed-old_cells o n (tokens joined_byte us) ∙ token_text-tokens joined_byte us)
+
+-- the pieces of a header's line are of all its parts
+header-length : (h : Headers.Header Cell) (t n o : List Piece) → old_length t ≡ raw_width h.targets → old_length n ≡ raw_width h.normal → old_length o ≡ raw_width h.order_only
+    → old_length (header_pieces h t n o) ≡ raw_width (header_units h)
+header-length h t n o i j k =
+    let C = h.colons ++ (h.pattern ++ h.second_colon) in
+    let p5 = old_length-append o (kept h.tail) in
+    let p4 = old_length-append (kept h.bar) (o ++ kept h.tail) in
+    let p3 = old_length-append n (kept h.bar ++ (o ++ kept h.tail)) in
+    let p2 = old_length-append (kept C) (n ++ (kept h.bar ++ (o ++ kept h.tail))) in
+    let p1 = old_length-append t (kept C ++ (n ++ (kept h.bar ++ (o ++ kept h.tail)))) in
+    let c = kept-length C in
+    let b = kept-length h.bar in
+    let e = kept-length h.tail in
+    let q7 = raw_width-append h.order_only h.tail in
+    let q6 = raw_width-append h.bar (h.order_only ++ h.tail) in
+    let q5 = raw_width-append h.normal (h.bar ++ (h.order_only ++ h.tail)) in
+    let q4 = raw_width-append h.second_colon (h.normal ++ (h.bar ++ (h.order_only ++ h.tail))) in
+    let q3 = raw_width-append h.pattern (h.second_colon ++ (h.normal ++ (h.bar ++ (h.order_only ++ h.tail)))) in
+    let q2 = raw_width-append h.colons (h.pattern ++ (h.second_colon ++ (h.normal ++ (h.bar ++ (h.order_only ++ h.tail))))) in
+    let q1 = raw_width-append h.targets (h.colons ++ (h.pattern ++ (h.second_colon ++ (h.normal ++ (h.bar ++ (h.order_only ++ h.tail)))))) in
+    let c1 = raw_width-append h.colons (h.pattern ++ h.second_colon) in
+    let c2 = raw_width-append h.pattern h.second_colon in
+    p1 ∙ (ap (λ z. old_length t + z) (p2 ∙ ap (λ z. old_length (kept C) + z) (p3 ∙ ap (λ z. old_length n + z) (p4 ∙ ap (λ z. old_length (kept h.bar) + z) p5)))
+    ∙ (sums (old_length t) (old_length (kept C)) (old_length n) (old_length (kept h.bar)) (old_length o) (old_length (kept h.tail)) (raw_width h.targets) (raw_width h.colons) (raw_width h.pattern) (raw_width h.second_colon) (raw_width h.normal) (raw_width h.bar) (raw_width h.order_only) (raw_width h.tail)
+    i (c ∙ (c1 ∙ ap (λ z. raw_width h.colons + z) c2)) j b k e
+    ∙ sym (q1 ∙ ap (λ z. raw_width h.targets + z) (q2 ∙ ap (λ z. raw_width h.colons + z) (q3 ∙ ap (λ z. raw_width h.pattern + z) (q4 ∙ ap (λ z. raw_width h.second_colon + z) (q5 ∙ ap (λ z. raw_width h.normal + z) (q6 ∙ ap (λ z. raw_width h.bar + z) q7))))))))
+  where
+    sums : (a b c d e f ta co pa se nl ba oo tl : ℕ) → a ≡ ta → b ≡ co + (pa + se) → c ≡ nl → d ≡ ba → e ≡ oo → f ≡ tl → a + (b + (c + (d + (e + f)))) ≡ ta + (co + (pa + (se + (nl + (ba + (oo + tl))))))
+    sums a b c d e f ta co pa se nl ba oo tl h1 h2 h3 h4 h5 h6 = omega (arith, h1, h2, h3, h4, h5, h6)
+
+rename-length : (o n : List ℕ) (h : Headers.Header Cell) → old_length (rename_pieces o n h) ≡ raw_width (header_units h)
+rename-length o n h = header-length h (renamed_words o n h.targets) (renamed_words o n h.normal) (renamed_words o n h.order_only) (renamed-length o n h.targets) (renamed-length o n h.normal) (renamed-length o n h.order_only)
+
+pub remove-length : (w : List ℕ) (h : Headers.Header Cell) → old_length (remove_pieces w h) ≡ raw_width (header_units h)
+remove-length w h = header-length h (kept h.targets) (removed_words w h.normal) (removed_words w h.order_only) (kept-length h.targets) (removed-length w h.normal) (removed-length w h.order_only)
+
+pub add-length : (order : Bool) (w : List ℕ) (h : Headers.Header Cell) → old_length (add_pieces order w h) ≡ raw_width (header_units h)
+add-length false w h = header-length h (kept h.targets) (put_last (prerequisite_text w h) h.normal) (kept h.order_only) (kept-length h.targets) (put_last-length (prerequisite_text w h) h.normal) (kept-length h.order_only)
+add-length true w h = go (is_empty h.bar)
+  where
+    go : (b : Bool) → old_length (cond b (header_pieces h (kept h.targets) (put_last (codes " | " ++ w) h.normal) (kept h.order_only)) (header_pieces h (kept h.targets) (kept h.normal) (put_last (32 ∷ w) h.order_only))) ≡ raw_width (header_units h)
+    go true = header-length h (kept h.targets) (put_last (codes " | " ++ w) h.normal) (kept h.order_only) (kept-length h.targets) (put_last-length (codes " | " ++ w) h.normal) (kept-length h.order_only)
+    go false = header-length h (kept h.targets) (kept h.normal) (put_last (32 ∷ w) h.order_only) (kept-length h.targets) (kept-length h.normal) (put_last-length (32 ∷ w) h.order_only)
+
+pub rise-header : (f : Headers.Header Cell → List Piece) → ((h : Headers.Header Cell) → old_length (f h) ≡ raw_width (header_units h)) → RisesInLine (header_spans f)
+rise-header f g at n (Header x) h = Rise-until at (at + old_length (f x)) (at + n) (replacements at (f x)) (Rise-pieces at (f x)) (omega (arith, g x, h))
+rise-header f g at n Endef h = omega arith
+rise-header f g at n (Body d) h = omega arith
+rise-header f g at n Recipe h = omega arith
+rise-header f g at n Opaque h = omega arith
+rise-header f g at n Blank h = omega arith
+rise-header f g at n Comment h = omega arith
+rise-header f g at n (Assign a p) h = omega arith
+rise-header f g at n (DefineHead b) h = omega arith
+rise-header f g at n If h = omega arith
+rise-header f g at n Else h = omega arith
+rise-header f g at n Endif h = omega arith
+rise-header f g at n Directive h = omega arith
+rise-header f g at n (TargetAssign x) h = omega arith
+rise-header f g at n Rough h = omega arith
+
+-- ---- renames
+
+renamed-within : (o n : List ℕ) (k : Class Cell) → old_length (renamed_pieces o n k) ≤ raw_width (part_units k)
+renamed-within o n (Header x) = let e = rename-length o n x in omega (arith, e)
+renamed-within o n (TargetAssign x) = let e = renamed-length o n x.targets in omega (arith, e)
+renamed-within o n Endef = omega arith
+renamed-within o n (Body d) = omega arith
+renamed-within o n Recipe = omega arith
+renamed-within o n Opaque = omega arith
+renamed-within o n Blank = omega arith
+renamed-within o n Comment = omega arith
+renamed-within o n (Assign a p) = omega arith
+renamed-within o n (DefineHead b) = omega arith
+renamed-within o n If = omega arith
+renamed-within o n Else = omega arith
+renamed-within o n Endif = omega arith
+renamed-within o n Directive = omega arith
+renamed-within o n Rough = omega arith
+
+rise-renamed : (o n : List ℕ) (c : Context) (ls : List ClassedLine) (at : ℕ) → AreClassed c ls → Rise at (at + length (text_of ls)) (renamed_spans o n at ls)
+rise-renamed o n c [] at h = omega arith
+rise-renamed o n c (l ∷ ls) at h =
+    let ps = renamed_pieces o n l.class in
+    let m = at + length l.bytes in
+    let short : raw_width (part_units l.class) ≤ length l.bytes = subst (λ (z : Class Cell). raw_width (part_units z) ≤ length l.bytes) (AreClassed-class c l ls h) (parts-within c l.bytes) in
+    let w = renamed-within o n l.class in
+    let e : m + length (text_of ls) ≡ at + length (l.bytes ++ text_of ls) = omega (arith, length-append l.bytes (text_of ls)) in
+    Rise-append at m (at + length (l.bytes ++ text_of ls)) (replacements at ps) (renamed_spans o n m ls)
+    (Rise-until at (at + old_length ps) m (replacements at ps) (Rise-pieces at ps) (omega (arith, short, w)))
+    (subst (λ z. Rise m z (renamed_spans o n m ls)) e (rise-renamed o n (context_after c l.class) ls m (AreClassed-tail c l ls h)))
+
+-- ---- recipe lines
+
+-- a line that begins with the prefix has a text
+some-text : (p : ℕ) (l : List ℕ) → is_prefix_led p l ≡ true → CanBegin p → 1 ≤ length (without_line_end l)
+some-text p [] h k = absurd (cc)
+some-text p (b ∷ r) h k = go (without_line_end (b ∷ r)) (line_end (b ∷ r)) (without_line_end-line_end (b ∷ r)) (subst (λ z. is_barred_byte z ≡ false) (sym (eqb-true b p h)) k.not_barred)
+  where
+    go : (x : List ℕ) (e : End) → x ++ line_end_bytes e ≡ b ∷ r → is_barred_byte b ≡ false → 1 ≤ length x
+    go (x ∷ xs) e i n = omega arith
+    go [] ends.None i n = absurd (cc)
+    go [] ends.Lf i n = absurd (let z : 10 ≡ b = cc in let w : is_barred_byte 10 ≡ false = subst (λ q. is_barred_byte q ≡ false) (sym z) n in cc)
+    go [] ends.CrLf i n = absurd (let z : 13 ≡ b = cc in let w : is_barred_byte 13 ≡ false = subst (λ q. is_barred_byte q ≡ false) (sym z) n in cc)
+
+-- the text of a recipe line
+pub recipe-rises : (t c : List ℕ) (s : StandingLine) → IsSpotOf (classed_lines t) s → is_recipe s.line.class ≡ true
+    → Rise (length (text_of s.above)) (length (text_of s.above) + length s.line.bytes) (recipe_span c s)
+recipe-rises t c s h r =
+    let P = line-in_text t s.above s.line s.below h in
+    let C = context_of s.above in
+    let stands = recipe-stands C s.line.bytes (ap is_recipe P.class ∙ r) in
+    let text = some-text C.prefix s.line.bytes stands.is_led (context-can_begin s.above P.above_classed) in
+    let whole : length s.line.bytes ≡ length (without_line_end s.line.bytes) + length (line_end_bytes (line_end s.line.bytes)) =
+    ap length (sym (without_line_end-line_end s.line.bytes)) ∙ length-append (without_line_end s.line.bytes) (line_end_bytes (line_end s.line.bytes)) in
+    (omega arith, omega (arith, text), omega (arith, whole))
+
+rise-recipe : (t c : List ℕ) (s : StandingLine) → IsSpotOf (classed_lines t) s → is_recipe s.line.class ≡ true → RiseIn t (recipe_span c s)
+rise-recipe t c s h r =
+    let at = length (text_of s.above) in
+    Rise-since 0 at (length t) (recipe_span c s) (Rise-until at (at + length s.line.bytes) (length t) (recipe_span c s) (recipe-rises t c s h r) (line-within t s h)) (omega arith)
+
+-- ---- each edit
+
+-- the spans of each edit rise within the text
+pub spans-rise : (t : List ℕ) (e : Edit) → RiseIn t (spans_of t (classed_lines t) e)
+spans-rise t (SetValue nth n v) = rise-found t (value_span (set_value_span v)) (found (classed_lines t) (Variable nth n))
+    (λ s i. rise-spot t s (assignment_span (set_value_span v)) (found-spot (classed_lines t) (Variable nth n) s i) (rise-value (set_value_span v) (set_value-rises v)))
+spans-rise t (AppendValue nth n v) = rise-found t (value_span (append_value_span v)) (found (classed_lines t) (Variable nth n))
+    (λ s i. rise-spot t s (assignment_span (append_value_span v)) (found-spot (classed_lines t) (Variable nth n) s i) (rise-value (append_value_span v) (append_value-rises v)))
+spans-rise t (AddAssign p n f v) = rise-found t (new_line_span t (AddAssign p n f v)) (insertion (classed_lines t) (AddAssign p n f v))
+    (λ s i. rise-inserted t (AddAssign p n f v) s (insertion-stretch (classed_lines t) (AddAssign p n f v) s i))
+spans-rise t (RemoveAssign nth n) = rise-found t removed_span (removal (classed_lines t) (RemoveAssign nth n)) (λ s i. rise-removed t s (removal-stretch (classed_lines t) (RemoveAssign nth n) s i))
+spans-rise t (AddRule p ts c ws) = rise-found t (new_line_span t (AddRule p ts c ws)) (insertion (classed_lines t) (AddRule p ts c ws))
+    (λ s i. rise-inserted t (AddRule p ts c ws) s (insertion-stretch (classed_lines t) (AddRule p ts c ws) s i))
+spans-rise t (RemoveRule nth g) = rise-found t removed_span (removal (classed_lines t) (RemoveRule nth g)) (λ s i. rise-removed t s (removal-stretch (classed_lines t) (RemoveRule nth g) s i))
+spans-rise t (AddPrereq order nth g w) = rise-found t (word_spans (add_pieces order w)) (found (classed_lines t) (Rule nth g))
+    (λ s i. rise-spot t s (header_spans (add_pieces order w)) (found-spot (classed_lines t) (Rule nth g) s i) (rise-header (add_pieces order w) (add-length order w)))
+spans-rise t (RemovePrereq nth g w) = rise-found t (word_spans (remove_pieces w)) (found (classed_lines t) (Rule nth g))
+    (λ s i. rise-spot t s (header_spans (remove_pieces w)) (found-spot (classed_lines t) (Rule nth g) s i) (rise-header (remove_pieces w) (remove-length w)))
+spans-rise t (AddRecipe nth g c) = rise-found t (new_line_span t (AddRecipe nth g c)) (insertion (classed_lines t) (AddRecipe nth g c))
+    (λ s i. rise-inserted t (AddRecipe nth g c) s (insertion-stretch (classed_lines t) (AddRecipe nth g c) s i))
+spans-rise t (SetRecipe nth g k c) = rise-found t (recipe_span c) (recipe_found (classed_lines t) nth g k)
+    (λ s i. rise-recipe t c s (recipe_found-spot (classed_lines t) nth g k s i) (recipe_found-recipe (classed_lines t) nth g k s i))
+spans-rise t (RemoveRecipe nth g k) = rise-found t removed_span (removal (classed_lines t) (RemoveRecipe nth g k)) (λ s i. rise-removed t s (removal-stretch (classed_lines t) (RemoveRecipe nth g k) s i))
+spans-rise t (RenameTarget o n) =
+    let r = rise-renamed o n start (classed_lines t) 0 (AreClassed-lines t (classed_lines t) refl) in
+    Rise-until 0 (0 + length (text_of (classed_lines t))) (length t) (renamed_spans o n 0 (classed_lines t)) r (omega (arith, ap length (text_of-classed_lines t)))
+
+-- The law: of an accepted edit the spans rise within the text, and the bytes outside them are as before.
+pub only_spans-replaced : (t : List ℕ) (e : Edit) (rs : List Replacement) → spans t e ≡ Ok rs → IsReplacedAt t (text_after t e) rs
+only_spans-replaced t e rs h =
+    let r : RiseIn t rs = subst (RiseIn t) (accepted t e rs h).spans_are (spans-rise t e) in
+    subst (λ z. IsReplacedAt t z rs) (sym (ap (text_by t) h)) (Rise-replaced t rs r)

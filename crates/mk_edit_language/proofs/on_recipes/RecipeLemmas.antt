@@ -1,0 +1,228 @@
+-- Accepted edits of recipe lines change the reading by that line alone.
+use Rattle.std.proofs.Common.{◌≡◌, refl, sym, ap, ◌∙◌, subst, ℕ, List, [], ◌∷◌, ◌++◌, Bool, true, false, not, ◌||◌, ◌&&◌, ◌==◌, Option, Some, length, drop, option_map, append_assoc, map, arith, reverse, ◌+◌}
+use Rattle.std.specs.List.{list_any}
+use Rattle.std.proofs.lemmas.Bool.{and_parts, eq-eqb, eqb-true}
+use Rattle.std.proofs.lemmas.List.{reverse-append}
+use Rattle.std.specs.Prelude.{Ok, nat_lt}
+use Rattle.mk_lines.specs.Lists.{Each}
+use Rattle.mk_lines.proofs.on_lists.ListLemmas.{Each-append}
+use Rattle.mk_lines.specs.Bytes.{ByteKind, byte_kind}
+use Rattle.mk_lines.specs.Bytes.ByteKind.{LineFeed, CarriageReturn}
+use Rattle.mk_lines.specs.PhysicalLines.{line_end, line_end_bytes, without_line_end, file_line_end}
+use Rattle.mk_lines.specs.LogicalLines.{has_no_line_end, is_continued, ends_line}
+use Rattle.mk_lines.proofs.on_lines.LineLemmas.{OneLine, Ends, EndsBefore}
+use Rattle.mk_lines.proofs.on_lines.LineEndLemmas.{KeepsApart, FirstIsNot, without_line_end-line_end, without_line_end-append, Ends-ends_line}
+use Rattle.mk_lines.proofs.on_cells.LineOfCells.{IsClean, one_line-of_cells}
+use Rattle.mk_lines.proofs.on_cells.CellLemmas.{raw_text-bytes}
+use Rattle.mk_lines.specs.Cells.{Byte, joined_byte, cells, line_cells}
+use Rattle.mk_lines.specs.Units.{units}
+use Rattle.mk_lines.proofs.on_cells.LineCells.{AreLineCells-cells, bytes-are_line_cells, HasNoLineEnd, is_no_line_end_kind}
+use Rattle.mk_lines.specs.Pieces.{Replacement, replaced}
+use Rattle.mk_lines.specs.declared.ends.End.{End}
+use Rattle.mk_lines.specs.declared.ends.End.TheVariants as ends
+use Rattle.mk_lines.proofs.on_lists.BoolLemmas.{or-left_false}
+use Rattle.mk_class.specs.ListTests.{last_passes}
+use Rattle.mk_class.specs.RecipePrefix.{is_prefix_led}
+use Rattle.mk_class.specs.Arguments.{is_barred_byte, is_backslash_byte, is_clean, is_command, is_target}
+use Rattle.mk_class.specs.Classes.{Class, is_recipe}
+use Rattle.mk_class.specs.Contexts.{Context, context_after}
+use Rattle.mk_class.specs.ClassTable.{is_unreadable, class_of, class_at}
+use Rattle.mk_class.specs.ClassedLines.{classed_lines, context_after_lines}
+use Rattle.mk_class.specs.declared.context.RuleFlag.TheVariants as flag
+use Rattle.mk_tree.specs.Documents.{text_of, context_of}
+use Rattle.mk_tree.specs.Items.{items, Recipe}
+use Rattle.mk_tree.specs.Readings.{reading}
+use Rattle.mk_tree.specs.RecipeLines.{recipe_run, after_recipe}
+use Rattle.mk_tree.proofs.on_documents.LinesInText.{line-in_text, bytes_of, run-in_text, context_of-append}
+use Rattle.mk_tree.proofs.on_changes.NewLineLemmas.{file_line_end-some, new_line-clean, clean-no_line_end}
+use Rattle.mk_tree.proofs.on_changes.SpansInLines.{text-span_replaced}
+use Rattle.mk_tree.proofs.on_changes.RecipeRunLemmas.{rule-context, recipe_run-after, recipe_run-stays, recipe-agrees}
+use Rattle.mk_tree.specs.LineTexts.{StandingLine}
+use Rattle.mk_edit_language.specs.Edits.{Edit, AddRecipe, SetRecipe}
+use Rattle.mk_edit_language.specs.Stretches.{Stretch, after_rule, insertion}
+use Rattle.mk_edit_language.specs.NewLines.{new_line_span}
+use Rattle.mk_edit_language.specs.EditSpans.{where_found, recipe_span}
+use Rattle.mk_edit_language.specs.LineCauses.{follows_open_line, new_line_leans}
+use Rattle.mk_edit_language.specs.Refusals.{spans, text_by, text_after}
+use Rattle.mk_edit_language.specs.Changes.{change, with_item, with_items}
+use Rattle.mk_edit_language.proofs.on_edits.Accepted.{accepted, where_holds-none, two-passed}
+use Rattle.mk_edit_language.proofs.on_lines.SpotLemmas.{rule-found, recipe-found, recipe-class}
+use Rattle.mk_edit_language.proofs.on_new_lines.NewLineStands.{StandsAt, stands-reading}
+use Rattle.mk_edit_language.proofs.on_lines.LineReplaced.{IsLineReplaced, replaced-line, replaced-same}
+use Rattle.mk_edit_language.proofs.on_recipes.RecipeClassLemmas.{StandsInRule, recipe-stands}
+use Rattle.mk_edit_language.proofs.on_lines.PrefixLemmas.{CanBegin, context-can_begin}
+use Rattle.mk_edit_language.specs.declared.refusal.Field.TheVariants as field
+use Rattle.mk_edit_language.specs.declared.refusal.Refusal.TheVariants.{NoSuch, Absent, OpenLine, Leans}
+
+-- ---- a recipe line's text
+
+not-both : (a b : Bool) → not a ≡ true → b ≡ false → not (b || a) ≡ true
+not-both true b h k = cc
+not-both false b h k = ap (λ z. not (z || false)) k
+
+-- the prefix and a command
+recipe-clean : (p : ℕ) (c : List ℕ) → CanBegin p → is_command c ≡ true → is_clean (p ∷ c) ≡ true
+recipe-clean p c h k = not-both (list_any is_barred_byte c) (is_barred_byte p) (and_parts (is_clean c) _ k).0 h.not_barred
+
+recipe-no_backslash : (p : ℕ) (c : List ℕ) → CanBegin p → is_command c ≡ true → last_passes is_backslash_byte (p ∷ c) ≡ false
+recipe-no_backslash p [] h k = h.no_backslash
+recipe-no_backslash p (b ∷ c) h k = go (last_passes is_backslash_byte (b ∷ c)) (and_parts (is_clean (b ∷ c)) _ k).1
+  where
+    go : (t : Bool) → not t ≡ true → t ≡ false
+    go true e = cc
+    go false e = refl
+
+-- a line that begins with the prefix in a rule is a recipe line
+recipe-class_in_rule : (c : Context) (l : List ℕ) → c.defines ≡ 0 → c.flag ≡ flag.Rule → is_prefix_led c.prefix l ≡ true → class_of c l ≡ Class.Recipe
+recipe-class_in_rule c l d f p =
+    let k = nat_lt 0 c.conditionals in
+    let us = units joined_byte (line_cells l) in
+    ap (λ z. class_at joined_byte z c.defines c.flag k (is_unreadable (line_cells l)) us) p
+    ∙ (ap (λ z. class_at joined_byte true z c.flag k (is_unreadable (line_cells l)) us) d ∙ ap (λ z. class_at joined_byte true 0 z k (is_unreadable (line_cells l)) us) f)
+
+-- ---- a new recipe line
+
+-- where the new line of a rule's recipe stands
+pub record RecipeStands (t c : List ℕ) (e : Edit) (rs : List Replacement) : Type 0 where
+  pub stretch : Stretch
+  pub found_is : insertion (classed_lines t) e ≡ Some stretch
+  pub stands : StandsAt t stretch ((context_of stretch.above).prefix ∷ c) Class.Recipe
+  pub spans_are : new_line_span t e stretch ≡ rs
+
+-- an accepted one stands there
+pub add_recipe-stands : (nth : Option ℕ) (g c t : List ℕ) (rs : List Replacement) → spans t (AddRecipe nth g c) ≡ Ok rs → RecipeStands t c (AddRecipe nth g c) rs
+add_recipe-stands nth g c t rs h =
+    let e = AddRecipe nth g c in
+    let A = accepted t e rs h in
+    let k : is_command c ≡ true = (two-passed field.Target field.Line (is_target g) (is_command c) A.arguments).1 in
+    let F = rule-found (classed_lines t) nth g (where_holds-none _ NoSuch A.is_there) (where_holds-none _ _ A.is_one) in
+    let s = F.spot in
+    let R = recipe_run s.below in
+    let above = s.above ++ s.line ∷ R in
+    let below = after_recipe s.below in
+    let C = context_of above in
+    let E = file_line_end t in
+    let whole : classed_lines t ≡ above ++ below =
+    F.whole ∙ (ap (λ z. s.above ++ s.line ∷ z) (sym (recipe_run-after s.below)) ∙ sym (append_assoc s.above (s.line ∷ R) below)) in
+    let rule = rule-context (context_of s.above) s.line F.header R (line-in_text t s.above s.line s.below F.whole).class F.class_is (recipe_run-stays s.below) in
+    let same : C ≡ context_after_lines (context_of s.above) (s.line ∷ R) = context_of-append s.above (s.line ∷ R) in
+    let f : C.flag ≡ flag.Rule = ap (λ z. z.flag) same ∙ rule.flag in
+    let d : C.defines ≡ 0 = ap (λ z. z.defines) same ∙ rule.no_define in
+    let can : CanBegin C.prefix = context-can_begin above (run-in_text t above [] below whole).above_classed in
+    let text = C.prefix ∷ c in
+    record {
+      stretch = after_rule s;
+      found_is = ap (option_map after_rule) F.found_is;
+      stands = record {
+        whole = whole;
+        not_open = subst (λ (z : Option StandingLine). follows_open_line (option_map after_rule z) ≡ false) F.found_is (where_holds-none _ OpenLine A.line_closed);
+        ended = new_line-clean text E (recipe-clean C.prefix c can k) (recipe-no_backslash C.prefix c can k) (file_line_end-some t);
+        class = recipe-class_in_rule C (text ++ line_end_bytes E) d f (eq-eqb C.prefix C.prefix refl);
+        agrees = recipe-agrees C;
+        not_leaning = subst (λ (z : Option StandingLine). new_line_leans e (option_map after_rule z) ≡ false) F.found_is (or-left_false _ _ (where_holds-none _ Leans A.not_leaning));
+      };
+      spans_are = subst (λ (z : Option StandingLine). where_found (new_line_span t e) (option_map after_rule z) ≡ rs) F.found_is A.spans_are;
+    }
+
+-- the law of a new recipe line
+pub add_recipe-reads : (nth : Option ℕ) (g c t : List ℕ) (rs : List Replacement) → spans t (AddRecipe nth g c) ≡ Ok rs
+    → reading (text_after t (AddRecipe nth g c)) ≡ change t (AddRecipe nth g c)
+add_recipe-reads nth g c t rs h =
+    let S = add_recipe-stands nth g c t rs h in
+    let s = S.stretch in
+    let z : change t (AddRecipe nth g c) ≡ with_item (Recipe c) s = ap (where_found (with_item (Recipe c))) S.found_is in
+    ap (λ q. reading (text_by t q)) h
+    ∙ (ap (λ q. reading (replaced 0 t q)) (sym S.spans_are)
+    ∙ (stands-reading t s ((context_of s.above).prefix ∷ c) Class.Recipe S.stands
+    ∙ (ap (λ q. items s.above ++ Recipe (drop 1 q) ∷ items s.below) S.stands.ended.same_text ∙ sym z)))
+
+-- ---- a recipe line changed
+
+-- what is known of a recipe line: it begins with the prefix, and its text goes on after that
+record IsRecipeLine (c : Context) (l : List ℕ) : Type 0 where
+  stands : StandsInRule (is_prefix_led c.prefix l) c.defines c.flag
+  command : List ℕ
+  text_is : without_line_end l ≡ c.prefix ∷ command
+
+recipe-text : (c : Context) (l : List ℕ) → is_recipe (class_of c l) ≡ true → CanBegin c.prefix → IsRecipeLine c l
+recipe-text c l h can = go l refl (recipe-stands c l h)
+  where
+    no_end : (x : List ℕ) (e : End) (b : ℕ) (r : List ℕ) → x ++ line_end_bytes e ≡ b ∷ r → is_barred_byte b ≡ false → (y : List ℕ) × (x ≡ b ∷ y)
+    no_end [] ends.None b r e k = cc
+    no_end [] ends.Lf b r e k = absurd (let z : 10 ≡ b = cc in let w : is_barred_byte 10 ≡ false = subst (λ q. is_barred_byte q ≡ false) (sym z) k in cc)
+    no_end [] ends.CrLf b r e k = absurd (let z : 13 ≡ b = cc in let w : is_barred_byte 13 ≡ false = subst (λ q. is_barred_byte q ≡ false) (sym z) k in cc)
+    no_end (x ∷ xs) f b r e k = (xs, let z : x ≡ b = cc in ap (λ q. q ∷ xs) z)
+
+    go : (m : List ℕ) → l ≡ m → StandsInRule (is_prefix_led c.prefix l) c.defines c.flag → IsRecipeLine c l
+    go [] e s = absurd (let z : is_prefix_led c.prefix [] ≡ true = ap (is_prefix_led c.prefix) (sym e) ∙ s.is_led in cc)
+    go (b ∷ r) e s =
+        let z : (b == c.prefix) ≡ true = ap (is_prefix_led c.prefix) (sym e) ∙ s.is_led in
+        let same : b ≡ c.prefix = eqb-true b c.prefix z in
+        let k : is_barred_byte b ≡ false = subst (λ q. is_barred_byte q ≡ false) (sym same) can.not_barred in
+        let w = no_end (without_line_end l) (line_end l) b r (without_line_end-line_end l ∙ e) k in
+        record { stands = s; command = w.0; text_is = w.1 ∙ ap (λ q. q ∷ w.0) same }
+
+ends-where_followed : (l m : List ℕ) (b : ℕ) (r : List ℕ) (ls : List (List ℕ)) → l ≡ b ∷ r → EndsBefore l ls → (has_no_line_end (line_end l) ≡ false → Ends m) → EndsBefore m ls
+ends-where_followed l m b r [] s h k = tt
+ends-where_followed l m b r (x ∷ ls) s h k = k (ap (λ z. has_no_line_end (line_end z)) s ∙ both (has_no_line_end (line_end (b ∷ r))) (is_continued (b ∷ r)) (ap ends_line (sym s) ∙ Ends-ends_line l h))
+  where
+    both : (a b : Bool) → (not a && not b) ≡ true → a ≡ false
+    both true b e = cc
+    both false b e = refl
+
+each-reverse : (p : ℕ → Bool) (xs : List ℕ) → Each p xs → Each p (reverse xs)
+each-reverse p [] h = tt
+each-reverse p (b ∷ t) h = subst (Each p) (sym (reverse-append (b ∷ []) t)) (Each-append p (reverse t) (b ∷ []) (each-reverse p t h.1) (h.0, tt))
+
+first-not : (k : ByteKind) (r : List ℕ) → is_no_line_end_kind k ≡ false → HasNoLineEnd r → FirstIsNot k r
+first-not k [] n h = tt
+first-not k (b ∷ r) n h = λ e. let x : is_no_line_end_kind k ≡ true = ap is_no_line_end_kind (sym e) ∙ h.0 in let y : true ≡ false = sym x ∙ n in cc
+
+-- a line end stays apart from a text without LF and CR
+keeps-apart : (e : End) (x : List ℕ) → HasNoLineEnd x → KeepsApart e (reverse x)
+keeps-apart ends.None x h = first-not LineFeed (reverse x) refl (each-reverse (λ b. is_no_line_end_kind (byte_kind b)) x h)
+keeps-apart ends.Lf x h = first-not CarriageReturn (reverse x) refl (each-reverse (λ b. is_no_line_end_kind (byte_kind b)) x h)
+keeps-apart ends.CrLf x h = tt
+
+-- the line of a recipe with another command
+pub set_recipe-line : (t : List ℕ) (s : StandingLine) (c : List ℕ) → classed_lines t ≡ s.above ++ s.line ∷ s.below → is_recipe s.line.class ≡ true → is_command c ≡ true
+    → IsLineReplaced (replaced 0 t (recipe_span c s)) s.above s.below (Recipe c)
+set_recipe-line t s c w r k =
+    let C = context_of s.above in
+    let l = s.line.bytes in
+    let L = line-in_text t s.above s.line s.below w in
+    let can : CanBegin C.prefix = context-can_begin s.above L.above_classed in
+    let R = recipe-text C l (ap is_recipe L.class ∙ r) can in
+    let p = C.prefix in
+    let e = line_end l in
+    let end = line_end_bytes e in
+    let x = p ∷ c in
+    let m = x ++ end in
+    let whole : l ≡ (p ∷ []) ++ (R.command ++ end) = sym (without_line_end-line_end l) ∙ ap (λ z. z ++ end) R.text_is in
+    let at = length (text_of s.above) in
+    let n : length (without_line_end l) ≡ 1 + length R.command = ap length R.text_is ∙ omega arith in
+    let stop : at + length (without_line_end l) ≡ (at + 1) + length R.command = omega (arith, n) in
+    let text = text-span_replaced t s.above s.line s.below (p ∷ []) R.command end c (at + 1) (at + length (without_line_end l)) w whole refl stop in
+    let clean = recipe-clean p c can k in
+    let line = bytes-are_line_cells x (clean-no_line_end x clean) in
+    let same : cells x ≡ map Byte x = ap cells (sym (raw_text-bytes x)) ∙ AreLineCells-cells (map Byte x) line in
+    let one : OneLine m = one_line-of_cells x e p (c ++ end) (subst IsClean (sym same) line.clean) refl in
+    let ends : EndsBefore m (bytes_of s.below) = ends-where_followed l m p (R.command ++ end) (bytes_of s.below) whole L.ends (λ z. (new_line-clean x e clean (recipe-no_backslash p c can k) z).ends) in
+    let class : class_of C m ≡ Class.Recipe = recipe-class_in_rule C m R.stands.no_define R.stands.in_rule (eq-eqb p p refl) in
+    let context : context_after C Class.Recipe ≡ context_after C s.line.class = ap (context_after C) (sym (recipe-class s.line.class r)) in
+    let read : without_line_end m ≡ x = without_line_end-append x e (keeps-apart e x (clean-no_line_end x clean)) in
+    replaced-same _ _ s.above s.below _ _ (sym text) refl
+    (replaced-line t s.above s.line s.below m Class.Recipe (Recipe c) w one ends class context refl (ap (λ z. Recipe (drop 1 z) ∷ []) read))
+
+-- the law of a recipe line changed
+pub set_recipe-reads : (nth : Option ℕ) (g : List ℕ) (k : ℕ) (c t : List ℕ) (rs : List Replacement) → spans t (SetRecipe nth g k c) ≡ Ok rs
+    → reading (text_after t (SetRecipe nth g k c)) ≡ change t (SetRecipe nth g k c)
+set_recipe-reads nth g k c t rs h =
+    let A = accepted t (SetRecipe nth g k c) rs h in
+    let u = two-passed field.Target field.Line (is_target g) (is_command c) A.arguments in
+    let F = recipe-found (classed_lines t) nth g k (where_holds-none _ Absent A.not_absent) in
+    let s = F.spot in
+    let y : recipe_span c s ≡ rs = subst (λ (z : Option StandingLine). where_found (recipe_span c) z ≡ rs) F.found_is A.spans_are in
+    let z : change t (SetRecipe nth g k c) ≡ with_items (Recipe c ∷ []) s = ap (where_found (with_items (Recipe c ∷ []))) F.found_is in
+    ap (λ q. reading (text_by t q)) h
+    ∙ (ap (λ q. reading (replaced 0 t q)) (sym y) ∙ ((set_recipe-line t s c F.whole F.is_recipe_line u.1).reads ∙ sym z))

@@ -1,0 +1,91 @@
+-- The assignment that an accepted edit of a variable means: a line of the text, of class Assign, that sets no recipe prefix.
+use Rattle.std.proofs.Common.{◌≡◌, refl, sym, ap, ◌∙◌, subst, ℕ, List, ◌∷◌, ◌++◌, Bool, true, false, Option, Some, None}
+use Rattle.std.specs.Prelude.{nat_lt}
+use Rattle.mk_lines.specs.Cells.{Cell, joined_byte, line_cells}
+use Rattle.mk_lines.specs.Units.{units}
+use Rattle.mk_class.specs.Texts.{unit_text}
+use Rattle.mk_class.specs.Assignments.{Assignment}
+use Rattle.mk_class.specs.RecipePrefix.{is_prefix_led, is_prefix_name, prefix_set_by}
+use Rattle.mk_class.specs.Classes.{Class}
+use Rattle.mk_class.specs.Classes.Class.{Endef, Body, Recipe, Opaque, Blank, Comment, Assign, DefineHead, If, Else, Endif, Directive, TargetAssign, Rough, Header}
+use Rattle.mk_class.specs.Contexts.{Context}
+use Rattle.mk_class.specs.ClassTable.{class_of}
+use Rattle.mk_class.proofs.on_classes.ClassLemmas.{plain_class-assign, assign-plain_class, class_at-assign}
+use Rattle.mk_class.specs.ClassedLines.{classed_lines}
+use Rattle.std.proofs.lemmas.Slice.Eq.{bytes_eq-Decides}
+use Rattle.mk_tree.specs.Documents.{context_of}
+use Rattle.mk_tree.proofs.on_documents.LinesInText.{line-in_text}
+use Rattle.mk_tree.specs.LineTexts.{StandingLine}
+use Rattle.mk_edit_language.specs.Spots.{spots}
+use Rattle.mk_edit_language.specs.Addresses.{Variable, assigns, found}
+use Rattle.mk_edit_language.specs.AddressCauses.{is_missing, is_several}
+use Rattle.mk_edit_language.proofs.on_edits.Accepted.{spot-picked}
+use Rattle.mk_edit_language.proofs.on_lines.SpotLemmas.{picked-is}
+
+-- an assignment of another name sets no prefix
+pub no_prefix-set : (c : Bool) (a : Assignment Cell) → is_prefix_name (unit_text joined_byte a.name) ≡ false → prefix_set_by joined_byte c a ≡ None
+no_prefix-set c a h = rw h refl
+
+same_prefix : (a b : Assignment Cell) (p q : Option ℕ) → Assign a p ≡ Assign b q → p ≡ q
+same_prefix a b p q h = cc
+
+-- the class of an assignment's line has the prefix that the assignment sets
+pub prefix-of_class : (c : Context) (l : List ℕ) (a : Assignment Cell) (p : Option ℕ) → class_of c l ≡ Assign a p → p ≡ prefix_set_by joined_byte (nat_lt 0 c.conditionals) a
+prefix-of_class c l a p h =
+    let led = is_prefix_led c.prefix l in
+    let r = class_at-assign led c.defines c.flag (nat_lt 0 c.conditionals) (line_cells l) (units joined_byte (line_cells l)) a p h in
+    let i = plain_class-assign led (nat_lt 0 c.conditionals) (line_cells l) (units joined_byte (line_cells l)) a p r.here in
+    let k = assign-plain_class led (nat_lt 0 c.conditionals) (line_cells l) (units joined_byte (line_cells l)) a i in
+    same_prefix a a p (prefix_set_by joined_byte (nat_lt 0 c.conditionals) a) (sym r.here ∙ k)
+
+-- a line of this class assigns the variable
+record IsNamed (n : List ℕ) (k : Class Cell) : Type 0 where
+  assigned : Assignment Cell
+  sets : Option ℕ
+  class_is : k ≡ Assign assigned sets
+  name_is : unit_text joined_byte assigned.name ≡ n
+
+assigns-named : (n : List ℕ) (k : Class Cell) → assigns n k ≡ true → IsNamed n k
+assigns-named n (Assign a s) h = record { assigned = a; sets = s; class_is = refl; name_is = (bytes_eq-Decides (unit_text joined_byte a.name) n).0 h }
+assigns-named n Endef h = absurd (cc)
+assigns-named n (Body d) h = absurd (cc)
+assigns-named n Recipe h = absurd (cc)
+assigns-named n Opaque h = absurd (cc)
+assigns-named n Blank h = absurd (cc)
+assigns-named n Comment h = absurd (cc)
+assigns-named n (DefineHead p) h = absurd (cc)
+assigns-named n If h = absurd (cc)
+assigns-named n Else h = absurd (cc)
+assigns-named n Endif h = absurd (cc)
+assigns-named n Directive h = absurd (cc)
+assigns-named n (TargetAssign t) h = absurd (cc)
+assigns-named n Rough h = absurd (cc)
+assigns-named n (Header x) h = absurd (cc)
+
+-- the assignment that an address means
+pub record FoundAssignment (t n : List ℕ) (nth : Option ℕ) : Type 0 where
+  pub spot : StandingLine
+  pub found_is : found (classed_lines t) (Variable nth n) ≡ Some spot
+  pub whole : classed_lines t ≡ spot.above ++ spot.line ∷ spot.below
+  pub assigned : Assignment Cell
+  pub class_is : spot.line.class ≡ Assign assigned None
+  pub no_prefix : is_prefix_name (unit_text joined_byte assigned.name) ≡ false
+
+-- the assignment is found, if it is neither missing nor one of several, and its name is not that of the prefix
+pub assignment-found : (t n : List ℕ) (nth : Option ℕ) → is_missing nth (spots (λ l. assigns n l.class) (classed_lines t)) ≡ false
+    → is_several nth (spots (λ l. assigns n l.class) (classed_lines t)) ≡ false → is_prefix_name n ≡ false → FoundAssignment t n nth
+assignment-found t n nth h k f =
+    let s = spot-picked nth (spots (λ l. assigns n l.class) (classed_lines t)) h k in
+    let q = picked-is (λ l. assigns n l.class) (classed_lines t) nth s.0 s.1 in
+    let m = assigns-named n s.0.line.class q.passes in
+    let L = line-in_text t s.0.above s.0.line s.0.below q.whole in
+    let g : is_prefix_name (unit_text joined_byte m.assigned.name) ≡ false = subst (λ z. is_prefix_name z ≡ false) (sym m.name_is) f in
+    let p : m.sets ≡ None = prefix-of_class (context_of s.0.above) s.0.line.bytes m.assigned m.sets (L.class ∙ m.class_is) ∙ no_prefix-set (nat_lt 0 (context_of s.0.above).conditionals) m.assigned g in
+    record {
+      spot = s.0;
+      found_is = s.1;
+      whole = q.whole;
+      assigned = m.assigned;
+      class_is = m.class_is ∙ ap (Assign m.assigned) p;
+      no_prefix = g;
+    }

@@ -1,0 +1,74 @@
+-- Which line an edit means.
+-- Told in docs/EDITS.md, "Addresses".
+use Rattle.std.specs.Prelude.{ℕ, Bool, false, List, [], Option, Some, None}
+use Rattle.std.specs.Str.{bytes_eq}
+use Rattle.std.specs.List.{list_any}
+use Rattle.mk_lines.specs.Cells.{Cell, joined_byte}
+use Rattle.mk_class.specs.Texts.{is_one_of, unit_text, word_texts}
+use Rattle.mk_class.specs.Classes.{Class}
+use Rattle.mk_class.specs.Classes.Class.{Assign, TargetAssign, Header}
+use Rattle.mk_class.specs.ClassedLines.{ClassedLine}
+use Rattle.mk_tree.specs.LineTexts.{StandingLine}
+use Rattle.mk_edit_language.specs.Edits.{Place, Bottom, BeforeVar, AfterVar, BeforeRule, Edit, SetValue, AppendValue, AddAssign, RemoveAssign, AddRule, RemoveRule, AddPrereq, RemovePrereq, AddRecipe, SetRecipe, RemoveRecipe, RenameTarget}
+use Rattle.mk_edit_language.specs.Spots.{spots, picked}
+
+-- a variable by its name among the assignments, or a rule by a target among the headers
+pub data Address : Type 0 where
+  Variable : (nth : Option ℕ) → (name : List ℕ) → Address
+  Rule : (nth : Option ℕ) → (target : List ℕ) → Address
+
+-- whether a line of this class assigns the variable of this name
+abbrev pub assigns : List ℕ → Class Cell → Bool
+assigns n (Assign a p) = bytes_eq (unit_text joined_byte a.name) n
+assigns n k = false
+
+-- whether a line of this class is the header of a rule for this target
+abbrev pub is_rule_for : List ℕ → Class Cell → Bool
+is_rule_for t (Header h) = is_one_of t (word_texts joined_byte h.targets)
+is_rule_for t k = false
+
+-- the lines that an address may mean
+abbrev pub candidates : List ClassedLine → Address → List StandingLine
+candidates ls (Variable nth n) = spots (λ l. assigns n l.class) ls
+candidates ls (Rule nth t) = spots (λ l. is_rule_for t l.class) ls
+
+-- which of the candidates an address means: the nth, or the only one if no number is given
+abbrev pub nth_meant : Address → Option ℕ
+nth_meant (Variable nth n) = nth
+nth_meant (Rule nth t) = nth
+
+-- the line that an address means
+abbrev pub found : List ClassedLine → Address → Option StandingLine
+found ls a = picked (nth_meant a) (candidates ls a)
+
+-- the address of a place
+abbrev pub place_address : Place → Option Address
+place_address Bottom = None
+place_address (BeforeVar nth n) = Some (Variable nth n)
+place_address (AfterVar nth n) = Some (Variable nth n)
+place_address (BeforeRule nth t) = Some (Rule nth t)
+
+-- the address of an edit, or of its place
+abbrev pub address : Edit → Option Address
+address (SetValue nth n v) = Some (Variable nth n)
+address (AppendValue nth n v) = Some (Variable nth n)
+address (AddAssign p n f v) = place_address p
+address (RemoveAssign nth n) = Some (Variable nth n)
+address (AddRule p ts c ws) = place_address p
+address (RemoveRule nth t) = Some (Rule nth t)
+address (AddPrereq order nth t w) = Some (Rule nth t)
+address (RemovePrereq nth t w) = Some (Rule nth t)
+address (AddRecipe nth t c) = Some (Rule nth t)
+address (SetRecipe nth t k c) = Some (Rule nth t)
+address (RemoveRecipe nth t k) = Some (Rule nth t)
+address (RenameTarget o n) = None
+
+-- the targets of a header or of a target assignment
+abbrev pub targets_of : Class Cell → List (List ℕ)
+targets_of (Header h) = word_texts joined_byte h.targets
+targets_of (TargetAssign a) = word_texts joined_byte a.targets
+targets_of k = []
+
+-- whether a word is a target of any header or target assignment
+abbrev pub is_a_target : List ClassedLine → List ℕ → Bool
+is_a_target ls w = list_any (λ l. is_one_of w (targets_of l.class)) ls

@@ -1,0 +1,9 @@
+-- A cause of a refusal: the refusal if the cause holds, and None if it does not.
+-- Told in docs/DECISIONS.md, "mk_edit_language".
+use Rattle.std.specs.Prelude.{Bool, true, false, Option, Some, None}
+use Rattle.mk_edit_language.specs.declared.refusal.Refusal.{Refusal}
+
+-- the refusal if the cause holds
+abbrev pub where_holds : Bool → Refusal → Option Refusal
+where_holds true r = Some r
+where_holds false r = None

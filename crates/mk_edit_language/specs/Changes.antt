@@ -1,0 +1,152 @@
+-- What an accepted edit does to the reading.
+-- Told in docs/EDITS.md, "Variables", "Rules", "Recipes" and "Targets".
+use Rattle.std.specs.Prelude.{ℕ, ◌&&◌, ◌==◌, if◌then◌else◌, Bool, true, false, not, List, [], ◌∷◌, ◌++◌, map, take, drop, filter, length, None}
+use Rattle.std.specs.Str.{bytes_eq}
+use Rattle.mk_lines.specs.Lists.{concat}
+use Rattle.mk_lines.specs.Cells.{Cell, joined_byte}
+use Rattle.mk_lines.specs.CellFaults.{is_fold}
+use Rattle.mk_lines.specs.Pieces.{Replacement}
+use Rattle.mk_lines.specs.Words.{words_in}
+use Rattle.mk_class.specs.ListTests.{is_empty, last_passes}
+use Rattle.mk_class.specs.Texts.{unit_text}
+use Rattle.mk_class.specs.Assignments.{Assignment}
+use Rattle.mk_class.specs.Classes.{Class}
+use Rattle.mk_class.specs.Classes.Class.{Assign as AssignLine, Header as HeaderLine}
+use Rattle.mk_class.specs.ClassedLines.{ClassedLine, classed_lines}
+use Rattle.mk_class.specs.declared.assignment.Flavor.{Flavor}
+use Rattle.mk_class.specs.declared.rule.Separator.{Separator}
+use Rattle.mk_class.specs.declared.rule.Separator.TheVariants.{SingleColon, DoubleColon}
+use Rattle.mk_tree.specs.Documents.{text_of}
+use Rattle.mk_tree.specs.Items.{Item, Assign, TargetAssign, Header, Recipe, Sets, items, header_item}
+use Rattle.mk_tree.specs.LineTexts.{StandingLine}
+use Rattle.mk_edit_language.specs.Edits.{Edit, SetValue, AppendValue, AddAssign, RemoveAssign, AddRule, RemoveRule, AddPrereq, RemovePrereq, AddRecipe, SetRecipe, RemoveRecipe, RenameTarget}
+use Rattle.mk_edit_language.specs.Addresses.{Variable, Rule, found}
+use Rattle.mk_edit_language.specs.Stretches.{Stretch, insertion, removal, recipe_found}
+use Rattle.mk_edit_language.specs.ValueSpans.{set_value_span}
+use Rattle.mk_edit_language.specs.EditSpans.{where_found}
+use Rattle.mk_edit_language.specs.declared.edit.RuleSeparator.{RuleSeparator}
+use Rattle.mk_edit_language.specs.declared.edit.RuleSeparator.TheVariants.{Single, Double}
+
+-- ---- the items of the other lines stay
+
+-- the items of a text, with these items in the place of those of one line
+abbrev pub with_items : List Item → StandingLine → List Item
+with_items is s = items s.above ++ (is ++ items s.below)
+
+-- the items of a text, with this item in the place of those of a stretch
+abbrev pub with_item : Item → Stretch → List Item
+with_item i s = items s.above ++ i ∷ items s.below
+
+-- the items of a text without those of a stretch
+abbrev pub without_items : Stretch → List Item
+without_items s = items s.above ++ items s.below
+
+-- ---- values
+
+-- an assignment's item with another value
+abbrev pub item_with_value : Assignment Cell → (value : List ℕ) → Item
+item_with_value a v = Assign (Sets a.modifiers (unit_text joined_byte a.name) a.flavor v)
+
+-- the item of a line of this class with another value; the line begins at this offset
+abbrev pub value_item : (ℕ → Assignment Cell → List ℕ) → (line_start : ℕ) → Class Cell → List Item
+value_item f at (AssignLine a p) = item_with_value a (f at a) ∷ []
+value_item f at k = []
+
+abbrev pub with_value : (ℕ → Assignment Cell → List ℕ) → StandingLine → List Item
+with_value f s = with_items (value_item f (length (text_of s.above)) s.line.class) s
+
+-- whether a line feed stands directly before a span, and the span reaches the end of the text
+abbrev pub leaves_fold_last : (text : List ℕ) → Replacement → Bool
+leaves_fold_last t r = last_passes (λ b. b == 10) (take r.start t) && is_empty (drop r.end t)
+
+-- The value that is set. If the new value is empty, and a part of a fold stays without its next
+-- line, the value is one lone backslash.
+abbrev pub value_set : (text value : List ℕ) → (line_start : ℕ) → Assignment Cell → List ℕ
+value_set t v at a = if is_empty v && leaves_fold_last t (set_value_span v at a) then 92 ∷ [] else v
+
+-- The value with a text appended: the old value, a space and the text. There is no space if the old
+-- value is empty, or if its last cell is a fold, which is read as the space.
+abbrev pub value_appended : (value : List ℕ) → Assignment Cell → List ℕ
+value_appended v a =
+    unit_text joined_byte a.value
+    ++ (if is_empty a.value then v else if last_passes is_fold (concat a.value) then v else 32 ∷ v)
+
+-- ---- prerequisites and targets
+
+-- the item of a header, changed by `f`; no item if the line is no header
+abbrev pub header_items : (Item → Item) → Class Cell → List Item
+header_items f (HeaderLine h) = f (header_item h) ∷ []
+header_items f k = []
+
+abbrev pub with_header : (Item → Item) → StandingLine → List Item
+with_header f s = with_items (header_items f s.line.class) s
+
+-- a word put last in a list of prerequisites
+abbrev pub with_prerequisite : (order : Bool) → (word : List ℕ) → Item → Item
+with_prerequisite true w (Header ts s p n o i) = Header ts s p n (o ++ w ∷ []) i
+with_prerequisite false w (Header ts s p n o i) = Header ts s p (n ++ w ∷ []) o i
+with_prerequisite order w i = i
+
+-- words without each word that is this one
+abbrev pub without_word : (word : List ℕ) → List (List ℕ) → List (List ℕ)
+without_word w ws = filter (λ x. not (bytes_eq x w)) ws
+
+-- a header without each prerequisite that is this word
+abbrev pub without_prerequisite : (word : List ℕ) → Item → Item
+without_prerequisite w (Header ts s p n o i) = Header ts s p (without_word w n) (without_word w o) i
+without_prerequisite w i = i
+
+-- words with the new word in the place of each old one
+abbrev pub rename_words : (old new : List ℕ) → List (List ℕ) → List (List ℕ)
+rename_words o n ws = map (λ w. if bytes_eq w o then n else w) ws
+
+-- an item with the new word in the place of each target and each prerequisite that is the old word
+abbrev pub renamed_item : (old new : List ℕ) → Item → Item
+renamed_item o n (Header ts s p ns os i) =
+    Header (rename_words o n ts) s p (rename_words o n ns) (rename_words o n os) i
+renamed_item o n (TargetAssign ts s a) = TargetAssign (rename_words o n ts) s a
+renamed_item o n i = i
+
+-- ---- new items
+
+-- a new assignment
+abbrev pub new_assign : (name : List ℕ) → Flavor → (value : List ℕ) → Item
+new_assign n f v = Assign (Sets [] n f v)
+
+-- the separator of a new rule
+abbrev pub separator_of : RuleSeparator → Separator
+separator_of Single = SingleColon
+separator_of Double = DoubleColon
+
+-- a new rule
+abbrev pub new_header : (targets : List ℕ) → RuleSeparator → (prereqs : List ℕ) → Item
+new_header ts c ws = Header (words_in ts) (separator_of c) [] (words_in ws) [] None
+
+-- ---- the change
+
+-- the reading after an edit that no cause refuses
+abbrev change_of : (text : List ℕ) → List ClassedLine → Edit → List Item
+change_of t ls (SetValue nth n v) =
+    where_found (with_value (value_set t v)) (found ls (Variable nth n))
+change_of t ls (AppendValue nth n v) =
+    where_found (with_value (λ at. value_appended v)) (found ls (Variable nth n))
+change_of t ls (AddAssign p n f v) =
+    where_found (with_item (new_assign n f v)) (insertion ls (AddAssign p n f v))
+change_of t ls (RemoveAssign nth n) = where_found without_items (removal ls (RemoveAssign nth n))
+change_of t ls (AddRule p ts c ws) =
+    where_found (with_item (new_header ts c ws)) (insertion ls (AddRule p ts c ws))
+change_of t ls (RemoveRule nth g) = where_found without_items (removal ls (RemoveRule nth g))
+change_of t ls (AddPrereq order nth g w) =
+    where_found (with_header (with_prerequisite order w)) (found ls (Rule nth g))
+change_of t ls (RemovePrereq nth g w) =
+    where_found (with_header (without_prerequisite w)) (found ls (Rule nth g))
+change_of t ls (AddRecipe nth g c) =
+    where_found (with_item (Recipe c)) (insertion ls (AddRecipe nth g c))
+change_of t ls (SetRecipe nth g k c) =
+    where_found (with_items (Recipe c ∷ [])) (recipe_found ls nth g k)
+change_of t ls (RemoveRecipe nth g k) =
+    where_found without_items (removal ls (RemoveRecipe nth g k))
+change_of t ls (RenameTarget o n) = map (renamed_item o n) (items ls)
+
+abbrev pub change : (text : List ℕ) → Edit → List Item
+change t e = change_of t (classed_lines t) e

@@ -1,0 +1,35 @@
+-- How many lines an edit reads again, and how many lines it replaces or takes out.
+-- Told in docs/DEVELOPING.md, "Adding a row".
+use Rattle.std.specs.Prelude.{ℕ, Bool, List, length, filter, Option, Some, None}
+use Rattle.std.specs.List.{list_any}
+use Rattle.mk_class.specs.ClassedLines.{ClassedLine, classed_lines}
+use Rattle.mk_edit_language.specs.Edits.{Edit, AddAssign, RemoveAssign, AddRule, RemoveRule, AddRecipe, RemoveRecipe, RenameTarget}
+use Rattle.mk_edit_language.specs.Stretches.{Stretch, removal}
+use Rattle.mk_edit_language.specs.WordPieces.{renamed_pieces, is_replaced}
+
+-- whether a line holds a word that a rename replaces
+abbrev pub is_renamed : (old new : List ℕ) → ClassedLine → Bool
+is_renamed o n l = list_any is_replaced (renamed_pieces o n l.class)
+
+-- the greatest number of lines that an edit reads again
+abbrev pub cost : (text : List ℕ) → Edit → ℕ
+cost t (RenameTarget o n) = length (filter (is_renamed o n) (classed_lines t))
+cost t (RemoveAssign nth n) = 0
+cost t (RemoveRule nth g) = 0
+cost t (RemoveRecipe nth g k) = 0
+cost t e = 1
+
+-- how many lines a stretch has
+abbrev pub line_count : Option Stretch → ℕ
+line_count None = 0
+line_count (Some s) = length s.lines
+
+-- the number of lines that an edit replaces or takes out
+abbrev pub size : (text : List ℕ) → Edit → ℕ
+size t (AddAssign p n f v) = 0
+size t (AddRule p ts c ws) = 0
+size t (AddRecipe nth g c) = 0
+size t (RemoveAssign nth n) = 1
+size t (RemoveRecipe nth g k) = 1
+size t (RemoveRule nth g) = line_count (removal (classed_lines t) (RemoveRule nth g))
+size t e = cost t e

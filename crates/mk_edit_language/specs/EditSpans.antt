@@ -1,0 +1,73 @@
+-- The spans of each edit.
+-- Told in docs/EDITS.md, "Variables", "Rules", "Recipes" and "Targets".
+use Rattle.std.specs.Prelude.{ℕ, ◌+◌, List, [], ◌∷◌, ◌++◌, length, Option, Some, None}
+use Rattle.mk_lines.specs.PhysicalLines.{without_line_end}
+use Rattle.mk_lines.specs.Cells.{Cell}
+use Rattle.mk_lines.specs.Pieces.{Replacement, Piece, replacements}
+use Rattle.mk_class.specs.Headers
+use Rattle.mk_class.specs.Classes.{Class}
+use Rattle.mk_class.specs.Classes.Class.{Header}
+use Rattle.mk_class.specs.ClassedLines.{ClassedLine}
+use Rattle.mk_tree.specs.Documents.{text_of}
+use Rattle.mk_tree.specs.LineTexts.{StandingLine}
+use Rattle.mk_edit_language.specs.Edits.{Edit, SetValue, AppendValue, AddAssign, RemoveAssign, AddRule, RemoveRule, AddPrereq, RemovePrereq, AddRecipe, SetRecipe, RemoveRecipe, RenameTarget}
+use Rattle.mk_edit_language.specs.Addresses.{Variable, Rule, found}
+use Rattle.mk_edit_language.specs.Stretches.{Stretch, insertion, removal, recipe_found}
+use Rattle.mk_edit_language.specs.NewLines.{new_line_span}
+use Rattle.mk_edit_language.specs.ValueSpans.{value_span, set_value_span, append_value_span}
+use Rattle.mk_edit_language.specs.WordPieces.{add_pieces, remove_pieces, renamed_pieces}
+
+-- the span of whole lines with their line ends
+abbrev pub removed_span : Stretch → List Replacement
+removed_span s =
+    let at = length (text_of s.above) in
+    record { start = at; end = at + length (text_of s.lines); new = [] } ∷ []
+
+-- the spans in the line of a header; the line begins at this offset
+abbrev pub header_spans : (Headers.Header Cell → List Piece) → (line_start : ℕ) → Class Cell
+    → List Replacement
+header_spans f at (Header h) = replacements at (f h)
+header_spans f at k = []
+
+abbrev pub word_spans : (Headers.Header Cell → List Piece) → StandingLine → List Replacement
+word_spans f s = header_spans f (length (text_of s.above)) s.line.class
+
+-- the spans of each target and each prerequisite that is the old word, in lines; the first line
+-- begins at this offset
+abbrev pub renamed_spans : (old new : List ℕ) → (start : ℕ) → List ClassedLine → List Replacement
+renamed_spans o n at [] = []
+renamed_spans o n at (l ∷ ls) =
+    replacements at (renamed_pieces o n l.class) ++ renamed_spans o n (at + length l.bytes) ls
+
+-- the span of a recipe line's text: all after its first byte, up to its line end
+abbrev pub recipe_span : (command : List ℕ) → StandingLine → List Replacement
+recipe_span c s =
+    let at = length (text_of s.above) in
+    record { start = at + 1; end = at + length (without_line_end s.line.bytes); new = c } ∷ []
+
+-- what `f` says of the thing that is found; the empty list if nothing is found
+abbrev pub where_found : {A B : Type 0} → (A → List B) → Option A → List B
+where_found f None = []
+where_found f (Some x) = f x
+
+-- the spans of an edit that no cause refuses
+abbrev pub spans_of : (text : List ℕ) → List ClassedLine → Edit → List Replacement
+spans_of t ls (SetValue nth n v) =
+    where_found (value_span (set_value_span v)) (found ls (Variable nth n))
+spans_of t ls (AppendValue nth n v) =
+    where_found (value_span (append_value_span v)) (found ls (Variable nth n))
+spans_of t ls (AddAssign p n f v) =
+    where_found (new_line_span t (AddAssign p n f v)) (insertion ls (AddAssign p n f v))
+spans_of t ls (RemoveAssign nth n) = where_found removed_span (removal ls (RemoveAssign nth n))
+spans_of t ls (AddRule p ts c ws) =
+    where_found (new_line_span t (AddRule p ts c ws)) (insertion ls (AddRule p ts c ws))
+spans_of t ls (RemoveRule nth g) = where_found removed_span (removal ls (RemoveRule nth g))
+spans_of t ls (AddPrereq order nth g w) =
+    where_found (word_spans (add_pieces order w)) (found ls (Rule nth g))
+spans_of t ls (RemovePrereq nth g w) =
+    where_found (word_spans (remove_pieces w)) (found ls (Rule nth g))
+spans_of t ls (AddRecipe nth g c) =
+    where_found (new_line_span t (AddRecipe nth g c)) (insertion ls (AddRecipe nth g c))
+spans_of t ls (SetRecipe nth g k c) = where_found (recipe_span c) (recipe_found ls nth g k)
+spans_of t ls (RemoveRecipe nth g k) = where_found removed_span (removal ls (RemoveRecipe nth g k))
+spans_of t ls (RenameTarget o n) = renamed_spans o n 0 ls

@@ -1,0 +1,31 @@
+-- The twelve edits, and the places of new lines, as data.
+-- Told in docs/EDITS.md, "The script" and "Addresses".
+use Rattle.std.specs.Prelude.{ℕ, Bool, List, Option}
+use Rattle.mk_class.specs.declared.assignment.Flavor.{Flavor}
+use Rattle.mk_edit_language.specs.declared.edit.RuleSeparator.{RuleSeparator}
+
+-- Where a new line goes: to the end of the text, to the start or the end of an assignment's line,
+-- or to the start of a rule's line. A place with an address has the number of the line, from 1,
+-- among the lines of the same name or target.
+pub data Place : Type 0 where
+  Bottom : Place
+  BeforeVar : (nth : Option ℕ) → (name : List ℕ) → Place
+  AfterVar : (nth : Option ℕ) → (name : List ℕ) → Place
+  BeforeRule : (nth : Option ℕ) → (target : List ℕ) → Place
+
+-- An edit. `nth` is the number of the line, from 1, among the lines of the same name or target;
+-- `number` is the number of a recipe line, from 1. The targets of a new rule are one text, which is
+-- cut into words, and so are its prerequisites.
+pub data Edit : Type 0 where
+  SetValue : (nth : Option ℕ) → (name value : List ℕ) → Edit
+  AppendValue : (nth : Option ℕ) → (name value : List ℕ) → Edit
+  AddAssign : (place : Place) → (name : List ℕ) → (flavor : Flavor) → (value : List ℕ) → Edit
+  RemoveAssign : (nth : Option ℕ) → (name : List ℕ) → Edit
+  AddRule : (place : Place) → (targets : List ℕ) → (separator : RuleSeparator) → (prereqs : List ℕ) → Edit
+  RemoveRule : (nth : Option ℕ) → (target : List ℕ) → Edit
+  AddPrereq : (order : Bool) → (nth : Option ℕ) → (target word : List ℕ) → Edit
+  RemovePrereq : (nth : Option ℕ) → (target word : List ℕ) → Edit
+  AddRecipe : (nth : Option ℕ) → (target line : List ℕ) → Edit
+  SetRecipe : (nth : Option ℕ) → (target : List ℕ) → (number : ℕ) → (line : List ℕ) → Edit
+  RemoveRecipe : (nth : Option ℕ) → (target : List ℕ) → (number : ℕ) → Edit
+  RenameTarget : (old new : List ℕ) → Edit

@@ -1,0 +1,33 @@
+-- The edits, and the lines that they speak of
+pub mod Edits
+pub mod EditViews
+pub mod Spots
+pub mod Addresses
+pub mod Stretches
+-- Spans
+pub mod NewLines
+pub mod Lengths
+pub mod EditedLines
+pub mod ValueSpans
+pub mod WordPieces
+pub mod EditSpans
+pub mod RisingSpans
+-- Causes of refusal, each by itself
+pub mod Causes
+pub mod ArgumentCauses
+pub mod AddressCauses
+pub mod RuleCauses
+pub mod LineCauses
+-- The outcome of an edit
+pub mod Refusals
+pub mod RefusalTexts
+pub mod Changes
+pub mod Costs
+-- What an edit leaves
+pub mod TouchedLines
+pub mod KeptLines
+pub mod RenamedLines
+pub mod RuleTaken
+-- Statements of laws
+pub mod EditLaws
+pub mod OutsideLaws

@@ -1,0 +1,88 @@
+-- The causes that the lines around a change decide, or the size of the result: OpenValue, OpenLine,
+-- OpenDefine, Leans and TooLong.
+-- Told in docs/EDITS.md, "Refusals".
+use Rattle.std.specs.Prelude.{ℕ, Bool, false, not, ◌&&◌, ◌||◌, nat_lt, List, ◌++◌, length, Option, Some, None}
+use Rattle.mk_lines.specs.Limits.{max_text}
+use Rattle.mk_lines.specs.Lists.{concat}
+use Rattle.mk_lines.specs.LogicalLines.{is_open}
+use Rattle.mk_lines.specs.Cells.{Cell, joined_byte}
+use Rattle.mk_lines.specs.Units.{is_closed}
+use Rattle.mk_lines.specs.Pieces.{Replacement, replaced}
+use Rattle.mk_class.specs.ListTests.{is_empty, last_passes}
+use Rattle.mk_class.specs.Classes.{Class}
+use Rattle.mk_class.specs.Classes.Class.{Assign}
+use Rattle.mk_class.specs.ClassedLines.{ClassedLine}
+use Rattle.mk_class.specs.declared.context.RuleFlag.{RuleFlag}
+use Rattle.mk_class.specs.declared.context.RuleFlag.TheVariants.{Off, Rule}
+use Rattle.mk_edit_language.specs.Edits.{Place, Bottom, Edit, AppendValue, AddAssign, AddRule}
+use Rattle.mk_edit_language.specs.Addresses.{Variable, found}
+use Rattle.mk_edit_language.specs.Stretches.{Stretch, insertion, removal}
+use Rattle.mk_tree.specs.Documents.{context_of}
+use Rattle.mk_tree.specs.Leaning.{leans}
+use Rattle.mk_edit_language.specs.RuleCauses.{class_found}
+use Rattle.mk_edit_language.specs.Causes.{where_holds}
+use Rattle.mk_edit_language.specs.declared.refusal.Refusal.{Refusal}
+use Rattle.mk_edit_language.specs.declared.refusal.Refusal.TheVariants.{OpenValue, OpenLine, OpenDefine, Leans, TooLong}
+
+-- ---- OpenValue: the value to append to is not closed
+
+-- whether an assignment is found and its value is not closed
+abbrev pub has_open_value : Option (Class Cell) → Bool
+has_open_value (Some (Assign a p)) = not (is_closed joined_byte (concat a.value))
+has_open_value k = false
+
+abbrev pub open_value : List ClassedLine → Edit → Option Refusal
+open_value ls (AppendValue nth n v) =
+    where_holds (has_open_value (class_found (found ls (Variable nth n)))) OpenValue
+open_value ls e = None
+
+-- ---- OpenLine: a new line would follow a last line that is open
+
+-- whether a new line would follow a last line that is open
+abbrev pub follows_open_line : Option Stretch → Bool
+follows_open_line None = false
+follows_open_line (Some s) = is_empty s.below && last_passes (λ l. is_open l.bytes) s.above
+
+abbrev pub open_line : List ClassedLine → Edit → Option Refusal
+open_line ls e = where_holds (follows_open_line (insertion ls e)) OpenLine
+
+-- ---- OpenDefine: the place is the end of the text, and a define is open there
+
+abbrev pub open_define_at : List ClassedLine → Place → Option Refusal
+open_define_at ls Bottom = where_holds (nat_lt 0 (context_of ls).defines) OpenDefine
+open_define_at ls p = None
+
+abbrev pub open_define : List ClassedLine → Edit → Option Refusal
+open_define ls (AddAssign p n f v) = open_define_at ls p
+open_define ls (AddRule p ts c ws) = open_define_at ls p
+open_define ls e = None
+
+-- ---- Leans: the flag below the change differs, and the next line that counts begins with the prefix
+
+-- the flag below a new line
+abbrev pub flag_below_new : Edit → RuleFlag
+flag_below_new (AddAssign p n f v) = Off
+flag_below_new e = Rule
+
+-- whether the lines below lean on two flags: the flag with a new line above them, and the flag
+-- without it
+abbrev pub new_line_leans : Edit → Option Stretch → Bool
+new_line_leans e None = false
+new_line_leans e (Some s) =
+    leans (context_of s.above).prefix (flag_below_new e) (context_of s.above).flag s.below
+
+-- whether the lines below lean on two flags: the flag without the lines that are taken out, and the
+-- flag with them
+abbrev pub removal_leans : Option Stretch → Bool
+removal_leans None = false
+removal_leans (Some s) =
+    leans (context_of s.above).prefix (context_of s.above).flag
+    (context_of (s.above ++ s.lines)).flag s.below
+
+abbrev pub leaning : List ClassedLine → Edit → Option Refusal
+leaning ls e = where_holds (new_line_leans e (insertion ls e) || removal_leans (removal ls e)) Leans
+
+-- ---- TooLong: the result has more than 16,777,216 bytes
+
+abbrev pub too_long : (text : List ℕ) → List Replacement → Option Refusal
+too_long t rs = where_holds (nat_lt max_text (length (replaced 0 t rs))) TooLong

@@ -1,0 +1,167 @@
+//! The twelve edits, the places of new lines, and the separators of new rules.
+//!
+//! An edit owns its texts. Contracts see it as a value of the definitions (`edit_of`).
+//!
+//! `nth` is the number of a line among the lines of the same name or target, from 1, in the order
+//! of the file; without it, an edit means the only such line. `number` is the number of a recipe
+//! line of its rule, from 1.
+
+use mk_class::Flavor;
+use std::alloc::{Allocator, Global};
+
+/// The separator of a new rule.
+///
+/// POSIX.1-2024 make has `:`, the GNU make manual has `::` too (section "Double-Colon Rules"). That
+/// no rule is added with one of its grouped separators is this project's profile.
+#[derive(Clone, Copy, Debug, PartialEq, Eq)]
+pub enum RuleSeparator {
+    /// `:`.
+    Single,
+    /// `::`.
+    Double,
+}
+
+/// Where a new line goes.
+#[derive(Drop)]
+pub enum Place<A: Allocator = Global> {
+    /// The end of the file.
+    Bottom,
+    /// Before the line of an assignment.
+    BeforeVar {
+        /// Which of the assignments of this name, from 1.
+        nth: Option<u32>,
+        /// The name of the variable.
+        name: Vec<u8, A>,
+    },
+    /// After the line of an assignment.
+    AfterVar {
+        /// Which of the assignments of this name, from 1.
+        nth: Option<u32>,
+        /// The name of the variable.
+        name: Vec<u8, A>,
+    },
+    /// Before the line of a rule.
+    BeforeRule {
+        /// Which of the rules for this target, from 1.
+        nth: Option<u32>,
+        /// One of the rule's targets.
+        target: Vec<u8, A>,
+    },
+}
+
+/// An edit of a makefile.
+#[derive(Drop)]
+pub enum Edit<A: Allocator = Global> {
+    /// Gives a variable another value. The blanks and the comment after the value stay. If the new
+    /// value is empty, the blanks after the old value go too.
+    SetValue {
+        /// Which of the assignments of this name, from 1.
+        nth: Option<u32>,
+        /// The name of the variable.
+        name: Vec<u8, A>,
+        /// The new value, which may be empty.
+        value: Vec<u8, A>,
+    },
+    /// Puts a text after a variable's value, with a space between them if the value is not empty.
+    AppendValue {
+        /// Which of the assignments of this name, from 1.
+        nth: Option<u32>,
+        /// The name of the variable.
+        name: Vec<u8, A>,
+        /// The text, which is not empty.
+        value: Vec<u8, A>,
+    },
+    /// Puts in the line of an assignment.
+    AddAssign {
+        /// Where the line goes.
+        place: Place<A>,
+        /// The name of the variable.
+        name: Vec<u8, A>,
+        /// The flavor, which its operator tells.
+        flavor: Flavor,
+        /// The value, which may be empty.
+        value: Vec<u8, A>,
+    },
+    /// Takes out the line of an assignment.
+    RemoveAssign {
+        /// Which of the assignments of this name, from 1.
+        nth: Option<u32>,
+        /// The name of the variable.
+        name: Vec<u8, A>,
+    },
+    /// Puts in the line of a rule.
+    AddRule {
+        /// Where the line goes.
+        place: Place<A>,
+        /// The targets, one word or several with blanks between them.
+        targets: Vec<u8, A>,
+        /// The separator.
+        separator: RuleSeparator,
+        /// The prerequisites: words with blanks between them, or nothing.
+        prereqs: Vec<u8, A>,
+    },
+    /// Takes out the line of a rule and its recipe.
+    RemoveRule {
+        /// Which of the rules for this target, from 1.
+        nth: Option<u32>,
+        /// The rule's target.
+        target: Vec<u8, A>,
+    },
+    /// Puts a word after the prerequisites of a rule.
+    AddPrereq {
+        /// Whether it goes to the order-only prerequisites, which stand after a `|`.
+        order: bool,
+        /// Which of the rules for this target, from 1.
+        nth: Option<u32>,
+        /// One of the rule's targets.
+        target: Vec<u8, A>,
+        /// The new prerequisite.
+        word: Vec<u8, A>,
+    },
+    /// Takes a word out of the prerequisites of a rule, wherever it stands among them.
+    RemovePrereq {
+        /// Which of the rules for this target, from 1.
+        nth: Option<u32>,
+        /// One of the rule's targets.
+        target: Vec<u8, A>,
+        /// The prerequisite.
+        word: Vec<u8, A>,
+    },
+    /// Puts a line after the recipe of a rule.
+    AddRecipe {
+        /// Which of the rules for this target, from 1.
+        nth: Option<u32>,
+        /// One of the rule's targets.
+        target: Vec<u8, A>,
+        /// The command of the recipe line, without the recipe prefix.
+        line: Vec<u8, A>,
+    },
+    /// Gives a recipe line another command.
+    SetRecipe {
+        /// Which of the rules for this target, from 1.
+        nth: Option<u32>,
+        /// One of the rule's targets.
+        target: Vec<u8, A>,
+        /// Which of the rule's recipe lines, from 1.
+        number: u32,
+        /// The new command, without the recipe prefix.
+        line: Vec<u8, A>,
+    },
+    /// Takes out a recipe line.
+    RemoveRecipe {
+        /// Which of the rules for this target, from 1.
+        nth: Option<u32>,
+        /// One of the rule's targets.
+        target: Vec<u8, A>,
+        /// Which of the rule's recipe lines, from 1.
+        number: u32,
+    },
+    /// Gives a target another name, wherever it stands as a target or as a prerequisite. A report
+    /// calls the fields `old` and `new`.
+    RenameTarget {
+        /// The old name.
+        from: Vec<u8, A>,
+        /// The new name.
+        to: Vec<u8, A>,
+    },
+}

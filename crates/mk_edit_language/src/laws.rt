@@ -1,0 +1,53 @@
+//! Laws of edits: each contract is a theorem on the definitions that the calls of this crate are
+//! specified by. The functions do nothing.
+ghost use Rattle.mk_edit_language.specs.EditLaws.{EditsReadAsChanged, NewAssignmentsStand, OtherLinesStay, RefusedChangesNothing};
+ghost use Rattle.mk_edit_language.specs.RuleTaken.{RemoveRuleTakesTheRuleAlone};
+
+pub mod outside;
+
+/// Each accepted edit, of every kind, changes the reading by exactly its stated change:
+///
+/// | Edit | What becomes of the reading |
+/// |---|---|
+/// | a value set | the assignment has this value; where the new one is empty and a fold is left without its next line, one lone backslash |
+/// | a text appended | the assignment has the old value, a space and the text; no space where the old value is empty or its last byte is a fold |
+/// | a new assignment, a new rule, a new recipe line | its item comes in at its place |
+/// | an assignment or a recipe line removed | its item goes |
+/// | a rule removed | the items of its header and of its recipe lines go |
+/// | a recipe line changed | the item has this text |
+/// | a new prerequisite | it stands last in its list of the header |
+/// | a prerequisite removed | each word that is it goes from both lists of the header |
+/// | a target renamed | the new word stands for each target and each prerequisite that was the old one, in headers and target assignments |
+///
+/// No other item changes.
+pub fn edits_read_as_changed()
+    ensures { EditsReadAsChanged }
+{}
+
+/// An accepted removal of a rule takes out the line of the rule that its address means, and the
+/// recipe of the rule, and nothing else. The rule has no other target.
+///
+/// Each line that goes with the rule's line is a recipe line, a blank line or a comment, and the
+/// last is a recipe line. The lines that go read as the item of the header and the items of the
+/// recipe lines. No recipe line of the rule stays.
+pub fn remove_rule_takes_the_rule_alone()
+    ensures { RemoveRuleTakesTheRuleAlone }
+{}
+
+/// An accepted edit that takes lines out leaves the lines above and below them, each with its
+/// class.
+pub fn other_lines_stay()
+    ensures { OtherLinesStay }
+{}
+
+/// A refused edit changes nothing.
+pub fn refused_changes_nothing()
+    ensures { RefusedChangesNothing }
+{}
+
+/// After an accepted new assignment its line stands at its place. The lines below it stay, each
+/// with its class. The lines above it stay too, except that a last line without a line end gets
+/// one.
+pub fn new_assignments_stand()
+    ensures { NewAssignmentsStand }
+{}

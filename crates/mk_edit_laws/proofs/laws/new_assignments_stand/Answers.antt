@@ -1,5 +1,0 @@
-use Rattle.mk_edit_laws.proofs.on_new_lines.AddAssignLemmas.{add_assign-lines}
-use Rattle.mk_edit_laws.proofs.laws.new_assignments_stand.Goals as goal
-
-pub returns : goal.returns
-returns c = add_assign-lines

@@ -1,5 +1,0 @@
-use Rattle.mk_edit_laws.proofs.on_removals.RemovalLemmas.{removed-lines}
-use Rattle.mk_edit_laws.proofs.laws.other_lines_stay.Goals as goal
-
-pub returns : goal.returns
-returns c = removed-lines

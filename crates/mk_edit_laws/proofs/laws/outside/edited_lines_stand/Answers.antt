@@ -1,5 +1,0 @@
-use Rattle.mk_edit_laws.proofs.on_edits.EditedLineLemmas.{edited}
-use Rattle.mk_edit_laws.proofs.laws.outside.edited_lines_stand.Goals as goal
-
-pub returns : goal.returns
-returns c text e replacements touched h place = (edited text e replacements touched place h).after

@@ -1,5 +1,0 @@
-use Rattle.mk_edit_laws.proofs.on_edits.KeptLemmas.{edits-keep}
-use Rattle.mk_edit_laws.proofs.laws.outside.edits_keep_others.Goals as goal
-
-pub returns : goal.returns
-returns c edit = edits-keep edit

@@ -1,5 +1,0 @@
-use Rattle.mk_edit_laws.proofs.on_edits.TouchedLineLemmas.{spans-touch_few}
-use Rattle.mk_edit_laws.proofs.laws.outside.spans_touch_few_lines.Goals as goal
-
-pub returns : goal.returns
-returns c text e rs p h = spans-touch_few text e rs p h

@@ -1,6 +1,0 @@
-use Rattle.std.proofs.Common.{ap}
-use Rattle.mk_edit_laws.specs.Refusals.{text_by}
-use Rattle.mk_edit_laws.proofs.laws.refused_changes_nothing.Goals as goal
-
-pub returns : goal.returns
-returns c = λ edit text refusal h. ap (text_by text) h

@@ -1,5 +1,0 @@
-use Rattle.mk_edit_laws.proofs.on_removals.RuleTakenLemmas.{remove_rule-takes}
-use Rattle.mk_edit_laws.proofs.laws.remove_rule_takes_the_rule_alone.Goals as goal
-
-pub returns : goal.returns
-returns c = remove_rule-takes

@@ -1,9 +1,0 @@
--- A cause of a refusal: the refusal if the cause holds, and None if it does not.
--- Told in docs/DECISIONS.md, "mk_edit_laws".
-use Rattle.std.specs.Prelude.{Bool, true, false, Option, Some, None}
-use Rattle.mk_edit_laws.specs.declared.refusal.Refusal.{Refusal}
-
--- the refusal if the cause holds
-abbrev pub where_holds : Bool → Refusal → Option Refusal
-where_holds true r = Some r
-where_holds false r = None
