@@ -77,3 +77,12 @@ located_class byte Class.Directive = variants.Directive
 located_class byte (Class.TargetAssign t) = variants.TargetAssign (located_target_assignment t)
 located_class byte Class.Rough = variants.Rough
 located_class byte (Class.Header h) = variants.Header (located_header byte h)
+
+-- whether a line of this class leaves the flag as it is
+abbrev pub leaves_flag_located : class.Class → Bool
+leaves_flag_located variants.Blank = true
+leaves_flag_located variants.Comment = true
+leaves_flag_located variants.If = true
+leaves_flag_located variants.Else = true
+leaves_flag_located variants.Endif = true
+leaves_flag_located k = false

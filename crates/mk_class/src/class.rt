@@ -41,3 +41,19 @@ pub enum Class {
     /// The line of a rule.
     Header(Header),
 }
+
+impl Class {
+    ghost use Rattle.std.specs.Prelude.{◌≡◌};
+    ghost use Rattle.mk_class.specs.LocatedClasses.{leaves_flag_located};
+
+    /// Whether a line of this class leaves the flag as it is: whether a rule is open after it is
+    /// what it was before. So do blank lines, comments and the lines of conditionals.
+    pub fn leaves_flag(&self) -> bool
+        ensures { result ≡ leaves_flag_located self.now }
+    {
+        matches!(
+            self,
+            Class::Blank | Class::Comment | Class::If | Class::Else | Class::Endif
+        )
+    }
+}

@@ -43,5 +43,5 @@ mod rename_target_places;
 mod set_recipe;
 mod value;
 
-pub use mk_edit_language::{RuleSeparator, Detail, Field, Refusal};
-pub pub use planning::{plan, plan_with};
+pub use mk_edit_language::{Detail, Edit, Field, Place, Refusal, RuleSeparator};
+pub use planning::{plan, plan_with};

@@ -15,12 +15,12 @@ use crate::moves::take_out;
 use mk_class::Class;
 use mk_edit_language::{Edit, Refusal};
 use mk_edit_parts::find::find;
-use mk_edit_parts::part::{part, text_of_line};
 use mk_edit_parts::recipe::recipe_below;
 use mk_edit_parts::seek::Sought;
 use mk_lines::split::Span;
 use mk_lines::split_first_word;
 use mk_patch::Patch;
+use mk_tree::part::{part, text_of_line};
 use mk_tree::{Doc, Line};
 use std::alloc::Allocator;
 

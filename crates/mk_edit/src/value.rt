@@ -15,12 +15,12 @@ use crate::moves::replace_line;
 use mk_class::{Class, Meter};
 use mk_edit_language::{Edit, Refusal};
 use mk_edit_parts::find::find;
-use mk_edit_parts::part::{part, text_of_line};
 use mk_edit_parts::range::{value_range, with_replaced};
 use mk_edit_parts::seek::Sought;
 use mk_lines::is_closed;
 use mk_lines::source::MAX_TEXT;
 use mk_patch::Patch;
+use mk_tree::part::{part, text_of_line};
 use mk_tree::{Doc, Line};
 use std::alloc::{AllocError, Allocator};
 

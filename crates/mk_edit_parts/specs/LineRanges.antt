@@ -1,11 +1,12 @@
 -- Where the value of a document's line stands, and whether a document's lines lean on the flag
 -- before them.
 -- Told in docs/ARCHITECTURE.md, "An edit's way, from Edit to moved lines".
-use Rattle.std.specs.Prelude.{ℕ, Bool, true, false, ◌||◌, ◌&&◌, if◌then◌else◌, List, [], ◌∷◌}
+use Rattle.std.specs.Prelude.{ℕ, Bool, false, ◌||◌, ◌&&◌, if◌then◌else◌, List, [], ◌∷◌}
 use Rattle.mk_lines.specs.Cells.{Cell, line_cells}
 use Rattle.mk_lines.specs.Ranges.{raw_range}
 use Rattle.mk_lines.specs.declared.split.Span.{Span}
 use Rattle.mk_class.specs.RecipePrefix.{is_prefix_led}
+use Rattle.mk_class.specs.LocatedClasses.{leaves_flag_located}
 use Rattle.mk_class.specs.declared.class.Class as class
 use Rattle.mk_class.specs.declared.class.Class.TheVariants as variants
 use Rattle.mk_tree.specs.LocatedLines.{LocatedLine}
@@ -19,15 +20,6 @@ value_range_in b cs k = record { start = 0; end = 0 }
 
 abbrev pub value_range_located : (with_blanks : Bool) → LocatedLine → Span
 value_range_located b l = value_range_in b (line_cells l.bytes) l.class
-
--- whether a line of this class leaves the flag as it is
-abbrev pub leaves_flag_located : class.Class → Bool
-leaves_flag_located variants.Blank = true
-leaves_flag_located variants.Comment = true
-leaves_flag_located variants.If = true
-leaves_flag_located variants.Else = true
-leaves_flag_located variants.Endif = true
-leaves_flag_located k = false
 
 -- whether the first line that begins with the prefix, or has a class that sets the flag, begins
 -- with the prefix

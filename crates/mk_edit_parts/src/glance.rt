@@ -13,11 +13,11 @@ ghost use Rattle.mk_lines.specs.Words.{words_in};
 ghost use Rattle.mk_edit_parts.specs.Glances.{EndsPart, IsPassed, StandsAt, StandsBehindNone};
 ghost use Rattle.mk_edit_parts.specs.RenamedRanges.{ArePartsWithin, IsWithin, span};
 
-use crate::part::{part, rest};
 use crate::text::is_same_text;
 use crate::word_parts::WordParts;
 use memchr::memchr2_iter;
 use mk_lines::split::Span;
+use mk_tree::part::{part, rest};
 
 /// A longer word is not looked for. It may have blanks of its own, within references, and a text may
 /// begin as the word does behind each of its blanks: then each look would take time by the length of

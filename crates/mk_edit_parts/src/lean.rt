@@ -2,9 +2,9 @@
 ghost use Rattle.std.specs.Prelude.{◌≡◌, ◌≤◌, ◌&&◌, not, drop, length};
 ghost use Rattle.mk_class.specs.RecipePrefix.{is_prefix_led};
 ghost use Rattle.mk_tree.specs.Leaning.{is_same_flag};
-ghost use Rattle.mk_edit_parts.specs.LineRanges.{is_led_first_located, leaves_flag_located};
+ghost use Rattle.mk_edit_parts.specs.LineRanges.{is_led_first_located};
 
-use mk_class::{Class, RuleFlag};
+use mk_class::RuleFlag;
 use mk_tree::Doc;
 use std::alloc::Allocator;
 
@@ -49,7 +49,7 @@ fn is_led_first<A: Allocator>(doc: &Doc<A>, from: usize, prefix: u8) -> bool
         if begins_with(line.bytes(), prefix) {
             return true;
         }
-        if !leaves_flag(&line.class()) {
+        if !line.class().leaves_flag() {
             return false;
         }
     }
@@ -61,14 +61,4 @@ pub fn begins_with(line: &[u8], prefix: u8) -> bool
     ensures { result ≡ is_prefix_led prefix line.now }
 {
     matches!(line, [first, ..] if *first == prefix)
-}
-
-// Whether a line of this class leaves the flag as it is.
-fn leaves_flag(class: &Class) -> bool
-    ensures { result ≡ leaves_flag_located class.now }
-{
-    matches!(
-        class,
-        Class::Blank | Class::Comment | Class::If | Class::Else | Class::Endif
-    )
 }

@@ -6,7 +6,6 @@
 //! - [`text`]: texts compared, and the words of a text.
 //! - [`argument`]: the causes of refusal that the fields of an edit decide.
 //! - [`address`]: the line that an edit means, as the edit says it.
-//! - [`part`]: parts of a line by their offsets.
 //! - [`line_test`]: which variable a line assigns, and which targets it has.
 //! - [`seek`]: the line that an address means, found by one walk.
 //! - [`find`]: where an edit applies, after the causes that come before its own.
@@ -30,7 +29,6 @@ pub mod lean;
 pub mod line_end;
 pub mod line_test;
 pub mod new_line;
-pub mod part;
 pub mod place;
 pub mod prerequisite;
 pub mod range;

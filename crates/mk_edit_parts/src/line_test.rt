@@ -9,12 +9,11 @@ ghost use Rattle.mk_lines.specs.Cells.{line_cells};
 ghost use Rattle.mk_tree.specs.Trees.{line_view};
 
 use crate::glance::may_have_word;
-use crate::part::{part, text_of_line};
 use crate::text::has_word;
 use mk_class::Class;
 use mk_lines::split::Span;
 use mk_tree::Line;
-use mk_tree::part::is_part;
+use mk_tree::part::{is_part, part, text_of_line};
 use std::alloc::Allocator;
 
 /// Whether a line assigns the variable of this name.

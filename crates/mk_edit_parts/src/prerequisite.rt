@@ -15,12 +15,12 @@ ghost use Rattle.mk_class.specs.LineParts.{order_only_span, normal_span};
 ghost use Rattle.mk_edit_parts.specs.WordCuts.{raw_between, without_words};
 ghost use Rattle.mk_edit_parts.specs.NewPrerequisites.{after_new, before_new, new_word_text, part_of_new, offset_of_new, words_end};
 
-use crate::part::{part, text_of_line};
 use crate::text::{has_word, is_same_text};
 use mk_class::Header;
 use mk_lines::split::Span;
 use mk_lines::words;
 use mk_tree::Line;
+use mk_tree::part::{part, text_of_line};
 use std::alloc::{AllocError, Allocator};
 
 /// Whether a word is among the normal prerequisites.

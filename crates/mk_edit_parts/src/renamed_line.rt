@@ -8,13 +8,13 @@ ghost use Rattle.mk_edit_parts.specs.RenamedTexts.{AreApart, renamed_text, rewri
 ghost use Rattle.mk_edit_parts.specs.WordCuts.{last_end};
 
 use crate::glance::may_have_word;
-use crate::part::{part, rest, text_of_line};
 use crate::tally::Tally;
 use crate::word_parts::{parts_of, range_of_word};
 use mk_class::Class;
 use mk_lines::split::Span;
 use mk_lines::words;
 use mk_tree::Line;
+use mk_tree::part::{part, rest, text_of_line};
 use std::alloc::{AllocError, Allocator};
 
 /// The bytes of a line in which a rename replaces the words that are `from` by `to`. The caller

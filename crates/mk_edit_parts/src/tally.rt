@@ -10,12 +10,12 @@ ghost use Rattle.mk_edit_parts.specs.LocatedParts.{IsClassed};
 ghost use Rattle.mk_edit_parts.specs.RenamedRanges.{IsWithin, before_ranges, bytes_in, has_parts, no_words, part_ranges, renamed_ranges, tallied};
 
 use crate::glance::first_place;
-use crate::part::{part, text_of_line};
 use crate::word_parts::{parts_of, range_of_word};
 use mk_class::Class;
 use mk_lines::split::Span;
 use mk_lines::words;
 use mk_tree::Line;
+use mk_tree::part::{part, text_of_line};
 use std::alloc::Allocator;
 
 /// A count of words that a rename replaces.

@@ -5,11 +5,11 @@ ghost use Rattle.mk_tree.specs.Trees.{line_view};
 ghost use Rattle.mk_edit_parts.specs.LocatedParts.{IsClassed};
 ghost use Rattle.mk_edit_parts.specs.RenamedRanges.{ArePartsWithin, IsWithin, range_in, word_parts};
 
-use crate::part::{part, text_of_line};
 use crate::text::is_same_text;
 use mk_class::Class;
 use mk_lines::split::Span;
 use mk_tree::Line;
+use mk_tree::part::{part, text_of_line};
 use std::alloc::Allocator;
 
 /// The parts of a line's joined text in which a rename replaces words. A part that a line does not

@@ -10,12 +10,12 @@ ghost use Rattle.mk_tree.specs.Trees.{line_view};
 ghost use Rattle.mk_queries.specs.Caveats.{assignment_caveat, caveat_of, is_assignment, make_word, named_caveat, opaque_caveat, recipe_caveat, sentence, skipped_caveat, word_caveat};
 ghost use Rattle.mk_queries.specs.LocatedTexts.{IsClassedIn};
 
-use crate::line_part::{part, text_of_line};
 use crate::make_word::{is_text, word_of};
 use crate::seen::{Seen, is_led, is_other_class, is_rule};
 use mk_class::{Class, Context, Meter, class_of_plain_line};
 use mk_lines::after_first_unit;
 use mk_tree::Line;
+use mk_tree::part::{part, text_of_line};
 use std::alloc::Allocator;
 
 /// What make may read in a line otherwise than it is read here.

@@ -13,7 +13,6 @@
 //!
 //! - `gathering`: texts that go out in few writes.
 //! - `spacing`: the words of a text, with spaces.
-//! - `line_part`: parts of a line by their offsets.
 //! - `position`: the numbers of lines, and where an item stands.
 //! - `targets`: targets with the separator after them.
 //! - `make_word`: the first word of a line, as make finds it.
@@ -24,7 +23,6 @@
 
 mod caveat;
 mod gathering;
-mod line_part;
 mod make_word;
 mod position;
 mod query;

@@ -6,8 +6,8 @@ ghost use Rattle.mk_tree.specs.LocatedLines.{text_of_line};
 ghost use Rattle.mk_tree.specs.Trees.{line_view};
 ghost use Rattle.mk_queries.specs.Caveats.{is_in_make_word, is_make_blank, is_passed, make_word};
 
-use crate::line_part::text_of_line;
 use mk_tree::Line;
+use mk_tree::part::text_of_line;
 use std::alloc::Allocator;
 
 // Whether a byte is a blank for make.

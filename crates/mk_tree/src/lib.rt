@@ -3,7 +3,7 @@
 //! - [`document`]: the document, and the calls that change its lines.
 //! - [`parse`]: a document made of a text.
 //! - [`end`]: what is known where the lines of a document end.
-//! - [`part`]: whether a part of a line's text is some text.
+//! - [`part`]: parts of a line's text, by their offsets.
 //! - [`iter`]: the lines of a document in order.
 //! - [`walk`]: the lines of a document in order, each with its context.
 //! - [`tree`]: the balanced tree that the lines stand in, and a line by itself.

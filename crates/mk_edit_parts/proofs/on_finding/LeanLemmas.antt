@@ -8,7 +8,8 @@ use Rattle.mk_class.specs.RecipePrefix.{is_prefix_led}
 use Rattle.mk_class.specs.LocatedClasses.{located_class}
 use Rattle.mk_class.specs.ClassedLines.{ClassedLine, is_led_first}
 use Rattle.mk_tree.specs.LocatedLines.{LocatedLine, located_lines}
-use Rattle.mk_edit_parts.specs.LineRanges.{is_led_first_located, leaves_flag_located}
+use Rattle.mk_class.specs.LocatedClasses.{leaves_flag_located}
+use Rattle.mk_edit_parts.specs.LineRanges.{is_led_first_located}
 
 leaves-located : (k : Class Cell) → leaves_flag_located (located_class joined_byte k) ≡ leaves_flag k
 leaves-located Endef = refl

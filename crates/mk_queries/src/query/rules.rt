@@ -14,7 +14,6 @@ ghost use Rattle.mk_lines.specs.Words.{words_in};
 ghost use Rattle.mk_queries.specs.Queries.{rules_text};
 
 use crate::gathering::put_parts;
-use crate::line_part::{part, text_of_line};
 use crate::position::{line_feeds, put_position};
 use crate::spacing::put_each_after_space;
 use crate::targets::put_targets;
@@ -23,6 +22,7 @@ use mk_lines::sink::{ByteSink, write_all};
 use mk_lines::split::Span;
 use mk_lines::{Fault, split_first_word};
 use mk_tree::gathering::Gathered;
+use mk_tree::part::{part, text_of_line};
 use mk_tree::{Doc, Line};
 use std::alloc::Allocator;
 

@@ -11,7 +11,6 @@ ghost use Rattle.mk_queries.specs.Queries.{vars_text};
 ghost use Rattle.mk_lines.specs.Spacing.{after_space};
 
 use crate::gathering::put_parts;
-use crate::line_part::{part, text_of_line};
 use crate::position::{line_feeds, put_position};
 use crate::spacing::put_each_before_space;
 use crate::targets::put_targets;
@@ -20,6 +19,7 @@ use mk_lines::Fault;
 use mk_lines::sink::{ByteSink, write_all};
 use mk_lines::split::Span;
 use mk_tree::gathering::{Gathered, put};
+use mk_tree::part::{part, text_of_line};
 use mk_tree::{Doc, Line};
 use std::alloc::Allocator;
 

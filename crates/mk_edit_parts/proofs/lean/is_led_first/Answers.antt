@@ -1,7 +1,8 @@
 use Rattle.std.proofs.Common.{◌≡◌, ◌∙◌, ap, sym, ◌+◌, ◌||◌, ◌&&◌, true, false, drop}
 use Rattle.mk_class.specs.RecipePrefix.{is_prefix_led}
 use Rattle.mk_tree.specs.Trees.{line_view}
-use Rattle.mk_edit_parts.specs.LineRanges.{is_led_first_located, leaves_flag_located}
+use Rattle.mk_class.specs.LocatedClasses.{leaves_flag_located}
+use Rattle.mk_edit_parts.specs.LineRanges.{is_led_first_located}
 use Rattle.mk_edit_parts.proofs.on_finding.LeanLemmas.{led_first-at}
 use Rattle.mk_edit_parts.proofs.lean.is_led_first.Goals as goal
 
