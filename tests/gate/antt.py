@@ -45,7 +45,8 @@ class Declaration(NamedTuple):
     """A definition or a lemma, a data type with its constructors, or a set of lemmas.
 
     `own` are the names that it brings: its own first, then constructors. `statement` and `body` are
-    lists of words. `parameters` are the words of the `module _` lines that it stands in.
+    lists of words. `parameters` are the words of the `module _` lines that it stands in. `lines` are
+    the numbers of the lines that have its words; comments are none.
     """
 
     own: list
@@ -55,6 +56,12 @@ class Declaration(NamedTuple):
     parameters: list
     statement: list
     body: list
+    lines: set
+
+
+def lines_of(tokens):
+    """The numbers of the lines that have these words."""
+    return {token.line for token in tokens}
 
 
 def tokens_of(text):
@@ -157,20 +164,20 @@ class File:
                 if below:
                     self.read_items(below, parameters + words_of(rest[2:end]))
             elif head in ("data", "record"):
-                self.add_type(head, marks, rest, parameters)
+                self.add_type(head, marks, item, rest, parameters)
             elif head == "ruleset":
-                self.add([rest[1].text], head, marks, rest[0].line, parameters, [], words_of(rest[2:]))
+                self.add([rest[1].text], head, marks, item, parameters, [], words_of(rest[2:]))
             elif head == "open":
                 self.opened += words_of(rest)
             elif head not in ("mod", "infixl", "infixr", "infix"):
                 self.add_lines(marks, item, rest, parameters)
 
-    def add(self, own, kind, marks, line, parameters, statement, body):
+    def add(self, own, kind, marks, item, parameters, statement, body):
         """Adds a declaration."""
-        it = Declaration(own, kind, "pub" in marks, line, parameters, statement, body)
-        self.declarations.append(it)
+        line, lines = item[len(marks)].line, lines_of(item)
+        self.declarations.append(Declaration(own, kind, "pub" in marks, line, parameters, statement, body, lines))
 
-    def add_type(self, head, marks, rest, parameters):
+    def add_type(self, head, marks, item, rest, parameters):
         """Adds a data type or a record, with the names of its constructors."""
         where = find_outside(rest, ("where",))
         body = [] if where is None else rest[where + 1 :]
@@ -178,7 +185,7 @@ class File:
         if head == "data":
             own += [item[0].text for item in items_of(body)]
         statement = words_of(rest[2:where])
-        self.add(own, head, marks, rest[0].line, parameters, statement, words_of(body))
+        self.add(own, head, marks, item, parameters, statement, words_of(body))
 
     def add_lines(self, marks, item, rest, parameters):
         """Adds a signature, or adds a clause or an `unfolding` line to the last one."""
@@ -186,10 +193,11 @@ class File:
         if index is not None and rest[index].text == ":":
             kind = next((mark for mark in ("abbrev", "unfoldable") if mark in marks), "lemma")
             statement = words_of(rest[index + 1 :])
-            self.add([rest[0].text], kind, marks, rest[0].line, parameters, statement, [])
+            self.add([rest[0].text], kind, marks, item, parameters, statement, [])
         else:
             self.declarations[-1].body.append("\n")
             self.declarations[-1].body.extend(words_of(item))
+            self.declarations[-1].lines.update(lines_of(item))
 
 
 def is_rows_name(name):

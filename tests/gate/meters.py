@@ -21,6 +21,7 @@ from typing import NamedTuple
 from tests import TOP
 
 from .listed import listed, with_below
+from .sources import code_of
 
 METER = "mk_class/src/meter.rt"
 SESSION = "mk_session/src/session.rt"
@@ -29,7 +30,6 @@ HOLDERS = {SESSION}
 # A function that opens a session may call the other one.
 OPENERS = {(SESSION, "open")}
 
-NO_CODE = re.compile(r"""b?'(?:\\.|[^'\\])'|"(?:\\.|[^"\\])*"|//[^\n]*""")
 FUNCTION = re.compile(r"(pub )?fn (\w+)\b(.*?)(?=\b(?:requires|ensures)\b|[{;])", re.S)
 IMPORT = re.compile(r"\buse [^;]*;")
 OPENED = re.compile(r"\b(?:Session|Self)\s*::\s*(open(?:_vec)?)\b")
@@ -50,11 +50,6 @@ class Source(NamedTuple):
         """The name of the function that a place stands in, or of the one before it."""
         names = [it[2] for it in FUNCTION.finditer(self.code, 0, at)]
         return names[-1] if names else None
-
-
-def code_of(text):
-    """A source without comments and texts, with as many lines."""
-    return NO_CODE.sub(lambda it: "\n" * it[0].count("\n"), text)
 
 
 def sources_of(top, names):

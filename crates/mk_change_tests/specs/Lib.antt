@@ -1,1 +1,2 @@
+-- # Vocabulary of private contracts
 pub mod SetBytes

@@ -1,1 +1,2 @@
+-- # What the public contracts say
 pub mod CommandViews

@@ -1,6 +1,8 @@
+-- # What the public contracts say
 -- What planning answers, and the moves of an edit
 pub mod Planned
 pub mod PlannedMoves
+-- # Vocabulary of private contracts
 -- Where new lines go
 pub mod Insertions
 -- The recipe of a rule, and its edits

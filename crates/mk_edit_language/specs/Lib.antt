@@ -1,3 +1,4 @@
+-- # What the public contracts say
 -- The edits, and the lines that they speak of
 pub mod Edits
 pub mod EditViews

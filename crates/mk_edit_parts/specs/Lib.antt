@@ -1,3 +1,4 @@
+-- # What the public contracts say
 -- The line that an edit means
 pub mod AddressViews
 pub mod LocatedParts

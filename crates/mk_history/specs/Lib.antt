@@ -1,3 +1,4 @@
+-- # What the public contracts say
 -- Changes in turn, and what is seen of a history
 pub mod Chain
 pub mod Stacks

@@ -1,3 +1,4 @@
+-- # What the public contracts say
 -- The assignments of a document
 pub mod Assignments
 -- What an index stores

@@ -1,3 +1,4 @@
+-- # What the public contracts say
 -- Reports and outcomes
 pub mod Report
 pub mod Outcome
@@ -5,6 +6,8 @@ pub mod Outcome
 pub mod ObeyedCommands
 pub mod Runs
 pub mod RunEnds
-pub mod RunSteps
 -- Laws
 pub mod RunLaws
+-- # Vocabulary of private contracts
+-- Runs
+pub mod RunSteps

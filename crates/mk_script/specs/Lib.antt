@@ -1,3 +1,4 @@
+-- # What the public contracts say
 -- Fields, numbers and commands of a script
 pub mod Fields
 pub mod Numbers
@@ -6,6 +7,7 @@ pub mod Lines
 -- Scripts, and laws of them
 pub mod Scripts
 pub mod ScriptLaws
+-- # Vocabulary of private contracts
 -- How the code reads a line: what the contracts within this crate say
 pub mod FieldReading
 pub mod SeenFields

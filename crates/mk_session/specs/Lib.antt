@@ -1,3 +1,4 @@
+-- # What the public contracts say
 -- The session machine of makefiles
 pub mod Sessions
 pub use Rattle.mk_command.specs.CommandViews

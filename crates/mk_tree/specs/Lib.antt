@@ -1,3 +1,4 @@
+-- # What the public contracts say
 -- Lines of a text, and their reading
 pub mod LineTexts
 pub mod Items
@@ -13,16 +14,18 @@ pub mod Leaning
 pub mod NewLineEnds
 pub mod EachReplaced
 -- What the code stores
-pub mod ShortClasses
-pub mod Contents
 pub mod Trees
 pub mod TreeWalks
-pub mod Origins
 pub mod Admissions
-pub mod Plain
 pub mod UnreadPrefixes
-pub mod Unread
 pub mod Printing
 -- Statements of laws
 pub mod DocumentLaws
 pub mod ChangeLaws
+-- # Vocabulary of private contracts
+-- What the code stores
+pub mod ShortClasses
+pub mod Contents
+pub mod Origins
+pub mod Plain
+pub mod Unread

@@ -1,3 +1,4 @@
+-- # Vocabulary of private contracts
 -- What the program prints.
 pub mod QueryTexts
 pub mod Explanations

@@ -1,0 +1,181 @@
+"""What one has to believe of mkedit: the definitions that its public contracts stand on.
+
+    python3 -m tests.gate.believed NAME..    the definitions of some calls, such as mk_edit::plan
+
+Believed is what the contract of a public call names, what those definitions name, and so on down; likewise
+what the types of its values show, and what it asks of devices (surface.py). All other definitions are vocabulary:
+contracts within a crate speak of them, and no public contract does. So specs/Lib.antt of each crate has its
+modules in two parts, below these headings, and each module of which a public contract needs some
+definition stands in the first.
+"""
+
+import re
+import sys
+from typing import NamedTuple, Tuple
+
+from tests import TOP
+
+from . import antt
+from .names import Names, citations
+from .surface import Named, Place, Surface
+
+PUBLIC, PRIVATE = "What the public contracts say", "Vocabulary of private contracts"
+
+
+class Share(NamedTuple):
+    """What is believed of one file: its path, the names of its definitions in their order, and their lines."""
+
+    shown: str
+    names: Tuple[str, ...]
+    lines: int
+
+
+class Believed:
+    """The definitions and the contracts of all crates, and what these need of those."""
+
+    def __init__(self, files=None):
+        self.files = files or antt.files_of(TOP)
+        names, self.surface = Names(self.files), Surface()
+        self.named = Named(self.surface, names)
+        self.owners, self.cites = {}, {}
+        for file in self.files.values():
+            for it in file.declarations:
+                own = (file.module, it.own[0])
+                self.owners.update(((file.module, name), own) for name in it.own)
+                self.cites[own] = citations(names, file, it)
+        self.calls = {
+            f"{crate}::{path}": (source, block, function)
+            for crate in self.surface.crates
+            for source, block, function, path in self.surface.public_calls(crate)
+        }
+        self.types = {}
+
+    def type_of(self, pair):
+        """The type of ours that the prover hands to definitions under a name, or None."""
+        module, name = pair
+        parts = module.split(".")
+        if parts[2:4] != ["specs", "declared"] or parts[1] not in self.surface.crates:
+            return None
+        below = [*parts[4:], name]
+        at = next((place for place, it in enumerate(below) if it[:1].isupper()), 0)
+        return self.surface.item(parts[1], tuple(below[:at]), below[at])
+
+    def below_type(self, place):
+        """What a type shows, as definitions and types."""
+        if place not in self.types:
+            found, types = self.named.of_type(place)
+            self.types[place] = [*found, *types]
+        return self.types[place]
+
+    def reached(self, waiting):
+        """All definitions and types that some of them stand on."""
+        found, waiting = set(), [*waiting]
+        while waiting:
+            it = waiting.pop()
+            if not isinstance(it, Place):
+                it = self.owners.get(it) or self.type_of(it)
+            if it is not None and it not in found:
+                found.add(it)
+                waiting += self.below_type(it) if isinstance(it, Place) else self.cites[it]
+        return found
+
+    def of_call(self, name):
+        """What is believed of a public call."""
+        found, types = self.named.of_call(*self.call(name))
+        return self.reached([*found, *types])
+
+    def of_all(self):
+        """What is believed of all public calls and types."""
+        waiting = set()
+        for call in self.calls.values():
+            waiting = waiting.union(*self.named.of_call(*call))
+        for crate in self.surface.crates:
+            waiting = waiting.union(self.surface.public[crate], self.named.of_impls(crate))
+        return self.reached(waiting)
+
+    def call(self, name):
+        """The public call of a name, which may leave out modules below the crate; ValueError if there is not one."""
+        crate, _, path = name.partition("::")
+        found = [it for it in self.calls if it.startswith(f"{crate}::") and f"::{it}".endswith(f"::{path}")]
+        if len(found) != 1:
+            raise ValueError(f"{len(found)} public calls have the name {name}")
+        return self.calls[found[0]]
+
+    def reading_order(self):
+        """The modules of definitions, each behind those that it names, and else as crates.txt and Lib.antt have them."""
+        order = []
+
+        def put(module):
+            if module in order or module not in self.files:
+                return
+            for use in self.files[module].uses:
+                put(use.module)
+            order.append(module)
+
+        for crate in self.surface.crates:
+            for module in modules_told(crate):
+                put(f"Rattle.{crate}.specs.{module}")
+        return order
+
+    def shares(self, found):
+        """What is believed of each file, lowest first."""
+        for module in self.reading_order():
+            own = [it for it in self.files[module].declarations if (module, it.own[0]) in found]
+            if own:
+                names = tuple(it.own[0] for it in own)
+                yield Share(self.files[module].shown, names, sum(len(it.lines) for it in own))
+
+
+def modules_told(crate):
+    """The modules of a crate's definitions, in the order of its Lib.antt."""
+    file = TOP / "crates" / crate / "specs/Lib.antt"
+    return re.findall(r"^pub mod (\w+)", file.read_text(encoding="utf-8"), re.M) if file.is_file() else []
+
+
+def part_problems(shown, text, module, needed):
+    """What is wrong with the order of a crate's Lib.antt; `needed` has a definition for each module that needs one."""
+    part, told = None, []
+    for line in text.splitlines():
+        heading = line[len("-- # ") :] if line.startswith("-- # ") else ""
+        found = re.match(r"pub mod (\w+)", line)
+        if heading in (PUBLIC, PRIVATE):
+            told.append(heading)
+            part = heading
+        elif found:
+            name = needed.get(f"{module}.{found[1]}")
+            wanted = PRIVATE if name is None else PUBLIC
+            why = "no public contract needs it" if name is None else f"a public contract needs its {name}"
+            if part != wanted:
+                yield f"{shown}: {found[1]} belongs below `{wanted}`: {why}"
+    if told not in ([PUBLIC], [PRIVATE], [PUBLIC, PRIVATE]):
+        yield f"{shown}: it has not the headings `{PUBLIC}` and `{PRIVATE}`, once each and in this order"
+
+
+def problems(files=None):
+    """Each module that stands in the wrong part of its Lib.antt."""
+    believed = Believed(files)
+    needed = {it[0]: it[1] for it in sorted(it for it in believed.of_all() if not isinstance(it, Place))}
+    for file in sorted(TOP.glob("crates/*/specs/Lib.antt")):
+        module = f"Rattle.{file.parent.parent.name}.specs"
+        yield from part_problems(file.relative_to(TOP), file.read_text(encoding="utf-8"), module, needed)
+
+
+def main():
+    if not sys.argv[1:]:
+        print(__doc__.split("\n\n")[1])
+        return 2
+    believed = Believed()
+    for name in sys.argv[1:]:
+        try:
+            shares = [*believed.shares(believed.of_call(name))]
+        except ValueError as fault:
+            print(fault)
+            return 1
+        for it in shares:
+            print(f"{it.shown}: {it.lines} lines: {', '.join(it.names)}")
+        print(f"{name}: {sum(len(it.names) for it in shares)} definitions, {sum(it.lines for it in shares)} lines")
+    return 0
+
+
+if __name__ == "__main__":
+    sys.exit(main())
