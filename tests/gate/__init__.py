@@ -1,6 +1,7 @@
 """The gate: what has to pass before a change lands. `python3 -m tests.gate` is `make check`.
 
-    house       what the crates say twice or say in vain (antt, names, statements, chapters, layout), what has to be believed (sources, surface, believed)
+    house       what the crates say twice or say in vain (antt, names, statements, chapters, layout, repeats,
+                bodies, maps), and what one has to believe (sources, surface, believed)
     rows        the stored files of rows
     crates      proofs and wrong bodies: `rt ci` made quicker (proving, rounds, turned)
     tries       tests and programs of crates with run-time checks

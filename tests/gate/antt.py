@@ -205,10 +205,10 @@ def is_rows_name(name):
     return name.endswith("Rows") or bool(re.fullmatch(r"(Worked|Random)[A-Z]\w*", name))
 
 
-def files_of(top):
+def files_of(top, folders=("specs", "proofs")):
     """All files of definitions and lemmas, by module."""
     files = {}
-    for folder in ("specs", "proofs"):
+    for folder in folders:
         for path in sorted(Path(top, "crates").glob(f"*/{folder}/**/*.antt")):
             file = File(top, path)
             files[file.module] = file

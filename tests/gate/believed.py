@@ -11,6 +11,7 @@ definition stands in the first.
 
 import re
 import sys
+from functools import cached_property
 from typing import NamedTuple, Tuple
 
 from tests import TOP
@@ -23,9 +24,10 @@ PUBLIC, PRIVATE = "What the public contracts say", "Vocabulary of private contra
 
 
 class Share(NamedTuple):
-    """What is believed of one file: its path, the names of its definitions in their order, and their lines."""
+    """What is believed of one file: its path, its module, the names of its definitions in their order, and their lines."""
 
     shown: str
+    module: str
     names: Tuple[str, ...]
     lines: int
 
@@ -33,16 +35,17 @@ class Share(NamedTuple):
 class Believed:
     """The definitions and the contracts of all crates, and what these need of those."""
 
-    def __init__(self, files=None):
-        self.files = files or antt.files_of(TOP)
-        names, self.surface = Names(self.files), Surface()
+    def __init__(self, top=TOP, files=None):
+        self.top, self.files = top, files or antt.files_of(top, ["specs"])
+        names, self.surface = Names(self.files), Surface(top)
         self.named = Named(self.surface, names)
-        self.owners, self.cites = {}, {}
+        self.owners, self.cites, self.lines = {}, {}, {}
         for file in self.files.values():
             for it in file.declarations:
-                own = (file.module, it.own[0])
+                own = file.module, it.own[0]
                 self.owners.update(((file.module, name), own) for name in it.own)
                 self.cites[own] = citations(names, file, it)
+                self.lines[own] = len(it.lines)
         self.calls = {
             f"{crate}::{path}": (source, block, function)
             for crate in self.surface.crates
@@ -101,6 +104,12 @@ class Believed:
             raise ValueError(f"{len(found)} public calls have the name {name}")
         return self.calls[found[0]]
 
+    def modules_told(self, crate):
+        """The modules of a crate's definitions, in the order of its Lib.antt."""
+        file = self.top / "crates" / crate / "specs/Lib.antt"
+        return re.findall(r"^pub mod (\w+)", file.read_text(encoding="utf-8"), re.M) if file.is_file() else []
+
+    @cached_property
     def reading_order(self):
         """The modules of definitions, each behind those that it names, and else as crates.txt and Lib.antt have them."""
         order = []
@@ -113,23 +122,17 @@ class Believed:
             order.append(module)
 
         for crate in self.surface.crates:
-            for module in modules_told(crate):
+            for module in self.modules_told(crate):
                 put(f"Rattle.{crate}.specs.{module}")
         return order
 
     def shares(self, found):
         """What is believed of each file, lowest first."""
-        for module in self.reading_order():
-            own = [it for it in self.files[module].declarations if (module, it.own[0]) in found]
-            if own:
-                names = tuple(it.own[0] for it in own)
-                yield Share(self.files[module].shown, names, sum(len(it.lines) for it in own))
-
-
-def modules_told(crate):
-    """The modules of a crate's definitions, in the order of its Lib.antt."""
-    file = TOP / "crates" / crate / "specs/Lib.antt"
-    return re.findall(r"^pub mod (\w+)", file.read_text(encoding="utf-8"), re.M) if file.is_file() else []
+        for module in self.reading_order:
+            own = [(module, it.own[0]) for it in self.files[module].declarations]
+            names = tuple(it[1] for it in own if it in found)
+            if names:
+                yield Share(self.files[module].shown, module, names, sum(self.lines[module, it] for it in names))
 
 
 def part_problems(shown, text, module, needed):
@@ -151,13 +154,14 @@ def part_problems(shown, text, module, needed):
         yield f"{shown}: it has not the headings `{PUBLIC}` and `{PRIVATE}`, once each and in this order"
 
 
-def problems(files=None):
+def problems(files=None, top=TOP):
     """Each module that stands in the wrong part of its Lib.antt."""
-    believed = Believed(files)
-    needed = {it[0]: it[1] for it in sorted(it for it in believed.of_all() if not isinstance(it, Place))}
-    for file in sorted(TOP.glob("crates/*/specs/Lib.antt")):
+    believed = Believed(top, files)
+    found = sorted((it for it in believed.of_all() if not isinstance(it, Place)), reverse=True)
+    needed = dict(found)
+    for file in sorted(top.glob("crates/*/specs/Lib.antt")):
         module = f"Rattle.{file.parent.parent.name}.specs"
-        yield from part_problems(file.relative_to(TOP), file.read_text(encoding="utf-8"), module, needed)
+        yield from part_problems(file.relative_to(top), file.read_text(encoding="utf-8"), module, needed)
 
 
 def main():

@@ -1,4 +1,4 @@
-"""Tests that the crates say each thing once: each lemma, each definition, each import.
+"""Tests that the crates say each thing once, and that what the documents say of them is so.
 
 Over the definitions and lemmas of all crates it looks for
 
@@ -17,6 +17,9 @@ Over the definitions and lemmas of all crates it looks for
             (documents.py)
   believed  definition files that specs/Lib.antt of their crate has in the wrong part: what public
             contracts say, or the vocabulary of private ones (believed.py)
+  repeats   places that share more than twelve lines (repeats.py)
+  bodies    functions whose body has more than 40 lines
+  maps      modules of a library that the map at the top of its lib.rt does not name
 
 Rows, which compute definitions on examples, are not searched, but what they import is cited. A
 finding has one line; the last line is 'N passed, M failed', and the status is 0 only where nothing
@@ -31,7 +34,7 @@ from functools import partial
 from tests import TOP
 from tests.lib.checks import Tally
 
-from . import antt, believed, chapters, documents, layout, meters, texts
+from . import antt, believed, bodies, chapters, documents, layout, maps, meters, repeats, texts
 from .names import Names, citations, words_in
 from .statements import definition_key, is_data, is_type_of_data, statement_key
 
@@ -202,6 +205,9 @@ def main():
         ("texts", texts.problems()),
         ("documents", documents.problems()),
         ("believed", believed.problems(house.files)),
+        ("repeats", repeats.problems()),
+        ("bodies", bodies.problems()),
+        ("maps", maps.problems()),
     ):
         for place in found:
             tally.add(title, [place])

@@ -18,7 +18,7 @@ from pathlib import Path
 
 from tests import TOP
 
-from . import documents, meters
+from . import believed, bodies, documents, maps, meters, repeats
 from .beside import GIVES_WAY, Tasks, in_lanes
 from .listed import listed, with_below
 from .part import copy_part
@@ -90,19 +90,21 @@ class Texts(InRoom):
     """The texts that several files share: a copy of the files, in which one is changed."""
 
     SHARED = ("docs/EDITS.md", "docs/mkedit-script.5", *(f"completions/mkedit.{it}" for it in ("bash", "fish", "zsh")))
-    SOURCE, OTHERS = "crates/mkedit/src/explanations.rt", ("docs/mkedit.1", "examples/manual.mk")
-    NUMBERS = "crates/mk_edit_language/specs/RefusalTexts.antt"
+    SOURCE, NUMBERS = "crates/mkedit/src/explanations.rt", "crates/mk_edit_language/specs/RefusalTexts.antt"
+    FOLDERS = ("crates", "docs", "completions", "examples")
 
     def setUp(self):
         super().setUp()
-        for name in (*self.SHARED, *self.OTHERS, self.SOURCE, self.NUMBERS):
-            (self.room / name).parent.mkdir(parents=True, exist_ok=True)
-            shutil.copy(TOP / name, self.room / name)
+        unread = shutil.ignore_patterns("out", "proofs", "must-fail")
+        for name in self.FOLDERS:
+            shutil.copytree(TOP / name, self.room / name, copy_function=os.symlink, ignore=unread)
+        os.symlink(TOP / "crates.txt", self.room / "crates.txt")
 
     def change(self, name, old, new):
         path = self.room / name
         text = path.read_text(encoding="utf-8")
         self.assertIn(old, text)
+        path.unlink()
         path.write_text(text.replace(old, new), encoding="utf-8")
 
     def assert_old(self, *names):
@@ -124,6 +126,18 @@ class Texts(InRoom):
     def test_another_makefile_makes_both_pages_old(self):
         self.change("examples/manual.mk", "gcc", "cc")
         self.assert_old("docs/mkedit.1", "docs/mkedit-script.5")
+
+    def test_a_contract_that_names_another_definition_makes_its_page_old(self):
+        self.change("crates/mk_edit/src/planning.rt", "IfErr result (λ refusal.", "IfErr result (λ _.")
+        self.assert_old()
+        self.change("crates/mk_edit/src/planning.rt", "AreCounted meter.old", "located_text meter.old")
+        self.assert_old("docs/BELIEVED.md")
+
+    def test_a_definition_that_gets_a_line_makes_its_page_old(self):
+        self.change("crates/mk_edit/specs/Planned.antt", "abbrev pub IsRefusal", "-- a comment\nabbrev pub IsRefusal")
+        self.assert_old()
+        self.change("crates/mk_edit_language/specs/Edits.antt", "  RemoveRule :", "  DropRule : Edit\n  RemoveRule :")
+        self.assert_old("docs/BELIEVED.md")
 
     def test_a_text_that_was_changed_by_hand_is_told(self):
         self.change("docs/EDITS.md", "| Decide by hand. |", "| Decide. |")
@@ -189,6 +203,111 @@ class Meters(InRoom):
     def test_comments_and_texts_make_no_meter(self):
         self.assertEqual(self.turned("crates/mk_edit/src/moves.rt", "use mk_class", '// Meter::new() of "a\nuse mk_class'), [])
         self.assertEqual(self.turned("crates/mkedit/src/main.rt", "fn main", 'const A: &str = "Meter::new()";\nfn main'), [])
+
+
+class SmallCrate(InRoom):
+    """A crate with a public call and a private one."""
+
+    FILES = {
+        "crates.txt": "low:\n",
+        "crates/low/src/lib.rt": "//! - [`outer`]: the call.\n//! - `inner`: what it does,\n//!   and `kept`.\nmod inner;\nmod kept;\npub mod outer;\n",
+        "crates/low/src/outer.rt": "ghost use Rattle.low.specs.Said.{IsSaid, Seen};\nghost use Rattle.low.specs.Held.{IsHeld};\n"
+        "use crate::kept::Kept;\npub struct Shown;\nimpl Model for Shown {\n    ghost Value = { Seen };\n\n"
+        "    ghost invariant = { λ s. IsHeld s };\n}\npub fn call(shown: &Shown) -> u8\n    ensures { IsSaid result }\n{\n"
+        "    crate::inner::call(shown)\n}\n",
+        "crates/low/src/inner.rt": "ghost use Rattle.low.specs.Held.{IsHeld};\npub fn call(shown: &Shown) -> u8\n"
+        "    ensures { IsHeld result }\n{\n    7\n}\n",
+        "crates/low/src/kept.rt": "pub struct Kept;\n",
+        "crates/low/specs/Lib.antt": f"-- # {believed.PUBLIC}\npub mod Base\npub mod Said\n-- # {believed.PRIVATE}\npub mod Held\n",
+        "crates/low/specs/Base.antt": "abbrev pub base : ℕ → ℕ\nbase n = n\n\nabbrev pub spare : ℕ\nspare = 1\n",
+        "crates/low/specs/Said.antt": "use Rattle.low.specs.Base.{base}\n\n-- it is said\nabbrev pub IsSaid : ℕ → Type 0\n"
+        "IsSaid n = base n ≡ n\n\nabbrev pub Seen : Type 0\nSeen = ℕ\n",
+        "crates/low/specs/Held.antt": "abbrev pub IsHeld : ℕ → Type 0\nIsHeld n = n ≡ 7\n",
+    }
+
+    def setUp(self):
+        super().setUp()
+        for name, text in self.FILES.items():
+            path = self.room / name
+            path.parent.mkdir(parents=True, exist_ok=True)
+            path.write_text(text, encoding="utf-8")
+
+    def replaced(self, name, old, new):
+        self.assertIn(old, self.FILES[name])
+        (self.room / name).write_text(self.FILES[name].replace(old, new), encoding="utf-8")
+
+
+class Believed(SmallCrate):
+    def shares(self):
+        found = believed.Believed(self.room)
+        return [(it.module.rpartition(".")[2], it.names, it.lines) for it in found.shares(found.of_call("low::call"))]
+
+    def test_what_a_public_contract_stands_on_is_believed(self):
+        self.assertEqual(self.shares(), [("Base", ("base",), 2), ("Said", ("IsSaid", "Seen"), 4)])
+
+    def test_what_a_view_or_a_premise_names_is_believed(self):
+        for old, new in (("{ Seen };", "{ Seen };\n\n    ghost view = { IsHeld };"), ("    ensures", "    requires { IsHeld 7 }\n    ensures")):
+            with self.subTest(new=new):
+                self.setUp()
+                self.replaced("crates/low/src/outer.rt", old, new)
+                self.assertIn(("Held", ("IsHeld",), 2), self.shares())
+
+    def test_a_call_that_is_handed_out_is_public(self):
+        self.replaced("crates/low/src/lib.rt", "pub mod outer;\n", "mod outer;\n\npub use outer::call as told;\npub use inner::call;\n")
+        found = believed.Believed(self.room)
+        self.assertEqual([*found.calls], ["low::inner::call", "low::outer::call"])
+        with self.assertRaises(ValueError):
+            found.call("low::call")
+
+    def part_problems(self, *lines):
+        """What is wrong with a Lib.antt that has these lines."""
+        (self.room / "crates/low/specs/Lib.antt").write_text("".join(f"{it}\n" for it in lines), encoding="utf-8")
+        return [*believed.problems(top=self.room)]
+
+    def test_a_module_in_the_wrong_part_is_seen(self):
+        self.assertEqual([*believed.problems(top=self.room)], [])
+        public, private = f"-- # {believed.PUBLIC}", f"-- # {believed.PRIVATE}"
+        for lines, *words in (
+            ((public, "pub mod Base", private, "pub mod Held", "pub mod Said"), "Said", "IsSaid"),
+            ((public, "pub mod Base", "pub mod Said", "pub mod Held"), "Held"),
+            ((private, "pub mod Held", public, "pub mod Base", "pub mod Said"), "in this order"),
+            (("-- Words", "pub mod Said"), "Said", "IsSaid"),
+        ):
+            found = self.part_problems(*lines)
+            self.assertTrue(found, lines)
+            for word in words:
+                self.assertIn(word, found[0])
+
+
+class Shape(SmallCrate):
+    """The size of functions, the maps of crates, and what stands twice."""
+
+    def test_a_long_body_is_seen(self):
+        for count, seen in ((bodies.MOST, 0), (bodies.MOST + 1, 1)):
+            self.setUp()
+            lines = "".join(f"    let x{it} = '{{'; // {{\n" for it in range(count - 1))
+            self.replaced("crates/low/src/inner.rt", "    7\n", f"{lines}    7\n")
+            self.assertEqual(len([*bodies.problems(self.room)]), seen)
+
+    def test_a_module_that_no_map_names_is_seen(self):
+        self.assertEqual([*maps.problems(self.room)], [])
+        for old in ("//! - `inner`: what it does,\n", "and `kept`", "[`outer`]"):
+            self.replaced("crates/low/src/lib.rt", old, "//! the\n" if old.endswith("\n") else "the")
+            self.assertTrue([*maps.problems(self.room)], old)
+
+    def test_places_that_share_lines_are_seen(self):
+        def found(one, other):
+            return [*repeats.shared([("a.rt", one), ("b.rt", other)])]
+
+        lines = [f"let x{it} = {it};\n" for it in range(repeats.MOST + 1)]
+        spread = "".join(f"    // a comment\n\n  {it}    }}\n" for it in lines)
+        self.assertEqual(found("".join(lines[1:]), spread), [])
+        self.assertEqual(found("fn a() {\n" + "".join(lines), "use b;\nfn b() {\n" + spread), [(13, ("a.rt", 2), ("b.rt", 5))])
+        self.assertEqual(found("".join([*lines, "let y = 1;\n"]), "".join([*lines, "let z = 1;\n"]))[0][0], 13)
+
+    def test_imports_are_no_lines(self):
+        text = "use a::{\n    b,\n    c,\n};\nghost use a.{b};\nimport a\nfrom a import (\n    b,\n)\nx = 1\n"
+        self.assertEqual([*repeats.lines_of(text)], [(10, "x = 1")])
 
 
 class WithRt(InRoom):
