@@ -3,7 +3,7 @@
     house       what the crates say twice or say in vain (antt, names, statements, chapters, layout, repeats,
                 bodies, maps), and what one has to believe (sources, surface, believed)
     rows        the stored files of rows
-    crates      proofs and wrong bodies: `rt ci` made quicker (proving, rounds, turned)
+    crates      proofs and wrong bodies: `rt ci` made quicker (proving, rounds, wrong_bodies)
     tries       tests and programs of crates with run-time checks
     share       which wrong bodies a run tries
     part        a part of the repository as a repository of its own

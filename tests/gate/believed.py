@@ -24,7 +24,7 @@ PUBLIC, PRIVATE = "What the public contracts say", "Vocabulary of private contra
 
 
 class Share(NamedTuple):
-    """What is believed of one file: its path, its module, the names of its definitions in their order, and their lines."""
+    """What is believed of one file: the names of its definitions, in their order, and how many lines they have."""
 
     shown: str
     module: str
@@ -111,7 +111,7 @@ class Believed:
 
     @cached_property
     def reading_order(self):
-        """The modules of definitions, each behind those that it names, and else as crates.txt and Lib.antt have them."""
+        """The modules of definitions: each behind those that it names, else as crates.txt and Lib.antt have them."""
         order = []
 
         def put(module):

@@ -17,7 +17,11 @@ KINDS = ("*.rt", "*.antt", "*.py")
 MADE = re.compile(r"\bMade by\s+(?:--\s+)?`tests/definitions/")
 # An import may go over several lines.
 IMPORT = re.compile(
-    r"^ *(?:(?:pub(?:\([^)]*\))? )?(?:ghost )?use\b[^;{\n]*(?:\{[^}]*\})?;?|(?:from [\w.]+ )?import\b[^(\n]*(?:\([^)]*\))?).*$", re.M
+    r"^ *(?:"
+    r"(?:pub(?:\([^)]*\))? )?(?:ghost )?use\b[^;{\n]*(?:\{[^}]*\})?"
+    r"|(?:from [\w.]+ )?import\b[^(\n]*(?:\([^)]*\))?"
+    r").*$",
+    re.M,
 )
 NO_LINE = re.compile(r"(?://|--|#|$)|[^\w\"']*$")
 
@@ -61,7 +65,9 @@ def shared(texts):
         for number, one in enumerate(found):
             for other in found[number + 1 :]:
                 if not agree(lines, one, other, -1):
-                    count = next(it for it in range(MOST + 1, len(lines[one[0]]) + 1) if not agree(lines, one, other, it))
+                    count = MOST + 1
+                    while agree(lines, one, other, count):
+                        count += 1
                     yield count, *(Place(name, lines[name][at][0]) for name, at in (one, other))
 
 

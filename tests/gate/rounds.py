@@ -1,19 +1,20 @@
 """Has the prover refuse the wrong bodies of a crate, crates/*/must-fail/*.edit, many in one check.
 
-`rt ci` makes a check for each edit, and most of a check is the same for all of them. The prover says
-of each function by itself whether it is proved. So this makes one check, a round, for as many edits as
-turn different functions. An edit is refused where a goal of its own function was tried
+`rt ci` makes a check for each wrong body, and most of a check is the same for all of them. The prover
+says of each function by itself whether it is proved. So this makes one check, a round, for as many
+wrong bodies as are of different functions. One is refused where a goal of its own function was tried
 in vain, or where an answer of that function's proof does not fit any more; that a callee is not
 proved refuses nothing. What no round can judge is tried by itself, as `rt ci` does it. What is
-refused only because a proof names what the edit took away shows nothing, and fails.
+refused only because a proof names what the wrong body lacks shows nothing, and fails.
 
-Each round begins with the same folder of proofs, the seed: what one check of the functions that are
-turned, as they stand, has proved. So no round proves again what another has turned. And it shows that the
-rounds can prove: where one of these functions is not proved in it, there is no seed, and each edit is
-tried by itself. The first edit that rounds cannot judge has the whole crate proved over the seed.
+Each round begins with the same folder of proofs, the seed: what one check has proved of the functions
+that are to be made wrong, as they stand. So no round proves again what another has made wrong. And it
+shows that the rounds can prove: where one of these functions is not proved in it, there is no seed,
+and each wrong body is tried by itself. The first one that rounds cannot judge has the whole crate
+proved over the seed.
 
-Where the toolchain can, the many edits of a crate are tried in up to four shares side by side, each in
-rounds of its own. All of them begin with one seed, which is proved beside the crate itself.
+Where the toolchain can, the many wrong bodies of a crate are tried in up to four shares side by side,
+each in rounds of its own. All of them begin with one seed, which is proved beside the crate itself.
 """
 
 import hashlib
@@ -27,7 +28,7 @@ from functools import partial
 from pathlib import Path
 
 from .proving import Said
-from .turned import wrong_bodies
+from .wrong_bodies import wrong_bodies
 
 FLAGS = ("--jobs", "1")
 # What the toolchain's function asks for that has the wrong bodies of a crate tried: of one that keeps what
@@ -77,27 +78,27 @@ class Trial:
 
     def round_of(self, bodies):
         """The first bodies that fit into one check, and the texts of all of them."""
-        chosen, texts, turned, apart = [], {}, set(), set()
+        chosen, texts, wrong, apart = [], {}, set(), set()
         for body in bodies:
             after = body.applied(texts, self.folder)
             waits = self.apart.get(body, set())
-            if after is None or body.functions & (turned | apart) or waits & turned:
+            if after is None or body.functions & (wrong | apart) or waits & wrong:
                 continue
             chosen, texts = [*chosen, body], after
-            turned, apart = turned | body.functions, apart | waits
+            wrong, apart = wrong | body.functions, apart | waits
         return chosen, texts
 
     def try_round(self, bodies, texts):
         """Tries bodies in one check, and returns those that have to be tried again."""
-        turned = turned_by(bodies)
+        wrong = functions_of(bodies)
         with self.kept() as kept:
-            said = self.said(texts, turned, kept)
+            said = self.said(texts, wrong, kept)
         if not said.is_judged() or any(self.script.unread(it, texts) for it in said.lines):
             return self.try_halves(bodies)
         again = []
         for body in bodies:
             fault = next(filter(None, map(said.fault_of, body.functions)), None)
-            waits = set().union(*map(said.waits_for, body.functions)) & turned - body.functions
+            waits = set().union(*map(said.waits_for, body.functions)) & wrong - body.functions
             if fault:
                 self.found[body] = True, fault
             elif waits:
@@ -133,14 +134,14 @@ def bodies_named(crate, names):
     return [it for it in wrong_bodies(Path(crate.folder)) if it.name in names]
 
 
-def turned_by(bodies):
-    """The functions that some wrong bodies turn."""
+def functions_of(bodies):
+    """The functions that some wrong bodies make wrong."""
     return set().union(*(it.functions for it in bodies))
 
 
 def sown(script, crate, names, seed, jobs=1):
-    """Makes the seed of some wrong bodies, and returns whether all functions that they turn are proved as they stand."""
-    functions = turned_by(bodies_named(crate, names))
+    """Makes the seed of some wrong bodies, and returns whether their functions are proved as they stand."""
+    functions = functions_of(bodies_named(crate, names))
     os.mkdir(seed)
     if not functions:
         return True
@@ -230,7 +231,7 @@ class Earlier:
 
 def own_name(name):
     """The name under which it is kept what rounds found, where the toolchain has this name for the try."""
-    files = (Path(__file__).parent / it for it in ("proving.py", "rounds.py", "turned.py"))
+    files = (Path(__file__).parent / it for it in ("proving.py", "rounds.py", "wrong_bodies.py"))
     return hashlib.sha256(b"\0".join([name.encode(), *(it.read_bytes() for it in files)])).hexdigest()
 
 
@@ -271,7 +272,7 @@ def take_plain_rounds(script):
 def shares_of(crate, edits):
     """The places of a crate's edits in the list, in shares that are tried side by side.
 
-    Edits that turn one function cannot be tried in one round, so they stand in different shares.
+    Edits of one function cannot be tried in one round, so they stand in different shares.
     """
     try:
         functions = {it.name: sorted(it.functions) for it in wrong_bodies(Path(crate.folder))}

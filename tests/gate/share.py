@@ -8,7 +8,7 @@ import hashlib
 import subprocess
 from typing import NamedTuple
 
-from .turned import wrong_bodies
+from .wrong_bodies import wrong_bodies
 
 SHARES = 12
 
@@ -21,7 +21,7 @@ class Body(NamedTuple):
 
 
 def bodies_of(crates):
-    """The wrong bodies of some crates. Those that turn one function stand one after the other.
+    """The wrong bodies of some crates. Those of one function stand one after the other.
 
     So a share has as few of one function as can be, and its bodies fit into few checks.
     """

@@ -12,7 +12,8 @@ from . import antt
 
 NO_CODE = re.compile(r"""\bb?r(#*)"[\s\S]*?"\1|b?'(?:\\[\s\S]|[^'\\])'|"(?:\\[\s\S]|[^"\\])*"|//[^\n]*""")
 ITEM = re.compile(
-    r"^( *)(pub(?:\([^)]*\))? )?(?:(?:unsafe|const|default) )*(fn|struct|enum|trait|impl|mod|use|ghost|const|static|type)\b",
+    r"^( *)(pub(?:\([^)]*\))? )?(?:(?:unsafe|const|default) )*"
+    r"(fn|struct|enum|trait|impl|mod|use|ghost|const|static|type)\b",
     re.M,
 )
 IMPL = re.compile(r"impl(?:<.*?>)? (?:(?:\w+::)*(\w+)(?:<.*?>)? for )?&?(?:mut )?(?:'\w+ )?(?:\w+::)*(\w+)")
@@ -176,8 +177,8 @@ class Source:
 
 def imported(item):
     """The names that a `use` of code brings in, each with its path."""
-    text = re.sub(r"\s+", "", re.sub(r"\b(?:pub(?:\([^)]*\))?|use)\s", "", item.text.partition(";")[0].replace(" as ", "@")))
-    yield from paths_in(text, ())
+    text = re.sub(r"^\s*(?:pub(?:\([^)]*\))? )?use ", "", item.text.partition(";")[0])
+    yield from paths_in(re.sub(r"\s+", "", text.replace(" as ", "@")), ())
 
 
 def paths_in(text, before):

@@ -161,7 +161,7 @@ class Meters(InRoom):
         for name in with_below(listed(TOP), ["mkedit"]):
             shutil.copytree(TOP / "crates" / name / "src", self.room / "crates" / name / "src")
 
-    def turned(self, file, old, new):
+    def changed(self, file, old, new):
         """What is said where the first of some words of a source are others."""
         path = self.room / file
         text = path.read_text(encoding="utf-8")
@@ -180,7 +180,7 @@ class Meters(InRoom):
         new = "&mut Meter::new()"
         moves, read, unread = (f"crates/{it}.rt" for it in ("mk_edit/src/moves", "mk_tree/src/read", "mk_tree/src/unread"))
         session, meter = (f"crates/{it}" for it in (meters.SESSION, meters.METER))
-        for turn in (
+        for change in (
             (moves, "Line::read(alloc, bytes, context, meter)", f"Line::read(alloc, bytes, context, {new})"),
             (read, "(&bytes, &cells, context, meter)", f"(&bytes, &cells, context, {new})"),
             (unread, "self.end.context = after;", f"let _ = read_again(line, {new}); self.end.context = after;"),
@@ -197,12 +197,12 @@ class Meters(InRoom):
             (moves, "use mk_class::{Context, Meter};", "use mk_class::{Context, Meter};\nfn f() { mk_session::Session::open_vec(); }"),
             ("crates.txt", "mk_edit: mk_lines", "mk_edit: mk_queries mk_lines"),
         ):
-            with self.subTest(turn=turn):
-                self.assertEqual(len(self.turned(*turn)), 1)
+            with self.subTest(change=change):
+                self.assertEqual(len(self.changed(*change)), 1)
 
     def test_comments_and_texts_make_no_meter(self):
-        self.assertEqual(self.turned("crates/mk_edit/src/moves.rt", "use mk_class", '// Meter::new() of "a\nuse mk_class'), [])
-        self.assertEqual(self.turned("crates/mkedit/src/main.rt", "fn main", 'const A: &str = "Meter::new()";\nfn main'), [])
+        self.assertEqual(self.changed("crates/mk_edit/src/moves.rt", "use mk_class", '// Meter::new() of "a\nuse mk_class'), [])
+        self.assertEqual(self.changed("crates/mkedit/src/main.rt", "fn main", 'const A: &str = "Meter::new()";\nfn main'), [])
 
 
 class SmallCrate(InRoom):

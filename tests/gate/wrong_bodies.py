@@ -1,4 +1,4 @@
-"""Wrong bodies: which texts of a crate each of them replaces, and which functions it turns.
+"""Wrong bodies: which texts of a crate each of them replaces, and which functions it makes wrong.
 
 A file of must-fail/ names a file of the crate and, below it, an old text and a new one; there may be
 several of each. An old text stands in its file exactly once, when those before it are replaced.
@@ -16,16 +16,16 @@ ROOTS = ("lib", "main", "mod")
 
 
 class WrongBody(NamedTuple):
-    """One file of must-fail/: the triples of a path, an old text and a new one, and what they turn."""
+    """One file of must-fail/: triples of a path, an old text and a new one, and the functions that these make wrong."""
 
     name: str
-    turns: Tuple[Tuple[str, str, str], ...]
+    changes: Tuple[Tuple[str, str, str], ...]
     functions: FrozenSet[str]
 
     def applied(self, texts, folder):
         """The texts of a crate's files, by their paths, with this edit; None where it does not fit."""
         after = dict(texts)
-        for path, old, new in self.turns:
+        for path, old, new in self.changes:
             text = after.get(path) or (folder / path).read_text(encoding="utf-8")
             if text.count(old) != 1:
                 return None
@@ -66,7 +66,7 @@ def function_at(path, text, end, modules):
     return "::".join([*modules.get(kind, module), kind + trait, function[2]])
 
 
-def turns_of(text):
+def changes_of(text):
     """The triples of an edit's file, in their order."""
     path = old = ""
     for line in text.split("\n"):
@@ -82,13 +82,13 @@ def wrong_bodies(folder):
     """The wrong bodies of a crate's folder, by their names; ValueError where one does not fit."""
     modules = modules_of_types(folder)
     for file in sorted((folder / "must-fail").glob("*.edit")):
-        turns, texts, functions = tuple(turns_of(file.read_text(encoding="utf-8"))), {}, set()
-        for path, old, new in turns:
+        changes, texts, functions = tuple(changes_of(file.read_text(encoding="utf-8"))), {}, set()
+        for path, old, new in changes:
             text = texts.get(path) or (folder / path).read_text(encoding="utf-8")
             if not old or text.count(old) != 1:
                 raise ValueError(f"{file}: an old text is in {path} {text.count(old)} times, and not once")
             functions.add(function_at(path, text, text.index(old) + len(old), modules))
             texts[path] = text.replace(old, new)
-        if not turns:
+        if not changes:
             raise ValueError(f"{file}: it has no pair of an old and a new text")
-        yield WrongBody(file.stem, turns, frozenset(functions - {None}))
+        yield WrongBody(file.stem, changes, frozenset(functions - {None}))
