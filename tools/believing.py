@@ -81,7 +81,8 @@ class Page:
         for share in self.believed.shares(self.all):
             owner, file = share.shown[len("crates/") : -len(".antt")].split("/specs/")
             if owner != crate:
-                lines += [*([""] if crate else []), f"### `{owner}`", "", *head("File", "Definitions", "Lines", "Calls")]
+                lines += [*([""] if crate else []), f"### `{owner}`", ""]
+                lines += head("File", "Definitions", "Lines", "Calls")
                 crate = owner
             groups = {}
             for name in share.names:

@@ -8,7 +8,7 @@ import re
 FAULT = re.compile(r"^\./proofs/(?P<folder>\S+)/\w+\.antt:\d+:\d+: error: (?P<words>.*)$", re.M)
 # A declaration that was not looked at, since one before it was refused.
 NOT_LOOKED_AT = re.compile(r"that depends? on .*, which w(?:as|ere) rejected")
-# A proof that names what an edit took away, which says little of the contract.
+# A proof that names what a wrong body lacks, which says little of the contract.
 NAMES = re.compile(r"has no field|is not in scope|has no `|was not admitted")
 OPEN_GOALS = re.compile(r"`search` did not prove [^;]*")
 CALLEES = re.compile(r"it calls ([^;]*), which (?:is|are) not proved")

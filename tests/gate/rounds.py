@@ -35,8 +35,8 @@ FLAGS = ("--jobs", "1")
 # it found from run to run, and of one that does not.
 ADDS = "tasks, crate, edits, first, waits, is_well, kept, start=None, in_ci=True"
 TRIES = "crate, edits, flags"
-# At most so many shares of a crate's edits go side by side, and each has at least so many edits: each
-# round of a share has the start of a check, which takes as long as an edit.
+# At most so many shares of a crate's wrong bodies go side by side, and each has at least so many: each
+# round of a share has the start of a check, which takes as long as a wrong body.
 MOST_SHARES, FEWEST_EDITS = 4, 16
 
 
@@ -130,7 +130,7 @@ class Trial:
 
 
 def bodies_named(crate, names):
-    """The wrong bodies of a crate that have these names. ValueError where an edit does not fit."""
+    """The wrong bodies of a crate that have these names. ValueError where one does not fit."""
     return [it for it in wrong_bodies(Path(crate.folder)) if it.name in names]
 
 
@@ -153,7 +153,7 @@ def found_in_rounds(script, crate, names, seed=None):
     """What was found of some wrong bodies of a crate, by their names: whether each is refused, and words on it.
 
     The seed is the one of these bodies and perhaps of others; without one it is made here. None where the
-    checks cannot be trusted. ValueError where an edit does not fit.
+    checks cannot be trusted. ValueError where one does not fit.
     """
     bodies = bodies_named(crate, names)
     with tempfile.TemporaryDirectory(prefix="wrong-bodies-") as room:
@@ -175,7 +175,7 @@ def found_in_rounds(script, crate, names, seed=None):
 
 
 def tried(script, crate, edits, seed=None):
-    """What a try of each edit comes to, and what to say of it, as the toolchain answers both."""
+    """What a try of each wrong body comes to, and what to say of it, as the toolchain answers both."""
     names = [Path(it).stem for it in edits]
     try:
         found = found_in_rounds(script, crate, {*names}, seed)
@@ -199,10 +199,10 @@ def answer(script, crate, name, is_refused, words):
 
 
 class Earlier:
-    """What earlier runs on this machine found of the edits of a crate, by their places in the list.
+    """What earlier runs on this machine found of the wrong bodies of a crate, by their places in the list.
 
     The toolchain keeps what `rt ci` found under names made of all that a try stands on: the crate, the
-    libraries below, the prover, the edit. What rounds found is kept beside it, under names of their own,
+    libraries below, the prover, the wrong body. What rounds found is kept beside it, under names of their own,
     in which the files of the rounds count too. So `rt ci` takes nothing from rounds.
     """
 
@@ -270,9 +270,9 @@ def take_plain_rounds(script):
 
 
 def shares_of(crate, edits):
-    """The places of a crate's edits in the list, in shares that are tried side by side.
+    """The places of a crate's wrong bodies in the list, in shares that are tried side by side.
 
-    Edits of one function cannot be tried in one round, so they stand in different shares.
+    Wrong bodies of one function cannot be tried in one round, so they stand in different shares.
     """
     try:
         functions = {it.name: sorted(it.functions) for it in wrong_bodies(Path(crate.folder))}
@@ -284,7 +284,7 @@ def shares_of(crate, edits):
 
 
 class Shares:
-    """The edits of a crate as tasks of the toolchain's: the seed, and each share, which waits for it."""
+    """The wrong bodies of a crate as tasks of the toolchain's: the seed, and each share, which waits for it."""
 
     def __init__(self, script, crate, edits, kept, is_well):
         self.script = script
@@ -312,7 +312,7 @@ class Shares:
             tasks[name, "edits", number] = after, lines, self.script.OVER * needs, partial(self.try_share, places)
 
     def sow(self, first, given, jobs):
-        """A room with the seed; None where all edits are known, or where there can be none."""
+        """A room with the seed; None where all wrong bodies are known, or where there can be none."""
         names = {Path(it).stem for at, it in enumerate(self.edits) if at not in self.known()}
         if not names or not all(given[it] for it in first):
             return None
@@ -325,7 +325,7 @@ class Shares:
             return None
 
     def try_share(self, places, given, jobs):
-        """What the edits of a share come to, by their places; None where the crate is not proved."""
+        """What the wrong bodies of a share come to, by their places; None where the crate is not proved."""
         known, room = self.known(), given[self.crate.name, "seed"]
         try:
             if not self.is_well(given, len(self.edits) - len(known)):
@@ -347,7 +347,7 @@ class Shares:
                 shutil.rmtree(room, ignore_errors=True)
 
     def results(self, given):
-        """What the edits came to, in their order."""
+        """What the wrong bodies came to, in their order."""
         found = {}
         for number in range(len(self.shares)):
             found.update(given[self.crate.name, "edits", number])

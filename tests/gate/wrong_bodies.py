@@ -23,7 +23,7 @@ class WrongBody(NamedTuple):
     functions: FrozenSet[str]
 
     def applied(self, texts, folder):
-        """The texts of a crate's files, by their paths, with this edit; None where it does not fit."""
+        """The texts of a crate's files, by their paths, with this wrong body; None where it does not fit."""
         after = dict(texts)
         for path, old, new in self.changes:
             text = after.get(path) or (folder / path).read_text(encoding="utf-8")
@@ -67,7 +67,7 @@ def function_at(path, text, end, modules):
 
 
 def changes_of(text):
-    """The triples of an edit's file, in their order."""
+    """The triples of a wrong body's file, in their order."""
     path = old = ""
     for line in text.split("\n"):
         if line.startswith("file: "):
