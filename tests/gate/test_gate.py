@@ -29,6 +29,9 @@ from .share import SHARES, Body, bodies_of, share_of
 from .texts import problems as old_texts
 from .tries import program_of, tests_of
 
+# (crates has put the folder of tools on the path)
+import believing  # noqa: E402
+
 # What stands for rt: it prints what stands in a file, and ends with the status that stands in another.
 RT = "#!/bin/sh\ncat {room}/out\necho 'run=ended' >&2\nexit $(cat {room}/status)\n"
 RESULT = "test a ... ok\ntest result: ok. 2 passed; {failed} failed; 0 ignored; 0 filtered out\n"
@@ -277,6 +280,11 @@ class Believed(SmallCrate):
             self.assertTrue(found, lines)
             for word in words:
                 self.assertIn(word, found[0])
+
+
+    def test_numbers_of_calls_are_told_in_few_words(self):
+        for found, told in (((), ""), ((3,), "3"), ((1, 2), "1-2"), ((1, 3, 4, 5, 8), "1, 3-5, 8")):
+            self.assertEqual(believing.numbers(found), told)
 
 
 class Shape(SmallCrate):
