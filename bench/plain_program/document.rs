@@ -1,13 +1,10 @@
 //! The lines of a text, in a linked list, and what takes edits back.
 
 use crate::index::Index;
+use crate::lines::Lines;
 use crate::parts::{Class, class_of, words_of_rule};
 use std::io::{self, BufWriter, Write};
 use std::mem;
-
-#[path = "../floor_program/lines.rs"]
-#[allow(dead_code, reason = "folds are not looked at here")]
-mod lines;
 
 /// Under which names the lines are noted: those of variables, of targets, of targets and prerequisites.
 #[derive(Default)]
@@ -62,7 +59,7 @@ impl Document {
             undone: Vec::new(),
         };
         document.lines.push(Line { start: 0, end: 0, before: 0, after: 0, is_in: true });
-        let found = lines::Lines { text: &text, at: 0 }.map(|it| (it.start as u32, it.end as u32));
+        let found = Lines { text: &text, at: 0 }.map(|it| (it.start as u32, it.end as u32));
         for (number, (start, end)) in (1..).zip(found) {
             document.lines.push(Line { start, end, before: number - 1, after: number + 1, is_in: true });
         }

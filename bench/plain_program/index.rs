@@ -1,6 +1,8 @@
 //! A table from names to lines. An entry says where a name once stood, and whoever asks looks whether
 //! it still stands there. So no edit, undo or redo takes an entry out.
 
+use crate::bytes::hash;
+
 struct Entry {
     hash: u32,
     line: u32,
@@ -42,19 +44,4 @@ impl Index {
             None
         })
     }
-}
-
-fn hash(name: &[u8]) -> u32 {
-    let mut hash = name.len() as u64;
-    let mut parts = name.chunks_exact(8);
-    for part in &mut parts {
-        hash = mixed(hash, u64::from_le_bytes(part.try_into().unwrap()));
-    }
-    let mut last = [0; 8];
-    last[..parts.remainder().len()].copy_from_slice(parts.remainder());
-    (mixed(hash, u64::from_le_bytes(last)) >> 32) as u32
-}
-
-fn mixed(hash: u64, part: u64) -> u64 {
-    (hash.rotate_left(5) ^ part).wrapping_mul(0x517c_c1b7_2722_0a95)
 }

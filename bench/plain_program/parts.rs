@@ -1,5 +1,6 @@
 //! What a line is, and where its parts stand: offsets in the line as it stands, with its folds.
 
+use crate::bytes::{after_reference, is_blank, trimmed};
 use std::ops::Range;
 
 pub enum Class {
@@ -9,10 +10,6 @@ pub enum Class {
     /// A blank line or a comment.
     Between,
     Other,
-}
-
-pub fn is_blank(byte: u8) -> bool {
-    byte == b' ' || byte == b'\t'
 }
 
 /// Whether a backslash and a line feed stand here.
@@ -32,37 +29,13 @@ fn after_blanks(line: &[u8], mut at: usize) -> usize {
     at
 }
 
-/// The offset behind the last byte before this one that is no blank.
-fn before_blanks(line: &[u8], end: usize) -> usize {
-    end - line[..end].iter().rev().take_while(|it| is_blank(**it)).count()
-}
-
-/// The offset behind the blanks and folds before a word.
-fn before_gap(line: &[u8], mut end: usize) -> usize {
-    loop {
-        end = before_blanks(line, end);
-        if !line[..end].ends_with(b"\\\n") {
-            return end;
-        }
-        end -= 2;
-    }
-}
-
 /// The offset behind the unit that begins here: a reference, a backslash with its byte, or a byte.
 fn after_unit(line: &[u8], at: usize) -> usize {
-    let (open, close) = match (line[at], line.get(at + 1)) {
-        (b'$', Some(b'(')) => (b'(', b')'),
-        (b'$', Some(b'{')) => (b'{', b'}'),
-        (b'$' | b'\\', Some(_)) => return at + 2,
-        _ => return at + 1,
-    };
-    let (mut at, mut depth) = (at + 2, 1);
-    while at < line.len() && depth > 0 {
-        depth += (line[at] == open) as usize;
-        depth -= (line[at] == close) as usize;
-        at += 1;
+    match line[at] {
+        b'$' => after_reference(line, at),
+        b'\\' => line.len().min(at + 2),
+        _ => at + 1,
     }
-    at
 }
 
 pub fn class_of(line: &[u8]) -> Class {
@@ -94,7 +67,7 @@ pub fn class_of(line: &[u8]) -> Class {
 
 /// An assignment whose operator stands here. Its name is the last word before that.
 fn assign(line: &[u8], start: usize, operator: usize, operator_end: usize) -> Class {
-    let end = before_blanks(line, operator);
+    let end = trimmed(&line[..operator]);
     let name = line[start..end].iter().rposition(|it| is_blank(*it)).map_or(start, |it| start + it + 1);
     Class::Assign { name: name..end, operator_end }
 }
@@ -135,5 +108,9 @@ pub fn words_of_rule(line: &[u8]) -> impl Iterator<Item = Range<usize>> {
 
 /// Where a word stands with the blanks and folds before it.
 pub fn with_gap(line: &[u8], word: Range<usize>) -> Range<usize> {
-    before_gap(line, word.start)..word.end
+    let mut start = trimmed(&line[..word.start]);
+    while line[..start].ends_with(b"\\\n") {
+        start = trimmed(&line[..start - 2]);
+    }
+    start..word.end
 }

@@ -1,7 +1,7 @@
 //! The commands of a script, each as its fields.
 
+use crate::bytes::is_blank;
 use crate::document::Wanted;
-use crate::parts::is_blank;
 use std::borrow::Cow;
 
 pub type Command<'a> = Vec<Cow<'a, [u8]>>;
