@@ -48,13 +48,13 @@ pub struct Document {
 
 impl Document {
     pub fn open(text: Vec<u8>, wanted: Wanted) -> Document {
-        let sizes = [wanted.variables, wanted.targets || wanted.words].map(|it| it as usize * text.len() / 64);
+        let size_if = |is_wanted| text.len() / 64 * is_wanted as usize;
         let mut document = Document {
             text: Vec::new(),
             lines: Vec::with_capacity(text.len() / 32),
+            variables: Index::new(size_if(wanted.variables)),
+            rules: Index::new(size_if(wanted.targets || wanted.words)),
             wanted,
-            variables: Index::new(sizes[0]),
-            rules: Index::new(sizes[1]),
             done: Vec::new(),
             undone: Vec::new(),
         };

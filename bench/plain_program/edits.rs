@@ -1,8 +1,9 @@
-//! The edits, one after the other over the document. None means that an edit is refused.
+//! The edits, one after the other over the document. None means that one is refused.
 
 use crate::document::Document;
 use crate::parts::{Class, class_of, value_of, with_gap, words, words_of_rule};
 use crate::script::Command;
+use std::ops::Range;
 
 pub fn obey(document: &mut Document, command: &Command<'_>) -> Option<()> {
     let fields: Vec<&[u8]> = command.iter().map(|it| &it[..]).collect();
@@ -12,51 +13,34 @@ pub fn obey(document: &mut Document, command: &Command<'_>) -> Option<()> {
         _ => document.begin(),
     }
     match fields[..] {
-        [b"set", name, value] => set(document, name, value),
-        [b"append", name, value] => append(document, name, value),
-        [b"unset", name] => {
-            let line = variable(document, name)?;
-            document.take_out(line);
-            Some(())
-        }
+        [b"set", name, value] => give(document, name, value, false)?,
+        [b"append", name, value] => give(document, name, value, true)?,
+        [b"unset", name] => document.take_out(variable(document, name)?),
         [b"assign", ref place @ .., name, operator, value] => {
-            let line = place_of(document, place)?;
             let gap: &[u8] = if value.is_empty() { b"" } else { b" " };
-            document.put_in(line, &[name, b" ", operator, gap, value, b"\n"]);
-            Some(())
+            document.put_in(place_of(document, place)?, &[name, b" ", operator, gap, value, b"\n"]);
         }
         [b"rule", ref place @ .., targets, separator, prerequisites] => {
-            let line = place_of(document, place)?;
-            let mut parts = joined(targets);
-            parts.push(separator);
-            words(prerequisites, 0).for_each(|it| parts.extend([&b" "[..], &prerequisites[it]]));
-            parts.push(b"\n");
-            document.put_in(line, &parts);
-            Some(())
+            let parts = line_of_rule(targets, separator, prerequisites);
+            document.put_in(place_of(document, place)?, &parts);
         }
-        [b"unrule", target] => unrule(document, target),
-        [b"depend", target, word] => depend(document, target, word, false),
-        [b"depend-order", target, word] => depend(document, target, word, true),
-        [b"undepend", target, word] => undepend(document, target, word),
+        [b"unrule", target] => unrule(document, target)?,
+        [b"depend", target, word] => depend(document, target, word, false)?,
+        [b"depend-order", target, word] => depend(document, target, word, true)?,
+        [b"undepend", target, word] => undepend(document, target, word)?,
         [b"recipe", target, line] => {
             let header = rule(document, target)?;
             let last = recipe(document, header).last().unwrap_or(header);
             document.put_in(last, &[b"\t", line, b"\n"]);
-            Some(())
         }
         [b"recipe-set", target, number, line] => {
-            let old = recipe_line(document, target, number)?;
-            document.exchange(old, &[b"\t", line, b"\n"]);
-            Some(())
+            document.exchange(recipe_line(document, target, number)?, &[b"\t", line, b"\n"]);
         }
-        [b"recipe-del", target, number] => {
-            let old = recipe_line(document, target, number)?;
-            document.take_out(old);
-            Some(())
-        }
-        [b"rename", old, new] => rename(document, old, new),
-        _ => None,
+        [b"recipe-del", target, number] => document.take_out(recipe_line(document, target, number)?),
+        [b"rename", old, new] => rename(document, old, new)?,
+        _ => return None,
     }
+    Some(())
 }
 
 /// The only line of some.
@@ -87,6 +71,14 @@ fn rule(document: &Document, target: &[u8]) -> Option<u32> {
     only(document.rules.lines(target).filter(|it| is_rule_of(document, *it, target)))
 }
 
+/// A copy of this line, and the offset behind its separator.
+fn copied(document: &Document, number: u32) -> Option<(Vec<u8>, usize)> {
+    match class_of(document.line(number)) {
+        Class::Rule { separator_end, .. } => Some((document.line(number).to_vec(), separator_end)),
+        _ => None,
+    }
+}
+
 /// The line below which a place is.
 fn place_of(document: &Document, place: &[&[u8]]) -> Option<u32> {
     Some(match place {
@@ -98,35 +90,28 @@ fn place_of(document: &Document, place: &[&[u8]]) -> Option<u32> {
     })
 }
 
-/// The words of a field with a space between each two.
-fn joined(field: &[u8]) -> Vec<&[u8]> {
-    let mut parts: Vec<&[u8]> = words(field, 0).flat_map(|it| [&b" "[..], &field[it]]).collect();
-    parts.remove(0);
-    parts
-}
-
-/// A line with its value, which stands in three parts: what is before, the value, what is behind.
-fn parts_of(line: Vec<u8>) -> Option<[Vec<u8>; 3]> {
+/// Gives a variable another value, or one more word.
+fn give(document: &mut Document, name: &[u8], value: &[u8], is_more: bool) -> Option<()> {
+    let number = variable(document, name)?;
+    let line = document.line(number).to_vec();
     let Class::Assign { operator_end, .. } = class_of(&line) else {
         return None;
     };
-    let value = value_of(&line, operator_end);
-    Some([0..value.start, value.clone(), value.end..line.len()].map(|it| line[it].to_vec()))
-}
-
-fn set(document: &mut Document, name: &[u8], value: &[u8]) -> Option<()> {
-    let line = variable(document, name)?;
-    let [before, _, behind] = parts_of(document.line(line).to_vec())?;
-    document.exchange(line, &[&before, value, &behind]);
+    let old = value_of(&line, operator_end);
+    let start = if is_more { old.end } else { old.start };
+    let gap: &[u8] = if is_more && !old.is_empty() { b" " } else { b"" };
+    document.exchange(number, &[&line[..start], gap, value, &line[old.end..]]);
     Some(())
 }
 
-fn append(document: &mut Document, name: &[u8], value: &[u8]) -> Option<()> {
-    let line = variable(document, name)?;
-    let [before, old, behind] = parts_of(document.line(line).to_vec())?;
-    let gap: &[u8] = if old.is_empty() { b"" } else { b" " };
-    document.exchange(line, &[&before, &old, gap, value, &behind]);
-    Some(())
+/// The parts of the line of a new rule.
+fn line_of_rule<'a>(targets: &'a [u8], separator: &'a [u8], prerequisites: &'a [u8]) -> Vec<&'a [u8]> {
+    let after_space = |field: &'a [u8]| words(field, 0).flat_map(move |it| [&b" "[..], &field[it]]);
+    let mut parts: Vec<&[u8]> = after_space(targets).skip(1).collect();
+    parts.push(separator);
+    parts.extend(after_space(prerequisites));
+    parts.push(b"\n");
+    parts
 }
 
 /// The recipe lines of a rule.
@@ -135,9 +120,9 @@ fn recipe(document: &Document, header: u32) -> impl Iterator<Item = u32> {
     std::iter::from_fn(move || {
         loop {
             line = document.after(line);
-            match (line, (line > 0).then(|| class_of(document.line(line)))) {
-                (_, Some(Class::Recipe)) => return Some(line),
-                (_, Some(Class::Between)) => {}
+            match (line > 0).then(|| class_of(document.line(line))) {
+                Some(Class::Recipe) => return Some(line),
+                Some(Class::Between) => {}
                 _ => return None,
             }
         }
@@ -167,19 +152,15 @@ fn unrule(document: &mut Document, target: &[u8]) -> Option<()> {
 
 fn depend(document: &mut Document, target: &[u8], word: &[u8], is_order: bool) -> Option<()> {
     let number = rule(document, target)?;
-    let line = document.line(number).to_vec();
-    let Class::Rule { separator_end, .. } = class_of(&line) else {
-        return None;
-    };
-    let all: Vec<_> = words(&line, separator_end).collect();
+    let (line, from) = copied(document, number)?;
+    let all: Vec<_> = words(&line, from).collect();
     let bar = all.iter().position(|it| line[it.clone()] == *b"|");
     let (normal, order) = all.split_at(bar.unwrap_or(all.len()));
-    let list = if is_order { order } else { normal };
-    let before = if is_order { &all[..] } else { normal };
+    let (list, before) = if is_order { (order, &all[..]) } else { (normal, normal) };
     if list.iter().any(|it| line[it.clone()] == *word) {
         return None;
     }
-    let at = before.last().map_or(separator_end, |it| it.end);
+    let at = before.last().map_or(from, |it| it.end);
     let gap: &[u8] = if is_order && bar.is_none() { b" | " } else { b" " };
     let behind: &[u8] = if line.get(at) == Some(&b'|') { b" " } else { b"" };
     document.exchange(number, &[&line[..at], gap, word, behind, &line[at..]]);
@@ -187,20 +168,27 @@ fn depend(document: &mut Document, target: &[u8], word: &[u8], is_order: bool) -
     Some(())
 }
 
-fn undepend(document: &mut Document, target: &[u8], word: &[u8]) -> Option<()> {
-    let number = rule(document, target)?;
-    let line = document.line(number).to_vec();
-    let Class::Rule { separator_end, .. } = class_of(&line) else {
-        return None;
-    };
-    let (mut parts, mut at): (Vec<&[u8]>, _) = (Vec::new(), 0);
-    for it in words(&line, separator_end).filter(|it| line[it.clone()] == *word) {
-        let gone = with_gap(&line, it);
-        parts.push(&line[at..gone.start]);
-        at = gone.end;
+/// The parts of a line in which other bytes stand in some places, if there are any.
+fn replaced<'a>(
+    line: &'a [u8],
+    places: impl Iterator<Item = Range<usize>>,
+    new: &'a [u8],
+) -> Option<Vec<&'a [u8]>> {
+    let (mut parts, mut at) = (Vec::new(), 0);
+    for it in places {
+        parts.extend([&line[at..it.start], new]);
+        at = it.end;
     }
     parts.push(&line[at..]);
-    (at > 0).then(|| document.exchange(number, &parts))
+    (at > 0).then_some(parts)
+}
+
+fn undepend(document: &mut Document, target: &[u8], word: &[u8]) -> Option<()> {
+    let number = rule(document, target)?;
+    let (line, from) = copied(document, number)?;
+    let places = words(&line, from).filter(|it| line[it.clone()] == *word).map(|it| with_gap(&line, it));
+    document.exchange(number, &replaced(&line, places, b"")?);
+    Some(())
 }
 
 fn rename(document: &mut Document, old: &[u8], new: &[u8]) -> Option<()> {
@@ -208,18 +196,12 @@ fn rename(document: &mut Document, old: &[u8], new: &[u8]) -> Option<()> {
     if !has_target(old) || has_target(new) {
         return None;
     }
-    let mut lines: Vec<u32> = document.rules.lines(old).filter(|it| document.is_in(*it)).collect();
-    lines.sort_unstable();
-    lines.dedup();
+    let lines: Vec<u32> = document.rules.lines(old).filter(|it| document.is_in(*it)).collect();
     for number in lines {
         let line = document.line(number).to_vec();
-        let (mut parts, mut at): (Vec<&[u8]>, _) = (Vec::new(), 0);
-        for it in words_of_rule(&line).filter(|it| line[it.clone()] == *old) {
-            parts.extend([&line[at..it.start], new]);
-            at = it.end;
-        }
-        parts.push(&line[at..]);
-        if at > 0 {
+        let places = words_of_rule(&line).filter(|it| line[it.clone()] == *old);
+        // a line that holds the word twice is noted twice, and has it no more when it comes again
+        if let Some(parts) = replaced(&line, places, new) {
             document.exchange(number, &parts);
             document.note_word(new, number);
         }

@@ -4,8 +4,14 @@ use crate::bytes::{after_reference, is_blank, trimmed};
 use std::ops::Range;
 
 pub enum Class {
-    Assign { name: Range<usize>, operator_end: usize },
-    Rule { targets: Range<usize>, separator_end: usize },
+    Assign {
+        name: Range<usize>,
+        operator_end: usize,
+    },
+    Rule {
+        targets: Range<usize>,
+        separator_end: usize,
+    },
     Recipe,
     /// A blank line or a comment.
     Between,
@@ -88,9 +94,10 @@ pub fn value_of(line: &[u8], operator_end: usize) -> Range<usize> {
 pub fn words(line: &[u8], from: usize) -> impl Iterator<Item = Range<usize>> {
     let mut at = from;
     std::iter::from_fn(move || {
+        let ends_word = |at| matches!(line[at], b' ' | b'\t' | b'\n' | b'#' | b';') || is_fold(line, at);
         let start = after_blanks(line, at);
         at = start;
-        while at < line.len() && !matches!(line[at], b' ' | b'\t' | b'\n' | b'#' | b';') && !is_fold(line, at) {
+        while at < line.len() && !ends_word(at) {
             at = after_unit(line, at);
         }
         (start < at).then_some(start..at)
