@@ -81,7 +81,7 @@ def many(kind, count, size):
 
     What it has to put out is what the plain program puts into the file that is wanted.
     """
-    commands = DATA / f"{count}-{kind.replace(' ', '-')}-{size}"
+    commands = DATA / f"many-{kind.replace(' ', '-')}-{count}-{size}"
     text, made_by = text_of("pairs", size), BENCH / "make_many.py"
     if not is_made(commands, text, made_by):
         subprocess.run([made_by, kind, str(count), text, commands], check=True)
