@@ -22,6 +22,8 @@ text { font: 14px sans-serif; fill: #1f2328 }
 .s1 { stroke: #b04a00 } .f1 { fill: #b04a00 }
 .s2 { stroke: #0b5cad } .f2 { fill: #0b5cad }
 .s3 { stroke: #00704f } .f3 { fill: #00704f }
+.s4 { stroke: #8a2b8f } .f4 { fill: #8a2b8f }
+.beside { stroke-width: 1.5; stroke-dasharray: 2 4 }
 @media (prefers-color-scheme: dark) {
 text { fill: #f0f6fc }
 .ground { fill: #0d1117; stroke: #3d444d }
@@ -30,20 +32,28 @@ text { fill: #f0f6fc }
 .s1 { stroke: #ffa657 } .f1 { fill: #ffa657 }
 .s2 { stroke: #6cb6ff } .f2 { fill: #6cb6ff }
 .s3 { stroke: #56d364 } .f3 { fill: #56d364 }
+.s4 { stroke: #d2a8ff } .f4 { fill: #d2a8ff }
 }
 """
 
 
 class Panel(NamedTuple):
-    """A title, what the amounts are, how some of them are called, and at most four curves.
+    """A title, what the amounts are, how some of them are called, and at most five curves.
 
-    A curve has a name, and points of an amount and the seconds that it takes.
+    A curve has a name, and points of an amount and the seconds that it takes. Beside some curves
+    stands a dotted one of the same colour, which has points alone: they are given by the curve's name.
     """
 
     title: str
     amount: str
     ticks: dict
     curves: list
+    beside: dict = {}
+
+    def points(self):
+        """Those of all curves."""
+        of_curves = [*(points for _, points in self.curves), *self.beside.values()]
+        return [point for points in of_curves for point in points]
 
 
 def text(x, y, words, anchor="middle", kind="plain"):
@@ -58,7 +68,7 @@ def scale(least, greatest, start, end):
 
 def powers_of(panel):
     """The exponents of the powers of ten, in seconds, between which the times are."""
-    times = [log10(time) for _, points in panel.curves for _, time in points]
+    times = [log10(time) for _, time in panel.points()]
     least, greatest = floor(min(times)), ceil(max(times))
     return range(least, max(greatest, least + 1) + 1)
 
@@ -89,10 +99,14 @@ def axes(panel, powers, across, down):
         yield text(LEFT - 8, down(10**power) + 5, duration(power), "end")
 
 
+def line(number, places, kind=""):
+    points = " ".join(f"{x:.1f},{y:.1f}" for x, y in places)
+    return f'<polyline class="line s{number}{kind}" points="{points}"/>'
+
+
 def drawn(number, places):
     """The line and the dots of a curve."""
-    line = " ".join(f"{x:.1f},{y:.1f}" for x, y in places)
-    yield f'<polyline class="line s{number}" points="{line}"/>'
+    yield line(number, places)
     for x, y in places:
         yield f'<circle class="f{number}" cx="{x:.1f}" cy="{y:.1f}" r="3.5"/>'
 
@@ -103,9 +117,15 @@ def inside(panel):
     across = scale(min(panel.ticks), max(panel.ticks), LEFT + 12, RIGHT - 12)
     down = scale(10.0 ** powers[0], 10.0 ** powers[-1], BOTTOM, TOP)
     yield from axes(panel, powers, across, down)
+
+    def places_of(points):
+        return [(across(amount), down(time)) for amount, time in points]
+
     ends = []
     for number, (name, points) in enumerate(panel.curves):
-        places = [(across(amount), down(time)) for amount, time in points]
+        places = places_of(points)
+        if name in panel.beside:
+            yield line(number, places_of(panel.beside[name]), " beside")
         yield from drawn(number, places)
         ends.append((places[-1][1], number, name))
     ends.sort()
@@ -113,15 +133,16 @@ def inside(panel):
         yield text(RIGHT + 8, y + 5, name, "start", f"f{number}")
 
 
-def picture(title, panels):
-    """The lines of the SVG."""
-    width = WIDTH * len(panels)
-    size = f'width="{width}" height="{HEIGHT}" viewBox="0 0 {width} {HEIGHT}"'
+def picture(title, panels, columns=2):
+    """The lines of the SVG, with so many panels side by side."""
+    width, height = WIDTH * columns, HEIGHT * ceil(len(panels) / columns)
+    size = f'width="{width}" height="{height}" viewBox="0 0 {width} {height}"'
     yield f'<svg xmlns="http://www.w3.org/2000/svg" {size} role="img">'
     yield f"<title>{title}</title><style>{STYLE}</style>"
-    yield f'<rect class="ground" x="1" y="1" width="{width - 2}" height="{HEIGHT - 2}" rx="8"/>'
+    yield f'<rect class="ground" x="1" y="1" width="{width - 2}" height="{height - 2}" rx="8"/>'
     for number, panel in enumerate(panels):
-        yield f'<g transform="translate({number * WIDTH})">'
+        below, right = divmod(number, columns)
+        yield f'<g transform="translate({right * WIDTH} {below * HEIGHT})">'
         yield from inside(panel)
         yield "</g>"
     yield "</svg>"

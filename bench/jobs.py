@@ -76,6 +76,18 @@ def rename(size):
     return edit("rename", "makefile", size, commands, of_sed)
 
 
+def many(kind, count, size):
+    """A script of commands of a kind, whose names stand all over a makefile of pairs.
+
+    What it has to put out is what the plain program puts into the file that is wanted.
+    """
+    commands = DATA / f"many-{kind.replace(' ', '-')}-{count}-{size}"
+    text, made_by = text_of("pairs", size), BENCH / "make_many.py"
+    if not is_made(commands, text, made_by):
+        subprocess.run([made_by, kind, str(count), text, commands], check=True)
+    return Job(f"{count:,} {kind}", "pairs", size, ["edit", commands], DATA / "out-of-plain")
+
+
 def query(name, size):
     """A query over a makefile. What it has to print takes a minute to make, and stays in bench/data."""
     text, made_by = text_of("makefile", size), BENCH / "make_answers.py"
@@ -85,12 +97,14 @@ def query(name, size):
     return Job(name, "makefile", size, [name], wanted)
 
 
-def checked(program, job):
+def checked(program, job, bound=None):
     """What a job costs whose output is compared with the one that has to come, and goes into a file.
 
-    Ends the bench where it is another.
+    Ends the bench where it is another. Where the bound ends the job (cost), nothing is compared.
     """
-    used, wanted = cost(job.command(program), OUT_OF_MKEDIT), job.wanted
+    used, wanted = cost(job.command(program), OUT_OF_MKEDIT, bound), job.wanted
+    if used is None:
+        return None
     if isinstance(wanted, list):
         cost([*wanted, job.text()], OUT_OF_SED)
         wanted = OUT_OF_SED

@@ -6,6 +6,8 @@
 makefile  what build systems hold: variables, lists over many folds, rules and recipes, comments,
           conditionals, defines and includes; some 40 bytes a line
 settings  variables, comments and blank lines alone
+pairs     a variable, and a rule with a recipe, over and over: more than 10,000 of each in a megabyte.
+          The object file that a rule makes is a target of this rule alone, and a prerequisite of some others
 blank     one variable and then empty lines
 line      one variable with one long value
 
@@ -45,7 +47,7 @@ REPEATED = {
     "words": b"a ",
     "blanks": b" ",
 }
-KINDS = ("makefile", "settings", "blank", "line", *REPEATED)
+KINDS = ("makefile", "settings", "pairs", "blank", "line", *REPEATED)
 COMMENT = "# How the {0} of {1} is built, and what {2} needs of it.\n"
 
 
@@ -55,6 +57,7 @@ class Writer:
     def __init__(self, seed):
         self.draw = random.Random(seed).random
         self.count = 0
+        self.objects = []
 
     def below(self, bound):
         return int(self.draw() * bound)
@@ -127,6 +130,22 @@ class Writer:
         parts += [self.goal, self.conditional, self.conditional, self.define, self.include]
         return self.pick(parts)() + ("\n" if self.below(3) == 0 else "")
 
+    def pair(self):
+        """A variable and a rule, each with a name of its own."""
+        self.count += 1
+        name, earlier = f"{self.pick(WORDS)}{self.count}", self.pick(self.objects or ["main.o"])
+        self.objects.append(f"{name}.o")
+        tail = " # see there" if self.below(8) == 0 else ""
+        fold = " \\\n " if self.below(8) == 0 else " "
+        order = " | build" if self.below(4) == 0 else ""
+        extra = "\t@echo $@\n" if self.below(3) == 0 else ""
+        gap = self.pick(["\n", "\n", "# and more\n"]) if self.below(4) == 0 else ""
+        return (
+            f"{name.upper()} {self.pick(OPERATORS)} {self.words(1, 3, FLAGS)}{tail}\n"
+            f"{name}.o: {name}.c{fold}{self.pick(WORDS)}.h {earlier}{order}\n"
+            f"\t$(CC) -c -o $@ $<\n{extra}{gap}"
+        )
+
     def settings(self):
         return self.pick([self.setting, self.setting, self.setting, self.comment, lambda: "\n"])()
 
@@ -147,9 +166,9 @@ def texts(kind, seed, size):
     if kind == "blank":
         yield b"\n" * left
         return
-    part = writer.block if kind == "makefile" else writer.settings
+    parts = {"makefile": writer.block, "settings": writer.settings, "pairs": writer.pair}
     while True:
-        piece = part().encode()
+        piece = parts[kind]().encode()
         if len(piece) >= left:
             break
         left -= len(piece)

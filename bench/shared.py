@@ -1,6 +1,9 @@
 """What the benches share: the texts, which they make where they are not there yet, and the cost of a command."""
 
 import os
+import resource
+import shutil
+import signal
 import statistics
 import subprocess
 import time
@@ -17,6 +20,10 @@ ENVIRONMENT = {**os.environ, "LC_ALL": "C"}
 SED = ["sed", "s/^CC = .*/CC = clang/"]
 # How many seconds each round may wait until the machine is quiet: PATIENCE=60 bench/aims
 PATIENCE = float(os.environ.get("PATIENCE", "0"))
+
+
+# A static program starts sooner.
+RUSTC = "rustc -O -C codegen-units=1 -C panic=abort -C target-feature=+crt-static --edition 2024".split()
 
 
 def is_made(path, *sources):
@@ -39,20 +46,37 @@ def text_of(kind, size):
     return path
 
 
-def cost(words, out=os.devnull):
+def built(name):
+    """The program of the folder NAME_program, which rustc builds where a source of such a folder is younger."""
+    program = DATA / name
+    if not shutil.which("rustc"):
+        raise SystemExit(f"{name}: there is no rustc")
+    if not is_made(program, Path(__file__), *BENCH.glob("*_program/*.rs")):
+        subprocess.run([*RUSTC, BENCH / f"{name}_program/main.rs", "-o", program], check=True)
+    return program
+
+
+def cost(words, out=os.devnull, bound=None):
     """Runs a command, and returns its processor time in seconds and its peak of memory in bytes.
 
     What it puts out goes into the file `out`. The kernel counts into the peak what this process had
     resident when it started the command, some 10 MB, so the peak is only told of the large texts.
+
+    A command that takes the processor for so many seconds as the bound is killed, and costs None.
     """
     flags = os.O_WRONLY | os.O_CREAT | os.O_TRUNC
     to_out = [(os.POSIX_SPAWN_OPEN, 1, str(out), flags, 0o666)]
     words = [str(it) for it in words]
     pid = os.posix_spawnp(words[0], words, ENVIRONMENT, file_actions=to_out)
+    if bound:
+        resource.prlimit(pid, resource.RLIMIT_CPU, (bound, bound))
     _, status, used = os.wait4(pid, 0)
+    seconds = used.ru_utime + used.ru_stime
+    if bound and status == signal.SIGKILL and seconds > bound - 1:
+        return None
     if status:
         raise SystemExit(f"{' '.join(words)} ended with the wait status {status}")
-    return used.ru_utime + used.ru_stime, used.ru_maxrss * 1024
+    return seconds, used.ru_maxrss * 1024
 
 
 class Pace:

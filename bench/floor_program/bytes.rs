@@ -1,4 +1,4 @@
-//! Blanks, references, words and numbers.
+//! Blanks, references, words, hashes and numbers.
 
 use crate::lines::find;
 
@@ -64,6 +64,21 @@ impl<'a> Iterator for Words<'a> {
         self.at = at;
         (start < at).then(|| (start, &self.text[start..at]))
     }
+}
+
+pub fn hash(name: &[u8]) -> u32 {
+    let mut hash = name.len() as u64;
+    let mut parts = name.chunks_exact(8);
+    for part in &mut parts {
+        hash = mixed(hash, u64::from_le_bytes(part.try_into().unwrap()));
+    }
+    let mut last = [0; 8];
+    last[..parts.remainder().len()].copy_from_slice(parts.remainder());
+    (mixed(hash, u64::from_le_bytes(last)) >> 32) as u32
+}
+
+fn mixed(hash: u64, part: u64) -> u64 {
+    (hash.rotate_left(5) ^ part).wrapping_mul(0x517c_c1b7_2722_0a95)
 }
 
 /// The digits of a number.

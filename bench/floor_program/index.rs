@@ -1,5 +1,6 @@
 //! Where the assignments stand, by their names: made by one walk over the lines, and kept over edits.
 
+use crate::bytes::hash;
 use crate::class::Class;
 use crate::tree::{Line, Tree};
 
@@ -14,21 +15,6 @@ pub struct Index {
     /// The number of the last entry of each bucket, from 1.
     buckets: Vec<u32>,
     entries: Vec<Entry>,
-}
-
-fn hash(name: &[u8]) -> u32 {
-    let mut hash = name.len() as u64;
-    let mut parts = name.chunks_exact(8);
-    for part in &mut parts {
-        hash = mixed(hash, u64::from_le_bytes(part.try_into().unwrap()));
-    }
-    let mut last = [0; 8];
-    last[..parts.remainder().len()].copy_from_slice(parts.remainder());
-    (mixed(hash, u64::from_le_bytes(last)) >> 32) as u32
-}
-
-fn mixed(hash: u64, part: u64) -> u64 {
-    (hash.rotate_left(5) ^ part).wrapping_mul(0x517c_c1b7_2722_0a95)
 }
 
 /// The name of the variable that a line assigns.

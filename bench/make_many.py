@@ -1,0 +1,81 @@
+#!/usr/bin/env python3
+"""Writes a script of COUNT commands of a kind for a makefile of the kind `pairs`.
+
+    make_many.py KIND COUNT MAKEFILE SCRIPT
+
+KIND is the edit, with its place where it has one, or `mixture`. Each edit has a name of its own: one
+variable, or one rule, of each of so many equal parts of the makefile, in a random order. Each is
+accepted. In the mixture eight of ten commands are edits of random kinds, and somewhere among them an
+`undo` and a `redo` follow each other. The same arguments give the same script.
+"""
+
+import random
+import re
+import sys
+from pathlib import Path
+
+MIXTURE = "mixture"
+# A variable and its rule, with the header file that the rule needs.
+PAIR = re.compile(r"(?m)^([A-Z]+\d+) .*\n([a-z]+\d+\.o): \S+ (?:\\\n )?(\S+\.h) ")
+COMMANDS = {
+    "set": "set {variable} value",
+    "append": "append {variable} -DNEW={number}",
+    "unset": "unset {variable}",
+    "assign bottom": "assign bottom NEW_{number} = value",
+    "assign after-var": "assign after-var {variable} NEW_{number} := value",
+    "rule before-rule": 'rule before-rule {target} new{number} : "{target} new.h"',
+    "unrule": "unrule {target}",
+    "depend": "depend {target} new{number}.h",
+    "undepend": "undepend {target} {header}",
+    "recipe": 'recipe {target} "@echo {number}"',
+    "recipe-set": 'recipe-set {target} 1 "$(CC) -DNEW={number} -c $<"',
+    "recipe-del": "recipe-del {target} 1",
+    "rename": "rename {target} new/{number}.o",
+}
+# How many edits stand in so many commands of a mixture.
+EDITS, TURN = 8, 10
+
+
+class Script:
+    """Draws the commands, by random() alone, which no version of Python changes."""
+
+    def __init__(self, seed):
+        self.draw = random.Random(seed).random
+
+    def pick(self, words):
+        return words[int(self.draw() * len(words))]
+
+    def pairs(self, makefile, count):
+        """What so many commands name, from all over the makefile."""
+        found = PAIR.findall(makefile)
+        if len(found) < count:
+            sys.exit(f"make_many.py: the makefile has only {len(found)} pairs")
+        chosen = [found[(it + 1) * len(found) // count - 1] for it in range(count)]
+        chosen.sort(key=lambda _: self.draw())
+        for number, (variable, target, header) in enumerate(chosen):
+            yield {"number": number, "variable": variable, "target": target, "header": header}
+
+    def edits(self, makefile, kind, count):
+        """So many commands of a kind, or of kinds that are drawn."""
+        for pair in self.pairs(makefile, count):
+            command = self.pick([*COMMANDS.values()]) if kind == MIXTURE else COMMANDS[kind]
+            yield command.format(**pair)
+
+    def mixture(self, makefile, count):
+        edits = [*self.edits(makefile, MIXTURE, count * EDITS // TURN)]
+        for start in range(0, len(edits), EDITS):
+            turn = edits[start : start + EDITS]
+            at = 1 + int(self.draw() * len(turn))
+            yield from (*turn[:at], "undo", "redo", *turn[at:])
+
+
+def main():
+    kind, count, makefile, path = sys.argv[1], int(sys.argv[2]), *map(Path, sys.argv[3:])
+    script = Script(count)
+    draw = script.mixture if kind == MIXTURE else lambda *given: script.edits(given[0], kind, given[1])
+    lines = draw(makefile.read_text(encoding="ascii"), count)
+    path.write_text("".join(f"{it}\n" for it in lines), encoding="ascii")
+
+
+if __name__ == "__main__":
+    main()

@@ -1,0 +1,210 @@
+//! The edits, one after the other over the document. None means that one is refused.
+
+use crate::document::Document;
+use crate::parts::{Class, class_of, value_of, with_gap, words, words_of_rule};
+use crate::script::Command;
+use std::ops::Range;
+
+pub fn obey(document: &mut Document, command: &Command<'_>) -> Option<()> {
+    let fields: Vec<&[u8]> = command.iter().map(|it| &it[..]).collect();
+    match fields[..] {
+        [b"undo"] => return document.undo(),
+        [b"redo"] => return document.redo(),
+        _ => document.begin(),
+    }
+    match fields[..] {
+        [b"set", name, value] => give(document, name, value, false)?,
+        [b"append", name, value] => give(document, name, value, true)?,
+        [b"unset", name] => document.take_out(variable(document, name)?),
+        [b"assign", ref place @ .., name, operator, value] => {
+            let gap: &[u8] = if value.is_empty() { b"" } else { b" " };
+            document.put_in(place_of(document, place)?, &[name, b" ", operator, gap, value, b"\n"]);
+        }
+        [b"rule", ref place @ .., targets, separator, prerequisites] => {
+            let parts = line_of_rule(targets, separator, prerequisites);
+            document.put_in(place_of(document, place)?, &parts);
+        }
+        [b"unrule", target] => unrule(document, target)?,
+        [b"depend", target, word] => depend(document, target, word, false)?,
+        [b"depend-order", target, word] => depend(document, target, word, true)?,
+        [b"undepend", target, word] => undepend(document, target, word)?,
+        [b"recipe", target, line] => {
+            let header = rule(document, target)?;
+            let last = recipe(document, header).last().unwrap_or(header);
+            document.put_in(last, &[b"\t", line, b"\n"]);
+        }
+        [b"recipe-set", target, number, line] => {
+            document.exchange(recipe_line(document, target, number)?, &[b"\t", line, b"\n"]);
+        }
+        [b"recipe-del", target, number] => document.take_out(recipe_line(document, target, number)?),
+        [b"rename", old, new] => rename(document, old, new)?,
+        _ => return None,
+    }
+    Some(())
+}
+
+/// The only line of some.
+fn only(mut lines: impl Iterator<Item = u32>) -> Option<u32> {
+    let first = lines.next()?;
+    lines.next().is_none().then_some(first)
+}
+
+/// The line that assigns a variable.
+fn variable(document: &Document, name: &[u8]) -> Option<u32> {
+    only(document.variables.lines(name).filter(|number| {
+        let line = document.line(*number);
+        let is_named = matches!(class_of(line), Class::Assign { name: it, .. } if line[it.clone()] == *name);
+        is_named && document.is_in(*number)
+    }))
+}
+
+fn is_rule_of(document: &Document, number: u32, target: &[u8]) -> bool {
+    let line = document.line(number);
+    let Class::Rule { targets, .. } = class_of(line) else {
+        return false;
+    };
+    document.is_in(number) && words(&line[..targets.end], targets.start).any(|it| line[it] == *target)
+}
+
+/// The line of the rule of a target.
+fn rule(document: &Document, target: &[u8]) -> Option<u32> {
+    only(document.rules.lines(target).filter(|it| is_rule_of(document, *it, target)))
+}
+
+/// A copy of this line, and the offset behind its separator.
+fn copied(document: &Document, number: u32) -> Option<(Vec<u8>, usize)> {
+    match class_of(document.line(number)) {
+        Class::Rule { separator_end, .. } => Some((document.line(number).to_vec(), separator_end)),
+        _ => None,
+    }
+}
+
+/// The line below which a place is.
+fn place_of(document: &Document, place: &[&[u8]]) -> Option<u32> {
+    Some(match place {
+        [b"bottom"] => document.before(0),
+        [b"after-var", name] => variable(document, name)?,
+        [b"before-var", name] => document.before(variable(document, name)?),
+        [b"before-rule", target] => document.before(rule(document, target)?),
+        _ => return None,
+    })
+}
+
+/// Gives a variable another value, or one more word.
+fn give(document: &mut Document, name: &[u8], value: &[u8], is_more: bool) -> Option<()> {
+    let number = variable(document, name)?;
+    let line = document.line(number).to_vec();
+    let Class::Assign { operator_end, .. } = class_of(&line) else {
+        return None;
+    };
+    let old = value_of(&line, operator_end);
+    let start = if is_more { old.end } else { old.start };
+    let gap: &[u8] = if is_more && !old.is_empty() { b" " } else { b"" };
+    document.exchange(number, &[&line[..start], gap, value, &line[old.end..]]);
+    Some(())
+}
+
+/// The parts of the line of a new rule.
+fn line_of_rule<'a>(targets: &'a [u8], separator: &'a [u8], prerequisites: &'a [u8]) -> Vec<&'a [u8]> {
+    let after_space = |field: &'a [u8]| words(field, 0).flat_map(move |it| [&b" "[..], &field[it]]);
+    let mut parts: Vec<&[u8]> = after_space(targets).skip(1).collect();
+    parts.push(separator);
+    parts.extend(after_space(prerequisites));
+    parts.push(b"\n");
+    parts
+}
+
+/// The recipe lines of a rule.
+fn recipe(document: &Document, header: u32) -> impl Iterator<Item = u32> {
+    let mut line = header;
+    std::iter::from_fn(move || {
+        loop {
+            line = document.after(line);
+            match (line > 0).then(|| class_of(document.line(line))) {
+                Some(Class::Recipe) => return Some(line),
+                Some(Class::Between) => {}
+                _ => return None,
+            }
+        }
+    })
+}
+
+fn recipe_line(document: &Document, target: &[u8], number: &[u8]) -> Option<u32> {
+    let number: usize = str::from_utf8(number).ok()?.parse().ok()?;
+    recipe(document, rule(document, target)?).nth(number.checked_sub(1)?)
+}
+
+fn unrule(document: &mut Document, target: &[u8]) -> Option<()> {
+    let header = rule(document, target)?;
+    let Class::Rule { targets, .. } = class_of(document.line(header)) else {
+        return None;
+    };
+    let is_alone = words(&document.line(header)[..targets.end], targets.start).count() == 1;
+    let last = recipe(document, header).last().unwrap_or(header);
+    let mut line = header;
+    while is_alone && line != last {
+        let next = document.after(line);
+        document.take_out(line);
+        line = next;
+    }
+    is_alone.then(|| document.take_out(last))
+}
+
+fn depend(document: &mut Document, target: &[u8], word: &[u8], is_order: bool) -> Option<()> {
+    let number = rule(document, target)?;
+    let (line, from) = copied(document, number)?;
+    let all: Vec<_> = words(&line, from).collect();
+    let bar = all.iter().position(|it| line[it.clone()] == *b"|");
+    let (normal, order) = all.split_at(bar.unwrap_or(all.len()));
+    let (list, before) = if is_order { (order, &all[..]) } else { (normal, normal) };
+    if list.iter().any(|it| line[it.clone()] == *word) {
+        return None;
+    }
+    let at = before.last().map_or(from, |it| it.end);
+    let gap: &[u8] = if is_order && bar.is_none() { b" | " } else { b" " };
+    let behind: &[u8] = if line.get(at) == Some(&b'|') { b" " } else { b"" };
+    document.exchange(number, &[&line[..at], gap, word, behind, &line[at..]]);
+    document.note_word(word, number);
+    Some(())
+}
+
+/// The parts of a line in which other bytes stand in some places, if there are any.
+fn replaced<'a>(
+    line: &'a [u8],
+    places: impl Iterator<Item = Range<usize>>,
+    new: &'a [u8],
+) -> Option<Vec<&'a [u8]>> {
+    let (mut parts, mut at) = (Vec::new(), 0);
+    for it in places {
+        parts.extend([&line[at..it.start], new]);
+        at = it.end;
+    }
+    parts.push(&line[at..]);
+    (at > 0).then_some(parts)
+}
+
+fn undepend(document: &mut Document, target: &[u8], word: &[u8]) -> Option<()> {
+    let number = rule(document, target)?;
+    let (line, from) = copied(document, number)?;
+    let places = words(&line, from).filter(|it| line[it.clone()] == *word).map(|it| with_gap(&line, it));
+    document.exchange(number, &replaced(&line, places, b"")?);
+    Some(())
+}
+
+fn rename(document: &mut Document, old: &[u8], new: &[u8]) -> Option<()> {
+    let has_target = |it| document.rules.lines(it).any(|line| is_rule_of(document, line, it));
+    if !has_target(old) || has_target(new) {
+        return None;
+    }
+    let lines: Vec<u32> = document.rules.lines(old).filter(|it| document.is_in(*it)).collect();
+    for number in lines {
+        let line = document.line(number).to_vec();
+        let places = words_of_rule(&line).filter(|it| line[it.clone()] == *old);
+        // a line that holds the word twice is noted twice, and has it no more when it comes again
+        if let Some(parts) = replaced(&line, places, new) {
+            document.exchange(number, &parts);
+            document.note_word(new, number);
+        }
+    }
+    Some(())
+}
