@@ -61,7 +61,7 @@ fn flag_after(flag: RuleFlag, class: &Class) -> RuleFlag
     match class {
         Class::Header(_) | Class::Rough | Class::Recipe => RuleFlag::Rule,
         Class::Opaque => RuleFlag::Unknown,
-        Class::Blank | Class::Comment | Class::If | Class::Else | Class::Endif => flag,
+        _ if class.leaves_flag() => flag,
         _ => RuleFlag::Off,
     }
 }
