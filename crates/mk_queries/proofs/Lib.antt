@@ -1,5 +1,6 @@
 -- Lemmas by subject
-pub mod on_gathering
+pub mod SaidSoFar
+pub mod SpacingLemmas
 pub mod on_parts
 pub mod on_walks
 -- Definitions computed

@@ -1,6 +1,5 @@
 //! What the lines above tell of rules, where make passes some of them.
 ghost use Rattle.std.specs.Prelude.{◌≡◌, []};
-ghost use Rattle.mk_class.specs.Contexts.{flag_after_located};
 ghost use Rattle.mk_class.specs.RecipePrefix.{is_prefix_led};
 ghost use Rattle.mk_tree.specs.Trees.{line_view};
 ghost use Rattle.mk_queries.specs.Caveats.{is_empty_for_make, is_other_class, is_rule, seen_above};
@@ -41,28 +40,16 @@ impl Seen {
         let tells_outside = !is_other && context.conds() == 0;
         Seen {
             for_make: if tells_make {
-                flag_after(self.for_make, class)
+                self.for_make.after(class)
             } else {
                 self.for_make
             },
             outside: if tells_outside {
-                flag_after(self.outside, class)
+                self.outside.after(class)
             } else {
                 self.outside
             },
         }
-    }
-}
-
-// The flag after a line of this class.
-fn flag_after(flag: RuleFlag, class: &Class) -> RuleFlag
-    ensures { result ≡ flag_after_located flag class.now }
-{
-    match class {
-        Class::Header(_) | Class::Rough | Class::Recipe => RuleFlag::Rule,
-        Class::Opaque => RuleFlag::Unknown,
-        Class::Blank | Class::Comment | Class::If | Class::Else | Class::Endif => flag,
-        _ => RuleFlag::Off,
     }
 }
 

@@ -1,7 +1,6 @@
 //! The words of a text, with spaces.
-ghost use Rattle.std.specs.Prelude.{◌≡◌, ◌++◌, false, true, IfErr, OnOk};
-ghost use Rattle.mk_lines.specs.Device.{AppendsPrefix};
-ghost use Rattle.mk_tree.specs.Printing.{AppendsSoFar};
+ghost use Rattle.std.specs.Prelude.{◌≡◌, false};
+ghost use Rattle.mk_tree.specs.Printing.{Gathers};
 ghost use Rattle.mk_lines.specs.Words.{words_in};
 ghost use Rattle.mk_lines.specs.Spacing.{each_after_space, each_before_space, spaced_words};
 
@@ -21,13 +20,8 @@ pub(crate) fn put_each_after_space<W: ByteSink>(
     text: &[u8],
 ) -> Result<(), Fault>
     requires { W.failed out.old ≡ false }
-    ensures whole { OnOk result (AppendsSoFar (W.contents out.old) (W.contents out.new)
-        (gathered.old.items ++ each_after_space (words_in text.now)) gathered.new.items) }
-    ensures prefix { AppendsPrefix (W.contents out.old) (W.contents out.new)
-        (gathered.old.items ++ each_after_space (words_in text.now)) }
-    ensures works { OnOk result (W.failed out.new ≡ false) }
-    ensures fault { IfErr result (λ e. (e ≡ Fault.Write) × (W.failed out.new ≡ true)) }
-    ensures unflushed { W.flushes out.new ≡ W.flushes out.old }
+    ensures { Gathers W.contents W.failed W.flushes out.old out.new gathered.old.items
+        gathered.new.items result (each_after_space (words_in text.now)) }
 {
     let mut rest = text;
     'words: while let Some((word, after)) = split_first_word(rest) {
@@ -48,13 +42,8 @@ pub(crate) fn put_each_before_space<W: ByteSink>(
     text: &[u8],
 ) -> Result<(), Fault>
     requires { W.failed out.old ≡ false }
-    ensures whole { OnOk result (AppendsSoFar (W.contents out.old) (W.contents out.new)
-        (gathered.old.items ++ each_before_space (words_in text.now)) gathered.new.items) }
-    ensures prefix { AppendsPrefix (W.contents out.old) (W.contents out.new)
-        (gathered.old.items ++ each_before_space (words_in text.now)) }
-    ensures works { OnOk result (W.failed out.new ≡ false) }
-    ensures fault { IfErr result (λ e. (e ≡ Fault.Write) × (W.failed out.new ≡ true)) }
-    ensures unflushed { W.flushes out.new ≡ W.flushes out.old }
+    ensures { Gathers W.contents W.failed W.flushes out.old out.new gathered.old.items
+        gathered.new.items result (each_before_space (words_in text.now)) }
 {
     let mut rest = text;
     'words: while let Some((word, after)) = split_first_word(rest) {
@@ -75,13 +64,8 @@ pub(crate) fn put_spaced<W: ByteSink>(
     text: &[u8],
 ) -> Result<(), Fault>
     requires { W.failed out.old ≡ false }
-    ensures whole { OnOk result (AppendsSoFar (W.contents out.old) (W.contents out.new)
-        (gathered.old.items ++ spaced_words (words_in text.now)) gathered.new.items) }
-    ensures prefix { AppendsPrefix (W.contents out.old) (W.contents out.new)
-        (gathered.old.items ++ spaced_words (words_in text.now)) }
-    ensures works { OnOk result (W.failed out.new ≡ false) }
-    ensures fault { IfErr result (λ e. (e ≡ Fault.Write) × (W.failed out.new ≡ true)) }
-    ensures unflushed { W.flushes out.new ≡ W.flushes out.old }
+    ensures { Gathers W.contents W.failed W.flushes out.old out.new gathered.old.items
+        gathered.new.items result (spaced_words (words_in text.now)) }
 {
     let Some((word, after)) = split_first_word(text) else {
         return Ok(());

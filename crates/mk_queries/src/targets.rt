@@ -1,7 +1,6 @@
 //! The targets of a rule, or of an assignment for targets, with the separator after them.
-ghost use Rattle.std.specs.Prelude.{◌≡◌, ◌++◌, false, true, IfErr, OnOk};
-ghost use Rattle.mk_lines.specs.Device.{AppendsPrefix};
-ghost use Rattle.mk_tree.specs.Printing.{AppendsSoFar};
+ghost use Rattle.std.specs.Prelude.{◌≡◌, false};
+ghost use Rattle.mk_tree.specs.Printing.{Gathers};
 ghost use Rattle.mk_lines.specs.Words.{words_in};
 ghost use Rattle.mk_queries.specs.PartTexts.{targets_text};
 
@@ -24,13 +23,8 @@ pub(crate) fn put_targets<W: ByteSink>(
     separator: Separator,
 ) -> Result<(), Fault>
     requires { W.failed out.old ≡ false }
-    ensures whole { OnOk result (AppendsSoFar (W.contents out.old) (W.contents out.new)
-        (gathered.old.items ++ targets_text (words_in targets.now) separator) gathered.new.items) }
-    ensures prefix { AppendsPrefix (W.contents out.old) (W.contents out.new)
-        (gathered.old.items ++ targets_text (words_in targets.now) separator) }
-    ensures works { OnOk result (W.failed out.new ≡ false) }
-    ensures fault { IfErr result (λ e. (e ≡ Fault.Write) × (W.failed out.new ≡ true)) }
-    ensures unflushed { W.flushes out.new ≡ W.flushes out.old }
+    ensures { Gathers W.contents W.failed W.flushes out.old out.new gathered.old.items
+        gathered.new.items result (targets_text (words_in targets.now) separator) }
 {
     put_spaced(gathered, out, targets)?;
     put(gathered, out, separator.text().as_bytes())

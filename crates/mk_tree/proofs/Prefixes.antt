@@ -1,14 +1,16 @@
 -- A text that goes out in parts, the end of what there is of it so far being held back.
-use Rattle.std.proofs.Common.{◌≡◌, ℕ, List, [], ◌∷◌, ◌++◌, ◌+◌, ◌<◌, length, take, drop, sym, ap, ◌∙◌, subst, arith, append_assoc, append-nil}
-use Rattle.std.specs.Prelude.{Option}
+use Rattle.std.proofs.Common.{◌≡◌, ℕ, Bool, false, List, [], ◌∷◌, ◌++◌, ◌+◌, ◌<◌, length, take, drop, refl, sym, ap, ◌∙◌, subst, arith, append_assoc, append-nil}
+use Rattle.std.specs.Prelude.{Option, Result, Ok, Err, IsErrAnd}
 use Rattle.std.specs.Io.KnownBytes.{Appends}
 use Rattle.std.proofs.KnownBytes.{Appends-nil, Appends-trans}
 use Rattle.std.proofs.Math.Seq.{take-append_seam}
-use Rattle.mk_lines.specs.Device.{AppendsPrefix}
 use Rattle.std.proofs.lemmas.List.{take-take}
+use Rattle.std.proofs.lemmas.Result.{on_ok_weaker}
+use Rattle.mk_lines.specs.declared.fault.Fault.{Fault}
+use Rattle.mk_lines.specs.Device.{AppendsPrefix, Writes}
 use Rattle.mk_lines.proofs.PrefixLemmas.{AppendsPrefix-front, AppendsPrefix-more}
 use Rattle.mk_tree.specs.LocatedLines.{LocatedLine, located_text}
-use Rattle.mk_tree.specs.Printing.{AppendsSoFar}
+use Rattle.mk_tree.specs.Printing.{AppendsSoFar, Gathers}
 use Rattle.mk_tree.proofs.OriginLemmas.{located_text-cut, text-step}
 
 -- the whole is a prefix
@@ -17,71 +19,118 @@ AppendsPrefix-whole a b x out =
     let e : take (length x) x ≡ x = ap (λ z. take (length x) z) (sym (append-nil x)) ∙ take-append_seam x [] in
     (length x, omega arith, subst (Appends a b) (sym e) out)
 
--- nothing is out, and nothing is held back
-pub so_far-start : (a : Option (List ℕ)) (held : List ℕ) → held ≡ [] → AppendsSoFar a a [] held
-so_far-start a held e = ([], e, Appends-nil a)
+-- ---- texts that are put behind bytes that are held back
 
 -- more goes out, and other bytes are held back
-pub so_far-more : (a b c : Option (List ℕ)) (text held more held' : List ℕ) → AppendsSoFar a b text held → AppendsSoFar b c (held ++ more) held' → AppendsSoFar a c (text ++ more) held'
-so_far-more a b c text held more held' (w, e, out) (w', e', out') =
-    (w ++ w', append_assoc w w' held' ∙ (ap (λ z. w ++ z) e' ∙ (sym (append_assoc w held more) ∙ ap (λ z. z ++ more) e)), Appends-trans a b c w w' out out')
-
--- what was held back goes out
-pub so_far-whole : (a b c : Option (List ℕ)) (text held : List ℕ) → AppendsSoFar a b text held → Appends b c held → Appends a c text
-so_far-whole a b c text held (w, e, out) rest = subst (Appends a c) e (Appends-trans a b c w held out rest)
+so_far-more : (a b c : Option (List ℕ)) (held x held' y held'' : List ℕ) → AppendsSoFar a b (held ++ x) held' → AppendsSoFar b c (held' ++ y) held'' → AppendsSoFar a c (held ++ (x ++ y)) held''
+so_far-more a b c held x held' y held'' (w, e, out) (w', e', out') =
+    (w ++ w', append_assoc w w' held'' ∙ (ap (λ z. w ++ z) e' ∙ (sym (append_assoc w held' y) ∙ (ap (λ z. z ++ y) e ∙ append_assoc held x y))), Appends-trans a b c w w' out out')
 
 -- a prefix of what was held back, and of what follows it, goes out
-pub so_far-prefix : (a b c : Option (List ℕ)) (text held more : List ℕ) → AppendsSoFar a b text held → AppendsPrefix b c (held ++ more) → AppendsPrefix a c (text ++ more)
-so_far-prefix a b c text held more (w, e, out) rest =
-    subst (AppendsPrefix a c) (sym (append_assoc w held more) ∙ ap (λ z. z ++ more) e) (AppendsPrefix-more a b c w (held ++ more) out rest)
+so_far-prefix : (a b c : Option (List ℕ)) (held x held' y : List ℕ) → AppendsSoFar a b (held ++ x) held' → AppendsPrefix b c (held' ++ y) → AppendsPrefix a c (held ++ (x ++ y))
+so_far-prefix a b c held x held' y (w, e, out) rest =
+    subst (AppendsPrefix a c) (sym (append_assoc w held' y) ∙ (ap (λ z. z ++ y) e ∙ append_assoc held x y)) (AppendsPrefix-more a b c w (held' ++ y) out rest)
 
--- a prefix of what was held back goes out
-pub so_far-end : (a b c : Option (List ℕ)) (text held : List ℕ) → AppendsSoFar a b text held → AppendsPrefix b c held → AppendsPrefix a c text
-so_far-end a b c text held so rest =
-    subst (AppendsPrefix a c) (append-nil text) (so_far-prefix a b c text held [] so (subst (AppendsPrefix b c) (sym (append-nil held)) rest))
+-- no text is put, and the bytes that are held back stay
+pub gathers-nothing : {S A : Type 0} {contents : S → Option (List ℕ)} {failed : S → Bool} {flushes : S → Option ℕ} {sink : S} {a : A} {held held' x : List ℕ} → failed sink ≡ false → held' ≡ held → x ≡ []
+    → Gathers contents failed flushes sink sink held held' (Ok a) x
+gathers-nothing {contents = contents} {sink = sink} {held = held} {held' = held'} {x = x} works kept none =
+    let all : held ++ x ≡ held = ap (λ z. held ++ z) none ∙ append-nil held in record {
+      whole = ([], kept ∙ sym all, Appends-nil (contents sink));
+      prefix = (0, omega arith, Appends-nil (contents sink));
+      works = works;
+      fault = tt;
+      unflushed = refl;
+    }
 
--- ---- bytes that find no room behind those that are held back
+-- a text was put, and then another
+pub gathers-then : {S A B : Type 0} {contents : S → Option (List ℕ)} {failed : S → Bool} {flushes : S → Option ℕ} {old between new : S} {a : A} {result : Result B Fault} {held held' held'' x y : List ℕ}
+    → Gathers contents failed flushes old between held held' (Ok a) x → Gathers contents failed flushes between new held' held'' result y → Gathers contents failed flushes old new held held'' result (x ++ y)
+gathers-then {contents = contents} {old = old} {between = between} {new = new} {result = result} {held = held} {held' = held'} {held'' = held''} {x = x} {y = y} first next = record {
+  whole = on_ok_weaker result (λ (h : AppendsSoFar (contents between) (contents new) (held' ++ y) held''). so_far-more (contents old) (contents between) (contents new) held x held' y held'' first.whole h) next.whole;
+  prefix = so_far-prefix (contents old) (contents between) (contents new) held x held' y first.whole next.prefix;
+  works = next.works;
+  fault = next.fault;
+  unflushed = next.unflushed ∙ first.unflushed;
+}
 
--- what is held back goes out, and then the bytes
-pub gather-whole : (a b c : Option (List ℕ)) (held out more held' : List ℕ) → out ≡ held → held' ≡ [] → Appends a b out → Appends b c more → AppendsSoFar a c (held ++ more) held'
-gather-whole a b c held out more held' f e first then =
-    (held ++ more, ap (λ z. (held ++ more) ++ z) e ∙ append-nil (held ++ more), Appends-trans a b c held more (subst (Appends a b) f first) then)
+-- a text was not put, and so neither is what follows it
+pub gathers-front : {S A : Type 0} {contents : S → Option (List ℕ)} {failed : S → Bool} {flushes : S → Option ℕ} {old new : S} {e : Fault} {held held' x : List ℕ} (y : List ℕ)
+    → Gathers {A = A} contents failed flushes old new held held' (Err e) x → Gathers {A = A} contents failed flushes old new held held' (Err e) (x ++ y)
+gathers-front {contents = contents} {old = old} {new = new} {held = held} {x = x} y first = record {
+  whole = tt;
+  prefix = subst (AppendsPrefix (contents old) (contents new)) (append_assoc held x y) (AppendsPrefix-front (contents old) (contents new) (held ++ x) y first.prefix);
+  works = tt;
+  fault = first.fault;
+  unflushed = first.unflushed;
+}
 
--- what is held back goes out, and then a prefix of the bytes
-pub gather-prefix : (a b c : Option (List ℕ)) (held out more : List ℕ) → out ≡ held → Appends a b out → AppendsPrefix b c more → AppendsPrefix a c (held ++ more)
-gather-prefix a b c held out more f first then = AppendsPrefix-more a b c held more (subst (Appends a b) f first) then
+-- the fault is handed on
+pub gathers-fails : {S A B : Type 0} {contents : S → Option (List ℕ)} {failed : S → Bool} {flushes : S → Option ℕ} {old new : S} {e : Fault} {result : Result B Fault} {held held' x : List ℕ} → IsErrAnd result (λ d. d ≡ e)
+    → Gathers {A = A} contents failed flushes old new held held' (Err e) x → Gathers contents failed flushes old new held held' result x
+gathers-fails {result = Ok a} is first = absurd is
+gathers-fails {result = Err d} is first = record {
+  whole = tt;
+  prefix = first.prefix;
+  works = tt;
+  fault = (is ∙ first.fault.0, first.fault.1);
+  unflushed = first.unflushed;
+}
+
+-- another value is answered
+pub gathers-answers : {S A B : Type 0} {contents : S → Option (List ℕ)} {failed : S → Bool} {flushes : S → Option ℕ} {old new : S} {a : A} {b : B} {held held' x : List ℕ}
+    → Gathers contents failed flushes old new held held' (Ok a) x → Gathers contents failed flushes old new held held' (Ok b) x
+gathers-answers first = record { whole = first.whole; prefix = first.prefix; works = first.works; fault = tt; unflushed = first.unflushed }
+
+-- what is held back goes out, and then a text that finds no room behind it
+pub gathers-written : {S : Type 0} {contents : S → Option (List ℕ)} {failed : S → Bool} {flushes : S → Option ℕ} {old between new : S} {result : Result Unit Fault} {held held' out x : List ℕ} → out ≡ held → held' ≡ []
+    → Writes contents failed flushes old between (Ok tt) out → Writes contents failed flushes between new result x → Gathers contents failed flushes old new held held' result x
+gathers-written {contents = contents} {old = old} {between = between} {new = new} {result = result} {held = held} {held' = held'} {x = x} same none first next =
+    let out = subst (Appends (contents old) (contents between)) same first.whole in record {
+      whole = on_ok_weaker result (λ (h : Appends (contents between) (contents new) x).
+          (held ++ x, ap (λ z. (held ++ x) ++ z) none ∙ append-nil (held ++ x), Appends-trans (contents old) (contents between) (contents new) held x out h)) next.whole;
+      prefix = AppendsPrefix-more (contents old) (contents between) (contents new) held x out next.prefix;
+      works = next.works;
+      fault = next.fault;
+      unflushed = next.unflushed ∙ first.unflushed;
+    }
+
+-- ---- nothing was held back at the start
+
+-- what is held back at the end goes out
+pub writes-gathered : {S A : Type 0} {contents : S → Option (List ℕ)} {failed : S → Bool} {flushes : S → Option ℕ} {old between new : S} {a : A} {result : Result Unit Fault} {none held last x : List ℕ} → none ≡ [] → last ≡ held
+    → Gathers contents failed flushes old between none held (Ok a) x → Writes contents failed flushes between new result last → Writes contents failed flushes old new result x
+writes-gathered {contents = contents} {old = old} {between = between} {new = new} {result = result} {last = last} {x = x} start same first next =
+    let (w, e, out) = first.whole in
+    let all : w ++ last ≡ x = ap (λ z. w ++ z) same ∙ (e ∙ ap (λ z. z ++ x) start) in record {
+      whole = on_ok_weaker result (λ (h : Appends (contents between) (contents new) last). subst (Appends (contents old) (contents new)) all (Appends-trans (contents old) (contents between) (contents new) w last out h)) next.whole;
+      prefix = subst (AppendsPrefix (contents old) (contents new)) all (AppendsPrefix-more (contents old) (contents between) (contents new) w last out next.prefix);
+      works = next.works;
+      fault = next.fault;
+      unflushed = next.unflushed ∙ first.unflushed;
+    }
+
+-- a text was not put, and the fault is handed on
+pub writes-fails : {S A : Type 0} {contents : S → Option (List ℕ)} {failed : S → Bool} {flushes : S → Option ℕ} {old new : S} {e : Fault} {result : Result Unit Fault} {none held x : List ℕ} → none ≡ [] → IsErrAnd result (λ d. d ≡ e)
+    → Gathers {A = A} contents failed flushes old new none held (Err e) x → Writes contents failed flushes old new result x
+writes-fails {contents = contents} {old = old} {new = new} {result = Ok a} {x = x} start is first = absurd is
+writes-fails {contents = contents} {old = old} {new = new} {result = Err d} {x = x} start is first = record {
+  whole = tt;
+  prefix = subst (λ z. AppendsPrefix (contents old) (contents new) (z ++ x)) start first.prefix;
+  works = tt;
+  fault = (is ∙ first.fault.0, first.fault.1);
+  unflushed = first.unflushed;
+}
 
 -- ---- lines of a document, put one by one
 
--- nothing more goes out, and the same bytes are held back
-pub so_far-held : (a : Option (List ℕ)) (held : List ℕ) → AppendsSoFar a a (held ++ []) held
-so_far-held a held = ([], sym (append-nil held), Appends-nil a)
+-- one line more
+pub line-joined : (bytes : List ℕ) (ls ahead left : List LocatedLine) (x : LocatedLine) (n : ℕ) → drop n ls ≡ ahead → ahead ≡ x ∷ left → bytes ≡ x.bytes → located_text (take n ls) ++ bytes ≡ located_text (take (n + 1) ls)
+line-joined bytes ls ahead left x n at e f = ap (λ z. located_text (take n ls) ++ z) f ∙ sym (text-step ls ahead left x n at e)
 
--- what is out is a prefix
-pub so_far-out : (a b : Option (List ℕ)) (text held : List ℕ) → AppendsSoFar a b text held → AppendsPrefix a b text
-so_far-out a b text held (w, e, out) =
-    subst (AppendsPrefix a b) e (AppendsPrefix-front a b w held (AppendsPrefix-whole a b w out))
-
-line-joined : (start bytes : List ℕ) (ls ahead left : List LocatedLine) (x : LocatedLine) (n : ℕ) → drop n ls ≡ ahead → ahead ≡ x ∷ left → bytes ≡ x.bytes
-    → (start ++ located_text (take n ls)) ++ bytes ≡ start ++ located_text (take (n + 1) ls)
-line-joined start bytes ls ahead left x n at e f =
-    append_assoc start (located_text (take n ls)) bytes ∙ ap (λ z. start ++ z) (ap (λ z. located_text (take n ls) ++ z) f ∙ sym (text-step ls ahead left x n at e))
-
--- one line more behind others, all of which are out or held back
-pub so_far-line : (a b c : Option (List ℕ)) (start held bytes held' : List ℕ) (ls ahead left : List LocatedLine) (x : LocatedLine) (n : ℕ) → drop n ls ≡ ahead → ahead ≡ x ∷ left → bytes ≡ x.bytes
-    → AppendsSoFar a b (start ++ located_text (take n ls)) held → AppendsSoFar b c (held ++ bytes) held' → AppendsSoFar a c (start ++ located_text (take (n + 1) ls)) held'
-so_far-line a b c start held bytes held' ls ahead left x n at e f before more =
-    subst (λ z. AppendsSoFar a c z held') (line-joined start bytes ls ahead left x n at e f)
-    (so_far-more a b c (start ++ located_text (take n ls)) held bytes held' before more)
-
--- a prefix of one line more behind others goes out; further lines follow
-pub so_far-line_prefix : (a b c : Option (List ℕ)) (start held bytes : List ℕ) (ls ahead left : List LocatedLine) (x : LocatedLine) (n count : ℕ) → drop n ls ≡ ahead → ahead ≡ x ∷ left → bytes ≡ x.bytes → n < count
-    → AppendsSoFar a b (start ++ located_text (take n ls)) held → AppendsPrefix b c (held ++ bytes) → AppendsPrefix a c (start ++ located_text (take count ls))
-so_far-line_prefix a b c start held bytes ls ahead left x n count at e f few before more =
-    let here : AppendsPrefix a c (start ++ located_text (take (n + 1) ls)) =
-    subst (AppendsPrefix a c) (line-joined start bytes ls ahead left x n at e f) (so_far-prefix a b c (start ++ located_text (take n ls)) held bytes before more) in
+-- and further lines that follow it
+pub lines-joined : (bytes : List ℕ) (ls ahead left : List LocatedLine) (x : LocatedLine) (n count : ℕ) → drop n ls ≡ ahead → ahead ≡ x ∷ left → bytes ≡ x.bytes → n < count
+    → (located_text (take n ls) ++ bytes) ++ located_text (drop (n + 1) (take count ls)) ≡ located_text (take count ls)
+lines-joined bytes ls ahead left x n count at e f few =
     let rest = located_text (drop (n + 1) (take count ls)) in
-    let whole : (start ++ located_text (take (n + 1) ls)) ++ rest ≡ start ++ located_text (take count ls) =
-    append_assoc start (located_text (take (n + 1) ls)) rest
-    ∙ ap (λ z. start ++ z) (ap (λ z. located_text z ++ rest) (sym (take-take (n + 1) count ls (omega arith))) ∙ sym (located_text-cut (n + 1) (take count ls))) in
-    subst (AppendsPrefix a c) whole (AppendsPrefix-front a c (start ++ located_text (take (n + 1) ls)) rest here)
+    ap (λ z. z ++ rest) (line-joined bytes ls ahead left x n at e f) ∙ (ap (λ z. located_text z ++ rest) (sym (take-take (n + 1) count ls (omega arith))) ∙ sym (located_text-cut (n + 1) (take count ls)))

@@ -1,8 +1,7 @@
 //! Texts on their way to a sink. Short texts are held back, so that they go out together in few
 //! writes.
-ghost use Rattle.std.specs.Prelude.{◌≡◌, ◌++◌, false, true, IfErr, OnOk};
-ghost use Rattle.mk_lines.specs.Device.{AppendsPrefix};
-ghost use Rattle.mk_tree.specs.Printing.{AppendsSoFar};
+ghost use Rattle.std.specs.Prelude.{◌≡◌, false};
+ghost use Rattle.mk_tree.specs.Printing.{Gathers};
 
 use arrayvec::ArrayVec;
 use mk_lines::Fault;
@@ -19,13 +18,8 @@ pub type Gathered = ArrayVec<u8, 16_384>;
 /// back, and of the text after them, is out then.
 pub fn put<W: ByteSink>(gathered: &mut Gathered, out: &mut W, text: &[u8]) -> Result<(), Fault>
     requires { W.failed out.old ≡ false }
-    ensures whole { OnOk result (AppendsSoFar (W.contents out.old) (W.contents out.new)
-        (gathered.old.items ++ text.now) gathered.new.items) }
-    ensures prefix { AppendsPrefix (W.contents out.old) (W.contents out.new)
-        (gathered.old.items ++ text.now) }
-    ensures works { OnOk result (W.failed out.new ≡ false) }
-    ensures fault { IfErr result (λ e. (e ≡ Fault.Write) × (W.failed out.new ≡ true)) }
-    ensures unflushed { W.flushes out.new ≡ W.flushes out.old }
+    ensures { Gathers W.contents W.failed W.flushes out.old out.new gathered.old.items
+        gathered.new.items result text.now }
 {
     if gathered.try_extend_from_slice(text).is_ok() {
         return Ok(());
@@ -35,6 +29,5 @@ pub fn put<W: ByteSink>(gathered: &mut Gathered, out: &mut W, text: &[u8]) -> Re
     if gathered.try_extend_from_slice(text).is_ok() {
         return Ok(());
     }
-    write_all(out, text)?;
-    Ok(())
+    write_all(out, text)
 }

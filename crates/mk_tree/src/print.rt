@@ -1,10 +1,9 @@
 //! A document's text, gathered into few writes.
-ghost use Rattle.std.specs.Prelude.{◌≡◌, ◌+◌, ◌≤◌, ◌++◌, false, true, IfErr, OnOk, length, take, drop};
-ghost use Rattle.std.specs.Io.KnownBytes.{Appends};
-ghost use Rattle.mk_lines.specs.Device.{AppendsPrefix};
+ghost use Rattle.std.specs.Prelude.{◌≡◌, ◌+◌, ◌≤◌, ◌++◌, false, length, take, drop};
+ghost use Rattle.mk_lines.specs.Device.{Writes};
 ghost use Rattle.mk_tree.specs.LocatedLines.{located_text, size_of};
 ghost use Rattle.mk_tree.specs.Origins.{lines_between};
-ghost use Rattle.mk_tree.specs.Printing.{AppendsSoFar};
+ghost use Rattle.mk_tree.specs.Printing.{Gathers};
 
 use crate::document::Doc;
 use crate::gathering::{Gathered, put};
@@ -36,21 +35,15 @@ impl<A: Allocator> Doc<A> {
     /// [`Fault::Write`] if a write answered it or took no byte. A prefix of the text is out then.
     pub fn write_to<W: ByteSink>(&self, out: &mut W) -> Result<(), Fault>
         requires { W.failed out.old ≡ false }
-        ensures whole { OnOk result (Appends (W.contents out.old) (W.contents out.new)
-            (located_text self.now)) }
-        ensures prefix { AppendsPrefix (W.contents out.old) (W.contents out.new)
+        ensures { Writes W.contents W.failed W.flushes out.old out.new result
             (located_text self.now) }
-        ensures works { OnOk result (W.failed out.new ≡ false) }
-        ensures fault { IfErr result (λ e. (e ≡ Fault.Write) × (W.failed out.new ≡ true)) }
-        ensures unflushed { W.flushes out.new ≡ W.flushes out.old }
     {
         let parts = self.parts();
         let mut gathered = ArrayVec::new();
         put(&mut gathered, out, parts.front)?;
         self.put_lines(&mut gathered, out, parts.from, parts.count)?;
         put(&mut gathered, out, parts.end)?;
-        write_all(out, &gathered)?;
-        Ok(())
+        write_all(out, &gathered)
     }
 
     // Puts some lines behind the bytes that are held back: as many as `count` says, from an index
@@ -64,14 +57,8 @@ impl<A: Allocator> Doc<A> {
     ) -> Result<(), Fault>
         requires works { W.failed out.old ≡ false }
         requires in_range { from + count ≤ length self.now }
-        ensures whole { OnOk result (AppendsSoFar (W.contents out.old) (W.contents out.new)
-            (gathered.old.items ++ located_text (lines_between from count self.now))
-            gathered.new.items) }
-        ensures prefix { AppendsPrefix (W.contents out.old) (W.contents out.new)
-            (gathered.old.items ++ located_text (lines_between from count self.now)) }
-        ensures works { OnOk result (W.failed out.new ≡ false) }
-        ensures fault { IfErr result (λ e. (e ≡ Fault.Write) × (W.failed out.new ≡ true)) }
-        ensures unflushed { W.flushes out.new ≡ W.flushes out.old }
+        ensures { Gathers W.contents W.failed W.flushes out.old out.new gathered.old.items
+            gathered.new.items result (located_text (lines_between from count self.now)) }
     {
         let mut lines = self.lines_from(from);
         'lines: for at in 0..count {

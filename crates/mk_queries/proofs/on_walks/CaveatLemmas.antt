@@ -14,6 +14,7 @@ use Rattle.mk_queries.specs.declared.caveat.Caveat.{Caveat}
 use Rattle.mk_queries.specs.declared.seen.Seen.{Seen}
 use Rattle.mk_queries.specs.Caveats.{caveat_line, caveat_of, caveat_text, caveats_text, flag_by, lines_passing, seen_above, tells_make, tells_outside}
 use Rattle.mk_queries.specs.QueryWalks.{line_feeds, seen_after, caveats_ahead}
+use Rattle.mk_queries.proofs.SaidSoFar.{said-next}
 use Rattle.mk_queries.proofs.on_walks.SaidLemmas.{number_below, number-next}
 
 -- ---- the flags that one more line leaves
@@ -85,17 +86,13 @@ caveats-walk ls h = let t = located_text ls in ap (caveats_ahead 1 start (seen_a
 
 -- one more line, of which the code sees this context, this caveat and this number of line feeds
 pub caveats-next : (n m : ℕ) (c : Context) (k : Option Caveat) (s s' : Seen) (bytes : List ℕ) (x : LocatedLine) (ahead left : LinesInContext) → c ≡ ahead.context → ahead.lines ≡ x ∷ left.lines → left.context ≡ context_after_located ahead.context x.class
-    → bytes ≡ x.bytes → m ≡ line_feeds bytes → k ≡ caveat_of c s x → s' ≡ seen_after c s x
-    → caveat_text n k ++ caveats_ahead (n + m) left.context s' left.lines ≡ caveats_ahead n ahead.context s ahead.lines
-caveats-next n m c k s s' bytes x ahead left i e f b h q j =
+    → bytes ≡ x.bytes → m ≡ line_feeds bytes → k ≡ caveat_of c s x → s' ≡ seen_after c s x → (front whole : List ℕ)
+    → front ++ caveats_ahead n ahead.context s ahead.lines ≡ whole → (front ++ caveat_text n k) ++ caveats_ahead (n + m) left.context s' left.lines ≡ whole
+caveats-next n m c k s s' bytes x ahead left i e f b h q j front whole =
     let a = ahead.context in
     let said = caveat_text n (caveat_of a s x) in
-    ap (λ z. caveat_text n z ++ caveats_ahead (n + m) left.context s' left.lines) q
+    said-next front _ _ _ whole (ap (λ z. caveat_text n z ++ caveats_ahead (n + m) left.context s' left.lines) q
     ∙ (ap (λ z. caveat_text n (caveat_of c s x) ++ caveats_ahead (n + m) left.context z left.lines) j
     ∙ (ap (λ z. caveat_text n (caveat_of z s x) ++ caveats_ahead (n + m) left.context (seen_after z s x) left.lines) i
     ∙ (ap (λ k. said ++ caveats_ahead (n + k) left.context (seen_after a s x) left.lines) (h ∙ ap line_feeds b)
-    ∙ (ap (λ z. said ++ caveats_ahead (n + line_feeds x.bytes) z (seen_after a s x) left.lines) f ∙ ap (caveats_ahead n a s) (sym e)))))
-
--- no line is left
-pub caveats-end : (n : ℕ) (s : Seen) (front whole : List ℕ) (ahead : LinesInContext) → ahead.lines ≡ [] → front ++ caveats_ahead n ahead.context s ahead.lines ≡ whole → front ≡ whole
-caveats-end n s front whole ahead e h = sym (append-nil front) ∙ (ap (λ z. front ++ caveats_ahead n ahead.context s z) (sym e) ∙ h)
+    ∙ (ap (λ z. said ++ caveats_ahead (n + line_feeds x.bytes) z (seen_after a s x) left.lines) f ∙ ap (caveats_ahead n a s) (sym e))))))

@@ -29,6 +29,7 @@ use Rattle.mk_queries.specs.LocatedTexts.{header_located, count_located, rule_lo
 use Rattle.mk_queries.specs.Queries.{said_of_lines, rules_text}
 use Rattle.mk_queries.specs.QueryWalks.{line_feeds, rules_ahead}
 use Rattle.mk_queries.proofs.on_parts.HeaderPartLemmas.{header-seen, inline-counted}
+use Rattle.mk_queries.proofs.SaidSoFar.{said-next}
 use Rattle.mk_queries.proofs.on_walks.SaidLemmas.{number_below, number-next}
 
 -- ---- how many recipe lines there are
@@ -168,14 +169,14 @@ rules-walk ls h =
 
 -- one line more; the code sees this context of it and this number of line feeds
 pub rules-next : (n m : ℕ) (c : Context) (o o' : Option ℕ) (bytes : List ℕ) (x : LocatedLine) (ahead left : LinesInContext) → c ≡ ahead.context → ahead.lines ≡ x ∷ left.lines → left.context ≡ context_after_located ahead.context x.class
-    → bytes ≡ x.bytes → m ≡ line_feeds bytes → o' ≡ counted_after o x.class
-    → rule_located n c.conditionals o (text_of_line x) x.class ++ rules_ahead (n + m) left.context o' left.lines ≡ rules_ahead n ahead.context o ahead.lines
-rules-next n m c o o' bytes x ahead left i e f b h j =
+    → bytes ≡ x.bytes → m ≡ line_feeds bytes → o' ≡ counted_after o x.class → (front whole : List ℕ)
+    → front ++ rules_ahead n ahead.context o ahead.lines ≡ whole → (front ++ rule_located n c.conditionals o (text_of_line x) x.class) ++ rules_ahead (n + m) left.context o' left.lines ≡ whole
+rules-next n m c o o' bytes x ahead left i e f b h j front whole =
     let said = rule_located n ahead.context.conditionals o (text_of_line x) x.class in
-    ap (λ (z : Context). rule_located n z.conditionals o (text_of_line x) x.class ++ rules_ahead (n + m) left.context o' left.lines) i
+    said-next front _ _ _ whole (ap (λ (z : Context). rule_located n z.conditionals o (text_of_line x) x.class ++ rules_ahead (n + m) left.context o' left.lines) i
     ∙ (ap (λ z. said ++ rules_ahead (n + m) left.context z left.lines) j
     ∙ (ap (λ k. said ++ rules_ahead (n + k) left.context (counted_after o x.class) left.lines) (h ∙ ap line_feeds b)
-    ∙ (ap (λ c. said ++ rules_ahead (n + line_feeds x.bytes) c (counted_after o x.class) left.lines) f ∙ ap (rules_ahead n ahead.context o) (sym e))))
+    ∙ (ap (λ c. said ++ rules_ahead (n + line_feeds x.bytes) c (counted_after o x.class) left.lines) f ∙ ap (rules_ahead n ahead.context o) (sym e)))))
 
 -- no line is left: the count ends the line of the last header
 pub rules-end : (n : ℕ) (o : Option ℕ) (front whole : List ℕ) (ahead : LinesInContext) → ahead.lines ≡ [] → front ++ rules_ahead n ahead.context o ahead.lines ≡ whole → front ++ count_located o ≡ whole

@@ -16,6 +16,7 @@ use Rattle.mk_queries.specs.StandingLines.{line_number}
 use Rattle.mk_queries.specs.ItemLines.{unread_line}
 use Rattle.mk_queries.specs.Queries.{end_lines, check_text}
 use Rattle.mk_queries.specs.QueryWalks.{line_feeds, said_ahead, unread_located, unread_ahead}
+use Rattle.mk_queries.proofs.SaidSoFar.{said-next}
 use Rattle.mk_queries.proofs.on_walks.SaidLemmas.{said-document}
 
 unread-item : (n : ℕ) (k : Class Cell) (l : List ℕ) → unread_located n (located_class joined_byte k) ≡ concat (map (unread_line n) (items_of_line k l))
@@ -49,14 +50,10 @@ check-walk ls h =
 -- ---- the walk, line by line
 
 -- one line more; the code sees these bytes of it and this class
-pub unread-next : (n m : ℕ) (k : class.Class) (bytes : List ℕ) (x : LocatedLine) (ahead left : List LocatedLine) → ahead ≡ x ∷ left → k ≡ x.class → bytes ≡ x.bytes → m ≡ line_feeds bytes
-    → unread_located n k ++ unread_ahead (n + m) left ≡ unread_ahead n ahead
-unread-next n m k bytes x ahead left e f b h =
-    ap (λ z. unread_located n z ++ unread_ahead (n + m) left) f ∙ (ap (λ z. unread_located n x.class ++ unread_ahead (n + z) left) (h ∙ ap line_feeds b) ∙ ap (unread_ahead n) (sym e))
-
--- no line is left
-pub unread-end : (n : ℕ) (front whole : List ℕ) (ahead : List LocatedLine) → ahead ≡ [] → front ++ unread_ahead n ahead ≡ whole → front ≡ whole
-unread-end n front whole ahead e h = sym (append-nil front) ∙ (ap (λ z. front ++ unread_ahead n z) (sym e) ∙ h)
+pub unread-next : (n m : ℕ) (k : class.Class) (bytes : List ℕ) (x : LocatedLine) (ahead left : List LocatedLine) → ahead ≡ x ∷ left → k ≡ x.class → bytes ≡ x.bytes → m ≡ line_feeds bytes → (front whole : List ℕ)
+    → front ++ unread_ahead n ahead ≡ whole → (front ++ unread_located n k) ++ unread_ahead (n + m) left ≡ whole
+unread-next n m k bytes x ahead left e f b h front whole =
+    said-next front _ _ _ whole (ap (λ z. unread_located n z ++ unread_ahead (n + m) left) f ∙ (ap (λ z. unread_located n x.class ++ unread_ahead (n + z) left) (h ∙ ap line_feeds b) ∙ ap (unread_ahead n) (sym e)))
 
 -- the text of `check`, with what is open at the end
 pub check-end : (front : List ℕ) (end : Context) (ls : List LocatedLine) → IsFaithful ls → front ≡ unread_ahead 1 ls → end ≡ context_of (classed_lines (located_text ls)) → front ++ end_lines end ≡ check_text (located_text ls)

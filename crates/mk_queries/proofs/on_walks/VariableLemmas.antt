@@ -1,5 +1,5 @@
 -- What the walk of `vars` says is what is said of the assignments.
-use Rattle.std.proofs.Common.{◌≡◌, refl, sym, ap, ◌∙◌, subst, ℕ, ◌+◌, List, [], ◌∷◌, ◌++◌, append-nil}
+use Rattle.std.proofs.Common.{◌≡◌, refl, sym, ap, ◌∙◌, subst, ℕ, ◌+◌, List, [], ◌∷◌, ◌++◌}
 use Rattle.mk_lines.specs.Cells.{joined_byte}
 use Rattle.mk_class.specs.LocatedClasses.{located_class}
 use Rattle.mk_class.specs.ClassedLines.{ClassedLine, classed_lines}
@@ -14,6 +14,7 @@ use Rattle.mk_queries.specs.LocatedTexts.{IsClassedIn, variable_located}
 use Rattle.mk_queries.specs.Queries.{vars_text}
 use Rattle.mk_queries.specs.QueryWalks.{line_feeds, variables_ahead}
 use Rattle.mk_queries.proofs.on_parts.AssignmentPartLemmas.{variable-item}
+use Rattle.mk_queries.proofs.SaidSoFar.{said-next}
 use Rattle.mk_queries.proofs.on_walks.SaidLemmas.{said-document}
 
 -- each of some lines has its class in its context; the first line stands in this context
@@ -50,14 +51,10 @@ rest-classed ahead left c x e f i h =
     subst (λ z. AreClassedIn z left.lines) (sym i) s.1
 
 -- one line more; the code sees this context of it and this number of line feeds
-pub variables-next : (n m : ℕ) (c : Context) (bytes : List ℕ) (x : LocatedLine) (ahead left : LinesInContext) → c ≡ ahead.context → ahead.lines ≡ x ∷ left.lines → left.context ≡ context_after_located ahead.context x.class → bytes ≡ x.bytes → m ≡ line_feeds bytes
-    → variable_located n c.conditionals (text_of_line x) x.class ++ variables_ahead (n + m) left.context left.lines ≡ variables_ahead n ahead.context ahead.lines
-variables-next n m c bytes x ahead left i e f b h =
+pub variables-next : (n m : ℕ) (c : Context) (bytes : List ℕ) (x : LocatedLine) (ahead left : LinesInContext) → c ≡ ahead.context → ahead.lines ≡ x ∷ left.lines → left.context ≡ context_after_located ahead.context x.class → bytes ≡ x.bytes → m ≡ line_feeds bytes → (front whole : List ℕ)
+    → front ++ variables_ahead n ahead.context ahead.lines ≡ whole → (front ++ variable_located n c.conditionals (text_of_line x) x.class) ++ variables_ahead (n + m) left.context left.lines ≡ whole
+variables-next n m c bytes x ahead left i e f b h front whole =
     let said = variable_located n ahead.context.conditionals (text_of_line x) x.class in
-    ap (λ (z : Context). variable_located n z.conditionals (text_of_line x) x.class ++ variables_ahead (n + m) left.context left.lines) i
+    said-next front _ _ _ whole (ap (λ (z : Context). variable_located n z.conditionals (text_of_line x) x.class ++ variables_ahead (n + m) left.context left.lines) i
     ∙ (ap (λ k. said ++ variables_ahead (n + k) left.context left.lines) (h ∙ ap line_feeds b)
-    ∙ (ap (λ c. said ++ variables_ahead (n + line_feeds x.bytes) c left.lines) f ∙ ap (variables_ahead n ahead.context) (sym e)))
-
--- no line is left
-pub variables-end : (n : ℕ) (front whole : List ℕ) (ahead : LinesInContext) → ahead.lines ≡ [] → front ++ variables_ahead n ahead.context ahead.lines ≡ whole → front ≡ whole
-variables-end n front whole ahead e h = sym (append-nil front) ∙ (ap (λ z. front ++ variables_ahead n ahead.context z) (sym e) ∙ h)
+    ∙ (ap (λ c. said ++ variables_ahead (n + line_feeds x.bytes) c left.lines) f ∙ ap (variables_ahead n ahead.context) (sym e))))

@@ -1,10 +1,9 @@
 //! The query `caveats`: the lines that make may read otherwise.
-ghost use Rattle.std.specs.Prelude.{◌≡◌, ◌++◌, false, true, IfErr, OnOk};
-ghost use Rattle.std.specs.Io.KnownBytes.{Appends};
-ghost use Rattle.mk_lines.specs.Device.{AppendsPrefix};
+ghost use Rattle.std.specs.Prelude.{◌≡◌, false};
+ghost use Rattle.mk_lines.specs.Device.{Writes};
 ghost use Rattle.mk_tree.specs.Documents.{IsFaithful};
 ghost use Rattle.mk_tree.specs.LocatedLines.{located_text};
-ghost use Rattle.mk_tree.specs.Printing.{AppendsSoFar};
+ghost use Rattle.mk_tree.specs.Printing.{Gathers};
 ghost use Rattle.mk_queries.specs.Caveats.{caveat_text, caveats_text};
 
 use crate::caveat::{Caveat, caveat_of};
@@ -26,13 +25,8 @@ fn put_caveat<W: ByteSink>(
     caveat: Option<Caveat>,
 ) -> Result<(), Fault>
     requires { W.failed out.old ≡ false }
-    ensures whole { OnOk result (AppendsSoFar (W.contents out.old) (W.contents out.new)
-        (gathered.old.items ++ caveat_text number caveat) gathered.new.items) }
-    ensures prefix { AppendsPrefix (W.contents out.old) (W.contents out.new)
-        (gathered.old.items ++ caveat_text number caveat) }
-    ensures works { OnOk result (W.failed out.new ≡ false) }
-    ensures fault { IfErr result (λ e. (e ≡ Fault.Write) × (W.failed out.new ≡ true)) }
-    ensures unflushed { W.flushes out.new ≡ W.flushes out.old }
+    ensures { Gathers W.contents W.failed W.flushes out.old out.new gathered.old.items
+        gathered.new.items result (caveat_text number caveat) }
 {
     let Some(caveat) = caveat else {
         return Ok(());
@@ -65,16 +59,10 @@ fn put_caveat<W: ByteSink>(
 pub fn caveats<A: Allocator, W: ByteSink>(doc: &Doc<A>, out: &mut W) -> Result<(), Fault>
     requires faithful { IsFaithful doc.now }
     requires works { W.failed out.old ≡ false }
-    ensures whole { OnOk result (Appends (W.contents out.old) (W.contents out.new)
-        (caveats_text (located_text doc.now))) }
-    ensures prefix { AppendsPrefix (W.contents out.old) (W.contents out.new)
+    ensures { Writes W.contents W.failed W.flushes out.old out.new result
         (caveats_text (located_text doc.now)) }
-    ensures works { OnOk result (W.failed out.new ≡ false) }
-    ensures fault { IfErr result (λ e. (e ≡ Fault.Write) × (W.failed out.new ≡ true)) }
-    ensures unflushed { W.flushes out.new ≡ W.flushes out.old }
 {
-    // The contract of `size` says that the lines are within the limit, and so is each number.
-    let _size = doc.size();
+    let _size = doc.size(); // its contract bounds the text, and so each number here
     let mut gathered = Gathered::new();
     let mut number = 1;
     let mut seen = Seen::start();

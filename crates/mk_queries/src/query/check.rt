@@ -1,10 +1,9 @@
 //! The query `check`: the lines that are kept and not read inside, and what is open at the end.
-ghost use Rattle.std.specs.Prelude.{◌≡◌, ◌++◌, decimal, false, true, IfErr, OnOk};
-ghost use Rattle.std.specs.Io.KnownBytes.{Appends};
-ghost use Rattle.mk_lines.specs.Device.{AppendsPrefix};
+ghost use Rattle.std.specs.Prelude.{◌≡◌, ◌++◌, decimal, false};
+ghost use Rattle.mk_lines.specs.Device.{Writes};
 ghost use Rattle.mk_tree.specs.Documents.{IsFaithful};
 ghost use Rattle.mk_tree.specs.LocatedLines.{located_text};
-ghost use Rattle.mk_tree.specs.Printing.{AppendsSoFar};
+ghost use Rattle.mk_tree.specs.Printing.{Gathers};
 ghost use Rattle.mk_queries.specs.Queries.{check_text, end_lines, open_count_line};
 ghost use Rattle.mk_queries.specs.QueryWalks.{unread_located};
 
@@ -39,16 +38,10 @@ use std::alloc::Allocator;
 pub fn check<A: Allocator, W: ByteSink>(doc: &Doc<A>, out: &mut W) -> Result<(), Fault>
     requires faithful { IsFaithful doc.now }
     requires works { W.failed out.old ≡ false }
-    ensures whole { OnOk result (Appends (W.contents out.old) (W.contents out.new)
-        (check_text (located_text doc.now))) }
-    ensures prefix { AppendsPrefix (W.contents out.old) (W.contents out.new)
+    ensures { Writes W.contents W.failed W.flushes out.old out.new result
         (check_text (located_text doc.now)) }
-    ensures works { OnOk result (W.failed out.new ≡ false) }
-    ensures fault { IfErr result (λ e. (e ≡ Fault.Write) × (W.failed out.new ≡ true)) }
-    ensures unflushed { W.flushes out.new ≡ W.flushes out.old }
 {
-    // The contract of `size` bounds the number of lines, and so each number here.
-    let _size = doc.size();
+    let _size = doc.size(); // its contract bounds the text, and so each number here
     let mut gathered = Gathered::new();
     let mut number = 1;
     'lines: for line in doc.iter() {
@@ -67,13 +60,8 @@ fn put_unread<W: ByteSink>(
     class: &Class,
 ) -> Result<(), Fault>
     requires { W.failed out.old ≡ false }
-    ensures whole { OnOk result (AppendsSoFar (W.contents out.old) (W.contents out.new)
-        (gathered.old.items ++ unread_located number class.now) gathered.new.items) }
-    ensures prefix { AppendsPrefix (W.contents out.old) (W.contents out.new)
-        (gathered.old.items ++ unread_located number class.now) }
-    ensures works { OnOk result (W.failed out.new ≡ false) }
-    ensures fault { IfErr result (λ e. (e ≡ Fault.Write) × (W.failed out.new ≡ true)) }
-    ensures unflushed { W.flushes out.new ≡ W.flushes out.old }
+    ensures { Gathers W.contents W.failed W.flushes out.old out.new gathered.old.items
+        gathered.new.items result (unread_located number class.now) }
 {
     match class {
         Class::Rough => put_numbered(gathered, out, number, b": rough\n"),
@@ -90,13 +78,8 @@ fn put_numbered<W: ByteSink>(
     text: &[u8],
 ) -> Result<(), Fault>
     requires { W.failed out.old ≡ false }
-    ensures whole { OnOk result (AppendsSoFar (W.contents out.old) (W.contents out.new)
-        (gathered.old.items ++ (decimal number ++ text.now)) gathered.new.items) }
-    ensures prefix { AppendsPrefix (W.contents out.old) (W.contents out.new)
-        (gathered.old.items ++ (decimal number ++ text.now)) }
-    ensures works { OnOk result (W.failed out.new ≡ false) }
-    ensures fault { IfErr result (λ e. (e ≡ Fault.Write) × (W.failed out.new ≡ true)) }
-    ensures unflushed { W.flushes out.new ≡ W.flushes out.old }
+    ensures { Gathers W.contents W.failed W.flushes out.old out.new gathered.old.items
+        gathered.new.items result (decimal number ++ text.now) }
 {
     let mut digits = itoa::Buffer::new();
     let number = digits.format(number).as_bytes();
@@ -106,13 +89,8 @@ fn put_numbered<W: ByteSink>(
 // Puts what is open in the context after all lines behind the texts that are held back.
 fn put_end<W: ByteSink>(gathered: &mut Gathered, out: &mut W, end: Context) -> Result<(), Fault>
     requires { W.failed out.old ≡ false }
-    ensures whole { OnOk result (AppendsSoFar (W.contents out.old) (W.contents out.new)
-        (gathered.old.items ++ end_lines end) gathered.new.items) }
-    ensures prefix { AppendsPrefix (W.contents out.old) (W.contents out.new)
-        (gathered.old.items ++ end_lines end) }
-    ensures works { OnOk result (W.failed out.new ≡ false) }
-    ensures fault { IfErr result (λ e. (e ≡ Fault.Write) × (W.failed out.new ≡ true)) }
-    ensures unflushed { W.flushes out.new ≡ W.flushes out.old }
+    ensures { Gathers W.contents W.failed W.flushes out.old out.new gathered.old.items
+        gathered.new.items result (end_lines end) }
 {
     put_open(gathered, out, b"conditionals", u32::from(end.conds()))?;
     put_open(gathered, out, b"defines", end.defines())
@@ -127,13 +105,8 @@ fn put_open<W: ByteSink>(
     count: u32,
 ) -> Result<(), Fault>
     requires { W.failed out.old ≡ false }
-    ensures whole { OnOk result (AppendsSoFar (W.contents out.old) (W.contents out.new)
-        (gathered.old.items ++ open_count_line kind.now count) gathered.new.items) }
-    ensures prefix { AppendsPrefix (W.contents out.old) (W.contents out.new)
-        (gathered.old.items ++ open_count_line kind.now count) }
-    ensures works { OnOk result (W.failed out.new ≡ false) }
-    ensures fault { IfErr result (λ e. (e ≡ Fault.Write) × (W.failed out.new ≡ true)) }
-    ensures unflushed { W.flushes out.new ≡ W.flushes out.old }
+    ensures { Gathers W.contents W.failed W.flushes out.old out.new gathered.old.items
+        gathered.new.items result (open_count_line kind.now count) }
 {
     if count == 0 {
         return Ok(());

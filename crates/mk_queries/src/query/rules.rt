@@ -1,11 +1,10 @@
 //! The query `rules`: the headers of rules.
-ghost use Rattle.std.specs.Prelude.{◌≡◌, ◌+◌, ◌<◌, ◌≤◌, ◌^◌, ◌++◌, false, true, IfErr, IfOk, OnOk, length};
-ghost use Rattle.std.specs.Io.KnownBytes.{Appends};
-ghost use Rattle.mk_lines.specs.Device.{AppendsPrefix};
+ghost use Rattle.std.specs.Prelude.{◌≡◌, ◌+◌, ◌<◌, ◌^◌, false, IfOk, length};
+ghost use Rattle.mk_lines.specs.Device.{Writes};
 ghost use Rattle.mk_lines.specs.Ranges.{text_at};
 ghost use Rattle.mk_tree.specs.Documents.{IsFaithful};
 ghost use Rattle.mk_tree.specs.LocatedLines.{located_text, text_of_line};
-ghost use Rattle.mk_tree.specs.Printing.{AppendsSoFar};
+ghost use Rattle.mk_tree.specs.Printing.{Gathers};
 ghost use Rattle.mk_tree.specs.Trees.{line_view};
 ghost use Rattle.mk_queries.specs.PartTexts.{order_only_text, pattern_text};
 ghost use Rattle.mk_queries.specs.LocatedTexts.{IsClassedIn, IsHeaderWithin, count_of, count_located, counted_after, header_located, one_more, pattern_span, rule_located};
@@ -49,16 +48,10 @@ use std::alloc::Allocator;
 pub fn rules<A: Allocator, W: ByteSink>(doc: &Doc<A>, out: &mut W) -> Result<(), Fault>
     requires faithful { IsFaithful doc.now }
     requires works { W.failed out.old ≡ false }
-    ensures whole { OnOk result (Appends (W.contents out.old) (W.contents out.new)
-        (rules_text (located_text doc.now))) }
-    ensures prefix { AppendsPrefix (W.contents out.old) (W.contents out.new)
+    ensures { Writes W.contents W.failed W.flushes out.old out.new result
         (rules_text (located_text doc.now)) }
-    ensures works { OnOk result (W.failed out.new ≡ false) }
-    ensures fault { IfErr result (λ e. (e ≡ Fault.Write) × (W.failed out.new ≡ true)) }
-    ensures unflushed { W.flushes out.new ≡ W.flushes out.old }
 {
-    // The contract of `size` bounds the number of lines, and so the numbers here.
-    let _size = doc.size();
+    let _size = doc.size(); // its contract bounds the text, and so each number here
     let mut gathered = Gathered::new();
     let mut number = 1;
     // How many recipe lines the last header has so far, if its line of text is not yet ended.
@@ -85,18 +78,11 @@ fn put_rule<A: Allocator, W: ByteSink>(
     requires works { W.failed out.old ≡ false }
     requires classed { IsClassedIn context (line_view line.now) }
     requires few { count_of counted < 2 ^ 32 }
-    ensures whole { OnOk result (AppendsSoFar (W.contents out.old) (W.contents out.new)
-        (gathered.old.items
-        ++ rule_located number context.conditionals counted (text_of_line (line_view line.now))
-        (line_view line.now).class) gathered.new.items) }
+    ensures writes { Gathers W.contents W.failed W.flushes out.old out.new gathered.old.items
+        gathered.new.items result (rule_located number context.conditionals counted
+        (text_of_line (line_view line.now)) (line_view line.now).class) }
     ensures counted { IfOk result (λ after.
         after ≡ counted_after counted (line_view line.now).class) }
-    ensures prefix { AppendsPrefix (W.contents out.old) (W.contents out.new) (gathered.old.items
-        ++ rule_located number context.conditionals counted (text_of_line (line_view line.now))
-        (line_view line.now).class) }
-    ensures works { OnOk result (W.failed out.new ≡ false) }
-    ensures fault { IfErr result (λ e. (e ≡ Fault.Write) × (W.failed out.new ≡ true)) }
-    ensures unflushed { W.flushes out.new ≡ W.flushes out.old }
 {
     match line.class() {
         Class::Header(header) => {
@@ -130,13 +116,8 @@ fn put_count<W: ByteSink>(
     counted: Option<usize>,
 ) -> Result<(), Fault>
     requires { W.failed out.old ≡ false }
-    ensures whole { OnOk result (AppendsSoFar (W.contents out.old) (W.contents out.new)
-        (gathered.old.items ++ count_located counted) gathered.new.items) }
-    ensures prefix { AppendsPrefix (W.contents out.old) (W.contents out.new)
-        (gathered.old.items ++ count_located counted) }
-    ensures works { OnOk result (W.failed out.new ≡ false) }
-    ensures fault { IfErr result (λ e. (e ≡ Fault.Write) × (W.failed out.new ≡ true)) }
-    ensures unflushed { W.flushes out.new ≡ W.flushes out.old }
+    ensures { Gathers W.contents W.failed W.flushes out.old out.new gathered.old.items
+        gathered.new.items result (count_located counted) }
 {
     let Some(count) = counted else {
         return Ok(());
@@ -155,13 +136,8 @@ fn put_header<W: ByteSink>(
 ) -> Result<(), Fault>
     requires works { W.failed out.old ≡ false }
     requires within { IsHeaderWithin (length text.now) at.now }
-    ensures whole { OnOk result (AppendsSoFar (W.contents out.old) (W.contents out.new)
-        (gathered.old.items ++ header_located text.now at.now) gathered.new.items) }
-    ensures prefix { AppendsPrefix (W.contents out.old) (W.contents out.new)
-        (gathered.old.items ++ header_located text.now at.now) }
-    ensures works { OnOk result (W.failed out.new ≡ false) }
-    ensures fault { IfErr result (λ e. (e ≡ Fault.Write) × (W.failed out.new ≡ true)) }
-    ensures unflushed { W.flushes out.new ≡ W.flushes out.old }
+    ensures { Gathers W.contents W.failed W.flushes out.old out.new gathered.old.items
+        gathered.new.items result (header_located text.now at.now) }
 {
     let targets = Span {
         start: 0,
@@ -201,13 +177,8 @@ fn order_only<'a>(text: &'a [u8], at: &Header) -> &'a [u8]
 // before it and a `:` after it. Puts nothing if the text has no word.
 fn put_pattern<W: ByteSink>(gathered: &mut Gathered, out: &mut W, text: &[u8]) -> Result<(), Fault>
     requires { W.failed out.old ≡ false }
-    ensures whole { OnOk result (AppendsSoFar (W.contents out.old) (W.contents out.new)
-        (gathered.old.items ++ pattern_text (words_in text.now)) gathered.new.items) }
-    ensures prefix { AppendsPrefix (W.contents out.old) (W.contents out.new)
-        (gathered.old.items ++ pattern_text (words_in text.now)) }
-    ensures works { OnOk result (W.failed out.new ≡ false) }
-    ensures fault { IfErr result (λ e. (e ≡ Fault.Write) × (W.failed out.new ≡ true)) }
-    ensures unflushed { W.flushes out.new ≡ W.flushes out.old }
+    ensures { Gathers W.contents W.failed W.flushes out.old out.new gathered.old.items
+        gathered.new.items result (pattern_text (words_in text.now)) }
 {
     match split_first_word(text) {
         Some((pattern, _)) => put_parts(gathered, out, &[b" ", pattern, b":"]),
@@ -223,13 +194,8 @@ fn put_order_only<W: ByteSink>(
     text: &[u8],
 ) -> Result<(), Fault>
     requires { W.failed out.old ≡ false }
-    ensures whole { OnOk result (AppendsSoFar (W.contents out.old) (W.contents out.new)
-        (gathered.old.items ++ order_only_text (words_in text.now)) gathered.new.items) }
-    ensures prefix { AppendsPrefix (W.contents out.old) (W.contents out.new)
-        (gathered.old.items ++ order_only_text (words_in text.now)) }
-    ensures works { OnOk result (W.failed out.new ≡ false) }
-    ensures fault { IfErr result (λ e. (e ≡ Fault.Write) × (W.failed out.new ≡ true)) }
-    ensures unflushed { W.flushes out.new ≡ W.flushes out.old }
+    ensures { Gathers W.contents W.failed W.flushes out.old out.new gathered.old.items
+        gathered.new.items result (order_only_text (words_in text.now)) }
 {
     let Some((first, others)) = split_first_word(text) else {
         return Ok(());

@@ -1,10 +1,9 @@
 //! The query `vars`: the assignments.
-ghost use Rattle.std.specs.Prelude.{◌≡◌, ◌≤◌, ◌++◌, false, true, IfErr, OnOk, codes, length};
-ghost use Rattle.std.specs.Io.KnownBytes.{Appends};
-ghost use Rattle.mk_lines.specs.Device.{AppendsPrefix};
+ghost use Rattle.std.specs.Prelude.{◌≡◌, ◌≤◌, ◌++◌, false, codes, length};
+ghost use Rattle.mk_lines.specs.Device.{Writes};
 ghost use Rattle.mk_tree.specs.Documents.{IsFaithful};
 ghost use Rattle.mk_tree.specs.LocatedLines.{located_text, text_of_line};
-ghost use Rattle.mk_tree.specs.Printing.{AppendsSoFar};
+ghost use Rattle.mk_tree.specs.Printing.{Gathers};
 ghost use Rattle.mk_tree.specs.Trees.{line_view};
 ghost use Rattle.mk_queries.specs.LocatedTexts.{IsAssignmentWithin, IsClassedIn, assigned_located, assigned_start, target_assigned_located, variable_located};
 ghost use Rattle.mk_queries.specs.Queries.{vars_text};
@@ -45,16 +44,10 @@ use std::alloc::Allocator;
 pub fn vars<A: Allocator, W: ByteSink>(doc: &Doc<A>, out: &mut W) -> Result<(), Fault>
     requires faithful { IsFaithful doc.now }
     requires works { W.failed out.old ≡ false }
-    ensures whole { OnOk result (Appends (W.contents out.old) (W.contents out.new)
-        (vars_text (located_text doc.now))) }
-    ensures prefix { AppendsPrefix (W.contents out.old) (W.contents out.new)
+    ensures { Writes W.contents W.failed W.flushes out.old out.new result
         (vars_text (located_text doc.now)) }
-    ensures works { OnOk result (W.failed out.new ≡ false) }
-    ensures fault { IfErr result (λ e. (e ≡ Fault.Write) × (W.failed out.new ≡ true)) }
-    ensures unflushed { W.flushes out.new ≡ W.flushes out.old }
 {
-    // The contract of `size` bounds the number of lines, and so each number here.
-    let _size = doc.size();
+    let _size = doc.size(); // its contract bounds the text, and so each number here
     let mut gathered = Gathered::new();
     let mut number = 1;
     'lines: for (context, line) in doc.lines_with_contexts() {
@@ -75,16 +68,9 @@ fn put_variable<A: Allocator, W: ByteSink>(
 ) -> Result<(), Fault>
     requires works { W.failed out.old ≡ false }
     requires classed { IsClassedIn context (line_view line.now) }
-    ensures whole { OnOk result (AppendsSoFar (W.contents out.old) (W.contents out.new)
-        (gathered.old.items
-        ++ variable_located number context.conditionals (text_of_line (line_view line.now))
-        (line_view line.now).class) gathered.new.items) }
-    ensures prefix { AppendsPrefix (W.contents out.old) (W.contents out.new) (gathered.old.items
-        ++ variable_located number context.conditionals (text_of_line (line_view line.now))
-        (line_view line.now).class) }
-    ensures works { OnOk result (W.failed out.new ≡ false) }
-    ensures fault { IfErr result (λ e. (e ≡ Fault.Write) × (W.failed out.new ≡ true)) }
-    ensures unflushed { W.flushes out.new ≡ W.flushes out.old }
+    ensures { Gathers W.contents W.failed W.flushes out.old out.new gathered.old.items
+        gathered.new.items result (variable_located number context.conditionals
+        (text_of_line (line_view line.now)) (line_view line.now).class) }
 {
     let text = text_of_line(line);
     match line.class() {
@@ -111,13 +97,8 @@ fn put_target_assigned<W: ByteSink>(
     requires targets_within { at.now.targets_end ≤ length text.now }
     requires within { IsAssignmentWithin (length text.now) (assigned_start at.now)
         at.now.assignment }
-    ensures whole { OnOk result (AppendsSoFar (W.contents out.old) (W.contents out.new)
-        (gathered.old.items ++ target_assigned_located text.now at.now) gathered.new.items) }
-    ensures prefix { AppendsPrefix (W.contents out.old) (W.contents out.new)
-        (gathered.old.items ++ target_assigned_located text.now at.now) }
-    ensures works { OnOk result (W.failed out.new ≡ false) }
-    ensures fault { IfErr result (λ e. (e ≡ Fault.Write) × (W.failed out.new ≡ true)) }
-    ensures unflushed { W.flushes out.new ≡ W.flushes out.old }
+    ensures { Gathers W.contents W.failed W.flushes out.old out.new gathered.old.items
+        gathered.new.items result (target_assigned_located text.now at.now) }
 {
     let targets = Span {
         start: 0,
@@ -140,13 +121,8 @@ fn put_assigned<W: ByteSink>(
 ) -> Result<(), Fault>
     requires works { W.failed out.old ≡ false }
     requires within { IsAssignmentWithin (length text.now) start at.now }
-    ensures whole { OnOk result (AppendsSoFar (W.contents out.old) (W.contents out.new)
-        (gathered.old.items ++ assigned_located text.now start at.now) gathered.new.items) }
-    ensures prefix { AppendsPrefix (W.contents out.old) (W.contents out.new)
-        (gathered.old.items ++ assigned_located text.now start at.now) }
-    ensures works { OnOk result (W.failed out.new ≡ false) }
-    ensures fault { IfErr result (λ e. (e ≡ Fault.Write) × (W.failed out.new ≡ true)) }
-    ensures unflushed { W.flushes out.new ≡ W.flushes out.old }
+    ensures { Gathers W.contents W.failed W.flushes out.old out.new gathered.old.items
+        gathered.new.items result (assigned_located text.now start at.now) }
 {
     let modifiers = Span {
         start,
@@ -162,13 +138,8 @@ fn put_assigned<W: ByteSink>(
 // then the end of its line.
 fn put_value<W: ByteSink>(gathered: &mut Gathered, out: &mut W, value: &[u8]) -> Result<(), Fault>
     requires { W.failed out.old ≡ false }
-    ensures whole { OnOk result (AppendsSoFar (W.contents out.old) (W.contents out.new)
-        (gathered.old.items ++ (after_space value.now ++ codes "\n")) gathered.new.items) }
-    ensures prefix { AppendsPrefix (W.contents out.old) (W.contents out.new)
-        (gathered.old.items ++ (after_space value.now ++ codes "\n")) }
-    ensures works { OnOk result (W.failed out.new ≡ false) }
-    ensures fault { IfErr result (λ e. (e ≡ Fault.Write) × (W.failed out.new ≡ true)) }
-    ensures unflushed { W.flushes out.new ≡ W.flushes out.old }
+    ensures { Gathers W.contents W.failed W.flushes out.old out.new gathered.old.items
+        gathered.new.items result (after_space value.now ++ codes "\n") }
 {
     match value {
         [] => put(gathered, out, b"\n"),

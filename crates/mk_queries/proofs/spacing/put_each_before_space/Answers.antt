@@ -1,30 +1,29 @@
-use Rattle.std.proofs.Common.{◌≡◌, [], ◌++◌, rules}
+use Rattle.std.proofs.Common.{◌≡◌, [], ◌++◌, refl, subst, rules}
 use Rattle.std.specs.Prelude.{codes}
 use Rattle.mk_lines.specs.Words.{words_in}
 use Rattle.mk_lines.specs.Spacing.{each_before_space}
-use Rattle.mk_queries.proofs.on_gathering.SpacingLemmas.{put-more, put-more_failed, put-most, before-next, before-end}
+use Rattle.mk_tree.specs.Printing.{Gathers}
+use Rattle.mk_tree.proofs.Prefixes.{gathers-nothing, gathers-then, gathers-front, gathers-fails}
+use Rattle.mk_queries.proofs.SaidSoFar.{said-end}
+use Rattle.mk_queries.proofs.SpacingLemmas.{before-next}
 use Rattle.mk_queries.proofs.spacing.put_each_before_space.Goals as goal
 
-pub returns-in_err-put_parts-clause-prefix : goal.returns-in_err-put_parts-clause-prefix
-returns-in_err-put_parts-clause-prefix g c =
-    let (working, unflushed, (front, whole, out)) = c.words.invariant in
-    let said = c.in-Some.word.now ++ (codes " " ++ []) in
-    let all = each_before_space (words_in c.args.text.now) in
-    put-more_failed _ _ _ c.args.gathered.now.items front c.words.gathered.items said (each_before_space (words_in c.in-Some.after.now)) all (before-next front c.words.rest.now c.in-Some.word.now c.in-Some.after.now all c.in-Some.ensures.words whole) out c.in_err-put_parts.ensures.prefix
+pub words-init : goal.words-init
+words-init g c = ([], refl, gathers-nothing c.requires refl refl)
+
+pub returns-in_err-put_parts : goal.returns-in_err-put_parts
+returns-in_err-put_parts g c =
+    let (front, whole, so_far) = c.words.invariant in
+    subst (Gathers _ _ _ _ _ _ _ _) (before-next front c.words.rest.now c.in-Some.word.now c.in-Some.after.now _ c.in-Some.ensures.words whole)
+    (gathers-fails c.from_residual.ensures.1 (gathers-front _ (gathers-then so_far c.in_err-put_parts.ensures)))
 
 pub words-preserved : goal.words-preserved
 words-preserved g c =
-    let (working, unflushed, (front, whole, out)) = c.words.invariant in
-    let said = c.in-Some.word.now ++ (codes " " ++ []) in
-    let all = each_before_space (words_in c.args.text.now) in (
-      c.in_ok-put_parts.ensures.works,
-      search rules,
-      (front ++ said, before-next front c.words.rest.now c.in-Some.word.now c.in-Some.after.now all c.in-Some.ensures.words whole, put-more _ _ _ c.args.gathered.now.items front c.words.gathered.items said c.put_parts.new.gathered.items out c.in_ok-put_parts.ensures.whole),
-    )
+    let (front, whole, so_far) = c.words.invariant in
+    (front ++ (c.in-Some.word.now ++ (codes " " ++ [])), before-next front c.words.rest.now c.in-Some.word.now c.in-Some.after.now _ c.in-Some.ensures.words whole, gathers-then so_far c.in_ok-put_parts.ensures)
 
-pub returns-clause-prefix : goal.returns-clause-prefix
-returns-clause-prefix g c =
-    let (working, unflushed, (front, whole, out)) = c.words.invariant in
-    let all = each_before_space (words_in c.args.text.now) in
+pub returns : goal.returns
+returns g c =
+    let (front, whole, so_far) = c.words.invariant in
     let none : words_in c.words.rest.now ≡ [] = search rules in
-    put-most _ _ c.args.gathered.now.items front c.words.gathered.items all (before-end front c.words.rest.now all none whole) out
+    subst (Gathers _ _ _ _ _ _ _ _) (said-end each_before_space front _ _ refl none whole) so_far

@@ -1,16 +1,10 @@
-use Rattle.std.proofs.Common.{◌++◌, ◌∙◌, sym, ap}
-use Rattle.mk_lines.specs.Words.{words_in}
-use Rattle.mk_lines.specs.Spacing.{spaced_words}
-use Rattle.mk_queries.specs.PartTexts.{targets_text}
-use Rattle.mk_queries.proofs.on_gathering.PutLemmas.{put-second, put-second_failed}
+use Rattle.std.proofs.Common.{◌∙◌, subst}
+use Rattle.mk_tree.specs.Printing.{Gathers}
+use Rattle.mk_tree.proofs.Prefixes.{gathers-then, gathers-front, gathers-fails}
 use Rattle.mk_queries.proofs.targets.put_targets.Goals as goal
 
-pub returns-clause-whole : goal.returns-clause-whole
-returns-clause-whole g c =
-    let ts = spaced_words (words_in c.args.targets.now) in
-    put-second _ _ _ _ c.args.gathered.now.items ts c.put_spaced.new.gathered.items c.as_bytes.result.now _ (targets_text (words_in c.args.targets.now) c.args.separator) (ap (λ z. ts ++ z) (sym (c.as_bytes.ensures.value ∙ c.text.ensures))) c.in_ok-put_spaced.ensures.whole c.put.ensures.whole
+pub returns-in_err-put_spaced : goal.returns-in_err-put_spaced
+returns-in_err-put_spaced g c = gathers-fails c.from_residual.ensures.1 (gathers-front _ c.in_err-put_spaced.ensures)
 
-pub returns-clause-prefix : goal.returns-clause-prefix
-returns-clause-prefix g c =
-    let ts = spaced_words (words_in c.args.targets.now) in
-    put-second_failed _ _ _ c.args.gathered.now.items ts c.put_spaced.new.gathered.items c.as_bytes.result.now (targets_text (words_in c.args.targets.now) c.args.separator) (ap (λ z. ts ++ z) (sym (c.as_bytes.ensures.value ∙ c.text.ensures))) c.in_ok-put_spaced.ensures.whole c.put.ensures.prefix
+pub returns : goal.returns
+returns g c = gathers-then c.in_ok-put_spaced.ensures (subst (Gathers _ _ _ _ _ _ _ _) (c.as_bytes.ensures.value ∙ c.text.ensures) c.put.ensures)

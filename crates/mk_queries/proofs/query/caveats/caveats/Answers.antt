@@ -1,14 +1,14 @@
-use Rattle.std.proofs.Common.{◌≡◌, ◌∙◌, ◌+◌, ◌++◌, [], length, arith, rules, ap, refl, sym, subst}
-use Rattle.mk_lines.specs.Device.{AppendsPrefix}
+use Rattle.std.proofs.Common.{◌≡◌, ◌∙◌, ◌++◌, [], length, arith, ap, refl, sym, subst}
+use Rattle.mk_lines.specs.Device.{Writes}
 use Rattle.mk_class.specs.Contexts.{start}
-use Rattle.mk_tree.specs.LocatedLines.{size_of, located_text}
+use Rattle.mk_tree.specs.LocatedLines.{size_of}
 use Rattle.mk_tree.specs.Trees.{line_view}
 use Rattle.mk_tree.specs.TreeWalks.{LinesInContext}
-use Rattle.mk_tree.proofs.Prefixes.{so_far-start, so_far-more}
-use Rattle.mk_queries.specs.Caveats.{caveat_text, caveats_text, seen_above}
+use Rattle.mk_tree.proofs.Prefixes.{gathers-nothing, gathers-then, gathers-front, writes-gathered, writes-fails}
+use Rattle.mk_queries.specs.Caveats.{caveat_text}
 use Rattle.mk_queries.specs.QueryWalks.{line_feeds, seen_after, caveats_ahead}
-use Rattle.mk_queries.proofs.on_gathering.PutLemmas.{put-next, put-next_failed, put-last, put-last_failed}
-use Rattle.mk_queries.proofs.on_walks.CaveatLemmas.{caveats-next, caveats-end, caveats-walk}
+use Rattle.mk_queries.proofs.SaidSoFar.{said-end}
+use Rattle.mk_queries.proofs.on_walks.CaveatLemmas.{caveats-next, caveats-walk}
 use Rattle.mk_queries.proofs.on_walks.VariableLemmas.{AreClassedIn, document-classed, first-classed, rest-classed}
 use Rattle.mk_queries.proofs.query.caveats.caveats.Goals as goal
 
@@ -18,70 +18,44 @@ lines-init g c =
     let all : c.into_iter-context-iterator.result ≡ record { context = start; lines = doc } = c.into_iter-context-iterator.ensures.into_iter_gives ∙ c.lines_with_contexts-context-items.ensures in (
       tt,
       tt,
-      c.requires.works,
-      refl,
       subst (λ (w : LinesInContext). AreClassedIn w.context w.lines) (sym all) (document-classed doc c.requires.faithful),
       omega (arith, ap (λ (w : LinesInContext). size_of w.lines) all, c.size-size.ensures.few),
       (
         [],
         ap (λ (w : LinesInContext). caveats_ahead 1 w.context c.start-seen.result w.lines) all ∙ ap (λ s. caveats_ahead 1 start s doc) c.start-seen.ensures,
-        so_far-start _ _ c.new-gathered.ensures,
+        gathers-nothing c.requires.works refl refl,
       ),
     )
 
 pub caveat_of-caveat-requires-clause-classed : goal.caveat_of-caveat-requires-clause-classed
 caveat_of-caveat-requires-clause-classed g c =
-    first-classed c.lines.context-iterator c.next.new.self c.in-Some.context (line_view c.in-Some.line.now) c.in-Some.ensures.steps.0 c.in-Some.ensures.steps.1 c.lines.invariant.4
+    first-classed c.lines.context-iterator c.next.new.self c.in-Some.context (line_view c.in-Some.line.now) c.in-Some.ensures.steps.0 c.in-Some.ensures.steps.1 c.lines.invariant.2
 
-pub returns-in_err-put_caveat-clause-prefix : goal.returns-in_err-put_caveat-clause-prefix
-returns-in_err-put_caveat-clause-prefix g c =
-    let (goes, ends, working, unflushed, classed, few, (front, whole, out)) = c.lines.invariant in
-    let doc = c.args.doc.now in
+pub returns-in_err-put_caveat : goal.returns-in_err-put_caveat
+returns-in_err-put_caveat g c =
+    let (goes, ends, classed, few, (front, whole, so_far)) = c.lines.invariant in
     let l = line_view c.in-Some.line.now in
-    let n = c.lines.number in
-    let s = c.lines.seen in
-    let w = c.lines.context-iterator in
-    let left = c.next.new.self in
-    let said = caveat_text n c.caveat_of-caveat.result in
-    let after = seen_after c.in-Some.context s l in
-    let rest = caveats_ahead (n + line_feeds l.bytes) left.context after left.lines in
-    let e : said ++ rest ≡ caveats_ahead n w.context s w.lines = caveats-next n (line_feeds l.bytes) c.in-Some.context c.caveat_of-caveat.result s after l.bytes l w left c.in-Some.ensures.steps.0 c.in-Some.ensures.steps.1 c.in-Some.ensures.steps.2 refl refl c.caveat_of-caveat.ensures refl in
-    subst (AppendsPrefix (g.W.ByteSink.contents c.args.out.now) (g.W.ByteSink.contents c.put_caveat.new.out)) (caveats-walk doc c.requires.faithful)
-    (put-next_failed _ _ _ front c.lines.gathered.items said rest (caveats_ahead 1 start (seen_above []) doc) out c.in_err-put_caveat.ensures.prefix (ap (λ z. front ++ z) e ∙ whole))
+    subst (Writes _ _ _ _ _ _)
+    (caveats-next c.lines.number (line_feeds l.bytes) c.in-Some.context c.caveat_of-caveat.result c.lines.seen (seen_after c.in-Some.context c.lines.seen l) l.bytes l c.lines.context-iterator c.next.new.self c.in-Some.ensures.steps.0 c.in-Some.ensures.steps.1 c.in-Some.ensures.steps.2 refl refl c.caveat_of-caveat.ensures refl front _ whole
+    ∙ caveats-walk c.args.doc.now c.requires.faithful) (writes-fails c.new-gathered.ensures c.from_residual.ensures.1 (gathers-front _ (gathers-then so_far c.in_err-put_caveat.ensures)))
 
 pub lines-preserved : goal.lines-preserved
 lines-preserved g c =
-    let (goes, ends, working, unflushed, classed, few, (front, whole, out)) = c.lines.invariant in
-    let l = line_view c.in-Some.line.now in
-    let n = c.lines.number in
-    let m = c.line_feeds-number.result in
-    let s = c.lines.seen in
-    let after = c.below-seen.result in
-    let w = c.lines.context-iterator in
-    let left = c.next.new.self in
-    let said = caveat_text n c.caveat_of-caveat.result in
-    let rest = caveats_ahead (n + m) left.context after left.lines in
-    let e : said ++ rest ≡ caveats_ahead n w.context s w.lines =
-    caveats-next n m c.in-Some.context c.caveat_of-caveat.result s after c.bytes.result.now l w left c.in-Some.ensures.steps.0 c.in-Some.ensures.steps.1 c.in-Some.ensures.steps.2 c.bytes.ensures.bytes c.line_feeds-number.ensures.number c.caveat_of-caveat.ensures c.below-seen.ensures in (
+    let (goes, ends, classed, few, (front, whole, so_far)) = c.lines.invariant in
+    let l = line_view c.in-Some.line.now in (
       tt,
       tt,
-      c.in_ok-put_caveat.ensures.works,
-      search rules,
-      rest-classed w left c.in-Some.context l c.in-Some.ensures.steps.0 c.in-Some.ensures.steps.1 c.in-Some.ensures.steps.2 classed,
+      rest-classed c.lines.context-iterator c.next.new.self c.in-Some.context l c.in-Some.ensures.steps.0 c.in-Some.ensures.steps.1 c.in-Some.ensures.steps.2 classed,
       omega (arith, ap size_of c.in-Some.ensures.steps.1, ap length c.bytes.ensures.bytes, c.line_feeds-number.ensures.few),
-      (front ++ said, put-next front said rest _ (ap (λ z. front ++ z) e ∙ whole), so_far-more _ _ _ front c.lines.gathered.items said c.put_caveat.new.gathered.items out c.in_ok-put_caveat.ensures.whole),
+      (
+        front ++ caveat_text c.lines.number c.caveat_of-caveat.result,
+        caveats-next c.lines.number c.line_feeds-number.result c.in-Some.context c.caveat_of-caveat.result c.lines.seen c.below-seen.result c.bytes.result.now l c.lines.context-iterator c.next.new.self c.in-Some.ensures.steps.0 c.in-Some.ensures.steps.1 c.in-Some.ensures.steps.2 c.bytes.ensures.bytes c.line_feeds-number.ensures.number c.caveat_of-caveat.ensures c.below-seen.ensures front _ whole,
+        gathers-then so_far c.in_ok-put_caveat.ensures,
+      ),
     )
 
-pub returns-clause-whole : goal.returns-clause-whole
-returns-clause-whole g c =
-    let (goes, ends, working, unflushed, classed, few, (front, whole, out)) = c.lines.invariant in
-    let doc = c.args.doc.now in
-    let e = caveats-end c.lines.number c.lines.seen front (caveats_ahead 1 start (seen_above []) doc) c.lines.context-iterator c.in-None.ensures.steps.0 whole ∙ caveats-walk doc c.requires.faithful in
-    put-last _ _ _ _ front c.lines.gathered.items _ _ c.deref.ensures.0 e out c.write_all.ensures.whole
-
-pub returns-clause-prefix : goal.returns-clause-prefix
-returns-clause-prefix g c =
-    let (goes, ends, working, unflushed, classed, few, (front, whole, out)) = c.lines.invariant in
-    let doc = c.args.doc.now in
-    let e = caveats-end c.lines.number c.lines.seen front (caveats_ahead 1 start (seen_above []) doc) c.lines.context-iterator c.in-None.ensures.steps.0 whole ∙ caveats-walk doc c.requires.faithful in
-    put-last_failed _ _ _ front c.lines.gathered.items c.deref.result.now (caveats_text (located_text doc)) c.deref.ensures.0 e out c.write_all.ensures.prefix
+pub returns : goal.returns
+returns g c =
+    let (goes, ends, classed, few, (front, whole, so_far)) = c.lines.invariant in
+    subst (Writes _ _ _ _ _ _) (said-end (caveats_ahead c.lines.number c.lines.context-iterator.context c.lines.seen) front _ _ refl c.in-None.ensures.steps.0 whole ∙ caveats-walk c.args.doc.now c.requires.faithful)
+    (writes-gathered c.new-gathered.ensures c.deref.ensures.0 so_far c.write_all.ensures)

@@ -1,19 +1,17 @@
-use Rattle.std.proofs.Common.{◌≡◌, ◌∙◌, ◌++◌, ap, sym, rules, ℕ}
+use Rattle.std.proofs.Common.{◌≡◌, ap, subst, rules}
 use Rattle.std.specs.Prelude.{codes}
 use Rattle.mk_queries.specs.Queries.{open_count_line}
-use Rattle.mk_queries.proofs.on_gathering.PutLemmas.{put-second, put-second_failed}
+use Rattle.mk_tree.specs.Printing.{Gathers}
+use Rattle.mk_tree.proofs.Prefixes.{gathers-then, gathers-front, gathers-fails}
 use Rattle.mk_queries.proofs.query.check.put_end.Goals as goal
 
-pub returns-clause-whole : goal.returns-clause-whole
-returns-clause-whole g c =
-    let n : c.args.end.conditionals ≡ c.from.result = search rules in
-    let d : c.args.end.defines ≡ c.defines.result = sym c.defines.ensures.number in
-    let e = ap (λ (k : ℕ). open_count_line (codes "conditionals") k ++ open_count_line (codes "defines") c.args.end.defines) n ∙ ap (λ (k : ℕ). open_count_line (codes "conditionals") c.from.result ++ open_count_line (codes "defines") k) d in
-    put-second _ _ _ _ c.args.gathered.now.items _ c.put_open.new.gathered.items _ _ _ e c.in_ok-put_open.ensures.whole c.put_open-2.ensures.whole
+pub returns-in_err-put_open : goal.returns-in_err-put_open
+returns-in_err-put_open g c =
+    let n : c.from.result ≡ c.args.end.conditionals = search rules in
+    gathers-fails c.from_residual.ensures.1 (gathers-front _ (subst (Gathers _ _ _ _ _ _ _ _) (ap (open_count_line (codes "conditionals")) n) c.in_err-put_open.ensures))
 
-pub returns-clause-prefix : goal.returns-clause-prefix
-returns-clause-prefix g c =
-    let n : c.args.end.conditionals ≡ c.from.result = search rules in
-    let d : c.args.end.defines ≡ c.defines.result = sym c.defines.ensures.number in
-    let e = ap (λ (k : ℕ). open_count_line (codes "conditionals") k ++ open_count_line (codes "defines") c.args.end.defines) n ∙ ap (λ (k : ℕ). open_count_line (codes "conditionals") c.from.result ++ open_count_line (codes "defines") k) d in
-    put-second_failed _ _ _ c.args.gathered.now.items _ c.put_open.new.gathered.items _ _ e c.in_ok-put_open.ensures.whole c.put_open-2.ensures.prefix
+pub returns : goal.returns
+returns g c =
+    let n : c.from.result ≡ c.args.end.conditionals = search rules in
+    gathers-then (subst (Gathers _ _ _ _ _ _ _ _) (ap (open_count_line (codes "conditionals")) n) c.in_ok-put_open.ensures)
+    (subst (Gathers _ _ _ _ _ _ _ _) (ap (open_count_line (codes "defines")) c.defines.ensures.number) c.put_open-2.ensures)

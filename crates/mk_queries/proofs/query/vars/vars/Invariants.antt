@@ -1,10 +1,11 @@
--- What is said of the lines that were passed is out or held back, and what is said of those ahead is to come. Each line ahead has
+-- What is said of the lines that were passed was put, and what is said of those ahead is to come. Each line ahead has
 -- its class in its context, and the numbers of lines stay within the bytes of the text.
-use Rattle.std.proofs.Common.{◌≡◌, ◌+◌, ◌≤◌, ◌++◌, false, List, ℕ}
+use Rattle.std.proofs.Common.{◌≡◌, ◌+◌, ◌≤◌, ◌++◌, List, ℕ}
+use Rattle.std.specs.Prelude.{Ok}
 use Rattle.mk_lines.specs.Limits.{max_text}
 use Rattle.mk_class.specs.Contexts.{start}
 use Rattle.mk_tree.specs.LocatedLines.{size_of}
-use Rattle.mk_tree.specs.Printing.{AppendsSoFar}
+use Rattle.mk_tree.specs.Printing.{Gathers}
 use Rattle.mk_queries.specs.QueryWalks.{variables_ahead}
 use Rattle.mk_queries.proofs.on_walks.VariableLemmas.{AreClassedIn}
 use Rattle.mk_queries.proofs.query.vars.vars.Given as goal
@@ -12,11 +13,9 @@ use Rattle.mk_queries.proofs.query.vars.vars.Given as goal
 abbrev pub invariant-lines : goal.invariant-lines
 invariant-lines g l =
     (goal.iterator-lines g).can_next l.context-iterator × (goal.iterator-lines g).is_finite l.context-iterator
-    × (g.W.ByteSink.failed l.out ≡ false)
-    × (g.W.ByteSink.flushes l.out ≡ g.W.ByteSink.flushes l.initial.out)
     × AreClassedIn l.context-iterator.context l.context-iterator.lines
     × (l.number + size_of l.context-iterator.lines ≤ max_text + 1)
     × (
     (front : List ℕ) × (front ++ variables_ahead l.number l.context-iterator.context l.context-iterator.lines ≡ variables_ahead 1 start l.doc)
-    × AppendsSoFar (g.W.ByteSink.contents l.initial.out) (g.W.ByteSink.contents l.out) front l.gathered.items
+    × Gathers g.W.ByteSink.contents g.W.ByteSink.failed g.W.ByteSink.flushes l.initial.out l.out l.initial.gathered.items l.gathered.items (Ok (tt {0})) front
     )

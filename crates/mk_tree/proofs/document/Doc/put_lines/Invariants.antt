@@ -1,12 +1,11 @@
--- The lines ahead are those after the lines that were put, and the text of these is out or held back.
-use Rattle.std.proofs.Common.{◌≡◌, ◌++◌, false, take, drop}
+-- The lines ahead are those after the lines that were put.
+use Rattle.std.proofs.Common.{◌≡◌, take, drop}
+use Rattle.std.specs.Prelude.{Ok}
 use Rattle.mk_tree.specs.LocatedLines.{located_text}
-use Rattle.mk_tree.specs.Printing.{AppendsSoFar}
+use Rattle.mk_tree.specs.Printing.{Gathers}
 use Rattle.mk_tree.proofs.document.Doc.put_lines.Given as goal
 
 abbrev pub invariant-lines : goal.invariant-lines
 invariant-lines g l =
-    (g.W.ByteSink.failed l.out ≡ false)
-    × (g.W.ByteSink.flushes l.out ≡ g.W.ByteSink.flushes l.initial.out)
-    × (drop l.at (drop l.from l.self) ≡ l.lines)
-    × AppendsSoFar (g.W.ByteSink.contents l.initial.out) (g.W.ByteSink.contents l.out) (l.initial.gathered.items ++ located_text (take l.at (drop l.from l.self))) l.gathered.items
+    (drop l.at (drop l.from l.self) ≡ l.lines)
+    × Gathers g.W.ByteSink.contents g.W.ByteSink.failed g.W.ByteSink.flushes l.initial.out l.out l.initial.gathered.items l.gathered.items (Ok (tt {0})) (located_text (take l.at (drop l.from l.self)))

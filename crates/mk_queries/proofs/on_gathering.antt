@@ -1,2 +1,0 @@
-pub mod PutLemmas
-pub mod SpacingLemmas
