@@ -13,7 +13,7 @@ ghost use Rattle.mk_session.specs.Sessions.{IsBadDepth, IsBeginRefusal, IsEditRe
 
 use mk_class::Meter;
 use mk_edit::{Edit, Refusal, plan_with};
-use mk_history::history::MAX_DEPTH;
+use mk_history::history::is_bad_depth;
 use mk_history::{Change, History, Sequence};
 use mk_index::Finder;
 use mk_lines::Fault;
@@ -66,17 +66,6 @@ impl<A: Allocator> Model for Session<A> {
         × (s.opened_at ≤ max_text) };
 }
 
-// Refuses a depth that a session cannot have.
-fn test_depth(depth: u32) -> Result<(), Fault>
-    ensures bad { (result ≡ Err Fault.BadDepth) ↔ IsBadDepth depth }
-    ensures only { IsOkUnless result Fault.BadDepth }
-{
-    if depth < 1 || depth > MAX_DEPTH {
-        return Err(Fault::BadDepth);
-    }
-    Ok(())
-}
-
 impl<A: Allocator + Copy> Session<A> {
     /// Opens a text. Up to `depth` edits or groups can be undone.
     ///
@@ -96,7 +85,9 @@ impl<A: Allocator + Copy> Session<A> {
         ensures shallow { IfOk result (λ _. IsTooDeep text.now → ⊥) }
         ensures fault { IfErr result (λ fault. IsOpeningFault depth text.now fault) }
     {
-        test_depth(depth)?;
+        if is_bad_depth(depth) {
+            return Err(Fault::BadDepth);
+        }
         if text.len() > MAX_TEXT {
             return Err(Fault::TooLong);
         }
@@ -116,7 +107,9 @@ impl<A: Allocator + Copy> Session<A> {
         ensures shallow { IfOk result (λ _. IsTooDeep text.items → ⊥) }
         ensures fault { IfErr result (λ fault. IsOpeningFault depth text.items fault) }
     {
-        test_depth(depth)?; // before any line is read
+        if is_bad_depth(depth) {
+            return Err(Fault::BadDepth); // before any line is read
+        }
         let mut meter = Meter::new();
         let (doc, end) = Doc::parse_with_end(alloc, text, &mut meter)?;
         let finder = Finder::over(&doc, end);
