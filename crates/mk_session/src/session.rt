@@ -16,6 +16,7 @@ use mk_edit::{Edit, Refusal, plan_with};
 use mk_history::history::is_bad_depth;
 use mk_history::{Change, History, Sequence};
 use mk_index::Finder;
+use mk_index::effect::effect_of;
 use mk_lines::Fault;
 use mk_lines::source::MAX_TEXT;
 use mk_patch::Patch;
@@ -181,13 +182,15 @@ impl<A: Allocator + Copy> Session<A> {
             Ok(patch) => patch,
             Err(refusal) => return Err(refusal),
         };
+        let effect = effect_of(&self.doc, &patch);
         match self.group.take() {
             Some(mut group) => {
                 if group.reserve(1).is_err() {
                     self.group = Some(group);
                     return Err(Refusal::NoMemory);
                 }
-                group.push_front(self.finder.make(patch, &mut self.doc));
+                group.push_front(patch.make(&mut self.doc));
+                self.finder.follow(effect, &self.doc);
                 self.group = Some(group);
                 self.history.forget();
             }
@@ -195,7 +198,8 @@ impl<A: Allocator + Copy> Session<A> {
                 let Ok(mut member) = Sequence::with_capacity(self.alloc, 1) else {
                     return Err(Refusal::NoMemory);
                 };
-                member.push_front(self.finder.make(patch, &mut self.doc));
+                member.push_front(patch.make(&mut self.doc));
+                self.finder.follow(effect, &self.doc);
                 self.history.push(member);
             }
         }
