@@ -134,7 +134,7 @@ impl<A: Allocator + Copy> Session<A> {
         ensures fault { IsOkUnless result Fault.NoMemory }
     {
         let history = History::new(alloc, depth)?;
-        let _few = doc.len();
+        prove!(doc.len() <= MAX_TEXT);
         let opened_at = meter.count();
         Ok(Session {
             alloc,
