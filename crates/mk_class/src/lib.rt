@@ -9,6 +9,13 @@
 //! - [`meter`]: a count of the lines that were classified.
 //! - [`argument`]: what an edit may write.
 //! - [`laws`]: theorems on the definitions of assignments and classes.
+//!
+//! The other modules are the crate's own, lowest first:
+//!
+//! - `marks`: which of the bytes that tell lines apart a text has.
+//! - `scan`: a text read from its front, one unit at a time.
+//! - `keyword`: the words that say what a line is.
+//! - `header`: the parts of the line of a rule, and what makes such a line Rough.
 #![tactic(auto)]
 
 pub mod argument;

@@ -2,8 +2,9 @@
 -- Told in docs/ARCHITECTURE.md, "An edit's way, from Edit to moved lines".
 use Rattle.std.specs.Prelude.{◌==◌, ◌||◌, if◌then◌else◌, ℕ, ◌+◌, Bool, true, false, List, [], ◌∷◌, length, drop, take, Option, Some, None}
 use Rattle.mk_class.specs.declared.class.Class.{Class}
-use Rattle.mk_class.specs.declared.class.Class.TheVariants.{Recipe, Blank, Comment, If, Else, Endif, Header}
+use Rattle.mk_class.specs.declared.class.Class.TheVariants.{Recipe, Header}
 use Rattle.mk_class.specs.Classes as classes
+use Rattle.mk_class.specs.LocatedClasses.{leaves_flag_located}
 use Rattle.mk_class.specs.ClassedLines.{ClassedLine, classed_lines}
 use Rattle.mk_tree.specs.LocatedLines.{LocatedLine, located_text, is_conditional_located, text_of_line}
 use Rattle.mk_tree.specs.RecipeLines.{recipe_lines}
@@ -26,16 +27,6 @@ abbrev pub is_recipe_located : Class → Bool
 is_recipe_located Recipe = true
 is_recipe_located k = false
 
--- whether a line of this class may stand among the recipe lines of a rule
-abbrev pub stays_in_rule_located : Class → Bool
-stays_in_rule_located Recipe = true
-stays_in_rule_located Blank = true
-stays_in_rule_located Comment = true
-stays_in_rule_located If = true
-stays_in_rule_located Else = true
-stays_in_rule_located Endif = true
-stays_in_rule_located k = false
-
 -- What a walk has found after some more lines; the first of these stands at this index. It has
 -- found where the recipe ends, and whether a line of a conditional was passed before that end.
 -- `conditional` says whether such a line was passed so far.
@@ -45,7 +36,7 @@ recipe_from r c at [] = r
 recipe_from r c at (l ∷ ls) =
     if is_recipe_located l.class
     then recipe_from (record { end = at + 1; is_split = c }) c (at + 1) ls
-    else if stays_in_rule_located l.class
+    else if leaves_flag_located l.class
     then recipe_from r (c || is_conditional_located l.class) (at + 1) ls
     else r
 
@@ -55,7 +46,7 @@ recipe_index_from n p at [] = None
 recipe_index_from n p at (l ∷ ls) =
     if is_recipe_located l.class
     then (if p + 1 == n then Some at else recipe_index_from n (p + 1) (at + 1) ls)
-    else if stays_in_rule_located l.class then recipe_index_from n p (at + 1) ls
+    else if leaves_flag_located l.class then recipe_index_from n p (at + 1) ls
     else None
 
 -- ---- the targets of a header

@@ -1,8 +1,9 @@
 //! The causes of refusal that the fields of an edit decide by themselves.
-ghost use Rattle.std.specs.Prelude.{◌≡◌, ◌||◌, ◌∷◌, [], not};
+ghost use Rattle.std.specs.Prelude.{◌≡◌, ◌||◌, ◌&&◌, ◌∷◌, [], not};
 ghost use Rattle.std.specs.List.{list_any};
-ghost use Rattle.mk_class.specs.Arguments.{is_target, is_word};
+ghost use Rattle.mk_class.specs.Arguments.{is_target, is_value, is_word};
 ghost use Rattle.mk_class.specs.Keywords.{is_reserved_word};
+ghost use Rattle.mk_class.specs.ListTests.{is_empty};
 ghost use Rattle.mk_class.specs.RecipePrefix.{is_prefix_name};
 ghost use Rattle.mk_edit_language.specs.ArgumentCauses.{Tested, are_targets, are_words, bad_argument, first_failed, is_place, names, place_names, place_targets, targets};
 ghost use Rattle.mk_lines.specs.Words.{words_in};
@@ -20,43 +21,26 @@ pub fn bad_field<A: Allocator>(edit: &Edit<A>) -> Option<Field>
     ensures { field_refusal result ≡ bad_argument (edit_of edit.now) }
 {
     match edit {
-        Edit::SetValue { name, value, .. } => {
+        Edit::AddAssign { place, .. } | Edit::AddRule { place, .. } if !is_place(place) => {
+            Some(Field::Place)
+        }
+        Edit::SetValue { name, value, .. } | Edit::AddAssign { name, value, .. } => {
             first_failed(Field::Name, is_name(name), Field::Value, is_value(value))
         }
-        Edit::AppendValue { name, value, .. } => first_failed(
-            Field::Name,
-            is_name(name),
-            Field::Value,
-            is_value(value) && !value.is_empty(),
-        ),
-        Edit::AddAssign {
-            place,
-            name,
-            value,
-            ..
-        } => {
-            if !is_place(place) {
-                return Some(Field::Place);
-            }
-            first_failed(Field::Name, is_name(name), Field::Value, is_value(value))
+        Edit::AppendValue { name, value, .. } => {
+            first_failed(Field::Name, is_name(name), Field::Value, is_tail(value))
         }
         Edit::RemoveAssign { name, .. } => failed(Field::Name, is_name(name)),
         Edit::AddRule {
-            place,
             targets,
             prereqs,
             ..
-        } => {
-            if !is_place(place) {
-                return Some(Field::Place);
-            }
-            first_failed(
-                Field::Targets,
-                are_targets(targets),
-                Field::Prereqs,
-                are_words(prereqs),
-            )
-        }
+        } => first_failed(
+            Field::Targets,
+            are_targets(targets),
+            Field::Prereqs,
+            are_words(prereqs),
+        ),
         Edit::RemoveRule { target, .. } | Edit::RemoveRecipe { target, .. } => {
             failed(Field::Target, is_target(target))
         }
@@ -94,6 +78,13 @@ fn first_failed(one: Field, one_passes: bool, other: Field, other_passes: bool) 
     } else {
         Some(one)
     }
+}
+
+// Whether a text may go behind a value: it is a value, and not empty.
+fn is_tail(text: &[u8]) -> bool
+    ensures { result ≡ (is_value text.now && not (is_empty text.now)) }
+{
+    is_value(text) && !text.is_empty()
 }
 
 // Whether the name or the target of a place passes its test.

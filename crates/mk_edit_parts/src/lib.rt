@@ -17,6 +17,7 @@
 //! - [`prerequisite`]: the prerequisites in the line of a rule.
 //! - [`recipe`]: the recipe of a rule, by a walk down from its header.
 //! - [`word_parts`]: the words of a line that a rename replaces.
+//! - [`glance`]: whether a word may be one of a text's words, and from where on.
 //! - [`tally`]: the count of these words.
 //! - [`renamed_line`]: the bytes of a line after a rename.
 #![tactic(auto)]

@@ -4,6 +4,7 @@ ghost use Rattle.mk_tree.specs.Documents.{IsFaithful};
 ghost use Rattle.mk_edit_parts.specs.Found.{IsPlaceOf};
 
 use crate::seek::Found;
+use mk_lines::source::MAX_TEXT;
 use mk_tree::Doc;
 use std::alloc::Allocator;
 
@@ -16,9 +17,9 @@ pub fn after_lines<A: Allocator>(doc: &Doc<A>, place: Found, count: usize) -> Fo
     ensures at { result.at ≡ place.at + count }
     ensures place { IsPlaceOf doc.now result }
 {
+    prove!(doc.len() <= MAX_TEXT);
     // The contract of `iter` says that each line is admitted where it stands.
     let _lines = doc.iter();
-    let _count = doc.len();
     let mut context = place.context;
     'lines: for at in place.at..place.at + count {
         context = context.step(&doc.line(at).class());

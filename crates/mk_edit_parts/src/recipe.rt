@@ -9,7 +9,7 @@ ghost use Rattle.mk_tree.specs.Documents.{IsFaithful};
 ghost use Rattle.mk_tree.specs.LocatedLines.{is_conditional_located};
 ghost use Rattle.mk_tree.specs.RecipeLines.{recipe_run};
 ghost use Rattle.mk_edit_language.specs.Spots.{nth_of};
-ghost use Rattle.mk_edit_parts.specs.RecipeWalks.{is_recipe_located, lines_from, recipe_spots_in, stays_in_rule_located};
+ghost use Rattle.mk_edit_parts.specs.RecipeWalks.{is_recipe_located, lines_from, recipe_spots_in};
 
 use mk_class::Class;
 use mk_tree::Doc;
@@ -47,7 +47,7 @@ pub fn recipe_below<A: Allocator>(doc: &Doc<A>, from: usize) -> Recipe
                 end: at + 1,
                 is_split,
             };
-        } else if stays_in_rule(&class) {
+        } else if class.leaves_flag() {
             is_split = is_split || is_conditional(&class);
         } else {
             return recipe;
@@ -73,7 +73,7 @@ pub fn recipe_line<A: Allocator>(doc: &Doc<A>, from: usize, number: u32) -> Opti
             if passed == number as usize {
                 return Some(at);
             }
-        } else if !stays_in_rule(&class) {
+        } else if !class.leaves_flag() {
             return None;
         }
     }
@@ -92,14 +92,4 @@ fn is_conditional(class: &Class) -> bool
     ensures { result ≡ is_conditional_located class.now }
 {
     matches!(class, Class::If | Class::Else | Class::Endif)
-}
-
-// Whether a line of this class may stand among the recipe lines of a rule.
-fn stays_in_rule(class: &Class) -> bool
-    ensures { result ≡ stays_in_rule_located class.now }
-{
-    matches!(
-        class,
-        Class::Recipe | Class::Blank | Class::Comment | Class::If | Class::Else | Class::Endif
-    )
 }

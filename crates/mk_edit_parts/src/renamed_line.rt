@@ -92,33 +92,12 @@ fn write_part<A: Allocator + Copy>(
         ++ written (line_view line.now).bytes done to.now
         (part_ranges (line_cells (line_view line.now).bytes) from.now span)) }
 {
-    if may_have_word(text_of_line(line), span, from) {
-        return write_words(bytes, line, span, from, to, done);
+    let text = text_of_line(line);
+    if !may_have_word(text, span, from) {
+        return Ok(done);
     }
-    Ok(done)
-}
-
-// The same, where the part is cut into words.
-fn write_words<A: Allocator + Copy>(
-    bytes: &mut Vec<u8, A>,
-    line: &Line<A>,
-    span: Span,
-    from: &[u8],
-    to: &[u8],
-    done: usize,
-) -> Result<usize, AllocError>
-    requires within { IsWithin (length (line_cells (line_view line.now).bytes)) span }
-    requires apart { AreApart done (length (line_view line.now).bytes)
-        (part_ranges (line_cells (line_view line.now).bytes) from.now span) }
-    ensures end { IfOk result (λ end.
-        end ≡ last_end done (part_ranges (line_cells (line_view line.now).bytes) from.now span)) }
-    ensures written { IfOk result (λ end. bytes.new.items
-        ≡ bytes.old.items
-        ++ written (line_view line.now).bytes done to.now
-        (part_ranges (line_cells (line_view line.now).bytes) from.now span)) }
-{
     let mut done = done;
-    'words: for word in words(part(text_of_line(line), span)) {
+    'words: for word in words(part(text, span)) {
         if let Some(range) = range_of_word(line, span.start, word, from) {
             write_word(bytes, line.bytes(), done, range, to)?;
             done = range.end;

@@ -13,6 +13,7 @@ ghost use Rattle.mk_edit_parts.specs.Seeking.{IsSought, may_mean, noted_by, noth
 use crate::address::Address;
 use crate::line_test::{assigns, is_rule_for};
 use mk_class::{Class, Context};
+use mk_lines::source::MAX_TEXT;
 use mk_tree::end::sets_prefix_unread;
 use mk_tree::{Doc, Line};
 use std::alloc::Allocator;
@@ -48,7 +49,7 @@ pub fn seek<A: Allocator>(doc: &Doc<A>, address: Option<Address>) -> Sought
 {
     let wanted = wanted(address);
     let mut sought = nothing_seen();
-    let _few = doc.len();
+    prove!(doc.len() <= MAX_TEXT);
     'lines: for line in doc.iter() {
         let class = line.class();
         let is_meant = may_mean(address, line, &class);

@@ -89,20 +89,6 @@ fn count_in_part<A: Allocator>(
     if span.end <= place {
         return tally;
     }
-    count_each_word(line, span, from, tally)
-}
-
-// The same, where the part is cut into words.
-fn count_each_word<A: Allocator>(line: &Line<A>, span: Span, from: &[u8], tally: Tally) -> Tally
-    requires within { IsWithin (length (line_cells (line_view line.now).bytes)) span }
-    requires few { tally.words
-        + length (part_ranges (line_cells (line_view line.now).bytes) from.now span) < 2 ^ 32 }
-    requires few_bytes { tally.bytes
-        + bytes_in (part_ranges (line_cells (line_view line.now).bytes) from.now span)
-        ≤ 2 ^ 32 }
-    ensures { result
-        ≡ tallied tally (part_ranges (line_cells (line_view line.now).bytes) from.now span) }
-{
     let mut tally = tally;
     'words: for word in words(part(text_of_line(line), span)) {
         tally = counted(tally, range_of_word(line, span.start, word, from));

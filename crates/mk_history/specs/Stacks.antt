@@ -1,7 +1,11 @@
 -- What is seen of a history and of a sequence.
 -- Told in docs/DECISIONS.md, "mk_history".
-use Rattle.std.specs.Prelude.{ℕ, List}
+use Rattle.std.specs.Prelude.{◌⊎◌, ℕ, ◌<◌, List}
 use Rattle.mk_history.specs.Chain.{IsChain, after_all}
+
+-- a depth that no history and no session has: it is not from 1 to 10,000
+abbrev pub IsBadDepth : ℕ → Type 0
+IsBadDepth d = (d < 1) ⊎ (10000 < d)
 
 -- the depth: how many changes can be undone at most; the changes that can be undone, and those that
 -- can be redone, with the nearest of each list first

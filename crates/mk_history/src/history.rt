@@ -1,6 +1,7 @@
 //! What can be undone and redone, up to a depth.
-ghost use Rattle.std.specs.Prelude.{◌≡◌, ◌<◌, ◌⊎◌, ◌↔◌, true, [], ◌∷◌, length, take, IfOk, OnOk, OnErr, IfErr, IsOk, Err};
+ghost use Rattle.std.specs.Prelude.{◌≡◌, ◌<◌, ◌⊎◌, ◌↔◌, true, [], ◌∷◌, length, take, IfOk, OnOk, OnErr, IfErr, IsOk, IsTrue, Err};
 ghost use Rattle.mk_history.specs.Chain.{IsChain, Moves};
+ghost use Rattle.mk_history.specs.Stacks.{IsBadDepth};
 
 use crate::change::Change;
 use circular_buffer::HeapCircularBuffer;
@@ -11,6 +12,13 @@ use thiserror::Error;
 
 /// The greatest depth of a history. This project's profile.
 pub const MAX_DEPTH: u32 = 10_000;
+
+/// Whether no history has this depth: it is not from 1 to 10,000 ([`MAX_DEPTH`]).
+pub fn is_bad_depth(depth: u32) -> bool
+    ensures { IsTrue result ↔ IsBadDepth depth }
+{
+    depth < 1 || depth > MAX_DEPTH
+}
 
 /// Why nothing was undone or redone. Nothing was changed.
 #[derive(Clone, Copy, Debug, PartialEq, Eq, Error)]
@@ -58,16 +66,16 @@ impl<C: Change + Drop, A: Allocator> History<C, A> {
     ///
     /// # Errors
     ///
-    /// - [`Fault::BadDepth`] if the depth is not from 1 to 10,000 ([`MAX_DEPTH`]).
+    /// - [`Fault::BadDepth`] if the depth is not from 1 to 10,000 ([`is_bad_depth`]).
     /// - [`Fault::NoMemory`] if there is no room for `depth` changes.
     pub fn new(alloc: A, depth: u32) -> Result<History<C, A>, Fault>
     where
         A: Copy,
         ensures empty { IfOk result (λ h. h ≡ record { depth = depth; done = []; undone = [] }) }
-        ensures bad_depth { (result ≡ Err Fault.BadDepth) ↔ ((depth < 1) ⊎ (MAX_DEPTH < depth)) }
+        ensures bad_depth { (result ≡ Err Fault.BadDepth) ↔ IsBadDepth depth }
         ensures fault { IfErr result (λ e. (e ≡ Fault.BadDepth) ⊎ (e ≡ Fault.NoMemory)) }
     {
-        if depth < 1 || depth > MAX_DEPTH {
+        if is_bad_depth(depth) {
             return Err(Fault::BadDepth);
         }
         let room = depth as usize;

@@ -1,14 +1,13 @@
--- What the making of a patch means for an index of the document.
+-- What a change of the document means for its index.
 -- Told in docs/ARCHITECTURE.md, "The index of a session".
 use Rattle.std.specs.Prelude.{◌≡◌, List, [], ◌∷◌, ◌++◌, Option, Some, None, ⊤}
 use Rattle.mk_lines.specs.Ranges.{text_at}
 use Rattle.mk_class.specs.declared.assignment.Assignment as assignment
 use Rattle.mk_class.specs.declared.class.Class.TheVariants as variants
 use Rattle.mk_tree.specs.LocatedLines.{LocatedLine, text_of_line}
-use Rattle.mk_patch.specs.Moves.{Move, after_moves}
 use Rattle.mk_index.specs.Indexes.{IsIndexOf, Stored}
-use Rattle.mk_index.specs.declared.finder.Effect.{Effect}
-use Rattle.mk_index.specs.declared.finder.Effect.TheVariants.{Same, Appends, Other}
+use Rattle.mk_index.specs.declared.effect.Effect.{Effect}
+use Rattle.mk_index.specs.declared.effect.Effect.TheVariants.{Same, Appends, Other}
 
 -- if there is an index, it is one of these lines
 abbrev pub IsIndexIfAny : List LocatedLine → Option Stored → Type 0
@@ -30,9 +29,9 @@ pub record AssignSame (old new : LocatedLine) : Type 0 where
   pub new_is : new.class ≡ variants.Assign new_parts None
   pub name_is : text_at (text_of_line old) old_parts.name ≡ text_at (text_of_line new) new_parts.name
 
--- What moves mean for each index of the lines: it stays one of the lines; or one more line stands at
--- the end; or nothing is said.
-abbrev pub IsEffect : List LocatedLine → List Move → Effect → Type 0
-IsEffect ls ms Same = (index : Stored) → IsIndexOf ls index → IsIndexOf (after_moves ms ls) index
-IsEffect ls ms Appends = (line : LocatedLine) × (after_moves ms ls ≡ ls ++ line ∷ [])
-IsEffect ls ms Other = ⊤
+-- What an index of the lines before a change with this effect is of the lines after it, if there is
+-- an index: it is one of them, or one of them without the last; or nothing is said.
+abbrev pub IsIndexAfter : Effect → (after : List LocatedLine) → Option Stored → Type 0
+IsIndexAfter Same ls index = IsIndexIfAny ls index
+IsIndexAfter Appends ls index = IsBehind ls index
+IsIndexAfter Other ls index = ⊤

@@ -11,6 +11,7 @@ ghost use Rattle.mk_index.specs.Passings.{named, passed_over, passed_with};
 use crate::bucket::{bucket_of, hash_of};
 use mk_edit_parts::line_test::assigns;
 use mk_edit_parts::seek::Found;
+use mk_lines::source::MAX_TEXT;
 use mk_tree::Doc;
 use std::alloc::{AllocError, Allocator, Global};
 use std::marker::Model;
@@ -117,7 +118,7 @@ impl<A: Allocator + Copy> Chains<A> {
         ensures { IfSome result (λ passed.
             passed ≡ passed_over later (named name.now (last_first doc.now))) }
     {
-        let _few = doc.len();
+        prove!(doc.len() <= MAX_TEXT);
         let hash = hash_of(name);
         let mut number = self.heads[bucket_of(hash, self.heads.len())];
         let mut passed = Passed {

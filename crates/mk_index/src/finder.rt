@@ -1,40 +1,23 @@
 //! The index of a document that is edited.
-ghost use Rattle.std.specs.Prelude.{◌≡◌, ◌+◌, IsTrue, None, is_some, length, true};
+ghost use Rattle.std.specs.Prelude.{◌≡◌, None, is_some, true};
 ghost use Rattle.mk_tree.specs.Documents.{IsFaithful};
-ghost use Rattle.mk_tree.specs.Trees.{line_view};
 ghost use Rattle.mk_tree.specs.UnreadPrefixes.{IsEndOf};
 ghost use Rattle.mk_edit_language.specs.EditViews.{edit_of};
-ghost use Rattle.mk_edit_parts.specs.LocatedParts.{IsClassed};
 ghost use Rattle.mk_edit_parts.specs.Seeking.{IsKnown};
-ghost use Rattle.mk_patch.specs.Moves.{FitMoves, after_moves, held_by, taken_by};
-ghost use Rattle.mk_index.specs.Effects.{AssignSame, IsBehind, IsEffect, IsIndexIfAny};
+ghost use Rattle.mk_index.specs.Effects.{IsBehind, IsIndexIfAny, IsIndexAfter};
 
+use crate::effect::Effect;
 use crate::index::Index;
-use mk_class::Class;
 use mk_edit_language::Edit;
 use mk_edit_parts::address::{Address, address_of};
 use mk_edit_parts::seek::Sought;
-use mk_edit_parts::text::is_same_text;
-use mk_patch::{Patch, Step};
-use mk_tree::part::{part, text_of_line};
-use mk_tree::{Doc, End, Line};
+use mk_tree::{Doc, End};
 use std::alloc::{Allocator, Global};
 use std::marker::Model;
 
 // A document of fewer lines gets no index: a walk over them takes no longer than the rest of an
 // edit.
 const FEWEST_LINES: usize = 1_024;
-
-/// What the making of a patch means for an index of the document.
-#[derive(Clone, Copy)]
-pub enum Effect {
-    /// The index stays one of the document.
-    Same,
-    /// One more line stands at the end.
-    Appends,
-    /// The index may be of no use any more.
-    Other,
-}
 
 /// The index of a document that is edited, once an index is worth its making. Contracts see the
 /// index, if there is one.
@@ -141,28 +124,19 @@ impl<A: Allocator + Copy> Finder<A> {
         }
     }
 
-    /// Makes a patch of the document, as [`Patch::make`] does. The index is kept over another value
-    /// of the same variable and over a line at the end, and dropped over any other change.
-    pub fn make(&mut self, patch: Patch<A>, doc: &mut Doc<A>) -> Patch<A>
-        requires faithful { IsFaithful doc.old }
-        requires faithful_after { IsFaithful (after_moves patch doc.old) }
-        requires fit { FitMoves patch doc.old }
-        requires index { IsIndexIfAny doc.old self.old }
-        ensures after { doc.new ≡ after_moves patch doc.old }
-        ensures fits_back { FitMoves result doc.new }
-        ensures leads_back { after_moves result doc.new ≡ doc.old }
-        ensures held { held_by result ≡ taken_by patch }
-        ensures takes { taken_by result ≡ held_by patch }
-        ensures index { IsIndexIfAny doc.new self.new }
+    /// Follows a change of the document, by what [`effect_of`](crate::effect::effect_of) told of it
+    /// before it was made. The index is kept over another value of the same variable and over a line
+    /// at the end, and dropped over any other change.
+    pub fn follow(&mut self, effect: Effect, doc: &Doc<A>)
+        requires faithful { IsFaithful doc.now }
+        requires after { IsIndexAfter effect doc.now self.old }
+        ensures { IsIndexIfAny doc.now self.new }
     {
-        let effect = effect_of(doc, &patch);
-        let inverse = patch.make(doc);
         match effect {
             Effect::Same => {}
             Effect::Appends => self.add_last(doc),
             Effect::Other => self.forget(),
         }
-        inverse
     }
 
     // Adds the last line of the document to the index.
@@ -185,34 +159,5 @@ impl<A: Allocator + Copy> Finder<A> {
     {
         self.index = None;
         self.is_due = false;
-    }
-}
-
-// What the making of a patch means for an index.
-fn effect_of<A: Allocator>(doc: &Doc<A>, patch: &Patch<A>) -> Effect
-    requires faithful { IsFaithful doc.now }
-    requires faithful_after { IsFaithful (after_moves patch.now doc.now) }
-    requires fit { FitMoves patch.now doc.now }
-    ensures { IsEffect doc.now patch.now result }
-{
-    match patch.only_step() {
-        Some(Step::PutIn(at, _)) if *at == doc.len() => Effect::Appends,
-        Some(Step::Exchange(at, line)) if assign_same(doc.line(*at), line) => Effect::Same,
-        _ => Effect::Other,
-    }
-}
-
-// Whether two lines assign the same variable, and neither sets the recipe prefix.
-fn assign_same<A: Allocator>(old: &Line<A>, new: &Line<A>) -> bool
-    requires old { IsClassed (line_view old.now) }
-    requires new { IsClassed (line_view new.now) }
-    ensures { IsTrue result → AssignSame (line_view old.now) (line_view new.now) }
-{
-    match (old.class(), new.class()) {
-        (Class::Assign(was, None), Class::Assign(is, None)) => is_same_text(
-            part(text_of_line(old), was.name),
-            part(text_of_line(new), is.name),
-        ),
-        _ => false,
     }
 }

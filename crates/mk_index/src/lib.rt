@@ -3,11 +3,13 @@
 //! - [`bucket`]: the bucket of a name.
 //! - [`chains`]: the assignments of each bucket.
 //! - [`index`]: what is known of all lines.
+//! - [`effect`]: what a change of the document means for its index.
 //! - [`finder`]: the index of a document that is edited.
 #![tactic(auto)]
 
 pub mod bucket;
 pub mod chains;
+pub mod effect;
 pub mod finder;
 pub mod index;
 

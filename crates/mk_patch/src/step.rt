@@ -3,6 +3,7 @@ ghost use Rattle.std.specs.Prelude.{◌≡◌};
 ghost use Rattle.mk_patch.specs.Moves.{FitsMove, after_move, held_by_move, taken_by_move};
 ghost use Rattle.mk_patch.specs.StepMoves.{move_of};
 
+use mk_lines::source::MAX_TEXT;
 use mk_tree::{Doc, Line, LineBytes};
 use std::alloc::{Allocator, Global};
 
@@ -56,8 +57,7 @@ impl<A: Allocator> Step<A> {
         ensures held { held_by_move (move_of result) ≡ taken_by_move (move_of self) }
         ensures takes { taken_by_move (move_of result) ≡ held_by_move (move_of self) }
     {
-        // The contract of `size` says that a document is within the limit, as the inverse asks.
-        let _size = doc.size();
+        prove!(doc.size() <= MAX_TEXT); // so that the inverse fits
         match self {
             Step::PutIn(at, line) => {
                 doc.insert(at, line);

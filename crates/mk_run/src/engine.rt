@@ -11,7 +11,7 @@ ghost use Rattle.mk_run.specs.RunSteps.{AreObeyed, EndsCommands, GivesCommands, 
 
 use crate::outcome::Outcome;
 use crate::report::report_refusal;
-use mk_history::history::MAX_DEPTH;
+use mk_history::history::is_bad_depth;
 use mk_lines::source::{BUFFER, MAX_TEXT, read_all};
 use mk_lines::{ByteSink, ByteSource, Fault};
 use mk_script::{NumberedCommand, ScriptFault, parse_script};
@@ -407,7 +407,7 @@ where
         (P.failed report.new) (written (P.contents report.old) (P.contents report.new))
         (written (W.contents out.old) (W.contents out.new)) kept.old kept.new result }
 {
-    if depth < 1 || depth > MAX_DEPTH {
+    if is_bad_depth(depth) {
         return Outcome::BadDepth;
     }
     let commands = match read_script(alloc, script) {

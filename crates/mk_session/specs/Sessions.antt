@@ -14,6 +14,7 @@ use Rattle.mk_lines.specs.declared.fault.Fault.TheVariants.{TooLong, TooDeep, Ba
 use Rattle.mk_history.specs.Machine as machine
 use Rattle.mk_history.specs.Machine.{Command, Apply, EditRefused}
 use Rattle.mk_history.specs.Shown.{Shown, shown_opened, shown_answer}
+pub use Rattle.mk_history.specs.Stacks.{IsBadDepth}
 
 -- ---- what an edit makes of a text
 
@@ -50,10 +51,6 @@ abbrev pub IsEditRefusal : Edit → Shown (List ℕ) → Refusal → Type 0
 IsEditRefusal e s r =
     (answer (Apply e) s ≡ Err (EditRefused r))
     ⊎ ((r ≡ NoMemory) × (new : Shown (List ℕ)) × (answer (Apply e) s ≡ Ok new))
-
--- a depth that a session cannot have: it is not from 1 to 10,000
-abbrev pub IsBadDepth : ℕ → Type 0
-IsBadDepth d = (d < 1) ⊎ (10000 < d)
 
 -- A fault of opening a text: a bad depth first; then a text that is too long; then a text that is
 -- too deep; and otherwise that a growth was refused. Memory is needed to see how deep a text is, so

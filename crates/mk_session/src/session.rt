@@ -13,9 +13,10 @@ ghost use Rattle.mk_session.specs.Sessions.{IsBadDepth, IsBeginRefusal, IsEditRe
 
 use mk_class::Meter;
 use mk_edit::{Edit, Refusal, plan_with};
-use mk_history::history::MAX_DEPTH;
+use mk_history::history::is_bad_depth;
 use mk_history::{Change, History, Sequence};
 use mk_index::Finder;
+use mk_index::effect::effect_of;
 use mk_lines::Fault;
 use mk_lines::source::MAX_TEXT;
 use mk_patch::Patch;
@@ -66,17 +67,6 @@ impl<A: Allocator> Model for Session<A> {
         × (s.opened_at ≤ max_text) };
 }
 
-// Refuses a depth that a session cannot have.
-fn test_depth(depth: u32) -> Result<(), Fault>
-    ensures bad { (result ≡ Err Fault.BadDepth) ↔ IsBadDepth depth }
-    ensures only { IsOkUnless result Fault.BadDepth }
-{
-    if depth < 1 || depth > MAX_DEPTH {
-        return Err(Fault::BadDepth);
-    }
-    Ok(())
-}
-
 impl<A: Allocator + Copy> Session<A> {
     /// Opens a text. Up to `depth` edits or groups can be undone.
     ///
@@ -96,7 +86,9 @@ impl<A: Allocator + Copy> Session<A> {
         ensures shallow { IfOk result (λ _. IsTooDeep text.now → ⊥) }
         ensures fault { IfErr result (λ fault. IsOpeningFault depth text.now fault) }
     {
-        test_depth(depth)?;
+        if is_bad_depth(depth) {
+            return Err(Fault::BadDepth);
+        }
         if text.len() > MAX_TEXT {
             return Err(Fault::TooLong);
         }
@@ -116,7 +108,9 @@ impl<A: Allocator + Copy> Session<A> {
         ensures shallow { IfOk result (λ _. IsTooDeep text.items → ⊥) }
         ensures fault { IfErr result (λ fault. IsOpeningFault depth text.items fault) }
     {
-        test_depth(depth)?; // before any line is read
+        if is_bad_depth(depth) {
+            return Err(Fault::BadDepth); // before any line is read
+        }
         let mut meter = Meter::new();
         let (doc, end) = Doc::parse_with_end(alloc, text, &mut meter)?;
         let finder = Finder::over(&doc, end);
@@ -140,7 +134,7 @@ impl<A: Allocator + Copy> Session<A> {
         ensures fault { IsOkUnless result Fault.NoMemory }
     {
         let history = History::new(alloc, depth)?;
-        let _few = doc.len();
+        prove!(doc.len() <= MAX_TEXT);
         let opened_at = meter.count();
         Ok(Session {
             alloc,
@@ -188,13 +182,15 @@ impl<A: Allocator + Copy> Session<A> {
             Ok(patch) => patch,
             Err(refusal) => return Err(refusal),
         };
+        let effect = effect_of(&self.doc, &patch);
         match self.group.take() {
             Some(mut group) => {
                 if group.reserve(1).is_err() {
                     self.group = Some(group);
                     return Err(Refusal::NoMemory);
                 }
-                group.push_front(self.finder.make(patch, &mut self.doc));
+                group.push_front(patch.make(&mut self.doc));
+                self.finder.follow(effect, &self.doc);
                 self.group = Some(group);
                 self.history.forget();
             }
@@ -202,7 +198,8 @@ impl<A: Allocator + Copy> Session<A> {
                 let Ok(mut member) = Sequence::with_capacity(self.alloc, 1) else {
                     return Err(Refusal::NoMemory);
                 };
-                member.push_front(self.finder.make(patch, &mut self.doc));
+                member.push_front(patch.make(&mut self.doc));
+                self.finder.follow(effect, &self.doc);
                 self.history.push(member);
             }
         }

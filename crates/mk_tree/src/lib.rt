@@ -2,12 +2,21 @@
 //!
 //! - [`document`]: the document, and the calls that change its lines.
 //! - [`parse`]: a document made of a text.
+//! - `read`: lines as they are read, with their class and their cells.
+//! - `plain`: which lines of a text are plain, as most are, and need no cells.
+//! - `unread`: the lines of a text that are still to be read.
 //! - [`end`]: what is known where the lines of a document end.
+//! - `contexts`: the context of a document's lines.
 //! - [`part`]: parts of a line's text, by their offsets.
 //! - [`iter`]: the lines of a document in order.
 //! - [`walk`]: the lines of a document in order, each with its context.
 //! - [`tree`]: the balanced tree that the lines stand in, and a line by itself.
+//! - `content`: what a document stores of a line.
+//! - `short_class`: the class of a line as it is stored, with small numbers for its offsets.
 //! - [`line_bytes`]: the bytes of a line, a part of the text that it was parsed from.
+//! - `origin`: the text that a document was read from, and the lines that stand in it still.
+//! - `print`: the text of a document.
+//! - [`gathering`]: texts on their way to a sink, gathered into few writes.
 //! - [`laws`]: theorems on the definitions of documents.
 #![tactic(auto)]
 

@@ -6,6 +6,7 @@ use Rattle.mk_lines.specs.Cells.{Cell, joined_byte, joined_text, line_cells}
 use Rattle.mk_lines.specs.Ranges.{text_at}
 use Rattle.mk_class.specs.Texts.{is_one_of, word_texts}
 use Rattle.mk_class.specs.RecipePrefix.{is_prefix_name}
+use Rattle.mk_class.specs.Assignments.{Assignment}
 use Rattle.mk_class.specs.Classes.{Class}
 use Rattle.mk_class.specs.Classes.Class.{Endef, Body, Recipe, Opaque, Blank, Comment, Assign, DefineHead, If, Else, Endif, Directive, TargetAssign, Rough, Header}
 use Rattle.mk_class.specs.LocatedClasses.{located_class}
@@ -50,84 +51,65 @@ words-part cs end before part h = sym (text_words-words (text_at (joined_text cs
 parts : (c : Context) (l : ClassedLine) → class_of c l.bytes ≡ l.class → ArePartsLocated (line_cells l.bytes) (class_of c l.bytes) (located_class joined_byte l.class)
 parts c l h = line-parts_located c l.bytes (located_class joined_byte l.class) (ap (located_class joined_byte) (sym h))
 
-pub assigns-located : (n : List ℕ) (c : Context) (l : ClassedLine) → class_of c l.bytes ≡ l.class → assigns_located n (located_line l) ≡ assigns n l.class
-assigns-located n c l h = go l.class h (parts c l h)
+-- what the tests say of a line of this class, as a document shows it
+record Tested (text : List ℕ) (k : Class Cell) : Type 0 where
+  assigns_is : (n : List ℕ) → assigns_in text n (located_class joined_byte k) ≡ assigns n k
+  rule_is : (g : List ℕ) → is_rule_for_in text g (located_class joined_byte k) ≡ is_rule_for g k
+  target_is : (w : List ℕ) → is_target_in text w (located_class joined_byte k) ≡ is_one_of w (targets_of k)
+  unread_is : is_unread_in text (located_class joined_byte k) ≡ is_unread_prefix k
+
+tested : (c : Context) (l : ClassedLine) → class_of c l.bytes ≡ l.class → Tested (joined_text (line_cells l.bytes)) l.class
+tested c l h = go l.class h (parts c l h)
   where
-    go : (k : Class Cell) → class_of c l.bytes ≡ k → ArePartsLocated (line_cells l.bytes) (class_of c l.bytes) (located_class joined_byte k) → assigns_in (joined_text (line_cells l.bytes)) n (located_class joined_byte k) ≡ assigns n k
-    go (Assign a p) e s = ap (λ z. bytes_eq z n) s.2.name.text_is ∙ ap (λ k. assigns n k) (sym s.1 ∙ e)
-    go Endef e s = refl
-    go (Body d) e s = refl
-    go Recipe e s = refl
-    go Opaque e s = refl
-    go Blank e s = refl
-    go Comment e s = refl
-    go (DefineHead q) e s = refl
-    go If e s = refl
-    go Else e s = refl
-    go Endif e s = refl
-    go Directive e s = refl
-    go (TargetAssign t) e s = refl
-    go Rough e s = refl
-    go (Header x) e s = refl
+    cs : List Cell
+    cs = line_cells l.bytes
+
+    unread-is : (a : Assignment Cell) (p : Option ℕ) → class_of c l.bytes ≡ Assign a p → ArePartsLocated cs (class_of c l.bytes) (located_class joined_byte (Assign a p)) → is_unread_in (joined_text cs) (located_class joined_byte (Assign a p)) ≡ is_unread_prefix (Assign a p)
+    unread-is a None e s = ap is_prefix_name s.2.name.text_is ∙ ap is_unread_prefix (sym s.1 ∙ e)
+    unread-is a (Some b) e s = refl
+
+    go : (k : Class Cell) → class_of c l.bytes ≡ k → ArePartsLocated cs (class_of c l.bytes) (located_class joined_byte k) → Tested (joined_text cs) k
+    go (Assign a p) e s = record {
+      assigns_is = λ n. ap (λ z. bytes_eq z n) s.2.name.text_is ∙ ap (λ k. assigns n k) (sym s.1 ∙ e);
+      rule_is = λ g. refl;
+      target_is = λ w. refl;
+      unread_is = unread-is a p e s;
+    }
+    go (Header x) e s =
+        let words = words-part cs _ [] s.0.targets s.2.targets in
+        record {
+          assigns_is = λ n. refl;
+          rule_is = λ g. ap (is_one_of g) words ∙ ap (λ k. is_rule_for g k) (sym s.1 ∙ e);
+          target_is = λ w. ap (is_one_of w) words ∙ ap (λ k. is_one_of w (targets_of k)) (sym s.1 ∙ e);
+          unread_is = refl;
+        }
+    go (TargetAssign t) e s = record {
+      assigns_is = λ n. refl;
+      rule_is = λ g. refl;
+      target_is = λ w. ap (is_one_of w) (words-part cs _ [] s.0.targets s.2.targets) ∙ ap (λ k. is_one_of w (targets_of k)) (sym s.1 ∙ e);
+      unread_is = refl;
+    }
+    go Endef e s = record { assigns_is = λ n. refl; rule_is = λ g. refl; target_is = λ w. refl; unread_is = refl }
+    go (Body d) e s = record { assigns_is = λ n. refl; rule_is = λ g. refl; target_is = λ w. refl; unread_is = refl }
+    go Recipe e s = record { assigns_is = λ n. refl; rule_is = λ g. refl; target_is = λ w. refl; unread_is = refl }
+    go Opaque e s = record { assigns_is = λ n. refl; rule_is = λ g. refl; target_is = λ w. refl; unread_is = refl }
+    go Blank e s = record { assigns_is = λ n. refl; rule_is = λ g. refl; target_is = λ w. refl; unread_is = refl }
+    go Comment e s = record { assigns_is = λ n. refl; rule_is = λ g. refl; target_is = λ w. refl; unread_is = refl }
+    go (DefineHead q) e s = record { assigns_is = λ n. refl; rule_is = λ g. refl; target_is = λ w. refl; unread_is = refl }
+    go If e s = record { assigns_is = λ n. refl; rule_is = λ g. refl; target_is = λ w. refl; unread_is = refl }
+    go Else e s = record { assigns_is = λ n. refl; rule_is = λ g. refl; target_is = λ w. refl; unread_is = refl }
+    go Endif e s = record { assigns_is = λ n. refl; rule_is = λ g. refl; target_is = λ w. refl; unread_is = refl }
+    go Directive e s = record { assigns_is = λ n. refl; rule_is = λ g. refl; target_is = λ w. refl; unread_is = refl }
+    go Rough e s = record { assigns_is = λ n. refl; rule_is = λ g. refl; target_is = λ w. refl; unread_is = refl }
+
+pub assigns-located : (n : List ℕ) (c : Context) (l : ClassedLine) → class_of c l.bytes ≡ l.class → assigns_located n (located_line l) ≡ assigns n l.class
+assigns-located n c l h = (tested c l h).assigns_is n
 
 pub rule_for-located : (g : List ℕ) (c : Context) (l : ClassedLine) → class_of c l.bytes ≡ l.class → is_rule_for_located g (located_line l) ≡ is_rule_for g l.class
-rule_for-located g c l h = go l.class h (parts c l h)
-  where
-    go : (k : Class Cell) → class_of c l.bytes ≡ k → ArePartsLocated (line_cells l.bytes) (class_of c l.bytes) (located_class joined_byte k) → is_rule_for_in (joined_text (line_cells l.bytes)) g (located_class joined_byte k) ≡ is_rule_for g k
-    go (Header x) e s = ap (is_one_of g) (words-part (line_cells l.bytes) _ [] s.0.targets s.2.targets) ∙ ap (λ k. is_rule_for g k) (sym s.1 ∙ e)
-    go (Assign a p) e s = refl
-    go Endef e s = refl
-    go (Body d) e s = refl
-    go Recipe e s = refl
-    go Opaque e s = refl
-    go Blank e s = refl
-    go Comment e s = refl
-    go (DefineHead q) e s = refl
-    go If e s = refl
-    go Else e s = refl
-    go Endif e s = refl
-    go Directive e s = refl
-    go (TargetAssign t) e s = refl
-    go Rough e s = refl
+rule_for-located g c l h = (tested c l h).rule_is g
 
 pub target-located : (w : List ℕ) (c : Context) (l : ClassedLine) → class_of c l.bytes ≡ l.class → is_target_located w (located_line l) ≡ is_one_of w (targets_of l.class)
-target-located w c l h = go l.class h (parts c l h)
-  where
-    go : (k : Class Cell) → class_of c l.bytes ≡ k → ArePartsLocated (line_cells l.bytes) (class_of c l.bytes) (located_class joined_byte k)
-        → is_target_in (joined_text (line_cells l.bytes)) w (located_class joined_byte k) ≡ is_one_of w (targets_of k)
-    go (Header x) e s = ap (is_one_of w) (words-part (line_cells l.bytes) _ [] s.0.targets s.2.targets) ∙ ap (λ k. is_one_of w (targets_of k)) (sym s.1 ∙ e)
-    go (TargetAssign t) e s = ap (is_one_of w) (words-part (line_cells l.bytes) _ [] s.0.targets s.2.targets) ∙ ap (λ k. is_one_of w (targets_of k)) (sym s.1 ∙ e)
-    go (Assign a p) e s = refl
-    go Endef e s = refl
-    go (Body d) e s = refl
-    go Recipe e s = refl
-    go Opaque e s = refl
-    go Blank e s = refl
-    go Comment e s = refl
-    go (DefineHead q) e s = refl
-    go If e s = refl
-    go Else e s = refl
-    go Endif e s = refl
-    go Directive e s = refl
-    go Rough e s = refl
+target-located w c l h = (tested c l h).target_is w
 
 pub unread-located : (c : Context) (l : ClassedLine) → class_of c l.bytes ≡ l.class → is_unread_located (located_line l) ≡ is_unread_prefix l.class
-unread-located c l h = go l.class h (parts c l h)
-  where
-    go : (k : Class Cell) → class_of c l.bytes ≡ k → ArePartsLocated (line_cells l.bytes) (class_of c l.bytes) (located_class joined_byte k) → is_unread_in (joined_text (line_cells l.bytes)) (located_class joined_byte k) ≡ is_unread_prefix k
-    go (Assign a None) e s = ap is_prefix_name s.2.name.text_is ∙ ap is_unread_prefix (sym s.1 ∙ e)
-    go (Assign a (Some b)) e s = refl
-    go Endef e s = refl
-    go (Body d) e s = refl
-    go Recipe e s = refl
-    go Opaque e s = refl
-    go Blank e s = refl
-    go Comment e s = refl
-    go (DefineHead q) e s = refl
-    go If e s = refl
-    go Else e s = refl
-    go Endif e s = refl
-    go Directive e s = refl
-    go (TargetAssign t) e s = refl
-    go Rough e s = refl
-    go (Header x) e s = refl
+unread-located c l h = (tested c l h).unread_is

@@ -5,44 +5,17 @@ use Rattle.std.proofs.lemmas.Bool.{ne_eqb, eq-eqb}
 use Rattle.std.proofs.lemmas.List.{take-map, drop-map}
 use Rattle.std.specs.Prelude.{slice_get}
 use Rattle.mk_lines.specs.Lists.{trim_end, trim_end_before}
-use Rattle.mk_lines.specs.Cells.{Cell, joined_byte}
-use Rattle.mk_class.specs.Classes.{Class, is_recipe, is_conditional, leaves_flag}
-use Rattle.mk_class.specs.Classes.Class.{Endef, Body, Recipe, Opaque, Blank, Comment, Assign, DefineHead, If, Else, Endif, Directive, TargetAssign, Rough, Header}
-use Rattle.mk_class.specs.LocatedClasses.{located_class}
+use Rattle.mk_class.specs.Classes.{is_recipe, is_conditional, leaves_flag}
+use Rattle.mk_class.specs.LocatedClasses.{leaves_flag_located}
 use Rattle.mk_class.specs.ClassedLines.{ClassedLine, classed_lines}
 use Rattle.mk_tree.specs.Documents.{IsFaithful}
 use Rattle.mk_tree.specs.LocatedLines.{LocatedLine, located_line, located_lines, located_text, is_conditional_located}
 use Rattle.mk_tree.specs.RecipeLines.{stays_in_rule, rule_lines, recipe_lines, recipe_run}
 use Rattle.mk_tree.specs.LineTexts.{StandingLine}
 use Rattle.mk_edit_language.specs.Spots.{spots, spot_if, under, nth_of}
-use Rattle.mk_edit_parts.specs.RecipeWalks.{lines_from, recipe_spots_in, is_recipe_located, stays_in_rule_located, recipe_from, recipe_index_from}
+use Rattle.mk_edit_parts.specs.RecipeWalks.{lines_from, recipe_spots_in, is_recipe_located, recipe_from, recipe_index_from}
 use Rattle.mk_edit_parts.specs.declared.recipe.Recipe as recipe
-use Rattle.mk_edit_parts.proofs.on_finding.LeanLemmas.{drop_at}
-
--- ---- classes
-
--- what a walk asks of a class
-record Asked (k : Class Cell) : Type 0 where
-  recipe_is : is_recipe_located (located_class joined_byte k) ≡ is_recipe k
-  stays_is : stays_in_rule_located (located_class joined_byte k) ≡ stays_in_rule k
-  conditional_is : is_conditional_located (located_class joined_byte k) ≡ is_conditional k
-
-asked : (k : Class Cell) → Asked k
-asked Endef = record { recipe_is = refl; stays_is = refl; conditional_is = refl }
-asked (Body d) = record { recipe_is = refl; stays_is = refl; conditional_is = refl }
-asked Recipe = record { recipe_is = refl; stays_is = refl; conditional_is = refl }
-asked Opaque = record { recipe_is = refl; stays_is = refl; conditional_is = refl }
-asked Blank = record { recipe_is = refl; stays_is = refl; conditional_is = refl }
-asked Comment = record { recipe_is = refl; stays_is = refl; conditional_is = refl }
-asked (Assign a p) = record { recipe_is = refl; stays_is = refl; conditional_is = refl }
-asked (DefineHead q) = record { recipe_is = refl; stays_is = refl; conditional_is = refl }
-asked If = record { recipe_is = refl; stays_is = refl; conditional_is = refl }
-asked Else = record { recipe_is = refl; stays_is = refl; conditional_is = refl }
-asked Endif = record { recipe_is = refl; stays_is = refl; conditional_is = refl }
-asked Directive = record { recipe_is = refl; stays_is = refl; conditional_is = refl }
-asked (TargetAssign t) = record { recipe_is = refl; stays_is = refl; conditional_is = refl }
-asked Rough = record { recipe_is = refl; stays_is = refl; conditional_is = refl }
-asked (Header x) = record { recipe_is = refl; stays_is = refl; conditional_is = refl }
+use Rattle.mk_edit_parts.proofs.on_finding.LeanLemmas.{asked, drop_at}
 
 -- ---- where the recipe ends
 
@@ -81,40 +54,19 @@ told-passed r c at x (y ∷ ys) =
     or-assoc true b c = refl
     or-assoc false b c = refl
 
--- a recipe line is no conditional's
-recipe-no_conditional : (k : Class Cell) → is_recipe k ≡ true → is_conditional k ≡ false
-recipe-no_conditional Recipe h = refl
-recipe-no_conditional Endef h = refl
-recipe-no_conditional (Body d) h = refl
-recipe-no_conditional Opaque h = refl
-recipe-no_conditional Blank h = refl
-recipe-no_conditional Comment h = refl
-recipe-no_conditional (Assign a p) h = refl
-recipe-no_conditional (DefineHead q) h = refl
-recipe-no_conditional If h = absurd (cc)
-recipe-no_conditional Else h = absurd (cc)
-recipe-no_conditional Endif h = absurd (cc)
-recipe-no_conditional Directive h = refl
-recipe-no_conditional (TargetAssign t) h = refl
-recipe-no_conditional Rough h = refl
-recipe-no_conditional (Header x) h = refl
-
 run-told : (r : recipe.Recipe) (c : Bool) (at : ℕ) (ls : List ClassedLine) → recipe_from r c at (located_lines ls) ≡ run_told r c at (recipe_run ls)
 unfolding run_told
 run-told r c at [] = refl
 run-told r c at (l ∷ ls) =
     let A = asked l.class in
-    ap (λ b. if b then recipe_from (record { end = at + 1; is_split = c }) c (at + 1) (located_lines ls) else if stays_in_rule_located (located_class joined_byte l.class) then recipe_from r (c || is_conditional_located (located_class joined_byte l.class)) (at + 1) (located_lines ls) else r) A.recipe_is
-    ∙ (ap (λ b. if is_recipe l.class then recipe_from (record { end = at + 1; is_split = c }) c (at + 1) (located_lines ls) else if b then recipe_from r (c || is_conditional_located (located_class joined_byte l.class)) (at + 1) (located_lines ls) else r) A.stays_is
-    ∙ (ap (λ b. if is_recipe l.class then recipe_from (record { end = at + 1; is_split = c }) c (at + 1) (located_lines ls) else if stays_in_rule l.class then recipe_from r (c || b) (at + 1) (located_lines ls) else r) A.conditional_is
-    ∙ go (is_recipe l.class) (leaves_flag l.class) refl (λ q d. run-told q d (at + 1) ls)))
+    rw (A.recipe_is, A.leaves_is, A.conditional_is) (go (is_recipe l.class) (leaves_flag l.class) refl (λ q d. run-told q d (at + 1) ls))
   where
     go : (b s : Bool) → is_recipe l.class ≡ b → ((q : recipe.Recipe) (d : Bool) → recipe_from q d (at + 1) (located_lines ls) ≡ run_told q d (at + 1) (recipe_run ls))
-        → (if b then recipe_from (record { end = at + 1; is_split = c }) c (at + 1) (located_lines ls) else if b || s then recipe_from r (c || is_conditional l.class) (at + 1) (located_lines ls) else r)
+        → (if b then recipe_from (record { end = at + 1; is_split = c }) c (at + 1) (located_lines ls) else if s then recipe_from r (c || is_conditional l.class) (at + 1) (located_lines ls) else r)
         ≡ run_told r c at (trim_end (λ z. not (is_recipe z.class)) (if b || s then l ∷ rule_lines ls else []))
     go true s h ih =
         ih (record { end = at + 1; is_split = c }) c
-        ∙ (told-ended c c at l (recipe_run ls) (recipe-no_conditional l.class h)
+        ∙ (told-ended c c at l (recipe_run ls) ((asked l.class).apart h)
         ∙ ap (λ q. run_told r c at (trim_end_before (not q) l (recipe_run ls))) (sym h))
     go false true h ih = ih r (c || is_conditional l.class) ∙ (told-passed r c at l (recipe_run ls) ∙ ap (λ q. run_told r c at (trim_end_before (not q) l (recipe_run ls))) (sym h))
     go false false h ih = refl
@@ -124,7 +76,7 @@ run-told r c at (l ∷ ls) =
 -- a walk that has passed at least this number of recipe lines finds none of this number
 index-passed : (n p at : ℕ) (ls : List LocatedLine) → n ≤ p → recipe_index_from n p at ls ≡ None
 index-passed n p at [] h = refl
-index-passed n p at (l ∷ ls) h = go (is_recipe_located l.class) (stays_in_rule_located l.class) (index-passed n (p + 1) (at + 1) ls (omega (arith, h))) (index-passed n p (at + 1) ls h)
+index-passed n p at (l ∷ ls) h = go (is_recipe_located l.class) (leaves_flag_located l.class) (index-passed n (p + 1) (at + 1) ls (omega (arith, h))) (index-passed n p (at + 1) ls h)
   where
     go : (b s : Bool) → recipe_index_from n (p + 1) (at + 1) ls ≡ None → recipe_index_from n p (at + 1) ls ≡ None
         → (if b then (if p + 1 == n then Some at else recipe_index_from n (p + 1) (at + 1) ls) else if s then recipe_index_from n p (at + 1) ls else None) ≡ None
@@ -154,13 +106,12 @@ index-told : (n p m at : ℕ) (ls : List ClassedLine) → n ≡ p + suc m → re
 index-told n p m at [] h = refl
 index-told n p m at (l ∷ ls) h =
     let A = asked l.class in
-    ap (λ b. if b then (if p + 1 == n then Some at else recipe_index_from n (p + 1) (at + 1) (located_lines ls)) else if stays_in_rule_located (located_class joined_byte l.class) then recipe_index_from n p (at + 1) (located_lines ls) else None) A.recipe_is
-    ∙ (ap (λ b. if is_recipe l.class then (if p + 1 == n then Some at else recipe_index_from n (p + 1) (at + 1) (located_lines ls)) else if b then recipe_index_from n p (at + 1) (located_lines ls) else None) A.stays_is
-    ∙ (go (is_recipe l.class) (leaves_flag l.class) m h (λ q j k. index-told n q j (at + 1) ls k)
-    ∙ ap (λ z. option_map (index_of_spot at) (nth_of (suc m) z)) (sorted (is_recipe l.class) (stays_in_rule l.class) refl)))
+    rw (A.recipe_is, A.leaves_is)
+    (go (is_recipe l.class) (leaves_flag l.class) m h (λ q j k. index-told n q j (at + 1) ls k)
+    ∙ ap (λ z. option_map (index_of_spot at) (nth_of (suc m) z)) (sorted (is_recipe l.class) (stays_in_rule l.class) refl))
   where
     go : (b s : Bool) (m : ℕ) → n ≡ p + suc m → ((q j : ℕ) → n ≡ q + suc j → recipe_index_from n q (at + 1) (located_lines ls) ≡ option_map (index_of_spot (at + 1)) (nth_of (suc j) (recipe_spots_in ls)))
-        → (if b then (if p + 1 == n then Some at else recipe_index_from n (p + 1) (at + 1) (located_lines ls)) else if b || s then recipe_index_from n p (at + 1) (located_lines ls) else None)
+        → (if b then (if p + 1 == n then Some at else recipe_index_from n (p + 1) (at + 1) (located_lines ls)) else if s then recipe_index_from n p (at + 1) (located_lines ls) else None)
         ≡ option_map (index_of_spot at) (nth_of (suc m) (spots_where b (b || s) l ls))
     go true s zero e ih =
         let k : at ≡ at + 0 = omega arith in
@@ -217,31 +168,15 @@ end-past r c ls at h = ap (recipe_from r c at) (past-end ls at h)
 
 pub end-recipe : (r q : recipe.Recipe) (c d : Bool) (ls : List LocatedLine) (at : ℕ) (l : LocatedLine) → Some l ≡ slice_get ls at → is_recipe_located l.class ≡ true → q ≡ record { end = at + 1; is_split = c } → d ≡ c
     → recipe_from r c at (drop at ls) ≡ recipe_from q d (at + 1) (drop (at + 1) ls)
-end-recipe r q c d ls at l h a e f =
-    let below = drop (at + 1) ls in
-    let next = recipe_from (record { end = at + 1; is_split = c }) c (at + 1) below in
-    ap (recipe_from r c at) (drop_at ls at l h)
-    ∙ (ap (λ b. if b then next else if stays_in_rule_located l.class then recipe_from r (c || is_conditional_located l.class) (at + 1) below else r) a
-    ∙ (ap (λ (z : recipe.Recipe). recipe_from z c (at + 1) below) (sym e) ∙ ap (λ z. recipe_from q z (at + 1) below) (sym f)))
+end-recipe r q c d ls at l h a e f = rw (drop_at ls at l h, a, e, f)
 
-pub end-other : (r q : recipe.Recipe) (c d : Bool) (ls : List LocatedLine) (at : ℕ) (l : LocatedLine) → Some l ≡ slice_get ls at → is_recipe_located l.class ≡ false → stays_in_rule_located l.class ≡ true
+pub end-other : (r q : recipe.Recipe) (c d : Bool) (ls : List LocatedLine) (at : ℕ) (l : LocatedLine) → Some l ≡ slice_get ls at → is_recipe_located l.class ≡ false → leaves_flag_located l.class ≡ true
     → q ≡ r → d ≡ (c || is_conditional_located l.class) → recipe_from r c at (drop at ls) ≡ recipe_from q d (at + 1) (drop (at + 1) ls)
-end-other r q c d ls at l h a b e f =
-    let below = drop (at + 1) ls in
-    let next = recipe_from (record { end = at + 1; is_split = c }) c (at + 1) below in
-    let past = recipe_from r (c || is_conditional_located l.class) (at + 1) below in
-    ap (recipe_from r c at) (drop_at ls at l h)
-    ∙ (ap (λ z. if z then next else if stays_in_rule_located l.class then past else r) a
-    ∙ (ap (λ z. if z then past else r) b
-    ∙ (ap (λ (z : recipe.Recipe). recipe_from z (c || is_conditional_located l.class) (at + 1) below) (sym e) ∙ ap (λ z. recipe_from q z (at + 1) below) (sym f))))
+end-other r q c d ls at l h a b e f = rw (drop_at ls at l h, a, b, e, f)
 
-pub end-ended : (r : recipe.Recipe) (c : Bool) (ls : List LocatedLine) (at : ℕ) (l : LocatedLine) → Some l ≡ slice_get ls at → is_recipe_located l.class ≡ false → stays_in_rule_located l.class ≡ false
+pub end-ended : (r : recipe.Recipe) (c : Bool) (ls : List LocatedLine) (at : ℕ) (l : LocatedLine) → Some l ≡ slice_get ls at → is_recipe_located l.class ≡ false → leaves_flag_located l.class ≡ false
     → recipe_from r c at (drop at ls) ≡ r
-end-ended r c ls at l h a b =
-    let below = drop (at + 1) ls in
-    let next = recipe_from (record { end = at + 1; is_split = c }) c (at + 1) below in
-    let past = recipe_from r (c || is_conditional_located l.class) (at + 1) below in
-    ap (recipe_from r c at) (drop_at ls at l h) ∙ (ap (λ z. if z then next else if stays_in_rule_located l.class then past else r) a ∙ ap (λ z. if z then past else r) b)
+end-ended r c ls at l h a b = rw (drop_at ls at l h, a, b)
 
 -- ---- a step of the walk for a recipe line
 
@@ -250,35 +185,16 @@ index-past n p ls at h = ap (recipe_index_from n p at) (past-end ls at h)
 
 pub index-recipe : (n p q : ℕ) (ls : List LocatedLine) (at : ℕ) (l : LocatedLine) → Some l ≡ slice_get ls at → is_recipe_located l.class ≡ true → (p + 1 == n) ≡ false → q ≡ p + 1
     → recipe_index_from n p at (drop at ls) ≡ recipe_index_from n q (at + 1) (drop (at + 1) ls)
-index-recipe n p q ls at l h a b e =
-    let below = drop (at + 1) ls in
-    let next = recipe_index_from n (p + 1) (at + 1) below in
-    ap (recipe_index_from n p at) (drop_at ls at l h)
-    ∙ (ap (λ z. if z then (if p + 1 == n then Some at else next) else if stays_in_rule_located l.class then recipe_index_from n p (at + 1) below else None) a
-    ∙ (ap (λ z. if z then Some at else next) b ∙ ap (λ z. recipe_index_from n z (at + 1) below) (sym e)))
+index-recipe n p q ls at l h a b e = rw (drop_at ls at l h, a, b, e)
 
-pub index-other : (n p q : ℕ) (ls : List LocatedLine) (at : ℕ) (l : LocatedLine) → Some l ≡ slice_get ls at → is_recipe_located l.class ≡ false → stays_in_rule_located l.class ≡ true → q ≡ p
+pub index-other : (n p q : ℕ) (ls : List LocatedLine) (at : ℕ) (l : LocatedLine) → Some l ≡ slice_get ls at → is_recipe_located l.class ≡ false → leaves_flag_located l.class ≡ true → q ≡ p
     → recipe_index_from n p at (drop at ls) ≡ recipe_index_from n q (at + 1) (drop (at + 1) ls)
-index-other n p q ls at l h a b e =
-    let below = drop (at + 1) ls in
-    let here = if p + 1 == n then Some at else recipe_index_from n (p + 1) (at + 1) below in
-    let past = recipe_index_from n p (at + 1) below in
-    ap (recipe_index_from n p at) (drop_at ls at l h)
-    ∙ (ap (λ z. if z then here else if stays_in_rule_located l.class then past else None) a ∙ (ap (λ z. if z then past else None) b ∙ ap (λ z. recipe_index_from n z (at + 1) below) (sym e)))
+index-other n p q ls at l h a b e = rw (drop_at ls at l h, a, b, e)
 
-pub index-ended : (n p : ℕ) (ls : List LocatedLine) (at : ℕ) (l : LocatedLine) → Some l ≡ slice_get ls at → is_recipe_located l.class ≡ false → stays_in_rule_located l.class ≡ false
+pub index-ended : (n p : ℕ) (ls : List LocatedLine) (at : ℕ) (l : LocatedLine) → Some l ≡ slice_get ls at → is_recipe_located l.class ≡ false → leaves_flag_located l.class ≡ false
     → recipe_index_from n p at (drop at ls) ≡ None
-index-ended n p ls at l h a b =
-    let below = drop (at + 1) ls in
-    let here = if p + 1 == n then Some at else recipe_index_from n (p + 1) (at + 1) below in
-    let past = recipe_index_from n p (at + 1) below in
-    ap (recipe_index_from n p at) (drop_at ls at l h) ∙ (ap (λ z. if z then here else if stays_in_rule_located l.class then past else None) a ∙ ap (λ z. if z then past else None) b)
+index-ended n p ls at l h a b = rw (drop_at ls at l h, a, b)
 
 pub index-here : (n p : ℕ) (ls : List LocatedLine) (at : ℕ) (l : LocatedLine) → Some l ≡ slice_get ls at → is_recipe_located l.class ≡ true → p + 1 ≡ n
     → recipe_index_from n p at (drop at ls) ≡ Some at
-index-here n p ls at l h a b =
-    let below = drop (at + 1) ls in
-    let next = recipe_index_from n (p + 1) (at + 1) below in
-    ap (recipe_index_from n p at) (drop_at ls at l h)
-    ∙ (ap (λ z. if z then (if p + 1 == n then Some at else next) else if stays_in_rule_located l.class then recipe_index_from n p (at + 1) below else None) a
-    ∙ ap (λ z. if z then Some at else next) (eq-eqb (p + 1) n b))
+index-here n p ls at l h a b = rw (drop_at ls at l h, a, eq-eqb (p + 1) n b)

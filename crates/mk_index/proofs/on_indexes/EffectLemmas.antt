@@ -10,9 +10,7 @@ use Rattle.mk_edit_parts.specs.LocatedParts.{AreEachClassed, IsClassed, is_unrea
 use Rattle.mk_edit_parts.specs.declared.seek.Found.{Found}
 use Rattle.mk_patch.specs.Moves.{Move, Exchange, after_moves}
 use Rattle.mk_index.specs.Assignments.{assignments_from, below, below_all, first_place, name_assigned, name_in, with_assigned}
-use Rattle.mk_index.specs.Effects.{AssignSame, IsBehind, IsEffect, IsIndexIfAny}
-use Rattle.mk_index.specs.declared.finder.Effect.{Effect}
-use Rattle.mk_index.specs.declared.finder.Effect.TheVariants.{Same}
+use Rattle.mk_index.specs.Effects.{AssignSame, IsBehind, IsIndexIfAny}
 use Rattle.mk_index.specs.Indexes.{AreChainsIfAny, IsIndexOf, Stored, last_first}
 use Rattle.mk_index.proofs.on_indexes.IndexLemmas.{below-at}
 
@@ -93,8 +91,9 @@ split-at (x ∷ ls) (suc at) k e =
     ap (λ zs. x ∷ zs) (split-at ls at k e) ∙ ap (λ m. x ∷ (take at ls ++ k ∷ drop m (x ∷ ls))) n
 
 pub exchanged-same : (doc : List LocatedLine) (ms : List Move) (at : ℕ) (k l : LocatedLine) → ms ≡ Exchange at l ∷ [] → Some k ≡ slice_get doc at → AssignSame k l
-    → (i : Stored) → IsIndexOf doc i → IsIndexOf (after_moves ms doc) i
-exchanged-same doc ms at k l is there same i h = subst (λ (ns : List Move). IsIndexOf (after_moves ns doc) i) (sym is) (record {
+    → (index : Option Stored) → IsIndexIfAny doc index → IsIndexIfAny (after_moves ms doc) index
+exchanged-same doc ms at k l is there same None h = tt
+exchanged-same doc ms at k l is there same (Some i) h = subst (λ (ns : List Move). IsIndexOf (after_moves ns doc) i) (sym is) (record {
   chains_are = subst (λ xs. AreChainsIfAny xs i.chains) (ap last_first split ∙ ap reverse (assignments-same first_place (take at doc) k l (drop (at + 1) doc) role)) h.chains_are;
   unread_is = h.unread_is ∙ (ap (list_any is_unread_located) split ∙ unread-same (take at doc) k l (drop (at + 1) doc) role);
   end_is = h.end_is ∙ (ap (below_all first_place) split ∙ below-same first_place (take at doc) k l (drop (at + 1) doc) role);
@@ -113,8 +112,3 @@ each-middle (x ∷ xs) l ys h = each-middle xs l ys h.1
 
 pub exchanged-classed : (doc : List LocatedLine) (ms : List Move) (at : ℕ) (l : LocatedLine) → ms ≡ Exchange at l ∷ [] → AreEachClassed (after_moves ms doc) → IsClassed l
 exchanged-classed doc ms at l is h = each-middle (take at doc) l (drop (at + 1) doc) (subst (λ (ns : List Move). AreEachClassed (after_moves ns doc)) is h)
-
--- what stays an index of the lines, where any index would
-pub kept-same : (ls : List LocatedLine) (ms : List Move) (effect : Effect) (index : Option Stored) → effect ≡ Same → IsEffect ls ms effect → IsIndexIfAny ls index → IsIndexIfAny (after_moves ms ls) index
-kept-same ls ms effect None is e h = tt
-kept-same ls ms effect (Some i) is e h = subst (IsEffect ls ms) is e i h

@@ -1,5 +1,5 @@
 -- How a run ends, by the step at which it ends.
-use Rattle.std.proofs.Common.{◌≡◌, refl, sym, ap, subst, ◌∙◌, arith, ℕ, suc, zero, ◌≤◌, Bool, true, false, List, [], Option, Some, None, inl, inr}
+use Rattle.std.proofs.Common.{◌≡◌, refl, sym, ap, subst, ◌∙◌, arith, ℕ, suc, zero, Bool, true, false, List, [], Option, Some, None, inl, inr}
 use Rattle.std.specs.Prelude.{◌↔◌, IfSome}
 use Rattle.std.specs.Io.KnownBytes.{Appends}
 use Rattle.std.proofs.KnownBytes.{Appends-nil, Keeps-refl}
@@ -14,11 +14,6 @@ use Rattle.mk_run.specs.RunSteps.{GivesCommands, GivesSession, AreObeyed, AreEnd
 use Rattle.mk_run.specs.declared.outcome.Outcome as o
 use Rattle.mk_run.specs.declared.outcome.Outcome.TheVariants.{Done, Refused, NotACommand, BadDepth, TooLong, TooDeep, Read, Write, NoMemory}
 use Rattle.mk_run.proofs.on_runs.ResultLemmas.{has-run}
-
--- a depth from 1 to 10,000
-pub good-depth : (depth : ℕ) → 1 ≤ depth → depth ≤ 10000 → IsBadDepth depth → ⊥
-good-depth depth some few (inl none) = omega (arith, none)
-good-depth depth some few (inr many) = omega (arith, many)
 
 -- ---- texts of readers
 

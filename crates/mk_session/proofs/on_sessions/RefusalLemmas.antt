@@ -136,51 +136,26 @@ edited-other t (Err q) other h = let e : q ≡ NoMemory = cc in other (ap (λ x.
 
 -- ---- what a call answers
 
--- no call but an edit is refused as an edit
-not_undo : (s : Shown (List ℕ)) (r : Refusal) → answer Undo s ≡ Err (machine.EditRefused r) → ⊥
-not_undo s r h = go s.begun s.back h
-  where
-    go : (b : Option (List ℕ)) (ts : List (List ℕ))
-        → elim b as (λ (x : Option (List ℕ)). Result (Shown (List ℕ)) (machine.Refusal Refusal)) [ Some t ↦ Err machine.GroupOpen | None ↦ shown_back s ts ] ≡ Err (machine.EditRefused r) → ⊥
-    go None [] k = absurd (cc)
-    go None (t ∷ ts) k = absurd (cc)
-    go (Some b) ts k = absurd (cc)
+-- Not for want of memory, as the answers of an edit have it.
+abbrev IsOtherAnswer : Result (Shown (List ℕ)) (machine.Refusal Refusal) → Type 0
+IsOtherAnswer a = a ≡ Err (machine.EditRefused NoMemory) → ⊥
 
-not_redo : (s : Shown (List ℕ)) (r : Refusal) → answer Redo s ≡ Err (machine.EditRefused r) → ⊥
-not_redo s r h = go s.begun s.forward h
-  where
-    go : (b : Option (List ℕ)) (ts : List (List ℕ))
-        → elim b as (λ (x : Option (List ℕ)). Result (Shown (List ℕ)) (machine.Refusal Refusal)) [ Some t ↦ Err machine.GroupOpen | None ↦ shown_forward s ts ] ≡ Err (machine.EditRefused r) → ⊥
-    go None [] k = absurd (cc)
-    go None (t ∷ ts) k = absurd (cc)
-    go (Some b) ts k = absurd (cc)
+-- no call but an edit is refused as an edit: by whether a group is open, and whether there is a text to go to
+by_group-other : (b : Option (List ℕ)) (begun : List ℕ → Result (Shown (List ℕ)) (machine.Refusal Refusal)) (none : Result (Shown (List ℕ)) (machine.Refusal Refusal)) → ((t : List ℕ) → IsOtherAnswer (begun t)) → IsOtherAnswer none
+    → IsOtherAnswer (elim b as (λ (x : Option (List ℕ)). Result (Shown (List ℕ)) (machine.Refusal Refusal)) [ Some t ↦ begun t | None ↦ none ])
+by_group-other None begun none p q = q
+by_group-other (Some t) begun none p q = p t
 
-not_begin : (s : Shown (List ℕ)) (r : Refusal) → answer Begin s ≡ Err (machine.EditRefused r) → ⊥
-not_begin s r h = go s.begun h
-  where
-    go : (b : Option (List ℕ))
-        → elim b as (λ (x : Option (List ℕ)). Result (Shown (List ℕ)) (machine.Refusal Refusal)) [ Some t ↦ Err machine.GroupOpen | None ↦ Ok (record s { begun = Some s.text; pending = 0 }) ] ≡ Err (machine.EditRefused r) → ⊥
-    go None k = absurd (cc)
-    go (Some b) k = absurd (cc)
+shown_back-other : (s : Shown (List ℕ)) (ts : List (List ℕ)) → IsOtherAnswer (shown_back s ts)
+shown_back-other s [] h = absurd (cc)
+shown_back-other s (t ∷ ts) h = absurd (cc)
 
-not_end : (s : Shown (List ℕ)) (r : Refusal) → answer End s ≡ Err (machine.EditRefused r) → ⊥
-not_end s r h = go s.begun h
-  where
-    go : (b : Option (List ℕ))
-        → elim b as (λ (x : Option (List ℕ)). Result (Shown (List ℕ)) (machine.Refusal Refusal)) [ Some t ↦ Ok (shown_ended t s.pending s) | None ↦ Err machine.NoGroup ] ≡ Err (machine.EditRefused r) → ⊥
-    go None k = absurd (cc)
-    go (Some b) k = absurd (cc)
-
-not_cancel : (s : Shown (List ℕ)) (r : Refusal) → answer Cancel s ≡ Err (machine.EditRefused r) → ⊥
-not_cancel s r h = go s.begun h
-  where
-    go : (b : Option (List ℕ))
-        → elim b as (λ (x : Option (List ℕ)). Result (Shown (List ℕ)) (machine.Refusal Refusal)) [ Some t ↦ Ok (record s { text = t; begun = None; pending = 0 }) | None ↦ Err machine.NoGroup ] ≡ Err (machine.EditRefused r) → ⊥
-    go None k = absurd (cc)
-    go (Some b) k = absurd (cc)
+shown_forward-other : (s : Shown (List ℕ)) (ts : List (List ℕ)) → IsOtherAnswer (shown_forward s ts)
+shown_forward-other s [] h = absurd (cc)
+shown_forward-other s (t ∷ ts) h = absurd (cc)
 
 -- an edit is not refused for want of memory by the machine
-edit-other : (e : Edit) (s : Shown (List ℕ)) → answer (Apply e) s ≡ Err (machine.EditRefused NoMemory) → ⊥
+edit-other : (e : Edit) (s : Shown (List ℕ)) → IsOtherAnswer (answer (Apply e) s)
 edit-other e s h = go (edited e s.text) refl h
   where
     go : (a : Result (List ℕ) Refusal) → edited e s.text ≡ a
@@ -188,13 +163,13 @@ edit-other e s h = go (edited e s.text) refl h
     go (Ok new) k h = absurd (cc)
     go (Err x) k h = let same : x ≡ NoMemory = cc in edited-other s.text (spans s.text e) (spans-other s.text e) (k ∙ ap (λ y. Err y) same)
 
-memory-refused : (c : Command Edit) (s : Shown (List ℕ)) → answer c s ≡ Err (machine.EditRefused NoMemory) → ⊥
-memory-refused (Apply e) s h = edit-other e s h
-memory-refused Undo s h = not_undo s NoMemory h
-memory-refused Redo s h = not_redo s NoMemory h
-memory-refused Begin s h = not_begin s NoMemory h
-memory-refused End s h = not_end s NoMemory h
-memory-refused Cancel s h = not_cancel s NoMemory h
+memory-refused : (c : Command Edit) (s : Shown (List ℕ)) → IsOtherAnswer (answer c s)
+memory-refused (Apply e) s = edit-other e s
+memory-refused Undo s = by_group-other s.begun (λ t. Err machine.GroupOpen) (shown_back s s.back) (λ t h. absurd (cc)) (shown_back-other s s.back)
+memory-refused Redo s = by_group-other s.begun (λ t. Err machine.GroupOpen) (shown_forward s s.forward) (λ t h. absurd (cc)) (shown_forward-other s s.forward)
+memory-refused Begin s = by_group-other s.begun (λ t. Err machine.GroupOpen) (Ok (record s { begun = Some s.text; pending = 0 })) (λ t h. absurd (cc)) (λ h. absurd (cc))
+memory-refused End s = by_group-other s.begun (λ t. Ok (shown_ended t s.pending s)) (Err machine.NoGroup) (λ t h. absurd (cc)) (λ h. absurd (cc))
+memory-refused Cancel s = by_group-other s.begun (λ t. Ok (record s { text = t; begun = None; pending = 0 })) (Err machine.NoGroup) (λ t h. absurd (cc)) (λ h. absurd (cc))
 
 -- the machine refuses nothing for want of memory
 pub answer-other : (c : Command Edit) (s : Shown (List ℕ)) (q : machine.Refusal Refusal) → answer c s ≡ Err q → session_refusal q ≡ NoMemory → ⊥

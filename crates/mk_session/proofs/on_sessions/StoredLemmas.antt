@@ -76,22 +76,21 @@ stored-undone h new doc new_doc k m done undone =
       };
     }
 
+-- what can be undone for what can be redone
+abbrev exchanged : Stacks Patches → Stacks Patches
+exchanged h = record h { done = h.undone; undone = h.done }
+
+stored-exchanged : (h : Stacks Patches) (doc : List LocatedLine) → IsStored h None doc → IsStored (exchanged h) None doc
+stored-exchanged h doc k = record {
+  consistent = (k.consistent.1, k.consistent.0);
+  faithful = record { now = k.faithful.now; begun = k.faithful.begun; back = k.faithful.forward; forward = k.faithful.back };
+}
+
 -- the first of what can be redone was made, and what takes it back can be undone
 stored-redone : (h new : Stacks Patches) (doc new_doc : List LocatedLine) → IsStored h None doc → Moves FitPatches after_patches h.undone h.done doc new.undone new.done new_doc
     → IsChain FitPatches after_patches new.done new_doc → IsChain FitPatches after_patches new.undone new_doc → IsStored new None new_doc
 stored-redone h new doc new_doc k m done undone =
-    let there = faithful-rest h.undone new.undone m.change doc new_doc m.taken_from m.made k.faithful.forward in
-    let back_here : EachFaithful (states after_patches (m.inverse ∷ h.done) new_doc) =
-    subst (λ (d : List LocatedLine). EachFaithful (d ∷ states after_patches h.done d)) (sym m.leads_back) (k.faithful.now, k.faithful.back) in
-    record {
-      consistent = (done, undone);
-      faithful = record {
-        now = there.0;
-        begun = there.0;
-        back = subst (λ (qs : List Patches). EachFaithful (states after_patches qs new_doc)) (sym m.put_first) back_here;
-        forward = there.1;
-      };
-    }
+    stored-exchanged (exchanged new) new_doc (stored-undone (exchanged h) (exchanged new) doc new_doc (stored-exchanged h doc k) m undone done)
 
 -- ---- groups
 

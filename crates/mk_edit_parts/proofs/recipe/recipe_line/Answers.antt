@@ -1,9 +1,10 @@
 use Rattle.std.proofs.Common.{◌≡◌, ◌∙◌, ◌≤◌, ◌+◌, ap, sym, arith, true, false, length}
 use Rattle.std.proofs.lemmas.Bool.{ne_eqb}
 use Rattle.mk_tree.specs.Trees.{line_view}
-use Rattle.mk_edit_parts.specs.RecipeWalks.{is_recipe_located, stays_in_rule_located}
+use Rattle.mk_class.specs.LocatedClasses.{leaves_flag_located}
+use Rattle.mk_edit_parts.specs.RecipeWalks.{is_recipe_located}
 use Rattle.mk_edit_parts.proofs.on_recipes.WalkLemmas.{recipe-line, index-past, index-recipe, index-other, index-ended, index-here}
-use Rattle.mk_edit_parts.proofs.recipe.recipe_line.Goals.{then-is_recipe+else-passed-number, else-is_recipe+else-not-stays_in_rule}
+use Rattle.mk_edit_parts.proofs.recipe.recipe_line.Goals.{then-is_recipe+else-passed-number, else-is_recipe+else-not-leaves_flag}
 use Rattle.mk_edit_parts.proofs.recipe.recipe_line.Goals as goal
 
 pub returns-then-passed-number : goal.returns-then-passed-number
@@ -13,12 +14,12 @@ returns-then-passed-number g c =
     let k : is_recipe_located l.class ≡ true = ap is_recipe_located (sym c.class-class.ensures) ∙ (sym c.is_recipe.ensures ∙ c.if-is_recipe.true) in
     sym (index-here c.args.number c.lines.passed d c.lines.at l c.line.ensures k c.if-passed-number.true) ∙ (c.lines.invariant.1 ∙ recipe-line d c.args.from c.args.number c.requires.faithful)
 
-pub returns-then-not-stays_in_rule : goal.returns-then-not-stays_in_rule
-returns-then-not-stays_in_rule g c =
+pub returns-then-not-leaves_flag : goal.returns-then-not-leaves_flag
+returns-then-not-leaves_flag g c =
     let l = line_view c.line.result.now in
     let d = c.args.doc.now in
     let k : is_recipe_located l.class ≡ false = ap is_recipe_located (sym c.class-class.ensures) ∙ (sym c.is_recipe.ensures ∙ c.if-is_recipe.false) in
-    let s : stays_in_rule_located l.class ≡ false = ap stays_in_rule_located (sym c.class-class.ensures) ∙ (sym c.stays_in_rule.ensures ∙ c.if-not-stays_in_rule.true) in
+    let s : leaves_flag_located l.class ≡ false = ap leaves_flag_located (sym c.class-class.ensures) ∙ (sym c.leaves_flag.ensures ∙ c.if-not-leaves_flag.true) in
     sym (index-ended c.args.number c.lines.passed d c.lines.at l c.line.ensures k s) ∙ (c.lines.invariant.1 ∙ recipe-line d c.args.from c.args.number c.requires.faithful)
 
 pub returns : goal.returns
@@ -35,7 +36,7 @@ lines-preserved g c =
     elim c.if-is_recipe.branch [
       | then-is_recipe+else-passed-number w ↦
           (omega (arith, w.passed-is), sym (index-recipe c.args.number c.lines.passed c.if-is_recipe.passed d c.lines.at l c.line.ensures (sym k ∙ w.if-is_recipe.true) (ne_eqb (c.lines.passed + 1) c.args.number w.if-passed-number.false) w.passed-is) ∙ c.lines.invariant.1)
-      | else-is_recipe+else-not-stays_in_rule w ↦
-          let s : stays_in_rule_located l.class ≡ true = ap stays_in_rule_located (sym c.class-class.ensures) ∙ (sym w.stays_in_rule.ensures ∙ w.if-not-stays_in_rule.false) in
+      | else-is_recipe+else-not-leaves_flag w ↦
+          let s : leaves_flag_located l.class ≡ true = ap leaves_flag_located (sym c.class-class.ensures) ∙ (sym w.leaves_flag.ensures ∙ w.if-not-leaves_flag.false) in
           (omega (arith, w.passed-is), sym (index-other c.args.number c.lines.passed c.if-is_recipe.passed d c.lines.at l c.line.ensures (sym k ∙ w.if-is_recipe.false) s w.passed-is) ∙ c.lines.invariant.1)
     ]

@@ -1,47 +1,33 @@
-use Rattle.std.proofs.Common.{◌≡◌, ◌∙◌, sym, ap, subst, arith, [], ◌∷◌, ◌++◌, length, List, ℕ, drop}
+use Rattle.std.proofs.Common.{◌≡◌, ◌∙◌, sym, ap, subst, arith, [], ◌∷◌, ◌++◌, length, drop}
 use Rattle.std.specs.Prelude.{IfOk}
 use Rattle.mk_lines.specs.Cells.{line_cells}
-use Rattle.mk_class.specs.declared.class.Class as class
 use Rattle.mk_tree.specs.Trees.{line_view}
-use Rattle.mk_edit_parts.specs.declared.word_parts.WordParts.{WordParts}
-use Rattle.mk_edit_parts.specs.RenamedRanges.{part_ranges, parts_ranges, renamed_ranges, word_parts}
+use Rattle.mk_edit_parts.specs.RenamedRanges.{part_ranges, renamed_ranges}
 use Rattle.mk_edit_parts.specs.RenamedTexts.{AreApart, rewritten}
 use Rattle.mk_edit_parts.proofs.on_renaming.RangeLemmas.{only-counted, ranges-are}
 use Rattle.mk_edit_parts.proofs.on_renaming.WrittenLemmas.{AreWritten, three-written, parts-joined}
-use Rattle.mk_edit_parts.specs.WordCuts.{last_end}
 use Rattle.mk_edit_parts.proofs.renamed_line.renamed_bytes.Goals as goal
+use Rattle.mk_edit_parts.proofs.renamed_line.renamed_bytes.Goals.{After-parts_of-parts}
 
-parts-written : (l o n : List ℕ) (p : WordParts) (k j : class.Class) → p ≡ word_parts k → k ≡ j → AreApart 0 (length l) (parts_ranges (line_cells l) o (word_parts j))
-    → AreWritten l n (part_ranges (line_cells l) o p.targets) (part_ranges (line_cells l) o p.normal) (part_ranges (line_cells l) o p.order_only)
-parts-written l o n p k j h e a = three-written l n _ _ _ (subst (AreApart 0 (length l)) (sym (ranges-are (line_cells l) o p k j h e)) a)
+-- the words of the three parts stand apart, and are written one part after the other
+apart : (g : _) (c : After-parts_of-parts g) → AreWritten (line_view c.args.line.now).bytes c.args.to.now (part_ranges (line_cells (line_view c.args.line.now).bytes) c.args.from.now c.parts_of-parts.result.targets)
+    (part_ranges (line_cells (line_view c.args.line.now).bytes) c.args.from.now c.parts_of-parts.result.normal) (part_ranges (line_cells (line_view c.args.line.now).bytes) c.args.from.now c.parts_of-parts.result.order_only)
+apart g c =
+    let l = (line_view c.args.line.now).bytes in
+    three-written l c.args.to.now _ _ _ (subst (AreApart 0 (length l)) (sym (ranges-are (line_cells l) c.args.from.now c.parts_of-parts.result _ _ c.parts_of-parts.ensures.parts c.requires.class)) c.requires.apart)
 
 pub write_part-requires-clause-apart : goal.write_part-requires-clause-apart
-write_part-requires-clause-apart g c = (parts-written (line_view c.args.line.now).bytes c.args.from.now c.args.to.now c.parts_of-parts.result _ _ c.parts_of-parts.ensures.parts c.requires.class c.requires.apart).first
+write_part-requires-clause-apart g c = (apart g (goal.at.write_part-requires-clause-apart g c).After-parts_of-parts).first
 
 pub write_part-requires-2-clause-apart : goal.write_part-requires-2-clause-apart
-write_part-requires-2-clause-apart g c =
-    let l = (line_view c.args.line.now).bytes in
-    let p = c.parts_of-parts.result in
-    let W = parts-written l c.args.from.now c.args.to.now p _ _ c.parts_of-parts.ensures.parts c.requires.class c.requires.apart in
-    subst (λ m. AreApart m (length l) (part_ranges (line_cells l) c.args.from.now p.normal)) (sym c.in_ok-targets_end.ensures.end) W.second
+write_part-requires-2-clause-apart g c = rw c.in_ok-targets_end.ensures.end (apart g (goal.at.write_part-requires-2-clause-apart g c).After-parts_of-parts).second
 
 pub write_part-requires-3-clause-apart : goal.write_part-requires-3-clause-apart
-write_part-requires-3-clause-apart g c =
-    let l = (line_view c.args.line.now).bytes in
-    let p = c.parts_of-parts.result in
-    let W = parts-written l c.args.from.now c.args.to.now p _ _ c.parts_of-parts.ensures.parts c.requires.class c.requires.apart in
-    let e = c.in_ok-normal_end.ensures.end ∙ ap (λ m. last_end m (part_ranges (line_cells l) c.args.from.now p.normal)) c.in_ok-targets_end.ensures.end in
-    subst (λ m. AreApart m (length l) (part_ranges (line_cells l) c.args.from.now p.order_only)) (sym e) W.third
+write_part-requires-3-clause-apart g c = rw (c.in_ok-normal_end.ensures.end, c.in_ok-targets_end.ensures.end) (apart g (goal.at.write_part-requires-3-clause-apart g c).After-parts_of-parts).third
 
 pub rest-requires : goal.rest-requires
 rest-requires g c =
-    let l = (line_view c.args.line.now).bytes in
-    let p = c.parts_of-parts.result in
-    let cs = line_cells l in
-    let o = c.args.from.now in
-    let W = parts-written l o c.args.to.now p _ _ c.parts_of-parts.ensures.parts c.requires.class c.requires.apart in
-    let e = c.in_ok-end.ensures.end ∙ ap (λ m. last_end m (part_ranges cs o p.order_only)) (c.in_ok-normal_end.ensures.end ∙ ap (λ m. last_end m (part_ranges cs o p.normal)) c.in_ok-targets_end.ensures.end) in
-    omega (arith, e, W.within, ap length c.bytes-2.ensures.bytes)
+    rw (c.in_ok-end.ensures.end, c.in_ok-normal_end.ensures.end, c.in_ok-targets_end.ensures.end) (let within = (apart g (goal.at.rest-requires g c).After-parts_of-parts).within in omega (arith, within, ap length c.bytes-2.ensures.bytes))
 
 pub returns : goal.returns
 returns g c =
@@ -53,7 +39,7 @@ returns g c =
     let a = part_ranges cs o p.targets in
     let b = part_ranges cs o p.normal in
     let d = part_ranges cs o p.order_only in
-    let W = parts-written l o n p _ _ c.parts_of-parts.ensures.parts c.requires.class c.requires.apart in
+    let W = apart g (goal.at.returns g c).After-parts_of-parts in
     let all : c.extend_from_slice.new.self.items ≡ c.write_part-3.new.bytes.items ++ drop c.in_ok-end.end l = c.in_ok-extend_from_slice.ensures.items ∙ ap (λ z. c.write_part-3.new.bytes.items ++ z) (c.rest.ensures ∙ ap (drop c.in_ok-end.end) c.bytes-2.ensures.bytes) in
     parts-joined l n a b d c.in_ok-bytes.bytes.items c.write_part.new.bytes.items c.write_part-2.new.bytes.items c.write_part-3.new.bytes.items c.extend_from_slice.new.self.items
     c.in_ok-targets_end.targets_end c.in_ok-normal_end.normal_end c.in_ok-end.end W c.in_ok-bytes.ensures.items c.in_ok-targets_end.ensures.end c.in_ok-normal_end.ensures.end c.in_ok-end.ensures.end

@@ -1,21 +1,19 @@
-use Rattle.std.proofs.Common.{map, inl, inr}
+use Rattle.std.proofs.Common.{◌≡◌, refl, map, false, true}
 use Rattle.mk_script.specs.Scripts.{numbered}
 use Rattle.mk_run.proofs.on_runs.ReadLemmas.{short-script}
-use Rattle.mk_run.proofs.on_runs.RunLemmas.{good-depth, depth-stops, script-stops, script-leaves, begun-not_bad, begun-not_no_command}
+use Rattle.mk_run.proofs.on_runs.RunLemmas.{depth-stops, script-stops, script-leaves, begun-not_bad, begun-not_no_command}
 use Rattle.mk_run.proofs.engine.run_keeping.Goals as goal
-use Rattle.mk_run.proofs.engine.run_keeping.Goals.{then-depth-lt1-via-then-depth-lt1, then-depth-lt1-via-else-depth-lt1+then-depth-gt-MAX_DEPTH}
 
-pub returns-then-depth-lt1-clause-law : goal.returns-then-depth-lt1-clause-law
-returns-then-depth-lt1-clause-law g c =
-    depth-stops _ _ c.args.depth c.args.keep_going _ _ _
-    (elim c.then-depth-lt1.branch [
-      | then-depth-lt1-via-then-depth-lt1 w ↦ inl w.if-depth-lt1.true
-      | then-depth-lt1-via-else-depth-lt1+then-depth-gt-MAX_DEPTH w ↦ inr w.if-depth-gt-MAX_DEPTH.true
-    ])
+-- what the test does not find does not hold
+is-good : {P : Type 0} → (P → false ≡ true) → P → ⊥
+is-good not_found p = let e : false ≡ true = not_found p in absurd (cc)
+
+pub returns-then-is_bad_depth-clause-law : goal.returns-then-is_bad_depth-clause-law
+returns-then-is_bad_depth-clause-law g c = depth-stops _ _ c.args.depth c.args.keep_going _ _ _ (c.if-is_bad_depth.ensures.0 refl)
 
 pub returns-in-Err-clause-law : goal.returns-in-Err-clause-law
 returns-in-Err-clause-law g c =
-    script-stops _ _ c.args.depth c.args.keep_going _ _ _ _ c.in-Err.outcome (good-depth c.args.depth c.if-depth-lt1.false c.if-depth-gt-MAX_DEPTH.false) c.in-Err.ensures.stops
+    script-stops _ _ c.args.depth c.args.keep_going _ _ _ _ c.in-Err.outcome (is-good c.if-is_bad_depth.ensures.1) c.in-Err.ensures.stops
 
 pub returns-clause-law : goal.returns-clause-law
 returns-clause-law g c = c.run_commands.ensures.law _ (rw c.as_slice.ensures.value c.in-Ok.ensures.commands)
@@ -38,8 +36,8 @@ returns-clause-script_long g c = short-script (g.S.ByteSource.remaining c.args.s
 pub returns-clause-bad_depth : goal.returns-clause-bad_depth
 returns-clause-bad_depth g c = (
   λ is. absurd (begun-not_bad c.run_commands.result c.run_commands.ensures.begun is),
-  λ bad. absurd (good-depth c.args.depth c.if-depth-lt1.false c.if-depth-gt-MAX_DEPTH.false bad),
+  λ bad. absurd (is-good c.if-is_bad_depth.ensures.1 bad),
 )
 
 pub run_commands-requires-clause-depth : goal.run_commands-requires-clause-depth
-run_commands-requires-clause-depth g c = good-depth c.args.depth c.if-depth-lt1.false c.if-depth-gt-MAX_DEPTH.false
+run_commands-requires-clause-depth g c = is-good c.if-is_bad_depth.ensures.1

@@ -14,8 +14,8 @@ pub entries-init : goal.entries-init
 entries-init g c =
     let heads = c.self.inside.heads.items in
     let stored : Stored = record { heads = heads; entries = c.self.inside.entries.items } in
-    let counted : c.len.result ≡ length heads = c.len.ensures ∙ c.self.inside.heads.ok.0 in
-    let is : c.bucket_of.result ≡ bucket_of (length heads) c.args.name.now = c.bucket_of.ensures.bucket ∙ (ap (λ h. h % c.len.result) c.hash_of-hash.ensures ∙ ap (λ n. bucket_of n c.args.name.now) counted) in
+    let counted : c.len-2.result ≡ length heads = c.len-2.ensures ∙ c.self.inside.heads.ok.0 in
+    let is : c.bucket_of.result ≡ bucket_of (length heads) c.args.name.now = c.bucket_of.ensures.bucket ∙ (ap (λ h. h % c.len-2.result) c.hash_of-hash.ensures ∙ ap (λ n. bucket_of n c.args.name.now) counted) in
     let inside : c.bucket_of.result < length heads = subst (λ n. c.bucket_of.result < n) counted c.bucket_of.ensures.within in
     let head : c.index-number.result.now ≡ get_or heads c.bucket_of.result 0 = c.index-number.ensures ∙ get_or_default heads c.bucket_of.result c.index-number.result.now 0 inside in
     subst (λ (v : Stored). Walk c.args.doc.now c.args.name.now c.args.later v c.index-number.result.now (record { count = 0; found = None })) c.self.view_is

@@ -7,29 +7,26 @@ use Rattle.mk_index.specs.Indexes.{IsIndexOf}
 use Rattle.mk_index.proofs.on_indexes.EffectLemmas.{Added, last-added}
 use Rattle.mk_index.proofs.on_indexes.IndexLemmas.{few-entries}
 use Rattle.mk_index.proofs.index.Index.add_last.Goals as goal
+use Rattle.mk_index.proofs.index.Index.add_last.Goals.{After-line}
 
 pub push-requires-clause-classed : goal.push-requires-clause-classed
 push-requires-clause-classed g c = classed-at c.args.doc.now _ _ (faithful-each c.args.doc.now c.requires.faithful) c.line.ensures
 
+-- the line that is added
+added : (g : _) (c : After-line g) → Added c.args.doc.now c.args.self.now (line_view c.line.result.now)
+added g c =
+    last-added c.args.doc.now c.args.self.now (line_view c.line.result.now) c.requires.behind (c.iter-lines.ensures.admitted c.requires.faithful) (c.line.ensures ∙ ap (λ n. slice_get c.args.doc.now (n - 1)) c.len.ensures.number)
+
 pub push-requires-clause-admitted : goal.push-requires-clause-admitted
-push-requires-clause-admitted g c =
-    let l = line_view c.line.result.now in
-    (last-added c.args.doc.now c.args.self.now l c.requires.behind (c.iter-lines.ensures.admitted c.requires.faithful) (c.line.ensures ∙ ap (λ n. slice_get c.args.doc.now (n - 1)) c.len.ensures.number)).admitted
+push-requires-clause-admitted g c = (added g c).admitted
 
 pub push-requires-clause-few : goal.push-requires-clause-few
-push-requires-clause-few g c =
-    let l = line_view c.line.result.now in
-    let few = (last-added c.args.doc.now c.args.self.now l c.requires.behind (c.iter-lines.ensures.admitted c.requires.faithful) (c.line.ensures ∙ ap (λ n. slice_get c.args.doc.now (n - 1)) c.len.ensures.number)).few in
-    omega (arith, few, c.len.ensures.few)
+push-requires-clause-few g c = omega (arith, (added g c).few, c.len.ensures.few)
 
 pub push-requires-clause-few_entries : goal.push-requires-clause-few_entries
-push-requires-clause-few_entries g c =
-    let l = line_view c.line.result.now in
-    let added : Added c.args.doc.now c.args.self.now l = last-added c.args.doc.now c.args.self.now l c.requires.behind (c.iter-lines.ensures.admitted c.requires.faithful) (c.line.ensures ∙ ap (λ n. slice_get c.args.doc.now (n - 1)) c.len.ensures.number) in
-    few-entries added.earlier c.args.self.now added.index_is
+push-requires-clause-few_entries g c = few-entries (added g c).earlier c.args.self.now (added g c).index_is
 
 pub returns : goal.returns
 returns g c =
-    let l = line_view c.line.result.now in
-    let added : Added c.args.doc.now c.args.self.now l = last-added c.args.doc.now c.args.self.now l c.requires.behind (c.iter-lines.ensures.admitted c.requires.faithful) (c.line.ensures ∙ ap (λ n. slice_get c.args.doc.now (n - 1)) c.len.ensures.number) in
-    subst (λ ls. OnOk c.push.result (IsIndexOf ls c.push.new.self)) (sym added.doc_is) (c.push.ensures.index added.earlier added.index_is)
+    let last = added g (goal.at.returns g c).After-line in
+    subst (λ ls. OnOk c.push.result (IsIndexOf ls c.push.new.self)) (sym last.doc_is) (c.push.ensures.index last.earlier last.index_is)

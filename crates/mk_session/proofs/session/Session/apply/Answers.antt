@@ -24,7 +24,7 @@ invariant_of-self-in-None g c =
     let k = subst (λ (o : Option Patches). IsStored c.self.inside.history o c.self.inside.doc) (sym c.in-None.ensures.value) c.self.invariant.0 in
     let fits : FitPatches member c.make-in-None.new.doc = rw (c.push_front-in-None.ensures, c.in-Ok-with_capacity.ensures) (c.make-in-None.ensures.fits_back, tt) in
     let back : after_patches member c.make-in-None.new.doc ≡ c.self.inside.doc = rw (c.push_front-in-None.ensures, c.in-Ok-with_capacity.ensures) c.make-in-None.ensures.leads_back in
-    (rw (c.push.ensures, c.take.ensures.after) (stored-alone c.self.inside.history member c.self.inside.doc c.make-in-None.new.doc k (rw c.make-in-None.ensures.after planned.faithful) fits back), omega (arith, c.self.invariant.1, c.plan_with.ensures.forward), c.make-in-None.ensures.index, c.self.invariant.3)
+    (rw (c.push.ensures, c.take.ensures.after) (stored-alone c.self.inside.history member c.self.inside.doc c.make-in-None.new.doc k (rw c.make-in-None.ensures.after planned.faithful) fits back), omega (arith, c.self.invariant.1, c.plan_with.ensures.forward), c.follow-in-None.ensures, c.self.invariant.3)
 
 pub returns-else-is_err-clause-done : goal.returns-else-is_err-clause-done
 returns-else-is_err-clause-done g c =

@@ -1,7 +1,7 @@
 use Rattle.std.proofs.Common.{sym, ap, length, arith}
 use Rattle.mk_tree.specs.Trees.{line_view}
 use Rattle.mk_edit_parts.proofs.on_finding.PartLemmas.{seen-assign, text-length}
-use Rattle.mk_index.proofs.finder.assign_same.Goals as goal
+use Rattle.mk_index.proofs.effect.assign_same.Goals as goal
 
 pub part-requires-clause-within : goal.part-requires-clause-within
 part-requires-clause-within g c =

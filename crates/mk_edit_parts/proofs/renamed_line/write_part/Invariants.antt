@@ -5,7 +5,7 @@ use Rattle.mk_tree.specs.Trees.{line_view}
 use Rattle.mk_edit_parts.specs.RenamedRanges.{AreWithin, part_ranges, ranges_in}
 use Rattle.mk_edit_parts.specs.RenamedTexts.{AreApart, written}
 use Rattle.mk_edit_parts.specs.WordCuts.{last_end}
-use Rattle.mk_edit_parts.proofs.renamed_line.write_words.Given as goal
+use Rattle.mk_edit_parts.proofs.renamed_line.write_part.Given as goal
 
 abbrev pub invariant-words : goal.invariant-words
 invariant-words g l =

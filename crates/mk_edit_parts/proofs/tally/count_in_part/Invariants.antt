@@ -3,7 +3,7 @@ use Rattle.std.proofs.Common.{◌≡◌, ◌-◌}
 use Rattle.mk_lines.specs.Cells.{line_cells}
 use Rattle.mk_tree.specs.Trees.{line_view}
 use Rattle.mk_edit_parts.specs.RenamedRanges.{AreWithin, part_ranges, ranges_in, tallied}
-use Rattle.mk_edit_parts.proofs.tally.count_each_word.Given as goal
+use Rattle.mk_edit_parts.proofs.tally.count_in_part.Given as goal
 
 abbrev pub invariant-words : goal.invariant-words
 invariant-words g l =

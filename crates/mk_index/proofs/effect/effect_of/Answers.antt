@@ -5,7 +5,7 @@ use Rattle.mk_patch.specs.StepMoves.{move_of}
 use Rattle.mk_edit_parts.proofs.on_finding.PlaceLemmas.{classed-at}
 use Rattle.mk_edit_parts.proofs.on_finding.SeekLemmas.{faithful-each}
 use Rattle.mk_index.proofs.on_indexes.EffectLemmas.{exchanged-classed, exchanged-same}
-use Rattle.mk_index.proofs.finder.effect_of.Goals as goal
+use Rattle.mk_index.proofs.effect.effect_of.Goals as goal
 
 pub assign_same-requires-clause-old : goal.assign_same-requires-clause-old
 assign_same-requires-clause-old g c = classed-at c.args.doc.now c.in-Some-Exchange.at _ (faithful-each c.args.doc.now c.requires.faithful) c.line.ensures
