@@ -11,11 +11,9 @@ COUNT texts are drawn by SEED; one text may be drawn twice. tests/gate/rows.py s
 Other rows are for a copy of the crate.
 """
 
-import random
 import re
-import sys
 
-from line_rows import antt_bool, antt_list, antt_text, ranges, units
+from line_rows import antt_bool, antt_list, print_rows, ranges, units
 
 # What texts are made of: likely words, and parts that some test refuses.
 PLAIN = [b"a", b"b", b"Z", b"9", b"_", b".", b"-", b"x.o", b"%.c", b"$(a b)", b"${c}", b"$x", b"$$", b"/", b"@"]
@@ -91,15 +89,7 @@ allowed t = is_value t ∷ is_word t ∷ is_target t ∷ is_name t ∷ is_comman
 
 
 def main():
-    if len(sys.argv) != 3:
-        sys.exit("usage: argument_rows.py COUNT SEED")
-    count, seed = int(sys.argv[1]), int(sys.argv[2])
-    random_source = random.Random(seed)
-    print(HEAD.format(count=count, seed=seed), end="")
-    for number in range(count):
-        text = random_text(random_source)
-        answers = antt_list([antt_bool(test(text)) for test in TESTS])
-        print(f"\nrow_{number} : allowed ({antt_text(text)}) ≡ {answers}\nrow_{number} = refl")
+    print_rows(HEAD, random_text, "allowed", lambda text: antt_list([antt_bool(test(text)) for test in TESTS]))
 
 
 if __name__ == "__main__":

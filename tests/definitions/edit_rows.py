@@ -23,7 +23,7 @@ import re
 import sys
 
 from reading_rows import FLAVORS, antt_list, antt_text
-from row_tables import rows_of_table, unescape
+from row_tables import head_of, outside_texts, rows_of_table, unescape
 
 SEPARATORS = {b":": "Single", b"::": "Double"}
 
@@ -39,23 +39,11 @@ FIELDS = {
     "old": "Old",
     "new": "New",
 }
-REFUSALS = {
-    1: "BadArgument",
-    2: "Reserved",
-    3: "RecipePrefix",
-    4: "NoSuch",
-    5: "Ambiguous",
-    6: "Absent",
-    7: "Already",
-    8: "Taken",
-    9: "SharedRule",
-    10: "Straddles",
-    11: "OpenValue",
-    12: "OpenLine",
-    13: "OpenDefine",
-    14: "Leans",
-    15: "TooLong",
-}
+# The refusals that an edit may have, from number 1.
+REFUSALS = (
+    "BadArgument Reserved RecipePrefix NoSuch Ambiguous Absent Already Taken SharedRule Straddles OpenValue OpenLine"
+    " OpenDefine Leans TooLong"
+).split()
 
 
 # ---- the script
@@ -82,10 +70,11 @@ def fields_of(line):
 
 
 def commands_of(script):
-    """The commands of a script, each a list of fields."""
+    """The commands of a script, each its line's number, from 1, and its fields."""
     lines = script.split(b"\n")
     lines = [line[:-1] if line.endswith(b"\r") and at < len(lines) - 1 else line for at, line in enumerate(lines)]
-    return [fields_of(line) for line in lines if line.strip(b" \t") and not line.startswith(b"#")]
+    numbered = [(number, line) for number, line in enumerate(lines, 1) if line.strip(b" \t") and not line.startswith(b"#")]
+    return [(number, fields_of(line)) for number, line in numbered]
 
 
 def number_of(nth):
@@ -143,7 +132,7 @@ def antt_edit(fields):
 def antt_refusal(report):
     """The refusal of a report line as a term."""
     number, _, *detail = report.rstrip("\n").split(": refused ")[1].split(" ")
-    name = REFUSALS[int(number)]
+    name = REFUSALS[int(number) - 1]
     if name == "BadArgument":
         return f"(BadArgument field.{FIELDS[detail[0]]})"
     return f"({name} {detail[0]})" if detail else name
@@ -160,7 +149,7 @@ def equation_of(row):
     if row["status"] not in ("0", "1"):
         return None
     commands = commands_of(unescape(row["script"]).encode("latin-1"))
-    edit = antt_edit(commands[0]) if len(commands) == 1 else None
+    edit = antt_edit(commands[0][1]) if len(commands) == 1 else None
     if edit is None:
         return None
     asked = f"{antt_text(unescape(row['makefile']).encode('latin-1'))} {edit}"
@@ -183,7 +172,7 @@ IMPORTS = [
     ("Rattle.std.specs.Prelude", ["codes"]),
     ("Rattle.mk_class.specs.declared.assignment.Flavor.TheVariants", list(FLAVORS.values())),
     ("Rattle.mk_edit_language.specs.declared.edit.RuleSeparator.TheVariants", list(SEPARATORS.values())),
-    ("Rattle.mk_edit_language.specs.declared.refusal.Refusal.TheVariants", list(REFUSALS.values())),
+    ("Rattle.mk_edit_language.specs.declared.refusal.Refusal.TheVariants", REFUSALS),
     ("Rattle.mk_edit_language.specs.Edits", ["Bottom", "BeforeVar", "AfterVar", "BeforeRule"]),
     (
         "Rattle.mk_edit_language.specs.Edits",
@@ -195,24 +184,12 @@ IMPORTS = [
 ]
 
 
-def stands_in(name, body):
-    """Whether a body without its texts has a name."""
-    if name.startswith("◌"):
-        return name.strip("◌") in body
-    return name == "[]" or bool(re.search(rf"(?<![\w.]){name}(?!\w)", body))
-
-
-def head_of(table, body):
+def whole_head_of(table, body):
     """The first lines of a file with this body."""
-    lines = [f"-- Edits with their answers. Made by `tests/definitions/edit_rows.py {table}`."]
-    bare = re.sub(r'"[^"\\]*(?:\\.[^"\\]*)*"', "", body)
-    for module, names in IMPORTS:
-        used = [name for name in names if stands_in(name, bare)]
-        if used:
-            lines.append(f"use {module}.{{{', '.join(used)}}}")
-    if re.search(r"(?<!\w)field\.", bare):
-        lines.append("use Rattle.mk_edit_language.specs.declared.refusal.Field.TheVariants as field")
-    return "\n".join(lines) + "\n"
+    head = head_of(f"Edits with their answers. Made by `tests/definitions/edit_rows.py {table}`.", IMPORTS, body)
+    if re.search(r"(?<!\w)field\.", outside_texts(body)):
+        head += "use Rattle.mk_edit_language.specs.declared.refusal.Field.TheVariants as field\n"
+    return head
 
 
 def main():
@@ -225,7 +202,7 @@ def main():
         equation = equation_of(row)
         if equation:
             body += f"\n{name} : {equation}\n{name} = refl\n"
-    print(head_of(table, body) + body, end="")
+    print(whole_head_of(table, body) + body, end="")
 
 
 if __name__ == "__main__":

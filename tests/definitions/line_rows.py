@@ -14,6 +14,7 @@ Other rows are for a copy of the crate.
 import random
 import re
 import sys
+from pathlib import Path
 
 # Bytes that mean something to lines, folds or units, the likely ones more than once.
 ALPHABET = b"\\\\\\\\$$(){}  \t\n\n\n\r\0#aa"
@@ -227,16 +228,20 @@ seen t = map seen_line (logical_lines t)
 """
 
 
-def main():
+def print_rows(head, random_text, question, answer_of):
+    """Prints a file of equations of random texts, as many as a script's first word says, by the seed of its second."""
     if len(sys.argv) != 3:
-        sys.exit("usage: line_rows.py COUNT SEED")
+        sys.exit(f"usage: {Path(sys.argv[0]).name} COUNT SEED")
     count, seed = int(sys.argv[1]), int(sys.argv[2])
     random_source = random.Random(seed)
-    print(HEAD.format(count=count, seed=seed), end="")
+    print(head.format(count=count, seed=seed), end="")
     for number in range(count):
         text = random_text(random_source)
-        lines = antt_list([antt_line(line) for line in logical_lines(text)])
-        print(f"\nrow_{number} : seen ({antt_text(text)}) ≡ {lines}\nrow_{number} = refl")
+        print(f"\nrow_{number} : {question} ({antt_text(text)}) ≡ {answer_of(text)}\nrow_{number} = refl")
+
+
+def main():
+    print_rows(HEAD, random_text, "seen", lambda text: antt_list([antt_line(line) for line in logical_lines(text)]))
 
 
 if __name__ == "__main__":

@@ -77,13 +77,6 @@ def column(row, name):
     return unescape(row[name]).encode("latin-1")
 
 
-def numbered_commands(script):
-    """The commands of a script, each with the number of its line."""
-    for number, line in enumerate(re.findall(rb"[^\n]*\n|[^\n]+", script), 1):
-        for fields in commands_of(line):
-            yield number, fields
-
-
 def command_column(fields):
     """The column of a command's fields, the number of `nth` after its word."""
     nth = "-"
@@ -101,7 +94,7 @@ def command_columns(row, goes_on):
     """The replies and the commands of a row, up to the refusal that ended the run."""
     refused = {int(number): reply for number, reply in REPORT.findall(unescape(row["stderr"]))}
     columns = []
-    for number, fields in numbered_commands(column(row, "script")):
+    for number, fields in commands_of(column(row, "script")):
         columns += [refused.pop(number, "done"), command_column(fields)]
         if columns[-2] != "done" and not goes_on:
             break

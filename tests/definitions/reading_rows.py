@@ -25,7 +25,7 @@ import re
 import sys
 from pathlib import Path
 
-from row_tables import rows_of_table, unescape
+from row_tables import head_of, rows_of_table, unescape
 
 FLAVORS = {
     b"=": "Recursive",
@@ -118,17 +118,6 @@ IMPORTS = [
 ]
 
 
-def head_of(table, body):
-    """The first lines of a file with this body."""
-    lines = [f"-- Texts and their readings. Made by `tests/definitions/reading_rows.py tests/cases/readings/{table.name}`."]
-    bare = re.sub(r'"[^"\\]*(?:\\.[^"\\]*)*"', "", body)
-    for module, names in IMPORTS:
-        used = [name for name in names if not name.isalpha() or re.search(rf"(?<!\w){name}(?!\w)", bare)]
-        if used:
-            lines.append(f"use {module}.{{{', '.join(used)}}}")
-    return "\n".join(lines) + "\n"
-
-
 def main():
     if len(sys.argv) not in (2, 3):
         sys.exit("usage: reading_rows.py TABLE [COUNT]")
@@ -141,7 +130,8 @@ def main():
         row = "row_" + name.replace("-", "_")
         items = " ∷ ".join([antt_item(item) for item in reading] + ["[]"])
         body += f"\n{row} : reading {antt_text(text)} ≡ {items}\n{row} = refl\n"
-    print(head_of(table, body) + body, end="")
+    title = f"Texts and their readings. Made by `tests/definitions/reading_rows.py tests/cases/readings/{table.name}`."
+    print(head_of(title, IMPORTS, body) + body, end="")
 
 
 if __name__ == "__main__":

@@ -1,4 +1,5 @@
-"""Tables of rows, which the scripts beside this one turn into equations and other rows.
+"""Tables of rows, which the scripts beside this one turn into equations and other rows, and the head of a
+file of equations.
 
 A table is a file of lines with columns between tabs; its first line names the columns. In a column
 \\\\, \\t, \\n, \\r and \\xHH stand for a backslash, a tab, a line end, a return and the byte HH.
@@ -31,3 +32,25 @@ def rows_of_table(path):
             raise ValueError(f"{path}, line {number}: the name {line[0]} stood already")
         names.add(line[0])
     return [dict(zip(head, line)) for line in lines]
+
+
+def outside_texts(body):
+    """The equations of a body without the texts in them."""
+    return re.sub(r'"[^"\\]*(?:\\.[^"\\]*)*"', "", body)
+
+
+def stands_in(name, equations):
+    """Whether equations without texts have a name."""
+    if name.startswith("◌"):
+        return name.strip("◌") in equations
+    return name == "[]" or bool(re.search(rf"(?<![\w.]){name}(?!\w)", equations))
+
+
+def head_of(title, imports, body):
+    """The first lines of a file: its title, and of the imports, a module and its names each, what a body has."""
+    lines, equations = [f"-- {title}"], outside_texts(body)
+    for module, names in imports:
+        used = [name for name in names if stands_in(name, equations)]
+        if used:
+            lines.append(f"use {module}.{{{', '.join(used)}}}")
+    return "\n".join(lines) + "\n"

@@ -17,9 +17,9 @@ A table (row_tables.py) has the columns name, makefile, script, flags, stdout, s
 import re
 import sys
 
-from edit_rows import SEPARATORS, antt_edit, fields_of
+from edit_rows import SEPARATORS, antt_edit, commands_of
 from reading_rows import FLAVORS, antt_list, antt_text
-from row_tables import rows_of_table, unescape
+from row_tables import head_of, rows_of_table, unescape
 
 # How many edits a run lets undo where the row does not say it.
 DEPTH = 100
@@ -55,14 +55,6 @@ came_to k depth text commands = result_after k (obeyed k commands (shown_opened 
 abbrev ends : Outcome → (report : List ℕ) → (output : Option (List ℕ)) → RunResult
 ends outcome report output = record { outcome = outcome; report = report; output = output }
 """
-
-
-def commands_of(script):
-    """The commands of a script, each its line's number, from 1, and its fields."""
-    lines = script.split(b"\n")
-    lines = [line[:-1] if line.endswith(b"\r") and at < len(lines) - 1 else line for at, line in enumerate(lines)]
-    numbered = [(number, line) for number, line in enumerate(lines, 1) if line.strip(b" \t") and not line.startswith(b"#")]
-    return [(number, fields_of(line)) for number, line in numbered]
 
 
 def antt_command(fields):
@@ -101,24 +93,6 @@ def chosen(rows):
         yield row
 
 
-def stands_in(name, body):
-    """Whether a body without its texts has a name."""
-    if name.startswith("◌"):
-        return name.strip("◌") in body
-    return name == "[]" or bool(re.search(rf"(?<![\w.]){name}(?!\w)", body))
-
-
-def head_of(table, body):
-    """The first lines of a file with this body."""
-    lines = [f"-- Runs with their answers. Made by `tests/definitions/run_rows.py {table}`."]
-    bare = re.sub(r'"[^"\\]*(?:\\.[^"\\]*)*"', "", body)
-    for module, names in IMPORTS:
-        used = [name for name in names if stands_in(name, bare)]
-        if used:
-            lines.append(f"use {module}.{{{', '.join(used)}}}")
-    return "\n".join(lines) + "\n"
-
-
 def main():
     if len(sys.argv) != 2:
         sys.exit("usage: run_rows.py TABLE")
@@ -128,7 +102,7 @@ def main():
         name = "row_" + row["name"].replace("-", "_")
         opened = "unfolding digits\n" if row["stderr"] else ""
         body += f"\n{name} : {equation_of(row)}\n{opened}{name} = refl\n"
-    print(head_of(table, body) + body, end="")
+    print(head_of(f"Runs with their answers. Made by `tests/definitions/run_rows.py {table}`.", IMPORTS, body) + body, end="")
 
 
 if __name__ == "__main__":

@@ -21,7 +21,7 @@ import re
 import sys
 
 from reading_rows import FLAVORS, antt_text
-from row_tables import rows_of_table, unescape
+from row_tables import head_of, rows_of_table, unescape
 
 SEPARATORS = {b":": "Single", b"::": "Double"}
 MOST = 4294967295
@@ -224,24 +224,6 @@ IMPORTS = [
 ]
 
 
-def stands_in(name, body):
-    """Whether a body without its texts has a name."""
-    if name.startswith("◌"):
-        return name.strip("◌") in body
-    return name == "[]" or bool(re.search(rf"(?<![\w.]){name}(?!\w)", body))
-
-
-def head_of(tables, body):
-    """The first lines of a file with this body."""
-    lines = [f"-- Scripts and what they mean. Made by `tests/definitions/script_rows.py {' '.join(tables)}`."]
-    bare = re.sub(r'"[^"\\]*(?:\\.[^"\\]*)*"', "", body)
-    for module, names in IMPORTS:
-        used = [name for name in names if stands_in(name, bare)]
-        if used:
-            lines.append(f"use {module}.{{{', '.join(used)}}}")
-    return "\n".join(lines) + "\n"
-
-
 def rows_of(table):
     """The names, scripts and meanings of a table."""
     for row in rows_of_table(table):
@@ -265,7 +247,8 @@ def main():
         seen.add(script)
         body += f"\n{name} : read_script {antt_text(script)} ≡ {antt_meaning(meaning)}\n"
         body += f"unfolding line_len lines_from\n{name} = refl\n"
-    print(head_of(tables, body) + body, end="")
+    title = f"Scripts and what they mean. Made by `tests/definitions/script_rows.py {' '.join(tables)}`."
+    print(head_of(title, IMPORTS, body) + body, end="")
 
 
 if __name__ == "__main__":

@@ -16,15 +16,11 @@ import tarfile
 from tests import TOP
 from tests.lib.checks import SECONDS, Program
 from tests.lib.rooms import EDITED, RoomCase
+from tests.program.test_installation import PLACES
 
 # Where each file of the repository stands in the archive, below its folder; None is the program.
 ARCHIVE = {
-    "bin/mkedit": None,
-    "share/man/man1/mkedit.1": "docs/mkedit.1",
-    "share/man/man5/mkedit-script.5": "docs/mkedit-script.5",
-    "share/bash-completion/completions/mkedit": "completions/mkedit.bash",
-    "share/zsh/site-functions/_mkedit": "completions/mkedit.zsh",
-    "share/fish/vendor_completions.d/mkedit.fish": "completions/mkedit.fish",
+    **PLACES,
     "README.md": "README.md",
     "CHANGELOG.md": "CHANGELOG.md",
     "docs/EDITS.md": "docs/EDITS.md",

@@ -17,27 +17,14 @@ RESERVED_TARGETS = frozenset(
     b"ifeq ifneq ifdef ifndef else endif define endef undefine include -include sinclude load -load"
     b" export unexport override private vpath".split()
 )
-NAMES = {
-    1: "BadArgument",
-    2: "Reserved",
-    3: "RecipePrefix",
-    4: "NoSuch",
-    5: "Ambiguous",
-    6: "Absent",
-    7: "Already",
-    8: "Taken",
-    9: "SharedRule",
-    10: "Straddles",
-    11: "OpenValue",
-    12: "OpenLine",
-    13: "OpenDefine",
-    14: "Leans",
-    15: "TooLong",
-    16: "NothingToUndo",
-    17: "NothingToRedo",
-    18: "GroupOpen",
-    19: "NoGroup",
-}
+# The name of each refusal, by its number.
+NAMES = dict(
+    enumerate(
+        "BadArgument Reserved RecipePrefix NoSuch Ambiguous Absent Already Taken SharedRule Straddles OpenValue"
+        " OpenLine OpenDefine Leans TooLong NothingToUndo NothingToRedo GroupOpen NoGroup".split(),
+        1,
+    )
+)
 
 
 class Refused(Exception):

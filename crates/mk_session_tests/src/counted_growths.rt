@@ -1,13 +1,11 @@
 //! How many growths calls take.
-use crate::steps::{Answer, Step, answers};
+use crate::growths::{Heap, growths_of};
+use crate::steps::{Answer, Step, answers, opened};
 use mk_class::Meter;
 use mk_session::{Command, Refusal, Session};
 use mk_tree::Doc;
-use std::alloc::Global;
 use std::test::Fail;
-use watched::{Growths, Watched};
-
-type Heap = Watched<Global>;
+use watched::Watched;
 
 const FIRST: &[u8] = b"X=0\nY=0\n";
 
@@ -24,9 +22,9 @@ const INTO_A_GROUP: &[(Step, Answer)] = &[
 ];
 
 // A session with an edit to undo, and an open group of two edits.
-fn in_a_group<'a>(rt: &HostRuntime, heap: &'a Heap) -> Result<Session<&'a Heap>, Fail> {
-    let mut session = Session::open(heap, FIRST, 10)?;
-    if !answers(rt, heap, &mut session, FIRST, INTO_A_GROUP)? {
+fn in_a_group<'a>(rt: &HostRuntime, heap: &'a Heap) -> Result<&'a mut Session<&'a Heap>, Fail> {
+    let session = opened(rt, heap, FIRST, 10)?;
+    if !answers(rt, heap, session, FIRST, INTO_A_GROUP)? {
         return Err(Fail::from("the edits are not made"));
     }
     Ok(session)
@@ -35,9 +33,9 @@ fn in_a_group<'a>(rt: &HostRuntime, heap: &'a Heap) -> Result<Session<&'a Heap>,
 // Whether calls in the group of such a session are answered so without memory.
 fn takes_no_memory(rt: &HostRuntime, steps: &[(Step, Answer)]) -> Result<bool, Fail> {
     let heap = Watched::new(rt.alloc());
-    let mut session = in_a_group(rt, &heap)?;
+    let session = in_a_group(rt, &heap)?;
     heap.refuse_all();
-    Ok(answers(rt, &heap, &mut session, GROUPED, steps)? && !heap.has_refused())
+    Ok(answers(rt, &heap, session, GROUPED, steps)? && !heap.has_refused())
 }
 
 const END_UNDO_AND_REDO: &[(Step, Answer)] = &[
@@ -65,10 +63,9 @@ fn cancel_takes_no_memory(rt: HostRuntime) -> Result<(), Fail> {
 }
 
 // How many growths it takes to open a session of a depth.
-fn growths_of_open(heap: &Heap, depth: u32) -> Result<u64, Fail> {
+fn growths_of_open(rt: &HostRuntime, heap: &Heap, depth: u32) -> Result<u64, Fail> {
     heap.refuse_none();
-    let session = Session::open(heap, FIRST, depth)?;
-    drop(session);
+    opened(rt, heap, FIRST, depth)?;
     Ok(heap.passed().count)
 }
 
@@ -84,27 +81,16 @@ fn growths_of_parse(heap: &Heap) -> Result<u64, Fail> {
 fn the_rings_of_the_greatest_depth_are_two_growths(rt: HostRuntime) -> Result<(), Fail> {
     let heap = Watched::new(rt.alloc());
     let growths = growths_of_parse(&heap)?.saturating_add(2);
-    assert_eq!(rt; growths_of_open(&heap, 1)?, growths);
-    assert_eq!(rt; growths_of_open(&heap, 10_000)?, growths);
+    assert_eq!(rt; growths_of_open(&rt, &heap, 1)?, growths);
+    assert_eq!(rt; growths_of_open(&rt, &heap, 10_000)?, growths);
     Ok(())
 }
 
-// The growths of a call.
-fn growths_of<'a>(
-    heap: &'a Heap,
-    session: &mut Session<&'a Heap>,
-    command: &Command<&'a Heap>,
-) -> Result<Growths, Fail> {
-    heap.refuse_none();
-    session.obey(command)?;
-    Ok(heap.passed())
-}
-
 // Whether 200 edits of a session of a depth take the same growths each.
-fn takes_the_same(heap: &Heap, depth: u32) -> Result<bool, Fail> {
-    let mut session = Session::open(heap, FIRST, depth)?;
+fn takes_the_same(rt: &HostRuntime, heap: &Heap, depth: u32) -> Result<bool, Fail> {
+    let session = opened(rt, heap, FIRST, depth)?;
     let edit = Step::SetValue(b"X", b"1").command(heap)?;
-    repeats_its_growths(heap, &mut session, &edit)
+    repeats_its_growths(heap, session, &edit)
 }
 
 // Whether a call takes the same growths each of 200 times.
@@ -125,7 +111,7 @@ fn repeats_its_growths<'a>(
 #[test]
 fn no_ring_grows_by_an_edit(rt: HostRuntime) -> Result<(), Fail> {
     let heap = Watched::new(rt.alloc());
-    assert!(rt; takes_the_same(&heap, 1)?);
-    assert!(rt; takes_the_same(&heap, 10_000)?);
+    assert!(rt; takes_the_same(&rt, &heap, 1)?);
+    assert!(rt; takes_the_same(&rt, &heap, 10_000)?);
     Ok(())
 }

@@ -10,6 +10,8 @@ mod counted_growths;
 #[cfg(test)]
 mod edits;
 #[cfg(test)]
+mod growths;
+#[cfg(test)]
 mod long_documents;
 #[cfg(test)]
 mod many_calls;

@@ -1,12 +1,11 @@
 //! Sessions over documents that are long enough for an index of their variables.
-use crate::steps::{Step, obey_step};
+use crate::growths::{Heap, growths_of, obey_after};
+use crate::steps::{Step, obey_step, opened};
 use crate::texts::is_as_parsed;
-use mk_session::{Command, Refusal, Session};
-use std::alloc::{AllocError, Allocator, Global};
+use mk_session::{Refusal, Session};
+use std::alloc::{AllocError, Allocator};
 use std::test::Fail;
 use watched::Watched;
-
-type Heap = Watched<Global>;
 
 /// How many lines `B=1` stand between the first and the last lines.
 const BETWEEN: usize = 1_100;
@@ -109,30 +108,19 @@ fn answers<A: Allocator + Copy>(
 }
 
 // A session over the first text.
-fn opened<A: Allocator + Copy>(rt: &HostRuntime, alloc: A) -> Result<Session<A>, Fail> {
+fn session_over<'a, A: Allocator + Copy + 'a>(
+    rt: &HostRuntime,
+    alloc: A,
+) -> Result<&'a mut Session<A>, Fail> {
     let text = text_with(rt, FIRST)?;
-    Ok(Session::open(alloc, text.as_slice(), 100)?)
+    Ok(opened(rt, alloc, text.as_slice(), 100)?)
 }
 
 #[test]
 fn edits_of_a_long_document_find_their_lines(rt: HostRuntime) -> Result<(), Fail> {
-    let mut session = opened(&rt, rt.alloc())?;
-    assert!(rt; answers(&rt, rt.alloc(), &mut session, FIRST, STEPS)?);
+    let session = session_over(&rt, rt.alloc())?;
+    assert!(rt; answers(&rt, rt.alloc(), session, FIRST, STEPS)?);
     Ok(())
-}
-
-// Refuses a growth of the edit that makes an index. Gives its answer, and whether it has so many.
-fn obey_after<'a>(
-    heap: &'a Heap,
-    session: &mut Session<&'a Heap>,
-    command: &Command<&'a Heap>,
-    admitted: u64,
-) -> (Result<(), Refusal>, bool) {
-    heap.refuse_one_after(admitted);
-    let answer = session.obey(command);
-    let refused = heap.has_refused();
-    heap.refuse_none();
-    (answer, refused)
 }
 
 // What comes of a refused growth: the edit has not so many, it is made all the same, or it finds no
@@ -169,12 +157,12 @@ fn second_edit<'a>(
 
 // The same over a session of its own, which goes on with the other calls.
 fn goes_on(rt: &HostRuntime, heap: &Heap, admitted: u64) -> Result<Growth, Fail> {
-    let mut session = opened(rt, heap)?;
-    if !answers(rt, heap, &mut session, FIRST, &STEPS[..1])? {
+    let session = session_over(rt, heap)?;
+    if !answers(rt, heap, session, FIRST, &STEPS[..1])? {
         return Err(Fail::from("the first edit is not made"));
     }
-    let growth = second_edit(rt, heap, &mut session, admitted)?;
-    if !answers(rt, heap, &mut session, AFTER, &STEPS[2..])? {
+    let growth = second_edit(rt, heap, session, admitted)?;
+    if !answers(rt, heap, session, AFTER, &STEPS[2..])? {
         return Err(Fail::from("a session does not go on"));
     }
     Ok(growth)
@@ -205,15 +193,12 @@ fn a_refused_growth_of_an_index_refuses_no_edit(rt: HostRuntime) -> Result<(), F
 // How many growths the first edit of a session passes on, where more edits are expected or not.
 fn growths_of_first_edit(rt: &HostRuntime, is_told: bool) -> Result<u64, Fail> {
     let heap = Watched::new(rt.alloc());
-    let heap = &heap;
-    let mut session = opened(rt, heap)?;
+    let session = session_over(rt, &heap)?;
     if is_told {
         session.expect_edits();
     }
-    let command = Step::SetValue(b"A", b"2").command(heap)?;
-    heap.refuse_none();
-    session.obey(&command)?;
-    Ok(heap.passed().count)
+    let command = Step::SetValue(b"A", b"2").command(&heap)?;
+    Ok(growths_of(&heap, session, &command)?.count)
 }
 
 #[test]
@@ -226,8 +211,8 @@ fn a_session_that_expects_edits_makes_its_index_at_the_first(rt: HostRuntime) ->
 
 #[test]
 fn a_session_that_expects_edits_answers_as_any_other(rt: HostRuntime) -> Result<(), Fail> {
-    let mut session = opened(&rt, rt.alloc())?;
+    let session = session_over(&rt, rt.alloc())?;
     session.expect_edits();
-    assert!(rt; answers(&rt, rt.alloc(), &mut session, FIRST, STEPS)?);
+    assert!(rt; answers(&rt, rt.alloc(), session, FIRST, STEPS)?);
     Ok(())
 }

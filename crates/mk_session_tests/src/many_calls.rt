@@ -1,6 +1,7 @@
 //! Many calls in turn over hostile makefiles, beside the session machine by whole texts.
 use crate::any_command::any_command;
 use crate::numbers::Numbers;
+use crate::steps::opened;
 use crate::text_machine::TextMachine;
 use crate::texts::{is_as_parsed, text_of};
 use mk_session::{Command, Refusal, Session};
@@ -63,10 +64,10 @@ fn run_calls(
     text: &[u8],
     depth: u32,
 ) -> Result<u32, Fail> {
-    let mut session = Session::open(rt.alloc(), text, depth)?;
+    let session = opened(rt, rt.alloc(), text, depth)?;
     let mut machine = TextMachine::open(rt, text, depth)?;
     for _ in 0..50 {
-        run_call(rt, numbers, &mut session, &mut machine)?;
+        run_call(rt, numbers, session, &mut machine)?;
     }
     Ok(machine.edits())
 }

@@ -1,17 +1,16 @@
 //! Growths that are refused: the call says so, the session is as it was, and the call can be made
 //! again.
-use crate::steps::{Answer, Step, answers};
+use crate::growths::{Heap, obey_after};
+use crate::steps::{Answer, Step, answers, opened};
 use crate::texts::is_as_parsed;
 use mk_lines::Fault;
 use mk_session::{Command, Refusal, Session};
-use std::alloc::{AllocError, Global};
+use std::alloc::AllocError;
 use std::test::Fail;
 use watched::Watched;
 
 /// More growths than any call here takes.
 const MANY: u64 = 100;
-
-type Heap = Watched<Global>;
 
 const FIRST: &[u8] = b"X=0\nall: a a\na:\n\tc\nY = 1 \\\n  2";
 
@@ -21,7 +20,7 @@ const UNDONE: &[u8] = b"X=2\nall: a a\na:\n\tc\nY = 1 \\\n  2";
 
 // Why a session is not opened, if it is not. One that is opened has the document of its text.
 fn fault_of_open(rt: &HostRuntime, heap: &Heap) -> Result<Option<Fault>, Fail> {
-    match Session::open(heap, FIRST, 10) {
+    match opened(rt, heap, FIRST, 10) {
         Ok(session) if is_as_parsed(rt, session.doc(), FIRST)? => Ok(None),
         Ok(_) => Err(Fail::from("a session is opened on another text")),
         Err(fault) => Ok(Some(fault)),
@@ -133,9 +132,9 @@ fn session_at<'a>(
     rt: &HostRuntime,
     heap: &'a Heap,
     stage: Stage,
-) -> Result<Session<&'a Heap>, Fail> {
-    let mut session = Session::open(heap, FIRST, 10)?;
-    if !answers(rt, heap, &mut session, FIRST, stage.before)? {
+) -> Result<&'a mut Session<&'a Heap>, Fail> {
+    let session = opened(rt, heap, FIRST, 10)?;
+    if !answers(rt, heap, session, FIRST, stage.before)? {
         return Err(Fail::from("the stage is not reached"));
     }
     Ok(session)
@@ -159,20 +158,6 @@ fn counts_at<'a>(
         (Step::Redo, Ok(text)),
     ];
     answers(rt, heap, session, text, &steps)
-}
-
-// Refuses a growth of a call. Gives its answer, and whether it has so many.
-fn obey_after<'a>(
-    heap: &'a Heap,
-    session: &mut Session<&'a Heap>,
-    command: &Command<&'a Heap>,
-    admitted: u64,
-) -> (Result<(), Refusal>, bool) {
-    heap.refuse_one_after(admitted);
-    let answer = session.obey(command);
-    let refused = heap.has_refused();
-    heap.refuse_none();
-    (answer, refused)
 }
 
 // Refuses a growth of a call at a stage, and says whether the call has so many. One that is refused
@@ -221,9 +206,9 @@ fn is_refused(
     (edit, text): (Step, &'static [u8]),
     admitted: u64,
 ) -> Result<bool, Fail> {
-    let mut session = session_at(rt, heap, stage)?;
-    let refused = is_step_refused(rt, heap, &mut session, stage, edit, admitted)?;
-    if is_as_parsed(rt, session.doc(), text)? && counts_at(rt, heap, &mut session, stage, text)? {
+    let session = session_at(rt, heap, stage)?;
+    let refused = is_step_refused(rt, heap, session, stage, edit, admitted)?;
+    if is_as_parsed(rt, session.doc(), text)? && counts_at(rt, heap, session, stage, text)? {
         return Ok(refused);
     }
     Err(Fail::from("an edit is not answered as it should be"))
@@ -258,9 +243,9 @@ fn each_refused_growth_of_an_edit_changes_nothing(rt: HostRuntime) -> Result<(),
 // Refuses a growth of the begin of a group, and says whether it has so many. A begin that is
 // refused changes nothing, and can be made afterwards.
 fn is_begin_refused(rt: &HostRuntime, heap: &Heap, admitted: u64) -> Result<bool, Fail> {
-    let mut session = session_at(rt, heap, ALONE)?;
-    let refused = is_call_refused(rt, heap, &mut session, ALONE, &Command::Begin, admitted)?;
-    if answers(rt, heap, &mut session, NOW, IN_NEW_GROUP.stays)? {
+    let session = session_at(rt, heap, ALONE)?;
+    let refused = is_call_refused(rt, heap, session, ALONE, &Command::Begin, admitted)?;
+    if answers(rt, heap, session, NOW, IN_NEW_GROUP.stays)? {
         return Ok(refused);
     }
     Err(Fail::from("a begin is not answered as it should be"))
@@ -346,11 +331,11 @@ fn meets_growths(
     in_group: bool,
     (text, edit, cause): Refused,
 ) -> Result<bool, Fail> {
-    let mut session = Session::open(heap, text, 10)?;
+    let session = opened(rt, heap, text, 10)?;
     if in_group {
         session.begin()?;
     }
-    let (answer, refused) = obey_without_memory(heap, &mut session, edit)?;
+    let (answer, refused) = obey_without_memory(heap, session, edit)?;
     let counts_none = session.rereads() == 0;
     if answer == Err(cause) && counts_none && is_as_parsed(rt, session.doc(), text)? {
         return Ok(refused);

@@ -1,17 +1,15 @@
 //! Worked rows where a growth is refused: the call that meets it changes nothing, and is answered
 //! as the row says when it is made again, as are all others.
+use crate::growths::Heap;
 use crate::rows::{GROUP_ROWS, Row, UNDO_ROWS};
-use crate::steps::{Answer, Step};
+use crate::steps::{Answer, Step, opened};
 use crate::texts::is_as_parsed;
 use mk_session::{Command, Refusal, Session};
-use std::alloc::Global;
 use std::test::Fail;
 use watched::Watched;
 
 /// More growths than the calls of any row take.
 const MANY: u64 = 1_000;
-
-type Heap = Watched<Global>;
 
 // Makes a call on a text, again where it meets the growth that is refused, which changes nothing,
 // and fails where it is not answered as it should be.
@@ -77,9 +75,9 @@ fn is_refused<'a>(
     row: Row,
     admitted: u64,
 ) -> Result<bool, Fail> {
-    let mut session = Session::open(heap, row.text, row.depth)?;
+    let session = opened(rt, heap, row.text, row.depth)?;
     heap.refuse_one_after(admitted);
-    check_calls(rt, heap, own, &mut session, row)?;
+    check_calls(rt, heap, own, session, row)?;
     let refused = heap.has_refused();
     heap.refuse_none();
     Ok(refused)

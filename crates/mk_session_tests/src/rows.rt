@@ -1,8 +1,8 @@
 //! Worked rows: edits that are undone and redone, depths, groups, and the lines that are read
 //! again.
-use crate::steps::{Answer, Step, answers};
+use crate::steps::{Answer, Step, answers, opened};
 use mk_lines::Fault;
-use mk_session::{Refusal, Session};
+use mk_session::Refusal;
 use std::alloc::AllocError;
 use std::test::Fail;
 
@@ -237,10 +237,10 @@ const REREAD_ROWS: [Row; 5] = [
 
 // Whether the calls of a row are answered as it says.
 fn holds(rt: &HostRuntime, row: Row) -> Result<bool, Fail> {
-    let mut session = Session::open(rt.alloc(), row.text, row.depth)?;
-    let opened = session.rereads() == 0 && !session.has_open_group();
-    let answered = answers(rt, rt.alloc(), &mut session, row.text, row.steps)?;
-    Ok(opened && answered && session.rereads() == row.rereads)
+    let session = opened(rt, rt.alloc(), row.text, row.depth)?;
+    let is_new = session.rereads() == 0 && !session.has_open_group();
+    let answered = answers(rt, rt.alloc(), session, row.text, row.steps)?;
+    Ok(is_new && answered && session.rereads() == row.rereads)
 }
 
 #[test]
@@ -278,7 +278,7 @@ fn too_deep(rt: &HostRuntime) -> Result<Vec<u8>, AllocError> {
 
 // Why a text is not opened, if it is not.
 fn fault_of(rt: &HostRuntime, text: &[u8], depth: u32) -> Option<Fault> {
-    Session::open(rt.alloc(), text, depth).err()
+    opened(rt, rt.alloc(), text, depth).err()
 }
 
 #[test]

@@ -4,6 +4,7 @@ use crate::edits::{
     remove_recipe, remove_rule, rename_target, set_recipe, set_value,
 };
 use crate::texts::is_as_parsed;
+use mk_lines::Fault;
 use mk_session::{Command, Refusal, Session};
 use std::alloc::{AllocError, Allocator};
 use std::test::Fail;
@@ -69,6 +70,18 @@ impl Step {
         };
         Ok(Command::Apply(edit?))
     }
+}
+
+/// A session that is opened, and never dropped: each function that owned one would be proved to drop
+/// it, which takes long.
+pub fn opened<'a, A: Allocator + Copy + 'a>(
+    rt: &HostRuntime,
+    alloc: A,
+    text: &[u8],
+    depth: u32,
+) -> Result<&'a mut Session<A>, Fault> {
+    let session = Session::open(alloc, text, depth)?;
+    Ok(Box::leak(Box::new(rt.alloc(), session)?))
 }
 
 /// Makes a call of a session. The caller does not own the command, which every way out would drop.

@@ -1,12 +1,10 @@
 //! The memory that edits take. What a change keeps for its undo is a part of it, and so is what the
 //! document keeps of its new lines.
-use crate::steps::Step;
-use mk_session::{Command, Refusal, Session};
-use std::alloc::Global;
+use crate::growths::{Heap, growths_of};
+use crate::steps::{Step, opened};
+use mk_session::Session;
 use std::test::Fail;
 use watched::{Growths, Watched};
-
-type Heap = Watched<Global>;
 
 // The bytes that an edit of short lines takes at most: so many by itself, and so many for each line
 // that it changes.
@@ -52,17 +50,6 @@ fn text_of(rt: &HostRuntime, first: &[u8], other: &[u8], count: usize) -> Result
     Ok(text)
 }
 
-// The growths of a call.
-fn growths_of<'a>(
-    heap: &'a Heap,
-    session: &mut Session<&'a Heap>,
-    command: &Command<&'a Heap>,
-) -> Result<Growths, Refusal> {
-    heap.refuse_none();
-    session.obey(command)?;
-    Ok(heap.passed())
-}
-
 // The growths of the call of a step.
 fn growths_of_step<'a>(
     heap: &'a Heap,
@@ -78,10 +65,10 @@ fn growths_of_step<'a>(
 fn growths_of_edits(rt: &HostRuntime, lines: usize) -> Result<Vec<Growths>, Fail> {
     let heap = Watched::new(rt.alloc());
     let text = text_of(rt, FRONT, b"B=1\n", lines)?;
-    let mut session = Session::open(&heap, text.as_slice(), 100)?;
+    let session = opened(rt, &heap, text.as_slice(), 100)?;
     let mut found = Vec::new(rt.alloc());
     for (_, step, _) in EDITS {
-        found.push(growths_of_step(&heap, &mut session, step)?)?;
+        found.push(growths_of_step(&heap, session, step)?)?;
         session.undo()?;
     }
     Ok(found)
@@ -115,8 +102,8 @@ fn bytes_of_edit(
 ) -> Result<u64, Fail> {
     let heap = Watched::new(rt.alloc());
     let text = text_of(rt, first, other, count)?;
-    let mut session = Session::open(&heap, text.as_slice(), 100)?;
-    Ok(growths_of_step(&heap, &mut session, step)?.bytes)
+    let session = opened(rt, &heap, text.as_slice(), 100)?;
+    Ok(growths_of_step(&heap, session, step)?.bytes)
 }
 
 const RULE: (&[u8], &[u8]) = (b"all:\n", b"\tx\n");
@@ -138,7 +125,7 @@ fn an_edit_of_many_lines_takes_memory_for_each_of_them(rt: HostRuntime) -> Resul
 // The bytes that a group of so many edits takes, each of one line.
 fn bytes_of_group(rt: &HostRuntime, edits: usize) -> Result<u64, Fail> {
     let heap = Watched::new(rt.alloc());
-    let mut session = Session::open(&heap, FRONT, 100)?;
+    let session = opened(rt, &heap, FRONT, 100)?;
     let command = Step::SetValue(b"A", b"2").command(&heap)?;
     heap.refuse_none();
     session.begin()?;

@@ -210,30 +210,36 @@ fn class_of<A: Allocator + Copy>(alloc: A, line: &[u8]) -> Result<Class, Fault> 
     Ok(class)
 }
 
+fn span((start, end): (usize, usize)) -> Span {
+    Span { start, end }
+}
+
+/// An assignment whose name and value stand in such spans of the joined text.
+fn assignment(
+    flavor: Flavor,
+    name: (usize, usize),
+    value: (usize, usize),
+    end: usize,
+) -> Assignment {
+    Assignment {
+        flavor,
+        name: span(name),
+        value: span(value),
+        end,
+    }
+}
+
 #[test]
 fn offsets_are_those_of_the_joined_text(rt: HostRuntime) -> Result<(), Fail> {
     for (line, expected) in [
         (
             b"  override X \\\n += a b  # c\n".as_slice(),
-            Class::Assign(
-                Assignment {
-                    flavor: Flavor::Append,
-                    name: Span { start: 11, end: 12 },
-                    value: Span { start: 16, end: 19 },
-                    end: 21,
-                },
-                None,
-            ),
+            Class::Assign(assignment(Flavor::Append, (11, 12), (16, 19), 21), None),
         ),
         (
             b".RECIPEPREFIX := >\n".as_slice(),
             Class::Assign(
-                Assignment {
-                    flavor: Flavor::Simple,
-                    name: Span { start: 0, end: 13 },
-                    value: Span { start: 17, end: 18 },
-                    end: 18,
-                },
+                assignment(Flavor::Simple, (0, 13), (17, 18), 18),
                 Some(b'>'),
             ),
         ),
@@ -242,12 +248,7 @@ fn offsets_are_those_of_the_joined_text(rt: HostRuntime) -> Result<(), Fail> {
             Class::TargetAssign(TargetAssignment {
                 separator: Separator::SingleColon,
                 targets_end: 7,
-                assignment: Assignment {
-                    flavor: Flavor::Recursive,
-                    name: Span { start: 9, end: 10 },
-                    value: Span { start: 13, end: 17 },
-                    end: 17,
-                },
+                assignment: assignment(Flavor::Recursive, (9, 10), (13, 17), 17),
             }),
         ),
         (b"x.o y.o:: %.o: %.c | out ; cc\n".as_slice(), Class::Rough),

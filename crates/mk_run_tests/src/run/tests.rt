@@ -1,5 +1,8 @@
+ghost use Rattle.std.specs.Prelude.{◌≡◌, false};
+
 use super::bench::{Answer, moving, run_row};
-use super::rows::{Row, kept_going, rows};
+use super::rows::{CASES, Case, Row};
+use mk_lines::ByteSource;
 use mk_run::{Outcome, message, run, status};
 use std::process::Abort;
 use std::test::Fail;
@@ -11,7 +14,7 @@ const ALL: usize = 1000;
 
 fn assert_is(rt: &impl Abort, row: &Row, answer: &Answer) {
     assert_eq!(rt; answer.outcome, row.outcome);
-    assert_eq!(rt; status(&answer.outcome), row.status);
+    assert_eq!(rt; status(&answer.outcome), row.status());
     assert_eq!(rt; answer.out.bytes(), row.out);
     assert_eq!(rt; answer.report.bytes(), row.report);
     assert_eq!(rt; answer.out.flushes(), u64::from(row.writes()));
@@ -20,7 +23,8 @@ fn assert_is(rt: &impl Abort, row: &Row, answer: &Answer) {
 
 #[test]
 fn rows_at_any_step(rt: HostRuntime) {
-    for row in &rows() {
+    for case in CASES {
+        let row = &case.row();
         for step in 1..20usize {
             assert_is(&rt, row, &run_row(&rt, rt.alloc(), row, moving(step)));
         }
@@ -35,7 +39,8 @@ fn is_refused_rename(row: &Row) -> bool {
 
 #[test]
 fn each_growth_refused_in_turn(rt: HostRuntime) {
-    for row in &rows() {
+    for case in CASES {
+        let row = &case.row();
         for admitted in 0..1000 {
             let heap = Watched::refusing_one_after(rt.alloc(), admitted);
             let answer = run_row(&rt, &heap, row, moving(ALL));
@@ -60,13 +65,15 @@ fn each_growth_refused_in_turn(rt: HostRuntime) {
 // Where the next command finds no memory, the line on the one before is out.
 #[test]
 fn a_refusal_is_reported_at_once(rt: HostRuntime) {
-    let row = kept_going(
+    let row = Case::KeptGoing(
+        100,
         b"X=0\n",
         b"undo\nset X 1\n",
         1,
         b"X=1\n",
         b"1: refused 16 NothingToUndo\n",
-    );
+    )
+    .row();
     let mut is_met = false;
     for admitted in 0..1000 {
         let heap = Watched::refusing_one_after(rt.alloc(), admitted);
@@ -82,7 +89,8 @@ fn a_refusal_is_reported_at_once(rt: HostRuntime) {
 
 #[test]
 fn each_read_fails_in_turn(rt: HostRuntime) {
-    for row in &rows() {
+    for case in CASES {
+        let row = &case.row();
         for call in 1..200 {
             let mut plan = moving(1);
             plan.makefile_fails_at = Some(call);
@@ -100,7 +108,8 @@ fn each_read_fails_in_turn(rt: HostRuntime) {
 
 #[test]
 fn each_read_of_the_script_fails_in_turn(rt: HostRuntime) {
-    for row in &rows() {
+    for case in CASES {
+        let row = &case.row();
         for call in 1..200 {
             let mut plan = moving(1);
             plan.script_fails_at = Some(call);
@@ -118,7 +127,8 @@ fn each_read_of_the_script_fails_in_turn(rt: HostRuntime) {
 
 #[test]
 fn each_write_fails_in_turn(rt: HostRuntime) {
-    for row in &rows() {
+    for case in CASES {
+        let row = &case.row();
         for call in 1..200 {
             let mut fails = moving(3);
             fails.out_fails_at = Some(call);
@@ -146,7 +156,8 @@ fn each_write_fails_in_turn(rt: HostRuntime) {
 
 #[test]
 fn a_failed_flush_is_no_success(rt: HostRuntime) {
-    for row in &rows() {
+    for case in CASES {
+        let row = &case.row();
         let mut plan = moving(ALL);
         plan.flush_fails = true;
         let answer = run_row(&rt, rt.alloc(), row, plan);
@@ -161,7 +172,8 @@ fn a_failed_flush_is_no_success(rt: HostRuntime) {
 
 #[test]
 fn a_failed_report_ends_the_run(rt: HostRuntime) {
-    for row in &rows() {
+    for case in CASES {
+        let row = &case.row();
         for call in 1..200 {
             let mut fails = moving(5);
             fails.report_fails_at = Some(call);
@@ -186,21 +198,35 @@ fn a_failed_report_ends_the_run(rt: HostRuntime) {
     }
 }
 
-#[test]
-fn an_endless_makefile_is_left(rt: HostRuntime) {
-    let mut makefile = EndlessSource { byte: b'#' };
-    let mut script = MemorySource::new(b"", 1);
+// What comes of a run of a depth that ends at its first refusal: its outcome, its text and its report.
+fn run_of<R: ByteSource, S: ByteSource>(
+    rt: &HostRuntime,
+    makefile: &mut R,
+    script: &mut S,
+    depth: u32,
+) -> (Outcome, MemorySink, MemorySink)
+    requires makefile_works { R.failed makefile.old ≡ false }
+    requires script_works { S.failed script.old ≡ false }
+{
     let mut out = MemorySink::new(Vec::new(rt.alloc()), ALL);
     let mut report = MemorySink::new(Vec::new(rt.alloc()), ALL);
     let outcome = run(
         rt.alloc(),
-        &mut makefile,
-        &mut script,
-        100,
+        makefile,
+        script,
+        depth,
         false,
         &mut out,
         &mut report,
     );
+    (outcome, out, report)
+}
+
+#[test]
+fn an_endless_makefile_is_left(rt: HostRuntime) {
+    let mut makefile = EndlessSource { byte: b'#' };
+    let mut script = MemorySource::new(b"", 1);
+    let (outcome, out, _) = run_of(&rt, &mut makefile, &mut script, 100);
     assert_eq!(rt; outcome, Outcome::TooLong);
     assert_eq!(rt; (out.writes(), out.flushes()), (0, 0));
 }
@@ -209,17 +235,7 @@ fn an_endless_makefile_is_left(rt: HostRuntime) {
 fn an_endless_script_is_left(rt: HostRuntime) {
     let mut makefile = MemorySource::new(b"X=1\n", 1);
     let mut script = EndlessSource { byte: b'\n' };
-    let mut out = MemorySink::new(Vec::new(rt.alloc()), ALL);
-    let mut report = MemorySink::new(Vec::new(rt.alloc()), ALL);
-    let outcome = run(
-        rt.alloc(),
-        &mut makefile,
-        &mut script,
-        100,
-        false,
-        &mut out,
-        &mut report,
-    );
+    let (outcome, _, _) = run_of(&rt, &mut makefile, &mut script, 100);
     assert_eq!(rt; outcome, Outcome::TooLong);
     assert_eq!(rt; makefile.calls(), 0);
 }
@@ -233,29 +249,14 @@ fn a_text_at_the_limit_grows_no_more(rt: HostRuntime) -> Result<(), Fail> {
     text[1] = b'=';
     text[2] = b'1';
     text[3] = b'\n';
-    for (script, outcome) in [
-        (b"set X 2".as_slice(), Outcome::Done),
-        (b"set X 23".as_slice(), Outcome::Refused(1)),
+    for (script, outcome, reported) in [
+        (b"set X 2".as_slice(), Outcome::Done, b"".as_slice()),
+        (b"set X 23", Outcome::Refused(1), b"1: refused 15 TooLong\n"),
     ] {
         let mut makefile = MemorySource::new(text.as_slice(), 100_000);
         let mut script = MemorySource::new(script, ALL);
-        let mut out = MemorySink::new(Vec::new(rt.alloc()), 1_000_000);
-        let mut report = MemorySink::new(Vec::new(rt.alloc()), ALL);
-        let ended = run(
-            rt.alloc(),
-            &mut makefile,
-            &mut script,
-            1,
-            false,
-            &mut out,
-            &mut report,
-        );
+        let (ended, _, report) = run_of(&rt, &mut makefile, &mut script, 1);
         assert_eq!(rt; ended, outcome);
-        let reported = if outcome == Outcome::Done {
-            b"".as_slice()
-        } else {
-            b"1: refused 15 TooLong\n".as_slice()
-        };
         assert_eq!(rt; report.bytes(), reported);
     }
     Ok(())
@@ -300,17 +301,7 @@ fn is_printed_by_no_script(rt: &HostRuntime, text: &[u8]) -> bool {
 fn run_script(rt: &HostRuntime, text: &[u8], script: &[u8]) -> (Outcome, MemorySink) {
     let mut makefile = MemorySource::new(text, ALL);
     let mut script = MemorySource::new(script, ALL);
-    let mut out = MemorySink::new(Vec::new(rt.alloc()), ALL);
-    let mut report = MemorySink::new(Vec::new(rt.alloc()), ALL);
-    let outcome = run(
-        rt.alloc(),
-        &mut makefile,
-        &mut script,
-        100,
-        false,
-        &mut out,
-        &mut report,
-    );
+    let (outcome, out, _) = run_of(rt, &mut makefile, &mut script, 100);
     (outcome, out)
 }
 

@@ -65,7 +65,7 @@ pub static SCRIPTS: [Script; 15] = [
     },
     Script {
         text: b"rule bottom \"a b\" : c\nnth 0 rule before-rule t a :: \"\"\nnth 0000000007 unrule t",
-        commands: b"1 AddRule Bottom|a b|One|c\n2 AddRule BeforeRule 0|t|a|Two|\n3 RemoveRule 7|t\n",
+        commands: b"1 AddRule Bottom|a b|Single|c\n2 AddRule BeforeRule 0|t|a|Double|\n3 RemoveRule 7|t\n",
         growths: 6,
     },
     Script {

@@ -1,8 +1,7 @@
 //! Commands as texts, to be compared.
 
-use mk_class::Flavor;
 use mk_script::{Command, NumberedCommand};
-use mk_session::{Edit, Place, RuleSeparator};
+use mk_session::{Edit, Place};
 use std::alloc::{AllocError, Allocator, Global};
 
 /// Commands as lines of text: the number of the line, the name of the edit or call, and its
@@ -33,78 +32,51 @@ fn put_number(alloc: Global, out: &mut Vec<u8>, number: u64) -> Result<(), Alloc
     out.extend_from_slice(digits.as_bytes())
 }
 
-fn put_text(out: &mut Vec<u8>, text: &[u8]) -> Result<(), AllocError> {
-    out.push(b'|')?;
-    out.extend_from_slice(text)
+// Texts with a bar before each.
+fn put_texts(out: &mut Vec<u8>, texts: &[&[u8]]) -> Result<(), AllocError> {
+    for text in texts {
+        out.push(b'|')?;
+        out.extend_from_slice(text)?;
+    }
+    Ok(())
 }
 
-// The name of an edit, and the number of the line that it means.
-fn put_name(
+// The name of an edit or a place, the number of the line that it means, and its texts.
+fn put_named(
     alloc: Global,
     out: &mut Vec<u8>,
     name: &[u8],
     nth: Option<u32>,
+    texts: &[&[u8]],
 ) -> Result<(), AllocError> {
     out.extend_from_slice(name)?;
     out.push(b' ')?;
     match nth {
-        Some(number) => put_number(alloc, out, u64::from(number)),
-        None => Ok(out.push(b'-')?),
+        Some(number) => put_number(alloc, out, u64::from(number))?,
+        None => out.push(b'-')?,
     }
+    put_texts(out, texts)
 }
 
-fn put_two<A: Allocator>(
+// The name of an edit that puts in a line, its place, and its texts.
+fn put_new<A: Allocator>(
     alloc: Global,
     out: &mut Vec<u8>,
     name: &[u8],
-    nth: Option<u32>,
-    one: &Vec<u8, A>,
-    other: &Vec<u8, A>,
-) -> Result<(), AllocError> {
-    put_name(alloc, out, name, nth)?;
-    put_text(out, one)?;
-    put_text(out, other)
-}
-
-fn put_place<A: Allocator>(
-    alloc: Global,
-    out: &mut Vec<u8>,
     place: &Place<A>,
+    texts: &[&[u8]],
 ) -> Result<(), AllocError> {
+    out.extend_from_slice(name)?;
+    out.push(b' ')?;
     match place {
-        Place::Bottom => out.extend_from_slice(b"Bottom"),
-        Place::BeforeVar { nth, name } => {
-            put_name(alloc, out, b"BeforeVar", *nth)?;
-            put_text(out, name)
-        }
-        Place::AfterVar { nth, name } => {
-            put_name(alloc, out, b"AfterVar", *nth)?;
-            put_text(out, name)
-        }
+        Place::Bottom => out.extend_from_slice(b"Bottom")?,
+        Place::BeforeVar { nth, name } => put_named(alloc, out, b"BeforeVar", *nth, &[name])?,
+        Place::AfterVar { nth, name } => put_named(alloc, out, b"AfterVar", *nth, &[name])?,
         Place::BeforeRule { nth, target } => {
-            put_name(alloc, out, b"BeforeRule", *nth)?;
-            put_text(out, target)
+            put_named(alloc, out, b"BeforeRule", *nth, &[target])?;
         }
     }
-}
-
-fn flavor_name(flavor: Flavor) -> &'static [u8] {
-    match flavor {
-        Flavor::Recursive => b"Recursive",
-        Flavor::Simple => b"Simple",
-        Flavor::PosixSimple => b"PosixSimple",
-        Flavor::Immediate => b"Immediate",
-        Flavor::Conditional => b"Conditional",
-        Flavor::Append => b"Append",
-        Flavor::Shell => b"Shell",
-    }
-}
-
-fn colons_name(separator: RuleSeparator) -> &'static [u8] {
-    match separator {
-        RuleSeparator::Single => b"One",
-        RuleSeparator::Double => b"Two",
-    }
+    put_texts(out, texts)
 }
 
 fn put_edit<A: Allocator>(
@@ -114,70 +86,87 @@ fn put_edit<A: Allocator>(
 ) -> Result<(), AllocError> {
     match edit {
         Edit::SetValue { nth, name, value } => {
-            put_two(alloc, out, b"SetValue", *nth, name, value)
+            put_named(alloc, out, b"SetValue", *nth, &[name, value])
         }
         Edit::AppendValue { nth, name, value } => {
-            put_two(alloc, out, b"AppendValue", *nth, name, value)
+            put_named(alloc, out, b"AppendValue", *nth, &[name, value])
         }
-        Edit::RemoveAssign { nth, name } => {
-            put_name(alloc, out, b"RemoveAssign", *nth)?;
-            put_text(out, name)
-        }
-        Edit::AddPrereq {
-            order: false,
-            nth,
-            target,
-            word,
-        } => put_two(alloc, out, b"AddPrereq", *nth, target, word),
-        Edit::AddPrereq {
-            order: true,
-            nth,
-            target,
-            word,
-        } => put_two(alloc, out, b"AddPrereq order", *nth, target, word),
-        Edit::RemovePrereq { nth, target, word } => {
-            put_two(alloc, out, b"RemovePrereq", *nth, target, word)
-        }
-        Edit::AddRecipe { nth, target, line } => {
-            put_two(alloc, out, b"AddRecipe", *nth, target, line)
-        }
-        _ => put_other(alloc, out, edit),
-    }
-}
-
-fn put_other<A: Allocator>(
-    alloc: Global,
-    out: &mut Vec<u8>,
-    edit: &Edit<A>,
-) -> Result<(), AllocError> {
-    match edit {
         Edit::AddAssign {
             place,
             name,
             flavor,
             value,
         } => {
-            out.extend_from_slice(b"AddAssign ")?;
-            put_place(alloc, out, place)?;
-            put_text(out, name)?;
-            put_text(out, flavor_name(*flavor))?;
-            put_text(out, value)
+            let flavor = format!(in alloc; "{flavor:?}")?;
+            put_new(
+                alloc,
+                out,
+                b"AddAssign",
+                place,
+                &[name, flavor.as_bytes(), value],
+            )
         }
+        Edit::RemoveAssign { nth, name } => put_named(alloc, out, b"RemoveAssign", *nth, &[name]),
+        _ => put_rule_edit(alloc, out, edit),
+    }
+}
+
+// An edit of rules.
+fn put_rule_edit<A: Allocator>(
+    alloc: Global,
+    out: &mut Vec<u8>,
+    edit: &Edit<A>,
+) -> Result<(), AllocError> {
+    match edit {
         Edit::AddRule {
             place,
             targets,
             separator,
             prereqs,
         } => {
-            out.extend_from_slice(b"AddRule ")?;
-            put_place(alloc, out, place)?;
-            put_text(out, targets)?;
-            put_text(out, colons_name(*separator))?;
-            put_text(out, prereqs)
+            let separator = format!(in alloc; "{separator:?}")?;
+            put_new(
+                alloc,
+                out,
+                b"AddRule",
+                place,
+                &[targets, separator.as_bytes(), prereqs],
+            )
         }
-        Edit::RemoveRule { nth, target } => {
-            put_name(alloc, out, b"RemoveRule", *nth)?;
-            put_text(out, target)
+        Edit::RemoveRule { nth, target } => put_named(alloc, out, b"RemoveRule", *nth, &[target]),
+        Edit::AddPrereq {
+            order,
+            nth,
+            target,
+            word,
+        } => {
+            let name = if *order {
+                "AddPrereq order"
+            } else {
+                "AddPrereq"
+            };
+            put_named(alloc, out, name.as_bytes(), *nth, &[target, word])
+        }
+        Edit::RemovePrereq { nth, target, word } => {
+            put_named(alloc, out, b"RemovePrereq", *nth, &[target, word])
+        }
+        Edit::RenameTarget { from, to } => {
+            out.extend_from_slice(b"RenameTarget")?;
+            put_texts(out, &[from, to])
+        }
+        _ => put_recipe_edit(alloc, out, edit),
+    }
+}
+
+// An edit of recipes.
+fn put_recipe_edit<A: Allocator>(
+    alloc: Global,
+    out: &mut Vec<u8>,
+    edit: &Edit<A>,
+) -> Result<(), AllocError> {
+    match edit {
+        Edit::AddRecipe { nth, target, line } => {
+            put_named(alloc, out, b"AddRecipe", *nth, &[target, line])
         }
         Edit::SetRecipe {
             nth,
@@ -185,26 +174,28 @@ fn put_other<A: Allocator>(
             number,
             line,
         } => {
-            put_name(alloc, out, b"SetRecipe", *nth)?;
-            put_text(out, target)?;
-            out.push(b'|')?;
-            put_number(alloc, out, u64::from(*number))?;
-            put_text(out, line)
+            let number = format!(in alloc; "{number}")?;
+            put_named(
+                alloc,
+                out,
+                b"SetRecipe",
+                *nth,
+                &[target, number.as_bytes(), line],
+            )
         }
         Edit::RemoveRecipe {
             nth,
             target,
             number,
         } => {
-            put_name(alloc, out, b"RemoveRecipe", *nth)?;
-            put_text(out, target)?;
-            out.push(b'|')?;
-            put_number(alloc, out, u64::from(*number))
-        }
-        Edit::RenameTarget { from, to } => {
-            out.extend_from_slice(b"RenameTarget")?;
-            put_text(out, from)?;
-            put_text(out, to)
+            let number = format!(in alloc; "{number}")?;
+            put_named(
+                alloc,
+                out,
+                b"RemoveRecipe",
+                *nth,
+                &[target, number.as_bytes()],
+            )
         }
         _ => out.extend_from_slice(b"?"),
     }
