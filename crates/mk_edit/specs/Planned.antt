@@ -1,8 +1,9 @@
 -- What the planning of an edit answers.
 -- Told in docs/PROOFS.md, "An edit".
-use Rattle.std.specs.Prelude.{◌≡◌, ◌⊎◌, ◌+◌, if◌then◌else◌, ℕ, List, length, Option, Some, None, Ok, Err}
+use Rattle.std.specs.Prelude.{◌≡◌, ◌⊎◌, ◌+◌, ◌≤◌, if◌then◌else◌, ℕ, List, length, Option, Some, None, Result, Ok, Err, IfOk, IfErr, OnOk, IsOkUnless}
 use Rattle.mk_lines.specs.Pieces.{Replacement}
 use Rattle.mk_class.specs.ClassedLines.{classed_lines}
+use Rattle.mk_tree.specs.Counting.{AreCounted}
 use Rattle.mk_tree.specs.LocatedLines.{LocatedLine, located_text}
 use Rattle.mk_tree.specs.Documents.{IsFaithful, IsFaithfulTo}
 use Rattle.mk_tree.specs.Readings.{reading}
@@ -45,3 +46,23 @@ pub record IsPlanned (e : Edit) (ls : List LocatedLine) (patch : List Move) : Ty
 abbrev pub IsRefusal : (text : List ℕ) → Edit → Refusal → Type 0
 IsRefusal t e r =
     (spans t e ≡ Err r) ⊎ ((r ≡ NoMemory) × (rs : List Replacement) × (spans t e ≡ Ok rs))
+
+-- The planning of an edit answers a planned patch, or a refusal of the edit. It reads anew as many
+-- lines as the edit costs, or at most that many if the edit is refused. The two numbers are those
+-- of the lines read before the call and after it.
+pub record Plans (e : Edit) (ls : List LocatedLine) (read_before read_after : ℕ)
+    (result : Result (List Move) Refusal) : Type 0 where
+  pub planned : IfOk result (λ patch. IsPlanned e ls patch)
+  pub refused : IfErr result (λ refusal. IsRefusal (located_text ls) e refusal)
+  pub counted : OnOk result (AreCounted read_before (cost (located_text ls) e) read_after)
+  pub few_read : read_after ≤ read_before + cost (located_text ls) e
+  pub forward : read_before ≤ read_after
+
+-- A call whose causes are decided reads this many lines anew, or at most that many if a growth is
+-- refused, which is its only refusal.
+pub record ReadsAnew {A : Type 0} (lines read_before read_after : ℕ) (result : Result A Refusal)
+    : Type 0 where
+  pub refused : IsOkUnless result NoMemory
+  pub counted : OnOk result (AreCounted read_before lines read_after)
+  pub few_read : read_after ≤ read_before + lines
+  pub forward : read_before ≤ read_after

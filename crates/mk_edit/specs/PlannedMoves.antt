@@ -1,6 +1,6 @@
 -- The moves of an edit of one place, by the place and the bytes of its new line.
 -- Told in docs/ARCHITECTURE.md, "An edit's way, from Edit to moved lines".
-use Rattle.std.specs.Prelude.{◌≡◌, ℕ, ◌+◌, ◌<◌, ◌≤◌, ◌==◌, ◌&&◌, Bool, true, false, List, [], ◌∷◌, ◌++◌, length, replicate, take, drop, Option, Some, None}
+use Rattle.std.specs.Prelude.{◌≡◌, ℕ, ◌+◌, ◌<◌, ◌≤◌, ◌==◌, ◌&&◌, Bool, true, false, List, [], ◌∷◌, ◌++◌, length, take, drop, Option, Some, None}
 use Rattle.mk_lines.specs.Limits.{max_text}
 use Rattle.mk_lines.specs.PhysicalLines.{line_end, line_end_bytes, file_line_end}
 use Rattle.mk_lines.specs.LogicalLines.{logical_lines, has_no_line_end}
@@ -8,7 +8,7 @@ use Rattle.mk_class.specs.ClassedLines.{ClassedLine, classed_lines}
 use Rattle.mk_tree.specs.LineTexts.{context_of, line_in}
 use Rattle.mk_tree.specs.LocatedLines.{LocatedLine, located_line, located_text, size_of, bytes_of_line, last_line}
 use Rattle.mk_edit_language.specs.Stretches.{Stretch}
-use Rattle.mk_patch.specs.Moves.{Move, PutIn, TakeOut, Exchange, SwapEnd, IsPlain}
+use Rattle.mk_patch.specs.Moves.{Move, PutIn, Exchange, SwapEnd, IsPlain}
 
 -- a line of these bytes, with its class in the context of the lines before a place
 abbrev pub line_read_at : List LocatedLine → (at : ℕ) → (bytes : List ℕ) → LocatedLine
@@ -34,11 +34,6 @@ replacing_moves ls at bytes = Exchange at (line_read_at ls at bytes) ∷ []
 pub record CanReplace (ls : List LocatedLine) (at : ℕ) (bytes : List ℕ) : Type 0 where
   pub in_range : at < length ls
   pub line : IsLineAt ls at bytes
-
--- ---- some lines taken out, one after the other at one place
-
-abbrev pub removing_moves : (at count : ℕ) → List Move
-removing_moves at count = replicate count (TakeOut at)
 
 -- ---- a new line
 

@@ -1,15 +1,12 @@
 //! New lines, planned: those of assignments and of rules, and what all new lines share.
-ghost use Rattle.std.specs.Prelude.{◌≡◌, ◌≤◌, ◌+◌, IfOk, IfErr, OnOk};
 ghost use Rattle.mk_class.specs.ClassedLines.{classed_lines};
-ghost use Rattle.mk_tree.specs.Counting.{AreCounted};
 ghost use Rattle.mk_tree.specs.Documents.{IsFaithful};
 ghost use Rattle.mk_tree.specs.LocatedLines.{located_text};
-ghost use Rattle.mk_edit_language.specs.Costs.{cost};
 ghost use Rattle.mk_edit_language.specs.Stretches.{insertion};
 ghost use Rattle.mk_edit_language.specs.EditViews.{edit_of};
 ghost use Rattle.mk_edit_parts.specs.Seeking.{IsKnown};
 ghost use Rattle.mk_edit.specs.Insertions.{IsDecidedByPlace, IsInsertedAt, IsOfNewLine, IsOfPlace};
-ghost use Rattle.mk_edit.specs.Planned.{IsPlanned, IsRefusal};
+ghost use Rattle.mk_edit.specs.Planned.{Plans};
 
 use crate::insertion::{insertion_of, place_refusal};
 use crate::moves::insert_line;
@@ -40,13 +37,7 @@ pub(crate) fn plan_add_line<A: Allocator + Copy>(
     requires faithful { IsFaithful doc.now }
     requires kind { IsOfPlace (edit_of edit.now) }
     requires known { IsKnown (edit_of edit.now) doc.now known }
-    ensures planned { IfOk result (λ patch. IsPlanned (edit_of edit.now) doc.now patch) }
-    ensures refused { IfErr result (λ refusal.
-        IsRefusal (located_text doc.now) (edit_of edit.now) refusal) }
-    ensures counted { OnOk result (AreCounted meter.old
-        (cost (located_text doc.now) (edit_of edit.now)) meter.new) }
-    ensures few_read { meter.new ≤ meter.old + cost (located_text doc.now) (edit_of edit.now) }
-    ensures forward { meter.old ≤ meter.new }
+    ensures { Plans (edit_of edit.now) doc.now meter.old meter.new result }
 {
     let found = find(doc, edit, known)?;
     let place = insertion_of(doc, edit, found);
@@ -75,13 +66,7 @@ pub(crate) fn add_line<A: Allocator + Copy>(
     requires decided { IsDecidedByPlace (located_text doc.now) (edit_of edit.now) }
     requires inserted { IsInsertedAt doc.now
         (insertion (classed_lines (located_text doc.now)) (edit_of edit.now)) place }
-    ensures planned { IfOk result (λ patch. IsPlanned (edit_of edit.now) doc.now patch) }
-    ensures refused { IfErr result (λ refusal.
-        IsRefusal (located_text doc.now) (edit_of edit.now) refusal) }
-    ensures counted { OnOk result (AreCounted meter.old
-        (cost (located_text doc.now) (edit_of edit.now)) meter.new) }
-    ensures few_read { meter.new ≤ meter.old + cost (located_text doc.now) (edit_of edit.now) }
-    ensures forward { meter.old ≤ meter.new }
+    ensures { Plans (edit_of edit.now) doc.now meter.old meter.new result }
 {
     if let Some(refusal) = place_refusal(doc, edit, &place) {
         return Err(refusal);

@@ -15,7 +15,7 @@ ghost use Rattle.mk_edit_language.specs.Stretches.{insertion, place_found};
 ghost use Rattle.mk_edit_language.specs.EditViews as views;
 ghost use Rattle.mk_edit_language.specs.EditViews.{edit_of};
 ghost use Rattle.mk_edit_parts.specs.Found.{IsMeant};
-ghost use Rattle.mk_edit.specs.Insertions.{IsInsertedAt, IsOfNewLine, IsOfPlace, ends_length, is_at_bottom, is_bottom, is_open_line, place_causes};
+ghost use Rattle.mk_edit.specs.Insertions.{IsInsertedAt, IsOfNewLine, IsOfPlace, ends_length, is_at_bottom, is_open_line, place_causes};
 
 use crate::moves::follows_unended;
 use mk_class::RuleFlag;
@@ -117,16 +117,12 @@ fn is_at_bottom<A: Allocator>(edit: &Edit<A>) -> bool
     ensures { result ≡ is_at_bottom (edit_of edit.now) }
 {
     match edit {
-        Edit::AddAssign { place, .. } | Edit::AddRule { place, .. } => is_bottom(place),
+        Edit::AddAssign { place, .. } | Edit::AddRule { place, .. } => matches!(
+            place,
+            Place::Bottom
+        ),
         _ => false,
     }
-}
-
-// Whether a place is the end of the document.
-fn is_bottom<A: Allocator>(place: &Place<A>) -> bool
-    ensures { result ≡ is_bottom (views.place_of place.now) }
-{
-    matches!(place, Place::Bottom)
 }
 
 // Whether the lines from a place on lean on two flags: the flag with an edit's new line above them,

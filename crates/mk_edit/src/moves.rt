@@ -3,17 +3,17 @@
 //!
 //! An edit decides its causes, builds the bytes of its new line, and calls one of these functions.
 //! All memory that the edit takes beside those bytes is taken here, except the notes of a rename.
-ghost use Rattle.std.specs.Prelude.{◌≡◌, ◌≤◌, ◌<◌, ◌+◌, ◌∷◌, [], length, IfOk, OnOk, IsOkUnless};
+ghost use Rattle.std.specs.Prelude.{◌≡◌, ◌<◌, ◌+◌, ◌∷◌, [], length, replicate, IfOk, IsOkUnless};
 ghost use Rattle.mk_lines.specs.Limits.{max_text};
-ghost use Rattle.mk_tree.specs.Counting.{AreCounted};
 ghost use Rattle.mk_tree.specs.Documents.{IsFaithful};
 ghost use Rattle.mk_tree.specs.LineTexts.{line_in};
 ghost use Rattle.mk_tree.specs.LocatedLines.{last_line, located_line};
 ghost use Rattle.mk_tree.specs.Trees.{line_view};
 ghost use Rattle.mk_lines.specs.LogicalLines.{logical_lines};
-ghost use Rattle.mk_patch.specs.Moves.{IsPlain};
+ghost use Rattle.mk_patch.specs.Moves.{IsPlain, TakeOut};
 ghost use Rattle.mk_patch.specs.StepMoves.{move_of};
-ghost use Rattle.mk_edit.specs.PlannedMoves.{CanInsert, CanReplace, follows_unended, inserting_moves, is_unended, last_bytes_ended, removing_moves, replacing_moves};
+ghost use Rattle.mk_edit.specs.Planned.{ReadsAnew};
+ghost use Rattle.mk_edit.specs.PlannedMoves.{CanInsert, CanReplace, follows_unended, inserting_moves, is_unended, last_bytes_ended, replacing_moves};
 ghost use Rattle.mk_edit_parts.specs.Found.{IsPlaceOf};
 
 use mk_class::{Context, Meter};
@@ -41,10 +41,7 @@ pub(crate) fn replace_line<A: Allocator + Copy>(
     requires place { IsPlaceOf doc.now place }
     requires can { CanReplace doc.now place.at bytes.items }
     ensures moves { IfOk result (λ patch. patch ≡ replacing_moves doc.now place.at bytes.items) }
-    ensures refused { IsOkUnless result Refusal.NoMemory }
-    ensures counted { OnOk result (AreCounted meter.old 1 meter.new) }
-    ensures few_read { meter.new ≤ meter.old + 1 }
-    ensures forward { meter.old ≤ meter.new }
+    ensures reads { ReadsAnew 1 meter.old meter.new result }
 {
     // The contract of `len` bounds the number of lines, as reading asks.
     let _count = doc.len();
@@ -64,7 +61,7 @@ pub(crate) fn take_out<A: Allocator + Copy>(
     at: usize,
     count: usize,
 ) -> Result<Patch<A>, Refusal>
-    ensures moves { IfOk result (λ patch. patch ≡ removing_moves at count) }
+    ensures moves { IfOk result (λ patch. patch ≡ replicate count (TakeOut at)) }
     ensures refused { IsOkUnless result Refusal.NoMemory }
 {
     let mut patch = builder(alloc, count)?;
@@ -92,10 +89,7 @@ pub(crate) fn insert_line<A: Allocator + Copy>(
     requires place { IsPlaceOf doc.now place }
     requires can { CanInsert doc.now place.at bytes.items }
     ensures moves { IfOk result (λ patch. patch ≡ inserting_moves doc.now place.at bytes.items) }
-    ensures refused { IsOkUnless result Refusal.NoMemory }
-    ensures counted { OnOk result (AreCounted meter.old 1 meter.new) }
-    ensures few_read { meter.new ≤ meter.old + 1 }
-    ensures forward { meter.old ≤ meter.new }
+    ensures reads { ReadsAnew 1 meter.old meter.new result }
 {
     // The contract of `size` says that no line is empty. So the number of lines is bounded, as
     // reading asks.
@@ -175,10 +169,7 @@ pub(crate) fn read_line<A: Allocator + Copy>(
     requires defines { context.defines < max_text }
     ensures line { IfOk result (λ line.
         line_view line ≡ located_line (line_in context bytes.items)) }
-    ensures refused { IsOkUnless result Refusal.NoMemory }
-    ensures counted { OnOk result (AreCounted meter.old 1 meter.new) }
-    ensures few_read { meter.new ≤ meter.old + 1 }
-    ensures forward { meter.old ≤ meter.new }
+    ensures reads { ReadsAnew 1 meter.old meter.new result }
 {
     match Line::read(alloc, bytes, context, meter) {
         Ok(line) => Ok(line),

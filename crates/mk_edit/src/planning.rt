@@ -1,12 +1,8 @@
 //! What an edit would do to a document, or why it is refused.
-ghost use Rattle.std.specs.Prelude.{◌≤◌, ◌+◌, IfOk, IfErr, OnOk};
-ghost use Rattle.mk_tree.specs.Counting.{AreCounted};
 ghost use Rattle.mk_tree.specs.Documents.{IsFaithful};
-ghost use Rattle.mk_tree.specs.LocatedLines.{located_text};
-ghost use Rattle.mk_edit_language.specs.Costs.{cost};
 ghost use Rattle.mk_edit_language.specs.EditViews.{edit_of};
 ghost use Rattle.mk_edit_parts.specs.Seeking.{IsKnown};
-ghost use Rattle.mk_edit.specs.Planned.{IsPlanned, IsRefusal};
+ghost use Rattle.mk_edit.specs.Planned.{Plans};
 
 use crate::add_line::plan_add_line;
 use crate::add_recipe::plan_add_recipe;
@@ -44,13 +40,7 @@ pub fn plan<A: Allocator + Copy>(
     meter: &mut Meter,
 ) -> Result<Patch<A>, Refusal>
     requires faithful { IsFaithful doc.now }
-    ensures planned { IfOk result (λ patch. IsPlanned (edit_of edit.now) doc.now patch) }
-    ensures refused { IfErr result (λ refusal.
-        IsRefusal (located_text doc.now) (edit_of edit.now) refusal) }
-    ensures counted { OnOk result (AreCounted meter.old
-        (cost (located_text doc.now) (edit_of edit.now)) meter.new) }
-    ensures few_read { meter.new ≤ meter.old + cost (located_text doc.now) (edit_of edit.now) }
-    ensures forward { meter.old ≤ meter.new }
+    ensures { Plans (edit_of edit.now) doc.now meter.old meter.new result }
 {
     plan_with(alloc, doc, edit, None, meter)
 }
@@ -70,13 +60,7 @@ pub fn plan_with<A: Allocator + Copy>(
 ) -> Result<Patch<A>, Refusal>
     requires faithful { IsFaithful doc.now }
     requires known { IsKnown (edit_of edit.now) doc.now known }
-    ensures planned { IfOk result (λ patch. IsPlanned (edit_of edit.now) doc.now patch) }
-    ensures refused { IfErr result (λ refusal.
-        IsRefusal (located_text doc.now) (edit_of edit.now) refusal) }
-    ensures counted { OnOk result (AreCounted meter.old
-        (cost (located_text doc.now) (edit_of edit.now)) meter.new) }
-    ensures few_read { meter.new ≤ meter.old + cost (located_text doc.now) (edit_of edit.now) }
-    ensures forward { meter.old ≤ meter.new }
+    ensures { Plans (edit_of edit.now) doc.now meter.old meter.new result }
 {
     match edit {
         Edit::SetValue { value, .. } => plan_set_value(alloc, doc, edit, known, value, meter),

@@ -1,16 +1,13 @@
 //! A new prerequisite of a rule, and a prerequisite taken out, planned.
-ghost use Rattle.std.specs.Prelude.{◌≡◌, ◌≤◌, ◌+◌, ◌||◌, IfOk, IfErr, OnOk};
+ghost use Rattle.std.specs.Prelude.{◌≡◌, ◌+◌, ◌||◌};
 ghost use Rattle.mk_lines.specs.Cells.{Cell};
 ghost use Rattle.mk_class.specs.Headers;
-ghost use Rattle.mk_tree.specs.Counting.{AreCounted};
 ghost use Rattle.mk_tree.specs.Documents.{IsFaithful};
-ghost use Rattle.mk_tree.specs.LocatedLines.{located_text};
 ghost use Rattle.mk_tree.specs.Trees.{line_view};
-ghost use Rattle.mk_edit_language.specs.Costs.{cost};
 ghost use Rattle.mk_edit_language.specs.RuleCauses.{is_normal, is_order_only};
 ghost use Rattle.mk_edit_language.specs.EditViews.{edit_of};
 ghost use Rattle.mk_edit_parts.specs.Seeking.{IsKnown};
-ghost use Rattle.mk_edit.specs.Planned.{IsPlanned, IsRefusal};
+ghost use Rattle.mk_edit.specs.Planned.{Plans};
 ghost use Rattle.mk_edit_parts.specs.SeenHeaders.{HasHeader, IsHeaderSeen, IsRuleLine, IsHeaderAt};
 ghost use Rattle.mk_edit.specs.PrerequisiteEdits.{IsAddPrereq, IsRemovePrereq, is_in_list};
 
@@ -47,13 +44,7 @@ pub(crate) fn plan_add_prereq<A: Allocator + Copy>(
     requires faithful { IsFaithful doc.now }
     requires kind { IsAddPrereq order word.now (edit_of edit.now) }
     requires known { IsKnown (edit_of edit.now) doc.now known }
-    ensures planned { IfOk result (λ patch. IsPlanned (edit_of edit.now) doc.now patch) }
-    ensures refused { IfErr result (λ refusal.
-        IsRefusal (located_text doc.now) (edit_of edit.now) refusal) }
-    ensures counted { OnOk result (AreCounted meter.old
-        (cost (located_text doc.now) (edit_of edit.now)) meter.new) }
-    ensures few_read { meter.new ≤ meter.old + cost (located_text doc.now) (edit_of edit.now) }
-    ensures forward { meter.old ≤ meter.new }
+    ensures { Plans (edit_of edit.now) doc.now meter.old meter.new result }
 {
     let size = doc.size();
     let place = find(doc, edit, known)?;
@@ -89,13 +80,7 @@ pub(crate) fn plan_remove_prereq<A: Allocator + Copy>(
     requires faithful { IsFaithful doc.now }
     requires kind { IsRemovePrereq word.now (edit_of edit.now) }
     requires known { IsKnown (edit_of edit.now) doc.now known }
-    ensures planned { IfOk result (λ patch. IsPlanned (edit_of edit.now) doc.now patch) }
-    ensures refused { IfErr result (λ refusal.
-        IsRefusal (located_text doc.now) (edit_of edit.now) refusal) }
-    ensures counted { OnOk result (AreCounted meter.old
-        (cost (located_text doc.now) (edit_of edit.now)) meter.new) }
-    ensures few_read { meter.new ≤ meter.old + cost (located_text doc.now) (edit_of edit.now) }
-    ensures forward { meter.old ≤ meter.new }
+    ensures { Plans (edit_of edit.now) doc.now meter.old meter.new result }
 {
     // The contract of `size` says that the text is within the limit, and so is the text without a
     // word.

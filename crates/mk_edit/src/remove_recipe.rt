@@ -1,10 +1,9 @@
 //! The removal of a recipe line.
-ghost use Rattle.std.specs.Prelude.{◌≡◌, IfOk, IfErr};
+ghost use Rattle.std.specs.Prelude.{ℕ};
 ghost use Rattle.mk_tree.specs.Documents.{IsFaithful};
-ghost use Rattle.mk_tree.specs.LocatedLines.{located_text};
 ghost use Rattle.mk_edit_language.specs.EditViews.{edit_of};
 ghost use Rattle.mk_edit_parts.specs.Seeking.{IsKnown};
-ghost use Rattle.mk_edit.specs.Planned.{IsPlanned, IsRefusal};
+ghost use Rattle.mk_edit.specs.Planned.{Plans};
 ghost use Rattle.mk_edit.specs.RecipeEdits.{IsRemoveRecipe};
 
 use crate::moves::take_out;
@@ -33,22 +32,14 @@ pub(crate) fn plan_remove_recipe<A: Allocator + Copy>(
     requires faithful { IsFaithful doc.now }
     requires kind { IsRemoveRecipe number (edit_of edit.now) }
     requires known { IsKnown (edit_of edit.now) doc.now known }
-    ensures planned { IfOk result (λ patch. IsPlanned (edit_of edit.now) doc.now patch) }
-    ensures refused { IfErr result (λ refusal.
-        IsRefusal (located_text doc.now) (edit_of edit.now) refusal) }
+    ensures { (read : ℕ) → Plans (edit_of edit.now) doc.now read read result }
 {
     // The contract of `size` says that the text is within the limit, and so is the rest of it.
     let _size = doc.size();
-    let header = match find(doc, edit, known) {
-        Ok(header) => header,
-        Err(refusal) => return Err(refusal),
-    };
+    let header = find(doc, edit, known)?;
     // No line below leans on a recipe line: a rule is open before it and after it.
     let Some(at) = recipe_line(doc, header.at + 1, number) else {
         return Err(Refusal::Absent);
     };
-    match take_out(alloc, at, 1) {
-        Ok(patch) => Ok(patch),
-        Err(refusal) => Err(refusal),
-    }
+    take_out(alloc, at, 1)
 }

@@ -1,13 +1,12 @@
 //! The removal of a rule: its header, its recipe, and the lines between them.
-ghost use Rattle.std.specs.Prelude.{◌≡◌, IfOk, IfErr, length};
+ghost use Rattle.std.specs.Prelude.{◌≡◌, ℕ, length};
 ghost use Rattle.mk_tree.specs.Documents.{IsFaithful};
-ghost use Rattle.mk_tree.specs.LocatedLines.{located_text};
 ghost use Rattle.mk_tree.specs.Trees.{line_view};
 ghost use Rattle.mk_lines.specs.Words.{words_in};
 ghost use Rattle.mk_edit_language.specs.EditViews.{edit_of};
 ghost use Rattle.mk_edit_parts.specs.Seeking.{IsKnown};
 ghost use Rattle.mk_edit_parts.specs.LocatedParts.{IsClassed};
-ghost use Rattle.mk_edit.specs.Planned.{IsPlanned, IsRefusal};
+ghost use Rattle.mk_edit.specs.Planned.{Plans};
 ghost use Rattle.mk_edit.specs.RecipeEdits.{IsRemoveRule};
 ghost use Rattle.mk_edit_parts.specs.RecipeWalks.{header_targets_located};
 
@@ -43,16 +42,11 @@ pub(crate) fn plan_remove_rule<A: Allocator + Copy>(
     requires faithful { IsFaithful doc.now }
     requires kind { IsRemoveRule (edit_of edit.now) }
     requires known { IsKnown (edit_of edit.now) doc.now known }
-    ensures planned { IfOk result (λ patch. IsPlanned (edit_of edit.now) doc.now patch) }
-    ensures refused { IfErr result (λ refusal.
-        IsRefusal (located_text doc.now) (edit_of edit.now) refusal) }
+    ensures { (read : ℕ) → Plans (edit_of edit.now) doc.now read read result }
 {
     // The contract of `size` says that the text is within the limit, and so is the rest of it.
     let _size = doc.size();
-    let header = match find(doc, edit, known) {
-        Ok(header) => header,
-        Err(refusal) => return Err(refusal),
-    };
+    let header = find(doc, edit, known)?;
     let targets = target_count(doc.line(header.at));
     if targets > 1 {
         return Err(Refusal::SharedRule(targets as u64));
@@ -61,10 +55,7 @@ pub(crate) fn plan_remove_rule<A: Allocator + Copy>(
     if recipe.is_split {
         return Err(Refusal::Straddles);
     }
-    match take_out(alloc, header.at, recipe.end - header.at) {
-        Ok(patch) => Ok(patch),
-        Err(refusal) => Err(refusal),
-    }
+    take_out(alloc, header.at, recipe.end - header.at)
 }
 
 // How many targets a header has; 0 for any other line.

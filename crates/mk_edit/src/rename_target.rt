@@ -1,12 +1,9 @@
 //! A rename, planned.
-ghost use Rattle.std.specs.Prelude.{◌≤◌, ◌+◌, IfOk, IfErr, OnOk};
-ghost use Rattle.mk_tree.specs.Counting.{AreCounted};
+ghost use Rattle.std.specs.Prelude.{◌≡◌};
 ghost use Rattle.mk_tree.specs.Documents.{IsFaithful};
-ghost use Rattle.mk_tree.specs.LocatedLines.{located_text};
-ghost use Rattle.mk_edit_language.specs.Costs.{cost};
+ghost use Rattle.mk_edit_language.specs.Edits.{RenameTarget};
 ghost use Rattle.mk_edit_language.specs.EditViews.{edit_of};
-ghost use Rattle.mk_edit.specs.Planned.{IsPlanned, IsRefusal};
-ghost use Rattle.mk_edit.specs.RenameTargetEffects.{IsRenameTarget};
+ghost use Rattle.mk_edit.specs.Planned.{Plans};
 
 use crate::rename_target_causes::accepted_rename;
 use crate::rename_target_effect::Survey;
@@ -32,14 +29,8 @@ pub(crate) fn plan_rename_target<A: Allocator + Copy>(
     meter: &mut Meter,
 ) -> Result<Patch<A>, Refusal>
     requires faithful { IsFaithful doc.now }
-    requires kind { IsRenameTarget from.now to.now (edit_of edit.now) }
-    ensures planned { IfOk result (λ patch. IsPlanned (edit_of edit.now) doc.now patch) }
-    ensures refused { IfErr result (λ refusal.
-        IsRefusal (located_text doc.now) (edit_of edit.now) refusal) }
-    ensures counted { OnOk result (AreCounted meter.old
-        (cost (located_text doc.now) (edit_of edit.now)) meter.new) }
-    ensures few_read { meter.new ≤ meter.old + cost (located_text doc.now) (edit_of edit.now) }
-    ensures forward { meter.old ≤ meter.new }
+    requires kind { edit_of edit.now ≡ RenameTarget from.now to.now }
+    ensures { Plans (edit_of edit.now) doc.now meter.old meter.new result }
 {
     let Survey { effect, places } = accepted_rename(alloc, doc, edit, from, to)?;
     let Some(places) = places else {

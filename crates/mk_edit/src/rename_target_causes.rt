@@ -6,8 +6,9 @@ ghost use Rattle.mk_class.specs.Contexts.{start};
 ghost use Rattle.mk_tree.specs.Documents.{IsFaithful};
 ghost use Rattle.mk_tree.specs.LocatedLines.{located_text};
 ghost use Rattle.mk_edit_language.specs.Refusals.{causes, first_cause};
+ghost use Rattle.mk_edit_language.specs.Edits.{RenameTarget};
 ghost use Rattle.mk_edit_language.specs.EditViews.{edit_of};
-ghost use Rattle.mk_edit.specs.RenameTargetEffects.{IsRenameTarget, effect_on, first_of_lines};
+ghost use Rattle.mk_edit.specs.RenameTargetEffects.{effect_on, first_of_lines};
 ghost use Rattle.mk_edit.specs.RenameTargetPatches.{held_places, held_view};
 
 use crate::rename_target_effect::{Effect, Survey, rename_target_effect};
@@ -35,7 +36,7 @@ pub(crate) fn accepted_rename<'a, A: Allocator + Copy>(
     to: &[u8],
 ) -> Result<Survey<'a, A>, Refusal>
     requires faithful { IsFaithful doc.now }
-    requires kind { IsRenameTarget from.now to.now (edit_of edit.now) }
+    requires kind { edit_of edit.now ≡ RenameTarget from.now to.now }
     ensures effect { IfOk result (λ survey.
         survey.effect ≡ effect_on from.now to.now start doc.now) }
     ensures places { IfOk result (λ survey. IfSome survey.places (λ places.

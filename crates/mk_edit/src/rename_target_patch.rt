@@ -4,18 +4,17 @@
 //! shorter and another longer, and the text has to stay within its limit after each step. So the
 //! lines are exchanged in two turns: first the lines that get no longer, then the lines that get
 //! longer.
-ghost use Rattle.std.specs.Prelude.{◌≡◌, ◌≤◌, ◌+◌, ◌++◌, IfOk, OnOk, IsOkUnless, if◌then◌else◌, length, map, option_map};
+ghost use Rattle.std.specs.Prelude.{◌≡◌, ◌≤◌, ◌+◌, ◌++◌, IfOk, if◌then◌else◌, length, map, option_map};
 ghost use Rattle.mk_lines.specs.Limits.{max_text};
 ghost use Rattle.mk_class.specs.ClassedLines.{classed_lines};
 ghost use Rattle.mk_class.specs.Contexts.{start};
-ghost use Rattle.mk_tree.specs.Counting.{AreCounted};
 ghost use Rattle.mk_tree.specs.Documents.{IsFaithful};
 ghost use Rattle.mk_tree.specs.LocatedLines.{located_text};
 ghost use Rattle.mk_tree.specs.Trees.{line_view};
 ghost use Rattle.mk_edit_language.specs.Costs.{cost};
 ghost use Rattle.mk_edit_language.specs.Edits.{RenameTarget};
 ghost use Rattle.mk_edit_language.specs.Refusals.{causes, first_cause};
-ghost use Rattle.mk_edit.specs.Planned.{IsPlanned};
+ghost use Rattle.mk_edit.specs.Planned.{IsPlanned, ReadsAnew};
 ghost use Rattle.mk_edit.specs.RenameTargetEffects.{effect_on};
 ghost use Rattle.mk_edit.specs.RenameTargetPatches.{CanBeRenamed, CanEachBeRenamed, exchanged_count, held_places, held_view, is_exchanged, line_renamed, tally_of, turn_moves};
 
@@ -60,12 +59,8 @@ pub(crate) fn rename_target_patch<A: Allocator + Copy>(
         (classed_lines (located_text doc.now)) (RenameTarget from.now to.now)) ≡ None }
     ensures planned { IfOk result (λ patch.
         IsPlanned (RenameTarget from.now to.now) doc.now patch) }
-    ensures refused { IsOkUnless result Refusal.NoMemory }
-    ensures counted { OnOk result (AreCounted meter.old
-        (cost (located_text doc.now) (RenameTarget from.now to.now)) meter.new) }
-    ensures few_read { meter.new
-        ≤ meter.old + cost (located_text doc.now) (RenameTarget from.now to.now) }
-    ensures forward { meter.old ≤ meter.new }
+    ensures reads { ReadsAnew (cost (located_text doc.now) (RenameTarget from.now to.now))
+        meter.old meter.new result }
 {
     // The contract of `size` says that the text is within its limit.
     let _size = doc.size();
@@ -103,11 +98,8 @@ fn exchange_lines<A: Allocator + Copy>(
         ≤ patch.old.room }
     ensures moves { IfOk result (λ _. patch.new
         ≡ record patch.old { moves = patch.old.moves ++ turn_moves batch.turn from.now to.now doc.now }) }
-    ensures refused { IsOkUnless result Refusal.NoMemory }
-    ensures counted { OnOk result (AreCounted meter.old
-        (exchanged_count batch.turn from.now to.now doc.now) meter.new) }
-    ensures few_read { meter.new ≤ meter.old + exchanged_count batch.turn from.now to.now doc.now }
-    ensures forward { meter.old ≤ meter.new }
+    ensures reads { ReadsAnew (exchanged_count batch.turn from.now to.now doc.now)
+        meter.old meter.new result }
 {
     if batch.lines == 0 {
         return Ok(());
@@ -140,13 +132,9 @@ fn line_of_turn<A: Allocator + Copy>(
         then Some (line_renamed from.now to.now held.now.place.context
         (line_view held.now.line.now))
         else None)) }
-    ensures refused { IsOkUnless result Refusal.NoMemory }
-    ensures counted { OnOk result (AreCounted meter.old
+    ensures reads { ReadsAnew
         (if is_exchanged turn from.now to.now (line_view held.now.line.now) then 1 else 0)
-        meter.new) }
-    ensures few_read { meter.new ≤ meter.old
-        + (if is_exchanged turn from.now to.now (line_view held.now.line.now) then 1 else 0) }
-    ensures forward { meter.old ≤ meter.new }
+        meter.old meter.new result }
 {
     let tally = held.tally;
     let line = held.line;

@@ -1,12 +1,9 @@
 //! Another command for a recipe line, planned.
-ghost use Rattle.std.specs.Prelude.{◌≡◌, ◌≤◌, ◌+◌, IfOk, IfErr, OnOk};
-ghost use Rattle.mk_tree.specs.Counting.{AreCounted};
+ghost use Rattle.std.specs.Prelude.{◌≡◌, ◌+◌};
 ghost use Rattle.mk_tree.specs.Documents.{IsFaithful};
-ghost use Rattle.mk_tree.specs.LocatedLines.{located_text};
-ghost use Rattle.mk_edit_language.specs.Costs.{cost};
 ghost use Rattle.mk_edit_language.specs.EditViews.{edit_of};
 ghost use Rattle.mk_edit_parts.specs.Seeking.{IsKnown};
-ghost use Rattle.mk_edit.specs.Planned.{IsPlanned, IsRefusal};
+ghost use Rattle.mk_edit.specs.Planned.{Plans};
 ghost use Rattle.mk_edit.specs.RecipeEdits.{IsSetRecipe, command_range};
 
 use crate::moves::replace_line;
@@ -44,13 +41,7 @@ pub(crate) fn plan_set_recipe<A: Allocator + Copy>(
     requires faithful { IsFaithful doc.now }
     requires kind { IsSetRecipe number command.now (edit_of edit.now) }
     requires known { IsKnown (edit_of edit.now) doc.now known }
-    ensures planned { IfOk result (λ patch. IsPlanned (edit_of edit.now) doc.now patch) }
-    ensures refused { IfErr result (λ refusal.
-        IsRefusal (located_text doc.now) (edit_of edit.now) refusal) }
-    ensures counted { OnOk result (AreCounted meter.old
-        (cost (located_text doc.now) (edit_of edit.now)) meter.new) }
-    ensures few_read { meter.new ≤ meter.old + cost (located_text doc.now) (edit_of edit.now) }
-    ensures forward { meter.old ≤ meter.new }
+    ensures { Plans (edit_of edit.now) doc.now meter.old meter.new result }
 {
     let size = doc.size();
     let header = find(doc, edit, known)?;

@@ -1,12 +1,9 @@
 //! Edits of a variable's value, planned.
-ghost use Rattle.std.specs.Prelude.{◌≡◌, ◌≤◌, ◌+◌, ◌++◌, IfOk, IfErr, OnOk, take, drop, length};
-ghost use Rattle.mk_tree.specs.Counting.{AreCounted};
+ghost use Rattle.std.specs.Prelude.{◌≡◌, ◌≤◌, ◌+◌, ◌++◌, IfOk, take, drop, length};
 ghost use Rattle.mk_tree.specs.Documents.{IsFaithful};
-ghost use Rattle.mk_tree.specs.LocatedLines.{located_text};
-ghost use Rattle.mk_edit_language.specs.Costs.{cost};
 ghost use Rattle.mk_edit_language.specs.EditViews.{edit_of};
 ghost use Rattle.mk_edit_parts.specs.Seeking.{IsKnown};
-ghost use Rattle.mk_edit.specs.Planned.{IsPlanned, IsRefusal};
+ghost use Rattle.mk_edit.specs.Planned.{Plans};
 ghost use Rattle.mk_edit_parts.specs.LocatedParts.{IsClassed};
 ghost use Rattle.mk_edit.specs.ValuesGiven.{IsAppendValue, IsSetValue, space_after, value_text_located};
 ghost use Rattle.mk_tree.specs.Trees.{line_view};
@@ -41,13 +38,7 @@ pub(crate) fn plan_set_value<A: Allocator + Copy>(
     requires faithful { IsFaithful doc.now }
     requires edit { IsSetValue (edit_of edit.now) value.now }
     requires known { IsKnown (edit_of edit.now) doc.now known }
-    ensures planned { IfOk result (λ patch. IsPlanned (edit_of edit.now) doc.now patch) }
-    ensures refused { IfErr result (λ refusal.
-        IsRefusal (located_text doc.now) (edit_of edit.now) refusal) }
-    ensures counted { OnOk result (AreCounted meter.old
-        (cost (located_text doc.now) (edit_of edit.now)) meter.new) }
-    ensures few_read { meter.new ≤ meter.old + cost (located_text doc.now) (edit_of edit.now) }
-    ensures forward { meter.old ≤ meter.new }
+    ensures { Plans (edit_of edit.now) doc.now meter.old meter.new result }
 {
     let found = find(doc, edit, known)?;
     let line = doc.line(found.at);
@@ -78,13 +69,7 @@ pub(crate) fn plan_append_value<A: Allocator + Copy>(
     requires faithful { IsFaithful doc.now }
     requires edit { IsAppendValue (edit_of edit.now) value.now }
     requires known { IsKnown (edit_of edit.now) doc.now known }
-    ensures planned { IfOk result (λ patch. IsPlanned (edit_of edit.now) doc.now patch) }
-    ensures refused { IfErr result (λ refusal.
-        IsRefusal (located_text doc.now) (edit_of edit.now) refusal) }
-    ensures counted { OnOk result (AreCounted meter.old
-        (cost (located_text doc.now) (edit_of edit.now)) meter.new) }
-    ensures few_read { meter.new ≤ meter.old + cost (located_text doc.now) (edit_of edit.now) }
-    ensures forward { meter.old ≤ meter.new }
+    ensures { Plans (edit_of edit.now) doc.now meter.old meter.new result }
 {
     let found = find(doc, edit, known)?;
     let line = doc.line(found.at);

@@ -16,7 +16,7 @@ use Rattle.mk_tree.specs.NewLineEnds.{missing_line_end, lacks_line_end}
 use Rattle.mk_tree.specs.LocatedLines.{LocatedLine, located_text, size_of, last_line}
 use Rattle.mk_tree.proofs.on_changes.Sizes.{size_of-text}
 use Rattle.mk_edit_language.specs.Causes.{where_holds}
-use Rattle.mk_edit_language.specs.Edits.{Place, Bottom, BeforeVar, AfterVar, BeforeRule, Edit, SetValue, AppendValue, AddAssign, RemoveAssign, AddRule, RemoveRule, AddPrereq, RemovePrereq, AddRecipe, SetRecipe, RemoveRecipe, RenameTarget}
+use Rattle.mk_edit_language.specs.Edits.{Place, Bottom, BeforeVar, AfterVar, BeforeRule, Edit, AddAssign, AddRule, AddRecipe}
 use Rattle.mk_edit_language.specs.LineCauses.{follows_open_line, open_line, open_define, open_define_at, flag_below_new, new_line_leans, removal_leans, leaning, too_long}
 use Rattle.mk_edit_language.specs.NewLines.{new_text, new_line_span}
 use Rattle.mk_edit_language.specs.EditSpans.{spans_of, where_found}
@@ -67,15 +67,7 @@ pub open_define-at : (ls : List LocatedLine) (e : Edit) (f : Found) (b : Bool) �
 open_define-at ls (AddAssign p n g v) f b u N k = define-at (classed_lines (located_text ls)) p f.context.defines (place-defines ls p f N) ∙ ap (λ z. where_holds z OpenDefine) (sym k)
 open_define-at ls (AddRule p ts c ws) f b u N k = define-at (classed_lines (located_text ls)) p f.context.defines (place-defines ls p f N) ∙ ap (λ z. where_holds z OpenDefine) (sym k)
 open_define-at ls (AddRecipe nth g c) f b u N k = ap (λ z. where_holds z OpenDefine) (sym k)
-open_define-at ls (SetValue nth n v) f b u N k = absurd u
-open_define-at ls (AppendValue nth n v) f b u N k = absurd u
-open_define-at ls (RemoveAssign nth n) f b u N k = absurd u
-open_define-at ls (RemoveRule nth g) f b u N k = absurd u
-open_define-at ls (AddPrereq o nth g w) f b u N k = absurd u
-open_define-at ls (RemovePrereq nth g w) f b u N k = absurd u
-open_define-at ls (SetRecipe nth g n c) f b u N k = absurd u
-open_define-at ls (RemoveRecipe nth g n) f b u N k = absurd u
-open_define-at ls (RenameTarget o n) f b u N k = absurd u
+open_define-at ls e f b u N k = absurd u
 
 -- ---- Leans
 
@@ -83,15 +75,7 @@ none-removed : (ls : List ClassedLine) (e : Edit) → IsOfNewLine e → removal 
 none-removed ls (AddAssign p n f v) u = refl
 none-removed ls (AddRule p ts c ws) u = refl
 none-removed ls (AddRecipe nth g c) u = refl
-none-removed ls (SetValue nth n v) u = absurd u
-none-removed ls (AppendValue nth n v) u = absurd u
-none-removed ls (RemoveAssign nth n) u = absurd u
-none-removed ls (RemoveRule nth g) u = absurd u
-none-removed ls (AddPrereq o nth g w) u = absurd u
-none-removed ls (RemovePrereq nth g w) u = absurd u
-none-removed ls (SetRecipe nth g k c) u = absurd u
-none-removed ls (RemoveRecipe nth g k) u = absurd u
-none-removed ls (RenameTarget o n) u = absurd u
+none-removed ls e u = absurd u
 
 pub leaning-at : (ls : List LocatedLine) (e : Edit) (f : Found) (b : Bool) → IsFaithful ls → IsOfNewLine e → IsInsertedAt ls (insertion (classed_lines (located_text ls)) e) f
     → b ≡ (not (is_same_flag (flag_below_new e) f.context.flag) && is_led_first_located f.context.prefix (drop f.at ls))
@@ -113,15 +97,7 @@ new-spans : (t : List ℕ) (ls : List ClassedLine) (e : Edit) → IsOfNewLine e 
 new-spans t ls (AddAssign p n f v) u = refl
 new-spans t ls (AddRule p ts c ws) u = refl
 new-spans t ls (AddRecipe nth g c) u = refl
-new-spans t ls (SetValue nth n v) u = absurd u
-new-spans t ls (AppendValue nth n v) u = absurd u
-new-spans t ls (RemoveAssign nth n) u = absurd u
-new-spans t ls (RemoveRule nth g) u = absurd u
-new-spans t ls (AddPrereq o nth g w) u = absurd u
-new-spans t ls (RemovePrereq nth g w) u = absurd u
-new-spans t ls (SetRecipe nth g k c) u = absurd u
-new-spans t ls (RemoveRecipe nth g k) u = absurd u
-new-spans t ls (RenameTarget o n) u = absurd u
+new-spans t ls e u = absurd u
 
 put-length : (at : ℕ) (t new : List ℕ) → length (replaced 0 t (record { start = at; end = at; new = new } ∷ [])) ≡ length t + length new
 put-length at t new =

@@ -17,7 +17,7 @@ use Rattle.mk_patch.specs.Moves.{Exchange, TakeOut, IsPlain}
 use Rattle.mk_patch.proofs.on_moves.ShapeLemmas.{LeadTo, run-held, run-taken}
 use Rattle.mk_patch.proofs.on_moves.TextLineLemmas.{plain-located, text_line-exchanged, text_run-taken_out}
 use Rattle.mk_edit.specs.Planned.{IsPlanned, ended_by, ended_lines}
-use Rattle.mk_edit.specs.PlannedMoves.{line_read_at, replacing_moves, removing_moves, CanReplace}
+use Rattle.mk_edit.specs.PlannedMoves.{line_read_at, replacing_moves, CanReplace}
 use Rattle.mk_edit.proofs.on_plans.PlanLemmas.{lead-planned, after-fits, faithful-length, read-at, touched-none_put, removed-none_put, changes-one}
 
 -- ---- a line replaced
@@ -25,6 +25,7 @@ use Rattle.mk_edit.proofs.on_plans.PlanLemmas.{lead-planned, after-fits, faithfu
 -- A line of these bytes can be put in the place of the line at `at`, and the moves that do it are what is planned.
 pub record IsReplaced (e : Edit) (ls : List LocatedLine) (at : ℕ) (m : List ℕ) : Type 0 where
   pub can : CanReplace ls at m
+  pub costs : cost (located_text ls) e ≡ 1
   pub planned : IsPlanned e ls (replacing_moves ls at m)
 
 pub line-replaced : (e : Edit) (ls : List LocatedLine) (rs : List Replacement) (s : StandingLine) (at : ℕ) (m : List ℕ) → IsFaithful ls → spans (located_text ls) e ≡ Ok rs
@@ -44,6 +45,7 @@ line-replaced e ls rs s at m f h p place b =
     text_line-exchanged s.above s.below s.line new E.gone_plain.0 P.plain (after-fits t e rs (s.above ++ new ∷ s.below) h after) in
     record {
       can = record { in_range = omega (arith, faithful-length ls (s.above ++ s.line ∷ s.below) f E.before, length-append s.above (s.line ∷ s.below), place); line = record { one = P.one; plain = subst IsPlain (sym read) (plain-located new P.plain) } };
+      costs = one.cost_is;
       planned = lead-planned e ls rs (replacing_moves ls at m) (s.above ++ s.line ∷ s.below) (s.above ++ new ∷ s.below) f h E.before after (rw moves L) (omega (arith, one.cost_is, ends)) (omega (arith, one.size_is, ends));
     }
 
@@ -52,7 +54,8 @@ line-replaced e ls rs s at m f h p place b =
 -- `count` lines stand from a place on, and the moves that take them out are what is planned.
 pub record IsTakenOut (e : Edit) (ls : List LocatedLine) (at count : ℕ) : Type 0 where
   pub in_range : at + count ≤ length ls
-  pub planned : IsPlanned e ls (removing_moves at count)
+  pub costs : cost (located_text ls) e ≡ 0
+  pub planned : IsPlanned e ls (replicate count (TakeOut at))
 
 pub lines-taken_out : (e : Edit) (ls : List LocatedLine) (rs : List Replacement) (s : Stretch) (at count : ℕ) → IsFaithful ls → spans (located_text ls) e ≡ Ok rs
     → touched_by (classed_lines (located_text ls)) e ≡ Some s → length s.above ≡ at → length s.lines ≡ count → edited_bytes (located_text ls) e s rs ≡ [] → cost (located_text ls) e ≡ 0 → size (located_text ls) e ≡ count → IsTakenOut e ls at count
@@ -62,11 +65,12 @@ lines-taken_out e ls rs s at count f h p place number b costs changes =
     let none = removed-none_put t e rs s b in
     let ends : ended_lines ls e ≡ 0 = ap (ended_by ls) none in
     let after : classed_lines (text_after t e) ≡ s.above ++ s.below = taken-out t e rs s p h b ∙ ap (λ (o : Option Stretch). above_after t o s ++ s.below) none in
-    let moves : removing_moves at count ≡ replicate (length s.lines) (TakeOut (length s.above)) = ap (λ n. replicate n (TakeOut at)) (sym number) ∙ ap (λ n. replicate (length s.lines) (TakeOut n)) (sym place) in
+    let moves : replicate count (TakeOut at) ≡ replicate (length s.lines) (TakeOut (length s.above)) = ap (λ n. replicate n (TakeOut at)) (sym number) ∙ ap (λ n. replicate (length s.lines) (TakeOut n)) (sym place) in
     let L = text_run-taken_out s.above s.lines s.below E.gone_plain in
     record {
       in_range = omega (arith, faithful-length ls (s.above ++ (s.lines ++ s.below)) f E.before, length-append s.above (s.lines ++ s.below), length-append s.lines s.below, place, number);
+      costs = costs;
       planned =
-          lead-planned e ls rs (removing_moves at count) (s.above ++ (s.lines ++ s.below)) (s.above ++ s.below) f h E.before after (rw moves L)
+          lead-planned e ls rs (replicate count (TakeOut at)) (s.above ++ (s.lines ++ s.below)) (s.above ++ s.below) f h E.before after (rw moves L)
           (omega (arith, run-held count at, costs, ends)) (omega (arith, run-taken count at, changes, ends));
     }

@@ -176,6 +176,7 @@ put-anywhere e ls rs (x ∷ xs) [] new at m N = apart (last-apart x xs)
 -- A line of these bytes can be put in at a place, and the moves that do it are what is planned.
 pub record IsPutIn (e : Edit) (ls : List LocatedLine) (at : ℕ) (m : List ℕ) : Type 0 where
   pub can : CanInsert ls at m
+  pub costs : cost (located_text ls) e ≡ 1
   pub planned : IsPlanned e ls (inserting_moves ls at m)
 
 pub line-put_in : (e : Edit) (ls : List LocatedLine) (rs : List Replacement) (s : Stretch) (at : ℕ) (m : List ℕ) → IsFaithful ls → spans (located_text ls) e ≡ Ok rs
@@ -209,5 +210,6 @@ line-put_in e ls rs s at m f h i place b =
         line = record { one = P.one; plain = subst IsPlain (sym read) (plain-located new P.plain) };
         fits = F.fits;
       };
+      costs = Q.one;
       planned = F.planned;
     }

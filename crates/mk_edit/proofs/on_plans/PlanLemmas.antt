@@ -1,6 +1,6 @@
 -- What the planning of every edit has to show, if its moves lead from the lines before the edit to the lines after it.
 use Rattle.std.proofs.Common.{◌≡◌, refl, sym, ap, ◌∙◌, subst, arith, ℕ, ◌+◌, ◌<◌, ◌≤◌, List, [], ◌∷◌, ◌++◌, length, take, Option, Some, None, option_map, inr}
-use Rattle.std.specs.Prelude.{Ok, Err, Result, IfOk, IfErr, IsOkUnless}
+use Rattle.std.specs.Prelude.{◌^◌, ◌-◌, min, Ok, Err, Result, IfOk, IsOkUnless}
 use Rattle.std.proofs.lemmas.List.{length-map}
 use Rattle.std.proofs.Math.Seq.{take-append_seam}
 use Rattle.mk_lines.specs.Limits.{max_text}
@@ -10,18 +10,19 @@ use Rattle.mk_tree.specs.Documents.{IsFaithful, document_lines, context_of}
 use Rattle.mk_tree.specs.LineTexts.{line_in}
 use Rattle.mk_tree.specs.LocatedLines.{LocatedLine, located_line, located_lines, located_text, size_of}
 use Rattle.mk_tree.proofs.on_documents.DocumentLemmas.{faithful-own}
-use Rattle.mk_edit_language.specs.Edits.{Edit, SetValue, AppendValue, AddAssign, RemoveAssign, AddRule, RemoveRule, AddPrereq, RemovePrereq, AddRecipe, SetRecipe, RemoveRecipe, RenameTarget}
+use Rattle.mk_edit_language.specs.Edits.{Edit, SetValue, AppendValue, AddAssign, AddRule, AddPrereq, RemovePrereq, AddRecipe, SetRecipe}
 use Rattle.mk_edit_language.specs.Stretches.{Stretch, between, insertion, touched_by}
 use Rattle.mk_edit_language.specs.Costs.{cost, size}
 use Rattle.mk_edit_language.specs.EditedLines.{edited_bytes, new_line_bytes}
-use Rattle.mk_edit_language.specs.Refusals.{spans, text_after}
+use Rattle.mk_edit_language.specs.Refusals.{causes, first_cause, spans, text_after}
 use Rattle.mk_edit_language.proofs.on_edits.EditLemmas.{edits-read}
 use Rattle.mk_edit_language.proofs.on_edits.LengthLemmas.{size-fits}
 use Rattle.mk_patch.specs.Moves.{Move, held_by, taken_by}
 use Rattle.mk_patch.proofs.on_moves.ShapeLemmas.{LeadTo, same-lead}
 use Rattle.mk_edit_language.specs.declared.refusal.Refusal.{Refusal}
 use Rattle.mk_edit_language.specs.declared.refusal.Refusal.TheVariants.{NoMemory}
-use Rattle.mk_edit.specs.Planned.{IsPlanned, IsRefusal, ended_lines}
+use Rattle.mk_edit_parts.proofs.CauseLemmas.{unrefused}
+use Rattle.mk_edit.specs.Planned.{IsPlanned, IsRefusal, Plans, ReadsAnew, ended_lines}
 use Rattle.mk_edit.specs.PlannedMoves.{line_read_at}
 
 -- moves that lead from the lines of the text to those after the edit are what is planned
@@ -73,33 +74,17 @@ none-between (Some x) s h few = absurd (touched-some (Some x) s h few)
 
 -- one that touches some lines puts no line between them
 pub touched-none_put : (ls : List ClassedLine) (e : Edit) (s : Stretch) → touched_by ls e ≡ Some s → 0 < length s.lines → insertion ls e ≡ None
-touched-none_put ls (SetValue nth n v) s h few = refl
-touched-none_put ls (AppendValue nth n v) s h few = refl
 touched-none_put ls (AddAssign p n f v) s h few = none-between (insertion ls (AddAssign p n f v)) s h few
-touched-none_put ls (RemoveAssign nth n) s h few = refl
 touched-none_put ls (AddRule p ts c ws) s h few = none-between (insertion ls (AddRule p ts c ws)) s h few
-touched-none_put ls (RemoveRule nth g) s h few = refl
-touched-none_put ls (AddPrereq order nth g w) s h few = refl
-touched-none_put ls (RemovePrereq nth g w) s h few = refl
 touched-none_put ls (AddRecipe nth g c) s h few = none-between (insertion ls (AddRecipe nth g c)) s h few
-touched-none_put ls (SetRecipe nth g k c) s h few = refl
-touched-none_put ls (RemoveRecipe nth g k) s h few = refl
-touched-none_put ls (RenameTarget o n) s h few = refl
+touched-none_put ls e s h few = refl
 
 -- an edit that leaves no line puts no line in
 pub removed-none_put : (t : List ℕ) (e : Edit) (rs : List Replacement) (s : Stretch) → edited_bytes t e s rs ≡ [] → insertion (classed_lines t) e ≡ None
-removed-none_put t (SetValue nth n v) rs s h = refl
-removed-none_put t (AppendValue nth n v) rs s h = refl
 removed-none_put t (AddAssign p n f v) rs s h = absurd (cc)
-removed-none_put t (RemoveAssign nth n) rs s h = refl
 removed-none_put t (AddRule p ts c ws) rs s h = absurd (cc)
-removed-none_put t (RemoveRule nth g) rs s h = refl
-removed-none_put t (AddPrereq order nth g w) rs s h = refl
-removed-none_put t (RemovePrereq nth g w) rs s h = refl
 removed-none_put t (AddRecipe nth g c) rs s h = absurd (cc)
-removed-none_put t (SetRecipe nth g k c) rs s h = refl
-removed-none_put t (RemoveRecipe nth g k) rs s h = refl
-removed-none_put t (RenameTarget o n) rs s h = refl
+removed-none_put t e rs s h = refl
 
 -- an edit that leaves one line where it touches one line reads that line again, and replaces one line
 pub record ChangesOne (t : List ℕ) (e : Edit) : Type 0 where
@@ -115,10 +100,7 @@ changes-one t (SetRecipe nth g n c) rs s m h few k = record { cost_is = refl; si
 changes-one t (AddAssign p n f v) rs s m h few k = absurd (touched-some (insertion (classed_lines t) (AddAssign p n f v)) s h few)
 changes-one t (AddRule p ts c ws) rs s m h few k = absurd (touched-some (insertion (classed_lines t) (AddRule p ts c ws)) s h few)
 changes-one t (AddRecipe nth g c) rs s m h few k = absurd (touched-some (insertion (classed_lines t) (AddRecipe nth g c)) s h few)
-changes-one t (RemoveAssign nth n) rs s m h few k = absurd (cc)
-changes-one t (RemoveRule nth g) rs s m h few k = absurd (cc)
-changes-one t (RemoveRecipe nth g n) rs s m h few k = absurd (cc)
-changes-one t (RenameTarget o n) rs s m h few k = absurd (cc)
+changes-one t e rs s m h few k = absurd (cc)
 
 -- what is known of an edit that puts a line in
 pub record PutsIn (t : List ℕ) (e : Edit) (rs : List Replacement) (s : Stretch) : Type 0 where
@@ -131,24 +113,35 @@ pub puts-in : (t : List ℕ) (e : Edit) (rs : List Replacement) (s : Stretch) �
 puts-in t (AddAssign p n f v) rs s h = record { place = ap (option_map between) h; bytes = refl; one = refl; none = refl }
 puts-in t (AddRule p ts c ws) rs s h = record { place = ap (option_map between) h; bytes = refl; one = refl; none = refl }
 puts-in t (AddRecipe nth g c) rs s h = record { place = ap (option_map between) h; bytes = refl; one = refl; none = refl }
-puts-in t (SetValue nth n v) rs s h = absurd (cc)
-puts-in t (AppendValue nth n v) rs s h = absurd (cc)
-puts-in t (RemoveAssign nth n) rs s h = absurd (cc)
-puts-in t (RemoveRule nth g) rs s h = absurd (cc)
-puts-in t (AddPrereq order nth g w) rs s h = absurd (cc)
-puts-in t (RemovePrereq nth g w) rs s h = absurd (cc)
-puts-in t (SetRecipe nth g k c) rs s h = absurd (cc)
-puts-in t (RemoveRecipe nth g k) rs s h = absurd (cc)
-puts-in t (RenameTarget o n) rs s h = absurd (cc)
+puts-in t e rs s h = absurd (cc)
 
--- ---- the answer of a function that makes the planned moves
+-- ---- the answers of planning
 
--- what such a function gives is planned
-pub planned-if_ok : (e : Edit) (ls : List LocatedLine) (moves : List Move) (r : Result (List Move) Refusal) → IsPlanned e ls moves → IfOk r (λ patch. patch ≡ moves) → IfOk r (λ patch. IsPlanned e ls patch)
-planned-if_ok e ls moves (Ok patch) P h = subst (IsPlanned e ls) (sym h) P
-planned-if_ok e ls moves (Err x) P h = tt
+-- a refusal, before a line is read
+pub refused-first : (e : Edit) (ls : List LocatedLine) (read : ℕ) (r : Refusal) → IsRefusal (located_text ls) e r → Plans e ls read read (Err r)
+refused-first e ls read r h = record { planned = tt; refused = h; counted = tt; few_read = omega arith; forward = omega arith }
 
--- such a function refuses only if a growth is refused
-pub planned-if_err : (e : Edit) (ls : List LocatedLine) (moves : List Move) (r : Result (List Move) Refusal) → IsPlanned e ls moves → IsOkUnless r NoMemory → IfErr r (λ x. IsRefusal (located_text ls) e x)
-planned-if_err e ls moves (Ok patch) P h = tt
-planned-if_err e ls moves (Err x) P h = inr (h, P.replacements, P.spans_are)
+-- a growth was refused, before a line was read
+pub memory-first : (e : Edit) (ls : List LocatedLine) (read : ℕ) (rs : List Replacement) → spans (located_text ls) e ≡ Ok rs → Plans e ls read read (Err NoMemory)
+memory-first e ls read rs h = refused-first e ls read NoMemory (inr (refl, rs, h))
+
+-- a call makes the planned moves, and reads as many lines as the edit costs
+pub moves-made : (e : Edit) (ls : List LocatedLine) (moves : List Move) (lines before after : ℕ) (r : Result (List Move) Refusal) → IsPlanned e ls moves → cost (located_text ls) e ≡ lines
+    → IfOk r (λ patch. patch ≡ moves) → ReadsAnew lines before after r → Plans e ls before after r
+moves-made e ls moves lines before after (Ok patch) P costs h R =
+    record { planned = subst (IsPlanned e ls) (sym h) P; refused = tt; counted = rw costs R.counted; few_read = omega (arith, costs, R.few_read); forward = R.forward }
+moves-made e ls moves lines before after (Err x) P costs h R =
+    record { planned = tt; refused = inr (R.refused, P.replacements, P.spans_are); counted = tt; few_read = omega (arith, costs, R.few_read); forward = R.forward }
+
+-- a call plans an edit that no cause refuses, and reads as many lines as the edit costs
+pub accepted-planned : (e : Edit) (ls : List LocatedLine) (before after : ℕ) (r : Result (List Move) Refusal) → first_cause (causes (located_text ls) (classed_lines (located_text ls)) e) ≡ None
+    → IfOk r (λ patch. IsPlanned e ls patch) → ReadsAnew (cost (located_text ls) e) before after r → Plans e ls before after r
+accepted-planned e ls before after (Ok patch) none P R = record { planned = P; refused = tt; counted = R.counted; few_read = R.few_read; forward = R.forward }
+accepted-planned e ls before after (Err x) none P R = record { planned = tt; refused = inr (R.refused, _, unrefused (located_text ls) e none); counted = tt; few_read = R.few_read; forward = R.forward }
+
+-- a call makes the planned moves of an edit that costs nothing, and reads no line
+pub moves-unread : (e : Edit) (ls : List LocatedLine) (moves : List Move) (r : Result (List Move) Refusal) → IsPlanned e ls moves → cost (located_text ls) e ≡ 0
+    → IfOk r (λ patch. patch ≡ moves) → IsOkUnless r NoMemory → (read : ℕ) → Plans e ls read read r
+moves-unread e ls moves (Ok patch) P costs h u read =
+    moves-made e ls moves 0 read read (Ok patch) P costs h (record { refused = u; counted = ap (λ n. min n (2 ^ 64 - 1)) (omega arith); few_read = omega arith; forward = omega arith })
+moves-unread e ls moves (Err x) P costs h u read = refused-first e ls read x (inr (u, P.replacements, P.spans_are))

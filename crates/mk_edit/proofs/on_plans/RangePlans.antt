@@ -44,10 +44,6 @@ pub record IsRangeEdit (e : Edit) (ls : List LocatedLine) (at : ℕ) (l : Locate
   pub spans_are : spans_of (located_text ls) (classed_lines (located_text ls)) e ≡ record { start = length (text_of spot.above) + r.start; end = length (text_of spot.above) + r.end; new = new } ∷ []
   pub causes_are : first_cause (causes (located_text ls) (classed_lines (located_text ls)) e) ≡ first_cause (too_long (located_text ls) (spans_of (located_text ls) (classed_lines (located_text ls)) e) ∷ [])
 
--- the line with the range replaced
-abbrev pub line_with : LocatedLine → Span → (new : List ℕ) → List ℕ
-line_with l r new = take r.start l.bytes ++ (new ++ drop r.end l.bytes)
-
 -- how long the result is decides
 range-length : (e : Edit) (ls : List LocatedLine) (at : ℕ) (l : LocatedLine) (r : Span) (new : List ℕ) → (E : IsRangeEdit e ls at l r new)
     → too_long (located_text ls) (spans_of (located_text ls) (classed_lines (located_text ls)) e) ≡ where_holds (nat_lt (max_text + (r.end - r.start)) (length (located_text ls) + length new)) TooLong
@@ -67,14 +63,14 @@ range-accepted e ls at l r new E h =
     unrefused (located_text ls) e (E.causes_are ∙ ap (λ o. first_cause (o ∷ [])) (range-length e ls at l r new E ∙ ap (λ b. where_holds b TooLong) short))
 
 -- the line with the range replaced is what the edit leaves
-pub range-replaced : (e : Edit) (ls : List LocatedLine) (at : ℕ) (l : LocatedLine) (r : Span) (new m : List ℕ) → IsFaithful ls → IsRangeEdit e ls at l r new → size_of ls + length new ≤ max_text + (r.end - r.start)
-    → m ≡ line_with l r new → IsReplaced e ls at m
-range-replaced e ls at l r new m f E h k =
+pub range-replaced : (e : Edit) (ls : List LocatedLine) (at : ℕ) (l : LocatedLine) (r : Span) (new bytes m : List ℕ) → IsFaithful ls → IsRangeEdit e ls at l r new → size_of ls + length new ≤ max_text + (r.end - r.start)
+    → bytes ≡ l.bytes → m ≡ take r.start bytes ++ (new ++ drop r.end bytes) → IsReplaced e ls at m
+range-replaced e ls at l r new bytes m f E h b k =
     let s = E.spot in
     let t = located_text ls in
     let base = length (text_of s.above) in
     let rs = spans_of t (classed_lines t) e in
     let one : respanned_bytes (this_line s) rs ≡ take r.start (s.line.bytes ++ []) ++ (new ++ drop r.end (s.line.bytes ++ [])) =
     ap (respanned_bytes (this_line s)) E.spans_are ∙ respanned-one (this_line s) (base + r.start) (base + r.end) r.start r.end new refl refl in
-    let bytes : respanned_bytes (this_line s) rs ≡ m = one ∙ (ap (λ z. take r.start z ++ (new ++ drop r.end z)) (append-nil s.line.bytes ∙ E.bytes_are) ∙ sym k) in
-    line-replaced e ls rs s at m f (range-accepted e ls at l r new E h) E.touched_is E.place_is (E.left_is rs ∙ ap (λ z. z ∷ []) bytes)
+    let left : respanned_bytes (this_line s) rs ≡ m = one ∙ (ap (λ z. take r.start z ++ (new ++ drop r.end z)) (append-nil s.line.bytes ∙ (E.bytes_are ∙ sym b)) ∙ sym k) in
+    line-replaced e ls rs s at m f (range-accepted e ls at l r new E h) E.touched_is E.place_is (E.left_is rs ∙ ap (λ z. z ∷ []) left)

@@ -11,7 +11,7 @@ use Rattle.mk_tree.specs.Documents.{IsFaithful, context_of}
 use Rattle.mk_tree.specs.Leaning.{is_same_flag, leans}
 use Rattle.mk_tree.specs.LocatedLines.{LocatedLine, located_lines, located_text, size_of}
 use Rattle.mk_tree.proofs.on_changes.Sizes.{size_of-text}
-use Rattle.mk_edit_language.specs.Edits.{Edit, SetValue, AppendValue, AddAssign, RemoveAssign, AddRule, RemoveRule, AddPrereq, RemovePrereq, AddRecipe, SetRecipe, RemoveRecipe, RenameTarget}
+use Rattle.mk_edit_language.specs.Edits.{Edit, RemoveAssign}
 use Rattle.mk_edit_language.specs.EditSpans.{spans_of, removed_span, where_found}
 use Rattle.mk_edit_language.specs.Stretches.{Stretch, this_line, insertion, removal, touched_by}
 use Rattle.mk_edit_language.specs.Addresses.{Address, Variable}
@@ -156,14 +156,4 @@ remove_assign-at (RemoveAssign nth n) ls f u g A =
         others = refl;
       };
     }
-remove_assign-at (SetValue nth n v) ls f u g A = absurd u
-remove_assign-at (AppendValue nth n v) ls f u g A = absurd u
-remove_assign-at (AddAssign p n f' v) ls f u g A = absurd u
-remove_assign-at (AddRule p ts c ws) ls f u g A = absurd u
-remove_assign-at (RemoveRule nth t) ls f u g A = absurd u
-remove_assign-at (AddPrereq order nth t w) ls f u g A = absurd u
-remove_assign-at (RemovePrereq nth t w) ls f u g A = absurd u
-remove_assign-at (AddRecipe nth t c) ls f u g A = absurd u
-remove_assign-at (SetRecipe nth t k c) ls f u g A = absurd u
-remove_assign-at (RemoveRecipe nth t k) ls f u g A = absurd u
-remove_assign-at (RenameTarget o n) ls f u g A = absurd u
+remove_assign-at e ls f u g A = absurd u

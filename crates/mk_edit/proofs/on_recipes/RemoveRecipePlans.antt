@@ -1,8 +1,7 @@
 -- The removal of a recipe line: its causes by what the code asks, and its plan.
 use Rattle.std.proofs.Common.{◌≡◌, refl, ap, ◌∙◌, subst, arith, ℕ, ◌+◌, ◌<◌, ◌≤◌, not, List, [], ◌∷◌, ◌++◌, length, Option, Some, None, is_some, option_map}
-use Rattle.std.specs.Prelude.{Ok, Err}
+use Rattle.std.specs.Prelude.{Err}
 use Rattle.mk_lines.specs.Limits.{max_text}
-use Rattle.mk_lines.specs.Pieces.{Replacement}
 use Rattle.mk_class.specs.ClassedLines.{ClassedLine, classed_lines}
 use Rattle.mk_class.specs.declared.context.RuleFlag.{RuleFlag}
 use Rattle.mk_class.specs.declared.context.RuleFlag.TheVariants as flag
@@ -49,7 +48,7 @@ within-limit ls nth g n at R z =
 pub record IsRemoveRecipeOf (n : ℕ) (e : Edit) (ls : List LocatedLine) (f : Found) : Type 0 where
   pub within : f.at < length ls
   pub missing : None ≡ index_in_rule ls (f.at + 1) n → spans (located_text ls) e ≡ Err Absent
-  pub accepted : (at : ℕ) → size_of ls ≤ max_text → Some at ≡ index_in_rule ls (f.at + 1) n → (rs : List Replacement) × (spans (located_text ls) e ≡ Ok rs) × IsTakenOut e ls at 1
+  pub accepted : (at : ℕ) → size_of ls ≤ max_text → Some at ≡ index_in_rule ls (f.at + 1) n → IsTakenOut e ls at 1
 
 remove_recipe : (nth : Option ℕ) (g : List ℕ) (n : ℕ) (ls : List LocatedLine) (f : Found) → IsFaithful ls → IsAddressed (RemoveRecipe nth g n) ls f → IsRemoveRecipeOf n (RemoveRecipe nth g n) ls f
 remove_recipe nth g n ls f h A = record {
@@ -60,7 +59,7 @@ remove_recipe nth g n ls f h A = record {
       let taken = own-accepted e ls f A
       (passed (absent lines e) _ None (ap (λ (o : Option StandingLine). where_holds (not (is_some o)) Absent) Q.found_is)
       (passed (leaning lines e) _ None (not_leaning ls nth g n at Q) (passed (too_long t (spans_of t lines e)) [] None (within-limit ls nth g n at Q z) refl))) in
-      (spans_of t lines e, taken, lines-taken_out e ls (spans_of t lines e) (this_line Q.spot) at 1 h taken (ap (option_map this_line) Q.found_is) Q.place_is refl refl refl refl);
+      lines-taken_out e ls (spans_of t lines e) (this_line Q.spot) at 1 h taken (ap (option_map this_line) Q.found_is) Q.place_is refl refl refl refl;
 }
   where
     t : List ℕ

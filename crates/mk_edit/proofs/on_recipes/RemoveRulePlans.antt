@@ -1,11 +1,10 @@
 -- The removal of a rule: its causes by what the code asks, and its plan.
 use Rattle.std.proofs.Common.{◌≡◌, refl, sym, ap, ◌∙◌, arith, ℕ, ◌+◌, ◌-◌, ◌<◌, ◌≤◌, true, false, Bool, List, [], length, Option, Some, None, option_map}
 use Rattle.std.specs.List.{list_any}
-use Rattle.std.specs.Prelude.{Ok, Err, nat_lt, slice_get}
+use Rattle.std.specs.Prelude.{Err, nat_lt, slice_get}
 use Rattle.std.proofs.lemmas.Bool.{lt-ltb, le-ltb}
 use Rattle.mk_lines.specs.Limits.{max_text}
 use Rattle.mk_lines.specs.Cells.{Cell, joined_byte, joined_text, line_cells}
-use Rattle.mk_lines.specs.Pieces.{Replacement}
 use Rattle.mk_class.specs.Headers
 use Rattle.mk_class.specs.Classes.{is_conditional}
 use Rattle.mk_class.specs.Classes.Class.{Header}
@@ -86,7 +85,7 @@ pub record IsRemoveRuleOf (e : Edit) (ls : List LocatedLine) (f : Found) : Type 
   -- neither of these causes holds; the lines below do not lean
   pub accepted : (l : LocatedLine) (n end : ℕ) → size_of ls ≤ max_text → Some l ≡ slice_get ls f.at → n ≡ length (header_targets_located l) → n ≤ 1
       → false ≡ list_any (λ l. is_conditional l.class) (recipe_run (lines_from ls (f.at + 1))) → end ≡ f.at + 1 + length (recipe_run (lines_from ls (f.at + 1)))
-      → (rs : List Replacement) × (spans (located_text ls) e ≡ Ok rs) × IsTakenOut e ls f.at (end - f.at)
+      → IsTakenOut e ls f.at (end - f.at)
 
 remove_rule : (nth : Option ℕ) (g : List ℕ) (ls : List LocatedLine) (f : Found) → IsFaithful ls → IsAddressed (RemoveRule nth g) ls f → IsRemoveRuleOf (RemoveRule nth g) ls f
 remove_rule nth g ls f h A = record {
@@ -101,7 +100,7 @@ remove_rule nth g ls f h A = record {
       (passed (straddles lines e) _ None (straddles-is ls nth g f false R b)
       (passed (leaning lines e) _ None (removal-never_leans ls nth g f R) (passed (too_long t (spans_of t lines e)) [] None (within-limit ls nth g f R z) refl)))) in
       let many : length (whole_rule s).lines ≡ end - f.at = omega (arith, p, ap (λ z. length (recipe_run z)) R.below_is) in
-      (spans_of t lines e, taken, lines-taken_out e ls (spans_of t lines e) (whole_rule s) f.at (end - f.at) h taken (ap (option_map whole_rule) R.found_is) R.place_is many refl refl (ap (λ (o : Option StandingLine). line_count (option_map whole_rule o)) R.found_is ∙ many));
+      lines-taken_out e ls (spans_of t lines e) (whole_rule s) f.at (end - f.at) h taken (ap (option_map whole_rule) R.found_is) R.place_is many refl refl (ap (λ (o : Option StandingLine). line_count (option_map whole_rule o)) R.found_is ∙ many);
 }
   where
     t : List ℕ

@@ -27,7 +27,7 @@ use Rattle.mk_edit_language.specs.declared.refusal.Refusal.{Refusal}
 use Rattle.mk_edit_language.specs.declared.refusal.Refusal.TheVariants.{RecipePrefix, TooLong}
 use Rattle.mk_edit_language.proofs.on_edits.Accepted.{two-passed}
 use Rattle.mk_edit.specs.declared.rename_target_effect.Effect.{Effect}
-use Rattle.mk_edit.specs.RenameTargetEffects.{IsRenameTarget, effect_on, first_of_lines, first_told, replaced_bytes, replaced_words}
+use Rattle.mk_edit.specs.RenameTargetEffects.{effect_on, first_of_lines, first_told, replaced_bytes, replaced_words}
 use Rattle.mk_edit_parts.specs.LocatedParts.{is_target_located}
 use Rattle.mk_edit_parts.proofs.on_finding.PartLemmas.{target-located}
 use Rattle.mk_edit_parts.proofs.on_finding.SeekLemmas.{any-told, unread-told}
@@ -132,7 +132,7 @@ targets-told : (w : List ℕ) (ls : List LocatedLine) → IsFaithful ls → list
 targets-told w ls h = any-told (is_target_located w) (λ l. is_one_of w (targets_of l.class)) (target-located w) ls h
 
 -- The first cause that holds of a rename of a document, as the effect on its lines tells it, if no field of the rename is bad.
-pub causes-told : (ls : List LocatedLine) (e : Edit) (o n : List ℕ) (f : Effect) (size : ℕ) → IsRenameTarget o n e → IsFaithful ls → bad_argument e ≡ None → reserved e ≡ None → f ≡ effect_on o n start ls → size ≡ size_of ls
+pub causes-told : (ls : List LocatedLine) (e : Edit) (o n : List ℕ) (f : Effect) (size : ℕ) → e ≡ RenameTarget o n → IsFaithful ls → bad_argument e ≡ None → reserved e ≡ None → f ≡ effect_on o n start ls → size ≡ size_of ls
     → first_of_lines f size (length n) ≡ first_cause (causes (located_text ls) (classed_lines (located_text ls)) e)
 causes-told ls e o n f size is h bad res i k =
     let t = located_text ls in

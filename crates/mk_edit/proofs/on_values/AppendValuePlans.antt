@@ -32,7 +32,7 @@ use Rattle.mk_edit.specs.ValuesGiven.{IsAppendValue, value_text_located, space_a
 use Rattle.mk_edit_parts.specs.declared.seek.Found.{Found}
 use Rattle.mk_edit_parts.proofs.CauseLemmas.{passed, holds, refused}
 use Rattle.mk_edit.proofs.on_plans.CausePlans.{addressed-own}
-use Rattle.mk_edit.proofs.on_plans.RangePlans.{IsRangeEdit, line_with}
+use Rattle.mk_edit.proofs.on_plans.RangePlans.{IsRangeEdit}
 use Rattle.mk_edit.proofs.on_values.ValuePlaces.{IsValueRange, IsValuePlace, value-place, assignment-located}
 
 -- ---- the text of the value
@@ -130,10 +130,5 @@ append_value-range e ls v f l r text h S A g k w o =
     subst (λ z. IsRangeEdit z ls f.at l (end_of r) (space_after text ++ v)) (sym S.is) (append_value-range_of ls S.nth S.name v f l r text h (subst (λ z. IsAddressed z ls f) S.is A) g k w o)
 
 -- the line with a space and the text put in there
-pub appended-line : (m bytes space text v : List ℕ) (l : LocatedLine) (r : Span) → m ≡ take r.end bytes ++ (space ++ (v ++ drop r.end bytes)) → bytes ≡ l.bytes → space ≡ space_after text
-    → m ≡ line_with l (end_of r) (space_after text ++ v)
-appended-line m bytes space text v l r h b s =
-    h
-    ∙ (ap (λ z. take r.end z ++ (space ++ (v ++ drop r.end z))) b
-    ∙ (ap (λ z. take r.end l.bytes ++ (z ++ (v ++ drop r.end l.bytes))) s
-    ∙ ap (λ z. take r.end l.bytes ++ z) (sym (append_assoc (space_after text) v (drop r.end l.bytes)))))
+pub appended-line : (m bytes space text v : List ℕ) (at : ℕ) → m ≡ take at bytes ++ (space ++ (v ++ drop at bytes)) → space ≡ space_after text → m ≡ take at bytes ++ ((space_after text ++ v) ++ drop at bytes)
+appended-line m bytes space text v at h s = h ∙ (ap (λ z. take at bytes ++ (z ++ (v ++ drop at bytes))) s ∙ ap (λ z. take at bytes ++ z) (sym (append_assoc (space_after text) v (drop at bytes))))

@@ -1,33 +1,24 @@
-use Rattle.std.proofs.Common.{◌∙◌, sym, subst, arith, inl, inr}
+use Rattle.std.proofs.Common.{◌∙◌, sym, arith, inl}
 use Rattle.mk_edit_language.specs.EditViews.{edit_of}
-use Rattle.mk_edit.specs.Planned.{IsPlanned}
-use Rattle.mk_edit.proofs.on_recipes.RemoveRecipePlans.{remove_recipe-of}
+use Rattle.mk_edit.proofs.on_plans.PlanLemmas.{refused-first, moves-unread}
+use Rattle.mk_edit.proofs.on_recipes.RemoveRecipePlans.{IsRemoveRecipeOf, remove_recipe-of}
+use Rattle.mk_edit.proofs.remove_recipe.plan_remove_recipe.Given.{Over}
+use Rattle.mk_edit.proofs.remove_recipe.plan_remove_recipe.Goals.{In_ok-header}
 use Rattle.mk_edit.proofs.remove_recipe.plan_remove_recipe.Goals as goal
 
+rule : (g : Over) (c : In_ok-header g) → IsRemoveRecipeOf c.args.number (edit_of c.args.edit.now) c.args.doc.now c.in_ok-header.header
+rule g c = remove_recipe-of _ _ _ _ c.requires.faithful c.requires.kind c.in_ok-header.ensures.found
+
 pub overflow_add-header : goal.overflow_add-header
-overflow_add-header g c =
-    let U = remove_recipe-of c.args.number (edit_of c.args.edit.now) c.args.doc.now c.in-Ok.header c.requires.faithful c.requires.kind c.in-Ok.ensures.found in
-    omega (arith, U.within)
+overflow_add-header g c = omega (arith, (rule g (goal.at.overflow_add-header g c).In_ok-header).within)
 
 pub recipe_line-requires-clause-in_range : goal.recipe_line-requires-clause-in_range
-recipe_line-requires-clause-in_range g c =
-    let U = remove_recipe-of c.args.number (edit_of c.args.edit.now) c.args.doc.now c.in-Ok.header c.requires.faithful c.requires.kind c.in-Ok.ensures.found in
-    omega (arith, U.within)
+recipe_line-requires-clause-in_range g c = omega (arith, (rule g (goal.at.recipe_line-requires-clause-in_range g c).In_ok-header).within)
 
-pub returns-in_default-clause-refused : goal.returns-in_default-clause-refused
-returns-in_default-clause-refused g c =
-    let U = remove_recipe-of c.args.number (edit_of c.args.edit.now) c.args.doc.now c.in-Ok.header c.requires.faithful c.requires.kind c.in-Ok.ensures.found in
-    inl (U.missing (sym c.in_default.is ∙ c.recipe_line.ensures))
+pub returns-in_default : goal.returns-in_default
+returns-in_default g c = λ read. refused-first _ _ read _ (inl ((rule g (goal.at.returns-in_default g c).In_ok-header).missing (sym c.in_default.is ∙ c.recipe_line.ensures)))
 
-pub returns-in-Ok-take_out-clause-planned : goal.returns-in-Ok-take_out-clause-planned
-returns-in-Ok-take_out-clause-planned g c =
-    let e = edit_of c.args.edit.now in
-    let U = remove_recipe-of c.args.number e c.args.doc.now c.in-Ok.header c.requires.faithful c.requires.kind c.in-Ok.ensures.found in
-    let T = U.accepted c.in-Some.at c.size-size.ensures.few (sym c.in-Some.is ∙ c.recipe_line.ensures) in
-    subst (IsPlanned e c.args.doc.now) (sym c.in-Ok-take_out.ensures.moves) T.2.planned
-
-pub returns-in-Err-take_out-clause-refused : goal.returns-in-Err-take_out-clause-refused
-returns-in-Err-take_out-clause-refused g c =
-    let U = remove_recipe-of c.args.number (edit_of c.args.edit.now) c.args.doc.now c.in-Ok.header c.requires.faithful c.requires.kind c.in-Ok.ensures.found in
-    let T = U.accepted c.in-Some.at c.size-size.ensures.few (sym c.in-Some.is ∙ c.recipe_line.ensures) in
-    inr (c.in-Err-take_out.ensures.refused, T.0, T.1)
+pub returns : goal.returns
+returns g c =
+    let T = (rule g (goal.at.returns g c).In_ok-header).accepted _ c.size-size.ensures.few (sym c.in-Some.is ∙ c.recipe_line.ensures) in
+    moves-unread _ _ _ _ T.planned T.costs c.take_out.ensures.moves c.take_out.ensures.refused

@@ -8,7 +8,15 @@ use Rattle.mk_edit_language.specs.EditViews.{edit_of}
 use Rattle.mk_edit_parts.specs.AddressViews.{field_refusal}
 use Rattle.mk_edit_parts.proofs.on_finding.FindLemmas.{reserved-holds}
 use Rattle.mk_edit.proofs.on_renaming.CausesOfRenameTarget.{bad-first, causes-told, reserved-first}
+use Rattle.mk_edit.proofs.rename_target_causes.accepted_rename.Given.{Over}
+use Rattle.mk_edit.proofs.rename_target_causes.accepted_rename.Goals.{In_default, Else-is_reserved}
 use Rattle.mk_edit.proofs.rename_target_causes.accepted_rename.Goals as goal
+
+fields : (g : Over) (c : In_default g) → bad_argument (edit_of c.args.edit.now) ≡ None
+fields g c = sym c.bad_field.ensures ∙ ap field_refusal c.in_default.is
+
+free : (g : Over) (c : Else-is_reserved g) → reserved (edit_of c.args.edit.now) ≡ None
+free g c = reserved-holds (edit_of c.args.edit.now) c.is_reserved.result c.is_reserved.ensures ∙ ap (λ b. where_holds b Reserved) c.if-is_reserved.false
 
 pub returns-in-Some-clause-refused : goal.returns-in-Some-clause-refused
 returns-in-Some-clause-refused g c =
@@ -19,21 +27,16 @@ pub returns-then-is_reserved-clause-refused : goal.returns-then-is_reserved-clau
 returns-then-is_reserved-clause-refused g c =
     let t = located_text c.args.doc.now in
     let e = edit_of c.args.edit.now in
-    let fields : bad_argument e ≡ None = sym c.bad_field.ensures ∙ ap field_refusal c.in_default.is in
-    sym (reserved-first t (classed_lines t) e Reserved fields (reserved-holds e c.is_reserved.result c.is_reserved.ensures ∙ ap (λ b. where_holds b Reserved) c.if-is_reserved.true))
+    sym (reserved-first t (classed_lines t) e Reserved (fields g (goal.at.returns-then-is_reserved-clause-refused g c).In_default) (reserved-holds e c.is_reserved.result c.is_reserved.ensures ∙ ap (λ b. where_holds b Reserved) c.if-is_reserved.true))
 
 pub returns-in-Some-first_of_lines-clause-refused : goal.returns-in-Some-first_of_lines-clause-refused
 returns-in-Some-first_of_lines-clause-refused g c =
-    let e = edit_of c.args.edit.now in
-    let fields : bad_argument e ≡ None = sym c.bad_field.ensures ∙ ap field_refusal c.in_default.is in
-    let free : reserved e ≡ None = reserved-holds e c.is_reserved.result c.is_reserved.ensures ∙ ap (λ b. where_holds b Reserved) c.if-is_reserved.false in
-    sym (causes-told c.args.doc.now e c.args.from.now c.args.to.now c.rename_target_effect-survey.result.effect c.size.result c.requires.kind c.requires.faithful fields free c.rename_target_effect-survey.ensures.effect c.size.ensures.number)
+    let at = goal.at.returns-in-Some-first_of_lines-clause-refused g c in
+    sym (causes-told c.args.doc.now (edit_of c.args.edit.now) c.args.from.now c.args.to.now c.rename_target_effect-survey.result.effect c.size.result c.requires.kind c.requires.faithful (fields g at.In_default) (free g at.Else-is_reserved) c.rename_target_effect-survey.ensures.effect c.size.ensures.number)
     ∙ (sym c.first_of_lines.ensures ∙ c.in-Some-first_of_lines.is)
 
 pub returns-clause-accepted : goal.returns-clause-accepted
 returns-clause-accepted g c =
-    let e = edit_of c.args.edit.now in
-    let fields : bad_argument e ≡ None = sym c.bad_field.ensures ∙ ap field_refusal c.in_default.is in
-    let free : reserved e ≡ None = reserved-holds e c.is_reserved.result c.is_reserved.ensures ∙ ap (λ b. where_holds b Reserved) c.if-is_reserved.false in
-    sym (causes-told c.args.doc.now e c.args.from.now c.args.to.now c.rename_target_effect-survey.result.effect c.size.result c.requires.kind c.requires.faithful fields free c.rename_target_effect-survey.ensures.effect c.size.ensures.number)
+    let at = goal.at.returns-clause-accepted g c in
+    sym (causes-told c.args.doc.now (edit_of c.args.edit.now) c.args.from.now c.args.to.now c.rename_target_effect-survey.result.effect c.size.result c.requires.kind c.requires.faithful (fields g at.In_default) (free g at.Else-is_reserved) c.rename_target_effect-survey.ensures.effect c.size.ensures.number)
     ∙ (sym c.first_of_lines.ensures ∙ c.in-None.is)

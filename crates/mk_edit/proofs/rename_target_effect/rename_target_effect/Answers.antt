@@ -1,4 +1,4 @@
-use Rattle.std.proofs.Common.{◌≡◌, ◌∙◌, ◌++◌, List, length, map, refl, sym, ap, subst, arith}
+use Rattle.std.proofs.Common.{◌≡◌, ◌∙◌, ◌++◌, List, length, map, refl, rules, sym, ap, subst, arith}
 use Rattle.std.specs.Prelude.{◌||◌}
 use Rattle.mk_class.specs.Contexts.{Admits, Context, start, context_after_located}
 use Rattle.mk_tree.specs.Admissions.{AreAdmitted}
@@ -38,49 +38,21 @@ lines-init g c =
       ap (λ z. map held_view z ++ held_places c.args.from.now c.args.doc.now) c.new.ensures.items,
     )
 
-pub count_words-tally-requires-clause-classed : goal.count_words-tally-requires-clause-classed
-count_words-tally-requires-clause-classed g c =
+pub count_words-tally-requires : goal.count_words-tally-requires
+count_words-tally-requires g c =
     let few : HasFewWords c.args.from.now (line_view c.in-Some.line.now) × HaveFewWords c.args.from.now c.next.new.self = subst (HaveFewWords c.args.from.now) c.in-Some.ensures.steps c.lines.invariant.2 in
-    few.0.classed
-
-pub count_words-tally-requires-clause-few : goal.count_words-tally-requires-clause-few
-count_words-tally-requires-clause-few g c =
-    let few : HasFewWords c.args.from.now (line_view c.in-Some.line.now) × HaveFewWords c.args.from.now c.next.new.self = subst (HaveFewWords c.args.from.now) c.in-Some.ensures.steps c.lines.invariant.2 in
-    few.0.few
-
-pub count_words-tally-requires-clause-few_bytes : goal.count_words-tally-requires-clause-few_bytes
-count_words-tally-requires-clause-few_bytes g c =
-    let few : HasFewWords c.args.from.now (line_view c.in-Some.line.now) × HaveFewWords c.args.from.now c.next.new.self = subst (HaveFewWords c.args.from.now) c.in-Some.ensures.steps c.lines.invariant.2 in
-    few.0.few_bytes
+    record { classed = few.0.classed; class = search rules; few = few.0.few; few_bytes = few.0.few_bytes }
 
 pub effect_of_line-of_line-requires-clause-few_words : goal.effect_of_line-of_line-requires-clause-few_words
 effect_of_line-of_line-requires-clause-few_words g c =
     let few : HasFewWords c.args.from.now (line_view c.in-Some.line.now) × HaveFewWords c.args.from.now c.next.new.self = subst (HaveFewWords c.args.from.now) c.in-Some.ensures.steps c.lines.invariant.2 in
     few.0
 
-pub joined-effect-requires-clause-few_words : goal.joined-effect-requires-clause-few_words
-joined-effect-requires-clause-few_words g c =
+pub joined-effect-requires : goal.joined-effect-requires
+joined-effect-requires g c =
     let r = room-ahead c.args.from.now c.args.to.now c.args.doc.now c.lines.effect c.effect_of_line-of_line.result (ahead c.lines.context c.lines.line-iterator) c.lines.context (line_view c.in-Some.line.now) c.next.new.self c.in-Some.ensures.steps c.effect_of_line-of_line.ensures c.lines.invariant.4 c.requires
     c.size-size.ensures.few c.size-size.ensures.some_bytes in
-    omega (arith, r.words)
-
-pub joined-effect-requires-clause-few_bytes : goal.joined-effect-requires-clause-few_bytes
-joined-effect-requires-clause-few_bytes g c =
-    let r = room-ahead c.args.from.now c.args.to.now c.args.doc.now c.lines.effect c.effect_of_line-of_line.result (ahead c.lines.context c.lines.line-iterator) c.lines.context (line_view c.in-Some.line.now) c.next.new.self c.in-Some.ensures.steps c.effect_of_line-of_line.ensures c.lines.invariant.4 c.requires
-    c.size-size.ensures.few c.size-size.ensures.some_bytes in
-    omega (arith, r.bytes)
-
-pub joined-effect-requires-clause-few_no_longer : goal.joined-effect-requires-clause-few_no_longer
-joined-effect-requires-clause-few_no_longer g c =
-    let r = room-ahead c.args.from.now c.args.to.now c.args.doc.now c.lines.effect c.effect_of_line-of_line.result (ahead c.lines.context c.lines.line-iterator) c.lines.context (line_view c.in-Some.line.now) c.next.new.self c.in-Some.ensures.steps c.effect_of_line-of_line.ensures c.lines.invariant.4 c.requires
-    c.size-size.ensures.few c.size-size.ensures.some_bytes in
-    omega (arith, r.no_longer)
-
-pub joined-effect-requires-clause-few_longer : goal.joined-effect-requires-clause-few_longer
-joined-effect-requires-clause-few_longer g c =
-    let r = room-ahead c.args.from.now c.args.to.now c.args.doc.now c.lines.effect c.effect_of_line-of_line.result (ahead c.lines.context c.lines.line-iterator) c.lines.context (line_view c.in-Some.line.now) c.next.new.self c.in-Some.ensures.steps c.effect_of_line-of_line.ensures c.lines.invariant.4 c.requires
-    c.size-size.ensures.few c.size-size.ensures.some_bytes in
-    omega (arith, r.longer)
+    record { few_words = omega (arith, r.words); few_bytes = omega (arith, r.bytes); few_no_longer = omega (arith, r.no_longer); few_longer = omega (arith, r.longer) }
 
 pub step-context-requires : goal.step-context-requires
 step-context-requires g c =

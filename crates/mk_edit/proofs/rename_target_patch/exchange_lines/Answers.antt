@@ -1,4 +1,4 @@
-use Rattle.std.proofs.Common.{◌∙◌, arith, ap, sym, Some, None, map, option_map}
+use Rattle.std.proofs.Common.{◌∙◌, arith, rules, ap, sym, Some, None, map, option_map}
 use Rattle.mk_tree.specs.Trees.{line_view}
 use Rattle.mk_edit.specs.RenameTargetPatches.{held_view}
 use Rattle.mk_edit.proofs.on_renaming.PatchLoops.{no-steps}
@@ -17,10 +17,11 @@ line_of_turn-requires g c =
     let T = place-at _ _ _ _ _ _ _ c.args.places.now c.places.held-index c.held-item.result _ c.places-test.true c.held-item.is c.places.invariant in
     record { can = there-can _ _ _ _ _ _ _ _ _ _ T; tally = T.tally_is }
 
-pub returns-in_err-renamed-clause-few_read : goal.returns-in_err-renamed-clause-few_read
-returns-in_err-renamed-clause-few_read g c =
+pub returns-in_err-renamed-clause-reads : goal.returns-in_err-renamed-clause-reads
+returns-in_err-renamed-clause-reads g c =
     let T = place-at _ _ _ _ _ _ _ c.args.places.now c.places.held-index c.held-item.result _ c.places-test.true c.held-item.is c.places.invariant in
-    turn-broken _ _ _ _ _ _ _ _ _ _ T _ c.line_of_turn.ensures.few_read
+    let R = c.in_err-renamed.ensures.reads in
+    record { refused = search rules; counted = search rules; few_read = turn-broken _ _ _ _ _ _ _ _ _ _ T _ R.few_read; forward = omega (arith, T.built.forward, R.forward) }
 
 pub push-requires : goal.push-requires
 push-requires g c =
@@ -33,12 +34,14 @@ places-preserved g c =
     let on = turn-on _ _ _ _ _ _ _ _ _ _ T in
     let made = c.in_ok-renamed.ensures in
     elim c.match-renamed.branch [
-      | in-Some w ↦ on _ _ (Some (line_view w.in-Some.renamed)) (ap (option_map line_view) (sym w.in-Some.is) ∙ made.line) made.counted made.few_read made.forward (w.patch-is ∙ w.push.ensures)
-      | in_default w ↦ on _ _ None (ap (option_map line_view) (sym w.in_default.is) ∙ made.line) made.counted made.few_read made.forward w.patch-is
+      | in-Some w ↦ on _ _ (Some (line_view w.in-Some.renamed)) (ap (option_map line_view) (sym w.in-Some.is) ∙ made.line) made.reads.counted made.reads.few_read made.reads.forward (w.patch-is ∙ w.push.ensures)
+      | in_default w ↦ on _ _ None (ap (option_map line_view) (sym w.in_default.is) ∙ made.line) made.reads.counted made.reads.few_read made.reads.forward w.patch-is
     ]
 
 pub returns-clause-moves : goal.returns-clause-moves
 returns-clause-moves g c = (turn-over _ _ _ _ _ _ _ c.args.places.now c.places.held-index _ c.places-test.false c.places.invariant).moves
 
-pub returns-clause-counted : goal.returns-clause-counted
-returns-clause-counted g c = (turn-over _ _ _ _ _ _ _ c.args.places.now c.places.held-index _ c.places-test.false c.places.invariant).counted
+pub returns-clause-reads : goal.returns-clause-reads
+returns-clause-reads g c =
+    let D = turn-over _ _ _ _ _ _ _ c.args.places.now c.places.held-index _ c.places-test.false c.places.invariant in
+    record { refused = tt; counted = D.counted; few_read = D.few_read; forward = D.forward }

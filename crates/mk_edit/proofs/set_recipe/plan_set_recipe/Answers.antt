@@ -1,165 +1,80 @@
-use Rattle.std.proofs.Common.{◌≡◌, ◌∙◌, ◌+◌, ap, sym, subst, arith, inl, inr, refl, length, Some, take, drop, ◌++◌}
+use Rattle.std.proofs.Common.{◌≡◌, ◌∙◌, ◌+◌, ap, sym, subst, arith, inl, length, Some}
 use Rattle.mk_tree.specs.Trees.{line_view}
 use Rattle.mk_edit_language.specs.EditViews.{edit_of}
 use Rattle.mk_edit.specs.RecipeEdits.{command_range}
-use Rattle.mk_edit.proofs.on_plans.PlanLemmas.{planned-if_ok, planned-if_err}
+use Rattle.mk_edit.proofs.on_plans.PlanLemmas.{refused-first, memory-first, moves-made}
 use Rattle.mk_edit.proofs.on_plans.LinePlans.{IsReplaced}
-use Rattle.mk_edit.proofs.on_plans.RangePlans.{line-short, range-long, range-accepted, range-replaced}
+use Rattle.mk_edit.proofs.on_plans.RangePlans.{IsRangeEdit, line-short, range-long, range-accepted, range-replaced}
 use Rattle.mk_edit.proofs.on_recipes.RecipePlaces.{index_in_rule}
-use Rattle.mk_edit.proofs.on_recipes.SetRecipePlans.{set_recipe-of}
+use Rattle.mk_edit.proofs.on_recipes.SetRecipePlans.{IsSetRecipeOf, set_recipe-of}
+use Rattle.mk_edit.proofs.set_recipe.plan_set_recipe.Given.{Over}
+use Rattle.mk_edit.proofs.set_recipe.plan_set_recipe.Goals.{In_ok-header, After-command_range-range}
 use Rattle.mk_edit.proofs.set_recipe.plan_set_recipe.Goals as goal
 
+rule : (g : Over) (c : In_ok-header g) → IsSetRecipeOf c.args.number c.args.command.now (edit_of c.args.edit.now) c.args.doc.now c.in_ok-header.header
+rule g c = set_recipe-of _ _ _ _ _ c.requires.faithful c.requires.kind c.in_ok-header.ensures.found
+
+number : (g : Over) (c : After-command_range-range g) → Some c.in-Some.at ≡ index_in_rule c.args.doc.now (c.in_ok-header.header.at + 1) c.args.number
+number g c = sym c.in-Some.is ∙ c.recipe_line.ensures
+
+range : (g : Over) (c : After-command_range-range g) → IsRangeEdit (edit_of c.args.edit.now) c.args.doc.now c.in-Some.at (line_view c.line-line.result.now) c.command_range-range.result c.args.command.now
+range g c =
+    (set_recipe-of c.args.number c.args.command.now (edit_of c.args.edit.now) c.args.doc.now c.in_ok-header.header c.requires.faithful c.requires.kind c.in_ok-header.ensures.found).range _ _ _ (sym c.in-Some.is ∙ c.recipe_line.ensures) c.line-line.ensures
+    (c.command_range-range.ensures ∙ ap command_range c.bytes.ensures.bytes)
+
 pub overflow_add-header : goal.overflow_add-header
-overflow_add-header g c =
-    let e = edit_of c.args.edit.now in
-    let ls = c.args.doc.now in
-    let U = set_recipe-of c.args.number c.args.command.now e ls c.in_ok-header.header c.requires.faithful c.requires.kind c.in_ok-header.ensures.found in
-    omega (arith, U.within)
+overflow_add-header g c = omega (arith, (rule g (goal.at.overflow_add-header g c).In_ok-header).within)
 
 pub recipe_line-requires-clause-in_range : goal.recipe_line-requires-clause-in_range
-recipe_line-requires-clause-in_range g c =
-    let e = edit_of c.args.edit.now in
-    let ls = c.args.doc.now in
-    let U = set_recipe-of c.args.number c.args.command.now e ls c.in_ok-header.header c.requires.faithful c.requires.kind c.in_ok-header.ensures.found in
-    omega (arith, U.within)
+recipe_line-requires-clause-in_range g c = omega (arith, (rule g (goal.at.recipe_line-requires-clause-in_range g c).In_ok-header).within)
 
-pub returns-in_default-clause-refused : goal.returns-in_default-clause-refused
-returns-in_default-clause-refused g c =
-    let e = edit_of c.args.edit.now in
-    let ls = c.args.doc.now in
-    let U = set_recipe-of c.args.number c.args.command.now e ls c.in_ok-header.header c.requires.faithful c.requires.kind c.in_ok-header.ensures.found in
-    inl (U.missing (sym c.in_default.is ∙ c.recipe_line.ensures))
+pub returns-in_default : goal.returns-in_default
+returns-in_default g c = refused-first _ _ _ _ (inl ((rule g (goal.at.returns-in_default g c).In_ok-header).missing (sym c.in_default.is ∙ c.recipe_line.ensures)))
 
 pub line-line-requires : goal.line-line-requires
-line-line-requires g c =
-    let e = edit_of c.args.edit.now in
-    let ls = c.args.doc.now in
-    let U = set_recipe-of c.args.number c.args.command.now e ls c.in_ok-header.header c.requires.faithful c.requires.kind c.in_ok-header.ensures.found in
-    let p : Some c.in-Some.at ≡ index_in_rule ls (c.in_ok-header.header.at + 1) c.args.number = sym c.in-Some.is ∙ c.recipe_line.ensures in
-    U.in_range c.in-Some.at p
+line-line-requires g c = (rule g (goal.at.line-line-requires g c).In_ok-header).in_range _ (sym c.in-Some.is ∙ c.recipe_line.ensures)
 
 pub overflow_sub-range : goal.overflow_sub-range
-overflow_sub-range g c =
-    let e = edit_of c.args.edit.now in
-    let ls = c.args.doc.now in
-    let U = set_recipe-of c.args.number c.args.command.now e ls c.in_ok-header.header c.requires.faithful c.requires.kind c.in_ok-header.ensures.found in
-    let p : Some c.in-Some.at ≡ index_in_rule ls (c.in_ok-header.header.at + 1) c.args.number = sym c.in-Some.is ∙ c.recipe_line.ensures in
-    let l = line_view c.line-line.result.now in
-    let r = c.command_range-range.result in
-    let E = U.range c.in-Some.at l r p c.line-line.ensures (c.command_range-range.ensures ∙ ap command_range c.bytes.ensures.bytes) in
-    omega (arith, E.rises)
+overflow_sub-range g c = omega (arith, (range g (goal.at.overflow_sub-range g c).After-command_range-range).rises)
 
 pub overflow_add-range : goal.overflow_add-range
 overflow_add-range g c =
-    let e = edit_of c.args.edit.now in
-    let ls = c.args.doc.now in
-    let U = set_recipe-of c.args.number c.args.command.now e ls c.in_ok-header.header c.requires.faithful c.requires.kind c.in_ok-header.ensures.found in
-    let p : Some c.in-Some.at ≡ index_in_rule ls (c.in_ok-header.header.at + 1) c.args.number = sym c.in-Some.is ∙ c.recipe_line.ensures in
-    let l = line_view c.line-line.result.now in
-    let r = c.command_range-range.result in
-    let E = U.range c.in-Some.at l r p c.line-line.ensures (c.command_range-range.ensures ∙ ap command_range c.bytes.ensures.bytes) in
-    omega (arith, E.rises, E.within, line-short ls c.in-Some.at l c.line-line.ensures, c.size-size.ensures.few)
+    let E = range g (goal.at.overflow_add-range g c).After-command_range-range in
+    omega (arith, E.rises, E.within, line-short c.args.doc.now c.in-Some.at (line_view c.line-line.result.now) c.line-line.ensures, c.size-size.ensures.few)
 
-pub returns-then-size-command-clause-refused : goal.returns-then-size-command-clause-refused
-returns-then-size-command-clause-refused g c =
-    let e = edit_of c.args.edit.now in
-    let ls = c.args.doc.now in
-    let U = set_recipe-of c.args.number c.args.command.now e ls c.in_ok-header.header c.requires.faithful c.requires.kind c.in_ok-header.ensures.found in
-    let p : Some c.in-Some.at ≡ index_in_rule ls (c.in_ok-header.header.at + 1) c.args.number = sym c.in-Some.is ∙ c.recipe_line.ensures in
-    let l = line_view c.line-line.result.now in
-    let r = c.command_range-range.result in
-    let E = U.range c.in-Some.at l r p c.line-line.ensures (c.command_range-range.ensures ∙ ap command_range c.bytes.ensures.bytes) in
-    inl (range-long e ls c.in-Some.at l r c.args.command.now E (omega (arith, c.size-size.ensures.number, c.if-size-command.true)))
+pub returns-then-size-command : goal.returns-then-size-command
+returns-then-size-command g c =
+    let E = range g (goal.at.returns-then-size-command g c).After-command_range-range in
+    refused-first _ _ _ _ (inl (range-long _ _ _ _ _ _ E (omega (arith, c.size-size.ensures.number, c.if-size-command.true))))
 
-pub with_replaced-requires-clause-rises : goal.with_replaced-requires-clause-rises
-with_replaced-requires-clause-rises g c =
-    let e = edit_of c.args.edit.now in
-    let ls = c.args.doc.now in
-    let U = set_recipe-of c.args.number c.args.command.now e ls c.in_ok-header.header c.requires.faithful c.requires.kind c.in_ok-header.ensures.found in
-    let p : Some c.in-Some.at ≡ index_in_rule ls (c.in_ok-header.header.at + 1) c.args.number = sym c.in-Some.is ∙ c.recipe_line.ensures in
-    let l = line_view c.line-line.result.now in
-    let r = c.command_range-range.result in
-    let E = U.range c.in-Some.at l r p c.line-line.ensures (c.command_range-range.ensures ∙ ap command_range c.bytes.ensures.bytes) in
-    E.rises
+pub with_replaced-requires : goal.with_replaced-requires
+with_replaced-requires g c =
+    let E = range g (goal.at.with_replaced-requires g c).After-command_range-range in
+    record { rises = E.rises; within = omega (arith, E.within, ap length c.bytes-2.ensures.bytes) }
 
-pub with_replaced-requires-clause-within : goal.with_replaced-requires-clause-within
-with_replaced-requires-clause-within g c =
-    let e = edit_of c.args.edit.now in
-    let ls = c.args.doc.now in
-    let U = set_recipe-of c.args.number c.args.command.now e ls c.in_ok-header.header c.requires.faithful c.requires.kind c.in_ok-header.ensures.found in
-    let p : Some c.in-Some.at ≡ index_in_rule ls (c.in_ok-header.header.at + 1) c.args.number = sym c.in-Some.is ∙ c.recipe_line.ensures in
-    let l = line_view c.line-line.result.now in
-    let r = c.command_range-range.result in
-    let E = U.range c.in-Some.at l r p c.line-line.ensures (c.command_range-range.ensures ∙ ap command_range c.bytes.ensures.bytes) in
-    omega (arith, E.within, ap length c.bytes-2.ensures.bytes)
+pub returns-in_default-with_replaced : goal.returns-in_default-with_replaced
+returns-in_default-with_replaced g c =
+    let E = range g (goal.at.returns-in_default-with_replaced g c).After-command_range-range in
+    memory-first _ _ _ _ (range-accepted _ _ _ _ _ _ E (omega (arith, c.size-size.ensures.number, c.if-size-command.false)))
 
-pub returns-in_default-with_replaced-clause-refused : goal.returns-in_default-with_replaced-clause-refused
-returns-in_default-with_replaced-clause-refused g c =
-    let e = edit_of c.args.edit.now in
-    let ls = c.args.doc.now in
-    let U = set_recipe-of c.args.number c.args.command.now e ls c.in_ok-header.header c.requires.faithful c.requires.kind c.in_ok-header.ensures.found in
-    let p : Some c.in-Some.at ≡ index_in_rule ls (c.in_ok-header.header.at + 1) c.args.number = sym c.in-Some.is ∙ c.recipe_line.ensures in
-    let l = line_view c.line-line.result.now in
-    let r = c.command_range-range.result in
-    let E = U.range c.in-Some.at l r p c.line-line.ensures (c.command_range-range.ensures ∙ ap command_range c.bytes.ensures.bytes) in
-    inr (refl, _, range-accepted e ls c.in-Some.at l r c.args.command.now E (omega (arith, c.size-size.ensures.number, c.if-size-command.false)))
-
-pub after_lines-place-requires-clause-place : goal.after_lines-place-requires-clause-place
-after_lines-place-requires-clause-place g c =
-    let e = edit_of c.args.edit.now in
-    let ls = c.args.doc.now in
-    let U = set_recipe-of c.args.number c.args.command.now e ls c.in_ok-header.header c.requires.faithful c.requires.kind c.in_ok-header.ensures.found in
-    U.place
-
-pub after_lines-place-requires-clause-in_range : goal.after_lines-place-requires-clause-in_range
-after_lines-place-requires-clause-in_range g c =
-    let e = edit_of c.args.edit.now in
-    let ls = c.args.doc.now in
-    let U = set_recipe-of c.args.number c.args.command.now e ls c.in_ok-header.header c.requires.faithful c.requires.kind c.in_ok-header.ensures.found in
-    let p : Some c.in-Some.at ≡ index_in_rule ls (c.in_ok-header.header.at + 1) c.args.number = sym c.in-Some.is ∙ c.recipe_line.ensures in
-    omega (arith, U.below c.in-Some.at p, U.in_range c.in-Some.at p)
+pub after_lines-place-requires : goal.after_lines-place-requires
+after_lines-place-requires g c =
+    let at = goal.at.after_lines-place-requires g c in
+    let U = rule g at.In_ok-header in
+    let p = number g at.After-command_range-range in
+    record { faithful = c.requires.faithful; place = U.place; in_range = omega (arith, U.below c.in-Some.at p, U.in_range c.in-Some.at p) }
 
 pub replace_line-requires-clause-can : goal.replace_line-requires-clause-can
 replace_line-requires-clause-can g c =
-    let e = edit_of c.args.edit.now in
-    let ls = c.args.doc.now in
-    let U = set_recipe-of c.args.number c.args.command.now e ls c.in_ok-header.header c.requires.faithful c.requires.kind c.in_ok-header.ensures.found in
-    let p : Some c.in-Some.at ≡ index_in_rule ls (c.in_ok-header.header.at + 1) c.args.number = sym c.in-Some.is ∙ c.recipe_line.ensures in
-    let l = line_view c.line-line.result.now in
-    let r = c.command_range-range.result in
-    let E = U.range c.in-Some.at l r p c.line-line.ensures (c.command_range-range.ensures ∙ ap command_range c.bytes.ensures.bytes) in
-    let R = range-replaced e ls c.in-Some.at l r c.args.command.now c.in-Ok.bytes.items c.requires.faithful E (omega (arith, c.size-size.ensures.number, c.if-size-command.false))
-    (c.in-Ok.ensures ∙ ap (λ b. take r.start b ++ (c.args.command.now ++ drop r.end b)) c.bytes-2.ensures.bytes) in
-    let place : c.in-Some.at ≡ c.after_lines-place.result.at = omega (arith, U.below c.in-Some.at p, c.after_lines-place.ensures.at) in
-    let T = subst (λ n. IsReplaced e ls n c.in-Ok.bytes.items) place R in
-    T.can
+    let at = goal.at.replace_line-requires-clause-can g c in
+    let R = range-replaced _ _ _ _ _ _ _ _ c.requires.faithful (range g at.After-command_range-range) (omega (arith, c.size-size.ensures.number, c.if-size-command.false)) c.bytes-2.ensures.bytes c.in-Ok.ensures in
+    let place : c.in-Some.at ≡ c.after_lines-place.result.at = omega (arith, (rule g at.In_ok-header).below c.in-Some.at (number g at.After-command_range-range), c.after_lines-place.ensures.at) in
+    (subst (λ n. IsReplaced (edit_of c.args.edit.now) c.args.doc.now n c.in-Ok.bytes.items) place R).can
 
-pub returns-clause-planned : goal.returns-clause-planned
-returns-clause-planned g c =
-    let e = edit_of c.args.edit.now in
-    let ls = c.args.doc.now in
-    let U = set_recipe-of c.args.number c.args.command.now e ls c.in_ok-header.header c.requires.faithful c.requires.kind c.in_ok-header.ensures.found in
-    let p : Some c.in-Some.at ≡ index_in_rule ls (c.in_ok-header.header.at + 1) c.args.number = sym c.in-Some.is ∙ c.recipe_line.ensures in
-    let l = line_view c.line-line.result.now in
-    let r = c.command_range-range.result in
-    let E = U.range c.in-Some.at l r p c.line-line.ensures (c.command_range-range.ensures ∙ ap command_range c.bytes.ensures.bytes) in
-    let R = range-replaced e ls c.in-Some.at l r c.args.command.now c.in-Ok.bytes.items c.requires.faithful E (omega (arith, c.size-size.ensures.number, c.if-size-command.false))
-    (c.in-Ok.ensures ∙ ap (λ b. take r.start b ++ (c.args.command.now ++ drop r.end b)) c.bytes-2.ensures.bytes) in
-    let place : c.in-Some.at ≡ c.after_lines-place.result.at = omega (arith, U.below c.in-Some.at p, c.after_lines-place.ensures.at) in
-    let T = subst (λ n. IsReplaced e ls n c.in-Ok.bytes.items) place R in
-    planned-if_ok e ls _ c.replace_line.result T.planned c.replace_line.ensures.moves
-
-pub returns-clause-refused : goal.returns-clause-refused
-returns-clause-refused g c =
-    let e = edit_of c.args.edit.now in
-    let ls = c.args.doc.now in
-    let U = set_recipe-of c.args.number c.args.command.now e ls c.in_ok-header.header c.requires.faithful c.requires.kind c.in_ok-header.ensures.found in
-    let p : Some c.in-Some.at ≡ index_in_rule ls (c.in_ok-header.header.at + 1) c.args.number = sym c.in-Some.is ∙ c.recipe_line.ensures in
-    let l = line_view c.line-line.result.now in
-    let r = c.command_range-range.result in
-    let E = U.range c.in-Some.at l r p c.line-line.ensures (c.command_range-range.ensures ∙ ap command_range c.bytes.ensures.bytes) in
-    let R = range-replaced e ls c.in-Some.at l r c.args.command.now c.in-Ok.bytes.items c.requires.faithful E (omega (arith, c.size-size.ensures.number, c.if-size-command.false))
-    (c.in-Ok.ensures ∙ ap (λ b. take r.start b ++ (c.args.command.now ++ drop r.end b)) c.bytes-2.ensures.bytes) in
-    let place : c.in-Some.at ≡ c.after_lines-place.result.at = omega (arith, U.below c.in-Some.at p, c.after_lines-place.ensures.at) in
-    let T = subst (λ n. IsReplaced e ls n c.in-Ok.bytes.items) place R in
-    planned-if_err e ls _ c.replace_line.result T.planned c.replace_line.ensures.refused
+pub returns : goal.returns
+returns g c =
+    let at = goal.at.returns g c in
+    let R = range-replaced _ _ _ _ _ _ _ _ c.requires.faithful (range g at.After-command_range-range) (omega (arith, c.size-size.ensures.number, c.if-size-command.false)) c.bytes-2.ensures.bytes c.in-Ok.ensures in
+    let place : c.in-Some.at ≡ c.after_lines-place.result.at = omega (arith, (rule g at.In_ok-header).below c.in-Some.at (number g at.After-command_range-range), c.after_lines-place.ensures.at) in
+    let T = subst (λ n. IsReplaced (edit_of c.args.edit.now) c.args.doc.now n c.in-Ok.bytes.items) place R in
+    moves-made _ _ _ _ _ _ _ T.planned T.costs c.replace_line.ensures.moves c.replace_line.ensures.reads

@@ -1,112 +1,73 @@
-use Rattle.std.proofs.Common.{◌≡◌, ◌∙◌, ◌+◌, ◌++◌, ap, sym, arith, inl, inr, refl, length, length-append, false}
+use Rattle.std.proofs.Common.{◌≡◌, ◌∙◌, ◌+◌, ◌++◌, ap, sym, arith, inl, refl, length, length-append, false}
+use Rattle.mk_lines.specs.declared.split.Span.{Span}
 use Rattle.mk_tree.specs.Trees.{line_view}
 use Rattle.mk_edit_language.specs.Addresses.{address}
 use Rattle.mk_edit_language.specs.EditViews.{edit_of}
 use Rattle.mk_edit_parts.specs.LineRanges.{value_range_located}
 use Rattle.mk_edit.specs.ValuesGiven.{space_after}
 use Rattle.mk_edit_parts.proofs.on_finding.PlaceLemmas.{faithful-at}
-use Rattle.mk_edit.proofs.on_plans.PlanLemmas.{planned-if_ok, planned-if_err}
-use Rattle.mk_edit.proofs.on_plans.RangePlans.{range-long, range-accepted, range-replaced}
-use Rattle.mk_edit.proofs.on_values.ValuePlaces.{variable-place}
+use Rattle.mk_edit.proofs.on_plans.PlanLemmas.{refused-first, memory-first, moves-made}
+use Rattle.mk_edit.proofs.on_plans.RangePlans.{IsRangeEdit, range-long, range-accepted, range-replaced}
+use Rattle.mk_edit.proofs.on_values.ValuePlaces.{IsVariablePlace, variable-place}
 use Rattle.mk_edit.proofs.on_values.AppendValuePlans.{append_value-open, append_value-range, appended-line, end_of}
+use Rattle.mk_edit.proofs.value.plan_append_value.Given.{Over}
+use Rattle.mk_edit.proofs.value.plan_append_value.Goals.{In_ok-found, After-space_after-space}
 use Rattle.mk_edit.proofs.value.plan_append_value.Goals as goal
 
+place : (g : Over) (c : In_ok-found g) → IsVariablePlace c.args.doc.now c.in_ok-found.found
+place g c = variable-place (edit_of c.args.edit.now) _ _ _ _ c.requires.faithful (ap address c.requires.edit.is) c.in_ok-found.ensures.found
+
+-- the edit is one of the empty range at the end of the value
+range : (g : Over) (c : After-space_after-space g) (r : Span) → r ≡ value_range_located false (line_view c.line-line.result.now)
+    → IsRangeEdit (edit_of c.args.edit.now) c.args.doc.now c.in_ok-found.found.at (line_view c.line-line.result.now) (end_of r) (space_after c.value_text-old.result.now ++ c.args.value.now)
+range g c r e =
+    append_value-range _ _ _ _ _ _ _ c.requires.faithful c.requires.edit c.in_ok-found.ensures.found c.line-line.ensures e c.value_text-old.ensures (sym c.is_closed.ensures ∙ c.if-not-is_closed.false)
+
+spaced : (g : Over) (c : After-space_after-space g) → length (space_after c.value_text-old.result.now ++ c.args.value.now) ≡ length c.space_after-space.result.now + length c.args.value.now
+spaced g c = length-append (space_after c.value_text-old.result.now) c.args.value.now ∙ ap (λ z. length z + length c.args.value.now) (sym c.space_after-space.ensures.space)
+
 pub line-line-requires : goal.line-line-requires
-line-line-requires g c =
-    let e = edit_of c.args.edit.now in
-    (variable-place e c.args.doc.now c.in_ok-found.found c.requires.edit.nth c.requires.edit.name c.requires.faithful (ap address c.requires.edit.is) c.in_ok-found.ensures.found).within
+line-line-requires g c = (place g (goal.at.line-line-requires g c).In_ok-found).within
 
 pub value_text-old-requires : goal.value_text-old-requires
 value_text-old-requires g c = faithful-at c.args.doc.now c.in_ok-found.found.at _ c.requires.faithful c.line-line.ensures
 
-pub returns-then-not-is_closed-clause-refused : goal.returns-then-not-is_closed-clause-refused
-returns-then-not-is_closed-clause-refused g c =
-    let e = edit_of c.args.edit.now in
-    let l = line_view c.line-line.result.now in
-    inl (append_value-open e c.args.doc.now c.args.value.now c.in_ok-found.found l c.value_text-old.result.now c.requires.faithful c.requires.edit c.in_ok-found.ensures.found c.line-line.ensures c.value_text-old.ensures
-    (sym c.is_closed.ensures ∙ c.if-not-is_closed.true))
+pub returns-then-not-is_closed : goal.returns-then-not-is_closed
+returns-then-not-is_closed g c =
+    refused-first _ _ _ _ (inl (append_value-open _ _ _ _ _ _ c.requires.faithful c.requires.edit c.in_ok-found.ensures.found c.line-line.ensures c.value_text-old.ensures (sym c.is_closed.ensures ∙ c.if-not-is_closed.true)))
 
 pub value_range-range-requires : goal.value_range-range-requires
 value_range-range-requires g c = faithful-at c.args.doc.now c.in_ok-found.found.at _ c.requires.faithful c.line-line.ensures
 
-pub returns-then-size-space-gt-MAX_TEXT-clause-refused : goal.returns-then-size-space-gt-MAX_TEXT-clause-refused
-returns-then-size-space-gt-MAX_TEXT-clause-refused g c =
-    let e = edit_of c.args.edit.now in
-    let ls = c.args.doc.now in
-    let l = line_view c.line-line.result.now in
-    let r = value_range_located false l in
-    let v = c.args.value.now in
-    let text = c.value_text-old.result.now in
-    let E = append_value-range e ls v c.in_ok-found.found l r text c.requires.faithful c.requires.edit c.in_ok-found.ensures.found c.line-line.ensures refl c.value_text-old.ensures (sym c.is_closed.ensures ∙ c.if-not-is_closed.false) in
-    let long : length (space_after text ++ v) ≡ length c.space_after-space.result.now + length v = length-append (space_after text) v ∙ ap (λ z. length z + length v) (sym c.space_after-space.ensures.space) in
-    inl (range-long e ls c.in_ok-found.found.at l (end_of r) (space_after text ++ v) E (omega (arith, long, c.size.ensures.number, c.if-size-space-gt-MAX_TEXT.true)))
+pub returns-then-size-space-gt-MAX_TEXT : goal.returns-then-size-space-gt-MAX_TEXT
+returns-then-size-space-gt-MAX_TEXT g c =
+    let at = (goal.at.returns-then-size-space-gt-MAX_TEXT g c).After-space_after-space in
+    let long = spaced g at in
+    refused-first _ _ _ _ (inl (range-long _ _ _ _ _ _ (range g at _ refl) (omega (arith, long, c.size.ensures.number, c.if-size-space-gt-MAX_TEXT.true))))
 
 pub with_put_in-requires-clause-within : goal.with_put_in-requires-clause-within
 with_put_in-requires-clause-within g c =
-    let e = edit_of c.args.edit.now in
-    let ls = c.args.doc.now in
-    let l = line_view c.line-line.result.now in
-    let r = c.value_range-range.result in
-    let v = c.args.value.now in
-    let text = c.value_text-old.result.now in
-    let E = append_value-range e ls v c.in_ok-found.found l r text c.requires.faithful c.requires.edit c.in_ok-found.ensures.found c.line-line.ensures c.value_range-range.ensures c.value_text-old.ensures (sym c.is_closed.ensures ∙ c.if-not-is_closed.false) in
+    let E = range g (goal.at.with_put_in-requires-clause-within g c).After-space_after-space _ c.value_range-range.ensures in
     omega (arith, E.within, ap length c.bytes.ensures.bytes)
 
-pub returns-in_default-clause-refused : goal.returns-in_default-clause-refused
-returns-in_default-clause-refused g c =
-    let e = edit_of c.args.edit.now in
-    let ls = c.args.doc.now in
-    let l = line_view c.line-line.result.now in
-    let r = c.value_range-range.result in
-    let v = c.args.value.now in
-    let text = c.value_text-old.result.now in
-    let E = append_value-range e ls v c.in_ok-found.found l r text c.requires.faithful c.requires.edit c.in_ok-found.ensures.found c.line-line.ensures c.value_range-range.ensures c.value_text-old.ensures (sym c.is_closed.ensures ∙ c.if-not-is_closed.false) in
-    let long : length (space_after text ++ v) ≡ length c.space_after-space.result.now + length v = length-append (space_after text) v ∙ ap (λ z. length z + length v) (sym c.space_after-space.ensures.space) in
-    inr (refl, _, range-accepted e ls c.in_ok-found.found.at l (end_of r) (space_after text ++ v) E (omega (arith, long, c.size.ensures.number, c.if-size-space-gt-MAX_TEXT.false)))
+pub returns-in_default : goal.returns-in_default
+returns-in_default g c =
+    let at = (goal.at.returns-in_default g c).After-space_after-space in
+    let long = spaced g at in
+    memory-first _ _ _ _ (range-accepted _ _ _ _ _ _ (range g at _ c.value_range-range.ensures) (omega (arith, long, c.size.ensures.number, c.if-size-space-gt-MAX_TEXT.false)))
 
-pub replace_line-requires-clause-place : goal.replace_line-requires-clause-place
-replace_line-requires-clause-place g c =
-    let e = edit_of c.args.edit.now in
-    (variable-place e c.args.doc.now c.in_ok-found.found c.requires.edit.nth c.requires.edit.name c.requires.faithful (ap address c.requires.edit.is) c.in_ok-found.ensures.found).place
+pub replace_line-requires : goal.replace_line-requires
+replace_line-requires g c =
+    let at = goal.at.replace_line-requires g c in
+    let long = spaced g at.After-space_after-space in
+    let R = range-replaced _ _ _ _ _ _ _ _ c.requires.faithful (range g at.After-space_after-space _ c.value_range-range.ensures) (omega (arith, long, c.size.ensures.number, c.if-size-space-gt-MAX_TEXT.false)) c.bytes.ensures.bytes
+    (appended-line _ _ _ _ _ _ c.in-Ok.ensures c.space_after-space.ensures.space) in
+    record { place = (place g at.In_ok-found).place; can = R.can }
 
-pub replace_line-requires-clause-can : goal.replace_line-requires-clause-can
-replace_line-requires-clause-can g c =
-    let e = edit_of c.args.edit.now in
-    let ls = c.args.doc.now in
-    let l = line_view c.line-line.result.now in
-    let r = c.value_range-range.result in
-    let v = c.args.value.now in
-    let text = c.value_text-old.result.now in
-    let E = append_value-range e ls v c.in_ok-found.found l r text c.requires.faithful c.requires.edit c.in_ok-found.ensures.found c.line-line.ensures c.value_range-range.ensures c.value_text-old.ensures (sym c.is_closed.ensures ∙ c.if-not-is_closed.false) in
-    let long : length (space_after text ++ v) ≡ length c.space_after-space.result.now + length v = length-append (space_after text) v ∙ ap (λ z. length z + length v) (sym c.space_after-space.ensures.space) in
-    let R = range-replaced e ls c.in_ok-found.found.at l (end_of r) (space_after text ++ v) c.in-Ok.bytes.items c.requires.faithful E (omega (arith, long, c.size.ensures.number, c.if-size-space-gt-MAX_TEXT.false))
-    (appended-line c.in-Ok.bytes.items _ _ text v l r c.in-Ok.ensures c.bytes.ensures.bytes c.space_after-space.ensures.space) in
-    R.can
-
-pub returns-clause-planned : goal.returns-clause-planned
-returns-clause-planned g c =
-    let e = edit_of c.args.edit.now in
-    let ls = c.args.doc.now in
-    let l = line_view c.line-line.result.now in
-    let r = c.value_range-range.result in
-    let v = c.args.value.now in
-    let text = c.value_text-old.result.now in
-    let E = append_value-range e ls v c.in_ok-found.found l r text c.requires.faithful c.requires.edit c.in_ok-found.ensures.found c.line-line.ensures c.value_range-range.ensures c.value_text-old.ensures (sym c.is_closed.ensures ∙ c.if-not-is_closed.false) in
-    let long : length (space_after text ++ v) ≡ length c.space_after-space.result.now + length v = length-append (space_after text) v ∙ ap (λ z. length z + length v) (sym c.space_after-space.ensures.space) in
-    let R = range-replaced e ls c.in_ok-found.found.at l (end_of r) (space_after text ++ v) c.in-Ok.bytes.items c.requires.faithful E (omega (arith, long, c.size.ensures.number, c.if-size-space-gt-MAX_TEXT.false))
-    (appended-line c.in-Ok.bytes.items _ _ text v l r c.in-Ok.ensures c.bytes.ensures.bytes c.space_after-space.ensures.space) in
-    planned-if_ok e ls _ c.replace_line.result R.planned c.replace_line.ensures.moves
-
-pub returns-clause-refused : goal.returns-clause-refused
-returns-clause-refused g c =
-    let e = edit_of c.args.edit.now in
-    let ls = c.args.doc.now in
-    let l = line_view c.line-line.result.now in
-    let r = c.value_range-range.result in
-    let v = c.args.value.now in
-    let text = c.value_text-old.result.now in
-    let E = append_value-range e ls v c.in_ok-found.found l r text c.requires.faithful c.requires.edit c.in_ok-found.ensures.found c.line-line.ensures c.value_range-range.ensures c.value_text-old.ensures (sym c.is_closed.ensures ∙ c.if-not-is_closed.false) in
-    let long : length (space_after text ++ v) ≡ length c.space_after-space.result.now + length v = length-append (space_after text) v ∙ ap (λ z. length z + length v) (sym c.space_after-space.ensures.space) in
-    let R = range-replaced e ls c.in_ok-found.found.at l (end_of r) (space_after text ++ v) c.in-Ok.bytes.items c.requires.faithful E (omega (arith, long, c.size.ensures.number, c.if-size-space-gt-MAX_TEXT.false))
-    (appended-line c.in-Ok.bytes.items _ _ text v l r c.in-Ok.ensures c.bytes.ensures.bytes c.space_after-space.ensures.space) in
-    planned-if_err e ls _ c.replace_line.result R.planned c.replace_line.ensures.refused
+pub returns : goal.returns
+returns g c =
+    let at = (goal.at.returns g c).After-space_after-space in
+    let long = spaced g at in
+    let R = range-replaced _ _ _ _ _ _ _ _ c.requires.faithful (range g at _ c.value_range-range.ensures) (omega (arith, long, c.size.ensures.number, c.if-size-space-gt-MAX_TEXT.false)) c.bytes.ensures.bytes
+    (appended-line _ _ _ _ _ _ c.in-Ok.ensures c.space_after-space.ensures.space) in
+    moves-made _ _ _ _ _ _ _ R.planned R.costs c.replace_line.ensures.moves c.replace_line.ensures.reads
