@@ -389,7 +389,7 @@ class Documents(unittest.TestCase):
             ("| `append` | `AppendValue` |", "| `append` | `AppendText` |", "append", "AppendText"),
             ("ValueSpans.append_value_span", "ValueSpans.append_span", "append", "append_span"),
             ("AppendValueLemmas.append_value-reads", "AppendValueLemmas.append-reads", "no law"),
-            ("`value.rt`: `plan_append_value`", "`value.rt`: `plan_append`", "no code"),
+            ("`append_value.rt`: `plan_append_value`", "`append_value.rt`: `plan_append`", "no code"),
             ("| `append-writes-a-space` |", "| `set-keeps-the-comment` |", "no row"),
             ("| `append_value_goes_behind_the_blanks` |", "| `append_goes` |", "no wrong body"),
         ):

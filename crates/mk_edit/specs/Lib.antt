@@ -11,4 +11,4 @@ pub mod PrerequisiteEdits
 pub mod RenameTargetEffects
 pub mod RenameTargetPatches
 -- Edits of a value
-pub mod ValuesGiven
+pub mod ValueEdits

@@ -16,8 +16,11 @@
 //! - `insertion`: where new lines go, and the causes of refusal that their places decide.
 //! - `add_line`: new lines, planned: those of assignments and of rules.
 //! - `add_recipe`: a new recipe line, planned.
-//! - `prereq`: a new prerequisite, and a prerequisite taken out, planned.
-//! - `value`: edits of a value, planned.
+//! - `header`: the header in the line of a rule.
+//! - `add_prereq`: a new prerequisite, planned.
+//! - `remove_prereq`: a prerequisite taken out, planned.
+//! - `set_value`: another value, planned.
+//! - `append_value`: a text appended to a value, planned.
 //! - `remove_assign`: the removal of an assignment.
 //! - `rename_target_places`: the lines that a rename exchanges and their places, noted.
 //! - `rename_target_effect`: what a rename finds among the lines and does to them.
@@ -27,12 +30,15 @@
 #![tactic(auto)]
 
 mod add_line;
+mod add_prereq;
 mod add_recipe;
+mod append_value;
+mod header;
 mod insertion;
 mod moves;
 pub mod planning;
-mod prereq;
 mod remove_assign;
+mod remove_prereq;
 mod remove_recipe;
 mod remove_rule;
 mod rename_target;
@@ -41,7 +47,7 @@ mod rename_target_effect;
 mod rename_target_patch;
 mod rename_target_places;
 mod set_recipe;
-mod value;
+mod set_value;
 
 pub use mk_edit_language::{Detail, Edit, Field, Place, Refusal, RuleSeparator};
 pub use planning::{plan, plan_with};

@@ -5,14 +5,16 @@ ghost use Rattle.mk_edit_parts.specs.Seeking.{IsKnown};
 ghost use Rattle.mk_edit.specs.Planned.{Plans};
 
 use crate::add_line::plan_add_line;
+use crate::add_prereq::plan_add_prereq;
 use crate::add_recipe::plan_add_recipe;
-use crate::prereq::{plan_add_prereq, plan_remove_prereq};
+use crate::append_value::plan_append_value;
 use crate::remove_assign::plan_remove_assign;
+use crate::remove_prereq::plan_remove_prereq;
 use crate::remove_recipe::plan_remove_recipe;
 use crate::remove_rule::plan_remove_rule;
 use crate::rename_target::plan_rename_target;
 use crate::set_recipe::plan_set_recipe;
-use crate::value::{plan_append_value, plan_set_value};
+use crate::set_value::plan_set_value;
 use mk_class::Meter;
 use mk_edit_language::{Edit, Refusal};
 use mk_edit_parts::seek::Sought;

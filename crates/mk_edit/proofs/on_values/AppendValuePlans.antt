@@ -28,7 +28,7 @@ use Rattle.mk_edit_language.specs.declared.refusal.Refusal.TheVariants.{OpenValu
 use Rattle.mk_edit_language.proofs.on_values.SetValueLemmas.{not_prefix}
 use Rattle.mk_edit_parts.specs.Found.{IsAddressed}
 use Rattle.mk_edit_parts.specs.LineRanges.{value_range_located}
-use Rattle.mk_edit.specs.ValuesGiven.{IsAppendValue, value_text_located, space_after}
+use Rattle.mk_edit.specs.ValueEdits.{IsAppendValue, value_text_located, space_after}
 use Rattle.mk_edit_parts.specs.declared.seek.Found.{Found}
 use Rattle.mk_edit_parts.proofs.CauseLemmas.{passed, holds, refused}
 use Rattle.mk_edit.proofs.on_plans.CausePlans.{addressed-own}

@@ -17,7 +17,7 @@ use Rattle.mk_edit_language.specs.EditSpans.{where_found}
 use Rattle.mk_edit_language.proofs.on_values.SetValueLemmas.{not_prefix}
 use Rattle.mk_edit_parts.specs.Found.{IsAddressed}
 use Rattle.mk_edit_parts.specs.LineRanges.{value_range_located}
-use Rattle.mk_edit.specs.ValuesGiven.{IsSetValue}
+use Rattle.mk_edit.specs.ValueEdits.{IsSetValue}
 use Rattle.mk_edit_parts.specs.declared.seek.Found.{Found}
 use Rattle.mk_edit.proofs.on_plans.CausePlans.{addressed-own}
 use Rattle.mk_edit.proofs.on_plans.RangePlans.{IsRangeEdit}

@@ -4,15 +4,15 @@ use Rattle.mk_tree.specs.Trees.{line_view}
 use Rattle.mk_edit_language.specs.Addresses.{address}
 use Rattle.mk_edit_language.specs.EditViews.{edit_of}
 use Rattle.mk_edit_parts.specs.LineRanges.{value_range_located}
-use Rattle.mk_edit.specs.ValuesGiven.{space_after}
+use Rattle.mk_edit.specs.ValueEdits.{space_after}
 use Rattle.mk_edit_parts.proofs.on_finding.PlaceLemmas.{faithful-at}
 use Rattle.mk_edit.proofs.on_plans.PlanLemmas.{refused-first, memory-first, moves-made}
 use Rattle.mk_edit.proofs.on_plans.RangePlans.{IsRangeEdit, range-long, range-accepted, range-replaced}
 use Rattle.mk_edit.proofs.on_values.ValuePlaces.{IsVariablePlace, variable-place}
 use Rattle.mk_edit.proofs.on_values.AppendValuePlans.{append_value-open, append_value-range, appended-line, end_of}
-use Rattle.mk_edit.proofs.value.plan_append_value.Given.{Over}
-use Rattle.mk_edit.proofs.value.plan_append_value.Goals.{In_ok-found, After-space_after-space}
-use Rattle.mk_edit.proofs.value.plan_append_value.Goals as goal
+use Rattle.mk_edit.proofs.append_value.plan_append_value.Given.{Over}
+use Rattle.mk_edit.proofs.append_value.plan_append_value.Goals.{In_ok-found, After-space_after-space}
+use Rattle.mk_edit.proofs.append_value.plan_append_value.Goals as goal
 
 place : (g : Over) (c : In_ok-found g) → IsVariablePlace c.args.doc.now c.in_ok-found.found
 place g c = variable-place (edit_of c.args.edit.now) _ _ _ _ c.requires.faithful (ap address c.requires.edit.is) c.in_ok-found.ensures.found

@@ -8,9 +8,9 @@ use Rattle.mk_edit.proofs.on_plans.PlanLemmas.{refused-first, memory-first, move
 use Rattle.mk_edit.proofs.on_plans.RangePlans.{IsRangeEdit, line-short, range-long, range-accepted, range-replaced}
 use Rattle.mk_edit.proofs.on_values.ValuePlaces.{IsVariablePlace, variable-place}
 use Rattle.mk_edit.proofs.on_values.SetValuePlans.{set_value-range}
-use Rattle.mk_edit.proofs.value.plan_set_value.Given.{Over}
-use Rattle.mk_edit.proofs.value.plan_set_value.Goals.{In_ok-found, After-value_range-range}
-use Rattle.mk_edit.proofs.value.plan_set_value.Goals as goal
+use Rattle.mk_edit.proofs.set_value.plan_set_value.Given.{Over}
+use Rattle.mk_edit.proofs.set_value.plan_set_value.Goals.{In_ok-found, After-value_range-range}
+use Rattle.mk_edit.proofs.set_value.plan_set_value.Goals as goal
 
 place : (g : Over) (c : In_ok-found g) → IsVariablePlace c.args.doc.now c.in_ok-found.found
 place g c = variable-place (edit_of c.args.edit.now) _ _ _ _ c.requires.faithful (ap address c.requires.edit.is) c.in_ok-found.ensures.found

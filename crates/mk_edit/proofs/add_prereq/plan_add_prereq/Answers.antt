@@ -4,9 +4,9 @@ use Rattle.mk_edit_language.specs.EditViews.{edit_of}
 use Rattle.mk_edit.proofs.on_plans.PlanLemmas.{refused-first, memory-first, moves-made}
 use Rattle.mk_edit.proofs.on_plans.RangePlans.{line-short}
 use Rattle.mk_edit.proofs.on_prerequisites.AddPrereqPlans.{IsAddPrereqOf, add_prereq-of, word-short}
-use Rattle.mk_edit.proofs.prereq.plan_add_prereq.Given.{Over}
-use Rattle.mk_edit.proofs.prereq.plan_add_prereq.Goals.{In_ok-place}
-use Rattle.mk_edit.proofs.prereq.plan_add_prereq.Goals as goal
+use Rattle.mk_edit.proofs.add_prereq.plan_add_prereq.Given.{Over}
+use Rattle.mk_edit.proofs.add_prereq.plan_add_prereq.Goals.{In_ok-place}
+use Rattle.mk_edit.proofs.add_prereq.plan_add_prereq.Goals as goal
 
 rule : (g : Over) (c : In_ok-place g) → IsAddPrereqOf c.args.order c.args.word.now (edit_of c.args.edit.now) c.args.doc.now c.in_ok-place.place
 rule g c = add_prereq-of _ _ _ _ _ c.requires.faithful c.requires.kind c.in_ok-place.ensures.found

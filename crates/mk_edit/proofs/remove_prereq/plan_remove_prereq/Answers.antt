@@ -3,9 +3,9 @@ use Rattle.mk_tree.specs.Trees.{line_view}
 use Rattle.mk_edit_language.specs.EditViews.{edit_of}
 use Rattle.mk_edit.proofs.on_plans.PlanLemmas.{refused-first, memory-first, moves-made}
 use Rattle.mk_edit.proofs.on_prerequisites.RemovePrereqPlans.{IsRemovePrereqOf, remove_prereq-of}
-use Rattle.mk_edit.proofs.prereq.plan_remove_prereq.Given.{Over}
-use Rattle.mk_edit.proofs.prereq.plan_remove_prereq.Goals.{In_ok-place}
-use Rattle.mk_edit.proofs.prereq.plan_remove_prereq.Goals as goal
+use Rattle.mk_edit.proofs.remove_prereq.plan_remove_prereq.Given.{Over}
+use Rattle.mk_edit.proofs.remove_prereq.plan_remove_prereq.Goals.{In_ok-place}
+use Rattle.mk_edit.proofs.remove_prereq.plan_remove_prereq.Goals as goal
 
 rule : (g : Over) (c : In_ok-place g) → IsRemovePrereqOf c.args.word.now (edit_of c.args.edit.now) c.args.doc.now c.in_ok-place.place
 rule g c = remove_prereq-of _ _ _ _ c.requires.faithful c.requires.kind c.in_ok-place.ensures.found
