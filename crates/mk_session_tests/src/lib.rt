@@ -1,6 +1,17 @@
 //! Tests of `mk_session`: worked rows, the lines that calls read again, growths that are refused
 //! and growths that are counted, the memory that changes take, many calls over hostile makefiles, and
 //! documents that are long enough for an index.
+//!
+//! - `numbers`, `texts`, `edits`: numbers that look random; the text of a document, and the document
+//!   that a text has; edits with their texts in memory of an allocator.
+//! - `steps`, `rows`: calls of a session as constants, each with its answer; worked rows of them.
+//! - `refused_rows`: the rows where a growth is refused.
+//! - `any_command`, `text_machine`, `many_calls`: commands drawn at random; the session machine by
+//!   whole texts; many calls in turn, beside that machine.
+//! - `growths`: calls over memory that is watched.
+//! - `counted_growths`, `refused_growths`, `taken_memory`: how many growths calls take; growths that
+//!   are refused; the memory that edits take.
+//! - `long_documents`: sessions over documents that are long enough for an index.
 #![tactic(auto)]
 
 #[cfg(test)]
