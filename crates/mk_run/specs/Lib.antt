@@ -4,6 +4,7 @@ pub mod Outcome
 -- Runs
 pub mod ObeyedCommands
 pub mod Runs
+pub mod Devices
 pub mod RunEnds
 pub mod RunSteps
 -- Laws

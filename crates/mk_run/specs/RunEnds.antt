@@ -3,7 +3,7 @@
 -- Told in docs/PROOFS.md, "A run".
 use Rattle.std.specs.Prelude.{◌≡◌, ◌⊎◌, ℕ, Bool, true, false, List, ◌∷◌, ◌++◌, Option, Some, None, Ok, Err, IfSome}
 use Rattle.std.specs.Io.KnownBytes.{Appends, Keeps}
-use Rattle.mk_lines.specs.Device.{AppendsPrefix, count_if}
+use Rattle.mk_lines.specs.Device.{AppendsPrefix}
 use Rattle.mk_edit_language.specs.declared.refusal.Refusal.{Refusal}
 use Rattle.mk_history.specs.Machine as machine
 use Rattle.mk_history.specs.Shown.{Shown, shown_opened}
@@ -26,10 +26,6 @@ pub record Written : Type 0 where
 
 abbrev pub written : (before after : Option (List ℕ)) → Written
 written b a = record { before = b; after = a }
-
--- a reader has told at most once more that no bytes are left
-abbrev pub TellsEndOnce : (before after : Option ℕ) → Type 0
-TellsEndOnce before after = (after ≡ before) ⊎ (after ≡ count_if true before)
 
 -- nothing went out
 abbrev IsKept : Written → Type 0

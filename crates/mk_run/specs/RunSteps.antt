@@ -9,7 +9,7 @@ use Rattle.mk_run.specs.ObeyedCommands.{obeyed}
 use Rattle.mk_run.specs.Runs.{IsTooLong, result_after}
 use Rattle.mk_run.specs.RunEnds.{HasText, Written, IsOut, IsPrefixOut, GoesOn, IsWhole, IsCut, IsLeft, IsLeftRefused, IsLeftShort, IsLeftUnreported, IsLeftCut}
 use Rattle.mk_run.specs.declared.outcome.Outcome.{Outcome}
-use Rattle.mk_run.specs.declared.outcome.Outcome.TheVariants.{Done, Refused, NotACommand, BadDepth, TooLong, TooDeep, NoMemory, Read, Write}
+use Rattle.mk_run.specs.declared.outcome.Outcome.TheVariants.{Done, Refused, NotACommand, TooLong, TooDeep, NoMemory, Read, Write}
 
 -- ---- the script
 
@@ -67,12 +67,6 @@ StopsMakefile bytes failed TooDeep = (failed ≡ false) × GivesTooDeep bytes
 StopsMakefile bytes failed NoMemory = failed ≡ false
 StopsMakefile bytes failed Read = failed ≡ true
 StopsMakefile bytes failed outcome = ⊥
-
--- an outcome that comes before the makefile is read, whatever the makefile is
-abbrev pub is_before_makefile : Outcome → Bool
-is_before_makefile BadDepth = true
-is_before_makefile (NotACommand line) = true
-is_before_makefile outcome = false
 
 -- ---- the commands
 

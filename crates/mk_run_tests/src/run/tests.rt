@@ -200,6 +200,7 @@ fn an_endless_makefile_is_left(rt: HostRuntime) {
         false,
         &mut out,
         &mut report,
+        &mut None,
     );
     assert_eq!(rt; outcome, Outcome::TooLong);
     assert_eq!(rt; (out.writes(), out.flushes()), (0, 0));
@@ -219,6 +220,7 @@ fn an_endless_script_is_left(rt: HostRuntime) {
         false,
         &mut out,
         &mut report,
+        &mut None,
     );
     assert_eq!(rt; outcome, Outcome::TooLong);
     assert_eq!(rt; makefile.calls(), 0);
@@ -249,6 +251,7 @@ fn a_text_at_the_limit_grows_no_more(rt: HostRuntime) -> Result<(), Fail> {
             false,
             &mut out,
             &mut report,
+            &mut None,
         );
         assert_eq!(rt; ended, outcome);
         let reported = if outcome == Outcome::Done {
@@ -310,6 +313,7 @@ fn run_script(rt: &HostRuntime, text: &[u8], script: &[u8]) -> (Outcome, MemoryS
         false,
         &mut out,
         &mut report,
+        &mut None,
     );
     (outcome, out)
 }

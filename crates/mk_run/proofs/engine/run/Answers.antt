@@ -1,0 +1,39 @@
+use Rattle.std.proofs.Common.{map, inl, inr, rules}
+use Rattle.mk_script.specs.Scripts.{numbered}
+use Rattle.mk_run.proofs.on_runs.ReadLemmas.{short-script}
+use Rattle.mk_run.proofs.on_runs.RunLemmas.{good-depth, depth-stops, script-stops}
+use Rattle.mk_run.proofs.engine.run.Goals as goal
+use Rattle.mk_run.proofs.engine.run.Goals.{then-depth-lt1-via-then-depth-lt1, then-depth-lt1-via-else-depth-lt1+then-depth-gt-MAX_DEPTH}
+
+pub returns-then-depth-lt1-clause-law : goal.returns-then-depth-lt1-clause-law
+returns-then-depth-lt1-clause-law g c =
+    depth-stops _ _ c.args.depth c.args.keep_going _ _ _
+    (elim c.then-depth-lt1.branch [
+      | then-depth-lt1-via-then-depth-lt1 w ↦ inl w.if-depth-lt1.true
+      | then-depth-lt1-via-else-depth-lt1+then-depth-gt-MAX_DEPTH w ↦ inr w.if-depth-gt-MAX_DEPTH.true
+    ])
+
+pub returns-in-Err-clause-law : goal.returns-in-Err-clause-law
+returns-in-Err-clause-law g c =
+    (script-stops _ _ c.args.depth c.args.keep_going _ _ _ c.args.kept.now _ c.in-Err.outcome (good-depth c.args.depth c.if-depth-lt1.false c.if-depth-gt-MAX_DEPTH.false) c.in-Err.ensures.stops).0
+
+pub returns-in-Err-clause-kept : goal.returns-in-Err-clause-kept
+returns-in-Err-clause-kept g c =
+    (script-stops _ _ c.args.depth c.args.keep_going _ _ _ c.args.kept.now _ c.in-Err.outcome (good-depth c.args.depth c.if-depth-lt1.false c.if-depth-gt-MAX_DEPTH.false) c.in-Err.ensures.stops).1
+
+pub returns-clause-law : goal.returns-clause-law
+returns-clause-law g c = (c.run_commands.ensures.over _ (rw c.as_slice.ensures.value c.in-Ok.ensures.commands)).0
+
+pub returns-clause-kept : goal.returns-clause-kept
+returns-clause-kept g c = (c.run_commands.ensures.over _ (rw c.as_slice.ensures.value c.in-Ok.ensures.commands)).1
+
+pub returns-clause-order : goal.returns-clause-order
+returns-clause-order g c = record {
+  unread = λ is. absurd (good-depth c.args.depth c.if-depth-lt1.false c.if-depth-gt-MAX_DEPTH.false (c.run_commands.ensures.faults.bad_depth.0 is));
+  script_first = λ line is. absurd (c.run_commands.ensures.begun line is);
+  script_long = short-script (g.S.ByteSource.remaining c.args.script.now) (map numbered c.in-Ok.commands.items) _ c.in-Ok.ensures.commands;
+  script_read = search rules;
+}
+
+pub run_commands-requires-clause-depth : goal.run_commands-requires-clause-depth
+run_commands-requires-clause-depth g c = good-depth c.args.depth c.if-depth-lt1.false c.if-depth-gt-MAX_DEPTH.false
