@@ -12,7 +12,7 @@ ghost use Rattle.mk_edit_language.specs.LineCauses.{flag_below_new};
 ghost use Rattle.mk_edit_language.specs.Refusals.{first_cause};
 ghost use Rattle.mk_edit_language.specs.NewLines.{new_text};
 ghost use Rattle.mk_edit_language.specs.Stretches.{insertion, place_found};
-ghost use Rattle.mk_edit_parts.specs.EditViews as views;
+ghost use Rattle.mk_edit_language.specs.EditViews as views;
 ghost use Rattle.mk_edit_language.specs.EditViews.{edit_of};
 ghost use Rattle.mk_edit_parts.specs.Found.{IsMeant};
 ghost use Rattle.mk_edit.specs.Insertions.{IsInsertedAt, IsOfNewLine, IsOfPlace, ends_length, is_at_bottom, is_bottom, is_open_line, place_causes};

@@ -1,5 +1,5 @@
 use Rattle.std.proofs.Common.{◌≡◌, refl, ap, ℕ, false, Option, Vec}
-use Rattle.mk_edit_parts.specs.EditViews as views
+use Rattle.mk_edit_language.specs.EditViews as views
 use Rattle.mk_edit_language.specs.declared.edit.Place.{Place}
 use Rattle.mk_edit_language.specs.declared.edit.Place.TheVariants as place
 use Rattle.mk_edit.proofs.on_new_lines.InsertionLemmas.{inserted-after_var, after_var-place, after_var-within, is_after, inserted-elsewhere}
