@@ -4,7 +4,6 @@ pub mod Outcome
 -- Runs
 pub mod ObeyedCommands
 pub mod Runs
-pub mod Devices
 pub mod RunEnds
 pub mod RunSteps
 -- Laws

@@ -1,11 +1,10 @@
 //! A script over a makefile: the steps of a run, in their order.
-ghost use Rattle.std.specs.Prelude.{◌≡◌, ◌↔◌, ◌+◌, ◌||◌, ℕ, IsTrue, List, Option, map, false, true, OnOk, IfOk, IfErr};
+ghost use Rattle.std.specs.Prelude.{◌≡◌, ◌↔◌, ◌+◌, ◌||◌, ℕ, IsTrue, List, Option, map, false, true, OnOk, IfOk, IfErr, IfSome};
 ghost use Rattle.mk_session.specs.Sessions.{IsBadDepth};
 ghost use Rattle.mk_script.specs.Scripts.{numbered};
 ghost use Rattle.mk_run.specs.Outcome.{is_printed, may_report};
-ghost use Rattle.mk_run.specs.Runs.{ended};
-ghost use Rattle.mk_run.specs.Devices.{PutsOut, PutsOutIf, ReadsInOrder, ReadsOnce, ReportsIf, TellsFaults};
-ghost use Rattle.mk_run.specs.RunEnds.{IsRunOver, Leaves, written};
+ghost use Rattle.mk_run.specs.Runs.{IsTooLong, ended};
+ghost use Rattle.mk_run.specs.RunEnds.{IsRunOver, Leaves, PutsOut, PutsOutIf, ReadsOnce, TellsFaults, written};
 ghost use Rattle.mk_run.specs.RunSteps.{AreObeyed, EndsCommands, GivesCommands, GivesSession, StopsCommands, StopsMakefile, StopsScript};
 
 use crate::outcome::Outcome;
@@ -149,7 +148,7 @@ where
     ensures out { PutsOutIf W.failed W.flushes W.pending out.old out.new
         (is_printed result keep_going) }
     ensures write { result ≡ Outcome.Write ↔ IsTrue (W.failed out.new || P.failed report.new) }
-    ensures unflushed { P.flushes report.new ≡ P.flushes report.old }
+    ensures report { P.flushes report.new ≡ P.flushes report.old }
 {
     let refused = match obey_all(session, commands, keep_going, report) {
         Ok(refused) => refused,
@@ -195,7 +194,8 @@ where
         (W.failed out.new || P.failed report.new) }
     ensures out { PutsOutIf W.failed W.flushes W.pending out.old out.new
         (is_printed result keep_going) }
-    ensures report { ReportsIf P.flushes report.old report.new (may_report result) }
+    ensures unreported { may_report result ≡ false → report.new ≡ report.old }
+    ensures report { P.flushes report.new ≡ P.flushes report.old }
     ensures makefile { ReadsOnce R.remaining R.ends makefile.old makefile.new
         (MAX_TEXT + BUFFER) }
 {
@@ -264,13 +264,20 @@ where
     ensures faults { TellsFaults result depth (R.failed makefile.new || S.failed script.new)
         (W.failed out.new || P.failed report.new) }
     // Unless the text is out, nothing was written or flushed; unless a command was reached, nothing
-    // was reported.
+    // was reported. The report is never flushed.
     ensures out { PutsOutIf W.failed W.flushes W.pending out.old out.new
         (is_printed result keep_going) }
-    ensures report { ReportsIf P.flushes report.old report.new (may_report result) }
-    // The depth comes first, then the script, then the makefile. Each is read once.
-    ensures order { ReadsInOrder S.remaining S.failed script.old script.new
-        makefile.old makefile.new result }
+    ensures unreported { may_report result ≡ false → report.new ≡ report.old }
+    ensures report { P.flushes report.new ≡ P.flushes report.old }
+    // For a bad depth nothing is read. No makefile is read if the script has a line that is no
+    // command, is too long, or could not be read.
+    ensures unread { result ≡ Outcome.BadDepth
+        → (script.new ≡ script.old) × (makefile.new ≡ makefile.old) }
+    ensures script_first { (line : ℕ) → result ≡ Outcome.NotACommand line
+        → makefile.new ≡ makefile.old }
+    ensures script_long { IfSome (S.remaining script.old) (λ bytes.
+        IsTooLong bytes → makefile.new ≡ makefile.old) }
+    ensures script_read { S.failed script.new ≡ true → makefile.new ≡ makefile.old }
     ensures script { ReadsOnce S.remaining S.ends script.old script.new (MAX_TEXT + BUFFER) }
     ensures makefile { ReadsOnce R.remaining R.ends makefile.old makefile.new
         (MAX_TEXT + BUFFER) }

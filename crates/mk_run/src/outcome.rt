@@ -1,7 +1,7 @@
 //! How a run ends.
 ghost use Rattle.std.specs.Prelude.{◌≡◌, false};
 ghost use Rattle.mk_lines.specs.Device.{Writes};
-ghost use Rattle.mk_run.specs.Outcome.{message_of, not_a_command_message, outcome_of, status_of};
+ghost use Rattle.mk_run.specs.Outcome.{message_of, outcome_of, status_of};
 
 use mk_lines::sink::{write_all, write_parts};
 use mk_lines::{ByteSink, Fault};
@@ -63,7 +63,7 @@ pub fn status(outcome: &Outcome) -> u8
 fn write_not_a_command<W: ByteSink>(out: &mut W, line: u64) -> Result<(), Fault>
     requires { W.failed out.old ≡ false }
     ensures { Writes W.contents W.failed W.flushes out.old out.new result
-        (not_a_command_message line) }
+        (message_of (Outcome.NotACommand line)) }
 {
     let mut digits = itoa::Buffer::new();
     let line = digits.format(line).as_bytes();

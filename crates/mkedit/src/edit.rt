@@ -1,7 +1,6 @@
 //! `mkedit edit`: a script over a makefile.
 ghost use Rattle.std.specs.Prelude.{◌≡◌, ◌||◌, false};
-ghost use Rattle.mk_run.specs.Devices.{TellsFaults};
-ghost use Rattle.mk_run.specs.RunEnds.{IsRunOver, written};
+ghost use Rattle.mk_run.specs.RunEnds.{IsRunOver, TellsFaults, written};
 
 use crate::files::{CannotOpen, open};
 use crate::in_place::InPlaceFile;

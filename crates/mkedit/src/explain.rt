@@ -2,7 +2,7 @@
 ghost use Rattle.std.specs.Prelude.{◌≡◌, ◌++◌, ◌⊎◌, ℕ, List, All, IfSome, IfNone, MatchResult, false, true};
 ghost use Rattle.std.specs.Io.KnownBytes.{Appends};
 ghost use Rattle.mk_edit_language.specs.declared.refusal.Refusal.{Refusal};
-ghost use Rattle.mk_run.specs.Devices.{PutsOut};
+ghost use Rattle.mk_run.specs.RunEnds.{PutsOut};
 ghost use Rattle.mkedit.specs.Explanations.{is_called, title_of};
 
 use crate::explanations::explanation;

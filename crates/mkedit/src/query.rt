@@ -6,7 +6,7 @@ ghost use Rattle.mk_lines.specs.Limits.{max_text};
 ghost use Rattle.mk_lines.specs.Device.{AppendsPrefix};
 ghost use Rattle.mk_tree.specs.LocatedLines.{located_text};
 ghost use Rattle.mk_tree.specs.Documents.{IsFaithful, IsTooDeep};
-ghost use Rattle.mk_run.specs.Devices.{PutsOut, PutsOutIf, ReadsOnce};
+ghost use Rattle.mk_run.specs.RunEnds.{PutsOut, PutsOutIf, ReadsOnce};
 ghost use Rattle.mkedit.specs.QueryTexts.{query_text};
 
 use crate::files::{CannotOpen, open};

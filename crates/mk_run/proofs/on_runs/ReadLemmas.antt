@@ -9,7 +9,7 @@ use Rattle.mk_lines.specs.declared.fault.Fault.TheVariants as fault
 use Rattle.mk_run.specs.Outcome.{outcome_of}
 use Rattle.mk_script.specs.Scripts.{CommandAt}
 use Rattle.mk_run.specs.Runs.{IsTooLong}
-use Rattle.mk_run.specs.RunSteps.{GivesCommands, GivesTooMuch, StopsScript, StopsMakefile}
+use Rattle.mk_run.specs.RunSteps.{Gives, GivesCommands, StopsScript, StopsMakefile}
 use Rattle.mk_run.specs.declared.outcome.Outcome.TheVariants.{TooLong}
 
 -- there is a text that is longer than `n` bytes
@@ -17,9 +17,9 @@ longer : (n : ℕ) → (text : List ℕ) × (n < length text)
 longer n = let byte : ℕ = 0 in (replicate (suc n) byte, omega (arith, length-replicate (suc n) byte))
 
 -- a reader that had too many bytes for one text
-too-much : (bytes : Option (List ℕ)) → IfSome bytes (λ told. max_text < length told) → GivesTooMuch bytes
-too-much None long = let t = longer max_text in record { text = t.0; has_text = tt; long = t.1 }
-too-much (Some told) long = record { text = told; has_text = refl; long = long }
+too-much : (bytes : Option (List ℕ)) → IfSome bytes (λ told. max_text < length told) → Gives bytes IsTooLong
+too-much None long = let t = longer max_text in record { text = t.0; has_text = tt; holds = t.1 }
+too-much (Some told) long = record { text = told; has_text = refl; holds = long }
 
 if_some : (bytes : Option (List ℕ)) (P : Type 0) (Q : List ℕ → Type 0) → P → IfSome bytes (λ told. P → Q told) → IfSome bytes Q
 if_some None P Q p h = tt

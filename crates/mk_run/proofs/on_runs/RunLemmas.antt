@@ -80,7 +80,7 @@ module _ (makefile script : Option (List ℕ)) (depth : ℕ) (k : Bool) (failed 
         result = stopped TooLong;
         of_makefile = has-told makefile;
         of_script = gives.has_text;
-        is_run = inr (good, inl (gives.long, refl));
+        is_run = inr (good, inl (gives.holds, refl));
         ends = nothing-out TooLong;
       },
       refl,
@@ -92,7 +92,7 @@ module _ (makefile script : Option (List ℕ)) (depth : ℕ) (k : Bool) (failed 
         result = stopped (NotACommand line);
         of_makefile = has-told makefile;
         of_script = gives.has_text;
-        is_run = inr (good, inr (gives.short, inl (line, gives.is_line, refl)));
+        is_run = inr (good, inr (gives.holds.0, inl (line, gives.holds.1, refl)));
         ends = nothing-out (NotACommand line);
       },
       refl,
@@ -114,7 +114,7 @@ module _ (makefile script : Option (List ℕ)) (depth : ℕ) (k : Bool) (failed 
         result = stopped TooLong;
         of_makefile = gives.has_text;
         of_script = says.has_text;
-        is_run = inr (good, inr (says.short, inr (commands, says.is_script, inl (gives.long, refl))));
+        is_run = inr (good, inr (says.short, inr (commands, says.is_script, inl (gives.holds, refl))));
         ends = nothing-out TooLong;
       },
       refl,
@@ -126,7 +126,7 @@ module _ (makefile script : Option (List ℕ)) (depth : ℕ) (k : Bool) (failed 
         result = stopped TooDeep;
         of_makefile = gives.has_text;
         of_script = says.has_text;
-        is_run = inr (good, inr (says.short, inr (commands, says.is_script, inr (gives.short, inl (gives.deep, refl)))));
+        is_run = inr (good, inr (says.short, inr (commands, says.is_script, inr (gives.holds.0, inl (gives.holds.1, refl)))));
         ends = nothing-out TooDeep;
       },
       refl,

@@ -1,4 +1,4 @@
-use Rattle.std.proofs.Common.{map, inl, inr, rules}
+use Rattle.std.proofs.Common.{map, inl, inr}
 use Rattle.mk_script.specs.Scripts.{numbered}
 use Rattle.mk_run.proofs.on_runs.ReadLemmas.{short-script}
 use Rattle.mk_run.proofs.on_runs.RunLemmas.{good-depth, depth-stops, script-stops}
@@ -27,13 +27,14 @@ returns-clause-law g c = (c.run_commands.ensures.over _ (rw c.as_slice.ensures.v
 pub returns-clause-kept : goal.returns-clause-kept
 returns-clause-kept g c = (c.run_commands.ensures.over _ (rw c.as_slice.ensures.value c.in-Ok.ensures.commands)).1
 
-pub returns-clause-order : goal.returns-clause-order
-returns-clause-order g c = record {
-  unread = λ is. absurd (good-depth c.args.depth c.if-depth-lt1.false c.if-depth-gt-MAX_DEPTH.false (c.run_commands.ensures.faults.bad_depth.0 is));
-  script_first = λ line is. absurd (c.run_commands.ensures.begun line is);
-  script_long = short-script (g.S.ByteSource.remaining c.args.script.now) (map numbered c.in-Ok.commands.items) _ c.in-Ok.ensures.commands;
-  script_read = search rules;
-}
+pub returns-clause-unread : goal.returns-clause-unread
+returns-clause-unread g c = λ is. absurd (good-depth c.args.depth c.if-depth-lt1.false c.if-depth-gt-MAX_DEPTH.false (c.run_commands.ensures.faults.bad_depth.0 is))
+
+pub returns-clause-script_first : goal.returns-clause-script_first
+returns-clause-script_first g c = λ line is. absurd (c.run_commands.ensures.begun line is)
+
+pub returns-clause-script_long : goal.returns-clause-script_long
+returns-clause-script_long g c = short-script (g.S.ByteSource.remaining c.args.script.now) (map numbered c.in-Ok.commands.items) _ c.in-Ok.ensures.commands
 
 pub run_commands-requires-clause-depth : goal.run_commands-requires-clause-depth
 run_commands-requires-clause-depth g c = good-depth c.args.depth c.if-depth-lt1.false c.if-depth-gt-MAX_DEPTH.false
