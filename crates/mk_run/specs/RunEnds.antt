@@ -1,19 +1,21 @@
 -- How a run of the code may end: with the result that the definitions give it, or for want of
 -- memory, or because a device failed.
 -- Told in docs/PROOFS.md, "A run".
-use Rattle.std.specs.Prelude.{◌≡◌, ◌⊎◌, ℕ, Bool, true, false, List, ◌∷◌, ◌++◌, Option, Some, None, Ok, Err, IfSome}
+use Rattle.std.specs.Prelude.{◌≡◌, ◌⊎◌, ◌↔◌, ℕ, Bool, true, false, IsTrue, List, ◌∷◌, ◌++◌, Option, Some, None, Result, Ok, Err, OnOk, IfErr, IfSome, is_ok}
 use Rattle.std.specs.Io.KnownBytes.{Appends, Keeps}
-use Rattle.mk_lines.specs.Device.{AppendsPrefix, count_if}
+use Rattle.mk_lines.specs.Device.{AppendsPrefix, TakesAtMost, count_if}
+use Rattle.mk_lines.specs.declared.fault.Fault.{Fault}
+use Rattle.mk_lines.specs.declared.fault.Fault.TheVariants as fault
 use Rattle.mk_edit_language.specs.declared.refusal.Refusal.{Refusal}
 use Rattle.mk_history.specs.Machine as machine
 use Rattle.mk_history.specs.Shown.{Shown, shown_opened}
-use Rattle.mk_session.specs.Sessions.{Seen, answer}
+use Rattle.mk_session.specs.Sessions.{IsBadDepth, Seen, answer}
 use Rattle.mk_session.specs.Calls.{takes_memory}
 use Rattle.mk_script.specs.Scripts.{CommandAt, IsScript}
 use Rattle.mk_run.specs.ObeyedCommands.{obeyed}
 use Rattle.mk_run.specs.Runs.{RunResult, IsRun, ended, result_after}
 use Rattle.mk_run.specs.declared.outcome.Outcome.{Outcome}
-use Rattle.mk_run.specs.declared.outcome.Outcome.TheVariants.{Done, Refused, NoMemory, Read, Write}
+use Rattle.mk_run.specs.declared.outcome.Outcome.TheVariants.{Done, Refused, BadDepth, NoMemory, Read, Write}
 
 -- a reader that tells its bytes has this text
 abbrev pub HasText : (bytes : Option (List ℕ)) → (text : List ℕ) → Type 0
@@ -26,10 +28,6 @@ pub record Written : Type 0 where
 
 abbrev pub written : (before after : Option (List ℕ)) → Written
 written b a = record { before = b; after = a }
-
--- a reader has told at most once more that no bytes are left
-abbrev pub TellsEndOnce : (before after : Option ℕ) → Type 0
-TellsEndOnce before after = (after ≡ before) ⊎ (after ≡ count_if true before)
 
 -- nothing went out
 abbrev IsKept : Written → Type 0
@@ -193,3 +191,41 @@ Leaves m s d k failed report out before after NoMemory =
     ((after ≡ before) × IsKept report)
     ⊎ HandsBack m s d (λ commands first last. IsLeftShort k commands first last report) after
 Leaves m s d k failed report out before after outcome = after ≡ before
+
+-- ---- the devices
+
+-- A source, which tells the bytes that it has left and how often it told its end, was read once: it
+-- lost at most `limit` bytes, and was asked for its end once at most.
+pub record ReadsOnce {S : Type 0} (remaining : S → Option (List ℕ)) (ends : S → Option ℕ)
+    (old new : S) (limit : ℕ) : Type 0 where
+  pub taken : TakesAtMost (remaining old) (remaining new) limit
+  pub ends_once : (ends new ≡ ends old) ⊎ (ends new ≡ count_if true (ends old))
+
+-- A text was written into a sink, which tells its bytes, whether it failed, its flushes and how many
+-- bytes it holds back, and then flushed once: the whole text, or a prefix of it and the fault Write
+-- if the sink failed, without a flush that succeeded.
+pub record PutsOut {S : Type 0} (contents : S → Option (List ℕ)) (failed : S → Bool)
+    (flushes pending : S → Option ℕ) (old new : S) (result : Result Unit Fault) (text : List ℕ)
+    : Type 0 where
+  pub whole : OnOk result (Appends (contents old) (contents new) text)
+  pub prefix : AppendsPrefix (contents old) (contents new) text
+  pub works : OnOk result (failed new ≡ false)
+  pub fault : IfErr result (λ e. (e ≡ fault.Write) × (failed new ≡ true))
+  pub flushed : flushes new ≡ count_if (is_ok result) (flushes old)
+  pub settled : OnOk result (IfSome (pending new) (λ n. n ≡ 0))
+
+-- The sink of a run's text, by whether the text is out. If it is, it was flushed once, and nothing is
+-- held back. If it is not, there was no flush, and the sink is as it was unless it failed.
+pub record PutsOutIf {S : Type 0} (failed : S → Bool) (flushes pending : S → Option ℕ)
+    (old new : S) (is_out : Bool) : Type 0 where
+  pub unwritten : is_out ≡ false → failed new ≡ false → new ≡ old
+  pub flushed : flushes new ≡ count_if is_out (flushes old)
+  pub settled : is_out ≡ true → IfSome (pending new) (λ n. n ≡ 0)
+
+-- When these outcomes come, whatever the devices tell: for a bad depth, if a source failed, and if a
+-- sink failed.
+pub record TellsFaults (outcome : Outcome) (depth : ℕ) (source_failed sink_failed : Bool)
+    : Type 0 where
+  pub bad_depth : (outcome ≡ BadDepth) ↔ IsBadDepth depth
+  pub read : (outcome ≡ Read) ↔ IsTrue source_failed
+  pub write : (outcome ≡ Write) ↔ IsTrue sink_failed

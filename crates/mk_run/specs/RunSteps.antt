@@ -9,7 +9,13 @@ use Rattle.mk_run.specs.ObeyedCommands.{obeyed}
 use Rattle.mk_run.specs.Runs.{IsTooLong, result_after}
 use Rattle.mk_run.specs.RunEnds.{HasText, Written, IsOut, IsPrefixOut, GoesOn, IsWhole, IsCut, IsLeft, IsLeftRefused, IsLeftShort, IsLeftUnreported, IsLeftCut}
 use Rattle.mk_run.specs.declared.outcome.Outcome.{Outcome}
-use Rattle.mk_run.specs.declared.outcome.Outcome.TheVariants.{Done, Refused, NotACommand, BadDepth, TooLong, TooDeep, NoMemory, Read, Write}
+use Rattle.mk_run.specs.declared.outcome.Outcome.TheVariants.{Done, Refused, NotACommand, TooLong, TooDeep, NoMemory, Read, Write}
+
+-- what a reader gave is a text of which this holds
+pub record Gives (bytes : Option (List ℕ)) (Holds : List ℕ → Type 0) : Type 0 where
+  pub text : List ℕ
+  pub has_text : HasText bytes text
+  pub holds : Holds text
 
 -- ---- the script
 
@@ -20,24 +26,12 @@ pub record GivesCommands (bytes : Option (List ℕ)) (commands : List CommandAt)
   pub short : IsTooLong text → ⊥
   pub is_script : IsScript text commands
 
--- what a reader gave is too long
-pub record GivesTooMuch (bytes : Option (List ℕ)) : Type 0 where
-  pub text : List ℕ
-  pub has_text : HasText bytes text
-  pub long : IsTooLong text
-
--- what a reader gave has a first line that is no command
-pub record GivesNoCommand (bytes : Option (List ℕ)) (line : ℕ) : Type 0 where
-  pub text : List ℕ
-  pub has_text : HasText bytes text
-  pub short : IsTooLong text → ⊥
-  pub is_line : HasNoCommand text line
-
 -- The reading of a script ended with this outcome; the reader of the script failed only if this is
 -- Read.
 abbrev pub StopsScript : (bytes : Option (List ℕ)) → (failed : Bool) → Outcome → Type 0
-StopsScript bytes failed TooLong = (failed ≡ false) × GivesTooMuch bytes
-StopsScript bytes failed (NotACommand line) = (failed ≡ false) × GivesNoCommand bytes line
+StopsScript bytes failed TooLong = (failed ≡ false) × Gives bytes IsTooLong
+StopsScript bytes failed (NotACommand line) =
+    (failed ≡ false) × Gives bytes (λ text. (IsTooLong text → ⊥) × HasNoCommand text line)
 StopsScript bytes failed NoMemory = failed ≡ false
 StopsScript bytes failed Read = failed ≡ true
 StopsScript bytes failed outcome = ⊥
@@ -52,27 +46,15 @@ pub record GivesSession (bytes : Option (List ℕ)) (depth : ℕ) (seen : Seen) 
   pub shallow : IsTooDeep text → ⊥
   pub opened : seen ≡ seen_opened depth text
 
--- what a reader gave opens too many conditionals
-pub record GivesTooDeep (bytes : Option (List ℕ)) : Type 0 where
-  pub text : List ℕ
-  pub has_text : HasText bytes text
-  pub short : IsTooLong text → ⊥
-  pub deep : IsTooDeep text
-
 -- The opening of a makefile ended with this outcome; the reader of the makefile failed only if this
 -- is Read.
 abbrev pub StopsMakefile : (bytes : Option (List ℕ)) → (failed : Bool) → Outcome → Type 0
-StopsMakefile bytes failed TooLong = (failed ≡ false) × GivesTooMuch bytes
-StopsMakefile bytes failed TooDeep = (failed ≡ false) × GivesTooDeep bytes
+StopsMakefile bytes failed TooLong = (failed ≡ false) × Gives bytes IsTooLong
+StopsMakefile bytes failed TooDeep =
+    (failed ≡ false) × Gives bytes (λ text. (IsTooLong text → ⊥) × IsTooDeep text)
 StopsMakefile bytes failed NoMemory = failed ≡ false
 StopsMakefile bytes failed Read = failed ≡ true
 StopsMakefile bytes failed outcome = ⊥
-
--- an outcome that comes before the makefile is read, whatever the makefile is
-abbrev pub is_before_makefile : Outcome → Bool
-is_before_makefile BadDepth = true
-is_before_makefile (NotACommand line) = true
-is_before_makefile outcome = false
 
 -- ---- the commands
 

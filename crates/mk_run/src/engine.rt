@@ -1,13 +1,11 @@
 //! A script over a makefile: the steps of a run, in their order.
-ghost use Rattle.std.specs.Prelude.{◌≡◌, ◌⊎◌, ◌↔◌, ◌<◌, ◌+◌, ◌||◌, ℕ, IsTrue, IfSome, List, Option, map, false, true, is_ok, OnOk, IfOk, IfErr};
-ghost use Rattle.std.specs.Io.KnownBytes.{Appends};
-ghost use Rattle.mk_lines.specs.Device.{AppendsPrefix, TakesAtMost, count_if};
+ghost use Rattle.std.specs.Prelude.{◌≡◌, ◌↔◌, ◌+◌, ◌||◌, ℕ, IsTrue, List, Option, map, false, true, OnOk, IfOk, IfErr, IfSome};
 ghost use Rattle.mk_session.specs.Sessions.{IsBadDepth};
 ghost use Rattle.mk_script.specs.Scripts.{numbered};
 ghost use Rattle.mk_run.specs.Outcome.{is_printed, may_report};
 ghost use Rattle.mk_run.specs.Runs.{IsTooLong, ended};
-ghost use Rattle.mk_run.specs.RunEnds.{IsRunOver, Leaves, TellsEndOnce, written};
-ghost use Rattle.mk_run.specs.RunSteps.{AreObeyed, EndsCommands, GivesCommands, GivesSession, StopsCommands, StopsMakefile, StopsScript, is_before_makefile};
+ghost use Rattle.mk_run.specs.RunEnds.{IsRunOver, Leaves, PutsOut, PutsOutIf, ReadsOnce, TellsFaults, written};
+ghost use Rattle.mk_run.specs.RunSteps.{AreObeyed, EndsCommands, GivesCommands, GivesSession, StopsCommands, StopsMakefile, StopsScript};
 
 use crate::outcome::Outcome;
 use crate::report::report_refusal;
@@ -29,9 +27,7 @@ fn read_script<A: Allocator + Copy, S: ByteSource>(
     ensures works { OnOk result (S.failed script.new ≡ false) }
     ensures stops { IfErr result (λ outcome.
         StopsScript (S.remaining script.old) (S.failed script.new) outcome) }
-    ensures taken { TakesAtMost (S.remaining script.old) (S.remaining script.new)
-        (MAX_TEXT + BUFFER) }
-    ensures end { TellsEndOnce (S.ends script.old) (S.ends script.new) }
+    ensures script { ReadsOnce S.remaining S.ends script.old script.new (MAX_TEXT + BUFFER) }
 {
     let text = match read_all(alloc, script) {
         Ok(text) => text,
@@ -57,9 +53,8 @@ fn open_makefile<A: Allocator + Copy, R: ByteSource>(
     ensures works { OnOk result (R.failed makefile.new ≡ false) }
     ensures stops { IfErr result (λ outcome.
         StopsMakefile (R.remaining makefile.old) (R.failed makefile.new) outcome) }
-    ensures taken { TakesAtMost (R.remaining makefile.old) (R.remaining makefile.new)
+    ensures makefile { ReadsOnce R.remaining R.ends makefile.old makefile.new
         (MAX_TEXT + BUFFER) }
-    ensures end { TellsEndOnce (R.ends makefile.old) (R.ends makefile.new) }
 {
     let text = match read_all(alloc, makefile) {
         Ok(text) => text,
@@ -96,26 +91,6 @@ fn obey_all<A: Allocator + Copy, P: ByteSink>(
     if commands.len() >= MANY_COMMANDS {
         session.expect_edits();
     }
-    obey_each(session, commands, keep_going, report)
-}
-
-// The same, where the session knows whether many edits are to come.
-fn obey_each<A: Allocator + Copy, P: ByteSink>(
-    session: &mut Session<A>,
-    commands: &[NumberedCommand<A>],
-    keep_going: bool,
-    report: &mut P,
-) -> Result<u64, Outcome>
-    requires { P.failed report.old ≡ false }
-    ensures obeyed { IfOk result (λ refused.
-        AreObeyed keep_going (map numbered commands.now) session.old.shown session.new.shown refused
-        (written (P.contents report.old) (P.contents report.new))) }
-    ensures works { OnOk result (P.failed report.new ≡ false) }
-    ensures stops { IfErr result (λ outcome.
-        StopsCommands keep_going (map numbered commands.now) session.old.shown session.new.shown
-        (P.failed report.new) (written (P.contents report.old) (P.contents report.new)) outcome) }
-    ensures unflushed { P.flushes report.new ≡ P.flushes report.old }
-{
     let mut refused = 0u64;
     for numbered in commands {
         let Err(refusal) = session.obey(&numbered.command) else {
@@ -141,14 +116,8 @@ fn put_out<A: Allocator + Copy, W: ByteSink>(
     out: &mut W,
 ) -> Result<(), Fault>
     requires { W.failed out.old ≡ false }
-    ensures whole { OnOk result (Appends (W.contents out.old) (W.contents out.new)
-        (ended session.old.shown).text) }
-    ensures prefix { AppendsPrefix (W.contents out.old) (W.contents out.new)
+    ensures out { PutsOut W.contents W.failed W.flushes W.pending out.old out.new result
         (ended session.old.shown).text }
-    ensures works { OnOk result (W.failed out.new ≡ false) }
-    ensures fault { IfErr result (λ e. (e ≡ Fault.Write) × (W.failed out.new ≡ true)) }
-    ensures flushed { W.flushes out.new ≡ count_if (is_ok result) (W.flushes out.old) }
-    ensures settled { OnOk result (IfSome (W.pending out.new) (λ n. n ≡ 0)) }
     ensures ended { session.new.shown ≡ ended session.old.shown }
 {
     let _ = session.end();
@@ -175,13 +144,10 @@ where
     ensures ends { EndsCommands keep_going (map numbered commands.now) session.old.shown
         session.new.shown (P.failed report.new) (written (P.contents report.old) (P.contents report.new))
         (written (W.contents out.old) (W.contents out.new)) result }
-    ensures unwritten { is_printed result keep_going ≡ false → W.failed out.new ≡ false
-        → out.new ≡ out.old }
+    ensures reached { may_report result ≡ true }
+    ensures out { PutsOutIf W.failed W.flushes W.pending out.old out.new
+        (is_printed result keep_going) }
     ensures write { result ≡ Outcome.Write ↔ IsTrue (W.failed out.new || P.failed report.new) }
-    ensures flushed { W.flushes out.new
-        ≡ count_if (is_printed result keep_going) (W.flushes out.old) }
-    ensures settled { is_printed result keep_going ≡ true
-        → IfSome (W.pending out.new) (λ n. n ≡ 0) }
     ensures report { P.flushes report.new ≡ P.flushes report.old }
 {
     let refused = match obey_all(session, commands, keep_going, report) {
@@ -216,28 +182,22 @@ where
     requires out_works { W.failed out.old ≡ false }
     requires report_works { P.failed report.old ≡ false }
     requires depth { IsBadDepth depth → ⊥ }
-    ensures law { (script : Option (List ℕ)) → GivesCommands script (map numbered commands.now)
+    ensures over { (script : Option (List ℕ)) → GivesCommands script (map numbered commands.now)
         → IsRunOver (R.remaining makefile.old) script depth keep_going
         result (P.failed report.new) (written (P.contents report.old) (P.contents report.new))
-        (written (W.contents out.old) (W.contents out.new)) }
-    ensures unwritten { is_printed result keep_going ≡ false → W.failed out.new ≡ false
-        → out.new ≡ out.old }
-    ensures unreported { may_report result ≡ false → report.new ≡ report.old }
-    ensures taken { TakesAtMost (R.remaining makefile.old) (R.remaining makefile.new)
-        (MAX_TEXT + BUFFER) }
-    ensures end { TellsEndOnce (R.ends makefile.old) (R.ends makefile.new) }
-    ensures begun { is_before_makefile result ≡ false }
-    ensures read { result ≡ Outcome.Read ↔ R.failed makefile.new ≡ true }
-    ensures write { result ≡ Outcome.Write ↔ IsTrue (W.failed out.new || P.failed report.new) }
-    ensures flushed { W.flushes out.new
-        ≡ count_if (is_printed result keep_going) (W.flushes out.old) }
-    ensures settled { is_printed result keep_going ≡ true
-        → IfSome (W.pending out.new) (λ n. n ≡ 0) }
-    ensures report { P.flushes report.new ≡ P.flushes report.old }
-    ensures kept { (script : Option (List ℕ)) → GivesCommands script (map numbered commands.now)
-        → Leaves (R.remaining makefile.old) script depth keep_going
+        (written (W.contents out.old) (W.contents out.new))
+        × Leaves (R.remaining makefile.old) script depth keep_going
         (P.failed report.new) (written (P.contents report.old) (P.contents report.new))
         (written (W.contents out.old) (W.contents out.new)) kept.old kept.new result }
+    ensures begun { (line : ℕ) → result ≡ Outcome.NotACommand line → ⊥ }
+    ensures faults { TellsFaults result depth (R.failed makefile.new)
+        (W.failed out.new || P.failed report.new) }
+    ensures out { PutsOutIf W.failed W.flushes W.pending out.old out.new
+        (is_printed result keep_going) }
+    ensures unreported { may_report result ≡ false → report.new ≡ report.old }
+    ensures report { P.flushes report.new ≡ P.flushes report.old }
+    ensures makefile { ReadsOnce R.remaining R.ends makefile.old makefile.new
+        (MAX_TEXT + BUFFER) }
 {
     let session = match open_makefile(alloc, makefile, depth) {
         Ok(session) => session,
@@ -247,8 +207,8 @@ where
     obey_and_put_out(session, commands, keep_going, out, report)
 }
 
-/// Runs a script over a makefile. The text after the script's commands goes to `out`, and a line on
-/// each refused command goes to `report`.
+/// Runs a script over a makefile. The text after the script's commands goes to `out`, a line on each
+/// refused command goes to `report`, and the session is left in `kept`.
 ///
 /// In this order: the depth is tested; the script is read to its end and parsed whole; the makefile
 /// is read to its end and opened; the commands are obeyed in order; a group that is still open is
@@ -263,84 +223,19 @@ where
 ///
 /// If the run ends before its text is written, `out` is neither written nor flushed. After a fault
 /// of `out` a prefix of the text is out, and after a fault of `report` a prefix of the report.
-pub fn run<A, R, S, W, P>(
-    alloc: A,
-    makefile: &mut R,
-    script: &mut S,
-    depth: u32,
-    keep_going: bool,
-    out: &mut W,
-    report: &mut P,
-) -> Outcome
-where
-    A: Allocator + Copy,
-    R: ByteSource,
-    S: ByteSource,
-    W: ByteSink,
-    P: ByteSink,
-    requires makefile_works { R.failed makefile.old ≡ false }
-    requires script_works { S.failed script.old ≡ false }
-    requires out_works { W.failed out.old ≡ false }
-    requires report_works { P.failed report.old ≡ false }
-
-    // The run ends as the definitions say for the bytes of makefile and script, or for want of
-    // memory, or because a device failed; the clause says what is out in each case.
-    ensures law { IsRunOver (R.remaining makefile.old) (S.remaining script.old) depth keep_going
-        result (P.failed report.new) (written (P.contents report.old) (P.contents report.new))
-        (written (W.contents out.old) (W.contents out.new)) }
-    // Unless the text was written, `out` is as it was.
-    ensures unwritten { is_printed result keep_going ≡ false → W.failed out.new ≡ false
-        → out.new ≡ out.old }
-    // Unless a command was reached, `report` is as it was.
-    ensures unreported { may_report result ≡ false → report.new ≡ report.old }
-    // For a bad depth nothing is read. No makefile is read if the script has a line that is no
-    // command, is too long, or could not be read.
-    ensures unread { result ≡ Outcome.BadDepth
-        → (script.new ≡ script.old) × (makefile.new ≡ makefile.old) }
-    ensures script_first { (line : ℕ) → result ≡ Outcome.NotACommand line
-        → makefile.new ≡ makefile.old }
-    ensures script_long { IfSome (S.remaining script.old) (λ bytes.
-        IsTooLong bytes → makefile.new ≡ makefile.old) }
-    ensures script_read { S.failed script.new ≡ true → makefile.new ≡ makefile.old }
-    ensures makefile_taken { TakesAtMost (R.remaining makefile.old) (R.remaining makefile.new)
-        (MAX_TEXT + BUFFER) }
-    ensures script_taken { TakesAtMost (S.remaining script.old) (S.remaining script.new)
-        (MAX_TEXT + BUFFER) }
-    // Each reader is asked for its end once at most.
-    ensures makefile_end { TellsEndOnce (R.ends makefile.old) (R.ends makefile.new) }
-    ensures script_end { TellsEndOnce (S.ends script.old) (S.ends script.new) }
-
-    // When these outcomes come, whatever the devices tell.
-    ensures bad_depth { (result ≡ Outcome.BadDepth) ↔ IsBadDepth depth }
-    ensures read { result ≡ Outcome.Read ↔ IsTrue (R.failed makefile.new || S.failed script.new) }
-    ensures write { result ≡ Outcome.Write ↔ IsTrue (W.failed out.new || P.failed report.new) }
-
-    // If the text is out, it is whole and flushed once; otherwise there is no flush. The report is
-    // never flushed.
-    ensures flushed { W.flushes out.new
-        ≡ count_if (is_printed result keep_going) (W.flushes out.old) }
-    ensures settled { is_printed result keep_going ≡ true
-        → IfSome (W.pending out.new) (λ n. n ≡ 0) }
-    ensures report { P.flushes report.new ≡ P.flushes report.old }
-{
-    let mut kept = None;
-    run_keeping(
-        alloc, makefile, script, depth, keep_going, out, report, &mut kept,
-    )
-}
-
-/// Runs a script over a makefile as [`run`] does, and leaves the session in `kept`.
 ///
-/// A session owns a box for each line, so giving it up takes time. A program that ends after the
-/// run keeps it from being given up, by `mem::forget`; another one may go on with it. What `kept`
-/// has after the run, with all that can be undone and redone:
+/// What `kept` has after the run, with all that can be undone and redone:
 ///
 /// - if no command was reached, what it was;
 /// - if all commands were obeyed, the session after them, with no group open, whether the text is
 ///   out or not;
 /// - if the run ended at a command, the session after the commands before it. A group that was open
 ///   stays open.
-pub fn run_keeping<A, R, S, W, P>(
+///
+/// A caller who does not want the session passes `&mut None`. A session owns a box for each line,
+/// so giving it up takes time: a program that ends after the run keeps it from being given up, by
+/// `mem::forget`.
+pub fn run<A, R, S, W, P>(
     alloc: A,
     makefile: &mut R,
     script: &mut S,
@@ -360,17 +255,20 @@ where
     requires script_works { S.failed script.old ≡ false }
     requires out_works { W.failed out.old ≡ false }
     requires report_works { P.failed report.old ≡ false }
-
     // The run ends as the definitions say for the bytes of makefile and script, or for want of
     // memory, or because a device failed; the clause says what is out in each case.
     ensures law { IsRunOver (R.remaining makefile.old) (S.remaining script.old) depth keep_going
         result (P.failed report.new) (written (P.contents report.old) (P.contents report.new))
         (written (W.contents out.old) (W.contents out.new)) }
-    // Unless the text was written, `out` is as it was.
-    ensures unwritten { is_printed result keep_going ≡ false → W.failed out.new ≡ false
-        → out.new ≡ out.old }
-    // Unless a command was reached, `report` is as it was.
+    // BadDepth, Read and Write come just where they belong, whatever the devices tell.
+    ensures faults { TellsFaults result depth (R.failed makefile.new || S.failed script.new)
+        (W.failed out.new || P.failed report.new) }
+    // Unless the text is out, nothing was written or flushed; unless a command was reached, nothing
+    // was reported. The report is never flushed.
+    ensures out { PutsOutIf W.failed W.flushes W.pending out.old out.new
+        (is_printed result keep_going) }
     ensures unreported { may_report result ≡ false → report.new ≡ report.old }
+    ensures report { P.flushes report.new ≡ P.flushes report.old }
     // For a bad depth nothing is read. No makefile is read if the script has a line that is no
     // command, is too long, or could not be read.
     ensures unread { result ≡ Outcome.BadDepth
@@ -380,29 +278,10 @@ where
     ensures script_long { IfSome (S.remaining script.old) (λ bytes.
         IsTooLong bytes → makefile.new ≡ makefile.old) }
     ensures script_read { S.failed script.new ≡ true → makefile.new ≡ makefile.old }
-    ensures makefile_taken { TakesAtMost (R.remaining makefile.old) (R.remaining makefile.new)
+    ensures script { ReadsOnce S.remaining S.ends script.old script.new (MAX_TEXT + BUFFER) }
+    ensures makefile { ReadsOnce R.remaining R.ends makefile.old makefile.new
         (MAX_TEXT + BUFFER) }
-    ensures script_taken { TakesAtMost (S.remaining script.old) (S.remaining script.new)
-        (MAX_TEXT + BUFFER) }
-    // Each reader is asked for its end once at most.
-    ensures makefile_end { TellsEndOnce (R.ends makefile.old) (R.ends makefile.new) }
-    ensures script_end { TellsEndOnce (S.ends script.old) (S.ends script.new) }
-
-    // When these outcomes come, whatever the devices tell.
-    ensures bad_depth { (result ≡ Outcome.BadDepth) ↔ IsBadDepth depth }
-    ensures read { result ≡ Outcome.Read ↔ IsTrue (R.failed makefile.new || S.failed script.new) }
-    ensures write { result ≡ Outcome.Write ↔ IsTrue (W.failed out.new || P.failed report.new) }
-
-    // If the text is out, it is whole and flushed once; otherwise there is no flush. The report is
-    // never flushed.
-    ensures flushed { W.flushes out.new
-        ≡ count_if (is_printed result keep_going) (W.flushes out.old) }
-    ensures settled { is_printed result keep_going ≡ true
-        → IfSome (W.pending out.new) (λ n. n ≡ 0) }
-    ensures report { P.flushes report.new ≡ P.flushes report.old }
-
-    // If no command was reached, `kept` is what it was. Otherwise the session is handed back, as the
-    // commands left it that were done.
+    // The session is handed back as the commands left it that were done, if one was reached.
     ensures kept { Leaves (R.remaining makefile.old) (S.remaining script.old) depth keep_going
         (P.failed report.new) (written (P.contents report.old) (P.contents report.new))
         (written (W.contents out.old) (W.contents out.new)) kept.old kept.new result }

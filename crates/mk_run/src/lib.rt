@@ -1,8 +1,8 @@
 //! A script of edits over a makefile: every byte that no edit concerns stays.
 //!
-//! [`run`] reads a script and a makefile, obeys the script's commands, and writes the text and a
-//! line on each refused command. [`status`] and [`message`] say how the run ended. [`run_keeping`]
-//! hands the session back as well.
+//! [`run`] reads a script and a makefile, obeys the script's commands, writes the text and a line on
+//! each refused command, and hands the session back. [`status`] and [`message`] say how the run
+//! ended.
 //!
 //! - `engine`: the run, in its steps.
 //! - [`laws`]: what holds for every run.
@@ -15,7 +15,7 @@ pub mod laws;
 mod outcome;
 mod report;
 
-pub use engine::{run, run_keeping};
+pub use engine::run;
 pub use mk_script::{ScriptFault, parse_script};
 pub use mk_session::Command;
 pub use outcome::{Outcome, message, status};

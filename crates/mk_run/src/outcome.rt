@@ -1,8 +1,7 @@
 //! How a run ends.
-ghost use Rattle.std.specs.Prelude.{◌≡◌, true, false, OnOk, IfErr};
-ghost use Rattle.std.specs.Io.KnownBytes.{Appends};
-ghost use Rattle.mk_lines.specs.Device.{AppendsPrefix};
-ghost use Rattle.mk_run.specs.Outcome.{message_of, not_a_command_message, outcome_of, status_of};
+ghost use Rattle.std.specs.Prelude.{◌≡◌, false};
+ghost use Rattle.mk_lines.specs.Device.{Writes};
+ghost use Rattle.mk_run.specs.Outcome.{message_of, outcome_of, status_of};
 
 use mk_lines::sink::{write_all, write_parts};
 use mk_lines::{ByteSink, Fault};
@@ -63,13 +62,8 @@ pub fn status(outcome: &Outcome) -> u8
 // The message on the script's line of this number, which is no command.
 fn write_not_a_command<W: ByteSink>(out: &mut W, line: u64) -> Result<(), Fault>
     requires { W.failed out.old ≡ false }
-    ensures whole { OnOk result (Appends (W.contents out.old) (W.contents out.new)
-        (not_a_command_message line)) }
-    ensures prefix { AppendsPrefix (W.contents out.old) (W.contents out.new)
-        (not_a_command_message line) }
-    ensures works { OnOk result (W.failed out.new ≡ false) }
-    ensures fault { IfErr result (λ e. (e ≡ Fault.Write) × (W.failed out.new ≡ true)) }
-    ensures unflushed { W.flushes out.new ≡ W.flushes out.old }
+    ensures { Writes W.contents W.failed W.flushes out.old out.new result
+        (message_of (Outcome.NotACommand line)) }
 {
     let mut digits = itoa::Buffer::new();
     let line = digits.format(line).as_bytes();
@@ -87,13 +81,8 @@ fn write_not_a_command<W: ByteSink>(out: &mut W, line: u64) -> Result<(), Fault>
 /// [`Fault::Write`] if the sink failed. A prefix of the message is out then.
 pub fn message<W: ByteSink>(outcome: &Outcome, out: &mut W) -> Result<(), Fault>
     requires { W.failed out.old ≡ false }
-    ensures whole { OnOk result (Appends (W.contents out.old) (W.contents out.new)
-        (message_of outcome.now)) }
-    ensures prefix { AppendsPrefix (W.contents out.old) (W.contents out.new)
+    ensures { Writes W.contents W.failed W.flushes out.old out.new result
         (message_of outcome.now) }
-    ensures works { OnOk result (W.failed out.new ≡ false) }
-    ensures fault { IfErr result (λ e. (e ≡ Fault.Write) × (W.failed out.new ≡ true)) }
-    ensures unflushed { W.flushes out.new ≡ W.flushes out.old }
 {
     let text: &[u8] = match outcome {
         Outcome::NotACommand(line) => return write_not_a_command(out, *line),

@@ -1,7 +1,6 @@
 //! The lines on refused commands.
-ghost use Rattle.std.specs.Prelude.{◌≡◌, true, false, OnOk, IfErr};
-ghost use Rattle.std.specs.Io.KnownBytes.{Appends};
-ghost use Rattle.mk_lines.specs.Device.{AppendsPrefix};
+ghost use Rattle.std.specs.Prelude.{◌≡◌, false};
+ghost use Rattle.mk_lines.specs.Device.{Writes};
 ghost use Rattle.mk_run.specs.Report.{report_line};
 
 use mk_lines::sink::write_parts;
@@ -15,13 +14,8 @@ use mk_session::{Detail, Refusal};
 /// [`Fault::Write`] if the sink failed. A prefix of the line is out then.
 pub fn report_refusal<W: ByteSink>(out: &mut W, line: u64, refusal: Refusal) -> Result<(), Fault>
     requires { W.failed out.old ≡ false }
-    ensures whole { OnOk result (Appends (W.contents out.old) (W.contents out.new)
-        (report_line line refusal)) }
-    ensures prefix { AppendsPrefix (W.contents out.old) (W.contents out.new)
+    ensures { Writes W.contents W.failed W.flushes out.old out.new result
         (report_line line refusal) }
-    ensures works { OnOk result (W.failed out.new ≡ false) }
-    ensures fault { IfErr result (λ e. (e ≡ Fault.Write) × (W.failed out.new ≡ true)) }
-    ensures unflushed { W.flushes out.new ≡ W.flushes out.old }
 {
     let mut line_digits = itoa::Buffer::new();
     let mut number_digits = itoa::Buffer::new();

@@ -1,14 +1,13 @@
 //! `mkedit edit`: a script over a makefile.
-ghost use Rattle.std.specs.Prelude.{◌≡◌, ◌↔◌, ◌||◌, IsTrue, false};
-ghost use Rattle.mk_session.specs.Sessions.{IsBadDepth};
-ghost use Rattle.mk_run.specs.RunEnds.{IsRunOver, written};
+ghost use Rattle.std.specs.Prelude.{◌≡◌, ◌||◌, false};
+ghost use Rattle.mk_run.specs.RunEnds.{IsRunOver, TellsFaults, written};
 
 use crate::files::{CannotOpen, open};
 use crate::in_place::InPlaceFile;
 use crate::out_file::OutFile;
 use mk_command_line::{EditWords, Output, Script};
 use mk_lines::{ByteSink, ByteSource, StdSink, StdSource};
-use mk_run::{Outcome, run_keeping};
+use mk_run::{Outcome, run};
 use std::alloc::Allocator;
 use std::mem;
 
@@ -39,12 +38,11 @@ where
         words.now.keep_going result (P.failed report.new)
         (written (P.contents report.old) (P.contents report.new))
         (written (W.contents out.old) (W.contents out.new)) }
-    ensures bad_depth { (result ≡ Outcome.BadDepth) ↔ IsBadDepth words.now.depth }
-    ensures read { result ≡ Outcome.Read ↔ IsTrue (R.failed makefile.new || S.failed script.new) }
-    ensures write { result ≡ Outcome.Write ↔ IsTrue (W.failed out.new || P.failed report.new) }
+    ensures faults { TellsFaults result words.now.depth (R.failed makefile.new || S.failed script.new)
+        (W.failed out.new || P.failed report.new) }
 {
     let mut kept = None;
-    let outcome = run_keeping(
+    let outcome = run(
         alloc,
         makefile,
         script,

@@ -1,8 +1,8 @@
 //! `mkedit explain`: why a command is refused, and what to do then.
-ghost use Rattle.std.specs.Prelude.{◌≡◌, ◌++◌, ◌⊎◌, ℕ, List, All, IfSome, IfNone, IfErr, OnOk, MatchResult, false, true, is_ok};
+ghost use Rattle.std.specs.Prelude.{◌≡◌, ◌++◌, ◌⊎◌, ℕ, List, All, IfSome, IfNone, MatchResult, false, true};
 ghost use Rattle.std.specs.Io.KnownBytes.{Appends};
-ghost use Rattle.mk_lines.specs.Device.{AppendsPrefix, count_if};
 ghost use Rattle.mk_edit_language.specs.declared.refusal.Refusal.{Refusal};
+ghost use Rattle.mk_run.specs.RunEnds.{PutsOut};
 ghost use Rattle.mkedit.specs.Explanations.{is_called, title_of};
 
 use crate::explanations::explanation;
@@ -95,13 +95,8 @@ impl FromStr for CalledRefusal {
 /// out then.
 pub fn put_out<W: ByteSink>(refusal: &Refusal, text: &'static str, out: &mut W) -> Result<(), Fault>
     requires { W.failed out.old ≡ false }
-    ensures whole { OnOk result (Appends (W.contents out.old) (W.contents out.new)
-        (title_of refusal.now ++ text.now)) }
-    ensures prefix { AppendsPrefix (W.contents out.old) (W.contents out.new)
+    ensures { PutsOut W.contents W.failed W.flushes W.pending out.old out.new result
         (title_of refusal.now ++ text.now) }
-    ensures works { OnOk result (W.failed out.new ≡ false) }
-    ensures fault { IfErr result (λ e. (e ≡ Fault.Write) × (W.failed out.new ≡ true)) }
-    ensures flushed { W.flushes out.new ≡ count_if (is_ok result) (W.flushes out.old) }
 {
     let mut digits = itoa::Buffer::new();
     let number = digits.format(refusal.number()).as_bytes();

@@ -3,10 +3,10 @@
 ghost use Rattle.std.specs.Prelude.{◌≡◌, ◌↔◌, ◌<◌, ◌+◌, ◌||◌, ℕ, List, IsTrue, IfOk, IfErr, IfSome, OnOk, OnErr, false, true, length, is_ok};
 ghost use Rattle.std.specs.Io.KnownBytes.{Appends};
 ghost use Rattle.mk_lines.specs.Limits.{max_text};
-ghost use Rattle.mk_lines.specs.Device.{AppendsPrefix, TakesAtMost, count_if};
+ghost use Rattle.mk_lines.specs.Device.{AppendsPrefix};
 ghost use Rattle.mk_tree.specs.LocatedLines.{located_text};
 ghost use Rattle.mk_tree.specs.Documents.{IsFaithful, IsTooDeep};
-ghost use Rattle.mk_run.specs.RunEnds.{TellsEndOnce};
+ghost use Rattle.mk_run.specs.RunEnds.{PutsOut, PutsOutIf, ReadsOnce};
 ghost use Rattle.mkedit.specs.QueryTexts.{query_text};
 
 use crate::files::{CannotOpen, open};
@@ -27,14 +27,8 @@ const DEPTH: u32 = 1;
 fn put_out<A: Allocator, W: ByteSink>(query: Query, doc: &Doc<A>, out: &mut W) -> Result<(), Fault>
     requires faithful { IsFaithful doc.now }
     requires works { W.failed out.old ≡ false }
-    ensures whole { OnOk result (Appends (W.contents out.old) (W.contents out.new)
-        (query_text query (located_text doc.now))) }
-    ensures prefix { AppendsPrefix (W.contents out.old) (W.contents out.new)
+    ensures { PutsOut W.contents W.failed W.flushes W.pending out.old out.new result
         (query_text query (located_text doc.now)) }
-    ensures works { OnOk result (W.failed out.new ≡ false) }
-    ensures fault { IfErr result (λ e. (e ≡ Fault.Write) × (W.failed out.new ≡ true)) }
-    ensures flushed { W.flushes out.new ≡ count_if (is_ok result) (W.flushes out.old) }
-    ensures settled { OnOk result (IfSome (W.pending out.new) (λ n. n ≡ 0)) }
 {
     match query {
         Query::Vars => vars(doc, out)?,
@@ -66,7 +60,6 @@ where
         Appends (W.contents out.old) (W.contents out.new) (query_text query text))) }
     ensures prefix { IfSome (R.remaining makefile.old) (λ text.
         AppendsPrefix (W.contents out.old) (W.contents out.new) (query_text query text)) }
-    ensures untouched { IfErr result (λ e. (e ≡ Fault.Write → ⊥) → out.new ≡ out.old) }
     ensures read { result ≡ Err Fault.Read ↔ R.failed makefile.new ≡ true }
     ensures write { result ≡ Err Fault.Write ↔ W.failed out.new ≡ true }
     ensures depth { result ≡ Err Fault.BadDepth → ⊥ }
@@ -75,11 +68,9 @@ where
     ensures too_deep { result ≡ Err Fault.TooDeep
         → IfSome (R.remaining makefile.old) (λ text. IsTooDeep text) }
     ensures shallow { OnOk result (IfSome (R.remaining makefile.old) (λ text. IsTooDeep text → ⊥)) }
-    ensures taken { TakesAtMost (R.remaining makefile.old) (R.remaining makefile.new)
+    ensures makefile { ReadsOnce R.remaining R.ends makefile.old makefile.new
         (MAX_TEXT + BUFFER) }
-    ensures ends { TellsEndOnce (R.ends makefile.old) (R.ends makefile.new) }
-    ensures flushed { W.flushes out.new ≡ count_if (is_ok result) (W.flushes out.old) }
-    ensures settled { OnOk result (IfSome (W.pending out.new) (λ n. n ≡ 0)) }
+    ensures out { PutsOutIf W.failed W.flushes W.pending out.old out.new (is_ok result) }
 {
     let text = read_all(alloc, makefile)?;
     let session = Session::open_vec(alloc, text, DEPTH)?;

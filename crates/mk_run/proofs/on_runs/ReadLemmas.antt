@@ -9,16 +9,17 @@ use Rattle.mk_lines.specs.declared.fault.Fault.TheVariants as fault
 use Rattle.mk_run.specs.Outcome.{outcome_of}
 use Rattle.mk_script.specs.Scripts.{CommandAt}
 use Rattle.mk_run.specs.Runs.{IsTooLong}
-use Rattle.mk_run.specs.RunSteps.{GivesCommands, GivesTooMuch, StopsScript, StopsMakefile}
+use Rattle.mk_run.specs.RunSteps.{Gives, GivesCommands, StopsScript, StopsMakefile}
+use Rattle.mk_run.specs.declared.outcome.Outcome.TheVariants.{TooLong}
 
 -- there is a text that is longer than `n` bytes
 longer : (n : ℕ) → (text : List ℕ) × (n < length text)
 longer n = let byte : ℕ = 0 in (replicate (suc n) byte, omega (arith, length-replicate (suc n) byte))
 
 -- a reader that had too many bytes for one text
-too-much : (bytes : Option (List ℕ)) → IfSome bytes (λ told. max_text < length told) → GivesTooMuch bytes
-too-much None long = let t = longer max_text in record { text = t.0; has_text = tt; long = t.1 }
-too-much (Some told) long = record { text = told; has_text = refl; long = long }
+too-much : (bytes : Option (List ℕ)) → IfSome bytes (λ told. max_text < length told) → Gives bytes IsTooLong
+too-much None long = let t = longer max_text in record { text = t.0; has_text = tt; holds = t.1 }
+too-much (Some told) long = record { text = told; has_text = refl; holds = long }
 
 if_some : (bytes : Option (List ℕ)) (P : Type 0) (Q : List ℕ → Type 0) → P → IfSome bytes (λ told. P → Q told) → IfSome bytes Q
 if_some None P Q p h = tt
@@ -36,24 +37,17 @@ pub record SaysFault {T : Type 0} (result : Result T f.Fault) (bytes : Option (L
   pub read : result ≡ Err fault.Read → failed ≡ true
   pub works : (result ≡ Err fault.Read → ⊥) → failed ≡ false
 
-script-fault : {T : Type 0} (bytes : Option (List ℕ)) (failed : Bool) (e : f.Fault) → SaysFault {T = T} (Err e) bytes failed → StopsScript bytes failed (outcome_of e)
-script-fault {T} bytes failed fault.NoMemory h = h.works (λ no. absurd (cc))
-script-fault {T} bytes failed fault.TooLong h = (h.works (λ no. absurd (cc)), too-much bytes (if_some bytes _ (λ told. max_text < length told) refl h.long))
-script-fault {T} bytes failed fault.TooDeep h = absurd h.few
-script-fault {T} bytes failed fault.BadDepth h = absurd h.few
-script-fault {T} bytes failed fault.Read h = h.read refl
-script-fault {T} bytes failed fault.Write h = absurd h.few
+told-fault : {T : Type 0} (bytes : Option (List ℕ)) (failed : Bool) (e : f.Fault) → SaysFault {T = T} (Err e) bytes failed
+    → StopsScript bytes failed (outcome_of e) × StopsMakefile bytes failed (outcome_of e)
+told-fault {T} bytes failed fault.NoMemory h = let works = h.works (λ no. absurd (cc)) in (works, works)
+told-fault {T} bytes failed fault.TooLong h =
+    let stops : StopsScript bytes failed TooLong = (h.works (λ no. absurd (cc)), too-much bytes (if_some bytes _ (λ told. max_text < length told) refl h.long)) in (stops, stops)
+told-fault {T} bytes failed fault.TooDeep h = absurd h.few
+told-fault {T} bytes failed fault.BadDepth h = absurd h.few
+told-fault {T} bytes failed fault.Read h = (h.read refl, h.read refl)
+told-fault {T} bytes failed fault.Write h = absurd h.few
 
-pub script-unread : {T : Type 0} (result : Result T f.Fault) (bytes : Option (List ℕ)) (failed : Bool) (e : f.Fault) → result ≡ Err e → SaysFault result bytes failed → StopsScript bytes failed (outcome_of e)
-script-unread {T} result bytes failed e is h = script-fault {T = T} bytes failed e (subst (λ (r : Result T f.Fault). SaysFault r bytes failed) is h)
-
-makefile-fault : {T : Type 0} (bytes : Option (List ℕ)) (failed : Bool) (e : f.Fault) → SaysFault {T = T} (Err e) bytes failed → StopsMakefile bytes failed (outcome_of e)
-makefile-fault {T} bytes failed fault.NoMemory h = h.works (λ no. absurd (cc))
-makefile-fault {T} bytes failed fault.TooLong h = (h.works (λ no. absurd (cc)), too-much bytes (if_some bytes _ (λ told. max_text < length told) refl h.long))
-makefile-fault {T} bytes failed fault.TooDeep h = absurd h.few
-makefile-fault {T} bytes failed fault.BadDepth h = absurd h.few
-makefile-fault {T} bytes failed fault.Read h = h.read refl
-makefile-fault {T} bytes failed fault.Write h = absurd h.few
-
-pub makefile-unread : {T : Type 0} (result : Result T f.Fault) (bytes : Option (List ℕ)) (failed : Bool) (e : f.Fault) → result ≡ Err e → SaysFault result bytes failed → StopsMakefile bytes failed (outcome_of e)
-makefile-unread {T} result bytes failed e is h = makefile-fault {T = T} bytes failed e (subst (λ (r : Result T f.Fault). SaysFault r bytes failed) is h)
+-- a script or a makefile that could not be read
+pub unread : {T : Type 0} (result : Result T f.Fault) (bytes : Option (List ℕ)) (failed : Bool) (e : f.Fault) → result ≡ Err e → SaysFault result bytes failed
+    → StopsScript bytes failed (outcome_of e) × StopsMakefile bytes failed (outcome_of e)
+unread {T} result bytes failed e is h = told-fault {T = T} bytes failed e (subst (λ (r : Result T f.Fault). SaysFault r bytes failed) is h)

@@ -10,7 +10,7 @@ use Rattle.mk_run.specs.ObeyedCommands.{obeyed}
 use Rattle.mk_run.specs.Runs.{RunResult, stopped, ended, outcome_after, output_after, result_after}
 use Rattle.mk_run.specs.RunEnds.{HasText, GoesOn, Written, written, IsOut, IsPrefixOut, IsWhole, IsCut, EndsAs, IsLeft, IsLeftRefused, IsLeftShort, IsLeftCut, HandsBack, Leaves, IsRunOver}
 use Rattle.mk_run.specs.Outcome.{is_printed, may_report}
-use Rattle.mk_run.specs.RunSteps.{GivesCommands, GivesSession, AreObeyed, AreEnded, StopsScript, StopsMakefile, StopsCommands, EndsCommands, is_before_makefile}
+use Rattle.mk_run.specs.RunSteps.{GivesCommands, GivesSession, AreObeyed, AreEnded, StopsScript, StopsMakefile, StopsCommands, EndsCommands}
 use Rattle.mk_run.specs.declared.outcome.Outcome as o
 use Rattle.mk_run.specs.declared.outcome.Outcome.TheVariants.{Done, Refused, NotACommand, BadDepth, TooLong, TooDeep, Read, Write, NoMemory}
 use Rattle.mk_run.proofs.on_runs.ResultLemmas.{has-run}
@@ -60,127 +60,92 @@ module _ (makefile script : Option (List ℕ)) (depth : ℕ) (k : Bool) (failed 
     ends = nothing-out BadDepth;
   }
 
-  pub script-stops : (reader_failed : Bool) (outcome : o.Outcome) → (IsBadDepth depth → ⊥) → StopsScript script reader_failed outcome
-      → IsRunOver makefile script depth k outcome failed (written report report) (written out out)
-  script-stops reader_failed TooLong good (works, gives) = record {
-    makefile_text = told makefile;
-    script_text = gives.text;
-    result = stopped TooLong;
-    of_makefile = has-told makefile;
-    of_script = gives.has_text;
-    is_run = inr (good, inl (gives.long, refl));
-    ends = nothing-out TooLong;
-  }
-  script-stops reader_failed (NotACommand line) good (works, gives) = record {
-    makefile_text = told makefile;
-    script_text = gives.text;
-    result = stopped (NotACommand line);
-    of_makefile = has-told makefile;
-    of_script = gives.has_text;
-    is_run = inr (good, inr (gives.short, inl (line, gives.is_line, refl)));
-    ends = nothing-out (NotACommand line);
-  }
-  script-stops reader_failed NoMemory good stops = some-run NoMemory (λ m s r. inl (Keeps-refl report))
-  script-stops reader_failed Read good stops = some-run Read (λ m s r. Keeps-refl report)
-  script-stops reader_failed Done good stops = absurd stops
-  script-stops reader_failed (Refused n) good stops = absurd stops
-  script-stops reader_failed BadDepth good stops = absurd stops
-  script-stops reader_failed TooDeep good stops = absurd stops
-  script-stops reader_failed Write good stops = absurd stops
+  -- the run is over, nothing is out, and what was there before is left
+  module _ (before : Option Seen) where
+    abbrev EndsEarly : o.Outcome → Type 0
+    EndsEarly outcome =
+        IsRunOver makefile script depth k outcome failed (written report report) (written out out)
+        × Leaves makefile script depth k failed (written report report) (written out out) before before outcome
 
-  pub makefile-stops : (commands : List CommandAt) (reader_failed : Bool) (outcome : o.Outcome) → (IsBadDepth depth → ⊥) → GivesCommands script commands → StopsMakefile makefile reader_failed outcome
-      → IsRunOver makefile script depth k outcome failed (written report report) (written out out)
-  makefile-stops commands reader_failed TooLong good says (works, gives) = record {
-    makefile_text = gives.text;
-    script_text = says.text;
-    result = stopped TooLong;
-    of_makefile = gives.has_text;
-    of_script = says.has_text;
-    is_run = inr (good, inr (says.short, inr (commands, says.is_script, inl (gives.long, refl))));
-    ends = nothing-out TooLong;
-  }
-  makefile-stops commands reader_failed TooDeep good says (works, gives) = record {
-    makefile_text = gives.text;
-    script_text = says.text;
-    result = stopped TooDeep;
-    of_makefile = gives.has_text;
-    of_script = says.has_text;
-    is_run = inr (good, inr (says.short, inr (commands, says.is_script, inr (gives.short, inl (gives.deep, refl)))));
-    ends = nothing-out TooDeep;
-  }
-  makefile-stops commands reader_failed NoMemory good says stops = some-run NoMemory (λ m s r. inl (Keeps-refl report))
-  makefile-stops commands reader_failed Read good says stops = some-run Read (λ m s r. Keeps-refl report)
-  makefile-stops commands reader_failed Done good says stops = absurd stops
-  makefile-stops commands reader_failed (Refused n) good says stops = absurd stops
-  makefile-stops commands reader_failed (NotACommand line) good says stops = absurd stops
-  makefile-stops commands reader_failed BadDepth good says stops = absurd stops
-  makefile-stops commands reader_failed Write good says stops = absurd stops
+    pub script-stops : (reader_failed : Bool) (outcome : o.Outcome) → (IsBadDepth depth → ⊥) → StopsScript script reader_failed outcome → EndsEarly outcome
+    script-stops reader_failed TooLong good (works, gives) = (
+      record {
+        makefile_text = told makefile;
+        script_text = gives.text;
+        result = stopped TooLong;
+        of_makefile = has-told makefile;
+        of_script = gives.has_text;
+        is_run = inr (good, inl (gives.holds, refl));
+        ends = nothing-out TooLong;
+      },
+      refl,
+    )
+    script-stops reader_failed (NotACommand line) good (works, gives) = (
+      record {
+        makefile_text = told makefile;
+        script_text = gives.text;
+        result = stopped (NotACommand line);
+        of_makefile = has-told makefile;
+        of_script = gives.has_text;
+        is_run = inr (good, inr (gives.holds.0, inl (line, gives.holds.1, refl)));
+        ends = nothing-out (NotACommand line);
+      },
+      refl,
+    )
+    script-stops reader_failed NoMemory good stops = (some-run NoMemory (λ m s r. inl (Keeps-refl report)), inl (refl, Keeps-refl report))
+    script-stops reader_failed Read good stops = (some-run Read (λ m s r. Keeps-refl report), refl)
+    script-stops reader_failed Done good stops = absurd stops
+    script-stops reader_failed (Refused n) good stops = absurd stops
+    script-stops reader_failed BadDepth good stops = absurd stops
+    script-stops reader_failed TooDeep good stops = absurd stops
+    script-stops reader_failed Write good stops = absurd stops
 
-pub makefile-not_before : (bytes : Option (List ℕ)) (failed : Bool) (outcome : o.Outcome) → StopsMakefile bytes failed outcome → is_before_makefile outcome ≡ false
-makefile-not_before bytes failed TooLong stops = refl
-makefile-not_before bytes failed TooDeep stops = refl
-makefile-not_before bytes failed NoMemory stops = refl
-makefile-not_before bytes failed Read stops = refl
-makefile-not_before bytes failed Done stops = absurd stops
-makefile-not_before bytes failed (Refused n) stops = absurd stops
-makefile-not_before bytes failed (NotACommand line) stops = absurd stops
-makefile-not_before bytes failed BadDepth stops = absurd stops
-makefile-not_before bytes failed Write stops = absurd stops
+    pub makefile-stops : (commands : List CommandAt) (reader_failed : Bool) (outcome : o.Outcome) → (IsBadDepth depth → ⊥) → GivesCommands script commands → StopsMakefile makefile reader_failed outcome
+        → EndsEarly outcome
+    makefile-stops commands reader_failed TooLong good says (works, gives) = (
+      record {
+        makefile_text = gives.text;
+        script_text = says.text;
+        result = stopped TooLong;
+        of_makefile = gives.has_text;
+        of_script = says.has_text;
+        is_run = inr (good, inr (says.short, inr (commands, says.is_script, inl (gives.holds, refl))));
+        ends = nothing-out TooLong;
+      },
+      refl,
+    )
+    makefile-stops commands reader_failed TooDeep good says (works, gives) = (
+      record {
+        makefile_text = gives.text;
+        script_text = says.text;
+        result = stopped TooDeep;
+        of_makefile = gives.has_text;
+        of_script = says.has_text;
+        is_run = inr (good, inr (says.short, inr (commands, says.is_script, inr (gives.holds.0, inl (gives.holds.1, refl)))));
+        ends = nothing-out TooDeep;
+      },
+      refl,
+    )
+    makefile-stops commands reader_failed NoMemory good says stops = (some-run NoMemory (λ m s r. inl (Keeps-refl report)), inl (refl, Keeps-refl report))
+    makefile-stops commands reader_failed Read good says stops = (some-run Read (λ m s r. Keeps-refl report), refl)
+    makefile-stops commands reader_failed Done good says stops = absurd stops
+    makefile-stops commands reader_failed (Refused n) good says stops = absurd stops
+    makefile-stops commands reader_failed (NotACommand line) good says stops = absurd stops
+    makefile-stops commands reader_failed BadDepth good says stops = absurd stops
+    makefile-stops commands reader_failed Write good says stops = absurd stops
 
-pub makefile-read : (bytes : Option (List ℕ)) (failed : Bool) (outcome : o.Outcome) → StopsMakefile bytes failed outcome → outcome ≡ Read ↔ failed ≡ true
-makefile-read bytes failed TooLong stops = (λ is. absurd (cc), λ fails. absurd (let works = stops.0 in cc))
-makefile-read bytes failed TooDeep stops = (λ is. absurd (cc), λ fails. absurd (let works = stops.0 in cc))
-makefile-read bytes failed NoMemory stops = (λ is. absurd (cc), λ fails. absurd (cc))
-makefile-read bytes failed Read stops = (λ is. stops, λ fails. refl)
-makefile-read bytes failed Done stops = absurd stops
-makefile-read bytes failed (Refused n) stops = absurd stops
-makefile-read bytes failed (NotACommand line) stops = absurd stops
-makefile-read bytes failed BadDepth stops = absurd stops
-makefile-read bytes failed Write stops = absurd stops
-
-pub makefile-not_printed : (bytes : Option (List ℕ)) (failed : Bool) (outcome : o.Outcome) (k : Bool) → StopsMakefile bytes failed outcome → is_printed outcome k ≡ false
-makefile-not_printed bytes failed TooLong k stops = refl
-makefile-not_printed bytes failed TooDeep k stops = refl
-makefile-not_printed bytes failed NoMemory k stops = refl
-makefile-not_printed bytes failed Read k stops = refl
-makefile-not_printed bytes failed Done k stops = absurd stops
-makefile-not_printed bytes failed (Refused n) k stops = absurd stops
-makefile-not_printed bytes failed (NotACommand line) k stops = absurd stops
-makefile-not_printed bytes failed BadDepth k stops = absurd stops
-makefile-not_printed bytes failed Write k stops = absurd stops
-
--- an outcome that comes after the makefile was begun is no other
-pub begun-not_bad : (outcome : o.Outcome) → is_before_makefile outcome ≡ false → outcome ≡ BadDepth → ⊥
-begun-not_bad outcome begun h = let on : is_before_makefile outcome ≡ true = ap is_before_makefile h in absurd (cc)
-
-pub begun-not_no_command : (outcome : o.Outcome) (line : ℕ) → is_before_makefile outcome ≡ false → outcome ≡ NotACommand line → ⊥
-begun-not_no_command outcome line begun h = let on : is_before_makefile outcome ≡ true = ap is_before_makefile h in absurd (cc)
-
--- what is left where no command was reached
-module _ (makefile script : Option (List ℕ)) (depth : ℕ) (k : Bool) (failed : Bool) (report : Option (List ℕ)) (out : Written) (before : Option Seen) where
-  pub script-leaves : (bytes : Option (List ℕ)) (reader_failed : Bool) (outcome : o.Outcome) → StopsScript bytes reader_failed outcome
-      → Leaves makefile script depth k failed (written report report) out before before outcome
-  script-leaves bytes reader_failed TooLong stops = refl
-  script-leaves bytes reader_failed (NotACommand line) stops = refl
-  script-leaves bytes reader_failed NoMemory stops = inl (refl, Keeps-refl report)
-  script-leaves bytes reader_failed Read stops = refl
-  script-leaves bytes reader_failed Done stops = absurd stops
-  script-leaves bytes reader_failed (Refused n) stops = absurd stops
-  script-leaves bytes reader_failed BadDepth stops = absurd stops
-  script-leaves bytes reader_failed TooDeep stops = absurd stops
-  script-leaves bytes reader_failed Write stops = absurd stops
-
-  pub makefile-leaves : (bytes : Option (List ℕ)) (reader_failed : Bool) (outcome : o.Outcome) → StopsMakefile bytes reader_failed outcome
-      → Leaves makefile script depth k failed (written report report) out before before outcome
-  makefile-leaves bytes reader_failed TooLong stops = refl
-  makefile-leaves bytes reader_failed TooDeep stops = refl
-  makefile-leaves bytes reader_failed NoMemory stops = inl (refl, Keeps-refl report)
-  makefile-leaves bytes reader_failed Read stops = refl
-  makefile-leaves bytes reader_failed Done stops = absurd stops
-  makefile-leaves bytes reader_failed (Refused n) stops = absurd stops
-  makefile-leaves bytes reader_failed (NotACommand line) stops = absurd stops
-  makefile-leaves bytes reader_failed BadDepth stops = absurd stops
-  makefile-leaves bytes reader_failed Write stops = absurd stops
+-- where a makefile was not opened, only Read says that its reader failed, and no text is out
+pub makefile-unopened : (bytes : Option (List ℕ)) (failed : Bool) (outcome : o.Outcome) (k : Bool) → StopsMakefile bytes failed outcome
+    → (outcome ≡ Read ↔ failed ≡ true) × (is_printed outcome k ≡ false)
+makefile-unopened bytes failed TooLong k stops = ((λ is. absurd (cc), λ fails. absurd (let works = stops.0 in cc)), refl)
+makefile-unopened bytes failed TooDeep k stops = ((λ is. absurd (cc), λ fails. absurd (let works = stops.0 in cc)), refl)
+makefile-unopened bytes failed NoMemory k stops = ((λ is. absurd (cc), λ fails. absurd (cc)), refl)
+makefile-unopened bytes failed Read k stops = ((λ is. stops, λ fails. refl), refl)
+makefile-unopened bytes failed Done k stops = absurd stops
+makefile-unopened bytes failed (Refused n) k stops = absurd stops
+makefile-unopened bytes failed (NotACommand line) k stops = absurd stops
+makefile-unopened bytes failed BadDepth k stops = absurd stops
+makefile-unopened bytes failed Write k stops = absurd stops
 
 -- ---- the commands
 
@@ -281,33 +246,22 @@ module _ (k : Bool) (commands : List CommandAt) (first : Shown (List ℕ)) where
         subst (λ (f : Bool). IsLeftCut k f commands first new) (sym works) (is ∙ ap ended are.shown),
       )
 
-pub ends-not_before : (k : Bool) (commands : List CommandAt) (first last : Shown (List ℕ)) (failed : Bool) (report out : Written) (outcome : o.Outcome) → EndsCommands k commands first last failed report out outcome
-    → is_before_makefile outcome ≡ false
-ends-not_before k commands first last failed report out Done ends = refl
-ends-not_before k commands first last failed report out (Refused n) ends = refl
-ends-not_before k commands first last failed report out NoMemory ends = refl
-ends-not_before k commands first last failed report out Write ends = refl
-ends-not_before k commands first last failed report out (NotACommand line) ends = absurd ends
-ends-not_before k commands first last failed report out BadDepth ends = absurd ends
-ends-not_before k commands first last failed report out TooLong ends = absurd ends
-ends-not_before k commands first last failed report out TooDeep ends = absurd ends
-ends-not_before k commands first last failed report out Read ends = absurd ends
-
 -- the commands were reached
-pub ends-reached : (k : Bool) (commands : List CommandAt) (first last : Shown (List ℕ)) (failed : Bool) (report out : Written) (outcome : o.Outcome) → EndsCommands k commands first last failed report out outcome
+pub stopped-reached : (k : Bool) (commands : List CommandAt) (first last : Shown (List ℕ)) (failed : Bool) (report : Written) (outcome : o.Outcome) → StopsCommands k commands first last failed report outcome
     → may_report outcome ≡ true
-ends-reached k commands first last failed report out Done ends = refl
-ends-reached k commands first last failed report out (Refused n) ends = refl
-ends-reached k commands first last failed report out NoMemory ends = refl
-ends-reached k commands first last failed report out Write ends = refl
-ends-reached k commands first last failed report out (NotACommand line) ends = absurd ends
-ends-reached k commands first last failed report out BadDepth ends = absurd ends
-ends-reached k commands first last failed report out TooLong ends = absurd ends
-ends-reached k commands first last failed report out TooDeep ends = absurd ends
-ends-reached k commands first last failed report out Read ends = absurd ends
+stopped-reached k commands first last failed report (Refused n) stops = refl
+stopped-reached k commands first last failed report NoMemory stops = refl
+stopped-reached k commands first last failed report Write stops = refl
+stopped-reached k commands first last failed report Done stops = absurd stops
+stopped-reached k commands first last failed report (NotACommand line) stops = absurd stops
+stopped-reached k commands first last failed report BadDepth stops = absurd stops
+stopped-reached k commands first last failed report TooLong stops = absurd stops
+stopped-reached k commands first last failed report TooDeep stops = absurd stops
+stopped-reached k commands first last failed report Read stops = absurd stops
 
-pub reached-not_read : (outcome : o.Outcome) → may_report outcome ≡ true → outcome ≡ Read → ⊥
-reached-not_read outcome reached h = let off : may_report outcome ≡ false = ap may_report h in absurd (cc)
+-- where the commands were reached, no outcome comes at which none can have been
+pub reached-other : (outcome other : o.Outcome) → may_report outcome ≡ true → may_report other ≡ false → outcome ≡ other → ⊥
+reached-other outcome other reached off h = let on : may_report outcome ≡ may_report other = ap may_report h in absurd (cc)
 
 -- a run of commands over a makefile
 module _ (makefile script : Option (List ℕ)) (depth : ℕ) (k : Bool) (commands : List CommandAt) (seen : Seen) (good : IsBadDepth depth → ⊥) (says : GivesCommands script commands) (opens : GivesSession makefile depth seen) where
@@ -328,23 +282,6 @@ module _ (makefile script : Option (List ℕ)) (depth : ℕ) (k : Bool) (command
   first-is = ap (λ (s : Seen). s.shown) opens.opened
 
   module _ (failed : Bool) (report out : Written) (session : Seen) where
-    -- the run of the commands is over
-    pub commands-over : (outcome : o.Outcome) → EndsCommands k commands seen.shown session.shown failed report out outcome
-        → IsRunOver makefile script depth k outcome failed report out
-    commands-over outcome ends = go outcome (subst (λ (s : Shown (List ℕ)). EndsCommands k commands s session.shown failed report out outcome) first-is ends)
-      where
-        go : (outcome : o.Outcome) → EndsCommands k commands (shown_opened depth opens.text) session.shown failed report out outcome → IsRunOver makefile script depth k outcome failed report out
-        go Done ends = of-commands Done failed report out ends.0
-        go (Refused n) ends = of-commands (Refused n) failed report out ends.0
-        go NoMemory short =
-            of-commands NoMemory failed report out (inr (record { commands = commands; lines = short.lines; are_commands = says.is_script; result_is = refl; is_short = short.is_short; is_out = short.is_out }))
-        go Write ends = of-commands Write failed report out ends.0
-        go (NotACommand line) ends = absurd ends
-        go BadDepth ends = absurd ends
-        go TooLong ends = absurd ends
-        go TooDeep ends = absurd ends
-        go Read ends = absurd ends
-
     session-of : (Shows : List CommandAt → (first last : Shown (List ℕ)) → Type 0) → Shows commands (shown_opened depth opens.text) session.shown
         → HandsBack makefile script depth Shows (Some session)
     session-of Shows shows = record {
@@ -357,17 +294,20 @@ module _ (makefile script : Option (List ℕ)) (depth : ℕ) (k : Bool) (command
       shows = shows;
     }
 
-    -- the session that the commands leave is handed back
-    pub commands-leave : (before : Option Seen) (outcome : o.Outcome) → EndsCommands k commands seen.shown session.shown failed report out outcome
-        → Leaves makefile script depth k failed report out before (Some session) outcome
-    commands-leave before outcome ends = go outcome (subst (λ (s : Shown (List ℕ)). EndsCommands k commands s session.shown failed report out outcome) first-is ends)
+    -- the run of the commands is over, and the session that they leave is handed back
+    pub commands-over : (before : Option Seen) (outcome : o.Outcome) → EndsCommands k commands seen.shown session.shown failed report out outcome
+        → IsRunOver makefile script depth k outcome failed report out × Leaves makefile script depth k failed report out before (Some session) outcome
+    commands-over before outcome ends = go outcome (subst (λ (s : Shown (List ℕ)). EndsCommands k commands s session.shown failed report out outcome) first-is ends)
       where
         go : (outcome : o.Outcome) → EndsCommands k commands (shown_opened depth opens.text) session.shown failed report out outcome
-            → Leaves makefile script depth k failed report out before (Some session) outcome
-        go Done ends = session-of (λ commands first last. IsLeft k commands first last out) ends.1
-        go (Refused n) ends = session-of (λ commands first last. IsLeftRefused k commands first last out) ends.1
-        go NoMemory short = inr (session-of (λ commands first last. IsLeftShort k commands first last report) short)
-        go Write ends = session-of (λ commands first last. IsLeftCut k failed commands first last) ends.1
+            → IsRunOver makefile script depth k outcome failed report out × Leaves makefile script depth k failed report out before (Some session) outcome
+        go Done ends = (of-commands Done failed report out ends.0, session-of (λ commands first last. IsLeft k commands first last out) ends.1)
+        go (Refused n) ends = (of-commands (Refused n) failed report out ends.0, session-of (λ commands first last. IsLeftRefused k commands first last out) ends.1)
+        go NoMemory short = (
+          of-commands NoMemory failed report out (inr (record { commands = commands; lines = short.lines; are_commands = says.is_script; result_is = refl; is_short = short.is_short; is_out = short.is_out })),
+          inr (session-of (λ commands first last. IsLeftShort k commands first last report) short),
+        )
+        go Write ends = (of-commands Write failed report out ends.0, session-of (λ commands first last. IsLeftCut k failed commands first last) ends.1)
         go (NotACommand line) ends = absurd ends
         go BadDepth ends = absurd ends
         go TooLong ends = absurd ends

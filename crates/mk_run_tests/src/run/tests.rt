@@ -218,6 +218,7 @@ fn run_of<R: ByteSource, S: ByteSource>(
         false,
         &mut out,
         &mut report,
+        &mut None,
     );
     (outcome, out, report)
 }

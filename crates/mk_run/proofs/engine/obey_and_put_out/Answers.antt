@@ -4,34 +4,36 @@ use Rattle.mk_run.specs.Outcome.{outcome_of}
 use Rattle.mk_run.specs.RunEnds.{written}
 use Rattle.mk_run.specs.RunSteps.{EndsCommands}
 use Rattle.mk_run.specs.declared.outcome.Outcome.{Outcome}
-use Rattle.mk_run.proofs.on_runs.RunLemmas.{stopped-ends, done-ends, refused-ends, cut-ends, printed-refused}
+use Rattle.mk_run.proofs.on_runs.RunLemmas.{stopped-ends, stopped-reached, done-ends, refused-ends, cut-ends, printed-refused}
 use Rattle.mk_run.proofs.engine.obey_and_put_out.Goals as goal
 
 pub returns-in-Err-clause-ends : goal.returns-in-Err-clause-ends
 returns-in-Err-clause-ends g c =
     stopped-ends c.args.keep_going (map numbered c.args.commands.now) c.args.session.now.shown c.obey_all.new.session.shown _ c.in-Err.early _ _ c.in-Err.ensures.stops
 
+pub returns-in-Err-clause-reached : goal.returns-in-Err-clause-reached
+returns-in-Err-clause-reached g c = stopped-reached c.args.keep_going (map numbered c.args.commands.now) c.args.session.now.shown c.obey_all.new.session.shown _ _ c.in-Err.early c.in-Err.ensures.stops
+
 pub returns-in-Ok-put_out-clause-ends : goal.returns-in-Ok-put_out-clause-ends
 returns-in-Ok-put_out-clause-ends g c =
     done-ends c.args.keep_going (map numbered c.args.commands.now) c.args.session.now.shown c.obey_all.new.session.shown c.in-Ok.refused _ c.in-Ok.ensures.obeyed
-    c.put_out.new.session.shown c.in-Ok-put_out.ensures.ended (g.P.ByteSink.failed c.obey_all.new.report) _ c.if-refused-eq0.true c.in-Ok-put_out.ensures.whole
+    c.put_out.new.session.shown c.in-Ok-put_out.ensures.ended (g.P.ByteSink.failed c.obey_all.new.report) _ c.if-refused-eq0.true c.in-Ok-put_out.ensures.out.whole
 
 pub returns-in-Ok-2-clause-ends : goal.returns-in-Ok-2-clause-ends
 returns-in-Ok-2-clause-ends g c =
     refused-ends c.args.keep_going (map numbered c.args.commands.now) c.args.session.now.shown c.obey_all.new.session.shown c.in-Ok.refused _ c.in-Ok.ensures.obeyed
-    c.put_out.new.session.shown c.in-Ok-2.ensures.ended (g.P.ByteSink.failed c.obey_all.new.report) _ c.if-refused-eq0.false c.in-Ok-2.ensures.whole
+    c.put_out.new.session.shown c.in-Ok-2.ensures.ended (g.P.ByteSink.failed c.obey_all.new.report) _ c.if-refused-eq0.false c.in-Ok-2.ensures.out.whole
 
-pub returns-in-Ok-2-clause-unwritten : goal.returns-in-Ok-2-clause-unwritten
-returns-in-Ok-2-clause-unwritten g c = λ off. absurd (let on = printed-refused c.args.keep_going c.in-Ok.refused c.in-Ok.ensures.obeyed.goes_on c.if-refused-eq0.false in cc)
-
-pub returns-in-Ok-2-clause-flushed : goal.returns-in-Ok-2-clause-flushed
-returns-in-Ok-2-clause-flushed g c = rw (printed-refused c.args.keep_going c.in-Ok.refused c.in-Ok.ensures.obeyed.goes_on c.if-refused-eq0.false) c.in-Ok-2.ensures.flushed
+pub returns-in-Ok-2-clause-out : goal.returns-in-Ok-2-clause-out
+returns-in-Ok-2-clause-out g c =
+    let on = printed-refused c.args.keep_going c.in-Ok.refused c.in-Ok.ensures.obeyed.goes_on c.if-refused-eq0.false in
+    record { unwritten = λ off. absurd (cc); flushed = rw on c.in-Ok-2.ensures.out.flushed; settled = λ is. c.in-Ok-2.ensures.out.settled }
 
 pub returns-in-Err-put_out-clause-ends : goal.returns-in-Err-put_out-clause-ends
 returns-in-Err-put_out-clause-ends g c =
-    let fails = c.in-Err-put_out.ensures.fault in
+    let fails = c.in-Err-put_out.ensures.out.fault in
     subst (λ (o : Outcome). EndsCommands c.args.keep_going (map numbered c.args.commands.now) c.args.session.now.shown c.put_out.new.session.shown (g.P.ByteSink.failed c.obey_all.new.report)
     (written (g.P.ByteSink.contents c.args.report.now) (g.P.ByteSink.contents c.obey_all.new.report)) (written (g.W.ByteSink.contents c.args.out.now) (g.W.ByteSink.contents c.put_out.new.out)) o)
     (sym (c.from.ensures ∙ ap outcome_of fails.0))
     (cut-ends c.args.keep_going (map numbered c.args.commands.now) c.args.session.now.shown c.obey_all.new.session.shown c.in-Ok.refused _ c.in-Ok.ensures.obeyed
-    c.put_out.new.session.shown c.in-Err-put_out.ensures.ended _ _ c.in-Ok.ensures.works c.in-Err-put_out.ensures.prefix)
+    c.put_out.new.session.shown c.in-Err-put_out.ensures.ended _ _ c.in-Ok.ensures.works c.in-Err-put_out.ensures.out.prefix)

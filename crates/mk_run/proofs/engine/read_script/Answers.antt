@@ -1,7 +1,7 @@
 use Rattle.std.proofs.Common.{sym, subst}
 use Rattle.mk_run.specs.RunSteps.{StopsScript}
 use Rattle.mk_run.specs.declared.outcome.Outcome.{Outcome}
-use Rattle.mk_run.proofs.on_runs.ReadLemmas.{script-unread}
+use Rattle.mk_run.proofs.on_runs.ReadLemmas.{unread}
 use Rattle.mk_run.proofs.engine.read_script.Goals as goal
 
 pub returns-in-Err-clause-stops : goal.returns-in-Err-clause-stops
@@ -10,7 +10,7 @@ returns-in-Err-clause-stops g c =
     let failed = g.S.ByteSource.failed c.read_all.new.source in
     let says = c.read_all.ensures in
     subst (λ (o : Outcome). StopsScript bytes failed o) (sym c.from.ensures)
-    (script-unread c.read_all.result bytes failed c.in-Err.fault c.in-Err.is (record { few = says.few; long = says.too_long; read = says.read; works = says.works }))
+    (unread c.read_all.result bytes failed c.in-Err.fault c.in-Err.is (record { few = says.few; long = says.too_long; read = says.read; works = says.works })).0
 
 pub returns-in-Ok-parse_script-clause-works : goal.returns-in-Ok-parse_script-clause-works
 returns-in-Ok-parse_script-clause-works g c = c.in-Ok.ensures.works (λ no. absurd (cc))

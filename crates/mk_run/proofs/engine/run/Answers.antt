@@ -1,8 +1,8 @@
 use Rattle.std.proofs.Common.{◌≡◌, refl, map, false, true}
 use Rattle.mk_script.specs.Scripts.{numbered}
 use Rattle.mk_run.proofs.on_runs.ReadLemmas.{short-script}
-use Rattle.mk_run.proofs.on_runs.RunLemmas.{depth-stops, script-stops, script-leaves, begun-not_bad, begun-not_no_command}
-use Rattle.mk_run.proofs.engine.run_keeping.Goals as goal
+use Rattle.mk_run.proofs.on_runs.RunLemmas.{depth-stops, script-stops}
+use Rattle.mk_run.proofs.engine.run.Goals as goal
 
 -- what the test does not find does not hold
 is-good : {P : Type 0} → (P → false ≡ true) → P → ⊥
@@ -13,31 +13,26 @@ returns-then-is_bad_depth-clause-law g c = depth-stops _ _ c.args.depth c.args.k
 
 pub returns-in-Err-clause-law : goal.returns-in-Err-clause-law
 returns-in-Err-clause-law g c =
-    script-stops _ _ c.args.depth c.args.keep_going _ _ _ _ c.in-Err.outcome (is-good c.if-is_bad_depth.ensures.1) c.in-Err.ensures.stops
-
-pub returns-clause-law : goal.returns-clause-law
-returns-clause-law g c = c.run_commands.ensures.law _ (rw c.as_slice.ensures.value c.in-Ok.ensures.commands)
-
-pub returns-clause-kept : goal.returns-clause-kept
-returns-clause-kept g c = c.run_commands.ensures.kept _ (rw c.as_slice.ensures.value c.in-Ok.ensures.commands)
+    (script-stops _ _ c.args.depth c.args.keep_going _ _ _ c.args.kept.now _ c.in-Err.outcome (is-good c.if-is_bad_depth.ensures.1) c.in-Err.ensures.stops).0
 
 pub returns-in-Err-clause-kept : goal.returns-in-Err-clause-kept
-returns-in-Err-clause-kept g c = script-leaves _ _ c.args.depth c.args.keep_going _ _ _ _ _ _ c.in-Err.outcome c.in-Err.ensures.stops
+returns-in-Err-clause-kept g c =
+    (script-stops _ _ c.args.depth c.args.keep_going _ _ _ c.args.kept.now _ c.in-Err.outcome (is-good c.if-is_bad_depth.ensures.1) c.in-Err.ensures.stops).1
+
+pub returns-clause-law : goal.returns-clause-law
+returns-clause-law g c = (c.run_commands.ensures.over _ (rw c.as_slice.ensures.value c.in-Ok.ensures.commands)).0
+
+pub returns-clause-kept : goal.returns-clause-kept
+returns-clause-kept g c = (c.run_commands.ensures.over _ (rw c.as_slice.ensures.value c.in-Ok.ensures.commands)).1
 
 pub returns-clause-unread : goal.returns-clause-unread
-returns-clause-unread g c = λ is. absurd (begun-not_bad c.run_commands.result c.run_commands.ensures.begun is)
+returns-clause-unread g c = λ is. absurd (is-good c.if-is_bad_depth.ensures.1 (c.run_commands.ensures.faults.bad_depth.0 is))
 
 pub returns-clause-script_first : goal.returns-clause-script_first
-returns-clause-script_first g c = λ line is. absurd (begun-not_no_command c.run_commands.result line c.run_commands.ensures.begun is)
+returns-clause-script_first g c = λ line is. absurd (c.run_commands.ensures.begun line is)
 
 pub returns-clause-script_long : goal.returns-clause-script_long
 returns-clause-script_long g c = short-script (g.S.ByteSource.remaining c.args.script.now) (map numbered c.in-Ok.commands.items) _ c.in-Ok.ensures.commands
-
-pub returns-clause-bad_depth : goal.returns-clause-bad_depth
-returns-clause-bad_depth g c = (
-  λ is. absurd (begun-not_bad c.run_commands.result c.run_commands.ensures.begun is),
-  λ bad. absurd (is-good c.if-is_bad_depth.ensures.1 bad),
-)
 
 pub run_commands-requires-clause-depth : goal.run_commands-requires-clause-depth
 run_commands-requires-clause-depth g c = is-good c.if-is_bad_depth.ensures.1

@@ -3,13 +3,13 @@ use Rattle.std.proofs.Common.{◌≡◌, ◌≤◌, false, take, map}
 use Rattle.mk_script.specs.Scripts.{numbered}
 use Rattle.mk_run.specs.RunEnds.{written}
 use Rattle.mk_run.specs.RunSteps.{AreObeyed}
-use Rattle.mk_run.proofs.engine.obey_each.Given as goal
+use Rattle.mk_run.proofs.engine.obey_all.Given as goal
 
 abbrev pub invariant-loop-numbered : goal.invariant-loop-numbered
 invariant-loop-numbered g l = record {
   unflushed : g.P.ByteSink.flushes l.report ≡ g.P.ByteSink.flushes l.initial.report;
   works : g.P.ByteSink.failed l.report ≡ false;
   few : l.refused ≤ l.numbered-index;
-  obeyed : AreObeyed l.keep_going (take l.numbered-index (map numbered l.commands)) l.initial.session.shown l.session.shown l.refused
+  obeyed : AreObeyed l.keep_going (take l.numbered-index (map numbered l.commands)) l.fn.session.shown l.session.shown l.refused
       (written (g.P.ByteSink.contents l.initial.report) (g.P.ByteSink.contents l.report));
 }

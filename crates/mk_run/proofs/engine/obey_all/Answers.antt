@@ -8,7 +8,7 @@ use Rattle.mk_run.specs.declared.outcome.Outcome.{Outcome}
 use Rattle.mk_run.specs.ObeyedCommands.{obeyed}
 use Rattle.mk_lines.specs.Device.{AppendsPrefix}
 use Rattle.mk_run.proofs.on_runs.ObeyLemmas.{mapped-at, mapped-more, answered-ok, answered-err, answered-short, granted-next, short-next, refused-next, refused-last, refused-cut, refused-unreported, none-obeyed}
-use Rattle.mk_run.proofs.engine.obey_each.Goals as goal
+use Rattle.mk_run.proofs.engine.obey_all.Goals as goal
 
 pub loop-numbered-init : goal.loop-numbered-init
 loop-numbered-init g c = record { unflushed = search rules; works = search rules; few = omega arith; obeyed = none-obeyed c.args.keep_going c.args.session.now.shown _ }
