@@ -84,15 +84,14 @@ pub fn message<W: ByteSink>(outcome: &Outcome, out: &mut W) -> Result<(), Fault>
     ensures { Writes W.contents W.failed W.flushes out.old out.new result
         (message_of outcome.now) }
 {
-    let text: &[u8] = match outcome {
-        Outcome::NotACommand(line) => return write_not_a_command(out, *line),
-        Outcome::Done | Outcome::Refused(_) => b"",
-        Outcome::BadDepth => b"mkedit: bad depth\n",
-        Outcome::TooLong => b"mkedit: too long\n",
-        Outcome::TooDeep => b"mkedit: too deep\n",
-        Outcome::Read => b"mkedit: read fault\n",
-        Outcome::Write => b"mkedit: write fault\n",
-        Outcome::NoMemory => b"mkedit: no memory\n",
-    };
-    write_all(out, text)
+    match outcome {
+        Outcome::NotACommand(line) => write_not_a_command(out, *line),
+        Outcome::Done | Outcome::Refused(_) => write_all(out, b""),
+        Outcome::BadDepth => write_all(out, b"mkedit: bad depth\n"),
+        Outcome::TooLong => write_all(out, b"mkedit: too long\n"),
+        Outcome::TooDeep => write_all(out, b"mkedit: too deep\n"),
+        Outcome::Read => write_all(out, b"mkedit: read fault\n"),
+        Outcome::Write => write_all(out, b"mkedit: write fault\n"),
+        Outcome::NoMemory => write_all(out, b"mkedit: no memory\n"),
+    }
 }

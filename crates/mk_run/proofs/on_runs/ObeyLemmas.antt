@@ -198,5 +198,5 @@ module _ (earlier : List CommandAt) (c : CommandAt) (later : List CommandAt) (fi
   }
 
 -- no command yet
-pub none-obeyed : (k : Bool) (first : Shown (List ℕ)) (a : Option (List ℕ)) → AreObeyed k [] first first 0 (written a a)
-none-obeyed k first a = record { goes_on = λ off. refl; number = refl; shown = refl; reported = Appends-nil a }
+pub none-obeyed : (k : Bool) (first last : Shown (List ℕ)) (a : Option (List ℕ)) → last ≡ first → AreObeyed k [] first last 0 (written a a)
+none-obeyed k first last a same = record { goes_on = λ off. refl; number = refl; shown = same; reported = Appends-nil a }

@@ -246,12 +246,12 @@ module _ (k : Bool) (commands : List CommandAt) (first : Shown (List ℕ)) where
         subst (λ (f : Bool). IsLeftCut k f commands first new) (sym works) (is ∙ ap ended are.shown),
       )
 
--- the commands were reached
+-- the commands were reached, and no text is out
 pub stopped-reached : (k : Bool) (commands : List CommandAt) (first last : Shown (List ℕ)) (failed : Bool) (report : Written) (outcome : o.Outcome) → StopsCommands k commands first last failed report outcome
-    → may_report outcome ≡ true
-stopped-reached k commands first last failed report (Refused n) stops = refl
-stopped-reached k commands first last failed report NoMemory stops = refl
-stopped-reached k commands first last failed report Write stops = refl
+    → (may_report outcome ≡ true) × (is_printed outcome k ≡ false)
+stopped-reached k commands first last failed report (Refused n) (works, are) = (refl, are.ends)
+stopped-reached k commands first last failed report NoMemory stops = (refl, refl)
+stopped-reached k commands first last failed report Write stops = (refl, refl)
 stopped-reached k commands first last failed report Done stops = absurd stops
 stopped-reached k commands first last failed report (NotACommand line) stops = absurd stops
 stopped-reached k commands first last failed report BadDepth stops = absurd stops

@@ -1,5 +1,6 @@
-use Rattle.std.proofs.Common.{◌+◌, ◌∙◌, [], suc, take, drop, map, List, ap, sym, subst, arith, rules}
+use Rattle.std.proofs.Common.{◌≡◌, ◌+◌, ◌∙◌, [], suc, take, drop, map, List, ap, sym, subst, arith, rules}
 use Rattle.mk_session.specs.CommandViews.{command_of}
+use Rattle.mk_session.specs.Sessions.{Seen}
 use Rattle.mk_script.specs.Scripts.{CommandAt, numbered}
 use Rattle.mk_run.specs.RunEnds.{IsLeftShort, IsLeftUnreported, written}
 use Rattle.mk_run.specs.Outcome.{outcome_of}
@@ -9,9 +10,15 @@ use Rattle.mk_run.specs.ObeyedCommands.{obeyed}
 use Rattle.mk_lines.specs.Device.{AppendsPrefix}
 use Rattle.mk_run.proofs.on_runs.ObeyLemmas.{mapped-at, mapped-more, answered-ok, answered-err, answered-short, granted-next, short-next, refused-next, refused-last, refused-cut, refused-unreported, none-obeyed}
 use Rattle.mk_run.proofs.engine.obey_all.Goals as goal
+use Rattle.mk_run.proofs.engine.obey_all.Goals.{then-commands-ge-MANY_COMMANDS, else-commands-ge-MANY_COMMANDS}
 
 pub loop-numbered-init : goal.loop-numbered-init
-loop-numbered-init g c = record { unflushed = search rules; works = search rules; few = omega arith; obeyed = none-obeyed c.args.keep_going c.args.session.now.shown _ }
+loop-numbered-init g c =
+    let same : c.if-commands-ge-MANY_COMMANDS.session.shown ≡ c.args.session.now.shown = elim c.if-commands-ge-MANY_COMMANDS.branch [
+      | then-commands-ge-MANY_COMMANDS w ↦ ap (λ (s : Seen). s.shown) w.session-is ∙ w.expect_edits.ensures.same
+      | else-commands-ge-MANY_COMMANDS w ↦ ap (λ (s : Seen). s.shown) w.session-is
+    ] in
+    record { unflushed = search rules; works = search rules; few = omega arith; obeyed = none-obeyed c.args.keep_going c.args.session.now.shown c.if-commands-ge-MANY_COMMANDS.session.shown _ same }
 
 pub loop-numbered-preserved-in_default : goal.loop-numbered-preserved-in_default
 loop-numbered-preserved-in_default g c =

@@ -1,6 +1,6 @@
-use Rattle.std.proofs.Common.{◌∙◌, sym, ap, subst, map}
+use Rattle.std.proofs.Common.{◌∙◌, refl, sym, ap, subst, map}
 use Rattle.mk_script.specs.Scripts.{numbered}
-use Rattle.mk_run.specs.Outcome.{outcome_of}
+use Rattle.mk_run.specs.Outcome.{is_printed, outcome_of}
 use Rattle.mk_run.specs.RunEnds.{written}
 use Rattle.mk_run.specs.RunSteps.{EndsCommands}
 use Rattle.mk_run.specs.declared.outcome.Outcome.{Outcome}
@@ -12,7 +12,24 @@ returns-in-Err-clause-ends g c =
     stopped-ends c.args.keep_going (map numbered c.args.commands.now) c.args.session.now.shown c.obey_all.new.session.shown _ c.in-Err.early _ _ c.in-Err.ensures.stops
 
 pub returns-in-Err-clause-reached : goal.returns-in-Err-clause-reached
-returns-in-Err-clause-reached g c = stopped-reached c.args.keep_going (map numbered c.args.commands.now) c.args.session.now.shown c.obey_all.new.session.shown _ _ c.in-Err.early c.in-Err.ensures.stops
+returns-in-Err-clause-reached g c =
+    (stopped-reached c.args.keep_going (map numbered c.args.commands.now) c.args.session.now.shown c.obey_all.new.session.shown _ _ c.in-Err.early c.in-Err.ensures.stops).0
+
+pub returns-in-Err-clause-out : goal.returns-in-Err-clause-out
+returns-in-Err-clause-out g c =
+    let off =
+    (stopped-reached c.args.keep_going (map numbered c.args.commands.now) c.args.session.now.shown c.obey_all.new.session.shown (g.P.ByteSink.failed c.obey_all.new.report)
+    (written (g.P.ByteSink.contents c.args.report.now) (g.P.ByteSink.contents c.obey_all.new.report)) c.in-Err.early c.in-Err.ensures.stops).1 in
+    record { unwritten = λ no works. refl; flushed = rw off refl; settled = λ on. absurd (cc) }
+
+pub returns-in-Ok-put_out-clause-out : goal.returns-in-Ok-put_out-clause-out
+returns-in-Ok-put_out-clause-out g c = record { unwritten = λ off. absurd (cc); flushed = c.in-Ok-put_out.ensures.out.flushed; settled = λ on. c.in-Ok-put_out.ensures.out.settled }
+
+pub returns-in-Err-put_out-clause-out : goal.returns-in-Err-put_out-clause-out
+returns-in-Err-put_out-clause-out g c =
+    let fails = c.in-Err-put_out.ensures.out.fault in
+    let off = ap (λ (o : Outcome). is_printed o c.args.keep_going) (c.from.ensures ∙ ap outcome_of fails.0) in
+    record { unwritten = λ no works. absurd (let failed = fails.1 in cc); flushed = rw off c.in-Err-put_out.ensures.out.flushed; settled = λ on. absurd (cc) }
 
 pub returns-in-Ok-put_out-clause-ends : goal.returns-in-Ok-put_out-clause-ends
 returns-in-Ok-put_out-clause-ends g c =

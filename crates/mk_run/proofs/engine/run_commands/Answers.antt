@@ -1,5 +1,7 @@
-use Rattle.std.proofs.Common.{refl, map, rules}
+use Rattle.std.proofs.Common.{refl, map, rules, subst}
 use Rattle.mk_script.specs.Scripts.{numbered}
+use Rattle.mk_run.specs.RunSteps.{StopsMakefile}
+use Rattle.mk_run.specs.declared.outcome.Outcome.{Outcome}
 use Rattle.mk_run.specs.declared.outcome.Outcome.TheVariants.{BadDepth, NotACommand, Read}
 use Rattle.mk_run.proofs.on_runs.RunLemmas.{makefile-stops, makefile-unopened, commands-over, reached-other}
 use Rattle.mk_run.proofs.engine.run_commands.Goals as goal
@@ -9,11 +11,13 @@ returns-in-Err-clause-over g c = λ script says.
     makefile-stops _ script c.args.depth c.args.keep_going _ _ _ _ (map numbered c.args.commands.now) _ c.in-Err.outcome c.requires.depth says c.in-Err.ensures.stops
 
 pub returns-in-Err-clause-faults : goal.returns-in-Err-clause-faults
-returns-in-Err-clause-faults g c = record {
-  bad_depth = search rules;
-  read = (makefile-unopened _ _ c.in-Err.outcome c.args.keep_going c.in-Err.ensures.stops).0;
-  write = search rules;
-}
+returns-in-Err-clause-faults g c =
+    let stops-as = λ (o : Outcome). StopsMakefile (g.R.ByteSource.remaining c.args.makefile.now) (g.R.ByteSource.failed c.open_makefile.new.makefile) o in
+    record {
+      bad_depth = (λ is. absurd (subst stops-as is c.in-Err.ensures.stops), λ bad. absurd (c.requires.depth bad));
+      read = (makefile-unopened (g.R.ByteSource.remaining c.args.makefile.now) (g.R.ByteSource.failed c.open_makefile.new.makefile) c.in-Err.outcome c.args.keep_going c.in-Err.ensures.stops).0;
+      write = (λ is. absurd (subst stops-as is c.in-Err.ensures.stops), λ fails. absurd (let no = rw (c.requires.out_works, c.requires.report_works) at fails in cc));
+    }
 
 pub returns-in-Err-clause-out : goal.returns-in-Err-clause-out
 returns-in-Err-clause-out g c =
