@@ -1,4 +1,5 @@
 -- Lemmas. The line that an edit means, and the lines round it.
+pub mod Walks
 pub mod PartLemmas
 pub mod SeekLemmas
 pub mod FindLemmas

@@ -1,2 +1,3 @@
 -- Lemmas. The recipes of rules, and the edits of rules and recipes.
+pub mod WalksDown
 pub mod WalkLemmas

@@ -1,17 +1,15 @@
 -- Walks down from the header of a rule, on lines as a document shows them.
 -- Told in docs/ARCHITECTURE.md, "An edit's way, from Edit to moved lines".
-use Rattle.std.specs.Prelude.{◌==◌, ◌||◌, if◌then◌else◌, ℕ, ◌+◌, Bool, true, false, List, [], ◌∷◌, length, drop, take, Option, Some, None}
+use Rattle.std.specs.Prelude.{ℕ, Bool, true, false, List, [], length, drop, take}
 use Rattle.mk_class.specs.declared.class.Class.{Class}
 use Rattle.mk_class.specs.declared.class.Class.TheVariants.{Recipe, Header}
 use Rattle.mk_class.specs.Classes as classes
-use Rattle.mk_class.specs.LocatedClasses.{leaves_flag_located}
 use Rattle.mk_class.specs.ClassedLines.{ClassedLine, classed_lines}
-use Rattle.mk_tree.specs.LocatedLines.{LocatedLine, located_text, is_conditional_located, text_of_line}
+use Rattle.mk_tree.specs.LocatedLines.{LocatedLine, located_text, text_of_line}
 use Rattle.mk_tree.specs.RecipeLines.{recipe_lines}
 use Rattle.mk_tree.specs.LineTexts.{StandingLine}
 use Rattle.mk_edit_language.specs.Spots.{spots}
 use Rattle.mk_edit_parts.specs.LocatedParts.{words_before}
-use Rattle.mk_edit_parts.specs.declared.recipe.Recipe as recipe
 
 -- the lines of a document's text from an index on
 abbrev pub lines_from : List LocatedLine → (at : ℕ) → List ClassedLine
@@ -26,28 +24,6 @@ recipe_spots_in after =
 abbrev pub is_recipe_located : Class → Bool
 is_recipe_located Recipe = true
 is_recipe_located k = false
-
--- What a walk has found after some more lines; the first of these stands at this index. It has
--- found where the recipe ends, and whether a line of a conditional was passed before that end.
--- `conditional` says whether such a line was passed so far.
-abbrev pub recipe_from : recipe.Recipe → (conditional : Bool) → (at : ℕ) → List LocatedLine
-    → recipe.Recipe
-recipe_from r c at [] = r
-recipe_from r c at (l ∷ ls) =
-    if is_recipe_located l.class
-    then recipe_from (record { end = at + 1; is_split = c }) c (at + 1) ls
-    else if leaves_flag_located l.class
-    then recipe_from r (c || is_conditional_located l.class) (at + 1) ls
-    else r
-
--- where the recipe line of this number stands; `passed` recipe lines were passed so far
-abbrev pub recipe_index_from : (number passed at : ℕ) → List LocatedLine → Option ℕ
-recipe_index_from n p at [] = None
-recipe_index_from n p at (l ∷ ls) =
-    if is_recipe_located l.class
-    then (if p + 1 == n then Some at else recipe_index_from n (p + 1) (at + 1) ls)
-    else if leaves_flag_located l.class then recipe_index_from n p (at + 1) ls
-    else None
 
 -- ---- the targets of a header
 

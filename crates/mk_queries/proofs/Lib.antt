@@ -1,4 +1,5 @@
 -- Lemmas by subject
+pub mod WalksAhead
 pub mod SaidSoFar
 pub mod SpacingLemmas
 pub mod on_parts

@@ -13,7 +13,8 @@ use Rattle.mk_tree.specs.LocatedLines.{LocatedLine, located_line, located_lines,
 use Rattle.mk_tree.specs.RecipeLines.{stays_in_rule, rule_lines, recipe_lines, recipe_run}
 use Rattle.mk_tree.specs.LineTexts.{StandingLine}
 use Rattle.mk_edit_language.specs.Spots.{spots, spot_if, under, nth_of}
-use Rattle.mk_edit_parts.specs.RecipeWalks.{lines_from, recipe_spots_in, is_recipe_located, recipe_from, recipe_index_from}
+use Rattle.mk_edit_parts.specs.RecipeWalks.{lines_from, recipe_spots_in, is_recipe_located}
+use Rattle.mk_edit_parts.proofs.on_recipes.WalksDown.{recipe_from, recipe_index_from}
 use Rattle.mk_edit_parts.specs.declared.recipe.Recipe as recipe
 use Rattle.mk_edit_parts.proofs.on_finding.LeanLemmas.{asked, drop_at}
 

@@ -6,7 +6,8 @@ use Rattle.mk_class.specs.Contexts.{Admits, context_after_located, start}
 use Rattle.mk_class.specs.RecipePrefix.{is_prefix_name}
 use Rattle.mk_tree.specs.Admissions.{AreAdmitted}
 use Rattle.mk_tree.specs.LocatedLines.{LocatedLine, text_of_line}
-use Rattle.mk_edit_parts.specs.LocatedParts.{AreEachClassed, IsClassed, is_unread_in, is_unread_located}
+use Rattle.mk_edit_parts.specs.LocatedParts.{IsClassed, is_unread_in, is_unread_located}
+use Rattle.mk_edit_parts.proofs.on_finding.Walks.{AreEachClassed}
 use Rattle.mk_edit_parts.specs.declared.seek.Found.{Found}
 use Rattle.mk_patch.specs.Moves.{Move, Exchange, after_moves}
 use Rattle.mk_index.specs.Assignments.{assignments_from, below, below_all, first_place, name_assigned, name_in, with_assigned}

@@ -10,7 +10,8 @@ use Rattle.mk_tree.specs.Documents.{IsFaithful}
 use Rattle.mk_tree.specs.LocatedLines.{LocatedLine, context_after_located_lines}
 use Rattle.mk_tree.specs.UnreadPrefixes.{IsEndOf}
 use Rattle.mk_tree.specs.declared.end.End.{End}
-use Rattle.mk_edit_parts.specs.LocatedParts.{AreEachClassed, is_unread_located}
+use Rattle.mk_edit_parts.specs.LocatedParts.{is_unread_located}
+use Rattle.mk_edit_parts.proofs.on_finding.Walks.{AreEachClassed}
 use Rattle.mk_edit_parts.specs.declared.seek.Found.{Found}
 use Rattle.mk_edit_parts.proofs.on_finding.SeekLemmas.{faithful-each}
 use Rattle.mk_index.specs.Assignments.{Assignment, assignments, assignments_from, below, below_all, first_place, name_assigned, with_assigned}

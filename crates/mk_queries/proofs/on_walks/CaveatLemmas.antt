@@ -13,7 +13,8 @@ use Rattle.mk_queries.specs.StandingLines.{standing_below}
 use Rattle.mk_queries.specs.declared.caveat.Caveat.{Caveat}
 use Rattle.mk_queries.specs.declared.seen.Seen.{Seen}
 use Rattle.mk_queries.specs.Caveats.{caveat_line, caveat_of, caveat_text, caveats_text, flag_by, lines_passing, seen_above, tells_make, tells_outside}
-use Rattle.mk_queries.specs.QueryWalks.{line_feeds, seen_after, caveats_ahead}
+use Rattle.mk_queries.specs.QueryWalks.{line_feeds, seen_after}
+use Rattle.mk_queries.proofs.WalksAhead.{caveats_ahead}
 use Rattle.mk_queries.proofs.SaidSoFar.{said-next}
 use Rattle.mk_queries.proofs.on_walks.SaidLemmas.{number_below, number-next}
 

@@ -27,7 +27,8 @@ use Rattle.mk_queries.specs.PartTexts.{targets_text, pattern_text, order_only_te
 use Rattle.mk_queries.specs.ItemLines.{position_text, rule_line}
 use Rattle.mk_queries.specs.LocatedTexts.{header_located, count_located, rule_located, counted_after, count_of, one_more}
 use Rattle.mk_queries.specs.Queries.{said_of_lines, rules_text}
-use Rattle.mk_queries.specs.QueryWalks.{line_feeds, rules_ahead}
+use Rattle.mk_queries.specs.QueryWalks.{line_feeds}
+use Rattle.mk_queries.proofs.WalksAhead.{rules_ahead}
 use Rattle.mk_queries.proofs.on_parts.HeaderPartLemmas.{header-seen, inline-counted}
 use Rattle.mk_queries.proofs.SaidSoFar.{said-next}
 use Rattle.mk_queries.proofs.on_walks.SaidLemmas.{number_below, number-next}

@@ -12,7 +12,8 @@ use Rattle.mk_tree.specs.Documents.{IsFaithful}
 use Rattle.mk_tree.proofs.on_documents.LinesInText.{LineInText, line-in_text, text_of-append, context_of-last}
 use Rattle.mk_queries.specs.StandingLines.{standing_below, standing_lines, line_number}
 use Rattle.mk_queries.specs.Queries.{said_of_lines}
-use Rattle.mk_queries.specs.QueryWalks.{line_feeds, said_ahead}
+use Rattle.mk_queries.specs.QueryWalks.{line_feeds}
+use Rattle.mk_queries.proofs.WalksAhead.{said_ahead}
 use Rattle.mk_queries.proofs.on_walks.NumberLemmas.{length-physical_lines, line_feeds-append}
 
 -- the number of a line below others

@@ -15,7 +15,8 @@ use Rattle.mk_tree.specs.Documents.{IsFaithful}
 use Rattle.mk_queries.specs.StandingLines.{line_number}
 use Rattle.mk_queries.specs.ItemLines.{unread_line}
 use Rattle.mk_queries.specs.Queries.{end_lines, check_text}
-use Rattle.mk_queries.specs.QueryWalks.{line_feeds, said_ahead, unread_located, unread_ahead}
+use Rattle.mk_queries.specs.QueryWalks.{line_feeds, unread_located}
+use Rattle.mk_queries.proofs.WalksAhead.{said_ahead, unread_ahead}
 use Rattle.mk_queries.proofs.SaidSoFar.{said-next}
 use Rattle.mk_queries.proofs.on_walks.SaidLemmas.{said-document}
 

@@ -12,7 +12,8 @@ use Rattle.mk_queries.specs.StandingLines.{line_number, depth}
 use Rattle.mk_queries.specs.ItemLines.{variable_line}
 use Rattle.mk_queries.specs.LocatedTexts.{IsClassedIn, variable_located}
 use Rattle.mk_queries.specs.Queries.{vars_text}
-use Rattle.mk_queries.specs.QueryWalks.{line_feeds, variables_ahead}
+use Rattle.mk_queries.specs.QueryWalks.{line_feeds}
+use Rattle.mk_queries.proofs.WalksAhead.{variables_ahead}
 use Rattle.mk_queries.proofs.on_parts.AssignmentPartLemmas.{variable-item}
 use Rattle.mk_queries.proofs.SaidSoFar.{said-next}
 use Rattle.mk_queries.proofs.on_walks.SaidLemmas.{said-document}

@@ -1,6 +1,6 @@
 -- What the lines from here on add is what those from the header on say.
 use Rattle.std.proofs.Common.{◌≡◌, drop, false}
-use Rattle.mk_edit_parts.specs.RecipeWalks.{recipe_from}
+use Rattle.mk_edit_parts.proofs.on_recipes.WalksDown.{recipe_from}
 use Rattle.mk_edit_parts.proofs.recipe.recipe_below.Given as goal
 
 abbrev pub invariant-lines : goal.invariant-lines

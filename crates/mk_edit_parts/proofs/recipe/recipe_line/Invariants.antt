@@ -1,6 +1,6 @@
 -- What the lines from here on say is what those from the header on say; no more are counted than were passed.
 use Rattle.std.proofs.Common.{◌≡◌, ◌≤◌, ◌+◌, drop}
-use Rattle.mk_edit_parts.specs.RecipeWalks.{recipe_index_from}
+use Rattle.mk_edit_parts.proofs.on_recipes.WalksDown.{recipe_index_from}
 use Rattle.mk_edit_parts.proofs.recipe.recipe_line.Given as goal
 
 abbrev pub invariant-lines : goal.invariant-lines

@@ -3,8 +3,9 @@
 use Rattle.std.proofs.Common.{◌≡◌, ◌≤◌, ◌+◌, length}
 use Rattle.mk_tree.specs.Admissions.{AreAdmitted}
 use Rattle.mk_edit_parts.specs.AddressViews.{address_seen}
-use Rattle.mk_edit_parts.specs.LocatedParts.{AreEachClassed}
-use Rattle.mk_edit_parts.specs.Seeking.{may_mean, nothing_seen, seek}
+use Rattle.mk_edit_parts.proofs.on_finding.Walks.{AreEachClassed}
+use Rattle.mk_edit_parts.specs.Seeking.{may_mean, nothing_seen}
+use Rattle.mk_edit_parts.proofs.on_finding.Walks.{seek}
 use Rattle.mk_edit_parts.proofs.seek.seek.Given as goal
 
 abbrev pub invariant-lines : goal.invariant-lines

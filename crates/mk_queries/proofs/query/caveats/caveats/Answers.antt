@@ -6,7 +6,8 @@ use Rattle.mk_tree.specs.Trees.{line_view}
 use Rattle.mk_tree.specs.TreeWalks.{LinesInContext}
 use Rattle.mk_tree.proofs.Prefixes.{gathers-nothing, gathers-then, gathers-front, writes-gathered, writes-fails}
 use Rattle.mk_queries.specs.Caveats.{caveat_text}
-use Rattle.mk_queries.specs.QueryWalks.{line_feeds, seen_after, caveats_ahead}
+use Rattle.mk_queries.specs.QueryWalks.{line_feeds, seen_after}
+use Rattle.mk_queries.proofs.WalksAhead.{caveats_ahead}
 use Rattle.mk_queries.proofs.SaidSoFar.{said-end}
 use Rattle.mk_queries.proofs.on_walks.CaveatLemmas.{caveats-next, caveats-walk}
 use Rattle.mk_queries.proofs.on_walks.VariableLemmas.{AreClassedIn, document-classed, first-classed, rest-classed}

@@ -7,7 +7,7 @@ use Rattle.mk_class.specs.Contexts.{start}
 use Rattle.mk_tree.specs.LocatedLines.{size_of}
 use Rattle.mk_tree.specs.Printing.{Gathers}
 use Rattle.mk_queries.specs.Caveats.{seen_above}
-use Rattle.mk_queries.specs.QueryWalks.{caveats_ahead}
+use Rattle.mk_queries.proofs.WalksAhead.{caveats_ahead}
 use Rattle.mk_queries.proofs.on_walks.VariableLemmas.{AreClassedIn}
 use Rattle.mk_queries.proofs.query.caveats.caveats.Given as goal
 

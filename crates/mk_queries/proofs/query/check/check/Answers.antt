@@ -4,7 +4,8 @@ use Rattle.mk_tree.specs.LocatedLines.{size_of}
 use Rattle.mk_tree.specs.Trees.{line_view}
 use Rattle.mk_tree.specs.Printing.{Gathers}
 use Rattle.mk_tree.proofs.Prefixes.{gathers-nothing, gathers-then, gathers-front, writes-gathered, writes-fails}
-use Rattle.mk_queries.specs.QueryWalks.{line_feeds, unread_located, unread_ahead}
+use Rattle.mk_queries.specs.QueryWalks.{line_feeds, unread_located}
+use Rattle.mk_queries.proofs.WalksAhead.{unread_ahead}
 use Rattle.mk_queries.proofs.SaidSoFar.{said-end}
 use Rattle.mk_queries.proofs.on_walks.UnreadLemmas.{unread-next, check-walk, check-end}
 use Rattle.mk_queries.proofs.query.check.check.Goals as goal

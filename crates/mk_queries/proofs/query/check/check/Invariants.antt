@@ -5,7 +5,7 @@ use Rattle.std.specs.Prelude.{Ok}
 use Rattle.mk_lines.specs.Limits.{max_text}
 use Rattle.mk_tree.specs.LocatedLines.{size_of}
 use Rattle.mk_tree.specs.Printing.{Gathers}
-use Rattle.mk_queries.specs.QueryWalks.{unread_ahead}
+use Rattle.mk_queries.proofs.WalksAhead.{unread_ahead}
 use Rattle.mk_queries.proofs.query.check.check.Given as goal
 
 abbrev pub invariant-lines : goal.invariant-lines

@@ -6,7 +6,8 @@ use Rattle.mk_tree.specs.Trees.{line_view}
 use Rattle.mk_tree.specs.TreeWalks.{LinesInContext}
 use Rattle.mk_tree.proofs.Prefixes.{gathers-nothing, gathers-then, gathers-front, writes-gathered, writes-fails}
 use Rattle.mk_queries.specs.LocatedTexts.{variable_located}
-use Rattle.mk_queries.specs.QueryWalks.{line_feeds, variables_ahead}
+use Rattle.mk_queries.specs.QueryWalks.{line_feeds}
+use Rattle.mk_queries.proofs.WalksAhead.{variables_ahead}
 use Rattle.mk_queries.proofs.SaidSoFar.{said-end}
 use Rattle.mk_queries.proofs.on_walks.VariableLemmas.{AreClassedIn, document-classed, first-classed, rest-classed, variables-next, vars-walk}
 use Rattle.mk_queries.proofs.query.vars.vars.Goals as goal

@@ -6,7 +6,7 @@ use Rattle.mk_lines.specs.Limits.{max_text}
 use Rattle.mk_class.specs.Contexts.{start}
 use Rattle.mk_tree.specs.LocatedLines.{size_of}
 use Rattle.mk_tree.specs.Printing.{Gathers}
-use Rattle.mk_queries.specs.QueryWalks.{variables_ahead}
+use Rattle.mk_queries.proofs.WalksAhead.{variables_ahead}
 use Rattle.mk_queries.proofs.on_walks.VariableLemmas.{AreClassedIn}
 use Rattle.mk_queries.proofs.query.vars.vars.Given as goal
 

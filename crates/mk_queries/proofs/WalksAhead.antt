@@ -1,0 +1,44 @@
+-- What walks over the lines of a document say of the lines ahead.
+use Rattle.std.specs.Prelude.{ℕ, ◌+◌, Option, List, [], ◌∷◌, ◌++◌}
+use Rattle.mk_class.specs.Contexts.{Context, context_after_located}
+use Rattle.mk_tree.specs.LocatedLines.{LocatedLine, text_of_line}
+use Rattle.mk_queries.specs.declared.seen.Seen.{Seen}
+use Rattle.mk_queries.specs.Caveats.{caveat_of, caveat_text}
+use Rattle.mk_queries.specs.LocatedTexts.{variable_located, count_located, rule_located, counted_after}
+use Rattle.mk_queries.specs.QueryWalks.{line_feeds, seen_after, unread_located}
+
+-- what is said of some lines, the first of which has this number and stands in this context: of
+-- each line, with its own number and context
+abbrev pub said_ahead : (say : ℕ → Context → LocatedLine → List ℕ) → (number : ℕ) → Context
+    → List LocatedLine → List ℕ
+said_ahead say n c [] = []
+said_ahead say n c (l ∷ ls) =
+    say n c l ++ said_ahead say (n + line_feeds l.bytes) (context_after_located c l.class) ls
+
+-- what is said of some lines, the first of which has this number
+abbrev pub unread_ahead : (number : ℕ) → List LocatedLine → List ℕ
+unread_ahead n [] = []
+unread_ahead n (l ∷ ls) = unread_located n l.class ++ unread_ahead (n + line_feeds l.bytes) ls
+
+-- what is said of some lines, the first of which has this number and stands in this context
+abbrev pub variables_ahead : (number : ℕ) → Context → List LocatedLine → List ℕ
+variables_ahead n c ls =
+    said_ahead (λ n c l. variable_located n c.conditionals (text_of_line l) l.class) n c ls
+
+-- what is said of some lines, the first of which has this number and stands in this context;
+-- `counted` is the number of recipe lines so far of a header above them whose line is not yet ended
+abbrev pub rules_ahead : (number : ℕ) → Context → (counted : Option ℕ) → List LocatedLine → List ℕ
+rules_ahead n c o [] = count_located o
+rules_ahead n c o (l ∷ ls) =
+    rule_located n c.conditionals o (text_of_line l) l.class
+    ++ rules_ahead (n + line_feeds l.bytes) (context_after_located c l.class)
+    (counted_after o l.class) ls
+
+-- what is said of some lines, the first of which has this number and stands in this context, below
+-- lines that leave these flags
+abbrev pub caveats_ahead : (number : ℕ) → Context → Seen → List LocatedLine → List ℕ
+caveats_ahead n c s [] = []
+caveats_ahead n c s (l ∷ ls) =
+    caveat_text n (caveat_of c s l)
+    ++ caveats_ahead (n + line_feeds l.bytes) (context_after_located c l.class) (seen_after c s l)
+    ls
