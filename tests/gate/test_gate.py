@@ -131,9 +131,9 @@ class Texts(InRoom):
         self.assert_old("docs/mkedit.1", "docs/mkedit-script.5")
 
     def test_a_contract_that_names_another_definition_makes_its_page_old(self):
-        self.change("crates/mk_edit/src/planning.rt", "IfErr result (λ refusal.", "IfErr result (λ _.")
+        self.change("crates/mk_edit/src/lib.rt", "pub use planning::{plan, plan_with};", "pub use planning::{plan_with, plan};")
         self.assert_old()
-        self.change("crates/mk_edit/src/planning.rt", "AreCounted meter.old", "located_text meter.old")
+        self.change("crates/mk_edit/src/planning.rt", "Plans (edit_of edit.now) doc.now meter.old meter.new result", "IsFaithful doc.now")
         self.assert_old("docs/BELIEVED.md")
 
     def test_a_definition_that_gets_a_line_makes_its_page_old(self):
@@ -187,7 +187,7 @@ class Meters(InRoom):
             (moves, "Line::read(alloc, bytes, context, meter)", f"Line::read(alloc, bytes, context, {new})"),
             (read, "(&bytes, &cells, context, meter)", f"(&bytes, &cells, context, {new})"),
             (unread, "self.end.context = after;", f"let _ = read_again(line, {new}); self.end.context = after;"),
-            (session, "let _few = doc.len();", "let _few = doc.len(); let meter = Meter :: new();"),
+            (session, "let opened_at = meter.count();", "let opened_at = meter.count(); let meter = Meter :: new();"),
             ("crates/mk_queries/src/caveat.rt", "match name {", f"let _ = text(name, {new}); match name {{"),
             ("crates/mkedit/src/main.rt", "fn main", "fn made() { let _ = mk_class::Meter::new; }\nfn main"),
             (moves, "use mk_class::{Context, Meter};", "use mk_class::{Context, Meter as Count};"),
@@ -196,7 +196,7 @@ class Meters(InRoom):
             (meter, "#[derive(Debug, Drop)]", "#[derive(Clone, Debug, Drop)]"),
             (meter, "    /// How many lines were", "    pub fn at(count: u64) -> Self { Meter { count } }\n    /// How many lines were"),
             ("crates/mk_class/src/reading.rt", "fn text_class(", "pub fn text_class("),
-            (session, "let _few = doc.len();", "let _few = doc.len(); let _ = Session::open(alloc, b\"\", 1);"),
+            (session, "let opened_at = meter.count();", "let opened_at = meter.count(); let _ = Session::open(alloc, b\"\", 1);"),
             (moves, "use mk_class::{Context, Meter};", "use mk_class::{Context, Meter};\nfn f() { mk_session::Session::open_vec(); }"),
             ("crates.txt", "mk_edit: mk_lines", "mk_edit: mk_queries mk_lines"),
         ):
