@@ -180,8 +180,11 @@ class SideBySide(RoomCase):
         # (the right one ends first, and neither ends before the other has begun)
         tree.let("waits", "right", "left begins")
         tree.let("waits", "left", "right ends")
-        wanted = FIRST_LINE + proved("low", "right", "left", "mkedit") + END
-        self.assert_well(tree.differs((wanted, "", 0), tree.build()))
+        built = tree.build()
+        # (on a busy machine both may have ended when the tool looks, and then it tells either one first)
+        sides = (("right", "left"), ("left", "right"))
+        wanted = [(FIRST_LINE + proved("low", *side, "mkedit") + END, "", 0) for side in sides]
+        self.assert_well(min((list(tree.differs(it, built)) for it in wanted), key=len))
         self.assertEqual(sorted(tree.begun()), [("left", 2), ("low", 4), ("right", 2)])
         self.assertIn("rt run --jobs 4 -- --help", tree.events())
         self.assertNotIn("no lock", tree.events())
