@@ -3,6 +3,7 @@
 pub mod AddressViews
 pub mod LocatedParts
 pub mod Seeking
+pub mod Windows
 pub mod Found
 pub mod LineRanges
 -- The recipe of a rule, and its edits

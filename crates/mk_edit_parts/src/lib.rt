@@ -38,4 +38,5 @@ pub mod renamed_line;
 pub mod seek;
 pub mod tally;
 pub mod text;
+pub mod window;
 pub mod word_parts;

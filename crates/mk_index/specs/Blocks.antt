@@ -1,0 +1,44 @@
+-- The blocks of an index: the lines of a document, cut into stretches.
+-- Told in docs/ARCHITECTURE.md, "The index of a session".
+use Rattle.std.specs.Prelude.{◌≡◌, ◌×◌, ℕ, ◌+◌, Bool, true, false, if◌then◌else◌, List, [], ◌∷◌, ◌++◌, length, Option, Some, None}
+use Rattle.mk_class.specs.Contexts.{Context}
+use Rattle.mk_tree.specs.LocatedLines.{LocatedLine, context_after_located_lines}
+use Rattle.mk_index.specs.Chains.{Mention, AreMentioned}
+use Rattle.mk_index.specs.Keys.{hashes_of}
+use Rattle.mk_index.specs.declared.blocks.Block.{Block}
+
+-- the keys of some lines are mentioned, with the block of this number
+abbrev pub AreLinesMentioned : List Mention → (block : ℕ) → List LocatedLine → Type 0
+AreLinesMentioned ms n [] = Unit {0}
+AreLinesMentioned ms n (l ∷ ls) = AreMentioned ms n (hashes_of l) × AreLinesMentioned ms n ls
+
+-- a context is the one that is expected, if one is
+abbrev pub IsExpected : Option Context → Context → Type 0
+IsExpected None c = Unit {0}
+IsExpected (Some d) c = c ≡ d
+
+-- The context that is expected after a block with these lines: the one that they leave; none if the
+-- block is stale.
+abbrev pub expected_after : Block → List LocatedLine → Option Context
+expected_after b ls = if b.is_stale then None else Some (context_after_located_lines b.context ls)
+
+-- A block at the front of some lines: how many they are, and the context before them, if one is
+-- expected. If the block is not stale, their keys are mentioned. `next` says what holds of the lines
+-- after the block, and of the context that is expected there.
+pub record IsBlock (mentions : List Mention) (number : ℕ) (expected : Option Context)
+    (ls : List LocatedLine) (b : Block) (next : Option Context → List LocatedLine → Type 0)
+    : Type 0 where
+  pub inside : List LocatedLine
+  pub after : List LocatedLine
+  pub lines_are : ls ≡ inside ++ after
+  pub count_is : b.count ≡ length inside
+  pub context_is : IsExpected expected b.context
+  pub mentioned : b.is_stale ≡ false → AreLinesMentioned mentions number inside
+  pub next_is : next (expected_after b inside) after
+
+-- The blocks of some lines, with the context after the last line. The first block has this number,
+-- and this context is expected before it.
+abbrev pub AreBlocks : List Mention → (number : ℕ) → (expected : Option Context) → List LocatedLine
+    → List Block → (end : Context) → Type 0
+AreBlocks ms n o ls [] end = (ls ≡ []) × IsExpected o end
+AreBlocks ms n o ls (b ∷ bs) end = IsBlock ms n o ls b (λ p after. AreBlocks ms (n + 1) p after bs end)

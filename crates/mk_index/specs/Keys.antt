@@ -1,0 +1,40 @@
+-- The keys of a line: the words by which edits find it.
+-- Told in docs/ARCHITECTURE.md, "The index of a session".
+use Rattle.std.specs.Prelude.{◌≡◌, ◌⊎◌, ℕ, Bool, true, false, List, [], ◌∷◌, ◌++◌, map}
+use Rattle.mk_lines.specs.Ranges.{text_at}
+use Rattle.mk_lines.specs.Words.{words_in}
+use Rattle.mk_class.specs.declared.class.Class as class
+use Rattle.mk_class.specs.declared.class.Class.TheVariants as variants
+use Rattle.mk_tree.specs.LocatedLines.{LocatedLine, text_of_line}
+use Rattle.mk_edit_parts.specs.LocatedParts.{is_unread_located}
+use Rattle.mk_edit_parts.specs.RenamedRanges.{word_parts}
+use Rattle.mk_edit_parts.specs.declared.word_parts.WordParts.{WordParts}
+use Rattle.mk_index.specs.Chains.{hash_of}
+
+-- the words of some parts of a text
+abbrev pub words_of_parts : (text : List ℕ) → WordParts → List (List ℕ)
+words_of_parts t p =
+    words_in (text_at t p.targets) ++ (words_in (text_at t p.normal) ++ words_in (text_at t p.order_only))
+
+-- the words of a line of this joined text and class: the name that it assigns; or its targets and
+-- prerequisites
+abbrev pub keys_in : (text : List ℕ) → class.Class → List (List ℕ)
+keys_in t (variants.Assign a p) = text_at t a.name ∷ []
+keys_in t k = words_of_parts t (word_parts k)
+
+-- the empty word, by which a line is found that sets the recipe prefix in a way that is not read
+abbrev pub unread_key : (is_unread : Bool) → List (List ℕ)
+unread_key true = [] ∷ []
+unread_key false = []
+
+abbrev pub keys_of : LocatedLine → List (List ℕ)
+keys_of l = unread_key (is_unread_located l) ++ keys_in (text_of_line l) l.class
+
+-- the hashes of a line's keys
+abbrev pub hashes_of : LocatedLine → List ℕ
+hashes_of l = map hash_of (keys_of l)
+
+-- a number is one of some numbers
+abbrev pub IsOneOf : ℕ → List ℕ → Type 0
+IsOneOf n [] = ⊥
+IsOneOf n (m ∷ ms) = (m ≡ n) ⊎ IsOneOf n ms
