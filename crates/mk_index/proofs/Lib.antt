@@ -1,1 +1,2 @@
-pub mod on_indexes
+pub mod on_blocks
+pub mod on_chains

@@ -1,9 +1,10 @@
 -- The blocks of an index: the lines of a document, cut into stretches.
 -- Told in docs/ARCHITECTURE.md, "The index of a session".
-use Rattle.std.specs.Prelude.{◌≡◌, ◌×◌, ℕ, ◌+◌, Bool, true, false, if◌then◌else◌, List, [], ◌∷◌, ◌++◌, length, Option, Some, None}
+use Rattle.std.specs.Prelude.{◌≡◌, ℕ, ◌+◌, Bool, true, false, if◌then◌else◌, List, [], ◌∷◌, ◌++◌, length, get_or, ◌<◌, Option, Some, None}
 use Rattle.mk_class.specs.Contexts.{Context}
 use Rattle.mk_tree.specs.LocatedLines.{LocatedLine, context_after_located_lines}
-use Rattle.mk_index.specs.Chains.{Mention, AreMentioned}
+use Rattle.mk_edit_parts.specs.Windows.{NonePasses}
+use Rattle.mk_index.specs.Chains.{Mention, AreChainsOf, AreMentioned, Stored}
 use Rattle.mk_index.specs.Keys.{hashes_of}
 use Rattle.mk_index.specs.declared.blocks.Block.{Block}
 
@@ -42,3 +43,23 @@ abbrev pub AreBlocks : List Mention → (number : ℕ) → (expected : Option Co
     → List Block → (end : Context) → Type 0
 AreBlocks ms n o ls [] end = (ls ≡ []) × IsExpected o end
 AreBlocks ms n o ls (b ∷ bs) end = IsBlock ms n o ls b (λ p after. AreBlocks ms (n + 1) p after bs end)
+
+-- The context before a block is this one: it is carried there from the block above; or none is
+-- carried, since it is the one that is expected.
+abbrev pub IsCarried : (carried expected : Option Context) → (context : Context) → Type 0
+IsCarried None o c = o ≡ Some c
+IsCarried (Some d) o c = d ≡ c
+
+-- Chains that had some mentions, and got more: the keys of some lines are mentioned now, with this
+-- block.
+pub record HaveListedLines (ls : List LocatedLine) (block : ℕ) (before : List Mention)
+    (chains : Stored)
+    : Type 0 where
+  pub added : List Mention
+  pub chains_are : AreChainsOf (added ++ before) chains
+  pub mentioned : AreLinesMentioned (added ++ before) block ls
+
+-- a test that passes no line whose keys are mentioned with a block that has no mark
+abbrev pub PassesInMarked : (test : LocatedLine → Bool) → List Mention → (marks : List Bool) → Type 0
+PassesInMarked p ms marks = (n : ℕ) (ls : List LocatedLine) → n < length marks
+    → get_or marks n false ≡ false → AreLinesMentioned ms n ls → NonePasses p ls

@@ -2,7 +2,7 @@
 -- hash, and each hash a bucket. The entries of one bucket are a chain: each entry says which entry
 -- before it is the last of the same bucket.
 -- Told in docs/ARCHITECTURE.md, "The index of a session".
-use Rattle.std.specs.Prelude.{◌≡◌, ◌<◌, ◌×◌, ◌⊎◌, ℕ, suc, ◌+◌, ◌*◌, ◌%◌, ◌==◌, if◌then◌else◌, List, [], ◌∷◌, ◌++◌, length, map, reverse, get_or}
+use Rattle.std.specs.Prelude.{◌≡◌, ◌<◌, ◌⊎◌, ℕ, suc, ◌+◌, ◌*◌, ◌%◌, ◌==◌, if◌then◌else◌, List, [], ◌∷◌, ◌++◌, length, map, reverse, get_or}
 use Rattle.mk_index.specs.declared.chains.Entry.{Entry}
 
 -- ---- hashes

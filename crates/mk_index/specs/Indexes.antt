@@ -1,32 +1,41 @@
 -- What an index stores of a document.
 -- Told in docs/ARCHITECTURE.md, "The index of a session".
-use Rattle.std.specs.Prelude.{◌≡◌, Bool, List, reverse, Option, Some, None, ⊤}
-use Rattle.std.specs.List.{list_any}
+use Rattle.std.specs.Prelude.{◌≡◌, ◌<◌, ℕ, Bool, true, false, List, [], ◌∷◌, length, get_or, Some}
+use Rattle.mk_class.specs.Contexts.{Context, start}
 use Rattle.mk_tree.specs.LocatedLines.{LocatedLine}
-use Rattle.mk_edit_parts.specs.LocatedParts.{is_unread_located}
-use Rattle.mk_edit_parts.specs.declared.seek.Found.{Found}
-use Rattle.mk_index.specs.Assignments.{Assignment, assignments, below_all, first_place}
+use Rattle.mk_index.specs.Blocks.{AreBlocks}
 use Rattle.mk_index.specs.Chains as chains
-use Rattle.mk_index.specs.Chains.{AreChainsOf}
+use Rattle.mk_index.specs.Chains.{AreChainsOf, IsMentioned, Mention}
+use Rattle.mk_index.specs.Keys.{IsOneOf, hashes_of}
+use Rattle.mk_index.specs.declared.blocks.Block.{Block}
 
--- what an index stores; it may have no chains
+-- what an index stores: chains of mentions, the blocks, and the context after the last line
 pub record Stored : Type 0 where
-  pub chains : Option chains.Stored
-  pub has_unread_prefix : Bool
-  pub end : Found
+  pub chains : chains.Stored
+  pub blocks : List Block
+  pub end : Context
 
--- the assignments of a document, last first
-abbrev pub last_first : List LocatedLine → List Assignment
-last_first ls = reverse (assignments ls)
-
--- if there are chains, they are those of these assignments, the last of which comes first
-abbrev pub AreChainsIfAny : List Assignment → Option chains.Stored → Type 0
-AreChainsIfAny assigned None = ⊤
-AreChainsIfAny assigned (Some c) = AreChainsOf assigned c
-
--- An index of some lines: the chains of their assignments, if it has chains; whether one of the
--- lines sets the recipe prefix in a way that is not read; and where the lines end.
+-- an index of some lines
 pub record IsIndexOf (ls : List LocatedLine) (index : Stored) : Type 0 where
-  pub chains_are : AreChainsIfAny (last_first ls) index.chains
-  pub unread_is : index.has_unread_prefix ≡ list_any is_unread_located ls
-  pub end_is : index.end ≡ below_all first_place ls
+  pub mentions : List Mention
+  pub chains_are : AreChainsOf mentions index.chains
+  pub blocks_are : AreBlocks mentions 0 (Some start) ls index.blocks index.end
+
+-- no block is stale
+abbrev pub AreFresh : List Block → Type 0
+AreFresh [] = Unit {0}
+AreFresh (b ∷ bs) = (b.is_stale ≡ false) × AreFresh bs
+
+-- an index of some lines in which no block is stale
+pub record IsFreshIndexOf (ls : List LocatedLine) (index : Stored) : Type 0 where
+  pub index_is : IsIndexOf ls index
+  pub fresh : AreFresh index.blocks
+
+-- a test that passes only lines which have a key of one of these hashes
+abbrev pub PassesByKeys : (test : LocatedLine → Bool) → (hashes : List ℕ) → Type 0
+PassesByKeys p hs = (l : LocatedLine) → ((h : ℕ) → IsOneOf h hs → IsOneOf h (hashes_of l) → ⊥) → p l ≡ false
+
+-- each block with which one of some hashes is mentioned is marked
+abbrev pub AreMarked : chains.Stored → (hashes : List ℕ) → (marks : List Bool) → Type 0
+AreMarked c hs marks = (ms : List Mention) → AreChainsOf ms c → (h : ℕ) → IsOneOf h hs → (b : ℕ)
+    → IsMentioned ms h b → b < length marks → get_or marks b false ≡ true

@@ -1,11 +1,12 @@
 -- The keys of a line: the words by which edits find it.
 -- Told in docs/ARCHITECTURE.md, "The index of a session".
-use Rattle.std.specs.Prelude.{◌≡◌, ◌⊎◌, ℕ, Bool, true, false, List, [], ◌∷◌, ◌++◌, map}
+use Rattle.std.specs.Prelude.{◌≡◌, ◌⊎◌, ℕ, Bool, true, false, List, [], ◌∷◌, ◌++◌, map, Option, Some, None}
 use Rattle.mk_lines.specs.Ranges.{text_at}
 use Rattle.mk_lines.specs.Words.{words_in}
 use Rattle.mk_class.specs.declared.class.Class as class
 use Rattle.mk_class.specs.declared.class.Class.TheVariants as variants
 use Rattle.mk_tree.specs.LocatedLines.{LocatedLine, text_of_line}
+use Rattle.mk_edit_language.specs.Addresses.{Address, Variable, Rule}
 use Rattle.mk_edit_parts.specs.LocatedParts.{is_unread_located}
 use Rattle.mk_edit_parts.specs.RenamedRanges.{word_parts}
 use Rattle.mk_edit_parts.specs.declared.word_parts.WordParts.{WordParts}
@@ -38,3 +39,9 @@ hashes_of l = map hash_of (keys_of l)
 abbrev pub IsOneOf : ℕ → List ℕ → Type 0
 IsOneOf n [] = ⊥
 IsOneOf n (m ∷ ms) = (m ≡ n) ⊎ IsOneOf n ms
+
+-- a number is the hash of the name or of the target by which an address finds its line
+abbrev pub IsKeyOf : Option Address → (hash : ℕ) → Type 0
+IsKeyOf None h = Unit {0}
+IsKeyOf (Some (Variable nth n)) h = h ≡ hash_of n
+IsKeyOf (Some (Rule nth t)) h = h ≡ hash_of t

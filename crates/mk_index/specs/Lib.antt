@@ -1,9 +1,7 @@
 -- # What the public contracts say
--- The assignments of a document
-pub mod Assignments
--- What an index stores
+-- Which words stand in which lines
 pub mod Chains
-pub mod Passings
+pub mod Keys
+-- The lines, cut into blocks
+pub mod Blocks
 pub mod Indexes
--- What a change of the document means for it
-pub mod Effects

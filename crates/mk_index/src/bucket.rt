@@ -1,14 +1,14 @@
-//! The hash of a name, and the bucket of a hash.
+//! The hash of a word, and the bucket of a hash.
 ghost use Rattle.std.specs.Prelude.{◌≡◌, ◌<◌, ◌%◌};
 ghost use Rattle.mk_index.specs.Chains.{hash_of};
 
-/// The hash of a name: that of Fowler, Noll and Vo in 32 bits, with a sum in place of the exclusive
+/// The hash of a word: that of Fowler, Noll and Vo in 32 bits, with a sum in place of the exclusive
 /// or, and 0 at its start.
-pub fn hash_of(name: &[u8]) -> u32
-    ensures { result ≡ hash_of name.now }
+pub fn hash_of(word: &[u8]) -> u32
+    ensures { result ≡ hash_of word.now }
 {
     let mut hash = 0usize;
-    'bytes: for byte in name {
+    'bytes: for byte in word {
         hash = (hash * 16_777_619 + *byte as usize) % 4_294_967_296;
     }
     hash as u32

@@ -1,51 +1,38 @@
 //! The entries of an index, in chains: those of one bucket lead from the last to the first.
-ghost use Rattle.std.specs.Prelude.{◌≡◌, ◌<◌, [], ◌∷◌, List, length, IfOk, IfSome, OnOk};
-ghost use Rattle.std.specs.Option.{option_copied};
-ghost use Rattle.mk_lines.specs.Limits.{max_text};
-ghost use Rattle.mk_tree.specs.Documents.{IsFaithful};
-ghost use Rattle.mk_index.specs.Assignments.{Assignment, with_assigned};
-ghost use Rattle.mk_index.specs.Chains.{AreChainsOf};
-ghost use Rattle.mk_index.specs.Indexes.{last_first};
-ghost use Rattle.mk_index.specs.Passings.{named, passed_over, passed_with};
+ghost use Rattle.std.specs.Prelude.{◌≡◌, ◌<◌, ◌==◌, ◌-◌, if◌then◌else◌, ℕ, [], ◌∷◌, List, length, get_or, slice_get, None, true, false, IsTrue, IfOk, OnOk};
+ghost use Rattle.mk_index.specs.Chains.{AreChainsOf, HaveListed, IsMentioned, Mention};
 
-use crate::bucket::{bucket_of, hash_of};
-use mk_edit_parts::line_test::assigns;
-use mk_edit_parts::seek::Found;
-use mk_lines::source::MAX_TEXT;
-use mk_tree::Doc;
+use crate::bucket::bucket_of;
 use std::alloc::{AllocError, Allocator, Global};
 use std::marker::Model;
 use std::mem::size_of;
 
-// The most entries that a walk looks at.
-const MOST_STEPS: usize = 64;
+// The most entries that a walk looks at to mark blocks.
+const MOST_STEPS: usize = 256;
 
-/// The entry of an assignment.
+// The most entries that a walk looks at to find one that is there already.
+const FEW_STEPS: usize = 8;
+
+// The most entries that chains have, so that the number of each fits its 32 bits.
+const MOST_ENTRIES: usize = 4_000_000_000;
+
+/// The entry of a mention: a word of some hash stands in some block.
 #[derive(Clone, Copy)]
 pub struct Entry {
-    /// Where the line of the assignment stands.
-    pub place: Found,
-    /// The hash of the name that is assigned.
+    /// The hash of the word.
     pub hash: u32,
+    /// The number of the block.
+    pub block: u32,
     /// The number, from 1, of the last entry before this one in its bucket; 0 if there is none.
     pub before: u32,
 }
 
 // The walks of many edits read entries here and there: the smaller they are, the fewer of these reads
 // wait for memory.
-const _: () = prove!(size_of::<Entry>() == 24);
+const _: () = prove!(size_of::<Entry>() == 12);
 
-/// What a walk back over the assignments of a name has passed.
-#[derive(Clone, Copy)]
-pub struct Passed {
-    /// How many assignments.
-    pub count: usize,
-    /// Where the assignment stands that was sought.
-    pub found: Option<Found>,
-}
-
-/// The entries of assignments, in the order of their lines. Each name has a bucket; the entries of
-/// a bucket are a chain.
+/// The entries of mentions, in the order in which they were listed. Each hash has a bucket; the
+/// entries of a bucket are a chain.
 #[derive(Drop)]
 pub struct Chains<A: Allocator = Global> {
     // The number, from 1, of the last entry of each bucket; 0 if it has none.
@@ -78,84 +65,98 @@ impl<A: Allocator + Copy> Chains<A> {
         })
     }
 
-    /// Adds the entry of an assignment whose line stands below those of the others. [`AllocError`]
-    /// if a growth was refused.
-    pub fn push(&mut self, name: &[u8], place: Found) -> Result<(), AllocError>
-        requires few { length self.old.entries < max_text }
-        ensures { (earlier : List Assignment) → AreChainsOf earlier self.old → OnOk result
-            (AreChainsOf (record { name = name.now; place = place } ∷ earlier) self.new) }
+    /// Lists that a word of this hash stands in this block. It adds no entry where one of the last
+    /// entries of the hash's bucket says so already. [`AllocError`] if a growth was refused, or if
+    /// there are 4,000,000,000 entries.
+    pub fn list(&mut self, hash: u32, block: u32) -> Result<(), AllocError>
+        ensures { (ms : List Mention) → AreChainsOf ms self.old → OnOk result
+            (HaveListed (hash ∷ []) block ms self.new) }
     {
-        let hash = hash_of(name);
+        if self.is_listed(hash, block) {
+            return Ok(());
+        }
+        self.push(hash, block)
+    }
+
+    // Whether one of the last entries of the hash's bucket is that of this hash and of this block.
+    fn is_listed(&self, hash: u32, block: u32) -> bool
+        ensures { (ms : List Mention) → AreChainsOf ms self.now → IsTrue result
+            → IsMentioned ms hash block }
+    {
+        let mut number = self.heads[bucket_of(hash, self.heads.len())];
+        'entries: for _ in 0..FEW_STEPS {
+            let Some(entry) = self.entry(number) else {
+                return false;
+            };
+            if entry.hash == hash && entry.block == block {
+                return true;
+            }
+            number = entry.before;
+        }
+        false
+    }
+
+    // Adds an entry.
+    fn push(&mut self, hash: u32, block: u32) -> Result<(), AllocError>
+        ensures { (ms : List Mention) → AreChainsOf ms self.old → OnOk result
+            (AreChainsOf (record { hash = hash; block = block } ∷ ms) self.new) }
+    {
+        if self.entries.len() >= MOST_ENTRIES {
+            return Err(AllocError);
+        }
         let bucket = bucket_of(hash, self.heads.len());
         let before = self.heads[bucket];
         self.entries.push(Entry {
-            place,
             hash,
+            block,
             before,
         })?;
         self.heads[bucket] = self.entries.len() as u32;
         Ok(())
     }
 
-    /// Adds the entry of a line's assignment, as [`push`](Chains::push) does, if the line is an
-    /// assignment.
-    pub fn push_if(&mut self, name: Option<&[u8]>, place: Found) -> Result<(), AllocError>
-        requires few { length self.old.entries < max_text }
-        ensures { (earlier : List Assignment) → AreChainsOf earlier self.old → OnOk result
-            (AreChainsOf (with_assigned (option_copied name.entry) place earlier) self.new) }
+    // The entry of this number, from 1, if there is one.
+    fn entry(&self, number: u32) -> Option<Entry>
+        ensures { result
+            ≡ (if number == 0 then None else slice_get self.now.entries (number - 1)) }
     {
-        match name {
-            Some(name) => self.push(name, place),
-            None => Ok(()),
+        if number == 0 {
+            return None;
         }
+        self.entries.get(number as usize - 1).copied()
     }
 
-    /// Walks back over the assignments of a name, and finds the one that has `later` others after
-    /// it. `None` if the walk is too long. Takes no memory.
-    pub fn passed(&self, doc: &Doc<A>, name: &[u8], later: usize) -> Option<Passed>
-        requires faithful { IsFaithful doc.now }
-        requires chains { AreChainsOf (last_first doc.now) self.now }
-        ensures { IfSome result (λ passed.
-            passed ≡ passed_over later (named name.now (last_first doc.now))) }
+    /// Marks each block in which a word of this hash stands, where the block is among the marks, and
+    /// takes back no mark. False if the chain of the hash's bucket is too long: then some of these
+    /// blocks may lack their mark. Takes no memory.
+    pub fn mark(&self, hash: u32, marks: &mut [bool]) -> bool
+        ensures length { length marks.new ≡ length marks.old }
+        ensures kept { (b : ℕ) → get_or marks.old b false ≡ true → get_or marks.new b false ≡ true }
+        ensures marked { (ms : List Mention) → AreChainsOf ms self.now → IsTrue result
+            → (b : ℕ) → IsMentioned ms hash b → b < length marks.old
+            → get_or marks.new b false ≡ true }
     {
-        prove!(doc.len() <= MAX_TEXT);
-        let hash = hash_of(name);
         let mut number = self.heads[bucket_of(hash, self.heads.len())];
-        let mut passed = Passed {
-            count: 0,
-            found: None,
-        };
         'entries: for _ in 0..MOST_STEPS {
-            if number == 0 {
-                return Some(passed);
-            }
-            let entry = self.entries[number as usize - 1];
-            number = entry.before;
+            let Some(entry) = self.entry(number) else {
+                return true;
+            };
             if entry.hash == hash {
-                let line = doc.line(entry.place.at);
-                let class = line.class();
-                let is_named = assigns(line, &class, name);
-                passed = passed_with(is_named, later, entry.place, passed);
+                mark_block(marks, entry.block as usize);
             }
+            number = entry.before;
         }
-        None
+        number == 0
     }
 }
 
-// What is passed with one more assignment, if it is one of the name.
-fn passed_with(is_named: bool, later: usize, place: Found, passed: Passed) -> Passed
-    requires few { passed.count < max_text }
-    ensures { result ≡ passed_with is_named later place passed }
+// Marks a block, if it is among the marks.
+fn mark_block(marks: &mut [bool], block: usize)
+    ensures length { length marks.new ≡ length marks.old }
+    ensures kept { (b : ℕ) → get_or marks.old b false ≡ true → get_or marks.new b false ≡ true }
+    ensures marked { block < length marks.old → get_or marks.new block false ≡ true }
 {
-    if !is_named {
-        return passed;
-    }
-    Passed {
-        count: passed.count + 1,
-        found: if passed.count == later {
-            Some(place)
-        } else {
-            passed.found
-        },
+    if block < marks.len() {
+        marks[block] = true;
     }
 }

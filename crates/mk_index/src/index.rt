@@ -1,38 +1,38 @@
-//! An index of a document: where its assignments stand, by their names.
-ghost use Rattle.std.specs.Prelude.{◌≡◌, ◌<◌, ◌≤◌, [], ◌∷◌, ◌++◌, List, length, Some, IfOk, IfSome, OnOk, is_some, true};
-ghost use Rattle.std.specs.Option.{option_copied};
-ghost use Rattle.mk_lines.specs.Limits.{max_text};
-ghost use Rattle.mk_class.specs.Contexts.{Admits};
+//! An index of a document: in which block of its lines each word stands.
+ghost use Rattle.std.specs.Prelude.{◌≡◌, ◌≤◌, ◌+◌, ℕ, List, Option, Some, Bool, false, IsTrue, OnOk, IfOk, IfSome, length, take, drop};
+ghost use Rattle.mk_class.specs.Contexts as contexts;
+ghost use Rattle.mk_class.specs.Contexts.{start};
 ghost use Rattle.mk_tree.specs.Documents.{IsFaithful};
-ghost use Rattle.mk_tree.specs.LocatedLines.{LocatedLine};
-ghost use Rattle.mk_tree.specs.Trees.{line_view};
-ghost use Rattle.mk_tree.specs.UnreadPrefixes.{IsEndOf};
-ghost use Rattle.mk_edit_language.specs.Addresses.{Variable};
-ghost use Rattle.mk_edit_parts.specs.AddressViews.{address_seen};
-ghost use Rattle.mk_edit_parts.specs.LocatedParts.{IsClassed};
-ghost use Rattle.mk_edit_parts.specs.Seeking.{IsKnownOf};
-ghost use Rattle.mk_index.specs.Assignments.{name_assigned};
-ghost use Rattle.mk_index.specs.Effects.{IsBehind};
-ghost use Rattle.mk_index.specs.Indexes.{AreChainsIfAny, IsIndexOf};
+ghost use Rattle.mk_tree.specs.LocatedLines.{LocatedLine, context_after_located_lines};
+ghost use Rattle.mk_edit_parts.specs.Windows.{AreWindows, first_place};
+ghost use Rattle.mk_patch.specs.Moves.{FitsMove, after_move};
+ghost use Rattle.mk_patch.specs.StepMoves.{move_of};
+ghost use Rattle.mk_index.specs.Blocks.{AreBlocks, HaveListedLines, IsCarried, IsExpected, PassesInMarked};
+ghost use Rattle.mk_index.specs.Chains.{AreChainsOf, Mention};
+ghost use Rattle.mk_index.specs.Indexes.{AreMarked, IsFreshIndexOf, IsIndexOf, PassesByKeys};
 
+use crate::blocks::{Block, follow};
 use crate::chains::Chains;
-use mk_class::{Class, Context};
-use mk_edit_parts::address::Address;
-use mk_edit_parts::seek::{Found, Sought, seek, wanted};
-use mk_tree::end::{End, sets_prefix_unread};
-use mk_tree::part::{part, text_of_line};
-use mk_tree::{Doc, Line};
+use crate::keys::list_keys;
+use mk_class::Context;
+use mk_edit_parts::seek::Found;
+use mk_edit_parts::window::Window;
+use mk_patch::Step;
+use mk_tree::Doc;
 use std::alloc::{AllocError, Allocator, Global};
 use std::marker::Model;
 
-/// What is known of a document's lines, so that their end, and a variable, are found without a walk
-/// over them.
+// How many lines a block has at first.
+const BLOCK_LINES: usize = 64;
+
+/// What is known of a document's lines, so that the lines of a word are found without a walk over all
+/// lines.
 #[derive(Drop)]
 pub struct Index<A: Allocator = Global> {
-    // `None` if only the end was asked for.
-    chains: Option<Chains<A>>,
-    has_unread_prefix: bool,
-    end: Found,
+    chains: Chains<A>,
+    blocks: Vec<Block, A>,
+    // The context after the last line.
+    end: Context,
 }
 
 impl<A: Allocator> Model for Index<A> {
@@ -40,178 +40,204 @@ impl<A: Allocator> Model for Index<A> {
 
     ghost Value = { Stored };
 
-    ghost view = { λ i. record {
-      chains = i.chains;
-      has_unread_prefix = i.has_unread_prefix;
-      end = i.end;
-    } };
+    ghost view = { λ i. record { chains = i.chains; blocks = i.blocks.items; end = i.end } };
 }
 
 impl<A: Allocator + Copy> Index<A> {
-    /// An index of a document, by one walk over its lines. It tells where the document ends, and
-    /// where variables stand. [`AllocError`] if a growth was refused.
+    /// An index of a document in which each block is stale. [`AllocError`] if a growth was refused.
     pub fn new(alloc: A, doc: &Doc<A>) -> Result<Index<A>, AllocError>
-        requires { IsFaithful doc.now }
-        ensures index { IfOk result (λ index. IsIndexOf doc.now index) }
-        ensures chains { IfOk result (λ index. is_some index.chains ≡ true) }
+        ensures { IfOk result (λ index. IsIndexOf doc.now index) }
     {
-        let mut index = Index::without_lines(Some(Chains::new(alloc, doc.len() / 4 + 1)?));
-        'lines: for line in doc.iter() {
-            index.push(line)?;
-        }
-        Ok(index)
-    }
-
-    /// An index of a document that tells only where the document ends, by one walk over its lines.
-    /// Takes no memory.
-    pub fn of_end(doc: &Doc<A>) -> Index<A>
-        requires { IsFaithful doc.now }
-        ensures { IsIndexOf doc.now result }
-    {
-        let sought = seek(doc, None);
-        Index {
-            chains: None,
-            has_unread_prefix: sought.has_unread_prefix,
-            end: sought.end,
-        }
-    }
-
-    /// An index of a document that was just read, by where its lines end. It tells only where the
-    /// document ends. It takes no walk and no memory.
-    pub fn at_end(doc: &Doc<A>, end: End) -> Index<A>
-        requires { IsEndOf doc.now end }
-        ensures { IsIndexOf doc.now result }
-    {
-        Index {
-            chains: None,
-            has_unread_prefix: end.has_unread_prefix,
-            end: Found {
-                at: doc.len(),
-                context: end.context,
-            },
-        }
-    }
-
-    // An index of no line, with these chains.
-    fn without_lines(chains: Option<Chains<A>>) -> Index<A>
-        requires { AreChainsIfAny [] chains }
-        ensures index { IsIndexOf [] result }
-        ensures chains { result.chains ≡ chains }
-    {
-        Index {
-            chains,
-            has_unread_prefix: false,
-            end: Found {
-                at: 0,
-                context: Context::start(),
-            },
-        }
-    }
-
-    /// Whether the index tells where variables stand.
-    pub fn has_variables(&self) -> bool
-        ensures { result ≡ is_some self.now.chains }
-    {
-        self.chains.is_some()
-    }
-
-    // Adds a line below those of the index.
-    fn push(&mut self, line: &Line<A>) -> Result<(), AllocError>
-        requires classed { IsClassed (line_view line.now) }
-        requires admitted { Admits self.old.end.context (line_view line.now).class }
-        requires few { self.old.end.at < max_text }
-        requires few_entries { IfSome self.old.chains (λ c. length c.entries ≤ self.old.end.at) }
-        ensures index { (lines : List LocatedLine) → IsIndexOf lines self.old → OnOk result
-            (IsIndexOf (lines ++ line_view line.now ∷ []) self.new) }
-        ensures chains { is_some self.new.chains ≡ is_some self.old.chains }
-    {
-        let class = line.class();
-        if let Some(chains) = &mut self.chains {
-            chains.push_if(name_assigned(line, &class), self.end)?;
-        }
-        self.has_unread_prefix |= sets_prefix_unread(line, &class);
-        self.end = Found {
-            at: self.end.at + 1,
-            context: self.end.context.step(&class),
+        let stale = Block {
+            count: BLOCK_LINES as u32,
+            context: Context::start(),
+            is_stale: true,
         };
+        let mut blocks = Vec::from_elem(alloc, stale, doc.len() / BLOCK_LINES)?;
+        blocks.push(Block {
+            count: (doc.len() % BLOCK_LINES) as u32,
+            ..stale
+        })?;
+        Ok(Index {
+            chains: Chains::new(alloc, doc.len() / 4 + 1)?,
+            blocks,
+            end: Context::start(),
+        })
+    }
+
+    /// Follows a step of a patch. Whether it could; if not, the index is of no use any more. To be
+    /// asked before the step is made or after it. Takes no memory.
+    pub fn follow(&mut self, step: &Step<A>) -> bool
+        ensures { (lines : List LocatedLine) → IsIndexOf lines self.old
+            → FitsMove (move_of step.now) lines → IsTrue result
+            → IsIndexOf (after_move (move_of step.now) lines) self.new }
+    {
+        follow(&mut self.blocks, step)
+    }
+
+    /// Makes each stale block fresh: lists the keys of its lines, and mends the contexts after it.
+    /// [`AllocError`] if a growth was refused: then the index is of no use any more.
+    pub fn refresh(&mut self, doc: &Doc<A>) -> Result<(), AllocError>
+        requires faithful { IsFaithful doc.now }
+        requires index { IsIndexOf doc.now self.old }
+        ensures { OnOk result (IsFreshIndexOf doc.now self.new) }
+    {
+        let mut at = 0;
+        let mut carried = None;
+        // The contract of `len` bounds the number of lines.
+        let _lines = doc.len();
+        'numbers: for number in 0..self.blocks.len() {
+            let block = met(self.blocks[number], carried);
+            let count = block.count as usize;
+            if block.is_stale {
+                let place = Found {
+                    at,
+                    context: block.context,
+                };
+                let Ok(named) = u32::try_from(number) else {
+                    return Err(AllocError);
+                };
+                let after = list_lines(&mut self.chains, doc, place, count, named)?;
+                self.blocks[number] = Block {
+                    is_stale: false,
+                    ..block
+                };
+                carried = Some(after);
+            } else {
+                carried = None;
+            }
+            at += count;
+        }
+        if let Some(context) = carried {
+            self.end = context;
+        }
         Ok(())
     }
 
-    /// Adds the last line of a document to an index of the others. [`AllocError`] if a growth was
-    /// refused: then the index is of no use any more.
-    pub fn add_last(&mut self, doc: &Doc<A>) -> Result<(), AllocError>
-        requires faithful { IsFaithful doc.now }
-        requires behind { IsBehind doc.now (Some self.old) }
-        ensures { OnOk result (IsIndexOf doc.now self.new) }
+    /// Windows of the document, outside of which no line has a key of these hashes. `None` if too
+    /// many lines may have one, or if a growth was refused.
+    pub fn windows(&self, alloc: A, doc: &Doc<A>, hashes: &[u32]) -> Option<Vec<Window, A>>
+        requires index { IsFreshIndexOf doc.now self.now }
+        ensures { (test : LocatedLine → Bool) → PassesByKeys test hashes.now
+            → IfSome result (λ windows. AreWindows test first_place doc.now windows.items) }
     {
-        // The contract of `iter` says that each line may stand where it stands.
-        let _lines = doc.iter();
-        self.push(doc.line(doc.len() - 1))
-    }
-
-    /// What the document has for an address, or `None` if the index does not tell. It tells where
-    /// the document ends and, if it has variables, what a variable's address means unless many names
-    /// share a bucket; it does not tell where rules stand. Takes no memory.
-    pub fn sought(&self, doc: &Doc<A>, address: Option<Address>) -> Option<Sought>
-        requires faithful { IsFaithful doc.now }
-        requires index { IsIndexOf doc.now self.now }
-        ensures { IsKnownOf (address_seen address.entry) doc.now result }
-    {
-        match address {
-            None => Some(self.with_found(0, None)),
-            Some(Address::Variable(nth, name)) => self.variable(doc, nth, name),
-            Some(Address::Rule(..)) => None,
-        }
-    }
-
-    // What the document has for the address of a variable.
-    fn variable(&self, doc: &Doc<A>, nth: Option<u32>, name: &[u8]) -> Option<Sought>
-        requires faithful { IsFaithful doc.now }
-        requires index { IsIndexOf doc.now self.now }
-        ensures { IsKnownOf (Some (Variable nth name.now)) doc.now result }
-    {
-        let Some(chains) = &self.chains else {
+        let mut marks = Vec::from_elem(alloc, false, self.blocks.len()).ok()?;
+        if !mark_all(&self.chains, hashes, &mut marks) {
             return None;
-        };
-        let wanted = wanted(Some(Address::Variable(nth, name)));
-        let last = chains.passed(doc, name, 0)?;
-        if wanted == 0 || wanted > last.count {
-            return Some(self.with_found(last.count, None));
         }
-        let later = last.count - wanted;
-        if later == 0 {
-            return Some(self.with_found(last.count, last.found));
-        }
-        let sought = chains.passed(doc, name, later)?;
-        Some(self.with_found(sought.count, sought.found))
+        self.marked_windows(alloc, doc, &marks).ok()
     }
 
-    // What is sought, with this many lines that may be meant, and the one that is meant.
-    fn with_found(&self, count: usize, found: Option<Found>) -> Sought
-        ensures { result ≡ record {
-          count = count;
-          found = found;
-          has_unread_prefix = self.now.has_unread_prefix;
-          end = self.now.end;
-        } }
+    // The blocks that are marked, as windows of the document, and its end.
+    fn marked_windows(
+        &self,
+        alloc: A,
+        doc: &Doc<A>,
+        marks: &[bool],
+    ) -> Result<Vec<Window, A>, AllocError>
+        requires index { IsFreshIndexOf doc.now self.now }
+        requires marks { length marks.now ≡ length self.now.blocks }
+        ensures { (test : LocatedLine → Bool) (mentions : List Mention)
+            → AreBlocks mentions 0 (Some start) doc.now self.now.blocks self.now.end
+            → PassesInMarked test mentions marks.now
+            → IfOk result (λ windows. AreWindows test first_place doc.now windows.items) }
     {
-        Sought {
-            count,
-            found,
-            has_unread_prefix: self.has_unread_prefix,
-            end: self.end,
+        let mut windows = Vec::new(alloc);
+        let mut at = 0;
+        // The contract of `len` bounds the number of lines.
+        let _lines = doc.len();
+        'numbers: for number in 0..self.blocks.len() {
+            let block = self.blocks[number];
+            let count = block.count as usize;
+            if marks[number] {
+                let place = Found {
+                    at,
+                    context: block.context,
+                };
+                windows.push(Window { place, count })?;
+            }
+            at += count;
         }
+        let place = Found {
+            at,
+            context: self.end,
+        };
+        windows.push(Window { place, count: 0 })?;
+        Ok(windows)
     }
 }
 
-// The name that a line assigns, if it is an assignment.
-fn name_assigned<'a, A: Allocator>(line: &'a Line<A>, class: &Class) -> Option<&'a [u8]>
-    requires classed { IsClassed (line_view line.now) }
-    requires class { class.now ≡ (line_view line.now).class }
-    ensures { option_copied result ≡ name_assigned (line_view line.now) }
+// Marks each block in which a key of one of some hashes stands. Whether it could: it gives up where
+// too many do.
+fn mark_all<A: Allocator + Copy>(chains: &Chains<A>, hashes: &[u32], marks: &mut [bool]) -> bool
+    ensures length { length marks.new ≡ length marks.old }
+    ensures marked { IsTrue result → AreMarked chains.now hashes.now marks.new }
 {
-    match class {
-        Class::Assign(assignment, _) => Some(part(text_of_line(line), assignment.name)),
-        _ => None,
+    'each: for hash in hashes {
+        if !chains.mark(*hash, marks) {
+            return false;
+        }
     }
+    true
+}
+
+// A block with the context that is carried to it, if one is. It is stale if this is another one.
+fn met(block: Block, carried: Option<Context>) -> Block
+    ensures count { result.count ≡ block.count }
+    ensures fresh { result.is_stale ≡ false → result ≡ block }
+    ensures context { (expected : Option contexts.Context) (context : contexts.Context)
+        → IsCarried carried expected context → IsExpected expected block.context
+        → result.context ≡ context }
+{
+    match carried {
+        Some(context) => Block {
+            context,
+            is_stale: block.is_stale || !is_same(block.context, context),
+            ..block
+        },
+        None => block,
+    }
+}
+
+// Whether two contexts are the same.
+fn is_same(left: Context, right: Context) -> bool
+    ensures { IsTrue result → left ≡ right }
+{
+    left.flag() == right.flag()
+        && left.prefix() == right.prefix()
+        && left.conds() == right.conds()
+        && left.defines() == right.defines()
+}
+
+// Lists the keys of `count` lines of a document, the first of which stands at a place, with the block
+// of this number. The context after the lines.
+fn list_lines<A: Allocator + Copy>(
+    chains: &mut Chains<A>,
+    doc: &Doc<A>,
+    place: Found,
+    count: usize,
+    block: u32,
+) -> Result<Context, AllocError>
+    requires faithful { IsFaithful doc.now }
+    requires context { place.context
+        ≡ context_after_located_lines start (take place.at doc.now) }
+    requires in_range { place.at + count ≤ length doc.now }
+    ensures { (mentions : List Mention) → AreChainsOf mentions chains.old
+        → IfOk result (λ after. HaveListedLines (take count (drop place.at doc.now)) block mentions
+        chains.new × (after
+        ≡ context_after_located_lines place.context (take count (drop place.at doc.now)))) }
+{
+    // The contract of `iter` says that each line may stand where it stands.
+    let _lines = doc.iter();
+    let mut lines = doc.lines_from(place.at);
+    let mut context = place.context;
+    'lines: for passed in 0..count {
+        let Some(line) = lines.next() else {
+            return Ok(context);
+        };
+        let class = line.class();
+        list_keys(chains, line, &class, block)?;
+        context = context.step(&class);
+    }
+    Ok(context)
 }

@@ -97,7 +97,7 @@ impl<A: Allocator> Doc<A> {
     }
 
     /// The lines from the one at an index on, in order. It copies nothing and takes no memory.
-    pub(crate) fn lines_from(&self, at: usize) -> Lines<'_, A>
+    pub fn lines_from(&self, at: usize) -> Lines<'_, A>
         requires { at ≤ length self.now }
         ensures { result ≡ drop at self.now }
     {

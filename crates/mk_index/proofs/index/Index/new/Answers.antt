@@ -1,18 +1,19 @@
-use Rattle.std.proofs.Common.{◌≡◌, ◌∙◌, ◌∷◌, sym, ap, subst, rules}
-use Rattle.std.specs.Prelude.{is_some}
-use Rattle.mk_tree.specs.Trees.{line_view}
-use Rattle.mk_index.proofs.on_indexes.IndexLemmas.{Filling, few-entries, filling-from, filling-next}
+use Rattle.std.proofs.Common.{◌≡◌, ◌+◌, ◌*◌, ◌/◌, ◌%◌, true, ◌∙◌, refl, sym, ap, subst, arith, rules, suc, ℕ, List, [], ◌∷◌, ◌++◌, length, Some}
+use Rattle.std.specs.Prelude.{replicate}
+use Rattle.mk_class.specs.Contexts.{start}
+use Rattle.mk_index.specs.Blocks.{AreBlocks}
+use Rattle.mk_index.specs.declared.blocks.Block.{Block}
+use Rattle.mk_index.proofs.on_blocks.MadeLemmas.{stale-run}
 use Rattle.mk_index.proofs.index.Index.new.Goals as goal
 
-pub lines-init : goal.lines-init
-lines-init g c =
-    let e : c.into_iter-line-iterator.result ≡ c.args.doc.now = search rules in
-    (tt, tt, subst (Filling c.args.doc.now c.without_lines-index.result) (sym e) (filling-from c.args.doc.now c.without_lines-index.result c.without_lines-index.ensures.index c.requires (c.iter-line-items.ensures.admitted c.requires)), ap is_some c.without_lines-index.ensures.chains)
-
-pub push-requires-clause-few_entries : goal.push-requires-clause-few_entries
-push-requires-clause-few_entries g c = few-entries c.lines.invariant.2.lines c.lines.index c.lines.invariant.2.index_is
-
-pub lines-preserved : goal.lines-preserved
-lines-preserved g c =
-    let e : c.lines.line-iterator ≡ line_view c.in-Some.line.now ∷ c.next.new.self = search rules in
-    (tt, tt, filling-next c.args.doc.now c.lines.index c.push.new.self (line_view c.in-Some.line.now) c.next.new.self (subst (Filling c.args.doc.now c.lines.index) e c.lines.invariant.2) c.in_ok-push.ensures.index, c.in_ok-push.ensures.chains ∙ c.lines.invariant.3)
+pub returns : goal.returns
+returns g c =
+    let full = c.in_ok-blocks.ensures.items_if_clones_equal (λ y e. e) in
+    let all = c.in_ok-push.ensures.items ∙ ap (λ (bs : List Block). bs ++ record { count = c.len-2.result % 64; context = c.start.result; is_stale = true } ∷ []) full in
+    let sum : c.len.result / 64 * 64 + c.len-2.result % 64 ≡ length c.args.doc.now = omega (arith, c.len.ensures.number, c.len-2.ensures.number) in
+    record {
+      mentions = [];
+      chains_are = c.in_ok-new.ensures;
+      blocks_are = subst (λ (bs : List Block). AreBlocks [] 0 (Some start) c.args.doc.now bs c.start-2.result) (sym all)
+          (stale-run [] 0 (Some start) c.args.doc.now (c.len.result / 64) _ _ c.start-2.result c.start.ensures c.start.ensures refl refl sum);
+    }

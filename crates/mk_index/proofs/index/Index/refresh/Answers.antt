@@ -1,0 +1,31 @@
+use Rattle.std.proofs.Common.{◌≡◌, ◌+◌, ◌≤◌, ◌∙◌, refl, sym, ap, subst, rules, suc, length, ℕ, List, Option, Some, None, false}
+use Rattle.mk_class.specs.Contexts.{Context}
+use Rattle.mk_index.specs.Blocks.{HaveListedLines}
+use Rattle.mk_index.specs.Chains.{Mention}
+use Rattle.mk_index.specs.declared.blocks.Block.{Block}
+use Rattle.mk_index.proofs.on_blocks.RefreshLemmas.{Refreshing, block-here, block-listed, block-stays}
+use Rattle.mk_index.proofs.index.Index.refresh.Goals as goal
+use Rattle.mk_index.proofs.index.Index.refresh.Goals.{then-block+in-Ok+in_ok-after, else-block}
+
+pub numbers-preserved : goal.numbers-preserved
+numbers-preserved g c =
+    let i = c.numbers.self-inside in
+    let n = c.numbers.number in
+    let at = c.numbers.at in
+    let block = c.index.result.now in
+    let m = c.met-block.result in
+    let w = c.numbers.invariant in
+    let few : suc n ≤ length i.blocks.items = search rules in
+    let here = block-here c.args.doc.now i.chains i.blocks.items i.end c.numbers.carried n at block w few c.index.ensures in
+    let context : m.context ≡ w.context = c.met-block.ensures.context w.expected w.context w.carried_is here.block.context_is in
+    elim c.if-block.branch [
+      | then-block+in-Ok+in_ok-after b ↦
+          let new : Block = record { count = m.count; context = m.context; is_stale = false } in
+          let next = block-listed c.args.doc.now i.chains b.list_lines.new.chains i.blocks.items i.end c.numbers.carried n at block new b.in_ok-after.after w few c.index.ensures c.met-block.ensures.count refl context
+              (λ ms h. let k = b.in_ok-after.ensures ms h in (subst (λ (x : ℕ). HaveListedLines _ x ms b.list_lines.new.chains) b.in-Ok.ensures.1 k.0, k.1)) in
+          rw (b.self-inside-is, b.carried-is) next
+      | else-block b ↦
+          let same : m ≡ block = c.met-block.ensures.fresh b.if-block.false in
+          let next = block-stays c.args.doc.now i.chains i.blocks.items i.end c.numbers.carried n at block w few c.index.ensures (ap (λ (x : Block). x.is_stale) (sym same) ∙ b.if-block.false) (ap (λ (x : Block). x.context) (sym same) ∙ context) in
+          rw (b.self-inside-is, b.carried-is, c.met-block.ensures.count) next
+    ]

@@ -1,0 +1,6 @@
+-- The blocks passed are fresh, and the others are blocks of the lines below.
+use Rattle.mk_index.proofs.on_blocks.RefreshLemmas.{Refreshing}
+use Rattle.mk_index.proofs.index.Index.refresh.Given as goal
+
+abbrev pub invariant-numbers : goal.invariant-numbers
+invariant-numbers g l = Refreshing l.doc l.self-inside.chains l.self-inside.blocks.items l.self-inside.end l.carried l.number l.at

@@ -1,0 +1,12 @@
+-- The words passed are listed: if those ahead are listed too, all words of the text are.
+use Rattle.std.proofs.Common.{map, length}
+use Rattle.mk_lines.specs.Words.{words_in}
+use Rattle.mk_index.specs.Chains.{hash_of}
+use Rattle.mk_index.proofs.on_chains.ListedLemmas.{IsLeft}
+use Rattle.mk_index.proofs.keys.list_words.Given as goal
+
+abbrev pub invariant-words : goal.invariant-words
+invariant-words g l = IsLeft (map hash_of (words_in l.text)) (map hash_of (words_in l.rest)) l.block l.fn.chains l.chains
+
+abbrev pub decreases-words : goal.decreases-words
+decreases-words g l = length l.rest

@@ -1,0 +1,69 @@
+-- Blocks that are all stale, and how many lines blocks have.
+use Rattle.std.proofs.Common.{◌≡◌, refl, sym, ap, ◌∙◌, subst, arith, ℕ, zero, suc, ◌+◌, ◌*◌, ◌-◌, ◌≤◌, List, [], ◌∷◌, ◌++◌, Bool, true, false, length, length-append, take, drop, Option, Some, None, if◌then◌else◌}
+use Rattle.std.specs.Prelude.{replicate}
+use Rattle.std.proofs.lemmas.List.{take-append-drop, length-take-le, length-drop}
+use Rattle.mk_class.specs.Contexts.{Context, start}
+use Rattle.mk_tree.specs.LocatedLines.{LocatedLine, with_last_bytes, context_after_located_lines}
+use Rattle.mk_index.specs.Blocks.{AreBlocks, IsBlock, IsExpected, expected_after}
+use Rattle.mk_index.specs.Chains.{Mention}
+use Rattle.mk_index.specs.declared.blocks.Block.{Block}
+use Rattle.mk_index.proofs.on_blocks.SpliceLemmas.{lines_in}
+
+-- nothing is expected after a stale block
+pub after-stale : (b : Block) (ls : List LocatedLine) → b.is_stale ≡ true → None ≡ expected_after b ls
+after-stale b ls h = ap (λ (t : Bool). if t then None else Some (context_after_located_lines b.context ls)) (sym h)
+
+-- stale blocks of one length, and one more
+pub stale-run : (ms : List Mention) (n : ℕ) (o : Option Context) (ls : List LocatedLine) (k : ℕ) (b last : Block) (end : Context) → IsExpected o b.context → IsExpected o last.context → b.is_stale ≡ true → last.is_stale ≡ true
+    → k * b.count + last.count ≡ length ls → AreBlocks ms n o ls (replicate k b ++ last ∷ []) end
+stale-run ms n o ls zero b last end eb el sb sl sum = record {
+  inside = ls;
+  after = [];
+  lines_are = let e = take-append-drop (length ls) ls in append-none ls;
+  count_is = omega (arith, sum);
+  context_is = el;
+  mentioned = λ f. absurd (cc);
+  next_is = (refl, subst (λ (p : Option Context). IsExpected p end) (after-stale last ls sl) tt);
+}
+  where
+    append-none : (xs : List LocatedLine) → xs ≡ xs ++ []
+    append-none [] = refl
+    append-none (x ∷ xs) = ap (λ (ys : List LocatedLine). x ∷ ys) (append-none xs)
+stale-run ms n o ls (suc k) b last end eb el sb sl sum =
+    let few : b.count ≤ length ls = grind (arith, sum) in
+    let left = length-drop b.count ls in
+    record {
+      inside = take b.count ls;
+      after = drop b.count ls;
+      lines_are = sym (take-append-drop b.count ls);
+      count_is = sym (length-take-le b.count ls few);
+      context_is = eb;
+      mentioned = λ f. absurd (cc);
+      next_is = subst (λ (p : Option Context). AreBlocks ms (n + 1) p (drop b.count ls) (replicate k b ++ last ∷ []) end) (after-stale b (take b.count ls) sb)
+          (stale-run ms (n + 1) None (drop b.count ls) k b last end tt tt sb sl (grind (arith, sum, left)));
+    }
+
+-- how many lines there are
+pub lines-counted : (ms : List Mention) (n : ℕ) (o : Option Context) (ls : List LocatedLine) (bs : List Block) (end : Context) → AreBlocks ms n o ls bs end → lines_in bs ≡ length ls
+lines-counted ms n o ls [] end h = sym (ap length h.0)
+lines-counted ms n o ls (b ∷ bs) end h =
+    let below = lines-counted ms (n + 1) _ h.after bs end h.next_is in
+    let e = ap length h.lines_are in
+    let m = length-append h.inside h.after in
+    omega (arith, below, e, m, h.count_is)
+
+-- the last line with other bytes is another last line
+pub record HasLast (bytes : List ℕ) (ls : List LocatedLine) (last : ℕ) : Type 0 where
+  pub line : LocatedLine
+  pub lines_are : take last ls ++ (line ∷ [] ++ drop (last + 1) ls) ≡ with_last_bytes bytes ls
+
+pub last-replaced : (bytes : List ℕ) (ls : List LocatedLine) (last : ℕ) → suc last ≡ length ls → HasLast bytes ls last
+last-replaced bytes [] last e = absurd (omega (arith, e))
+last-replaced bytes (l ∷ []) last e =
+    let none : last ≡ 0 = omega (arith, e) in
+    rw none (record { line = record l { bytes = bytes }; lines_are = refl })
+last-replaced bytes (l ∷ k ∷ ls) zero e = absurd (omega (arith, e))
+last-replaced bytes (l ∷ k ∷ ls) (suc last) e =
+    let below = last-replaced bytes (k ∷ ls) last (omega (arith, e)) in
+    let at : suc last + 1 ≡ suc (last + 1) = omega arith in
+    record { line = below.line; lines_are = ap (λ (n : ℕ). l ∷ take last (k ∷ ls) ++ (below.line ∷ [] ++ drop n (l ∷ k ∷ ls))) at ∙ ap (λ (xs : List LocatedLine). l ∷ xs) below.lines_are }

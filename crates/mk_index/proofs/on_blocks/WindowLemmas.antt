@@ -1,0 +1,180 @@
+-- The walk that makes windows of the blocks that are marked.
+use Rattle.std.proofs.Common.{◌≡◌, refl, sym, ap, ◌∙◌, subst, arith, ℕ, zero, suc, ◌+◌, ◌≤◌, ◌<◌, List, [], ◌∷◌, ◌++◌, Bool, true, false, length, length-append, append_assoc, append-nil, take, drop, get_or, Option, Some, None}
+use Rattle.std.proofs.lemmas.List.{drop_all}
+use Rattle.std.proofs.Math.Seq.{drop-cons}
+use Rattle.mk_class.specs.Contexts.{Context, start, context_after_located}
+use Rattle.mk_tree.specs.LocatedLines.{LocatedLine, context_after_located_lines}
+use Rattle.mk_edit_parts.specs.Windows.{AreWindows, IsWindow, NonePasses, below, below_all, first_place}
+use Rattle.mk_edit_parts.specs.declared.seek.Found.{Found}
+use Rattle.mk_edit_parts.specs.declared.window.Window.{Window}
+use Rattle.mk_index.specs.Blocks.{AreBlocks, AreLinesMentioned, IsBlock}
+use Rattle.mk_index.specs.Chains.{Mention}
+use Rattle.mk_index.specs.Indexes.{AreFresh}
+use Rattle.mk_index.specs.declared.blocks.Block.{Block}
+use Rattle.mk_index.proofs.on_blocks.RefreshLemmas.{expected-fresh}
+
+none-joined : (p : LocatedLine → Bool) (xs ys : List LocatedLine) → NonePasses p xs → NonePasses p ys → NonePasses p (xs ++ ys)
+none-joined p [] ys h k = k
+none-joined p (x ∷ xs) ys h k = (h.0, none-joined p xs ys h.1 k)
+
+below-joined : (f : Found) (xs ys : List LocatedLine) → below_all f (xs ++ ys) ≡ below_all (below_all f xs) ys
+below-joined f [] ys = refl
+below-joined f (x ∷ xs) ys = below-joined (below f x) xs ys
+
+-- the place below some lines, by their number and by the context that they leave
+below-is : (at n : ℕ) (c : Context) (ls : List LocatedLine) → n ≡ length ls → below_all (record { at = at; context = c }) ls ≡ record { at = at + n; context = context_after_located_lines c ls }
+below-is at n c [] e = let same : at ≡ at + n = omega (arith, e) in ap (λ (m : ℕ). record { at = m; context = c }) same
+below-is at n c (l ∷ ls) e =
+    let same : at + 1 + length ls ≡ at + n = omega (arith, e) in
+    below-is (at + 1) (length ls) (context_after_located c l.class) ls refl ∙ ap (λ (m : ℕ). record { at = m; context = context_after_located_lines c (l ∷ ls) }) same
+
+-- Windows of the lines of the blocks that were passed. Below the last window stand lines none of
+-- which passes.
+pub record Collected (test : LocatedLine → Bool) (doc : List LocatedLine) (ms : List Mention) (blocks : List Block) (end : Context) (number at : ℕ) (windows : List Window) : Type 0 where
+  pub done : List LocatedLine
+  pub rest : List LocatedLine
+  pub context : Context
+  pub last : Found
+  pub gap : List LocatedLine
+  pub doc_is : doc ≡ done ++ rest
+  pub at_is : length done ≡ at
+  pub below : AreBlocks ms number (Some context) rest (drop number blocks) end
+  pub fresh : AreFresh (drop number blocks)
+  pub none_passes : NonePasses test gap
+  pub place_is : record { at = at; context = context } ≡ below_all last gap
+  pub close : (after : List LocatedLine) (ws : List Window) → AreWindows test last (gap ++ after) ws → AreWindows test first_place (done ++ after) (windows ++ ws)
+
+pub collected-from : (test : LocatedLine → Bool) (doc : List LocatedLine) (ms : List Mention) (blocks : List Block) (end : Context) → AreBlocks ms 0 (Some start) doc blocks end → AreFresh blocks → Collected test doc ms blocks end 0 0 []
+collected-from test doc ms blocks end h fresh = record {
+  done = [];
+  rest = doc;
+  context = start;
+  last = first_place;
+  gap = [];
+  doc_is = refl;
+  at_is = refl;
+  below = h;
+  fresh = fresh;
+  none_passes = tt;
+  place_is = refl;
+  close = λ after ws k. k;
+}
+
+-- the block at the number
+pub record FreshHere (test : LocatedLine → Bool) (doc : List LocatedLine) (ms : List Mention) (blocks : List Block) (end : Context) (number at : ℕ) (windows : List Window) (b : Block) (w : Collected test doc ms blocks end number at windows) : Type 0 where
+  pub inside : List LocatedLine
+  pub after : List LocatedLine
+  pub rest_is : w.rest ≡ inside ++ after
+  pub count_is : b.count ≡ length inside
+  pub context_is : b.context ≡ w.context
+  pub is_fresh : b.is_stale ≡ false
+  pub fresh : AreFresh (drop (number + 1) blocks)
+  pub mentioned : AreLinesMentioned ms number inside
+  pub below : AreBlocks ms (number + 1) (Some (context_after_located_lines w.context inside)) after (drop (number + 1) blocks) end
+  pub within : at + b.count ≤ length doc
+
+pub fresh-here : (test : LocatedLine → Bool) (doc : List LocatedLine) (ms : List Mention) (blocks : List Block) (end : Context) (number at : ℕ) (windows : List Window) (b : Block) (w : Collected test doc ms blocks end number at windows) → suc number ≤ length blocks → b ≡ get_or blocks number b
+    → FreshHere test doc ms blocks end number at windows b w
+fresh-here test doc ms blocks end number at windows b w few is =
+    let step : suc number ≡ number + 1 = omega arith in
+    let split : drop number blocks ≡ b ∷ drop (number + 1) blocks = drop-cons blocks number b few ∙ (ap (λ (x : Block). x ∷ drop (suc number) blocks) (sym is) ∙ ap (λ (n : ℕ). b ∷ drop n blocks) step) in
+    let fresh : AreFresh (b ∷ drop (number + 1) blocks) = subst AreFresh split w.fresh in
+    let k : IsBlock ms number (Some w.context) w.rest b (λ p rest. AreBlocks ms (number + 1) p rest (drop (number + 1) blocks) end)
+    = subst (λ (bs : List Block). AreBlocks ms number (Some w.context) w.rest bs end) split w.below in
+    record {
+      inside = k.inside;
+      after = k.after;
+      rest_is = k.lines_are;
+      count_is = k.count_is;
+      context_is = k.context_is;
+      is_fresh = fresh.0;
+      fresh = fresh.1;
+      mentioned = k.mentioned fresh.0;
+      below = subst (λ (o : Option Context). AreBlocks ms (number + 1) o k.after (drop (number + 1) blocks) end) (expected-fresh b k.inside w.context fresh.0 k.context_is) k.next_is;
+      within =
+          let e = ap length w.doc_is in
+          let m = length-append w.done w.rest in
+          let f = ap length k.lines_are in
+          let n = length-append k.inside k.after in
+          omega (arith, e, m, f, n, k.count_is, w.at_is);
+    }
+
+doc-joined : (doc done rest inside after : List LocatedLine) → doc ≡ done ++ rest → rest ≡ inside ++ after → doc ≡ (done ++ inside) ++ after
+doc-joined doc done rest inside after e f = e ∙ (ap (λ (xs : List LocatedLine). done ++ xs) f ∙ sym (append_assoc done inside after))
+
+-- a block that is not marked
+pub collected-past : (test : LocatedLine → Bool) (doc : List LocatedLine) (ms : List Mention) (blocks : List Block) (end : Context) (number at : ℕ) (windows : List Window) (b : Block) (w : Collected test doc ms blocks end number at windows)
+    → (h : FreshHere test doc ms blocks end number at windows b w) → NonePasses test h.inside → Collected test doc ms blocks end (number + 1) (at + b.count) windows
+collected-past test doc ms blocks end number at windows b w h idle = record {
+  done = w.done ++ h.inside;
+  rest = h.after;
+  context = context_after_located_lines w.context h.inside;
+  last = w.last;
+  gap = w.gap ++ h.inside;
+  doc_is = doc-joined doc w.done w.rest h.inside h.after w.doc_is h.rest_is;
+  at_is = let m = length-append w.done h.inside in omega (arith, m, w.at_is, h.count_is);
+  below = h.below;
+  fresh = h.fresh;
+  none_passes = none-joined test w.gap h.inside w.none_passes idle;
+  place_is = sym (below-is at b.count w.context h.inside h.count_is) ∙ (ap (λ (f : Found). below_all f h.inside) w.place_is ∙ sym (below-joined w.last w.gap h.inside));
+  close = λ after ws k.
+      subst (λ (xs : List LocatedLine). AreWindows test first_place xs (windows ++ ws)) (sym (append_assoc w.done h.inside after))
+      (w.close (h.inside ++ after) ws (subst (λ (xs : List LocatedLine). AreWindows test w.last xs ws) (append_assoc w.gap h.inside after) k));
+}
+
+-- a block that is marked
+pub collected-more : (test : LocatedLine → Bool) (doc : List LocatedLine) (ms : List Mention) (blocks : List Block) (end : Context) (number at : ℕ) (windows : List Window) (b : Block) (w : Collected test doc ms blocks end number at windows)
+    → (h : FreshHere test doc ms blocks end number at windows b w) → Collected test doc ms blocks end (number + 1) (at + b.count) (windows ++ record { place = record { at = at; context = b.context }; count = b.count } ∷ [])
+collected-more test doc ms blocks end number at windows b w h = record {
+  done = w.done ++ h.inside;
+  rest = h.after;
+  context = context_after_located_lines w.context h.inside;
+  last = below_all window.place h.inside;
+  gap = [];
+  doc_is = doc-joined doc w.done w.rest h.inside h.after w.doc_is h.rest_is;
+  at_is = let m = length-append w.done h.inside in omega (arith, m, w.at_is, h.count_is);
+  below = h.below;
+  fresh = h.fresh;
+  none_passes = tt;
+  place_is = sym (below-is at b.count w.context h.inside h.count_is) ∙ ap (λ (c : Context). below_all (record { at = at; context = c }) h.inside) (sym h.context_is);
+  close = λ after ws k.
+      rw (append_assoc windows (window ∷ []) ws)
+      (subst (λ (xs : List LocatedLine). AreWindows test first_place xs (windows ++ window ∷ ws)) (sym (append_assoc w.done h.inside after))
+      (w.close (h.inside ++ after) (window ∷ ws) (record {
+        above = w.gap;
+        inside = h.inside;
+        after = after;
+        lines_are = refl;
+        none_passes = w.none_passes;
+        place_is = ap (λ (c : Context). record { at = at; context = c }) h.context_is ∙ w.place_is;
+        count_is = h.count_is;
+        next_is = k;
+      })));
+}
+  where
+    window : Window
+    window = record { place = record { at = at; context = b.context }; count = b.count }
+
+-- the walk at its end
+pub collected-over : (test : LocatedLine → Bool) (doc : List LocatedLine) (ms : List Mention) (blocks : List Block) (end : Context) (number at : ℕ) (windows : List Window) → Collected test doc ms blocks end number at windows → length blocks ≤ number
+    → AreWindows test first_place doc (windows ++ record { place = record { at = at; context = end }; count = 0 } ∷ [])
+collected-over test doc ms blocks end number at windows w past =
+    let none : drop number blocks ≡ [] = drop_all number blocks past in
+    let over : AreBlocks ms number (Some w.context) w.rest [] end = subst (λ (bs : List Block). AreBlocks ms number (Some w.context) w.rest bs end) none w.below in
+    let whole : w.done ++ [] ≡ doc = sym (w.doc_is ∙ ap (λ (xs : List LocatedLine). w.done ++ xs) over.0) in
+    subst (λ (xs : List LocatedLine). AreWindows test first_place xs (windows ++ record { place = record { at = at; context = end }; count = 0 } ∷ [])) whole
+    (w.close [] (record { place = record { at = at; context = end }; count = 0 } ∷ []) (record {
+      above = w.gap;
+      inside = [];
+      after = [];
+      lines_are = refl;
+      none_passes = w.none_passes;
+      place_is = ap (λ (c : Context). record { at = at; context = c }) over.1 ∙ w.place_is;
+      count_is = refl;
+      next_is = refl;
+    }))
+
+-- a test that no line passes
+pub none-of-none : (ls : List LocatedLine) → NonePasses (λ l. false) ls
+none-of-none [] = tt
+none-of-none (l ∷ ls) = (refl, none-of-none ls)

@@ -1,0 +1,236 @@
+-- What is mentioned, the keys of lines, and what a line is not whose keys lack a word.
+use Rattle.std.proofs.Common.{◌≡◌, refl, sym, ap, ◌∙◌, subst, ℕ, Bool, true, false, List, [], ◌∷◌, ◌++◌, map, append_assoc, arith, Option, Some, None, inl, inr, ◌||◌, length}
+use Rattle.std.specs.Prelude.{◌⊎◌}
+use Rattle.std.proofs.lemmas.List.{map-append}
+use Rattle.std.specs.Str.{bytes_eq}
+use Rattle.std.proofs.lemmas.Bool.{false≢true, or_parts}
+use Rattle.std.proofs.lemmas.List.Folds.{list_any-append}
+use Rattle.std.proofs.lemmas.Slice.Eq.{bytes_eq-Decides}
+use Rattle.mk_lines.specs.Ranges.{text_at}
+use Rattle.mk_lines.specs.Words.{words_in}
+use Rattle.mk_lines.specs.Cells.{Cell, joined_text, line_cells}
+use Rattle.mk_class.specs.declared.assignment.Assignment as assignment
+use Rattle.mk_class.specs.declared.class.Class as class
+use Rattle.mk_class.specs.declared.class.Class.TheVariants as variants
+use Rattle.mk_class.specs.Texts.{is_one_of}
+use Rattle.mk_tree.specs.LocatedLines.{LocatedLine, text_of_line}
+use Rattle.mk_edit_language.specs.Addresses.{Address, Variable, Rule}
+use Rattle.mk_edit_parts.specs.RenamedRanges.{word_parts, ArePartsWithin, part_ranges, parts_ranges, renamed_ranges}
+use Rattle.mk_edit_parts.specs.declared.word_parts.WordParts.{WordParts}
+use Rattle.mk_edit_parts.specs.LocatedParts.{IsClassed, assigns_in, is_rule_for_in, is_target_in, is_target_located, is_unread_located}
+use Rattle.mk_edit_parts.specs.Seeking.{may_mean}
+use Rattle.mk_edit_parts.specs.Windows.{concerns}
+use Rattle.mk_edit_parts.proofs.on_finding.PartLemmas.{seen-header, seen-target_assign}
+use Rattle.mk_edit_parts.proofs.on_renaming.AbsentWords.{part-lacks}
+use Rattle.mk_edit_parts.proofs.on_renaming.RangeLemmas.{part-within}
+use Rattle.mk_index.specs.Chains.{AreMentioned, IsMentioned, Mention, hash_of}
+use Rattle.mk_index.specs.Keys.{IsOneOf, keys_in, words_of_parts, IsKeyOf, hashes_of, keys_of, unread_key}
+
+-- ---- mentions
+
+pub is_mentioned-more : (added ms : List Mention) (h b : ℕ) → IsMentioned ms h b → IsMentioned (added ++ ms) h b
+is_mentioned-more [] ms h b k = k
+is_mentioned-more (m ∷ added) ms h b k = inr (is_mentioned-more added ms h b k)
+
+pub mentioned-more : (added ms : List Mention) (b : ℕ) (hs : List ℕ) → AreMentioned ms b hs → AreMentioned (added ++ ms) b hs
+mentioned-more added ms b [] k = tt
+mentioned-more added ms b (h ∷ hs) k = (is_mentioned-more added ms h b k.0, mentioned-more added ms b hs k.1)
+
+pub mentioned-one : (ms : List Mention) (b h : ℕ) (hs : List ℕ) → AreMentioned ms b hs → IsOneOf h hs → IsMentioned ms h b
+mentioned-one ms b h [] k is = absurd is
+mentioned-one ms b h (x ∷ hs) k is = elim is [
+  | inl e ↦ subst (λ n. IsMentioned ms n b) e k.0
+  | inr r ↦ mentioned-one ms b h hs k.1 r
+]
+
+pub mentioned-both : (ms : List Mention) (b : ℕ) (hs ks : List ℕ) → AreMentioned ms b hs → AreMentioned ms b ks → AreMentioned ms b (hs ++ ks)
+mentioned-both ms b [] ks h k = k
+mentioned-both ms b (x ∷ hs) ks h k = (h.0, mentioned-both ms b hs ks h.1 k)
+
+-- ---- the keys of a line
+
+-- the keys of a line that is no assignment
+pub keys-other : (t : List ℕ) (k : class.Class) → ((a : assignment.Assignment) (p : Option ℕ) → k ≡ variants.Assign a p → ⊥) → keys_in t k ≡ words_of_parts t (word_parts k)
+keys-other t (variants.Assign a p) h = absurd (h a p refl)
+keys-other t variants.Endef h = refl
+keys-other t (variants.Body d) h = refl
+keys-other t variants.Recipe h = refl
+keys-other t variants.Opaque h = refl
+keys-other t variants.Blank h = refl
+keys-other t variants.Comment h = refl
+keys-other t (variants.DefineHead p) h = refl
+keys-other t variants.If h = refl
+keys-other t variants.Else h = refl
+keys-other t variants.Endif h = refl
+keys-other t variants.Directive h = refl
+keys-other t (variants.TargetAssign a) h = refl
+keys-other t variants.Rough h = refl
+keys-other t (variants.Header x) h = refl
+
+hashes-three : (a b c : List (List ℕ)) → (map hash_of a ++ map hash_of b) ++ map hash_of c ≡ map hash_of (a ++ (b ++ c))
+hashes-three a b c =
+    append_assoc (map hash_of a) (map hash_of b) (map hash_of c)
+    ∙ (ap (λ z. map hash_of a ++ z) (sym (map-append hash_of b c)) ∙ sym (map-append hash_of a (b ++ c)))
+
+-- the hashes of the words of three parts
+pub hashes-parts : (t u : List ℕ) (p q : WordParts) (x y z : List ℕ) → t ≡ u → p ≡ q → x ≡ text_at t p.targets → y ≡ text_at t p.normal → z ≡ text_at t p.order_only
+    → (map hash_of (words_in x) ++ map hash_of (words_in y)) ++ map hash_of (words_in z) ≡ map hash_of (words_of_parts u q)
+hashes-parts t u p q x y z h i j k l =
+    ap (λ w. (map hash_of (words_in w) ++ map hash_of (words_in y)) ++ map hash_of (words_in z)) j
+    ∙ (ap (λ w. (map hash_of (words_in (text_at t p.targets)) ++ map hash_of (words_in w)) ++ map hash_of (words_in z)) k
+    ∙ (ap (λ w. (map hash_of (words_in (text_at t p.targets)) ++ map hash_of (words_in (text_at t p.normal))) ++ map hash_of (words_in w)) l
+    ∙ (hashes-three (words_in (text_at t p.targets)) (words_in (text_at t p.normal)) (words_in (text_at t p.order_only))
+    ∙ (ap (λ v. map hash_of (words_of_parts v p)) h ∙ ap (λ v. map hash_of (words_of_parts u v)) i))))
+
+-- ---- words and their hashes
+
+-- the hash of one of some words is one of their hashes
+hash-one : (w : List ℕ) (ws : List (List ℕ)) → is_one_of w ws ≡ true → IsOneOf (hash_of w) (map hash_of ws)
+hash-one w [] h = absurd (false≢true h)
+hash-one w (v ∷ ws) h = go (bytes_eq w v) refl h (hash-one w ws)
+  where
+    go : (b : Bool) → bytes_eq w v ≡ b → (b || is_one_of w ws) ≡ true → (is_one_of w ws ≡ true → IsOneOf (hash_of w) (map hash_of ws)) → (hash_of v ≡ hash_of w) ⊎ IsOneOf (hash_of w) (map hash_of ws)
+    go true is e ahead = inl (ap hash_of (sym ((bytes_eq-Decides w v).0 is)))
+    go false is e ahead = inr (ahead e)
+
+-- a word whose hash is none of some words' hashes is none of them
+not-one : (w : List ℕ) (ws : List (List ℕ)) → (IsOneOf (hash_of w) (map hash_of ws) → ⊥) → is_one_of w ws ≡ false
+not-one w ws h = go (is_one_of w ws) refl
+  where
+    go : (b : Bool) → is_one_of w ws ≡ b → b ≡ false
+    go true is = absurd (h (hash-one w ws is))
+    go false is = refl
+
+-- a word that is none of the words of two lists
+not-both : (w : List ℕ) (xs ys : List (List ℕ)) → is_one_of w (xs ++ ys) ≡ false → (is_one_of w xs ≡ false) × (is_one_of w ys ≡ false)
+not-both w xs ys h = or_parts (is_one_of w xs) (is_one_of w ys) (sym (list_any-append (bytes_eq w) xs ys) ∙ h)
+
+not-same : (v w : List ℕ) → bytes_eq w v ≡ false → bytes_eq v w ≡ false
+not-same v w h = go (bytes_eq v w) refl
+  where
+    go : (b : Bool) → bytes_eq v w ≡ b → b ≡ false
+    go true is = absurd (false≢true (sym h ∙ (bytes_eq-Decides w v).1 (sym ((bytes_eq-Decides v w).0 is))))
+    go false is = refl
+
+-- ---- a line whose keys lack a word
+
+-- a word that is no key of a line
+no-key : (w : List ℕ) (l : LocatedLine) → (IsOneOf (hash_of w) (hashes_of l) → ⊥) → (is_one_of w (unread_key (is_unread_located l)) ≡ false) × (is_one_of w (keys_in (text_of_line l) l.class) ≡ false)
+no-key w l h = not-both w (unread_key (is_unread_located l)) (keys_in (text_of_line l) l.class) (not-one w (keys_of l) h)
+
+not-unread : (u : Bool) → is_one_of [] (unread_key u) ≡ false → u ≡ false
+not-unread true h = absurd (false≢true (sym h))
+not-unread false h = refl
+
+not-assigned : (t w : List ℕ) (k : class.Class) → is_one_of w (keys_in t k) ≡ false → assigns_in t w k ≡ false
+not-assigned t w (variants.Assign a p) h = not-same (text_at t a.name) w (or_parts (bytes_eq w (text_at t a.name)) false h).0
+not-assigned t w variants.Endef h = refl
+not-assigned t w (variants.Body d) h = refl
+not-assigned t w variants.Recipe h = refl
+not-assigned t w variants.Opaque h = refl
+not-assigned t w variants.Blank h = refl
+not-assigned t w variants.Comment h = refl
+not-assigned t w (variants.DefineHead p) h = refl
+not-assigned t w variants.If h = refl
+not-assigned t w variants.Else h = refl
+not-assigned t w variants.Endif h = refl
+not-assigned t w variants.Directive h = refl
+not-assigned t w (variants.TargetAssign a) h = refl
+not-assigned t w variants.Rough h = refl
+not-assigned t w (variants.Header x) h = refl
+
+-- what a word is not that is no word of some parts
+record PartsLack (t w : List ℕ) (p : WordParts) : Type 0 where
+  targets : is_one_of w (words_in (text_at t p.targets)) ≡ false
+  normal : is_one_of w (words_in (text_at t p.normal)) ≡ false
+  order_only : is_one_of w (words_in (text_at t p.order_only)) ≡ false
+
+parts-lack : (t w : List ℕ) (p : WordParts) → is_one_of w (words_of_parts t p) ≡ false → PartsLack t w p
+parts-lack t w p h =
+    let first = not-both w (words_in (text_at t p.targets)) (words_in (text_at t p.normal) ++ words_in (text_at t p.order_only)) h in
+    let others = not-both w (words_in (text_at t p.normal)) (words_in (text_at t p.order_only)) first.1 in
+    record { targets = first.0; normal = others.0; order_only = others.1 }
+
+not-target : (t w : List ℕ) (k : class.Class) → is_one_of w (keys_in t k) ≡ false → is_target_in t w k ≡ false
+not-target t w (variants.Header x) h = (parts-lack t w (word_parts (variants.Header x)) h).targets
+not-target t w (variants.TargetAssign a) h = (parts-lack t w (word_parts (variants.TargetAssign a)) h).targets
+not-target t w (variants.Assign a p) h = refl
+not-target t w variants.Endef h = refl
+not-target t w (variants.Body d) h = refl
+not-target t w variants.Recipe h = refl
+not-target t w variants.Opaque h = refl
+not-target t w variants.Blank h = refl
+not-target t w variants.Comment h = refl
+not-target t w (variants.DefineHead p) h = refl
+not-target t w variants.If h = refl
+not-target t w variants.Else h = refl
+not-target t w variants.Endif h = refl
+not-target t w variants.Directive h = refl
+not-target t w variants.Rough h = refl
+
+-- a line of which a word is no target is no header of a rule for it
+not-rule : (t w : List ℕ) (k : class.Class) → is_target_in t w k ≡ false → is_rule_for_in t w k ≡ false
+not-rule t w (variants.Header x) h = h
+not-rule t w (variants.TargetAssign a) h = refl
+not-rule t w (variants.Assign a p) h = refl
+not-rule t w variants.Endef h = refl
+not-rule t w (variants.Body d) h = refl
+not-rule t w variants.Recipe h = refl
+not-rule t w variants.Opaque h = refl
+not-rule t w variants.Blank h = refl
+not-rule t w variants.Comment h = refl
+not-rule t w (variants.DefineHead p) h = refl
+not-rule t w variants.If h = refl
+not-rule t w variants.Else h = refl
+not-rule t w variants.Endif h = refl
+not-rule t w variants.Directive h = refl
+not-rule t w variants.Rough h = refl
+
+-- a word that is no key of a line is no target of it
+pub untargeted : (word : List ℕ) (l : LocatedLine) → (IsOneOf (hash_of word) (hashes_of l) → ⊥) → is_target_located word l ≡ false
+untargeted word l h = not-target (text_of_line l) word l.class (no-key word l h).1
+
+-- an address whose key is no key of a line does not mean it
+not-meant : (a : Option Address) (l : LocatedLine) (h : ℕ) → IsKeyOf a h → (IsOneOf h (hashes_of l) → ⊥) → may_mean a l ≡ false
+not-meant None l h key none = refl
+not-meant (Some (Variable nth n)) l h key none = not-assigned (text_of_line l) n l.class (no-key n l (λ m. none (subst (λ i. IsOneOf i (hashes_of l)) (sym key) m))).1
+not-meant (Some (Rule nth t)) l h key none = not-rule (text_of_line l) t l.class (untargeted t l (λ m. none (subst (λ i. IsOneOf i (hashes_of l)) (sym key) m)))
+
+-- a line decides nothing for an address if neither the address's key nor the empty word is a key of
+-- the line
+pub unconcerned : (a : Option Address) (l : LocatedLine) (h : ℕ) → IsKeyOf a h → (IsOneOf h (hashes_of l) → ⊥) → (IsOneOf 0 (hashes_of l) → ⊥) → concerns a l ≡ false
+unconcerned a l h key none read =
+    ap (λ b. b || is_unread_located l) (not-meant a l h key none) ∙ not-unread (is_unread_located l) (no-key [] l read).0
+
+-- a line of which a word is no key has no range in which a rename replaces the word
+pub unrenamed : (old : List ℕ) (l : LocatedLine) → IsClassed l → (IsOneOf (hash_of old) (hashes_of l) → ⊥) → renamed_ranges old l ≡ []
+unrenamed old l c h = go l.class refl (no-key old l h).1
+  where
+    cs : List Cell
+    cs = line_cells l.bytes
+
+    none : (p : WordParts) → ArePartsWithin (length cs) p → PartsLack (joined_text cs) old p → parts_ranges cs old p ≡ []
+    none p within lack =
+        ap (λ z. z ++ (part_ranges cs old p.normal ++ part_ranges cs old p.order_only)) (part-lacks cs p.targets old within.0 lack.targets)
+        ∙ (ap (λ z. z ++ part_ranges cs old p.order_only) (part-lacks cs p.normal old within.1 lack.normal) ∙ part-lacks cs p.order_only old within.2 lack.order_only)
+
+    go : (k : class.Class) → l.class ≡ k → is_one_of old (keys_in (text_of_line l) k) ≡ false → parts_ranges cs old (word_parts k) ≡ []
+    go (variants.Header x) is lack =
+        let seen = seen-header l c x is in
+        none (word_parts (variants.Header x)) (part-within _ _ _ _ _ seen.2.targets, part-within _ _ _ _ _ seen.2.normal, part-within _ _ _ _ _ seen.2.order_only) (parts-lack (text_of_line l) old (word_parts (variants.Header x)) lack)
+    go (variants.TargetAssign a) is lack =
+        let seen = seen-target_assign l c a is in
+        none (word_parts (variants.TargetAssign a)) (part-within _ _ _ _ _ seen.2.targets, (omega arith, omega arith), (omega arith, omega arith)) (parts-lack (text_of_line l) old (word_parts (variants.TargetAssign a)) lack)
+    go (variants.Assign a p) is lack = refl
+    go variants.Endef is lack = refl
+    go (variants.Body d) is lack = refl
+    go variants.Recipe is lack = refl
+    go variants.Opaque is lack = refl
+    go variants.Blank is lack = refl
+    go variants.Comment is lack = refl
+    go (variants.DefineHead p) is lack = refl
+    go variants.If is lack = refl
+    go variants.Else is lack = refl
+    go variants.Endif is lack = refl
+    go variants.Directive is lack = refl
+    go variants.Rough is lack = refl

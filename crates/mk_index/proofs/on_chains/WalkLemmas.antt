@@ -1,0 +1,171 @@
+-- The walk back over the entries of a bucket, which marks blocks.
+use Rattle.std.proofs.Common.{◌≡◌, refl, sym, ap, ◌∙◌, subst, arith, ℕ, zero, suc, ◌-◌, ◌%◌, ◌==◌, ◌<◌, List, [], ◌∷◌, ◌++◌, reverse, Bool, true, false, if◌then◌else◌, length, append_assoc, append-nil, get_or, Some, None, inl, inr}
+use Rattle.std.specs.Prelude.{◌⊎◌, slice_get}
+use Rattle.std.proofs.lemmas.Bool.{eq-eqb, eqb-true, false≢true}
+use Rattle.std.proofs.lemmas.List.{length-map, length-reverse}
+use Rattle.mk_index.specs.Chains.{AreChainsOf, IsMentioned, Mention, Stored, buckets_of, entries_of, entry_after, last_in}
+use Rattle.mk_index.specs.declared.chains.Entry.{Entry}
+use Rattle.mk_index.proofs.on_chains.ChainLemmas.{length-entries, numbered, reverse-first}
+
+-- ---- one step back
+
+-- The last entry of a bucket is the entry of a mention: the entries before it are those of the
+-- mentions before it, and none of those after it has this hash.
+record StepBack (count hash : ℕ) (ahead : List Mention) (k : ℕ) : Type 0 where
+  last : Mention
+  rest : List Mention
+  after : List Entry
+  number_is : length rest ≡ k
+  entries_are : reverse (entries_of count ahead) ≡ reverse (entries_of count rest) ++ entry_after count last rest ∷ after
+  mentioned : (b : ℕ) → IsMentioned ahead hash b → IsMentioned (last ∷ rest) hash b
+  bucket_is : last.hash % count ≡ hash % count
+
+step-back : (count hash : ℕ) (ahead : List Mention) (k : ℕ) → last_in (hash % count) (buckets_of count ahead) ≡ suc k → StepBack count hash ahead k
+step-back count hash [] k h = absurd (cc)
+step-back count hash (m ∷ ms) k h = go (m.hash % count == hash % count) refl h (step-back count hash ms k)
+  where
+    go : (t : Bool) → (m.hash % count == hash % count) ≡ t → (if t then suc (length (buckets_of count ms)) else last_in (hash % count) (buckets_of count ms)) ≡ suc k
+        → (last_in (hash % count) (buckets_of count ms) ≡ suc k → StepBack count hash ms k) → StepBack count hash (m ∷ ms) k
+    go true is e below =
+        let n : length (buckets_of count ms) ≡ length ms = length-map ms (λ x. x.hash % count) in
+        record {
+          last = m;
+          rest = ms;
+          after = [];
+          number_is = omega (arith, e, n);
+          entries_are = reverse-first (entry_after count m ms) (entries_of count ms);
+          mentioned = λ b h. h;
+          bucket_is = eqb-true (m.hash % count) (hash % count) is;
+        }
+    go false is e below =
+        let s = below e in
+        record {
+          last = s.last;
+          rest = s.rest;
+          after = s.after ++ entry_after count m ms ∷ [];
+          number_is = s.number_is;
+          entries_are = reverse-first (entry_after count m ms) (entries_of count ms)
+              ∙ (ap (λ (es : List Entry). es ++ entry_after count m ms ∷ []) s.entries_are
+              ∙ append_assoc (reverse (entries_of count s.rest)) (entry_after count s.last s.rest ∷ s.after) (entry_after count m ms ∷ []));
+          mentioned = λ b h. elim h [
+            | inl e ↦ absurd (let same = eq-eqb (m.hash % count) (hash % count) (ap (λ x. x % count) e.0) in cc)
+            | inr r ↦ s.mentioned b r
+          ];
+          bucket_is = s.bucket_is;
+        }
+
+-- a bucket without an entry has no mention of its hashes
+none-mentioned : (count hash : ℕ) (ahead : List Mention) → last_in (hash % count) (buckets_of count ahead) ≡ 0 → (b : ℕ) → IsMentioned ahead hash b → ⊥
+none-mentioned count hash [] h b m = m
+none-mentioned count hash (m ∷ ms) h b k = go (m.hash % count == hash % count) refl h (none-mentioned count hash ms)
+  where
+    go : (t : Bool) → (m.hash % count == hash % count) ≡ t → (if t then suc (length (buckets_of count ms)) else last_in (hash % count) (buckets_of count ms)) ≡ 0
+        → (last_in (hash % count) (buckets_of count ms) ≡ 0 → (i : ℕ) → IsMentioned ms hash i → ⊥) → ⊥
+    go true is e below = absurd (omega (arith, e))
+    go false is e below = elim k [
+      | inl x ↦ absurd (false≢true (sym is ∙ eq-eqb (m.hash % count) (hash % count) (ap (λ y. y % count) x.0)))
+      | inr r ↦ below e b r
+    ]
+
+-- ---- the walk
+
+-- a walk back over the entries of a bucket: the blocks of this hash are marked, or ahead
+pub record Walk (ms : List Mention) (hash : ℕ) (c : Stored) (number : ℕ) (marks : List Bool) : Type 0 where
+  pub ahead : List Mention
+  pub more : List Entry
+  pub number_is : number ≡ last_in (hash % length c.heads) (buckets_of (length c.heads) ahead)
+  pub entries_are : c.entries ≡ reverse (entries_of (length c.heads) ahead) ++ more
+  pub marked : (b : ℕ) → IsMentioned ms hash b → b < length marks → (get_or marks b false ≡ true) ⊎ IsMentioned ahead hash b
+
+-- the walk at its start
+pub walk-from : (ms : List Mention) (hash : ℕ) (c : Stored) (number : ℕ) (marks : List Bool) → AreChainsOf ms c → hash % length c.heads < length c.heads → number ≡ get_or c.heads (hash % length c.heads) 0 → Walk ms hash c number marks
+walk-from ms hash c number marks h within is = record {
+  ahead = ms;
+  more = [];
+  number_is = is ∙ h.heads_are (hash % length c.heads) within;
+  entries_are = h.entries_are ∙ sym (append-nil (reverse (entries_of (length c.heads) ms)));
+  marked = λ b m inside. inr m;
+}
+
+-- the walk at its end
+pub walk-over : (ms : List Mention) (hash : ℕ) (c : Stored) (number : ℕ) (marks : List Bool) → Walk ms hash c number marks → number ≡ 0 → (b : ℕ) → IsMentioned ms hash b → b < length marks → get_or marks b false ≡ true
+walk-over ms hash c number marks w e b m inside = elim (w.marked b m inside) [
+  | inl is ↦ is
+  | inr r ↦ absurd (none-mentioned (length c.heads) hash w.ahead (sym w.number_is ∙ e) b r)
+]
+
+get-seam : (xs : List Entry) (e : Entry) (ys : List Entry) → slice_get (xs ++ e ∷ ys) (length xs) ≡ Some e
+get-seam [] e ys = refl
+get-seam (x ∷ xs) e ys = get-seam xs e ys
+
+-- one step of the walk
+record WalkStep (ms : List Mention) (hash : ℕ) (c : Stored) (number : ℕ) (marks : List Bool) : Type 0 where
+  last : Mention
+  rest : List Mention
+  entry_is : slice_get c.entries (number - 1) ≡ Some (entry_after (length c.heads) last rest)
+  next : (after : List Bool) → length after ≡ length marks → ((b : ℕ) → get_or marks b false ≡ true → get_or after b false ≡ true)
+      → (last.hash ≡ hash → last.block < length marks → get_or after last.block false ≡ true)
+      → Walk ms hash c (last_in (last.hash % length c.heads) (buckets_of (length c.heads) rest)) after
+
+walk-step : (ms : List Mention) (hash : ℕ) (c : Stored) (number : ℕ) (marks : List Bool) → Walk ms hash c number marks → (number ≡ 0 → ⊥) → WalkStep ms hash c number marks
+walk-step ms hash c zero marks w h = absurd (h refl)
+walk-step ms hash c (suc k) marks w h = record {
+  last = s.last;
+  rest = s.rest;
+  entry_is = ap (slice_get c.entries) one_less ∙ (ap (λ es. slice_get es k) entries ∙ (ap (slice_get (reverse (entries_of count s.rest) ++ entry_after count s.last s.rest ∷ (s.after ++ w.more))) (sym before) ∙ get-seam (reverse (entries_of count s.rest)) (entry_after count s.last s.rest) (s.after ++ w.more)));
+  next = λ after same kept marked. record {
+    ahead = s.rest;
+    more = entry_after count s.last s.rest ∷ (s.after ++ w.more);
+    number_is = ap (λ b. last_in b (buckets_of count s.rest)) s.bucket_is;
+    entries_are = entries;
+    marked = λ b m inside.
+        let within : b < length marks = omega (arith, same, inside) in
+        elim (w.marked b m within) [
+          | inl is ↦ inl (kept b is)
+          | inr r ↦ elim (s.mentioned b r) [
+            | inl e ↦ inl (subst (λ i. get_or after i false ≡ true) e.1 (marked e.0 (subst (λ i. i < length marks) (sym e.1) within)))
+            | inr q ↦ inr q
+          ]
+        ];
+  };
+}
+  where
+    count : ℕ
+    count = length c.heads
+
+    s : StepBack count hash w.ahead k
+    s = step-back count hash w.ahead k (sym w.number_is)
+
+    one_less : suc k - 1 ≡ k
+    one_less = omega arith
+
+    entries : c.entries ≡ reverse (entries_of count s.rest) ++ entry_after count s.last s.rest ∷ (s.after ++ w.more)
+    entries = w.entries_are ∙ (ap (λ (es : List Entry). es ++ w.more) s.entries_are ∙ append_assoc (reverse (entries_of count s.rest)) (entry_after count s.last s.rest ∷ s.after) w.more)
+
+    before : length (reverse (entries_of count s.rest)) ≡ k
+    before = length-reverse (entries_of count s.rest) ∙ (length-entries count s.rest ∙ s.number_is)
+
+some-none : (e : Entry) → Some e ≡ None → ⊥
+some-none e h = absurd (cc)
+
+same-some : (e f : Entry) → Some e ≡ Some f → e ≡ f
+same-some e f h = cc
+
+-- a number without an entry is 0: the walk is at its end
+pub walk-ends : (ms : List Mention) (hash : ℕ) (c : Stored) (number : ℕ) (marks : List Bool) → Walk ms hash c number marks → (if number == 0 then None else slice_get c.entries (number - 1)) ≡ None → number ≡ 0
+walk-ends ms hash c zero marks w h = refl
+walk-ends ms hash c (suc k) marks w h =
+    let s : WalkStep ms hash c (suc k) marks = walk-step ms hash c (suc k) marks w (λ z. omega (arith, z)) in
+    absurd (some-none (entry_after (length c.heads) s.last s.rest) (sym s.entry_is ∙ (sym (numbered c.entries k) ∙ h)))
+
+-- the walk goes on behind an entry, if the blocks that were marked stay so, and the entry's block is
+-- marked if it is of this hash
+pub walk-next : (ms : List Mention) (hash : ℕ) (c : Stored) (number : ℕ) (marks after : List Bool) (e : Entry) → Walk ms hash c number marks → (if number == 0 then None else slice_get c.entries (number - 1)) ≡ Some e
+    → length after ≡ length marks → ((b : ℕ) → get_or marks b false ≡ true → get_or after b false ≡ true) → (e.hash ≡ hash → e.block < length marks → get_or after e.block false ≡ true)
+    → Walk ms hash c e.before after
+walk-next ms hash c zero marks after e w is same kept marked = absurd (cc)
+walk-next ms hash c (suc k) marks after e w is long kept marked =
+    let s : WalkStep ms hash c (suc k) marks = walk-step ms hash c (suc k) marks w (λ z. omega (arith, z)) in
+    let at : e ≡ entry_after (length c.heads) s.last s.rest = same-some e (entry_after (length c.heads) s.last s.rest) (sym is ∙ (numbered c.entries k ∙ s.entry_is)) in
+    subst (λ (x : Entry). Walk ms hash c x.before after) (sym at)
+    (s.next after long kept (subst (λ (x : Entry). x.hash ≡ hash → x.block < length marks → get_or after x.block false ≡ true) at marked))

@@ -1,0 +1,90 @@
+//! The blocks of an index: the lines of a document, cut into stretches.
+ghost use Rattle.std.specs.Prelude.{◌≡◌, ◌+◌, ◌++◌, ℕ, List, Option, IsTrue, IfSome, length, take, drop};
+ghost use Rattle.mk_class.specs.Contexts as contexts;
+ghost use Rattle.mk_tree.specs.LocatedLines.{LocatedLine};
+ghost use Rattle.mk_patch.specs.Moves.{FitsMove, after_move};
+ghost use Rattle.mk_patch.specs.StepMoves.{move_of};
+ghost use Rattle.mk_index.specs.Blocks.{AreBlocks};
+ghost use Rattle.mk_index.specs.Chains.{Mention};
+
+use mk_class::Context;
+use mk_patch::Step;
+use std::alloc::Allocator;
+
+/// Lines of a document that stand one below the other.
+#[derive(Clone, Copy)]
+pub struct Block {
+    /// How many lines there are.
+    pub count: u32,
+    /// The context before the first of them.
+    pub context: Context,
+    /// Whether the lines may have changed since their keys were listed.
+    pub is_stale: bool,
+}
+
+/// Follows a step of a patch. Whether it could; if not, the blocks are of no use any more. Takes no
+/// memory.
+pub(crate) fn follow<A: Allocator>(blocks: &mut [Block], step: &Step<A>) -> bool
+    ensures { (mentions : List Mention) (number : ℕ) (expected : Option contexts.Context)
+        (lines : List LocatedLine) (end : contexts.Context)
+        → AreBlocks mentions number expected lines blocks.old end
+        → FitsMove (move_of step.now) lines → IsTrue result
+        → AreBlocks mentions number expected (after_move (move_of step.now) lines) blocks.new end }
+{
+    match step {
+        Step::PutIn(at, _) => splice(blocks, *at, 0, 1),
+        Step::TakeOut(at) => splice(blocks, *at, 1, 0),
+        Step::Exchange(at, _) => splice(blocks, *at, 1, 1),
+        Step::SwapEnd(_) => match last_line(blocks) {
+            Some(last) => splice(blocks, last, 1, 1),
+            None => false,
+        },
+    }
+}
+
+// Follows a change of the lines: at an index from 0, some lines go out and some come in, and all of
+// them belong to one block. This block is stale then. Whether there is such a block; if there is
+// none, nothing has changed.
+fn splice(blocks: &mut [Block], at: usize, takes: u32, puts: u32) -> bool
+    ensures { (mentions : List Mention) (number : ℕ) (expected : Option contexts.Context)
+        (lines put_in : List LocatedLine) (end : contexts.Context)
+        → AreBlocks mentions number expected lines blocks.old end → length put_in ≡ puts
+        → IsTrue result → AreBlocks mentions number expected
+            (take at lines ++ (put_in ++ drop (at + takes) lines)) blocks.new end }
+{
+    let mut rest = at;
+    'numbers: for number in 0..blocks.len() {
+        let block = blocks[number];
+        let count = block.count as usize;
+        if rest <= count && takes as usize <= count - rest {
+            let Some(count) = (block.count - takes).checked_add(puts) else {
+                return false;
+            };
+            blocks[number] = Block {
+                count,
+                is_stale: true,
+                ..block
+            };
+            return true;
+        }
+        if rest < count {
+            return false;
+        }
+        rest -= count;
+    }
+    false
+}
+
+// The index of the last line, from 0, if the blocks have a line.
+fn last_line(blocks: &[Block]) -> Option<usize>
+    ensures { (mentions : List Mention) (number : ℕ) (expected : Option contexts.Context)
+        (lines : List LocatedLine) (end : contexts.Context)
+        → AreBlocks mentions number expected lines blocks.now end
+        → IfSome result (λ last. last + 1 ≡ length lines) }
+{
+    let mut lines = 0usize;
+    'each: for block in blocks {
+        lines = lines.checked_add(block.count as usize)?;
+    }
+    lines.checked_sub(1)
+}

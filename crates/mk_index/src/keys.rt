@@ -1,0 +1,104 @@
+//! The keys of a line, listed with its block.
+ghost use Rattle.std.specs.Prelude.{◌≡◌, List, map, OnOk};
+ghost use Rattle.mk_lines.specs.Words.{words_in};
+ghost use Rattle.mk_tree.specs.LocatedLines.{text_of_line};
+ghost use Rattle.mk_tree.specs.Trees.{line_view};
+ghost use Rattle.mk_edit_parts.specs.LocatedParts.{IsClassed, is_unread_located};
+ghost use Rattle.mk_edit_parts.specs.RenamedRanges.{word_parts};
+ghost use Rattle.mk_index.specs.Chains.{AreChainsOf, HaveListed, Mention, hash_of};
+ghost use Rattle.mk_index.specs.Keys.{hashes_of, unread_key, words_of_parts};
+
+use crate::bucket::hash_of;
+use crate::chains::Chains;
+use mk_class::Class;
+use mk_edit_parts::tally::has_parts;
+use mk_edit_parts::word_parts::parts_of;
+use mk_lines::split_first_word;
+use mk_tree::Line;
+use mk_tree::end::sets_prefix_unread;
+use mk_tree::part::{part, text_of_line};
+use std::alloc::{AllocError, Allocator};
+
+/// Lists the keys of a line with the block in which it stands: the name that it assigns, or its
+/// targets and prerequisites; and the empty word, if it sets the recipe prefix in a way that is not
+/// read. The caller has the class of the line at hand. [`AllocError`] if a growth was refused, or if
+/// the chains are full.
+pub fn list_keys<A: Allocator + Copy>(
+    chains: &mut Chains<A>,
+    line: &Line<A>,
+    class: &Class,
+    block: u32,
+) -> Result<(), AllocError>
+    requires classed { IsClassed (line_view line.now) }
+    requires class { class.now ≡ (line_view line.now).class }
+    ensures { (ms : List Mention) → AreChainsOf ms chains.old → OnOk result
+        (HaveListed (hashes_of (line_view line.now)) block ms chains.new) }
+{
+    list_unread(chains, line, class, block)?;
+    match class {
+        Class::Assign(assignment, _) => {
+            let name = part(text_of_line(line), assignment.name);
+            chains.list(hash_of(name), block)
+        }
+        _ => list_parts(chains, line, class, block),
+    }
+}
+
+// Lists the empty word, if a line sets the recipe prefix in a way that is not read.
+fn list_unread<A: Allocator + Copy>(
+    chains: &mut Chains<A>,
+    line: &Line<A>,
+    class: &Class,
+    block: u32,
+) -> Result<(), AllocError>
+    requires classed { IsClassed (line_view line.now) }
+    requires class { class.now ≡ (line_view line.now).class }
+    ensures { (ms : List Mention) → AreChainsOf ms chains.old → OnOk result
+        (HaveListed (map hash_of (unread_key (is_unread_located (line_view line.now)))) block ms
+        chains.new) }
+{
+    if !sets_prefix_unread(line, class) {
+        return Ok(());
+    }
+    chains.list(hash_of(b""), block)
+}
+
+// Lists the targets and prerequisites of a line.
+fn list_parts<A: Allocator + Copy>(
+    chains: &mut Chains<A>,
+    line: &Line<A>,
+    class: &Class,
+    block: u32,
+) -> Result<(), AllocError>
+    requires classed { IsClassed (line_view line.now) }
+    requires class { class.now ≡ (line_view line.now).class }
+    ensures { (ms : List Mention) → AreChainsOf ms chains.old → OnOk result
+        (HaveListed (map hash_of (words_of_parts (text_of_line (line_view line.now))
+        (word_parts class.now))) block ms chains.new) }
+{
+    if !has_parts(class) {
+        return Ok(());
+    }
+    let text = text_of_line(line);
+    let parts = parts_of(line, class);
+    list_words(chains, part(text, parts.targets), block)?;
+    list_words(chains, part(text, parts.normal), block)?;
+    list_words(chains, part(text, parts.order_only), block)
+}
+
+// Lists the words of a text.
+fn list_words<A: Allocator + Copy>(
+    chains: &mut Chains<A>,
+    text: &[u8],
+    block: u32,
+) -> Result<(), AllocError>
+    ensures { (ms : List Mention) → AreChainsOf ms chains.old → OnOk result
+        (HaveListed (map hash_of (words_in text.now)) block ms chains.new) }
+{
+    let mut rest = text;
+    'words: while let Some((first, after)) = split_first_word(rest) {
+        chains.list(hash_of(first), block)?;
+        rest = after;
+    }
+    Ok(())
+}
