@@ -1,6 +1,6 @@
 -- Windows of a document: some of its lines, outside of which no line passes a test.
 -- Told in docs/ARCHITECTURE.md, "The index of a session".
-use Rattle.std.specs.Prelude.{◌≡◌, ◌||◌, ◌+◌, ℕ, Bool, false, List, [], ◌∷◌, ◌++◌, length, Option}
+use Rattle.std.specs.Prelude.{◌≡◌, ◌||◌, ◌+◌, Bool, false, List, [], ◌∷◌, ◌++◌, length, Option}
 use Rattle.mk_class.specs.Contexts.{start, context_after_located}
 use Rattle.mk_tree.specs.LocatedLines.{LocatedLine}
 use Rattle.mk_edit_language.specs.Addresses.{Address}
