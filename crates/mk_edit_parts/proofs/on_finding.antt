@@ -2,6 +2,8 @@
 pub mod Walks
 pub mod PartLemmas
 pub mod SeekLemmas
+pub mod WindowLemmas
+pub mod SeekWindows
 pub mod FindLemmas
 pub mod LeanLemmas
 pub mod PlaceLemmas

@@ -1,6 +1,6 @@
 -- A walk over the lines of a document for the line that an address means.
 -- Told in docs/DECISIONS.md, "mk_edit_parts and mk_edit".
-use Rattle.std.specs.Prelude.{◌≡◌, ◌||◌, ◌&&◌, ◌==◌, if◌then◌else◌, ℕ, ◌+◌, Bool, false, List, [], length, Option, Some, None, option_map, ⊤}
+use Rattle.std.specs.Prelude.{◌≡◌, ◌||◌, ◌&&◌, ◌==◌, if◌then◌else◌, ℕ, ◌+◌, Bool, false, List, [], ◌∷◌, length, Option, Some, None, option_map, ⊤}
 use Rattle.std.specs.List.{list_any}
 use Rattle.mk_class.specs.Contexts.{start, context_after_located}
 use Rattle.mk_class.specs.ClassedLines.{ClassedLine, classed_lines}
@@ -12,7 +12,7 @@ use Rattle.mk_edit_language.specs.Spots.{nth_of}
 use Rattle.mk_edit_language.specs.Edits.{Edit}
 use Rattle.mk_edit_language.specs.Addresses.{Address, Variable, Rule, address, candidates, nth_meant}
 use Rattle.mk_edit_language.specs.AddressCauses.{is_unread_prefix}
-use Rattle.mk_edit_parts.specs.LocatedParts.{assigns_located, is_rule_for_located}
+use Rattle.mk_edit_parts.specs.LocatedParts.{assigns_located, is_rule_for_located, is_unread_located}
 use Rattle.mk_edit_parts.specs.declared.seek.Found.{Found}
 use Rattle.mk_edit_parts.specs.declared.seek.Sought.{Sought}
 
@@ -41,6 +41,15 @@ noted_by m u w k s = record {
   has_unread_prefix = s.has_unread_prefix || u;
   end = record { at = s.end.at + 1; context = context_after_located s.end.context k };
 }
+
+-- what a walk has seen after one more line of a document
+abbrev pub noted : (test : LocatedLine → Bool) → (wanted : ℕ) → LocatedLine → Sought → Sought
+noted test w l s = noted_by (test l) (is_unread_located l) w l.class s
+
+-- what a walk has seen after some more lines
+abbrev pub seek : (test : LocatedLine → Bool) → (wanted : ℕ) → Sought → List LocatedLine → Sought
+seek test w s [] = s
+seek test w s (l ∷ ls) = seek test w (noted test w l s) ls
 
 -- what a walk has seen at its start
 abbrev pub nothing_seen : Sought

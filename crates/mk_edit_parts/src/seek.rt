@@ -1,17 +1,22 @@
-//! The line of a document that an address means, found by one walk over the kept lines.
-ghost use Rattle.std.specs.Prelude.{◌≡◌, ◌<◌, ◌≤◌};
+//! The line of a document that an address means, found by one walk over the kept lines, or over
+//! those of some windows.
+ghost use Rattle.std.specs.Prelude.{◌≡◌, ◌+◌, ◌<◌, ◌≤◌, drop, length};
 ghost use Rattle.mk_lines.specs.Limits.{max_text};
 ghost use Rattle.mk_class.specs.ClassedLines.{classed_lines};
 ghost use Rattle.mk_class.specs.Contexts.{Admits};
+ghost use Rattle.mk_tree.specs.Admissions.{AreAdmitted};
 ghost use Rattle.mk_tree.specs.Documents.{IsFaithful};
 ghost use Rattle.mk_tree.specs.LocatedLines.{located_text};
+ghost use Rattle.mk_tree.specs.Origins.{lines_between};
 ghost use Rattle.mk_tree.specs.Trees.{line_view};
 ghost use Rattle.mk_edit_parts.specs.AddressViews.{address_seen};
 ghost use Rattle.mk_edit_parts.specs.LocatedParts.{IsClassed};
-ghost use Rattle.mk_edit_parts.specs.Seeking.{IsSought, may_mean, noted_by, nothing_seen, wanted};
+ghost use Rattle.mk_edit_parts.specs.Seeking.{IsSought, may_mean, noted_by, nothing_seen, seek, wanted};
+ghost use Rattle.mk_edit_parts.specs.Windows.{AreWindows, concerns, first_place};
 
 use crate::address::Address;
 use crate::line_test::{assigns, is_rule_for};
+use crate::window::Window;
 use mk_class::{Class, Context};
 use mk_lines::source::MAX_TEXT;
 use mk_tree::end::sets_prefix_unread;
@@ -47,16 +52,75 @@ pub fn seek<A: Allocator>(doc: &Doc<A>, address: Option<Address>) -> Sought
     requires { IsFaithful doc.now }
     ensures { IsSought (classed_lines (located_text doc.now)) (address_seen address.entry) result }
 {
+    let whole = Window {
+        place: Found {
+            at: 0,
+            context: Context::start(),
+        },
+        count: doc.len(),
+    };
+    seek_within(doc, &[whole], address)
+}
+
+/// What a document has for an address, as [`seek`] finds it, by a walk over the lines of some
+/// windows alone. No line outside the windows concerns the address: none is one that the address may
+/// mean, and none sets the recipe prefix in a way that is not read. The windows stand in the order of
+/// their lines, and the last one reaches the end of the document.
+///
+/// The call takes time linear in the number of these lines, and goes one way down the tree for each
+/// window. It reads no line anew and takes no memory.
+pub fn seek_within<A: Allocator>(
+    doc: &Doc<A>,
+    windows: &[Window],
+    address: Option<Address>,
+) -> Sought
+    requires faithful { IsFaithful doc.now }
+    requires windows { AreWindows (concerns (address_seen address)) first_place doc.now
+        windows.now }
+    ensures { IsSought (classed_lines (located_text doc.now)) (address_seen address.entry) result }
+{
+    // The contract of `iter` says that each line is admitted where it stands.
+    let _lines = doc.iter();
     let wanted = wanted(address);
     let mut sought = nothing_seen();
+    'windows: for window in windows {
+        sought = noted_in(doc, *window, address, wanted, sought);
+    }
+    sought
+}
+
+// What a walk has seen after the lines of one more window. It passes over the lines between.
+fn noted_in<A: Allocator>(
+    doc: &Doc<A>,
+    window: Window,
+    address: Option<Address>,
+    wanted: usize,
+    sought: Sought,
+) -> Sought
+    requires faithful { IsFaithful doc.now }
+    requires in_range { window.place.at + window.count ≤ length doc.now }
+    requires admitted { AreAdmitted window.place.context (drop window.place.at doc.now) }
+    requires no_more { sought.count ≤ window.place.at }
+    ensures { result ≡ seek (may_mean (address_seen address.entry)) wanted
+        (record sought { end = window.place })
+        (lines_between window.place.at window.count doc.now) }
+{
     prove!(doc.len() <= MAX_TEXT);
-    'lines: for line in doc.iter() {
+    let mut seen = Sought {
+        end: window.place,
+        ..sought
+    };
+    let mut lines = doc.lines_from(window.place.at);
+    'lines: for at in 0..window.count {
+        let Some(line) = lines.next() else {
+            unreachable!()
+        };
         let class = line.class();
         let is_meant = may_mean(address, line, &class);
         let is_unread = sets_prefix_unread(line, &class);
-        sought = noted(is_meant, is_unread, wanted, &class, sought);
+        seen = noted(is_meant, is_unread, wanted, &class, seen);
     }
-    sought
+    seen
 }
 
 // What a walk has seen at its start.

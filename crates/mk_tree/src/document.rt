@@ -96,7 +96,9 @@ impl<A: Allocator> Doc<A> {
         Lines::new(&self.tree)
     }
 
-    /// The lines from the one at an index on, in order. It copies nothing and takes no memory.
+    /// The lines from the one at an index on, in order. Indices count from 0; at the index of the
+    /// end there is no line left. It goes one way down the tree to the first of them, copies nothing
+    /// and takes no memory.
     pub fn lines_from(&self, at: usize) -> Lines<'_, A>
         requires { at ≤ length self.now }
         ensures { result ≡ drop at self.now }

@@ -11,7 +11,6 @@ use Rattle.mk_class.specs.ClassTable.{class_of}
 use Rattle.mk_class.specs.ClassedLines.{ClassedLine, classed_lines, context_after_lines}
 use Rattle.mk_tree.specs.LocatedLines.{LocatedLine, located_line, located_lines, located_text}
 use Rattle.mk_tree.specs.Documents.{IsFaithful, context_of}
-use Rattle.mk_tree.specs.Admissions.{AreAdmitted}
 use Rattle.mk_tree.proofs.on_documents.LinesInText.{AreClassed, AreClassed-class, AreClassed-tail, AreClassed-lines}
 use Rattle.mk_tree.specs.LineTexts.{StandingLine}
 use Rattle.mk_edit_language.specs.Spots.{spots, spot_if, under, nth_of}
@@ -19,8 +18,7 @@ use Rattle.mk_edit_language.specs.Addresses.{Address, Variable, Rule, assigns, i
 use Rattle.mk_edit_language.specs.AddressCauses.{is_unread_prefix}
 use Rattle.mk_edit_parts.specs.LocatedParts.{is_unread_located}
 use Rattle.mk_edit_parts.proofs.on_finding.Walks.{AreEachClassed}
-use Rattle.mk_edit_parts.specs.Seeking.{may_mean, wanted, noted_by, nothing_seen, standing_found, candidates_of, IsSought}
-use Rattle.mk_edit_parts.proofs.on_finding.Walks.{noted, seek}
+use Rattle.mk_edit_parts.specs.Seeking.{may_mean, wanted, noted_by, noted, seek, nothing_seen, standing_found, candidates_of, IsSought}
 use Rattle.mk_edit_parts.specs.declared.seek.Found.{Found}
 use Rattle.mk_edit_parts.specs.declared.seek.Sought.{Sought}
 use Rattle.mk_edit_parts.proofs.on_finding.PartLemmas.{assigns-located, rule_for-located, unread-located}
@@ -208,14 +206,3 @@ lines-sought ls a h = subst (λ z. IsSought ds a (seek (may_mean a) (wanted a) n
 
     U : AgreeAlong is_unread_located (λ l. is_unread_prefix l.class) ds
     U = agree-along is_unread_located (λ l. is_unread_prefix l.class) unread-located start ds C
-
--- ---- the walk of the code
-
--- the walk at its start
-pub seek-from : (d ahead : List LocatedLine) (s : Sought) (p : LocatedLine → Bool) (w : ℕ) → ahead ≡ d → s ≡ nothing_seen → IsFaithful d → AreAdmitted start d
-    → Unit {0} × Unit {0} × AreEachClassed ahead × AreAdmitted s.end.context ahead × (s.count ≤ s.end.at) × (s.end.at + length ahead ≡ length d) × (seek p w s ahead ≡ seek p w nothing_seen d)
-seek-from d ahead s p w e i h k = rw (e, i) (tt, tt, faithful-each d h, k, omega arith, zero-add (length d), refl)
-
--- the walk at its end
-pub seek-over : (s : Sought) (ahead d : List LocatedLine) (p : LocatedLine → Bool) (w v : ℕ) → ahead ≡ [] → w ≡ v → seek p w s ahead ≡ seek p w nothing_seen d → s ≡ seek p v nothing_seen d
-seek-over s ahead d p w v e f h = sym (ap (seek p w s) e) ∙ (h ∙ ap (λ n. seek p n nothing_seen d) f)
