@@ -237,6 +237,27 @@ fn several_steps_are_made_in_order_and_taken_back_in_reverse(rt: HostRuntime) ->
     Ok(())
 }
 
+#[test]
+fn a_patch_tells_its_steps_in_order(rt: HostRuntime) -> Result<(), Fail> {
+    let heap = rt.alloc();
+    let doc = Doc::parse(heap, b"X=1\n", &mut Meter::new())?;
+    let lines = (
+        line(heap, b"A=1\n")?,
+        line(heap, b"B=2\n")?,
+        line(heap, b"C=3\n")?,
+    );
+    let Some(patch) = four_steps(heap, &doc, lines)? else {
+        return Err(Fail::from("the steps do not fit"));
+    };
+    assert_eq!(rt; patch.step_count(), 4);
+    assert!(rt; matches!(patch.step(0), Some(Step::PutIn(0, _))));
+    assert!(rt; matches!(patch.step(1), Some(Step::PutIn(1, _))));
+    assert!(rt; matches!(patch.step(2), Some(Step::TakeOut(0))));
+    assert!(rt; matches!(patch.step(3), Some(Step::Exchange(0, _))));
+    assert!(rt; patch.step(4).is_none());
+    Ok(())
+}
+
 // The last line gets another end, and a line goes in below it.
 #[tactic(auto, using(mk_patch::proofs::on_moves::MoveLemmas::ends))]
 fn put_last<A: Allocator + Copy>(

@@ -1,8 +1,27 @@
 //! An index of a document, so that a session need not walk over all lines for each edit.
+//!
+//! - [`bucket`]: the hash of a word, and the bucket of a hash.
+//! - [`chains`]: which words stand in which block of lines.
+//! - [`keys`]: the words by which edits find a line.
+//! - [`blocks`]: the lines of a document, cut into blocks.
+//! - [`index`]: the words of all blocks.
+//! - [`effect`]: what a change of the document means for what is known of it.
+//! - [`finder`]: what is known of a document that is edited.
+//! - [`document`]: a document with what is known of it.
+//! - [`change`]: a patch as a change of such a document.
 #![tactic(auto)]
 
 pub mod blocks;
 pub mod bucket;
 pub mod chains;
+pub mod change;
+pub mod document;
+pub mod effect;
+pub mod finder;
 pub mod index;
 pub mod keys;
+
+pub use change::IndexedPatch;
+pub use document::IndexedDoc;
+pub use finder::Finder;
+pub use index::Index;

@@ -7,11 +7,9 @@
 //! - [`step`]: one line that is put in, taken out or exchanged, or the line end of the last line.
 //! - [`patch`]: several steps as one.
 //! - [`builder`]: a patch whose steps are being gathered.
-//! - [`change`]: a patch as a change that a history can hold.
 #![tactic(auto)]
 
 pub mod builder;
-pub mod change;
 pub mod patch;
 pub mod step;
 

@@ -1,5 +1,5 @@
 //! Several lines that are moved, as one change.
-ghost use Rattle.std.specs.Prelude.{◌≡◌, ◌≤◌, ◌+◌, [], ◌∷◌, None, IfSome, length};
+ghost use Rattle.std.specs.Prelude.{◌≡◌, ◌≤◌, ◌+◌, [], ◌∷◌, None, IfSome, length, option_copied, option_map, slice_get};
 ghost use Rattle.mk_patch.specs.Moves.{FitMoves, after_moves, held_by, taken_by};
 ghost use Rattle.mk_patch.specs.StepMoves.{move_of, moves_of};
 
@@ -81,6 +81,21 @@ impl<A: Allocator> Patch<A> {
         ensures { result ≡ taken_by self.now }
     {
         self.takes
+    }
+
+    /// How many steps it makes. Takes no memory.
+    pub fn step_count(&self) -> usize
+        ensures { result ≡ length self.now }
+    {
+        self.waiting.len()
+    }
+
+    /// The step with this number, from 0, in the order in which they are made. `None` if it has no
+    /// more than `number` steps. Takes no memory.
+    pub fn step(&self, number: usize) -> Option<&Step<A>>
+        ensures { option_map move_of (option_copied result) ≡ slice_get self.now number }
+    {
+        self.waiting.get(number)
     }
 
     /// The step that it makes, if it makes just one. Takes no memory.

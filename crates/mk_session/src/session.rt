@@ -8,18 +8,15 @@ ghost use Rattle.mk_edit_language.specs.Costs.{cost};
 ghost use Rattle.mk_edit_language.specs.EditViews.{edit_of};
 ghost use Rattle.mk_history.specs.Machine.{Apply, Undo, Redo, Begin, End, Cancel};
 ghost use Rattle.mk_history.specs.Machine as machine;
-ghost use Rattle.mk_index.specs.Effects.{IsIndexIfAny};
 ghost use Rattle.mk_session.specs.Sessions.{IsBadDepth, IsBeginRefusal, IsEditRefusal, IsOpeningFault, IsRefusedBy, answer, seen_opened};
 
 use mk_class::Meter;
 use mk_edit::{Edit, Refusal, plan_with};
 use mk_history::history::is_bad_depth;
 use mk_history::{Change, History, Sequence};
-use mk_index::Finder;
-use mk_index::effect::effect_of;
+use mk_index::{Finder, IndexedDoc, IndexedPatch};
 use mk_lines::Fault;
 use mk_lines::source::MAX_TEXT;
-use mk_patch::Patch;
 use mk_tree::Doc;
 use std::alloc::{Allocator, Global};
 use std::marker::Model;
@@ -38,11 +35,9 @@ use std::marker::Model;
 #[derive(Drop)]
 pub struct Session<A: Allocator = Global> {
     alloc: A,
-    doc: Doc<A>,
-    // Where the lines of the document stand that edits mean.
-    finder: Finder<A>,
-    history: History<Sequence<Patch<A>, A>, A>,
-    group: Option<Sequence<Patch<A>, A>>,
+    doc: IndexedDoc<A>,
+    history: History<Sequence<IndexedPatch<A>, A>, A>,
+    group: Option<Sequence<IndexedPatch<A>, A>>,
     meter: Meter,
     // What the meter said when the session was opened.
     opened_at: u64,
@@ -51,7 +46,6 @@ pub struct Session<A: Allocator = Global> {
 impl<A: Allocator> Model for Session<A> {
     ghost use Rattle.std.specs.Prelude.{◌≤◌, ◌-◌};
     ghost use Rattle.mk_lines.specs.Limits.{max_text};
-    ghost use Rattle.mk_index.specs.Effects.{IsIndexIfAny};
     ghost use Rattle.mk_session.specs.Sessions.{Seen};
     ghost use Rattle.mk_session.specs.StoredSessions.{IsStored, shown_stored};
 
@@ -63,7 +57,6 @@ impl<A: Allocator> Model for Session<A> {
     ghost invariant = { λ s.
         IsStored s.history s.group s.doc
         × (s.opened_at ≤ s.meter)
-        × IsIndexIfAny s.doc s.finder
         × (s.opened_at ≤ max_text) };
 }
 
@@ -114,32 +107,24 @@ impl<A: Allocator + Copy> Session<A> {
         let mut meter = Meter::new();
         let (doc, end) = Doc::parse_with_end(alloc, text, &mut meter)?;
         let finder = Finder::over(&doc, end);
-        Session::over(alloc, doc, finder, depth, meter)
+        Session::over(alloc, IndexedDoc::new(doc, finder), depth, meter)
     }
 
-    // A session on a document, with nothing to undo or redo. The finder is one of the document, and
-    // the meter has counted the document's lines.
-    fn over(
-        alloc: A,
-        doc: Doc<A>,
-        finder: Finder<A>,
-        depth: u32,
-        meter: Meter,
-    ) -> Result<Session<A>, Fault>
+    // A session on a document, with nothing to undo or redo. The meter has counted the document's
+    // lines.
+    fn over(alloc: A, doc: IndexedDoc<A>, depth: u32, meter: Meter) -> Result<Session<A>, Fault>
         requires good { IsBadDepth depth → ⊥ }
         requires faithful { IsFaithful doc }
-        requires index { IsIndexIfAny doc finder }
         requires counted { AreCounted 0 (length doc) meter }
         ensures opened { IfOk result (λ s. s ≡ seen_opened depth (located_text doc)) }
         ensures fault { IsOkUnless result Fault.NoMemory }
     {
         let history = History::new(alloc, depth)?;
-        prove!(doc.len() <= MAX_TEXT);
+        prove!(doc.doc().len() <= MAX_TEXT);
         let opened_at = meter.count();
         Ok(Session {
             alloc,
             doc,
-            finder,
             history,
             group: None,
             meter,
@@ -154,7 +139,7 @@ impl<A: Allocator + Copy> Session<A> {
         ensures same { self.new.shown ≡ self.old.shown }
         ensures none_read { self.new.rereads ≡ self.old.rereads }
     {
-        self.finder.expect_edits();
+        self.doc.expect_edits();
     }
 
     /// Makes an edit. It can be undone next: alone, or, if a group is open, together with the
@@ -177,20 +162,18 @@ impl<A: Allocator + Copy> Session<A> {
             ≤ self.old.rereads + cost self.old.shown.text (edit_of edit.now) }
         ensures forward { self.old.rereads ≤ self.new.rereads }
     {
-        let known = self.finder.known(self.alloc, &self.doc, edit);
-        let patch = match plan_with(self.alloc, &self.doc, edit, known, &mut self.meter) {
+        let known = self.doc.known(self.alloc, edit);
+        let patch = match plan_with(self.alloc, self.doc.doc(), edit, known, &mut self.meter) {
             Ok(patch) => patch,
             Err(refusal) => return Err(refusal),
         };
-        let effect = effect_of(&self.doc, &patch);
         match self.group.take() {
             Some(mut group) => {
                 if group.reserve(1).is_err() {
                     self.group = Some(group);
                     return Err(Refusal::NoMemory);
                 }
-                group.push_front(patch.make(&mut self.doc));
-                self.finder.follow(effect, &self.doc);
+                group.push_front(self.doc.make_planned(patch));
                 self.group = Some(group);
                 self.history.forget();
             }
@@ -198,8 +181,7 @@ impl<A: Allocator + Copy> Session<A> {
                 let Ok(mut member) = Sequence::with_capacity(self.alloc, 1) else {
                     return Err(Refusal::NoMemory);
                 };
-                member.push_front(patch.make(&mut self.doc));
-                self.finder.follow(effect, &self.doc);
+                member.push_front(self.doc.make_planned(patch));
                 self.history.push(member);
             }
         }
@@ -223,7 +205,6 @@ impl<A: Allocator + Copy> Session<A> {
         if self.has_open_group() {
             return Err(Refusal::GroupOpen);
         }
-        self.finder.forget();
         match self.history.undo(&mut self.doc) {
             Ok(()) => Ok(()),
             Err(_) => Err(Refusal::NothingToUndo),
@@ -247,7 +228,6 @@ impl<A: Allocator + Copy> Session<A> {
         if self.has_open_group() {
             return Err(Refusal::GroupOpen);
         }
-        self.finder.forget();
         match self.history.redo(&mut self.doc) {
             Ok(()) => Ok(()),
             Err(_) => Err(Refusal::NothingToRedo),
@@ -315,7 +295,6 @@ impl<A: Allocator + Copy> Session<A> {
         let Some(group) = self.group.take() else {
             return Err(Refusal::NoGroup);
         };
-        self.finder.forget();
         let Ok(_) = group.apply(&mut self.doc) else {
             unreachable!()
         };
@@ -329,7 +308,7 @@ impl<A: Allocator> Session<A> {
         ensures text { IsFaithfulTo result.now self.now.shown.text }
         ensures own { IsFaithful result.now }
     {
-        &self.doc
+        self.doc.doc()
     }
 
     /// Whether a group is open. Nothing can be undone or redone until the group ends. Takes no

@@ -20,12 +20,12 @@ none-if-empty (x ∷ xs) e = absurd (not-zero (length xs) (sym e))
 pub invariant_of-self-then-not-is_empty : goal.invariant_of-self-then-not-is_empty
 invariant_of-self-then-not-is_empty g c =
     let k = subst (λ (o : Option Patches). IsStored c.self.inside.history o c.self.inside.doc) (sym c.in-Some.ensures.value) c.self.invariant.0 in
-    (rw (c.push.ensures, c.take.ensures.after) (stored-ended c.self.inside.history c.in-Some.group c.self.inside.doc k), c.self.invariant.1, c.self.invariant.2, c.self.invariant.3)
+    (rw (c.push.ensures, c.take.ensures.after) (stored-ended c.self.inside.history c.in-Some.group c.self.inside.doc k), c.self.invariant.1, c.self.invariant.2)
 
 pub invariant_of-self-else-not-is_empty : goal.invariant_of-self-else-not-is_empty
 invariant_of-self-else-not-is_empty g c =
     let k = subst (λ (o : Option Patches). IsStored c.self.inside.history o c.self.inside.doc) (sym c.in-Some.ensures.value) c.self.invariant.0 in
-    (rw c.take.ensures.after (stored-ended_empty c.self.inside.history c.in-Some.group c.self.inside.doc k (none-if-empty c.in-Some.group.changes c.if-not-is_empty.ensures)), c.self.invariant.1, c.self.invariant.2, c.self.invariant.3)
+    (rw c.take.ensures.after (stored-ended_empty c.self.inside.history c.in-Some.group c.self.inside.doc k (none-if-empty c.in-Some.group.changes c.if-not-is_empty.ensures)), c.self.invariant.1, c.self.invariant.2)
 
 pub returns-then-not-is_empty-clause-done : goal.returns-then-not-is_empty-clause-done
 returns-then-not-is_empty-clause-done g c =

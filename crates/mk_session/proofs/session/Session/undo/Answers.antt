@@ -1,5 +1,4 @@
-use Rattle.std.proofs.Common.{sym, subst, ap}
-use Rattle.mk_index.specs.Effects.{IsIndexIfAny}
+use Rattle.std.proofs.Common.{sym, ap}
 use Rattle.mk_session.proofs.on_sessions.StoredLemmas.{group-closed, stored-by_undo}
 use Rattle.mk_session.proofs.session.Session.undo.Goals as goal
 
@@ -9,6 +8,5 @@ invariant_of-self g c = (
       (group-closed c.self.inside.history c.self.inside.group c.self.inside.doc c.args.self.now.shown (ap (λ s. s.shown) c.self.view_is) (sym c.if-has_open_group.ensures)) c.self.invariant.0
       c.undo.ensures.step c.undo.ensures.done c.undo.ensures.undone c.undo.ensures.same,
   c.self.invariant.1,
-  subst (IsIndexIfAny c.undo.new.state) (sym c.forget.ensures) tt,
-  c.self.invariant.3,
+  c.self.invariant.2,
 )

@@ -1,0 +1,107 @@
+//! A document with the index of its lines.
+ghost use Rattle.std.specs.Prelude.{◌≡◌};
+ghost use Rattle.mk_tree.specs.Documents.{IsFaithful};
+ghost use Rattle.mk_edit_language.specs.EditViews.{edit_of};
+ghost use Rattle.mk_edit_parts.specs.Seeking.{IsKnown};
+ghost use Rattle.mk_patch.specs.Moves.{FitMoves, after_moves};
+ghost use Rattle.mk_index.specs.Effects.{IsIndexIfAny};
+
+use crate::change::IndexedPatch;
+use crate::effect::effect_of;
+use crate::finder::Finder;
+use mk_edit_language::Edit;
+use mk_edit_parts::seek::Sought;
+use mk_patch::Patch;
+use mk_tree::Doc;
+use std::alloc::{Allocator, Global};
+use std::marker::Model;
+
+/// A document with the index of its lines. Contracts see the lines of the document alone: the index
+/// is always one of them, if there is one.
+#[derive(Drop)]
+pub struct IndexedDoc<A: Allocator = Global> {
+    doc: Doc<A>,
+    finder: Finder<A>,
+}
+
+impl<A: Allocator> Model for IndexedDoc<A> {
+    ghost use Rattle.std.specs.Prelude.{List};
+    ghost use Rattle.mk_tree.specs.LocatedLines.{LocatedLine};
+    ghost use Rattle.mk_index.specs.Effects.{IsIndexIfAny};
+
+    ghost Value = { List LocatedLine };
+
+    ghost view = { λ d. d.doc };
+
+    ghost invariant = { λ d. IsIndexIfAny d.doc d.finder };
+}
+
+impl<A: Allocator> IndexedDoc<A> {
+    /// A document with its finder. Takes no memory.
+    pub fn new(doc: Doc<A>, finder: Finder<A>) -> IndexedDoc<A>
+        requires { IsIndexIfAny doc finder }
+        ensures { result ≡ doc }
+    {
+        IndexedDoc { doc, finder }
+    }
+
+    /// The document. Takes no memory.
+    pub fn doc(&self) -> &Doc<A>
+        ensures { result.now ≡ self.now }
+    {
+        &self.doc
+    }
+}
+
+impl<A: Allocator + Copy> IndexedDoc<A> {
+    /// Lets the next edit of a variable make an index, as [`Finder::expect_edits`] does. Walks over
+    /// nothing and takes no memory.
+    pub fn expect_edits(&mut self)
+        ensures { self.new ≡ self.old }
+    {
+        self.finder.expect_edits();
+    }
+
+    /// What is known of the address of an edit, as [`Finder::known`] tells it: `None` if a walk over
+    /// the document has to find its line. The index may be made first. That takes memory for an index
+    /// of variables; a growth that is refused is no refusal of the edit.
+    pub fn known(&mut self, alloc: A, edit: &Edit<A>) -> Option<Sought>
+        requires { IsFaithful self.old }
+        ensures known { IsKnown (edit_of edit.now) self.old result }
+        ensures same { self.new ≡ self.old }
+    {
+        self.finder.known(alloc, &self.doc, edit)
+    }
+
+    /// Makes a patch that leads from a faithful document to a faithful one, as the patch of a planned
+    /// edit does, and gives the patch that takes it back. The index follows: it is kept over another
+    /// value of the same variable and over a line at the end, and dropped over any other change. Never
+    /// refused. Takes no memory, but for the index; a growth that is refused drops the index.
+    pub fn make_planned(&mut self, patch: Patch<A>) -> IndexedPatch<A>
+        requires faithful { IsFaithful self.old }
+        requires faithful_after { IsFaithful (after_moves patch self.old) }
+        requires fit { FitMoves patch self.old }
+        ensures after { self.new ≡ after_moves patch self.old }
+        ensures fits_back { FitMoves result self.new }
+        ensures leads_back { after_moves result self.new ≡ self.old }
+    {
+        let effect = effect_of(&self.doc, &patch);
+        let back = patch.make(&mut self.doc);
+        self.finder.follow(effect, &self.doc);
+        IndexedPatch { patch: back }
+    }
+
+    /// Makes any patch, and gives the patch that takes it back. The index is dropped. Never refused.
+    /// Takes no memory.
+    pub fn make(&mut self, patch: Patch<A>) -> IndexedPatch<A>
+        requires { FitMoves patch self.old }
+        ensures after { self.new ≡ after_moves patch self.old }
+        ensures fits_back { FitMoves result self.new }
+        ensures leads_back { after_moves result self.new ≡ self.old }
+    {
+        self.finder.forget();
+        IndexedPatch {
+            patch: patch.make(&mut self.doc),
+        }
+    }
+}
