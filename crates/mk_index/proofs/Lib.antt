@@ -1,2 +1,3 @@
 pub mod on_blocks
 pub mod on_chains
+pub mod on_effects

@@ -5,3 +5,4 @@ pub mod ListedLemmas
 pub mod RefreshLemmas
 pub mod WindowLemmas
 pub mod MarkLemmas
+pub mod FollowedLemmas

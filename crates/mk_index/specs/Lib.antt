@@ -5,3 +5,5 @@ pub mod Keys
 -- The lines, cut into blocks
 pub mod Blocks
 pub mod Indexes
+-- What is known of a document, and what a change of it means for that
+pub mod Effects

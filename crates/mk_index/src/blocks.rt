@@ -2,13 +2,13 @@
 ghost use Rattle.std.specs.Prelude.{◌≡◌, ◌+◌, ◌++◌, ℕ, List, Option, IsTrue, IfSome, length, take, drop};
 ghost use Rattle.mk_class.specs.Contexts as contexts;
 ghost use Rattle.mk_tree.specs.LocatedLines.{LocatedLine};
-ghost use Rattle.mk_patch.specs.Moves.{FitsMove, after_move};
+ghost use Rattle.mk_patch.specs.Moves.{FitMoves, FitsMove, after_move, after_moves};
 ghost use Rattle.mk_patch.specs.StepMoves.{move_of};
 ghost use Rattle.mk_index.specs.Blocks.{AreBlocks};
 ghost use Rattle.mk_index.specs.Chains.{Mention};
 
 use mk_class::Context;
-use mk_patch::Step;
+use mk_patch::{Patch, Step};
 use std::alloc::Allocator;
 
 /// Lines of a document that stand one below the other.
@@ -22,9 +22,28 @@ pub struct Block {
     pub is_stale: bool,
 }
 
-/// Follows a step of a patch. Whether it could; if not, the blocks are of no use any more. Takes no
+/// Follows the steps of a patch. Whether it could; if not, the blocks are of no use any more. Takes no
 /// memory.
-pub(crate) fn follow<A: Allocator>(blocks: &mut [Block], step: &Step<A>) -> bool
+pub(crate) fn follow_all<A: Allocator>(blocks: &mut [Block], patch: &Patch<A>) -> bool
+    ensures { (mentions : List Mention) (number : ℕ) (expected : Option contexts.Context)
+        (lines : List LocatedLine) (end : contexts.Context)
+        → AreBlocks mentions number expected lines blocks.old end → FitMoves patch.now lines
+        → IsTrue result
+        → AreBlocks mentions number expected (after_moves patch.now lines) blocks.new end }
+{
+    'steps: for at in 0..patch.step_count() {
+        let Some(step) = patch.step(at) else {
+            return false;
+        };
+        if !follow(blocks, step) {
+            return false;
+        }
+    }
+    true
+}
+
+// Follows a step of a patch. Whether it could; if not, the blocks are of no use any more.
+fn follow<A: Allocator>(blocks: &mut [Block], step: &Step<A>) -> bool
     ensures { (mentions : List Mention) (number : ℕ) (expected : Option contexts.Context)
         (lines : List LocatedLine) (end : contexts.Context)
         → AreBlocks mentions number expected lines blocks.old end

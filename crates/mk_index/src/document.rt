@@ -4,10 +4,10 @@ ghost use Rattle.mk_tree.specs.Documents.{IsFaithful};
 ghost use Rattle.mk_edit_language.specs.EditViews.{edit_of};
 ghost use Rattle.mk_edit_parts.specs.Seeking.{IsKnown};
 ghost use Rattle.mk_patch.specs.Moves.{FitMoves, after_moves};
-ghost use Rattle.mk_index.specs.Effects.{IsIndexIfAny};
+ghost use Rattle.mk_index.specs.Effects.{IsKnownFor};
 
 use crate::change::IndexedPatch;
-use crate::effect::effect_of;
+use crate::effect::{Effect, effect_of};
 use crate::finder::Finder;
 use mk_edit_language::Edit;
 use mk_edit_parts::seek::Sought;
@@ -27,19 +27,19 @@ pub struct IndexedDoc<A: Allocator = Global> {
 impl<A: Allocator> Model for IndexedDoc<A> {
     ghost use Rattle.std.specs.Prelude.{List};
     ghost use Rattle.mk_tree.specs.LocatedLines.{LocatedLine};
-    ghost use Rattle.mk_index.specs.Effects.{IsIndexIfAny};
+    ghost use Rattle.mk_index.specs.Effects.{IsKnownFor};
 
     ghost Value = { List LocatedLine };
 
     ghost view = { λ d. d.doc };
 
-    ghost invariant = { λ d. IsIndexIfAny d.doc d.finder };
+    ghost invariant = { λ d. IsKnownFor d.doc d.finder };
 }
 
 impl<A: Allocator> IndexedDoc<A> {
     /// A document with its finder. Takes no memory.
     pub fn new(doc: Doc<A>, finder: Finder<A>) -> IndexedDoc<A>
-        requires { IsIndexIfAny doc finder }
+        requires { IsKnownFor doc finder }
         ensures { result ≡ doc }
     {
         IndexedDoc { doc, finder }
@@ -74,9 +74,9 @@ impl<A: Allocator + Copy> IndexedDoc<A> {
     }
 
     /// Makes a patch that leads from a faithful document to a faithful one, as the patch of a planned
-    /// edit does, and gives the patch that takes it back. The index follows: it is kept over another
-    /// value of the same variable and over a line at the end, and dropped over any other change. Never
-    /// refused. Takes no memory, but for the index; a growth that is refused drops the index.
+    /// edit does, and gives the patch that takes it back. What is known of the document follows: another
+    /// value of the same variable leaves all of it right, and after one more line at the end it is
+    /// still known where the document ends. Never refused. Takes no memory.
     pub fn make_planned(&mut self, patch: Patch<A>) -> IndexedPatch<A>
         requires faithful { IsFaithful self.old }
         requires faithful_after { IsFaithful (after_moves patch self.old) }
@@ -85,13 +85,20 @@ impl<A: Allocator + Copy> IndexedDoc<A> {
         ensures fits_back { FitMoves result self.new }
         ensures leads_back { after_moves result self.new ≡ self.old }
     {
-        let effect = effect_of(&self.doc, &patch);
-        let back = patch.make(&mut self.doc);
-        self.finder.follow(effect, &self.doc);
-        IndexedPatch { patch: back }
+        match (effect_of(&self.doc, &patch), self.finder.end()) {
+            (Effect::Same, _) => IndexedPatch {
+                patch: patch.make(&mut self.doc),
+            },
+            (Effect::Appends, Some(end)) => {
+                let back = self.make(patch);
+                self.finder.append(&self.doc, end);
+                back
+            }
+            _ => self.make(patch),
+        }
     }
 
-    /// Makes any patch, and gives the patch that takes it back. The index is dropped. Never refused.
+    /// Makes any patch, and gives the patch that takes it back. The index follows. Never refused.
     /// Takes no memory.
     pub fn make(&mut self, patch: Patch<A>) -> IndexedPatch<A>
         requires { FitMoves patch self.old }
@@ -99,7 +106,7 @@ impl<A: Allocator + Copy> IndexedDoc<A> {
         ensures fits_back { FitMoves result self.new }
         ensures leads_back { after_moves result self.new ≡ self.old }
     {
-        self.finder.forget();
+        self.finder.follow(&patch);
         IndexedPatch {
             patch: patch.make(&mut self.doc),
         }

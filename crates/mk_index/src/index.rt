@@ -4,26 +4,33 @@ ghost use Rattle.mk_class.specs.Contexts as contexts;
 ghost use Rattle.mk_class.specs.Contexts.{start};
 ghost use Rattle.mk_tree.specs.Documents.{IsFaithful};
 ghost use Rattle.mk_tree.specs.LocatedLines.{LocatedLine, context_after_located_lines};
+ghost use Rattle.mk_edit_parts.specs.AddressViews.{address_seen};
+ghost use Rattle.mk_edit_parts.specs.Seeking.{IsKnownOf};
 ghost use Rattle.mk_edit_parts.specs.Windows.{AreWindows, first_place};
-ghost use Rattle.mk_patch.specs.Moves.{FitsMove, after_move};
-ghost use Rattle.mk_patch.specs.StepMoves.{move_of};
+ghost use Rattle.mk_patch.specs.Moves.{FitMoves, after_moves};
 ghost use Rattle.mk_index.specs.Blocks.{AreBlocks, HaveListedLines, IsCarried, IsExpected, PassesInMarked};
 ghost use Rattle.mk_index.specs.Chains.{AreChainsOf, Mention};
+ghost use Rattle.mk_index.specs.Keys.{IsKeyOf};
 ghost use Rattle.mk_index.specs.Indexes.{AreMarked, IsFreshIndexOf, IsIndexOf, PassesByKeys};
 
-use crate::blocks::{Block, follow};
+use crate::blocks::{Block, follow_all};
+use crate::bucket::hash_of;
 use crate::chains::Chains;
 use crate::keys::list_keys;
 use mk_class::Context;
-use mk_edit_parts::seek::Found;
+use mk_edit_parts::address::Address;
+use mk_edit_parts::seek::{Found, Sought, seek_within};
 use mk_edit_parts::window::Window;
-use mk_patch::Step;
+use mk_patch::Patch;
 use mk_tree::Doc;
 use std::alloc::{AllocError, Allocator, Global};
 use std::marker::Model;
 
 // How many lines a block has at first.
 const BLOCK_LINES: usize = 64;
+
+// The hash of a line that sets the recipe prefix in a way that is not read: that of the empty word.
+const UNREAD: u32 = 0;
 
 /// What is known of a document's lines, so that the lines of a word are found without a walk over all
 /// lines.
@@ -65,14 +72,13 @@ impl<A: Allocator + Copy> Index<A> {
         })
     }
 
-    /// Follows a step of a patch. Whether it could; if not, the index is of no use any more. To be
-    /// asked before the step is made or after it. Takes no memory.
-    pub fn follow(&mut self, step: &Step<A>) -> bool
-        ensures { (lines : List LocatedLine) → IsIndexOf lines self.old
-            → FitsMove (move_of step.now) lines → IsTrue result
-            → IsIndexOf (after_move (move_of step.now) lines) self.new }
+    /// Follows the steps of a patch: their lines belong to stale blocks then. Whether it could; if not,
+    /// the index is of no use any more. To be asked before the patch is made. Takes no memory.
+    pub fn follow(&mut self, patch: &Patch<A>) -> bool
+        ensures { (lines : List LocatedLine) → IsIndexOf lines self.old → FitMoves patch.now lines
+            → IsTrue result → IsIndexOf (after_moves patch.now lines) self.new }
     {
-        follow(&mut self.blocks, step)
+        follow_all(&mut self.blocks, patch)
     }
 
     /// Makes each stale block fresh: lists the keys of its lines, and mends the contexts after it.
@@ -128,6 +134,17 @@ impl<A: Allocator + Copy> Index<A> {
         self.marked_windows(alloc, doc, &marks).ok()
     }
 
+    /// What the document has for an address, by the windows outside of which no line concerns it.
+    /// `None` if these are unknown.
+    pub fn sought(&self, alloc: A, doc: &Doc<A>, address: Option<Address>) -> Option<Sought>
+        requires faithful { IsFaithful doc.now }
+        requires index { IsFreshIndexOf doc.now self.now }
+        ensures { IsKnownOf (address_seen address.entry) doc.now result }
+    {
+        let windows = self.windows(alloc, doc, &[UNREAD, key_of(address)])?;
+        Some(seek_within(doc, &windows, address))
+    }
+
     // The blocks that are marked, as windows of the document, and its end.
     fn marked_windows(
         &self,
@@ -164,6 +181,17 @@ impl<A: Allocator + Copy> Index<A> {
         };
         windows.push(Window { place, count: 0 })?;
         Ok(windows)
+    }
+}
+
+// The hash of the word that an address says; any hash, if there is no address.
+fn key_of(address: Option<Address>) -> u32
+    ensures { IsKeyOf (address_seen address.entry) result }
+{
+    match address {
+        Some(Address::Variable(_, name)) => hash_of(name),
+        Some(Address::Rule(_, target)) => hash_of(target),
+        None => UNREAD,
     }
 }
 

@@ -1,0 +1,226 @@
+//! What is known of a document that is edited, so that an edit's line is found without a walk.
+ghost use Rattle.std.specs.Prelude.{◌≡◌, None, Some, List};
+ghost use Rattle.mk_class.specs.ClassedLines.{classed_lines};
+ghost use Rattle.mk_tree.specs.Documents.{IsFaithful};
+ghost use Rattle.mk_tree.specs.LocatedLines.{LocatedLine, located_text};
+ghost use Rattle.mk_tree.specs.UnreadPrefixes.{IsEndOf};
+ghost use Rattle.mk_edit_language.specs.EditViews.{edit_of};
+ghost use Rattle.mk_edit_parts.specs.AddressViews.{address_seen};
+ghost use Rattle.mk_edit_parts.specs.Seeking.{IsKnown, IsKnownOf, IsSought};
+ghost use Rattle.mk_patch.specs.Moves.{FitMoves, after_moves};
+ghost use Rattle.mk_index.specs.Effects.{IsBehind, IsKnownFor};
+
+use crate::index::Index;
+use mk_edit_language::Edit;
+use mk_edit_parts::address::{Address, address_of};
+use mk_edit_parts::seek::{Found, Sought, seek};
+use mk_patch::Patch;
+use mk_tree::end::sets_prefix_unread;
+use mk_tree::{Doc, End};
+use std::alloc::{Allocator, Global};
+use std::marker::Model;
+
+// A document of fewer lines gets no index: a walk over them takes no longer than the rest of an
+// edit.
+const FEWEST_LINES: usize = 1_024;
+
+/// What is known of a document that is edited: an index, once one is worth its making, and where the
+/// document ends. Contracts see both.
+#[derive(Drop)]
+pub struct Finder<A: Allocator = Global> {
+    index: Option<Index<A>>,
+    end: Option<End>,
+    // Whether the next edit of a variable or a rule makes the index: the last one made do with a walk,
+    // or more edits are expected.
+    is_due: bool,
+}
+
+impl<A: Allocator> Model for Finder<A> {
+    ghost use Rattle.mk_index.specs.Effects.{Known};
+
+    ghost Value = { Known };
+
+    ghost view = { λ f. record { index = f.index; end = f.end } };
+}
+
+impl<A: Allocator + Copy> Finder<A> {
+    /// A finder of a document that was just read. It knows where the document ends. It takes no walk
+    /// and no memory.
+    pub fn over(doc: &Doc<A>, end: End) -> Finder<A>
+        requires { IsEndOf doc.now end }
+        ensures known { IsKnownFor doc.now result }
+        ensures end { result.end ≡ Some end }
+    {
+        Finder {
+            index: None,
+            end: Some(end),
+            is_due: false,
+        }
+    }
+
+    /// What is known of the address of an edit, or `None` if a walk over the document has to find its
+    /// line. The first edit of a variable or a rule makes do with a walk, unless more edits are
+    /// expected. The second one makes an index, unless the document has fewer than 1,024 lines. A
+    /// growth that is refused leaves the finder without an index, and is no refusal of the edit. An
+    /// edit without an address, which goes to the end, needs only where the document ends. Nothing is
+    /// known for a rename, which looks at every line.
+    pub fn known(&mut self, alloc: A, doc: &Doc<A>, edit: &Edit<A>) -> Option<Sought>
+        requires faithful { IsFaithful doc.now }
+        requires right { IsKnownFor doc.now self.old }
+        ensures known { IsKnown (edit_of edit.now) doc.now result }
+        ensures right { IsKnownFor doc.now self.new }
+    {
+        if let Edit::RenameTarget { .. } = edit {
+            return None;
+        }
+        let address = address_of(edit);
+        if address.is_none() {
+            self.find_end(alloc, doc);
+            return self.at_end(doc);
+        }
+        self.make_due(alloc, doc);
+        self.by_index(alloc, doc, address)
+    }
+
+    /// Lets the next edit of a variable or a rule make an index, since more edits are to come. This
+    /// call itself walks over nothing and takes no memory.
+    pub fn expect_edits(&mut self)
+        ensures { self.new ≡ self.old }
+    {
+        self.is_due = true;
+    }
+
+    // Finds where the document ends, by the index or by a walk over all lines, unless that is known.
+    fn find_end(&mut self, alloc: A, doc: &Doc<A>)
+        requires faithful { IsFaithful doc.now }
+        requires right { IsKnownFor doc.now self.old }
+        ensures { IsKnownFor doc.now self.new }
+    {
+        if self.end.is_none() {
+            let sought = self.walk_to_end(alloc, doc);
+            self.end = Some(end_of(sought));
+        }
+    }
+
+    // What the document has for no address, by the index or by a walk over all lines.
+    fn walk_to_end(&mut self, alloc: A, doc: &Doc<A>) -> Sought
+        requires faithful { IsFaithful doc.now }
+        requires right { IsKnownFor doc.now self.old }
+        ensures sought { IsSought (classed_lines (located_text doc.now)) None result }
+        ensures right { IsKnownFor doc.now self.new }
+    {
+        match self.by_index(alloc, doc, None) {
+            Some(sought) => sought,
+            None => seek(doc, None),
+        }
+    }
+
+    // What the document has for no address, if it is known where it ends.
+    fn at_end(&self, doc: &Doc<A>) -> Option<Sought>
+        requires faithful { IsFaithful doc.now }
+        requires right { IsKnownFor doc.now self.now }
+        ensures { IsKnownOf None doc.now result }
+    {
+        match self.end {
+            Some(end) => Some(sought_at(doc, end)),
+            None => None,
+        }
+    }
+
+    // Makes an index if one is due and there is none, and otherwise lets the next edit make it.
+    fn make_due(&mut self, alloc: A, doc: &Doc<A>)
+        requires { IsKnownFor doc.now self.old }
+        ensures { IsKnownFor doc.now self.new }
+    {
+        if self.index.is_some() || doc.len() < FEWEST_LINES {
+            return;
+        }
+        if self.is_due {
+            self.index = Index::new(alloc, doc).ok();
+        } else {
+            self.is_due = true;
+        }
+    }
+
+    // What the index tells of an address. A growth that is refused drops the index.
+    fn by_index(&mut self, alloc: A, doc: &Doc<A>, address: Option<Address>) -> Option<Sought>
+        requires faithful { IsFaithful doc.now }
+        requires right { IsKnownFor doc.now self.old }
+        ensures known { IsKnownOf (address_seen address.entry) doc.now result }
+        ensures right { IsKnownFor doc.now self.new }
+    {
+        let mut index = self.index.take()?;
+        index.refresh(doc).ok()?;
+        let sought = index.sought(alloc, doc, address);
+        self.index = Some(index);
+        sought
+    }
+
+    /// Follows a patch that is made of the document next: the index is kept, and where the document
+    /// ends is forgotten. Takes no memory.
+    pub fn follow(&mut self, patch: &Patch<A>)
+        ensures { (lines : List LocatedLine) → IsKnownFor lines self.old → FitMoves patch.now lines
+            → IsKnownFor (after_moves patch.now lines) self.new }
+    {
+        self.end = None;
+        let Some(mut index) = self.index.take() else {
+            return;
+        };
+        if index.follow(patch) {
+            self.index = Some(index);
+        }
+    }
+
+    /// Where the document ends, if that is known. Takes no memory.
+    pub fn end(&self) -> Option<End>
+        ensures { result ≡ self.now.end }
+    {
+        self.end
+    }
+
+    /// Notes where the document ends, which is one line further down than before. Takes no memory.
+    pub fn append(&mut self, doc: &Doc<A>, end: End)
+        requires faithful { IsFaithful doc.now }
+        requires right { IsKnownFor doc.now self.old }
+        requires behind { IsBehind doc.now end }
+        ensures { IsKnownFor doc.now self.new }
+    {
+        // The contract of `iter` says that each line may stand where it stands.
+        let _lines = doc.iter();
+        let last = doc.line(doc.len() - 1);
+        let class = last.class();
+        let is_unread = sets_prefix_unread(last, &class);
+        self.end = Some(End {
+            context: end.context.step(&class),
+            has_unread_prefix: end.has_unread_prefix | is_unread,
+        });
+    }
+}
+
+// Where a document ends, by what is sought for no address.
+fn end_of(sought: Sought) -> End
+    ensures { result
+        ≡ record { context = sought.end.context; has_unread_prefix = sought.has_unread_prefix } }
+{
+    End {
+        context: sought.end.context,
+        has_unread_prefix: sought.has_unread_prefix,
+    }
+}
+
+// What a document that ends so has for no address.
+fn sought_at<A: Allocator>(doc: &Doc<A>, end: End) -> Sought
+    requires faithful { IsFaithful doc.now }
+    requires end { IsEndOf doc.now end }
+    ensures { IsSought (classed_lines (located_text doc.now)) None result }
+{
+    Sought {
+        count: 0,
+        found: None,
+        has_unread_prefix: end.has_unread_prefix,
+        end: Found {
+            at: doc.len(),
+            context: end.context,
+        },
+    }
+}
