@@ -12,3 +12,4 @@ pub mod SizesOfEffects
 pub mod PatchLoops
 pub mod PlacesNoted
 pub mod PlacesLeft
+pub mod WindowsSurveyed

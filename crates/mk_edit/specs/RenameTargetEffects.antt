@@ -1,10 +1,10 @@
 -- What a rename finds among the lines of a document, what it does to them as a whole, and the first
 -- cause of refusal that this decides.
 -- Told in docs/ARCHITECTURE.md, "An edit's way, from Edit to moved lines".
-use Rattle.std.specs.Prelude.{ℕ, ◌+◌, ◌*◌, ◌&&◌, ◌||◌, not, nat_lt, if◌then◌else◌, Bool, false, List, [], ◌∷◌, length, Option}
+use Rattle.std.specs.Prelude.{◌≡◌, ℕ, ◌+◌, ◌*◌, ◌&&◌, ◌||◌, not, nat_lt, if◌then◌else◌, Bool, false, List, [], ◌∷◌, length, drop, Option}
 use Rattle.std.specs.List.{list_any}
 use Rattle.mk_lines.specs.Limits.{max_text}
-use Rattle.mk_class.specs.Contexts.{Context, context_after_located}
+use Rattle.mk_class.specs.Contexts.{Context, start, context_after_located}
 use Rattle.mk_class.specs.RecipePrefix.{is_prefix_led}
 use Rattle.mk_tree.specs.LocatedLines.{LocatedLine}
 use Rattle.mk_edit_language.specs.Causes.{where_holds}
@@ -14,6 +14,7 @@ use Rattle.mk_edit_language.specs.declared.refusal.Refusal.TheVariants.{NoSuch, 
 use Rattle.mk_edit.specs.declared.rename_target_effect.Effect.{Effect}
 use Rattle.mk_edit.specs.declared.rename_target_effect.Turn.TheVariants as turn
 use Rattle.mk_edit.specs.RenameTargetPatches.{exchanged_count, is_exchanged}
+use Rattle.mk_edit_parts.specs.declared.seek.Found.{Found}
 use Rattle.mk_edit_parts.specs.LocatedParts.{is_target_located, is_unread_located}
 use Rattle.mk_edit_parts.specs.RenamedRanges.{bytes_in, is_at_front, renamed_ranges}
 
@@ -90,6 +91,12 @@ no_effect =
       no_longer = 0;
       longer = 0;
     }
+
+-- A walk over a document has come to a place. This is the effect on the lines above it: with the
+-- effect on the lines from the place on, it is the effect on all lines.
+abbrev pub IsEffectTo : (old new : List ℕ) → List LocatedLine → Found → Effect → Type 0
+IsEffectTo o n ls f e =
+    joined e (effect_on o n f.context (drop f.at ls)) ≡ effect_on o n start ls
 
 -- the first cause of refusal that holds, by what lines tell: whether the recipe prefix is set
 -- unread, whether the old word is there, whether the new word begins a line with the prefix, whether

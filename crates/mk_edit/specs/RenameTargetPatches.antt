@@ -1,7 +1,7 @@
 -- The moves of a rename: each line that holds the word is exchanged for the line after the rename,
 -- in two turns.
 -- Told in docs/DECISIONS.md, "mk_edit_parts and mk_edit".
-use Rattle.std.specs.Prelude.{◌≡◌, ◌&&◌, not, nat_lt, if◌then◌else◌, ℕ, ◌+◌, ◌*◌, ◌^◌, ◌<◌, ◌≤◌, Bool, true, false, List, [], ◌∷◌, ◌++◌, length, filter}
+use Rattle.std.specs.Prelude.{◌≡◌, ◌&&◌, not, nat_lt, if◌then◌else◌, ℕ, ◌+◌, ◌*◌, ◌^◌, ◌<◌, ◌≤◌, Bool, true, false, List, [], ◌∷◌, ◌++◌, length, drop, filter}
 use Rattle.mk_lines.specs.Limits.{max_text}
 use Rattle.mk_lines.specs.LogicalLines.{logical_lines}
 use Rattle.mk_class.specs.Contexts.{Context, start, context_after_located}
@@ -62,6 +62,12 @@ held_places_from o at c (l ∷ ls) =
 -- words
 abbrev pub held_places : (old : List ℕ) → List LocatedLine → List HeldLine
 held_places o ls = held_places_from o 0 start ls
+
+-- A walk over a document has come to a place. These are the places of the lines above it that hold
+-- the word: with those of the lines from the place on, they are all places.
+abbrev pub AreHeldTo : (old : List ℕ) → List LocatedLine → Found → List HeldLine → Type 0
+AreHeldTo o ls f held =
+    held ++ held_places_from o f.at f.context (drop f.at ls) ≡ held_places o ls
 
 -- whether this line is exchanged in a turn
 abbrev pub is_exchanged : Turn → (old new : List ℕ) → LocatedLine → Bool

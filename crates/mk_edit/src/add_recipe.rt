@@ -1,7 +1,7 @@
 //! A new recipe line, planned.
 ghost use Rattle.mk_tree.specs.Documents.{IsFaithful};
 ghost use Rattle.mk_edit_language.specs.EditViews.{edit_of};
-ghost use Rattle.mk_edit_parts.specs.Seeking.{IsKnown};
+ghost use Rattle.mk_edit_parts.specs.Seeking.{IsLineKnown};
 ghost use Rattle.mk_edit.specs.Planned.{Plans};
 ghost use Rattle.mk_edit.specs.RecipeEdits.{IsAddRecipe};
 
@@ -33,7 +33,7 @@ pub(crate) fn plan_add_recipe<A: Allocator + Copy>(
 ) -> Result<Patch<A>, Refusal>
     requires faithful { IsFaithful doc.now }
     requires kind { IsAddRecipe (edit_of edit.now) }
-    requires known { IsKnown (edit_of edit.now) doc.now known }
+    requires known { IsLineKnown (edit_of edit.now) doc.now known }
     ensures { Plans (edit_of edit.now) doc.now meter.old meter.new result }
 {
     // The contract of `len` bounds the number of lines, so that indices can be added to.

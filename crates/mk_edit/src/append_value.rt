@@ -4,7 +4,7 @@ ghost use Rattle.mk_tree.specs.Documents.{IsFaithful};
 ghost use Rattle.mk_tree.specs.Trees.{line_view};
 ghost use Rattle.mk_edit_language.specs.EditViews.{edit_of};
 ghost use Rattle.mk_edit_parts.specs.LocatedParts.{IsClassed};
-ghost use Rattle.mk_edit_parts.specs.Seeking.{IsKnown};
+ghost use Rattle.mk_edit_parts.specs.Seeking.{IsLineKnown};
 ghost use Rattle.mk_edit.specs.Planned.{Plans};
 ghost use Rattle.mk_edit.specs.ValueEdits.{IsAppendValue, space_after, value_text_located};
 
@@ -37,7 +37,7 @@ pub(crate) fn plan_append_value<A: Allocator + Copy>(
 ) -> Result<Patch<A>, Refusal>
     requires faithful { IsFaithful doc.now }
     requires edit { IsAppendValue (edit_of edit.now) value.now }
-    requires known { IsKnown (edit_of edit.now) doc.now known }
+    requires known { IsLineKnown (edit_of edit.now) doc.now known }
     ensures { Plans (edit_of edit.now) doc.now meter.old meter.new result }
 {
     let found = find(doc, edit, known)?;

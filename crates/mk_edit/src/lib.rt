@@ -5,7 +5,7 @@
 //! lines that edits write.
 //!
 //! - [`planning`]: `plan`, one call for all twelve edits, and `plan_with`, for a caller who knows
-//!   where the edit's line stands.
+//!   where the edit's line stands, or which windows of the document a rename concerns.
 //!
 //! The other modules are the crate's own, lowest first:
 //!

@@ -1,7 +1,9 @@
 //! What an edit would do to a document, or why it is refused.
+ghost use Rattle.std.specs.Prelude.{◌≡◌};
 ghost use Rattle.mk_tree.specs.Documents.{IsFaithful};
+ghost use Rattle.mk_edit_language.specs.Edits.{RenameTarget};
 ghost use Rattle.mk_edit_language.specs.EditViews.{edit_of};
-ghost use Rattle.mk_edit_parts.specs.Seeking.{IsKnown};
+ghost use Rattle.mk_edit_parts.specs.Windows.{IsKnown};
 ghost use Rattle.mk_edit.specs.Planned.{Plans};
 
 use crate::add_line::plan_add_line;
@@ -17,7 +19,7 @@ use crate::set_recipe::plan_set_recipe;
 use crate::set_value::plan_set_value;
 use mk_class::Meter;
 use mk_edit_language::{Edit, Refusal};
-use mk_edit_parts::seek::Sought;
+use mk_edit_parts::window::{Known, Window};
 use mk_patch::Patch;
 use mk_tree::Doc;
 use std::alloc::Allocator;
@@ -44,11 +46,12 @@ pub fn plan<A: Allocator + Copy>(
     requires faithful { IsFaithful doc.now }
     ensures { Plans (edit_of edit.now) doc.now meter.old meter.new result }
 {
-    plan_with(alloc, doc, edit, None, meter)
+    plan_with(alloc, doc, edit, &Known::Nothing, meter)
 }
 
-/// Plans an edit as [`plan`] does, with what is known of its address. If nothing is known, the call
-/// walks over the document for the line that the edit means.
+/// Plans an edit as [`plan`] does, with what is known of the document. If nothing is known, the call
+/// walks over the document for the line that the edit means, or for the lines that a rename
+/// concerns. If windows are known for a rename, it walks over their lines alone.
 ///
 /// # Errors
 ///
@@ -57,30 +60,59 @@ pub fn plan_with<A: Allocator + Copy>(
     alloc: A,
     doc: &Doc<A>,
     edit: &Edit<A>,
-    known: Option<Sought>,
+    known: &Known<'_>,
     meter: &mut Meter,
 ) -> Result<Patch<A>, Refusal>
     requires faithful { IsFaithful doc.now }
-    requires known { IsKnown (edit_of edit.now) doc.now known }
+    requires known { IsKnown (edit_of edit.now) doc.now known.now }
     ensures { Plans (edit_of edit.now) doc.now meter.old meter.new result }
 {
+    let sought = known.line();
     match edit {
-        Edit::SetValue { value, .. } => plan_set_value(alloc, doc, edit, known, value, meter),
-        Edit::AppendValue { value, .. } => plan_append_value(alloc, doc, edit, known, value, meter),
-        Edit::AddAssign { .. } | Edit::AddRule { .. } => plan_add_line(
-            alloc, doc, edit, known, meter,
+        Edit::SetValue { value, .. } => plan_set_value(alloc, doc, edit, sought, value, meter),
+        Edit::AppendValue { value, .. } => plan_append_value(
+            alloc, doc, edit, sought, value, meter,
         ),
-        Edit::RemoveAssign { .. } => plan_remove_assign(alloc, doc, edit, known),
-        Edit::RemoveRule { .. } => plan_remove_rule(alloc, doc, edit, known),
+        Edit::AddAssign { .. } | Edit::AddRule { .. } => plan_add_line(
+            alloc, doc, edit, sought, meter,
+        ),
+        Edit::RemoveAssign { .. } => plan_remove_assign(alloc, doc, edit, sought),
+        Edit::RemoveRule { .. } => plan_remove_rule(alloc, doc, edit, sought),
         Edit::AddPrereq { order, word, .. } => {
-            plan_add_prereq(alloc, doc, edit, known, *order, word, meter)
+            plan_add_prereq(alloc, doc, edit, sought, *order, word, meter)
         }
-        Edit::RemovePrereq { word, .. } => plan_remove_prereq(alloc, doc, edit, known, word, meter),
-        Edit::AddRecipe { .. } => plan_add_recipe(alloc, doc, edit, known, meter),
+        Edit::RemovePrereq { word, .. } => plan_remove_prereq(
+            alloc, doc, edit, sought, word, meter,
+        ),
+        Edit::AddRecipe { .. } => plan_add_recipe(alloc, doc, edit, sought, meter),
         Edit::SetRecipe { number, line, .. } => {
-            plan_set_recipe(alloc, doc, edit, known, *number, line, meter)
+            plan_set_recipe(alloc, doc, edit, sought, *number, line, meter)
         }
-        Edit::RemoveRecipe { number, .. } => plan_remove_recipe(alloc, doc, edit, known, *number),
-        Edit::RenameTarget { from, to } => plan_rename_target(alloc, doc, edit, from, to, meter),
+        Edit::RemoveRecipe { number, .. } => plan_remove_recipe(alloc, doc, edit, sought, *number),
+        Edit::RenameTarget { from, to } => plan_rename(alloc, doc, edit, known, from, to, meter),
     }
+}
+
+// Plans a rename with what is known of the document: by a walk over the windows that are known, or
+// over all lines.
+fn plan_rename<A: Allocator + Copy>(
+    alloc: A,
+    doc: &Doc<A>,
+    edit: &Edit<A>,
+    known: &Known<'_>,
+    from: &[u8],
+    to: &[u8],
+    meter: &mut Meter,
+) -> Result<Patch<A>, Refusal>
+    requires faithful { IsFaithful doc.now }
+    requires kind { edit_of edit.now ≡ RenameTarget from.now to.now }
+    requires known { IsKnown (edit_of edit.now) doc.now known.now }
+    ensures { Plans (edit_of edit.now) doc.now meter.old meter.new result }
+{
+    let whole = [Window::whole(doc)];
+    let windows = match *known {
+        Known::Windows(windows) => windows,
+        Known::Nothing | Known::Line(_) => &whole,
+    };
+    plan_rename_target(alloc, doc, edit, windows, from, to, meter)
 }

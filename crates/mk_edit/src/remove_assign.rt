@@ -6,7 +6,7 @@ ghost use Rattle.mk_tree.specs.LocatedLines.{located_text};
 ghost use Rattle.mk_edit_language.specs.LineCauses.{removal_leans};
 ghost use Rattle.mk_edit_language.specs.EditViews.{edit_of};
 ghost use Rattle.mk_edit_parts.specs.AddressViews.{IsRemoveAssign};
-ghost use Rattle.mk_edit_parts.specs.Seeking.{IsKnown};
+ghost use Rattle.mk_edit_parts.specs.Seeking.{IsLineKnown};
 ghost use Rattle.mk_edit.specs.Planned.{Plans};
 ghost use Rattle.mk_edit.specs.PlannedMoves.{stretch_at};
 ghost use Rattle.mk_edit_parts.specs.Found.{IsPlaceOf};
@@ -35,7 +35,7 @@ pub(crate) fn plan_remove_assign<A: Allocator + Copy>(
 ) -> Result<Patch<A>, Refusal>
     requires faithful { IsFaithful doc.now }
     requires kind { IsRemoveAssign (edit_of edit.now) }
-    requires known { IsKnown (edit_of edit.now) doc.now known }
+    requires known { IsLineKnown (edit_of edit.now) doc.now known }
     ensures { (read : ℕ) → Plans (edit_of edit.now) doc.now read read result }
 {
     // The contract of `size` says that the text is within the limit, so that no removal is too

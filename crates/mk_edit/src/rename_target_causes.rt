@@ -8,12 +8,14 @@ ghost use Rattle.mk_tree.specs.LocatedLines.{located_text};
 ghost use Rattle.mk_edit_language.specs.Refusals.{causes, first_cause};
 ghost use Rattle.mk_edit_language.specs.Edits.{RenameTarget};
 ghost use Rattle.mk_edit_language.specs.EditViews.{edit_of};
+ghost use Rattle.mk_edit_parts.specs.Windows.{AreWindows, concerns_rename, first_place};
 ghost use Rattle.mk_edit.specs.RenameTargetEffects.{effect_on, first_of_lines};
 ghost use Rattle.mk_edit.specs.RenameTargetPatches.{held_places, held_view};
 
 use crate::rename_target_effect::{Effect, Survey, rename_target_effect};
 use mk_edit_language::{Edit, Refusal};
 use mk_edit_parts::argument::{bad_field, is_reserved};
+use mk_edit_parts::window::Window;
 use mk_lines::source::MAX_TEXT;
 use mk_tree::Doc;
 use std::alloc::Allocator;
@@ -22,8 +24,9 @@ use std::alloc::Allocator;
 /// cause of refusal holds. The call decides, in this order, whether a word may not be a target, or is
 /// reserved; whether the recipe prefix is set in a way that is not read; whether the old word is no
 /// target; whether a line would begin with the recipe prefix; whether the new word is a target; and
-/// whether the text would be too long. It walks once over the kept lines and reads no line anew. It
-/// takes memory for the places alone, and decides the same without it.
+/// whether the text would be too long. It walks once over the lines of the windows, outside of which
+/// no line concerns the rename, and reads no line anew. It takes memory for the places alone, and
+/// decides the same without it.
 ///
 /// # Errors
 ///
@@ -32,11 +35,13 @@ pub(crate) fn accepted_rename<'a, A: Allocator + Copy>(
     alloc: A,
     doc: &'a Doc<A>,
     edit: &Edit<A>,
+    windows: &[Window],
     from: &[u8],
     to: &[u8],
 ) -> Result<Survey<'a, A>, Refusal>
     requires faithful { IsFaithful doc.now }
     requires kind { edit_of edit.now ≡ RenameTarget from.now to.now }
+    requires windows { AreWindows (concerns_rename from.now to.now) first_place doc.now windows.now }
     ensures effect { IfOk result (λ survey.
         survey.effect ≡ effect_on from.now to.now start doc.now) }
     ensures places { IfOk result (λ survey. IfSome survey.places (λ places.
@@ -52,7 +57,7 @@ pub(crate) fn accepted_rename<'a, A: Allocator + Copy>(
     if is_reserved(edit) {
         return Err(Refusal::Reserved);
     }
-    let survey = rename_target_effect(alloc, doc, from, to);
+    let survey = rename_target_effect(alloc, doc, windows, from, to);
     match first_of_lines(survey.effect, doc.size(), to.len()) {
         Some(refusal) => Err(refusal),
         None => Ok(survey),

@@ -1,11 +1,14 @@
 //! What a rename finds among the lines of a document and does to them, seen by one walk.
-ghost use Rattle.std.specs.Prelude.{◌≡◌, ◌+◌, ◌<◌, ◌≤◌, ◌^◌, IfSome, map};
+ghost use Rattle.std.specs.Prelude.{◌≡◌, ◌+◌, ◌<◌, ◌≤◌, ◌^◌, IfSome, drop, length, map};
 ghost use Rattle.mk_lines.specs.Limits.{max_text};
 ghost use Rattle.mk_class.specs.Contexts.{start};
+ghost use Rattle.mk_tree.specs.Admissions.{AreAdmitted};
 ghost use Rattle.mk_tree.specs.Documents.{IsFaithful};
+ghost use Rattle.mk_tree.specs.Origins.{lines_between};
 ghost use Rattle.mk_tree.specs.Trees.{line_view};
-ghost use Rattle.mk_edit.specs.RenameTargetEffects.{effect_of_line, effect_on, joined, no_effect};
-ghost use Rattle.mk_edit.specs.RenameTargetPatches.{HasFewWords, held_places, held_view, is_turn_of, tally_of};
+ghost use Rattle.mk_edit_parts.specs.Windows.{AreWindows, below_all, concerns_rename, first_place};
+ghost use Rattle.mk_edit.specs.RenameTargetEffects.{IsEffectTo, effect_of_line, effect_on, joined, no_effect};
+ghost use Rattle.mk_edit.specs.RenameTargetPatches.{AreHeldTo, HasFewWords, held_places, held_view, is_turn_of, tally_of};
 
 use crate::rename_target_places::{Held, noted};
 use mk_class::{Class, Context};
@@ -13,6 +16,7 @@ use mk_edit_parts::lean::begins_with;
 use mk_edit_parts::line_test::has_target;
 use mk_edit_parts::seek::Found;
 use mk_edit_parts::tally::{Tally, count_words, has_parts};
+use mk_edit_parts::window::Window;
 use mk_tree::end::sets_prefix_unread;
 use mk_tree::{Doc, Line};
 use std::alloc::Allocator;
@@ -59,27 +63,72 @@ pub(crate) struct Survey<'a, A: Allocator> {
 }
 
 /// What a rename finds among the lines of a document, what it does to them, and where the lines
-/// stand that it exchanges. The call walks once over the kept lines and reads no line anew. It takes
-/// memory for the places alone, and goes on without it.
+/// stand that it exchanges. The call walks once over the lines of the windows, outside of which no
+/// line concerns the rename, and reads no line anew. It takes time linear in the number of these
+/// lines, and goes one way down the tree for each window. It takes memory for the places alone, and
+/// goes on without it.
 pub(crate) fn rename_target_effect<'a, A: Allocator + Copy>(
     alloc: A,
     doc: &'a Doc<A>,
+    windows: &[Window],
     from: &[u8],
     to: &[u8],
 ) -> Survey<'a, A>
-    requires { IsFaithful doc.now }
+    requires faithful { IsFaithful doc.now }
+    requires windows { AreWindows (concerns_rename from.now to.now) first_place doc.now windows.now }
     ensures effect { result.effect ≡ effect_on from.now to.now start doc.now }
     ensures few_bytes { result.effect.bytes ≤ max_text }
     ensures places { IfSome result.places (λ places.
         map held_view places.items ≡ held_places from.now doc.now) }
 {
+    // The contract of `size` says that the text is within the limit, and so are its words; that of
+    // `iter` says that each line is admitted where it stands.
+    let _size = doc.size();
+    let _lines = doc.iter();
+    let mut survey = Survey {
+        effect: no_effect(),
+        places: Some(Vec::new(alloc)),
+    };
+    'windows: for window in windows {
+        survey = surveyed(doc, *window, from, to, survey);
+    }
+    survey
+}
+
+// A survey with the lines of one more window.
+fn surveyed<'a, A: Allocator>(
+    doc: &'a Doc<A>,
+    window: Window,
+    from: &[u8],
+    to: &[u8],
+    survey: Survey<'a, A>,
+) -> Survey<'a, A>
+    requires faithful { IsFaithful doc.now }
+    requires in_range { window.place.at + window.count ≤ length doc.now }
+    requires admitted { AreAdmitted window.place.context (drop window.place.at doc.now) }
+    requires effect { IsEffectTo from.now to.now doc.now window.place survey.effect }
+    requires places { IfSome survey.places (λ places.
+        AreHeldTo from.now doc.now window.place (map held_view places.items)) }
+    ensures effect { IsEffectTo from.now to.now doc.now
+        (below_all window.place (lines_between window.place.at window.count doc.now))
+        result.effect }
+    ensures places { IfSome result.places (λ places. AreHeldTo from.now doc.now
+        (below_all window.place (lines_between window.place.at window.count doc.now))
+        (map held_view places.items)) }
+{
     // The contract of `size` says that the text is within the limit, and so are its words.
     let _size = doc.size();
-    let mut effect = no_effect();
-    let mut places = Some(Vec::new(alloc));
-    let mut at = 0;
-    let mut context = Context::start();
-    'lines: for line in doc.iter() {
+    let Survey {
+        mut effect,
+        mut places,
+    } = survey;
+    let mut context = window.place.context;
+    let mut at = window.place.at;
+    let end = at + window.count;
+    'lines: for line in doc.lines_from(at) {
+        if at == end {
+            break;
+        }
         // Most lines tell one thing at most, and their class is not kept.
         if has_parts(&line.class()) {
             let class = line.class();

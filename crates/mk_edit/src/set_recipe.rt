@@ -2,7 +2,7 @@
 ghost use Rattle.std.specs.Prelude.{◌≡◌, ◌+◌};
 ghost use Rattle.mk_tree.specs.Documents.{IsFaithful};
 ghost use Rattle.mk_edit_language.specs.EditViews.{edit_of};
-ghost use Rattle.mk_edit_parts.specs.Seeking.{IsKnown};
+ghost use Rattle.mk_edit_parts.specs.Seeking.{IsLineKnown};
 ghost use Rattle.mk_edit.specs.Planned.{Plans};
 ghost use Rattle.mk_edit.specs.RecipeEdits.{IsSetRecipe, command_range};
 
@@ -40,7 +40,7 @@ pub(crate) fn plan_set_recipe<A: Allocator + Copy>(
 ) -> Result<Patch<A>, Refusal>
     requires faithful { IsFaithful doc.now }
     requires kind { IsSetRecipe number command.now (edit_of edit.now) }
-    requires known { IsKnown (edit_of edit.now) doc.now known }
+    requires known { IsLineKnown (edit_of edit.now) doc.now known }
     ensures { Plans (edit_of edit.now) doc.now meter.old meter.new result }
 {
     let size = doc.size();

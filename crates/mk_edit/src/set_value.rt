@@ -1,7 +1,7 @@
 //! Another value for a variable, planned.
 ghost use Rattle.mk_tree.specs.Documents.{IsFaithful};
 ghost use Rattle.mk_edit_language.specs.EditViews.{edit_of};
-ghost use Rattle.mk_edit_parts.specs.Seeking.{IsKnown};
+ghost use Rattle.mk_edit_parts.specs.Seeking.{IsLineKnown};
 ghost use Rattle.mk_edit.specs.Planned.{Plans};
 ghost use Rattle.mk_edit.specs.ValueEdits.{IsSetValue};
 
@@ -32,7 +32,7 @@ pub(crate) fn plan_set_value<A: Allocator + Copy>(
 ) -> Result<Patch<A>, Refusal>
     requires faithful { IsFaithful doc.now }
     requires edit { IsSetValue (edit_of edit.now) value.now }
-    requires known { IsKnown (edit_of edit.now) doc.now known }
+    requires known { IsLineKnown (edit_of edit.now) doc.now known }
     ensures { Plans (edit_of edit.now) doc.now meter.old meter.new result }
 {
     let found = find(doc, edit, known)?;

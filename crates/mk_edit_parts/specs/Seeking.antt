@@ -86,5 +86,5 @@ IsKnownOf a ls None = ⊤
 IsKnownOf a ls (Some s) = IsSought (classed_lines (located_text ls)) a s
 
 -- what is known of the address of an edit
-abbrev pub IsKnown : Edit → List LocatedLine → Option Sought → Type 0
-IsKnown e ls known = IsKnownOf (address e) ls known
+abbrev pub IsLineKnown : Edit → List LocatedLine → Option Sought → Type 0
+IsLineKnown e ls known = IsKnownOf (address e) ls known

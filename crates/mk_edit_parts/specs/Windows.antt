@@ -1,12 +1,18 @@
--- Windows of a document: some of its lines, outside of which no line passes a test.
+-- Windows of a document: some of its lines, outside of which no line passes a test; and what is known
+-- of a document before an edit is planned.
 -- Told in docs/ARCHITECTURE.md, "The index of a session".
-use Rattle.std.specs.Prelude.{◌≡◌, ◌||◌, ◌+◌, Bool, false, List, [], ◌∷◌, ◌++◌, length, Option}
+use Rattle.std.specs.Prelude.{◌≡◌, ◌||◌, ◌+◌, ℕ, nat_lt, Bool, false, List, [], ◌∷◌, ◌++◌, length, Option, Some, None, ⊤}
 use Rattle.mk_class.specs.Contexts.{start, context_after_located}
 use Rattle.mk_tree.specs.LocatedLines.{LocatedLine}
 use Rattle.mk_edit_language.specs.Addresses.{Address}
-use Rattle.mk_edit_parts.specs.LocatedParts.{is_unread_located}
-use Rattle.mk_edit_parts.specs.Seeking.{may_mean}
+use Rattle.mk_edit_language.specs.Edits.{Edit, RenameTarget}
+use Rattle.mk_edit_parts.specs.LocatedParts.{is_target_located, is_unread_located}
+use Rattle.mk_edit_parts.specs.RenamedRanges.{renamed_ranges}
+use Rattle.mk_edit_parts.specs.Seeking.{IsLineKnown, may_mean}
 use Rattle.mk_edit_parts.specs.declared.seek.Found.{Found}
+use Rattle.mk_edit_parts.specs.declared.seek.Sought.{Sought}
+use Rattle.mk_edit_parts.specs.declared.window.Known.{Known}
+use Rattle.mk_edit_parts.specs.declared.window.Known.TheVariants as known
 use Rattle.mk_edit_parts.specs.declared.window.Window.{Window}
 
 -- ---- places
@@ -57,3 +63,29 @@ AreWindows p f ls (w ∷ ws) = IsWindow p f ls w (λ g after. AreWindows p g aft
 -- the recipe prefix in a way that is not read
 abbrev pub concerns : Option Address → LocatedLine → Bool
 concerns a l = may_mean a l || is_unread_located l
+
+-- whether a line decides what a rename finds and does: it sets the recipe prefix in a way that is
+-- not read, it holds the old word where a rename replaces words, or it has the new word as a target
+abbrev pub concerns_rename : (old new : List ℕ) → LocatedLine → Bool
+concerns_rename o n l =
+    is_unread_located l || (nat_lt 0 (length (renamed_ranges o l)) || is_target_located n l)
+
+-- ---- what is known before an edit is planned
+
+-- what is known of the line that an edit means
+abbrev pub line_known : Known → Option Sought
+line_known known.Nothing = None
+line_known (known.Line s) = Some s
+line_known (known.Windows ws) = None
+
+-- windows of some lines that serve an edit: a rename, or any other edit, which looks at none
+abbrev AreKnown : Edit → List LocatedLine → List Window → Type 0
+AreKnown (RenameTarget o n) ls ws = AreWindows (concerns_rename o n) first_place ls ws
+AreKnown e ls ws = ⊤
+
+-- What is known of some lines for an edit: nothing, what a walk over them would find for the edit's
+-- address, or windows outside of which no line concerns the edit.
+abbrev pub IsKnown : Edit → List LocatedLine → Known → Type 0
+IsKnown e ls known.Nothing = ⊤
+IsKnown e ls (known.Line s) = IsLineKnown e ls (Some s)
+IsKnown e ls (known.Windows ws) = AreKnown e ls ws.now

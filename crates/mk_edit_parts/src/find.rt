@@ -10,7 +10,7 @@ ghost use Rattle.mk_edit_language.specs.TouchedLines.{IsOfOnePlace};
 ghost use Rattle.mk_edit_language.specs.EditViews.{edit_of};
 ghost use Rattle.mk_edit_parts.specs.AddressViews.{address_seen, address_view};
 ghost use Rattle.mk_edit_parts.specs.Found.{IsAddressed, IsNotPicked, IsPicked};
-ghost use Rattle.mk_edit_parts.specs.Seeking.{IsKnown, IsKnownOf, IsSought};
+ghost use Rattle.mk_edit_parts.specs.Seeking.{IsKnownOf, IsLineKnown, IsSought};
 
 use crate::address::{Address, address_of};
 use crate::argument::{bad_field, is_reserved};
@@ -33,7 +33,7 @@ pub fn find<A: Allocator>(
     known: Option<Sought>,
 ) -> Result<Found, Refusal>
     requires faithful { IsFaithful doc.now }
-    requires known { IsKnown (edit_of edit.now) doc.now known }
+    requires known { IsLineKnown (edit_of edit.now) doc.now known }
     requires one_place { IsOfOnePlace (edit_of edit.now) }
     ensures found { IfOk result (λ found. IsAddressed (edit_of edit.now) doc.now found) }
     ensures refused { IfErr result (λ refusal.

@@ -7,7 +7,8 @@
 //! - [`argument`]: the causes of refusal that the fields of an edit decide.
 //! - [`address`]: the line that an edit means, as the edit says it.
 //! - [`line_test`]: which variable a line assigns, and which targets it has.
-//! - [`window`]: some lines of a document, outside of which a walk need not look.
+//! - [`window`]: some lines of a document, outside of which a walk need not look; and what is known
+//!   before an edit is planned.
 //! - [`seek`]: the line that an address means, found by one walk.
 //! - [`find`]: where an edit applies, after the causes that come before its own.
 //! - [`lean`]: whether lines lean on the flag before them.

@@ -52,14 +52,7 @@ pub fn seek<A: Allocator>(doc: &Doc<A>, address: Option<Address>) -> Sought
     requires { IsFaithful doc.now }
     ensures { IsSought (classed_lines (located_text doc.now)) (address_seen address.entry) result }
 {
-    let whole = Window {
-        place: Found {
-            at: 0,
-            context: Context::start(),
-        },
-        count: doc.len(),
-    };
-    seek_within(doc, &[whole], address)
+    seek_within(doc, &[Window::whole(doc)], address)
 }
 
 /// What a document has for an address, as [`seek`] finds it, by a walk over the lines of some

@@ -59,7 +59,7 @@ passed-over o n c l h = go l.class h
 -- ---- a line that has parts, but not the word
 
 -- a line with parts does not set the recipe prefix
-sets-none : (l : LocatedLine) → has_parts l.class ≡ true → is_unread_located l ≡ false
+pub sets-none : (l : LocatedLine) → has_parts l.class ≡ true → is_unread_located l ≡ false
 sets-none l h = go l.class h
   where
     go : (k : class.Class) → has_parts k ≡ true → is_unread_located (record { bytes = l.bytes; class = k }) ≡ false
@@ -79,8 +79,8 @@ sets-none l h = go l.class h
     go variants.Directive e = refl
     go variants.Rough e = refl
 
--- it tells nothing but whether the new word is one of its targets
-pub word-absent : (o n : List ℕ) (c : Context) (l : LocatedLine) (t : Tally) → IsClassed l → has_parts l.class ≡ true → t ≡ tally_of o l → t.words ≤ 0
+-- a line without the word that does not set the prefix tells nothing but whether the new word is one of its targets
+pub word-absent : (o n : List ℕ) (c : Context) (l : LocatedLine) (t : Tally) → IsClassed l → is_unread_located l ≡ false → t ≡ tally_of o l → t.words ≤ 0
     → effect_of_line o n c l ≡ record no_effect { is_taken = is_target_located n l }
 word-absent o n c l t h p e less = go (renamed_ranges o l) refl (omega (arith, less, ap (λ (z : Tally). z.words) e))
   where
@@ -89,7 +89,7 @@ word-absent o n c l t h p e less = go (renamed_ranges o l) refl (omega (arith, l
     go [] i k =
         let no_bytes : 0 * length n ≡ 0 = omega arith in
         same-effect (effect_of_line o n c l) (record no_effect { is_taken = is_target_located n l })
-        (sets-none l p)
+        p
         (target-absent o l t h e less)
         (ap (λ ss. list_any is_at_front ss && is_prefix_led c.prefix n) i)
         refl

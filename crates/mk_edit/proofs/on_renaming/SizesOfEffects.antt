@@ -37,6 +37,9 @@ joined-none : (e : Effect) → joined e no_effect ≡ e
 joined-none e =
     same-effect (joined e no_effect) e (or-false e.has_unread_prefix) (or-false e.is_there) (or-false e.begins_line) (or-false e.is_taken) (omega arith) (omega arith) (omega arith) (omega arith)
 
+pub none-joined : (e : Effect) → joined no_effect e ≡ e
+none-joined e = same-effect (joined no_effect e) e refl refl refl refl (omega arith) (omega arith) (omega arith) (omega arith)
+
 -- with an effect that tells nothing but that a line sets the prefix unread
 pub joined-unread : (e : Effect) (u : Bool) → joined e (record no_effect { has_unread_prefix = u }) ≡ record e { has_unread_prefix = e.has_unread_prefix || u }
 joined-unread e u =
@@ -53,7 +56,7 @@ joined-assoc e f g =
     (or_assoc e.is_taken f.is_taken g.is_taken) (omega arith) (omega arith) (omega arith) (omega arith)
 
 -- the effect on a line, and then on the lines below it
-effect-cons : (o n : List ℕ) (c : Context) (l : LocatedLine) (ls : List LocatedLine) → joined (effect_of_line o n c l) (effect_on o n (context_after_located c l.class) ls) ≡ effect_on o n c (l ∷ ls)
+pub effect-cons : (o n : List ℕ) (c : Context) (l : LocatedLine) (ls : List LocatedLine) → joined (effect_of_line o n c l) (effect_on o n (context_after_located c l.class) ls) ≡ effect_on o n c (l ∷ ls)
 effect-cons o n c l ls =
     same-effect (joined (effect_of_line o n c l) (effect_on o n (context_after_located c l.class) ls)) (effect_on o n c (l ∷ ls)) refl refl refl refl refl refl (sym (filter-step (is_exchanged turn.NoLonger o n) l ls))
     (sym (filter-step (is_exchanged turn.Longer o n) l ls))
@@ -61,17 +64,10 @@ effect-cons o n c l ls =
 -- ---- the walk
 
 -- the lines of a faithful document within the limit have few words
-document-few_words : (o : List ℕ) (ls : List LocatedLine) → IsFaithful ls → size_of ls ≤ max_text → HaveFewWords o ls
+pub document-few_words : (o : List ℕ) (ls : List LocatedLine) → IsFaithful ls → size_of ls ≤ max_text → HaveFewWords o ls
 document-few_words o ls f few =
     let ds = classed_lines (located_text ls) in
     subst (HaveFewWords o) (sym f) (lines-few_words o start ds (AreClassed-lines (located_text ls) ds refl) (subst (λ (z : List LocatedLine). size_of z ≤ max_text) f few))
-
--- the effect at the start of the walk
-pub walk-from : (o n : List ℕ) (d : List LocatedLine) (w : LinesInContext) → w ≡ record { context = start; lines = d } → IsFaithful d → size_of d ≤ max_text
-    → Unit {0} × Unit {0} × HaveFewWords o w.lines × (joined no_effect (effect_on o n w.context w.lines) ≡ effect_on o n start d)
-walk-from o n d w e h few =
-    let E = effect_on o n start d in
-    rw e (tt, tt, document-few_words o d h few, same-effect (joined no_effect E) E refl refl refl refl (omega arith) (omega arith) (omega arith) (omega arith))
 
 -- lines that pass a test are no more than the lines
 pub filter-few : (p : LocatedLine → Bool) (ls : List LocatedLine) → length (filter p ls) ≤ length ls
@@ -116,8 +112,8 @@ walk-on o n e f g whole c there a l ahead rest h i same s k inv =
     ∙ (ap (λ z. joined e (effect_on o n c z)) (sym s) ∙ inv))))
 
 -- the effect at the end of the walk
-pub walk-over : (o n : List ℕ) (e whole : Effect) (w : LinesInContext) → w.lines ≡ [] → joined e (effect_on o n w.context w.lines) ≡ whole → e ≡ whole
-walk-over o n e whole w s inv = sym (joined-none e) ∙ (ap (λ z. joined e (effect_on o n w.context z)) (sym s) ∙ inv)
+pub walk-over : (o n : List ℕ) (e whole : Effect) (c : Context) (ls : List LocatedLine) → ls ≡ [] → joined e (effect_on o n c ls) ≡ whole → e ≡ whole
+walk-over o n e whole c ls s inv = sym (joined-none e) ∙ (ap (λ z. joined e (effect_on o n c z)) (sym s) ∙ inv)
 
 pub effect-bytes : (o n : List ℕ) (e : Effect) (d : List LocatedLine) → e ≡ effect_on o n start d → IsFaithful d → size_of d ≤ max_text → e.bytes ≤ max_text
 effect-bytes o n e d i h k = omega (arith, ap (λ (z : Effect). z.bytes) i, all-bytes o d (faithful-each d h), k)

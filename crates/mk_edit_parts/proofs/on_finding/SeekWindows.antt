@@ -15,7 +15,7 @@ use Rattle.mk_edit_parts.specs.Windows.{AreWindows, NonePasses, below, below_all
 use Rattle.mk_edit_parts.specs.declared.seek.Found.{Found}
 use Rattle.mk_edit_parts.specs.declared.seek.Sought.{Sought}
 use Rattle.mk_edit_parts.specs.declared.window.Window.{Window}
-use Rattle.mk_edit_parts.proofs.on_finding.Walks.{AreEachClassed}
+use Rattle.mk_edit_parts.proofs.on_finding.Walks.{AreEachClassed, each-from}
 use Rattle.mk_edit_parts.proofs.on_finding.SeekLemmas.{faithful-each, lines-sought}
 use Rattle.mk_edit_parts.proofs.on_finding.WindowLemmas.{AreAhead, ahead-first, ahead-next, left-at}
 
@@ -66,11 +66,6 @@ pub record IsNotedTo (p : LocatedLine → Bool) (w : ℕ) (ls : List LocatedLine
   pub admitted : AreAdmitted now.end.context ahead
   pub no_more : now.count ≤ now.end.at
   pub number : now.end.at + length ahead ≡ total
-
-each-from : (n : ℕ) (ls : List LocatedLine) → AreEachClassed ls → AreEachClassed (drop n ls)
-each-from zero ls h = h
-each-from (suc n) [] h = tt
-each-from (suc n) (l ∷ ls) h = each-from n ls h.1
 
 pub noted-first : (p : LocatedLine → Bool) (w : ℕ) (d ahead : List LocatedLine) (before : Sought) → IsFaithful d → before.end.at ≤ length d → AreAdmitted before.end.context (drop before.end.at d) → before.count ≤ before.end.at → ahead ≡ drop before.end.at d
     → IsNotedTo p w (drop before.end.at d) before before 0 ahead (length d)

@@ -1,6 +1,6 @@
 -- A walk over the windows of a document: what it has before it at each window.
-use Rattle.std.proofs.Common.{◌≡◌, refl, sym, ap, ◌∙◌, subst, arith, ℕ, suc, ◌+◌, ◌<◌, ◌≤◌, add-one, drop-cons, get_or, List, [], ◌∷◌, ◌++◌, Bool, length, length-append, append-nil, take, drop}
-use Rattle.std.proofs.lemmas.List.{drop-drop}
+use Rattle.std.proofs.Common.{◌≡◌, refl, sym, ap, ◌∙◌, subst, arith, ℕ, suc, ◌+◌, ◌<◌, ◌≤◌, add-one, drop-cons, get_or, List, [], ◌∷◌, ◌++◌, Bool, length, length-append, append-nil, append_assoc, take, drop}
+use Rattle.std.proofs.lemmas.List.{drop-drop, length-drop}
 use Rattle.std.proofs.Math.Seq.{take-append_seam, drop-append_seam}
 use Rattle.mk_class.specs.Contexts.{start}
 use Rattle.mk_tree.specs.LocatedLines.{LocatedLine}
@@ -25,6 +25,45 @@ admitted-below f (l ∷ xs) ys h = admitted-below (below f l) xs ys h.1
 -- the lines from a place on, and those behind the first of them
 drop-below : (d xs ys : List LocatedLine) (f : Found) → drop f.at d ≡ xs ++ ys → drop (below_all f xs).at d ≡ ys
 drop-below d xs ys f h = ap (λ n. drop n d) (below_all-at f xs) ∙ (sym (drop-drop (length xs) f.at d) ∙ (ap (drop (length xs)) h ∙ drop-append_seam xs ys))
+
+-- ---- lines that were passed
+
+-- A walk has come from a place of a document to another place, and these lines are ahead.
+pub record IsPassed (d : List LocatedLine) (from now : Found) (ahead : List LocatedLine) : Type 0 where
+  pub passed : List LocatedLine
+  pub from_is : drop from.at d ≡ passed ++ ahead
+  pub now_is : now ≡ below_all from passed
+
+pub passed-none : (d : List LocatedLine) (f : Found) → IsPassed d f f (drop f.at d)
+passed-none d f = record { passed = []; from_is = refl; now_is = refl }
+
+below-last : (f : Found) (ls : List LocatedLine) (l : LocatedLine) → below_all f (ls ++ l ∷ []) ≡ below (below_all f ls) l
+below-last f [] l = refl
+below-last f (x ∷ ls) l = below-last (below f x) ls l
+
+-- one line on
+pub passed-one : (d : List LocatedLine) (from now next : Found) (ahead left : List LocatedLine) (l : LocatedLine) → ahead ≡ l ∷ left → next ≡ below now l → IsPassed d from now ahead → IsPassed d from next left
+passed-one d from now next ahead left l e n P = record {
+  passed = P.passed ++ l ∷ [];
+  from_is = P.from_is ∙ (ap (λ z. P.passed ++ z) e ∙ sym (append_assoc P.passed (l ∷ []) left));
+  now_is = n ∙ (ap (λ (z : Found). below z l) P.now_is ∙ sym (below-last from P.passed l));
+}
+
+-- a walk with no line ahead is at the end
+pub passed-all : (d : List LocatedLine) (from now : Found) (ahead : List LocatedLine) → ahead ≡ [] → from.at ≤ length d → IsPassed d from now ahead → now.at ≡ length d
+passed-all d from now ahead e h P =
+    omega (arith, h, ap (λ (z : Found). z.at) P.now_is, below_all-at from P.passed, ap length P.from_is, length-drop from.at d, length-append P.passed ahead, ap length e)
+
+-- a walk that passed this number of lines
+pub record IsPassedBy (d : List LocatedLine) (from : Found) (count : ℕ) (now : Found) (ahead : List LocatedLine) : Type 0 where
+  pub now_is : now ≡ below_all from (lines_between from.at count d)
+  pub ahead_is : drop now.at d ≡ ahead
+
+pub passed-by : (d : List LocatedLine) (from now : Found) (ahead : List LocatedLine) (count : ℕ) → now.at ≡ from.at + count → IsPassed d from now ahead → IsPassedBy d from count now ahead
+passed-by d from now ahead count n P =
+    let number : length P.passed ≡ count = omega (arith, n, ap (λ (z : Found). z.at) P.now_is, below_all-at from P.passed) in
+    let lines : lines_between from.at count d ≡ P.passed = ap (λ n. take n (drop from.at d)) (sym number) ∙ (ap (take (length P.passed)) P.from_is ∙ take-append_seam P.passed ahead) in
+    record { now_is = P.now_is ∙ ap (below_all from) (sym lines); ahead_is = ap (λ (z : Found). drop z.at d) P.now_is ∙ drop-below d P.passed ahead from P.from_is }
 
 -- ---- windows
 
