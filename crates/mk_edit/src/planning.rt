@@ -60,7 +60,7 @@ pub fn plan_with<A: Allocator + Copy>(
     alloc: A,
     doc: &Doc<A>,
     edit: &Edit<A>,
-    known: &Known<'_>,
+    known: &Known<A>,
     meter: &mut Meter,
 ) -> Result<Patch<A>, Refusal>
     requires faithful { IsFaithful doc.now }
@@ -99,7 +99,7 @@ fn plan_rename<A: Allocator + Copy>(
     alloc: A,
     doc: &Doc<A>,
     edit: &Edit<A>,
-    known: &Known<'_>,
+    known: &Known<A>,
     from: &[u8],
     to: &[u8],
     meter: &mut Meter,
@@ -110,9 +110,9 @@ fn plan_rename<A: Allocator + Copy>(
     ensures { Plans (edit_of edit.now) doc.now meter.old meter.new result }
 {
     let whole = [Window::whole(doc)];
-    let windows = match *known {
+    let windows = match known {
         Known::Windows(windows) => windows,
-        Known::Nothing | Known::Line(_) => &whole,
+        Known::Nothing | Known::Line(_) => &whole[..],
     };
     plan_rename_target(alloc, doc, edit, windows, from, to, meter)
 }

@@ -73,7 +73,7 @@ concerns_rename o n l =
 -- ---- what is known before an edit is planned
 
 -- what is known of the line that an edit means
-abbrev pub line_known : Known → Option Sought
+abbrev pub line_known : {A : _} → Known A → Option Sought
 line_known known.Nothing = None
 line_known (known.Line s) = Some s
 line_known (known.Windows ws) = None
@@ -85,7 +85,7 @@ AreKnown e ls ws = ⊤
 
 -- What is known of some lines for an edit: nothing, what a walk over them would find for the edit's
 -- address, or windows outside of which no line concerns the edit.
-abbrev pub IsKnown : Edit → List LocatedLine → Known → Type 0
+abbrev pub IsKnown : {A : _} → Edit → List LocatedLine → Known A → Type 0
 IsKnown e ls known.Nothing = ⊤
 IsKnown e ls (known.Line s) = IsLineKnown e ls (Some s)
-IsKnown e ls (known.Windows ws) = AreKnown e ls ws.now
+IsKnown e ls (known.Windows ws) = AreKnown e ls ws.items

@@ -7,7 +7,7 @@ ghost use Rattle.mk_edit_parts.specs.Windows.{AreWindows, first_place, line_know
 use crate::seek::{Found, Sought};
 use mk_class::Context;
 use mk_tree::Doc;
-use std::alloc::Allocator;
+use std::alloc::{Allocator, Global};
 
 /// Some lines of a document, one below the other.
 #[derive(Clone, Copy)]
@@ -36,8 +36,8 @@ impl Window {
 }
 
 /// What is known of a document before an edit of it is planned.
-#[derive(Clone, Copy)]
-pub enum Known<'a> {
+#[derive(Drop)]
+pub enum Known<A: Allocator = Global> {
     /// Nothing: a walk over all lines has to find what the edit means.
     Nothing,
     /// What a walk over all lines would find for the edit's address.
@@ -46,10 +46,10 @@ pub enum Known<'a> {
     /// the end. No line outside of them concerns the rename: none sets the recipe prefix in a way
     /// that is not read, none holds the old word where a rename replaces words, and none has the new
     /// word as a target. For any other edit they tell nothing.
-    Windows(&'a [Window]),
+    Windows(Vec<Window, A>),
 }
 
-impl<'a> Known<'a> {
+impl<A: Allocator> Known<A> {
     /// What a walk would find for the edit's address, if that is known. It takes no memory.
     pub fn line(&self) -> Option<Sought>
         ensures { result ≡ line_known self.now }
