@@ -1,7 +1,7 @@
 -- What walks over a document ask of a line, by the offsets of its parts: what it assigns, which
 -- targets it has, and (in mk_tree) whether it sets the recipe prefix in a way that is not read.
 -- Told in docs/ARCHITECTURE.md, "An edit's way, from Edit to moved lines".
-use Rattle.std.specs.Prelude.{ℕ, Bool, false, List}
+use Rattle.std.specs.Prelude.{ℕ, Bool, false, List, [], ◌∷◌}
 use Rattle.std.specs.Str.{bytes_eq}
 use Rattle.mk_lines.specs.Ranges.{text_at}
 use Rattle.mk_lines.specs.Words.{words_in}
@@ -10,6 +10,11 @@ use Rattle.mk_class.specs.declared.class.Class as class
 use Rattle.mk_class.specs.declared.class.Class.TheVariants as variants
 use Rattle.mk_tree.specs.LocatedLines.{LocatedLine, text_of_line}
 pub use Rattle.mk_tree.specs.UnreadPrefixes.{IsClassed, is_unread_in, is_unread_located}
+
+-- each of some lines has the class that it has in some context
+abbrev pub AreEachClassed : List LocatedLine → Type 0
+AreEachClassed [] = Unit {0}
+AreEachClassed (l ∷ ls) = IsClassed l × AreEachClassed ls
 
 -- the words that stand before an offset in a text
 abbrev pub words_before : (end : ℕ) → List ℕ → List (List ℕ)

@@ -3,6 +3,7 @@
 use Rattle.std.specs.Prelude.{◌≡◌, ℕ, ◌+◌, Bool, true, false, if◌then◌else◌, List, [], ◌∷◌, ◌++◌, length, get_or, ◌<◌, Option, Some, None}
 use Rattle.mk_class.specs.Contexts.{Context}
 use Rattle.mk_tree.specs.LocatedLines.{LocatedLine, context_after_located_lines}
+use Rattle.mk_edit_parts.specs.LocatedParts.{AreEachClassed}
 use Rattle.mk_edit_parts.specs.Windows.{NonePasses}
 use Rattle.mk_index.specs.Chains.{Mention, AreChainsOf, AreMentioned, Stored}
 use Rattle.mk_index.specs.Keys.{hashes_of}
@@ -62,4 +63,5 @@ pub record HaveListedLines (ls : List LocatedLine) (block : ℕ) (before : List 
 -- a test that passes no line whose keys are mentioned with a block that has no mark
 abbrev pub PassesInMarked : (test : LocatedLine → Bool) → List Mention → (marks : List Bool) → Type 0
 PassesInMarked p ms marks = (n : ℕ) (ls : List LocatedLine) → n < length marks
-    → get_or marks n false ≡ false → AreLinesMentioned ms n ls → NonePasses p ls
+    → get_or marks n false ≡ false → AreEachClassed ls → AreLinesMentioned ms n ls
+    → NonePasses p ls

@@ -3,6 +3,7 @@
 use Rattle.std.specs.Prelude.{◌≡◌, ◌<◌, ℕ, Bool, true, false, List, [], ◌∷◌, length, get_or, Some}
 use Rattle.mk_class.specs.Contexts.{Context, start}
 use Rattle.mk_tree.specs.LocatedLines.{LocatedLine}
+use Rattle.mk_edit_parts.specs.LocatedParts.{IsClassed}
 use Rattle.mk_index.specs.Blocks.{AreBlocks}
 use Rattle.mk_index.specs.Chains as chains
 use Rattle.mk_index.specs.Chains.{AreChainsOf, IsMentioned, Mention}
@@ -33,7 +34,7 @@ pub record IsFreshIndexOf (ls : List LocatedLine) (index : Stored) : Type 0 wher
 
 -- a test that passes only lines which have a key of one of these hashes
 abbrev pub PassesByKeys : (test : LocatedLine → Bool) → (hashes : List ℕ) → Type 0
-PassesByKeys p hs = (l : LocatedLine) → ((h : ℕ) → IsOneOf h hs → IsOneOf h (hashes_of l) → ⊥) → p l ≡ false
+PassesByKeys p hs = (l : LocatedLine) → IsClassed l → ((h : ℕ) → IsOneOf h hs → IsOneOf h (hashes_of l) → ⊥) → p l ≡ false
 
 -- each block with which one of some hashes is mentioned is marked
 abbrev pub AreMarked : chains.Stored → (hashes : List ℕ) → (marks : List Bool) → Type 0

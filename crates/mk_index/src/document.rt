@@ -2,7 +2,7 @@
 ghost use Rattle.std.specs.Prelude.{◌≡◌};
 ghost use Rattle.mk_tree.specs.Documents.{IsFaithful};
 ghost use Rattle.mk_edit_language.specs.EditViews.{edit_of};
-ghost use Rattle.mk_edit_parts.specs.Seeking.{IsKnown};
+ghost use Rattle.mk_edit_parts.specs.Windows.{IsKnown};
 ghost use Rattle.mk_patch.specs.Moves.{FitMoves, after_moves};
 ghost use Rattle.mk_index.specs.Effects.{IsKnownFor};
 
@@ -10,7 +10,7 @@ use crate::change::IndexedPatch;
 use crate::effect::{Effect, effect_of};
 use crate::finder::Finder;
 use mk_edit_language::Edit;
-use mk_edit_parts::seek::Sought;
+use mk_edit_parts::window::Known;
 use mk_patch::Patch;
 use mk_tree::Doc;
 use std::alloc::{Allocator, Global};
@@ -62,10 +62,9 @@ impl<A: Allocator + Copy> IndexedDoc<A> {
         self.finder.expect_edits();
     }
 
-    /// What is known of the address of an edit, as [`Finder::known`] tells it: `None` if a walk over
-    /// the document has to find its line. The index may be made first. That takes memory for an index
-    /// of variables; a growth that is refused is no refusal of the edit.
-    pub fn known(&mut self, alloc: A, edit: &Edit<A>) -> Option<Sought>
+    /// What is known before an edit is planned, as [`Finder::known`] tells it. The index may be made or
+    /// brought up to date first. That takes memory; a growth that is refused is no refusal of the edit.
+    pub fn known(&mut self, alloc: A, edit: &Edit<A>) -> Known<A>
         requires { IsFaithful self.old }
         ensures known { IsKnown (edit_of edit.now) self.old result }
         ensures same { self.new ≡ self.old }

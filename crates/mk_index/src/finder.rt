@@ -1,12 +1,15 @@
 //! What is known of a document that is edited, so that an edit's line is found without a walk.
-ghost use Rattle.std.specs.Prelude.{◌≡◌, None, Some, List};
+ghost use Rattle.std.specs.Prelude.{◌≡◌, None, Some, List, ℕ, IfSome};
 ghost use Rattle.mk_class.specs.ClassedLines.{classed_lines};
 ghost use Rattle.mk_tree.specs.Documents.{IsFaithful};
 ghost use Rattle.mk_tree.specs.LocatedLines.{LocatedLine, located_text};
 ghost use Rattle.mk_tree.specs.UnreadPrefixes.{IsEndOf};
 ghost use Rattle.mk_edit_language.specs.EditViews.{edit_of};
 ghost use Rattle.mk_edit_parts.specs.AddressViews.{address_seen};
-ghost use Rattle.mk_edit_parts.specs.Seeking.{IsKnown, IsKnownOf, IsSought};
+ghost use Rattle.mk_edit_parts.specs.Seeking.{IsKnownOf, IsLineKnown, IsSought};
+ghost use Rattle.mk_edit_parts.specs.Windows.{AreWindows, IsKnown, concerns_rename, first_place};
+ghost use Rattle.mk_edit_language.specs.Edits as edits;
+ghost use Rattle.mk_edit_language.specs.Edits.{RenameTarget};
 ghost use Rattle.mk_patch.specs.Moves.{FitMoves, after_moves};
 ghost use Rattle.mk_index.specs.Effects.{IsBehind, IsKnownFor};
 
@@ -14,6 +17,7 @@ use crate::index::Index;
 use mk_edit_language::Edit;
 use mk_edit_parts::address::{Address, address_of};
 use mk_edit_parts::seek::{Found, Sought, seek};
+use mk_edit_parts::window::{Known, Window};
 use mk_patch::Patch;
 use mk_tree::end::sets_prefix_unread;
 use mk_tree::{Doc, End};
@@ -58,28 +62,28 @@ impl<A: Allocator + Copy> Finder<A> {
         }
     }
 
-    /// What is known of the address of an edit, or `None` if a walk over the document has to find its
-    /// line. The first edit of a variable or a rule makes do with a walk, unless more edits are
-    /// expected. The second one makes an index, unless the document has fewer than 1,024 lines. A
-    /// growth that is refused leaves the finder without an index, and is no refusal of the edit. An
-    /// edit without an address, which goes to the end, needs only where the document ends. Nothing is
-    /// known for a rename, which looks at every line.
-    pub fn known(&mut self, alloc: A, doc: &Doc<A>, edit: &Edit<A>) -> Option<Sought>
+    /// What is known before an edit is planned. The first edit makes do with a walk over the document,
+    /// unless more edits are expected. The second one makes an index, unless the document has fewer
+    /// than 1,024 lines. A growth that is refused leaves the finder without an index, and is no refusal
+    /// of the edit. An edit without an address, which goes to the end, needs only where the document
+    /// ends.
+    pub fn known(&mut self, alloc: A, doc: &Doc<A>, edit: &Edit<A>) -> Known<A>
         requires faithful { IsFaithful doc.now }
         requires right { IsKnownFor doc.now self.old }
         ensures known { IsKnown (edit_of edit.now) doc.now result }
         ensures right { IsKnownFor doc.now self.new }
     {
-        if let Edit::RenameTarget { .. } = edit {
-            return None;
+        if let Edit::RenameTarget { from, to } = edit {
+            self.make_due(alloc, doc);
+            return windows_known(self.for_rename(alloc, doc, from, to));
         }
         let address = address_of(edit);
-        if address.is_none() {
-            self.find_end(alloc, doc);
-            return self.at_end(doc);
+        if address.is_some() {
+            self.make_due(alloc, doc);
+            return line_known(self.by_index(alloc, doc, address));
         }
-        self.make_due(alloc, doc);
-        self.by_index(alloc, doc, address)
+        self.find_end(alloc, doc);
+        line_known(self.at_end(doc))
     }
 
     /// Lets the next edit of a variable or a rule make an index, since more edits are to come. This
@@ -156,6 +160,22 @@ impl<A: Allocator + Copy> Finder<A> {
         sought
     }
 
+    // The windows that the index tells for a rename. A growth that is refused while it is brought up to
+    // date drops the index.
+    fn for_rename(&mut self, alloc: A, doc: &Doc<A>, old: &[u8], new: &[u8]) -> Option<Vec<Window, A>>
+        requires faithful { IsFaithful doc.now }
+        requires right { IsKnownFor doc.now self.old }
+        ensures windows { IfSome result (λ windows.
+            AreWindows (concerns_rename old.now new.now) first_place doc.now windows.items) }
+        ensures right { IsKnownFor doc.now self.new }
+    {
+        let mut index = self.index.take()?;
+        index.refresh(doc).ok()?;
+        let windows = index.for_rename(alloc, doc, old, new);
+        self.index = Some(index);
+        windows
+    }
+
     /// Follows a patch that is made of the document next: the index is kept, and where the document
     /// ends is forgotten. Takes no memory.
     pub fn follow(&mut self, patch: &Patch<A>)
@@ -194,6 +214,29 @@ impl<A: Allocator + Copy> Finder<A> {
             context: end.context.step(&class),
             has_unread_prefix: end.has_unread_prefix | is_unread,
         });
+    }
+}
+
+// What is known by what is sought, if it is.
+fn line_known<A: Allocator>(sought: Option<Sought>) -> Known<A>
+    ensures { (edit : edits.Edit) (lines : List LocatedLine) → IsLineKnown edit lines sought
+        → IsKnown edit lines result }
+{
+    match sought {
+        Some(sought) => Known::Line(sought),
+        None => Known::Nothing,
+    }
+}
+
+// What is known for a rename by its windows, if there are any.
+fn windows_known<A: Allocator>(windows: Option<Vec<Window, A>>) -> Known<A>
+    ensures { (old new : List ℕ) (lines : List LocatedLine)
+        → IfSome windows (λ w. AreWindows (concerns_rename old new) first_place lines w.items)
+        → IsKnown (RenameTarget old new) lines result }
+{
+    match windows {
+        Some(windows) => Known::Windows(windows),
+        None => Known::Nothing,
     }
 }
 

@@ -6,7 +6,7 @@ ghost use Rattle.mk_tree.specs.Documents.{IsFaithful};
 ghost use Rattle.mk_tree.specs.LocatedLines.{LocatedLine, context_after_located_lines};
 ghost use Rattle.mk_edit_parts.specs.AddressViews.{address_seen};
 ghost use Rattle.mk_edit_parts.specs.Seeking.{IsKnownOf};
-ghost use Rattle.mk_edit_parts.specs.Windows.{AreWindows, first_place};
+ghost use Rattle.mk_edit_parts.specs.Windows.{AreWindows, concerns_rename, first_place};
 ghost use Rattle.mk_patch.specs.Moves.{FitMoves, after_moves};
 ghost use Rattle.mk_index.specs.Blocks.{AreBlocks, HaveListedLines, IsCarried, IsExpected, PassesInMarked};
 ghost use Rattle.mk_index.specs.Chains.{AreChainsOf, Mention};
@@ -123,6 +123,7 @@ impl<A: Allocator + Copy> Index<A> {
     /// Windows of the document, outside of which no line has a key of these hashes. `None` if too
     /// many lines may have one, or if a growth was refused.
     pub fn windows(&self, alloc: A, doc: &Doc<A>, hashes: &[u32]) -> Option<Vec<Window, A>>
+        requires faithful { IsFaithful doc.now }
         requires index { IsFreshIndexOf doc.now self.now }
         ensures { (test : LocatedLine → Bool) → PassesByKeys test hashes.now
             → IfSome result (λ windows. AreWindows test first_place doc.now windows.items) }
@@ -145,6 +146,17 @@ impl<A: Allocator + Copy> Index<A> {
         Some(seek_within(doc, &windows, address))
     }
 
+    /// Windows of the document, outside of which no line concerns the rename of a word to another.
+    /// `None` if these are unknown.
+    pub fn for_rename(&self, alloc: A, doc: &Doc<A>, old: &[u8], new: &[u8]) -> Option<Vec<Window, A>>
+        requires faithful { IsFaithful doc.now }
+        requires index { IsFreshIndexOf doc.now self.now }
+        ensures { IfSome result (λ windows.
+            AreWindows (concerns_rename old.now new.now) first_place doc.now windows.items) }
+    {
+        self.windows(alloc, doc, &[UNREAD, hash_of(old), hash_of(new)])
+    }
+
     // The blocks that are marked, as windows of the document, and its end.
     fn marked_windows(
         &self,
@@ -152,6 +164,7 @@ impl<A: Allocator + Copy> Index<A> {
         doc: &Doc<A>,
         marks: &[bool],
     ) -> Result<Vec<Window, A>, AllocError>
+        requires faithful { IsFaithful doc.now }
         requires index { IsFreshIndexOf doc.now self.now }
         requires marks { length marks.now ≡ length self.now.blocks }
         ensures { (test : LocatedLine → Bool) (mentions : List Mention)

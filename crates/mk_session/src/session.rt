@@ -163,7 +163,7 @@ impl<A: Allocator + Copy> Session<A> {
         ensures forward { self.old.rereads ≤ self.new.rereads }
     {
         let known = self.doc.known(self.alloc, edit);
-        let patch = match plan_with(self.alloc, self.doc.doc(), edit, known, &mut self.meter) {
+        let patch = match plan_with(self.alloc, self.doc.doc(), edit, &known, &mut self.meter) {
             Ok(patch) => patch,
             Err(refusal) => return Err(refusal),
         };

@@ -19,8 +19,7 @@ use Rattle.mk_edit_language.specs.RisingSpans.{Rise}
 use Rattle.mk_edit_language.specs.WordPieces.{renamed_pieces}
 use Rattle.mk_edit_language.proofs.on_edits.RisingSpanLemmas.{Rise-pieces}
 use Rattle.mk_edit_language.proofs.on_lines.ClassParts.{cells-within}
-use Rattle.mk_edit_parts.specs.LocatedParts.{IsClassed}
-use Rattle.mk_edit_parts.proofs.on_finding.Walks.{AreEachClassed}
+use Rattle.mk_edit_parts.specs.LocatedParts.{AreEachClassed, IsClassed}
 use Rattle.mk_edit_parts.specs.RenamedRanges.{before_ranges, bytes_in, part_ranges, range_in, ranges_in, renamed_ranges, word_parts}
 use Rattle.mk_edit.specs.RenameTargetEffects.{replaced_bytes, replaced_words}
 use Rattle.mk_edit_parts.proofs.on_renaming.PieceRanges.{replacing}

@@ -8,13 +8,13 @@ use Rattle.mk_tree.specs.Admissions.{AreAdmitted}
 use Rattle.mk_tree.specs.Documents.{IsFaithful}
 use Rattle.mk_tree.specs.LocatedLines.{LocatedLine, size_of}
 use Rattle.mk_tree.specs.Origins.{lines_between}
-use Rattle.mk_edit_parts.specs.LocatedParts.{IsClassed, is_target_located, is_unread_located}
+use Rattle.mk_edit_parts.specs.LocatedParts.{AreEachClassed, IsClassed, is_target_located, is_unread_located}
 use Rattle.mk_edit_parts.specs.RenamedRanges.{renamed_ranges}
 use Rattle.mk_edit_parts.specs.Windows.{AreWindows, NonePasses, below, below_all, concerns_rename, first_place}
 use Rattle.mk_edit_parts.specs.declared.seek.Found.{Found}
 use Rattle.mk_edit_parts.specs.declared.window.Window.{Window}
 use Rattle.mk_edit_parts.proofs.on_finding.SeekLemmas.{faithful-each}
-use Rattle.mk_edit_parts.proofs.on_finding.Walks.{AreEachClassed, each-from, each-front}
+use Rattle.mk_edit_parts.proofs.on_finding.Walks.{each-from, each-front}
 use Rattle.mk_edit_parts.proofs.on_finding.WindowLemmas.{AreAhead, IsPassed, ahead-first, ahead-next, left-at, passed-all, passed-by, passed-none, passed-one}
 use Rattle.mk_edit.specs.RenameTargetEffects.{IsEffectTo, effect_of_line, effect_on, joined, no_effect}
 use Rattle.mk_edit.specs.RenameTargetPatches.{AreHeldTo, HaveFewWords, HeldLine, held_line, held_places, held_places_from, held_view, holds_word, tally_of}

@@ -14,8 +14,7 @@ use Rattle.mk_tree.proofs.Indices.{get_middle}
 use Rattle.mk_edit_language.specs.Addresses.{Address}
 use Rattle.mk_edit_language.proofs.on_edits.EditPlaces.{found-spot}
 use Rattle.mk_edit_parts.specs.Found.{IsFoundAt}
-use Rattle.mk_edit_parts.specs.LocatedParts.{IsClassed}
-use Rattle.mk_edit_parts.proofs.on_finding.Walks.{AreEachClassed}
+use Rattle.mk_edit_parts.specs.LocatedParts.{AreEachClassed, IsClassed}
 use Rattle.mk_edit_parts.specs.declared.seek.Found.{Found}
 use Rattle.mk_edit_parts.proofs.on_finding.SeekLemmas.{faithful-each}
 

@@ -9,13 +9,13 @@ use Rattle.mk_tree.specs.Admissions.{AreAdmitted}
 use Rattle.mk_tree.specs.Origins.{lines_between}
 use Rattle.mk_tree.proofs.AdmissionLemmas.{drop-step}
 use Rattle.mk_edit_language.specs.Addresses.{Address}
-use Rattle.mk_edit_parts.specs.LocatedParts.{is_unread_located}
+use Rattle.mk_edit_parts.specs.LocatedParts.{AreEachClassed, is_unread_located}
 use Rattle.mk_edit_parts.specs.Seeking.{IsSought, may_mean, noted, noted_by, nothing_seen, seek, wanted}
 use Rattle.mk_edit_parts.specs.Windows.{AreWindows, NonePasses, below, below_all, concerns, first_place}
 use Rattle.mk_edit_parts.specs.declared.seek.Found.{Found}
 use Rattle.mk_edit_parts.specs.declared.seek.Sought.{Sought}
 use Rattle.mk_edit_parts.specs.declared.window.Window.{Window}
-use Rattle.mk_edit_parts.proofs.on_finding.Walks.{AreEachClassed, each-from}
+use Rattle.mk_edit_parts.proofs.on_finding.Walks.{each-from}
 use Rattle.mk_edit_parts.proofs.on_finding.SeekLemmas.{faithful-each, lines-sought}
 use Rattle.mk_edit_parts.proofs.on_finding.WindowLemmas.{AreAhead, ahead-first, ahead-next, left-at}
 

@@ -1,14 +1,9 @@
 -- Lines that each have their class.
 use Rattle.std.proofs.Common.{ℕ, zero, suc, List, [], ◌∷◌, ◌++◌, drop}
 use Rattle.mk_tree.specs.LocatedLines.{LocatedLine}
-use Rattle.mk_edit_parts.specs.LocatedParts.{IsClassed}
+use Rattle.mk_edit_parts.specs.LocatedParts.{AreEachClassed}
 
--- each of some lines has the class that it has in some context
-abbrev pub AreEachClassed : List LocatedLine → Type 0
-AreEachClassed [] = Unit {0}
-AreEachClassed (l ∷ ls) = IsClassed l × AreEachClassed ls
-
--- so have those from an index on, and those at the front
+-- the lines from an index on, and those at the front
 pub each-from : (n : ℕ) (ls : List LocatedLine) → AreEachClassed ls → AreEachClassed (drop n ls)
 each-from zero ls h = h
 each-from (suc n) [] h = tt

@@ -6,7 +6,7 @@ use Rattle.mk_tree.specs.Admissions.{AreAdmitted}
 use Rattle.mk_tree.specs.Documents.{IsFaithful}
 use Rattle.mk_tree.specs.LocatedLines.{LocatedLine, context_after_located_lines}
 use Rattle.mk_edit_parts.proofs.on_finding.SeekLemmas.{faithful-each}
-use Rattle.mk_edit_parts.proofs.on_finding.Walks.{AreEachClassed}
+use Rattle.mk_edit_parts.specs.LocatedParts.{AreEachClassed}
 use Rattle.mk_index.specs.Blocks.{AreLinesMentioned, HaveListedLines}
 use Rattle.mk_index.specs.Chains.{AreChainsOf, AreMentioned, HaveListed, Mention, Stored}
 use Rattle.mk_index.specs.Keys.{hashes_of}

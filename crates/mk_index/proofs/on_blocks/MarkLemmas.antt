@@ -3,6 +3,7 @@ use Rattle.std.proofs.Common.{◌≡◌, refl, sym, ap, ◌∙◌, subst, arith,
 use Rattle.std.specs.Prelude.{◌⊎◌}
 use Rattle.std.proofs.lemmas.List.{take_more, take_all}
 use Rattle.mk_tree.specs.LocatedLines.{LocatedLine}
+use Rattle.mk_edit_parts.specs.LocatedParts.{AreEachClassed}
 use Rattle.mk_edit_parts.specs.Windows.{NonePasses}
 use Rattle.mk_index.specs.Blocks.{AreLinesMentioned, PassesInMarked}
 use Rattle.mk_index.specs.Chains.{AreChainsOf, IsMentioned, Mention, Stored}
@@ -31,9 +32,9 @@ marked-more c hs i n k marks new e few is same old kept marked = λ ms chains h 
 
 -- a test by keys passes no line of a block that is not marked
 pub marked-passes : (test : LocatedLine → Bool) (c : Stored) (hs : List ℕ) (ms : List Mention) (marks : List Bool) → PassesByKeys test hs → AreMarked c hs marks → AreChainsOf ms c → PassesInMarked test ms marks
-marked-passes test c hs ms marks by marked chains = λ b ls within unmarked mentioned. go b ls within unmarked mentioned
+marked-passes test c hs ms marks by marked chains = λ b ls within unmarked classed mentioned. go b ls within unmarked classed mentioned
   where
-    go : (b : ℕ) (ls : List LocatedLine) → b < length marks → get_or marks b false ≡ false → AreLinesMentioned ms b ls → NonePasses test ls
-    go b [] within unmarked mentioned = tt
-    go b (l ∷ ls) within unmarked mentioned =
-        (by l (λ h one key. absurd (let is = marked ms chains h one b (mentioned-one ms b h (hashes_of l) mentioned.0 key) within in cc)), go b ls within unmarked mentioned.1)
+    go : (b : ℕ) (ls : List LocatedLine) → b < length marks → get_or marks b false ≡ false → AreEachClassed ls → AreLinesMentioned ms b ls → NonePasses test ls
+    go b [] within unmarked classed mentioned = tt
+    go b (l ∷ ls) within unmarked classed mentioned =
+        (by l classed.0 (λ h one key. absurd (let is = marked ms chains h one b (mentioned-one ms b h (hashes_of l) mentioned.0 key) within in cc)), go b ls within unmarked classed.1 mentioned.1)

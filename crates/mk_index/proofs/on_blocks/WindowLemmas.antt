@@ -4,6 +4,7 @@ use Rattle.std.proofs.lemmas.List.{drop_all}
 use Rattle.std.proofs.Math.Seq.{drop-cons}
 use Rattle.mk_class.specs.Contexts.{Context, start, context_after_located}
 use Rattle.mk_tree.specs.LocatedLines.{LocatedLine, context_after_located_lines}
+use Rattle.mk_edit_parts.specs.LocatedParts.{AreEachClassed}
 use Rattle.mk_edit_parts.specs.Windows.{AreWindows, IsWindow, NonePasses, below, below_all, first_place}
 use Rattle.mk_edit_parts.specs.declared.seek.Found.{Found}
 use Rattle.mk_edit_parts.specs.declared.window.Window.{Window}
@@ -38,14 +39,15 @@ pub record Collected (test : LocatedLine → Bool) (doc : List LocatedLine) (ms 
   pub gap : List LocatedLine
   pub doc_is : doc ≡ done ++ rest
   pub at_is : length done ≡ at
+  pub classed : AreEachClassed rest
   pub below : AreBlocks ms number (Some context) rest (drop number blocks) end
   pub fresh : AreFresh (drop number blocks)
   pub none_passes : NonePasses test gap
   pub place_is : record { at = at; context = context } ≡ below_all last gap
   pub close : (after : List LocatedLine) (ws : List Window) → AreWindows test last (gap ++ after) ws → AreWindows test first_place (done ++ after) (windows ++ ws)
 
-pub collected-from : (test : LocatedLine → Bool) (doc : List LocatedLine) (ms : List Mention) (blocks : List Block) (end : Context) → AreBlocks ms 0 (Some start) doc blocks end → AreFresh blocks → Collected test doc ms blocks end 0 0 []
-collected-from test doc ms blocks end h fresh = record {
+pub collected-from : (test : LocatedLine → Bool) (doc : List LocatedLine) (ms : List Mention) (blocks : List Block) (end : Context) → AreBlocks ms 0 (Some start) doc blocks end → AreFresh blocks → AreEachClassed doc → Collected test doc ms blocks end 0 0 []
+collected-from test doc ms blocks end h fresh classed = record {
   done = [];
   rest = doc;
   context = start;
@@ -53,6 +55,7 @@ collected-from test doc ms blocks end h fresh = record {
   gap = [];
   doc_is = refl;
   at_is = refl;
+  classed = classed;
   below = h;
   fresh = fresh;
   none_passes = tt;
@@ -60,11 +63,16 @@ collected-from test doc ms blocks end h fresh = record {
   close = λ after ws k. k;
 }
 
+each-split : (xs ys : List LocatedLine) → AreEachClassed (xs ++ ys) → AreEachClassed xs × AreEachClassed ys
+each-split [] ys h = (tt, h)
+each-split (x ∷ xs) ys h = let k = each-split xs ys h.1 in ((h.0, k.0), k.1)
+
 -- the block at the number
 pub record FreshHere (test : LocatedLine → Bool) (doc : List LocatedLine) (ms : List Mention) (blocks : List Block) (end : Context) (number at : ℕ) (windows : List Window) (b : Block) (w : Collected test doc ms blocks end number at windows) : Type 0 where
   pub inside : List LocatedLine
   pub after : List LocatedLine
   pub rest_is : w.rest ≡ inside ++ after
+  pub classed : AreEachClassed inside × AreEachClassed after
   pub count_is : b.count ≡ length inside
   pub context_is : b.context ≡ w.context
   pub is_fresh : b.is_stale ≡ false
@@ -85,6 +93,7 @@ fresh-here test doc ms blocks end number at windows b w few is =
       inside = k.inside;
       after = k.after;
       rest_is = k.lines_are;
+      classed = each-split k.inside k.after (subst AreEachClassed k.lines_are w.classed);
       count_is = k.count_is;
       context_is = k.context_is;
       is_fresh = fresh.0;
@@ -113,6 +122,7 @@ collected-past test doc ms blocks end number at windows b w h idle = record {
   gap = w.gap ++ h.inside;
   doc_is = doc-joined doc w.done w.rest h.inside h.after w.doc_is h.rest_is;
   at_is = let m = length-append w.done h.inside in omega (arith, m, w.at_is, h.count_is);
+  classed = h.classed.1;
   below = h.below;
   fresh = h.fresh;
   none_passes = none-joined test w.gap h.inside w.none_passes idle;
@@ -133,6 +143,7 @@ collected-more test doc ms blocks end number at windows b w h = record {
   gap = [];
   doc_is = doc-joined doc w.done w.rest h.inside h.after w.doc_is h.rest_is;
   at_is = let m = length-append w.done h.inside in omega (arith, m, w.at_is, h.count_is);
+  classed = h.classed.1;
   below = h.below;
   fresh = h.fresh;
   none_passes = tt;

@@ -1,6 +1,6 @@
 -- What is mentioned, the keys of lines, and what a line is not whose keys lack a word.
 use Rattle.std.proofs.Common.{◌≡◌, refl, sym, ap, ◌∙◌, subst, ℕ, Bool, true, false, List, [], ◌∷◌, ◌++◌, map, append_assoc, arith, Option, Some, None, inl, inr, ◌||◌, length}
-use Rattle.std.specs.Prelude.{◌⊎◌}
+use Rattle.std.specs.Prelude.{◌⊎◌, nat_lt}
 use Rattle.std.proofs.lemmas.List.{map-append}
 use Rattle.std.specs.Str.{bytes_eq}
 use Rattle.std.proofs.lemmas.Bool.{false≢true, or_parts}
@@ -8,6 +8,7 @@ use Rattle.std.proofs.lemmas.List.Folds.{list_any-append}
 use Rattle.std.proofs.lemmas.Slice.Eq.{bytes_eq-Decides}
 use Rattle.mk_lines.specs.Ranges.{text_at}
 use Rattle.mk_lines.specs.Words.{words_in}
+use Rattle.mk_lines.specs.declared.split.Span.{Span}
 use Rattle.mk_lines.specs.Cells.{Cell, joined_text, line_cells}
 use Rattle.mk_class.specs.declared.assignment.Assignment as assignment
 use Rattle.mk_class.specs.declared.class.Class as class
@@ -19,7 +20,7 @@ use Rattle.mk_edit_parts.specs.RenamedRanges.{word_parts, ArePartsWithin, part_r
 use Rattle.mk_edit_parts.specs.declared.word_parts.WordParts.{WordParts}
 use Rattle.mk_edit_parts.specs.LocatedParts.{IsClassed, assigns_in, is_rule_for_in, is_target_in, is_target_located, is_unread_located}
 use Rattle.mk_edit_parts.specs.Seeking.{may_mean}
-use Rattle.mk_edit_parts.specs.Windows.{concerns}
+use Rattle.mk_edit_parts.specs.Windows.{concerns, concerns_rename}
 use Rattle.mk_edit_parts.proofs.on_finding.PartLemmas.{seen-header, seen-target_assign}
 use Rattle.mk_edit_parts.proofs.on_renaming.AbsentWords.{part-lacks}
 use Rattle.mk_edit_parts.proofs.on_renaming.RangeLemmas.{part-within}
@@ -234,3 +235,11 @@ unrenamed old l c h = go l.class refl (no-key old l h).1
     go variants.Endif is lack = refl
     go variants.Directive is lack = refl
     go variants.Rough is lack = refl
+
+-- a line without the words of a rename does not concern it
+pub unrenaming : (old new : List ℕ) (l : LocatedLine) → IsClassed l → (IsOneOf (hash_of old) (hashes_of l) → ⊥) → (IsOneOf (hash_of new) (hashes_of l) → ⊥) → (IsOneOf 0 (hashes_of l) → ⊥) → concerns_rename old new l ≡ false
+unrenaming old new l classed none_old none_new read =
+    let unread : is_unread_located l ≡ false = unconcerned None l 0 tt read read in
+    let ranges : nat_lt 0 (length (renamed_ranges old l)) ≡ false = ap (λ (xs : List Span). nat_lt 0 (length xs)) (unrenamed old l classed none_old) in
+    let target : is_target_located new l ≡ false = untargeted new l none_new in
+    rw (unread, ranges, target) refl

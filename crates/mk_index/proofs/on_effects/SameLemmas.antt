@@ -8,8 +8,7 @@ use Rattle.mk_class.specs.declared.class.Class as class
 use Rattle.mk_tree.specs.LocatedLines.{LocatedLine, context_after_located_lines, text_of_line}
 use Rattle.mk_tree.specs.UnreadPrefixes.{IsEndOf}
 use Rattle.mk_tree.specs.declared.end.End.{End}
-use Rattle.mk_edit_parts.specs.LocatedParts.{IsClassed, is_unread_in, is_unread_located}
-use Rattle.mk_edit_parts.proofs.on_finding.Walks.{AreEachClassed}
+use Rattle.mk_edit_parts.specs.LocatedParts.{AreEachClassed, IsClassed, is_unread_in, is_unread_located}
 use Rattle.mk_patch.specs.Moves.{Move, Exchange, after_moves}
 use Rattle.mk_index.specs.Blocks.{AreBlocks, AreLinesMentioned, IsBlock, expected_after}
 use Rattle.mk_index.specs.Chains.{AreMentioned, Mention, hash_of}

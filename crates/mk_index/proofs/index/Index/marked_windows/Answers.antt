@@ -1,6 +1,7 @@
 use Rattle.std.proofs.Common.{◌≡◌, ◌+◌, ◌<◌, ◌≤◌, ◌∙◌, refl, sym, ap, subst, arith, rules, suc, length, get_or, ℕ, List, ◌++◌, ◌∷◌, [], Bool, true, false, Some}
 use Rattle.mk_class.specs.Contexts.{Context, start}
 use Rattle.mk_tree.specs.LocatedLines.{LocatedLine}
+use Rattle.mk_edit_parts.proofs.on_finding.SeekLemmas.{faithful-each}
 use Rattle.mk_edit_parts.specs.Windows.{AreWindows, first_place}
 use Rattle.mk_edit_parts.specs.declared.window.Window.{Window}
 use Rattle.mk_index.specs.Blocks.{AreBlocks, PassesInMarked}
@@ -11,7 +12,7 @@ use Rattle.mk_index.proofs.index.Index.marked_windows.Goals as goal
 use Rattle.mk_index.proofs.index.Index.marked_windows.Goals.{then-marks-number+in_ok-push, else-marks-number}
 
 pub numbers-init : goal.numbers-init
-numbers-init g c = λ test ms h idle. rw c.new-windows.ensures.items (collected-from test c.args.doc.now ms c.args.self.now.blocks c.args.self.now.end h c.requires.index.fresh)
+numbers-init g c = λ test ms h idle. rw c.new-windows.ensures.items (collected-from test c.args.doc.now ms c.args.self.now.blocks c.args.self.now.end h c.requires.index.fresh (faithful-each c.args.doc.now c.requires.faithful))
 
 pub overflow_add-at : goal.overflow_add-at
 overflow_add-at g c =
@@ -20,7 +21,7 @@ overflow_add-at g c =
     let b = c.index-block.result.now in
     let few : suc c.numbers.number ≤ length bs = search rules in
     let is : b ≡ get_or bs c.numbers.number b = c.index-block.ensures ∙ ap (λ (s : Stored). get_or s.blocks c.numbers.number b) c.self.view_is in
-    let w = c.numbers.invariant (λ l. false) ms c.requires.index.index_is.blocks_are (λ n ls within mark mentioned. none-of-none ls) in
+    let w = c.numbers.invariant (λ l. false) ms c.requires.index.index_is.blocks_are (λ n ls within mark classed mentioned. none-of-none ls) in
     let here = fresh-here (λ l. false) c.args.doc.now ms bs c.args.self.now.end c.numbers.number c.numbers.at c.numbers.windows.items b w few is in
     let number = c.len-lines.ensures.number in
     let most = c.len-lines.ensures.few in
@@ -40,7 +41,7 @@ numbers-preserved g c = λ test ms h idle.
           let within : c.numbers.number < length c.args.marks.now = search rules in
           let mark : get_or c.args.marks.now c.numbers.number false ≡ false = search rules in
           rw k.windows-is (collected-past test c.args.doc.now ms bs c.args.self.now.end c.numbers.number c.numbers.at c.numbers.windows.items b w here
-          (idle c.numbers.number here.inside within mark here.mentioned))
+          (idle c.numbers.number here.inside within mark here.classed.0 here.mentioned))
     ]
 
 pub returns : goal.returns
