@@ -125,6 +125,8 @@ fn surveyed<'a, A: Allocator>(
     let mut context = window.place.context;
     let mut at = window.place.at;
     let end = at + window.count;
+    // The notes keep references to the lines. The prover follows that in a loop over the lines, and
+    // not where each line is asked for by a call of `next`.
     'lines: for line in doc.lines_from(at) {
         if at == end {
             break;
