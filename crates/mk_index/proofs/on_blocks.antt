@@ -1,4 +1,6 @@
 -- Lemmas. Blocks of lines.
+pub mod ChangedLines
+pub mod PartLemmas
 pub mod SpliceLemmas
 pub mod MadeLemmas
 pub mod ListedLemmas

@@ -1,6 +1,6 @@
 -- The blocks of an index: the lines of a document, cut into stretches.
 -- Told in docs/ARCHITECTURE.md, "The index of a session".
-use Rattle.std.specs.Prelude.{◌≡◌, ℕ, ◌+◌, Bool, true, false, if◌then◌else◌, List, [], ◌∷◌, ◌++◌, length, get_or, ◌<◌, Option, Some, None}
+use Rattle.std.specs.Prelude.{◌≡◌, ◌≤◌, ℕ, ◌+◌, ◌-◌, take, drop, Bool, true, false, if◌then◌else◌, List, [], ◌∷◌, ◌++◌, length, get_or, ◌<◌, Option, Some, None}
 use Rattle.mk_class.specs.Contexts.{Context}
 use Rattle.mk_tree.specs.LocatedLines.{LocatedLine, context_after_located_lines}
 use Rattle.mk_edit_parts.specs.LocatedParts.{AreEachClassed}
@@ -25,8 +25,9 @@ abbrev pub expected_after : Block → List LocatedLine → Option Context
 expected_after b ls = if b.is_stale then None else Some (context_after_located_lines b.context ls)
 
 -- A block at the front of some lines: how many they are, and the context before them, if one is
--- expected. If the block is not stale, their keys are mentioned. `next` says what holds of the lines
--- after the block, and of the context that is expected there.
+-- expected. The keys of its first and of its last lines are mentioned, as many as the block says; if it
+-- is not stale, these are all its lines. `next` says what holds of the lines after the block, and of
+-- the context that is expected there.
 pub record IsBlock (mentions : List Mention) (number : ℕ) (expected : Option Context)
     (ls : List LocatedLine) (b : Block) (next : Option Context → List LocatedLine → Type 0)
     : Type 0 where
@@ -35,7 +36,9 @@ pub record IsBlock (mentions : List Mention) (number : ℕ) (expected : Option C
   pub lines_are : ls ≡ inside ++ after
   pub count_is : b.count ≡ length inside
   pub context_is : IsExpected expected b.context
-  pub mentioned : b.is_stale ≡ false → AreLinesMentioned mentions number inside
+  pub front_is : AreLinesMentioned mentions number (take b.front inside)
+  pub back_is : AreLinesMentioned mentions number (drop (length inside - b.back) inside)
+  pub whole : b.is_stale ≡ false → b.count ≤ b.front + b.back
   pub next_is : next (expected_after b inside) after
 
 -- The blocks of some lines, with the context after the last line. The first block has this number,
@@ -44,6 +47,10 @@ abbrev pub AreBlocks : List Mention → (number : ℕ) → (expected : Option Co
     → List Block → (end : Context) → Type 0
 AreBlocks ms n o ls [] end = (ls ≡ []) × IsExpected o end
 AreBlocks ms n o ls (b ∷ bs) end = IsBlock ms n o ls b (λ p after. AreBlocks ms (n + 1) p after bs end)
+
+-- so many lines of a document, the first of which stands at this index
+abbrev pub lines_at : (at count : ℕ) → List LocatedLine → List LocatedLine
+lines_at at n ls = take n (drop at ls)
 
 -- The context before a block is this one: it is carried there from the block above; or none is
 -- carried, since it is the one that is expected.

@@ -1,5 +1,5 @@
 //! The blocks of an index: the lines of a document, cut into stretches.
-ghost use Rattle.std.specs.Prelude.{◌≡◌, ◌+◌, ◌++◌, ℕ, List, Option, IsTrue, IfSome, length, take, drop};
+ghost use Rattle.std.specs.Prelude.{◌≡◌, ◌≤◌, ◌+◌, ◌++◌, ℕ, List, Option, IsTrue, IfSome, length, take, drop};
 ghost use Rattle.mk_class.specs.Contexts as contexts;
 ghost use Rattle.mk_tree.specs.LocatedLines.{LocatedLine};
 ghost use Rattle.mk_patch.specs.Moves.{FitMoves, FitsMove, after_move, after_moves};
@@ -10,17 +10,28 @@ ghost use Rattle.mk_index.specs.Chains.{Mention};
 use mk_class::Context;
 use mk_patch::{Patch, Step};
 use std::alloc::Allocator;
+use std::mem::size_of;
 
-/// Lines of a document that stand one below the other.
+/// Lines of a document that stand one below the other. Each count is one of lines.
 #[derive(Clone, Copy)]
 pub struct Block {
     /// How many lines there are.
-    pub count: u32,
-    /// The context before the first of them.
-    pub context: Context,
-    /// Whether the lines may have changed since their keys were listed.
+    pub count: u16,
+    /// How many of the first lines have their keys listed.
+    pub front: u16,
+    /// How many of the last lines have their keys listed.
+    pub back: u16,
+    /// Whether lines have changed since the keys of all of them were listed.
     pub is_stale: bool,
+    /// The context before the first line.
+    pub context: Context,
 }
+
+// What is made of many lines is to be small.
+const _: () = prove!(size_of::<Block>() == 16);
+
+// The most lines of a block.
+const MOST_LINES: u16 = 2_048;
 
 /// Follows the steps of a patch. Whether it could; if not, the blocks are of no use any more. Takes no
 /// memory.
@@ -63,8 +74,9 @@ fn follow<A: Allocator>(blocks: &mut [Block], step: &Step<A>) -> bool
 
 // Follows a change of the lines: at an index from 0, some lines go out and some come in, and all of
 // them belong to one block. This block is stale then. Whether there is such a block; if there is
-// none, nothing has changed.
-fn splice(blocks: &mut [Block], at: usize, takes: u32, puts: u32) -> bool
+// none, or if it has 2,048 lines already, nothing has changed.
+fn splice(blocks: &mut [Block], at: usize, takes: u16, puts: u16) -> bool
+    requires { puts ≤ 1 }
     ensures { (mentions : List Mention) (number : ℕ) (expected : Option contexts.Context)
         (lines put_in : List LocatedLine) (end : contexts.Context)
         → AreBlocks mentions number expected lines blocks.old end → length put_in ≡ puts
@@ -76,11 +88,13 @@ fn splice(blocks: &mut [Block], at: usize, takes: u32, puts: u32) -> bool
         let block = blocks[number];
         let count = block.count as usize;
         if rest <= count && takes as usize <= count - rest {
-            let Some(count) = (block.count - takes).checked_add(puts) else {
+            if block.count >= MOST_LINES {
                 return false;
-            };
+            }
             blocks[number] = Block {
-                count,
+                count: block.count - takes + puts,
+                front: block.front.min(rest as u16),
+                back: block.back.min(block.count - rest as u16 - takes),
                 is_stale: true,
                 ..block
             };

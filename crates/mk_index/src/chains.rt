@@ -38,6 +38,10 @@ pub struct Chains<A: Allocator = Global> {
     // The number, from 1, of the last entry of each bucket; 0 if it has none.
     heads: Vec<u32, A>,
     entries: Vec<Entry, A>,
+    // The greatest number of a block that has an entry, and one more.
+    newest: u32,
+    // How many entries there were before that block had one: none of them is of that block.
+    since: usize,
 }
 
 impl<A: Allocator> Model for Chains<A> {
@@ -62,6 +66,8 @@ impl<A: Allocator + Copy> Chains<A> {
         Ok(Chains {
             heads,
             entries: Vec::new(alloc),
+            newest: 0,
+            since: 0,
         })
     }
 
@@ -72,10 +78,21 @@ impl<A: Allocator + Copy> Chains<A> {
         ensures { (ms : List Mention) → AreChainsOf ms self.old → OnOk result
             (HaveListed (hash ∷ []) block ms self.new) }
     {
+        self.enter(block);
         if self.is_listed(hash, block) {
             return Ok(());
         }
         self.push(hash, block)
+    }
+
+    // Notes where the entries of a block begin, if no block above it had an entry yet.
+    fn enter(&mut self, block: u32)
+        ensures { self.new ≡ self.old }
+    {
+        if self.newest <= block {
+            self.newest = block.saturating_add(1);
+            self.since = self.entries.len();
+        }
     }
 
     // Whether one of the last entries of the hash's bucket is that of this hash and of this block.
@@ -83,8 +100,13 @@ impl<A: Allocator + Copy> Chains<A> {
         ensures { (ms : List Mention) → AreChainsOf ms self.now → IsTrue result
             → IsMentioned ms hash block }
     {
+        let is_newest = block.saturating_add(1) == self.newest;
+        let since = if is_newest { self.since } else { 0 };
         let mut number = self.heads[bucket_of(hash, self.heads.len())];
         'entries: for _ in 0..FEW_STEPS {
+            if number as usize <= since {
+                return false;
+            }
             let Some(entry) = self.entry(number) else {
                 return false;
             };

@@ -1,5 +1,5 @@
 //! An index of a document: in which block of its lines each word stands.
-ghost use Rattle.std.specs.Prelude.{◌≡◌, ◌≤◌, ◌+◌, ℕ, List, Option, Some, Bool, false, IsTrue, OnOk, IfOk, IfSome, length, take, drop};
+ghost use Rattle.std.specs.Prelude.{◌≡◌, ◌≤◌, ◌+◌, ◌-◌, ℕ, List, Option, Some, Bool, false, IsTrue, OnOk, IfOk, IfSome, length, take, drop};
 ghost use Rattle.mk_class.specs.Contexts as contexts;
 ghost use Rattle.mk_class.specs.Contexts.{start};
 ghost use Rattle.mk_tree.specs.Documents.{IsFaithful};
@@ -8,7 +8,7 @@ ghost use Rattle.mk_edit_parts.specs.AddressViews.{address_seen};
 ghost use Rattle.mk_edit_parts.specs.Seeking.{IsKnownOf};
 ghost use Rattle.mk_edit_parts.specs.Windows.{AreWindows, concerns_rename, first_place};
 ghost use Rattle.mk_patch.specs.Moves.{FitMoves, after_moves};
-ghost use Rattle.mk_index.specs.Blocks.{AreBlocks, HaveListedLines, IsCarried, IsExpected, PassesInMarked};
+ghost use Rattle.mk_index.specs.Blocks.{AreBlocks, AreLinesMentioned, HaveListedLines, IsCarried, IsExpected, PassesInMarked, lines_at};
 ghost use Rattle.mk_index.specs.Chains.{AreChainsOf, Mention};
 ghost use Rattle.mk_index.specs.Keys.{IsKeyOf};
 ghost use Rattle.mk_index.specs.Indexes.{AreMarked, IsFreshIndexOf, IsIndexOf, PassesByKeys};
@@ -56,13 +56,15 @@ impl<A: Allocator + Copy> Index<A> {
         ensures { IfOk result (λ index. IsIndexOf doc.now index) }
     {
         let stale = Block {
-            count: BLOCK_LINES as u32,
-            context: Context::start(),
+            count: BLOCK_LINES as u16,
+            front: 0,
+            back: 0,
             is_stale: true,
+            context: Context::start(),
         };
         let mut blocks = Vec::from_elem(alloc, stale, doc.len() / BLOCK_LINES)?;
         blocks.push(Block {
-            count: (doc.len() % BLOCK_LINES) as u32,
+            count: (doc.len() % BLOCK_LINES) as u16,
             ..stale
         })?;
         Ok(Index {
@@ -103,8 +105,10 @@ impl<A: Allocator + Copy> Index<A> {
                 let Ok(named) = u32::try_from(number) else {
                     return Err(AllocError);
                 };
-                let after = list_lines(&mut self.chains, doc, place, count, named)?;
+                let after = list_lines(&mut self.chains, doc, place, &block, named)?;
                 self.blocks[number] = Block {
+                    front: block.count,
+                    back: 0,
                     is_stale: false,
                     ..block
                 };
@@ -225,6 +229,8 @@ fn mark_all<A: Allocator + Copy>(chains: &Chains<A>, hashes: &[u32], marks: &mut
 // A block with the context that is carried to it, if one is. It is stale if this is another one.
 fn met(block: Block, carried: Option<Context>) -> Block
     ensures count { result.count ≡ block.count }
+    ensures front { result.front ≡ block.front }
+    ensures back { result.back ≡ block.back }
     ensures fresh { result.is_stale ≡ false → result ≡ block }
     ensures context { (expected : Option contexts.Context) (context : contexts.Context)
         → IsCarried carried expected context → IsExpected expected block.context
@@ -250,34 +256,40 @@ fn is_same(left: Context, right: Context) -> bool
         && left.defines() == right.defines()
 }
 
-// Lists the keys of `count` lines of a document, the first of which stands at a place, with the block
-// of this number. The context after the lines.
+// Lists the keys of a block's lines, but for the first and the last that are listed already. The first
+// line stands at this place of the document, and the block has this number. The context after the lines.
 fn list_lines<A: Allocator + Copy>(
     chains: &mut Chains<A>,
     doc: &Doc<A>,
     place: Found,
-    count: usize,
-    block: u32,
+    block: &Block,
+    number: u32,
 ) -> Result<Context, AllocError>
     requires faithful { IsFaithful doc.now }
     requires context { place.context
         ≡ context_after_located_lines start (take place.at doc.now) }
-    requires in_range { place.at + count ≤ length doc.now }
+    requires in_range { place.at + block.now.count ≤ length doc.now }
     ensures { (mentions : List Mention) → AreChainsOf mentions chains.old
-        → IfOk result (λ after. HaveListedLines (take count (drop place.at doc.now)) block mentions
+        → AreLinesMentioned mentions number (take block.now.front (lines_at place.at block.now.count doc.now))
+        → AreLinesMentioned mentions number
+            (drop (block.now.count - block.now.back) (lines_at place.at block.now.count doc.now))
+        → IfOk result (λ after. HaveListedLines (lines_at place.at block.now.count doc.now) number mentions
         chains.new × (after
-        ≡ context_after_located_lines place.context (take count (drop place.at doc.now)))) }
+        ≡ context_after_located_lines place.context (lines_at place.at block.now.count doc.now))) }
 {
     // The contract of `iter` says that each line may stand where it stands.
     let _lines = doc.iter();
     let mut lines = doc.lines_from(place.at);
     let mut context = place.context;
-    'lines: for passed in 0..count {
+    let listed_from = block.count.saturating_sub(block.back);
+    'lines: for passed in 0..block.count {
         let Some(line) = lines.next() else {
             return Ok(context);
         };
         let class = line.class();
-        list_keys(chains, line, &class, block)?;
+        if block.front <= passed && passed < listed_from {
+            list_keys(chains, line, &class, number)?;
+        }
         context = context.step(&class);
     }
     Ok(context)

@@ -1,6 +1,8 @@
 -- The walk that lists the keys of a block's lines.
-use Rattle.std.proofs.Common.{◌≡◌, refl, sym, ap, ◌∙◌, subst, arith, ℕ, zero, suc, ◌+◌, ◌≤◌, ◌<◌, List, [], ◌∷◌, ◌++◌, length, length-append, append_assoc, take, drop}
-use Rattle.std.proofs.lemmas.List.{take_at, length-drop, take-append-drop}
+use Rattle.std.proofs.Common.{◌≡◌, refl, sym, ap, ◌∙◌, subst, arith, ℕ, zero, suc, ◌+◌, ◌-◌, ◌≤◌, ◌<◌, inl, inr, List, [], ◌∷◌, ◌++◌, length, length-append, append_assoc, take, drop}
+use Rattle.std.specs.Prelude.{◌⊎◌}
+use Rattle.std.proofs.lemmas.List.{take_at}
+use Rattle.std.proofs.Math.Seq.{take-append-add}
 use Rattle.mk_class.specs.Contexts.{Context, start, Admits, context_after_located}
 use Rattle.mk_tree.specs.Admissions.{AreAdmitted}
 use Rattle.mk_tree.specs.Documents.{IsFaithful}
@@ -10,6 +12,7 @@ use Rattle.mk_edit_parts.specs.LocatedParts.{AreEachClassed}
 use Rattle.mk_index.specs.Blocks.{AreLinesMentioned, HaveListedLines}
 use Rattle.mk_index.specs.Chains.{AreChainsOf, AreMentioned, HaveListed, Mention, Stored}
 use Rattle.mk_index.specs.Keys.{hashes_of}
+use Rattle.mk_index.proofs.on_blocks.PartLemmas.{back-here, front-here}
 use Rattle.mk_index.proofs.on_chains.KeyLemmas.{mentioned-more}
 
 pub lines-mentioned-more : (added ms : List Mention) (b : ℕ) (ls : List LocatedLine) → AreLinesMentioned ms b ls → AreLinesMentioned (added ++ ms) b ls
@@ -40,15 +43,24 @@ pub context-joined : (c : Context) (xs ys : List LocatedLine) → context_after_
 context-joined c [] ys = refl
 context-joined c (x ∷ xs) ys = context-joined (context_after_located c x.class) xs ys
 
--- the lines listed, and those ahead
-pub record Listing (before after : Stored) (b : ℕ) (first : Context) (ls : List LocatedLine) (count : ℕ) (context : Context) (ahead : List LocatedLine) : Type 0 where
+-- a line that is listed already
+pub listed-kept : (ms : List Mention) (b : ℕ) (ls : List LocatedLine) (l : LocatedLine) (c : Stored) → HaveListedLines ls b ms c → AreMentioned ms b (hashes_of l) → HaveListedLines (ls ++ l ∷ []) b ms c
+listed-kept ms b ls l c h k = record {
+  added = h.added;
+  chains_are = h.chains_are;
+  mentioned = lines-mentioned-last (h.added ++ ms) b ls l h.mentioned (mentioned-more h.added ms b (hashes_of l) k);
+}
+
+-- The lines passed, and those ahead. The lines passed are listed, if the first and the last of the
+-- block's lines were.
+pub record Listing (before after : Stored) (b front from total : ℕ) (first : Context) (ls : List LocatedLine) (count : ℕ) (context : Context) (ahead : List LocatedLine) : Type 0 where
   pub done : List LocatedLine
   pub lines_are : ls ≡ done ++ ahead
   pub count_is : length done ≡ count
   pub context_is : context ≡ context_after_located_lines first done
   pub admitted : AreAdmitted context ahead
   pub classed : AreEachClassed ahead
-  pub listed : (ms : List Mention) → AreChainsOf ms before → HaveListedLines done b ms after
+  pub listed : (ms : List Mention) → AreChainsOf ms before → AreLinesMentioned ms b (take front (take total ls)) → AreLinesMentioned ms b (drop from (take total ls)) → HaveListedLines done b ms after
 
 pub classed-from : (ls : List LocatedLine) (n : ℕ) → AreEachClassed ls → AreEachClassed (drop n ls)
 classed-from ls zero h = h
@@ -61,34 +73,47 @@ admitted-from c [] (suc n) h = tt
 admitted-from c (l ∷ ls) (suc n) h = admitted-from (context_after_located c l.class) ls n h.1
 
 -- the walk at its start
-pub listing-from : (doc : List LocatedLine) (chains : Stored) (b at : ℕ) (first : Context) (ahead : List LocatedLine) → IsFaithful doc → AreAdmitted start doc → first ≡ context_after_located_lines start (take at doc) → ahead ≡ drop at doc
-    → Listing chains chains b first (drop at doc) 0 first ahead
-listing-from doc chains b at first ahead faithful admitted context_is ahead_is = rw ahead_is (record {
+pub listing-from : (doc : List LocatedLine) (chains : Stored) (b at front from total : ℕ) (first : Context) (ahead : List LocatedLine) → IsFaithful doc → AreAdmitted start doc → first ≡ context_after_located_lines start (take at doc) → ahead ≡ drop at doc
+    → Listing chains chains b front from total first (drop at doc) 0 first ahead
+listing-from doc chains b at front from total first ahead faithful admitted context_is ahead_is = rw ahead_is (record {
   done = [];
   lines_are = refl;
   count_is = refl;
   context_is = refl;
   admitted = subst (λ (c : Context). AreAdmitted c (drop at doc)) (sym context_is) (admitted-from start doc at admitted);
   classed = classed-from doc at (faithful-each doc faithful);
-  listed = λ ms h. record { added = []; chains_are = h; mentioned = tt };
+  listed = λ ms h f b. record { added = []; chains_are = h; mentioned = tt };
 })
 
--- the walk one line on
-pub listing-next : (before c d : Stored) (b : ℕ) (first : Context) (ls : List LocatedLine) (count : ℕ) (context next : Context) (l : LocatedLine) (ahead : List LocatedLine) → Listing before c b first ls count context (l ∷ ahead)
-    → next ≡ context_after_located context l.class → ((all : List Mention) → AreChainsOf all c → HaveListed (hashes_of l) b all d) → Listing before d b first ls (count + 1) next ahead
-listing-next before c d b first ls count context next l ahead w e more = record {
+-- the walk one line on: the line is listed now, or was listed before
+pub listing-next : (before c d : Stored) (b front from total : ℕ) (first : Context) (ls : List LocatedLine) (count : ℕ) (context next : Context) (l : LocatedLine) (ahead : List LocatedLine) → Listing before c b front from total first ls count context (l ∷ ahead) → count < total
+    → next ≡ context_after_located context l.class → (((all : List Mention) → AreChainsOf all c → HaveListed (hashes_of l) b all d) ⊎ ((d ≡ c) × ((count < front) ⊎ (from ≤ count)))) → Listing before d b front from total first ls (count + 1) next ahead
+listing-next before c d b front from total first ls count context next l ahead w within e more = record {
   done = w.done ++ l ∷ [];
   lines_are = w.lines_are ∙ sym (append_assoc w.done (l ∷ []) ahead);
   count_is = omega (arith, length-append w.done (l ∷ []), w.count_is);
   context_is = e ∙ (ap (λ (k : Context). context_after_located k l.class) w.context_is ∙ sym (context-last first w.done l));
   admitted = subst (λ (k : Context). AreAdmitted k ahead) (sym e) w.admitted.1;
   classed = w.classed.1;
-  listed = λ ms h. listed-more ms b w.done l c d (w.listed ms h) more;
+  listed = λ ms h f k. elim more [
+      | inl new ↦ listed-more ms b w.done l c d (w.listed ms h f k) new
+      | inr kept ↦ subst (λ (x : Stored). HaveListedLines (w.done ++ l ∷ []) b ms x) (sym kept.0) (listed-kept ms b w.done l c (w.listed ms h f k) (elim kept.1 [
+          | inl above ↦ front-here ms b (take total ls) w.done l (take (total - count - 1) ahead) front part (omega (arith, above, w.count_is)) f
+          | inr below ↦ back-here ms b (take total ls) w.done l (take (total - count - 1) ahead) from part (omega (arith, below, w.count_is)) k
+        ]))
+    ];
 }
+  where
+    part : take total ls ≡ w.done ++ l ∷ take (total - count - 1) ahead
+    part =
+        let n : total ≡ length w.done + suc (total - count - 1) = omega (arith, within, w.count_is) in
+        ap (take total) w.lines_are ∙ (ap (λ (m : ℕ). take m (w.done ++ l ∷ ahead)) n ∙ take-append-add w.done (l ∷ ahead) (suc (total - count - 1)))
 
 -- the walk at its end
-pub listing-over : (before after : Stored) (b : ℕ) (first : Context) (ls : List LocatedLine) (count : ℕ) (context : Context) (ahead : List LocatedLine) → Listing before after b first ls count context ahead → (ms : List Mention) → AreChainsOf ms before
-    → HaveListedLines (take count ls) b ms after × (context ≡ context_after_located_lines first (take count ls))
-listing-over before after b first ls count context ahead w ms h =
-    let done : take count ls ≡ w.done = ap (take count) w.lines_are ∙ take_at w.done ahead count w.count_is in
-    rw done (w.listed ms h, w.context_is)
+pub listing-over : (before after : Stored) (b front from total : ℕ) (first : Context) (ls : List LocatedLine) (context : Context) (ahead : List LocatedLine) → Listing before after b front from total first ls total context ahead → (ms : List Mention) → AreChainsOf ms before
+    → AreLinesMentioned ms b (take front (take total ls)) → AreLinesMentioned ms b (drop from (take total ls))
+    → HaveListedLines (take total ls) b ms after × (context ≡ context_after_located_lines first (take total ls))
+listing-over before after b front from total first ls context ahead w ms h f k =
+    let done : take total ls ≡ w.done = ap (take total) w.lines_are ∙ take_at w.done ahead total w.count_is in
+    let listed = w.listed ms h f k in
+    (subst (λ (xs : List LocatedLine). HaveListedLines xs b ms after) (sym done) listed, w.context_is ∙ ap (context_after_located_lines first) (sym done))

@@ -1,10 +1,10 @@
 -- Blocks that are all stale, and how many lines blocks have.
 use Rattle.std.proofs.Common.{◌≡◌, refl, sym, ap, ◌∙◌, subst, arith, ℕ, zero, suc, ◌+◌, ◌*◌, ◌-◌, ◌≤◌, List, [], ◌∷◌, ◌++◌, Bool, true, false, length, length-append, take, drop, Option, Some, None, if◌then◌else◌}
 use Rattle.std.specs.Prelude.{replicate}
-use Rattle.std.proofs.lemmas.List.{take-append-drop, length-take-le, length-drop}
+use Rattle.std.proofs.lemmas.List.{drop_all, take-append-drop, length-take-le, length-drop}
 use Rattle.mk_class.specs.Contexts.{Context, start}
 use Rattle.mk_tree.specs.LocatedLines.{LocatedLine, with_last_bytes, context_after_located_lines}
-use Rattle.mk_index.specs.Blocks.{AreBlocks, IsBlock, IsExpected, expected_after}
+use Rattle.mk_index.specs.Blocks.{AreBlocks, AreLinesMentioned, IsBlock, IsExpected, expected_after}
 use Rattle.mk_index.specs.Chains.{Mention}
 use Rattle.mk_index.specs.declared.blocks.Block.{Block}
 use Rattle.mk_index.proofs.on_blocks.SpliceLemmas.{lines_in}
@@ -13,23 +13,34 @@ use Rattle.mk_index.proofs.on_blocks.SpliceLemmas.{lines_in}
 pub after-stale : (b : Block) (ls : List LocatedLine) → b.is_stale ≡ true → None ≡ expected_after b ls
 after-stale b ls h = ap (λ (t : Bool). if t then None else Some (context_after_located_lines b.context ls)) (sym h)
 
+-- none of the lines is mentioned, as far as it is known
+no-front : (ms : List Mention) (n : ℕ) (ls : List LocatedLine) (front : ℕ) → front ≡ 0 → AreLinesMentioned ms n (take front ls)
+no-front ms n ls front e = rw e tt
+
+no-back : (ms : List Mention) (n : ℕ) (ls : List LocatedLine) (back : ℕ) → back ≡ 0 → AreLinesMentioned ms n (drop (length ls - back) ls)
+no-back ms n ls back e =
+    let none : drop (length ls - back) ls ≡ [] = drop_all (length ls - back) ls (omega (arith, e)) in
+    subst (AreLinesMentioned ms n) (sym none) tt
+
 -- stale blocks of one length, and one more
-pub stale-run : (ms : List Mention) (n : ℕ) (o : Option Context) (ls : List LocatedLine) (k : ℕ) (b last : Block) (end : Context) → IsExpected o b.context → IsExpected o last.context → b.is_stale ≡ true → last.is_stale ≡ true
+pub stale-run : (ms : List Mention) (n : ℕ) (o : Option Context) (ls : List LocatedLine) (k : ℕ) (b last : Block) (end : Context) → IsExpected o b.context → IsExpected o last.context → b.is_stale ≡ true → last.is_stale ≡ true → b.front ≡ 0 → b.back ≡ 0 → last.front ≡ 0 → last.back ≡ 0
     → k * b.count + last.count ≡ length ls → AreBlocks ms n o ls (replicate k b ++ last ∷ []) end
-stale-run ms n o ls zero b last end eb el sb sl sum = record {
+stale-run ms n o ls zero b last end eb el sb sl fb bb fl bl sum = record {
   inside = ls;
   after = [];
   lines_are = let e = take-append-drop (length ls) ls in append-none ls;
   count_is = omega (arith, sum);
   context_is = el;
-  mentioned = λ f. absurd (cc);
+  front_is = no-front ms n ls last.front fl;
+  back_is = no-back ms n ls last.back bl;
+  whole = λ f. absurd (cc);
   next_is = (refl, subst (λ (p : Option Context). IsExpected p end) (after-stale last ls sl) tt);
 }
   where
     append-none : (xs : List LocatedLine) → xs ≡ xs ++ []
     append-none [] = refl
     append-none (x ∷ xs) = ap (λ (ys : List LocatedLine). x ∷ ys) (append-none xs)
-stale-run ms n o ls (suc k) b last end eb el sb sl sum =
+stale-run ms n o ls (suc k) b last end eb el sb sl fb bb fl bl sum =
     let few : b.count ≤ length ls = grind (arith, sum) in
     let left = length-drop b.count ls in
     record {
@@ -38,9 +49,11 @@ stale-run ms n o ls (suc k) b last end eb el sb sl sum =
       lines_are = sym (take-append-drop b.count ls);
       count_is = sym (length-take-le b.count ls few);
       context_is = eb;
-      mentioned = λ f. absurd (cc);
+      front_is = no-front ms n (take b.count ls) b.front fb;
+      back_is = no-back ms n (take b.count ls) b.back bb;
+      whole = λ f. absurd (cc);
       next_is = subst (λ (p : Option Context). AreBlocks ms (n + 1) p (drop b.count ls) (replicate k b ++ last ∷ []) end) (after-stale b (take b.count ls) sb)
-          (stale-run ms (n + 1) None (drop b.count ls) k b last end tt tt sb sl (grind (arith, sum, left)));
+          (stale-run ms (n + 1) None (drop b.count ls) k b last end tt tt sb sl fb bb fl bl (grind (arith, sum, left)));
     }
 
 -- how many lines there are

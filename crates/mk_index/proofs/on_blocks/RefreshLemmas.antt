@@ -1,5 +1,5 @@
 -- The walk that makes stale blocks fresh.
-use Rattle.std.proofs.Common.{◌≡◌, refl, sym, ap, ◌∙◌, subst, arith, ℕ, zero, suc, ◌+◌, ◌≤◌, ◌<◌, List, [], ◌∷◌, ◌++◌, Bool, true, false, length, length-append, append_assoc, append-nil, take, drop, get_or, set, Option, Some, None, if◌then◌else◌}
+use Rattle.std.proofs.Common.{◌≡◌, refl, sym, ap, ◌∙◌, subst, arith, ℕ, zero, suc, ◌+◌, ◌-◌, ◌≤◌, ◌<◌, List, [], ◌∷◌, ◌++◌, Bool, true, false, length, length-append, append_assoc, append-nil, take, drop, get_or, set, Option, Some, None, if◌then◌else◌}
 use Rattle.std.proofs.lemmas.List.{length-take-le, take_at, take_all, take_more, take_more_set, drop_all, drop-set-lt}
 use Rattle.std.proofs.Math.Seq.{drop-cons}
 use Rattle.mk_class.specs.Contexts.{Context, start}
@@ -10,6 +10,7 @@ use Rattle.mk_index.specs.Chains as chains
 use Rattle.mk_index.specs.Indexes.{AreFresh, IsFreshIndexOf, IsIndexOf, Stored}
 use Rattle.mk_index.specs.declared.blocks.Block.{Block}
 use Rattle.mk_index.proofs.on_blocks.ListedLemmas.{context-joined, lines-mentioned-more}
+use Rattle.mk_index.proofs.on_blocks.PartLemmas.{fewer-front}
 use Rattle.mk_index.proofs.on_blocks.SpliceLemmas.{unexpected}
 
 -- more mentions leave blocks as they are
@@ -21,7 +22,9 @@ blocks-more added ms n o ls (b ∷ bs) end h = record {
   lines_are = h.lines_are;
   count_is = h.count_is;
   context_is = h.context_is;
-  mentioned = λ f. lines-mentioned-more added ms n h.inside (h.mentioned f);
+  front_is = lines-mentioned-more added ms n (take b.front h.inside) h.front_is;
+  back_is = lines-mentioned-more added ms n (drop (length h.inside - b.back) h.inside) h.back_is;
+  whole = h.whole;
   next_is = blocks-more added ms (n + 1) _ h.after bs end h.next_is;
 }
 
@@ -41,7 +44,9 @@ blocks-joined ms n m o ls ks (b ∷ bs) cs c end count above below = record {
   lines_are = ap (λ (xs : List LocatedLine). xs ++ ks) above.lines_are ∙ append_assoc above.inside above.after ks;
   count_is = above.count_is;
   context_is = above.context_is;
-  mentioned = above.mentioned;
+  front_is = above.front_is;
+  back_is = above.back_is;
+  whole = above.whole;
   next_is = blocks-joined ms (n + 1) m _ above.after ks bs cs c end (omega (arith, count)) above.next_is below;
 }
 
@@ -49,14 +54,16 @@ pub expected-fresh : (b : Block) (ls : List LocatedLine) (c : Context) → b.is_
 expected-fresh b ls c h e = ap (λ (t : Bool). if t then None else Some (context_after_located_lines b.context ls)) h ∙ ap (λ (x : Context). Some (context_after_located_lines x ls)) e
 
 -- one fresh block
-one-block : (ms : List Mention) (n : ℕ) (c : Context) (ls : List LocatedLine) (b : Block) → b.count ≡ length ls → b.context ≡ c → b.is_stale ≡ false → AreLinesMentioned ms n ls → AreBlocks ms n (Some c) ls (b ∷ []) (context_after_located_lines c ls)
-one-block ms n c ls b count context fresh mentioned = record {
+one-block : (ms : List Mention) (n : ℕ) (c : Context) (ls : List LocatedLine) (b : Block) → b.count ≡ length ls → b.context ≡ c → b.is_stale ≡ false → AreLinesMentioned ms n (take b.front ls) → AreLinesMentioned ms n (drop (length ls - b.back) ls) → b.count ≤ b.front + b.back → AreBlocks ms n (Some c) ls (b ∷ []) (context_after_located_lines c ls)
+one-block ms n c ls b count context fresh front back whole = record {
   inside = ls;
   after = [];
   lines_are = sym (append-nil ls);
   count_is = count;
   context_is = context;
-  mentioned = λ f. mentioned;
+  front_is = front;
+  back_is = back;
+  whole = λ f. whole;
   next_is = (refl, subst (λ (o : Option Context). IsExpected o (context_after_located_lines c ls)) (sym (expected-fresh b ls c fresh context)) refl);
 }
 
@@ -148,21 +155,24 @@ block-stays doc c blocks end carried number at b w few is fresh context =
       fresh = subst AreFresh (sym taken) (fresh-more (take number blocks) b w.fresh fresh);
       above = subst (λ (bs : List Block). AreBlocks w.mentions 0 (Some start) (w.done ++ k.inside) bs (context_after_located_lines w.context k.inside)) (sym taken)
           (blocks-joined w.mentions 0 number (Some start) w.done k.inside (take number blocks) (b ∷ []) w.context _ (taken-count blocks number few) w.above
-          (one-block w.mentions number w.context k.inside b k.count_is context fresh (k.mentioned fresh)));
+          (one-block w.mentions number w.context k.inside b k.count_is context fresh k.front_is k.back_is (k.whole fresh)));
       below = k.next_is;
       carried_is = expected-fresh b k.inside w.context fresh context;
     }
 
 -- a block whose lines are listed anew
-pub block-listed : (doc : List LocatedLine) (c d : chains.Stored) (blocks : List Block) (end : Context) (carried : Option Context) (number at : ℕ) (b new : Block) (after : Context) (w : Refreshing doc c blocks end carried number at) → suc number ≤ length blocks → b ≡ get_or blocks number b
-    → new.count ≡ b.count → new.is_stale ≡ false → new.context ≡ w.context
-    → ((ms : List Mention) → AreChainsOf ms c → HaveListedLines (take new.count (drop at doc)) number ms d × (after ≡ context_after_located_lines new.context (take new.count (drop at doc))))
+pub block-listed : (doc : List LocatedLine) (c d : chains.Stored) (blocks : List Block) (end : Context) (carried : Option Context) (number at front back : ℕ) (b new : Block) (after : Context) (w : Refreshing doc c blocks end carried number at) → suc number ≤ length blocks → b ≡ get_or blocks number b
+    → new.count ≡ b.count → new.is_stale ≡ false → new.context ≡ w.context → new.front ≡ new.count → new.back ≡ 0 → front ≡ b.front → back ≡ b.back
+    → ((ms : List Mention) → AreChainsOf ms c → AreLinesMentioned ms number (take front (take new.count (drop at doc))) → AreLinesMentioned ms number (drop (new.count - back) (take new.count (drop at doc))) → HaveListedLines (take new.count (drop at doc)) number ms d × (after ≡ context_after_located_lines new.context (take new.count (drop at doc))))
     → Refreshing doc d (set blocks number new) end (Some after) (number + 1) (at + new.count)
-block-listed doc c d blocks end carried number at b new after w few is count fresh context made =
+block-listed doc c d blocks end carried number at front back b new after w few is count fresh context all_front no_back front_is back_is made =
     let h = block-here doc c blocks end carried number at b w few is in
     let k = h.block in
-    let m = made w.mentions w.chains_are in
     let lines : take new.count (drop at doc) ≡ k.inside = ap (λ (n : ℕ). take n (drop at doc)) count ∙ h.lines_are in
+    let from : length k.inside - b.back ≡ new.count - back = omega (arith, count, k.count_is, back_is) in
+    let m = made w.mentions w.chains_are
+        (rw (lines, front_is) k.front_is)
+        (rw lines (subst (λ (n : ℕ). AreLinesMentioned w.mentions number (drop n k.inside)) from k.back_is)) in
     let taken : take (number + 1) (set blocks number new) ≡ take number blocks ++ new ∷ [] = take_more_set blocks number new few in
     let all = m.0.added ++ w.mentions in
     record {
@@ -178,7 +188,10 @@ block-listed doc c d blocks end carried number at b new after w few is count fre
       fresh = subst AreFresh (sym taken) (fresh-more (take number blocks) new w.fresh fresh);
       above = subst (λ (bs : List Block). AreBlocks all 0 (Some start) (w.done ++ k.inside) bs (context_after_located_lines w.context k.inside)) (sym taken)
           (blocks-joined all 0 number (Some start) w.done k.inside (take number blocks) (new ∷ []) w.context _ (taken-count blocks number few) (blocks-more m.0.added w.mentions 0 (Some start) w.done (take number blocks) w.context w.above)
-          (one-block all number w.context k.inside new (count ∙ k.count_is) context fresh (subst (AreLinesMentioned all number) lines m.0.mentioned)));
+          (one-block all number w.context k.inside new (count ∙ k.count_is) context fresh
+          (fewer-front all number k.inside (length k.inside) new.front (omega (arith, all_front, count, k.count_is)) (subst (AreLinesMentioned all number) (sym (take_all (length k.inside) k.inside (omega arith))) (subst (AreLinesMentioned all number) lines m.0.mentioned)))
+          (subst (AreLinesMentioned all number) (sym (drop_all (length k.inside - new.back) k.inside (omega (arith, no_back)))) tt)
+          (omega (arith, all_front))));
       below = subst (λ (bs : List Block). AreBlocks all (number + 1) (expected_after b k.inside) k.after bs end) (sym (drop-set-lt (number + 1) blocks number new (omega arith)))
           (blocks-more m.0.added w.mentions (number + 1) _ k.after (drop (number + 1) blocks) end k.next_is);
       carried_is = m.1 ∙ (ap (λ (x : Context). context_after_located_lines x (take new.count (drop at doc))) context ∙ ap (context_after_located_lines w.context) lines);

@@ -7,50 +7,27 @@ use Rattle.mk_tree.specs.LocatedLines.{LocatedLine}
 use Rattle.mk_index.specs.Blocks.{AreBlocks, IsBlock}
 use Rattle.mk_index.specs.Chains.{Mention}
 use Rattle.mk_index.specs.declared.blocks.Block.{Block}
+use Rattle.mk_index.proofs.on_blocks.ChangedLines.{with-back, with-front, with-length, with_lines}
+use Rattle.mk_index.proofs.on_blocks.PartLemmas.{back-kept, front-kept}
 
 -- blocks after some context are blocks after any
 pub unexpected : (ms : List Mention) (n : ℕ) (o : Option Context) (ls : List LocatedLine) (bs : List Block) (end : Context) → AreBlocks ms n o ls bs end → AreBlocks ms n None ls bs end
 unexpected ms n o ls [] end h = (h.0, tt)
 unexpected ms n o ls (b ∷ bs) end h =
-    record { inside = h.inside; after = h.after; lines_are = h.lines_are; count_is = h.count_is; context_is = tt; mentioned = h.mentioned; next_is = h.next_is }
+    record { inside = h.inside; after = h.after; lines_are = h.lines_are; count_is = h.count_is; context_is = tt; front_is = h.front_is; back_is = h.back_is; whole = h.whole; next_is = h.next_is }
 
 -- how many lines some blocks have
 abbrev pub lines_in : List Block → ℕ
 lines_in [] = 0
 lines_in (b ∷ bs) = b.count + lines_in bs
 
--- some lines, of which those from an index on are replaced
-abbrev pub with_lines : (at takes : ℕ) → (put_in : List LocatedLine) → List LocatedLine → List LocatedLine
-with_lines at takes ins ls = take at ls ++ (ins ++ drop (at + takes) ls)
-
-pub with-front : (at takes : ℕ) (ins inside after : List LocatedLine) → at + takes ≤ length inside → with_lines at takes ins (inside ++ after) ≡ with_lines at takes ins inside ++ after
-with-front at takes ins inside after h =
-    let l : take at (inside ++ after) ≡ take at inside = take-append-le at inside after (omega (arith, h)) in
-    let r : drop (at + takes) (inside ++ after) ≡ drop (at + takes) inside ++ after = drop-append-le (at + takes) inside after h in
-    rw (l, r) (sym (append_assoc (take at inside) (ins ++ drop (at + takes) inside) after ∙ ap (λ xs. take at inside ++ xs) (append_assoc ins (drop (at + takes) inside) after)))
-
-pub with-back : (at takes : ℕ) (ins inside after : List LocatedLine) → with_lines (length inside + at) takes ins (inside ++ after) ≡ inside ++ with_lines at takes ins after
-with-back at takes ins inside after =
-    let e : length inside + at + takes ≡ length inside + (at + takes) = omega arith in
-    let l = take-append-add inside after at in
-    let r : drop (length inside + at + takes) (inside ++ after) ≡ drop (at + takes) after = ap (λ n. drop n (inside ++ after)) e ∙ drop-append-add inside after (at + takes) in
-    rw (l, r) (append_assoc inside (take at after) (ins ++ drop (at + takes) after))
-
-pub with-length : (at takes : ℕ) (ins inside : List LocatedLine) → at + takes ≤ length inside → length (with_lines at takes ins inside) ≡ length inside - takes + length ins
-with-length at takes ins inside h =
-    let a = length-append (take at inside) (ins ++ drop (at + takes) inside) in
-    let b = length-append ins (drop (at + takes) inside) in
-    let c = length-take-le at inside (omega (arith, h)) in
-    let d = length-drop (at + takes) inside in
-    omega (arith, a, b, c, d, h)
-
 -- the block that has the lines, after the change
-pub spliced : (ms : List Mention) (n : ℕ) (o : Option Context) (ls ins : List LocatedLine) (bs : List Block) (end : Context) (k at rest takes puts count : ℕ) (b new : Block)
+pub spliced : (ms : List Mention) (n : ℕ) (o : Option Context) (ls ins : List LocatedLine) (bs : List Block) (end : Context) (k at rest takes puts count front back : ℕ) (b new : Block)
     → AreBlocks ms n o ls bs end → suc k ≤ length bs → b ≡ get_or bs k b → lines_in (take k bs) + rest ≡ at → rest + takes ≤ b.count → length ins ≡ puts → count ≡ b.count - takes + puts
-    → new ≡ record { count = count; context = b.context; is_stale = true }
+    → front ≤ b.front → front ≤ rest → back ≤ b.back → back ≤ b.count - rest - takes → new ≡ record { count = count; front = front; back = back; context = b.context; is_stale = true }
     → AreBlocks ms n o (with_lines at takes ins ls) (set bs k new) end
-spliced ms n o ls ins [] end k at rest takes puts count b new h few is sum within put counted new_is = absurd (omega (arith, few))
-spliced ms n o ls ins (c ∷ bs) end zero at rest takes puts count b new h few is sum within put counted new_is =
+spliced ms n o ls ins [] end k at rest takes puts count front back b new h few is sum within put counted f1 f2 b1 b2 new_is = absurd (omega (arith, few))
+spliced ms n o ls ins (c ∷ bs) end zero at rest takes puts count front back b new h few is sum within put counted f1 f2 b1 b2 new_is =
     let same : b ≡ c = is in
     let inside_is : rest + takes ≤ length h.inside = omega (arith, within, ap (λ (x : Block). x.count) same, h.count_is) in
     let here : at ≡ rest = omega (arith, sum) in
@@ -60,10 +37,12 @@ spliced ms n o ls ins (c ∷ bs) end zero at rest takes puts count b new h few i
       lines_are = ap (with_lines rest takes ins) h.lines_are ∙ with-front rest takes ins h.inside h.after inside_is;
       count_is = omega (arith, counted, ap (λ (x : Block). x.count) same, h.count_is, put, with-length rest takes ins h.inside inside_is);
       context_is = h.context_is;
-      mentioned = λ e. absurd (cc);
+      front_is = front-kept ms n ins h.inside rest takes c.front front (subst (λ (x : Block). front ≤ x.front) same f1) f2 (omega (arith, inside_is)) h.front_is;
+      back_is = back-kept ms n ins h.inside rest takes c.back back (subst (λ (x : Block). back ≤ x.back) same b1) (omega (arith, b2, ap (λ (x : Block). x.count) same, h.count_is)) inside_is h.back_is;
+      whole = λ e. absurd (cc);
       next_is = unexpected ms (n + 1) _ h.after bs end h.next_is;
     })
-spliced ms n o ls ins (c ∷ bs) end (suc k) at rest takes puts count b new h few is sum within put counted new_is =
+spliced ms n o ls ins (c ∷ bs) end (suc k) at rest takes puts count front back b new h few is sum within put counted f1 f2 b1 b2 new_is =
     let deeper : at ≡ length h.inside + (lines_in (take k bs) + rest) = omega (arith, sum, h.count_is) in
     let m = lines_in (take k bs) + rest in
     record {
@@ -72,8 +51,10 @@ spliced ms n o ls ins (c ∷ bs) end (suc k) at rest takes puts count b new h fe
       lines_are = ap (λ i. with_lines i takes ins ls) deeper ∙ (ap (with_lines (length h.inside + m) takes ins) h.lines_are ∙ with-back m takes ins h.inside h.after);
       count_is = h.count_is;
       context_is = h.context_is;
-      mentioned = h.mentioned;
-      next_is = spliced ms (n + 1) _ h.after ins bs end k m rest takes puts count b new h.next_is (omega (arith, few)) is refl within put counted new_is;
+      front_is = h.front_is;
+      back_is = h.back_is;
+      whole = h.whole;
+      next_is = spliced ms (n + 1) _ h.after ins bs end k m rest takes puts count front back b new h.next_is (omega (arith, few)) is refl within put counted f1 f2 b1 b2 new_is;
     }
 
 -- the lines of one block more

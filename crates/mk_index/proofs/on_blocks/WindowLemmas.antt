@@ -12,6 +12,7 @@ use Rattle.mk_index.specs.Blocks.{AreBlocks, AreLinesMentioned, IsBlock}
 use Rattle.mk_index.specs.Chains.{Mention}
 use Rattle.mk_index.specs.Indexes.{AreFresh}
 use Rattle.mk_index.specs.declared.blocks.Block.{Block}
+use Rattle.mk_index.proofs.on_blocks.PartLemmas.{whole-mentioned}
 use Rattle.mk_index.proofs.on_blocks.RefreshLemmas.{expected-fresh}
 
 none-joined : (p : LocatedLine → Bool) (xs ys : List LocatedLine) → NonePasses p xs → NonePasses p ys → NonePasses p (xs ++ ys)
@@ -98,7 +99,7 @@ fresh-here test doc ms blocks end number at windows b w few is =
       context_is = k.context_is;
       is_fresh = fresh.0;
       fresh = fresh.1;
-      mentioned = k.mentioned fresh.0;
+      mentioned = whole-mentioned ms number k.inside b.front b.back k.front_is k.back_is (let all = k.whole fresh.0 in omega (arith, all, k.count_is));
       below = subst (λ (o : Option Context). AreBlocks ms (number + 1) o k.after (drop (number + 1) blocks) end) (expected-fresh b k.inside w.context fresh.0 k.context_is) k.next_is;
       within =
           let e = ap length w.doc_is in

@@ -1,5 +1,5 @@
 -- A line in the place of another, which assigns the same variable.
-use Rattle.std.proofs.Common.{◌≡◌, refl, sym, ap, ◌∙◌, subst, arith, ℕ, zero, suc, ◌+◌, ◌≤◌, ◌||◌, List, [], ◌∷◌, ◌++◌, Bool, true, false, length, take, drop, map, Option, Some, None, if◌then◌else◌, inl, inr}
+use Rattle.std.proofs.Common.{◌≡◌, refl, sym, ap, ◌∙◌, subst, arith, ℕ, zero, suc, ◌+◌, ◌-◌, ◌≤◌, ◌||◌, List, [], ◌∷◌, ◌++◌, Bool, true, false, length, take, drop, map, Option, Some, None, if◌then◌else◌, inl, inr}
 use Rattle.std.specs.Prelude.{IfSome, slice_get, ◌⊎◌}
 use Rattle.std.specs.List.{list_any}
 use Rattle.mk_class.specs.Contexts.{Context, context_after_located, start}
@@ -17,7 +17,7 @@ use Rattle.mk_index.specs.Indexes as indexes
 use Rattle.mk_index.specs.Indexes.{IsIndexOf}
 use Rattle.mk_index.specs.Keys.{hashes_of, keys_in, unread_key}
 use Rattle.mk_index.specs.declared.blocks.Block.{Block}
-use Rattle.mk_index.proofs.on_blocks.SpliceLemmas.{with-back, with-front, with-length, with_lines}
+use Rattle.mk_index.proofs.on_blocks.ChangedLines.{with-back, with-front, with-length, with_lines}
 
 -- one line does for what is known what another does
 pub record SameRole (k l : LocatedLine) : Type 0 where
@@ -48,12 +48,24 @@ line_or d (Some x) = x
 step : (at : ℕ) (x l : LocatedLine) (ls : List LocatedLine) → with_line (suc at) l (x ∷ ls) ≡ x ∷ with_line at l ls
 step at x l ls = let n : suc at + 1 ≡ suc (at + 1) = omega arith in ap (λ (m : ℕ). x ∷ (take at ls ++ l ∷ drop m (x ∷ ls))) n
 
-mentioned-same : (ms : List Mention) (n : ℕ) (ls : List LocatedLine) (at : ℕ) (k l : LocatedLine) → Some k ≡ slice_get ls at → SameRole k l → AreLinesMentioned ms n ls → AreLinesMentioned ms n (with_line at l ls)
-mentioned-same ms n [] at k l there same h = absurd (cc)
-mentioned-same ms n (x ∷ ls) zero k l there same h =
+same-front : (ms : List Mention) (n : ℕ) (ls : List LocatedLine) (at front : ℕ) (k l : LocatedLine) → Some k ≡ slice_get ls at → SameRole k l → AreLinesMentioned ms n (take front ls) → AreLinesMentioned ms n (take front (with_line at l ls))
+same-front ms n ls at zero k l there same h = tt
+same-front ms n [] at (suc front) k l there same h = absurd (cc)
+same-front ms n (x ∷ ls) zero (suc front) k l there same h =
     let here : k ≡ x = ap (line_or k) there in
     (subst (AreMentioned ms n) (ap hashes_of (sym here) ∙ same.hashes_are) h.0, h.1)
-mentioned-same ms n (x ∷ ls) (suc at) k l there same h = subst (AreLinesMentioned ms n) (sym (step at x l ls)) (h.0, mentioned-same ms n ls at k l there same h.1)
+same-front ms n (x ∷ ls) (suc at) (suc front) k l there same h =
+    subst (λ (xs : List LocatedLine). AreLinesMentioned ms n (take (suc front) xs)) (sym (step at x l ls)) (h.0, same-front ms n ls at front k l there same h.1)
+
+same-back : (ms : List Mention) (n : ℕ) (ls : List LocatedLine) (at from : ℕ) (k l : LocatedLine) → Some k ≡ slice_get ls at → SameRole k l → AreLinesMentioned ms n (drop from ls) → AreLinesMentioned ms n (drop from (with_line at l ls))
+same-back ms n [] at from k l there same h = absurd (cc)
+same-back ms n (x ∷ ls) zero zero k l there same h =
+    let here : k ≡ x = ap (line_or k) there in
+    (subst (AreMentioned ms n) (ap hashes_of (sym here) ∙ same.hashes_are) h.0, h.1)
+same-back ms n (x ∷ ls) zero (suc from) k l there same h = h
+same-back ms n (x ∷ ls) (suc at) zero k l there same h = subst (AreLinesMentioned ms n) (sym (step at x l ls)) (h.0, same-back ms n ls at zero k l there same h.1)
+same-back ms n (x ∷ ls) (suc at) (suc from) k l there same h =
+    subst (λ (xs : List LocatedLine). AreLinesMentioned ms n (drop (suc from) xs)) (sym (step at x l ls)) (same-back ms n ls at from k l there same h)
 
 context-same : (c : Context) (ls : List LocatedLine) (at : ℕ) (k l : LocatedLine) → Some k ≡ slice_get ls at → SameRole k l → context_after_located_lines c (with_line at l ls) ≡ context_after_located_lines c ls
 context-same c [] at k l there same = absurd (cc)
@@ -91,7 +103,11 @@ blocks-same ms n o ls (b ∷ bs) end at k l there same h =
           lines_are = ap (with_line at l) h.lines_are ∙ with-front at 1 (l ∷ []) h.inside h.after i.1;
           count_is = let c = h.count_is in let m = with-length at 1 (l ∷ []) h.inside i.1 in let f = i.1 in omega (arith, c, m, f);
           context_is = h.context_is;
-          mentioned = λ f. mentioned-same ms n h.inside at k l i.0 same (h.mentioned f);
+          front_is = same-front ms n h.inside at b.front k l i.0 same h.front_is;
+          back_is =
+              let long : length h.inside - b.back ≡ length (with_line at l h.inside) - b.back = let m = with-length at 1 (l ∷ []) h.inside i.1 in let f = i.1 in omega (arith, m, f) in
+              subst (λ (m : ℕ). AreLinesMentioned ms n (drop m (with_line at l h.inside))) long (same-back ms n h.inside at (length h.inside - b.back) k l i.0 same h.back_is);
+          whole = h.whole;
           next_is = subst (λ (p : Option Context). AreBlocks ms (n + 1) p h.after bs end) (sym (expected-same b (with_line at l h.inside) h.inside (context-same b.context h.inside at k l i.0 same))) h.next_is;
         }
       | inr i ↦ record {
@@ -100,7 +116,9 @@ blocks-same ms n o ls (b ∷ bs) end at k l there same h =
           lines_are = ap (λ (m : ℕ). with_line m l ls) i.1 ∙ (ap (with_line (length h.inside + i.0) l) h.lines_are ∙ with-back i.0 1 (l ∷ []) h.inside h.after);
           count_is = h.count_is;
           context_is = h.context_is;
-          mentioned = h.mentioned;
+          front_is = h.front_is;
+          back_is = h.back_is;
+          whole = h.whole;
           next_is = blocks-same ms (n + 1) _ h.after bs end i.0 k l i.2 same h.next_is;
         }
     ]

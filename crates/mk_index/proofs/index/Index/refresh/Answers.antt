@@ -1,6 +1,6 @@
 use Rattle.std.proofs.Common.{◌≡◌, ◌+◌, ◌≤◌, ◌∙◌, refl, sym, ap, subst, rules, suc, length, ℕ, List, Option, Some, None, false}
 use Rattle.mk_class.specs.Contexts.{Context}
-use Rattle.mk_index.specs.Blocks.{HaveListedLines}
+use Rattle.mk_index.specs.Blocks.{AreLinesMentioned, HaveListedLines}
 use Rattle.mk_index.specs.Chains.{Mention}
 use Rattle.mk_index.specs.declared.blocks.Block.{Block}
 use Rattle.mk_index.proofs.on_blocks.RefreshLemmas.{Refreshing, block-here, block-listed, block-stays}
@@ -20,9 +20,9 @@ numbers-preserved g c =
     let context : m.context ≡ w.context = c.met-block.ensures.context w.expected w.context w.carried_is here.block.context_is in
     elim c.if-block.branch [
       | then-block+in-Ok+in_ok-after b ↦
-          let new : Block = record { count = m.count; context = m.context; is_stale = false } in
-          let next = block-listed c.args.doc.now i.chains b.list_lines.new.chains i.blocks.items i.end c.numbers.carried n at block new b.in_ok-after.after w few c.index.ensures c.met-block.ensures.count refl context
-              (λ ms h. let k = b.in_ok-after.ensures ms h in (subst (λ (x : ℕ). HaveListedLines _ x ms b.list_lines.new.chains) b.in-Ok.ensures.1 k.0, k.1)) in
+          let new : Block = record { count = m.count; front = m.count; back = 0; context = m.context; is_stale = false } in
+          let next = block-listed c.args.doc.now i.chains b.list_lines.new.chains i.blocks.items i.end c.numbers.carried n at m.front m.back block new b.in_ok-after.after w few c.index.ensures c.met-block.ensures.count refl context refl refl c.met-block.ensures.front c.met-block.ensures.back
+              (λ ms h f e. let k = b.in_ok-after.ensures ms h (subst (λ (x : ℕ). AreLinesMentioned ms x _) (sym b.in-Ok.ensures.1) f) (subst (λ (x : ℕ). AreLinesMentioned ms x _) (sym b.in-Ok.ensures.1) e) in (subst (λ (x : ℕ). HaveListedLines _ x ms b.list_lines.new.chains) b.in-Ok.ensures.1 k.0, k.1)) in
           rw (b.self-inside-is, b.carried-is) next
       | else-block b ↦
           let same : m ≡ block = c.met-block.ensures.fresh b.if-block.false in
