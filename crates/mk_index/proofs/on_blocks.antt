@@ -5,6 +5,7 @@ pub mod SpliceLemmas
 pub mod MadeLemmas
 pub mod ListedLemmas
 pub mod RefreshLemmas
+pub mod StaleLemmas
 pub mod WindowLemmas
 pub mod MarkLemmas
 pub mod FollowedLemmas

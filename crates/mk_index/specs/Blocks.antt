@@ -8,6 +8,8 @@ use Rattle.mk_edit_parts.specs.Windows.{NonePasses}
 use Rattle.mk_index.specs.Chains.{Mention, AreChainsOf, AreMentioned, Stored}
 use Rattle.mk_index.specs.Keys.{hashes_of}
 use Rattle.mk_index.specs.declared.blocks.Block.{Block}
+use Rattle.mk_index.specs.declared.blocks.Changed.{Changed}
+use Rattle.mk_index.specs.declared.blocks.Stale.{Stale}
 
 -- the keys of some lines are mentioned, with the block of this number
 abbrev pub AreLinesMentioned : List Mention → (block : ℕ) → List LocatedLine → Type 0
@@ -72,3 +74,30 @@ abbrev pub PassesInMarked : (test : LocatedLine → Bool) → List Mention → (
 PassesInMarked p ms marks = (n : ℕ) (ls : List LocatedLine) → n < length marks
     → get_or marks n false ≡ false → AreEachClassed ls → AreLinesMentioned ms n ls
     → NonePasses p ls
+
+-- ---- stale blocks
+
+-- no block is stale
+abbrev pub AreFresh : List Block → Type 0
+AreFresh [] = Unit {0}
+AreFresh (b ∷ bs) = (b.is_stale ≡ false) × AreFresh bs
+
+-- how many lines some blocks have
+abbrev pub lines_in : List Block → ℕ
+lines_in [] = 0
+lines_in (b ∷ bs) = b.count + lines_in bs
+
+-- All blocks above the first of these are fresh, and all from the last on. The first of these stands
+-- below so many lines.
+pub record IsStaleOf (stale : Stale) (blocks : List Block) : Type 0 where
+  pub above_fresh : AreFresh (take stale.first blocks)
+  pub at_is : lines_in (take stale.first blocks) ≡ stale.at
+  pub below_fresh : AreFresh (drop stale.end blocks)
+
+-- One block has changed: those above it and those below it are as they were, and those above it have
+-- so many lines.
+pub record IsChangedAt (changed : Changed) (old new : List Block) : Type 0 where
+  pub end_is : changed.end ≡ changed.number + 1
+  pub above_is : take changed.number new ≡ take changed.number old
+  pub below_is : drop changed.end new ≡ drop changed.end old
+  pub at_is : lines_in (take changed.number old) ≡ changed.at

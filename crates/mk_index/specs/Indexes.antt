@@ -4,7 +4,7 @@ use Rattle.std.specs.Prelude.{◌≡◌, ◌<◌, ℕ, Bool, true, false, List, 
 use Rattle.mk_class.specs.Contexts.{Context, start}
 use Rattle.mk_tree.specs.LocatedLines.{LocatedLine}
 use Rattle.mk_edit_parts.specs.LocatedParts.{IsClassed}
-use Rattle.mk_index.specs.Blocks.{AreBlocks}
+use Rattle.mk_index.specs.Blocks.{AreBlocks, AreFresh}
 use Rattle.mk_index.specs.Chains as chains
 use Rattle.mk_index.specs.Chains.{AreChainsOf, IsMentioned, Mention}
 use Rattle.mk_index.specs.Keys.{IsOneOf, hashes_of}
@@ -21,11 +21,6 @@ pub record IsIndexOf (ls : List LocatedLine) (index : Stored) : Type 0 where
   pub mentions : List Mention
   pub chains_are : AreChainsOf mentions index.chains
   pub blocks_are : AreBlocks mentions 0 (Some start) ls index.blocks index.end
-
--- no block is stale
-abbrev pub AreFresh : List Block → Type 0
-AreFresh [] = Unit {0}
-AreFresh (b ∷ bs) = (b.is_stale ≡ false) × AreFresh bs
 
 -- an index of some lines in which no block is stale
 pub record IsFreshIndexOf (ls : List LocatedLine) (index : Stored) : Type 0 where

@@ -13,7 +13,7 @@ ghost use Rattle.mk_index.specs.Chains.{AreChainsOf, Mention};
 ghost use Rattle.mk_index.specs.Keys.{IsKeyOf};
 ghost use Rattle.mk_index.specs.Indexes.{AreMarked, IsFreshIndexOf, IsIndexOf, PassesByKeys};
 
-use crate::blocks::{Block, follow_all};
+use crate::blocks::{Block, Stale, follow_all};
 use crate::bucket::hash_of;
 use crate::chains::Chains;
 use crate::keys::list_keys;
@@ -38,16 +38,21 @@ const UNREAD: u32 = 0;
 pub struct Index<A: Allocator = Global> {
     chains: Chains<A>,
     blocks: Vec<Block, A>,
+    // Which blocks may be stale.
+    stale: Stale,
     // The context after the last line.
     end: Context,
 }
 
 impl<A: Allocator> Model for Index<A> {
+    ghost use Rattle.mk_index.specs.Blocks.{IsStaleOf};
     ghost use Rattle.mk_index.specs.Indexes.{Stored};
 
     ghost Value = { Stored };
 
     ghost view = { λ i. record { chains = i.chains; blocks = i.blocks.items; end = i.end } };
+
+    ghost invariant = { λ i. IsStaleOf i.stale i.blocks.items };
 }
 
 impl<A: Allocator + Copy> Index<A> {
@@ -55,21 +60,15 @@ impl<A: Allocator + Copy> Index<A> {
     pub fn new(alloc: A, doc: &Doc<A>) -> Result<Index<A>, AllocError>
         ensures { IfOk result (λ index. IsIndexOf doc.now index) }
     {
-        let stale = Block {
-            count: BLOCK_LINES as u16,
-            front: 0,
-            back: 0,
-            is_stale: true,
-            context: Context::start(),
-        };
-        let mut blocks = Vec::from_elem(alloc, stale, doc.len() / BLOCK_LINES)?;
-        blocks.push(Block {
-            count: (doc.len() % BLOCK_LINES) as u16,
-            ..stale
-        })?;
+        let full = Block::unlisted(BLOCK_LINES as u16);
+        let mut blocks = Vec::from_elem(alloc, full, doc.len() / BLOCK_LINES)?;
+        blocks.push(Block::unlisted((doc.len() % BLOCK_LINES) as u16))?;
+        let chains = Chains::new(alloc, doc.len() / 4 + 1)?;
+        let stale = Stale::all(blocks.len());
         Ok(Index {
-            chains: Chains::new(alloc, doc.len() / 4 + 1)?,
+            chains,
             blocks,
+            stale,
             end: Context::start(),
         })
     }
@@ -80,7 +79,7 @@ impl<A: Allocator + Copy> Index<A> {
         ensures { (lines : List LocatedLine) → IsIndexOf lines self.old → FitMoves patch.now lines
             → IsTrue result → IsIndexOf (after_moves patch.now lines) self.new }
     {
-        follow_all(&mut self.blocks, patch)
+        follow_all(&mut self.blocks, &mut self.stale, patch)
     }
 
     /// Makes each stale block fresh: lists the keys of its lines, and mends the contexts after it.
@@ -90,11 +89,15 @@ impl<A: Allocator + Copy> Index<A> {
         requires index { IsIndexOf doc.now self.old }
         ensures { OnOk result (IsFreshIndexOf doc.now self.new) }
     {
-        let mut at = 0;
+        let mut at = self.stale.at;
         let mut carried = None;
         // The contract of `len` bounds the number of lines.
         let _lines = doc.len();
-        'numbers: for number in 0..self.blocks.len() {
+        'numbers: for number in self.stale.first..self.blocks.len() {
+            if self.stale.end <= number && carried.is_none() {
+                self.stale = Stale::none();
+                return Ok(());
+            }
             let block = met(self.blocks[number], carried);
             let count = block.count as usize;
             if block.is_stale {
@@ -108,7 +111,7 @@ impl<A: Allocator + Copy> Index<A> {
                 let after = list_lines(&mut self.chains, doc, place, &block, named)?;
                 self.blocks[number] = Block {
                     front: block.count,
-                    back: 0,
+                    back: block.count,
                     is_stale: false,
                     ..block
                 };
@@ -121,6 +124,7 @@ impl<A: Allocator + Copy> Index<A> {
         if let Some(context) = carried {
             self.end = context;
         }
+        self.stale = Stale::none();
         Ok(())
     }
 

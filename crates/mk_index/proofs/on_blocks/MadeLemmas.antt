@@ -4,10 +4,9 @@ use Rattle.std.specs.Prelude.{replicate}
 use Rattle.std.proofs.lemmas.List.{drop_all, take-append-drop, length-take-le, length-drop}
 use Rattle.mk_class.specs.Contexts.{Context, start}
 use Rattle.mk_tree.specs.LocatedLines.{LocatedLine, with_last_bytes, context_after_located_lines}
-use Rattle.mk_index.specs.Blocks.{AreBlocks, AreLinesMentioned, IsBlock, IsExpected, expected_after}
+use Rattle.mk_index.specs.Blocks.{AreBlocks, AreLinesMentioned, IsBlock, IsExpected, expected_after, lines_in}
 use Rattle.mk_index.specs.Chains.{Mention}
 use Rattle.mk_index.specs.declared.blocks.Block.{Block}
-use Rattle.mk_index.proofs.on_blocks.SpliceLemmas.{lines_in}
 
 -- nothing is expected after a stale block
 pub after-stale : (b : Block) (ls : List LocatedLine) → b.is_stale ≡ true → None ≡ expected_after b ls

@@ -32,7 +32,7 @@ fewer-front ms n (l ∷ ls) zero (suc fewer) few h = absurd (omega (arith, few))
 fewer-front ms n (l ∷ ls) (suc front) (suc fewer) few h = (h.0, fewer-front ms n ls front fewer (omega (arith, few)) h.1)
 
 -- lines further down are mentioned if those above them are
-further : (ms : List Mention) (n : ℕ) (ls : List LocatedLine) (at more : ℕ) → at ≤ more → AreLinesMentioned ms n (drop at ls) → AreLinesMentioned ms n (drop more ls)
+pub further : (ms : List Mention) (n : ℕ) (ls : List LocatedLine) (at more : ℕ) → at ≤ more → AreLinesMentioned ms n (drop at ls) → AreLinesMentioned ms n (drop more ls)
 further ms n [] at zero few h = tt
 further ms n [] at (suc more) few h = tt
 further ms n (l ∷ ls) zero zero few h = h
@@ -40,7 +40,7 @@ further ms n (l ∷ ls) zero (suc more) few h = further ms n ls zero more (omega
 further ms n (l ∷ ls) (suc at) zero few h = absurd (omega (arith, few))
 further ms n (l ∷ ls) (suc at) (suc more) few h = further ms n ls at more (omega (arith, few)) h
 
-drop-drop : (ls : List LocatedLine) (j k : ℕ) → drop j (drop k ls) ≡ drop (k + j) ls
+pub drop-drop : {X : Type 0} (ls : List X) (j k : ℕ) → drop j (drop k ls) ≡ drop (k + j) ls
 drop-drop ls j zero = let e : j ≡ 0 + j = omega arith in ap (λ (m : ℕ). drop m ls) e
 drop-drop [] j (suc k) = drop_all j [] (omega arith)
     ∙ sym (drop_all (suc k + j) [] (omega arith))

@@ -4,7 +4,7 @@ use Rattle.std.proofs.lemmas.List.{take-append-le, drop-append-le, length-take-l
 use Rattle.std.proofs.Math.Seq.{take-append-add, drop-append-add}
 use Rattle.mk_class.specs.Contexts.{Context}
 use Rattle.mk_tree.specs.LocatedLines.{LocatedLine}
-use Rattle.mk_index.specs.Blocks.{AreBlocks, IsBlock}
+use Rattle.mk_index.specs.Blocks.{AreBlocks, IsBlock, lines_in}
 use Rattle.mk_index.specs.Chains.{Mention}
 use Rattle.mk_index.specs.declared.blocks.Block.{Block}
 use Rattle.mk_index.proofs.on_blocks.ChangedLines.{with-back, with-front, with-length, with_lines}
@@ -15,11 +15,6 @@ pub unexpected : (ms : List Mention) (n : ℕ) (o : Option Context) (ls : List L
 unexpected ms n o ls [] end h = (h.0, tt)
 unexpected ms n o ls (b ∷ bs) end h =
     record { inside = h.inside; after = h.after; lines_are = h.lines_are; count_is = h.count_is; context_is = tt; front_is = h.front_is; back_is = h.back_is; whole = h.whole; next_is = h.next_is }
-
--- how many lines some blocks have
-abbrev pub lines_in : List Block → ℕ
-lines_in [] = 0
-lines_in (b ∷ bs) = b.count + lines_in bs
 
 -- the block that has the lines, after the change
 pub spliced : (ms : List Mention) (n : ℕ) (o : Option Context) (ls ins : List LocatedLine) (bs : List Block) (end : Context) (k at rest takes puts count front back : ℕ) (b new : Block)

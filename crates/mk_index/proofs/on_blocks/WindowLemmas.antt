@@ -8,9 +8,8 @@ use Rattle.mk_edit_parts.specs.LocatedParts.{AreEachClassed}
 use Rattle.mk_edit_parts.specs.Windows.{AreWindows, IsWindow, NonePasses, below, below_all, first_place}
 use Rattle.mk_edit_parts.specs.declared.seek.Found.{Found}
 use Rattle.mk_edit_parts.specs.declared.window.Window.{Window}
-use Rattle.mk_index.specs.Blocks.{AreBlocks, AreLinesMentioned, IsBlock}
+use Rattle.mk_index.specs.Blocks.{AreBlocks, AreFresh, AreLinesMentioned, IsBlock}
 use Rattle.mk_index.specs.Chains.{Mention}
-use Rattle.mk_index.specs.Indexes.{AreFresh}
 use Rattle.mk_index.specs.declared.blocks.Block.{Block}
 use Rattle.mk_index.proofs.on_blocks.PartLemmas.{whole-mentioned}
 use Rattle.mk_index.proofs.on_blocks.RefreshLemmas.{expected-fresh}

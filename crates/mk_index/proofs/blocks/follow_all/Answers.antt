@@ -1,4 +1,4 @@
-use Rattle.std.proofs.Common.{◌≡◌, ◌+◌, sym, subst, arith, rules, List}
+use Rattle.std.proofs.Common.{◌≡◌, ◌+◌, sym, subst, arith, List}
 use Rattle.mk_patch.specs.StepMoves.{move_of}
 use Rattle.mk_tree.specs.LocatedLines.{LocatedLine}
 use Rattle.mk_index.specs.Blocks.{AreBlocks}
@@ -6,7 +6,10 @@ use Rattle.mk_index.proofs.on_blocks.FollowedLemmas.{move-here}
 use Rattle.mk_index.proofs.blocks.follow_all.Goals as goal
 
 pub steps-preserved : goal.steps-preserved
-steps-preserved g c = λ ms n o lines end h fit.
-    let before = c.steps.invariant ms n o lines end h fit in
-    let here = move-here c.args.patch.now c.steps.at (c.steps.at + 1) (move_of c.in-Some.step.now) lines (omega arith) c.in-Some.ensures before.1 in
-    (subst (λ (ls : List LocatedLine). AreBlocks ms n o ls c.follow.new.blocks end) (sym here.after) (c.if-not-follow.ensures ms n o _ end before.0 here.fits (search rules)), here.below)
+steps-preserved g c = record {
+  stale_is = c.with.ensures c.steps.blocks c.follow.new.blocks c.steps.invariant.stale_is c.in-Some-follow.ensures.changed;
+  blocks_are = λ ms n o lines end h fit.
+      let before = c.steps.invariant.blocks_are ms n o lines end h fit in
+      let here = move-here c.args.patch.now c.steps.at (c.steps.at + 1) (move_of c.in-Some.step.now) lines (omega arith) c.in-Some.ensures before.1 in
+      (subst (λ (ls : List LocatedLine). AreBlocks ms n o ls c.follow.new.blocks end) (sym here.after) (c.in-Some-follow.ensures.blocks ms n o _ end before.0 here.fits), here.below);
+}

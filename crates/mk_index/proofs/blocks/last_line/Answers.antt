@@ -1,7 +1,8 @@
 use Rattle.std.proofs.Common.{◌≡◌, ◌+◌, ◌≤◌, suc, ap, arith, rules, length, take}
 use Rattle.std.proofs.lemmas.List.{take_all}
+use Rattle.mk_index.specs.Blocks.{lines_in}
 use Rattle.mk_index.proofs.on_blocks.MadeLemmas.{lines-counted}
-use Rattle.mk_index.proofs.on_blocks.SpliceLemmas.{lines_in, lines_in-more}
+use Rattle.mk_index.proofs.on_blocks.SpliceLemmas.{lines_in-more}
 use Rattle.mk_index.proofs.blocks.last_line.Goals as goal
 
 pub each-preserved : goal.each-preserved

@@ -1,6 +1,6 @@
 -- The lines of the blocks passed are counted.
 use Rattle.std.proofs.Common.{◌≡◌, take}
-use Rattle.mk_index.proofs.on_blocks.SpliceLemmas.{lines_in}
+use Rattle.mk_index.specs.Blocks.{lines_in}
 use Rattle.mk_index.proofs.blocks.last_line.Given as goal
 
 abbrev pub invariant-each : goal.invariant-each

@@ -1,7 +1,7 @@
--- Nothing has changed so far, and the lines of the blocks passed are those above the rest.
-use Rattle.std.proofs.Common.{◌≡◌, ◌+◌, take}
-use Rattle.mk_index.proofs.on_blocks.SpliceLemmas.{lines_in}
+-- Nothing has changed so far, and the lines of the blocks passed are counted.
+use Rattle.std.proofs.Common.{◌≡◌, ◌≤◌, take}
+use Rattle.mk_index.specs.Blocks.{lines_in}
 use Rattle.mk_index.proofs.blocks.splice.Given as goal
 
 abbrev pub invariant-numbers : goal.invariant-numbers
-invariant-numbers l = record { same : l.blocks ≡ l.fn.blocks; above : lines_in (take l.number l.blocks) + l.rest ≡ l.at }
+invariant-numbers l = record { same : l.blocks ≡ l.fn.blocks; above_is : lines_in (take l.number l.blocks) ≡ l.above; within : l.above ≤ l.at }

@@ -1,4 +1,4 @@
-use Rattle.std.proofs.Common.{◌≡◌, ◌+◌, ◌*◌, ◌/◌, ◌%◌, true, ◌∙◌, refl, sym, ap, subst, arith, rules, suc, ℕ, List, [], ◌∷◌, ◌++◌, length, Some}
+use Rattle.std.proofs.Common.{◌≡◌, ◌+◌, ◌*◌, ◌/◌, ◌%◌, true, ◌∙◌, refl, sym, ap, subst, arith, ℕ, List, [], ◌∷◌, ◌++◌, length, Some}
 use Rattle.std.specs.Prelude.{replicate}
 use Rattle.mk_class.specs.Contexts.{start}
 use Rattle.mk_index.specs.Blocks.{AreBlocks}
@@ -6,14 +6,21 @@ use Rattle.mk_index.specs.declared.blocks.Block.{Block}
 use Rattle.mk_index.proofs.on_blocks.MadeLemmas.{stale-run}
 use Rattle.mk_index.proofs.index.Index.new.Goals as goal
 
+-- a block of so many lines, of which no key is listed
+abbrev unlisted : ℕ → Block
+unlisted n = record { count = n; front = 0; back = 0; is_stale = true; context = start }
+
 pub returns : goal.returns
 returns g c =
-    let full = c.in_ok-blocks.ensures.items_if_clones_equal (λ y e. e) in
-    let all = c.in_ok-push.ensures.items ∙ ap (λ (bs : List Block). bs ++ record { count = c.len-2.result % 64; front = 0; back = 0; context = c.start.result; is_stale = true } ∷ []) full in
-    let sum : c.len.result / 64 * 64 + c.len-2.result % 64 ≡ length c.args.doc.now = omega (arith, c.len.ensures.number, c.len-2.ensures.number) in
+    let k = c.len.result / 64 in
+    let last = c.len-2.result % 64 in
+    let full = c.in_ok-blocks.ensures.items_if_clones_equal (λ y e. e) ∙ ap (replicate k) c.unlisted-full.ensures in
+    let all : c.push.new.self.items ≡ replicate k (unlisted 64) ++ unlisted last ∷ [] = c.in_ok-push.ensures.items
+        ∙ (ap (λ (bs : List Block). bs ++ c.unlisted.result ∷ []) full ∙ ap (λ (b : Block). replicate k (unlisted 64) ++ b ∷ []) c.unlisted.ensures) in
+    let sum : k * 64 + last ≡ length c.args.doc.now = omega (arith, c.len.ensures.number, c.len-2.ensures.number) in
     record {
       mentions = [];
-      chains_are = c.in_ok-new.ensures;
-      blocks_are = subst (λ (bs : List Block). AreBlocks [] 0 (Some start) c.args.doc.now bs c.start-2.result) (sym all)
-          (stale-run [] 0 (Some start) c.args.doc.now (c.len.result / 64) _ _ c.start-2.result c.start.ensures c.start.ensures refl refl refl refl refl refl sum);
+      chains_are = c.in_ok-chains.ensures;
+      blocks_are = subst (λ (bs : List Block). AreBlocks [] 0 (Some start) c.args.doc.now bs c.start.result) (sym all)
+          (stale-run [] 0 (Some start) c.args.doc.now k (unlisted 64) (unlisted last) c.start.result refl refl refl refl refl refl refl refl sum);
     }
