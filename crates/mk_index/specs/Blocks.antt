@@ -1,6 +1,6 @@
 -- The blocks of an index: the lines of a document, cut into stretches.
 -- Told in docs/ARCHITECTURE.md, "The index of a session".
-use Rattle.std.specs.Prelude.{◌≡◌, ◌≤◌, ℕ, ◌+◌, ◌-◌, take, drop, Bool, true, false, if◌then◌else◌, List, [], ◌∷◌, ◌++◌, length, get_or, ◌<◌, Option, Some, None}
+use Rattle.std.specs.Prelude.{◌≡◌, ◌≤◌, ℕ, ◌+◌, ◌-◌, take, drop, Bool, false, if◌then◌else◌, List, [], ◌∷◌, ◌++◌, length, get_or, ◌<◌, Option, Some, None}
 use Rattle.mk_class.specs.Contexts.{Context}
 use Rattle.mk_tree.specs.LocatedLines.{LocatedLine, context_after_located_lines}
 use Rattle.mk_edit_parts.specs.LocatedParts.{AreEachClassed}

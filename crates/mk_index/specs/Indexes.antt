@@ -1,6 +1,6 @@
 -- What an index stores of a document.
 -- Told in docs/ARCHITECTURE.md, "The index of a session".
-use Rattle.std.specs.Prelude.{◌≡◌, ◌<◌, ℕ, Bool, true, false, List, [], ◌∷◌, length, get_or, Some}
+use Rattle.std.specs.Prelude.{◌≡◌, ◌<◌, ℕ, Bool, true, false, List, length, get_or, Some}
 use Rattle.mk_class.specs.Contexts.{Context, start}
 use Rattle.mk_tree.specs.LocatedLines.{LocatedLine}
 use Rattle.mk_edit_parts.specs.LocatedParts.{IsClassed}

@@ -149,7 +149,7 @@ fn follow<A: Allocator>(blocks: &mut [Block], step: &Step<A>) -> Option<Changed>
         (lines : List LocatedLine) (end : contexts.Context)
         → AreBlocks mentions number expected lines blocks.old end
         → FitsMove (move_of step.now) lines → IfSome result (λ changed.
-            AreBlocks mentions number expected (after_move (move_of step.now) lines) blocks.new end) }
+        AreBlocks mentions number expected (after_move (move_of step.now) lines) blocks.new end) }
 {
     match step {
         Step::PutIn(at, _) => splice(blocks, *at, 0, 1),
@@ -173,7 +173,7 @@ fn splice(blocks: &mut [Block], at: usize, takes: u16, puts: u16) -> Option<Chan
         (lines put_in : List LocatedLine) (end : contexts.Context)
         → AreBlocks mentions number expected lines blocks.old end → length put_in ≡ puts
         → IfSome result (λ changed. AreBlocks mentions number expected
-            (take at lines ++ (put_in ++ drop (at + takes) lines)) blocks.new end) }
+        (take at lines ++ (put_in ++ drop (at + takes) lines)) blocks.new end) }
 {
     let mut above = 0;
     'numbers: for number in 0..blocks.len() {

@@ -8,7 +8,7 @@ use std::marker::Model;
 use std::mem::size_of;
 
 // The most entries that a walk looks at to mark blocks.
-const MOST_STEPS: usize = 256;
+const MOST_STEPS: usize = 16_384;
 
 // The most entries that a walk looks at to find one that is there already.
 const FEW_STEPS: usize = 8;

@@ -162,7 +162,13 @@ impl<A: Allocator + Copy> Finder<A> {
 
     // The windows that the index tells for a rename. A growth that is refused while it is brought up to
     // date drops the index.
-    fn for_rename(&mut self, alloc: A, doc: &Doc<A>, old: &[u8], new: &[u8]) -> Option<Vec<Window, A>>
+    fn for_rename(
+        &mut self,
+        alloc: A,
+        doc: &Doc<A>,
+        old: &[u8],
+        new: &[u8],
+    ) -> Option<Vec<Window, A>>
         requires faithful { IsFaithful doc.now }
         requires right { IsKnownFor doc.now self.old }
         ensures windows { IfSome result (λ windows.

@@ -156,7 +156,13 @@ impl<A: Allocator + Copy> Index<A> {
 
     /// Windows of the document, outside of which no line concerns the rename of a word to another.
     /// `None` if these are unknown.
-    pub fn for_rename(&self, alloc: A, doc: &Doc<A>, old: &[u8], new: &[u8]) -> Option<Vec<Window, A>>
+    pub fn for_rename(
+        &self,
+        alloc: A,
+        doc: &Doc<A>,
+        old: &[u8],
+        new: &[u8],
+    ) -> Option<Vec<Window, A>>
         requires faithful { IsFaithful doc.now }
         requires index { IsFreshIndexOf doc.now self.now }
         ensures { IfSome result (λ windows.
@@ -276,7 +282,7 @@ fn list_lines<A: Allocator + Copy>(
     ensures { (mentions : List Mention) → AreChainsOf mentions chains.old
         → AreLinesMentioned mentions number (take block.now.front (lines_at place.at block.now.count doc.now))
         → AreLinesMentioned mentions number
-            (drop (block.now.count - block.now.back) (lines_at place.at block.now.count doc.now))
+        (drop (block.now.count - block.now.back) (lines_at place.at block.now.count doc.now))
         → IfOk result (λ after. HaveListedLines (lines_at place.at block.now.count doc.now) number mentions
         chains.new × (after
         ≡ context_after_located_lines place.context (lines_at place.at block.now.count doc.now))) }

@@ -1,5 +1,5 @@
 -- The steps of a patch, one after the other.
-use Rattle.std.proofs.Common.{◌≡◌, refl, sym, ap, ◌∙◌, subst, arith, ℕ, zero, suc, ◌+◌, ◌≤◌, List, [], ◌∷◌, length, take, drop, Some}
+use Rattle.std.proofs.Common.{◌≡◌, refl, ℕ, zero, suc, List, [], ◌∷◌, take, drop, Some}
 use Rattle.std.specs.Prelude.{slice_get}
 use Rattle.mk_tree.specs.LocatedLines.{LocatedLine}
 use Rattle.mk_patch.specs.Moves.{FitMoves, FitsMove, Move, after_move, after_moves}

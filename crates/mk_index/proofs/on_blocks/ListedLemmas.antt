@@ -3,7 +3,7 @@ use Rattle.std.proofs.Common.{◌≡◌, refl, sym, ap, ◌∙◌, subst, arith,
 use Rattle.std.specs.Prelude.{◌⊎◌}
 use Rattle.std.proofs.lemmas.List.{take_at}
 use Rattle.std.proofs.Math.Seq.{take-append-add}
-use Rattle.mk_class.specs.Contexts.{Context, start, Admits, context_after_located}
+use Rattle.mk_class.specs.Contexts.{Context, start, context_after_located}
 use Rattle.mk_tree.specs.Admissions.{AreAdmitted}
 use Rattle.mk_tree.specs.Documents.{IsFaithful}
 use Rattle.mk_tree.specs.LocatedLines.{LocatedLine, context_after_located_lines}
@@ -96,12 +96,12 @@ listing-next before c d b front from total first ls count context next l ahead w
   admitted = subst (λ (k : Context). AreAdmitted k ahead) (sym e) w.admitted.1;
   classed = w.classed.1;
   listed = λ ms h f k. elim more [
-      | inl new ↦ listed-more ms b w.done l c d (w.listed ms h f k) new
-      | inr kept ↦ subst (λ (x : Stored). HaveListedLines (w.done ++ l ∷ []) b ms x) (sym kept.0) (listed-kept ms b w.done l c (w.listed ms h f k) (elim kept.1 [
-          | inl above ↦ front-here ms b (take total ls) w.done l (take (total - count - 1) ahead) front part (omega (arith, above, w.count_is)) f
-          | inr below ↦ back-here ms b (take total ls) w.done l (take (total - count - 1) ahead) from part (omega (arith, below, w.count_is)) k
-        ]))
-    ];
+    | inl new ↦ listed-more ms b w.done l c d (w.listed ms h f k) new
+    | inr kept ↦ subst (λ (x : Stored). HaveListedLines (w.done ++ l ∷ []) b ms x) (sym kept.0) (listed-kept ms b w.done l c (w.listed ms h f k) (elim kept.1 [
+      | inl above ↦ front-here ms b (take total ls) w.done l (take (total - count - 1) ahead) front part (omega (arith, above, w.count_is)) f
+      | inr below ↦ back-here ms b (take total ls) w.done l (take (total - count - 1) ahead) from part (omega (arith, below, w.count_is)) k
+    ]))
+  ];
 }
   where
     part : take total ls ≡ w.done ++ l ∷ take (total - count - 1) ahead

@@ -1,10 +1,10 @@
 -- Blocks that are all stale, and how many lines blocks have.
-use Rattle.std.proofs.Common.{◌≡◌, refl, sym, ap, ◌∙◌, subst, arith, ℕ, zero, suc, ◌+◌, ◌*◌, ◌-◌, ◌≤◌, List, [], ◌∷◌, ◌++◌, Bool, true, false, length, length-append, take, drop, Option, Some, None, if◌then◌else◌}
+use Rattle.std.proofs.Common.{◌≡◌, refl, sym, ap, ◌∙◌, subst, arith, ℕ, zero, suc, ◌+◌, ◌*◌, ◌-◌, ◌≤◌, List, [], ◌∷◌, ◌++◌, Bool, true, length, length-append, take, drop, Option, Some, None, if◌then◌else◌}
 use Rattle.std.specs.Prelude.{replicate}
 use Rattle.std.proofs.lemmas.List.{drop_all, take-append-drop, length-take-le, length-drop}
-use Rattle.mk_class.specs.Contexts.{Context, start}
+use Rattle.mk_class.specs.Contexts.{Context}
 use Rattle.mk_tree.specs.LocatedLines.{LocatedLine, with_last_bytes, context_after_located_lines}
-use Rattle.mk_index.specs.Blocks.{AreBlocks, AreLinesMentioned, IsBlock, IsExpected, expected_after, lines_in}
+use Rattle.mk_index.specs.Blocks.{AreBlocks, AreLinesMentioned, IsExpected, expected_after, lines_in}
 use Rattle.mk_index.specs.Chains.{Mention}
 use Rattle.mk_index.specs.declared.blocks.Block.{Block}
 

@@ -1,7 +1,7 @@
 -- Blocks that are marked by hashes.
-use Rattle.std.proofs.Common.{◌≡◌, refl, sym, ap, ◌∙◌, subst, arith, ℕ, zero, suc, ◌+◌, ◌≤◌, ◌<◌, List, [], ◌∷◌, ◌++◌, Bool, true, false, length, take, get_or, inl, inr}
+use Rattle.std.proofs.Common.{◌≡◌, sym, ap, ◌∙◌, subst, arith, ℕ, suc, ◌+◌, ◌≤◌, ◌<◌, List, [], ◌∷◌, ◌++◌, Bool, true, false, length, take, get_or, inl, inr}
 use Rattle.std.specs.Prelude.{◌⊎◌}
-use Rattle.std.proofs.lemmas.List.{take_more, take_all}
+use Rattle.std.proofs.lemmas.List.{take_more}
 use Rattle.mk_tree.specs.LocatedLines.{LocatedLine}
 use Rattle.mk_edit_parts.specs.LocatedParts.{AreEachClassed}
 use Rattle.mk_edit_parts.specs.Windows.{NonePasses}
@@ -12,11 +12,11 @@ use Rattle.mk_index.specs.Keys.{IsOneOf, hashes_of}
 use Rattle.mk_index.proofs.on_chains.KeyLemmas.{mentioned-one}
 
 one-of-joined : (h : ℕ) (hs : List ℕ) (k : ℕ) → IsOneOf h (hs ++ k ∷ []) → IsOneOf h hs ⊎ (k ≡ h)
-one-of-joined h [] k is = elim is [ | inl e ↦ inr e | inr none ↦ absurd none ]
+one-of-joined h [] k is = elim is [ inl e ↦ inr e | inr none ↦ absurd none ]
 one-of-joined h (x ∷ hs) k is = elim is [
-    | inl e ↦ inl (inl e)
-    | inr below ↦ elim (one-of-joined h hs k below) [ | inl more ↦ inl (inr more) | inr e ↦ inr e ]
-  ]
+  | inl e ↦ inl (inl e)
+  | inr below ↦ elim (one-of-joined h hs k below) [ inl more ↦ inl (inr more) | inr e ↦ inr e ]
+]
 
 -- one hash more
 pub marked-more : (c : Stored) (hs : List ℕ) (i n k : ℕ) (marks new : List Bool) → n ≡ i + 1 → suc i ≤ length hs → k ≡ get_or hs i k → length new ≡ length marks → AreMarked c (take i hs) marks

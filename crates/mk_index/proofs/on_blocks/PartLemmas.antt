@@ -1,6 +1,6 @@
 -- Lines of which the first and the last are mentioned.
 use Rattle.std.proofs.Common.{◌≡◌, refl, sym, ap, ◌∙◌, subst, arith, ℕ, zero, suc, ◌+◌, ◌-◌, ◌≤◌, ◌<◌, List, [], ◌∷◌, ◌++◌, length, length-append, take, drop}
-use Rattle.std.proofs.lemmas.List.{drop_all, take_all, take-append-le, length-take-le, length-drop}
+use Rattle.std.proofs.lemmas.List.{drop_all, take-append-le, length-take-le, length-drop}
 use Rattle.std.proofs.Math.Seq.{drop-append-add}
 use Rattle.mk_tree.specs.LocatedLines.{LocatedLine}
 use Rattle.mk_index.specs.Blocks.{AreLinesMentioned}

@@ -1,5 +1,5 @@
 -- The walk that makes stale blocks fresh.
-use Rattle.std.proofs.Common.{◌≡◌, refl, sym, ap, ◌∙◌, subst, arith, ℕ, zero, suc, ◌+◌, ◌-◌, ◌≤◌, ◌<◌, List, [], ◌∷◌, ◌++◌, Bool, true, false, length, length-append, append_assoc, append-nil, take, drop, get_or, set, Option, Some, None, if◌then◌else◌}
+use Rattle.std.proofs.Common.{◌≡◌, refl, sym, ap, ◌∙◌, subst, arith, ℕ, zero, suc, ◌+◌, ◌-◌, ◌≤◌, List, [], ◌∷◌, ◌++◌, Bool, false, length, length-append, append_assoc, append-nil, take, drop, get_or, set, Option, Some, None, if◌then◌else◌}
 use Rattle.std.proofs.lemmas.List.{length-take-le, take_at, take_all, take_more, take_more_set, drop_all, drop-set-lt, take-append-drop, take-set-le}
 use Rattle.std.proofs.Math.Seq.{drop-cons}
 use Rattle.mk_class.specs.Contexts.{Context, start}
@@ -216,8 +216,8 @@ block-listed doc c d blocks end carried number at front back b new after w few i
     let lines : take new.count (drop at doc) ≡ k.inside = ap (λ (n : ℕ). take n (drop at doc)) count ∙ h.lines_are in
     let from : length k.inside - b.back ≡ new.count - back = omega (arith, count, k.count_is, back_is) in
     let m = made w.mentions w.chains_are
-        (rw (lines, front_is) k.front_is)
-        (rw lines (subst (λ (n : ℕ). AreLinesMentioned w.mentions number (drop n k.inside)) from k.back_is)) in
+    (rw (lines, front_is) k.front_is)
+    (rw lines (subst (λ (n : ℕ). AreLinesMentioned w.mentions number (drop n k.inside)) from k.back_is)) in
     let taken : take (number + 1) (set blocks number new) ≡ take number blocks ++ new ∷ [] = take_more_set blocks number new few in
     let all = m.0.added ++ w.mentions in
     record {

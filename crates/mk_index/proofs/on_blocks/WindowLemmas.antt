@@ -1,11 +1,11 @@
 -- The walk that makes windows of the blocks that are marked.
-use Rattle.std.proofs.Common.{◌≡◌, refl, sym, ap, ◌∙◌, subst, arith, ℕ, zero, suc, ◌+◌, ◌≤◌, ◌<◌, List, [], ◌∷◌, ◌++◌, Bool, true, false, length, length-append, append_assoc, append-nil, take, drop, get_or, Option, Some, None}
+use Rattle.std.proofs.Common.{◌≡◌, refl, sym, ap, ◌∙◌, subst, arith, ℕ, suc, ◌+◌, ◌≤◌, List, [], ◌∷◌, ◌++◌, Bool, false, length, length-append, append_assoc, drop, get_or, Option, Some}
 use Rattle.std.proofs.lemmas.List.{drop_all}
 use Rattle.std.proofs.Math.Seq.{drop-cons}
 use Rattle.mk_class.specs.Contexts.{Context, start, context_after_located}
 use Rattle.mk_tree.specs.LocatedLines.{LocatedLine, context_after_located_lines}
 use Rattle.mk_edit_parts.specs.LocatedParts.{AreEachClassed}
-use Rattle.mk_edit_parts.specs.Windows.{AreWindows, IsWindow, NonePasses, below, below_all, first_place}
+use Rattle.mk_edit_parts.specs.Windows.{AreWindows, NonePasses, below, below_all, first_place}
 use Rattle.mk_edit_parts.specs.declared.seek.Found.{Found}
 use Rattle.mk_edit_parts.specs.declared.window.Window.{Window}
 use Rattle.mk_index.specs.Blocks.{AreBlocks, AreFresh, AreLinesMentioned, IsBlock}

@@ -1,16 +1,15 @@
 -- A line in the place of another, which assigns the same variable.
-use Rattle.std.proofs.Common.{◌≡◌, refl, sym, ap, ◌∙◌, subst, arith, ℕ, zero, suc, ◌+◌, ◌-◌, ◌≤◌, ◌||◌, List, [], ◌∷◌, ◌++◌, Bool, true, false, length, take, drop, map, Option, Some, None, if◌then◌else◌, inl, inr}
+use Rattle.std.proofs.Common.{◌≡◌, sym, ap, ◌∙◌, subst, arith, ℕ, zero, suc, ◌+◌, ◌-◌, ◌≤◌, ◌||◌, List, [], ◌∷◌, ◌++◌, Bool, length, take, drop, map, Option, Some, None, if◌then◌else◌, inl, inr}
 use Rattle.std.specs.Prelude.{IfSome, slice_get, ◌⊎◌}
 use Rattle.std.specs.List.{list_any}
 use Rattle.mk_class.specs.Contexts.{Context, context_after_located, start}
 use Rattle.mk_class.specs.RecipePrefix.{is_prefix_name}
-use Rattle.mk_class.specs.declared.class.Class as class
 use Rattle.mk_tree.specs.LocatedLines.{LocatedLine, context_after_located_lines, text_of_line}
 use Rattle.mk_tree.specs.UnreadPrefixes.{IsEndOf}
 use Rattle.mk_tree.specs.declared.end.End.{End}
 use Rattle.mk_edit_parts.specs.LocatedParts.{AreEachClassed, IsClassed, is_unread_in, is_unread_located}
 use Rattle.mk_patch.specs.Moves.{Move, Exchange, after_moves}
-use Rattle.mk_index.specs.Blocks.{AreBlocks, AreLinesMentioned, IsBlock, expected_after}
+use Rattle.mk_index.specs.Blocks.{AreBlocks, AreLinesMentioned, expected_after}
 use Rattle.mk_index.specs.Chains.{AreMentioned, Mention, hash_of}
 use Rattle.mk_index.specs.Effects.{AssignSame, IsKnownFor, Known}
 use Rattle.mk_index.specs.Indexes as indexes
@@ -86,9 +85,9 @@ inside-or-below : (at : ℕ) (k : LocatedLine) (xs ys : List LocatedLine) → So
 inside-or-below at k [] ys there = inr (at, omega arith, there)
 inside-or-below zero k (x ∷ xs) ys there = inl (there, omega arith)
 inside-or-below (suc at) k (x ∷ xs) ys there = elim (inside-or-below at k xs ys there) [
-    | inl h ↦ inl (h.0, let n = h.1 in omega (arith, n))
-    | inr h ↦ inr (h.0, let n = h.1 in omega (arith, n), h.2)
-  ]
+  | inl h ↦ inl (h.0, let n = h.1 in omega (arith, n))
+  | inr h ↦ inr (h.0, let n = h.1 in omega (arith, n), h.2)
+]
 
 expected-same : (b : Block) (xs ys : List LocatedLine) → context_after_located_lines b.context xs ≡ context_after_located_lines b.context ys → expected_after b xs ≡ expected_after b ys
 expected-same b xs ys h = ap (λ (c : Context). if b.is_stale then None else Some c) h
@@ -98,29 +97,29 @@ blocks-same ms n o ls [] end at k l there same h = absurd (let none = there ∙ 
 blocks-same ms n o ls (b ∷ bs) end at k l there same h =
     elim (inside-or-below at k h.inside h.after (there ∙ ap (λ (xs : List LocatedLine). slice_get xs at) h.lines_are)) [
       | inl i ↦ record {
-          inside = with_line at l h.inside;
-          after = h.after;
-          lines_are = ap (with_line at l) h.lines_are ∙ with-front at 1 (l ∷ []) h.inside h.after i.1;
-          count_is = let c = h.count_is in let m = with-length at 1 (l ∷ []) h.inside i.1 in let f = i.1 in omega (arith, c, m, f);
-          context_is = h.context_is;
-          front_is = same-front ms n h.inside at b.front k l i.0 same h.front_is;
-          back_is =
-              let long : length h.inside - b.back ≡ length (with_line at l h.inside) - b.back = let m = with-length at 1 (l ∷ []) h.inside i.1 in let f = i.1 in omega (arith, m, f) in
-              subst (λ (m : ℕ). AreLinesMentioned ms n (drop m (with_line at l h.inside))) long (same-back ms n h.inside at (length h.inside - b.back) k l i.0 same h.back_is);
-          whole = h.whole;
-          next_is = subst (λ (p : Option Context). AreBlocks ms (n + 1) p h.after bs end) (sym (expected-same b (with_line at l h.inside) h.inside (context-same b.context h.inside at k l i.0 same))) h.next_is;
-        }
+        inside = with_line at l h.inside;
+        after = h.after;
+        lines_are = ap (with_line at l) h.lines_are ∙ with-front at 1 (l ∷ []) h.inside h.after i.1;
+        count_is = let c = h.count_is in let m = with-length at 1 (l ∷ []) h.inside i.1 in let f = i.1 in omega (arith, c, m, f);
+        context_is = h.context_is;
+        front_is = same-front ms n h.inside at b.front k l i.0 same h.front_is;
+        back_is =
+            let long : length h.inside - b.back ≡ length (with_line at l h.inside) - b.back = let m = with-length at 1 (l ∷ []) h.inside i.1 in let f = i.1 in omega (arith, m, f) in
+            subst (λ (m : ℕ). AreLinesMentioned ms n (drop m (with_line at l h.inside))) long (same-back ms n h.inside at (length h.inside - b.back) k l i.0 same h.back_is);
+        whole = h.whole;
+        next_is = subst (λ (p : Option Context). AreBlocks ms (n + 1) p h.after bs end) (sym (expected-same b (with_line at l h.inside) h.inside (context-same b.context h.inside at k l i.0 same))) h.next_is;
+      }
       | inr i ↦ record {
-          inside = h.inside;
-          after = with_line i.0 l h.after;
-          lines_are = ap (λ (m : ℕ). with_line m l ls) i.1 ∙ (ap (with_line (length h.inside + i.0) l) h.lines_are ∙ with-back i.0 1 (l ∷ []) h.inside h.after);
-          count_is = h.count_is;
-          context_is = h.context_is;
-          front_is = h.front_is;
-          back_is = h.back_is;
-          whole = h.whole;
-          next_is = blocks-same ms (n + 1) _ h.after bs end i.0 k l i.2 same h.next_is;
-        }
+        inside = h.inside;
+        after = with_line i.0 l h.after;
+        lines_are = ap (λ (m : ℕ). with_line m l ls) i.1 ∙ (ap (with_line (length h.inside + i.0) l) h.lines_are ∙ with-back i.0 1 (l ∷ []) h.inside h.after);
+        count_is = h.count_is;
+        context_is = h.context_is;
+        front_is = h.front_is;
+        back_is = h.back_is;
+        whole = h.whole;
+        next_is = blocks-same ms (n + 1) _ h.after bs end i.0 k l i.2 same h.next_is;
+      }
     ]
 
 index-same : (ls : List LocatedLine) (at : ℕ) (k l : LocatedLine) (o : Option indexes.Stored) → Some k ≡ slice_get ls at → SameRole k l → IfSome o (IsIndexOf ls) → IfSome o (IsIndexOf (with_line at l ls))

@@ -1,4 +1,4 @@
-use Rattle.std.proofs.Common.{◌≡◌, ◌+◌, sym, subst, arith, List}
+use Rattle.std.proofs.Common.{◌+◌, sym, subst, arith, List}
 use Rattle.mk_patch.specs.StepMoves.{move_of}
 use Rattle.mk_tree.specs.LocatedLines.{LocatedLine}
 use Rattle.mk_index.specs.Blocks.{AreBlocks}

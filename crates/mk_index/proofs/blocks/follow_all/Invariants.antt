@@ -11,6 +11,6 @@ abbrev pub invariant-steps : goal.invariant-steps
 invariant-steps g l = record {
   stale_is : IsStaleOf l.stale l.blocks;
   blocks_are : (ms : List Mention) (n : ℕ) (o : Option contexts.Context) (lines : List LocatedLine) (end : contexts.Context)
-    → AreBlocks ms n o lines l.fn.blocks end → FitMoves l.patch lines
-    → AreBlocks ms n o (after_moves (take l.at l.patch) lines) l.blocks end × FitMoves (drop l.at l.patch) (after_moves (take l.at l.patch) lines)
+      → AreBlocks ms n o lines l.fn.blocks end → FitMoves l.patch lines
+      → AreBlocks ms n o (after_moves (take l.at l.patch) lines) l.blocks end × FitMoves (drop l.at l.patch) (after_moves (take l.at l.patch) lines);
 }

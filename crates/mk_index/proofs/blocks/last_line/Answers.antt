@@ -1,4 +1,4 @@
-use Rattle.std.proofs.Common.{◌≡◌, ◌+◌, ◌≤◌, suc, ap, arith, rules, length, take}
+use Rattle.std.proofs.Common.{◌≡◌, ◌+◌, ◌≤◌, suc, ap, arith, rules, length}
 use Rattle.std.proofs.lemmas.List.{take_all}
 use Rattle.mk_index.specs.Blocks.{lines_in}
 use Rattle.mk_index.proofs.on_blocks.MadeLemmas.{lines-counted}

@@ -1,6 +1,6 @@
-use Rattle.std.proofs.Common.{◌≡◌, ◌+◌, ◌-◌, ◌<◌, ◌≤◌, refl, suc, sym, ap, subst, arith, rules, List, length, take, get_or, set}
+use Rattle.std.proofs.Common.{◌+◌, ◌-◌, ◌≤◌, refl, suc, sym, subst, arith, rules, List, length}
 use Rattle.std.proofs.lemmas.List.{drop-set-lt, take-set}
-use Rattle.mk_index.specs.Blocks.{AreBlocks, lines_in}
+use Rattle.mk_index.specs.Blocks.{AreBlocks}
 use Rattle.mk_index.specs.declared.blocks.Block.{Block}
 use Rattle.mk_index.proofs.on_blocks.SpliceLemmas.{lines_in-more, spliced}
 use Rattle.mk_index.proofs.blocks.splice.Goals as goal

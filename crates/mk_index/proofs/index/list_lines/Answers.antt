@@ -1,9 +1,9 @@
-use Rattle.std.proofs.Common.{◌≡◌, ◌<◌, ◌≤◌, ◌∙◌, refl, inl, inr, ap, subst, List, drop}
+use Rattle.std.proofs.Common.{◌<◌, ◌≤◌, ◌∙◌, refl, inl, inr, ap, subst, List, drop}
 use Rattle.std.specs.Prelude.{◌⊎◌}
-use Rattle.mk_class.specs.Contexts.{Context, context_after_located}
+use Rattle.mk_class.specs.Contexts.{context_after_located}
 use Rattle.mk_class.specs.declared.class.Class.{Class}
 use Rattle.mk_tree.specs.LocatedLines.{LocatedLine}
-use Rattle.mk_index.proofs.on_blocks.ListedLemmas.{Listing, listing-from, listing-next, listing-over}
+use Rattle.mk_index.proofs.on_blocks.ListedLemmas.{Listing, listing-from, listing-next}
 use Rattle.mk_index.proofs.index.list_lines.Goals as goal
 use Rattle.mk_index.proofs.index.list_lines.Goals.{then-block-passed+then-passed-listed_from+in_ok-list_keys, else-block-passed, else-block-passed-via-then-block-passed+else-passed-listed_from, else-block-passed-via-else-block-passed}
 
@@ -24,10 +24,10 @@ lines-preserved g c =
           (tt, tt, listing-next c.args.chains.now c.lines.chains w.list_keys.new.chains c.args.number c.args.block.now.front from c.args.block.now.count c.args.place.context ls c.lines.passed c.lines.context c.step-context.result _ c.next.new.self here c.lines-test.true next (inl w.in_ok-list_keys.ensures))
       | else-block-passed w ↦
           let listed : (c.lines.passed < c.args.block.now.front) ⊎ (from ≤ c.lines.passed) =
-              elim w.else-block-passed.branch [
-                | else-block-passed-via-then-block-passed+else-passed-listed_from k ↦ inr k.if-passed-listed_from.false
-                | else-block-passed-via-else-block-passed k ↦ inl k.if-block-passed.false
-              ] in
+          elim w.else-block-passed.branch [
+            | else-block-passed-via-then-block-passed+else-passed-listed_from k ↦ inr k.if-passed-listed_from.false
+            | else-block-passed-via-else-block-passed k ↦ inl k.if-block-passed.false
+          ] in
           rw w.chains-is
           (tt, tt, listing-next c.args.chains.now c.lines.chains c.lines.chains c.args.number c.args.block.now.front from c.args.block.now.count c.args.place.context ls c.lines.passed c.lines.context c.step-context.result _ c.next.new.self here c.lines-test.true next (inr (refl, listed)))
     ]

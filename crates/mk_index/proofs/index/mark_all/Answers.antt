@@ -1,4 +1,4 @@
-use Rattle.std.proofs.Common.{◌≡◌, ◌+◌, ◌≤◌, ◌∙◌, refl, sym, ap, subst, arith, rules, suc, length, take, get_or, ℕ, List}
+use Rattle.std.proofs.Common.{◌≡◌, ◌+◌, ◌≤◌, ◌∙◌, refl, subst, rules, suc, length, get_or, ℕ, List}
 use Rattle.std.proofs.lemmas.List.{get_or_default, take_all}
 use Rattle.mk_index.specs.Indexes.{AreMarked}
 use Rattle.mk_index.proofs.on_blocks.MarkLemmas.{marked-more}

@@ -1,4 +1,4 @@
-use Rattle.std.proofs.Common.{◌≡◌, ◌≤◌, ◌<◌, inl, inr, arith, ℕ, List}
+use Rattle.std.proofs.Common.{◌≤◌, ◌<◌, inl, inr, arith}
 use Rattle.std.specs.Prelude.{◌⊎◌}
 use Rattle.mk_index.proofs.on_blocks.StaleLemmas.{stale-from-changed, stale-from-first}
 use Rattle.mk_index.proofs.blocks.Stale.with.Goals as goal

@@ -1,4 +1,4 @@
-use Rattle.std.proofs.Common.{◌≡◌, ap, subst, sym}
+use Rattle.std.proofs.Common.{subst, sym}
 use Rattle.std.specs.Prelude.{IfSome}
 use Rattle.mk_tree.specs.UnreadPrefixes.{IsEndOf}
 use Rattle.mk_tree.specs.declared.end.End.{End}

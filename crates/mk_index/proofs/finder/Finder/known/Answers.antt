@@ -1,4 +1,4 @@
-use Rattle.std.proofs.Common.{◌≡◌, ◌∙◌, refl, sym, subst, true, false, Option, Some, None}
+use Rattle.std.proofs.Common.{◌≡◌, ◌∙◌, refl, sym, subst, false, Option, Some, None}
 use Rattle.std.specs.Prelude.{is_some}
 use Rattle.mk_edit_language.specs.Addresses as addresses
 use Rattle.mk_edit_language.specs.EditViews.{edit_of}

@@ -1,13 +1,9 @@
-use Rattle.std.proofs.Common.{◌≡◌, ◌+◌, ◌<◌, ◌≤◌, ◌∙◌, refl, sym, ap, subst, arith, rules, suc, length, get_or, ℕ, List, ◌++◌, ◌∷◌, [], Bool, true, false, Some}
-use Rattle.mk_class.specs.Contexts.{Context, start}
-use Rattle.mk_tree.specs.LocatedLines.{LocatedLine}
+use Rattle.std.proofs.Common.{◌≡◌, ◌<◌, ◌≤◌, ◌∙◌, sym, ap, subst, arith, rules, suc, length, get_or, ◌++◌, ◌∷◌, [], false}
+use Rattle.mk_class.specs.Contexts.{Context}
 use Rattle.mk_edit_parts.proofs.on_finding.SeekLemmas.{faithful-each}
 use Rattle.mk_edit_parts.specs.Windows.{AreWindows, first_place}
-use Rattle.mk_edit_parts.specs.declared.window.Window.{Window}
-use Rattle.mk_index.specs.Blocks.{AreBlocks, PassesInMarked}
 use Rattle.mk_index.specs.Indexes.{Stored}
-use Rattle.mk_index.specs.declared.blocks.Block.{Block}
-use Rattle.mk_index.proofs.on_blocks.WindowLemmas.{Collected, collected-from, collected-more, collected-over, collected-past, fresh-here, none-of-none}
+use Rattle.mk_index.proofs.on_blocks.WindowLemmas.{collected-from, collected-more, collected-over, collected-past, fresh-here, none-of-none}
 use Rattle.mk_index.proofs.index.Index.marked_windows.Goals as goal
 use Rattle.mk_index.proofs.index.Index.marked_windows.Goals.{then-marks-number+in_ok-push, else-marks-number}
 

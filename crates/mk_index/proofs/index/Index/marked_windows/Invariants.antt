@@ -1,5 +1,5 @@
 -- The windows so far are those of the blocks passed.
-use Rattle.std.proofs.Common.{ℕ, ◌≡◌, List, Bool, Some}
+use Rattle.std.proofs.Common.{List, Bool, Some}
 use Rattle.mk_class.specs.Contexts.{start}
 use Rattle.mk_tree.specs.LocatedLines.{LocatedLine}
 use Rattle.mk_index.specs.Blocks.{AreBlocks, PassesInMarked}

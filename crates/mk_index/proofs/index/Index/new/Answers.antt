@@ -16,7 +16,7 @@ returns g c =
     let last = c.len-2.result % 64 in
     let full = c.in_ok-blocks.ensures.items_if_clones_equal (λ y e. e) ∙ ap (replicate k) c.unlisted-full.ensures in
     let all : c.push.new.self.items ≡ replicate k (unlisted 64) ++ unlisted last ∷ [] = c.in_ok-push.ensures.items
-        ∙ (ap (λ (bs : List Block). bs ++ c.unlisted.result ∷ []) full ∙ ap (λ (b : Block). replicate k (unlisted 64) ++ b ∷ []) c.unlisted.ensures) in
+    ∙ (ap (λ (bs : List Block). bs ++ c.unlisted.result ∷ []) full ∙ ap (λ (b : Block). replicate k (unlisted 64) ++ b ∷ []) c.unlisted.ensures) in
     let sum : k * 64 + last ≡ length c.args.doc.now = omega (arith, c.len.ensures.number, c.len-2.ensures.number) in
     record {
       mentions = [];

@@ -8,5 +8,5 @@ abbrev pub invariant-numbers : goal.invariant-numbers
 invariant-numbers g l = record {
   walk : Refreshing l.doc l.self-inside.chains l.self-inside.blocks.items l.self-inside.end l.carried l.number l.at;
   stale : IsStaleOf l.self-inside.stale l.self-inside.blocks.items;
-  from : l.self-inside.stale.first ≤ l.number
+  from : l.self-inside.stale.first ≤ l.number;
 }

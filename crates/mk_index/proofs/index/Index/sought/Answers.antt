@@ -1,4 +1,4 @@
-use Rattle.std.proofs.Common.{◌∙◌, sym, subst, inl, inr, refl, List}
+use Rattle.std.proofs.Common.{sym, subst, inl, inr, refl, List}
 use Rattle.mk_edit_parts.specs.AddressViews.{address_seen}
 use Rattle.mk_edit_parts.specs.Windows.{AreWindows, concerns, first_place}
 use Rattle.mk_edit_parts.specs.declared.window.Window.{Window}

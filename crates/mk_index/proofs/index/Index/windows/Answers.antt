@@ -1,9 +1,8 @@
-use Rattle.std.proofs.Common.{◌≡◌, ◌∙◌, sym, ap, subst, arith, rules, length, take, List, Bool, true, Result, Ok, Err}
+use Rattle.std.proofs.Common.{◌≡◌, ◌∙◌, sym, subst, rules, length, List, Bool, Result, Ok, Err}
 use Rattle.std.specs.Prelude.{IfOk, IfSome}
 use Rattle.std.specs.Result.{result_ok}
 use Rattle.std.proofs.lemmas.List.{take_at}
 use Rattle.mk_index.specs.Blocks.{PassesInMarked}
-use Rattle.mk_index.specs.Chains as chains
 use Rattle.mk_index.specs.Indexes.{AreMarked, Stored}
 use Rattle.mk_index.proofs.on_blocks.MarkLemmas.{marked-passes}
 use Rattle.mk_index.proofs.index.Index.windows.Goals as goal
