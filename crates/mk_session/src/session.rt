@@ -6,6 +6,7 @@ ghost use Rattle.mk_tree.specs.Documents.{IsFaithful, IsFaithfulTo, IsTooDeep};
 ghost use Rattle.mk_tree.specs.LocatedLines.{located_text};
 ghost use Rattle.mk_edit_language.specs.Costs.{cost};
 ghost use Rattle.mk_edit_language.specs.EditViews.{edit_of};
+ghost use Rattle.mk_edit.specs.Planned.{Plans};
 ghost use Rattle.mk_history.specs.Machine.{Apply, Undo, Redo, Begin, End, Cancel};
 ghost use Rattle.mk_history.specs.Machine as machine;
 ghost use Rattle.mk_session.specs.Sessions.{IsBadDepth, IsBeginRefusal, IsEditRefusal, IsOpeningFault, IsRefusedBy, answer, seen_opened};
@@ -17,6 +18,7 @@ use mk_history::{Change, History, Sequence};
 use mk_index::{Finder, IndexedDoc, IndexedPatch};
 use mk_lines::Fault;
 use mk_lines::source::MAX_TEXT;
+use mk_patch::Patch;
 use mk_tree::Doc;
 use std::alloc::{Allocator, Global};
 use std::marker::Model;
@@ -133,8 +135,9 @@ impl<A: Allocator + Copy> Session<A> {
     }
 
     /// Tells the session that many edits are to come. Nothing that is shown changes. In a document
-    /// of 1,024 lines or more the next edit of a variable then makes an index of all variables, which
-    /// otherwise the second one would make. The call reads no line and takes no memory.
+    /// of 1,024 lines or more the next edit of a variable, a rule or a rename then makes an index of
+    /// all variables and rules, which otherwise the second one would make. The call reads no line and
+    /// takes no memory.
     pub fn expect_edits(&mut self)
         ensures same { self.new.shown ≡ self.old.shown }
         ensures none_read { self.new.rereads ≡ self.old.rereads }
@@ -162,8 +165,7 @@ impl<A: Allocator + Copy> Session<A> {
             ≤ self.old.rereads + cost self.old.shown.text (edit_of edit.now) }
         ensures forward { self.old.rereads ≤ self.new.rereads }
     {
-        let known = self.doc.known(self.alloc, edit);
-        let patch = match plan_with(self.alloc, self.doc.doc(), edit, &known, &mut self.meter) {
+        let patch = match planned(self.alloc, &mut self.doc, edit, &mut self.meter) {
             Ok(patch) => patch,
             Err(refusal) => return Err(refusal),
         };
@@ -327,4 +329,19 @@ impl<A: Allocator> Session<A> {
     {
         self.meter.count() - self.opened_at
     }
+}
+
+// Plans an edit of a document with what is known of it.
+fn planned<A: Allocator + Copy>(
+    alloc: A,
+    doc: &mut IndexedDoc<A>,
+    edit: &Edit<A>,
+    meter: &mut Meter,
+) -> Result<Patch<A>, Refusal>
+    requires faithful { IsFaithful doc.old }
+    ensures plans { Plans (edit_of edit.now) doc.old meter.old meter.new result }
+    ensures same { doc.new ≡ doc.old }
+{
+    let known = doc.known(alloc, edit);
+    plan_with(alloc, doc.doc(), edit, &known, meter)
 }
