@@ -50,10 +50,6 @@ abbrev pub AreBlocks : List Mention → (number : ℕ) → (expected : Option Co
 AreBlocks ms n o ls [] end = (ls ≡ []) × IsExpected o end
 AreBlocks ms n o ls (b ∷ bs) end = IsBlock ms n o ls b (λ p after. AreBlocks ms (n + 1) p after bs end)
 
--- so many lines of a document, the first of which stands at this index
-abbrev pub lines_at : (at count : ℕ) → List LocatedLine → List LocatedLine
-lines_at at n ls = take n (drop at ls)
-
 -- The context before a block is this one: it is carried there from the block above; or none is
 -- carried, since it is the one that is expected.
 abbrev pub IsCarried : (carried expected : Option Context) → (context : Context) → Type 0

@@ -4,11 +4,12 @@ ghost use Rattle.mk_class.specs.Contexts as contexts;
 ghost use Rattle.mk_class.specs.Contexts.{start};
 ghost use Rattle.mk_tree.specs.Documents.{IsFaithful};
 ghost use Rattle.mk_tree.specs.LocatedLines.{LocatedLine, context_after_located_lines};
+ghost use Rattle.mk_tree.specs.Origins.{lines_between};
 ghost use Rattle.mk_edit_parts.specs.AddressViews.{address_seen};
 ghost use Rattle.mk_edit_parts.specs.Seeking.{IsKnownOf};
 ghost use Rattle.mk_edit_parts.specs.Windows.{AreWindows, concerns_rename, first_place};
 ghost use Rattle.mk_patch.specs.Moves.{FitMoves, after_moves};
-ghost use Rattle.mk_index.specs.Blocks.{AreBlocks, AreLinesMentioned, HaveListedLines, IsCarried, IsExpected, PassesInMarked, lines_at};
+ghost use Rattle.mk_index.specs.Blocks.{AreBlocks, AreLinesMentioned, HaveListedLines, IsCarried, IsExpected, PassesInMarked};
 ghost use Rattle.mk_index.specs.Chains.{AreChainsOf, Mention};
 ghost use Rattle.mk_index.specs.Keys.{IsKeyOf};
 ghost use Rattle.mk_index.specs.Indexes.{AreMarked, IsFreshIndexOf, IsIndexOf, PassesByKeys};
@@ -280,12 +281,12 @@ fn list_lines<A: Allocator + Copy>(
         ≡ context_after_located_lines start (take place.at doc.now) }
     requires in_range { place.at + block.now.count ≤ length doc.now }
     ensures { (mentions : List Mention) → AreChainsOf mentions chains.old
-        → AreLinesMentioned mentions number (take block.now.front (lines_at place.at block.now.count doc.now))
+        → AreLinesMentioned mentions number (take block.now.front (lines_between place.at block.now.count doc.now))
         → AreLinesMentioned mentions number
-        (drop (block.now.count - block.now.back) (lines_at place.at block.now.count doc.now))
-        → IfOk result (λ after. HaveListedLines (lines_at place.at block.now.count doc.now) number mentions
+        (drop (block.now.count - block.now.back) (lines_between place.at block.now.count doc.now))
+        → IfOk result (λ after. HaveListedLines (lines_between place.at block.now.count doc.now) number mentions
         chains.new × (after
-        ≡ context_after_located_lines place.context (lines_at place.at block.now.count doc.now))) }
+        ≡ context_after_located_lines place.context (lines_between place.at block.now.count doc.now))) }
 {
     // The contract of `iter` says that each line may stand where it stands.
     let _lines = doc.iter();

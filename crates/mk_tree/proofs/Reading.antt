@@ -149,7 +149,7 @@ first-deep c u l rest h =
     omega (arith, opens-deep c.conditionals (class_of c l) (classed (context_after c (class_of c l)) rest) h)
 
 -- the context after some lines and others
-context_after-append : (c : Context) (ls ks : List LocatedLine) → context_after_located_lines c (ls ++ ks) ≡ context_after_located_lines (context_after_located_lines c ls) ks
+pub context_after-append : (c : Context) (ls ks : List LocatedLine) → context_after_located_lines c (ls ++ ks) ≡ context_after_located_lines (context_after_located_lines c ls) ks
 context_after-append c [] ks = refl
 context_after-append c (l ∷ ls) ks = context_after-append (context_after_located c l.class) ls ks
 

@@ -36,7 +36,7 @@ file_line_end-at_first ls l f h = go (logical_lines (located_text ls)) refl
 
 -- ---- a walk from a place on
 
-admitted-from : (c : Context) (ls : List LocatedLine) (n : ℕ) → AreAdmitted c ls → AreAdmitted (context_after_located_lines c (take n ls)) (drop n ls)
+pub admitted-from : (c : Context) (ls : List LocatedLine) (n : ℕ) → AreAdmitted c ls → AreAdmitted (context_after_located_lines c (take n ls)) (drop n ls)
 admitted-from c ls zero h = h
 admitted-from c [] (suc n) h = tt
 admitted-from c (l ∷ ls) (suc n) h = admitted-from (context_after_located c l.class) ls n h.1

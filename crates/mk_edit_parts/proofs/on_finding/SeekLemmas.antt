@@ -23,16 +23,16 @@ use Rattle.mk_edit_parts.specs.declared.seek.Sought.{Sought}
 use Rattle.mk_edit_parts.proofs.on_finding.PartLemmas.{assigns-located, rule_for-located, unread-located}
 
 -- a test of lines as a document shows them is one of lines as they are defined
-abbrev pub AgreeAlong : (LocatedLine → Bool) → (ClassedLine → Bool) → List ClassedLine → Type 0
+abbrev AgreeAlong : (LocatedLine → Bool) → (ClassedLine → Bool) → List ClassedLine → Type 0
 AgreeAlong p q [] = Unit {0}
 AgreeAlong p q (l ∷ ls) = (p (located_line l) ≡ q l) × AgreeAlong p q ls
 
 -- where a spot of some lines stands; the first of these lines stands at this place
-abbrev pub place_from : Found → StandingLine → Found
+abbrev place_from : Found → StandingLine → Found
 place_from f s = record { at = f.at + length s.above; context = context_after_lines f.context s.above }
 
 -- one line on
-abbrev pub next : Found → ClassedLine → Found
+abbrev next : Found → ClassedLine → Found
 next f l = record { at = f.at + 1; context = context_after f.context l.class }
 
 -- ---- the end, and the prefix
@@ -129,7 +129,7 @@ each-classed c (l ∷ ls) h =
     (record { context = c; class_is = ap (located_class joined_byte) (sym (AreClassed-class c l ls h)) }, each-classed (context_after c l.class) ls (AreClassed-tail c l ls h))
 
 -- a test that agrees on each line with its class agrees along
-pub agree-along : (p : LocatedLine → Bool) (q : ClassedLine → Bool) → ((c : Context) (l : ClassedLine) → class_of c l.bytes ≡ l.class → p (located_line l) ≡ q l) → (c : Context) (ls : List ClassedLine) → AreClassed c ls → AgreeAlong p q ls
+agree-along : (p : LocatedLine → Bool) (q : ClassedLine → Bool) → ((c : Context) (l : ClassedLine) → class_of c l.bytes ≡ l.class → p (located_line l) ≡ q l) → (c : Context) (ls : List ClassedLine) → AreClassed c ls → AgreeAlong p q ls
 agree-along p q f c [] h = tt
 agree-along p q f c (l ∷ ls) h = (f c l (AreClassed-class c l ls h), agree-along p q f (context_after c l.class) ls (AreClassed-tail c l ls h))
 
@@ -153,12 +153,12 @@ pub faithful-each : (ls : List LocatedLine) → IsFaithful ls → AreEachClassed
 faithful-each ls h = subst AreEachClassed (sym h) (each-classed start (classed_lines (located_text ls)) (AreClassed-lines (located_text ls) (classed_lines (located_text ls)) refl))
 
 -- whether a line is one that an address may mean
-abbrev pub means : Option Address → ClassedLine → Bool
+abbrev means : Option Address → ClassedLine → Bool
 means None l = false
 means (Some (Variable nth n)) l = assigns n l.class
 means (Some (Rule nth t)) l = is_rule_for t l.class
 
-pub means-located : (a : Option Address) (c : Context) (l : ClassedLine) → class_of c l.bytes ≡ l.class → may_mean a (located_line l) ≡ means a l
+means-located : (a : Option Address) (c : Context) (l : ClassedLine) → class_of c l.bytes ≡ l.class → may_mean a (located_line l) ≡ means a l
 means-located None c l h = refl
 means-located (Some (Variable nth n)) c l h = assigns-located n c l h
 means-located (Some (Rule nth t)) c l h = rule_for-located t c l h
@@ -167,7 +167,7 @@ no-spots : (ls : List ClassedLine) → spots (λ l. false) ls ≡ []
 no-spots [] = refl
 no-spots (l ∷ ls) = ap (map (under l)) (no-spots ls)
 
-pub candidates-spots : (ls : List ClassedLine) (a : Option Address) → candidates_of ls a ≡ spots (means a) ls
+candidates-spots : (ls : List ClassedLine) (a : Option Address) → candidates_of ls a ≡ spots (means a) ls
 candidates-spots ls None = sym (no-spots ls)
 candidates-spots ls (Some (Variable nth n)) = refl
 candidates-spots ls (Some (Rule nth t)) = refl
@@ -182,7 +182,7 @@ seek-nth p q ls A zero = seek-stays p zero nothing_seen (located_lines ls) (omeg
 seek-nth p q ls A (suc k) = seek-finds p q (suc k) ls A k nothing_seen (omega arith) refl
 
 -- counted from the first line
-pub places-first : (o : Option StandingLine) → option_map (place_from nothing_seen.end) o ≡ option_map standing_found o
+places-first : (o : Option StandingLine) → option_map (place_from nothing_seen.end) o ≡ option_map standing_found o
 places-first None = refl
 places-first (Some s) = let n : 0 + length s.above ≡ length s.above = omega arith in ap (λ (n : ℕ). Some (record { at = n; context = context_of s.above })) n
 

@@ -7,8 +7,10 @@ use Rattle.mk_class.specs.Contexts.{Context, start, context_after_located}
 use Rattle.mk_tree.specs.Admissions.{AreAdmitted}
 use Rattle.mk_tree.specs.Documents.{IsFaithful}
 use Rattle.mk_tree.specs.LocatedLines.{LocatedLine, context_after_located_lines}
+use Rattle.mk_edit_parts.proofs.on_finding.PlacesBelow.{admitted-from}
 use Rattle.mk_edit_parts.proofs.on_finding.SeekLemmas.{faithful-each}
 use Rattle.mk_edit_parts.specs.LocatedParts.{AreEachClassed}
+use Rattle.mk_edit_parts.proofs.on_finding.Walks.{each-from}
 use Rattle.mk_index.specs.Blocks.{AreLinesMentioned, HaveListedLines}
 use Rattle.mk_index.specs.Chains.{AreChainsOf, AreMentioned, HaveListed, Mention, Stored}
 use Rattle.mk_index.specs.Keys.{hashes_of}
@@ -24,7 +26,7 @@ lines-mentioned-last ms b [] l h k = (k, tt)
 lines-mentioned-last ms b (x ∷ ls) l h k = (h.0, lines-mentioned-last ms b ls l h.1 k)
 
 -- one line more is listed
-pub listed-more : (ms : List Mention) (b : ℕ) (ls : List LocatedLine) (l : LocatedLine) (c d : Stored) → HaveListedLines ls b ms c → ((all : List Mention) → AreChainsOf all c → HaveListed (hashes_of l) b all d) → HaveListedLines (ls ++ l ∷ []) b ms d
+listed-more : (ms : List Mention) (b : ℕ) (ls : List LocatedLine) (l : LocatedLine) (c d : Stored) → HaveListedLines ls b ms c → ((all : List Mention) → AreChainsOf all c → HaveListed (hashes_of l) b all d) → HaveListedLines (ls ++ l ∷ []) b ms d
 listed-more ms b ls l c d h more =
     let new = more (h.added ++ ms) h.chains_are in
     let joined : (new.added ++ h.added) ++ ms ≡ new.added ++ (h.added ++ ms) = append_assoc new.added h.added ms in
@@ -39,12 +41,8 @@ pub context-last : (c : Context) (ls : List LocatedLine) (l : LocatedLine) → c
 context-last c [] l = refl
 context-last c (x ∷ ls) l = context-last (context_after_located c x.class) ls l
 
-pub context-joined : (c : Context) (xs ys : List LocatedLine) → context_after_located_lines c (xs ++ ys) ≡ context_after_located_lines (context_after_located_lines c xs) ys
-context-joined c [] ys = refl
-context-joined c (x ∷ xs) ys = context-joined (context_after_located c x.class) xs ys
-
 -- a line that is listed already
-pub listed-kept : (ms : List Mention) (b : ℕ) (ls : List LocatedLine) (l : LocatedLine) (c : Stored) → HaveListedLines ls b ms c → AreMentioned ms b (hashes_of l) → HaveListedLines (ls ++ l ∷ []) b ms c
+listed-kept : (ms : List Mention) (b : ℕ) (ls : List LocatedLine) (l : LocatedLine) (c : Stored) → HaveListedLines ls b ms c → AreMentioned ms b (hashes_of l) → HaveListedLines (ls ++ l ∷ []) b ms c
 listed-kept ms b ls l c h k = record {
   added = h.added;
   chains_are = h.chains_are;
@@ -62,16 +60,6 @@ pub record Listing (before after : Stored) (b front from total : ℕ) (first : C
   pub classed : AreEachClassed ahead
   pub listed : (ms : List Mention) → AreChainsOf ms before → AreLinesMentioned ms b (take front (take total ls)) → AreLinesMentioned ms b (drop from (take total ls)) → HaveListedLines done b ms after
 
-pub classed-from : (ls : List LocatedLine) (n : ℕ) → AreEachClassed ls → AreEachClassed (drop n ls)
-classed-from ls zero h = h
-classed-from [] (suc n) h = tt
-classed-from (l ∷ ls) (suc n) h = classed-from ls n h.1
-
-pub admitted-from : (c : Context) (ls : List LocatedLine) (n : ℕ) → AreAdmitted c ls → AreAdmitted (context_after_located_lines c (take n ls)) (drop n ls)
-admitted-from c ls zero h = h
-admitted-from c [] (suc n) h = tt
-admitted-from c (l ∷ ls) (suc n) h = admitted-from (context_after_located c l.class) ls n h.1
-
 -- the walk at its start
 pub listing-from : (doc : List LocatedLine) (chains : Stored) (b at front from total : ℕ) (first : Context) (ahead : List LocatedLine) → IsFaithful doc → AreAdmitted start doc → first ≡ context_after_located_lines start (take at doc) → ahead ≡ drop at doc
     → Listing chains chains b front from total first (drop at doc) 0 first ahead
@@ -81,7 +69,7 @@ listing-from doc chains b at front from total first ahead faithful admitted cont
   count_is = refl;
   context_is = refl;
   admitted = subst (λ (c : Context). AreAdmitted c (drop at doc)) (sym context_is) (admitted-from start doc at admitted);
-  classed = classed-from doc at (faithful-each doc faithful);
+  classed = each-from at doc (faithful-each doc faithful);
   listed = λ ms h f b. record { added = []; chains_are = h; mentioned = tt };
 })
 
@@ -108,12 +96,3 @@ listing-next before c d b front from total first ls count context next l ahead w
     part =
         let n : total ≡ length w.done + suc (total - count - 1) = omega (arith, within, w.count_is) in
         ap (take total) w.lines_are ∙ (ap (λ (m : ℕ). take m (w.done ++ l ∷ ahead)) n ∙ take-append-add w.done (l ∷ ahead) (suc (total - count - 1)))
-
--- the walk at its end
-pub listing-over : (before after : Stored) (b front from total : ℕ) (first : Context) (ls : List LocatedLine) (context : Context) (ahead : List LocatedLine) → Listing before after b front from total first ls total context ahead → (ms : List Mention) → AreChainsOf ms before
-    → AreLinesMentioned ms b (take front (take total ls)) → AreLinesMentioned ms b (drop from (take total ls))
-    → HaveListedLines (take total ls) b ms after × (context ≡ context_after_located_lines first (take total ls))
-listing-over before after b front from total first ls context ahead w ms h f k =
-    let done : take total ls ≡ w.done = ap (take total) w.lines_are ∙ take_at w.done ahead total w.count_is in
-    let listed = w.listed ms h f k in
-    (subst (λ (xs : List LocatedLine). HaveListedLines xs b ms after) (sym done) listed, w.context_is ∙ ap (context_after_located_lines first) (sym done))

@@ -9,7 +9,7 @@ use Rattle.mk_index.specs.Chains.{Mention}
 use Rattle.mk_index.specs.declared.blocks.Block.{Block}
 
 -- nothing is expected after a stale block
-pub after-stale : (b : Block) (ls : List LocatedLine) → b.is_stale ≡ true → None ≡ expected_after b ls
+after-stale : (b : Block) (ls : List LocatedLine) → b.is_stale ≡ true → None ≡ expected_after b ls
 after-stale b ls h = ap (λ (t : Bool). if t then None else Some (context_after_located_lines b.context ls)) (sym h)
 
 -- none of the lines is mentioned, as far as it is known

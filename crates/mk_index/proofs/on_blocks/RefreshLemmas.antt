@@ -4,18 +4,19 @@ use Rattle.std.proofs.lemmas.List.{length-take-le, take_at, take_all, take_more,
 use Rattle.std.proofs.Math.Seq.{drop-cons}
 use Rattle.mk_class.specs.Contexts.{Context, start}
 use Rattle.mk_tree.specs.LocatedLines.{LocatedLine, context_after_located_lines}
+use Rattle.mk_tree.proofs.Reading.{context_after-append}
 use Rattle.mk_index.specs.Blocks.{AreBlocks, AreFresh, AreLinesMentioned, HaveListedLines, IsBlock, IsCarried, IsExpected, IsStaleOf, expected_after, lines_in}
 use Rattle.mk_index.specs.Chains.{AreChainsOf, Mention}
 use Rattle.mk_index.specs.Chains as chains
 use Rattle.mk_index.specs.Indexes.{IsFreshIndexOf, IsIndexOf, Stored}
 use Rattle.mk_index.specs.declared.blocks.Block.{Block}
 use Rattle.mk_index.specs.declared.blocks.Stale.{Stale}
-use Rattle.mk_index.proofs.on_blocks.ListedLemmas.{context-joined, lines-mentioned-more}
+use Rattle.mk_index.proofs.on_blocks.ListedLemmas.{lines-mentioned-more}
 use Rattle.mk_index.proofs.on_blocks.PartLemmas.{fewer-front, further}
 use Rattle.mk_index.proofs.on_blocks.SpliceLemmas.{unexpected}
 
 -- more mentions leave blocks as they are
-pub blocks-more : (added ms : List Mention) (n : ℕ) (o : Option Context) (ls : List LocatedLine) (bs : List Block) (end : Context) → AreBlocks ms n o ls bs end → AreBlocks (added ++ ms) n o ls bs end
+blocks-more : (added ms : List Mention) (n : ℕ) (o : Option Context) (ls : List LocatedLine) (bs : List Block) (end : Context) → AreBlocks ms n o ls bs end → AreBlocks (added ++ ms) n o ls bs end
 blocks-more added ms n o ls [] end h = h
 blocks-more added ms n o ls (b ∷ bs) end h = record {
   inside = h.inside;
@@ -34,7 +35,7 @@ expected-here ms n None c ls bs end e h = unexpected ms n (Some c) ls bs end h
 expected-here ms n (Some d) c ls bs end e h = subst (λ (x : Context). AreBlocks ms n (Some x) ls bs end) e h
 
 -- blocks, and blocks below them
-pub blocks-joined : (ms : List Mention) (n m : ℕ) (o : Option Context) (ls ks : List LocatedLine) (bs cs : List Block) (c end : Context) → n + length bs ≡ m → AreBlocks ms n o ls bs c → AreBlocks ms m (Some c) ks cs end → AreBlocks ms n o (ls ++ ks) (bs ++ cs) end
+blocks-joined : (ms : List Mention) (n m : ℕ) (o : Option Context) (ls ks : List LocatedLine) (bs cs : List Block) (c end : Context) → n + length bs ≡ m → AreBlocks ms n o ls bs c → AreBlocks ms m (Some c) ks cs end → AreBlocks ms n o (ls ++ ks) (bs ++ cs) end
 blocks-joined ms n m o ls ks [] cs c end count above below =
     let here : m ≡ n = omega (arith, count) in
     let h : AreBlocks ms n o ks cs end = expected-here ms n o c ks cs end above.1 (subst (λ (k : ℕ). AreBlocks ms k (Some c) ks cs end) here below) in
@@ -99,7 +100,7 @@ pub record Split (ms : List Mention) (n : ℕ) (c : Context) (ls : List LocatedL
   pub above : AreBlocks ms n (Some c) done (take k bs) (context_after_located_lines c done)
   pub below : AreBlocks ms (n + k) (Some (context_after_located_lines c done)) rest (drop k bs) end
 
-pub split-fresh : (ms : List Mention) (n : ℕ) (c : Context) (ls : List LocatedLine) (bs : List Block) (end : Context) (k : ℕ) → AreBlocks ms n (Some c) ls bs end → AreFresh (take k bs) → Split ms n c ls bs end k
+split-fresh : (ms : List Mention) (n : ℕ) (c : Context) (ls : List LocatedLine) (bs : List Block) (end : Context) (k : ℕ) → AreBlocks ms n (Some c) ls bs end → AreFresh (take k bs) → Split ms n c ls bs end k
 split-fresh ms n c ls bs end zero h fresh =
     let same : n + 0 ≡ n = omega arith in
     record { done = []; rest = ls; lines_are = refl; count_is = refl; above = (refl, refl); below = subst (λ (m : ℕ). AreBlocks ms m (Some c) ls bs end) (sym same) h }
@@ -108,7 +109,7 @@ split-fresh ms n c ls (b ∷ bs) end (suc k) h fresh =
     let next : AreBlocks ms (n + 1) (Some (context_after_located_lines c h.inside)) h.after bs end
     = subst (λ (o : Option Context). AreBlocks ms (n + 1) o h.after bs end) (expected-fresh b h.inside c fresh.0 h.context_is) h.next_is in
     let s = split-fresh ms (n + 1) (context_after_located_lines c h.inside) h.after bs end k next fresh.1 in
-    let joined = context-joined c h.inside s.done in
+    let joined = context_after-append c h.inside s.done in
     let number : n + 1 + k ≡ n + suc k = omega arith in
     record {
       done = h.inside ++ s.done;
@@ -196,7 +197,7 @@ block-stays doc c blocks end carried number at b w few is fresh context =
       doc_is = w.doc_is ∙ (ap (λ (xs : List LocatedLine). w.done ++ xs) k.lines_are ∙ sym (append_assoc w.done k.inside k.after));
       at_is = let m = length-append w.done k.inside in omega (arith, m, w.at_is, k.count_is);
       chains_are = w.chains_are;
-      context_is = ap (λ (x : Context). context_after_located_lines x k.inside) w.context_is ∙ sym (context-joined start w.done k.inside);
+      context_is = ap (λ (x : Context). context_after_located_lines x k.inside) w.context_is ∙ sym (context_after-append start w.done k.inside);
       fresh = subst AreFresh (sym taken) (fresh-more (take number blocks) b w.fresh fresh);
       above = subst (λ (bs : List Block). AreBlocks w.mentions 0 (Some start) (w.done ++ k.inside) bs (context_after_located_lines w.context k.inside)) (sym taken)
           (blocks-joined w.mentions 0 number (Some start) w.done k.inside (take number blocks) (b ∷ []) w.context _ (taken-count blocks number few) w.above
@@ -229,7 +230,7 @@ block-listed doc c d blocks end carried number at front back b new after w few i
       doc_is = w.doc_is ∙ (ap (λ (xs : List LocatedLine). w.done ++ xs) k.lines_are ∙ sym (append_assoc w.done k.inside k.after));
       at_is = let m = length-append w.done k.inside in omega (arith, m, w.at_is, k.count_is, count);
       chains_are = m.0.chains_are;
-      context_is = ap (λ (x : Context). context_after_located_lines x k.inside) w.context_is ∙ sym (context-joined start w.done k.inside);
+      context_is = ap (λ (x : Context). context_after_located_lines x k.inside) w.context_is ∙ sym (context_after-append start w.done k.inside);
       fresh = subst AreFresh (sym taken) (fresh-more (take number blocks) new w.fresh fresh);
       above = subst (λ (bs : List Block). AreBlocks all 0 (Some start) (w.done ++ k.inside) bs (context_after_located_lines w.context k.inside)) (sym taken)
           (blocks-joined all 0 number (Some start) w.done k.inside (take number blocks) (new ∷ []) w.context _ (taken-count blocks number few) (blocks-more m.0.added w.mentions 0 (Some start) w.done (take number blocks) w.context w.above)
@@ -240,23 +241,6 @@ block-listed doc c d blocks end carried number at front back b new after w few i
       below = subst (λ (bs : List Block). AreBlocks all (number + 1) (expected_after b k.inside) k.after bs end) (sym (drop-set-lt (number + 1) blocks number new (omega arith)))
           (blocks-more m.0.added w.mentions (number + 1) _ k.after (drop (number + 1) blocks) end k.next_is);
       carried_is = m.1 ∙ (ap (λ (x : Context). context_after_located_lines x (take new.count (drop at doc))) context ∙ ap (context_after_located_lines w.context) lines);
-    }
-
--- the walk at its end
-pub refreshing-over : (doc : List LocatedLine) (c : chains.Stored) (blocks : List Block) (end last : Context) (carried : Option Context) (number at : ℕ) (w : Refreshing doc c blocks end carried number at) → length blocks ≤ number
-    → (IsExpected w.expected end → last ≡ w.context) → IsFreshIndexOf doc (record { chains = c; blocks = blocks; end = last })
-refreshing-over doc c blocks end last carried number at w past last_is =
-    let all : take number blocks ≡ blocks = take_all number blocks past in
-    let none : drop number blocks ≡ [] = drop_all number blocks past in
-    let over : AreBlocks w.mentions number w.expected w.rest [] end = subst (λ (bs : List Block). AreBlocks w.mentions number w.expected w.rest bs end) none w.below in
-    let whole : w.done ≡ doc = sym (w.doc_is ∙ (ap (λ (xs : List LocatedLine). w.done ++ xs) over.0 ∙ append-nil w.done)) in
-    record {
-      index_is = record {
-        mentions = w.mentions;
-        chains_are = w.chains_are;
-        blocks_are = rw (last_is over.1, sym whole) (subst (λ (bs : List Block). AreBlocks w.mentions 0 (Some start) w.done bs w.context) all w.above);
-      };
-      fresh = subst AreFresh all w.fresh;
     }
 
 fresh-both : (xs ys : List Block) → AreFresh xs → AreFresh ys → AreFresh (xs ++ ys)

@@ -29,7 +29,7 @@ use Rattle.mk_index.specs.Keys.{IsOneOf, keys_in, words_of_parts, IsKeyOf, hashe
 
 -- ---- mentions
 
-pub is_mentioned-more : (added ms : List Mention) (h b : ℕ) → IsMentioned ms h b → IsMentioned (added ++ ms) h b
+is_mentioned-more : (added ms : List Mention) (h b : ℕ) → IsMentioned ms h b → IsMentioned (added ++ ms) h b
 is_mentioned-more [] ms h b k = k
 is_mentioned-more (m ∷ added) ms h b k = inr (is_mentioned-more added ms h b k)
 
@@ -188,7 +188,7 @@ not-rule t w variants.Directive h = refl
 not-rule t w variants.Rough h = refl
 
 -- a word that is no key of a line is no target of it
-pub untargeted : (word : List ℕ) (l : LocatedLine) → (IsOneOf (hash_of word) (hashes_of l) → ⊥) → is_target_located word l ≡ false
+untargeted : (word : List ℕ) (l : LocatedLine) → (IsOneOf (hash_of word) (hashes_of l) → ⊥) → is_target_located word l ≡ false
 untargeted word l h = not-target (text_of_line l) word l.class (no-key word l h).1
 
 -- an address whose key is no key of a line does not mean it
@@ -204,7 +204,7 @@ unconcerned a l h key none read =
     ap (λ b. b || is_unread_located l) (not-meant a l h key none) ∙ not-unread (is_unread_located l) (no-key [] l read).0
 
 -- a line of which a word is no key has no range in which a rename replaces the word
-pub unrenamed : (old : List ℕ) (l : LocatedLine) → IsClassed l → (IsOneOf (hash_of old) (hashes_of l) → ⊥) → renamed_ranges old l ≡ []
+unrenamed : (old : List ℕ) (l : LocatedLine) → IsClassed l → (IsOneOf (hash_of old) (hashes_of l) → ⊥) → renamed_ranges old l ≡ []
 unrenamed old l c h = go l.class refl (no-key old l h).1
   where
     cs : List Cell

@@ -19,7 +19,7 @@ use Rattle.mk_index.specs.declared.blocks.Block.{Block}
 use Rattle.mk_index.proofs.on_blocks.ChangedLines.{with-back, with-front, with-length, with_lines}
 
 -- one line does for what is known what another does
-pub record SameRole (k l : LocatedLine) : Type 0 where
+record SameRole (k l : LocatedLine) : Type 0 where
   pub hashes_are : hashes_of k ≡ hashes_of l
   pub unread_is : is_unread_located k ≡ is_unread_located l
   pub context_is : (c : Context) → context_after_located c k.class ≡ context_after_located c l.class
