@@ -10,6 +10,7 @@ arguments by the programs of tests/definitions, which were written from the rule
     vocabulary.py  the words that makefiles and scripts are made of
     drawing.py     choices that all drawing shares
     makefiles.py   makefiles drawn at random
+    filling.py     lines that make a makefile long enough for an index
     scripts.py     scripts drawn at random for a makefile
     cases.py       a case, which follows from a seed and a number, and what is wrong with it
     shrinking.py   a smaller case that is still wrong

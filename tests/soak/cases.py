@@ -7,21 +7,27 @@ from tests.lib.checks import Outcome, brief, differences
 
 from .drawing import Drawing, source_of
 from .edits import LIMIT
+from .filling import FEWEST_LINES, Filling, without_filling
 from .judge import answered, judged
-from .makefiles import Makefiles
+from .makefiles import Makefiles, long_makefile
 from .scripts import Scripts
 
 USUAL_DEPTH = 100
 GREATEST_DEPTH = 10000
 DEPTHS = (1, 1, 2, 2, 3, USUAL_DEPTH, USUAL_DEPTH)
+# How many of the cases have a makefile that is long enough for an index.
+LONG_SHARE = 0.05
+# In how many of these the judge reads the filling too: this takes it longer.
+JUDGED_SHARE = 0.05
 
 
 class Case(NamedTuple):
     """The files and the options of a run, and the query that is asked beside it.
 
     Where there is padding, that many bytes `#` stand before the makefile, and make it about as long as
-    a text may be. Such a makefile begins with a comment, which no edit touches and which the padding
-    only makes longer. So the judge leaves the padding out.
+    a text may be. Where there is a filling, its lines stand between those of the makefile. Such a
+    makefile begins with a comment, which no edit touches and which the padding only makes longer. So
+    the judge leaves the padding and the filling out.
     """
 
     makefile: bytes
@@ -30,6 +36,7 @@ class Case(NamedTuple):
     goes_on: bool
     query: str
     padding: int = 0
+    filling: Filling = None
 
     @property
     def flags(self):
@@ -38,8 +45,9 @@ class Case(NamedTuple):
 
     @property
     def is_one(self):
-        """Whether the makefile may have its padding. A case that was shrunk may not."""
-        return not self.padding or self.makefile.startswith(b"#")
+        """Whether the makefile may have its padding or filling. A case that was shrunk may not."""
+        is_as_drawn = not self.padding and not self.filling
+        return is_as_drawn or self.makefile.startswith(b"#")
 
     @property
     def limit(self):
@@ -49,18 +57,39 @@ class Case(NamedTuple):
     def verdict(self):
         return judged(self.makefile, self.script, self.depth, self.goes_on, self.limit)
 
-    def padded(self, text):
-        return b"#" * self.padding + text
+    @property
+    def text(self):
+        """The makefile with its padding and its filling, as the program gets it."""
+        filled = self.filling.filled(self.makefile) if self.filling else self.makefile
+        return b"#" * self.padding + filled
 
-    def without_padding(self, text):
-        """The text without the padding, where that stands there."""
+    def bare(self, text):
+        """The text without the padding, where that stands there, and without the filling."""
         has_padding = text.startswith(b"#" * self.padding)
-        return text[self.padding :] if has_padding else text
+        text = text[self.padding :] if has_padding else text
+        return without_filling(text) if self.filling else text
 
 
 def drawn(seed, number):
     """The case of a seed with this number."""
     drawing = Drawing(source_of(seed, number))
+    return drawn_long(drawing) if drawing.chance(LONG_SHARE) else drawn_short(drawing)
+
+
+def drawn_long(drawing):
+    """A case of many edits over a makefile that is long enough for an index."""
+    makefile = long_makefile(drawing.source)
+    lines = drawing.one([FEWEST_LINES, FEWEST_LINES, 2000, 10000])
+    filling = Filling(lines, drawing.source.randrange(1 << 32))
+    depth = drawing.one(DEPTHS)
+    script = Scripts(drawing.source, makefile, depth, is_long=True).script()
+    if drawing.chance(JUDGED_SHARE):
+        makefile, filling = Filling(FEWEST_LINES, filling.seed).filled(makefile), None
+    return Case(makefile, script, depth, drawing.chance(0.95), "vars", filling=filling)
+
+
+def drawn_short(drawing):
+    """A case of few edits over a makefile of few lines."""
     makefile, padding = Makefiles(drawing.source).makefile(), 0
     if drawing.chance(0.002):
         makefile = b"ifdef A\n" * drawing.one([255, 256, 257]) + makefile
@@ -75,19 +104,27 @@ def drawn(seed, number):
 
 def problems_of(room, case, verdict):
     """Runs a case and its query, and says what is wrong."""
-    room.write("Makefile", case.padded(case.makefile))
+    room.write("Makefile", case.text)
     room.write("script", case.script)
     out, err, status = room.run("edit", *case.flags, "script", "Makefile")
-    got = Outcome(case.without_padding(out), err, status)
+    got = Outcome(case.bare(out), err, status)
     problems = differences(got, verdict.outcome) + list(broken_promises(got, case, verdict))
     if verdict.outcome.status < 2:
         problems += wrong_undoing(room, case)
+    if not case.filling:
+        problems += wrong_queries(room, case, got, out)
+    return problems + room.changed()
+
+
+def wrong_queries(room, case, got, out):
+    """How the answers to the query differ, of the makefile and of the text that was printed."""
+    problems = []
     if len(case.makefile) <= case.limit:
         problems += wrong_query(room, case.query, "Makefile", case.makefile)
     if got.status == 0:
         room.write("edited", out)
         problems += wrong_query(room, case.query, "edited", got.stdout)
-    return problems + room.changed()
+    return problems
 
 
 def broken_promises(got, case, verdict):
@@ -120,7 +157,7 @@ def wrong_undoing(room, case):
     commands = case.script.count(b"\n") + 1
     room.write("undone", case.script + b"\ncancel\n" + b"undo\n" * commands)
     got = room.run("edit", "-k", "-d", str(GREATEST_DEPTH), "undone", "Makefile")
-    is_right = (case.without_padding(got.stdout), got.status) == (case.makefile, 1)
+    is_right = (got.stdout, got.status) == (case.text, 1)
     return [] if is_right else [f"undoing all gives {brief(got.stdout)} and the status {got.status}"]
 
 

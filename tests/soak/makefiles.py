@@ -6,7 +6,7 @@ and comments among recipe lines, defines, mixed line ends, a last line without o
 
 from tests.lib import reading
 
-from . import vocabulary
+from . import document, vocabulary
 from .drawing import Drawing
 from .vocabulary import CONDITIONALS, HOSTILE, NAMES, OPERATORS, TARGETS, WORDS
 
@@ -246,3 +246,19 @@ class Makefiles(Drawing):
                 at = self.source.randint(0, len(text))
                 text = text[:at] + self.one([b"", *HOSTILE]) + text[at + self.one([0, 0, 1, 2]) :]
         return text
+
+
+def long_makefile(source):
+    """Makefiles below a comment, one below the other, most of those left out that would refuse each edit."""
+    drawing, text = Drawing(source), b"#\n"
+    for _ in range(drawing.one([3, 10, 20])):
+        longer = text + Makefiles(source).makefile()
+        if not refuses_edits(longer) or drawing.chance(0.01):
+            text = longer
+    return text
+
+
+def refuses_edits(text):
+    """Whether a text sets the recipe prefix in a way that is not read, or has an open define."""
+    doc = document.read(text)
+    return doc.sets_prefix_unread() or doc.end_context.defines > 0

@@ -41,8 +41,9 @@ GREATEST = 4294967295
 class Scripts(Drawing):
     """Draws one script, and keeps the session that it leads to."""
 
-    def __init__(self, source, text, depth):
+    def __init__(self, source, text, depth, is_long=False):
         super().__init__(source)
+        self.is_long = is_long
         self.session = Session(text, depth)
         self.document = document.read(text)
         self.end = b"\r\n" if self.chance(0.1) else b"\n"
@@ -51,6 +52,8 @@ class Scripts(Drawing):
 
     def count(self):
         """How many commands the script has."""
+        if self.is_long:
+            return self.source.randint(20, 400)
         if self.is_of_calls:
             return self.source.randint(4, 24)
         return 1 if self.chance(0.3) else self.one([0, 2, 3, 4, 5, 6, 8, 10])

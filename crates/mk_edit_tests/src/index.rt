@@ -1,9 +1,10 @@
 //! What an index tells, and what it leaves to a walk over the lines.
 use crate::checks::{Heap, document};
-use crate::edits::{add_assign, set_value};
+use crate::edits::{add_assign, remove_rule, rename_target, set_value};
 use mk_class::{Flavor, Meter};
 use mk_edit::Edit;
 use mk_edit_parts::address::Address;
+use mk_edit_parts::window::Known;
 use mk_index::{Finder, Index};
 use mk_tree::Doc;
 use std::alloc::AllocError;
@@ -13,8 +14,9 @@ use watched::Watched;
 // How many lines of a makefile the index tells for a name, unless it leaves the name to a walk.
 fn told<'a>(heap: Heap<'a>, makefile: &[u8], name: &[u8]) -> Result<Option<usize>, Fail> {
     let doc = document(heap, makefile)?;
-    let index = Index::new(heap, &doc)?;
-    match index.sought(&doc, Some(Address::Variable(None, name))) {
+    let mut index = Index::new(heap, &doc)?;
+    index.refresh(&doc)?;
+    match index.sought(heap, &doc, Some(Address::Variable(None, name))) {
         Some(sought) => Ok(Some(sought.count)),
         None => Ok(None),
     }
@@ -33,14 +35,17 @@ fn repeated<'a>(
     Ok(makefile)
 }
 
+// So many lines stand in one block of an index. A name has an entry for each block with such a line.
+const BLOCK_LINES: usize = 64;
+
 #[test]
-fn a_lookup_walks_over_64_entries_at_most(rt: HostRuntime) -> Result<(), Fail> {
+fn a_lookup_walks_over_256_entries_at_most(rt: HostRuntime) -> Result<(), Fail> {
     let heap = Watched::new(rt.alloc());
-    for count in [1, 63] {
+    for count in [1, BLOCK_LINES, 256 * BLOCK_LINES] {
         let makefile = repeated(&heap, b"A=1\n", count)?;
         assert_eq!(rt; told(&heap, &makefile, b"A")?, Some(count));
     }
-    for count in [65, 1_000] {
+    for count in [257 * BLOCK_LINES, 1_000 * BLOCK_LINES] {
         let makefile = repeated(&heap, b"A=1\n", count)?;
         assert_eq!(rt; told(&heap, &makefile, b"A")?, None);
     }
@@ -70,7 +75,8 @@ fn a_lookup_walks_over_few_names_of_many(rt: HostRuntime) -> Result<(), Fail> {
     Ok(())
 }
 
-// Whether a finder knows where the line of an edit stands: at the first such edit, and at the second.
+// Whether a finder knows something of the lines that an edit means: at the first such edit, and at the
+// second.
 fn known_in_turn<'a>(
     heap: Heap<'a>,
     makefile: Vec<u8, Heap<'a>>,
@@ -78,8 +84,8 @@ fn known_in_turn<'a>(
 ) -> Result<[bool; 2], Fail> {
     let (doc, end) = Doc::parse_with_end(heap, makefile, &mut Meter::new())?;
     let mut finder = Finder::over(&doc, end);
-    let first = finder.known(heap, &doc, edit).is_some();
-    let second = finder.known(heap, &doc, edit).is_some();
+    let first = !matches!(&finder.known(heap, &doc, edit), Known::Nothing);
+    let second = !matches!(&finder.known(heap, &doc, edit), Known::Nothing);
     Ok([first, second])
 }
 
@@ -98,10 +104,14 @@ fn is_known_in_turn<'a>(
 }
 
 #[test]
-fn the_second_edit_of_a_variable_needs_no_walk(rt: HostRuntime) -> Result<(), Fail> {
+fn the_second_edit_needs_no_walk_over_all_lines(rt: HostRuntime) -> Result<(), Fail> {
     let heap = Watched::new(rt.alloc());
     for (lines, known) in [(1_023, [false, false]), (1_024, [false, true])] {
         let edit = set_value(&heap, b"A", b"2");
+        assert_eq!(rt; is_known_in_turn(&heap, lines, edit)?, known);
+        let edit = remove_rule(&heap, b"A");
+        assert_eq!(rt; is_known_in_turn(&heap, lines, edit)?, known);
+        let edit = rename_target(&heap, b"A", b"C");
         assert_eq!(rt; is_known_in_turn(&heap, lines, edit)?, known);
         let edit = add_assign(&heap, b"B", Flavor::Simple, b"2");
         assert_eq!(rt; is_known_in_turn(&heap, lines, edit)?, [true, true]);

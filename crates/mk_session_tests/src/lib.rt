@@ -11,7 +11,8 @@
 //! - `growths`: calls over memory that is watched.
 //! - `counted_growths`, `refused_growths`, `taken_memory`: how many growths calls take; growths that
 //!   are refused; the memory that edits take.
-//! - `long_documents`: sessions over documents that are long enough for an index.
+//! - `long_documents`, `index_and_walk`: sessions over documents that are long enough for an index;
+//!   each edit by an index, beside the same edit by a walk over all lines.
 #![tactic(auto)]
 
 #[cfg(test)]
@@ -22,6 +23,8 @@ mod counted_growths;
 mod edits;
 #[cfg(test)]
 mod growths;
+#[cfg(test)]
+mod index_and_walk;
 #[cfg(test)]
 mod long_documents;
 #[cfg(test)]

@@ -60,23 +60,31 @@ fn growths_of_step<'a>(
     Ok(growths_of(heap, session, &command)?)
 }
 
-// The growths of each edit of a document with so many lines below its front. Each is undone, so that
-// the next finds the same document.
-fn growths_of_edits(rt: &HostRuntime, lines: usize) -> Result<Vec<Growths>, Fail> {
-    let heap = Watched::new(rt.alloc());
+// A session over a document with so many lines below its front.
+fn session_over<'a>(
+    rt: &HostRuntime,
+    heap: &'a Heap,
+    lines: usize,
+) -> Result<&'a mut Session<&'a Heap>, Fail> {
     let text = text_of(rt, FRONT, b"B=1\n", lines)?;
-    let session = opened(rt, &heap, text.as_slice(), 100)?;
+    Ok(opened(rt, heap, text.as_slice(), 100)?)
+}
+
+// The growths of each edit of such a document. Each is the first edit of a session, which walks over
+// the lines and makes no index.
+fn growths_of_first_edits(rt: &HostRuntime, lines: usize) -> Result<Vec<Growths>, Fail> {
     let mut found = Vec::new(rt.alloc());
     for (_, step, _) in EDITS {
+        let heap = Watched::new(rt.alloc());
+        let session = session_over(rt, &heap, lines)?;
         found.push(growths_of_step(&heap, session, step)?)?;
-        session.undo()?;
     }
     Ok(found)
 }
 
 #[test]
 fn an_edit_takes_memory_for_its_lines_alone(rt: HostRuntime) -> Result<(), Fail> {
-    let found = growths_of_edits(&rt, 1)?;
+    let found = growths_of_first_edits(&rt, 1)?;
     for (growths, (name, _, lines)) in found.iter().zip(EDITS) {
         let bytes = growths.bytes;
         assert!(rt; bytes <= most_bytes(lines), "{name}: {bytes}");
@@ -86,9 +94,46 @@ fn an_edit_takes_memory_for_its_lines_alone(rt: HostRuntime) -> Result<(), Fail>
 
 #[test]
 fn an_edit_takes_the_same_memory_in_a_long_file(rt: HostRuntime) -> Result<(), Fail> {
-    let found = growths_of_edits(&rt, 1)?;
+    let found = growths_of_first_edits(&rt, 1)?;
     for lines in [1_000, 100_000] {
-        assert_eq!(rt; growths_of_edits(&rt, lines)?, found);
+        assert_eq!(rt; growths_of_first_edits(&rt, lines)?, found);
+    }
+    Ok(())
+}
+
+// The growths of each edit of such a document, once the session has an index. Each is undone, so that
+// the next finds the same document.
+fn growths_of_indexed_edits(rt: &HostRuntime, lines: usize) -> Result<Vec<Growths>, Fail> {
+    let heap = Watched::new(rt.alloc());
+    let session = session_over(rt, &heap, lines)?;
+    session.expect_edits();
+    growths_of_step(&heap, session, Step::SetValue(b"A", b"2"))?;
+    session.undo()?;
+    let mut found = Vec::new(rt.alloc());
+    for (_, step, _) in EDITS {
+        found.push(growths_of_step(&heap, session, step)?)?;
+        session.undo()?;
+    }
+    Ok(found)
+}
+
+// The most bytes that an index of so many lines takes for an edit: a mark of a byte for each block of
+// 64 lines, with one more block. What it notes of the few blocks that are marked has its room in what
+// an edit takes by itself.
+fn most_bytes_of_marks(lines: usize) -> u64 {
+    (lines as u64 / 64).saturating_add(1)
+}
+
+#[test]
+fn an_edit_by_an_index_takes_a_byte_more_for_each_64_lines(rt: HostRuntime) -> Result<(), Fail> {
+    for count in [2_000usize, 100_000] {
+        let found = growths_of_indexed_edits(&rt, count)?;
+        let marks = most_bytes_of_marks(count.saturating_add(4));
+        for (growths, (name, _, lines)) in found.iter().zip(EDITS) {
+            let bytes = growths.bytes;
+            let most = most_bytes(lines).saturating_add(marks);
+            assert!(rt; bytes <= most, "{name}: {bytes}");
+        }
     }
     Ok(())
 }
