@@ -1,6 +1,6 @@
 -- The walk that makes stale blocks fresh.
 use Rattle.std.proofs.Common.{◌≡◌, refl, sym, ap, ◌∙◌, subst, arith, ℕ, zero, suc, ◌+◌, ◌-◌, ◌≤◌, List, [], ◌∷◌, ◌++◌, Bool, false, length, length-append, append_assoc, append-nil, take, drop, get_or, set, Option, Some, None, if◌then◌else◌}
-use Rattle.std.proofs.lemmas.List.{length-take-le, take_at, take_all, take_more, take_more_set, drop_all, drop-set-lt, take-append-drop, take-set-le}
+use Rattle.std.proofs.lemmas.List.{length-take-le, take_at, take_all, take_more, take_more_set, drop-set-lt, take-append-drop, take-set-le}
 use Rattle.std.proofs.Math.Seq.{drop-cons}
 use Rattle.mk_class.specs.Contexts.{Context, start}
 use Rattle.mk_tree.specs.LocatedLines.{LocatedLine, context_after_located_lines}
@@ -92,7 +92,7 @@ pub record Refreshing (doc : List LocatedLine) (c : chains.Stored) (blocks : Lis
   pub carried_is : IsCarried carried expected context
 
 -- blocks of which the first are fresh
-pub record Split (ms : List Mention) (n : ℕ) (c : Context) (ls : List LocatedLine) (bs : List Block) (end : Context) (k : ℕ) : Type 0 where
+record Split (ms : List Mention) (n : ℕ) (c : Context) (ls : List LocatedLine) (bs : List Block) (end : Context) (k : ℕ) : Type 0 where
   pub done : List LocatedLine
   pub rest : List LocatedLine
   pub lines_are : ls ≡ done ++ rest
