@@ -28,7 +28,7 @@ use std::alloc::{AllocError, Allocator, Global};
 use std::marker::Model;
 
 // How many lines a block has at first.
-const BLOCK_LINES: usize = 64;
+const BLOCK_LINES: usize = 128;
 
 // The hash of a line that sets the recipe prefix in a way that is not read: that of the empty word.
 const UNREAD: u32 = 0;

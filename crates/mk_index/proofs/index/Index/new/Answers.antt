@@ -12,15 +12,15 @@ unlisted n = record { count = n; front = 0; back = 0; is_stale = true; context =
 
 pub returns : goal.returns
 returns g c =
-    let k = c.len.result / 64 in
-    let last = c.len-2.result % 64 in
+    let k = c.len.result / 128 in
+    let last = c.len-2.result % 128 in
     let full = c.in_ok-blocks.ensures.items_if_clones_equal (λ y e. e) ∙ ap (replicate k) c.unlisted-full.ensures in
-    let all : c.push.new.self.items ≡ replicate k (unlisted 64) ++ unlisted last ∷ [] = c.in_ok-push.ensures.items
-    ∙ (ap (λ (bs : List Block). bs ++ c.unlisted.result ∷ []) full ∙ ap (λ (b : Block). replicate k (unlisted 64) ++ b ∷ []) c.unlisted.ensures) in
-    let sum : k * 64 + last ≡ length c.args.doc.now = omega (arith, c.len.ensures.number, c.len-2.ensures.number) in
+    let all : c.push.new.self.items ≡ replicate k (unlisted 128) ++ unlisted last ∷ [] = c.in_ok-push.ensures.items
+    ∙ (ap (λ (bs : List Block). bs ++ c.unlisted.result ∷ []) full ∙ ap (λ (b : Block). replicate k (unlisted 128) ++ b ∷ []) c.unlisted.ensures) in
+    let sum : k * 128 + last ≡ length c.args.doc.now = omega (arith, c.len.ensures.number, c.len-2.ensures.number) in
     record {
       mentions = [];
       chains_are = c.in_ok-chains.ensures;
       blocks_are = subst (λ (bs : List Block). AreBlocks [] 0 (Some start) c.args.doc.now bs c.start.result) (sym all)
-          (stale-run [] 0 (Some start) c.args.doc.now k (unlisted 64) (unlisted last) c.start.result refl refl refl refl refl refl refl refl sum);
+          (stale-run [] 0 (Some start) c.args.doc.now k (unlisted 128) (unlisted last) c.start.result refl refl refl refl refl refl refl refl sum);
     }
