@@ -4,6 +4,7 @@
 //! - `checks`: what is checked of the plan of an edit.
 //! - `edits`: edits over an allocator that a test watches, each from its texts.
 //! - `index`: what an index tells, and what it leaves to a walk over the lines.
+//! - `known`: what is known of a long document while it is edited.
 //! - `tests`: one test for each edit that is accepted, for each refusal, and for what a plan takes.
 #![tactic(auto)]
 
@@ -13,5 +14,7 @@ mod checks;
 mod edits;
 #[cfg(test)]
 mod index;
+#[cfg(test)]
+mod known;
 #[cfg(test)]
 mod tests;
