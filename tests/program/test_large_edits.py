@@ -109,3 +109,19 @@ class LargeEdits(RoomCase):
         new = [b"W%d = b\n" % it for it in range(10_000)]
         script = b"".join(b"assign bottom " + it for it in new)
         self.assert_few_walks(lines, script, b"".join(lines + new))
+
+    def test_edits_of_one_target_in_turn_need_few_walks(self):
+        """Four times as many edits take at most ten times as long.
+
+        Each edit has its target listed once more, since its line was written anew. Without an end to
+        this the index would give up at last, and each edit walk over all lines: that takes some forty
+        times as long.
+        """
+        lines = [b"V%d = a\n" % it for it in range(100_000)]
+        lines[:: len(lines) // 20] = [b"T: a\n"] * 20
+        before = b"".join(lines)
+        self.room.write("large", before)
+        pairs = (b"nth %d %s T v\n" % (at, name) for name in (b"depend", b"undepend") for at in range(1, 21))
+        turn = b"".join(pairs)
+        few, many = (self.seconds(turn * (count // 40), before) for count in (8_000, 32_000))
+        self.assertLess(many, 10 * max(few, 0.01), "edits of one target take longer and longer")

@@ -35,19 +35,46 @@ fn repeated<'a>(
     Ok(makefile)
 }
 
-// So many lines stand in one block of an index. A name has an entry for each block with such a line.
-const BLOCK_LINES: usize = 64;
+// One rule that has so many targets. In a document of fewer than four lines an index has one bucket,
+// so that the chain of each word is as long.
+fn rule_of_many_targets<'a>(
+    heap: Heap<'a>,
+    targets: usize,
+) -> Result<Vec<u8, Heap<'a>>, AllocError> {
+    let mut makefile = Vec::new(heap);
+    for number in 0..targets {
+        makefile.extend_from_slice(&[letter(number / 676), letter(number / 26), letter(number)])?;
+        makefile.push(b' ')?;
+    }
+    makefile.extend_from_slice(b":\n")?;
+    Ok(makefile)
+}
+
+// One of the letters.
+fn letter(number: usize) -> u8 {
+    b'A' + (number % 26) as u8
+}
 
 #[test]
-fn a_lookup_walks_over_256_entries_at_most(rt: HostRuntime) -> Result<(), Fail> {
+fn a_lookup_walks_over_16_384_entries_at_most(rt: HostRuntime) -> Result<(), Fail> {
     let heap = Watched::new(rt.alloc());
-    for count in [1, BLOCK_LINES, 256 * BLOCK_LINES] {
+    for targets in [1, 1_000, 16_384] {
+        let makefile = rule_of_many_targets(&heap, targets)?;
+        assert_eq!(rt; told(&heap, &makefile, b"A")?, Some(0));
+    }
+    for targets in [16_385, 17_000] {
+        let makefile = rule_of_many_targets(&heap, targets)?;
+        assert_eq!(rt; told(&heap, &makefile, b"A")?, None);
+    }
+    Ok(())
+}
+
+#[test]
+fn a_name_may_stand_in_many_blocks(rt: HostRuntime) -> Result<(), Fail> {
+    let heap = Watched::new(rt.alloc());
+    for count in [1, 64, 1_000, 64_000] {
         let makefile = repeated(&heap, b"A=1\n", count)?;
         assert_eq!(rt; told(&heap, &makefile, b"A")?, Some(count));
-    }
-    for count in [257 * BLOCK_LINES, 1_000 * BLOCK_LINES] {
-        let makefile = repeated(&heap, b"A=1\n", count)?;
-        assert_eq!(rt; told(&heap, &makefile, b"A")?, None);
     }
     Ok(())
 }

@@ -7,8 +7,8 @@ use std::alloc::{AllocError, Allocator, Global};
 use std::marker::Model;
 use std::mem::size_of;
 
-// The most entries that a walk looks at to mark blocks.
-const MOST_STEPS: usize = 16_384;
+/// The most entries that a walk looks at to mark blocks.
+pub const MOST_STEPS: usize = 16_384;
 
 // The most entries that a walk looks at to find one that is there already.
 const FEW_STEPS: usize = 8;
@@ -116,6 +116,13 @@ impl<A: Allocator + Copy> Chains<A> {
             number = entry.before;
         }
         false
+    }
+
+    /// How many entries there are.
+    pub fn entries(&self) -> usize
+        ensures { result ≡ length self.now.entries }
+    {
+        self.entries.len()
     }
 
     // Adds an entry.

@@ -54,8 +54,8 @@ impl<A: Allocator> IndexedDoc<A> {
 }
 
 impl<A: Allocator + Copy> IndexedDoc<A> {
-    /// Lets the next edit of a variable make an index, as [`Finder::expect_edits`] does. Walks over
-    /// nothing and takes no memory.
+    /// Lets the next edit with an address, or the next rename, make an index, as
+    /// [`Finder::expect_edits`] does. Walks over nothing and takes no memory.
     pub fn expect_edits(&mut self)
         ensures { self.new ≡ self.old }
     {

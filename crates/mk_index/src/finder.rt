@@ -34,8 +34,8 @@ const FEWEST_LINES: usize = 1_024;
 pub struct Finder<A: Allocator = Global> {
     index: Option<Index<A>>,
     end: Option<End>,
-    // Whether the next edit of a variable or a rule makes the index: the last one made do with a walk,
-    // or more edits are expected.
+    // Whether the next edit with an address, or the next rename, makes the index: the last one made do
+    // with a walk, or more edits are expected.
     is_due: bool,
 }
 
@@ -86,8 +86,8 @@ impl<A: Allocator + Copy> Finder<A> {
         line_known(self.at_end(doc))
     }
 
-    /// Lets the next edit of a variable or a rule make an index, since more edits are to come. This
-    /// call itself walks over nothing and takes no memory.
+    /// Lets the next edit with an address, or the next rename, make an index, since more edits are to
+    /// come. This call itself walks over nothing and takes no memory.
     pub fn expect_edits(&mut self)
         ensures { self.new ≡ self.old }
     {
@@ -146,7 +146,8 @@ impl<A: Allocator + Copy> Finder<A> {
         }
     }
 
-    // What the index tells of an address. A growth that is refused drops the index.
+    // What the index tells of an address. A growth that is refused drops the index, and so does a word
+    // that it listed too often to tell anything: the next edit makes another one.
     fn by_index(&mut self, alloc: A, doc: &Doc<A>, address: Option<Address>) -> Option<Sought>
         requires faithful { IsFaithful doc.now }
         requires right { IsKnownFor doc.now self.old }
@@ -156,12 +157,14 @@ impl<A: Allocator + Copy> Finder<A> {
         let mut index = self.index.take()?;
         index.refresh(doc).ok()?;
         let sought = index.sought(alloc, doc, address);
-        self.index = Some(index);
+        if sought.is_some() || !index.is_worn() {
+            self.index = Some(index);
+        }
         sought
     }
 
-    // The windows that the index tells for a rename. A growth that is refused while it is brought up to
-    // date drops the index.
+    // The windows that the index tells for a rename. The index is dropped where one is dropped that
+    // tells of an address.
     fn for_rename(
         &mut self,
         alloc: A,
@@ -178,7 +181,9 @@ impl<A: Allocator + Copy> Finder<A> {
         let mut index = self.index.take()?;
         index.refresh(doc).ok()?;
         let windows = index.for_rename(alloc, doc, old, new);
-        self.index = Some(index);
+        if windows.is_some() || !index.is_worn() {
+            self.index = Some(index);
+        }
         windows
     }
 

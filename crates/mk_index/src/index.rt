@@ -16,7 +16,7 @@ ghost use Rattle.mk_index.specs.Indexes.{AreMarked, IsFreshIndexOf, IsIndexOf, P
 
 use crate::blocks::{Block, Stale, follow_all};
 use crate::bucket::hash_of;
-use crate::chains::Chains;
+use crate::chains::{Chains, MOST_STEPS};
 use crate::keys::list_keys;
 use mk_class::Context;
 use mk_edit_parts::address::Address;
@@ -43,6 +43,8 @@ pub struct Index<A: Allocator = Global> {
     stale: Stale,
     // The context after the last line.
     end: Context,
+    // How many entries the chains had when all blocks were first made fresh; 0 before that.
+    first_entries: usize,
 }
 
 impl<A: Allocator> Model for Index<A> {
@@ -71,6 +73,7 @@ impl<A: Allocator + Copy> Index<A> {
             blocks,
             stale,
             end: Context::start(),
+            first_entries: 0,
         })
     }
 
@@ -126,7 +129,17 @@ impl<A: Allocator + Copy> Index<A> {
             self.end = context;
         }
         self.stale = Stale::none();
+        if self.first_entries == 0 {
+            self.first_entries = self.chains.entries();
+        }
         Ok(())
+    }
+
+    /// Whether an index that gives up is worth making anew. It is when it has listed as many entries
+    /// since it was first fresh as a walk looks at: the index that is made anew lists each of these
+    /// words once.
+    pub fn is_worn(&self) -> bool {
+        self.chains.entries().saturating_sub(self.first_entries) >= MOST_STEPS
     }
 
     /// Windows of the document, outside of which no line has a key of these hashes. `None` if too
