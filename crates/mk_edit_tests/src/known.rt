@@ -82,37 +82,39 @@ fn holds(text: &[u8], word: &[u8]) -> bool {
     text.windows(word.len().max(1)).any(|part| part == word)
 }
 
+// The context before a line, as the text above it is read anew.
+fn context_before<'a>(heap: Heap<'a>, doc: &Doc<Heap<'a>>, at: usize) -> Result<Context, Fail> {
+    let mut above = Vec::new(heap);
+    for line in doc.iter().take(at) {
+        above.extend_from_slice(line.bytes())?;
+    }
+    let (_, end) = Doc::parse_with_end(heap, above, &mut Meter::new())?;
+    Ok(end.context)
+}
+
 // Checks the windows that are known for a rename by a walk over all lines: the context before each is
 // the one there, no line outside of them holds either word, and the last one reaches the end.
 fn check_windows<'a>(
+    heap: Heap<'a>,
     doc: &Doc<Heap<'a>>,
     windows: &[Window],
     (from, to): (&[u8], &[u8]),
 ) -> Result<(), Fail> {
-    let mut rest = windows.iter();
-    let mut next = rest.next();
-    let mut context = Context::start();
     let mut passed = 0usize;
-    for (at, line) in doc.iter().enumerate() {
-        if let Some(window) = next.filter(|window| window.place.at == at) {
-            check(
-                is_same_context(window.place.context, context),
-                "another context",
-            )?;
-            passed = at.saturating_add(window.count);
-            next = rest.next();
-        }
-        let is_free = !holds(line.bytes(), from) && !holds(line.bytes(), to);
+    for window in windows {
+        let at = window.place.at;
+        let context = context_before(heap, doc, at)?;
         check(
-            at < passed || is_free,
-            "a line outside of the windows has a word",
+            is_same_context(window.place.context, context),
+            "another context",
         )?;
-        context = context.step(&line.class());
+        for line in doc.iter().take(at).skip(passed) {
+            let is_free = !holds(line.bytes(), from) && !holds(line.bytes(), to);
+            check(is_free, "a line outside of the windows has a word")?;
+        }
+        passed = at.saturating_add(window.count);
     }
-    let last = windows
-        .last()
-        .map(|window| window.place.at.saturating_add(window.count));
-    check(last == Some(doc.len()), "the windows do not reach the end")
+    check(passed == doc.len(), "the windows do not reach the end")
 }
 
 // ---- both
@@ -134,7 +136,7 @@ fn check_known<'a>(
             check(is_same(*sought, walked), "a walk finds something else")
         }
         (Known::Windows(windows), Edit::RenameTarget { from, to }) => {
-            check_windows(doc, windows, (from, to))
+            check_windows(heap, doc, windows, (from, to))
         }
         _ => Err(Fail::from("nothing is known")),
     }
