@@ -30,6 +30,10 @@ use std::marker::Model;
 // How many lines a block has at first.
 const BLOCK_LINES: usize = 128;
 
+// The most steps of a patch that are followed. Each takes a look at the blocks above its line, so that
+// very many would take longer than the making of another index.
+const MOST_FOLLOWED: usize = 8_192;
+
 // The hash of a line that sets the recipe prefix in a way that is not read: that of the empty word.
 const UNREAD: u32 = 0;
 
@@ -78,12 +82,13 @@ impl<A: Allocator + Copy> Index<A> {
     }
 
     /// Follows the steps of a patch: their lines belong to stale blocks then. Whether it could; if not,
-    /// the index is of no use any more. To be asked before the patch is made. Takes no memory.
+    /// as where the patch has more than 8,192 steps, the index is of no use any more. To be asked before
+    /// the patch is made. Takes no memory.
     pub fn follow(&mut self, patch: &Patch<A>) -> bool
         ensures { (lines : List LocatedLine) → IsIndexOf lines self.old → FitMoves patch.now lines
             → IsTrue result → IsIndexOf (after_moves patch.now lines) self.new }
     {
-        follow_all(&mut self.blocks, &mut self.stale, patch)
+        patch.step_count() <= MOST_FOLLOWED && follow_all(&mut self.blocks, &mut self.stale, patch)
     }
 
     /// Makes each stale block fresh: lists the keys of its lines, and mends the contexts after it.
