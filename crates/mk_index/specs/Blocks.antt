@@ -1,15 +1,14 @@
 -- The blocks of an index: the lines of a document, cut into stretches.
 -- Told in docs/ARCHITECTURE.md, "The index of a session".
-use Rattle.std.specs.Prelude.{◌≡◌, ◌≤◌, ℕ, ◌+◌, ◌-◌, take, drop, Bool, false, if◌then◌else◌, List, [], ◌∷◌, ◌++◌, length, get_or, ◌<◌, Option, Some, None}
-use Rattle.mk_class.specs.Contexts.{Context}
+use Rattle.std.specs.Prelude.{◌≡◌, ◌≤◌, ℕ, ◌+◌, ◌-◌, ◌*◌, ◌/◌, ◌%◌, take, drop, replicate, Bool, true, false, if◌then◌else◌, List, [], ◌∷◌, ◌++◌, length, get_or, ◌<◌, Option, Some, None}
+use Rattle.mk_class.specs.Contexts.{Context, start}
 use Rattle.mk_tree.specs.LocatedLines.{LocatedLine, context_after_located_lines}
 use Rattle.mk_edit_parts.specs.LocatedParts.{AreEachClassed}
 use Rattle.mk_edit_parts.specs.Windows.{NonePasses}
 use Rattle.mk_index.specs.Chains.{Mention, AreChainsOf, AreMentioned, Stored}
 use Rattle.mk_index.specs.Keys.{hashes_of}
 use Rattle.mk_index.specs.declared.blocks.Block.{Block}
-use Rattle.mk_index.specs.declared.blocks.Changed.{Changed}
-use Rattle.mk_index.specs.declared.blocks.Stale.{Stale}
+use Rattle.mk_index.specs.declared.blocks.Group.{Group}
 
 -- the keys of some lines are mentioned, with the block of this number
 abbrev pub AreLinesMentioned : List Mention → (block : ℕ) → List LocatedLine → Type 0
@@ -71,7 +70,15 @@ PassesInMarked p ms marks = (n : ℕ) (ls : List LocatedLine) → n < length mar
     → get_or marks n false ≡ false → AreEachClassed ls → AreLinesMentioned ms n ls
     → NonePasses p ls
 
--- ---- stale blocks
+-- a block of some lines, of which no key is listed
+abbrev pub unlisted : (count : ℕ) → Block
+unlisted n = record { count = n; front = 0; back = 0; is_stale = true; context = start }
+
+-- blocks of 16 lines each, and of the lines that are left
+abbrev pub unlisted_blocks : (lines : ℕ) → List Block
+unlisted_blocks n = replicate (n / 16) (unlisted 16) ++ unlisted (n % 16) ∷ []
+
+-- ---- groups of blocks
 
 -- no block is stale
 abbrev pub AreFresh : List Block → Type 0
@@ -83,17 +90,25 @@ abbrev pub lines_in : List Block → ℕ
 lines_in [] = 0
 lines_in (b ∷ bs) = b.count + lines_in bs
 
--- All blocks above the first of these are fresh, and all from the last on. The first of these stands
--- below so many lines.
-pub record IsStaleOf (stale : Stale) (blocks : List Block) : Type 0 where
-  pub above_fresh : AreFresh (take stale.first blocks)
-  pub at_is : lines_in (take stale.first blocks) ≡ stale.at
-  pub below_fresh : AreFresh (drop stale.end blocks)
+-- the blocks of the group of this number, from 0
+abbrev pub blocks_of : (group : ℕ) → List Block → List Block
+blocks_of k bs = take 128 (drop (k * 128) bs)
 
--- One block has changed: those above it and those below it are as they were, and those above it have
--- so many lines.
-pub record IsChangedAt (changed : Changed) (old new : List Block) : Type 0 where
-  pub end_is : changed.end ≡ changed.number + 1
-  pub above_is : take changed.number new ≡ take changed.number old
-  pub below_is : drop changed.end new ≡ drop changed.end old
-  pub at_is : lines_in (take changed.number old) ≡ changed.at
+-- A group of these blocks says how many lines they have. If it says that none may be stale, none is.
+pub record IsGroupOf (blocks : List Block) (group : Group) : Type 0 where
+  pub lines_are : group.lines ≡ lines_in blocks
+  pub are_fresh : group.may_be_stale ≡ false → AreFresh blocks
+
+-- the first groups of some blocks
+abbrev pub AreFirstGroupsOf : List Block → List Group → Type 0
+AreFirstGroupsOf bs gs = (k : ℕ) (g : Group) → k < length gs → g ≡ get_or gs k g → IsGroupOf (blocks_of k bs) g
+
+-- all groups of some blocks
+pub record AreGroupsOf (blocks : List Block) (groups : List Group) : Type 0 where
+  pub count_is : length groups ≡ length blocks / 128 + 1
+  pub each : AreFirstGroupsOf blocks groups
+
+-- the group of each block that is marked is marked
+pub record AreGroupMarks (blocks groups : List Bool) : Type 0 where
+  pub count_is : length groups ≡ length blocks / 128 + 1
+  pub each : (b : ℕ) → get_or blocks b false ≡ true → get_or groups (b / 128) false ≡ true

@@ -2,7 +2,7 @@
 -- hash, and each hash a bucket. The entries of one bucket are a chain: each entry says which entry
 -- before it is the last of the same bucket.
 -- Told in docs/ARCHITECTURE.md, "The index of a session".
-use Rattle.std.specs.Prelude.{◌≡◌, ◌<◌, ◌⊎◌, ℕ, suc, ◌+◌, ◌*◌, ◌%◌, ◌==◌, if◌then◌else◌, List, [], ◌∷◌, ◌++◌, length, map, reverse, get_or}
+use Rattle.std.specs.Prelude.{◌≡◌, ◌<◌, ◌⊎◌, ℕ, suc, ◌+◌, ◌*◌, ◌/◌, ◌%◌, ◌==◌, if◌then◌else◌, List, [], ◌∷◌, ◌++◌, length, map, reverse, get_or}
 use Rattle.mk_index.specs.declared.chains.Entry.{Entry}
 
 -- ---- hashes
@@ -35,9 +35,13 @@ AreMentioned ms b (h ∷ hs) = IsMentioned ms h b × AreMentioned ms b hs
 
 -- ---- chains
 
+-- the bucket of a hash, among this number of buckets
+abbrev pub bucket_of : (count hash : ℕ) → ℕ
+bucket_of count h = h * 2654435769 % 4294967296 * count / 4294967296
+
 -- the buckets of some mentions, among this number of buckets
 abbrev pub buckets_of : (count : ℕ) → List Mention → List ℕ
-buckets_of count ms = map (λ m. m.hash % count) ms
+buckets_of count ms = map (λ m. bucket_of count m.hash) ms
 
 -- Which of some buckets, given last first, is the last that is this one: its number from 1; 0 if
 -- none is.
@@ -50,7 +54,7 @@ abbrev pub entry_after : (count : ℕ) → Mention → (last_first : List Mentio
 entry_after count m rest = record {
   hash = m.hash;
   block = m.block;
-  before = last_in (m.hash % count) (buckets_of count rest);
+  before = last_in (bucket_of count m.hash) (buckets_of count rest);
 }
 
 -- the entries of some mentions; both are given last first

@@ -7,3 +7,6 @@ pub mod Blocks
 pub mod Indexes
 -- What is known of a document, and what a change of it means for that
 pub mod Effects
+-- # Vocabulary of private contracts
+-- How far a walk over the blocks has come
+pub mod Walks

@@ -1,17 +1,10 @@
 //! The blocks of an index: the lines of a document, cut into stretches.
-ghost use Rattle.std.specs.Prelude.{◌≡◌, ◌≤◌, ◌+◌, ◌++◌, ℕ, List, None, Option, true, IsTrue, IfSome, length, take, drop};
-ghost use Rattle.mk_class.specs.Contexts as contexts;
-ghost use Rattle.mk_class.specs.Contexts.{start};
-ghost use Rattle.mk_tree.specs.LocatedLines.{LocatedLine};
-ghost use Rattle.mk_patch.specs.Moves.{FitMoves, FitsMove, after_move, after_moves};
-ghost use Rattle.mk_patch.specs.StepMoves.{move_of};
-ghost use Rattle.mk_index.specs.Blocks.{AreBlocks, AreFresh, IsChangedAt, IsStaleOf};
-ghost use Rattle.mk_index.specs.declared.blocks.Block as blocks;
-ghost use Rattle.mk_index.specs.Chains.{Mention};
+ghost use Rattle.std.specs.Prelude.{◌≡◌, ◌<◌, ◌≤◌, ◌+◌, ◌*◌, ◌/◌, false, min, IfOk, length, get_or, set};
+ghost use Rattle.mk_index.specs.Blocks.{AreFresh, IsGroupOf, blocks_of, unlisted, unlisted_blocks};
 
 use mk_class::Context;
-use mk_patch::{Patch, Step};
-use std::alloc::Allocator;
+use std::alloc::{AllocError, Allocator, Global};
+use std::marker::Model;
 use std::mem::size_of;
 
 /// Lines of a document that stand one below the other. Each count is one of lines.
@@ -32,7 +25,7 @@ pub struct Block {
 impl Block {
     /// A block of so many lines, of which no key is listed. Where it stands is unknown.
     pub fn unlisted(count: u16) -> Block
-        ensures { result ≡ record { count = count; front = 0; back = 0; is_stale = true; context = start } }
+        ensures { result ≡ unlisted count }
     {
         Block {
             count,
@@ -44,177 +37,153 @@ impl Block {
     }
 }
 
-/// A block that a step of a patch has changed.
-#[derive(Clone, Copy)]
-pub struct Changed {
-    /// Its number, from 0.
-    pub number: usize,
-    /// The number after it.
-    pub end: usize,
-    /// How many lines stand before it.
-    pub at: usize,
-}
-
-/// Which blocks may be stale: those from one number, from 0, up to another.
-#[derive(Clone, Copy)]
-pub struct Stale {
-    /// The number of the first.
-    pub first: usize,
-    /// How many lines stand before the first.
-    pub at: usize,
-    /// The number after that of the last.
-    pub end: usize,
-}
-
-impl Stale {
-    /// No block.
-    pub fn none() -> Stale
-        ensures { (blocks : List blocks.Block) → AreFresh blocks → IsStaleOf result blocks }
-    {
-        Stale {
-            first: 0,
-            at: 0,
-            end: 0,
-        }
-    }
-
-    /// All blocks, so many.
-    pub fn all(count: usize) -> Stale
-        ensures { (blocks : List blocks.Block) → length blocks ≡ count → IsStaleOf result blocks }
-    {
-        Stale {
-            first: 0,
-            at: 0,
-            end: count,
-        }
-    }
-
-    /// These blocks, and one that has changed.
-    pub fn with(self, changed: Changed) -> Stale
-        ensures { (old new : List blocks.Block) → IsStaleOf self old → IsChangedAt changed old new
-            → IsStaleOf result new }
-    {
-        let (first, at) = if self.first < self.end && self.first <= changed.number {
-            (self.first, self.at)
-        } else {
-            (changed.number, changed.at)
-        };
-        Stale {
-            first,
-            at,
-            end: self.end.max(changed.end),
-        }
-    }
-}
-
 // What is made of many lines is to be small.
 const _: () = prove!(size_of::<Block>() == 16);
 
-// The most lines of a block.
-const MOST_LINES: u16 = 2_048;
+/// How many blocks stand in a group; in the last one there may be fewer.
+pub const GROUP: usize = 128;
 
-/// Follows the steps of a patch. Whether it could; if not, the blocks are of no use any more. Takes no
-/// memory.
-pub(crate) fn follow_all<A: Allocator>(
-    blocks: &mut [Block],
-    stale: &mut Stale,
-    patch: &Patch<A>,
-) -> bool
-    requires stale { IsStaleOf stale.old blocks.old }
-    ensures stale { IsStaleOf stale.new blocks.new }
-    ensures blocks { (mentions : List Mention) (number : ℕ) (expected : Option contexts.Context)
-        (lines : List LocatedLine) (end : contexts.Context)
-        → AreBlocks mentions number expected lines blocks.old end → FitMoves patch.now lines
-        → IsTrue result
-        → AreBlocks mentions number expected (after_moves patch.now lines) blocks.new end }
-{
-    'steps: for at in 0..patch.step_count() {
-        let Some(step) = patch.step(at) else {
-            return false;
-        };
-        let Some(changed) = follow(blocks, step) else {
-            return false;
-        };
-        *stale = stale.with(changed);
-    }
-    true
+// How many lines a block has at first.
+const BLOCK_LINES: usize = 16;
+
+/// What is known of the blocks of a group, so that a walk passes all of them at once.
+#[derive(Clone, Copy)]
+pub struct Group {
+    /// How many lines the blocks have.
+    pub lines: usize,
+    /// Whether one of the blocks may be stale.
+    pub may_be_stale: bool,
 }
 
-// Follows a step of a patch. The block that it has changed; if there is none, the blocks are of no use
-// any more.
-fn follow<A: Allocator>(blocks: &mut [Block], step: &Step<A>) -> Option<Changed>
-    ensures changed { IfSome result (λ changed. IsChangedAt changed blocks.old blocks.new) }
-    ensures same { result ≡ None → blocks.new ≡ blocks.old }
-    ensures blocks { (mentions : List Mention) (number : ℕ) (expected : Option contexts.Context)
-        (lines : List LocatedLine) (end : contexts.Context)
-        → AreBlocks mentions number expected lines blocks.old end
-        → FitsMove (move_of step.now) lines → IfSome result (λ changed.
-        AreBlocks mentions number expected (after_move (move_of step.now) lines) blocks.new end) }
-{
-    match step {
-        Step::PutIn(at, _) => splice(blocks, *at, 0, 1),
-        Step::TakeOut(at) => splice(blocks, *at, 1, 0),
-        Step::Exchange(at, _) => splice(blocks, *at, 1, 1),
-        Step::SwapEnd(_) => match last_line(blocks) {
-            Some(last) => splice(blocks, last, 1, 1),
-            None => None,
-        },
-    }
+/// The blocks of an index, in groups. Contracts see the blocks.
+#[derive(Drop)]
+pub struct Blocks<A: Allocator = Global> {
+    items: Vec<Block, A>,
+    groups: Vec<Group, A>,
 }
 
-// Follows a change of the lines: at an index from 0, some lines go out and some come in, and all of
-// them belong to one block, which is stale then. `None` if there is no such block, or if it has 2,048
-// lines already: then nothing has changed.
-fn splice(blocks: &mut [Block], at: usize, takes: u16, puts: u16) -> Option<Changed>
-    requires { puts ≤ 1 }
-    ensures changed { IfSome result (λ changed. IsChangedAt changed blocks.old blocks.new) }
-    ensures same { result ≡ None → blocks.new ≡ blocks.old }
-    ensures blocks { (mentions : List Mention) (number : ℕ) (expected : Option contexts.Context)
-        (lines put_in : List LocatedLine) (end : contexts.Context)
-        → AreBlocks mentions number expected lines blocks.old end → length put_in ≡ puts
-        → IfSome result (λ changed. AreBlocks mentions number expected
-        (take at lines ++ (put_in ++ drop (at + takes) lines)) blocks.new end) }
-{
-    let mut above = 0;
-    'numbers: for number in 0..blocks.len() {
-        let block = blocks[number];
-        let count = block.count as usize;
-        let rest = at - above;
-        if rest <= count && takes as usize <= count - rest {
-            if block.count >= MOST_LINES {
-                return None;
-            }
-            blocks[number] = Block {
-                count: block.count - takes + puts,
-                front: block.front.min(rest as u16),
-                back: block.back.min(block.count - rest as u16 - takes),
-                is_stale: true,
-                ..block
-            };
-            return Some(Changed {
-                number,
-                end: number + 1,
-                at: above,
-            });
+impl<A: Allocator> Model for Blocks<A> {
+    ghost use Rattle.std.specs.Prelude.{List};
+    ghost use Rattle.mk_index.specs.Blocks.{AreGroupsOf};
+    ghost use Rattle.mk_index.specs.declared.blocks.Block.{Block};
+
+    ghost Value = { List Block };
+
+    ghost view = { λ b. b.items.items };
+
+    ghost invariant = { λ b. AreGroupsOf b.items.items b.groups.items };
+}
+
+impl<A: Allocator + Copy> Blocks<A> {
+    /// Blocks of 16 lines each, and of the lines that are left, of which no key is listed.
+    /// [`AllocError`] if a growth was refused.
+    pub fn new(alloc: A, lines: usize) -> Result<Blocks<A>, AllocError>
+        ensures { IfOk result (λ blocks. blocks ≡ unlisted_blocks lines) }
+    {
+        let full = Block::unlisted(BLOCK_LINES as u16);
+        let mut items = Vec::from_elem(alloc, full, lines / BLOCK_LINES)?;
+        items.push(Block::unlisted((lines % BLOCK_LINES) as u16))?;
+        let mut groups = Vec::new(alloc);
+        'groups: for group in 0..items.len() / GROUP + 1 {
+            groups.push(group_of(&items, group))?;
         }
-        if rest < count {
-            return None;
-        }
-        above += count;
+        Ok(Blocks { items, groups })
     }
-    None
+
+    /// How many blocks there are.
+    pub fn len(&self) -> usize
+        ensures { result ≡ length self.now }
+    {
+        self.items.len()
+    }
+
+    /// The block of a number, from 0.
+    pub fn block(&self, number: usize) -> Block
+        requires { number < length self.now }
+        ensures { result ≡ get_or self.now number result }
+    {
+        self.items[number]
+    }
+
+    /// How many groups there are.
+    pub fn group_count(&self) -> usize
+        ensures { result ≡ length self.now / 128 + 1 }
+    {
+        self.groups.len()
+    }
+
+    /// The group of a number, from 0.
+    pub fn group(&self, number: usize) -> Group
+        requires { number ≤ length self.now / 128 }
+        ensures { IsGroupOf (blocks_of number self.now) result }
+    {
+        self.groups[number]
+    }
+
+    /// The number of the first block of a group.
+    pub fn first_of(&self, group: usize) -> usize
+        requires { group ≤ length self.now / 128 }
+        ensures { result ≡ group * 128 }
+    {
+        // This bounds the number of blocks.
+        let _count = self.items.len();
+        group * GROUP
+    }
+
+    /// The number after that of the last block of a group.
+    pub fn end_of(&self, group: usize) -> usize
+        requires { group ≤ length self.now / 128 }
+        ensures { result ≡ min (length self.now) (group * 128 + 128) }
+    {
+        self.items.len().min(self.first_of(group) + GROUP)
+    }
+
+    /// Puts a block in the place of another.
+    pub fn change(&mut self, number: usize, block: Block)
+        requires { number < length self.old }
+        ensures { self.new ≡ set self.old number block }
+    {
+        self.items[number] = block;
+        let group = number / GROUP;
+        self.groups[group] = group_of(&self.items, group);
+    }
+
+    /// Puts a fresh block in the place of one that has as many lines.
+    pub fn renew(&mut self, number: usize, block: Block)
+        requires in_range { number < length self.old }
+        requires fresh { block.is_stale ≡ false }
+        requires count { block.count ≡ (get_or self.old number block).count }
+        ensures { self.new ≡ set self.old number block }
+    {
+        self.items[number] = block;
+    }
+
+    /// Notes that no block of a group is stale.
+    pub fn note_fresh(&mut self, group: usize)
+        requires in_range { group ≤ length self.old / 128 }
+        requires fresh { AreFresh (blocks_of group self.old) }
+        ensures { self.new ≡ self.old }
+    {
+        let lines = self.groups[group].lines;
+        self.groups[group] = Group {
+            lines,
+            may_be_stale: false,
+        };
+    }
 }
 
-// The index of the last line, from 0, if the blocks have a line.
-fn last_line(blocks: &[Block]) -> Option<usize>
-    ensures { (mentions : List Mention) (number : ℕ) (expected : Option contexts.Context)
-        (lines : List LocatedLine) (end : contexts.Context)
-        → AreBlocks mentions number expected lines blocks.now end
-        → IfSome result (λ last. last + 1 ≡ length lines) }
+// The group of a number, from 0, of which each block may be stale.
+fn group_of(blocks: &[Block], number: usize) -> Group
+    requires { number * 128 ≤ length blocks.now }
+    ensures { IsGroupOf (blocks_of number blocks.now) result }
 {
-    let mut lines = 0usize;
-    'each: for block in blocks {
-        lines = lines.checked_add(block.count as usize)?;
+    let first = number * GROUP;
+    let mut lines = 0;
+    'numbers: for at in first..blocks.len().min(first + GROUP) {
+        lines += blocks[at].count as usize;
     }
-    lines.checked_sub(1)
+    Group {
+        lines,
+        may_be_stale: true,
+    }
 }

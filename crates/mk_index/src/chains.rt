@@ -3,6 +3,7 @@ ghost use Rattle.std.specs.Prelude.{◌≡◌, ◌<◌, ◌==◌, ◌-◌, if◌
 ghost use Rattle.mk_index.specs.Chains.{AreChainsOf, HaveListed, IsMentioned, Mention};
 
 use crate::bucket::bucket_of;
+use crate::marks::Marks;
 use std::alloc::{AllocError, Allocator, Global};
 use std::marker::Model;
 use std::mem::size_of;
@@ -52,14 +53,15 @@ impl<A: Allocator> Model for Chains<A> {
 
     ghost view = { λ c. record { heads = c.heads.items; entries = c.entries.items } };
 
-    ghost invariant = { λ c. 0 < length c.heads.items };
+    ghost invariant = { λ c. (0 < length c.heads.items) × (length c.heads.items < 4294967296) };
 }
 
 impl<A: Allocator + Copy> Chains<A> {
     /// Chains without an entry, with this number of buckets. [`AllocError`] if a growth was
     /// refused.
     pub fn new(alloc: A, buckets: usize) -> Result<Chains<A>, AllocError>
-        requires { 0 < buckets }
+        requires some { 0 < buckets }
+        requires few { buckets < 4294967296 }
         ensures { IfOk result (λ chains. AreChainsOf [] chains) }
     {
         let heads = Vec::from_elem(alloc, 0, buckets)?;
@@ -158,7 +160,7 @@ impl<A: Allocator + Copy> Chains<A> {
     /// Marks each block in which a word of this hash stands, where the block is among the marks, and
     /// takes back no mark. False if the chain of the hash's bucket is too long: then some of these
     /// blocks may lack their mark. Takes no memory.
-    pub fn mark(&self, hash: u32, marks: &mut [bool]) -> bool
+    pub fn mark(&self, hash: u32, marks: &mut Marks<A>) -> bool
         ensures length { length marks.new ≡ length marks.old }
         ensures kept { (b : ℕ) → get_or marks.old b false ≡ true → get_or marks.new b false ≡ true }
         ensures marked { (ms : List Mention) → AreChainsOf ms self.now → IsTrue result
@@ -171,21 +173,10 @@ impl<A: Allocator + Copy> Chains<A> {
                 return true;
             };
             if entry.hash == hash {
-                mark_block(marks, entry.block as usize);
+                marks.mark(entry.block as usize);
             }
             number = entry.before;
         }
         number == 0
-    }
-}
-
-// Marks a block, if it is among the marks.
-fn mark_block(marks: &mut [bool], block: usize)
-    ensures length { length marks.new ≡ length marks.old }
-    ensures kept { (b : ℕ) → get_or marks.old b false ≡ true → get_or marks.new b false ≡ true }
-    ensures marked { block < length marks.old → get_or marks.new block false ≡ true }
-{
-    if block < marks.len() {
-        marks[block] = true;
     }
 }

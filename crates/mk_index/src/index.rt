@@ -1,5 +1,6 @@
 //! An index of a document: in which block of its lines each word stands.
-ghost use Rattle.std.specs.Prelude.{◌≡◌, ◌≤◌, ◌+◌, ◌-◌, ℕ, List, Option, Some, Bool, false, IsTrue, OnOk, IfOk, IfSome, length, take, drop};
+ghost use Rattle.std.specs.Prelude.{◌≡◌, ◌≤◌, ◌+◌, ◌-◌, ◌*◌, ◌/◌, ℕ, List, Option, Some, Bool, false, IsTrue, OnOk, IfOk, IfSome, length, take, drop};
+ghost use Rattle.mk_lines.specs.Limits.{max_text};
 ghost use Rattle.mk_class.specs.Contexts as contexts;
 ghost use Rattle.mk_class.specs.Contexts.{start};
 ghost use Rattle.mk_tree.specs.Documents.{IsFaithful};
@@ -9,15 +10,18 @@ ghost use Rattle.mk_edit_parts.specs.AddressViews.{address_seen};
 ghost use Rattle.mk_edit_parts.specs.Seeking.{IsKnownOf};
 ghost use Rattle.mk_edit_parts.specs.Windows.{AreWindows, concerns_rename, first_place};
 ghost use Rattle.mk_patch.specs.Moves.{FitMoves, after_moves};
-ghost use Rattle.mk_index.specs.Blocks.{AreBlocks, AreLinesMentioned, HaveListedLines, IsCarried, IsExpected, PassesInMarked};
+ghost use Rattle.mk_index.specs.Blocks.{AreBlocks, AreLinesMentioned, HaveListedLines, IsCarried, IsExpected, PassesInMarked, blocks_of, lines_in};
+ghost use Rattle.mk_index.specs.Walks.{HasWindows, IsRefreshed};
 ghost use Rattle.mk_index.specs.Chains.{AreChainsOf, Mention};
 ghost use Rattle.mk_index.specs.Keys.{IsKeyOf};
 ghost use Rattle.mk_index.specs.Indexes.{AreMarked, IsFreshIndexOf, IsIndexOf, PassesByKeys};
 
-use crate::blocks::{Block, Stale, follow_all};
+use crate::blocks::{Block, Blocks, Group};
 use crate::bucket::hash_of;
 use crate::chains::{Chains, MOST_STEPS};
+use crate::follow::follow_all;
 use crate::keys::list_keys;
+use crate::marks::Marks;
 use mk_class::Context;
 use mk_edit_parts::address::Address;
 use mk_edit_parts::seek::{Found, Sought, seek_within};
@@ -26,9 +30,6 @@ use mk_patch::Patch;
 use mk_tree::Doc;
 use std::alloc::{AllocError, Allocator, Global};
 use std::marker::Model;
-
-// How many lines a block has at first.
-const BLOCK_LINES: usize = 128;
 
 // The most steps of a patch that are followed. Each takes a look at the blocks above its line, so that
 // very many would take longer than the making of another index.
@@ -42,9 +43,7 @@ const UNREAD: u32 = 0;
 #[derive(Drop)]
 pub struct Index<A: Allocator = Global> {
     chains: Chains<A>,
-    blocks: Vec<Block, A>,
-    // Which blocks may be stale.
-    stale: Stale,
+    blocks: Blocks<A>,
     // The context after the last line.
     end: Context,
     // How many entries the chains had when all blocks were first made fresh; 0 before that.
@@ -52,14 +51,11 @@ pub struct Index<A: Allocator = Global> {
 }
 
 impl<A: Allocator> Model for Index<A> {
-    ghost use Rattle.mk_index.specs.Blocks.{IsStaleOf};
     ghost use Rattle.mk_index.specs.Indexes.{Stored};
 
     ghost Value = { Stored };
 
-    ghost view = { λ i. record { chains = i.chains; blocks = i.blocks.items; end = i.end } };
-
-    ghost invariant = { λ i. IsStaleOf i.stale i.blocks.items };
+    ghost view = { λ i. record { chains = i.chains; blocks = i.blocks; end = i.end } };
 }
 
 impl<A: Allocator + Copy> Index<A> {
@@ -67,15 +63,11 @@ impl<A: Allocator + Copy> Index<A> {
     pub fn new(alloc: A, doc: &Doc<A>) -> Result<Index<A>, AllocError>
         ensures { IfOk result (λ index. IsIndexOf doc.now index) }
     {
-        let full = Block::unlisted(BLOCK_LINES as u16);
-        let mut blocks = Vec::from_elem(alloc, full, doc.len() / BLOCK_LINES)?;
-        blocks.push(Block::unlisted((doc.len() % BLOCK_LINES) as u16))?;
+        let blocks = Blocks::new(alloc, doc.len())?;
         let chains = Chains::new(alloc, doc.len() / 4 + 1)?;
-        let stale = Stale::all(blocks.len());
         Ok(Index {
             chains,
             blocks,
-            stale,
             end: Context::start(),
             first_entries: 0,
         })
@@ -88,7 +80,7 @@ impl<A: Allocator + Copy> Index<A> {
         ensures { (lines : List LocatedLine) → IsIndexOf lines self.old → FitMoves patch.now lines
             → IsTrue result → IsIndexOf (after_moves patch.now lines) self.new }
     {
-        patch.step_count() <= MOST_FOLLOWED && follow_all(&mut self.blocks, &mut self.stale, patch)
+        patch.step_count() <= MOST_FOLLOWED && follow_all(&mut self.blocks, patch)
     }
 
     /// Makes each stale block fresh: lists the keys of its lines, and mends the contexts after it.
@@ -98,16 +90,51 @@ impl<A: Allocator + Copy> Index<A> {
         requires index { IsIndexOf doc.now self.old }
         ensures { OnOk result (IsFreshIndexOf doc.now self.new) }
     {
-        let mut at = self.stale.at;
+        let mut at = 0;
         let mut carried = None;
         // The contract of `len` bounds the number of lines.
         let _lines = doc.len();
-        'numbers: for number in self.stale.first..self.blocks.len() {
-            if self.stale.end <= number && carried.is_none() {
-                self.stale = Stale::none();
-                return Ok(());
+        'groups: for group in 0..self.blocks.group_count() {
+            let Group {
+                lines,
+                may_be_stale,
+            } = self.blocks.group(group);
+            if may_be_stale || carried.is_some() {
+                carried = self.refresh_group(doc, group, at, carried)?;
             }
-            let block = met(self.blocks[number], carried);
+            at += lines;
+        }
+        if let Some(context) = carried {
+            self.end = context;
+        }
+        if self.first_entries == 0 {
+            self.first_entries = self.chains.entries();
+        }
+        Ok(())
+    }
+
+    // Makes each stale block of a group fresh. This many lines stand above the group, and this context
+    // is carried to it. The context that is carried to the group below.
+    fn refresh_group(
+        &mut self,
+        doc: &Doc<A>,
+        group: usize,
+        above: usize,
+        carried: Option<Context>,
+    ) -> Result<Option<Context>, AllocError>
+        requires faithful { IsFaithful doc.now }
+        requires in_range { group ≤ length self.old.blocks / 128 }
+        requires walk { IsRefreshed doc.now self.old carried (group * 128) above }
+        ensures { IfOk result (λ after. IsRefreshed doc.now self.new after (group * 128 + 128)
+            (above + lines_in (blocks_of group self.old.blocks))
+            × (length self.new.blocks ≡ length self.old.blocks)) }
+    {
+        let mut at = above;
+        let mut carried = carried;
+        // The contract of `len` bounds the number of lines.
+        let _lines = doc.len();
+        'numbers: for number in self.blocks.first_of(group)..self.blocks.end_of(group) {
+            let block = met(self.blocks.block(number), carried);
             let count = block.count as usize;
             if block.is_stale {
                 let place = Found {
@@ -118,26 +145,21 @@ impl<A: Allocator + Copy> Index<A> {
                     return Err(AllocError);
                 };
                 let after = list_lines(&mut self.chains, doc, place, &block, named)?;
-                self.blocks[number] = Block {
+                let fresh = Block {
                     front: block.count,
                     back: block.count,
                     is_stale: false,
                     ..block
                 };
+                self.blocks.renew(number, fresh);
                 carried = Some(after);
             } else {
                 carried = None;
             }
             at += count;
         }
-        if let Some(context) = carried {
-            self.end = context;
-        }
-        self.stale = Stale::none();
-        if self.first_entries == 0 {
-            self.first_entries = self.chains.entries();
-        }
-        Ok(())
+        self.blocks.note_fresh(group);
+        Ok(carried)
     }
 
     /// Whether an index that gives up is worth making anew. It is when it has listed as many entries
@@ -155,7 +177,7 @@ impl<A: Allocator + Copy> Index<A> {
         ensures { (test : LocatedLine → Bool) → PassesByKeys test hashes.now
             → IfSome result (λ windows. AreWindows test first_place doc.now windows.items) }
     {
-        let mut marks = Vec::from_elem(alloc, false, self.blocks.len()).ok()?;
+        let mut marks = Marks::new(alloc, self.blocks.len()).ok()?;
         if !mark_all(&self.chains, hashes, &mut marks) {
             return None;
         }
@@ -195,7 +217,7 @@ impl<A: Allocator + Copy> Index<A> {
         &self,
         alloc: A,
         doc: &Doc<A>,
-        marks: &[bool],
+        marks: &Marks<A>,
     ) -> Result<Vec<Window, A>, AllocError>
         requires faithful { IsFaithful doc.now }
         requires index { IsFreshIndexOf doc.now self.now }
@@ -209,17 +231,11 @@ impl<A: Allocator + Copy> Index<A> {
         let mut at = 0;
         // The contract of `len` bounds the number of lines.
         let _lines = doc.len();
-        'numbers: for number in 0..self.blocks.len() {
-            let block = self.blocks[number];
-            let count = block.count as usize;
-            if marks[number] {
-                let place = Found {
-                    at,
-                    context: block.context,
-                };
-                windows.push(Window { place, count })?;
+        'groups: for group in 0..self.blocks.group_count() {
+            if marks.is_group_marked(group) {
+                add_windows(&self.blocks, group, at, marks, &mut windows)?;
             }
-            at += count;
+            at += self.blocks.group(group).lines;
         }
         let place = Found {
             at,
@@ -228,6 +244,39 @@ impl<A: Allocator + Copy> Index<A> {
         windows.push(Window { place, count: 0 })?;
         Ok(windows)
     }
+}
+
+// Adds a window for each block of a group that is marked. This many lines stand above the group.
+fn add_windows<A: Allocator + Copy>(
+    blocks: &Blocks<A>,
+    group: usize,
+    above: usize,
+    marks: &Marks<A>,
+    windows: &mut Vec<Window, A>,
+) -> Result<(), AllocError>
+    requires in_range { group ≤ length blocks.now / 128 }
+    requires marks { length marks.now ≡ length blocks.now }
+    requires few { above + lines_in (blocks_of group blocks.now) ≤ max_text }
+    ensures { (test : LocatedLine → Bool) (lines : List LocatedLine) (mentions : List Mention)
+        (end : contexts.Context) → PassesInMarked test mentions marks.now
+        → HasWindows test lines mentions blocks.now end (group * 128) above windows.old.items
+        → IfOk result (λ _. HasWindows test lines mentions blocks.now end (group * 128 + 128)
+        (above + lines_in (blocks_of group blocks.now)) windows.new.items) }
+{
+    let mut at = above;
+    'numbers: for number in blocks.first_of(group)..blocks.end_of(group) {
+        let block = blocks.block(number);
+        let count = block.count as usize;
+        if marks.is_marked(number) {
+            let place = Found {
+                at,
+                context: block.context,
+            };
+            windows.push(Window { place, count })?;
+        }
+        at += count;
+    }
+    Ok(())
 }
 
 // The hash of the word that an address says; any hash, if there is no address.
@@ -243,7 +292,11 @@ fn key_of(address: Option<Address>) -> u32
 
 // Marks each block in which a key of one of some hashes stands. Whether it could: it gives up where
 // too many do.
-fn mark_all<A: Allocator + Copy>(chains: &Chains<A>, hashes: &[u32], marks: &mut [bool]) -> bool
+fn mark_all<A: Allocator + Copy>(
+    chains: &Chains<A>,
+    hashes: &[u32],
+    marks: &mut Marks<A>,
+) -> bool
     ensures length { length marks.new ≡ length marks.old }
     ensures marked { IsTrue result → AreMarked chains.now hashes.now marks.new }
 {

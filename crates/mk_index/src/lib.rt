@@ -4,6 +4,8 @@
 //! - [`chains`]: which words stand in which block of lines.
 //! - [`keys`]: the words by which edits find a line.
 //! - [`blocks`]: the lines of a document, cut into blocks.
+//! - [`follow`]: how blocks follow the steps of a patch.
+//! - [`marks`]: which blocks are marked.
 //! - [`index`]: the words of all blocks.
 //! - [`effect`]: what a change of the document means for what is known of it.
 //! - [`finder`]: what is known of a document that is edited.
@@ -18,8 +20,10 @@ pub mod change;
 pub mod document;
 pub mod effect;
 pub mod finder;
+pub mod follow;
 pub mod index;
 pub mod keys;
+pub mod marks;
 
 pub use change::IndexedPatch;
 pub use document::IndexedDoc;

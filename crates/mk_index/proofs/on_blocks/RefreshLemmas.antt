@@ -1,18 +1,19 @@
 -- The walk that makes stale blocks fresh.
-use Rattle.std.proofs.Common.{◌≡◌, refl, sym, ap, ◌∙◌, subst, arith, ℕ, zero, suc, ◌+◌, ◌-◌, ◌≤◌, List, [], ◌∷◌, ◌++◌, Bool, false, length, length-append, append_assoc, append-nil, take, drop, get_or, set, Option, Some, None, if◌then◌else◌}
-use Rattle.std.proofs.lemmas.List.{length-take-le, take_at, take_all, take_more, take_more_set, drop-set-lt, take-append-drop, take-set-le}
+use Rattle.std.proofs.Common.{◌≡◌, refl, sym, ap, ◌∙◌, subst, arith, ℕ, zero, suc, ◌+◌, ◌-◌, ◌≤◌, ◌⊎◌, inl, inr, List, [], ◌∷◌, ◌++◌, Bool, false, length, length-append, append_assoc, append-nil, take, drop, get_or, set, Option, Some, None, if◌then◌else◌}
+use Rattle.std.proofs.lemmas.List.{length-take-le, take_at, take_all, take_more, take_more_set, drop_all, drop-set-lt, length-drop}
 use Rattle.std.proofs.Math.Seq.{drop-cons}
 use Rattle.mk_class.specs.Contexts.{Context, start}
 use Rattle.mk_tree.specs.LocatedLines.{LocatedLine, context_after_located_lines}
 use Rattle.mk_tree.proofs.Reading.{context_after-append}
-use Rattle.mk_index.specs.Blocks.{AreBlocks, AreFresh, AreLinesMentioned, HaveListedLines, IsBlock, IsCarried, IsExpected, IsStaleOf, expected_after, lines_in}
+use Rattle.mk_index.specs.Blocks.{AreBlocks, AreFresh, AreLinesMentioned, HaveListedLines, IsBlock, IsCarried, IsExpected, expected_after, lines_in}
 use Rattle.mk_index.specs.Chains.{AreChainsOf, Mention}
 use Rattle.mk_index.specs.Chains as chains
 use Rattle.mk_index.specs.Indexes.{IsFreshIndexOf, IsIndexOf, Stored}
+use Rattle.mk_index.specs.Walks.{IsRefreshed}
 use Rattle.mk_index.specs.declared.blocks.Block.{Block}
-use Rattle.mk_index.specs.declared.blocks.Stale.{Stale}
+use Rattle.mk_index.proofs.on_blocks.GroupLemmas.{fresh-split, lines_in-below}
 use Rattle.mk_index.proofs.on_blocks.ListedLemmas.{lines-mentioned-more}
-use Rattle.mk_index.proofs.on_blocks.PartLemmas.{fewer-front, further}
+use Rattle.mk_index.proofs.on_blocks.PartLemmas.{drop-drop, fewer-front, further}
 use Rattle.mk_index.proofs.on_blocks.SpliceLemmas.{unexpected}
 
 -- more mentions leave blocks as they are
@@ -75,82 +76,26 @@ fresh-more (c ∷ bs) b h k = (h.0, fresh-more bs b h.1 k)
 
 -- ---- the walk
 
--- the blocks above a number are fresh, and those from it on are blocks of the lines below
-pub record Refreshing (doc : List LocatedLine) (c : chains.Stored) (blocks : List Block) (end : Context) (carried : Option Context) (number at : ℕ) : Type 0 where
-  pub done : List LocatedLine
-  pub rest : List LocatedLine
-  pub mentions : List Mention
-  pub context : Context
-  pub expected : Option Context
-  pub doc_is : doc ≡ done ++ rest
-  pub at_is : length done ≡ at
-  pub chains_are : AreChainsOf mentions c
-  pub context_is : context ≡ context_after_located_lines start done
-  pub fresh : AreFresh (take number blocks)
-  pub above : AreBlocks mentions 0 (Some start) done (take number blocks) context
-  pub below : AreBlocks mentions number expected rest (drop number blocks) end
-  pub carried_is : IsCarried carried expected context
+-- the walk over an index that stores this
+abbrev pub Refreshing : (doc : List LocatedLine) (c : chains.Stored) (blocks : List Block) (end : Context) (carried : Option Context) (number at : ℕ) → Type 0
+Refreshing doc c blocks end carried number at = IsRefreshed doc (record { chains = c; blocks = blocks; end = end }) carried number at
 
--- blocks of which the first are fresh
-record Split (ms : List Mention) (n : ℕ) (c : Context) (ls : List LocatedLine) (bs : List Block) (end : Context) (k : ℕ) : Type 0 where
-  pub done : List LocatedLine
-  pub rest : List LocatedLine
-  pub lines_are : ls ≡ done ++ rest
-  pub count_is : length done ≡ lines_in (take k bs)
-  pub above : AreBlocks ms n (Some c) done (take k bs) (context_after_located_lines c done)
-  pub below : AreBlocks ms (n + k) (Some (context_after_located_lines c done)) rest (drop k bs) end
-
-split-fresh : (ms : List Mention) (n : ℕ) (c : Context) (ls : List LocatedLine) (bs : List Block) (end : Context) (k : ℕ) → AreBlocks ms n (Some c) ls bs end → AreFresh (take k bs) → Split ms n c ls bs end k
-split-fresh ms n c ls bs end zero h fresh =
-    let same : n + 0 ≡ n = omega arith in
-    record { done = []; rest = ls; lines_are = refl; count_is = refl; above = (refl, refl); below = subst (λ (m : ℕ). AreBlocks ms m (Some c) ls bs end) (sym same) h }
-split-fresh ms n c ls [] end (suc k) h fresh = record { done = []; rest = ls; lines_are = refl; count_is = refl; above = (refl, refl); below = h }
-split-fresh ms n c ls (b ∷ bs) end (suc k) h fresh =
-    let next : AreBlocks ms (n + 1) (Some (context_after_located_lines c h.inside)) h.after bs end
-    = subst (λ (o : Option Context). AreBlocks ms (n + 1) o h.after bs end) (expected-fresh b h.inside c fresh.0 h.context_is) h.next_is in
-    let s = split-fresh ms (n + 1) (context_after_located_lines c h.inside) h.after bs end k next fresh.1 in
-    let joined = context_after-append c h.inside s.done in
-    let number : n + 1 + k ≡ n + suc k = omega arith in
-    record {
-      done = h.inside ++ s.done;
-      rest = s.rest;
-      lines_are = h.lines_are ∙ (ap (λ (xs : List LocatedLine). h.inside ++ xs) s.lines_are ∙ sym (append_assoc h.inside s.done s.rest));
-      count_is = let m = length-append h.inside s.done in let r = s.count_is in omega (arith, m, r, h.count_is);
-      above = record {
-        inside = h.inside;
-        after = s.done;
-        lines_are = refl;
-        count_is = h.count_is;
-        context_is = h.context_is;
-        front_is = h.front_is;
-        back_is = h.back_is;
-        whole = h.whole;
-        next_is = subst (λ (o : Option Context). AreBlocks ms (n + 1) o s.done (take k bs) (context_after_located_lines c (h.inside ++ s.done))) (sym (expected-fresh b h.inside c fresh.0 h.context_is))
-            (subst (λ (d : Context). AreBlocks ms (n + 1) (Some (context_after_located_lines c h.inside)) s.done (take k bs) d) (sym joined) s.above);
-      };
-      below = subst (λ (m : ℕ). AreBlocks ms m (Some (context_after_located_lines c (h.inside ++ s.done))) s.rest (drop k bs) end) number
-          (subst (λ (d : Context). AreBlocks ms (n + 1 + k) (Some d) s.rest (drop k bs) end) (sym joined) s.below);
-    }
-
-pub refreshing-from : (doc : List LocatedLine) (i : Stored) (stale : Stale) → IsIndexOf doc i → IsStaleOf stale i.blocks → Refreshing doc i.chains i.blocks i.end None stale.first stale.at
-refreshing-from doc i stale h k =
-    let s = split-fresh h.mentions 0 start doc i.blocks i.end stale.first h.blocks_are k.above_fresh in
-    let number : 0 + stale.first ≡ stale.first = omega arith in
-    record {
-      done = s.done;
-      rest = s.rest;
-      mentions = h.mentions;
-      context = context_after_located_lines start s.done;
-      expected = Some (context_after_located_lines start s.done);
-      doc_is = s.lines_are;
-      at_is = s.count_is ∙ k.at_is;
-      chains_are = h.chains_are;
-      context_is = refl;
-      fresh = k.above_fresh;
-      above = s.above;
-      below = subst (λ (m : ℕ). AreBlocks h.mentions m (Some (context_after_located_lines start s.done)) s.rest (drop stale.first i.blocks) i.end) number s.below;
-      carried_is = refl;
-    }
+pub refreshing-from : (doc : List LocatedLine) (i : Stored) → IsIndexOf doc i → IsRefreshed doc i None 0 0
+refreshing-from doc i h = record {
+  done = [];
+  rest = doc;
+  mentions = h.mentions;
+  context = start;
+  expected = Some start;
+  lines_are = refl;
+  at_is = refl;
+  chains_are = h.chains_are;
+  context_is = refl;
+  fresh = tt;
+  above = (refl, refl);
+  below = h.blocks_are;
+  carried_is = refl;
+}
 
 -- the block at the number
 pub record BlockHere (doc : List LocatedLine) (c : chains.Stored) (blocks : List Block) (end : Context) (carried : Option Context) (number at : ℕ) (b : Block) (w : Refreshing doc c blocks end carried number at) : Type 0 where
@@ -166,7 +111,7 @@ block-here doc c blocks end carried number at b w few is =
     let split : drop number blocks ≡ b ∷ drop (number + 1) blocks = drop-cons blocks number b few ∙ (ap (λ (x : Block). x ∷ drop (suc number) blocks) (sym is) ∙ ap (λ (n : ℕ). b ∷ drop n blocks) step) in
     let k : IsBlock w.mentions number w.expected w.rest b (λ p after. AreBlocks w.mentions (number + 1) p after (drop (number + 1) blocks) end)
     = subst (λ (bs : List Block). AreBlocks w.mentions number w.expected w.rest bs end) split w.below in
-    let whole : doc ≡ w.done ++ (k.inside ++ k.after) = w.doc_is ∙ ap (λ (xs : List LocatedLine). w.done ++ xs) k.lines_are in
+    let whole : doc ≡ w.done ++ (k.inside ++ k.after) = w.lines_are ∙ ap (λ (xs : List LocatedLine). w.done ++ xs) k.lines_are in
     record {
       block = k;
       within = let e = ap length whole in let m = length-append w.done (k.inside ++ k.after) in let n = length-append k.inside k.after in omega (arith, e, m, n, k.count_is, w.at_is);
@@ -181,6 +126,48 @@ block-here doc c blocks end carried number at b w few is =
 taken-count : (bs : List Block) (n : ℕ) → suc n ≤ length bs → 0 + length (take n bs) ≡ n
 taken-count bs n h = let e = length-take-le n bs (omega (arith, h)) in omega (arith, e)
 
+-- the first of the blocks from a number on
+pub head-of : (blocks : List Block) (number : ℕ) (b : Block) (bs : List Block) → drop number blocks ≡ b ∷ bs → b ≡ get_or blocks number b
+head-of [] zero b bs e = absurd (cc)
+head-of [] (suc n) b bs e = absurd (cc)
+head-of (x ∷ blocks) zero b bs e = cc
+head-of (x ∷ blocks) (suc n) b bs e = head-of blocks n b bs e
+
+-- the walk below all blocks
+pub refreshing-over : (doc : List LocatedLine) (c : chains.Stored) (blocks : List Block) (end : Context) (carried : Option Context) (number at m : ℕ) → Refreshing doc c blocks end carried number at → drop number blocks ≡ [] → number ≤ m → Refreshing doc c blocks end carried m at
+refreshing-over doc c blocks end carried number at m w none more =
+    let past : length blocks ≤ number = let l = ap length none in let k = length-drop number blocks in omega (arith, l, k) in
+    let same : take number blocks ≡ take m blocks = take_all number blocks past ∙ sym (take_all m blocks (omega (arith, past, more))) in
+    let end_too : drop m blocks ≡ [] = drop_all m blocks (omega (arith, past, more)) in
+    record {
+      done = w.done;
+      rest = w.rest;
+      mentions = w.mentions;
+      context = w.context;
+      expected = w.expected;
+      lines_are = w.lines_are;
+      at_is = w.at_is;
+      chains_are = w.chains_are;
+      context_is = w.context_is;
+      fresh = subst AreFresh same w.fresh;
+      above = subst (λ (bs : List Block). AreBlocks w.mentions 0 (Some start) w.done bs w.context) same w.above;
+      below = subst (λ (bs : List Block). AreBlocks w.mentions m w.expected w.rest bs end) (sym end_too)
+          (subst (λ (bs : List Block). AreBlocks w.mentions number w.expected w.rest bs end) none w.below);
+      carried_is = w.carried_is;
+    }
+
+-- the walk at the end of a group
+pub refreshing-to : (doc : List LocatedLine) (c : chains.Stored) (blocks : List Block) (end : Context) (carried : Option Context) (number at m : ℕ) → Refreshing doc c blocks end carried number at → (number ≡ m) ⊎ (length blocks ≤ number) → number ≤ m → Refreshing doc c blocks end carried m at
+refreshing-to doc c blocks end carried number at m w (inl e) more = subst (λ (n : ℕ). Refreshing doc c blocks end carried n at) e w
+refreshing-to doc c blocks end carried number at m w (inr past) more = refreshing-over doc c blocks end carried number at m w (drop_all number blocks past) more
+
+-- the lines above are lines of the document
+pub refreshed-within : (doc : List LocatedLine) (i : Stored) (carried : Option Context) (number at : ℕ) → IsRefreshed doc i carried number at → at ≤ length doc
+refreshed-within doc i carried number at w =
+    let e = ap length w.lines_are in
+    let m = length-append w.done w.rest in
+    omega (arith, e, m, w.at_is)
+
 -- a block that stays as it is
 pub block-stays : (doc : List LocatedLine) (c : chains.Stored) (blocks : List Block) (end : Context) (carried : Option Context) (number at : ℕ) (b : Block) (w : Refreshing doc c blocks end carried number at) → suc number ≤ length blocks → b ≡ get_or blocks number b
     → b.is_stale ≡ false → b.context ≡ w.context → Refreshing doc c blocks end None (number + 1) (at + b.count)
@@ -194,7 +181,7 @@ block-stays doc c blocks end carried number at b w few is fresh context =
       mentions = w.mentions;
       context = context_after_located_lines w.context k.inside;
       expected = expected_after b k.inside;
-      doc_is = w.doc_is ∙ (ap (λ (xs : List LocatedLine). w.done ++ xs) k.lines_are ∙ sym (append_assoc w.done k.inside k.after));
+      lines_are = w.lines_are ∙ (ap (λ (xs : List LocatedLine). w.done ++ xs) k.lines_are ∙ sym (append_assoc w.done k.inside k.after));
       at_is = let m = length-append w.done k.inside in omega (arith, m, w.at_is, k.count_is);
       chains_are = w.chains_are;
       context_is = ap (λ (x : Context). context_after_located_lines x k.inside) w.context_is ∙ sym (context_after-append start w.done k.inside);
@@ -227,7 +214,7 @@ block-listed doc c d blocks end carried number at front back b new after w few i
       mentions = all;
       context = context_after_located_lines w.context k.inside;
       expected = expected_after b k.inside;
-      doc_is = w.doc_is ∙ (ap (λ (xs : List LocatedLine). w.done ++ xs) k.lines_are ∙ sym (append_assoc w.done k.inside k.after));
+      lines_are = w.lines_are ∙ (ap (λ (xs : List LocatedLine). w.done ++ xs) k.lines_are ∙ sym (append_assoc w.done k.inside k.after));
       at_is = let m = length-append w.done k.inside in omega (arith, m, w.at_is, k.count_is, count);
       chains_are = m.0.chains_are;
       context_is = ap (λ (x : Context). context_after_located_lines x k.inside) w.context_is ∙ sym (context_after-append start w.done k.inside);
@@ -247,45 +234,62 @@ fresh-both : (xs ys : List Block) → AreFresh xs → AreFresh ys → AreFresh (
 fresh-both [] ys h k = k
 fresh-both (b ∷ xs) ys h k = (h.0, fresh-both xs ys h.1 k)
 
-pub fresh-further : (bs : List Block) (end number : ℕ) → end ≤ number → AreFresh (drop end bs) → AreFresh (drop number bs)
-fresh-further [] zero zero few h = tt
-fresh-further [] zero (suc number) few h = tt
-fresh-further [] (suc end) zero few h = tt
-fresh-further [] (suc end) (suc number) few h = tt
-fresh-further (b ∷ bs) zero zero few h = h
-fresh-further (b ∷ bs) zero (suc number) few h = fresh-further bs zero number (omega arith) h.1
-fresh-further (b ∷ bs) (suc end) zero few h = absurd (omega (arith, few))
-fresh-further (b ∷ bs) (suc end) (suc number) few h = fresh-further bs end number (omega (arith, few)) h
+-- the walk over one fresh block, if there is one more
+refreshing-one : (doc : List LocatedLine) (c : chains.Stored) (blocks : List Block) (end : Context) (number at : ℕ) → Refreshing doc c blocks end None number at → AreFresh (take 1 (drop number blocks)) → Refreshing doc c blocks end None (number + 1) (at + lines_in (take 1 (drop number blocks)))
+refreshing-one doc c blocks end number at w fresh = go (drop number blocks) refl
+  where
+    go : (bs : List Block) → drop number blocks ≡ bs → Refreshing doc c blocks end None (number + 1) (at + lines_in (take 1 (drop number blocks)))
+    go [] e = let a : at ≡ at + 0 = omega arith in rw e (subst (λ (x : ℕ). Refreshing doc c blocks end None (number + 1) x) a (refreshing-over doc c blocks end None number at (number + 1) w e (omega arith)))
+    go (b ∷ bs) e =
+        let few : suc number ≤ length blocks = let l = ap length e in let k = length-drop number blocks in omega (arith, l, k) in
+        let is : b ≡ get_or blocks number b = head-of blocks number b bs e in
+        let h = block-here doc c blocks end None number at b w few is in
+        let context : b.context ≡ w.context = subst (λ (o : Option Context). IsExpected o b.context) w.carried_is h.block.context_is in
+        let parts : AreFresh (b ∷ []) = subst (λ (xs : List Block). AreFresh (take 1 xs)) e fresh in
+        let next = block-stays doc c blocks end None number at b w few is parts.0 context in
+        let k : lines_in (take 1 (drop number blocks)) ≡ b.count + 0 = ap (λ (xs : List Block). lines_in (take 1 xs)) e in
+        let a : at + b.count ≡ at + lines_in (take 1 (drop number blocks)) = omega (arith, k) in
+        subst (λ (x : ℕ). Refreshing doc c blocks end None (number + 1) x) a next
 
--- the walk where all blocks below are fresh
-pub refreshing-enough : (doc : List LocatedLine) (c : chains.Stored) (blocks : List Block) (end : Context) (number at : ℕ) (w : Refreshing doc c blocks end None number at) → number ≤ length blocks → AreFresh (drop number blocks) → IsFreshIndexOf doc (record { chains = c; blocks = blocks; end = end })
-refreshing-enough doc c blocks end number at w within fresh =
-    let count : 0 + length (take number blocks) ≡ number = let e = length-take-le number blocks within in omega (arith, e) in
-    let here : AreBlocks w.mentions number (Some w.context) w.rest (drop number blocks) end = subst (λ (o : Option Context). AreBlocks w.mentions number o w.rest (drop number blocks) end) w.carried_is w.below in
-    let all = blocks-joined w.mentions 0 number (Some start) w.done w.rest (take number blocks) (drop number blocks) w.context end count w.above here in
-    let whole = take-append-drop number blocks in
+-- the walk over some fresh blocks
+pub refreshing-past : (doc : List LocatedLine) (c : chains.Stored) (blocks : List Block) (end : Context) (number at m : ℕ) → Refreshing doc c blocks end None number at → AreFresh (take m (drop number blocks)) → Refreshing doc c blocks end None (number + m) (at + lines_in (take m (drop number blocks)))
+refreshing-past doc c blocks end number at zero w fresh =
+    let n : number ≡ number + 0 = omega arith in
+    let a : at ≡ at + 0 = omega arith in
+    subst (λ (x : ℕ). Refreshing doc c blocks end None x (at + 0)) n (subst (λ (x : ℕ). Refreshing doc c blocks end None number x) a w)
+refreshing-past doc c blocks end number at (suc m) w fresh =
+    let parts = fresh-split (drop number blocks) m fresh in
+    let one = refreshing-one doc c blocks end number at w parts.0 in
+    let below : drop 1 (drop number blocks) ≡ drop (number + 1) blocks = drop-drop blocks 1 number in
+    let rest = refreshing-past doc c blocks end (number + 1) (at + lines_in (take 1 (drop number blocks))) m one (subst (λ (xs : List Block). AreFresh (take m xs)) below parts.1) in
+    let n : number + 1 + m ≡ number + suc m = omega arith in
+    let l : lines_in (take m (drop (number + 1) blocks)) ≡ lines_in (take m (drop 1 (drop number blocks))) = ap (λ (xs : List Block). lines_in (take m xs)) (sym below) in
+    let one_more : 1 + m ≡ suc m = omega arith in
+    let k = lines_in-below (drop number blocks) 1 m in
+    let k2 : lines_in (take (1 + m) (drop number blocks)) ≡ lines_in (take (suc m) (drop number blocks)) = ap (λ (i : ℕ). lines_in (take i (drop number blocks))) one_more in
+    let a : at + lines_in (take 1 (drop number blocks)) + lines_in (take m (drop (number + 1) blocks)) ≡ at + lines_in (take (suc m) (drop number blocks)) = omega (arith, l, k, k2) in
+    subst (λ (x : ℕ). Refreshing doc c blocks end None x (at + lines_in (take (suc m) (drop number blocks)))) n (subst (λ (x : ℕ). Refreshing doc c blocks end None (number + 1 + m) x) a rest)
+
+-- the walk at its end
+pub refreshing-enough : (doc : List LocatedLine) (c : chains.Stored) (blocks : List Block) (end : Context) (carried : Option Context) (number at : ℕ) (w : Refreshing doc c blocks end carried number at) (last : Context) → length blocks ≤ number
+    → (carried ≡ None → last ≡ end) → ((x : Context) → carried ≡ Some x → last ≡ x) → IsFreshIndexOf doc (record { chains = c; blocks = blocks; end = last })
+refreshing-enough doc c blocks end carried number at w last past none some =
+    let all : take number blocks ≡ blocks = take_more_than blocks number past in
+    let over : AreBlocks w.mentions number w.expected w.rest [] end = subst (λ (bs : List Block). AreBlocks w.mentions number w.expected w.rest bs end) (drop_all number blocks past) w.below in
+    let whole : doc ≡ w.done = w.lines_are ∙ (ap (λ (xs : List LocatedLine). w.done ++ xs) over.0 ∙ append-nil w.done) in
+    let is : last ≡ w.context = last_is carried w.carried_is none some over.1 in
     record {
       index_is = record {
         mentions = w.mentions;
         chains_are = w.chains_are;
-        blocks_are = subst (λ (ls : List LocatedLine). AreBlocks w.mentions 0 (Some start) ls blocks end) (sym w.doc_is) (subst (λ (bs : List Block). AreBlocks w.mentions 0 (Some start) (w.done ++ w.rest) bs end) whole all);
+        blocks_are = rw (whole, is) (subst (λ (bs : List Block). AreBlocks w.mentions 0 (Some start) w.done bs w.context) all w.above);
       };
-      fresh = subst AreFresh whole (fresh-both (take number blocks) (drop number blocks) w.fresh fresh);
+      fresh = subst AreFresh all w.fresh;
     }
-
--- ---- which blocks may be stale
-
--- a fresh block in the place of another, below the first that may be stale
-pub stale-kept : (stale : Stale) (blocks : List Block) (number : ℕ) (new : Block) → IsStaleOf stale blocks → stale.first ≤ number → new.is_stale ≡ false → IsStaleOf stale (set blocks number new)
-stale-kept stale blocks number new h below fresh = record {
-  above_fresh = subst AreFresh (sym (take-set-le stale.first blocks number new below)) h.above_fresh;
-  at_is = ap lines_in (take-set-le stale.first blocks number new below) ∙ h.at_is;
-  below_fresh = kept blocks stale.end number h.below_fresh;
-}
   where
-    kept : (bs : List Block) (end n : ℕ) → AreFresh (drop end bs) → AreFresh (drop end (set bs n new))
-    kept [] end n k = k
-    kept (b ∷ bs) zero zero k = (fresh, k.1)
-    kept (b ∷ bs) zero (suc n) k = (k.0, kept bs zero n k.1)
-    kept (b ∷ bs) (suc end) zero k = k
-    kept (b ∷ bs) (suc end) (suc n) k = kept bs end n k
+    take_more_than : (bs : List Block) (n : ℕ) → length bs ≤ n → take n bs ≡ bs
+    take_more_than bs n h = take_all n bs h
+
+    last_is : (o : Option Context) → IsCarried o w.expected w.context → (o ≡ None → last ≡ end) → ((x : Context) → o ≡ Some x → last ≡ x) → IsExpected w.expected end → last ≡ w.context
+    last_is None carried n s e = n refl ∙ subst (λ (p : Option Context). IsExpected p end) carried e
+    last_is (Some x) carried n s e = s x refl ∙ carried

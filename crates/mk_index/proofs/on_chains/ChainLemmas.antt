@@ -1,10 +1,10 @@
 -- Chains: one more mention, and the entries that they have.
-use Rattle.std.proofs.Common.{◌≡◌, refl, sym, ap, ◌∙◌, subst, arith, ℕ, zero, suc, ◌+◌, ◌-◌, ◌%◌, ◌==◌, ◌<◌, List, [], ◌∷◌, ◌++◌, reverse, Bool, true, false, if◌then◌else◌, length, get_or, set, Some, None, inl, inr}
+use Rattle.std.proofs.Common.{◌≡◌, refl, sym, ap, ◌∙◌, subst, arith, ℕ, zero, suc, ◌+◌, ◌-◌, ◌==◌, ◌<◌, List, [], ◌∷◌, ◌++◌, reverse, Bool, true, false, if◌then◌else◌, length, get_or, set, Some, None, inl, inr}
 use Rattle.std.specs.Prelude.{slice_get}
 use Rattle.std.proofs.lemmas.Bool.{eq-eqb, eqb-true}
 use Rattle.std.proofs.lemmas.List.{length-map, length-reverse, length-set, get_or-set_same, get_or-set_other}
 use Rattle.std.proofs.lemmas.Grind.{reverse_onto}
-use Rattle.mk_index.specs.Chains.{AreChainsOf, IsMentioned, Mention, Stored, buckets_of, entries_of, entry_after, last_in}
+use Rattle.mk_index.specs.Chains.{AreChainsOf, IsMentioned, Mention, Stored, bucket_of, buckets_of, entries_of, entry_after, last_in}
 use Rattle.mk_index.specs.declared.chains.Entry.{Entry}
 
 -- the last of some things is the first in reverse
@@ -28,13 +28,13 @@ head-pushed heads ks b n j e h same = go (b == j) refl
         get_or-set_other heads b j n 0 (λ at. absurd (let clash = eq-eqb b j (sym at) in cc)) ∙ (same ∙ ap (λ t. if t then suc (length ks) else last_in j ks) (sym is))
 
 pub chains-pushed : (ms : List Mention) (c : Stored) (m : Mention) (bucket before number : ℕ) → AreChainsOf ms c
-    → bucket ≡ m.hash % length c.heads → bucket < length c.heads → before ≡ get_or c.heads bucket 0 → number ≡ length c.entries + 1
+    → bucket ≡ bucket_of (length c.heads) m.hash → bucket < length c.heads → before ≡ get_or c.heads bucket 0 → number ≡ length c.entries + 1
     → AreChainsOf (m ∷ ms) (record { heads = set c.heads bucket number; entries = c.entries ++ record { hash = m.hash; block = m.block; before = before } ∷ [] })
 chains-pushed ms c m bucket before number h at within is_before is_number = record {
   heads_are = λ j inside.
       subst (λ n. get_or (set c.heads bucket number) j 0 ≡ last_in j (buckets_of n (m ∷ ms))) (sym (length-set c.heads bucket number))
       (ap (λ b. get_or (set c.heads b number) j 0) at
-      ∙ head-pushed c.heads (buckets_of count ms) (m.hash % count) number j counted (subst (λ b. b < count) at within) (h.heads_are j (subst (λ n. j < n) (length-set c.heads bucket number) inside)));
+      ∙ head-pushed c.heads (buckets_of count ms) (bucket_of count m.hash) number j counted (subst (λ b. b < count) at within) (h.heads_are j (subst (λ n. j < n) (length-set c.heads bucket number) inside)));
   entries_are =
       subst (λ n. c.entries ++ record { hash = m.hash; block = m.block; before = before } ∷ [] ≡ reverse (entries_of n (m ∷ ms))) (sym (length-set c.heads bucket number))
       (ap (λ (es : List Entry). es ++ record { hash = m.hash; block = m.block; before = before } ∷ []) h.entries_are
@@ -47,10 +47,10 @@ chains-pushed ms c m bucket before number h at within is_before is_number = reco
     counted : number ≡ suc (length (buckets_of count ms))
     counted =
         let n : length c.entries ≡ length ms = ap length h.entries_are ∙ (length-reverse (entries_of count ms) ∙ length-entries count ms) in
-        let k : length (buckets_of count ms) ≡ length ms = length-map ms (λ x. x.hash % count) in
+        let k : length (buckets_of count ms) ≡ length ms = length-map ms (λ x. bucket_of count x.hash) in
         omega (arith, n, k, is_number)
 
-    is_last : before ≡ last_in (m.hash % count) (buckets_of count ms)
+    is_last : before ≡ last_in (bucket_of count m.hash) (buckets_of count ms)
     is_last = is_before ∙ (h.heads_are bucket within ∙ ap (λ b. last_in b (buckets_of count ms)) at)
 
 -- ---- what entries mention

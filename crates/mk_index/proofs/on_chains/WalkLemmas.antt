@@ -1,9 +1,9 @@
 -- The walk back over the entries of a bucket, which marks blocks.
-use Rattle.std.proofs.Common.{◌≡◌, refl, sym, ap, ◌∙◌, subst, arith, ℕ, zero, suc, ◌-◌, ◌%◌, ◌==◌, ◌<◌, List, [], ◌∷◌, ◌++◌, reverse, Bool, true, false, if◌then◌else◌, length, append_assoc, append-nil, get_or, Some, None, inl, inr}
+use Rattle.std.proofs.Common.{◌≡◌, refl, sym, ap, ◌∙◌, subst, arith, ℕ, zero, suc, ◌-◌, ◌==◌, ◌<◌, List, [], ◌∷◌, ◌++◌, reverse, Bool, true, false, if◌then◌else◌, length, append_assoc, append-nil, get_or, Some, None, inl, inr}
 use Rattle.std.specs.Prelude.{◌⊎◌, slice_get}
 use Rattle.std.proofs.lemmas.Bool.{eq-eqb, eqb-true, false≢true}
 use Rattle.std.proofs.lemmas.List.{length-map, length-reverse}
-use Rattle.mk_index.specs.Chains.{AreChainsOf, IsMentioned, Mention, Stored, buckets_of, entries_of, entry_after, last_in}
+use Rattle.mk_index.specs.Chains.{AreChainsOf, IsMentioned, Mention, Stored, bucket_of, buckets_of, entries_of, entry_after, last_in}
 use Rattle.mk_index.specs.declared.chains.Entry.{Entry}
 use Rattle.mk_index.proofs.on_chains.ChainLemmas.{length-entries, numbered, reverse-first}
 
@@ -18,16 +18,16 @@ record StepBack (count hash : ℕ) (ahead : List Mention) (k : ℕ) : Type 0 whe
   number_is : length rest ≡ k
   entries_are : reverse (entries_of count ahead) ≡ reverse (entries_of count rest) ++ entry_after count last rest ∷ after
   mentioned : (b : ℕ) → IsMentioned ahead hash b → IsMentioned (last ∷ rest) hash b
-  bucket_is : last.hash % count ≡ hash % count
+  bucket_is : bucket_of count last.hash ≡ bucket_of count hash
 
-step-back : (count hash : ℕ) (ahead : List Mention) (k : ℕ) → last_in (hash % count) (buckets_of count ahead) ≡ suc k → StepBack count hash ahead k
+step-back : (count hash : ℕ) (ahead : List Mention) (k : ℕ) → last_in (bucket_of count hash) (buckets_of count ahead) ≡ suc k → StepBack count hash ahead k
 step-back count hash [] k h = absurd (cc)
-step-back count hash (m ∷ ms) k h = go (m.hash % count == hash % count) refl h (step-back count hash ms k)
+step-back count hash (m ∷ ms) k h = go (bucket_of count m.hash == bucket_of count hash) refl h (step-back count hash ms k)
   where
-    go : (t : Bool) → (m.hash % count == hash % count) ≡ t → (if t then suc (length (buckets_of count ms)) else last_in (hash % count) (buckets_of count ms)) ≡ suc k
-        → (last_in (hash % count) (buckets_of count ms) ≡ suc k → StepBack count hash ms k) → StepBack count hash (m ∷ ms) k
+    go : (t : Bool) → (bucket_of count m.hash == bucket_of count hash) ≡ t → (if t then suc (length (buckets_of count ms)) else last_in (bucket_of count hash) (buckets_of count ms)) ≡ suc k
+        → (last_in (bucket_of count hash) (buckets_of count ms) ≡ suc k → StepBack count hash ms k) → StepBack count hash (m ∷ ms) k
     go true is e below =
-        let n : length (buckets_of count ms) ≡ length ms = length-map ms (λ x. x.hash % count) in
+        let n : length (buckets_of count ms) ≡ length ms = length-map ms (λ x. bucket_of count x.hash) in
         record {
           last = m;
           rest = ms;
@@ -35,7 +35,7 @@ step-back count hash (m ∷ ms) k h = go (m.hash % count == hash % count) refl h
           number_is = omega (arith, e, n);
           entries_are = reverse-first (entry_after count m ms) (entries_of count ms);
           mentioned = λ b h. h;
-          bucket_is = eqb-true (m.hash % count) (hash % count) is;
+          bucket_is = eqb-true (bucket_of count m.hash) (bucket_of count hash) is;
         }
     go false is e below =
         let s = below e in
@@ -48,22 +48,22 @@ step-back count hash (m ∷ ms) k h = go (m.hash % count == hash % count) refl h
               ∙ (ap (λ (es : List Entry). es ++ entry_after count m ms ∷ []) s.entries_are
               ∙ append_assoc (reverse (entries_of count s.rest)) (entry_after count s.last s.rest ∷ s.after) (entry_after count m ms ∷ []));
           mentioned = λ b h. elim h [
-            | inl e ↦ absurd (let same = eq-eqb (m.hash % count) (hash % count) (ap (λ x. x % count) e.0) in cc)
+            | inl e ↦ absurd (let same = eq-eqb (bucket_of count m.hash) (bucket_of count hash) (ap (λ x. bucket_of count x) e.0) in cc)
             | inr r ↦ s.mentioned b r
           ];
           bucket_is = s.bucket_is;
         }
 
 -- a bucket without an entry has no mention of its hashes
-none-mentioned : (count hash : ℕ) (ahead : List Mention) → last_in (hash % count) (buckets_of count ahead) ≡ 0 → (b : ℕ) → IsMentioned ahead hash b → ⊥
+none-mentioned : (count hash : ℕ) (ahead : List Mention) → last_in (bucket_of count hash) (buckets_of count ahead) ≡ 0 → (b : ℕ) → IsMentioned ahead hash b → ⊥
 none-mentioned count hash [] h b m = m
-none-mentioned count hash (m ∷ ms) h b k = go (m.hash % count == hash % count) refl h (none-mentioned count hash ms)
+none-mentioned count hash (m ∷ ms) h b k = go (bucket_of count m.hash == bucket_of count hash) refl h (none-mentioned count hash ms)
   where
-    go : (t : Bool) → (m.hash % count == hash % count) ≡ t → (if t then suc (length (buckets_of count ms)) else last_in (hash % count) (buckets_of count ms)) ≡ 0
-        → (last_in (hash % count) (buckets_of count ms) ≡ 0 → (i : ℕ) → IsMentioned ms hash i → ⊥) → ⊥
+    go : (t : Bool) → (bucket_of count m.hash == bucket_of count hash) ≡ t → (if t then suc (length (buckets_of count ms)) else last_in (bucket_of count hash) (buckets_of count ms)) ≡ 0
+        → (last_in (bucket_of count hash) (buckets_of count ms) ≡ 0 → (i : ℕ) → IsMentioned ms hash i → ⊥) → ⊥
     go true is e below = absurd (omega (arith, e))
     go false is e below = elim k [
-      | inl x ↦ absurd (false≢true (sym is ∙ eq-eqb (m.hash % count) (hash % count) (ap (λ y. y % count) x.0)))
+      | inl x ↦ absurd (false≢true (sym is ∙ eq-eqb (bucket_of count m.hash) (bucket_of count hash) (ap (λ y. bucket_of count y) x.0)))
       | inr r ↦ below e b r
     ]
 
@@ -73,16 +73,16 @@ none-mentioned count hash (m ∷ ms) h b k = go (m.hash % count == hash % count)
 pub record Walk (ms : List Mention) (hash : ℕ) (c : Stored) (number : ℕ) (marks : List Bool) : Type 0 where
   pub ahead : List Mention
   pub more : List Entry
-  pub number_is : number ≡ last_in (hash % length c.heads) (buckets_of (length c.heads) ahead)
+  pub number_is : number ≡ last_in (bucket_of (length c.heads) hash) (buckets_of (length c.heads) ahead)
   pub entries_are : c.entries ≡ reverse (entries_of (length c.heads) ahead) ++ more
   pub marked : (b : ℕ) → IsMentioned ms hash b → b < length marks → (get_or marks b false ≡ true) ⊎ IsMentioned ahead hash b
 
 -- the walk at its start
-pub walk-from : (ms : List Mention) (hash : ℕ) (c : Stored) (number : ℕ) (marks : List Bool) → AreChainsOf ms c → hash % length c.heads < length c.heads → number ≡ get_or c.heads (hash % length c.heads) 0 → Walk ms hash c number marks
+pub walk-from : (ms : List Mention) (hash : ℕ) (c : Stored) (number : ℕ) (marks : List Bool) → AreChainsOf ms c → bucket_of (length c.heads) hash < length c.heads → number ≡ get_or c.heads (bucket_of (length c.heads) hash) 0 → Walk ms hash c number marks
 walk-from ms hash c number marks h within is = record {
   ahead = ms;
   more = [];
-  number_is = is ∙ h.heads_are (hash % length c.heads) within;
+  number_is = is ∙ h.heads_are (bucket_of (length c.heads) hash) within;
   entries_are = h.entries_are ∙ sym (append-nil (reverse (entries_of (length c.heads) ms)));
   marked = λ b m inside. inr m;
 }
@@ -105,7 +105,7 @@ record WalkStep (ms : List Mention) (hash : ℕ) (c : Stored) (number : ℕ) (ma
   entry_is : slice_get c.entries (number - 1) ≡ Some (entry_after (length c.heads) last rest)
   next : (after : List Bool) → length after ≡ length marks → ((b : ℕ) → get_or marks b false ≡ true → get_or after b false ≡ true)
       → (last.hash ≡ hash → last.block < length marks → get_or after last.block false ≡ true)
-      → Walk ms hash c (last_in (last.hash % length c.heads) (buckets_of (length c.heads) rest)) after
+      → Walk ms hash c (last_in (bucket_of (length c.heads) last.hash) (buckets_of (length c.heads) rest)) after
 
 walk-step : (ms : List Mention) (hash : ℕ) (c : Stored) (number : ℕ) (marks : List Bool) → Walk ms hash c number marks → (number ≡ 0 → ⊥) → WalkStep ms hash c number marks
 walk-step ms hash c zero marks w h = absurd (h refl)

@@ -1,7 +1,7 @@
-use Rattle.std.proofs.Common.{◌≡◌, ◌∙◌, ◌%◌, ◌<◌, refl, sym, ap, subst, arith, ℕ, List, Bool, length, get_or, true, false}
+use Rattle.std.proofs.Common.{◌≡◌, ◌∙◌, ◌<◌, refl, sym, ap, subst, arith, ℕ, List, Bool, length, get_or, true, false}
 use Rattle.std.proofs.lemmas.Bool.{eqb-true}
 use Rattle.std.proofs.lemmas.List.{get_or_default}
-use Rattle.mk_index.specs.Chains.{AreChainsOf, Mention, Stored}
+use Rattle.mk_index.specs.Chains.{AreChainsOf, Mention, Stored, bucket_of}
 use Rattle.mk_index.proofs.on_chains.WalkLemmas.{Walk, walk-ends, walk-from, walk-next, walk-over}
 use Rattle.mk_index.proofs.chains.Chains.mark.Goals as goal
 use Rattle.mk_index.proofs.chains.Chains.mark.Goals.{then-entry-hash, else-entry-hash}
@@ -18,7 +18,7 @@ pub entries-init : goal.entries-init
 entries-init g c =
     let heads = c.self.inside.heads.items in
     let counted : c.len.result ≡ length heads = c.len.ensures ∙ c.self.inside.heads.ok.0 in
-    let is : c.bucket_of.result ≡ c.args.hash % length heads = c.bucket_of.ensures.bucket ∙ ap (λ n. c.args.hash % n) counted in
+    let is : c.bucket_of.result ≡ bucket_of (length heads) c.args.hash = c.bucket_of.ensures.bucket ∙ ap (λ n. bucket_of n c.args.hash) counted in
     let inside : c.bucket_of.result < length heads = subst (λ n. c.bucket_of.result < n) counted c.bucket_of.ensures.within in
     let head : c.index-number.result.now ≡ get_or heads c.bucket_of.result 0 = c.index-number.ensures ∙ get_or_default heads c.bucket_of.result c.index-number.result.now 0 inside in
     record {
@@ -46,13 +46,13 @@ entries-preserved g c =
     λ after long kept marked ms h. walk-next ms c.args.hash c.args.self.now c.entries.number marks after e (c.entries.invariant.walk ms h) there long kept marked in
     elim c.if-entry-hash.branch [
       | then-entry-hash w ↦
-          let marked = w.mark_block.new.marks in
-          let long : length marked ≡ length marks = w.mark_block.ensures.length in
+          let marked = w.mark.new.self in
+          let long : length marked ≡ length marks = w.mark.ensures.length in
           subst (λ (after : List Bool). Kept c.args.marks.now after (λ (ms : List Mention). AreChainsOf ms c.args.self.now → Walk ms c.args.hash c.args.self.now e.before after)) (sym w.marks-is)
           (record {
             length = long ∙ c.entries.invariant.length;
-            kept = λ b h. w.mark_block.ensures.kept b (c.entries.invariant.kept b h);
-            walk = walk marked long w.mark_block.ensures.kept (λ same. w.mark_block.ensures.marked);
+            kept = λ b h. w.mark.ensures.kept b (c.entries.invariant.kept b h);
+            walk = walk marked long w.mark.ensures.kept (λ same. w.mark.ensures.marked);
           })
       | else-entry-hash w ↦
           subst (λ (after : List Bool). Kept c.args.marks.now after (λ (ms : List Mention). AreChainsOf ms c.args.self.now → Walk ms c.args.hash c.args.self.now e.before after)) (sym w.marks-is)

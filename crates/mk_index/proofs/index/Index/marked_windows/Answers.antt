@@ -1,48 +1,68 @@
-use Rattle.std.proofs.Common.{◌≡◌, ◌<◌, ◌≤◌, ◌∙◌, sym, ap, subst, arith, rules, suc, length, get_or, ◌++◌, ◌∷◌, [], false}
+use Rattle.std.proofs.Common.{◌≡◌, ◌∙◌, ◌+◌, ◌*◌, ◌≤◌, sym, ap, subst, arith, ℕ, List, length, drop, ◌++◌, ◌∷◌, [], false}
 use Rattle.mk_class.specs.Contexts.{Context}
 use Rattle.mk_edit_parts.proofs.on_finding.SeekLemmas.{faithful-each}
 use Rattle.mk_edit_parts.specs.Windows.{AreWindows, first_place}
+use Rattle.mk_edit_parts.specs.declared.window.Window.{Window}
+use Rattle.mk_index.specs.Blocks.{blocks_of, lines_in}
 use Rattle.mk_index.specs.Indexes.{Stored}
-use Rattle.mk_index.proofs.on_blocks.WindowLemmas.{collected-from, collected-more, collected-over, collected-past, fresh-here, none-of-none}
+use Rattle.mk_index.specs.Walks.{HasWindows}
+use Rattle.mk_index.proofs.on_blocks.GroupLemmas.{lines_in-some}
+use Rattle.mk_index.proofs.on_blocks.WindowLemmas.{collected-from, collected-over, none-of-none, windows-past, windows-within}
 use Rattle.mk_index.proofs.index.Index.marked_windows.Goals as goal
-use Rattle.mk_index.proofs.index.Index.marked_windows.Goals.{then-marks-number+in_ok-push, else-marks-number}
+use Rattle.mk_index.proofs.index.Index.marked_windows.Goals.{then-is_group_marked+in_ok-add_windows, else-is_group_marked}
 
-pub numbers-init : goal.numbers-init
-numbers-init g c = λ test ms h idle. rw c.new-windows.ensures.items (collected-from test c.args.doc.now ms c.args.self.now.blocks c.args.self.now.end h c.requires.index.fresh (faithful-each c.args.doc.now c.requires.faithful))
+pub groups-init : goal.groups-init
+groups-init g c = λ test ms h idle. rw c.new-windows.ensures.items (collected-from test c.args.doc.now ms c.args.self.now.blocks c.args.self.now.end h c.requires.index.fresh (faithful-each c.args.doc.now c.requires.faithful))
+
+pub add_windows-requires-clause-few : goal.add_windows-requires-clause-few
+add_windows-requires-clause-few g c =
+    let ms = c.requires.index.index_is.mentions in
+    let bs = c.args.self.now.blocks in
+    let k = c.groups.group in
+    let w = c.groups.invariant (λ l. false) ms c.requires.index.index_is.blocks_are (λ n ls within mark classed mentioned. none-of-none ls) in
+    let all = windows-within (λ l. false) c.args.doc.now ms bs c.args.self.now.end (k * 128) c.groups.at c.groups.windows.items w in
+    let some = lines_in-some (drop (k * 128) bs) 128 in
+    let same : lines_in (blocks_of k c.self.inside.blocks) ≡ lines_in (blocks_of k bs) = ap (λ (s : Stored). lines_in (blocks_of k s.blocks)) c.self.view_is in
+    let most = c.len-lines.ensures.few in
+    grind (arith, all, some, same, most)
 
 pub overflow_add-at : goal.overflow_add-at
 overflow_add-at g c =
     let ms = c.requires.index.index_is.mentions in
     let bs = c.args.self.now.blocks in
-    let b = c.index-block.result.now in
-    let few : suc c.numbers.number ≤ length bs = search rules in
-    let is : b ≡ get_or bs c.numbers.number b = c.index-block.ensures ∙ ap (λ (s : Stored). get_or s.blocks c.numbers.number b) c.self.view_is in
-    let w = c.numbers.invariant (λ l. false) ms c.requires.index.index_is.blocks_are (λ n ls within mark classed mentioned. none-of-none ls) in
-    let here = fresh-here (λ l. false) c.args.doc.now ms bs c.args.self.now.end c.numbers.number c.numbers.at c.numbers.windows.items b w few is in
-    let number = c.len-lines.ensures.number in
+    let k = c.groups.group in
+    let w = c.groups.invariant (λ l. false) ms c.requires.index.index_is.blocks_are (λ n ls within mark classed mentioned. none-of-none ls) in
+    let all = windows-within (λ l. false) c.args.doc.now ms bs c.args.self.now.end (k * 128) c.groups.at c.groups.windows.items w in
+    let some = lines_in-some (drop (k * 128) bs) 128 in
+    let same : c.group-at.result.lines ≡ lines_in (blocks_of k bs) = c.group-at.ensures.lines_are ∙ ap (λ (s : Stored). lines_in (blocks_of k s.blocks)) c.self.view_is in
     let most = c.len-lines.ensures.few in
-    grind (arith, here.within, most)
+    grind (arith, all, some, same, most)
 
-pub numbers-preserved : goal.numbers-preserved
-numbers-preserved g c = λ test ms h idle.
+pub groups-preserved : goal.groups-preserved
+groups-preserved g c = λ test ms h idle.
     let bs = c.args.self.now.blocks in
-    let b = c.index-block.result.now in
-    let few : suc c.numbers.number ≤ length bs = search rules in
-    let is : b ≡ get_or bs c.numbers.number b = c.index-block.ensures ∙ ap (λ (s : Stored). get_or s.blocks c.numbers.number b) c.self.view_is in
-    let w = c.numbers.invariant test ms h idle in
-    let here = fresh-here test c.args.doc.now ms bs c.args.self.now.end c.numbers.number c.numbers.at c.numbers.windows.items b w few is in
-    elim c.if-marks-number.branch [
-      | then-marks-number+in_ok-push k ↦ rw k.windows-is (rw k.in_ok-push.ensures.items (collected-more test c.args.doc.now ms bs c.args.self.now.end c.numbers.number c.numbers.at c.numbers.windows.items b w here))
-      | else-marks-number k ↦
-          let within : c.numbers.number < length c.args.marks.now = search rules in
-          let mark : get_or c.args.marks.now c.numbers.number false ≡ false = search rules in
-          rw k.windows-is (collected-past test c.args.doc.now ms bs c.args.self.now.end c.numbers.number c.numbers.at c.numbers.windows.items b w here
-          (idle c.numbers.number here.inside within mark here.classed.0 here.mentioned))
+    let end = c.args.self.now.end in
+    let k = c.groups.group in
+    let w = c.groups.invariant test ms h idle in
+    let lines : lines_in (blocks_of k bs) ≡ c.group-at.result.lines = sym (c.group-at.ensures.lines_are ∙ ap (λ (s : Stored). lines_in (blocks_of k s.blocks)) c.self.view_is) in
+    let at : c.groups.at + lines_in (blocks_of k bs) ≡ c.groups.at + c.group-at.result.lines = omega (arith, lines) in
+    let next : k * 128 + 128 ≡ (k + 1) * 128 = omega arith in
+    let to = λ (ws : List Window) (x : HasWindows test c.args.doc.now ms bs end (k * 128 + 128) (c.groups.at + lines_in (blocks_of k bs)) ws).
+        subst (λ (n : ℕ). HasWindows test c.args.doc.now ms bs end n (c.groups.at + c.group-at.result.lines) ws) next
+        (subst (λ (n : ℕ). HasWindows test c.args.doc.now ms bs end (k * 128 + 128) n ws) at x) in
+    elim c.if-is_group_marked.branch [
+      | then-is_group_marked+in_ok-add_windows b ↦
+          let made = b.in_ok-add_windows.ensures test c.args.doc.now ms end idle (subst (λ (s : Stored). HasWindows test c.args.doc.now ms s.blocks end (k * 128) c.groups.at c.groups.windows.items) (sym c.self.view_is) w) in
+          rw b.windows-is (to b.add_windows.new.windows.items (subst (λ (s : Stored). HasWindows test c.args.doc.now ms s.blocks end (k * 128 + 128) (c.groups.at + lines_in (blocks_of k s.blocks)) b.add_windows.new.windows.items) c.self.view_is made))
+      | else-is_group_marked b ↦
+          rw b.windows-is (to c.groups.windows.items (windows-past test c.args.doc.now ms c.args.marks.now bs end (k * 128) c.groups.at 128 c.groups.windows.items idle c.requires.marks (c.is_group_marked.ensures b.if-is_group_marked.false) w))
     ]
 
 pub returns : goal.returns
 returns g c = λ test ms h idle.
-    let past : length c.args.self.now.blocks ≤ c.numbers.number = search rules in
-    let over = collected-over test c.args.doc.now ms c.args.self.now.blocks c.args.self.now.end c.numbers.number c.numbers.at c.numbers.windows.items (c.numbers.invariant test ms h idle) past in
+    let bs = c.args.self.now.blocks in
+    let count = ap (λ (s : Stored). length s.blocks) c.self.view_is in
+    let past : length bs ≤ c.groups.group * 128 = omega (arith, c.groups-test.false, c.group_count-group-end.ensures, count) in
+    let over = collected-over test c.args.doc.now ms bs c.args.self.now.end (c.groups.group * 128) c.groups.at c.groups.windows.items (c.groups.invariant test ms h idle) past in
     let end : c.self.inside.end ≡ c.args.self.now.end = ap (λ (s : Stored). s.end) c.self.view_is in
-    rw c.in_ok-push-2.ensures.items (subst (λ (x : Context). AreWindows test first_place c.args.doc.now (c.numbers.windows.items ++ record { place = record { at = c.numbers.at; context = x }; count = 0 } ∷ [])) (sym end) over)
+    rw c.in_ok-push.ensures.items (subst (λ (x : Context). AreWindows test first_place c.args.doc.now (c.groups.windows.items ++ record { place = record { at = c.groups.at; context = x }; count = 0 } ∷ [])) (sym end) over)

@@ -1,60 +1,90 @@
-use Rattle.std.proofs.Common.{arith, ◌≡◌, ◌+◌, ◌≤◌, ◌∙◌, refl, sym, ap, subst, rules, suc, length, ℕ, Option, Some, None, false}
+use Rattle.std.proofs.Common.{◌≡◌, ◌∙◌, ◌+◌, ◌*◌, ◌/◌, ◌≤◌, refl, sym, ap, subst, arith, ℕ, Option, Some, None, length, false}
 use Rattle.std.specs.Prelude.{is_some}
 use Rattle.mk_class.specs.Contexts.{Context}
-use Rattle.mk_index.specs.Blocks.{AreLinesMentioned, HaveListedLines}
-use Rattle.mk_index.specs.Indexes.{IsIndexOf}
-use Rattle.mk_index.specs.declared.blocks.Block.{Block}
-use Rattle.mk_index.proofs.on_blocks.RefreshLemmas.{Refreshing, block-here, block-listed, block-stays, fresh-further, refreshing-enough, refreshing-from, stale-kept}
+use Rattle.mk_index.specs.Blocks.{AreFresh, blocks_of, lines_in}
+use Rattle.mk_index.specs.Indexes.{IsFreshIndexOf, Stored}
+use Rattle.mk_index.specs.Walks.{IsRefreshed}
+use Rattle.mk_index.proofs.on_blocks.RefreshLemmas.{Refreshing, refreshed-within, refreshing-enough, refreshing-from, refreshing-past}
 use Rattle.mk_index.proofs.index.Index.refresh.Goals as goal
-use Rattle.mk_index.proofs.index.Index.refresh.Goals.{then-block+in-Ok+in_ok-after, else-block}
+use Rattle.mk_index.proofs.index.Index.refresh.Goals.{then-may_be_stale+in_ok-carried, else-may_be_stale+else-is_some, in-Some, in_default}
 
-pub numbers-preserved : goal.numbers-preserved
-numbers-preserved g c =
-    let i = c.numbers.self-inside in
-    let n = c.numbers.number in
-    let at = c.numbers.at in
-    let block = c.index.result.now in
-    let m = c.met-block.result in
-    let w = c.numbers.invariant.walk in
-    let few : suc n ≤ length i.blocks.items = search rules in
-    let here = block-here c.args.doc.now i.chains i.blocks.items i.end c.numbers.carried n at block w few c.index.ensures in
-    let context : m.context ≡ w.context = c.met-block.ensures.context w.expected w.context w.carried_is here.block.context_is in
-    let further : i.stale.first ≤ n + 1 = omega (arith, c.numbers.invariant.from) in
-    elim c.if-block.branch [
-      | then-block+in-Ok+in_ok-after b ↦
-          let new : Block = record { count = m.count; front = m.count; back = m.count; context = m.context; is_stale = false } in
-          let next = block-listed c.args.doc.now i.chains b.list_lines.new.chains i.blocks.items i.end c.numbers.carried n at m.front m.back block new b.in_ok-after.after w few c.index.ensures c.met-block.ensures.count refl context refl c.met-block.ensures.front c.met-block.ensures.back
-          (λ ms h f e. let k = b.in_ok-after.ensures ms h (subst (λ (x : ℕ). AreLinesMentioned ms x _) (sym b.in-Ok.ensures.1) f) (subst (λ (x : ℕ). AreLinesMentioned ms x _) (sym b.in-Ok.ensures.1) e) in (subst (λ (x : ℕ). HaveListedLines _ x ms b.list_lines.new.chains) b.in-Ok.ensures.1 k.0, k.1)) in
-          rw (b.self-inside-is, b.carried-is) (record { walk = next; stale = stale-kept i.stale i.blocks.items n new c.numbers.invariant.stale c.numbers.invariant.from refl; from = further })
-      | else-block b ↦
-          let same : m ≡ block = c.met-block.ensures.fresh b.if-block.false in
-          let next = block-stays c.args.doc.now i.chains i.blocks.items i.end c.numbers.carried n at block w few c.index.ensures (ap (λ (x : Block). x.is_stale) (sym same) ∙ b.if-block.false) (ap (λ (x : Block). x.context) (sym same) ∙ context) in
-          rw (b.self-inside-is, b.carried-is, c.met-block.ensures.count) (record { walk = next; stale = c.numbers.invariant.stale; from = further })
-    ]
+pub groups-init : goal.groups-init
+groups-init g c = record { walk = refreshing-from c.args.doc.now c.args.self.now c.requires.index; count = refl }
 
-pub numbers-init : goal.numbers-init
-numbers-init g c =
-    let h : IsIndexOf c.args.doc.now (record { chains = c.self.inside.chains; blocks = c.self.inside.blocks.items; end = c.self.inside.end }) = subst (IsIndexOf c.args.doc.now) (sym c.self.view_is) c.requires.index in
-    record { walk = refreshing-from c.args.doc.now _ c.self.inside.stale h c.self.invariant; stale = c.self.invariant; from = omega arith }
+pub group-lines-requires : goal.group-lines-requires
+group-lines-requires g c =
+    let now = ap (λ (s : Stored). length s.blocks) c.self-in-groups.view_is in
+    let first = ap (λ (s : Stored). length s.blocks) c.self.view_is in
+    omega (arith, c.groups-test.true, c.group_count-group-end.ensures, c.groups.invariant.count, now, first)
+
+pub refresh_group-requires-clause-in_range : goal.refresh_group-requires-clause-in_range
+refresh_group-requires-clause-in_range g c =
+    let first = ap (λ (s : Stored). length s.blocks) c.self.view_is in
+    omega (arith, c.groups-test.true, c.group_count-group-end.ensures, c.groups.invariant.count, first)
+
+pub refresh_group-requires-clause-walk : goal.refresh_group-requires-clause-walk
+refresh_group-requires-clause-walk g c = c.groups.invariant.walk
 
 -- nothing is carried
 none-carried : (o : Option Context) → is_some o ≡ false → o ≡ None
 none-carried None h = refl
 none-carried (Some x) h = absurd (cc)
 
-pub invariant_of-self : goal.invariant_of-self
-invariant_of-self g c =
-    let i = c.numbers.self-inside in
-    let n = c.numbers.number in
-    let w = subst (λ (o : Option Context). Refreshing c.args.doc.now i.chains i.blocks.items i.end o n c.numbers.at) (none-carried c.numbers.carried c.if-is_none.ensures) c.numbers.invariant.walk in
-    let within : n ≤ length i.blocks.items = search rules in
-    let all = refreshing-enough c.args.doc.now i.chains i.blocks.items i.end n c.numbers.at w within (fresh-further i.blocks.items i.stale.end n c.if-self-number.true c.numbers.invariant.stale.below_fresh) in
-    c.none-self-inside.ensures i.blocks.items all.fresh
+pub groups-preserved : goal.groups-preserved
+groups-preserved g c =
+    let k = c.groups.group in
+    let s = c.groups.self in
+    let lines : c.group-lines.result.lines ≡ lines_in (blocks_of k s.blocks) = c.group-lines.ensures.lines_are ∙ ap (λ (i : Stored). lines_in (blocks_of k i.blocks)) c.self-in-groups.view_is in
+    let next : k * 128 + 128 ≡ (k + 1) * 128 = omega arith in
+    let at : c.groups.at + lines_in (blocks_of k s.blocks) ≡ c.groups.at + c.group-lines.result.lines = omega (arith, lines) in
+    elim c.if-may_be_stale.branch [
+      | then-may_be_stale+in_ok-carried b ↦
+          let made = b.in_ok-carried.ensures in
+          rw (b.self-is, b.carried-is) (record {
+            walk = subst (λ (n : ℕ). IsRefreshed c.args.doc.now b.refresh_group.new.self b.in_ok-carried.carried n (c.groups.at + c.group-lines.result.lines)) next
+                (subst (λ (n : ℕ). IsRefreshed c.args.doc.now b.refresh_group.new.self b.in_ok-carried.carried (k * 128 + 128) n) at made.0);
+            count = made.1 ∙ c.groups.invariant.count;
+          })
+      | else-may_be_stale+else-is_some b ↦
+          let none : c.groups.carried ≡ None = none-carried c.groups.carried (sym b.is_some.ensures ∙ b.if-is_some.false) in
+          let fresh : AreFresh (blocks_of k s.blocks) = subst (λ (i : Stored). AreFresh (blocks_of k i.blocks)) c.self-in-groups.view_is (c.group-lines.ensures.are_fresh b.if-may_be_stale.false) in
+          let w = subst (λ (o : Option Context). Refreshing c.args.doc.now s.chains s.blocks s.end o (k * 128) c.groups.at) none c.groups.invariant.walk in
+          let past = refreshing-past c.args.doc.now s.chains s.blocks s.end (k * 128) c.groups.at 128 w fresh in
+          rw (b.self-is, b.carried-is, none) (record {
+            walk = subst (λ (n : ℕ). Refreshing c.args.doc.now s.chains s.blocks s.end None n (c.groups.at + c.group-lines.result.lines)) next
+                (subst (λ (n : ℕ). Refreshing c.args.doc.now s.chains s.blocks s.end None (k * 128 + 128) n) at past);
+            count = c.groups.invariant.count;
+          })
+    ]
 
-pub returns-then-is_none : goal.returns-then-is_none
-returns-then-is_none g c =
-    let i = c.numbers.self-inside in
-    let n = c.numbers.number in
-    let w = subst (λ (o : Option Context). Refreshing c.args.doc.now i.chains i.blocks.items i.end o n c.numbers.at) (none-carried c.numbers.carried c.if-is_none.ensures) c.numbers.invariant.walk in
-    let within : n ≤ length i.blocks.items = search rules in
-    refreshing-enough c.args.doc.now i.chains i.blocks.items i.end n c.numbers.at w within (fresh-further i.blocks.items i.stale.end n c.if-self-number.true c.numbers.invariant.stale.below_fresh)
+pub overflow_add-at : goal.overflow_add-at
+overflow_add-at g c =
+    let within = refreshed-within c.args.doc.now _ _ _ _ (groups-preserved g c).walk in
+    let most = c.len-lines.ensures.few in
+    grind (arith, within, most)
+
+pub returns-then-self-eq0 : goal.returns-then-self-eq0
+returns-then-self-eq0 g c =
+    let s = c.groups.self in
+    let first = ap (λ (s : Stored). length s.blocks) c.self.view_is in
+    let past : length s.blocks ≤ c.groups.group * 128 = omega (arith, c.groups-test.false, c.group_count-group-end.ensures, c.groups.invariant.count, first) in
+    let over : (last : Context) → (c.groups.carried ≡ None → last ≡ s.end) → ((x : Context) → c.groups.carried ≡ Some x → last ≡ x) → IsFreshIndexOf c.args.doc.now (record { chains = c.self-2.inside.chains; blocks = c.self-2.inside.blocks; end = last })
+    = λ last none some. subst (λ (i : Stored). IsFreshIndexOf c.args.doc.now (record { chains = i.chains; blocks = i.blocks; end = last })) (sym c.self-2.view_is)
+    (refreshing-enough c.args.doc.now s.chains s.blocks s.end c.groups.carried (c.groups.group * 128) c.groups.at c.groups.invariant.walk last past none some) in
+    elim c.match-carried.branch [
+      | in-Some b ↦ rw b.self-inside-is (over b.in-Some.context (λ e. absurd (let is = b.in-Some.is in cc)) (λ x e. let is = b.in-Some.is in cc))
+      | in_default b ↦ rw b.self-inside-is (over c.self-2.inside.end (λ e. ap (λ (i : Stored). i.end) c.self-2.view_is) (λ x e. absurd (let is = b.in_default.is in cc)))
+    ]
+
+pub returns-else-self-eq0 : goal.returns-else-self-eq0
+returns-else-self-eq0 g c =
+    let s = c.groups.self in
+    let first = ap (λ (s : Stored). length s.blocks) c.self.view_is in
+    let past : length s.blocks ≤ c.groups.group * 128 = omega (arith, c.groups-test.false, c.group_count-group-end.ensures, c.groups.invariant.count, first) in
+    let over : (last : Context) → (c.groups.carried ≡ None → last ≡ s.end) → ((x : Context) → c.groups.carried ≡ Some x → last ≡ x) → IsFreshIndexOf c.args.doc.now (record { chains = c.self-2.inside.chains; blocks = c.self-2.inside.blocks; end = last })
+    = λ last none some. subst (λ (i : Stored). IsFreshIndexOf c.args.doc.now (record { chains = i.chains; blocks = i.blocks; end = last })) (sym c.self-2.view_is)
+    (refreshing-enough c.args.doc.now s.chains s.blocks s.end c.groups.carried (c.groups.group * 128) c.groups.at c.groups.invariant.walk last past none some) in
+    elim c.match-carried.branch [
+      | in-Some b ↦ rw b.self-inside-is (over b.in-Some.context (λ e. absurd (let is = b.in-Some.is in cc)) (λ x e. let is = b.in-Some.is in cc))
+      | in_default b ↦ rw b.self-inside-is (over c.self-2.inside.end (λ e. ap (λ (i : Stored). i.end) c.self-2.view_is) (λ x e. absurd (let is = b.in_default.is in cc)))
+    ]

@@ -15,9 +15,7 @@ pub returns : goal.returns
 returns g c = λ test by.
     let i = c.requires.index.index_is in
     let new = c.mark_all.new.marks in
-    let count : length new ≡ c.in_ok-marks.marks.len = search rules in
-    let same : c.deref.result.now ≡ new = c.deref.ensures.value ∙ take_at new _ c.in_ok-marks.marks.len count in
     let marked : AreMarked c.args.self.now.chains c.args.hashes.now new = subst (λ (s : Stored). AreMarked s.chains c.args.hashes.now new) c.self.view_is (c.if-not-mark_all.ensures.marked (search rules)) in
     let passes : PassesInMarked test i.mentions new = marked-passes test c.args.self.now.chains c.args.hashes.now i.mentions new by marked i.chains_are in
-    let made = c.marked_windows.ensures test i.mentions i.blocks_are (subst (λ (bs : List Bool). PassesInMarked test i.mentions bs) (sym same) passes) in
+    let made = c.marked_windows.ensures test i.mentions i.blocks_are passes in
     rw c.ok-2.ensures.value (some-if_ok _ c.marked_windows.result made)

@@ -1,0 +1,8 @@
+use Rattle.std.proofs.Common.{◌+◌, ◌≤◌, refl, arith}
+use Rattle.mk_index.proofs.on_blocks.GroupLemmas.{next-group}
+use Rattle.mk_index.proofs.follow.splice.Goals as goal
+
+pub groups-preserved : goal.groups-preserved
+groups-preserved g c =
+    let more = next-group c.groups.blocks c.groups.group in
+    record { same = c.groups.invariant.same; above_is = omega (arith, more, c.group-lines.ensures.lines_are, c.groups.invariant.above_is); within = omega (arith, c.if-rest-lines-2.false, c.groups.invariant.within) }

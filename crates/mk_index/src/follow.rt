@@ -1,0 +1,141 @@
+//! How the blocks of an index follow the steps of a patch.
+ghost use Rattle.std.specs.Prelude.{◌≡◌, ◌≤◌, ◌+◌, ◌++◌, ℕ, List, Option, IsTrue, IfSome, length, take, drop};
+ghost use Rattle.mk_class.specs.Contexts as contexts;
+ghost use Rattle.mk_tree.specs.LocatedLines.{LocatedLine};
+ghost use Rattle.mk_patch.specs.Moves.{FitMoves, FitsMove, after_move, after_moves};
+ghost use Rattle.mk_patch.specs.StepMoves.{move_of};
+ghost use Rattle.mk_index.specs.Blocks.{AreBlocks, lines_in};
+ghost use Rattle.mk_index.specs.Chains.{Mention};
+
+use crate::blocks::{Block, Blocks};
+use mk_patch::{Patch, Step};
+use std::alloc::Allocator;
+
+// The most lines of a block.
+const MOST_LINES: u16 = 2_048;
+
+/// Follows the steps of a patch. Whether it could; if not, the blocks are of no use any more. Takes no
+/// memory.
+pub(crate) fn follow_all<A: Allocator + Copy>(blocks: &mut Blocks<A>, patch: &Patch<A>) -> bool
+    ensures { (mentions : List Mention) (number : ℕ) (expected : Option contexts.Context)
+        (lines : List LocatedLine) (end : contexts.Context)
+        → AreBlocks mentions number expected lines blocks.old end → FitMoves patch.now lines
+        → IsTrue result
+        → AreBlocks mentions number expected (after_moves patch.now lines) blocks.new end }
+{
+    'steps: for at in 0..patch.step_count() {
+        let Some(step) = patch.step(at) else {
+            return false;
+        };
+        if !follow(blocks, step) {
+            return false;
+        }
+    }
+    true
+}
+
+// Follows a step of a patch. Whether it could; if not, the blocks are of no use any more.
+fn follow<A: Allocator + Copy>(blocks: &mut Blocks<A>, step: &Step<A>) -> bool
+    ensures { (mentions : List Mention) (number : ℕ) (expected : Option contexts.Context)
+        (lines : List LocatedLine) (end : contexts.Context)
+        → AreBlocks mentions number expected lines blocks.old end
+        → FitsMove (move_of step.now) lines → IsTrue result
+        → AreBlocks mentions number expected (after_move (move_of step.now) lines) blocks.new end }
+{
+    match step {
+        Step::PutIn(at, _) => splice(blocks, *at, 0, 1),
+        Step::TakeOut(at) => splice(blocks, *at, 1, 0),
+        Step::Exchange(at, _) => splice(blocks, *at, 1, 1),
+        Step::SwapEnd(_) => match last_line(blocks) {
+            Some(last) => splice(blocks, last, 1, 1),
+            None => false,
+        },
+    }
+}
+
+// Follows a change of the lines: at an index from 0, some lines go out and some come in, and all of
+// them belong to one block, which is stale then. False if there is no such block, or if it has 2,048
+// lines already.
+fn splice<A: Allocator + Copy>(blocks: &mut Blocks<A>, at: usize, takes: u16, puts: u16) -> bool
+    requires { puts ≤ 1 }
+    ensures { (mentions : List Mention) (number : ℕ) (expected : Option contexts.Context)
+        (lines put_in : List LocatedLine) (end : contexts.Context)
+        → AreBlocks mentions number expected lines blocks.old end → length put_in ≡ puts
+        → IsTrue result → AreBlocks mentions number expected
+        (take at lines ++ (put_in ++ drop (at + takes) lines)) blocks.new end }
+{
+    let mut above = 0;
+    'groups: for group in 0..blocks.group_count() {
+        let lines = blocks.group(group).lines;
+        let rest = at - above;
+        if rest <= lines && takes as usize <= lines - rest {
+            let first = blocks.first_of(group);
+            return splice_below(blocks, first, above, at, takes, puts);
+        }
+        if rest < lines {
+            return false;
+        }
+        above += lines;
+    }
+    false
+}
+
+// The same, where the lines belong to one of the blocks from a number, from 0, on. This many lines stand
+// above that block.
+fn splice_below<A: Allocator + Copy>(
+    blocks: &mut Blocks<A>,
+    first: usize,
+    above: usize,
+    at: usize,
+    takes: u16,
+    puts: u16,
+) -> bool
+    requires one { puts ≤ 1 }
+    requires above { above ≡ lines_in (take first blocks.old) }
+    requires in_range { above ≤ at }
+    ensures { (mentions : List Mention) (number : ℕ) (expected : Option contexts.Context)
+        (lines put_in : List LocatedLine) (end : contexts.Context)
+        → AreBlocks mentions number expected lines blocks.old end → length put_in ≡ puts
+        → IsTrue result → AreBlocks mentions number expected
+        (take at lines ++ (put_in ++ drop (at + takes) lines)) blocks.new end }
+{
+    let mut above = above;
+    'numbers: for number in first..blocks.len() {
+        let block = blocks.block(number);
+        let count = block.count as usize;
+        let rest = at - above;
+        if rest <= count && takes as usize <= count - rest {
+            if block.count >= MOST_LINES {
+                return false;
+            }
+            let changed = Block {
+                count: block.count - takes + puts,
+                front: block.front.min(rest as u16),
+                back: block.back.min(block.count - rest as u16 - takes),
+                is_stale: true,
+                ..block
+            };
+            blocks.change(number, changed);
+            return true;
+        }
+        if rest < count {
+            return false;
+        }
+        above += count;
+    }
+    false
+}
+
+// The index of the last line, from 0, if the blocks have a line.
+fn last_line<A: Allocator + Copy>(blocks: &Blocks<A>) -> Option<usize>
+    ensures { (mentions : List Mention) (number : ℕ) (expected : Option contexts.Context)
+        (lines : List LocatedLine) (end : contexts.Context)
+        → AreBlocks mentions number expected lines blocks.now end
+        → IfSome result (λ last. last + 1 ≡ length lines) }
+{
+    let mut lines = 0usize;
+    'groups: for group in 0..blocks.group_count() {
+        lines = lines.checked_add(blocks.group(group).lines)?;
+    }
+    lines.checked_sub(1)
+}

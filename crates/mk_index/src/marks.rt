@@ -1,0 +1,65 @@
+//! Which blocks of an index are marked.
+ghost use Rattle.std.specs.Prelude.{◌≡◌, ◌<◌, ◌≤◌, ◌+◌, ◌*◌, ◌/◌, ℕ, true, false, IfOk, length, get_or, replicate};
+
+use crate::blocks::GROUP;
+use std::alloc::{AllocError, Allocator, Global};
+use std::marker::Model;
+
+/// Which blocks are marked. Contracts see a mark, or none, for each block.
+#[derive(Drop)]
+pub struct Marks<A: Allocator = Global> {
+    blocks: Vec<bool, A>,
+    // Whether a block of each group may be marked.
+    groups: Vec<bool, A>,
+}
+
+impl<A: Allocator> Model for Marks<A> {
+    ghost use Rattle.std.specs.Prelude.{Bool, List};
+    ghost use Rattle.mk_index.specs.Blocks.{AreGroupMarks};
+
+    ghost Value = { List Bool };
+
+    ghost view = { λ m. m.blocks.items };
+
+    ghost invariant = { λ m. AreGroupMarks m.blocks.items m.groups.items };
+}
+
+impl<A: Allocator + Copy> Marks<A> {
+    /// No mark for each of this many blocks. [`AllocError`] if a growth was refused.
+    pub fn new(alloc: A, count: usize) -> Result<Marks<A>, AllocError>
+        ensures { IfOk result (λ marks. marks ≡ replicate count false) }
+    {
+        let blocks = Vec::from_elem(alloc, false, count)?;
+        let groups = Vec::from_elem(alloc, false, count / GROUP + 1)?;
+        Ok(Marks { blocks, groups })
+    }
+
+    /// Marks the block of a number, from 0, if there is one. Takes no memory.
+    pub fn mark(&mut self, block: usize)
+        ensures length { length self.new ≡ length self.old }
+        ensures kept { (b : ℕ) → get_or self.old b false ≡ true → get_or self.new b false ≡ true }
+        ensures marked { block < length self.old → get_or self.new block false ≡ true }
+    {
+        if block < self.blocks.len() {
+            self.blocks[block] = true;
+            self.groups[block / GROUP] = true;
+        }
+    }
+
+    /// Whether the block of a number, from 0, is marked.
+    pub fn is_marked(&self, block: usize) -> bool
+        requires { block < length self.now }
+        ensures { result ≡ get_or self.now block false }
+    {
+        self.blocks[block]
+    }
+
+    /// Whether a block of the group of a number, from 0, may be marked.
+    pub fn is_group_marked(&self, group: usize) -> bool
+        requires { group ≤ length self.now / 128 }
+        ensures { result ≡ false → (b : ℕ) → group * 128 ≤ b → b < group * 128 + 128
+            → get_or self.now b false ≡ false }
+    {
+        self.groups[group]
+    }
+}
